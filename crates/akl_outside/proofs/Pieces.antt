@@ -1,0 +1,34 @@
+-- Bytes that are read and written in pieces.
+use Rattle.std.proofs.Common.{◌≡◌, ◌≤◌, ◌+◌, ◌-◌, ℕ, List, ◌++◌, Option, None, Some, length, take, drop, sym, ◌∙◌, ap, append_assoc, length-take-le, take-append-drop}
+use Rattle.std.proofs.Math.Seq.{take-add}
+use Rattle.std.proofs.lemmas.List.{take_at, drop-drop, take_rest}
+use Rattle.std.specs.Io.KnownBytes.{prepend_known, append_known}
+
+-- what was written in two pieces was written
+pub append_known-append : (old middle new : Option (List ℕ)) (front back : List ℕ) → middle ≡ append_known old front
+    → new ≡ append_known middle back → new ≡ append_known old (front ++ back)
+append_known-append None middle new front back first second = second ∙ ap (λ (x : Option (List ℕ)). append_known x back) first
+append_known-append (Some xs) middle new front back first second =
+    second ∙ ap (λ (x : Option (List ℕ)). append_known x back) first ∙ ap (λ (x : List ℕ). Some x) (append_assoc xs front back)
+
+-- what was read in two pieces was read
+pub prepend_known-append : (old middle new : Option (List ℕ)) (front back : List ℕ) → old ≡ prepend_known front middle
+    → middle ≡ prepend_known back new → old ≡ prepend_known (front ++ back) new
+prepend_known-append old middle None front back first second = first ∙ ap (prepend_known front) second
+prepend_known-append old middle (Some xs) front back first second =
+    first ∙ ap (prepend_known front) second ∙ ap (λ (x : List ℕ). Some x) (sym (append_assoc front back xs))
+
+-- a text's next piece lengthens the front that was written
+pub take_next : (written count : ℕ) (bytes : List ℕ)
+    → take written bytes ++ take count (take (length bytes - written) (drop written bytes)) ≡ take (written + count) bytes
+take_next written count bytes = ap (λ (x : List ℕ). take written bytes ++ take count x) (take_rest bytes written) ∙ sym (take-add written count bytes)
+
+-- what stands at a buffer's front after a copy, and what is left behind it, are what was left before
+pub copied_front : (given count : ℕ) (bytes copied rest : List ℕ) → count ≤ length (drop given bytes)
+    → copied ≡ take count (drop given bytes)
+    → drop given bytes ≡ take count (copied ++ rest) ++ drop (given + count) bytes
+copied_front given count bytes copied rest within same =
+    let left = drop given bytes in
+    let whole : take count (copied ++ rest) ≡ take count left = take_at copied rest count (ap length same ∙ length-take-le count left within) ∙ same in
+    sym (take-append-drop count left) ∙ ap (λ (x : List ℕ). x ++ drop count left) (sym whole)
+    ∙ ap (λ (x : List ℕ). take count (copied ++ rest) ++ x) (drop-drop count given bytes)

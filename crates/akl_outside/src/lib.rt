@@ -1,0 +1,21 @@
+//! Where bytes come from and where they go.
+//!
+//! A program reads through a `Source`, writes through a `Sink` and lets tests hold its workers at a
+//! `Gate`. A source or a sink is a stream of std's, or stands in memory, where contracts see each
+//! byte.
+#![tactic(auto)]
+
+pub mod memory_sink;
+pub mod memory_source;
+pub mod stream;
+pub mod traits;
+pub mod transfer;
+
+pub use memory_sink::MemorySink;
+pub use memory_source::MemorySource;
+pub use stream::{StreamSink, StreamSource};
+pub use traits::{Failed, Gate, NoGate, Sink, Source};
+pub use transfer::{ReadError, ShortWrite, read_byte, read_up_to, write_all};
+
+#[cfg(test)]
+mod tests;

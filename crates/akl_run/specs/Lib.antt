@@ -1,0 +1,11 @@
+pub mod Words
+pub mod Text
+pub mod Journals
+pub mod Runs
+pub mod Engine
+pub mod Statuses
+pub mod RunTexts
+pub mod Reports
+pub mod Evaluations
+pub mod Commands
+pub mod Lines

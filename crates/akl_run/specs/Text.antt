@@ -1,0 +1,39 @@
+-- The text of a run.
+use Rattle.std.specs.Prelude.{◌≡◌, ℕ, suc, ◌<◌, List, [], ◌∷◌, ◌++◌, length, map, codes}
+use Rattle.std.specs.Fmt.{decimal}
+use Rattle.akl_terms.specs.Tree.{Tree}
+use Rattle.akl_model.specs.Config.{Content, ShownTree}
+use Rattle.akl_model.specs.Derivations.{Outcome, done, failed, suspended, out_of_budget}
+use Rattle.answer_text.specs.Printed.{PrintsLines}
+
+-- what an answer shows, by names
+abbrev pub shown_lines : List ShownTree → List (List ℕ × Tree)
+shown_lines shown = map (λ s. (s.text, s.tree)) shown
+
+-- the text of an answer under its box's equations
+abbrev pub IsTextOf : List (List ℕ) → Content → List ℕ → Type 0
+IsTextOf symbols b text = PrintsLines symbols b.equations [] (shown_lines b.shown) text
+
+-- the answers in order, numbered from k on: `answer`, the number, and the lines
+pub data AreTexts (symbols : List (List ℕ)) : ℕ → List Content → List ℕ → Type 0 where
+  no_answers : {k : ℕ} → AreTexts symbols k [] []
+  an_answer : {k : ℕ} {b : Content} {bs : List Content} {text rest : List ℕ} → IsTextOf symbols b text → AreTexts symbols (suc k) bs rest
+      → AreTexts symbols k (b ∷ bs) (codes "answer " ++ decimal k ++ 10 ∷ text ++ rest)
+
+-- the last line
+abbrev pub outcome_line : Outcome → List ℕ
+outcome_line done = codes "done\n"
+outcome_line failed = codes "failed\n"
+outcome_line (suspended k) = codes "suspended " ++ decimal k ++ 10 ∷ []
+outcome_line out_of_budget = codes "budget\n"
+
+-- the text of a run with these answers and this outcome
+pub record IsRunText (symbols : List (List ℕ)) (answers : List Content) (outcome : Outcome) (text : List ℕ) : Type 0 where
+  pub answered : List ℕ
+  pub are_texts : AreTexts symbols 1 answers answered
+  pub whole : text ≡ answered ++ outcome_line outcome
+
+-- some answer has no text of at most so many bytes
+pub data HasLongAnswer (symbols : List (List ℕ)) (limit : ℕ) : List Content → Type 0 where
+  here : {b : Content} {bs : List Content} → ((text : List ℕ) → IsTextOf symbols b text → limit < length text) → HasLongAnswer symbols limit (b ∷ bs)
+  there : {b : Content} {bs : List Content} → HasLongAnswer symbols limit bs → HasLongAnswer symbols limit (b ∷ bs)

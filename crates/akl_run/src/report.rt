@@ -1,0 +1,84 @@
+//! What the top call answers.
+
+ghost use Rattle.std.specs.Prelude.{◌≡◌};
+ghost use Rattle.akl_run.specs.Statuses.{number_of};
+
+use akl_model::{Label, Receipt};
+
+/// What a run came to, or what ended the call before or after it.
+#[derive(Clone, Copy, Debug, PartialEq, Eq)]
+pub enum Status {
+    /// No rule applies, and each root box is an answer.
+    Done,
+    /// No rule applies, and there is no root box.
+    Failed,
+    /// No rule applies, and some root boxes are no answers.
+    Suspended,
+    /// All steps are spent, and a rule applies.
+    Budget,
+    /// The words are no command.
+    Words,
+    /// The program is refused.
+    Program,
+    /// The query is refused.
+    Query,
+    /// The source failed.
+    ReadFault,
+    /// The sink failed.
+    WriteFault,
+    /// There was no memory.
+    NoMemory,
+    /// A part of the command isn't built yet.
+    NotYet,
+}
+
+impl Status {
+    /// The number with which the program ends: 0 to 10, in the order of the variants.
+    pub fn number(self) -> u8
+        ensures { result ≡ number_of self }
+    {
+        match self {
+            Status::Done => 0,
+            Status::Failed => 1,
+            Status::Suspended => 2,
+            Status::Budget => 3,
+            Status::Words => 4,
+            Status::Program => 5,
+            Status::Query => 6,
+            Status::ReadFault => 7,
+            Status::WriteFault => 8,
+            Status::NoMemory => 9,
+            Status::NotYet => 10,
+        }
+    }
+}
+
+/// A part of a command.
+#[derive(Clone, Copy, Debug, PartialEq, Eq)]
+pub enum Part {
+    Words,
+    Program,
+    Query,
+    Answer,
+}
+
+/// Why a command is refused.
+#[derive(Clone, Copy, Debug, PartialEq, Eq)]
+pub enum Refusal {
+    Nothing,
+    /// The part has a form that isn't built yet.
+    NotYet(Part),
+}
+
+/// What became of a command.
+#[derive(Drop)]
+pub struct Report {
+    pub status: Status,
+    pub refusal: Refusal,
+    /// The labels that were committed, in order.
+    pub journal: Vec<Label>,
+    /// For each worker, worker 1 first, its labels with their places in the journal, in order.
+    pub receipts: Vec<Vec<Receipt>>,
+    /// How many bytes were written.
+    pub written: u64,
+}

@@ -1,0 +1,17 @@
+pub mod Unique
+pub mod Balance
+pub mod OneGoal
+pub mod Loops
+pub mod Turns
+pub mod Trees
+pub mod TestGoals
+pub mod PartTurns
+pub mod DepthScan
+pub mod ClauseTurns
+pub mod NameNumbers
+pub mod LayoutSkips
+pub mod TokenBounds
+pub mod LexemeTurns
+pub mod OneVerdict
+pub mod ReadTurns
+pub mod SizeLaws

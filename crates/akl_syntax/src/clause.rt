@@ -1,0 +1,87 @@
+//! Clauses and queries from their lexemes.
+
+ghost use Rattle.std.specs.Prelude.{◌≡◌, ◌∷◌, List};
+ghost use Rattle.akl_text.specs.declared.token.Kind.TheVariants.{Neck};
+ghost use Rattle.akl_syntax.specs.declared.lexeme.Lexeme.{Lexeme};
+ghost use Rattle.akl_syntax.specs.declared.lexeme.Lexeme.TheVariants.{Mark};
+ghost use Rattle.akl_syntax.specs.Answers.{clause_view, query_view};
+ghost use Rattle.akl_syntax.specs.Clauses.{HasPart, IsClause, IsQuery};
+ghost use Rattle.akl_syntax.specs.PartView.{part_of};
+ghost use Rattle.akl_syntax.specs.Wholes.{Whole};
+
+use crate::fault::Fault;
+use crate::front::{front, skip};
+use crate::goals::{WrittenPart, conj, part};
+use crate::lexeme::Lexeme;
+use crate::lexemes::Lexed;
+use crate::source::{Head, SourceClause, SourceQuery};
+use crate::terms::arguments;
+use akl_text::Kind;
+use std::alloc::Global;
+
+/// The part behind a neck, or none where the lexemes end.
+fn clause_part(alloc: Global, lexemes: &[Lexeme]) -> Result<WrittenPart, Fault>
+    ensures { Whole part_of (HasPart lexemes.now) result }
+{
+    let Some(rest) = skip(Kind::Neck, lexemes) else {
+        return no_part(alloc, lexemes);
+    };
+    let (found, rest) = part(alloc, rest)?;
+    if rest.is_empty() {
+        Ok(found)
+    } else {
+        Err(Fault::Syntax)
+    }
+}
+
+/// No guard and no body, where the lexemes end.
+fn no_part(alloc: Global, lexemes: &[Lexeme]) -> Result<WrittenPart, Fault>
+    requires { (a : List Lexeme) → lexemes.now ≡ Mark Neck ∷ a → ⊥ }
+    ensures { Whole part_of (HasPart lexemes.now) result }
+{
+    if lexemes.is_empty() {
+        Ok(WrittenPart {
+            guard: Vec::new(alloc),
+            op: None,
+            body: Vec::new(alloc),
+        })
+    } else {
+        Err(Fault::Syntax)
+    }
+}
+
+/// The clause that lexemes without an end token are, which begins at `start`.
+pub fn clause(alloc: Global, start: usize, lexed: Lexed) -> Result<SourceClause, Fault>
+    ensures { Whole clause_view (IsClause start lexed.names.items lexed.lexemes.items) result }
+{
+    let Lexed { lexemes, names } = lexed;
+    let Some((first, rest)) = front(lexemes.as_slice()) else {
+        return Err(Fault::Syntax);
+    };
+    let Lexeme::Symbol(symbol) = first else {
+        return Err(Fault::Syntax);
+    };
+    let head = Head::Named(symbol.duplicate()?);
+    let (arguments, rest) = arguments(alloc, rest)?;
+    let part = clause_part(alloc, rest)?.into_source();
+    Ok(SourceClause {
+        head,
+        arguments,
+        part,
+        names,
+        start,
+    })
+}
+
+/// The query that lexemes without an end token are.
+pub fn query(alloc: Global, lexed: Lexed) -> Result<SourceQuery, Fault>
+    ensures { Whole query_view (IsQuery lexed.names.items lexed.lexemes.items) result }
+{
+    let Lexed { lexemes, names } = lexed;
+    let (goals, rest) = conj(alloc, lexemes.as_slice())?;
+    if rest.is_empty() {
+        Ok(SourceQuery { goals, names })
+    } else {
+        Err(Fault::Syntax)
+    }
+}

@@ -1,0 +1,234 @@
+//! Reading goals.
+
+ghost use Rattle.std.specs.Prelude.{◌≡◌, ◌∷◌, [], List, map, true, false, is_some, option_map, IfOk, IfSome, IfNone};
+ghost use Rattle.akl_text.specs.declared.token.Kind.TheVariants.{Open, Close};
+ghost use Rattle.akl_syntax.specs.declared.lexeme.Lexeme.{Lexeme};
+ghost use Rattle.akl_syntax.specs.declared.lexeme.Lexeme.TheVariants.{Symbol};
+ghost use Rattle.akl_syntax.specs.Goals.{GoalIs, Conj, PartIs, written};
+ghost use Rattle.akl_syntax.specs.GoalView.{goal, part};
+ghost use Rattle.akl_syntax.specs.Parts.{guard_at, Guarded, Alternatives};
+ghost use Rattle.akl_syntax.specs.PartView.{part_of};
+ghost use Rattle.akl_syntax.specs.Ahead.{is_test};
+ghost use Rattle.akl_syntax.specs.Follow.{ReadsTo, ends, after_goal, after_conj, after_part, after_parts};
+
+use crate::ahead::{joined, looks_tested};
+use crate::fault::Fault;
+use crate::front::{behind, front, skip};
+use crate::lexeme::Lexeme;
+use crate::operator::{Level, guard_op, relation};
+use crate::source::{SourceGoal, SourcePart, SourceTerm};
+use crate::terms::{arguments, expr};
+use akl_terms::{Op, Text};
+use akl_text::Kind;
+use std::alloc::{AllocError, Global};
+
+/// A part as it is written, with an operator or without.
+#[derive(Drop)]
+pub struct WrittenPart {
+    pub guard: Vec<SourceGoal>,
+    pub op: Option<Op>,
+    pub body: Vec<SourceGoal>,
+}
+
+impl WrittenPart {
+    /// Without an operator it counts as one with `?`.
+    pub fn into_source(self) -> SourcePart
+        ensures { part result ≡ written (part_of self) }
+    {
+        SourcePart {
+            guard: self.guard,
+            op: match self.op {
+                Some(op) => op,
+                None => Op::Choice,
+            },
+            body: self.body,
+        }
+    }
+}
+
+/// The goal alone.
+fn alone(alloc: Global, goal: SourceGoal) -> Result<Vec<SourceGoal>, AllocError>
+    ensures { IfOk result (λ v. v.items ≡ goal ∷ []) }
+{
+    let mut found = Vec::new(alloc);
+    found.push(goal)?;
+    Ok(found)
+}
+
+fn pair(alloc: Global, left: SourceTerm, right: SourceTerm) -> Result<Vec<SourceTerm>, AllocError>
+    ensures { IfOk result (λ v. v.items ≡ left ∷ right ∷ []) }
+{
+    let mut found = Vec::new(alloc);
+    found.push(left)?;
+    found.push(right)?;
+    Ok(found)
+}
+
+/// A term, a relation and a term.
+fn test(alloc: Global, lexemes: &[Lexeme]) -> Result<(Vec<SourceGoal>, &[Lexeme]), Fault>
+    requires { is_test lexemes.now ≡ true }
+    ensures { ReadsTo (λ x. (map goal x.0.items, x.1.now)) (GoalIs lexemes.now) after_goal result }
+{
+    let (left, rest) = expr(alloc, Level::Sum, lexemes)?;
+    let Some((first, rest)) = front(rest) else {
+        return Err(Fault::Syntax);
+    };
+    let Some(symbol) = relation(first) else {
+        return Err(Fault::Syntax);
+    };
+    let (right, rest) = expr(alloc, Level::Sum, rest)?;
+    if joined(rest) {
+        return Err(Fault::Syntax);
+    }
+    let symbol = Text::from_str(alloc, symbol)?;
+    let arguments = pair(alloc, left, right)?;
+    let found = alone(alloc, SourceGoal::Call { symbol, arguments })?;
+    Ok((found, rest))
+}
+
+/// A call of a symbol, which was read.
+fn called<'a>(
+    alloc: Global,
+    symbol: &Text,
+    lexemes: &'a [Lexeme],
+) -> Result<(Vec<SourceGoal>, &'a [Lexeme]), Fault>
+    requires { is_test (Symbol symbol.now ∷ lexemes.now) ≡ false }
+    ensures { ReadsTo (λ x. (map goal x.0.items, x.1.now)) (GoalIs (Symbol symbol.now ∷ lexemes.now)) after_goal result }
+{
+    let symbol = symbol.duplicate()?;
+    let (arguments, rest) = arguments(alloc, lexemes)?;
+    let found = alone(alloc, SourceGoal::Call { symbol, arguments })?;
+    Ok((found, rest))
+}
+
+/// The operator behind a guard with which the lexemes begin, and what stands behind it.
+fn guard_front(lexemes: &[Lexeme]) -> Option<(Op, &[Lexeme])>
+    ensures { option_map (λ x. (x.0, x.1.now)) result ≡ guard_at lexemes.now }
+{
+    let (first, rest) = front(lexemes)?;
+    let op = guard_op(first)?;
+    Some((op, rest))
+}
+
+/// What stands behind a closing bracket, where the part in it has no operator.
+fn behind_goals<'a>(first: &WrittenPart, lexemes: &'a [Lexeme]) -> Option<&'a [Lexeme]>
+    ensures closed { IfSome result (λ rest. lexemes.now ≡ Lexeme.Mark Close ∷ rest.now) }
+    ensures plain { IfSome result (λ _. is_some first.now.op ≡ false) }
+    ensures none { IfNone result (is_some first.now.op ≡ false → (a : List Lexeme) → lexemes.now ≡ Lexeme.Mark Close ∷ a → ⊥) }
+{
+    if first.op.is_some() {
+        return None;
+    }
+    skip(Kind::Close, lexemes)
+}
+
+/// The goals of one that is written: in brackets there may be several.
+#[cycle(goals)]
+fn goal(alloc: Global, lexemes: &[Lexeme]) -> Result<(Vec<SourceGoal>, &[Lexeme]), Fault>
+    ensures { ReadsTo (λ x. (map goal x.0.items, x.1.now)) (GoalIs lexemes.now) after_goal result }
+{
+    if looks_tested(lexemes) {
+        return test(alloc, lexemes);
+    }
+    let Some((first, rest)) = front(lexemes) else {
+        return Err(Fault::Syntax);
+    };
+    match first {
+        Lexeme::Symbol(symbol) => called(alloc, symbol, rest),
+        Lexeme::Mark(_) => bracketed(alloc, rest),
+        _ => Err(Fault::Syntax),
+    }
+}
+
+/// Goals with commas between.
+#[cycle(goals)]
+pub fn conj(alloc: Global, lexemes: &[Lexeme]) -> Result<(Vec<SourceGoal>, &[Lexeme]), Fault>
+    ensures { ReadsTo (λ x. (map goal x.0.items, x.1.now)) (Conj lexemes.now) after_conj result }
+{
+    let (mut goals, mut rest) = goal(alloc, lexemes)?;
+    while let Some(after) = skip(Kind::Comma, rest) {
+        let (mut next, after) = goal(alloc, after)?;
+        goals.append(&mut next)?;
+        rest = after;
+    }
+    Ok((goals, rest))
+}
+
+/// An operator may stand before the goals, between them, or nowhere.
+#[cycle(goals)]
+pub fn part(alloc: Global, lexemes: &[Lexeme]) -> Result<(WrittenPart, &[Lexeme]), Fault>
+    ensures { ReadsTo (λ x. (part_of x.0, x.1.now)) (PartIs lexemes.now) after_part result }
+{
+    if let Some((op, rest)) = guard_front(lexemes) {
+        return guarded(alloc, Vec::new(alloc), op, rest);
+    }
+    let (goals, rest) = conj(alloc, lexemes)?;
+    if let Some((op, rest)) = guard_front(rest) {
+        return guarded(alloc, goals, op, rest);
+    }
+    let found = WrittenPart {
+        guard: Vec::new(alloc),
+        op: None,
+        body: goals,
+    };
+    Ok((found, rest))
+}
+
+/// The part whose guard and operator were read.
+#[cycle(goals)]
+fn guarded(
+    alloc: Global,
+    guard: Vec<SourceGoal>,
+    op: Op,
+    lexemes: &[Lexeme],
+) -> Result<(WrittenPart, &[Lexeme]), Fault>
+    ensures { ReadsTo (λ x. (part_of x.0, x.1.now)) (Guarded (map goal guard.items) op lexemes.now) after_part result }
+{
+    let (body, rest) = conj(alloc, lexemes)?;
+    if guard_front(rest).is_some() {
+        return Err(Fault::Syntax);
+    }
+    let found = WrittenPart {
+        guard,
+        op: Some(op),
+        body,
+    };
+    Ok((found, rest))
+}
+
+/// The goals in brackets, or an inline choice, whose opening bracket was read.
+#[cycle(goals)]
+fn bracketed(alloc: Global, lexemes: &[Lexeme]) -> Result<(Vec<SourceGoal>, &[Lexeme]), Fault>
+    requires { is_test (Lexeme.Mark Open ∷ lexemes.now) ≡ false }
+    ensures { ReadsTo (λ x. (map goal x.0.items, x.1.now)) (GoalIs (Lexeme.Mark Open ∷ lexemes.now)) after_goal result }
+{
+    let (first, rest) = part(alloc, lexemes)?;
+    if let Some(rest) = behind_goals(&first, rest) {
+        return Ok((first.body, rest));
+    }
+    let (parts, rest) = alternatives(alloc, first.into_source(), rest)?;
+    let rest = behind(Kind::Close, rest)?;
+    let found = alone(alloc, SourceGoal::Choice(parts))?;
+    Ok((found, rest))
+}
+
+/// The parts of an inline choice, the first of which was read.
+#[cycle(goals)]
+fn alternatives(
+    alloc: Global,
+    first: SourcePart,
+    lexemes: &[Lexeme],
+) -> Result<(Vec<SourcePart>, &[Lexeme]), Fault>
+    requires { ends after_part lexemes.now ≡ true }
+    ensures { ReadsTo (λ x. (map part x.0.items, x.1.now)) (Alternatives (part first) lexemes.now) after_parts result }
+{
+    let mut parts = Vec::new(alloc);
+    parts.push(first)?;
+    let mut rest = lexemes;
+    while let Some(after) = skip(Kind::Semicolon, rest) {
+        let (next, after) = part(alloc, after)?;
+        parts.push(next.into_source())?;
+        rest = after;
+    }
+    Ok((parts, rest))
+}

@@ -1,0 +1,94 @@
+//! Terms, goals, clauses and queries as they are written.
+
+use akl_terms::{Key, Op, Text};
+
+/// A term as it is written.
+///
+/// It nests at most three levels for each open bracket and three more, however long a list or a sum is.
+#[derive(Drop)]
+#[cycle(source)]
+pub enum SourceTerm {
+    /// A variable, by its number: variables are numbered by first occurrence.
+    Var(u32),
+    Int(i64),
+    /// A symbol with its arguments.
+    Struct {
+        symbol: Text,
+        arguments: Vec<SourceTerm>,
+    },
+    /// A list of at least one item, with a tail exactly where a bar is written.
+    List {
+        items: Vec<SourceTerm>,
+        tail: Option<Box<SourceTerm>>,
+    },
+    /// A sum or a product of at least two operands, which associates to the left.
+    Chain {
+        first: Box<SourceTerm>,
+        rest: Vec<SourceStep>,
+    },
+}
+
+/// An operator of a sum or a product, and the operand behind it.
+#[derive(Drop)]
+#[cycle(source)]
+pub struct SourceStep {
+    pub symbol: Text,
+    pub right: SourceTerm,
+}
+
+/// A goal as it is written.
+#[derive(Drop)]
+#[cycle(goals)]
+pub enum SourceGoal {
+    /// A call of a symbol. A term, a relation and a term is a call of the relation's symbol.
+    Call {
+        symbol: Text,
+        arguments: Vec<SourceTerm>,
+    },
+    /// An inline choice. A part without an operator counts as one with `?` and an empty guard.
+    Choice(Vec<SourcePart>),
+    /// A call of the definition that was made of an inline choice. None is read from a text.
+    Lifted {
+        number: u32,
+        arguments: Vec<u32>,
+    },
+}
+
+/// A guard, an operator and a body.
+#[derive(Drop)]
+#[cycle(goals)]
+pub struct SourcePart {
+    pub guard: Vec<SourceGoal>,
+    pub op: Op,
+    pub body: Vec<SourceGoal>,
+}
+
+/// What a clause defines.
+#[derive(Drop)]
+pub enum Head {
+    /// The symbol that is written.
+    Named(Text),
+    /// A definition that was made of an inline choice in a clause of the definition `inside`.
+    Lifted { number: u32, inside: Key },
+}
+
+/// A clause as it is written.
+#[derive(Drop)]
+pub struct SourceClause {
+    pub head: Head,
+    pub arguments: Vec<SourceTerm>,
+    /// A clause without a neck has `?`, an empty guard and an empty body.
+    pub part: SourcePart,
+    /// The spelling of each variable, by its number.
+    pub names: Vec<Text>,
+    /// The place of the clause's first byte in the text.
+    pub start: usize,
+}
+
+/// A query as it is written.
+#[derive(Drop)]
+pub struct SourceQuery {
+    pub goals: Vec<SourceGoal>,
+    /// The spelling of each variable, by its number.
+    pub names: Vec<Text>,
+}

@@ -1,0 +1,4 @@
+pub mod EqualLaws
+pub mod Numbering
+pub mod Numbers
+pub mod Unfolding

@@ -1,0 +1,43 @@
+//! Template nodes and terms.
+
+use crate::name::{Name, Var};
+
+/// A node of a template. Under a frame it stands for a finite tree.
+#[derive(Clone, Copy, Debug, PartialEq, Eq)]
+pub enum Node {
+    /// The frame's variable of this index.
+    Var(u32),
+    Int(i64),
+    /// A symbol over the `count` neighbouring nodes from `first` on.
+    Struct { symbol: u32, first: u32, count: u32 },
+}
+
+/// A term: a template node under a frame of variables, an integer, or a port.
+#[derive(Clone, Copy, Debug, PartialEq, Eq)]
+pub enum Term {
+    Mol { node: u32, frame: Name },
+    Int(i64),
+    Port(Name),
+}
+
+/// What a term begins with, with its frame where it goes on.
+#[derive(Clone, Copy, Debug, PartialEq, Eq)]
+pub enum Seen {
+    Free(Var),
+    Int(i64),
+    Port(Name),
+    /// A symbol over the `count` neighbouring nodes from `first` on, under the frame.
+    Struct {
+        symbol: u32,
+        first: u32,
+        count: u32,
+        frame: Name,
+    },
+}
+
+/// An equation between two terms.
+#[derive(Clone, Copy, Debug, PartialEq, Eq)]
+pub struct Equation {
+    pub left: Term,
+    pub right: Term,
+}

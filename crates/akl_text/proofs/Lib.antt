@@ -1,0 +1,12 @@
+pub mod Cases
+pub mod Decoding
+pub mod FrontLongest
+pub mod FrontSpelled
+pub mod Integers
+pub mod LayoutFound
+pub mod QuotedBytes
+pub mod QuotedEnds
+pub mod Reading
+pub mod Runs
+pub mod SoFar
+pub mod TextFound

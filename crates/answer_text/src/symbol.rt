@@ -1,0 +1,87 @@
+//! How a symbol is written.
+
+ghost use Rattle.std.specs.Prelude.{◌≡◌, ◌++◌, ◌∷◌, [], OnOk, flat_map};
+ghost use Rattle.std.specs.List.{list_all};
+ghost use Rattle.answer_text.specs.SymbolText.{is_lower, is_word_byte, is_word, is_name, escaped, symbol_text, constant_text};
+
+use std::alloc::AllocError;
+
+fn is_lower(byte: u8) -> bool
+    ensures { result ≡ is_lower byte }
+{
+    b'a' <= byte && byte <= b'z'
+}
+
+fn is_word_byte(byte: u8) -> bool
+    ensures { result ≡ is_word_byte byte }
+{
+    is_lower(byte) || b'A' <= byte && byte <= b'Z' || b'0' <= byte && byte <= b'9' || byte == b'_'
+}
+
+fn are_word_bytes(bytes: &[u8]) -> bool
+    ensures { result ≡ list_all is_word_byte bytes.now }
+{
+    bytes.iter().all(|b| is_word_byte(*b))
+}
+
+fn is_word(bytes: &[u8]) -> bool
+    ensures { result ≡ is_word bytes.now }
+{
+    match bytes {
+        [] => false,
+        [first, rest @ ..] => is_lower(*first) && are_word_bytes(rest),
+    }
+}
+
+// Whether a text is a name as it stands.
+fn is_name(text: &str) -> bool
+    ensures { result ≡ is_name text.now }
+{
+    is_word(text.as_bytes()) && !(text == "is") && !(text == "mod")
+}
+
+fn push_escaped(out: &mut Vec<u8>, byte: u8) -> Result<(), AllocError>
+    ensures { OnOk result (out.new.items ≡ out.old.items ++ escaped byte) }
+{
+    match byte {
+        b'\'' => out.extend_from_slice(b"\\'"),
+        b'\\' => out.extend_from_slice(b"\\\\"),
+        b'\n' => out.extend_from_slice(b"\\n"),
+        b'\t' => out.extend_from_slice(b"\\t"),
+        _ => Ok(out.push(byte)?),
+    }
+}
+
+fn push_quoted(out: &mut Vec<u8>, bytes: &[u8]) -> Result<(), AllocError>
+    ensures { OnOk result (out.new.items ≡ out.old.items ++ (39 ∷ flat_map escaped bytes.now ++ 39 ∷ [])) }
+{
+    out.push(b'\'')?;
+    for byte in bytes {
+        push_escaped(out, *byte)?;
+    }
+    out.push(b'\'')?;
+    Ok(())
+}
+
+/// Appends a symbol: a name as it stands, any other in quotes, where a quote, a backslash, a newline
+/// and a tab are written with a backslash.
+pub fn push_symbol(out: &mut Vec<u8>, symbol: &str) -> Result<(), AllocError>
+    ensures { OnOk result (out.new.items ≡ out.old.items ++ symbol_text symbol.now) }
+{
+    if is_name(symbol) {
+        out.extend_from_slice(symbol.as_bytes())
+    } else {
+        push_quoted(out, symbol.as_bytes())
+    }
+}
+
+/// Appends a symbol without arguments: `[]` as it stands, else as `push_symbol`.
+pub fn push_constant(out: &mut Vec<u8>, symbol: &str) -> Result<(), AllocError>
+    ensures { OnOk result (out.new.items ≡ out.old.items ++ constant_text symbol.now) }
+{
+    if symbol == "[]" {
+        out.extend_from_slice(symbol.as_bytes())
+    } else {
+        push_symbol(out, symbol)
+    }
+}

@@ -1,0 +1,10 @@
+pub mod Unique
+pub mod Words
+pub mod Placed
+pub mod Growing
+pub mod Terms
+pub mod Groups
+pub mod Equations
+pub mod Trees
+pub mod Queries
+pub mod Variables

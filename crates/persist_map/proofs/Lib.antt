@@ -1,0 +1,4 @@
+pub mod Changes
+pub mod Forks
+pub mod Later
+pub mod Sides

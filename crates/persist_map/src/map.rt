@@ -1,0 +1,101 @@
+//! The map.
+ghost use Rattle.std.specs.Prelude.{◌≡◌, [], Some, None, IfOk, option_copied};
+ghost use Rattle.std.specs.BTreeMap.{is_at, insert_entry};
+ghost use Rattle.std.specs.Map.{remove_entry};
+ghost use Rattle.persist_map.specs.Entries.{IsOrdered, value_at, ChangesOnly, ClonesAreEqual};
+
+use crate::tree::Tree;
+use crate::walk::Walk;
+use std::alloc::{AllocError, Global};
+use std::marker::Model;
+
+/// A map from keys to values, in the order of the keys, that no call changes.
+///
+/// Contracts see it as the list of its entries in the order of their keys. A call that makes nodes asks that clones of
+/// keys and values equal them, since a new node clones the entry of the old one that it stands for.
+#[derive(Drop)]
+pub struct PMap<K: Ord, V> {
+    alloc: Global,
+    tree: Tree<K, V>,
+}
+
+impl<K: Ord, V> Model for PMap<K, V> {
+    ghost use Rattle.std.specs.Prelude.{List};
+
+    ghost Value = { List (K × V) };
+
+    ghost use Rattle.persist_map.specs.Entries.{IsOrdered};
+    ghost use Rattle.persist_map.specs.Contents.{entries_of};
+
+    ghost view = { λ m. entries_of m.tree };
+
+    ghost invariant = { λ m. IsOrdered K.cmp (entries_of m.tree) };
+}
+
+impl<K: Ord, V> PMap<K, V> {
+    /// The empty map, whose nodes will be made by `alloc`. It takes no memory.
+    pub fn new(alloc: Global) -> PMap<K, V>
+        ensures { result ≡ [] }
+    {
+        PMap {
+            alloc,
+            tree: Tree::Leaf,
+        }
+    }
+
+    /// The value at the key, or `None` exactly where the key is not there.
+    pub fn get(&self, key: &K) -> Option<&V>
+        ensures { option_copied result ≡ value_at K.cmp self.now key.now }
+    {
+        self.tree.get(key)
+    }
+
+    /// The entries, in the order of their keys. It takes no memory, and neither does a step of it.
+    pub fn walk(&self) -> Walk<'_, K, V>
+        ensures all { result ≡ self.now }
+        ensures ordered { IsOrdered K.cmp self.now }
+    {
+        Walk::new(&self.tree)
+    }
+
+    /// An equal map that shares all nodes. It makes no node: want of memory comes only where a count of owners is full.
+    pub fn share(&self) -> Result<PMap<K, V>, AllocError>
+        ensures { IfOk result (λ m. m ≡ self.now) }
+    {
+        Ok(PMap {
+            alloc: self.alloc,
+            tree: self.tree.share()?,
+        })
+    }
+}
+
+impl<K: Ord + Clone + Drop, V: Clone + Drop> PMap<K, V> {
+    /// The map with the pair set: where an equal key is there, it stays and takes the value. `self` stays.
+    pub fn with(&self, key: K, value: V) -> Result<PMap<K, V>, AllocError>
+        requires keys { ClonesAreEqual K.is_clone }
+        requires values { ClonesAreEqual V.is_clone }
+        ensures entries { IfOk result (λ m. m ≡ insert_entry K.cmp self.now key value) }
+        ensures changes { IfOk result (λ m. ChangesOnly K.cmp self.now m key (Some value)) }
+    {
+        Ok(PMap {
+            alloc: self.alloc,
+            tree: self.tree.with(self.alloc, key, value)?,
+        })
+    }
+
+    /// The map without the key, or an equal map where the key is not there. `self` stays.
+    pub fn without(&self, key: &K) -> Result<PMap<K, V>, AllocError>
+        requires keys { ClonesAreEqual K.is_clone }
+        requires values { ClonesAreEqual V.is_clone }
+        ensures entries { IfOk result (λ m. m ≡ remove_entry (is_at (K.cmp key.now)) self.now) }
+        ensures changes { IfOk result (λ m. ChangesOnly K.cmp self.now m key.now None) }
+    {
+        Ok(PMap {
+            alloc: self.alloc,
+            tree: self.tree.without(self.alloc, key)?,
+        })
+    }
+}
+
+#[cfg(test)]
+mod tests;

@@ -1,0 +1,9 @@
+pub mod Walks
+pub mod Same
+pub mod Stands
+pub mod Work
+pub mod Chains
+pub mod Heads
+pub mod Indexing
+pub mod Turns
+pub mod FromNothing

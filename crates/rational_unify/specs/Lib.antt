@@ -1,0 +1,4 @@
+pub mod Known
+pub mod Solving
+pub mod Indexes
+pub mod Meeting

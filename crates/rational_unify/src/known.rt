@@ -1,0 +1,49 @@
+//! Bindings that are known, and the chains along them.
+
+ghost use Rattle.std.specs.declared.option.Option.{Option};
+ghost use Rattle.std.specs.Prelude.{◌≡◌, List};
+ghost use Rattle.akl_terms.specs.declared.name.Var.{Var};
+ghost use Rattle.akl_terms.specs.declared.term.Term.{Term};
+ghost use Rattle.rational_unify.specs.Known.{found_in};
+
+use akl_terms::{Term, Var};
+
+/// What variables are bound to.
+pub trait Lookup {
+    ghost bindings: { Self → List (Var × Term) };
+
+    /// The term that a variable is bound to; `None` exactly where it has no binding.
+    fn get(&self, variable: Var) -> Option<Term>
+        ensures { result ≡ found_in (bindings self.now) variable };
+}
+
+/// The term to which the first binding of a variable in a list binds it; `None` exactly where the
+/// list has none.
+pub fn found(list: &[(Var, Term)], variable: Var) -> Option<Term>
+    ensures { result ≡ found_in list.now variable }
+{
+    list.iter().find(|b| b.0 == variable).map(|b| b.1)
+}
+
+impl Lookup for Vec<(Var, Term)> {
+    ghost bindings = { λ v. v.items };
+
+    fn get(&self, variable: Var) -> Option<Term> {
+        found(self, variable)
+    }
+}
+
+/// Binds no variable.
+#[derive(Clone, Copy, Debug, PartialEq, Eq)]
+pub struct Nothing;
+
+impl Lookup for Nothing {
+    ghost use Rattle.std.specs.Prelude.{[]};
+
+    ghost bindings = { λ _. [] };
+
+    fn get(&self, variable: Var) -> Option<Term> {
+        let _ = variable;
+        None
+    }
+}

@@ -1,0 +1,11 @@
+pub mod Balance
+pub mod Begins
+pub mod Drains
+pub mod Ends
+pub mod Fresh
+pub mod Gathers
+pub mod Lefts
+pub mod Looks
+pub mod Moves
+pub mod Passing
+pub mod Rows

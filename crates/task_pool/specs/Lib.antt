@@ -1,0 +1,10 @@
+pub mod Departures
+pub mod Hands
+pub mod Kept
+pub mod Keeps
+pub mod Left
+pub mod Owners
+pub mod Places
+pub mod Steps
+pub mod Views
+pub mod Ways
