@@ -7,7 +7,7 @@ use Rattle.akl_text.specs.declared.token.Kind.TheVariants as kinds
 use Rattle.akl_syntax.specs.declared.operator.Level.{Level}
 use Rattle.akl_syntax.specs.declared.operator.Level.TheVariants.{Sum, Product}
 use Rattle.akl_terms.specs.declared.program.Op.{Op}
-use Rattle.akl_syntax.specs.declared.ahead.Turn.TheVariants.{Stays}
+use Rattle.akl_syntax.specs.declared.brackets.Turn.TheVariants.{Stays}
 use Rattle.akl_syntax.specs.Tree.{Tree, Step, Tail}
 use Rattle.akl_syntax.specs.Grammar.{begins_call, operator_of, kind_operator, Expr, More, Operand, Primary, Arguments, ListEnd, Items, Others, operands, done, next, product, primary, variable_is, integer_is, atom, empty_list, whole_list, brackets, plain, call, closed, bar, items, no_others, other}
 use Rattle.akl_syntax.specs.Goals.{Goal, Part, GoalIs, Conj, Conjs, PartIs, PartsAre, atom_goal, test, conj, no_conjs, and, unguarded, guarded, no_parts_more, or, relation_of, kind_relation, guard_of, kind_guard}

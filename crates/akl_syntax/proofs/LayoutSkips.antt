@@ -1,14 +1,10 @@
 -- Layout is passed over in one way.
-use Rattle.std.proofs.Common.{◌≡◌, ℕ, ◌+◌, ◌<◌, ◌≤◌, List, [], ◌∷◌, ◌++◌, length, drop, take, Some, None, refl, sym, ap, subst, ◌∙◌, arith}
+use Rattle.std.proofs.Common.{◌≡◌, ℕ, ◌+◌, ◌≤◌, List, [], ◌∷◌, ◌++◌, length, drop, take, Some, refl, sym, ap, subst, ◌∙◌, arith}
 use Rattle.std.proofs.lemmas.List.{length-take, take-append-drop, drop-drop, take_at, drop_at, length-append, length-drop}
 use Rattle.akl_text.specs.Layout.{IsLayout}
 use Rattle.akl_text.specs.Computed.{layout_at}
-use Rattle.akl_text.proofs.LayoutFound.{IfLayout, IsFrontLayout, layout_found, no_layout, layout_is, layout_not_empty}
+use Rattle.akl_text.proofs.LayoutFound.{layout_is, layout_not_empty}
 use Rattle.akl_syntax.specs.Verdicts.{Skips, SkipsFrom, stays, layout}
-
-layout_front : (rest : List ℕ) (n : ℕ) → 0 < length rest → layout_at rest ≡ Some n → IsFrontLayout rest n
-layout_front [] n h e = absurd (omega arith)
-layout_front (a ∷ t) n h e = subst (λ o. IfLayout (a ∷ t) o) e (layout_found a t)
 
 pub record SkipsSoFar (bytes : List ℕ) (from at : ℕ) : Type 0 where
   pub onward : (place : ℕ) → SkipsFrom bytes at place → SkipsFrom bytes from place
@@ -19,21 +15,20 @@ pub skips_start : (bytes : List ℕ) (from : ℕ) → from ≤ length bytes → 
 skips_start bytes from h = record { onward = λ place s. s; within = h; after = omega arith }
 
 module _ (bytes : List ℕ) (from at : ℕ) (h : SkipsSoFar bytes from at) (rest : List ℕ) (e : rest ≡ drop at bytes) where
-  pub skips_step : (n : ℕ) → 0 < length rest → layout_at rest ≡ Some n → SkipsSoFar bytes from (at + n)
-  skips_step n some f =
-      let l = layout_front rest n some f in
-      let len : length (take n rest) ≡ n = omega (arith, length-take n rest, l.within) in
+  pub skips_step : (n : ℕ) → IsLayout (take n rest) (drop n rest) → n ≤ length rest → SkipsSoFar bytes from (at + n)
+  skips_step n l le =
+      let len : length (take n rest) ≡ n = omega (arith, length-take n rest) in
       let next : drop n rest ≡ drop (at + n) bytes = ap (drop n) e ∙ drop-drop n at bytes in
       record {
         onward = λ place s. (
             let s' : Skips (at + length (take n rest)) (drop n rest) place = rw (len, next) s in
-            h.onward place (subst (λ (z : List ℕ). Skips at z place) e (layout (sym (take-append-drop n rest)) l.layout s')));
-        within = omega (arith, l.within, ap length e, length-drop at bytes, h.within);
+            h.onward place (subst (λ (z : List ℕ). Skips at z place) e (layout (sym (take-append-drop n rest)) l s')));
+        within = omega (arith, ap length e, length-drop at bytes, h.within);
         after = omega (arith, h.after);
       }
 
-  pub skips_none : layout_at rest ≡ None → SkipsFrom bytes from at
-  skips_none f = h.onward at (subst (λ (z : List ℕ). Skips at z at) e (stays (no_layout rest f)))
+  pub skips_none : ((w more : List ℕ) → rest ≡ w ++ more → IsLayout w more → ⊥) → SkipsFrom bytes from at
+  skips_none f = h.onward at (subst (λ (z : List ℕ). Skips at z at) e (stays f))
 
 nothing_left : (w rest : List ℕ) → [] ≡ w ++ rest → IsLayout w rest → ⊥
 nothing_left w rest e l = absurd (omega (arith, layout_not_empty l, ap length e, length-append w rest))

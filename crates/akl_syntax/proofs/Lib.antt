@@ -1,5 +1,7 @@
 pub mod Unique
 pub mod Balance
+pub mod Rests
+pub mod BracketTable
 pub mod OneGoal
 pub mod Loops
 pub mod Turns
@@ -15,3 +17,4 @@ pub mod LexemeTurns
 pub mod OneVerdict
 pub mod ReadTurns
 pub mod SizeLaws
+pub mod VariableLaws

@@ -1,8 +1,7 @@
 -- A text has at most as many terms, goals and clauses together as bytes.
-use Rattle.std.proofs.Common.{◌≡◌, ℕ, suc, ◌+◌, ◌<◌, ◌≤◌, Bool, true, false, List, [], ◌∷◌, ◌++◌, length, drop, refl, sym, ap, ◌∙◌, arith}
+use Rattle.std.proofs.Common.{◌≡◌, ℕ, suc, ◌+◌, ◌≤◌, Bool, true, false, List, [], ◌∷◌, ◌++◌, length, drop, refl, ap, arith}
 use Rattle.std.proofs.lemmas.List.{length-append, length-drop}
 use Rattle.akl_text.specs.declared.token.Token.{Token}
-use Rattle.akl_text.specs.Tokens.{tokens, ReadsFrom}
 use Rattle.akl_syntax.specs.declared.lexeme.Lexeme.{Lexeme}
 use Rattle.akl_syntax.specs.declared.operator.Level.{Level}
 use Rattle.akl_syntax.specs.Tree.{Tree, Step, Tail, trees, steps}
@@ -12,7 +11,7 @@ use Rattle.akl_syntax.specs.Goals as made
 use Rattle.akl_syntax.specs.Clauses.{Clause, Query, HasPart, IsClause, IsQuery, no_neck, neck, clause, query}
 use Rattle.akl_syntax.specs.Lexemes.{Lexemes}
 use Rattle.akl_syntax.specs.Lexemes as lexed
-use Rattle.akl_syntax.specs.Sizes.{tree_size, trees_size, tail_size, steps_size, goal_size, goals_size, parts_size, clause_size, clauses_size, query_size}
+use Rattle.akl_syntax.specs.Sizes.{tree_size, trees_size, tail_size, steps_size, goals_size, parts_size, clause_size, clauses_size, query_size}
 use Rattle.akl_syntax.specs.Verdicts.{Verdict, accepted, refused, Tests, too_deep, out_of_range, not_derived, derived, ReadsClause, SkipsFrom, ReadsClauses, ReadsProgram, ReadsQuery, ending_at, with_clause}
 use Rattle.akl_syntax.specs.Verdicts as verdicts
 use Rattle.std.specs.Prelude.{Result, Ok, Err, IfOk}

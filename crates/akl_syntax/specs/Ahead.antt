@@ -5,8 +5,8 @@ use Rattle.akl_syntax.specs.declared.lexeme.Lexeme.TheVariants.{Symbol}
 use Rattle.akl_text.specs.declared.token.Kind.{Kind}
 use Rattle.akl_text.specs.declared.token.Kind.TheVariants as kinds
 use Rattle.akl_syntax.specs.declared.operator.Level.TheVariants.{Sum, Product}
-use Rattle.akl_syntax.specs.declared.ahead.Turn.{Turn}
-use Rattle.akl_syntax.specs.declared.ahead.Turn.TheVariants.{Opens, Closes, Stays}
+use Rattle.akl_syntax.specs.declared.brackets.Turn.{Turn}
+use Rattle.akl_syntax.specs.declared.brackets.Turn.TheVariants.{Opens, Closes, Stays}
 use Rattle.akl_syntax.specs.Grammar.{operator_of}
 use Rattle.akl_syntax.specs.Goals.{relation_of}
 

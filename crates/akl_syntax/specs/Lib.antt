@@ -4,6 +4,7 @@ pub mod Grammar
 pub mod Edges
 pub mod Goals
 pub mod Ahead
+pub mod Brackets
 pub mod Follow
 pub mod GoalView
 pub mod Limits
@@ -19,3 +20,4 @@ pub mod Named
 pub mod Numbered
 pub mod Faults
 pub mod Sizes
+pub mod Variables

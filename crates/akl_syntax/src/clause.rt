@@ -9,6 +9,7 @@ ghost use Rattle.akl_syntax.specs.Clauses.{HasPart, IsClause, IsQuery};
 ghost use Rattle.akl_syntax.specs.PartView.{part_of};
 ghost use Rattle.akl_syntax.specs.Wholes.{Whole};
 
+use crate::brackets::Brackets;
 use crate::fault::Fault;
 use crate::front::{front, skip};
 use crate::goals::{WrittenPart, conj, part};
@@ -26,7 +27,8 @@ fn clause_part(alloc: Global, lexemes: &[Lexeme]) -> Result<WrittenPart, Fault>
     let Some(rest) = skip(Kind::Neck, lexemes) else {
         return no_part(alloc, lexemes);
     };
-    let (found, rest) = part(alloc, rest)?;
+    let brackets = Brackets::new(alloc, rest)?;
+    let (found, rest) = part(alloc, &brackets, rest)?;
     if rest.is_empty() {
         Ok(found)
     } else {
@@ -78,7 +80,8 @@ pub fn query(alloc: Global, lexed: Lexed) -> Result<SourceQuery, Fault>
     ensures { Whole query_view (IsQuery lexed.names.items lexed.lexemes.items) result }
 {
     let Lexed { lexemes, names } = lexed;
-    let (goals, rest) = conj(alloc, lexemes.as_slice())?;
+    let brackets = Brackets::new(alloc, lexemes.as_slice())?;
+    let (goals, rest) = conj(alloc, &brackets, lexemes.as_slice())?;
     if rest.is_empty() {
         Ok(SourceQuery { goals, names })
     } else {

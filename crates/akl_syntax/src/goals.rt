@@ -9,9 +9,11 @@ ghost use Rattle.akl_syntax.specs.GoalView.{goal, part};
 ghost use Rattle.akl_syntax.specs.Parts.{guard_at, Guarded, Alternatives};
 ghost use Rattle.akl_syntax.specs.PartView.{part_of};
 ghost use Rattle.akl_syntax.specs.Ahead.{is_test};
+ghost use Rattle.akl_syntax.specs.Brackets.{IsTable};
 ghost use Rattle.akl_syntax.specs.Follow.{ReadsTo, ends, after_goal, after_conj, after_part, after_parts};
 
 use crate::ahead::{joined, looks_tested};
+use crate::brackets::Brackets;
 use crate::fault::Fault;
 use crate::front::{behind, front, skip};
 use crate::lexeme::Lexeme;
@@ -124,10 +126,15 @@ fn behind_goals<'a>(first: &WrittenPart, lexemes: &'a [Lexeme]) -> Option<&'a [L
 
 /// The goals of one that is written: in brackets there may be several.
 #[cycle(goals)]
-fn goal(alloc: Global, lexemes: &[Lexeme]) -> Result<(Vec<SourceGoal>, &[Lexeme]), Fault>
+fn goal<'a>(
+    alloc: Global,
+    brackets: &Brackets,
+    lexemes: &'a [Lexeme],
+) -> Result<(Vec<SourceGoal>, &'a [Lexeme]), Fault>
+    requires { IsTable brackets.now lexemes.now }
     ensures { ReadsTo (λ x. (map goal x.0.items, x.1.now)) (GoalIs lexemes.now) after_goal result }
 {
-    if looks_tested(lexemes) {
+    if looks_tested(brackets, lexemes) {
         return test(alloc, lexemes);
     }
     let Some((first, rest)) = front(lexemes) else {
@@ -135,19 +142,24 @@ fn goal(alloc: Global, lexemes: &[Lexeme]) -> Result<(Vec<SourceGoal>, &[Lexeme]
     };
     match first {
         Lexeme::Symbol(symbol) => called(alloc, symbol, rest),
-        Lexeme::Mark(_) => bracketed(alloc, rest),
+        Lexeme::Mark(_) => bracketed(alloc, brackets, rest),
         _ => Err(Fault::Syntax),
     }
 }
 
 /// Goals with commas between.
 #[cycle(goals)]
-pub fn conj(alloc: Global, lexemes: &[Lexeme]) -> Result<(Vec<SourceGoal>, &[Lexeme]), Fault>
+pub fn conj<'a>(
+    alloc: Global,
+    brackets: &Brackets,
+    lexemes: &'a [Lexeme],
+) -> Result<(Vec<SourceGoal>, &'a [Lexeme]), Fault>
+    requires { IsTable brackets.now lexemes.now }
     ensures { ReadsTo (λ x. (map goal x.0.items, x.1.now)) (Conj lexemes.now) after_conj result }
 {
-    let (mut goals, mut rest) = goal(alloc, lexemes)?;
+    let (mut goals, mut rest) = goal(alloc, brackets, lexemes)?;
     while let Some(after) = skip(Kind::Comma, rest) {
-        let (mut next, after) = goal(alloc, after)?;
+        let (mut next, after) = goal(alloc, brackets, after)?;
         goals.append(&mut next)?;
         rest = after;
     }
@@ -156,15 +168,20 @@ pub fn conj(alloc: Global, lexemes: &[Lexeme]) -> Result<(Vec<SourceGoal>, &[Lex
 
 /// An operator may stand before the goals, between them, or nowhere.
 #[cycle(goals)]
-pub fn part(alloc: Global, lexemes: &[Lexeme]) -> Result<(WrittenPart, &[Lexeme]), Fault>
+pub fn part<'a>(
+    alloc: Global,
+    brackets: &Brackets,
+    lexemes: &'a [Lexeme],
+) -> Result<(WrittenPart, &'a [Lexeme]), Fault>
+    requires { IsTable brackets.now lexemes.now }
     ensures { ReadsTo (λ x. (part_of x.0, x.1.now)) (PartIs lexemes.now) after_part result }
 {
     if let Some((op, rest)) = guard_front(lexemes) {
-        return guarded(alloc, Vec::new(alloc), op, rest);
+        return guarded(alloc, brackets, Vec::new(alloc), op, rest);
     }
-    let (goals, rest) = conj(alloc, lexemes)?;
+    let (goals, rest) = conj(alloc, brackets, lexemes)?;
     if let Some((op, rest)) = guard_front(rest) {
-        return guarded(alloc, goals, op, rest);
+        return guarded(alloc, brackets, goals, op, rest);
     }
     let found = WrittenPart {
         guard: Vec::new(alloc),
@@ -176,15 +193,17 @@ pub fn part(alloc: Global, lexemes: &[Lexeme]) -> Result<(WrittenPart, &[Lexeme]
 
 /// The part whose guard and operator were read.
 #[cycle(goals)]
-fn guarded(
+fn guarded<'a>(
     alloc: Global,
+    brackets: &Brackets,
     guard: Vec<SourceGoal>,
     op: Op,
-    lexemes: &[Lexeme],
-) -> Result<(WrittenPart, &[Lexeme]), Fault>
+    lexemes: &'a [Lexeme],
+) -> Result<(WrittenPart, &'a [Lexeme]), Fault>
+    requires { IsTable brackets.now lexemes.now }
     ensures { ReadsTo (λ x. (part_of x.0, x.1.now)) (Guarded (map goal guard.items) op lexemes.now) after_part result }
 {
-    let (body, rest) = conj(alloc, lexemes)?;
+    let (body, rest) = conj(alloc, brackets, lexemes)?;
     if guard_front(rest).is_some() {
         return Err(Fault::Syntax);
     }
@@ -198,15 +217,20 @@ fn guarded(
 
 /// The goals in brackets, or an inline choice, whose opening bracket was read.
 #[cycle(goals)]
-fn bracketed(alloc: Global, lexemes: &[Lexeme]) -> Result<(Vec<SourceGoal>, &[Lexeme]), Fault>
-    requires { is_test (Lexeme.Mark Open ∷ lexemes.now) ≡ false }
+fn bracketed<'a>(
+    alloc: Global,
+    brackets: &Brackets,
+    lexemes: &'a [Lexeme],
+) -> Result<(Vec<SourceGoal>, &'a [Lexeme]), Fault>
+    requires table { IsTable brackets.now lexemes.now }
+    requires goals { is_test (Lexeme.Mark Open ∷ lexemes.now) ≡ false }
     ensures { ReadsTo (λ x. (map goal x.0.items, x.1.now)) (GoalIs (Lexeme.Mark Open ∷ lexemes.now)) after_goal result }
 {
-    let (first, rest) = part(alloc, lexemes)?;
+    let (first, rest) = part(alloc, brackets, lexemes)?;
     if let Some(rest) = behind_goals(&first, rest) {
         return Ok((first.body, rest));
     }
-    let (parts, rest) = alternatives(alloc, first.into_source(), rest)?;
+    let (parts, rest) = alternatives(alloc, brackets, first.into_source(), rest)?;
     let rest = behind(Kind::Close, rest)?;
     let found = alone(alloc, SourceGoal::Choice(parts))?;
     Ok((found, rest))
@@ -214,19 +238,21 @@ fn bracketed(alloc: Global, lexemes: &[Lexeme]) -> Result<(Vec<SourceGoal>, &[Le
 
 /// The parts of an inline choice, the first of which was read.
 #[cycle(goals)]
-fn alternatives(
+fn alternatives<'a>(
     alloc: Global,
+    brackets: &Brackets,
     first: SourcePart,
-    lexemes: &[Lexeme],
-) -> Result<(Vec<SourcePart>, &[Lexeme]), Fault>
-    requires { ends after_part lexemes.now ≡ true }
+    lexemes: &'a [Lexeme],
+) -> Result<(Vec<SourcePart>, &'a [Lexeme]), Fault>
+    requires table { IsTable brackets.now lexemes.now }
+    requires edge { ends after_part lexemes.now ≡ true }
     ensures { ReadsTo (λ x. (map part x.0.items, x.1.now)) (Alternatives (part first) lexemes.now) after_parts result }
 {
     let mut parts = Vec::new(alloc);
     parts.push(first)?;
     let mut rest = lexemes;
     while let Some(after) = skip(Kind::Semicolon, rest) {
-        let (next, after) = part(alloc, after)?;
+        let (next, after) = part(alloc, brackets, after)?;
         parts.push(next.into_source())?;
         rest = after;
     }

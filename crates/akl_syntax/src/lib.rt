@@ -2,6 +2,7 @@
 #![tactic(auto)]
 
 mod ahead;
+mod brackets;
 mod clause;
 mod depth;
 mod error;

@@ -10,6 +10,7 @@ ghost use Rattle.akl_syntax.specs.Faults.{ReadsTokens, IsTokenFault, IsLimitFaul
 ghost use Rattle.akl_syntax.specs.Lexemes.{Lexemes};
 ghost use Rattle.akl_syntax.specs.Limits.{first_too_deep, first_out_of_range};
 ghost use Rattle.akl_syntax.specs.Sizes.{clauses_size, query_size};
+ghost use Rattle.akl_syntax.specs.Variables.{AreClausesNumbered, IsQueryNumbered};
 ghost use Rattle.akl_syntax.specs.Verdicts.{Verdict, Tests, NotEnded, ReadsClause, ReadsProgram, ReadsQuery};
 ghost use Rattle.akl_syntax.specs.declared.error.SyntaxError.TheVariants.{TooLong};
 
@@ -147,11 +148,13 @@ fn read_clause(
 /// - else `Syntax` where the tokens are no clause.
 ///
 /// The place of `Syntax` is the clause's first byte after layout. There are at most as many terms, goals and clauses
-/// together as bytes.
+/// together as bytes. The numbers of the variables that occur in a clause are exactly those below the length of its
+/// `names`.
 pub fn read_program(alloc: Global, bytes: &[u8]) -> Result<Vec<SourceClause>, SyntaxError>
     ensures reads { Answers clauses_view (ReadsProgram bytes.now) result }
     ensures only { (v : Verdict (List Clause)) → ReadsProgram bytes.now v → Answers clauses_view (λ w. w ≡ v) result }
     ensures size { IfOk result (λ v. clauses_size (clauses_view v) ≤ length bytes.now) }
+    ensures variables { IfOk result (λ v. AreClausesNumbered (clauses_view v)) }
 {
     if bytes.len() > PROGRAM_BYTES {
         return Err(SyntaxError::TooLong { count: bytes.len() });
@@ -182,12 +185,13 @@ pub fn check_query(bytes: &[u8]) -> Result<(), SyntaxError>
 ///
 /// It is refused as a clause of [`read_program`] is, but an end token needn't follow. Where one does, only the tokens
 /// before the first end token count for `TooDeep` and `IntRange`, and it is `Syntax` where more than layout stands
-/// behind it.
+/// behind it. There are at most as many terms and goals together as bytes, and variables are numbered as in a clause.
 pub fn read_query(alloc: Global, bytes: &[u8]) -> Result<SourceQuery, SyntaxError>
     requires { length bytes.now ≤ 10000 }
     ensures reads { Answers query_view (ReadsQuery bytes.now) result }
     ensures only { (v : Verdict Query) → ReadsQuery bytes.now v → Answers query_view (λ w. w ≡ v) result }
     ensures size { IfOk result (λ q. query_size (query_view q) ≤ length bytes.now) }
+    ensures variables { IfOk result (λ q. IsQueryNumbered (query_view q)) }
 {
     let start = layout_end(bytes, 0);
     let tokens = tokens_from(alloc, bytes, start)?;

@@ -1,171 +1,70 @@
-use crate::{
-    Head, SourceGoal, SourcePart, SourceTerm, SyntaxError, check_query, read_program, read_query,
-};
-use akl_terms::{Op, Text};
-use std::alloc::Global;
+mod cases;
+mod limits;
+mod refusals;
+mod shown;
+
+use cases::each;
+use shown::{program, query};
 use std::test::*;
 
-#[cycle(shown_terms)]
-fn write_terms(shown: &mut String, terms: &[SourceTerm]) -> Result<(), Fail> {
-    write!(shown, "(")?;
-    for term in terms {
-        write_term(shown, term)?;
-        write!(shown, ",")?;
-    }
-    write!(shown, ")")?;
-    Ok(())
-}
-
-#[cycle(shown_terms)]
-fn write_term(shown: &mut String, term: &SourceTerm) -> Result<(), Fail> {
-    match term {
-        SourceTerm::Var(number) => write!(shown, "V{number}")?,
-        SourceTerm::Int(value) => write!(shown, "{value}")?,
-        SourceTerm::Struct { symbol, arguments } => {
-            let symbol = symbol.as_str();
-            write!(shown, "{symbol}")?;
-            if !arguments.is_empty() {
-                write_terms(shown, arguments)?;
-            }
-        }
-        SourceTerm::List { items, tail } => {
-            write!(shown, "list")?;
-            write_terms(shown, items)?;
-            if let Some(tail) = tail {
-                write!(shown, "|")?;
-                write_term(shown, tail)?;
-            }
-        }
-        SourceTerm::Chain { first, rest } => {
-            write!(shown, "<")?;
-            write_term(shown, first)?;
-            for step in rest {
-                let symbol = step.symbol.as_str();
-                write!(shown, " {symbol} ")?;
-                write_term(shown, &step.right)?;
-            }
-            write!(shown, ">")?;
-        }
-    }
-    Ok(())
-}
-
-#[cycle(shown_goals)]
-fn write_goals(shown: &mut String, goals: &[SourceGoal]) -> Result<(), Fail> {
-    for goal in goals {
-        match goal {
-            SourceGoal::Call { symbol, arguments } => {
-                let symbol = symbol.as_str();
-                write!(shown, "{symbol}")?;
-                write_terms(shown, arguments)?;
-            }
-            SourceGoal::Choice(parts) => {
-                write!(shown, "{{")?;
-                for part in parts {
-                    write_part(shown, part)?;
-                    write!(shown, ";")?;
-                }
-                write!(shown, "}}")?;
-            }
-            SourceGoal::Lifted { number, .. } => write!(shown, "lifted {number}")?,
-        }
-    }
-    Ok(())
-}
-
-#[cycle(shown_goals)]
-fn write_part(shown: &mut String, part: &SourcePart) -> Result<(), Fail> {
-    write_goals(shown, &part.guard)?;
-    match part.op {
-        Op::Condition => write!(shown, "->")?,
-        Op::Commit => write!(shown, "|")?,
-        Op::Choice => write!(shown, "?")?,
-    }
-    write_goals(shown, &part.body)
-}
-
-fn write_names(shown: &mut String, names: &[Text]) -> Result<(), Fail> {
-    write!(shown, " [")?;
-    for name in names {
-        let name = name.as_str();
-        write!(shown, "{name},")?;
-    }
-    write!(shown, "]")?;
-    Ok(())
-}
-
-/// The clauses of a text, or why it is refused.
-fn program(alloc: Global, text: &[u8]) -> Result<String, Fail> {
-    let mut shown = String::new(alloc);
-    match read_program(alloc, text) {
-        Ok(clauses) => {
-            for clause in &clauses {
-                let start = clause.start;
-                write!(shown, "{start}: ")?;
-                match &clause.head {
-                    Head::Named(symbol) => {
-                        let symbol = symbol.as_str();
-                        write!(shown, "{symbol}")?;
-                    }
-                    Head::Lifted { number, .. } => write!(shown, "lifted {number}")?,
-                }
-                write_terms(&mut shown, &clause.arguments)?;
-                write!(shown, " ")?;
-                write_part(&mut shown, &clause.part)?;
-                write_names(&mut shown, &clause.names)?;
-                write!(shown, "\n")?;
-            }
-        }
-        Err(SyntaxError::Memory(error)) => return Err(error.into()),
-        Err(error) => write!(shown, "{error}")?,
-    }
-    Ok(shown)
-}
-
-/// The goals of a query, or why it is refused.
-fn query(alloc: Global, text: &[u8]) -> Result<String, Fail> {
-    let mut shown = String::new(alloc);
-    if let Err(_) = check_query(text) {
-        return Err("too long".into());
-    }
-    match read_query(alloc, text) {
-        Ok(found) => {
-            write_goals(&mut shown, &found.goals)?;
-            write_names(&mut shown, &found.names)?;
-        }
-        Err(SyntaxError::Memory(error)) => return Err(error.into()),
-        Err(error) => write!(shown, "{error}")?,
-    }
-    Ok(shown)
-}
+/// Programs, and what they are read as.
+const PROGRAMS: &str = r"
+p. => 0: p() ? [].
+ 'q r'. ''(a). => 1: q r() ? [].8: (a,) ? [].
+p(X, -1, 'A b', f(g(a),b)). => 0: p(V0,-1,A b,f(g(a,),b,),) ? [X,].
+p([], [a], [a,b|T], [[]|f(X)]). => 0: p([],list(a,),list(a,b,)|V0,list([],)|f(V1,),) ? [T,X,].
+p(1+2-3, 1- -2, 1-2). => 0: p(<1 + 2 - 3>,<1 - -2>,<1 - 2>,) ? [].
+p(4*5//6 mod 7). => 0: p(<4 * 5 // 6 mod 7>,) ? [].
+p(1+2*3-4, (1+2)*3, ((a))). => 0: p(<1 + <2 * 3> - 4>,<<1 + 2> * 3>,a,) ? [].
+p([a+b|c*d], f(1-X)). => 0: p(list(<a + b>,)|<c * d>,f(<1 - V0>,),) ? [X,].
+p(X). q(Y,X). => 0: p(V0,) ? [X,].6: q(V0,V1,) ? [Y,X,].
+p(_X,_X,_,_). => 0: p(V0,V0,V1,V2,) ? [_X,_,_,].
+p(X,Y) :- q(Y,X,_), (r(Z) ; s(_,Z)). => 0: p(V0,V1,) ?q(V1,V0,V2,){?r(V3,);?s(V4,V3,);} [X,Y,_,Z,_,].
+p :- q. => 0: p() ?q() [].
+p :- q, r(a), s. => 0: p() ?q()r(a,)s() [].
+p :- q -> r, s. => 0: p() q()->r()s() [].
+p :- q, r | s. => 0: p() q()r()|s() [].
+p :- q ? r. => 0: p() q()?r() [].
+p :- -> r. => 0: p() ->r() [].
+p :- | r. => 0: p() |r() [].
+p :- ? r. => 0: p() ?r() [].
+p :- (q). => 0: p() ?q() [].
+p :- ((q, r), s). => 0: p() ?q()r()s() [].
+p :- (q, r) | (s, t). => 0: p() q()r()|s()t() [].
+p :- (q ? r). => 0: p() ?{q()?r();} [].
+p :- (-> q). => 0: p() ?{->q();} [].
+p :- (a -> b ; c | d ; ? e ; f, g), h. => 0: p() ?{a()->b();c()|d();?e();?f()g();}h() [].
+p :- ((a ; b) ; c) -> (d ; (e)). => 0: p() {?{?a();?b();};?c();}->{?d();?e();} [].
+p :- X = 1, X is 2, X < 3, X > 4. => 0: p() ?=(V0,1,)is(V0,2,)<(V0,3,)>(V0,4,) [X,].
+p :- X =< 5, X >= 6, X =:= 7, X =\= 8. => 0: p() ?=<(V0,5,)>=(V0,6,)=:=(V0,7,)=\=(V0,8,) [X,].
+p :- f(X)+1 < 2*Y. => 0: p() ?<(<f(V0,) + 1>,<2 * V1>,) [X,Y,].
+p :- (a)+1 = b, (a), f(x) = y, f(x). => 0: p() ?=(<a + 1>,b,)a()=(f(x,),y,)f(x,) [].
+p :- [a] = X, 1 = 'A'. => 0: p() ?=(list(a,),V0,)=(1,A,) [X,].
+p :- ((f([a],(b))) = X, (c ; d)). => 0: p() ?=(f(list(a,),b,),V0,){?c();?d();} [X,].
+p :- ((((a))) = b). => 0: p() ?=(a,b,) [].
+p :- (((a) ; b) ; c), d. => 0: p() ?{?{?a();?b();};?c();}d() [].
+ p. q => syntax at byte 4
+p. q :- . r( => syntax at byte 3
+p. ! q. => syntax at byte 3
+";
 
 #[test]
 fn a_program_is_read_as_its_clauses(rt: HostRuntime) -> Result<(), Fail> {
-    let cases: [(&[u8], &str); 18] = [
+    for case in each(PROGRAMS) {
+        let (text, want) = case.split_once(" => ").ok_or("case")?;
+        let found = program(rt.alloc(), text.as_bytes())?;
+        assert_eq!(rt; found.as_str(), want, "at {text}");
+    }
+    Ok(())
+}
+
+#[test]
+fn layout_stands_between_clauses(rt: HostRuntime) -> Result<(), Fail> {
+    let cases: [(&[u8], &str); 4] = [
         (b"", ""),
         (b" % nothing\n/* at all */", ""),
-        (b"p.", "0: p() ? []\n"),
-        (
-            b" p(X,_,Y,_,X). 'q r'.\n",
-            "1: p(V0,V1,V2,V3,V0,) ? [X,_,Y,_,]\n15: q r() ? []\n",
-        ),
-        (b"p :- q.", "0: p() ?q() []\n"),
-        (b"p :- q -> r, s.", "0: p() q()->r()s() []\n"),
-        (b"p :- | r.", "0: p() |r() []\n"),
-        (b"p :- (q ; r ? s).", "0: p() ?{?q();r()?s();} []\n"),
-        (b"p :- ((q, r), s).", "0: p() ?q()r()s() []\n"),
-        (b"p :- (-> q).", "0: p() ?{->q();} []\n"),
-        (b"p(a-b-c).", "0: p(<a - b - c>,) ? []\n"),
-        (b"p.q", "syntax at byte 0"),
-        (b" p. q", "syntax at byte 4"),
-        (b"p. q :- .", "syntax at byte 3"),
-        (b"p. ! q.", "syntax at byte 3"),
-        (
-            b"p. q(99999999999999999999) r.",
-            "integer out of range at byte 5",
-        ),
-        (b"p. q(9223372036854775808, ", "syntax at byte 3"),
-        (b"p :- q -> r -> s.", "syntax at byte 0"),
+        (b"/**/p. %\nq.% r.", "4: p() ? [].9: q() ? []."),
+        (b"p.\tq.\n\n", "0: p() ? [].3: q() ? []."),
     ];
     for (text, want) in cases {
         let found = program(rt.alloc(), text)?;
@@ -174,93 +73,28 @@ fn a_program_is_read_as_its_clauses(rt: HostRuntime) -> Result<(), Fail> {
     Ok(())
 }
 
+/// Queries, and what they are read as.
+const QUERIES: &str = r"
+p => p() []
+ p . => p() []
+p(X), q(Y,X) . % end => p(V0,)q(V1,V0,) [X,Y,]
+/* p */ p. /* q. */ => p() []
+X = f(Y) => =(V0,f(V1,),) [X,Y,]
+X is -1+2*3 mod Y => is(V0,<-1 + <2 * 3 mod V1>>,) [X,Y,]
+(1+2)*3 =:= 9 => =:=(<<1 + 2> * 3>,9,) []
+(a) = X, f(b) < c, d >= e => =(a,V0,)<(f(b,),c,)>=(d,e,) [X,]
+X = [], Y = [a], Z = [a,b|T] => =(V0,[],)=(V1,list(a,),)=(V2,list(a,b,)|V3,) [X,Y,Z,T,]
+(a ; b), (c) => {?a();?b();}c() []
+(p(X) -> q(_) ; r(_,X)) => {p(V0,)->q(V1,);?r(V2,V0,);} [X,_,_,]
+(p, q) => p()q() []
+";
+
 #[test]
 fn a_query_is_read_as_its_goals(rt: HostRuntime) -> Result<(), Fail> {
-    let cases: [(&[u8], &str); 22] = [
-        (b"p", "p() []"),
-        (b"p(X), q(Y,X) . % end", "p(V0,)q(V1,V0,) [X,Y,]"),
-        (b"X = f(Y)", "=(V0,f(V1,),) [X,Y,]"),
-        (b"X is -1+2*3 mod Y", "is(V0,<-1 + <2 * 3 mod V1>>,) [X,Y,]"),
-        (b"(1+2)*3 =:= 9", "=:=(<<1 + 2> * 3>,9,) []"),
-        (
-            b"(a) = X, f(b) < c, d >= e",
-            "=(a,V0,)<(f(b,),c,)>=(d,e,) [X,]",
-        ),
-        (
-            b"X = [], Y = [a], Z = [a,b|T]",
-            "=(V0,[],)=(V1,list(a,),)=(V2,list(a,b,)|V3,) [X,Y,Z,T,]",
-        ),
-        (b"x =\\= 1, y =< 2, z > 3", "=\\=(x,1,)=<(y,2,)>(z,3,) []"),
-        (b"(a ; b), (c)", "{?a();?b();}c() []"),
-        (
-            b"-9223372036854775808 = -0",
-            "=(-9223372036854775808,0,) []",
-        ),
-        (b"", "syntax at byte 0"),
-        (b" ", "syntax at byte 1"),
-        (b" .", "syntax at byte 1"),
-        (b"p. q", "syntax at byte 0"),
-        (b"p. !", "syntax at byte 0"),
-        (b" p q", "syntax at byte 1"),
-        (b"X", "syntax at byte 0"),
-        (b"1 = 2 = 3", "syntax at byte 0"),
-        (b"p(9223372036854775808", "integer out of range at byte 2"),
-        (b"p. 9223372036854775808", "syntax at byte 0"),
-        (b"f (a)", "syntax at byte 0"),
-        (b"p ! 9223372036854775808", "syntax at byte 0"),
-    ];
-    for (text, want) in cases {
-        let found = query(rt.alloc(), text)?;
-        assert_eq!(rt; found.as_str(), want);
+    for case in each(QUERIES) {
+        let (text, want) = case.split_once(" => ").ok_or("case")?;
+        let found = query(rt.alloc(), text.as_bytes())?;
+        assert_eq!(rt; found.as_str(), want, "at {text}");
     }
-    Ok(())
-}
-
-#[test]
-fn a_long_query_is_refused(rt: HostRuntime) -> Result<(), Fail> {
-    let mut text = Vec::new(rt.alloc());
-    for _ in 0..10_000 {
-        text.push(b'a')?;
-    }
-    assert!(rt; check_query(text.as_slice()).is_ok());
-    text.push(b'a')?;
-    let Err(error) = check_query(text.as_slice()) else {
-        return Err("accepted".into());
-    };
-    let mut shown = String::new(rt.alloc());
-    write!(shown, "{error}")?;
-    assert_eq!(rt; shown.as_str(), "10001 bytes are too long");
-    Ok(())
-}
-
-/// A text with so many brackets open inside a clause.
-fn nested(alloc: Global, before: &str, depth: usize) -> Result<String, Fail> {
-    let mut text = String::new(alloc);
-    write!(text, "{before}")?;
-    for _ in 0..depth {
-        write!(text, "(")?;
-    }
-    write!(text, "a")?;
-    for _ in 0..depth {
-        write!(text, ")")?;
-    }
-    write!(text, " = X.")?;
-    Ok(text)
-}
-
-#[test]
-fn two_hundred_brackets_may_be_open(rt: HostRuntime) -> Result<(), Fail> {
-    let text = nested(rt.alloc(), "p :- ", 200)?;
-    let found = program(rt.alloc(), text.as_str().as_bytes())?;
-    assert_eq!(rt; found.as_str(), "0: p() ?=(a,V0,) [X,]\n");
-    let text = nested(rt.alloc(), "p(((. p :- ", 199)?;
-    let found = program(rt.alloc(), text.as_str().as_bytes())?;
-    assert_eq!(rt; found.as_str(), "syntax at byte 0");
-    let text = nested(rt.alloc(), "p. p :- ", 201)?;
-    let found = program(rt.alloc(), text.as_str().as_bytes())?;
-    assert_eq!(rt; found.as_str(), "too many open brackets at byte 208");
-    let text = nested(rt.alloc(), "p) :- ", 201)?;
-    let found = program(rt.alloc(), text.as_str().as_bytes())?;
-    assert_eq!(rt; found.as_str(), "syntax at byte 0");
     Ok(())
 }

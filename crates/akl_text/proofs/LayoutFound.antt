@@ -1,6 +1,6 @@
 -- The layout that is computed is the layout at the front, and there is no other.
 use Rattle.std.proofs.Common.{◌≡◌, ◌≢◌, ℕ, suc, ◌+◌, ◌<◌, ◌≤◌, Bool, true, false, cond, List, [], ◌∷◌, ◌++◌, length, drop, take, Option, Some, None, refl, sym, ap, subst, ◌∙◌, arith, append_assoc}
-use Rattle.std.specs.Prelude.{option_map, slice_index, ◌==◌, ◌&&◌, not}
+use Rattle.std.specs.Prelude.{option_map, slice_index, ◌==◌, ◌&&◌, not, IfSome, IfNone}
 use Rattle.std.specs.List.{prefix_len, list_all}
 use Rattle.std.proofs.lemmas.Bool.{eqb-true, eqb-false, ne_eqb, and_parts, not-false}
 use Rattle.std.proofs.lemmas.List.{take_at, drop_at, length-append}
@@ -10,12 +10,12 @@ use Rattle.akl_text.specs.Computed.{block_len, layout_at}
 use Rattle.akl_text.proofs.Cases.{by_cond}
 use Rattle.akl_text.proofs.Runs.{run_all, run_within}
 
-pub record IsFrontLayout (text : List ℕ) (n : ℕ) : Type 0 where
-  pub layout : IsLayout (take n text) (drop n text)
-  pub some : 0 < n
-  pub within : n ≤ length text
+record IsFrontLayout (text : List ℕ) (n : ℕ) : Type 0 where
+  layout : IsLayout (take n text) (drop n text)
+  some : 0 < n
+  within : n ≤ length text
 
-abbrev pub IfLayout : List ℕ → Option ℕ → Type 0
+abbrev IfLayout : List ℕ → Option ℕ → Type 0
 IfLayout text None = Unit {0}
 IfLayout text (Some n) = IsFrontLayout text n
 
@@ -164,7 +164,7 @@ line_front a t e =
     rw (eqb-true a 37 e, let z : 1 + prefix_len in_line t ≡ suc (prefix_len in_line t) = omega arith in z)
     (record { layout = line_comment (run_all in_line t) (line_stops t); some = omega arith; within = omega (arith, run_within in_line t) })
 
-pub layout_found : (a : ℕ) (t : List ℕ) → IfLayout (a ∷ t) (layout_at (a ∷ t))
+layout_found : (a : ℕ) (t : List ℕ) → IfLayout (a ∷ t) (layout_at (a ∷ t))
 unfolding layout_at
 layout_found a t =
     by_cond (λ x. IfLayout (a ∷ t) x) (is_blank a) _ _ (λ e. record { layout = blank e; some = omega arith; within = omega arith }) (λ _.
@@ -179,10 +179,28 @@ layout_is (block_comment {w = w} {rest = rest} h) =
     let close : List ℕ = 42 ∷ 47 ∷ [] in
     rw (append_assoc w close rest, block_is false w rest h, length-append w close) (let z : 2 + (length w + 2) ≡ suc (suc (length w + 2)) = omega arith in ap Some z)
 
-pub no_layout : (text : List ℕ) → layout_at text ≡ None → (w rest : List ℕ) → text ≡ w ++ rest → IsLayout w rest → ⊥
+no_layout : (text : List ℕ) → layout_at text ≡ None → (w rest : List ℕ) → text ≡ w ++ rest → IsLayout w rest → ⊥
 no_layout text e w rest parts l = absurd (let f : layout_at (w ++ rest) ≡ None = ap layout_at (sym parts) ∙ e in let g = sym f ∙ layout_is l in cc)
 
 pub layout_not_empty : {w rest : List ℕ} → IsLayout w rest → 0 < length w
 layout_not_empty (blank e) = omega arith
 layout_not_empty (line_comment e f) = omega arith
 layout_not_empty (block_comment h) = omega arith
+
+-- what `layout_len` answers
+front_layout : (text : List ℕ) → 0 < length text → IfLayout text (layout_at text)
+front_layout [] h = absurd (omega (arith, h))
+front_layout (a ∷ t) h = layout_found a t
+
+module _ (text : List ℕ) where
+  pub layout_len_found : (o : Option ℕ) → 0 < length text → o ≡ layout_at text → IfSome o (λ n. IsLayout (take n text) (drop n text))
+  layout_len_found None h e = tt
+  layout_len_found (Some n) h e = (let f : IsFrontLayout text n = subst (λ o. IfLayout text o) (sym e) (front_layout text h) in f.layout)
+
+  pub layout_len_within : (o : Option ℕ) → 0 < length text → o ≡ layout_at text → IfSome o (λ n. (0 < n) × (n ≤ length text))
+  layout_len_within None h e = tt
+  layout_len_within (Some n) h e = (let f : IsFrontLayout text n = subst (λ o. IfLayout text o) (sym e) (front_layout text h) in (f.some, f.within))
+
+  pub layout_len_none : (o : Option ℕ) → o ≡ layout_at text → IfNone o ((w rest : List ℕ) → text ≡ w ++ rest → IsLayout w rest → ⊥)
+  layout_len_none None e = no_layout text (sym e)
+  layout_len_none (Some n) e = tt

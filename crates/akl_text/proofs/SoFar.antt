@@ -5,11 +5,11 @@ use Rattle.std.proofs.lemmas.List.{length-take, take-append-drop, append-nil}
 use Rattle.akl_text.specs.declared.token.Kind.{Kind}
 use Rattle.akl_text.specs.declared.token.Kind.TheVariants.{End}
 use Rattle.akl_text.specs.declared.token.Token.{Token}
-use Rattle.akl_text.specs.Computed.{layout_at, front_at}
+use Rattle.akl_text.specs.Computed.{front_at}
 use Rattle.akl_text.specs.Front.{Begins, IsLongest}
+use Rattle.akl_text.specs.Layout.{IsLayout}
 use Rattle.akl_text.specs.Tokens.{token_at, Outcome, tokens, nothing_at, with_token, Reads, ended, layout, token, last, stuck}
 use Rattle.akl_text.proofs.FrontLongest.{front_longest, no_token}
-use Rattle.akl_text.proofs.LayoutFound.{IfLayout, IsFrontLayout, layout_found, no_layout}
 
 abbrev pub ahead : List Token → Outcome → Outcome
 ahead ts (tokens us) = tokens (ts ++ us)
@@ -26,20 +26,15 @@ so_far_start from text = record { onward = λ o. go o }
     go (tokens ts) s = s
     go (nothing_at n) s = s
 
-layout_front : (rest : List ℕ) (n : ℕ) → 0 < length rest → layout_at rest ≡ Some n → IsFrontLayout rest n
-layout_front [] n h e = absurd (omega arith)
-layout_front (a ∷ t) n h e = subst (λ o. IfLayout (a ∷ t) o) e (layout_found a t)
-
 ahead_with : (found : List Token) (t : Token) (o : Outcome) → ahead found (with_token t o) ≡ ahead (found ++ t ∷ []) o
 ahead_with found t (tokens ts) = ap tokens (sym (append_assoc found (t ∷ []) ts))
 ahead_with found t (nothing_at n) = refl
 
 module _ {from : ℕ} {text : List ℕ} {found : List Token} {before : Option Token} {at : ℕ} {rest : List ℕ} (so_far : SoFar from text found before at rest) where
-  pub so_far_layout : (n : ℕ) → 0 < length rest → layout_at rest ≡ Some n → SoFar from text found before (at + n) (drop n rest)
-  so_far_layout n h e =
-      let f = layout_front rest n h e in
-      let len : length (take n rest) ≡ n = omega (arith, length-take n rest, f.within) in
-      record { onward = λ o s. so_far.onward o (layout (sym (take-append-drop n rest)) f.layout (rw len s)) }
+  pub so_far_layout : (n : ℕ) → IsLayout (take n rest) (drop n rest) → n ≤ length rest → SoFar from text found before (at + n) (drop n rest)
+  so_far_layout n l le =
+      let len : length (take n rest) ≡ n = omega (arith, length-take n rest) in
+      record { onward = λ o s. so_far.onward o (layout (sym (take-append-drop n rest)) l (rw len s)) }
 
   pub so_far_token : (k : Kind) (n : ℕ) → IsLongest before at k (take n rest) (drop n rest) → n ≤ length rest → k ≢ End
       → SoFar from text (found ++ record { kind = k; start = at; end = at + n } ∷ []) (Some (record { kind = k; start = at; end = at + n })) (at + n) (drop n rest)
@@ -61,9 +56,10 @@ module _ {from : ℕ} {text : List ℕ} {found : List Token} {before : Option To
       let one = so_far.onward (tokens (token_at at End (take n rest) ∷ [])) (last (sym (take-append-drop n rest)) t') in
       rw e (subst (λ (m : ℕ). Reads None from text (tokens (found ++ record { kind = End; start = at; end = at + m } ∷ []))) len one)
 
-  pub so_far_stuck : 0 < length rest → layout_at rest ≡ None → ((k : Kind) (w more : List ℕ) → rest ≡ w ++ more → Begins before at k w more → ⊥) → Reads None from text (nothing_at at)
-  so_far_stuck h e none =
-      so_far.onward (nothing_at at) (stuck (record { goes_on = λ x. absurd (let z : length rest ≡ 0 = ap length x in omega (arith, z, h)); no_layout = no_layout rest e; no_token = none }))
+  pub so_far_stuck : 0 < length rest → ((w more : List ℕ) → rest ≡ w ++ more → IsLayout w more → ⊥) → ((k : Kind) (w more : List ℕ) → rest ≡ w ++ more → Begins before at k w more → ⊥)
+      → Reads None from text (nothing_at at)
+  so_far_stuck h unlaid none =
+      so_far.onward (nothing_at at) (stuck (record { goes_on = λ x. absurd (let z : length rest ≡ 0 = ap length x in omega (arith, z, h)); no_layout = unlaid; no_token = none }))
 
   pub so_far_at : {other : List ℕ} → rest ≡ other → SoFar from text found before at other
   so_far_at e = subst (λ (z : List ℕ). SoFar from text found before at z) e so_far

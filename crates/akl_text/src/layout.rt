@@ -1,7 +1,8 @@
 //! Layout: blanks and comments.
 
-ghost use Rattle.std.specs.Prelude.{◌≡◌, ◌≤◌, ◌<◌, not, ◌==◌, false, length, IfSome};
+ghost use Rattle.std.specs.Prelude.{◌≡◌, ◌≤◌, ◌<◌, ◌++◌, ℕ, List, not, ◌==◌, false, length, take, drop, IfSome, IfNone};
 ghost use Rattle.std.specs.List.{prefix_len};
+ghost use Rattle.akl_text.specs.Layout.{IsLayout};
 ghost use Rattle.akl_text.specs.Computed.{block_len, layout_at};
 
 use crate::bytes::{byte_at, is_blank};
@@ -29,13 +30,11 @@ fn line_len(text: &[u8]) -> usize
     text.iter().take_while(|byte| **byte != b'\n').count()
 }
 
-/// The length of the piece of layout at the front, if there is one.
+/// The length of the piece of layout at the front, computed.
 #[tactic(auto, unfolding(crate::specs::Computed::layout_at))]
-pub fn layout_len(text: &[u8]) -> Option<usize>
+fn layout_at(text: &[u8]) -> Option<usize>
     requires { 0 < length text.now }
-    ensures value { result ≡ layout_at text.now }
-    ensures some { IfSome result (λ n. 0 < n) }
-    ensures within { IfSome result (λ n. n ≤ length text.now) }
+    ensures { result ≡ layout_at text.now }
 {
     let first = byte_at(text, 0);
     if is_blank(first) {
@@ -48,4 +47,16 @@ pub fn layout_len(text: &[u8]) -> Option<usize>
         return Some(2 + block_len(&text[2..])?);
     }
     None
+}
+
+/// The length in bytes of the piece of layout with which a text begins, if it begins with one.
+///
+/// A piece is one blank, a comment from a `%` up to the end of its line, or a comment from a `/*` through the next `*/`.
+pub fn layout_len(text: &[u8]) -> Option<usize>
+    requires { 0 < length text.now }
+    ensures found { IfSome result (λ n. IsLayout (take n text.now) (drop n text.now)) }
+    ensures within { IfSome result (λ n. (0 < n) × (n ≤ length text.now)) }
+    ensures none { IfNone result ((w rest : List ℕ) → text.now ≡ w ++ rest → IsLayout w rest → ⊥) }
+{
+    layout_at(text)
 }

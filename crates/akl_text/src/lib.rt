@@ -12,5 +12,6 @@ mod tests;
 mod token;
 
 pub use decode::text_of;
+pub use layout::layout_len;
 pub use scan::{TextError, tokens};
 pub use token::{Kind, Token};

@@ -1,4 +1,4 @@
-use crate::{Kind, TextError, Token, text_of, tokens};
+use crate::{Kind, TextError, Token, layout_len, text_of, tokens};
 use std::alloc::Global;
 use std::str::from_utf8;
 use std::test::*;
@@ -141,6 +141,31 @@ fn a_token_has_its_text(rt: HostRuntime) -> Result<(), Fail> {
             let text = text_of(rt.alloc(), spelling.as_bytes(), token)?;
             assert_eq!(rt; text.as_str(), want);
         }
+    }
+    Ok(())
+}
+
+#[test]
+fn layout_has_its_length(rt: HostRuntime) -> Result<(), Fail> {
+    let cases: [(&[u8], Option<usize>); 14] = [
+        (b" ", Some(1)),
+        (b"\t\n", Some(1)),
+        (b"\x0b", Some(1)),
+        (b"\x0c", Some(1)),
+        (b"\r\n", Some(1)),
+        (b"%", Some(1)),
+        (b"% a\n%", Some(3)),
+        (b"% /* a", Some(6)),
+        (b"/**/", Some(4)),
+        (b"/* % \n \xff **/ */", Some(12)),
+        (b"/*/", None),
+        (b"/", None),
+        (b"\x08", None),
+        (b"a ", None),
+    ];
+    for (text, want) in cases {
+        assert!(rt; !text.is_empty());
+        assert_eq!(rt; layout_len(text), want);
     }
     Ok(())
 }

@@ -10,6 +10,6 @@ returns-then-is_empty c =
     let x : PartIs c.in-Some.rest.now (part_of c.in_ok-found.found) [] = rw (is_nil c.in_ok-found.rest.now (sym c.is_empty.ensures ∙ c.if-is_empty.true)) at c.in_ok-found.ensures.0 in
     rw c.in-Some.ensures.some (neck x)
 
-pub returns-else-is_empty : goal.returns-else-is_empty
-returns-else-is_empty c =
+pub returns : goal.returns
+returns c =
     rw c.in-Some.ensures.some (λ y h. not_ended _ _ _ y c.in_ok-found.ensures.0 c.in_ok-found.ensures.1 (not_nil c.in_ok-found.rest.now (sym c.is_empty.ensures ∙ c.if-is_empty.false)) h)

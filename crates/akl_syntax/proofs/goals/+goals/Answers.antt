@@ -1,7 +1,7 @@
 use Rattle.std.proofs.Common.{◌≡◌, ◌∷◌, ◌++◌, [], length, map, refl, sym, ap, ◌∙◌, arith}
 use Rattle.std.proofs.lemmas.Result.{err_from_is_err_and}
 use Rattle.std.proofs.lemmas.List.{map_push, map-append}
-use Rattle.akl_text.specs.declared.token.Kind.TheVariants.{Close}
+use Rattle.akl_text.specs.declared.token.Kind.TheVariants.{Close, Comma, Semicolon}
 use Rattle.akl_syntax.specs.declared.lexeme.Lexeme.TheVariants as lexemes
 use Rattle.akl_syntax.specs.Goals.{PartIs, no_parts_more, written}
 use Rattle.akl_syntax.specs.Goals as made
@@ -11,12 +11,13 @@ use Rattle.akl_syntax.specs.Parts.{Alternatives, body_of}
 use Rattle.akl_syntax.specs.Follow.{after_goal, after_conj, after_part, after_parts}
 use Rattle.akl_syntax.proofs.OneGoal.{goal_takes, conj_takes, part_takes}
 use Rattle.akl_syntax.proofs.PartTurns.{goal_choice, refused_so, a_fault_to, goals_start, goals_step, goals_end, goals_none, no_first_goal, no_comma_ends, guard_takes, no_guard_ends, part_behind_guard, part_no_conj, part_behind_goals, no_body, second_guard, seen_guard, unseen_guard, parts_start, parts_step, parts_all, parts_none, no_semicolon_ends, no_part, bracket_edge, choice_edge, no_alternatives, not_closed_parts, choice_read, goals_read}
+use Rattle.akl_syntax.proofs.BracketTable.{table_behind, table_conj, table_part, table_alternatives, table_guard}
 use Rattle.akl_syntax.proofs.goals.+goals.Goals as given
 
 pub alternatives-loop-after-init : given.alternatives-loop-after-init
 alternatives-loop-after-init t c =
     let e : map part c.push.new.self.items ≡ part c.args.first ∷ [] = rw (c.in_ok-push.ensures.items, c.new-parts.ensures.items) refl in
-    rw e (parts_start _ _ c.requires)
+    rw e (parts_start _ _ c.requires.edge)
 
 pub alternatives-returns-in_err-next : given.alternatives-returns-in_err-next
 alternatives-returns-in_err-next t c =
@@ -38,34 +39,34 @@ alternatives-returns t c = (parts_all c.loop-after.invariant, no_semicolon_ends 
 pub bracketed-returns-in_err-first : given.bracketed-returns-in_err-first
 bracketed-returns-in_err-first t c =
     let p = err_from_is_err_and c.from_residual.result c.from_residual.ensures.1 in
-    rw (p.1, p.2) (refused_so after_part after_goal _ (no_part _ c.requires) c.in_err-first.ensures)
+    rw (p.1, p.2) (refused_so after_part after_goal _ (no_part _ c.requires.goals) c.in_err-first.ensures)
 
 pub bracketed-returns-in-Some : given.bracketed-returns-in-Some
 bracketed-returns-in-Some t c =
     let x : PartIs c.args.lexemes.now (part_of c.in_ok-first.first) (lexemes.Mark Close ∷ c.in-Some.rest.now) = rw c.in-Some.ensures.closed at c.in_ok-first.ensures.0 in
-    (goals_read _ _ (part_of c.in_ok-first.first) x c.in-Some.ensures.plain, bracket_edge _ c.requires _ _ _ _ x no_parts_more)
+    (goals_read _ _ (part_of c.in_ok-first.first) x c.in-Some.ensures.plain, bracket_edge _ c.requires.goals _ _ _ _ x no_parts_more)
 
 pub bracketed-alternatives-requires : given.bracketed-alternatives-requires
-bracketed-alternatives-requires t c = (omega (arith, part_takes c.in_ok-first.ensures.0), c.in_ok-first.ensures.1)
+bracketed-alternatives-requires t c = (omega (arith, part_takes c.in_ok-first.ensures.0), (table_part c.args.brackets.now c.in_ok-first.ensures.0 c.requires.table, c.in_ok-first.ensures.1))
 
 pub bracketed-returns-in_err-parts : given.bracketed-returns-in_err-parts
 bracketed-returns-in_err-parts t c =
     let p = err_from_is_err_and c.from_residual-in_err-parts.result c.from_residual-in_err-parts.ensures.1 in
-    rw (p.1, p.2) (refused_so after_parts after_goal _ (no_alternatives _ c.requires _ _ c.in_ok-first.ensures.0 c.in_ok-first.ensures.1) (rw c.into_source.ensures at c.in_err-parts.ensures))
+    rw (p.1, p.2) (refused_so after_parts after_goal _ (no_alternatives _ c.requires.goals _ _ c.in_ok-first.ensures.0 c.in_ok-first.ensures.1) (rw c.into_source.ensures at c.in_err-parts.ensures))
 
 pub bracketed-returns-in_err-rest : given.bracketed-returns-in_err-rest
 bracketed-returns-in_err-rest t c =
     let p = err_from_is_err_and c.from_residual-in_err-rest.result c.from_residual-in_err-rest.ensures.1 in
     rw (p.1, p.2)
     (a_fault_to after_goal _ _ c.in_err-rest.ensures.none
-    (not_closed_parts _ c.requires _ _ _ _ c.in_ok-first.ensures.0 c.in_ok-first.ensures.1 (rw c.into_source.ensures at c.in_ok-parts.ensures.0) c.in_ok-parts.ensures.1 c.in_err-rest.ensures.err))
+    (not_closed_parts _ c.requires.goals _ _ _ _ c.in_ok-first.ensures.0 c.in_ok-first.ensures.1 (rw c.into_source.ensures at c.in_ok-parts.ensures.0) c.in_ok-parts.ensures.1 c.in_err-rest.ensures.err))
 
 pub bracketed-returns : given.bracketed-returns
 bracketed-returns t c =
     let y : Alternatives (written (part_of c.in_ok-first.first)) c.in_ok-first.rest.now (map part c.in_ok-parts.parts.items) (lexemes.Mark Close ∷ c.in_ok-rest.rest.now) =
     rw c.in_ok-rest.ensures.ok at (rw c.into_source.ensures at c.in_ok-parts.ensures.0) in
     rw (c.in_ok-found.ensures, goal_choice c.in_ok-parts.parts)
-    (choice_read _ _ _ (part_of c.in_ok-first.first) _ c.in_ok-first.ensures.0 y c.in_default.ensures.none, choice_edge _ c.requires _ _ _ _ _ c.in_ok-first.ensures.0 y)
+    (choice_read _ _ _ (part_of c.in_ok-first.first) _ c.in_ok-first.ensures.0 y c.in_default.ensures.none, choice_edge _ c.requires.goals _ _ _ _ _ c.in_ok-first.ensures.0 y)
 
 pub conj-returns-in_err-goals : given.conj-returns-in_err-goals
 conj-returns-in_err-goals t c =
@@ -113,7 +114,9 @@ part-returns-in_err-goals t c =
     rw (p.1, p.2) (refused_so after_conj after_part _ (part_no_conj _ (sym c.in_default.ensures)) c.in_err-goals.ensures)
 
 pub part-guarded-requires-in-Some-guard_front : given.part-guarded-requires-in-Some-guard_front
-part-guarded-requires-in-Some-guard_front t c = omega (arith, conj_takes c.in_ok-goals.ensures.0, guard_takes _ _ _ (sym c.in-Some-guard_front.ensures))
+part-guarded-requires-in-Some-guard_front t c =
+    let told = table_conj c.args.brackets.now c.in_ok-goals.ensures.0 c.requires in
+    (omega (arith, conj_takes c.in_ok-goals.ensures.0, guard_takes _ _ _ (sym c.in-Some-guard_front.ensures)), table_guard c.args.brackets.now _ _ _ (sym c.in-Some-guard_front.ensures) told)
 
 pub part-returns-in-Some-guard_front : given.part-returns-in-Some-guard_front
 part-returns-in-Some-guard_front t c =
@@ -121,3 +124,13 @@ part-returns-in-Some-guard_front t c =
 
 pub part-returns : given.part-returns
 part-returns t c = rw c.new-2.ensures.items (made.plain c.in_ok-goals.ensures.0, no_guard_ends _ (sym c.in_default-guard_front.ensures) c.in_ok-goals.ensures.1)
+
+pub alternatives-part-requires : given.alternatives-part-requires
+alternatives-part-requires t c =
+    let told = table_alternatives c.args.brackets.now (parts_all c.loop-after.invariant) c.requires.table in
+    (omega (arith, c.loop-after.invariant.within, ap length c.in-Some.ensures.some), table_behind c.args.brackets.now (lexemes.Mark Semicolon) _ (rw c.in-Some.ensures.some at told))
+
+pub conj-goal-requires-in-Some : given.conj-goal-requires-in-Some
+conj-goal-requires-in-Some t c =
+    let told = table_conj c.args.brackets.now (goals_end c.loop-after.invariant) c.requires in
+    (omega (arith, c.loop-after.invariant.within, ap length c.in-Some.ensures.some), table_behind c.args.brackets.now (lexemes.Mark Comma) _ (rw c.in-Some.ensures.some at told))

@@ -7,6 +7,7 @@ use Rattle.akl_syntax.specs.Verdicts as verdicts
 use Rattle.akl_syntax.proofs.OneVerdict.{answers_as, program_one}
 use Rattle.akl_syntax.proofs.ReadTurns.{program_step, program_end, program_fault}
 use Rattle.akl_syntax.proofs.SizeLaws.{program_size}
+use Rattle.akl_syntax.proofs.VariableLaws.{program_numbered}
 use Rattle.akl_syntax.proofs.program.read_program.Goals as goal
 
 pub returns-then-bytes-gt-PROGRAM_BYTES-clause-reads : goal.returns-then-bytes-gt-PROGRAM_BYTES-clause-reads
@@ -36,3 +37,6 @@ returns-clause-only c = λ v r. program_one (returns-clause-reads c) r
 
 pub returns-clause-size : goal.returns-clause-size
 returns-clause-size c = program_size (returns-clause-reads c)
+
+pub returns-clause-variables : goal.returns-clause-variables
+returns-clause-variables c = program_numbered (returns-clause-reads c)

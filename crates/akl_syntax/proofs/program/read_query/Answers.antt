@@ -11,6 +11,7 @@ use Rattle.akl_syntax.specs.Verdicts as verdicts
 use Rattle.akl_syntax.proofs.OneVerdict.{answers_as, query_verdict_one}
 use Rattle.akl_syntax.proofs.ReadTurns.{all_front, all_last, few_tokens, few_before, query_token_fault, query_limit_fault}
 use Rattle.akl_syntax.proofs.SizeLaws.{answered_size}
+use Rattle.akl_syntax.proofs.VariableLaws.{answered_numbered}
 use Rattle.akl_syntax.proofs.program.read_query.Goals as goal
 
 pub returns-in_err-tokens-clause-reads : goal.returns-in_err-tokens-clause-reads
@@ -101,3 +102,9 @@ returns-in_default-clause-size c = answered_size c.args.bytes.now c.query_of.res
 
 pub returns-clause-size : goal.returns-clause-size
 returns-clause-size c = answered_size c.args.bytes.now c.query_of-2.result (returns-clause-reads c)
+
+pub returns-in_default-clause-variables : goal.returns-in_default-clause-variables
+returns-in_default-clause-variables c = answered_numbered c.args.bytes.now c.query_of.result (returns-in_default-clause-reads c)
+
+pub returns-clause-variables : goal.returns-clause-variables
+returns-clause-variables c = answered_numbered c.args.bytes.now c.query_of-2.result (returns-clause-reads c)

@@ -1,4 +1,4 @@
-use Rattle.std.proofs.Common.{◌≡◌, ◌<◌, ◌+◌, length, drop, arith, sym, ap, ◌∙◌, refl}
+use Rattle.std.proofs.Common.{◌≡◌, ◌+◌, length, drop, arith, sym, ap, ◌∙◌, refl}
 use Rattle.std.proofs.lemmas.List.{length-drop, drop-drop}
 use Rattle.akl_text.proofs.Reading.{one_reading, read_tokens}
 use Rattle.akl_text.proofs.SoFar.{so_far_layout, so_far_token, so_far_last, so_far_stuck, so_far_end, so_far_at}
@@ -8,17 +8,16 @@ pub loop-at-preserved-in-Some : goal.loop-at-preserved-in-Some
 loop-at-preserved-in-Some c =
     let e = c.rest_from-rest.ensures in
     let h = so_far_at c.loop-at.invariant.so_far (sym e) in
-    let some : 0 < length c.rest_from-rest.result.now = omega (arith, ap length e, length-drop c.loop-at.at c.args.bytes.now, c.loop-at-test.true) in
     let next-is : drop c.in-Some.len c.rest_from-rest.result.now ≡ drop (c.loop-at.at + c.in-Some.len) c.args.bytes.now = ap (drop c.in-Some.len) e ∙ drop-drop c.in-Some.len c.loop-at.at c.args.bytes.now in
     record {
-      so_far = so_far_at (so_far_layout h c.in-Some.len some (sym c.in-Some.ensures.value)) next-is;
-      within = omega (arith, c.in-Some.ensures.within, ap length e, length-drop c.loop-at.at c.args.bytes.now, c.loop-at.invariant.within);
+      so_far = so_far_at (so_far_layout h c.in-Some.len c.in-Some.ensures.found c.in-Some.ensures.within.1) next-is;
+      within = omega (arith, c.in-Some.ensures.within.1, ap length e, length-drop c.loop-at.at c.args.bytes.now, c.loop-at.invariant.within);
     }
 
 pub returns-in_default-longest-clause-read : goal.returns-in_default-longest-clause-read
 returns-in_default-longest-clause-read c =
     let e = c.rest_from-rest.ensures in
-    so_far_stuck (so_far_at c.loop-at.invariant.so_far (sym e)) (omega (arith, ap length e, length-drop c.loop-at.at c.args.bytes.now, c.loop-at-test.true)) (sym c.in_default.ensures.value) c.in_default-longest.ensures.none
+    so_far_stuck (so_far_at c.loop-at.invariant.so_far (sym e)) (omega (arith, ap length e, length-drop c.loop-at.at c.args.bytes.now, c.loop-at-test.true)) c.in_default.ensures.none c.in_default-longest.ensures.none
 
 pub returns-in_default-longest-clause-only : goal.returns-in_default-longest-clause-only
 returns-in_default-longest-clause-only c = λ o r. one_reading (returns-in_default-longest-clause-read c) r
