@@ -1,0 +1,10 @@
+pub mod Counting
+pub mod Lists
+pub mod SameCallee
+pub mod Tallying
+pub mod Listings
+pub mod Searches
+pub mod Mixing
+pub mod GoalSizes
+pub mod Refusing
+pub mod Loadables

@@ -1,0 +1,118 @@
+-- The test whether two callees are the same, and an index of callees.
+use Rattle.std.proofs.Common.{◌≡◌, ◌≤◌, ◌⊎◌, inl, inr, ℕ, zero, suc, Bool, true, false, ◌&&◌, ◌||◌, ◌==◌, List, [], ◌∷◌, ◌++◌, length, Option, Some, None, is_some, refl, sym, ap, ◌∙◌, arith, length-append}
+use Rattle.std.specs.List.{list_any, slice_get}
+use Rattle.std.specs.Prelude.{IfSome, IfNone}
+use Rattle.std.specs.Str.{bytes_eq}
+use Rattle.std.proofs.lemmas.List.{length-map}
+use Rattle.std.proofs.lemmas.Slice.Eq.{bytes_eq-Decides}
+use Rattle.std.proofs.lemmas.Bool.Decides.{Decides-eqb}
+use Rattle.akl_syntax.specs.View.{tree}
+use Rattle.akl_syntax.specs.Answers.{clause_view}
+use Rattle.akl_syntax.specs.declared.source.SourceClause.{SourceClause}
+use Rattle.clause_keys.specs.declared.callee.Callee.{Callee}
+use Rattle.clause_keys.specs.declared.callee.Callee.TheVariants.{Named, Lifted}
+use Rattle.clause_keys.specs.Keys.{by_head, defined_by, Adds, IsAbsent, known, next}
+use Rattle.clause_keys.proofs.Places.{get_front, get_last, get_split}
+use Rattle.clause_checks.specs.Rows.{is_callee}
+use Rattle.clause_checks.specs.Tallies.{SameCallees}
+use Rattle.clause_checks.proofs.Lists.{list_any-push, neither, not_true, or_cases, or_true}
+
+and_true : (a b : Bool) → a && b ≡ true → (a ≡ true) × (b ≡ true)
+and_true true b e = (refl, e)
+and_true false b e = absurd cc
+
+both : (a b : Bool) → a ≡ true → b ≡ true → a && b ≡ true
+both a b e f = rw (e, f) refl
+
+pub same_callee : (k l : Callee) → is_callee k l ≡ true → k ≡ l
+same_callee (Named k) (Named l) e =
+    let p = and_true (bytes_eq k.symbol l.symbol) (k.arity == l.arity) e in
+    let s : k.symbol ≡ l.symbol = (bytes_eq-Decides k.symbol l.symbol).0 p.0 in
+    let n : k.arity ≡ l.arity = (Decides-eqb k.arity l.arity).0 p.1 in
+    ap (λ x. Named (record { symbol = x; arity = k.arity })) s ∙ ap (λ x. Named (record { symbol = l.symbol; arity = x })) n
+same_callee (Lifted m) (Lifted n) e = ap Lifted ((Decides-eqb m n).0 e)
+same_callee (Named k) (Lifted n) e = absurd cc
+same_callee (Lifted m) (Named l) e = absurd cc
+
+pub is_itself : (k : Callee) → is_callee k k ≡ true
+is_itself (Named k) = both (bytes_eq k.symbol k.symbol) (k.arity == k.arity) ((bytes_eq-Decides k.symbol k.symbol).1 refl) ((Decides-eqb k.arity k.arity).1 refl)
+is_itself (Lifted n) = (Decides-eqb n n).1 refl
+
+pub other_callee : (k l : Callee) → (k ≡ l → ⊥) → is_callee k l ≡ false
+other_callee k l h = not_true (is_callee k l) (λ e. h (same_callee k l e))
+
+pub defines : (c : SourceClause) → defined_by (clause_view c) ≡ by_head c.head (length c.arguments.items)
+unfolding defined_by
+defines c = ap (by_head c.head) (length-map c.arguments.items tree)
+
+-- ---- an index has what is in the list, and nothing else
+pub record IsIndexOf (list callees : List Callee) : Type 0 where
+  pub there : (d : ℕ) (k : Callee) → slice_get callees d ≡ Some k → list_any (is_callee k) list ≡ true
+  pub absent : (k : Callee) → IsAbsent callees k → list_any (is_callee k) list ≡ false
+
+pub index_start : IsIndexOf [] []
+index_start = record { there = λ i k e. absurd cc; absent = λ k h. refl }
+
+pub index_next : {list callees more : List Callee} {k : Callee} {d : ℕ} → IsIndexOf list callees → Adds callees k more d → IsIndexOf (list ++ k ∷ []) more
+index_next {list} {callees} {more} {k} {d} h (known e) = record {
+  there = λ i l f. list_any-push (is_callee l) list k ∙ ap (λ b. b || is_callee l k) (h.there i l f);
+  absent = λ l a. (
+      let other : l ≡ k → ⊥ = λ f. a.absent d (e ∙ ap Some (sym f)) in
+      list_any-push (is_callee l) list k ∙ neither _ _ (h.absent l a) (other_callee l k other));
+}
+index_next {list} {callees} {more} {k} {d} h (next a) = record {
+  there = λ i l f. list_any-push (is_callee l) list k ∙ found (get_split callees k l i f);
+  absent = λ l b. (
+      let old : IsAbsent callees l = record { absent = λ i f. b.absent i (get_front callees (k ∷ []) i l f) } in
+      let other : l ≡ k → ⊥ = λ f. b.absent (length callees) (get_last callees k ∙ ap Some (sym f)) in
+      list_any-push (is_callee l) list k ∙ neither _ _ (h.absent l old) (other_callee l k other));
+}
+  where
+    found : {i : ℕ} {l : Callee} → (slice_get callees i ≡ Some l) ⊎ ((i ≡ length callees) × (k ≡ l)) → list_any (is_callee l) list || is_callee l k ≡ true
+    found {i} {l} (inl f) = ap (λ b. b || is_callee l k) (h.there i l f)
+    found {i} {l} (inr f) = or_true (list_any (is_callee l) list) (is_callee l k) (rw f.1 (is_itself l))
+
+-- an index of a list that has no more callees than this
+pub record Indexes (list callees : List Callee) : Type 0 where
+  pub index : IsIndexOf list callees
+  pub few : length callees ≤ length list
+
+pub indexes_start : Indexes [] []
+indexes_start = record { index = index_start; few = omega arith }
+
+pub indexes_next : {list callees more : List Callee} {k : Callee} {d : ℕ} → Indexes list callees → Adds callees k more d → Indexes (list ++ k ∷ []) more
+indexes_next {list} {callees} {more} {k} h a = record { index = index_next h.index a; few = omega (arith, h.few, one_more a, length-append list (k ∷ [])) }
+  where
+    one_more : {more : List Callee} {d : ℕ} → Adds callees k more d → length more ≤ suc (length callees)
+    one_more (known e) = omega arith
+    one_more (next b) = omega (arith, length-append callees (k ∷ []))
+
+pub is_there : (ks : List Callee) (k : Callee) (d : ℕ) → slice_get ks d ≡ Some k → list_any (is_callee k) ks ≡ true
+is_there [] k d e = absurd cc
+is_there (l ∷ ks) k zero e =
+    let f : l ≡ k = cc in
+    ap (λ b. b || list_any (is_callee k) ks) (ap (is_callee k) f ∙ is_itself k)
+is_there (l ∷ ks) k (suc d) e = or_true (is_callee k l) (list_any (is_callee k) ks) (is_there ks k d e)
+
+pub is_nowhere : (ks : List Callee) (k : Callee) → IsAbsent ks k → list_any (is_callee k) ks ≡ false
+is_nowhere [] k a = refl
+is_nowhere (l ∷ ks) k a = neither (is_callee k l) (list_any (is_callee k) ks) (other_callee k l (λ e. a.absent zero (ap Some (sym e)))) (is_nowhere ks k (record { absent = λ d e. a.absent (suc d) e }))
+
+pub same_callees : (list callees : List Callee) → IsIndexOf list callees → SameCallees callees list
+same_callees list callees h k = by_test (list_any (is_callee k) callees) refl
+  where
+    by_test : (b : Bool) → list_any (is_callee k) callees ≡ b → b ≡ list_any (is_callee k) list
+    by_test true e = sym (found_in callees (λ d f. h.there d k f) e)
+      where
+        found_in : (ks : List Callee) → ((d : ℕ) → slice_get ks d ≡ Some k → list_any (is_callee k) list ≡ true) → list_any (is_callee k) ks ≡ true → list_any (is_callee k) list ≡ true
+        found_in [] g f = absurd cc
+        found_in (l ∷ ks) g f = elim (or_cases (is_callee k l) (list_any (is_callee k) ks) f) [
+          | inl x ↦ g zero (ap Some (sym (same_callee k l x)))
+          | inr x ↦ found_in ks (λ d y. g (suc d) y) x
+        ]
+    by_test false e = sym (h.absent k (record { absent = λ d f. (let x : true ≡ false = sym (is_there callees k d f) ∙ e in absurd cc) }))
+
+-- what an index answers for a callee
+pub known_callee : (ks : List Callee) (k : Callee) (o : Option ℕ) → IfSome o (λ d. slice_get ks d ≡ Some k) → IfNone o (IsAbsent ks k) → is_some o ≡ list_any (is_callee k) ks
+known_callee ks k (Some d) f a = sym (is_there ks k d f)
+known_callee ks k None f a = sym (is_nowhere ks k a)

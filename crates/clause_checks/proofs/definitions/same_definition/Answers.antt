@@ -1,0 +1,25 @@
+use Rattle.std.proofs.Common.{◌≡◌, true, false, length, refl, arith}
+use Rattle.std.specs.Str.{bytes_eq}
+use Rattle.clause_checks.proofs.SameCallee.{defines}
+use Rattle.clause_checks.proofs.definitions.same_definition.Goals as goal
+
+pub returns-then-eq : goal.returns-then-eq
+returns-then-eq c =
+    let e : bytes_eq c.in-Named.symbol c.in-Named-head.found ≡ true = cc in
+    let m : length c.args.clause.now.arguments.items ≡ c.len.result = omega arith in
+    let n : length c.args.other.now.arguments.items ≡ c.len-then-eq.result = omega arith in
+    rw (defines c.args.clause.now, defines c.args.other.now, c.in-Named.is, c.in-Named-head.is, e, m, n) refl
+
+pub returns-else-eq : goal.returns-else-eq
+returns-else-eq c =
+    let e : bytes_eq c.in-Named.symbol c.in-Named-head.found ≡ false = cc in
+    rw (defines c.args.clause.now, defines c.args.other.now, c.in-Named.is, c.in-Named-head.is, e) c.if-eq.false
+
+pub returns-in-Lifted-head : goal.returns-in-Lifted-head
+returns-in-Lifted-head c = rw (defines c.args.clause.now, defines c.args.other.now, c.in-Named.is, c.in-Lifted-head.is)
+
+pub returns-in-Lifted-head-2 : goal.returns-in-Lifted-head-2
+returns-in-Lifted-head-2 c = rw (defines c.args.clause.now, defines c.args.other.now, c.in-Lifted.is, c.in-Lifted-head-2.is)
+
+pub returns-in-Named-head-2 : goal.returns-in-Named-head-2
+returns-in-Named-head-2 c = rw (defines c.args.clause.now, defines c.args.other.now, c.in-Lifted.is, c.in-Named-head-2.is)

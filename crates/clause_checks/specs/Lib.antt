@@ -1,0 +1,5 @@
+pub mod Memory
+pub mod Within
+pub mod Rows
+pub mod Tallies
+pub mod Refusals

@@ -1,0 +1,155 @@
+-- The tests of loading. Each finds the first place from left to right that breaks it.
+use Rattle.std.specs.Prelude.{ℕ, zero, suc, Bool, true, false, not, ◌&&◌, ◌||◌, ◌==◌, nat_le, nat_lt, List, [], ◌∷◌, ◌++◌, length, Option, Some, None, is_some, if◌then◌else◌, bytes_eq}
+use Rattle.std.specs.List.{filter, list_any}
+use Rattle.std.specs.Option.{option_or}
+use Rattle.akl_terms.specs.declared.program.Key.{Key}
+use Rattle.akl_terms.specs.declared.program.Op.{Op}
+use Rattle.akl_terms.specs.declared.program.Op.TheVariants as ops
+use Rattle.akl_syntax.specs.declared.source.Head.{Head}
+use Rattle.akl_syntax.specs.declared.source.Head.TheVariants as heads
+use Rattle.akl_syntax.specs.Tree.{Tree, Trees, Tail, Steps, variable, integer, compound, list, chain, no_trees, more_trees, no_tail, tail, no_steps, more_steps, trees}
+use Rattle.akl_syntax.specs.Goals.{Goal, Parts, call, choice, lifted, no_parts, more_parts}
+use Rattle.akl_syntax.specs.Clauses.{Clause}
+use Rattle.clause_keys.specs.declared.callee.Callee.{Callee}
+use Rattle.clause_keys.specs.declared.callee.Callee.TheVariants.{Named, Lifted}
+use Rattle.clause_keys.specs.Reserved.{reserved_of}
+use Rattle.clause_keys.specs.Keys.{named, defined_by}
+use Rattle.clause_keys.specs.Conditions.{count}
+use Rattle.clause_checks.specs.Within.{goals_in}
+
+-- what is found first
+abbrev pub first : {X Y : Type 0} → (X → Option Y) → List X → Option Y
+first f [] = None
+first f (x ∷ xs) = option_or (f x) (first f xs)
+
+-- the number, where it is above the limit
+abbrev pub above : ℕ → ℕ → Option ℕ
+above limit n = if nat_lt limit n then Some n else None
+
+abbrev pub is_callee : Callee → Callee → Bool
+is_callee (Named k) (Named l) = bytes_eq k.symbol l.symbol && k.arity == l.arity
+is_callee (Lifted m) (Lifted n) = m == n
+is_callee _ _ = false
+
+-- the clauses of the clause's definition among some
+abbrev pub own : Clause → List Clause → List Clause
+own c cs = filter (λ d. is_callee (defined_by c) (defined_by d)) cs
+
+-- each clause, with those before it
+abbrev pub with_before : List Clause → List Clause → List (List Clause × Clause)
+with_before before [] = []
+with_before before (c ∷ cs) = (before, c) ∷ with_before (before ++ c ∷ []) cs
+
+-- ---- clauses of one definition, and parts of one inline choice
+
+-- the clause is the 257th of its definition: how many this has in all
+abbrev pub crowded_definition : List Clause → List Clause × Clause → Option ℕ
+crowded_definition all x = if nat_le 256 (length (own x.1 x.0)) then Some (length (own x.1 all)) else None
+
+abbrev pub count_parts : Parts → ℕ
+count_parts no_parts = zero
+count_parts (more_parts gs op hs ps) = suc (count_parts ps)
+
+abbrev pub crowded_choice : Goal → Option ℕ
+crowded_choice (choice ps) = above 256 (count_parts ps)
+crowded_choice g = None
+
+abbrev pub crowded_clause : List Clause → List Clause × Clause → Option ℕ
+crowded_clause all x = option_or (crowded_definition all x) (first crowded_choice (goals_in x.1))
+
+-- ---- arguments of a term or an atom: the outer one is first
+
+abbrev mutual
+  pub wide_term : Tree → Option ℕ
+  wide_term (variable n) = None
+  wide_term (integer z) = None
+  wide_term (compound s ts) = option_or (above 32 (count ts)) (wide_terms ts)
+  wide_term (list ts e) = option_or (wide_terms ts) (wide_tail e)
+  wide_term (chain t ss) = option_or (wide_term t) (wide_steps ss)
+
+  pub wide_terms : Trees → Option ℕ
+  wide_terms no_trees = None
+  wide_terms (more_trees t ts) = option_or (wide_term t) (wide_terms ts)
+
+  pub wide_tail : Tail → Option ℕ
+  wide_tail no_tail = None
+  wide_tail (tail t) = wide_term t
+
+  pub wide_steps : Steps → Option ℕ
+  wide_steps no_steps = None
+  wide_steps (more_steps w t ss) = option_or (wide_term t) (wide_steps ss)
+
+abbrev pub wide_arguments : Trees → Option ℕ
+wide_arguments ts = option_or (above 32 (count ts)) (wide_terms ts)
+
+-- an inline choice has no arguments of its own, and those of a lifted goal aren't written
+abbrev pub wide_goal : Goal → Option ℕ
+wide_goal (call s ts) = wide_arguments ts
+wide_goal g = None
+
+abbrev pub wide_head : Head → ℕ → Option ℕ
+wide_head (heads.Named s) n = above 32 n
+wide_head (heads.Lifted number inside) n = None
+
+abbrev pub wide_clause : Clause → Option ℕ
+wide_clause c = option_or (wide_head c.head (length c.arguments)) (option_or (wide_terms (trees c.arguments)) (first wide_goal (goals_in c)))
+
+-- ---- keys, and reserved heads
+
+abbrev pub key : List ℕ → ℕ → Key
+key s n = record { symbol = s; arity = n }
+
+-- the key of what a clause defines: of an inline choice it is that of the definition around it
+abbrev pub key_of : Head → ℕ → Key
+key_of (heads.Named s) n = key s n
+key_of (heads.Lifted number inside) n = inside
+
+abbrev pub clause_key : Clause → Key
+clause_key c = key_of c.head (length c.arguments)
+
+abbrev pub is_reserved : Head → ℕ → Bool
+is_reserved (heads.Named s) n = is_some (reserved_of s n)
+is_reserved (heads.Lifted number inside) n = false
+
+abbrev pub reserved_clause : Clause → Option Key
+reserved_clause c = if is_reserved c.head (length c.arguments) then Some (clause_key c) else None
+
+-- ---- operators of one definition, and of one inline choice
+
+abbrev pub same_op : Op → Op → Bool
+same_op ops.Condition ops.Condition = true
+same_op ops.Commit ops.Commit = true
+same_op ops.Choice ops.Choice = true
+same_op _ _ = false
+
+-- an earlier clause of the definition has another operator
+abbrev pub mixed_definition : List Clause × Clause → Bool
+mixed_definition x = list_any (λ d. not (same_op x.1.part.op d.part.op)) (own x.1 x.0)
+
+-- some part has another operator
+abbrev pub mixed_parts : Op → Parts → Bool
+mixed_parts op no_parts = false
+mixed_parts op (more_parts gs o hs ps) = not (same_op op o) || mixed_parts op ps
+
+abbrev pub mixed_choice : Goal → Bool
+mixed_choice (choice (more_parts gs op hs ps)) = mixed_parts op ps
+mixed_choice g = false
+
+abbrev pub mixed_clause : List Clause × Clause → Option Key
+mixed_clause x = if mixed_definition x || list_any mixed_choice (goals_in x.1) then Some (clause_key x.1) else None
+
+-- ---- goals without a definition
+
+abbrev pub is_defined : List Callee → Goal → Bool
+is_defined callees (call s ts) = is_some (reserved_of s (count ts)) || list_any (is_callee (named s (count ts))) callees
+is_defined callees (lifted n ns) = list_any (is_callee (Lifted n)) callees
+is_defined callees (choice ps) = true
+
+-- the key that a refusal names: a definition that was made of an inline choice has no symbol
+abbrev pub goal_key : Goal → Key
+goal_key (call s ts) = key s (count ts)
+goal_key (lifted n ns) = key [] (length ns)
+goal_key (choice ps) = key [] 0
+
+abbrev pub undefined_goal : List Callee → Goal → Option Key
+undefined_goal callees g = if is_defined callees g then None else Some (goal_key g)

@@ -1,0 +1,4 @@
+pub mod Reserved
+pub mod Keys
+pub mod Conditions
+pub mod Indexed

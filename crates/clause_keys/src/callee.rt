@@ -1,0 +1,12 @@
+//! What a clause defines and a goal calls.
+
+use akl_terms::Key;
+
+/// What a clause defines and a goal calls.
+#[derive(Drop)]
+pub enum Callee {
+    /// A symbol with a number of arguments.
+    Named(Key),
+    /// The definition of this number that was made of an inline choice.
+    Lifted(u32),
+}

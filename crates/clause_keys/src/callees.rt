@@ -1,0 +1,174 @@
+//! An index of definitions by what they are called by.
+
+ghost use Rattle.std.specs.Prelude.{◌≡◌, ◌<◌, ◌≤◌, ◌+◌, IfOk, OnErr, IfSome, IfNone, Some, length, slice_get, []};
+ghost use Rattle.akl_syntax.specs.Answers.{clause_view};
+ghost use Rattle.akl_syntax.specs.Sizes.{clause_size};
+ghost use Rattle.clause_keys.specs.Keys.{named, IsAbsent, Adds, defined_by, called_by};
+ghost use Rattle.clause_keys.specs.declared.callee.Callee.TheVariants.{Lifted};
+
+use crate::callee::Callee;
+use akl_syntax::{Head, SourceClause};
+use akl_terms::{Definition, Key, Templates, Text};
+use std::alloc::{AllocError, Global};
+use std::collections::BTreeMap;
+use std::marker::Model;
+
+/// What is called, each once, in order of first occurrence: the place in this order is its number.
+#[derive(Drop)]
+pub struct Callees {
+    list: Vec<Callee>,
+    symbols: Templates,
+    /// The numbers by symbol and number of arguments.
+    named: BTreeMap<(u32, u32), u32>,
+    lifted: BTreeMap<u32, u32>,
+}
+
+impl Model for Callees {
+    ghost use Rattle.std.specs.Prelude.{List};
+    ghost use Rattle.clause_keys.specs.declared.callee.Callee.{Callee};
+    ghost use Rattle.clause_keys.specs.Indexed.{IsIndexed};
+
+    ghost Value = { List Callee };
+
+    ghost view = { λ c. c.list.items };
+
+    ghost invariant = { IsIndexed };
+}
+
+impl Callees {
+    /// Nothing yet.
+    pub fn new(alloc: Global) -> Self
+        ensures { result ≡ [] }
+    {
+        Callees {
+            list: Vec::new(alloc),
+            symbols: Templates::new(alloc),
+            named: BTreeMap::new(alloc),
+            lifted: BTreeMap::new(alloc),
+        }
+    }
+
+    /// The number of the symbol with so many arguments, where it has one.
+    pub fn named(&self, symbol: &str, arity: u32) -> Option<u32>
+        ensures found { IfSome result (λ d. slice_get self.now d ≡ Some (named symbol.now arity)) }
+        ensures absent { IfNone result (IsAbsent self.now (named symbol.now arity)) }
+    {
+        let symbol = self.symbols.number_of(symbol)?;
+        self.named.get(&(symbol, arity)).copied()
+    }
+
+    /// The number of the definition that was made of an inline choice, where it has one.
+    pub fn lifted(&self, number: u32) -> Option<u32>
+        ensures found { IfSome result (λ d. slice_get self.now d ≡ Some (Lifted number)) }
+        ensures absent { IfNone result (IsAbsent self.now (Lifted number)) }
+    {
+        self.lifted.get(&number).copied()
+    }
+
+    /// The number of the symbol with so many arguments: the one that it has, else the next.
+    pub fn add_named(&mut self, symbol: &str, arity: u32) -> Result<u32, AllocError>
+        requires { length self.old < 4294967295 }
+        ensures ok { IfOk result (λ d. Adds self.old (named symbol.now arity) self.new d) }
+        ensures grown { length self.new ≤ length self.old + 1 }
+        ensures err { OnErr result (self.new ≡ self.old) }
+    {
+        match self.named(symbol, arity) {
+            Some(number) => Ok(number),
+            None => self.append_named(symbol, arity),
+        }
+    }
+
+    /// The number of the definition that was made of an inline choice: the one that it has, else the next.
+    pub fn add_lifted(&mut self, number: u32) -> Result<u32, AllocError>
+        requires { length self.old < 4294967295 }
+        ensures ok { IfOk result (λ d. Adds self.old (Lifted number) self.new d) }
+        ensures grown { length self.new ≤ length self.old + 1 }
+        ensures err { OnErr result (self.new ≡ self.old) }
+    {
+        match self.lifted(number) {
+            Some(found) => Ok(found),
+            None => self.append_lifted(number),
+        }
+    }
+
+    /// The number of what a clause defines: the one that it has, else the next.
+    pub fn add_clause(&mut self, clause: &SourceClause) -> Result<u32, AllocError>
+        requires room { length self.old < 4294967295 }
+        requires small { clause_size (clause_view clause.now) ≤ 4294967295 }
+        ensures ok { IfOk result (λ d. Adds self.old (defined_by (clause_view clause.now)) self.new d) }
+        ensures grown { length self.new ≤ length self.old + 1 }
+        ensures err { OnErr result (self.new ≡ self.old) }
+    {
+        match &clause.head {
+            Head::Named(symbol) => self.add_named(symbol.as_str(), clause.arguments.len() as u32),
+            Head::Lifted { number, .. } => self.add_lifted(*number),
+        }
+    }
+
+    /// The number of what calls a definition: the one that it has, else the next.
+    pub fn add_definition(&mut self, definition: &Definition) -> Result<u32, AllocError>
+        requires { length self.old < 4294967295 }
+        ensures ok { IfOk result (λ d. Adds self.old (called_by definition.now) self.new d) }
+        ensures grown { length self.new ≤ length self.old + 1 }
+        ensures err { OnErr result (self.new ≡ self.old) }
+    {
+        match definition.lifted {
+            Some(number) => self.add_lifted(number),
+            None => self.add_named(definition.key.symbol.as_str(), definition.key.arity),
+        }
+    }
+
+    // A symbol with so many arguments that has no number gets the next.
+    fn append_named(&mut self, symbol: &str, arity: u32) -> Result<u32, AllocError>
+        requires room { length self.old < 4294967295 }
+        requires absent { IsAbsent self.old (named symbol.now arity) }
+        ensures ok { IfOk result (λ d. Adds self.old (named symbol.now arity) self.new d) }
+        ensures grown { length self.new ≤ length self.old + 1 }
+        ensures err { OnErr result (self.new ≡ self.old) }
+    {
+        // Refused growths may have left symbols that the list doesn't have.
+        if self.symbols.symbols() == u32::MAX {
+            return Err(AllocError);
+        }
+        let number = self.list.len() as u32;
+        let text = Text::from_str(*self.list.allocator(), symbol)?;
+        let symbol = self.symbols.intern(symbol)?;
+        self.list.push(Callee::Named(Key {
+            symbol: text,
+            arity,
+        }))?;
+        match self.named.insert((symbol, arity), number) {
+            Ok(_) => Ok(number),
+            Err(_) => {
+                let _ = self.list.pop();
+                Err(AllocError)
+            }
+        }
+    }
+
+    // A definition of an inline choice that has no number gets the next.
+    fn append_lifted(&mut self, number: u32) -> Result<u32, AllocError>
+        requires room { length self.old < 4294967295 }
+        requires absent { IsAbsent self.old (Lifted number) }
+        ensures ok { IfOk result (λ d. Adds self.old (Lifted number) self.new d) }
+        ensures grown { length self.new ≤ length self.old + 1 }
+        ensures err { OnErr result (self.new ≡ self.old) }
+    {
+        let found = self.list.len() as u32;
+        self.list.push(Callee::Lifted(number))?;
+        match self.lifted.insert(number, found) {
+            Ok(_) => Ok(found),
+            Err(_) => {
+                let _ = self.list.pop();
+                Err(AllocError)
+            }
+        }
+    }
+
+    /// All in order. It takes no memory.
+    pub fn into_vec(self) -> Vec<Callee>
+        ensures { result.items ≡ self }
+    {
+        self.list
+    }
+}

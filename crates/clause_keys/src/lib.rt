@@ -1,0 +1,12 @@
+//! What names a definition, what is reserved, and an index of definitions.
+#![tactic(auto)]
+
+mod callee;
+mod callees;
+mod reserved;
+#[cfg(test)]
+mod tests;
+
+pub use callee::Callee;
+pub use callees::Callees;
+pub use reserved::{Reserved, meaning_of};

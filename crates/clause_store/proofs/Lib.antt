@@ -1,0 +1,15 @@
+pub mod Sums
+pub mod Yielded
+pub mod Growing
+pub mod Room
+pub mod Turns
+pub mod Renamed
+pub mod Coded
+pub mod Collected
+pub mod Gathered
+pub mod Defined
+pub mod ShownNames
+pub mod Trees
+pub mod Indexed
+pub mod Loads
+pub mod VariableNodes

@@ -1,0 +1,17 @@
+//! Loading: written clauses and queries as programs and queries over templates.
+#![tactic(auto)]
+
+mod codes;
+mod definitions;
+mod groups;
+mod index;
+mod nodes;
+mod program;
+mod query;
+mod shown;
+#[cfg(test)]
+mod tests;
+mod variables;
+
+pub use program::load;
+pub use query::load_query;

@@ -1,0 +1,75 @@
+//! Queries.
+
+ghost use Rattle.std.specs.Prelude.{◌≡◌, ◌<◌, ◌≤◌, ◌+◌, ◌*◌, ◌++◌, IfOk, length, map};
+ghost use Rattle.std.specs.List.{All};
+ghost use Rattle.akl_syntax.specs.Answers.{clauses_view, query_view};
+ghost use Rattle.akl_syntax.specs.Sizes.{clauses_size, query_size};
+ghost use Rattle.clause_keys.specs.Keys.{called_by, defined_by};
+ghost use Rattle.clause_keys.specs.Conditions.{IsLoadable, IsClauseLoadable, AreUnmixed};
+ghost use Rattle.clause_store.specs.Conditions.{IsNewLifted, AreUnique};
+ghost use Rattle.clause_store.specs.Loaded.{IsQueryOf};
+
+use crate::codes::goal_codes;
+use crate::definitions::extend;
+use crate::index::index;
+use crate::program::in_order;
+use crate::shown::shown;
+use crate::variables::put_variables;
+use akl_syntax::{SourceClause, SourceQuery};
+use akl_terms::{Items, Program, Query};
+use std::alloc::{AllocError, Global};
+
+/// Loads a query over a program, with the clauses of the definitions that were made of its inline choices.
+///
+/// The program keeps all that it has and gains what the query needs: first a node for each of its variables, in order,
+/// so that what an answer shows is a term. The variables whose names don't begin with `_` are shown. It is an error only where memory runs out.
+pub fn load_query(
+    alloc: Global,
+    program: Program,
+    query: SourceQuery,
+    lifted: Vec<SourceClause>,
+) -> Result<(Program, Query), AllocError>
+    requires goals { All (IsLoadable (map called_by program.definitions ++ map defined_by (clauses_view lifted))) (query_view query).goals }
+    requires names { length query.names.items ≤ 256 }
+    requires loadable { All (IsClauseLoadable (map called_by program.definitions ++ map defined_by (clauses_view lifted))) (clauses_view lifted) }
+    requires unmixed { AreUnmixed (clauses_view lifted) }
+    requires lifted { All (λ c. IsNewLifted program.definitions c.head) (clauses_view lifted) }
+    requires unique { AreUnique (map called_by program.definitions) }
+    requires small { query_size (query_view query) + clauses_size (clauses_view lifted) ≤ 7000000 }
+    requires few_nodes { length program.templates.nodes < 4000000000 }
+    requires few_symbols { length program.templates.symbols < 4000000000 }
+    requires few_definitions { length program.definitions < 4000000000 }
+    ensures query { IfOk result (λ x. IsQueryOf program (clauses_view lifted) (query_view query) x.0 x.1) }
+    ensures unique { IfOk result (λ x. AreUnique (map called_by x.0.definitions)) }
+    ensures goals { IfOk result (λ x. length x.1.goals ≤ query_size (query_view query)) }
+    ensures nodes { IfOk result (λ x. length x.0.templates.nodes ≤ length program.templates.nodes + length query.names.items + 4 * (query_size (query_view query) + clauses_size (clauses_view lifted))) }
+    ensures symbols { IfOk result (λ x. length x.0.templates.symbols ≤ length program.templates.symbols + 4 * (query_size (query_view query) + clauses_size (clauses_view lifted))) }
+    ensures definitions { IfOk result (λ x. length x.0.definitions ≤ length program.definitions + length lifted.items) }
+{
+    let variables = query.names.len() as u32;
+    let mut templates = program.templates;
+    put_variables(alloc, &mut templates, variables)?;
+    let mut definitions = program.definitions.into_vec();
+    let mut callees = index(alloc, &definitions)?;
+    extend(
+        alloc,
+        &mut callees,
+        &mut templates,
+        &mut definitions,
+        lifted,
+    )?;
+    let goals = goal_codes(alloc, &callees, &mut templates, &query.goals)?;
+    let shown = shown(alloc, query.names)?;
+    in_order(&templates);
+    let program = Program {
+        templates,
+        definitions: Items::new(definitions),
+        cell: program.cell,
+    };
+    let query = Query {
+        variables,
+        goals: Items::new(goals),
+        shown: Items::new(shown),
+    };
+    Ok((program, query))
+}
