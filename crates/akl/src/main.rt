@@ -10,12 +10,16 @@ use std::{env, io};
 const HELP: &str = "\
 akl --query TEXT
 
-Runs the query TEXT over the program on standard input, and prints its answers and an outcome.
-So far the program is empty, and the query is equations between terms, as in
+Reads the program on standard input, runs the query TEXT over it, and prints the answers and an
+outcome, as in
 
     akl --query 'X = f(Y), Y = a' < /dev/null
 
-Exit status: 0 done, 1 failed, 7 read fault, 8 write fault, 9 out of memory, 10 not yet built.
+Programs are read, checked and loaded. So far a query's goals are equations, `true` and `fail`, and
+programs and queries have no choices in brackets.
+
+Exit status: 0 done, 1 failed, 5 program refused, 6 query refused, 7 read fault, 8 write fault,
+9 out of memory, 10 not yet built.
 ";
 
 const VERSION: &str = "akl 0.1.0\n";

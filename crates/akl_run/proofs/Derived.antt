@@ -1,5 +1,5 @@
 -- The labels that tell a query's equations are a derivation, and where it ends.
-use Rattle.std.proofs.Common.{◌≡◌, ℕ, ◌+◌, ◌<◌, List, [], ◌∷◌, ◌++◌, length, Some, Bool, false, cond, refl, sym, ◌∙◌, ap, subst, inl, inr, append_assoc, append-nil, length-append, arith}
+use Rattle.std.proofs.Common.{◌≡◌, ℕ, ◌+◌, ◌<◌, List, [], ◌∷◌, ◌++◌, length, Some, Bool, true, false, cond, refl, sym, ◌∙◌, ap, subst, inl, inr, append_assoc, append-nil, length-append, arith}
 use Rattle.std.proofs.lemmas.Bool.Decides.{nat_tests}
 use Rattle.akl_terms.specs.declared.name.Name.{Name}
 use Rattle.akl_terms.specs.declared.name.Place.{Place}
@@ -19,9 +19,11 @@ use Rattle.akl_model.proofs.Drawn.{same_itself}
 use Rattle.akl_model.proofs.LoneBox.{lone, tell_lone, fail_lone, quiet_end}
 use Rattle.akl_model.proofs.Results.{Derives-append}
 use Rattle.rational_unify.specs.Solving.{equations_in}
-use Rattle.equation_query.specs.declared.loaded.Loaded.{Loaded}
-use Rattle.akl_run.specs.Runs.{rules_in_force, budget, program_of, IsRun}
-use Rattle.akl_run.specs.Engine.{label_of, tell_of, tells, query_frame, AreEquations, equations_by, told_box}
+use Rattle.akl_run.specs.declared.loaded.Loaded.{Loaded}
+use Rattle.akl_run.specs.Runs.{rules_in_force, budget, IsRun}
+use Rattle.akl_model.specs.Conditions.{HasFailed}
+use Rattle.akl_terms.specs.declared.term.Node.{Node}
+use Rattle.akl_run.specs.Engine.{are_built, has_fail, label_of, tell_of, tells, query_frame, AreEquations, equations_by, told_box}
 use Rattle.akl_run.proofs.Commits.{length-tells}
 
 -- goals under worker 0's names from a number on
@@ -92,15 +94,15 @@ derive_tells p (Code.Fail ∷ codes) n b next e = absurd e.0
 
 -- from the query's box
 pub derive_query : (l : Loaded) → AreEquations l.query.goals
-    → (d : Config) × (d.roots ≡ box (told_box l) no_goals no_boxes) × Replays rules_in_force (program_of l.templates) l.query (tells 2 (length l.query.goals)) d
+    → (d : Config) × (d.roots ≡ box (told_box l) no_goals no_boxes) × Replays rules_in_force l.program l.query (tells 2 (length l.query.goals)) d
 derive_query l e =
     let b : Content = record (told_box l) { equations = [] } in
     let next : List ℕ = (2 + length l.query.goals) ∷ [] in
-    let atoms : List Atom = atoms_of l.templates.nodes query_frame l.query.goals in
-    let w : (d : Config) × (d.roots ≡ box (record b { equations = [] ++ equations_in l.templates.nodes (equations_by l.query.goals) }) no_goals no_boxes)
-    × Derives rules_in_force (program_of l.templates) (lone b (goals_from 2 atoms) next) (tells 2 (length l.query.goals)) d =
-    derive_tells (program_of l.templates) l.query.goals 2 b next e in
-    (w.0, w.1, record { derives = subst (λ (gs : Goals). Derives rules_in_force (program_of l.templates) (lone b gs next) (tells 2 (length l.query.goals)) w.0) (sym (with_atoms-from 2 atoms)) w.2 })
+    let atoms : List Atom = atoms_of l.program.templates.nodes query_frame l.query.goals in
+    let w : (d : Config) × (d.roots ≡ box (record b { equations = [] ++ equations_in l.program.templates.nodes (equations_by l.query.goals) }) no_goals no_boxes)
+    × Derives rules_in_force l.program (lone b (goals_from 2 atoms) next) (tells 2 (length l.query.goals)) d =
+    derive_tells l.program l.query.goals 2 b next e in
+    (w.0, w.1, record { derives = subst (λ (gs : Goals). Derives rules_in_force l.program (lone b gs next) (tells 2 (length l.query.goals)) w.0) (sym (with_atoms-from 2 atoms)) w.2 })
 
 -- the label that fails the query's box
 abbrev pub fail_root : Label
@@ -113,12 +115,12 @@ same_config c bs e = ap (λ (x : Boxes). record { roots = x; next = c.next }) e
 pub query_done : (l : Loaded) → AreEquations l.query.goals → length l.query.goals < budget → IsConsistent (told_box l).equations
     → IsRun l (tells 2 (length l.query.goals)) (told_box l ∷ []) done
 query_done l e few c =
-    let w : (d : Config) × (d.roots ≡ box (told_box l) no_goals no_boxes) × Replays rules_in_force (program_of l.templates) l.query (tells 2 (length l.query.goals)) d = derive_query l e in
+    let w : (d : Config) × (d.roots ≡ box (told_box l) no_goals no_boxes) × Replays rules_in_force l.program l.query (tells 2 (length l.query.goals)) d = derive_query l e in
     let a : AreAnswers (box (told_box l) no_goals no_boxes) (told_box l ∷ []) = one_more (record { solved = tt; consistent = c }) none in
     record {
       last = lone (told_box l) no_goals w.0.next;
-      replays = subst (λ (x : Config). Replays rules_in_force (program_of l.templates) l.query (tells 2 (length l.query.goals)) x) (same_config w.0 (box (told_box l) no_goals no_boxes) w.1) w.2;
-      ends = is_done (quiet_end rules_in_force (program_of l.templates) (lone (told_box l) no_goals w.0.next) (record { solved = tt; consistent = c }, tt)) a refl refl;
+      replays = subst (λ (x : Config). Replays rules_in_force l.program l.query (tells 2 (length l.query.goals)) x) (same_config w.0 (box (told_box l) no_goals no_boxes) w.1) w.2;
+      ends = is_done (quiet_end rules_in_force l.program (lone (told_box l) no_goals w.0.next) (record { solved = tt; consistent = c }, tt)) a refl refl;
       within = omega (arith, few, length-tells 2 (length l.query.goals));
     }
 
@@ -126,16 +128,52 @@ query_done l e few c =
 pub query_fails : (l : Loaded) → AreEquations l.query.goals → length l.query.goals < budget → (IsConsistent (told_box l).equations → ⊥)
     → IsRun l (tells 2 (length l.query.goals) ++ fail_root ∷ []) [] failed
 query_fails l e few c =
-    let w : (d : Config) × (d.roots ≡ box (told_box l) no_goals no_boxes) × Replays rules_in_force (program_of l.templates) l.query (tells 2 (length l.query.goals)) d = derive_query l e in
-    let r : Replays rules_in_force (program_of l.templates) l.query (tells 2 (length l.query.goals)) (lone (told_box l) no_goals w.0.next) =
-    subst (λ (x : Config). Replays rules_in_force (program_of l.templates) l.query (tells 2 (length l.query.goals)) x) (same_config w.0 (box (told_box l) no_goals no_boxes) w.1) w.2 in
+    let w : (d : Config) × (d.roots ≡ box (told_box l) no_goals no_boxes) × Replays rules_in_force l.program l.query (tells 2 (length l.query.goals)) d = derive_query l e in
+    let r : Replays rules_in_force l.program l.query (tells 2 (length l.query.goals)) (lone (told_box l) no_goals w.0.next) =
+    subst (λ (x : Config). Replays rules_in_force l.program l.query (tells 2 (length l.query.goals)) x) (same_config w.0 (box (told_box l) no_goals no_boxes) w.1) w.2 in
     let last : Config = record { roots = no_boxes; next = raised 1 0 w.0.next } in
     record {
       last = last;
       replays = record {
-        derives = Derives-append rules_in_force (program_of l.templates) (start (program_of l.templates) l.query) (lone (told_box l) no_goals w.0.next) last
-            (tells 2 (length l.query.goals)) (fail_root ∷ []) r.derives (last, fail_lone rules_in_force (program_of l.templates) 1 (told_box l) no_goals w.0.next (inr (inl refl)) (inl c), refl);
+        derives = Derives-append rules_in_force l.program (start l.program l.query) (lone (told_box l) no_goals w.0.next) last
+            (tells 2 (length l.query.goals)) (fail_root ∷ []) r.derives (last, fail_lone rules_in_force l.program 1 (told_box l) no_goals w.0.next (inr (inl refl)) (inl c), refl);
       };
-      ends = is_failed (quiet_end rules_in_force (program_of l.templates) last tt) none refl;
+      ends = is_failed (quiet_end rules_in_force l.program last tt) none refl;
       within = omega (arith, few, length-tells 2 (length l.query.goals), length-append {A = Label});
     }
+
+-- ---- a query with `fail`
+failed_goals : (nodes : List Node) (codes : List Code) (n : ℕ) → has_fail codes ≡ true → HasFailed (goals_from n (atoms_of nodes query_frame codes))
+failed_goals nodes [] n e = absurd cc
+failed_goals nodes (Code.Fail ∷ codes) n e = tt
+failed_goals nodes (Code.Equal l r ∷ codes) n e = failed_goals nodes codes (n + 1) e
+failed_goals nodes (Code.Arith a l r ∷ codes) n e = failed_goals nodes codes (n + 1) e
+failed_goals nodes (Code.OpenPort l r ∷ codes) n e = failed_goals nodes codes (n + 1) e
+failed_goals nodes (Code.Send l r ∷ codes) n e = failed_goals nodes codes (n + 1) e
+failed_goals nodes (Code.Call d l r ∷ codes) n e = failed_goals nodes codes (n + 1) e
+
+-- its box fails at once
+pub query_fails_at_once : (l : Loaded) → has_fail l.query.goals ≡ true → IsRun l (fail_root ∷ []) [] failed
+query_fails_at_once l e =
+    let b : Content = record (told_box l) { equations = [] } in
+    let next : List ℕ = (2 + length l.query.goals) ∷ [] in
+    let atoms : List Atom = atoms_of l.program.templates.nodes query_frame l.query.goals in
+    let last : Config = record { roots = no_boxes; next = raised 1 0 next } in
+    let first : Derives rules_in_force l.program (lone b (goals_from 2 atoms) next) (fail_root ∷ []) last =
+    (last, fail_lone rules_in_force l.program 1 b (goals_from 2 atoms) next (inr (inl refl)) (inr (failed_goals l.program.templates.nodes l.query.goals 2 e)), refl) in
+    record {
+      last = last;
+      replays = record { derives = subst (λ (gs : Goals). Derives rules_in_force l.program (lone b gs next) (fail_root ∷ []) last) (sym (with_atoms-from 2 atoms)) first };
+      ends = is_failed (quiet_end rules_in_force l.program last tt) none refl;
+      within = omega arith;
+    }
+
+-- without it, what is built is equations
+pub equations_only : (codes : List Code) → are_built codes ≡ true → has_fail codes ≡ false → AreEquations codes
+equations_only [] b f = tt
+equations_only (Code.Equal l r ∷ codes) b f = (tt, equations_only codes b f)
+equations_only (Code.Fail ∷ codes) b f = absurd cc
+equations_only (Code.Arith a l r ∷ codes) b f = absurd cc
+equations_only (Code.OpenPort l r ∷ codes) b f = absurd cc
+equations_only (Code.Send l r ∷ codes) b f = absurd cc
+equations_only (Code.Call d l r ∷ codes) b f = absurd cc

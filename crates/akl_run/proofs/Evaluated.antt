@@ -2,33 +2,26 @@
 use Rattle.std.proofs.Common.{◌≡◌, ℕ, List, [], ◌∷◌, ◌++◌, map, Option, Some, None, refl, sym, ◌∙◌, ap, subst, append_assoc, append-nil, arith}
 use Rattle.std.specs.Prelude.{codes}
 use Rattle.std.specs.Fmt.{decimal, digits}
-use Rattle.akl_terms.specs.declared.program.Code.{Code}
-use Rattle.akl_terms.specs.Template.{Template}
 use Rattle.akl_model.specs.declared.label.Label.{Label}
 use Rattle.akl_model.specs.declared.label.Receipt.{Receipt}
 use Rattle.akl_model.specs.Derivations.{Outcome, done, failed}
-use Rattle.equation_query.specs.declared.loaded.Loaded.{Loaded}
-use Rattle.equation_query.specs.Source.{SourceEquation}
-use Rattle.equation_query.specs.Loading.{AreGoalsOf, no_goals, a_goal, IsLoadedFrom}
+use Rattle.akl_run.specs.declared.loaded.Loaded.{Loaded}
+use Rattle.clause_store.specs.Loaded.{IsQueryOf}
+use Rattle.akl_run.specs.Loads.{IsLoadedFrom}
 use Rattle.akl_run.specs.declared.solved_form.SolvedForm.{SolvedForm}
 use Rattle.akl_run.specs.Journals.{AreBy}
 use Rattle.akl_run.specs.Text.{no_answers, an_answer, here}
-use Rattle.akl_run.specs.Engine.{AreEquations, receipts_from, told_box, EndsBy}
+use Rattle.akl_run.specs.Engine.{receipts_from, told_box, EndsBy}
 use Rattle.akl_run.specs.RunTexts.{HasShownVariables, AreBelow, IsTextBy, HasNoShortTextBy}
 use Rattle.akl_run.specs.Evaluations.{status_by}
-use Rattle.akl_run.specs.Reports.{IsStatusOf, IsRunOf, HasLongRun}
+use Rattle.akl_run.specs.Reports.{IsStatusOf, IsRunBy, HasLongRun}
 use Rattle.akl_run.proofs.Commits.{receipts-of_one}
 use Rattle.akl_run.proofs.ShownTerms.{shown-below}
 
-pub goals_are_equations : (t : Template) (goals : List Code) (es : List SourceEquation) → AreGoalsOf t goals es → AreEquations goals
-goals_are_equations t goals es no_goals = tt
-goals_are_equations t goals es (a_goal l r rest) = (tt, goals_are_equations t _ _ rest)
-
-pub loaded_equations : (query : List ℕ) (l : Loaded) → IsLoadedFrom query l → AreEquations l.query.goals
-loaded_equations query l is = goals_are_equations l.templates l.query.goals is.source.equations is.stands.goals
-
-pub loaded_shown : (query : List ℕ) (l : Loaded) → IsLoadedFrom query l → HasShownVariables l
-loaded_shown query l is = subst (AreBelow l.query.variables) (sym is.stands.shown) (shown-below 0 is.source.names l.query.variables (omega (arith, is.stands.variables)))
+pub loaded_shown : (program query : List ℕ) (l : Loaded) → IsLoadedFrom program query l → HasShownVariables l
+loaded_shown program query l is =
+    let stands : IsQueryOf is.base [] is.is_query.asked l.program l.query = is.is_query.stands in
+    subst (AreBelow l.query.variables) (sym stands.shown) (shown-below 0 is.is_query.asked.names l.query.variables (omega (arith, stands.variables)))
 
 -- the outcome of a run, by what stands for its terms
 abbrev pub outcome_by : Option SolvedForm → Outcome
@@ -44,11 +37,9 @@ unfolding digits
 number_one = refl
 
 -- a run with its text
-pub evaluated : (query : List ℕ) (l : Loaded) (journal : List Label) (receipts : List Receipt) (o : Option SolvedForm) (text : List ℕ) → IsLoadedFrom query l → EndsBy l journal o
-    → receipts ≡ receipts_from 0 journal → AreBy 1 journal → IsTextBy l o text → IsRunOf query (outcome_by o) journal (receipts ∷ []) text
-evaluated query l journal receipts None text is e r b t = record {
-  loaded = l;
-  is_loaded = is;
+pub evaluated : (l : Loaded) (journal : List Label) (receipts : List Receipt) (o : Option SolvedForm) (text : List ℕ) → EndsBy l journal o
+    → receipts ≡ receipts_from 0 journal → AreBy 1 journal → IsTextBy l o text → IsRunBy l (outcome_by o) journal (receipts ∷ []) text
+evaluated l journal receipts None text e r b t = record {
   answers = [];
   run = e;
   one_worker = b;
@@ -56,9 +47,7 @@ evaluated query l journal receipts None text is e r b t = record {
   are_receipts = (ap (λ rs. map (λ (x : Receipt). (x.at, x.label)) rs) r ∙ receipts-of_one 0 journal b, tt);
   is_text = record { answered = []; are_texts = no_answers; whole = t };
 }
-evaluated query l journal receipts (Some s) text is e r b t = record {
-  loaded = l;
-  is_loaded = is;
+evaluated l journal receipts (Some s) text e r b t = record {
   answers = told_box l ∷ [];
   run = e.run;
   one_worker = b;
@@ -73,11 +62,9 @@ evaluated query l journal receipts (Some s) text is e r b t = record {
 }
 
 -- a run whose answer is too long
-pub long_run : (query : List ℕ) (l : Loaded) (journal : List Label) (o : Option SolvedForm) → IsLoadedFrom query l → EndsBy l journal o → HasNoShortTextBy l o → HasLongRun query
-long_run query l journal None is e n = absurd n
-long_run query l journal (Some s) is e n = record {
-  loaded = l;
-  is_loaded = is;
+pub long_run : (l : Loaded) (journal : List Label) (o : Option SolvedForm) → EndsBy l journal o → HasNoShortTextBy l o → HasLongRun l
+long_run l journal None e n = absurd n
+long_run l journal (Some s) e n = record {
   journal = journal;
   answers = told_box l ∷ [];
   outcome = done;

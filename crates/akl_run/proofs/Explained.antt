@@ -1,161 +1,213 @@
 -- What a report says follows from how its command ended.
-use Rattle.std.proofs.Common.{◌≡◌, ◌≢◌, ℕ, List, Option, Some, None, Err, refl, sym, ◌∙◌, ap, subst, ◌⊎◌, inl, inr}
+use Rattle.std.proofs.Common.{◌≡◌, ℕ, List, Option, Some, None, refl, sym, ◌∙◌, ap, subst, ◌⊎◌, inl, inr}
 use Rattle.akl_outside.specs.Counts.{Rose}
 use Rattle.akl_run.specs.declared.report.Part.{Part}
 use Rattle.akl_run.specs.declared.report.Status.{Status}
 use Rattle.akl_run.specs.declared.report.Refusal.{Refusal}
 use Rattle.akl_run.specs.declared.report.Report.{Report}
 use Rattle.akl_run.specs.declared.evaluate.Evaluated.{Evaluated}
-use Rattle.akl_run.specs.declared.evaluate.Stop.{Stop}
+use Rattle.akl_run.specs.declared.stop.Stop.{Stop}
 use Rattle.akl_run.specs.Words.{query_of}
+use Rattle.akl_run.specs.Loads as loads
 use Rattle.akl_run.specs.Reports.{IsStatusOf}
-use Rattle.akl_run.specs.Evaluations.{IsEvaluated}
-use Rattle.akl_run.specs.Commands.{OfQuery, IsQuery, IsPrepared, IsStopped, IsWritten, whole, part, WroteRun, WrotePart, WroteNothing, IsEarly, IsBuilt}
+use Rattle.akl_run.specs.Reports as reports
+use Rattle.akl_run.specs.Commands.{Stops, by_words, by_reading, by_program, by_query, by_run, WroteRun, WrotePart, WroteNothing, IsEarly, IsLate}
+use Rattle.akl_run.specs.Commands as commands
+use Rattle.akl_run.specs.Steps.{IsRunAs, IsStopped, IsWritten, whole, part}
 
+-- how a command ended: it stopped early, or its run was written, or a front of it
 pub data Ended (words : List (List ℕ)) (left left' : Option (List ℕ)) (faults faults' : ℕ) (written written' : Option (List ℕ)) (sunk sunk' : ℕ) (r : Report) : Type 0 where
-  stopped : (stop : Stop) → IsPrepared words left left' faults faults' (Err stop) → IsStopped stop r → written' ≡ written → Ended words left left' faults faults' written written' sunk sunk' r
-  ran : (e : Evaluated) → OfQuery words left (λ query. IsEvaluated query e) → IsWritten e written written' sunk sunk' r → Ended words left left' faults faults' written written' sunk sunk' r
+  stopped : (stop : Stop) → Stops words left left' faults faults' stop.status stop.refusal → IsStopped stop r → written' ≡ written → Ended words left left' faults faults' written written' sunk sunk' r
+  ran : (e : Evaluated) → IsRunAs words left left' e → IsWritten e written written' sunk sunk' r → Ended words left left' faults faults' written written' sunk sunk' r
 
-module _ (words : List (List ℕ)) (left left' : Option (List ℕ)) (faults faults' : ℕ) (written written' : Option (List ℕ)) (sunk sunk' : ℕ) (r : Report) where
-  -- an evaluated run has a status of its own
-  ran_status : (e : Evaluated) (query : List ℕ) → IsEvaluated query e → (e.status ≡ Status.Done) ⊎ (e.status ≡ Status.Failed)
-  ran_status e query v = on e.status refl v.is_status
-    where
-      on : (s : Status) → e.status ≡ s → IsStatusOf s v.outcome → (e.status ≡ Status.Done) ⊎ (e.status ≡ Status.Failed)
-      on Status.Done q i = inl q
-      on Status.Failed q i = inr q
-      on Status.Suspended q i = absurd i
-      on Status.Budget q i = absurd i
-      on Status.Words q i = absurd i
-      on Status.Program q i = absurd i
-      on Status.Query q i = absurd i
-      on Status.ReadFault q i = absurd i
-      on Status.WriteFault q i = absurd i
-      on Status.NoMemory q i = absurd i
-      on Status.NotYet q i = absurd i
+-- a status with a run of its own
+abbrev pub HasRun : Status → Type 0
+HasRun s = (s ≡ Status.Done) ⊎ (s ≡ Status.Failed)
 
-  -- a whole text
-  pub wrote_run : Ended words left left' faults faults' written written' sunk sunk' r → (r.status ≡ Status.Done) ⊎ (r.status ≡ Status.Failed) → WroteRun words left written written' r
-  wrote_run (stopped (Stop.NotYet p) q s w) (inl d) = let x : Status.NotYet ≡ Status.Done = sym s.status ∙ d in absurd cc
-  wrote_run (stopped (Stop.NotYet p) q s w) (inr d) = let x : Status.NotYet ≡ Status.Failed = sym s.status ∙ d in absurd cc
-  wrote_run (stopped Stop.ReadFault q s w) (inl d) = let x : Status.ReadFault ≡ Status.Done = sym s.status ∙ d in absurd cc
-  wrote_run (stopped Stop.ReadFault q s w) (inr d) = let x : Status.ReadFault ≡ Status.Failed = sym s.status ∙ d in absurd cc
-  wrote_run (stopped Stop.NoMemory q s w) (inl d) = let x : Status.NoMemory ≡ Status.Done = sym s.status ∙ d in absurd cc
-  wrote_run (stopped Stop.NoMemory q s w) (inr d) = let x : Status.NoMemory ≡ Status.Failed = sym s.status ∙ d in absurd cc
-  wrote_run (ran e q (whole i w)) d = subst (λ (x : Report). WroteRun words left written written' x) (sym i) (record {
-    query = q.query;
-    is_query = q.is_query;
-    no_program = q.no_program;
-    outcome = q.holds.outcome;
-    is_status = q.holds.is_status;
-    text = e.text.items;
-    run = q.holds.run;
-    wrote = w;
-    count = refl;
-  })
-  wrote_run (ran e q (part i l w f)) (inl d) = let x : Status.WriteFault ≡ Status.Done = sym (ap (λ (y : Report). y.status) i) ∙ d in absurd cc
-  wrote_run (ran e q (part i l w f)) (inr d) = let x : Status.WriteFault ≡ Status.Failed = sym (ap (λ (y : Report). y.status) i) ∙ d in absurd cc
+status_runs : (s : Status) (o : _) → IsStatusOf s o → HasRun s
+status_runs Status.Done o i = inl refl
+status_runs Status.Failed o i = inr refl
+status_runs Status.Suspended o i = absurd i
+status_runs Status.Budget o i = absurd i
+status_runs Status.Words o i = absurd i
+status_runs Status.Program o i = absurd i
+status_runs Status.Query o i = absurd i
+status_runs Status.ReadFault o i = absurd i
+status_runs Status.WriteFault o i = absurd i
+status_runs Status.NoMemory o i = absurd i
+status_runs Status.NotYet o i = absurd i
 
-  -- a part of the text, and its cause
-  pub wrote_part : Ended words left left' faults faults' written written' sunk sunk' r → r.status ≡ Status.WriteFault → WrotePart words left written written' r × Rose sunk sunk'
-  wrote_part (stopped (Stop.NotYet p) q s w) d = let x : Status.NotYet ≡ Status.WriteFault = sym s.status ∙ d in absurd cc
-  wrote_part (stopped Stop.ReadFault q s w) d = let x : Status.ReadFault ≡ Status.WriteFault = sym s.status ∙ d in absurd cc
-  wrote_part (stopped Stop.NoMemory q s w) d = let x : Status.NoMemory ≡ Status.WriteFault = sym s.status ∙ d in absurd cc
-  wrote_part (ran e q (part i l w f)) d = (
-    subst (λ (x : Report). WrotePart words left written written' x) (sym i) (record {
-      query = q.query;
-      is_query = q.is_query;
-      no_program = q.no_program;
-      outcome = q.holds.outcome;
-      text = e.text.items;
-      run = q.holds.run;
-      wrote = w;
-      count = l;
-    }),
-    f,
-  )
-  wrote_part (ran e q (whole i w)) d = elim (ran_status e q.query q.holds) [
-    | inl x ↦ (let y : Status.Done ≡ Status.WriteFault = sym x ∙ sym (ap (λ (z : Report). z.status) i) ∙ d in absurd cc)
-    | inr x ↦ (let y : Status.Failed ≡ Status.WriteFault = sym x ∙ sym (ap (λ (z : Report). z.status) i) ∙ d in absurd cc)
-  ]
+late_run : (s : Status) → HasRun s → IsLate s
+late_run s (inl e) = subst IsLate (sym e) tt
+late_run s (inr e) = subst IsLate (sym e) tt
+
+not_both : (s : Status) → IsEarly s → IsLate s → ⊥
+not_both Status.Done e l = e
+not_both Status.Failed e l = e
+not_both Status.Suspended e l = e
+not_both Status.Budget e l = e
+not_both Status.Words e l = e
+not_both Status.Program e l = l
+not_both Status.Query e l = l
+not_both Status.ReadFault e l = l
+not_both Status.WriteFault e l = e
+not_both Status.NoMemory e l = l
+not_both Status.NotYet e l = l
+
+module _ (words : List (List ℕ)) (left left' : Option (List ℕ)) (faults faults' : ℕ) where
+  -- a command that stops has an early status
+  early : {s : Status} {f : Refusal} → Stops words left left' faults faults' s f → IsEarly s
+  early (by_words (commands.no_command n) l k) = tt
+  early (by_words (commands.long_query q h) l k) = tt
+  early (by_reading a (commands.fault r b)) = tt
+  early (by_reading a (commands.no_memory b)) = tt
+  early (by_program a b (loads.by_text e)) = tt
+  early (by_program a b (loads.not_built e c)) = tt
+  early (by_program a b (loads.by_loading e c d)) = tt
+  early (by_program a b loads.no_memory) = tt
+  early (by_query a b p (loads.by_text e)) = tt
+  early (by_query a b p (loads.not_built e c)) = tt
+  early (by_query a b p (loads.by_loading e c d)) = tt
+  early (by_query a b p loads.no_memory) = tt
+  early (by_run a b l (reports.not_built e)) = tt
+  early (by_run a b l (reports.long h e)) = tt
+  early (by_run a b l reports.no_memory) = tt
 
   -- the cause of a read fault
-  pub read_fault : Ended words left left' faults faults' written written' sunk sunk' r → r.status ≡ Status.ReadFault → Rose faults faults'
-  read_fault (stopped (Stop.NotYet p) q s w) d = let x : Status.NotYet ≡ Status.ReadFault = sym s.status ∙ d in absurd cc
-  read_fault (stopped Stop.ReadFault q s w) d = q.1
-  read_fault (stopped Stop.NoMemory q s w) d = let x : Status.NoMemory ≡ Status.ReadFault = sym s.status ∙ d in absurd cc
-  read_fault (ran e q (part i l w f)) d = let x : Status.WriteFault ≡ Status.ReadFault = sym (ap (λ (y : Report). y.status) i) ∙ d in absurd cc
-  read_fault (ran e q (whole i w)) d = elim (ran_status e q.query q.holds) [
-    | inl x ↦ (let y : Status.Done ≡ Status.ReadFault = sym x ∙ sym (ap (λ (z : Report). z.status) i) ∙ d in absurd cc)
-    | inr x ↦ (let y : Status.Failed ≡ Status.ReadFault = sym x ∙ sym (ap (λ (z : Report). z.status) i) ∙ d in absurd cc)
-  ]
+  rose : {s : Status} {f : Refusal} → Stops words left left' faults faults' s f → s ≡ Status.ReadFault → Rose faults faults'
+  rose (by_words (commands.no_command n) l k) d = absurd cc
+  rose (by_words (commands.long_query q h) l k) d = absurd cc
+  rose (by_reading a (commands.fault r b)) d = r
+  rose (by_reading a (commands.no_memory b)) d = absurd cc
+  rose (by_program a b (loads.by_text e)) d = absurd cc
+  rose (by_program a b (loads.not_built e c)) d = absurd cc
+  rose (by_program a b (loads.by_loading e c g)) d = absurd cc
+  rose (by_program a b loads.no_memory) d = absurd cc
+  rose (by_query a b p (loads.by_text e)) d = absurd cc
+  rose (by_query a b p (loads.not_built e c)) d = absurd cc
+  rose (by_query a b p (loads.by_loading e c g)) d = absurd cc
+  rose (by_query a b p loads.no_memory) d = absurd cc
+  rose (by_run a b l (reports.not_built e)) d = absurd cc
+  rose (by_run a b l (reports.long h e)) d = absurd cc
+  rose (by_run a b l reports.no_memory) d = absurd cc
 
-  -- the cause of each refusal
-  pub refused : Ended words left left' faults faults' written written' sunk sunk' r → (p : Part) → r.refusal ≡ Refusal.NotYet p → IsPrepared words left left' faults faults' (Err (Stop.NotYet p))
-  refused (stopped (Stop.NotYet o) q s w) p d =
-      let x : Refusal.NotYet o ≡ Refusal.NotYet p = sym s.refusal ∙ d in
-      let y : o ≡ p = cc in
-      subst (λ (z : Part). IsPrepared words left left' faults faults' (Err (Stop.NotYet z))) y q
-  refused (stopped Stop.ReadFault q s w) p d = let x : Refusal.Nothing ≡ Refusal.NotYet p = sym s.refusal ∙ d in absurd cc
-  refused (stopped Stop.NoMemory q s w) p d = let x : Refusal.Nothing ≡ Refusal.NotYet p = sym s.refusal ∙ d in absurd cc
-  refused (ran e q (whole i w)) p d = let x : Refusal.Nothing ≡ Refusal.NotYet p = sym (ap (λ (y : Report). y.refusal) i) ∙ d in absurd cc
-  refused (ran e q (part i l w f)) p d = let x : Refusal.Nothing ≡ Refusal.NotYet p = sym (ap (λ (y : Report). y.refusal) i) ∙ d in absurd cc
+  -- words are refused exactly where they are no command
+  none_asked : {s : Status} {f : Refusal} → Stops words left left' faults faults' s f → f ≡ Refusal.NotYet Part.Words → query_of words ≡ None
+  none_asked (by_words (commands.no_command n) l k) d = n
+  none_asked (by_words (commands.long_query q h) l k) d = absurd cc
+  none_asked (by_reading a (commands.fault r b)) d = absurd cc
+  none_asked (by_reading a (commands.no_memory b)) d = absurd cc
+  none_asked (by_program a b (loads.by_text e)) d = absurd cc
+  none_asked (by_program a b (loads.not_built e c)) d = absurd cc
+  none_asked (by_program a b (loads.by_loading e c g)) d = absurd cc
+  none_asked (by_program a b loads.no_memory) d = absurd cc
+  none_asked (by_query a b p (loads.by_text e)) d = absurd cc
+  none_asked (by_query a b p (loads.not_built e c)) d = absurd cc
+  none_asked (by_query a b p (loads.by_loading e c g)) d = absurd cc
+  none_asked (by_query a b p loads.no_memory) d = absurd cc
+  none_asked (by_run a b l (reports.not_built e)) d = absurd cc
+  none_asked (by_run a b l (reports.long h e)) d = absurd cc
+  none_asked (by_run a b l reports.no_memory) d = absurd cc
 
-  -- words that are no command are refused
-  no_query : (query : List ℕ) → query_of words ≡ None → IsQuery words query → ⊥
-  no_query query n q = let x : None ≡ Some query = sym n ∙ q in cc
+  some_query : {query : List ℕ} → query_of words ≡ None → query_of words ≡ Some query → ⊥
+  some_query n q = let x : None ≡ Some _ = sym n ∙ q in cc
 
-  pub words_refused : Ended words left left' faults faults' written written' sunk sunk' r → query_of words ≡ None → r.refusal ≡ Refusal.NotYet Part.Words
-  words_refused (stopped (Stop.NotYet Part.Words) q s w) n = s.refusal
-  words_refused (stopped (Stop.NotYet Part.Program) q s w) n = absurd (no_query q.0.query n q.0.is_query)
-  words_refused (stopped (Stop.NotYet Part.Query) q s w) n = absurd (no_query q.query n q.is_query)
-  words_refused (stopped (Stop.NotYet Part.Answer) q s w) n = absurd (no_query q.query n q.is_query)
-  words_refused (stopped Stop.ReadFault q s w) n = absurd (no_query q.0.query n q.0.is_query)
-  words_refused (stopped Stop.NoMemory q s w) n = absurd (no_query q.query n q.is_query)
-  words_refused (ran e q i) n = absurd (no_query q.query n q.is_query)
+  not_asked : {s : Status} {f : Refusal} → Stops words left left' faults faults' s f → query_of words ≡ None → f ≡ Refusal.NotYet Part.Words
+  not_asked (by_words (commands.no_command n) l k) d = refl
+  not_asked (by_words (commands.long_query q h) l k) d = absurd (some_query d q)
+  not_asked (by_reading a b) d = absurd (some_query d a.is_query)
+  not_asked (by_program a b c) d = absurd (some_query d a.is_query)
+  not_asked (by_query a b p c) d = absurd (some_query d a.is_query)
+  not_asked (by_run a b l c) d = absurd (some_query d a.is_query)
 
-  -- with an early status nothing was run or written
-  pub nothing_written : Ended words left left' faults faults' written written' sunk sunk' r → IsEarly r.status → WroteNothing written written' r
-  nothing_written (stopped stop q s w) d = record { journal = s.journal; receipts = s.receipts; count = s.written; same = w }
-  nothing_written (ran e q (part i l w f)) d = absurd (subst IsEarly (ap (λ (y : Report). y.status) i) d)
-  nothing_written (ran e q (whole i w)) d = elim (ran_status e q.query q.holds) [
-    | inl x ↦ absurd (subst IsEarly (ap (λ (z : Report). z.status) i ∙ x) d)
-    | inr x ↦ absurd (subst IsEarly (ap (λ (z : Report). z.status) i ∙ x) d)
-  ]
+  module _ (written written' : Option (List ℕ)) (sunk sunk' : ℕ) (r : Report) where
+    stopped_early : (stop : Stop) → Stops words left left' faults faults' stop.status stop.refusal → IsStopped stop r → IsEarly r.status
+    stopped_early stop q s = subst IsEarly (sym s.status) (early q)
 
-  -- the status is one of those that are built
-  pub built : Ended words left left' faults faults' written written' sunk sunk' r → IsBuilt r.status
-  built (stopped (Stop.NotYet p) q s w) = subst IsBuilt (sym s.status) tt
-  built (stopped Stop.ReadFault q s w) = subst IsBuilt (sym s.status) tt
-  built (stopped Stop.NoMemory q s w) = subst IsBuilt (sym s.status) tt
-  built (ran e q (part i l w f)) = subst IsBuilt (sym (ap (λ (y : Report). y.status) i)) tt
-  built (ran e q (whole i w)) = elim (ran_status e q.query q.holds) [
-    | inl x ↦ subst IsBuilt (sym (ap (λ (z : Report). z.status) i ∙ x)) tt
-    | inr x ↦ subst IsBuilt (sym (ap (λ (z : Report). z.status) i ∙ x)) tt
-  ]
+    whole_late : (e : Evaluated) → IsRunAs words left left' e → e.status ≡ r.status → IsLate r.status
+    whole_late e q i = subst IsLate i (late_run e.status (status_runs e.status q.run.outcome q.run.is_status))
 
-  -- a refusal comes with its status alone
-  pub not_yet : Ended words left left' faults faults' written written' sunk sunk' r → r.status ≡ Status.NotYet → r.refusal ≢ Refusal.Nothing
-  not_yet (stopped (Stop.NotYet p) q s w) d n = let x : Refusal.NotYet p ≡ Refusal.Nothing = sym s.refusal ∙ n in cc
-  not_yet (stopped Stop.ReadFault q s w) d n = let x : Status.ReadFault ≡ Status.NotYet = sym s.status ∙ d in cc
-  not_yet (stopped Stop.NoMemory q s w) d n = let x : Status.NoMemory ≡ Status.NotYet = sym s.status ∙ d in cc
-  not_yet (ran e q (part i l w f)) d n = let x : Status.WriteFault ≡ Status.NotYet = sym (ap (λ (y : Report). y.status) i) ∙ d in cc
-  not_yet (ran e q (whole i w)) d n = elim (ran_status e q.query q.holds) [
-    | inl x ↦ (let y : Status.Done ≡ Status.NotYet = sym x ∙ sym (ap (λ (z : Report). z.status) i) ∙ d in cc)
-    | inr x ↦ (let y : Status.Failed ≡ Status.NotYet = sym x ∙ sym (ap (λ (z : Report). z.status) i) ∙ d in cc)
-  ]
+    status_of : {x y : Report} → x ≡ y → x.status ≡ y.status
+    status_of e = ap (λ (z : Report). z.status) e
 
-  pub refusal_status : Ended words left left' faults faults' written written' sunk sunk' r → (p : Part) → r.refusal ≡ Refusal.NotYet p → r.status ≡ Status.NotYet
-  refusal_status (stopped (Stop.NotYet o) q s w) p d = s.status
-  refusal_status (stopped Stop.ReadFault q s w) p d = let x : Refusal.Nothing ≡ Refusal.NotYet p = sym s.refusal ∙ d in absurd cc
-  refusal_status (stopped Stop.NoMemory q s w) p d = let x : Refusal.Nothing ≡ Refusal.NotYet p = sym s.refusal ∙ d in absurd cc
-  refusal_status (ran e q (whole i w)) p d = let x : Refusal.Nothing ≡ Refusal.NotYet p = sym (ap (λ (y : Report). y.refusal) i) ∙ d in absurd cc
-  refusal_status (ran e q (part i l w f)) p d = let x : Refusal.Nothing ≡ Refusal.NotYet p = sym (ap (λ (y : Report). y.refusal) i) ∙ d in absurd cc
+    write_fault_late : r.status ≡ Status.WriteFault → IsLate r.status
+    write_fault_late d = subst IsLate (sym d) tt
 
-  -- a refusal is some part
-  pub refused_status : Ended words left left' faults faults' written written' sunk sunk' r → r.refusal ≢ Refusal.Nothing → r.status ≡ Status.NotYet
-  refused_status k n = on r.refusal refl
-    where
-      on : (f : Refusal) → r.refusal ≡ f → r.status ≡ Status.NotYet
-      on Refusal.Nothing e = absurd (n e)
-      on (Refusal.NotYet p) e = refusal_status k p e
+    -- the report of an early status
+    pub stops : Ended words left left' faults faults' written written' sunk sunk' r → IsEarly r.status → Stops words left left' faults faults' r.status r.refusal
+    stops (stopped stop q s w) d = subst (λ (z : Status). Stops words left left' faults faults' z r.refusal) (sym s.status) (subst (λ (z : Refusal). Stops words left left' faults faults' stop.status z) (sym s.refusal) q)
+    stops (ran e q (whole i w)) d = absurd (not_both r.status d (whole_late e q (sym (status_of i))))
+    stops (ran e q (part i l w f)) d = absurd (not_both r.status d (write_fault_late (status_of i)))
+
+    pub nothing_written : Ended words left left' faults faults' written written' sunk sunk' r → IsEarly r.status → WroteNothing written written' r
+    nothing_written (stopped stop q s w) d = record { journal = s.journal; receipts = s.receipts; count = s.written; same = w }
+    nothing_written (ran e q (whole i w)) d = absurd (not_both r.status d (whole_late e q (sym (status_of i))))
+    nothing_written (ran e q (part i l w f)) d = absurd (not_both r.status d (write_fault_late (status_of i)))
+
+    -- a whole text
+    pub wrote_run : Ended words left left' faults faults' written written' sunk sunk' r → HasRun r.status → WroteRun words left left' written written' r
+    wrote_run (stopped stop q s w) d = absurd (not_both r.status (stopped_early stop q s) (late_run r.status d))
+    wrote_run (ran e q (whole i w)) d = subst (λ (x : Report). WroteRun words left left' written written' x) (sym i) (record {
+      query = q.ready.query;
+      program = q.ready.program;
+      asked = q.ready.asked;
+      read = q.ready.read;
+      outcome = q.run.outcome;
+      is_status = q.run.is_status;
+      text = e.text.items;
+      run = record { loaded = q.loaded; is_loaded = q.ready.loaded; run = q.run.run };
+      wrote = w;
+      count = refl;
+    })
+    wrote_run (ran e q (part i l w f)) (inl d) = let x : Status.WriteFault ≡ Status.Done = sym (status_of i) ∙ d in absurd cc
+    wrote_run (ran e q (part i l w f)) (inr d) = let x : Status.WriteFault ≡ Status.Failed = sym (status_of i) ∙ d in absurd cc
+
+    no_write_fault : (e : Evaluated) → IsRunAs words left left' e → e.status ≡ Status.WriteFault → ⊥
+    no_write_fault e q d = on (status_runs e.status q.run.outcome q.run.is_status)
+      where
+        on : HasRun e.status → ⊥
+        on (inl x) = let y : Status.Done ≡ Status.WriteFault = sym x ∙ d in cc
+        on (inr x) = let y : Status.Failed ≡ Status.WriteFault = sym x ∙ d in cc
+
+    -- a front of a text
+    pub wrote_part : Ended words left left' faults faults' written written' sunk sunk' r → r.status ≡ Status.WriteFault → WrotePart words left left' written written' r × Rose sunk sunk'
+    wrote_part (stopped stop q s w) d = absurd (not_both r.status (stopped_early stop q s) (write_fault_late d))
+    wrote_part (ran e q (whole i w)) d = absurd (no_write_fault e q (sym (status_of i) ∙ d))
+    wrote_part (ran e q (part i l w f)) d = (
+      subst (λ (x : Report). WrotePart words left left' written written' x) (sym i) (record {
+        query = q.ready.query;
+        program = q.ready.program;
+        asked = q.ready.asked;
+        read = q.ready.read;
+        outcome = q.run.outcome;
+        text = e.text.items;
+        run = record { loaded = q.loaded; is_loaded = q.ready.loaded; run = q.run.run };
+        wrote = w;
+        count = l;
+      }),
+      f,
+    )
+
+    pub read_fault : Ended words left left' faults faults' written written' sunk sunk' r → r.status ≡ Status.ReadFault → Rose faults faults'
+    read_fault k d = rose (stops k (subst IsEarly (sym d) tt)) d
+
+    -- the refusal of the words
+    pub refuses_words : Ended words left left' faults faults' written written' sunk sunk' r → r.refusal ≡ Refusal.NotYet Part.Words → query_of words ≡ None
+    refuses_words (stopped stop q s w) d = none_asked q (sym s.refusal ∙ d)
+    refuses_words (ran e q (whole i w)) d = let x : Refusal.Nothing ≡ Refusal.NotYet Part.Words = sym (ap (λ (z : Report). z.refusal) i) ∙ d in absurd cc
+    refuses_words (ran e q (part i l w f)) d = let x : Refusal.Nothing ≡ Refusal.NotYet Part.Words = sym (ap (λ (z : Report). z.refusal) i) ∙ d in absurd cc
+
+    pub words_refused : Ended words left left' faults faults' written written' sunk sunk' r → query_of words ≡ None → r.refusal ≡ Refusal.NotYet Part.Words
+    words_refused (stopped stop q s w) d = s.refusal ∙ not_asked q d
+    words_refused (ran e q w) d = absurd (some_query d q.ready.asked.is_query)
+
+    -- the status is one of those that are built, and a late one has no refusal
+    pub built : Ended words left left' faults faults' written written' sunk sunk' r → IsEarly r.status ⊎ IsLate r.status
+    built (stopped stop q s w) = inl (stopped_early stop q s)
+    built (ran e q (whole i w)) = inr (whole_late e q (sym (status_of i)))
+    built (ran e q (part i l w f)) = inr (write_fault_late (status_of i))
+
+    pub unrefused : Ended words left left' faults faults' written written' sunk sunk' r → IsLate r.status → r.refusal ≡ Refusal.Nothing
+    unrefused (stopped stop q s w) d = absurd (not_both r.status (stopped_early stop q s) d)
+    unrefused (ran e q (whole i w)) d = ap (λ (z : Report). z.refusal) i
+    unrefused (ran e q (part i l w f)) d = ap (λ (z : Report). z.refusal) i

@@ -5,3 +5,7 @@ pub mod Derived
 pub mod ShownTerms
 pub mod Evaluated
 pub mod Explained
+pub mod Loading
+pub mod Reading
+pub mod Exact
+pub mod BuiltGoals

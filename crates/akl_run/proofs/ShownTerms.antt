@@ -12,8 +12,9 @@ use Rattle.akl_terms.specs.Tree.{Tree, variable}
 use Rattle.akl_terms.specs.Template.{Template, tree, tree_at, tree_seen, seen_node}
 use Rattle.akl_model.specs.Instances.{shown_of}
 use Rattle.answer_text.specs.Answers.{shown_trees}
-use Rattle.equation_query.specs.declared.loaded.Loaded.{Loaded}
-use Rattle.equation_query.specs.Loading.{HasVariables, is_hidden, shown_from}
+use Rattle.akl_run.specs.declared.loaded.Loaded.{Loaded}
+use Rattle.clause_store.specs.Loaded.{is_hidden, shown_from}
+use Rattle.akl_run.specs.Loads.{HasVariables}
 use Rattle.akl_run.specs.Text.{shown_lines}
 use Rattle.akl_run.specs.Engine.{query_frame}
 use Rattle.akl_run.specs.RunTexts.{AreBelow}
@@ -42,17 +43,17 @@ variable_node : (t : Template) (at i : ℕ) (f : Name) → slice_get t.nodes at 
 variable_node t at i f e = ap (λ o. tree_seen (tree_at at t.nodes f) (seen_node f o)) e
 
 -- one more term is one more line
-pub shown-more : (l : Loaded) (terms : List ShownTerm) (ss : List Shown) (s : Shown) → HasVariables l → s.index < l.query.variables → shown_trees l.templates terms ≡ lines_of ss
-    → shown_trees l.templates (terms ++ record { name = s.name; term = Mol (l.first_variable + s.index) query_frame } ∷ []) ≡ lines_of (ss ++ s ∷ [])
+pub shown-more : (l : Loaded) (terms : List ShownTerm) (ss : List Shown) (s : Shown) → HasVariables l → s.index < l.query.variables → shown_trees l.program.templates terms ≡ lines_of ss
+    → shown_trees l.program.templates (terms ++ record { name = s.name; term = Mol (l.first_variable + s.index) query_frame } ∷ []) ≡ lines_of (ss ++ s ∷ [])
 shown-more l terms ss s v h e =
-    let t : tree l.templates.nodes (Mol (l.first_variable + s.index) query_frame) ≡ variable (record { frame = query_frame; index = s.index }) =
-    variable_node l.templates (l.first_variable + s.index) s.index query_frame (v.each s.index h) in
+    let t : tree l.program.templates.nodes (Mol (l.first_variable + s.index) query_frame) ≡ variable (record { frame = query_frame; index = s.index }) =
+    variable_node l.program.templates (l.first_variable + s.index) s.index query_frame (v.each s.index h) in
     trees_append terms (record { name = s.name; term = Mol (l.first_variable + s.index) query_frame })
-    ∙ ap (λ (xs : List (List ℕ × Tree)). xs ++ (s.name, tree l.templates.nodes (Mol (l.first_variable + s.index) query_frame)) ∷ []) e
+    ∙ ap (λ (xs : List (List ℕ × Tree)). xs ++ (s.name, tree l.program.templates.nodes (Mol (l.first_variable + s.index) query_frame)) ∷ []) e
     ∙ ap (λ (x : Tree). lines_of ss ++ (s.name, x) ∷ []) t ∙ sym (lines_append ss s)
   where
-    trees_append : (xs : List ShownTerm) (x : ShownTerm) → shown_trees l.templates (xs ++ x ∷ []) ≡ shown_trees l.templates xs ++ (x.name, tree l.templates.nodes x.term) ∷ []
-    trees_append xs x = map-append (λ (y : ShownTerm). (y.name, tree l.templates.nodes y.term)) xs (x ∷ [])
+    trees_append : (xs : List ShownTerm) (x : ShownTerm) → shown_trees l.program.templates (xs ++ x ∷ []) ≡ shown_trees l.program.templates xs ++ (x.name, tree l.program.templates.nodes x.term) ∷ []
+    trees_append xs x = map-append (λ (y : ShownTerm). (y.name, tree l.program.templates.nodes y.term)) xs (x ∷ [])
 
     lines_append : (xs : List Shown) (x : Shown) → lines_of (xs ++ x ∷ []) ≡ lines_of xs ++ (x.name, variable (record { frame = query_frame; index = x.index })) ∷ []
     lines_append xs x = ap (λ ys. shown_lines ys) (map-append (shown_of query_frame) xs (x ∷ [])) ∙ map-append (λ (y : ShownTree). (y.text, y.tree)) (map (shown_of query_frame) xs) (shown_of query_frame x ∷ [])

@@ -1,5 +1,6 @@
--- The run of a query of equations: its labels, and what its box becomes.
-use Rattle.std.specs.Prelude.{◌≡◌, ℕ, zero, suc, ◌+◌, List, [], ◌∷◌, ◌++◌, map, Option, Some, None}
+-- The run of a query of equations and `fail`: its labels, and what its box becomes.
+use Rattle.std.specs.Prelude.{◌≡◌, ℕ, zero, suc, ◌+◌, Bool, true, false, List, [], ◌∷◌, ◌++◌, map, Option, Some, None}
+use Rattle.std.specs.List.{list_all, list_any}
 use Rattle.akl_terms.specs.declared.name.Name.{Name}
 use Rattle.akl_terms.specs.declared.name.Place.{Place}
 use Rattle.akl_terms.specs.declared.term.Term.TheVariants.{Mol}
@@ -14,7 +15,7 @@ use Rattle.akl_model.specs.Derivations.{done, failed}
 use Rattle.rational_unify.specs.Solving.{equations_in}
 use Rattle.rational_unify.specs.Known.{end_of}
 use Rattle.answer_text.specs.Classes.{Represents}
-use Rattle.equation_query.specs.declared.loaded.Loaded.{Loaded}
+use Rattle.akl_run.specs.declared.loaded.Loaded.{Loaded}
 use Rattle.akl_run.specs.Runs.{IsRun}
 use Rattle.akl_run.specs.Journals.{AreBy}
 use Rattle.akl_run.specs.declared.solved_form.SolvedForm.{SolvedForm}
@@ -46,6 +47,22 @@ tells n (suc k) = tell_of n ∷ tells (n + 1) k
 abbrev pub query_frame : Name
 query_frame = record { worker = 0; number = 1 }
 
+-- an equation or `fail`, whose rules are built
+abbrev pub is_built : Code → Bool
+is_built (Code.Equal l r) = true
+is_built Code.Fail = true
+is_built c = false
+
+abbrev pub are_built : List Code → Bool
+are_built cs = list_all is_built cs
+
+abbrev pub is_fail : Code → Bool
+is_fail Code.Fail = true
+is_fail c = false
+
+abbrev pub has_fail : List Code → Bool
+has_fail cs = list_any is_fail cs
+
 abbrev pub IsEquation : Code → Type 0
 IsEquation (Code.Equal l r) = Unit {0}
 IsEquation c = ⊥
@@ -68,7 +85,7 @@ abbrev pub told_box : Loaded → Content
 told_box l = record {
   name = record { worker = 0; number = 0 };
   frames = query_frame ∷ [];
-  equations = equations_in l.templates.nodes (equations_by l.query.goals);
+  equations = equations_in l.program.templates.nodes (equations_by l.query.goals);
   ports = [];
   body = [];
   shown = map (shown_of query_frame) l.query.shown;
@@ -77,7 +94,7 @@ told_box l = record {
 -- the equations are consistent, and the bindings give what stands for each term
 pub record IsAnswered (l : Loaded) (journal : List Label) (s : SolvedForm) : Type 0 where
   pub run : IsRun l journal (told_box l ∷ []) done
-  pub represents : Represents (told_box l).equations (end_of l.templates.nodes s.bindings.items)
+  pub represents : Represents (told_box l).equations (end_of l.program.templates.nodes s.bindings.items)
 
 -- the run has ended: with an answer, or the box has failed
 abbrev pub EndsBy : Loaded → List Label → Option SolvedForm → Type 0

@@ -2,10 +2,15 @@ pub mod Words
 pub mod Text
 pub mod Journals
 pub mod Runs
+pub mod Choices
+pub mod Goals
+pub mod Loads
+pub mod Stops
 pub mod Engine
 pub mod Statuses
 pub mod RunTexts
 pub mod Reports
 pub mod Evaluations
 pub mod Commands
+pub mod Steps
 pub mod Lines

@@ -1,8 +1,51 @@
 -- The line that a refused command gets.
-use Rattle.std.specs.Prelude.{ℕ, List, [], codes}
+use Rattle.std.specs.Prelude.{ℕ, List, [], ◌++◌, codes}
+use Rattle.std.specs.Fmt.{decimal}
+use Rattle.akl_terms.specs.declared.program.Key.{Key}
+use Rattle.akl_syntax.specs.declared.error.SyntaxError.{SyntaxError}
+use Rattle.akl_syntax.specs.declared.error.SyntaxError.TheVariants as syntax_errors
+use Rattle.answer_text.specs.SymbolText.{symbol_text}
+use Rattle.clause_checks.specs.declared.error.Limit.{Limit}
+use Rattle.clause_checks.specs.declared.error.Limit.TheVariants as limits
+use Rattle.clause_checks.specs.declared.error.LoadError.{LoadError}
+use Rattle.clause_checks.specs.declared.error.LoadError.TheVariants as load_errors
 use Rattle.akl_run.specs.declared.report.Part.{Part}
 use Rattle.akl_run.specs.declared.report.Status.{Status}
 use Rattle.akl_run.specs.declared.report.Refusal.{Refusal}
+
+-- the symbol as it is written in an answer, `/`, and the number of arguments
+abbrev pub key_text : Key → List ℕ
+key_text k = symbol_text k.symbol ++ codes "/" ++ decimal k.arity
+
+abbrev pub kind_of : Limit → List ℕ
+kind_of limits.Clauses = codes "clauses"
+kind_of limits.PerDefinition = codes "clauses of one definition"
+kind_of limits.Variables = codes "variables"
+kind_of limits.Arity = codes "arguments"
+
+-- want of memory is no cause of a text
+abbrev pub text_cause : SyntaxError → List ℕ
+text_cause (syntax_errors.Syntax at) = codes "syntax at " ++ decimal at
+text_cause (syntax_errors.TooDeep at) = codes "too deep at " ++ decimal at
+text_cause (syntax_errors.IntRange at) = codes "integer out of range at " ++ decimal at
+text_cause (syntax_errors.TooLong count) = codes "too long, " ++ decimal count ++ codes " bytes"
+text_cause (syntax_errors.Memory e) = []
+
+abbrev pub loading_cause : LoadError → List ℕ
+loading_cause (load_errors.MixedGuards key) = codes "mixed guards in " ++ key_text key
+loading_cause (load_errors.Undefined key) = codes "undefined " ++ key_text key
+loading_cause (load_errors.Reserved key) = codes "reserved " ++ key_text key
+loading_cause (load_errors.TooMany what count) = codes "too many " ++ kind_of what ++ codes ", " ++ decimal count
+loading_cause (load_errors.Memory e) = []
+
+abbrev pub cause_of : Refusal → List ℕ
+cause_of (Refusal.TextOf e) = text_cause e
+cause_of (Refusal.Loading e) = loading_cause e
+cause_of f = []
+
+-- the line of a text that is refused
+abbrev pub refused_line : List ℕ → Refusal → List ℕ
+refused_line side f = codes "akl: " ++ side ++ codes ": " ++ cause_of f ++ codes "\n"
 
 -- the part that isn't built
 abbrev pub part_line : Refusal → List ℕ
@@ -10,12 +53,17 @@ part_line (Refusal.NotYet Part.Words) = codes "akl: not yet: words\n"
 part_line (Refusal.NotYet Part.Program) = codes "akl: not yet: program\n"
 part_line (Refusal.NotYet Part.Query) = codes "akl: not yet: query\n"
 part_line (Refusal.NotYet Part.Answer) = codes "akl: not yet: answer\n"
-part_line Refusal.Nothing = []
+part_line f = []
 
--- the outcomes of a run have no line
+-- the line of a status that says all itself; the outcomes of a run have none
+abbrev pub fixed_line : Status → Refusal → List ℕ
+fixed_line Status.ReadFault f = codes "akl: read fault\n"
+fixed_line Status.WriteFault f = codes "akl: write fault\n"
+fixed_line Status.NoMemory f = codes "akl: out of memory\n"
+fixed_line Status.NotYet f = part_line f
+fixed_line s f = []
+
 abbrev pub refusal_text : Status → Refusal → List ℕ
-refusal_text Status.ReadFault f = codes "akl: read fault\n"
-refusal_text Status.WriteFault f = codes "akl: write fault\n"
-refusal_text Status.NoMemory f = codes "akl: out of memory\n"
-refusal_text Status.NotYet f = part_line f
-refusal_text s f = []
+refusal_text Status.Program f = refused_line (codes "program") f
+refusal_text Status.Query f = refused_line (codes "query") f
+refusal_text s f = fixed_line s f

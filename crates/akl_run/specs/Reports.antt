@@ -1,13 +1,15 @@
 -- What a report of the top call says.
-use Rattle.std.specs.Prelude.{◌≡◌, ℕ, List, [], ◌∷◌, length, Option, IfSome}
-use Rattle.std.specs.Io.KnownBytes.{prepend_known}
+use Rattle.std.specs.Prelude.{◌≡◌, ℕ, true, false, List, length}
 use Rattle.akl_model.specs.declared.label.Label.{Label}
 use Rattle.akl_model.specs.declared.label.Receipt.{Receipt}
 use Rattle.akl_model.specs.Config.{Content}
 use Rattle.akl_model.specs.Derivations.{Outcome, done, failed}
-use Rattle.equation_query.specs.declared.loaded.Loaded.{Loaded}
-use Rattle.equation_query.specs.Loading.{IsLoadedFrom}
+use Rattle.akl_run.specs.declared.loaded.Loaded.{Loaded}
+use Rattle.akl_run.specs.Loads.{IsLoadedFrom}
+use Rattle.akl_run.specs.declared.report.Part.{Part}
 use Rattle.akl_run.specs.declared.report.Status.{Status}
+use Rattle.akl_run.specs.declared.report.Refusal.{Refusal}
+use Rattle.akl_run.specs.Engine.{are_built}
 use Rattle.akl_run.specs.Runs.{IsRun}
 use Rattle.akl_run.specs.Text.{IsRunText, HasLongAnswer}
 use Rattle.akl_run.specs.Journals.{AreReceipts, AreBy}
@@ -18,32 +20,32 @@ IsStatusOf Status.Done o = o ≡ done
 IsStatusOf Status.Failed o = o ≡ failed
 IsStatusOf s o = ⊥
 
--- the query is loaded, the journal is a derivation from its box with an outcome, all labels are by worker 1 and stand once in its receipts,
+-- the journal is a derivation from the query's box with an outcome, all labels are by worker 1 and stand once in its receipts,
 -- and the text is that of the last configuration's answers and the outcome
-pub record IsRunOf (query : List ℕ) (outcome : Outcome) (journal : List Label) (receipts : List (List Receipt)) (text : List ℕ) : Type 0 where
-  pub loaded : Loaded
-  pub is_loaded : IsLoadedFrom query loaded
+pub record IsRunBy (l : Loaded) (outcome : Outcome) (journal : List Label) (receipts : List (List Receipt)) (text : List ℕ) : Type 0 where
   pub answers : List Content
-  pub run : IsRun loaded journal answers outcome
+  pub run : IsRun l journal answers outcome
   pub one_worker : AreBy 1 journal
   pub one_list : length receipts ≡ 1
   pub are_receipts : AreReceipts 1 journal receipts
-  pub is_text : IsRunText loaded.templates.symbols answers outcome text
+  pub is_text : IsRunText l.program.templates.symbols answers outcome text
+
+-- the same of a query that is that of two texts
+pub record IsRunOf (program query : List ℕ) (outcome : Outcome) (journal : List Label) (receipts : List (List Receipt)) (text : List ℕ) : Type 0 where
+  pub loaded : Loaded
+  pub is_loaded : IsLoadedFrom program query loaded
+  pub run : IsRunBy loaded outcome journal receipts text
 
 -- the query's run has an answer without a text of at most a million bytes
-pub record HasLongRun (query : List ℕ) : Type 0 where
-  pub loaded : Loaded
-  pub is_loaded : IsLoadedFrom query loaded
+pub record HasLongRun (l : Loaded) : Type 0 where
   pub journal : List Label
   pub answers : List Content
   pub outcome : Outcome
-  pub run : IsRun loaded journal answers outcome
-  pub is_long : HasLongAnswer loaded.templates.symbols 1000000 answers
+  pub run : IsRun l journal answers outcome
+  pub is_long : HasLongAnswer l.program.templates.symbols 1000000 answers
 
--- the source had no byte, where it tells
-abbrev pub HasNoByte : Option (List ℕ) → Type 0
-HasNoByte left = IfSome left (λ bytes. bytes ≡ [])
-
--- one byte was read
-abbrev pub HasByte : Option (List ℕ) → Option (List ℕ) → Type 0
-HasByte old new = (byte : ℕ) × (old ≡ prepend_known (byte ∷ []) new)
+-- why a loaded query isn't run, or its text isn't written; want of memory is free
+pub data RunStops (l : Loaded) : Status → Refusal → Type 0 where
+  not_built : are_built l.query.goals ≡ false → RunStops l Status.NotYet (Refusal.NotYet Part.Query)
+  long : are_built l.query.goals ≡ true → HasLongRun l → RunStops l Status.NotYet (Refusal.NotYet Part.Answer)
+  no_memory : RunStops l Status.NoMemory Refusal.Nothing

@@ -9,7 +9,7 @@ use Rattle.rational_unify.specs.Known.{end_of}
 use Rattle.answer_text.specs.Printed.{PrintsLines}
 use Rattle.answer_text.specs.Classes.{Represents}
 use Rattle.answer_text.specs.Answers.{shown_trees}
-use Rattle.equation_query.specs.declared.loaded.Loaded.{Loaded}
+use Rattle.akl_run.specs.declared.loaded.Loaded.{Loaded}
 use Rattle.akl_run.specs.Text.{shown_lines}
 use Rattle.akl_run.specs.Engine.{query_frame}
 use Rattle.akl_run.specs.declared.solved_form.SolvedForm.{SolvedForm}
@@ -24,7 +24,7 @@ HasShownVariables l = AreBelow l.query.variables l.query.shown
 
 -- the terms are what the query's box shows
 abbrev pub shown_by : Loaded → List ShownTerm → Type 0
-shown_by l terms = shown_trees l.templates terms ≡ shown_lines (map (shown_of query_frame) l.query.shown)
+shown_by l terms = shown_trees l.program.templates terms ≡ shown_lines (map (shown_of query_frame) l.query.shown)
 
 -- the lines of the query's box
 abbrev pub box_lines : Loaded → List (List ℕ × Tree)
@@ -34,9 +34,9 @@ box_lines l = shown_lines (map (shown_of query_frame) l.query.shown)
 abbrev pub IsTextBy : Loaded → Option SolvedForm → List ℕ → Type 0
 IsTextBy l None text = text ≡ codes "failed\n"
 IsTextBy l (Some s) text = (lines : List ℕ) × (text ≡ (codes "answer 1\n" ++ lines) ++ codes "done\n")
-    × ((E : Equations) → Represents E (end_of l.templates.nodes s.bindings.items) → PrintsLines l.templates.symbols E [] (box_lines l) lines)
+    × ((E : Equations) → Represents E (end_of l.program.templates.nodes s.bindings.items) → PrintsLines l.program.templates.symbols E [] (box_lines l) lines)
 
 -- each text of the answer is longer than a million bytes
 abbrev pub HasNoShortTextBy : Loaded → Option SolvedForm → Type 0
 HasNoShortTextBy l None = ⊥
-HasNoShortTextBy l (Some s) = (E : Equations) → Represents E (end_of l.templates.nodes s.bindings.items) → (lines : List ℕ) → PrintsLines l.templates.symbols E [] (box_lines l) lines → 1000000 < length lines
+HasNoShortTextBy l (Some s) = (E : Equations) → Represents E (end_of l.program.templates.nodes s.bindings.items) → (lines : List ℕ) → PrintsLines l.program.templates.symbols E [] (box_lines l) lines → 1000000 < length lines

@@ -1,12 +1,12 @@
-//! The run of a query of equations: each equation is told, and the box fails where they clash.
+//! The run of a query of equations and `fail`: each equation is told, and the box fails where they clash.
 
-ghost use Rattle.std.specs.Prelude.{◌≡◌, ◌+◌, ◌<◌, ◌∷◌, ◌++◌, [], OnOk, IfOk, length};
-ghost use Rattle.akl_run.specs.Engine.{label_of, receipt_of, receipts_from, IsEquation, AreEquations, equation_by, equations_by, tells, HasEnded};
+ghost use Rattle.std.specs.Prelude.{◌≡◌, ◌+◌, ◌<◌, ◌∷◌, ◌++◌, [], OnOk, IfOk, true, length};
+ghost use Rattle.akl_run.specs.Engine.{label_of, receipt_of, receipts_from, IsEquation, AreEquations, equation_by, equations_by, tells, are_built, has_fail, HasEnded};
 
+use crate::loaded::Loaded;
 use crate::solved_form::SolvedForm;
 use akl_model::{Label, Receipt, Rule};
 use akl_terms::{Code, Equation, Name, Place, Term};
-use equation_query::Loaded;
 use rational_unify::{Nothing, Solved, solve};
 use std::alloc::{AllocError, Global};
 
@@ -94,19 +94,32 @@ fn tell_all(alloc: Global, run: &mut Run, goals: &[Code]) -> Result<Vec<Equation
     Ok(equations)
 }
 
-/// Tells each equation of the query in order, and fails the query's box where they clash.
-pub fn run_query(alloc: Global, loaded: &Loaded) -> Result<Run, AllocError>
+/// Whether all goals are equations or `fail`, whose rules are built.
+pub fn are_built(goals: &[Code]) -> bool
+    ensures { result ≡ are_built goals.now }
+{
+    goals
+        .iter()
+        .all(|goal| matches!(goal, Code::Equal { .. } | Code::Fail))
+}
+
+// Whether some goal is `fail`.
+fn has_fail(goals: &[Code]) -> bool
+    ensures { result ≡ has_fail goals.now }
+{
+    goals.iter().any(|goal| matches!(goal, Code::Fail))
+}
+
+// Tells each equation of the query in order, and fails the query's box where they clash.
+fn tell_and_solve(alloc: Global, loaded: &Loaded, mut run: Run) -> Result<Run, AllocError>
     requires equations { AreEquations loaded.now.query.goals }
     requires within { length loaded.now.query.goals < 100000 }
+    requires begins { run.journal.items ≡ [] }
+    requires no_receipts { run.receipts.items ≡ [] }
     ensures { IfOk result (λ run. HasEnded loaded.now run) }
 {
-    let mut run = Run {
-        journal: Vec::new(alloc),
-        receipts: Vec::new(alloc),
-        solved: None,
-    };
     let equations = tell_all(alloc, &mut run, loaded.query.goals.as_slice())?;
-    match solve(alloc, &loaded.templates, &Nothing, &equations)? {
+    match solve(alloc, &loaded.program.templates, &Nothing, &equations)? {
         Solved::Added(bindings) => {
             run.solved = Some(SolvedForm { bindings });
             Ok(run)
@@ -117,4 +130,23 @@ pub fn run_query(alloc: Global, loaded: &Loaded) -> Result<Run, AllocError>
             Ok(run)
         }
     }
+}
+
+/// Runs a query of equations and `fail`. Its box fails at once where it has `fail`, and else where its
+/// equations clash when all are told.
+pub fn run_query(alloc: Global, loaded: &Loaded) -> Result<Run, AllocError>
+    requires built { are_built loaded.now.query.goals ≡ true }
+    requires within { length loaded.now.query.goals < 100000 }
+    ensures { IfOk result (λ run. HasEnded loaded.now run) }
+{
+    let mut run = Run {
+        journal: Vec::new(alloc),
+        receipts: Vec::new(alloc),
+        solved: None,
+    };
+    if has_fail(loaded.query.goals.as_slice()) {
+        run.commit(Rule::Fail, Place::Box(ROOT))?;
+        return Ok(run);
+    }
+    tell_and_solve(alloc, loaded, run)
 }

@@ -1,14 +1,116 @@
 //! The line that a refused command gets.
 
-ghost use Rattle.std.specs.Prelude.{◌≡◌, IfOk};
-ghost use Rattle.akl_run.specs.Lines.{refusal_text};
+ghost use Rattle.std.specs.Prelude.{◌≡◌, ◌++◌, IfOk, OnOk};
+ghost use Rattle.std.specs.Fmt.{decimal};
+ghost use Rattle.akl_run.specs.Lines.{key_text, kind_of, text_cause, loading_cause, cause_of, refused_line, fixed_line, refusal_text};
 
 use crate::report::{Part, Refusal, Report, Status};
+use akl_syntax::SyntaxError;
+use akl_terms::Key;
+use answer_text::push_symbol;
+use clause_checks::{Limit, LoadError};
 use std::alloc::{AllocError, Global};
 
-// What the line of a status says.
-fn text_of(status: Status, refusal: Refusal) -> &'static str
-    ensures { result.now ≡ refusal_text status refusal }
+fn push_text(line: &mut Vec<u8>, text: &str) -> Result<(), AllocError>
+    ensures { OnOk result (line.new.items ≡ line.old.items ++ text.now) }
+{
+    line.extend_from_slice(text.as_bytes())
+}
+
+fn push_number(line: &mut Vec<u8>, number: usize) -> Result<(), AllocError>
+    ensures { OnOk result (line.new.items ≡ line.old.items ++ decimal number) }
+{
+    let alloc = *line.allocator();
+    let digits = format!(in alloc; "{number}")?;
+    push_text(line, digits.as_str())
+}
+
+// The symbol as it is written in an answer, `/`, and the number of arguments.
+fn push_key(line: &mut Vec<u8>, key: &Key) -> Result<(), AllocError>
+    ensures { OnOk result (line.new.items ≡ line.old.items ++ key_text key.now) }
+{
+    push_symbol(line, key.symbol.as_str())?;
+    push_text(line, "/")?;
+    push_number(line, key.arity as usize)
+}
+
+fn kind_of(limit: Limit) -> &'static str
+    ensures { result.now ≡ kind_of limit }
+{
+    match limit {
+        Limit::Clauses => "clauses",
+        Limit::PerDefinition => "clauses of one definition",
+        Limit::Variables => "variables",
+        Limit::Arity => "arguments",
+    }
+}
+
+fn push_text_cause(line: &mut Vec<u8>, error: &SyntaxError) -> Result<(), AllocError>
+    ensures { OnOk result (line.new.items ≡ line.old.items ++ text_cause error.now) }
+{
+    let (before, number, after) = match error {
+        SyntaxError::Syntax { at } => ("syntax at ", *at, ""),
+        SyntaxError::TooDeep { at } => ("too deep at ", *at, ""),
+        SyntaxError::IntRange { at } => ("integer out of range at ", *at, ""),
+        SyntaxError::TooLong { count } => ("too long, ", *count, " bytes"),
+        SyntaxError::Memory(_) => return Ok(()),
+    };
+    push_text(line, before)?;
+    push_number(line, number)?;
+    push_text(line, after)
+}
+
+fn push_loading_cause(line: &mut Vec<u8>, error: &LoadError) -> Result<(), AllocError>
+    ensures { OnOk result (line.new.items ≡ line.old.items ++ loading_cause error.now) }
+{
+    match error {
+        LoadError::MixedGuards { key } => {
+            push_text(line, "mixed guards in ")?;
+            push_key(line, key)
+        }
+        LoadError::Undefined { key } => {
+            push_text(line, "undefined ")?;
+            push_key(line, key)
+        }
+        LoadError::Reserved { key } => {
+            push_text(line, "reserved ")?;
+            push_key(line, key)
+        }
+        LoadError::TooMany { what, count } => {
+            push_text(line, "too many ")?;
+            push_text(line, kind_of(*what))?;
+            push_text(line, ", ")?;
+            push_number(line, *count as usize)
+        }
+        LoadError::Memory(_) => Ok(()),
+    }
+}
+
+fn push_cause(line: &mut Vec<u8>, refusal: &Refusal) -> Result<(), AllocError>
+    ensures { OnOk result (line.new.items ≡ line.old.items ++ cause_of refusal.now) }
+{
+    match refusal {
+        Refusal::TextOf(error) => push_text_cause(line, error),
+        Refusal::Loading(error) => push_loading_cause(line, error),
+        _ => Ok(()),
+    }
+}
+
+// The line of a text that is refused.
+fn refused_line(alloc: Global, side: &str, refusal: &Refusal) -> Result<Vec<u8>, AllocError>
+    ensures { IfOk result (λ line. line.items ≡ refused_line side.now refusal.now) }
+{
+    let mut line = Vec::from_slice(alloc, b"akl: ")?;
+    push_text(&mut line, side)?;
+    push_text(&mut line, ": ")?;
+    push_cause(&mut line, refusal)?;
+    push_text(&mut line, "\n")?;
+    Ok(line)
+}
+
+// The line of any other status.
+fn fixed_line(status: Status, refusal: &Refusal) -> &'static str
+    ensures { result.now ≡ fixed_line status refusal.now }
 {
     match status {
         Status::ReadFault => "akl: read fault\n",
@@ -19,7 +121,7 @@ fn text_of(status: Status, refusal: Refusal) -> &'static str
             Refusal::NotYet(Part::Program) => "akl: not yet: program\n",
             Refusal::NotYet(Part::Query) => "akl: not yet: query\n",
             Refusal::NotYet(Part::Answer) => "akl: not yet: answer\n",
-            Refusal::Nothing => "",
+            _ => "",
         },
         _ => "",
     }
@@ -29,5 +131,9 @@ fn text_of(status: Status, refusal: Refusal) -> &'static str
 pub fn refusal_line(alloc: Global, report: &Report) -> Result<Vec<u8>, AllocError>
     ensures { IfOk result (λ line. line.items ≡ refusal_text report.now.status report.now.refusal) }
 {
-    Vec::from_slice(alloc, text_of(report.status, report.refusal).as_bytes())
+    match report.status {
+        Status::Program => refused_line(alloc, "program", &report.refusal),
+        Status::Query => refused_line(alloc, "query", &report.refusal),
+        status => Vec::from_slice(alloc, fixed_line(status, &report.refusal).as_bytes()),
+    }
 }

@@ -4,6 +4,8 @@ ghost use Rattle.std.specs.Prelude.{◌≡◌};
 ghost use Rattle.akl_run.specs.Statuses.{number_of};
 
 use akl_model::{Label, Receipt};
+use akl_syntax::SyntaxError;
+use clause_checks::LoadError;
 
 /// What a run came to, or what ended the call before or after it.
 #[derive(Clone, Copy, Debug, PartialEq, Eq)]
@@ -63,9 +65,13 @@ pub enum Part {
 }
 
 /// Why a command is refused.
-#[derive(Clone, Copy, Debug, PartialEq, Eq)]
+#[derive(Debug, Drop)]
 pub enum Refusal {
     Nothing,
+    /// The text of the program or of the query is refused. It is never for want of memory.
+    TextOf(SyntaxError),
+    /// The program or the query isn't loaded. It is never for want of memory.
+    Loading(LoadError),
     /// The part has a form that isn't built yet.
     NotYet(Part),
 }

@@ -1,43 +1,34 @@
 //! The top call.
 
-ghost use Rattle.std.specs.Prelude.{◌≡◌, ◌≢◌, ◌↔◌, map, string_bytes, None};
+ghost use Rattle.std.specs.Prelude.{◌≡◌, ◌↔◌, ◌⊎◌, map, string_bytes, None, IfOk, IfErr};
 ghost use Rattle.akl_outside.specs.Counts.{Rose};
-ghost use Rattle.equation_query.specs.Query.{IsNoEquationQuery};
-ghost use Rattle.akl_run.specs.Reports.{HasByte, HasLongRun};
 ghost use Rattle.akl_run.specs.Words.{query_of};
-ghost use Rattle.akl_run.specs.Commands.{IsPrepared, IsStopped, IsWritten, IsNoCommand, OfQuery, WroteRun, WrotePart, WroteNothing, IsEarly, IsBuilt};
+ghost use Rattle.akl_run.specs.Commands.{Stops, ProgramEnds, QueryEnds, GoalsEnd, WroteRun, WrotePart, WroteNothing, IsEarly, IsLate};
+ghost use Rattle.akl_run.specs.Steps.{IsRunAs, IsStopped, IsWritten};
 
-use crate::evaluate::{Evaluated, Stop, evaluate};
+use crate::evaluate::{Evaluated, evaluate};
+use crate::prepare::prepare;
 use crate::report::{Part, Refusal, Report, Status};
-use crate::words::query_of;
-use akl_outside::{Gate, Sink, Source, read_byte, write_all};
+use crate::stop::Stop;
+use akl_outside::{Gate, Sink, Source, write_all};
 use std::alloc::Global;
 use std::sync::Wait;
 use std::thread::Threads;
 
-// Reads the words and the source, and evaluates the query.
-fn prepare<S: Source>(alloc: Global, words: &[String], program: &mut S) -> Result<Evaluated, Stop>
-    ensures { IsPrepared (map (λ word. string_bytes word) words.now) (S.left program.old) (S.left program.new) (S.faults program.old) (S.faults program.new) result }
+// Reads the words and the source, and runs the query.
+fn work<S: Source>(alloc: Global, words: &[String], program: &mut S) -> Result<Evaluated, Stop>
+    ensures run { IfOk result (λ e. IsRunAs (map (λ word. string_bytes word) words.now) (S.left program.old) (S.left program.new) e) }
+    ensures stop { IfErr result (λ stop. Stops (map (λ word. string_bytes word) words.now) (S.left program.old) (S.left program.new) (S.faults program.old) (S.faults program.new) stop.status stop.refusal) }
 {
-    let Some(query) = query_of(words) else {
-        return Err(Stop::NotYet(Part::Words));
-    };
-    match read_byte(program) {
-        Err(_) => Err(Stop::ReadFault),
-        Ok(Some(_)) => Err(Stop::NotYet(Part::Program)),
-        Ok(None) => evaluate(alloc, query),
-    }
+    let loaded = prepare(alloc, words, program)?;
+    evaluate(alloc, &loaded)
 }
 
 // The report of a command that ended before anything was written.
 fn stopped(alloc: Global, stop: Stop) -> Report
     ensures { IsStopped stop result }
 {
-    let (status, refusal) = match stop {
-        Stop::NotYet(part) => (Status::NotYet, Refusal::NotYet(part)),
-        Stop::ReadFault => (Status::ReadFault, Refusal::Nothing),
-        Stop::NoMemory => (Status::NoMemory, Refusal::Nothing),
-    };
+    let Stop { status, refusal } = stop;
     Report {
         status,
         refusal,
@@ -78,13 +69,17 @@ fn write_run<K: Sink>(run: Evaluated, out: &mut K) -> Report
 
 /// Runs the query of a command line over a program, and writes the answers and the outcome.
 ///
-/// The words are `--query` and the query's text, and the program is empty: each other form of a
-/// command is `NotYet` with the part that isn't built. The work is done in this order, and the first
-/// refusal ends it: the words; one read of the source, which gives a byte where there is a program;
-/// the query; the run; the answer's text; the writing.
+/// The words are `--query` and the query's text, and the source has the program's. The work is done in
+/// this order, and the first refusal ends it: the words; the query's length; the source, to its end or
+/// until it gave one byte more than a program may have; the program, which is read, checked and loaded;
+/// the query, likewise; the run; the answer's text; the writing.
 ///
 /// - `Done` and `Failed` are the outcome of the answered journal, and the bytes appended to the sink
 ///   are the text of its last configuration's answers and this outcome.
+/// - `Program` and `Query` come exactly where that text is refused, with the cause.
+/// - `NotYet` comes with the part that isn't built: other words than these; a program, or a query,
+///   with an inline choice; a query with another goal than equations and `fail`; an answer of more
+///   than a million bytes.
 /// - `ReadFault` comes only where the source failed, and `WriteFault` only where the sink failed: a
 ///   front of the text was written then.
 /// - `NoMemory` comes only for want of memory. Nothing was run or written then.
@@ -99,29 +94,30 @@ pub fn run_akl<R: Threads + Wait + Sync, S: Source, K: Sink, G: Gate>(
     gate: &G,
 ) -> Report
     // The headline, for the outcomes that the rules built so far can have.
-    ensures done { result.status ≡ Status.Done → WroteRun (map (λ word. string_bytes word) words.now) (S.left program.old) (K.written out.old) (K.written out.new) result }
-    ensures failed { result.status ≡ Status.Failed → WroteRun (map (λ word. string_bytes word) words.now) (S.left program.old) (K.written out.old) (K.written out.new) result }
+    ensures done { result.status ≡ Status.Done → WroteRun (map (λ word. string_bytes word) words.now) (S.left program.old) (S.left program.new) (K.written out.old) (K.written out.new) result }
+    ensures failed { result.status ≡ Status.Failed → WroteRun (map (λ word. string_bytes word) words.now) (S.left program.old) (S.left program.new) (K.written out.old) (K.written out.new) result }
 
-    // A fault comes only where its side's count rose, and a front of the text was written before the sink's.
-    ensures read_fault { result.status ≡ Status.ReadFault → Rose (S.faults program.old) (S.faults program.new) }
+    // A front of the text was written before the sink failed.
     ensures write_fault { result.status ≡ Status.WriteFault → Rose (K.faults out.old) (K.faults out.new) }
-    ensures written_part { result.status ≡ Status.WriteFault → WrotePart (map (λ word. string_bytes word) words.now) (S.left program.old) (K.written out.old) (K.written out.new) result }
+    ensures written_part { result.status ≡ Status.WriteFault → WrotePart (map (λ word. string_bytes word) words.now) (S.left program.old) (S.left program.new) (K.written out.old) (K.written out.new) result }
 
-    // The parts that aren't built, with their causes.
-    ensures words { (result.refusal ≡ Refusal.NotYet Part.Words) ↔ (query_of (map (λ word. string_bytes word) words.now) ≡ None) }
-    ensures unread { result.refusal ≡ Refusal.NotYet Part.Words → IsNoCommand (map (λ word. string_bytes word) words.now) (S.left program.old) (S.left program.new) (S.faults program.old) (S.faults program.new) }
-    ensures program { result.refusal ≡ Refusal.NotYet Part.Program → HasByte (S.left program.old) (S.left program.new) }
-    ensures query { result.refusal ≡ Refusal.NotYet Part.Query → OfQuery (map (λ word. string_bytes word) words.now) (S.left program.old) IsNoEquationQuery }
-    ensures answer { result.refusal ≡ Refusal.NotYet Part.Answer → OfQuery (map (λ word. string_bytes word) words.now) (S.left program.old) HasLongRun }
-    ensures not_yet { (result.status ≡ Status.NotYet) ↔ (result.refusal ≢ Refusal.Nothing) }
-
-    // Nothing was run or written before another status, and no other comes.
+    // Before another status nothing was run or written. Each comes with its refusal from one cause, in the order of
+    // the work, and a text that is refused or isn't built ends the command so, unless a fault comes before.
     ensures nothing { IsEarly result.status → WroteNothing (K.written out.old) (K.written out.new) result }
-    ensures built { IsBuilt result.status }
+    ensures stops { IsEarly result.status → Stops (map (λ word. string_bytes word) words.now) (S.left program.old) (S.left program.new) (S.faults program.old) (S.faults program.new) result.status result.refusal }
+    ensures program { ProgramEnds (map (λ word. string_bytes word) words.now) (S.left program.old) result }
+    ensures query { QueryEnds (map (λ word. string_bytes word) words.now) (S.left program.old) result }
+    ensures goals { GoalsEnd (map (λ word. string_bytes word) words.now) (S.left program.old) result }
+    ensures read_fault { result.status ≡ Status.ReadFault → Rose (S.faults program.old) (S.faults program.new) }
+    ensures words { (result.refusal ≡ Refusal.NotYet Part.Words) ↔ (query_of (map (λ word. string_bytes word) words.now) ≡ None) }
+
+    // No other status comes, and a run that was written has no refusal.
+    ensures built { IsEarly result.status ⊎ IsLate result.status }
+    ensures refusal { IsLate result.status → result.refusal ≡ Refusal.Nothing }
 {
     let _ = rt;
     let _ = gate;
-    match prepare(alloc, words, program) {
+    match work(alloc, words, program) {
         Err(stop) => stopped(alloc, stop),
         Ok(evaluated) => write_run(evaluated, out),
     }

@@ -3,13 +3,13 @@
 ghost use Rattle.std.specs.Prelude.{◌≡◌, IfOk, Err};
 ghost use Rattle.akl_run.specs.RunTexts.{HasShownVariables, shown_by, IsTextBy, HasNoShortTextBy};
 ghost use Rattle.answer_text.specs.declared.lines.AnswerError.TheVariants as variants;
-ghost use Rattle.equation_query.specs.Loading.{HasVariables};
+ghost use Rattle.akl_run.specs.Loads.{HasVariables};
 
 use crate::engine::FRAME;
+use crate::loaded::Loaded;
 use crate::solved_form::SolvedForm;
 use akl_terms::{ShownTerm, Term};
 use answer_text::{AnswerError, answer};
-use equation_query::Loaded;
 use std::alloc::{AllocError, Global};
 
 // What an answer shows, as terms.
@@ -46,7 +46,7 @@ pub fn run_text(
         return Ok(failed);
     };
     let shown = shown_terms(alloc, loaded)?;
-    let lines = answer(alloc, &loaded.templates, form, &shown)?;
+    let lines = answer(alloc, &loaded.program.templates, form, &shown)?;
     let mut text = Vec::from_slice(alloc, b"answer 1\n")?;
     text.extend_from_slice(&lines)?;
     text.extend_from_slice(b"done\n")?;

@@ -1,6 +1,6 @@
 use Rattle.std.proofs.Common.{◌≡◌, ◌<◌, length, take, refl, subst}
 use Rattle.std.specs.Io.KnownBytes.{append_known}
-use Rattle.akl_run.specs.Commands.{part}
+use Rattle.akl_run.specs.Steps.{part}
 use Rattle.akl_run.proofs.run.write_run.Goals as goal
 
 pub returns : goal.returns

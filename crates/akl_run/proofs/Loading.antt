@@ -1,0 +1,115 @@
+-- From what the tests of loading found to what loading asks, and to why there is no program or query.
+use Rattle.std.proofs.Common.{◌≡◌, ◌<◌, ◌≤◌, ℕ, zero, suc, List, [], ◌∷◌, length, Bool, true, false, refl, sym, ap, subst, Err, arith, Vec, Global}
+use Rattle.std.proofs.lemmas.List.{length-map}
+use Rattle.akl_syntax.specs.declared.source.SourceClause.{SourceClause}
+use Rattle.std.specs.Prelude.{◌||◌, slice_index_or, map, Result, Ok, IfErr}
+use Rattle.std.specs.Result.{IsErrAnd}
+use Rattle.std.specs.List.{All, list_any}
+use Rattle.akl_terms.specs.declared.program.Program.{Program}
+use Rattle.akl_syntax.specs.declared.error.SyntaxError.{SyntaxError}
+use Rattle.akl_syntax.specs.declared.error.SyntaxError.TheVariants as syntax_errors
+use Rattle.akl_syntax.specs.Goals.{Goal, call, choice, lifted}
+use Rattle.akl_syntax.specs.Clauses.{Clause, Query}
+use Rattle.akl_syntax.specs.Verdicts.{Verdict, accepted, ReadsProgram, ReadsQuery, too_long, clauses}
+use Rattle.akl_syntax.specs.Answers.{clause_view, clauses_view, query_view}
+use Rattle.akl_syntax.specs.Answers as readers
+use Rattle.akl_syntax.specs.Sizes.{clauses_size}
+use Rattle.clause_keys.specs.declared.callee.Callee.{Callee}
+use Rattle.clause_keys.specs.Conditions.{IsChoice, HasNoChoice, IsClauseLoadable}
+use Rattle.clause_checks.specs.declared.error.LoadError.{LoadError}
+use Rattle.clause_checks.specs.declared.error.LoadError.TheVariants as load_errors
+use Rattle.clause_checks.specs.Refusals.{refusal_of, query_refusal_of}
+use Rattle.clause_checks.specs.Refusals as checks
+use Rattle.akl_run.specs.declared.report.Status.{Status}
+use Rattle.akl_run.specs.declared.report.Refusal.{Refusal}
+use Rattle.akl_run.specs.declared.stop.Stop.{Stop}
+use Rattle.akl_run.specs.Choices.{is_choice, has_choice, is_chosen, have_choices}
+use Rattle.akl_run.specs.Stops.{IsStop, IsTextStop, IsLoadingStop}
+use Rattle.akl_run.specs.Loads.{ProgramStops, QueryStops, by_text, by_loading, no_memory}
+
+-- ---- no inline choice
+or_false : (a b : Bool) → (a || b) ≡ false → (a ≡ false) × (b ≡ false)
+or_false true b e = absurd cc
+or_false false b e = (refl, e)
+
+false_at : {X : Type 0} (p : X → Bool) (xs : List X) → list_any p xs ≡ false → (k : ℕ) (d : X) → k < length xs → p (slice_index_or xs k d) ≡ false
+false_at p [] e k d h = absurd (omega (arith, h))
+false_at p (x ∷ xs) e zero d h = (or_false (p x) (list_any p xs) e).0
+false_at p (x ∷ xs) e (suc k) d h = false_at p xs (or_false (p x) (list_any p xs) e).1 k d (omega (arith, h))
+
+no_choice : (g : Goal) → is_choice g ≡ false → IsChoice g → ⊥
+no_choice (choice ps) e i = cc
+no_choice (call s ts) e i = i
+no_choice (lifted n ns) e i = i
+
+pub plain_goals : (gs : List Goal) → has_choice gs ≡ false → HasNoChoice gs
+plain_goals gs e = λ k d h. no_choice (slice_index_or gs k d) (false_at is_choice gs e k d h)
+
+pub plain_clauses : (callees : List Callee) (cs : List Clause) → have_choices cs ≡ false
+    → All (λ c. HasNoChoice c.part.guard → HasNoChoice c.part.body → IsClauseLoadable callees c) cs → All (IsClauseLoadable callees) cs
+plain_clauses callees cs e a = λ k d h. (
+    let c : Clause = slice_index_or cs k d in
+    let f : (has_choice c.part.guard ≡ false) × (has_choice c.part.body ≡ false) = or_false (has_choice c.part.guard) (has_choice c.part.body) (false_at is_chosen cs e k d h) in
+    a k d h (plain_goals c.part.guard f.0) (plain_goals c.part.body f.1))
+
+pub list_any-map : {X Y : Type 0} (p : Y → Bool) (f : X → Y) (xs : List X) → list_any p (map f xs) ≡ list_any (λ (x : X). p (f x)) xs
+list_any-map p f [] = refl
+list_any-map p f (x ∷ xs) = ap (λ (b : Bool). p (f x) || b) (list_any-map p f xs)
+
+-- ---- an accepted program is short, and has no more clauses than terms, goals and clauses
+short_of : (bytes : List ℕ) (v : Verdict (List Clause)) (cs : List Clause) → ReadsProgram bytes v → v ≡ accepted cs → length bytes ≤ 1000000
+short_of bytes v cs (too_long h) e = absurd cc
+short_of bytes v cs (clauses h r) e = h
+
+pub accepted_short : (bytes : List ℕ) (cs : List Clause) → ReadsProgram bytes (accepted cs) → length bytes ≤ 1000000
+accepted_short bytes cs r = short_of bytes (accepted cs) cs r refl
+
+clauses_counted : (cs : List Clause) → length cs ≤ clauses_size cs
+clauses_counted [] = omega arith
+clauses_counted (c ∷ cs) = let h : length cs ≤ clauses_size cs = clauses_counted cs in omega (arith, h)
+
+pub counted_clauses : (v : Vec SourceClause Global) → length v.items ≤ clauses_size (clauses_view v)
+counted_clauses v = subst (λ (n : ℕ). n ≤ clauses_size (clauses_view v)) (length-map v.items clause_view) (clauses_counted (clauses_view v))
+
+-- ---- why a command stops
+pub stops_as : (P : Status → Refusal → Type 0) (s : Status) (f : Refusal) (stop : Stop) → IsStop s f stop → P s f → P stop.status stop.refusal
+stops_as P s f stop i p = subst (λ (z : Stop). P z.status z.refusal) (sym i) p
+
+-- what holds of the error of a result
+pub from_error : {T E : Type 0} {P Q : E → Type 0} (r : Result T E) → IsErrAnd r P → ((e : E) → P e → Q e) → IfErr r Q
+from_error (Ok x) h f = tt
+from_error (Err e) h f = f e h
+
+pub if_error : {T E : Type 0} {P Q : E → Type 0} (r : Result T E) → IfErr r P → ((e : E) → P e → Q e) → IfErr r Q
+if_error (Ok x) h f = tt
+if_error (Err e) h f = f e h
+
+pub program_text_stops : (bytes : List ℕ) (e : SyntaxError) (stop : Stop) → readers.Answers clauses_view (ReadsProgram bytes) (Err e) → IsTextStop Status.Program e stop → ProgramStops bytes stop.status stop.refusal
+program_text_stops bytes (syntax_errors.Syntax at) stop r i = stops_as (ProgramStops bytes) _ _ stop i (by_text r)
+program_text_stops bytes (syntax_errors.TooDeep at) stop r i = stops_as (ProgramStops bytes) _ _ stop i (by_text r)
+program_text_stops bytes (syntax_errors.IntRange at) stop r i = stops_as (ProgramStops bytes) _ _ stop i (by_text r)
+program_text_stops bytes (syntax_errors.TooLong count) stop r i = stops_as (ProgramStops bytes) _ _ stop i (by_text r)
+program_text_stops bytes (syntax_errors.Memory e) stop r i = stops_as (ProgramStops bytes) _ _ stop i no_memory
+
+pub query_text_stops : (p : Program) (bytes : List ℕ) (e : SyntaxError) (stop : Stop) → readers.Answers query_view (ReadsQuery bytes) (Err e) → IsTextStop Status.Query e stop → QueryStops p bytes stop.status stop.refusal
+query_text_stops p bytes (syntax_errors.Syntax at) stop r i = stops_as (QueryStops p bytes) _ _ stop i (by_text r)
+query_text_stops p bytes (syntax_errors.TooDeep at) stop r i = stops_as (QueryStops p bytes) _ _ stop i (by_text r)
+query_text_stops p bytes (syntax_errors.IntRange at) stop r i = stops_as (QueryStops p bytes) _ _ stop i (by_text r)
+query_text_stops p bytes (syntax_errors.TooLong count) stop r i = stops_as (QueryStops p bytes) _ _ stop i (by_text r)
+query_text_stops p bytes (syntax_errors.Memory e) stop r i = stops_as (QueryStops p bytes) _ _ stop i no_memory
+
+pub program_loading_stops : (bytes : List ℕ) (cs : List Clause) (e : LoadError) (stop : Stop) → ReadsProgram bytes (accepted cs) → have_choices cs ≡ false → checks.Answers (refusal_of cs) (Err e)
+    → IsLoadingStop Status.Program e stop → ProgramStops bytes stop.status stop.refusal
+program_loading_stops bytes cs (load_errors.MixedGuards key) stop r n a i = stops_as (ProgramStops bytes) _ _ stop i (by_loading r n a)
+program_loading_stops bytes cs (load_errors.Undefined key) stop r n a i = stops_as (ProgramStops bytes) _ _ stop i (by_loading r n a)
+program_loading_stops bytes cs (load_errors.Reserved key) stop r n a i = stops_as (ProgramStops bytes) _ _ stop i (by_loading r n a)
+program_loading_stops bytes cs (load_errors.TooMany what count) stop r n a i = stops_as (ProgramStops bytes) _ _ stop i (by_loading r n a)
+program_loading_stops bytes cs (load_errors.Memory e) stop r n a i = stops_as (ProgramStops bytes) _ _ stop i no_memory
+
+pub query_loading_stops : (p : Program) (bytes : List ℕ) (q : Query) (e : LoadError) (stop : Stop) → ReadsQuery bytes (accepted q) → has_choice q.goals ≡ false → checks.Answers (query_refusal_of p q) (Err e)
+    → IsLoadingStop Status.Query e stop → QueryStops p bytes stop.status stop.refusal
+query_loading_stops p bytes q (load_errors.MixedGuards key) stop r n a i = stops_as (QueryStops p bytes) _ _ stop i (by_loading r n a)
+query_loading_stops p bytes q (load_errors.Undefined key) stop r n a i = stops_as (QueryStops p bytes) _ _ stop i (by_loading r n a)
+query_loading_stops p bytes q (load_errors.Reserved key) stop r n a i = stops_as (QueryStops p bytes) _ _ stop i (by_loading r n a)
+query_loading_stops p bytes q (load_errors.TooMany what count) stop r n a i = stops_as (QueryStops p bytes) _ _ stop i (by_loading r n a)
+query_loading_stops p bytes q (load_errors.Memory e) stop r n a i = stops_as (QueryStops p bytes) _ _ stop i no_memory
