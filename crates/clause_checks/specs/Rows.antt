@@ -13,7 +13,7 @@ use Rattle.akl_syntax.specs.Clauses.{Clause}
 use Rattle.clause_keys.specs.declared.callee.Callee.{Callee}
 use Rattle.clause_keys.specs.declared.callee.Callee.TheVariants.{Named, Lifted}
 use Rattle.clause_keys.specs.Reserved.{reserved_of}
-use Rattle.clause_keys.specs.Keys.{named, defined_by}
+use Rattle.clause_keys.specs.Keys.{named, key_of, defined_by}
 use Rattle.clause_keys.specs.Conditions.{count}
 use Rattle.clause_checks.specs.Within.{goals_in}
 
@@ -98,11 +98,6 @@ wide_clause c = option_or (wide_head c.head (length c.arguments)) (option_or (wi
 
 abbrev pub key : List ℕ → ℕ → Key
 key s n = record { symbol = s; arity = n }
-
--- the key of what a clause defines: of an inline choice it is that of the definition around it
-abbrev pub key_of : Head → ℕ → Key
-key_of (heads.Named s) n = key s n
-key_of (heads.Lifted number inside) n = inside
 
 abbrev pub clause_key : Clause → Key
 clause_key c = key_of c.head (length c.arguments)

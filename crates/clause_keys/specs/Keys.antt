@@ -17,6 +17,11 @@ abbrev pub by_head : Head → ℕ → Callee
 by_head (heads.Named s) n = named s n
 by_head (heads.Lifted number inside) n = Lifted number
 
+-- the key of a head with so many arguments; what was made of an inline choice has that of the definition in which it was written
+abbrev pub key_of : Head → ℕ → Key
+key_of (heads.Named s) n = record { symbol = s; arity = n }
+key_of (heads.Lifted number inside) n = inside
+
 -- what a clause defines
 unfoldable pub defined_by : Clause → Callee
 defined_by c = by_head c.head (length c.arguments)

@@ -21,9 +21,9 @@ use Rattle.akl_terms.specs.declared.program.Code.{Code}
 use Rattle.clause_keys.specs.declared.callee.Callee.{Callee}
 use Rattle.clause_keys.specs.declared.reserved.Reserved.{Reserved}
 use Rattle.clause_keys.specs.Reserved.{reserved_of}
-use Rattle.clause_keys.specs.Keys.{named, defined_by, called_by, Collects}
+use Rattle.clause_keys.specs.Keys.{key_of, named, defined_by, called_by, Collects}
 use Rattle.clause_keys.specs.Conditions.{count, MayCall, IsLoadable, IsClauseLoadable, AreUnmixed}
-use Rattle.clause_store.specs.Loaded.{AreLoaded, none_loaded, one_loaded, AreOf, no_clauses, own, other, IsDefinitionOf, key_of}
+use Rattle.clause_store.specs.Loaded.{AreLoaded, none_loaded, one_loaded, AreOf, no_clauses, own, other, IsDefinitionOf}
 use Rattle.clause_store.specs.Standing.{StandsAt, HasRoom, Gains, ArePut}
 use Rattle.clause_store.specs.Putting.{AreGoalsPut, IsClausePut, AreClausesPut, IsDefinitionPut, HaveOneOp, IsExtended}
 use Rattle.clause_store.specs.Groups.{AreGroups, no_groups, a_group, groups_size, AreGathered}

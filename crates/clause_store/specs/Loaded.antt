@@ -2,19 +2,16 @@
 use Rattle.std.specs.Prelude.{◌≡◌, ◌<◌, ℕ, zero, suc, ◌+◌, ◌==◌, Bool, false, List, [], ◌∷◌, ◌++◌, length, map, slice_get, Some, if◌then◌else◌, codes}
 use Rattle.std.specs.List.{All}
 use Rattle.akl_terms.specs.declared.term.Node.{Node}
-use Rattle.akl_terms.specs.declared.program.Key.{Key}
 use Rattle.akl_terms.specs.declared.program.Clause as program
 use Rattle.akl_terms.specs.declared.program.Definition.{Definition}
 use Rattle.akl_terms.specs.declared.program.Program.{Program}
 use Rattle.akl_terms.specs.declared.program.Query as program_query
 use Rattle.akl_terms.specs.declared.program.Shown.{Shown}
 use Rattle.akl_terms.specs.Template.{Template, AreDistinct}
-use Rattle.akl_syntax.specs.declared.source.Head.{Head}
-use Rattle.akl_syntax.specs.declared.source.Head.TheVariants as heads
 use Rattle.akl_syntax.specs.Tree.{Tree, trees}
 use Rattle.akl_syntax.specs.Clauses.{Clause, Query}
 use Rattle.clause_keys.specs.declared.callee.Callee.{Callee}
-use Rattle.clause_keys.specs.Keys.{defined_by, called_by, Collects}
+use Rattle.clause_keys.specs.Keys.{key_of, defined_by, called_by, Collects}
 use Rattle.clause_store.specs.Nodes.{IsNodeOf, AreNodes, Extends}
 use Rattle.clause_store.specs.Codes.{AreCodes}
 
@@ -37,11 +34,6 @@ pub data AreOf (callee : Callee) : List Clause → List Clause → Type 0 where
   no_clauses : AreOf callee [] []
   own : {c : Clause} {cs found : List Clause} → defined_by c ≡ callee → AreOf callee cs found → AreOf callee (c ∷ cs) (c ∷ found)
   other : {c : Clause} {cs found : List Clause} → (defined_by c ≡ callee → ⊥) → AreOf callee cs found → AreOf callee (c ∷ cs) found
-
--- the key of a head with so many arguments; what was made of an inline choice has that of the definition in which it was written
-abbrev pub key_of : Head → ℕ → Key
-key_of (heads.Named s) n = record { symbol = s; arity = n }
-key_of (heads.Lifted number inside) n = inside
 
 -- the definition's clauses are those among these that define what it is called by; all have its operator, and the first gives its key
 pub record IsDefinitionOf (callees : List Callee) (Is : ℕ → Tree → Type 0) (cs : List Clause) (d : Definition) : Type 0 where

@@ -12,11 +12,11 @@ use Rattle.akl_syntax.specs.Sizes.{goal_size, goals_size, clause_size, clauses_s
 use Rattle.clause_keys.specs.declared.callee.Callee.{Callee}
 use Rattle.clause_keys.specs.declared.reserved.Reserved.{Reserved}
 use Rattle.clause_keys.specs.declared.reserved.Reserved.TheVariants.{True, Fail, Equal, Arith, OpenPort, Send}
-use Rattle.clause_keys.specs.Keys.{defined_by, called_by, Collects}
+use Rattle.clause_keys.specs.Keys.{key_of, defined_by, called_by, Collects}
 use Rattle.clause_store.specs.Standing.{StandsAt, Gains}
 use Rattle.clause_store.specs.Codes.{AreCodes}
 use Rattle.clause_store.specs.Nodes.{Extends}
-use Rattle.clause_store.specs.Loaded.{IsClauseOf, AreLoaded, IsDefinitionOf, key_of, IsCell}
+use Rattle.clause_store.specs.Loaded.{IsClauseOf, AreLoaded, IsDefinitionOf, IsCell}
 
 -- the code of a reserved goal over the neighbouring nodes from the first on
 abbrev pub reserved_code : Reserved → ℕ → Option Code

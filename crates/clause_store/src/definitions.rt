@@ -4,10 +4,9 @@ ghost use Rattle.std.specs.Prelude.{◌≡◌, ◌<◌, ◌≤◌, ◌+◌, ◌+
 ghost use Rattle.std.specs.List.{All};
 ghost use Rattle.akl_syntax.specs.Answers.{clause_view, clauses_view};
 ghost use Rattle.akl_syntax.specs.Sizes.{clause_size, clauses_size};
-ghost use Rattle.clause_keys.specs.Keys.{defined_by, called_by, called, by_head, IsAbsent};
+ghost use Rattle.clause_keys.specs.Keys.{key_of, defined_by, called_by, called, by_head, IsAbsent};
 ghost use Rattle.clause_keys.specs.Conditions.{IsClauseLoadable, AreUnmixed};
 ghost use Rattle.clause_store.specs.Conditions.{AreUnique};
-ghost use Rattle.clause_store.specs.Loaded.{key_of};
 ghost use Rattle.clause_store.specs.Standing.{HasRoom};
 ghost use Rattle.clause_store.specs.Putting.{IsClausePut, AreClausesPut, IsDefinitionPut, IsExtended, HaveOneOp};
 

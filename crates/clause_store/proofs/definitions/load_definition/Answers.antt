@@ -4,7 +4,7 @@ use Rattle.akl_syntax.specs.View.{tree}
 use Rattle.akl_syntax.specs.Sizes.{clauses_size}
 use Rattle.akl_syntax.specs.Answers.{clause_view}
 use Rattle.akl_syntax.proofs.PartTurns.{part_is}
-use Rattle.clause_store.specs.Loaded.{key_of}
+use Rattle.clause_keys.specs.Keys.{key_of}
 use Rattle.clause_keys.proofs.Defined.{defined_is, few_arguments}
 use Rattle.clause_store.proofs.Defined.{first_of, definition_put}
 use Rattle.clause_store.proofs.definitions.load_definition.Goals as goal
