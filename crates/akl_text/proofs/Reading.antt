@@ -17,14 +17,14 @@ use Rattle.akl_text.proofs.FrontLongest.{longest_is}
 use Rattle.akl_text.proofs.LayoutFound.{layout_is, layout_not_empty}
 
 -- ---- two pieces at the front of one text
-front_same : (v w more rest : List ℕ) → v ++ more ≡ w ++ rest → length v ≡ length w → (v ≡ w) × (more ≡ rest)
+pub front_same : (v w more rest : List ℕ) → v ++ more ≡ w ++ rest → length v ≡ length w → (v ≡ w) × (more ≡ rest)
 front_same v w more rest e l =
     (sym (take_at v more (length v) refl) ∙ ap (take (length v)) e ∙ take_at w rest (length v) (sym l), sym (drop_at v more (length v) refl) ∙ ap (drop (length v)) e ∙ drop_at w rest (length v) (sym l))
 
 some_same : {A : Type 0} {x y : A} → Some x ≡ Some y → x ≡ y
 some_same e = cc
 
-layouts_same : {v more w rest : List ℕ} → v ++ more ≡ w ++ rest → IsLayout v more → IsLayout w rest → length v ≡ length w
+pub layouts_same : {v more w rest : List ℕ} → v ++ more ≡ w ++ rest → IsLayout v more → IsLayout w rest → length v ≡ length w
 layouts_same e l m = some_same (sym (layout_is l) ∙ ap layout_at e ∙ layout_is m)
 
 -- ---- no token begins as layout does

@@ -33,19 +33,12 @@ word_ascii (b ∷ w) e = let h = and_parts (is_word b) (list_all is_word w) e in
 pub record IsOwnText (k : Kind) (w : List ℕ) : Type 0 where
   pub utf8 : IsUtf8 w
   pub stands : StandsFor k w w
-  pub only : (text : List ℕ) → StandsFor k w text → w ≡ text
-
-name_only : {w text : List ℕ} → StandsFor Name w text → w ≡ text
-name_only name_itself = refl
-
-variable_only : {w text : List ℕ} → StandsFor Variable w text → w ≡ text
-variable_only variable_itself = refl
 
 name_own : {w : List ℕ} → Spells Name w → IsOwnText Name w
-name_own (name {b = b} {w = w} e f g h) = record { utf8 = IsUtf8-from_ascii (b ∷ w) (word_ascii (b ∷ w) (rw (lower_word b e) f)); stands = name_itself; only = λ text s. name_only s }
+name_own (name {b = b} {w = w} e f g h) = record { utf8 = IsUtf8-from_ascii (b ∷ w) (word_ascii (b ∷ w) (rw (lower_word b e) f)); stands = name_itself }
 
 variable_own : {w : List ℕ} → Spells Variable w → IsOwnText Variable w
-variable_own (variable {b = b} {w = w} e f) = record { utf8 = IsUtf8-from_ascii (b ∷ w) (word_ascii (b ∷ w) (rw (upper_word b e) f)); stands = variable_itself; only = λ text s. variable_only s }
+variable_own (variable {b = b} {w = w} e f) = record { utf8 = IsUtf8-from_ascii (b ∷ w) (word_ascii (b ∷ w) (rw (upper_word b e) f)); stands = variable_itself }
 
 pub own_text : (k : Kind) (w : List ℕ) → (k ≡ Quoted → ⊥) → has_text k ≡ true → Spells k w → IsOwnText k w
 own_text Name w h t s = name_own s
@@ -92,5 +85,7 @@ quoted_only (between_quotes q) = decoded_is q
 pub text_quoted : (k : Kind) (w : List ℕ) → k ≡ Quoted → Spells k w → IsQuotedText k w
 text_quoted k w e s = subst (λ (z : Kind). IsQuotedText z w) (sym e) (quoted_text (subst (λ (z : Kind). Spells z w) e s))
 
-pub text_only : (k : Kind) (w text : List ℕ) → k ≡ Quoted → StandsFor k w text → decoded w ≡ text
-text_only k w text e s = quoted_only (subst (λ (z : Kind). StandsFor z w text) e s)
+pub one_text : {k : Kind} {w a b : List ℕ} → StandsFor k w a → StandsFor k w b → a ≡ b
+one_text name_itself name_itself = refl
+one_text variable_itself variable_itself = refl
+one_text (between_quotes q) s = sym (decoded_is q) ∙ quoted_only s

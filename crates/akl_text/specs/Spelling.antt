@@ -1,5 +1,5 @@
 -- How a token of each kind is spelled, and which text it stands for.
-use Rattle.std.specs.Prelude.{◌≢◌, ℕ, ◌≤◌, ◌-◌, IsTrue, List, ◌∷◌, ◌++◌, length, take, drop, codes, encode_utf8_all, ℤ}
+use Rattle.std.specs.Prelude.{◌≢◌, ℕ, ◌≤◌, ◌-◌, IsTrue, List, ◌∷◌, ◌++◌, length, take, drop, codes, encode_utf8_all, ℤ, pos, neg_ℤ, int_le, Bool, ◌&&◌}
 use Rattle.std.specs.List.{list_all}
 use Rattle.std.specs.Str.Parse.{signed_digits_value}
 use Rattle.akl_text.specs.Bytes.{is_lower, is_upper, is_digit, is_word}
@@ -50,6 +50,10 @@ pub data StandsFor : Kind → List ℕ → List ℕ → Type 0 where
 -- the integer of an Integer token: its digits in base ten, negated where it begins with a sign
 abbrev pub integer_value : List ℕ → ℤ
 integer_value w = signed_digits_value 10 w
+
+-- the integer is a signed number of 64 bits
+abbrev pub is_in_range : ℤ → Bool
+is_in_range z = int_le (neg_ℤ (pos 9223372036854775808)) z && int_le z (pos 9223372036854775807)
 
 -- the bytes of a token
 abbrev pub spelling : List ℕ → Token → List ℕ
