@@ -3,7 +3,7 @@ use Rattle.std.proofs.Common.{◌≡◌, ◌<◌, ◌≤◌, ℕ, zero, suc, Lis
 use Rattle.std.specs.Prelude.{take}
 use Rattle.std.proofs.lemmas.List.{take_at, take_all}
 use Rattle.akl_terms.specs.declared.program.Program.{Program}
-use Rattle.akl_syntax.specs.declared.error.SyntaxError.{SyntaxError}
+use Rattle.akl_lexemes.specs.declared.error.SyntaxError.{SyntaxError}
 use Rattle.akl_syntax.specs.Clauses.{Clause, Query}
 use Rattle.akl_syntax.specs.Verdicts.{Verdict, accepted, refused, ReadsQuery}
 use Rattle.akl_syntax.proofs.OneVerdict.{program_one, query_verdict_one}

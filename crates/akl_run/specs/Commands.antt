@@ -5,7 +5,7 @@ use Rattle.akl_outside.specs.Counts.{Rose}
 use Rattle.akl_outside.specs.Transfer.{ReadSome}
 use Rattle.akl_terms.specs.declared.program.Program.{Program}
 use Rattle.akl_model.specs.Derivations.{Outcome}
-use Rattle.akl_syntax.specs.declared.error.SyntaxError.TheVariants.{TooLong}
+use Rattle.akl_lexemes.specs.declared.error.SyntaxError.TheVariants.{TooLong}
 use Rattle.akl_run.specs.declared.report.Part.{Part}
 use Rattle.akl_run.specs.declared.report.Status.{Status}
 use Rattle.akl_run.specs.declared.report.Refusal.{Refusal}

@@ -2,8 +2,8 @@
 
 ghost use Rattle.std.specs.Prelude.{◌≡◌, map, length};
 ghost use Rattle.std.specs.List.{All};
-ghost use Rattle.akl_syntax.specs.Tree.{trees, steps};
-ghost use Rattle.akl_syntax.specs.View.{tree, step};
+ghost use Rattle.term_syntax.specs.Tree.{trees, steps};
+ghost use Rattle.term_syntax.specs.View.{tree, step};
 ghost use Rattle.akl_syntax.specs.GoalView.{goal};
 ghost use Rattle.clause_checks.specs.Rows.{first, wide_term, wide_terms, wide_steps, wide_arguments, wide_goal, wide_head, wide_clause};
 ghost use Rattle.clause_checks.specs.Tallies.{HasGoals, clause_of};

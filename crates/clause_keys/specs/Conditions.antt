@@ -1,7 +1,7 @@
 -- When clauses and queries can be loaded.
 use Rattle.std.specs.Prelude.{◌≡◌, ◌≤◌, ℕ, zero, suc, List, length, Option, Some, None}
 use Rattle.std.specs.List.{All, Contains}
-use Rattle.akl_syntax.specs.Tree.{Trees, no_trees, more_trees}
+use Rattle.term_syntax.specs.Tree.{Trees, no_trees, more_trees}
 use Rattle.akl_syntax.specs.Goals.{Goal, call, choice, lifted}
 use Rattle.akl_syntax.specs.Clauses.{Clause}
 use Rattle.clause_keys.specs.declared.callee.Callee.{Callee}

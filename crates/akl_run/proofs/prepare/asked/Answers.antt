@@ -1,5 +1,5 @@
 use Rattle.std.proofs.Common.{◌≡◌, sym, length, Some, map, string_bytes}
-use Rattle.akl_syntax.specs.declared.error.SyntaxError.TheVariants.{TooLong}
+use Rattle.akl_lexemes.specs.declared.error.SyntaxError.TheVariants.{TooLong}
 use Rattle.akl_run.specs.declared.report.Status.{Status}
 use Rattle.akl_run.specs.declared.report.Refusal.{Refusal}
 use Rattle.akl_run.specs.Words.{query_of}
