@@ -1,8 +1,11 @@
-//! Each public call once.
-ghost use Rattle.std.specs.Prelude.{◌≡◌, ◌<◌};
+//! Terms: each public call once.
+
 ghost use Rattle.std.specs.Prelude.{◌≡◌, ◌<◌};
 
-use super::*;
+use akl_terms::{
+    Code, Items, Name, Node, Place, Seen, Steps, Templates, Term, Text, Var, equality, order,
+    standing,
+};
 use std::marker::Brand;
 use std::sync::ledger::{Blank, Ledger};
 use std::test::Fail;
@@ -74,8 +77,33 @@ fn texts_and_lists_give_back_what_they_are_made_of(rt: HostRuntime) -> Result<()
     let goals = Items::new(vec![in rt.alloc(); Code::Fail, Code::OpenPort { port: 0, stream: 1 }]?);
     assert_eq!(rt; goals.len(), 2);
     assert!(rt; !goals.is_empty());
-    assert_eq!(rt; goals.as_slice()[0], Code::Fail);
+    assert!(rt; matches!(goals.as_slice()[0], Code::Fail));
     assert_eq!(rt; goals.into_vec().len(), 2);
+    Ok(())
+}
+
+#[test]
+fn names_are_ordered_by_worker_and_variables_by_frame(rt: HostRuntime) -> Result<(), Fail> {
+    let early = Name {
+        worker: 1,
+        number: 9,
+    };
+    let late = Name {
+        worker: 2,
+        number: 3,
+    };
+    assert!(rt; early < late && FRAME < early);
+    let inner = Var {
+        frame: late,
+        index: 0,
+    };
+    let outer = Var {
+        frame: early,
+        index: 7,
+    };
+    assert!(rt; outer < inner);
+    assert!(rt; Place::Goal(late) < Place::Box(early));
+    assert!(rt; Place::Box(early) < Place::Box(late));
     Ok(())
 }
 
@@ -93,6 +121,8 @@ fn two_steps<L: Ledger>(blank: Blank)
 fn steps_take_no_room(rt: HostRuntime) -> Result<(), Fail> {
     two_steps::<Brand>(Blank::new(1));
     equality();
+    standing();
+    order();
     assert_eq!(rt; std::mem::size_of::<Steps<Brand>>(), 0);
     Ok(())
 }
