@@ -7,7 +7,8 @@ use Rattle.akl_text.specs.declared.token.Kind.{Kind}
 use Rattle.akl_text.specs.declared.token.Kind.TheVariants as kinds
 use Rattle.akl_text.specs.declared.token.Token.{Token}
 use Rattle.akl_text.specs.Kinds.{is_symbol, has_text}
-use Rattle.akl_text.specs.Spelling.{StandsFor, name_itself, variable_itself, between_quotes, spelling, integer_value, is_in_range, IsTokenOf}
+use Rattle.akl_text.specs.Spelling.{Denotes, name_itself, variable_itself, between_quotes, spelling, integer_value, IsTokenOf}
+use Rattle.akl_terms.specs.Arithmetic.{in_range}
 use Rattle.akl_text.proofs.TextFound.{one_text}
 use Rattle.akl_lexemes.specs.declared.lexeme.Lexeme.{Lexeme}
 use Rattle.akl_lexemes.specs.declared.lexeme.Lexeme.TheVariants.{Symbol, Variable}
@@ -46,13 +47,13 @@ other_no_integer k f = (elim k as (λ x. (x ≡ kinds.Integer → ⊥) → is_in
 pub not_integer : (bytes : List ℕ) (t : Token) → is_integer t.kind ≡ false → is_out_of_range bytes t ≡ false
 not_integer bytes t e = rw e refl
 
-pub range_of : (bytes : List ℕ) (t : Token) → t.kind ≡ kinds.Integer → is_in_range (integer_value (spelling bytes t)) ≡ true → is_out_of_range bytes t ≡ false
+pub range_of : (bytes : List ℕ) (t : Token) → t.kind ≡ kinds.Integer → in_range (integer_value (spelling bytes t)) ≡ true → is_out_of_range bytes t ≡ false
 range_of bytes t k e = rw (k, e) refl
 
-pub out_of_range : (bytes : List ℕ) (t : Token) → t.kind ≡ kinds.Integer → is_in_range (integer_value (spelling bytes t)) ≡ false → is_out_of_range bytes t ≡ true
+pub out_of_range : (bytes : List ℕ) (t : Token) → t.kind ≡ kinds.Integer → in_range (integer_value (spelling bytes t)) ≡ false → is_out_of_range bytes t ≡ true
 out_of_range bytes t k e = rw (k, e) refl
 
-pub variable_text : {k : Kind} {w text : List ℕ} → k ≡ kinds.Variable → StandsFor k w text → text ≡ w
+pub variable_text : {k : Kind} {w text : List ℕ} → k ≡ kinds.Variable → Denotes k w text → text ≡ w
 variable_text e name_itself = refl
 variable_text e variable_itself = refl
 variable_text e (between_quotes q) = absurd cc

@@ -5,26 +5,14 @@ use Rattle.std.specs.BTreeMap.{get_by_text, Updates}
 use Rattle.std.specs.String.{string_cmp, string_bytes}
 use Rattle.std.proofs.lemmas.Map.Text.{btree_map_updates_text}
 use Rattle.std.proofs.lemmas.Slice.Eq.{bytes_eq-Decides}
+use Rattle.akl_text.proofs.Names.{same_bytes, other_bytes, differ}
 use Rattle.akl_lexemes.specs.Lexemes.{place_of, number_of}
 use Rattle.akl_lexemes.specs.declared.names.Names.TheInside.{Inside}
-use Rattle.akl_lexemes.specs.Numbered.{IsNumbered}
+use Rattle.akl_lexemes.specs.NumberMap.{NumbersAgree}
 
 -- ---- equal texts
-pub texts_equal : (a b : List ℕ) → bytes_eq a b ≡ true → a ≡ b
-texts_equal a b e = (bytes_eq-Decides a b).0 e
-
 pub equal_texts : (a b : List ℕ) → a ≡ b → bytes_eq a b ≡ true
 equal_texts a b e = (bytes_eq-Decides a b).1 e
-
-not_true : (x : Bool) → (x ≡ true → ⊥) → x ≡ false
-not_true true f = absurd (f refl)
-not_true false f = refl
-
-pub other_texts : (a b : List ℕ) → (a ≡ b → ⊥) → bytes_eq a b ≡ false
-other_texts a b f = not_true _ (λ e. f (texts_equal a b e))
-
-pub texts_differ : (a b : List ℕ) → bytes_eq a b ≡ false → a ≡ b → ⊥
-texts_differ a b e f = (let g = equal_texts a b f in cc)
 
 -- ---- the place of a name with one more behind
 place_other : (name key : List ℕ) (names : List (List ℕ)) → bytes_eq key name ≡ false → place_of name (names ++ key ∷ []) ≡ place_of name names
@@ -48,33 +36,33 @@ place_next name (n ∷ names) e =
 -- ---- the number of a name with one more behind
 anonymous_other : (name : List ℕ) (names : List (List ℕ)) (b : Bool) → bytes_eq name (codes "_") ≡ b → number_of name (names ++ codes "_" ∷ []) ≡ number_of name names
 anonymous_other name names true e = rw e refl
-anonymous_other name names false e = rw e (place_other name (codes "_") names (other_texts (codes "_") name (λ f. texts_differ name (codes "_") e (sym f))))
+anonymous_other name names false e = rw e (place_other name (codes "_") names (differ (codes "_") name (λ f. other_bytes name (codes "_") e (sym f))))
 
 pub number_anonymous : (name : List ℕ) (names : List (List ℕ)) → number_of name (names ++ codes "_" ∷ []) ≡ number_of name names
 number_anonymous name names = anonymous_other name names (bytes_eq name (codes "_")) refl
 
 named_place : (key : List ℕ) (names : List (List ℕ)) → key ≢ codes "_" → number_of key names ≡ None → place_of key names ≡ None
-named_place key names f e = rw (other_texts key (codes "_") f) at e
+named_place key names f e = rw (differ key (codes "_") f) at e
 
 number_cases : (key name : List ℕ) (names : List (List ℕ)) (b : Bool) → bytes_eq key name ≡ b → key ≢ codes "_" → number_of key names ≡ None
     → number_of name (names ++ key ∷ []) ≡ cond b (Some (length names)) (number_of name names)
 number_cases key name names true e f n =
-    subst (λ (z : List ℕ). number_of z (names ++ key ∷ []) ≡ Some (length names)) (texts_equal key name e) (rw (other_texts key (codes "_") f) (place_next key names (named_place key names f n)))
+    subst (λ (z : List ℕ). number_of z (names ++ key ∷ []) ≡ Some (length names)) (same_bytes key name e) (rw (differ key (codes "_") f) (place_next key names (named_place key names f n)))
 number_cases key name names false e f n = ap (λ (z : Option ℕ). cond (bytes_eq name (codes "_")) None z) (place_other name key names e)
 
 pub number_named : (key name : List ℕ) (names : List (List ℕ)) → key ≢ codes "_" → number_of key names ≡ None → number_of name (names ++ key ∷ []) ≡ cond (bytes_eq key name) (Some (length names)) (number_of name names)
 number_named key name names f n = number_cases key name names (bytes_eq key name) refl f n
 
 -- ---- the map
-pub IsNumbered-anonymous : (t u : Inside) → IsNumbered t → u.numbers ≡ t.numbers → u.names.items ≡ t.names.items ++ codes "_" ∷ [] → length t.names.items < 4294967295 → IsNumbered u
-IsNumbered-anonymous t u k numbers names room = record {
+pub NumbersAgree-anonymous : (t u : Inside) → NumbersAgree t → u.numbers ≡ t.numbers → u.names.items ≡ t.names.items ++ codes "_" ∷ [] → length t.names.items < 4294967295 → NumbersAgree u
+NumbersAgree-anonymous t u k numbers names room = record {
   small = rw names (omega (arith, length-append {A = List ℕ}, room));
   number = λ name. rw (numbers, names) (k.number name ∙ sym (number_anonymous name t.names.items));
 }
 
-pub IsNumbered-named : (t u : Inside) (key : String Global) (number : ℕ) → IsNumbered t → u.names.items ≡ t.names.items ++ string_bytes key ∷ [] → number ≡ length t.names.items → length t.names.items < 4294967295
-    → string_bytes key ≢ codes "_" → number_of (string_bytes key) t.names.items ≡ None → Updates string_cmp t.numbers u.numbers key (Some number) → IsNumbered u
-IsNumbered-named t u key number k names is room named new updates = record {
+pub NumbersAgree-named : (t u : Inside) (key : String Global) (number : ℕ) → NumbersAgree t → u.names.items ≡ t.names.items ++ string_bytes key ∷ [] → number ≡ length t.names.items → length t.names.items < 4294967295
+    → string_bytes key ≢ codes "_" → number_of (string_bytes key) t.names.items ≡ None → Updates string_cmp t.numbers u.numbers key (Some number) → NumbersAgree u
+NumbersAgree-named t u key number k names is room named new updates = record {
   small = rw names (omega (arith, length-append {A = List ℕ}, room));
   number = λ name. (
       let e : get_by_text u.numbers name ≡ cond (bytes_eq (string_bytes key) name) (Some number) (get_by_text t.numbers name) = btree_map_updates_text (string_bytes key) t.numbers u.numbers (Some number) updates name in

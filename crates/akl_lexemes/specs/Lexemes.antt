@@ -4,7 +4,7 @@ use Rattle.akl_text.specs.declared.token.Kind.{Kind}
 use Rattle.akl_text.specs.declared.token.Kind.TheVariants as kinds
 use Rattle.akl_text.specs.declared.token.Token.{Token}
 use Rattle.akl_text.specs.Kinds.{is_symbol}
-use Rattle.akl_text.specs.Spelling.{spelling, integer_value, StandsFor}
+use Rattle.akl_text.specs.Spelling.{spelling, integer_value, Denotes}
 use Rattle.akl_lexemes.specs.declared.lexeme.Lexeme.{Lexeme}
 use Rattle.akl_lexemes.specs.declared.lexeme.Lexeme.TheVariants.{Symbol, Variable, Integer, Mark}
 
@@ -28,7 +28,7 @@ number_of name names = if bytes_eq name (codes "_") then None else place_of name
 -- What a token of these bytes stands for, behind variables of some names, and the names with it: variables are
 -- numbered by first occurrence.
 pub data IsLexeme (bytes : List ℕ) (names : List (List ℕ)) (t : Token) : Lexeme → List (List ℕ) → Type 0 where
-  symbol : {text : List ℕ} → IsTrue (is_symbol t.kind) → StandsFor t.kind (spelling bytes t) text → IsLexeme bytes names t (Symbol text) names
+  symbol : {text : List ℕ} → IsTrue (is_symbol t.kind) → Denotes t.kind (spelling bytes t) text → IsLexeme bytes names t (Symbol text) names
   known_variable : {n : ℕ} → t.kind ≡ kinds.Variable → number_of (spelling bytes t) names ≡ Some n → IsLexeme bytes names t (Variable n) names
   new_variable : t.kind ≡ kinds.Variable → number_of (spelling bytes t) names ≡ None → IsLexeme bytes names t (Variable (length names)) (names ++ spelling bytes t ∷ [])
   integer : t.kind ≡ kinds.Integer → IsLexeme bytes names t (Integer (integer_value (spelling bytes t))) names

@@ -4,6 +4,6 @@ pub mod Lexemes
 pub mod Limits
 pub mod Memory
 pub mod Named
-pub mod Numbered
+pub mod NumberMap
 pub mod Occurrences
 pub mod Parsed

@@ -3,7 +3,8 @@ use Rattle.std.specs.Prelude.{ℕ, suc, ◌+◌, List, [], ◌∷◌, ◌++◌, 
 use Rattle.akl_text.specs.declared.token.Kind.{Kind}
 use Rattle.akl_text.specs.declared.token.Kind.TheVariants as kinds
 use Rattle.akl_text.specs.declared.token.Token.{Token}
-use Rattle.akl_text.specs.Spelling.{spelling, integer_value, is_in_range}
+use Rattle.akl_text.specs.Spelling.{spelling, integer_value}
+use Rattle.akl_terms.specs.Arithmetic.{in_range}
 
 abbrev pub opens : Kind → Bool
 opens kinds.Open = true
@@ -32,7 +33,7 @@ is_too_deep before t = nat_lt (how_many closes before + 200) (how_many opens (be
 
 -- the token is an integer, and out of range
 abbrev pub is_out_of_range : List ℕ → Token → Bool
-is_out_of_range bytes t = is_integer t.kind && not (is_in_range (integer_value (spelling bytes t)))
+is_out_of_range bytes t = is_integer t.kind && not (in_range (integer_value (spelling bytes t)))
 
 -- the first token at which too many brackets are open, behind those that were passed
 abbrev pub too_deep_behind : List Token → List Token → Option Token

@@ -22,7 +22,7 @@ fn closes(kind: Kind) -> bool
 }
 
 /// The first token at which more than 200 brackets are open.
-pub fn too_deep(tokens: &[Token]) -> Option<Token>
+pub fn first_too_deep(tokens: &[Token]) -> Option<Token>
     ensures { result ≡ first_too_deep tokens.now }
 {
     let mut opened = 0usize;

@@ -7,7 +7,7 @@ ghost use Rattle.akl_lexemes.specs.Lexemes.{IsLexeme, Lexemes};
 ghost use Rattle.akl_lexemes.specs.Limits.{is_out_of_range, first_out_of_range, first_too_deep};
 ghost use Rattle.akl_lexemes.specs.Faults.{IsRangeFault, IsFirstRangeFault, IsLimitFault};
 
-use crate::depth::too_deep;
+use crate::depth::first_too_deep;
 use crate::error::SyntaxError;
 use crate::fronts::front;
 use crate::lexeme::Lexeme;
@@ -84,7 +84,7 @@ pub fn within_limits(alloc: Global, bytes: &[u8], tokens: &[Token]) -> Result<Le
     ensures in_range { IfOk result (λ _. first_out_of_range bytes.now tokens.now ≡ None) }
     ensures err { IfErr result (IsLimitFault bytes.now tokens.now) }
 {
-    if let Some(token) = too_deep(tokens) {
+    if let Some(token) = first_too_deep(tokens) {
         return Err(SyntaxError::TooDeep { at: token.start });
     }
     lexemes(alloc, bytes, tokens)

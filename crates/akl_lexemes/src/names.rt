@@ -21,11 +21,11 @@ impl Model for Names {
 
     ghost Value = { List (List ℕ) };
 
-    ghost use Rattle.akl_lexemes.specs.Numbered.{IsNumbered};
+    ghost use Rattle.akl_lexemes.specs.NumberMap.{NumbersAgree};
 
     ghost view = { λ n. n.names.items };
 
-    ghost invariant = { IsNumbered };
+    ghost invariant = { NumbersAgree };
 }
 
 impl Names {

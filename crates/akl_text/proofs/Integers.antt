@@ -10,8 +10,9 @@ use Rattle.std.specs.Str.{IsAscii}
 use Rattle.std.specs.Str.Parse.{AllDigits, IsNumeral, ParsesSigned, without_leading_sign}
 use Rattle.std.proofs.lemmas.Bool.{and_parts, ne_eqb}
 use Rattle.std.proofs.lemmas.Bool.Decides.{nat_tests}
-use Rattle.akl_text.specs.Bytes.{is_digit}
-use Rattle.akl_text.specs.Spelling.{Spells, natural, negative, integer_value, is_in_range}
+use Rattle.akl_terms.specs.Words.{is_digit}
+use Rattle.akl_terms.specs.Arithmetic.{in_range}
+use Rattle.akl_text.specs.Spelling.{Spells, natural, negative, integer_value}
 use Rattle.akl_text.specs.declared.token.Kind.{Kind}
 use Rattle.akl_text.specs.declared.token.Kind.TheVariants.{Integer}
 use Rattle.akl_text.proofs.TextFound.{ascii_cons}
@@ -49,9 +50,9 @@ not_true : (x : Bool) → (x ≡ true → ⊥) → x ≡ false
 not_true true f = absurd (f refl)
 not_true false f = refl
 
-range_fits : (z : ℤ) → is_in_range z ≡ true → SFits w64 z
+range_fits : (z : ℤ) → in_range z ≡ true → SFits w64 z
 range_fits (pos n) e = let h : n < 2 ^ 63 = grind (arith, nat_tests) in record { sfits = h }
 range_fits (negsuc n) e = let h : n < 2 ^ 63 = grind (arith, nat_tests) in record { sfits = h }
 
-pub integer_refused : {E : Type 0} (w : List ℕ) (r : Result ℤ E) (e : E) → r ≡ Err e → ParsesSigned w64 10 w r → Spells Integer w → is_in_range (integer_value w) ≡ false
+pub integer_refused : {E : Type 0} (w : List ℕ) (r : Result ℤ E) (e : E) → r ≡ Err e → ParsesSigned w64 10 w r → Spells Integer w → in_range (integer_value w) ≡ false
 integer_refused w r e h p s = not_true _ (λ x. (let q = rw h at p in q (integer_numeral s, range_fits (integer_value w) x)))

@@ -5,6 +5,7 @@ pub mod FrontSpelled
 pub mod Integers
 pub mod LayoutFound
 pub mod LayoutSkips
+pub mod Names
 pub mod QuotedBytes
 pub mod QuotedEnds
 pub mod Reading

@@ -1,43 +1,9 @@
 -- How many tokens a text has, and where they end.
 use Rattle.std.proofs.Common.{ℕ, ◌+◌, ◌<◌, ◌≤◌, List, [], ◌∷◌, ◌++◌, length, Option, ap, arith}
 use Rattle.std.proofs.lemmas.List.{length-append}
-use Rattle.akl_text.specs.Spelling.{Spells, name, variable, natural, negative, quoted, call_bracket, bracket, close, open_list, close_list, comma, bar, semicolon, neck, arrow, question, equal, less, greater, at_most, at_least, same, differs, plus, minus, star, div, word_is, word_mod, end}
 use Rattle.akl_text.specs.Tokens.{token_at, Outcome, tokens, nothing_at, with_token, Reads, ended, layout, token, last, stuck}
-use Rattle.akl_text.specs.declared.token.Kind.{Kind}
 use Rattle.akl_text.specs.declared.token.Token.{Token}
-use Rattle.akl_text.proofs.Reading.{IfTokens}
-
-spelled_some : {k : Kind} {w : List ℕ} → Spells k w → 0 < length w
-spelled_some (name e f g h) = omega arith
-spelled_some (variable e f) = omega arith
-spelled_some (natural e f) = omega arith
-spelled_some (negative e f) = omega arith
-spelled_some (quoted q) = omega arith
-spelled_some call_bracket = omega arith
-spelled_some bracket = omega arith
-spelled_some close = omega arith
-spelled_some open_list = omega arith
-spelled_some close_list = omega arith
-spelled_some comma = omega arith
-spelled_some bar = omega arith
-spelled_some semicolon = omega arith
-spelled_some neck = omega arith
-spelled_some arrow = omega arith
-spelled_some question = omega arith
-spelled_some equal = omega arith
-spelled_some less = omega arith
-spelled_some greater = omega arith
-spelled_some at_most = omega arith
-spelled_some at_least = omega arith
-spelled_some same = omega arith
-spelled_some differs = omega arith
-spelled_some plus = omega arith
-spelled_some minus = omega arith
-spelled_some star = omega arith
-spelled_some div = omega arith
-spelled_some word_is = omega arith
-spelled_some word_mod = omega arith
-spelled_some end = omega arith
+use Rattle.akl_text.proofs.Reading.{IfTokens, starts}
 
 -- each token ends behind the one before it, and the first behind a place
 abbrev pub EndBehind : ℕ → List Token → Type 0
@@ -65,10 +31,10 @@ are_bound ended = record { count = omega arith; ends = tt }
 are_bound {at = at} {text = text} {o = o} (layout {w = w} {rest = rest} e l r) =
     bound_from (at + length w) at (length rest) (length text) o (omega arith) (omega (arith, ap length e, length-append w rest)) (are_bound r)
 are_bound {at = at} {text = text} (token {kind = k} {w = w} {rest = rest} {o = o} e t not_end r) =
-    let some = spelled_some t.begins.spelled in
+    let some = (starts t.begins.spelled).some in
     bound_with at (length rest) (length text) (token_at at k w) o (omega (arith, some)) (omega (arith, some, ap length e, length-append w rest)) (are_bound r)
 are_bound {at = at} {text = text} (last {w = w} {rest = rest} e t) =
-    let some = spelled_some t.begins.spelled in
+    let some = (starts t.begins.spelled).some in
     record { count = omega (arith, some, ap length e, length-append w rest); ends = (omega (arith, some), tt) }
 are_bound (stuck n) = tt
 

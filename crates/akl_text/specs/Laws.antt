@@ -1,6 +1,6 @@
 -- No text has two readings.
 use Rattle.std.specs.Prelude.{◌≡◌, ℕ, List, Option}
-use Rattle.akl_text.specs.Spelling.{StandsFor}
+use Rattle.akl_text.specs.Spelling.{Denotes}
 use Rattle.akl_text.specs.Tokens.{Outcome, Reads}
 use Rattle.akl_text.specs.declared.token.Kind.{Kind}
 use Rattle.akl_text.specs.declared.token.Token.{Token}
@@ -11,4 +11,4 @@ OneReadingLaw = (before : Option Token) (at : ℕ) (text : List ℕ) (one anothe
 
 -- a spelling stands for one text
 abbrev pub OneTextLaw : Type 0
-OneTextLaw = (kind : Kind) (w one another : List ℕ) → StandsFor kind w one → StandsFor kind w another → one ≡ another
+OneTextLaw = (kind : Kind) (w one another : List ℕ) → Denotes kind w one → Denotes kind w another → one ≡ another

@@ -2,7 +2,8 @@
 
 ghost use Rattle.std.specs.Prelude.{◌≡◌, ◌≤◌, length, slice_index, drop};
 ghost use Rattle.std.specs.List.{prefix_len};
-ghost use Rattle.akl_text.specs.Bytes.{is_blank, is_lower, is_upper, is_digit, is_word};
+ghost use Rattle.akl_text.specs.Bytes.{is_blank};
+ghost use Rattle.akl_terms.specs.Words.{is_lower, is_upper, is_digit, is_word};
 
 pub fn is_blank(byte: u8) -> bool
     ensures { result ≡ is_blank byte }

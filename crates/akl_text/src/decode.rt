@@ -3,8 +3,9 @@
 ghost use Rattle.std.specs.Prelude.{◌≡◌, ◌≤◌, IfOk, IfSome, IfNone, IsTrue, length, string_bytes, encode_utf8_all, false, true};
 ghost use Rattle.std.specs.Str.{chars, IsUtf8};
 ghost use Rattle.akl_text.specs.Kinds.{has_text};
-ghost use Rattle.akl_text.specs.Spelling.{IsTokenOf, StandsFor, spelling, integer_value, is_in_range};
+ghost use Rattle.akl_text.specs.Spelling.{IsTokenOf, Denotes, spelling, integer_value};
 ghost use Rattle.akl_text.specs.declared.token.Kind.TheVariants.{Integer};
+ghost use Rattle.akl_terms.specs.Arithmetic.{in_range};
 ghost use Rattle.akl_text.specs.Computed.{decode, meaning, is_mark, inside};
 
 use crate::token::{Kind, Token};
@@ -74,7 +75,7 @@ fn between(spelling: &[u8]) -> &[u8]
 pub fn text_of(alloc: Global, bytes: &[u8], token: &Token) -> Result<Text, AllocError>
     requires of_bytes { IsTokenOf bytes.now token.now }
     requires has_text { IsTrue (has_text token.now.kind) }
-    ensures { IfOk result (StandsFor token.now.kind (spelling bytes.now token.now)) }
+    ensures { IfOk result (Denotes token.now.kind (spelling bytes.now token.now)) }
 {
     let spelling = &bytes[token.start..token.end];
     if let Kind::Quoted = token.kind {
@@ -89,8 +90,8 @@ pub fn integer_of(bytes: &[u8], token: &Token) -> Option<i64>
     requires of_bytes { IsTokenOf bytes.now token.now }
     requires integer { token.now.kind ≡ Integer }
     ensures value { IfSome result (λ n. n ≡ integer_value (spelling bytes.now token.now)) }
-    ensures some { IfSome result (λ _. is_in_range (integer_value (spelling bytes.now token.now)) ≡ true) }
-    ensures none { IfNone result (is_in_range (integer_value (spelling bytes.now token.now)) ≡ false) }
+    ensures some { IfSome result (λ _. in_range (integer_value (spelling bytes.now token.now)) ≡ true) }
+    ensures none { IfNone result (in_range (integer_value (spelling bytes.now token.now)) ≡ false) }
 {
     match as_text(&bytes[token.start..token.end]).parse::<i64>() {
         Ok(value) => Some(value),

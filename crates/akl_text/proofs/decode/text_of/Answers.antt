@@ -1,7 +1,7 @@
 use Rattle.std.proofs.Common.{◌≡◌, ℕ, List, sym, ap, subst, ◌∙◌, Result, Ok, Err}
 use Rattle.std.specs.Prelude.{IfOk, encode_utf8_all, false}
 use Rattle.std.specs.Str.{IsUtf8, chars}
-use Rattle.akl_text.specs.Spelling.{StandsFor, spelling}
+use Rattle.akl_text.specs.Spelling.{Denotes, spelling}
 use Rattle.akl_text.specs.Computed.{decode}
 use Rattle.akl_text.proofs.TextFound.{own_text, text_quoted, decoded}
 use Rattle.akl_text.proofs.decode.text_of.Goals as goal
@@ -20,7 +20,7 @@ pub returns-in-Quoted : goal.returns-in-Quoted
 returns-in-Quoted c =
     let inner-is = c.as_text-inner.ensures ∙ c.between.ensures in
     let is : c.new.result ≡ decoded (spelling c.args.bytes.now c.args.token.now) = c.new.ensures ∙ c.in_ok-decoded.ensures ∙ ap (λ (z : List ℕ). encode_utf8_all (decode false (chars z))) inner-is in
-    subst (λ (z : List ℕ). StandsFor c.args.token.now.kind (spelling c.args.bytes.now c.args.token.now) z) (sym is) (text_quoted _ _ c.in-Quoted.is c.requires.of_bytes.spelled).stands
+    subst (λ (z : List ℕ). Denotes c.args.token.now.kind (spelling c.args.bytes.now c.args.token.now) z) (sym is) (text_quoted _ _ c.in-Quoted.is c.requires.of_bytes.spelled).stands
 
 pub as_text-requires : goal.as_text-requires
 as_text-requires c = (own_text _ _ c.in_default.not-Quoted c.requires.has_text c.requires.of_bytes.spelled).utf8
@@ -29,4 +29,4 @@ pub returns : goal.returns
 returns c =
     let w : List ℕ = spelling c.args.bytes.now c.args.token.now in
     let own = own_text c.args.token.now.kind w c.in_default.not-Quoted c.requires.has_text c.requires.of_bytes.spelled in
-    if_ok _ (StandsFor c.args.token.now.kind w) c.from_str.result c.from_str.ensures (λ t e. subst (λ (z : List ℕ). StandsFor c.args.token.now.kind w z) (sym (e ∙ c.as_text.ensures)) own.stands)
+    if_ok _ (Denotes c.args.token.now.kind w) c.from_str.result c.from_str.ensures (λ t e. subst (λ (z : List ℕ). Denotes c.args.token.now.kind w z) (sym (e ∙ c.as_text.ensures)) own.stands)

@@ -1,12 +1,12 @@
 use Rattle.std.proofs.Common.{◌≡◌, ◌∷◌, ◌++◌, [], length, refl, None, rules}
 use Rattle.akl_lexemes.specs.Lexemes.{number_of}
 use Rattle.akl_lexemes.specs.Named.{appended}
-use Rattle.akl_lexemes.proofs.NameNumbers.{IsNumbered-anonymous}
+use Rattle.akl_lexemes.proofs.NameNumbers.{NumbersAgree-anonymous}
 use Rattle.akl_lexemes.proofs.names.Names.append_anonymous.Goals as goal
 
 pub invariant_of-self-2 : goal.invariant_of-self-2
 invariant_of-self-2 c =
-    IsNumbered-anonymous c.self.inside _ c.self.invariant refl
+    NumbersAgree-anonymous c.self.inside _ c.self.invariant refl
     (rw (← c.requires.anonymous) c.in_ok-push.ensures.items)
     (rw c.self.view_is c.requires.room)
 

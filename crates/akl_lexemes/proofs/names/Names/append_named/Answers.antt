@@ -1,14 +1,14 @@
 use Rattle.std.proofs.Common.{◌≡◌, ◌∷◌, ◌++◌, [], length, ◌∙◌, rules}
 use Rattle.std.specs.String.{string_bytes}
 use Rattle.akl_lexemes.specs.Named.{appended}
-use Rattle.akl_lexemes.proofs.NameNumbers.{IsNumbered-named}
+use Rattle.akl_lexemes.proofs.NameNumbers.{NumbersAgree-named}
 use Rattle.akl_lexemes.proofs.names.Names.append_named.Goals as goal
 use Rattle.akl_lexemes.proofs.names.Names.append_named.Goals.{in-Ok, in-Err}
 
 pub invariant_of-self-in-Ok : goal.invariant_of-self-in-Ok
 invariant_of-self-in-Ok c =
     let key : string_bytes c.into_string-key.result ≡ c.args.name = c.into_string-key.ensures ∙ c.in_ok-duplicate.ensures in
-    IsNumbered-named c.self.inside _ c.into_string-key.result c.len-number.result c.self.invariant
+    NumbersAgree-named c.self.inside _ c.into_string-key.result c.len-number.result c.self.invariant
     (rw key c.in_ok-push.ensures.items)
     (search rules)
     (rw c.self.view_is c.requires.room)

@@ -1,6 +1,6 @@
 use Rattle.std.proofs.Common.{◌∙◌, sym, arith}
 use Rattle.akl_lexemes.proofs.DepthScan.{is_deep, depth_opened, depth_closed, depth_stayed}
-use Rattle.akl_lexemes.proofs.depth.too_deep.Goals as goal
+use Rattle.akl_lexemes.proofs.depth.first_too_deep.Goals as goal
 
 pub returns-then-saturating_sub-ge-OPEN_BRACKETS : goal.returns-then-saturating_sub-ge-OPEN_BRACKETS
 returns-then-saturating_sub-ge-OPEN_BRACKETS c =

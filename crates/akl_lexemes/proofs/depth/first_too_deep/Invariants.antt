@@ -1,6 +1,6 @@
 use Rattle.std.proofs.Common.{length}
 use Rattle.akl_lexemes.proofs.DepthScan.{DepthSoFar}
-use Rattle.akl_lexemes.proofs.depth.too_deep.Given as goal
+use Rattle.akl_lexemes.proofs.depth.first_too_deep.Given as goal
 
 abbrev pub invariant-loop-token : goal.invariant-loop-token
 invariant-loop-token l = DepthSoFar l.fn.tokens l.opened l.closed l.rest
