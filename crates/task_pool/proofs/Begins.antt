@@ -6,7 +6,7 @@ use Rattle.std.specs.Global.{Global}
 use Rattle.std.specs.Vec.Iter.{into_iter_items, into_iter_len}
 use Rattle.std.specs.declared.vec.IntoIter.{IntoIter}
 use Rattle.crossbeam_deque.specs.declared.handles.Worker.{Worker}
-use Rattle.crossbeam_deque.specs.Handles.{worker_deque, worker_view, worker_capacity}
+use Rattle.crossbeam_deque.specs.Handles.{worker_deque, worker_view}
 use Rattle.task_pool.specs.declared.hand.Hand.TheInside.{Inside}
 use Rattle.task_pool.specs.declared.view.View.{View}
 use Rattle.task_pool.specs.declared.way.Way.{Way}

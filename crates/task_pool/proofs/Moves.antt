@@ -36,7 +36,7 @@ each_view Q number (w ∷ ws) ways h (suc k) taken at =
     each_view (λ j. Q (suc j)) number ws (all_rest (IsWayOf number) w ws ways) (λ j v. h (suc j) v) k taken at
 
 module _ {P : Type 0} (h : Inside P) (d : Worker ℕ Global View P) (ws : List (Way P)) (full : length ws ≡ h.ways.len) (same : map deque_of ws ≡ map deque_of h.ways.items) (worker : SameWorker h.deque d)
-  (call : worker_view d ≡ one_call (worker_view h.deque)) where
+    (call : worker_view d ≡ one_call (worker_view h.deque)) where
   abbrev pub moved : Inside P
   moved = record { number = h.number; deque = d; ways = with_items h.ways ws; room = h.room; pushes = h.pushes }
 

@@ -1,4 +1,4 @@
-use Rattle.std.proofs.Common.{◌≡◌, [], ◌++◌, All, List, length, map, replicate, Vec}
+use Rattle.std.proofs.Common.{◌≡◌, ◌++◌, All, List, length, map, Vec}
 use Rattle.std.specs.Global.{Global}
 use Rattle.std.specs.Vec.Iter.{into_iter_items}
 use Rattle.crossbeam_deque.specs.Handles.{worker_deque}

@@ -1,10 +1,8 @@
-use Rattle.std.proofs.Common.{rules, ◌≡◌, ℕ, ◌<◌, ◌≤◌, length, slice_get, Some, map, ap, refl, ◌∙◌, subst, arith, ⊎_elim}
+use Rattle.std.proofs.Common.{rules, ◌≡◌, ℕ, ◌<◌, ◌≤◌, length, slice_get, map, ap, refl, ◌∙◌, subst, arith, ⊎_elim}
 use Rattle.std.proofs.lemmas.Bool.{cases_lt}
 use Rattle.std.proofs.lemmas.List.{length-map}
 use Rattle.std.proofs.lemmas.List.Elements.{All-set}
 use Rattle.std.proofs.lemmas.Option.{IfSome_then, slice_get_within}
-use Rattle.task_pool.specs.declared.view.View.{View}
-use Rattle.task_pool.specs.Steps.{SeenEmpty}
 use Rattle.task_pool.specs.Views.{taken_of}
 use Rattle.task_pool.specs.Ways.{IsWayOf, deque_of, view_of, taken_through, appended}
 use Rattle.task_pool.proofs.Moves.{if_none}
