@@ -1,7 +1,7 @@
 use Rattle.std.proofs.Common.{◌∙◌, ap}
 use Rattle.task_pool.specs.Places.{Standing}
 use Rattle.task_pool.proofs.Rows.{map_set}
-use Rattle.task_pool.proofs.tests.push_on.Goals as goal
+use Rattle.worker_tests.proofs.pool.push_on.Goals as goal
 
 pub returns-clause-pool : goal.returns-clause-pool
 returns-clause-pool c p =
