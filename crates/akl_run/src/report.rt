@@ -8,7 +8,7 @@ use akl_syntax::SyntaxError;
 use clause_checks::LoadError;
 
 /// What a run came to, or what ended the call before or after it.
-#[derive(Clone, Copy, Debug, PartialEq, Eq)]
+#[derive(Clone, Copy)]
 pub enum Status {
     /// No rule applies, and each root box is an answer.
     Done,
@@ -56,7 +56,7 @@ impl Status {
 }
 
 /// A part of a command.
-#[derive(Clone, Copy, Debug, PartialEq, Eq)]
+#[derive(Clone, Copy)]
 pub enum Part {
     Words,
     Program,
@@ -65,7 +65,7 @@ pub enum Part {
 }
 
 /// Why a command is refused.
-#[derive(Debug, Drop)]
+#[derive(Drop)]
 pub enum Refusal {
     Nothing,
     /// The text of the program or of the query is refused. It is never for want of memory.
