@@ -22,7 +22,7 @@ use Rattle.akl_model.specs.Config.{Content}
 use Rattle.answer_text.specs.Answers.{longest_answer}
 use Rattle.akl_run.specs.declared.evaluate.Evaluated.{Evaluated}
 use Rattle.akl_run.specs.declared.stop.Stop.{Stop}
-use Rattle.akl_run.specs.Text.{AreTexts, an_answer, HasLongAnswer, here, there}
+use Rattle.akl_run.specs.Text.{AreTexts, no_answers, an_answer, HasLongAnswer, here, there}
 use Rattle.akl_run.specs.Steps.{IsRunAs, IsStopped, whole, part}
 use Rattle.akl_run.specs.Loads.{IsLoadedFrom, IsLoadedProgram, ProgramStops, QueryStops, IsLoadedQuery, by_text, not_built, by_loading, no_memory}
 use Rattle.akl_run.specs.Commands.{Side, side, Command, HasFaulted, HasWorked, Asks, IsAskedBy, IsRead, Stops, by_words, by_reading, by_program, by_query, by_run, no_command, long_query, fault, IsFault, ProgramEnds, QueryEnds, GoalsEnd, LongAnswersEnd, IsAnswered, IsComplete}
@@ -165,6 +165,7 @@ same_built a b one two =
 
 -- texts that fit belong to no answer that is too long
 all_fit : {symbols : List (List ℕ)} {k : ℕ} {answers : List Content} {text : List ℕ} → AreTexts symbols k answers text → HasLongAnswer symbols answers → ⊥
+all_fit no_answers h = elim h [ ]
 all_fit (an_answer {text = text} t rest) (here long) = let l : longest_answer < length text = long text t.prints in let f : length text ≤ longest_answer = t.fits in omega (arith, l, f)
 all_fit (an_answer t rest) (there more) = all_fit rest more
 

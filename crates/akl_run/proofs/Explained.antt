@@ -56,8 +56,8 @@ not_both Status.NotYet e l = l
 module _ (words : List (List ℕ)) (before after : Side) where
   -- a command that stops has an early status
   early : {s : Status} {f : Refusal} → Stops words before after s f → IsEarly s
-  early (by_words (commands.no_command n) l k) = tt
-  early (by_words (commands.long_query q h) l k) = tt
+  early (by_words (commands.no_command n) l) = tt
+  early (by_words (commands.long_query q h) l) = tt
   early (by_reading a (commands.fault r b)) = tt
   early (by_reading a (commands.no_memory b)) = tt
   early (by_program a b (loads.by_text e)) = tt
@@ -74,8 +74,8 @@ module _ (words : List (List ℕ)) (before after : Side) where
 
   -- the cause of a read fault
   pub rose : {s : Status} {f : Refusal} → Stops words before after s f → s ≡ Status.ReadFault → HasFaulted before after
-  rose (by_words (commands.no_command n) l k) d = absurd cc
-  rose (by_words (commands.long_query q h) l k) d = absurd cc
+  rose (by_words (commands.no_command n) l) d = absurd cc
+  rose (by_words (commands.long_query q h) l) d = absurd cc
   rose (by_reading a (commands.fault r b)) d = r
   rose (by_reading a (commands.no_memory b)) d = absurd cc
   rose (by_program a b (loads.by_text e)) d = absurd cc
@@ -92,8 +92,8 @@ module _ (words : List (List ℕ)) (before after : Side) where
 
   -- words are refused exactly where they are no command
   none_asked : {s : Status} {f : Refusal} → Stops words before after s f → f ≡ Refusal.NotYet Part.Words → query_of words ≡ None
-  none_asked (by_words (commands.no_command n) l k) d = n
-  none_asked (by_words (commands.long_query q h) l k) d = absurd cc
+  none_asked (by_words (commands.no_command n) l) d = n
+  none_asked (by_words (commands.long_query q h) l) d = absurd cc
   none_asked (by_reading a (commands.fault r b)) d = absurd cc
   none_asked (by_reading a (commands.no_memory b)) d = absurd cc
   none_asked (by_program a b (loads.by_text e)) d = absurd cc
@@ -112,43 +112,40 @@ module _ (words : List (List ℕ)) (before after : Side) where
   some_query n q = let x : None ≡ Some _ = sym n ∙ q in cc
 
   not_asked : {s : Status} {f : Refusal} → Stops words before after s f → query_of words ≡ None → f ≡ Refusal.NotYet Part.Words
-  not_asked (by_words (commands.no_command n) l k) d = refl
-  not_asked (by_words (commands.long_query q h) l k) d = absurd (some_query d q)
+  not_asked (by_words (commands.no_command n) l) d = refl
+  not_asked (by_words (commands.long_query q h) l) d = absurd (some_query d q)
   not_asked (by_reading a b) d = absurd (some_query d a.is_query)
   not_asked (by_program a b c) d = absurd (some_query d a.is_query)
   not_asked (by_query a b p c) d = absurd (some_query d a.is_query)
   not_asked (by_run a b l c) d = absurd (some_query d a.is_query)
 
 module _ (c : Command) where
-  r : Report
-  r = c.report
-
-  stopped_early : (stop : Stop) → Stops c.words c.source c.source_after stop.status stop.refusal → IsStopped stop r → IsEarly r.status
+  stopped_early : (stop : Stop) → Stops c.words c.source c.source_after stop.status stop.refusal → IsStopped stop c.report → IsEarly c.report.status
   stopped_early stop q s = subst IsEarly (sym s.status) (early c.words c.source c.source_after q)
 
-  whole_late : (e : Evaluated) → IsRunAs c.words c.source c.source_after e → e.status ≡ r.status → IsLate r.status
+  whole_late : (e : Evaluated) → IsRunAs c.words c.source c.source_after e → e.status ≡ c.report.status → IsLate c.report.status
   whole_late e q i = subst IsLate i (late_run e.status (status_runs e.status q.run.outcome q.run.is_status))
 
   status_of : {x y : Report} → x ≡ y → x.status ≡ y.status
   status_of e = ap (λ (z : Report). z.status) e
 
-  write_fault_late : r.status ≡ Status.WriteFault → IsLate r.status
+  write_fault_late : c.report.status ≡ Status.WriteFault → IsLate c.report.status
   write_fault_late d = subst IsLate (sym d) tt
 
   -- the report of an early status
-  pub stops : Ended c → IsEarly r.status → Stops c.words c.source c.source_after r.status r.refusal
-  stops (stopped stop q s w) d = subst (λ (z : Status). Stops c.words c.source c.source_after z r.refusal) (sym s.status) (subst (λ (z : Refusal). Stops c.words c.source c.source_after stop.status z) (sym s.refusal) q)
-  stops (ran e q (whole i w)) d = absurd (not_both r.status d (whole_late e q (sym (status_of i))))
-  stops (ran e q (part i l w f)) d = absurd (not_both r.status d (write_fault_late (status_of i)))
+  pub stops : Ended c → IsEarly c.report.status → Stops c.words c.source c.source_after c.report.status c.report.refusal
+  stops (stopped stop q s w) d = subst (λ (z : Status). Stops c.words c.source c.source_after z c.report.refusal) (sym s.status) (subst (λ (z : Refusal). Stops c.words c.source c.source_after stop.status z) (sym s.refusal) q)
+  stops (ran e q (whole i w)) d = absurd (not_both c.report.status d (whole_late e q (sym (status_of i))))
+  stops (ran e q (part i l w f)) d = absurd (not_both c.report.status d (write_fault_late (status_of i)))
 
-  pub nothing_written : Ended c → IsEarly r.status → WroteNothing c
+  pub nothing_written : Ended c → IsEarly c.report.status → WroteNothing c
   nothing_written (stopped stop q s w) d = record { journal = s.journal; receipts = s.receipts; count = s.written; same = w }
-  nothing_written (ran e q (whole i w)) d = absurd (not_both r.status d (whole_late e q (sym (status_of i))))
-  nothing_written (ran e q (part i l w f)) d = absurd (not_both r.status d (write_fault_late (status_of i)))
+  nothing_written (ran e q (whole i w)) d = absurd (not_both c.report.status d (whole_late e q (sym (status_of i))))
+  nothing_written (ran e q (part i l w f)) d = absurd (not_both c.report.status d (write_fault_late (status_of i)))
 
   -- a whole text
-  pub wrote_run : Ended c → HasRun r.status → WroteRun c
-  wrote_run (stopped stop q s w) d = absurd (not_both r.status (stopped_early stop q s) (late_run r.status d))
+  pub wrote_run : Ended c → HasRun c.report.status → WroteRun c
+  wrote_run (stopped stop q s w) d = absurd (not_both c.report.status (stopped_early stop q s) (late_run c.report.status d))
   wrote_run (ran e q (whole i w)) d = subst (λ (x : Report). WroteRun (record c { report = x })) (sym i) (record {
     query = q.ready.query;
     program = q.ready.program;
@@ -172,8 +169,8 @@ module _ (c : Command) where
       on (inr x) = let y : Status.Failed ≡ Status.WriteFault = sym x ∙ d in cc
 
   -- a front of a text
-  pub wrote_part : Ended c → r.status ≡ Status.WriteFault → WrotePart c × HasFaulted c.sink c.sink_after
-  wrote_part (stopped stop q s w) d = absurd (not_both r.status (stopped_early stop q s) (write_fault_late d))
+  pub wrote_part : Ended c → c.report.status ≡ Status.WriteFault → WrotePart c × HasFaulted c.sink c.sink_after
+  wrote_part (stopped stop q s w) d = absurd (not_both c.report.status (stopped_early stop q s) (write_fault_late d))
   wrote_part (ran e q (whole i w)) d = absurd (no_write_fault e q (sym (status_of i) ∙ d))
   wrote_part (ran e q (part i l w f)) d = (
     subst (λ (x : Report). WrotePart (record c { report = x })) (sym i) (record {
@@ -190,26 +187,26 @@ module _ (c : Command) where
     f,
   )
 
-  pub read_fault : Ended c → r.status ≡ Status.ReadFault → HasFaulted before after
+  pub read_fault : Ended c → c.report.status ≡ Status.ReadFault → HasFaulted c.source c.source_after
   read_fault k d = rose c.words c.source c.source_after (stops k (subst IsEarly (sym d) tt)) d
 
   -- the refusal of the words
-  pub refuses_words : Ended c → r.refusal ≡ Refusal.NotYet Part.Words → query_of c.words ≡ None
+  pub refuses_words : Ended c → c.report.refusal ≡ Refusal.NotYet Part.Words → query_of c.words ≡ None
   refuses_words (stopped stop q s w) d = none_asked c.words c.source c.source_after q (sym s.refusal ∙ d)
   refuses_words (ran e q (whole i w)) d = let x : Refusal.Nothing ≡ Refusal.NotYet Part.Words = sym (ap (λ (z : Report). z.refusal) i) ∙ d in absurd cc
   refuses_words (ran e q (part i l w f)) d = let x : Refusal.Nothing ≡ Refusal.NotYet Part.Words = sym (ap (λ (z : Report). z.refusal) i) ∙ d in absurd cc
 
-  pub words_refused : Ended c → query_of c.words ≡ None → r.refusal ≡ Refusal.NotYet Part.Words
+  pub words_refused : Ended c → query_of c.words ≡ None → c.report.refusal ≡ Refusal.NotYet Part.Words
   words_refused (stopped stop q s w) d = s.refusal ∙ not_asked c.words c.source c.source_after q d
   words_refused (ran e q w) d = absurd (some_query c.words c.source c.source_after d q.ready.asked.is_query)
 
   -- the status is one of those that are built, and a late one has no refusal
-  pub built : Ended c → IsEarly r.status ⊎ IsLate r.status
+  pub built : Ended c → IsEarly c.report.status ⊎ IsLate c.report.status
   built (stopped stop q s w) = inl (stopped_early stop q s)
   built (ran e q (whole i w)) = inr (whole_late e q (sym (status_of i)))
   built (ran e q (part i l w f)) = inr (write_fault_late (status_of i))
 
-  pub unrefused : Ended c → IsLate r.status → r.refusal ≡ Refusal.Nothing
-  unrefused (stopped stop q s w) d = absurd (not_both r.status (stopped_early stop q s) d)
+  pub unrefused : Ended c → IsLate c.report.status → c.report.refusal ≡ Refusal.Nothing
+  unrefused (stopped stop q s w) d = absurd (not_both c.report.status (stopped_early stop q s) d)
   unrefused (ran e q (whole i w)) d = ap (λ (z : Report). z.refusal) i
   unrefused (ran e q (part i l w f)) d = ap (λ (z : Report). z.refusal) i

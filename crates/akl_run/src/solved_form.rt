@@ -72,7 +72,7 @@ impl SolvedForm {
         ensures { tree templates.now.nodes result ≡ end_of templates.now.nodes bindings.now (tree templates.now.nodes term) }
     {
         let mut last = term;
-        loop {
+        'chain: loop {
             let Seen::Free(variable) = templates.look(last) else {
                 return last;
             };
