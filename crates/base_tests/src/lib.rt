@@ -2,6 +2,8 @@
 #![tactic(auto)]
 
 #[cfg(test)]
+mod map;
+#[cfg(test)]
 mod outside;
 #[cfg(test)]
 mod terms;

@@ -26,9 +26,7 @@ impl<K: Ord, V> Tree<K, V> {
                 Ordering::Greater => fork.right.grows(key),
             }
     }
-}
 
-impl<K: Ord, V> Tree<K, V> {
     // Whether the other side of a fork, which is higher already, gets higher still where the key is set in it.
     fn is_passed_by(&self, other: &Tree<K, V>, key: &K) -> bool
         requires own { IsBalanced self.now }
