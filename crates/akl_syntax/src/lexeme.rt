@@ -4,7 +4,7 @@ use akl_terms::Text;
 use akl_text::Kind;
 
 /// A token with what it stands for.
-#[derive(Debug, Drop)]
+#[derive(Drop)]
 pub enum Lexeme {
     /// A name or quoted text, by its text.
     Symbol(Text),

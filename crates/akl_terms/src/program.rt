@@ -15,7 +15,7 @@ pub enum Op {
 }
 
 /// What an arithmetic goal asks: `is`, `<`, `>`, `=<`, `>=`, `=:=`, `=\=`.
-#[derive(Clone, Copy)]
+#[derive(Clone, Copy, Debug, PartialEq, Eq)]
 pub enum Test {
     Is,
     Less,
