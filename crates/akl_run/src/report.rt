@@ -65,7 +65,7 @@ pub enum Part {
 }
 
 /// Why a command is refused.
-#[derive(Debug, Drop)]
+#[derive(Drop)]
 pub enum Refusal {
     Nothing,
     /// The text of the program or of the query is refused. It is never for want of memory.

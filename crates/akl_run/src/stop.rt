@@ -10,7 +10,7 @@ use clause_checks::LoadError;
 use std::alloc::{AllocError, AllocFailed};
 
 /// The status and the refusal of a command that ended before anything was written.
-#[derive(Debug, Drop)]
+#[derive(Drop)]
 pub struct Stop {
     pub status: Status,
     pub refusal: Refusal,
