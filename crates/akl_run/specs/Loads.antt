@@ -7,8 +7,7 @@ use Rattle.akl_syntax.specs.Clauses.{Clause, Query}
 use Rattle.akl_syntax.specs.Verdicts.{accepted, refused, ReadsProgram, ReadsQuery}
 use Rattle.clause_checks.specs.declared.error.LoadError.{LoadError}
 use Rattle.clause_checks.specs.Refusals.{refusal_of, query_refusal_of}
-use Rattle.clause_keys.specs.Keys.{called_by}
-use Rattle.clause_store.specs.Conditions.{AreUnique}
+use Rattle.clause_keys.specs.Keys.{called_by, AreUnique}
 use Rattle.clause_store.specs.Loaded.{IsProgramOf, IsQueryOf}
 use Rattle.akl_run.specs.declared.report.Part.{Part}
 use Rattle.akl_run.specs.declared.report.Status.{Status}

@@ -13,8 +13,7 @@ use Rattle.akl_syntax.specs.declared.source.SourceGoal.TheVariants as written
 use Rattle.akl_syntax.specs.declared.source.SourceGoal.TheOpen as open_goals
 use Rattle.akl_syntax.specs.declared.source.SourceGoal.TheFolds.{fold-roll-SourceGoal}
 use Rattle.akl_syntax.proofs.TestGoals.{goal_call}
-use Rattle.clause_keys.specs.Conditions.{count}
-use Rattle.clause_checks.specs.Rows.{count_parts}
+use Rattle.clause_keys.specs.Conditions.{count, count_parts}
 
 pub count_trees : (ts : List Tree) → count (trees ts) ≡ length ts
 count_trees [] = refl
@@ -48,3 +47,6 @@ pub call_bound : (g : SourceGoal) (s : List ℕ) (v : Vec SourceTerm Global) (n 
 call_bound g s v n e h =
     let k : goal_size (call s (trees (map tree v.items))) ≤ n = rw (call_is g s v e) at h in
     omega (arith, k, count_bound (trees (map tree v.items)), call_count v)
+
+pub lifted_bound : (g : SourceGoal) (m : ℕ) (v : Vec ℕ Global) (n : ℕ) → g ≡ written.Lifted m v → goal_size (goal g) ≤ n → length v.items ≤ n
+lifted_bound g m v n e h = (let k : goal_size (lifted m v.items) ≤ n = rw (ap goal e ∙ lifted_is m v) at h in omega (arith, k))

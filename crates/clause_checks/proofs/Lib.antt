@@ -7,4 +7,5 @@ pub mod Searches
 pub mod Mixing
 pub mod GoalSizes
 pub mod Refusing
-pub mod Loadables
+pub mod Undefined
+pub mod Accepting

@@ -32,6 +32,10 @@ pub left_false : (a b : Bool) → a || b ≡ false → a ≡ false
 left_false true b e = absurd cc
 left_false false b e = refl
 
+pub right_false : (a b : Bool) → a || b ≡ false → b ≡ false
+right_false true b e = absurd cc
+right_false false b e = e
+
 pub neither : (a b : Bool) → a ≡ false → b ≡ false → a || b ≡ false
 neither true b e f = absurd cc
 neither false b e f = f

@@ -10,7 +10,7 @@ use Rattle.clause_keys.specs.Keys.{defined_by}
 use Rattle.clause_keys.specs.Conditions.{AreUnmixed}
 use Rattle.clause_checks.specs.declared.listed.Listed.{Listed}
 use Rattle.clause_checks.specs.Within.{goals_in}
-use Rattle.clause_checks.specs.Rows.{first, is_callee, own, with_before, same_op, mixed_choice, mixed_definition, mixed_clause, clause_key}
+use Rattle.clause_checks.specs.Rows.{first, is_callee, own, with_before, same_op, mixed_choice, mixed_definition, key_if_mixed, clause_key}
 use Rattle.clause_checks.specs.Tallies.{clause_of, clauses_of, first_op, IsListed, AreListed, next}
 use Rattle.clause_checks.proofs.Lists.{neither, left_false}
 use Rattle.clause_checks.proofs.SameCallee.{same_callee, is_itself}
@@ -112,7 +112,7 @@ is_mixed x = not (same_op x.clause.now.part.op x.before.op) || list_any mixed_ch
 pub record MixedSearch (all : List Clause) (rest : List Listed) : Type 0 where
   pub before : List Clause
   pub listed : AreListed before rest
-  pub same : first mixed_clause (with_before before (map clause_of rest)) ≡ first mixed_clause (with_before [] all)
+  pub same : first key_if_mixed (with_before before (map clause_of rest)) ≡ first key_if_mixed (with_before [] all)
   pub whole : before ++ map clause_of rest ≡ all
   pub uniform : AreUniform before
 
@@ -128,11 +128,11 @@ is_as_defined before x u h =
     by_first_op (clause_of x).part.op (own (clause_of x) before) (u (defined_by (clause_of x))) in
     rw (one, ← h.tally.first, op, h.goals) refl
 
-pub mixed_found : {all : List Clause} {x : Listed} {xs : List Listed} → MixedSearch all (x ∷ xs) → is_mixed x ≡ true → Some (clause_key (clause_of x)) ≡ first mixed_clause (with_before [] all)
+pub mixed_found : {all : List Clause} {x : Listed} {xs : List Listed} → MixedSearch all (x ∷ xs) → is_mixed x ≡ true → Some (clause_key (clause_of x)) ≡ first key_if_mixed (with_before [] all)
 mixed_found {all} {x} {xs} s e = by_listed s.before s.listed s.same s.uniform
   where
-    by_listed : (before : List Clause) → AreListed before (x ∷ xs) → first mixed_clause (with_before before (map clause_of (x ∷ xs))) ≡ first mixed_clause (with_before [] all) → AreUniform before
-        → Some (clause_key (clause_of x)) ≡ first mixed_clause (with_before [] all)
+    by_listed : (before : List Clause) → AreListed before (x ∷ xs) → first key_if_mixed (with_before before (map clause_of (x ∷ xs))) ≡ first key_if_mixed (with_before [] all) → AreUniform before
+        → Some (clause_key (clause_of x)) ≡ first key_if_mixed (with_before [] all)
     by_listed before (next l ls) f u =
         let g : mixed_definition (before, clause_of x) || list_any mixed_choice (goals_in (clause_of x)) ≡ true = sym (is_as_defined before x u l) ∙ e in
         (rw g at f)
@@ -140,7 +140,7 @@ mixed_found {all} {x} {xs} s e = by_listed s.before s.listed s.same s.uniform
 pub mixed_next : {all : List Clause} {x : Listed} {xs : List Listed} → MixedSearch all (x ∷ xs) → is_mixed x ≡ false → MixedSearch all xs
 mixed_next {all} {x} {xs} s e = by_listed s.before s.listed s.same s.whole s.uniform
   where
-    by_listed : (before : List Clause) → AreListed before (x ∷ xs) → first mixed_clause (with_before before (map clause_of (x ∷ xs))) ≡ first mixed_clause (with_before [] all) → before ++ map clause_of (x ∷ xs) ≡ all
+    by_listed : (before : List Clause) → AreListed before (x ∷ xs) → first key_if_mixed (with_before before (map clause_of (x ∷ xs))) ≡ first key_if_mixed (with_before [] all) → before ++ map clause_of (x ∷ xs) ≡ all
         → AreUniform before → MixedSearch all xs
     by_listed before (next l ls) f w u =
         let g : mixed_definition (before, clause_of x) || list_any mixed_choice (goals_in (clause_of x)) ≡ false = sym (is_as_defined before x u l) ∙ e in
@@ -154,5 +154,5 @@ mixed_next {all} {x} {xs} s e = by_listed s.before s.listed s.same s.whole s.uni
           uniform = more_uniform before (clause_of x) u same_ops;
         }
 
-pub mixed_end : {all : List Clause} → MixedSearch all [] → (None ≡ first mixed_clause (with_before [] all)) × AreUnmixed all
+pub mixed_end : {all : List Clause} → MixedSearch all [] → (None ≡ first key_if_mixed (with_before [] all)) × AreUnmixed all
 mixed_end s = (s.same, rw (← s.whole, append-nil) (are_unmixed s.before s.uniform))

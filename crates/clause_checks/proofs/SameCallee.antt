@@ -30,13 +30,17 @@ same_callee (Named k) (Named l) e =
     let s : k.symbol ≡ l.symbol = (bytes_eq-Decides k.symbol l.symbol).0 p.0 in
     let n : k.arity ≡ l.arity = (Decides-eqb k.arity l.arity).0 p.1 in
     ap (λ x. Named (record { symbol = x; arity = k.arity })) s ∙ ap (λ x. Named (record { symbol = l.symbol; arity = x })) n
-same_callee (Lifted m) (Lifted n) e = ap Lifted ((Decides-eqb m n).0 e)
-same_callee (Named k) (Lifted n) e = absurd cc
-same_callee (Lifted m) (Named l) e = absurd cc
+same_callee (Lifted m k) (Lifted n l) e =
+    let p = and_true (m == n) (k == l) e in
+    let x : m ≡ n = (Decides-eqb m n).0 p.0 in
+    let y : k ≡ l = (Decides-eqb k l).0 p.1 in
+    ap (λ z. Lifted z k) x ∙ ap (Lifted n) y
+same_callee (Named k) (Lifted n l) e = absurd cc
+same_callee (Lifted m k) (Named l) e = absurd cc
 
 pub is_itself : (k : Callee) → is_callee k k ≡ true
 is_itself (Named k) = both (bytes_eq k.symbol k.symbol) (k.arity == k.arity) ((bytes_eq-Decides k.symbol k.symbol).1 refl) ((Decides-eqb k.arity k.arity).1 refl)
-is_itself (Lifted n) = (Decides-eqb n n).1 refl
+is_itself (Lifted n k) = both (n == n) (k == k) ((Decides-eqb n n).1 refl) ((Decides-eqb k k).1 refl)
 
 pub other_callee : (k l : Callee) → (k ≡ l → ⊥) → is_callee k l ≡ false
 other_callee k l h = not_true (is_callee k l) (λ e. h (same_callee k l e))
@@ -71,21 +75,6 @@ index_next {list} {callees} {more} {k} {d} h (next a) = record {
     found : {i : ℕ} {l : Callee} → (slice_get callees i ≡ Some l) ⊎ ((i ≡ length callees) × (k ≡ l)) → list_any (is_callee l) list || is_callee l k ≡ true
     found {i} {l} (inl f) = ap (λ b. b || is_callee l k) (h.there i l f)
     found {i} {l} (inr f) = or_true (list_any (is_callee l) list) (is_callee l k) (rw f.1 (is_itself l))
-
--- an index of a list that has no more callees than this
-pub record Indexes (list callees : List Callee) : Type 0 where
-  pub index : IsIndexOf list callees
-  pub few : length callees ≤ length list
-
-pub indexes_start : Indexes [] []
-indexes_start = record { index = index_start; few = omega arith }
-
-pub indexes_next : {list callees more : List Callee} {k : Callee} {d : ℕ} → Indexes list callees → Adds callees k more d → Indexes (list ++ k ∷ []) more
-indexes_next {list} {callees} {more} {k} h a = record { index = index_next h.index a; few = omega (arith, h.few, one_more a, length-append list (k ∷ [])) }
-  where
-    one_more : {more : List Callee} {d : ℕ} → Adds callees k more d → length more ≤ suc (length callees)
-    one_more (known e) = omega arith
-    one_more (next b) = omega (arith, length-append callees (k ∷ []))
 
 pub is_there : (ks : List Callee) (k : Callee) (d : ℕ) → slice_get ks d ≡ Some k → list_any (is_callee k) ks ≡ true
 is_there [] k d e = absurd cc

@@ -3,3 +3,4 @@ pub mod Within
 pub mod Rows
 pub mod Tallies
 pub mod Refusals
+pub mod Accepted

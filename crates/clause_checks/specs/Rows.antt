@@ -1,5 +1,5 @@
 -- The tests of loading. Each finds the first place from left to right that breaks it.
-use Rattle.std.specs.Prelude.{ℕ, zero, suc, Bool, true, false, not, ◌&&◌, ◌||◌, ◌==◌, nat_le, nat_lt, List, [], ◌∷◌, ◌++◌, length, Option, Some, None, is_some, if◌then◌else◌, bytes_eq}
+use Rattle.std.specs.Prelude.{ℕ, Bool, true, false, not, ◌&&◌, ◌||◌, ◌==◌, nat_le, nat_lt, List, [], ◌∷◌, ◌++◌, length, Option, Some, None, is_some, if◌then◌else◌, bytes_eq}
 use Rattle.std.specs.List.{filter, list_any}
 use Rattle.std.specs.Option.{option_or}
 use Rattle.akl_terms.specs.declared.program.Key.{Key}
@@ -14,7 +14,7 @@ use Rattle.clause_keys.specs.declared.callee.Callee.{Callee}
 use Rattle.clause_keys.specs.declared.callee.Callee.TheVariants.{Named, Lifted}
 use Rattle.clause_keys.specs.Reserved.{reserved_of}
 use Rattle.clause_keys.specs.Keys.{named, key_of, defined_by}
-use Rattle.clause_keys.specs.Conditions.{count}
+use Rattle.clause_keys.specs.Conditions.{count, count_parts}
 use Rattle.clause_checks.specs.Within.{goals_in}
 
 -- what is found first
@@ -28,7 +28,7 @@ above limit n = if nat_lt limit n then Some n else None
 
 abbrev pub is_callee : Callee → Callee → Bool
 is_callee (Named k) (Named l) = bytes_eq k.symbol l.symbol && k.arity == l.arity
-is_callee (Lifted m) (Lifted n) = m == n
+is_callee (Lifted m k) (Lifted n l) = m == n && k == l
 is_callee _ _ = false
 
 -- the clauses of the clause's definition among some
@@ -43,56 +43,52 @@ with_before before (c ∷ cs) = (before, c) ∷ with_before (before ++ c ∷ [])
 -- ---- clauses of one definition, and parts of one inline choice
 
 -- the clause is the 257th of its definition: how many this has in all
-abbrev pub crowded_definition : List Clause → List Clause × Clause → Option ℕ
-crowded_definition all x = if nat_le 256 (length (own x.1 x.0)) then Some (length (own x.1 all)) else None
+abbrev pub too_many_clauses : List Clause → List Clause × Clause → Option ℕ
+too_many_clauses all x = if nat_le 256 (length (own x.1 x.0)) then Some (length (own x.1 all)) else None
 
-abbrev pub count_parts : Parts → ℕ
-count_parts no_parts = zero
-count_parts (more_parts gs op hs ps) = suc (count_parts ps)
+abbrev pub too_many_parts : Goal → Option ℕ
+too_many_parts (choice ps) = above 256 (count_parts ps)
+too_many_parts g = None
 
-abbrev pub crowded_choice : Goal → Option ℕ
-crowded_choice (choice ps) = above 256 (count_parts ps)
-crowded_choice g = None
-
-abbrev pub crowded_clause : List Clause → List Clause × Clause → Option ℕ
-crowded_clause all x = option_or (crowded_definition all x) (first crowded_choice (goals_in x.1))
+abbrev pub first_crowded_in_clause : List Clause → List Clause × Clause → Option ℕ
+first_crowded_in_clause all x = option_or (too_many_clauses all x) (first too_many_parts (goals_in x.1))
 
 -- ---- arguments of a term or an atom: the outer one is first
 
 abbrev mutual
-  pub wide_term : Tree → Option ℕ
-  wide_term (variable n) = None
-  wide_term (integer z) = None
-  wide_term (compound s ts) = option_or (above 32 (count ts)) (wide_terms ts)
-  wide_term (list ts e) = option_or (wide_terms ts) (wide_tail e)
-  wide_term (chain t ss) = option_or (wide_term t) (wide_steps ss)
+  pub first_wide_in_term : Tree → Option ℕ
+  first_wide_in_term (variable n) = None
+  first_wide_in_term (integer z) = None
+  first_wide_in_term (compound s ts) = option_or (above 32 (count ts)) (first_wide_in_terms ts)
+  first_wide_in_term (list ts e) = option_or (first_wide_in_terms ts) (first_wide_in_tail e)
+  first_wide_in_term (chain t ss) = option_or (first_wide_in_term t) (first_wide_in_steps ss)
 
-  pub wide_terms : Trees → Option ℕ
-  wide_terms no_trees = None
-  wide_terms (more_trees t ts) = option_or (wide_term t) (wide_terms ts)
+  pub first_wide_in_terms : Trees → Option ℕ
+  first_wide_in_terms no_trees = None
+  first_wide_in_terms (more_trees t ts) = option_or (first_wide_in_term t) (first_wide_in_terms ts)
 
-  pub wide_tail : Tail → Option ℕ
-  wide_tail no_tail = None
-  wide_tail (tail t) = wide_term t
+  pub first_wide_in_tail : Tail → Option ℕ
+  first_wide_in_tail no_tail = None
+  first_wide_in_tail (tail t) = first_wide_in_term t
 
-  pub wide_steps : Steps → Option ℕ
-  wide_steps no_steps = None
-  wide_steps (more_steps w t ss) = option_or (wide_term t) (wide_steps ss)
+  pub first_wide_in_steps : Steps → Option ℕ
+  first_wide_in_steps no_steps = None
+  first_wide_in_steps (more_steps w t ss) = option_or (first_wide_in_term t) (first_wide_in_steps ss)
 
-abbrev pub wide_arguments : Trees → Option ℕ
-wide_arguments ts = option_or (above 32 (count ts)) (wide_terms ts)
+abbrev pub first_wide_in_arguments : Trees → Option ℕ
+first_wide_in_arguments ts = option_or (above 32 (count ts)) (first_wide_in_terms ts)
 
 -- an inline choice has no arguments of its own, and those of a lifted goal aren't written
-abbrev pub wide_goal : Goal → Option ℕ
-wide_goal (call s ts) = wide_arguments ts
-wide_goal g = None
+abbrev pub first_wide_in_goal : Goal → Option ℕ
+first_wide_in_goal (call s ts) = first_wide_in_arguments ts
+first_wide_in_goal g = None
 
-abbrev pub wide_head : Head → ℕ → Option ℕ
-wide_head (heads.Named s) n = above 32 n
-wide_head (heads.Lifted number inside) n = None
+abbrev pub wide_head_arity : Head → ℕ → Option ℕ
+wide_head_arity (heads.Named s) n = above 32 n
+wide_head_arity (heads.Lifted number inside) n = None
 
-abbrev pub wide_clause : Clause → Option ℕ
-wide_clause c = option_or (wide_head c.head (length c.arguments)) (option_or (wide_terms (trees c.arguments)) (first wide_goal (goals_in c)))
+abbrev pub first_wide_in_clause : Clause → Option ℕ
+first_wide_in_clause c = option_or (wide_head_arity c.head (length c.arguments)) (option_or (first_wide_in_terms (trees c.arguments)) (first first_wide_in_goal (goals_in c)))
 
 -- ---- keys, and reserved heads
 
@@ -106,8 +102,8 @@ abbrev pub is_reserved : Head → ℕ → Bool
 is_reserved (heads.Named s) n = is_some (reserved_of s n)
 is_reserved (heads.Lifted number inside) n = false
 
-abbrev pub reserved_clause : Clause → Option Key
-reserved_clause c = if is_reserved c.head (length c.arguments) then Some (clause_key c) else None
+abbrev pub key_if_reserved : Clause → Option Key
+key_if_reserved c = if is_reserved c.head (length c.arguments) then Some (clause_key c) else None
 
 -- ---- operators of one definition, and of one inline choice
 
@@ -130,14 +126,14 @@ abbrev pub mixed_choice : Goal → Bool
 mixed_choice (choice (more_parts gs op hs ps)) = mixed_parts op ps
 mixed_choice g = false
 
-abbrev pub mixed_clause : List Clause × Clause → Option Key
-mixed_clause x = if mixed_definition x || list_any mixed_choice (goals_in x.1) then Some (clause_key x.1) else None
+abbrev pub key_if_mixed : List Clause × Clause → Option Key
+key_if_mixed x = if mixed_definition x || list_any mixed_choice (goals_in x.1) then Some (clause_key x.1) else None
 
 -- ---- goals without a definition
 
 abbrev pub is_defined : List Callee → Goal → Bool
 is_defined callees (call s ts) = is_some (reserved_of s (count ts)) || list_any (is_callee (named s (count ts))) callees
-is_defined callees (lifted n ns) = list_any (is_callee (Lifted n)) callees
+is_defined callees (lifted n ns) = list_any (is_callee (Lifted n (length ns))) callees
 is_defined callees (choice ps) = true
 
 -- the key that a refusal names: a definition that was made of an inline choice has no symbol
@@ -146,5 +142,5 @@ goal_key (call s ts) = key s (count ts)
 goal_key (lifted n ns) = key [] (length ns)
 goal_key (choice ps) = key [] 0
 
-abbrev pub undefined_goal : List Callee → Goal → Option Key
-undefined_goal callees g = if is_defined callees g then None else Some (goal_key g)
+abbrev pub key_if_undefined : List Callee → Goal → Option Key
+key_if_undefined callees g = if is_defined callees g then None else Some (goal_key g)

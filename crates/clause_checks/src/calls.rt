@@ -6,7 +6,7 @@ ghost use Rattle.akl_syntax.specs.GoalView.{goal};
 ghost use Rattle.akl_syntax.specs.Sizes.{goal_size, clause_size};
 ghost use Rattle.clause_checks.specs.Within.{goals_in};
 ghost use Rattle.clause_checks.specs.Tallies.{HasGoals, clause_of};
-ghost use Rattle.clause_checks.specs.Rows.{first, is_defined, goal_key, undefined_goal};
+ghost use Rattle.clause_checks.specs.Rows.{first, is_defined, goal_key, key_if_undefined};
 
 use crate::listed::Listed;
 use akl_syntax::SourceGoal;
@@ -25,14 +25,16 @@ fn is_defined(callees: &Callees, written: &SourceGoal) -> bool
                 || callees.named(symbol, arguments.len() as u32).is_some()
         }
         SourceGoal::Choice(_) => true,
-        SourceGoal::Lifted { number, .. } => callees.lifted(*number).is_some(),
+        SourceGoal::Lifted { number, arguments } => {
+            callees.lifted(*number, arguments.len() as u32).is_some()
+        }
     }
 }
 
 /// The first goal that is neither reserved nor calls one of the callees.
-pub fn undefined_goal<'a>(callees: &Callees, written: &[&'a SourceGoal]) -> Option<&'a SourceGoal>
+pub fn first_undefined_goal<'a>(callees: &Callees, written: &[&'a SourceGoal]) -> Option<&'a SourceGoal>
     requires { All (λ g. goal_size (goal g.now) ≤ 1000000) written.now }
-    ensures found { option_map (λ g. goal_key (goal g.now)) result ≡ first (undefined_goal callees.now) (map (λ g. goal g.now) written.now) }
+    ensures found { option_map (λ g. goal_key (goal g.now)) result ≡ first (key_if_undefined callees.now) (map (λ g. goal g.now) written.now) }
     ensures small { IfSome result (λ g. goal_size (goal g.now) ≤ 1000000) }
 {
     for goal in written {
@@ -44,14 +46,14 @@ pub fn undefined_goal<'a>(callees: &Callees, written: &[&'a SourceGoal]) -> Opti
 }
 
 /// The first goal of the clauses that is neither reserved nor calls one of the callees.
-pub fn undefined<'a>(callees: &Callees, listed: &[Listed<'a>]) -> Option<&'a SourceGoal>
+pub fn first_undefined<'a>(callees: &Callees, listed: &[Listed<'a>]) -> Option<&'a SourceGoal>
     requires goals { All HasGoals listed.now }
     requires small { All (λ x. clause_size (clause_of x) ≤ 1000000) listed.now }
-    ensures found { option_map (λ g. goal_key (goal g.now)) result ≡ first (λ c. first (undefined_goal callees.now) (goals_in c)) (map clause_of listed.now) }
+    ensures found { option_map (λ g. goal_key (goal g.now)) result ≡ first (λ c. first (key_if_undefined callees.now) (goals_in c)) (map clause_of listed.now) }
     ensures small { IfSome result (λ g. goal_size (goal g.now) ≤ 1000000) }
 {
     for clause in listed {
-        if let Some(goal) = undefined_goal(callees, &clause.goals) {
+        if let Some(goal) = first_undefined_goal(callees, &clause.goals) {
             return Some(goal);
         }
     }

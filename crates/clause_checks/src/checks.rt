@@ -1,52 +1,74 @@
 //! The tests of loading, in their order.
 
-ghost use Rattle.std.specs.Prelude.{◌≡◌, ◌≤◌, [], map, length, option_map, OnOk, IfSome};
-ghost use Rattle.std.specs.List.{All, list_any};
+ghost use Rattle.std.specs.Prelude.{◌≡◌, ◌<◌, ◌≤◌, [], map, length, option_map, OnOk, IfSome};
+ghost use Rattle.std.specs.List.{All};
 ghost use Rattle.akl_syntax.specs.Answers.{clause_view, query_view};
 ghost use Rattle.akl_syntax.specs.GoalView.{goal};
 ghost use Rattle.akl_syntax.specs.Sizes.{clause_size, clauses_size, goal_size, query_size};
-ghost use Rattle.clause_keys.specs.Keys.{defined_by, called_by};
+ghost use Rattle.clause_keys.specs.Keys.{defined_by, called_by, AreUnique};
 ghost use Rattle.clause_keys.specs.Conditions.{HasNoChoice, IsLoadable, IsClauseLoadable, AreUnmixed};
-ghost use Rattle.clause_checks.specs.declared.error.LoadError.TheVariants.{Reserved, MixedGuards, Undefined};
-ghost use Rattle.clause_checks.specs.Within.{goals_in};
-ghost use Rattle.clause_checks.specs.Rows.{first, above, with_before, reserved_clause, mixed_clause, goal_key};
-ghost use Rattle.clause_checks.specs.Tallies.{AreListed, HasGoals, clause_of};
-ghost use Rattle.clause_checks.specs.Refusals.{Answers, refusal_of, query_refusal_of};
+ghost use Rattle.clause_checks.specs.declared.error.LoadError.TheVariants.{Undefined};
+ghost use Rattle.clause_checks.specs.Rows.{first, above, goal_key};
+ghost use Rattle.clause_checks.specs.Tallies.{AreListed, HasGoals, SameCallees, clause_of};
+ghost use Rattle.clause_checks.specs.Refusals.{Answers, crowded_refusal, variables_refusal, wide_refusal, reserved_refusal, mixed_refusal, refusal_of_few, parts_refusal, names_refusal, wide_goals_refusal, mixed_goals_refusal, refusal_of, goals_refusal, query_refusal_of};
+ghost use Rattle.clause_checks.specs.Accepted.{AreAccepted, IsAccepted};
 
-use crate::arguments::{wide, wide_goals};
-use crate::calls::{undefined, undefined_goal};
-use crate::choices::{crowded_goals, mixed_goals};
-use crate::definitions::{crowded, mixed};
+use crate::arguments::{first_wide, first_wide_in_goals};
+use crate::calls::{first_undefined, first_undefined_goal};
+use crate::choices::{first_crowded_choice, mixed_goals};
+use crate::definitions::{first_crowded, first_mixed_clause};
 use crate::error::{Limit, LoadError};
 use crate::goals::goals_asked;
-use crate::heads::reserved;
+use crate::heads::first_reserved_clause;
 use crate::keys::{clause_key, goal_key, no_key};
 use crate::limits::{CLAUSES, VARIABLES, above, none_above};
 use crate::listed::{Listed, list_clauses};
-use crate::program::callees_of;
 use akl_syntax::{SourceClause, SourceGoal, SourceQuery};
 use akl_terms::Program;
 use clause_keys::Callees;
 use std::alloc::Global;
 
-/// How many variables the first clause with too many has.
-fn many_variables(clauses: &[SourceClause]) -> Option<usize>
-    ensures { result ≡ first (λ c. above 256 (length c.names)) (map clause_view clauses.now) }
+/// Refuses a definition with too many clauses, and an inline choice with too many parts.
+fn none_crowded(listed: &[Listed]) -> Result<(), LoadError>
+    requires { AreListed [] listed.now }
+    ensures { Answers (crowded_refusal (map clause_of listed.now)) result }
 {
-    for clause in clauses {
-        if let Some(count) = above(VARIABLES, clause.names.len()) {
+    none_above(Limit::PerDefinition, first_crowded(listed))
+}
+
+/// How many variables the first clause with too many has.
+fn first_many_variables(listed: &[Listed]) -> Option<usize>
+    ensures { result ≡ first (λ c. above 256 (length c.names)) (map clause_of listed.now) }
+{
+    for clause in listed {
+        if let Some(count) = above(VARIABLES, clause.clause.names.len()) {
             return Some(count);
         }
     }
     None
 }
 
-/// Refuses a clause with a reserved head.
-fn none_reserved(clauses: &[SourceClause]) -> Result<(), LoadError>
-    requires { All (λ c. clause_size (clause_view c) ≤ 1000000) clauses.now }
-    ensures { Answers (option_map Reserved (first reserved_clause (map clause_view clauses.now))) result }
+/// Refuses a clause with too many variables.
+fn few_variables(listed: &[Listed]) -> Result<(), LoadError>
+    ensures { Answers (variables_refusal (map clause_of listed.now)) result }
 {
-    match reserved(clauses) {
+    none_above(Limit::Variables, first_many_variables(listed))
+}
+
+/// Refuses an atom or a term with too many arguments.
+fn none_wide(listed: &[Listed]) -> Result<(), LoadError>
+    requires { All HasGoals listed.now }
+    ensures { Answers (wide_refusal (map clause_of listed.now)) result }
+{
+    none_above(Limit::Arity, first_wide(listed))
+}
+
+/// Refuses a clause with a reserved head.
+fn none_reserved(listed: &[Listed]) -> Result<(), LoadError>
+    requires { All (λ x. clause_size (clause_of x) ≤ 1000000) listed.now }
+    ensures { Answers (reserved_refusal (map clause_of listed.now)) result }
+{
+    match first_reserved_clause(listed) {
         Some(clause) => Err(LoadError::Reserved {
             key: clause_key(clause)?,
         }),
@@ -58,10 +80,10 @@ fn none_reserved(clauses: &[SourceClause]) -> Result<(), LoadError>
 fn none_mixed(listed: &[Listed]) -> Result<(), LoadError>
     requires listed { AreListed [] listed.now }
     requires small { All (λ x. clause_size (clause_of x) ≤ 1000000) listed.now }
-    ensures checked { Answers (option_map MixedGuards (first mixed_clause (with_before [] (map clause_of listed.now)))) result }
+    ensures checked { Answers (mixed_refusal (map clause_of listed.now)) result }
     ensures unmixed { OnOk result (AreUnmixed (map clause_of listed.now)) }
 {
-    match mixed(listed) {
+    match first_mixed_clause(listed) {
         Some(clause) => Err(LoadError::MixedGuards {
             key: clause_key(clause)?,
         }),
@@ -82,6 +104,73 @@ fn none_undefined(alloc: Global, found: Option<&SourceGoal>) -> Result<(), LoadE
     }
 }
 
+/// Makes the tests of clauses of which there aren't too many.
+fn check_listed(alloc: Global, callees: &Callees, listed: &[Listed]) -> Result<(), LoadError>
+    requires listed { AreListed [] listed.now }
+    requires goals { All HasGoals listed.now }
+    requires small { All (λ x. clause_size (clause_of x) ≤ 1000000) listed.now }
+    requires callees { SameCallees callees.now (map defined_by (map clause_of listed.now)) }
+    ensures checked { Answers (refusal_of_few (map clause_of listed.now)) result }
+    ensures unmixed { OnOk result (AreUnmixed (map clause_of listed.now)) }
+{
+    none_crowded(listed)?;
+    few_variables(listed)?;
+    none_wide(listed)?;
+    none_reserved(listed)?;
+    none_mixed(listed)?;
+    none_undefined(alloc, first_undefined(callees, listed))
+}
+
+/// Refuses an inline choice with too many parts.
+fn few_parts(written: &[&SourceGoal]) -> Result<(), LoadError>
+    ensures { Answers (parts_refusal (map (λ g. goal g.now) written.now)) result }
+{
+    none_above(Limit::PerDefinition, first_crowded_choice(written))
+}
+
+/// Refuses too many variables.
+fn few_names(variables: usize) -> Result<(), LoadError>
+    ensures { Answers (names_refusal variables) result }
+{
+    none_above(Limit::Variables, above(VARIABLES, variables))
+}
+
+/// Refuses an atom or a term with too many arguments.
+fn no_wide_goal(written: &[&SourceGoal]) -> Result<(), LoadError>
+    ensures { Answers (wide_goals_refusal (map (λ g. goal g.now) written.now)) result }
+{
+    none_above(Limit::Arity, first_wide_in_goals(written))
+}
+
+/// Refuses different operators of one inline choice.
+fn no_mixed_goal(alloc: Global, written: &[&SourceGoal]) -> Result<(), LoadError>
+    ensures { Answers (mixed_goals_refusal (map (λ g. goal g.now) written.now)) result }
+{
+    if mixed_goals(written) {
+        return Err(LoadError::MixedGuards {
+            key: no_key(alloc, 0),
+        });
+    }
+    Ok(())
+}
+
+/// Makes the tests of goals, those inside of inline choices too, with so many variables.
+fn check_written(
+    alloc: Global,
+    callees: &Callees,
+    variables: usize,
+    written: &[&SourceGoal],
+) -> Result<(), LoadError>
+    requires { All (λ g. goal_size (goal g.now) ≤ 1000000) written.now }
+    ensures { Answers (goals_refusal callees.now variables (map (λ g. goal g.now) written.now)) result }
+{
+    few_parts(written)?;
+    few_names(variables)?;
+    no_wide_goal(written)?;
+    no_mixed_goal(alloc, written)?;
+    none_undefined(alloc, first_undefined_goal(callees, written))
+}
+
 /// Whether clauses can be loaded, once their inline choices are taken out.
 ///
 /// The tests are made in this order. In each the first clause in the order of the text decides, and in it
@@ -100,18 +189,13 @@ fn none_undefined(alloc: Global, found: Option<&SourceGoal>) -> Result<(), LoadE
 pub fn check_clauses(alloc: Global, clauses: &[SourceClause]) -> Result<(), LoadError>
     requires small { clauses_size (map clause_view clauses.now) ≤ 1000000 }
     ensures checked { Answers (refusal_of (map clause_view clauses.now)) result }
+    ensures accepted { OnOk result (AreAccepted (map clause_view clauses.now)) }
     ensures loadable { OnOk result (All (λ c. HasNoChoice c.part.guard → HasNoChoice c.part.body → IsClauseLoadable (map defined_by (map clause_view clauses.now)) c) (map clause_view clauses.now)) }
     ensures unmixed { OnOk result (AreUnmixed (map clause_view clauses.now)) }
 {
     none_above(Limit::Clauses, above(CLAUSES, clauses.len()))?;
     let listing = list_clauses(alloc, clauses)?;
-    let listed = listing.clauses.as_slice();
-    none_above(Limit::PerDefinition, crowded(listed))?;
-    none_above(Limit::Variables, many_variables(clauses))?;
-    none_above(Limit::Arity, wide(listed))?;
-    none_reserved(clauses)?;
-    none_mixed(listed)?;
-    none_undefined(alloc, undefined(&listing.callees, listed))
+    check_listed(alloc, &listing.callees, listing.clauses.as_slice())
 }
 
 /// Whether a query can be loaded over a program, once its inline choices are taken out.
@@ -127,19 +211,14 @@ pub fn check_clauses(alloc: Global, clauses: &[SourceClause]) -> Result<(), Load
 /// `Memory` may come in place of each of these, and in place of `Ok`.
 pub fn check_goals(alloc: Global, program: &Program, query: &SourceQuery) -> Result<(), LoadError>
     requires small { query_size (query_view query.now) ≤ 1000000 }
+    requires few { length program.now.definitions < 4294967295 }
+    requires unique { AreUnique (map called_by program.now.definitions) }
     ensures checked { Answers (query_refusal_of program.now (query_view query.now)) result }
+    ensures accepted { OnOk result (IsAccepted (map called_by program.now.definitions) (query_view query.now)) }
     ensures loadable { OnOk result (HasNoChoice (query_view query.now).goals → All (IsLoadable (map called_by program.now.definitions)) (query_view query.now).goals) }
     ensures few { OnOk result (length query.now.names.items ≤ 256) }
 {
     let goals = goals_asked(alloc, query)?;
-    none_above(Limit::PerDefinition, crowded_goals(&goals))?;
-    none_above(Limit::Variables, above(VARIABLES, query.names.len()))?;
-    none_above(Limit::Arity, wide_goals(&goals))?;
-    if mixed_goals(&goals) {
-        return Err(LoadError::MixedGuards {
-            key: no_key(alloc, 0),
-        });
-    }
-    let callees = callees_of(alloc, program)?;
-    none_undefined(alloc, undefined_goal(&callees, &goals))
+    let callees = Callees::of_definitions(alloc, program.definitions.as_slice())?;
+    check_written(alloc, &callees, query.names.len(), goals.as_slice())
 }

@@ -4,15 +4,15 @@ ghost use Rattle.std.specs.Prelude.{◌≡◌, map};
 ghost use Rattle.std.specs.List.{list_any};
 ghost use Rattle.akl_syntax.specs.Goals.{parts};
 ghost use Rattle.akl_syntax.specs.GoalView.{goal, part};
-ghost use Rattle.clause_checks.specs.Rows.{first, crowded_choice, mixed_parts, mixed_choice};
+ghost use Rattle.clause_checks.specs.Rows.{first, too_many_parts, mixed_parts, mixed_choice};
 
 use crate::limits::{ALTERNATIVES, above};
 use akl_syntax::{SourceGoal, SourcePart};
 use akl_terms::Op;
 
 /// How many parts an inline choice has, where it has too many. The goals in it aren't looked at.
-fn crowded_choice(written: &SourceGoal) -> Option<usize>
-    ensures { result ≡ crowded_choice (goal written.now) }
+fn too_many_parts(written: &SourceGoal) -> Option<usize>
+    ensures { result ≡ too_many_parts (goal written.now) }
 {
     match written {
         SourceGoal::Choice(parts) => above(ALTERNATIVES, parts.len()),
@@ -22,11 +22,11 @@ fn crowded_choice(written: &SourceGoal) -> Option<usize>
 }
 
 /// How many parts the first inline choice with too many has.
-pub fn crowded_goals(written: &[&SourceGoal]) -> Option<usize>
-    ensures { result ≡ first crowded_choice (map (λ g. goal g.now) written.now) }
+pub fn first_crowded_choice(written: &[&SourceGoal]) -> Option<usize>
+    ensures { result ≡ first too_many_parts (map (λ g. goal g.now) written.now) }
 {
     for goal in written {
-        if let Some(count) = crowded_choice(goal) {
+        if let Some(count) = too_many_parts(goal) {
             return Some(count);
         }
     }

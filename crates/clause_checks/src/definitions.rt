@@ -8,10 +8,10 @@ ghost use Rattle.akl_syntax.specs.Sizes.{clause_size};
 ghost use Rattle.akl_syntax.specs.GoalView.{goal};
 ghost use Rattle.clause_keys.specs.Keys.{defined_by};
 ghost use Rattle.clause_keys.specs.Conditions.{AreUnmixed};
-ghost use Rattle.clause_checks.specs.Rows.{first, is_callee, own, with_before, crowded_clause, same_op, mixed_choice, mixed_clause, clause_key};
+ghost use Rattle.clause_checks.specs.Rows.{first, is_callee, own, with_before, first_crowded_in_clause, same_op, mixed_choice, key_if_mixed, clause_key};
 ghost use Rattle.clause_checks.specs.Tallies.{AreListed, IsListed, clause_of};
 
-use crate::choices::{crowded_goals, mixed_goals};
+use crate::choices::{first_crowded_choice, mixed_goals};
 use crate::limits::ALTERNATIVES;
 use crate::listed::Listed;
 use akl_syntax::{Head, SourceClause};
@@ -28,7 +28,9 @@ fn same_definition(clause: &SourceClause, other: &SourceClause) -> bool
             Head::Lifted { .. } => false,
         },
         Head::Lifted { number, .. } => match &other.head {
-            Head::Lifted { number: found, .. } => number == found,
+            Head::Lifted { number: found, .. } => {
+                number == found && clause.arguments.len() == other.arguments.len()
+            }
             Head::Named(_) => false,
         },
     }
@@ -46,22 +48,22 @@ fn definition_size(listed: &[Listed], clause: &SourceClause) -> usize
 
 /// How many clauses the clause's definition has, where the clause is the first that is too many, else how
 /// many parts the first inline choice in it with too many has.
-fn crowded_clause(listed: &[Listed], clause: &Listed) -> Option<usize>
-    ensures { (before : List Clause) → IsListed before clause.now → result ≡ crowded_clause (map clause_of listed.now) (before, clause_of clause.now) }
+fn first_crowded_in_clause(listed: &[Listed], clause: &Listed) -> Option<usize>
+    ensures { (before : List Clause) → IsListed before clause.now → result ≡ first_crowded_in_clause (map clause_of listed.now) (before, clause_of clause.now) }
 {
     if clause.before.clauses >= ALTERNATIVES {
         return Some(definition_size(listed, clause.clause));
     }
-    crowded_goals(&clause.goals)
+    first_crowded_choice(&clause.goals)
 }
 
 /// How many clauses the first definition, or parts the first inline choice, with too many has.
-pub fn crowded(listed: &[Listed]) -> Option<usize>
+pub fn first_crowded(listed: &[Listed]) -> Option<usize>
     requires { AreListed [] listed.now }
-    ensures { result ≡ first (crowded_clause (map clause_of listed.now)) (with_before [] (map clause_of listed.now)) }
+    ensures { result ≡ first (first_crowded_in_clause (map clause_of listed.now)) (with_before [] (map clause_of listed.now)) }
 {
     for clause in listed {
-        if let Some(count) = crowded_clause(listed, clause) {
+        if let Some(count) = first_crowded_in_clause(listed, clause) {
             return Some(count);
         }
     }
@@ -77,10 +79,10 @@ fn is_mixed(clause: &Listed) -> bool
 
 /// The first clause with another operator than an earlier one of its definition, or with an inline choice
 /// two parts of which have different operators.
-pub fn mixed<'a>(listed: &[Listed<'a>]) -> Option<&'a SourceClause>
+pub fn first_mixed_clause<'a>(listed: &[Listed<'a>]) -> Option<&'a SourceClause>
     requires listed { AreListed [] listed.now }
     requires small { All (λ x. clause_size (clause_of x) ≤ 1000000) listed.now }
-    ensures found { option_map (λ c. clause_key (clause_view c.now)) result ≡ first mixed_clause (with_before [] (map clause_of listed.now)) }
+    ensures found { option_map (λ c. clause_key (clause_view c.now)) result ≡ first key_if_mixed (with_before [] (map clause_of listed.now)) }
     ensures small { IfSome result (λ c. clause_size (clause_view c.now) ≤ 1000000) }
     ensures unmixed { IfNone result (AreUnmixed (map clause_of listed.now)) }
 {

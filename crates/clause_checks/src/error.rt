@@ -4,11 +4,9 @@ ghost use Rattle.clause_checks.specs.Memory.{IsMemory};
 
 use akl_terms::Key;
 use std::alloc::{AllocError, AllocFailed};
-use std::error::Error;
-use std::fmt;
 
 /// What there may be too many of.
-#[derive(Clone, Copy, Debug, PartialEq, Eq)]
+#[derive(Clone, Copy)]
 pub enum Limit {
     /// More than 10,000 clauses.
     Clauses,
@@ -18,17 +16,6 @@ pub enum Limit {
     Variables,
     /// More than 32 arguments of a term or of an atom.
     Arity,
-}
-
-impl fmt::Display for Limit {
-    fn fmt<W: fmt::Write>(&self, f: &mut fmt::Formatter<W>) -> fmt::Result {
-        match self {
-            Limit::Clauses => write!(f, "clauses"),
-            Limit::PerDefinition => write!(f, "clauses of one definition"),
-            Limit::Variables => write!(f, "variables"),
-            Limit::Arity => write!(f, "arguments"),
-        }
-    }
 }
 
 /// Why a program or a query isn't loaded.
@@ -46,32 +33,6 @@ pub enum LoadError {
     /// Memory was refused.
     Memory(AllocError),
 }
-
-fn write_key<W: fmt::Write>(f: &mut fmt::Formatter<W>, what: &str, key: &Key) -> fmt::Result {
-    let symbol = key.symbol.as_str();
-    let arity = key.arity;
-    write!(f, "{what} {symbol}/{arity}")
-}
-
-impl fmt::Display for LoadError {
-    fn fmt<W: fmt::Write>(&self, f: &mut fmt::Formatter<W>) -> fmt::Result {
-        match self {
-            LoadError::MixedGuards { key } => write_key(f, "mixed guards in", key),
-            LoadError::Undefined { key } => write_key(f, "undefined", key),
-            LoadError::Reserved { key } => write_key(f, "reserved", key),
-            LoadError::TooMany { what, count } => write!(f, "too many {what}, {count}"),
-            LoadError::Memory(error) => write!(f, "{error}"),
-        }
-    }
-}
-
-impl fmt::Debug for LoadError {
-    fn fmt<W: fmt::Write>(&self, f: &mut fmt::Formatter<W>) -> fmt::Result {
-        write!(f, "{self}")
-    }
-}
-
-impl Error for LoadError {}
 
 impl From<AllocError> for LoadError {
     ghost from_gives = { λ _ e. IsMemory e };

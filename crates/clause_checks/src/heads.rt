@@ -4,8 +4,10 @@ ghost use Rattle.std.specs.Prelude.{◌≡◌, ◌≤◌, map, length, option_ma
 ghost use Rattle.std.specs.List.{All};
 ghost use Rattle.akl_syntax.specs.Answers.{clause_view};
 ghost use Rattle.akl_syntax.specs.Sizes.{clause_size};
-ghost use Rattle.clause_checks.specs.Rows.{first, is_reserved, reserved_clause, clause_key};
+ghost use Rattle.clause_checks.specs.Rows.{first, is_reserved, key_if_reserved, clause_key};
+ghost use Rattle.clause_checks.specs.Tallies.{clause_of};
 
+use crate::listed::Listed;
 use akl_syntax::{Head, SourceClause};
 use clause_keys::meaning_of;
 
@@ -20,14 +22,14 @@ fn is_reserved(clause: &SourceClause) -> bool
 }
 
 /// The first clause with a reserved head.
-pub fn reserved(clauses: &[SourceClause]) -> Option<&SourceClause>
-    requires { All (λ c. clause_size (clause_view c) ≤ 1000000) clauses.now }
-    ensures found { option_map (λ c. clause_key (clause_view c.now)) result ≡ first reserved_clause (map clause_view clauses.now) }
+pub fn first_reserved_clause<'a>(listed: &[Listed<'a>]) -> Option<&'a SourceClause>
+    requires { All (λ x. clause_size (clause_of x) ≤ 1000000) listed.now }
+    ensures found { option_map (λ c. clause_key (clause_view c.now)) result ≡ first key_if_reserved (map clause_of listed.now) }
     ensures small { IfSome result (λ c. clause_size (clause_view c.now) ≤ 1000000) }
 {
-    for clause in clauses {
-        if is_reserved(clause) {
-            return Some(clause);
+    for clause in listed {
+        if is_reserved(clause.clause) {
+            return Some(clause.clause);
         }
     }
     None

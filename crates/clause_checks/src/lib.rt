@@ -12,10 +12,7 @@ mod heads;
 mod keys;
 mod limits;
 mod listed;
-mod program;
 mod tally;
-#[cfg(test)]
-mod tests;
 
 pub use checks::{check_clauses, check_goals};
 pub use error::{Limit, LoadError};

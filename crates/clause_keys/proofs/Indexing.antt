@@ -1,6 +1,6 @@
 -- How the index grows.
 use Rattle.std.proofs.Common.{◌≡◌, ◌<◌, ℕ, List, [], ◌∷◌, ◌++◌, length, Option, Some, None, ◌⊎◌, inl, inr, refl, sym, ap, subst, ◌∙◌, Bool, true, false, cond, Ordering, Less, Equal, Greater, arith, length-append}
-use Rattle.std.specs.Prelude.{slice_get, IfSome}
+use Rattle.std.specs.Prelude.{slice_get, IfSome, IfNone}
 use Rattle.std.specs.Ordering.{nat_cmp, is_eq}
 use Rattle.std.proofs.lemmas.Map.Lookups.{exact_pairs, exact_unsigned}
 use Rattle.std.specs.BTreeMap.{get, Updates, is_at}
@@ -39,8 +39,8 @@ IsIndexed-symbols t u h grown list names lifted = record {
   entry = λ s n d e. (
       let p : (k : ℕ) × IsEntry t s n k d = h.entry s n d (rw (← list) e) in
       (p.0, record { symbol_is = grown p.0 s p.1.symbol_is; entry = rw names p.1.entry }));
-  lifted_place = λ m d e. rw list (h.lifted_place m d (rw (← lifted) e));
-  lifted_entry = λ m d e. rw lifted (h.lifted_entry m d (rw (← list) e));
+  lifted_place = λ m n d e. rw list (h.lifted_place m n d (rw (← lifted) e));
+  lifted_entry = λ m n d e. rw lifted (h.lifted_entry m n d (rw (← list) e));
 }
 
 -- ---- the maps, with one entry more
@@ -51,9 +51,6 @@ is_equal Greater e = absurd cc
 
 pair_at : (x y : ℕ × ℕ) → is_at (pair_cmp x) y ≡ true → x ≡ y
 pair_at x y e = exact_pairs nat_cmp nat_cmp exact_unsigned exact_unsigned x y (is_equal (pair_cmp x y) e)
-
-number_at : (m n : ℕ) → is_at (nat_cmp m) n ≡ true → m ≡ n
-number_at m n e = exact_unsigned m n (is_equal (nat_cmp m n) e)
 
 -- what a map has at a key after one more entry: the new value at an equal key, or what it had
 more_at : (b : Bool) (d v : ℕ) (old : Option ℕ) → cond b (Some d) old ≡ Some v → ((b ≡ true) × (d ≡ v)) ⊎ ((b ≡ false) × (old ≡ Some v))
@@ -99,42 +96,47 @@ module _ (t u : Inside) (text : List ℕ) (arity k : ℕ) (h : IsIndexed t) (sym
     where
       is_entry_of : Callee → ℕ → Type 0
       is_entry_of (Named key) z = IsEntry u key.symbol key.arity k z
-      is_entry_of (Lifted m) z = ⊥
+      is_entry_of (Lifted m n) z = ⊥
 
-  lifted_from : (number d : ℕ) → (slice_get t.list.items d ≡ Some (Lifted number)) ⊎ ((d ≡ length t.list.items) × (named text arity ≡ Lifted number)) → get nat_cmp u.lifted number ≡ Some d
-  lifted_from number d (inl e) = rw lifted (h.lifted_entry number d e)
-  lifted_from number d (inr e) = absurd cc
+  lifted_from : (number n d : ℕ) → (slice_get t.list.items d ≡ Some (Lifted number n)) ⊎ ((d ≡ length t.list.items) × (named text arity ≡ Lifted number n)) → get pair_cmp u.lifted (number, n) ≡ Some d
+  lifted_from number n d (inl e) = rw lifted (h.lifted_entry number n d e)
+  lifted_from number n d (inr e) = absurd cc
 
   pub IsIndexed-named : IsIndexed u
   IsIndexed-named = record {
     small = rw list (omega (arith, length-append {A = Callee}, room));
     place = λ symbol n d e. place_from symbol n d (more_at (is_at (pair_cmp (k, arity)) (symbol, n)) (length t.list.items) d (get pair_cmp t.named (symbol, n)) (sym (updates.0 (symbol, n)) ∙ e));
     entry = λ s n d e. entry_from s n d (get_split t.list.items (named text arity) (named s n) d (rw (← list) e));
-    lifted_place = λ m d e. still_there d (Lifted m) (h.lifted_place m d (rw (← lifted) e));
-    lifted_entry = λ m d e. lifted_from m d (get_split t.list.items (named text arity) (Lifted m) d (rw (← list) e));
+    lifted_place = λ m n d e. still_there d (Lifted m n) (h.lifted_place m n d (rw (← lifted) e));
+    lifted_entry = λ m n d e. lifted_from m n d (get_split t.list.items (named text arity) (Lifted m n) d (rw (← list) e));
   }
 
 -- ---- a definition of an inline choice is the next
-module _ (t u : Inside) (number : ℕ) (h : IsIndexed t) (symbols : u.symbols ≡ t.symbols) (list : u.list.items ≡ t.list.items ++ Lifted number ∷ [])
-    (names : u.named ≡ t.named) (updates : Updates nat_cmp t.lifted u.lifted number (Some (length t.list.items))) (room : length t.list.items < 4294967295)
-    (absent : IsAbsent t.list.items (Lifted number)) where
+module _ (t u : Inside) (number arity : ℕ) (h : IsIndexed t) (symbols : u.symbols ≡ t.symbols) (list : u.list.items ≡ t.list.items ++ Lifted number arity ∷ [])
+    (names : u.named ≡ t.named) (updates : Updates pair_cmp t.lifted u.lifted (number, arity) (Some (length t.list.items))) (room : length t.list.items < 4294967295)
+    (absent : IsAbsent t.list.items (Lifted number arity)) where
   lifted_still_there : (d : ℕ) (c : Callee) → slice_get t.list.items d ≡ Some c → slice_get u.list.items d ≡ Some c
-  lifted_still_there d c e = rw list (get_front t.list.items (Lifted number ∷ []) d c e)
+  lifted_still_there d c e = rw list (get_front t.list.items (Lifted number arity ∷ []) d c e)
 
-  lifted_there : slice_get u.list.items (length t.list.items) ≡ Some (Lifted number)
-  lifted_there = rw list (get_last t.list.items (Lifted number))
+  lifted_there : slice_get u.list.items (length t.list.items) ≡ Some (Lifted number arity)
+  lifted_there = rw list (get_last t.list.items (Lifted number arity))
 
-  place_of_lifted : (m d : ℕ) → ((is_at (nat_cmp number) m ≡ true) × (length t.list.items ≡ d)) ⊎ ((is_at (nat_cmp number) m ≡ false) × (get nat_cmp t.lifted m ≡ Some d)) → slice_get u.list.items d ≡ Some (Lifted m)
-  place_of_lifted m d (inl e) = subst (λ (z : ℕ). slice_get u.list.items d ≡ Some (Lifted z)) (number_at number m e.0) (subst (λ (z : ℕ). slice_get u.list.items z ≡ Some (Lifted number)) e.1 lifted_there)
-  place_of_lifted m d (inr e) = lifted_still_there d (Lifted m) (h.lifted_place m d e.1)
+  place_of_lifted : (m n d : ℕ) → ((is_at (pair_cmp (number, arity)) (m, n) ≡ true) × (length t.list.items ≡ d)) ⊎ ((is_at (pair_cmp (number, arity)) (m, n) ≡ false) × (get pair_cmp t.lifted (m, n) ≡ Some d))
+      → slice_get u.list.items d ≡ Some (Lifted m n)
+  place_of_lifted m n d (inl e) =
+      let same : (number, arity) ≡ (m, n) = pair_at (number, arity) (m, n) e.0 in
+      subst (λ (x : ℕ × ℕ). slice_get u.list.items d ≡ Some (Lifted x.0 x.1)) same (subst (λ (z : ℕ). slice_get u.list.items z ≡ Some (Lifted number arity)) e.1 lifted_there)
+  place_of_lifted m n d (inr e) = lifted_still_there d (Lifted m n) (h.lifted_place m n d e.1)
 
-  entry_of_lifted : (m d : ℕ) → (slice_get t.list.items d ≡ Some (Lifted m)) ⊎ ((d ≡ length t.list.items) × (Lifted number ≡ Lifted m)) → get nat_cmp u.lifted m ≡ Some d
-  entry_of_lifted m d (inl e) = updates.2 m (not_both (is_at (nat_cmp number) m) (λ b. absent.absent d (subst (λ (z : ℕ). slice_get t.list.items d ≡ Some (Lifted z)) (sym (number_at number m b)) e))) ∙ h.lifted_entry m d e
-  entry_of_lifted m d (inr e) =
-      let same : number ≡ m = cc in
-      subst (λ (z : ℕ). get nat_cmp u.lifted z ≡ Some d) same (subst (λ (z : ℕ). get nat_cmp u.lifted number ≡ Some z) (sym e.0) updates.1)
+  entry_of_lifted : (m n d : ℕ) → (slice_get t.list.items d ≡ Some (Lifted m n)) ⊎ ((d ≡ length t.list.items) × (Lifted number arity ≡ Lifted m n)) → get pair_cmp u.lifted (m, n) ≡ Some d
+  entry_of_lifted m n d (inl e) =
+      updates.2 (m, n) (not_both (is_at (pair_cmp (number, arity)) (m, n)) (λ b. absent.absent d (subst (λ (x : ℕ × ℕ). slice_get t.list.items d ≡ Some (Lifted x.0 x.1)) (sym (pair_at (number, arity) (m, n) b)) e)))
+      ∙ h.lifted_entry m n d e
+  entry_of_lifted m n d (inr e) =
+      let same : (number, arity) ≡ (m, n) = cc in
+      subst (λ (x : ℕ × ℕ). get pair_cmp u.lifted x ≡ Some d) same (subst (λ (z : ℕ). get pair_cmp u.lifted (number, arity) ≡ Some z) (sym e.0) updates.1)
 
-  entry_of_named : (s : List ℕ) (n d : ℕ) → (slice_get t.list.items d ≡ Some (named s n)) ⊎ ((d ≡ length t.list.items) × (Lifted number ≡ named s n)) → (symbol : ℕ) × IsEntry u s n symbol d
+  entry_of_named : (s : List ℕ) (n d : ℕ) → (slice_get t.list.items d ≡ Some (named s n)) ⊎ ((d ≡ length t.list.items) × (Lifted number arity ≡ named s n)) → (symbol : ℕ) × IsEntry u s n symbol d
   entry_of_named s n d (inl e) =
       let p : (symbol : ℕ) × IsEntry t s n symbol d = h.entry s n d e in
       (p.0, record { symbol_is = rw symbols p.1.symbol_is; entry = rw names p.1.entry })
@@ -146,9 +148,9 @@ module _ (t u : Inside) (number : ℕ) (h : IsIndexed t) (symbols : u.symbols �
     place = λ k n d e. (
         let p : IsPlace t k n d = h.place k n d (rw (← names) e) in
         record { text = p.text; symbol_is = rw symbols p.symbol_is; there = lifted_still_there d (named p.text n) p.there });
-    entry = λ s n d e. entry_of_named s n d (get_split t.list.items (Lifted number) (named s n) d (rw (← list) e));
-    lifted_place = λ m d e. place_of_lifted m d (more_at (is_at (nat_cmp number) m) (length t.list.items) d (get nat_cmp t.lifted m) (sym (updates.0 m) ∙ e));
-    lifted_entry = λ m d e. entry_of_lifted m d (get_split t.list.items (Lifted number) (Lifted m) d (rw (← list) e));
+    entry = λ s n d e. entry_of_named s n d (get_split t.list.items (Lifted number arity) (named s n) d (rw (← list) e));
+    lifted_place = λ m n d e. place_of_lifted m n d (more_at (is_at (pair_cmp (number, arity)) (m, n)) (length t.list.items) d (get pair_cmp t.lifted (m, n)) (sym (updates.0 (m, n)) ∙ e));
+    lifted_entry = λ m n d e. entry_of_lifted m n d (get_split t.list.items (Lifted number arity) (Lifted m n) d (rw (← list) e));
   }
 
 -- ---- what is found
@@ -158,3 +160,12 @@ found_named t h text arity k None distinct e f = tt
 found_named t h text arity k (Some d) distinct e f =
     let p : IsPlace t k arity d = h.place k arity d f in
     subst (λ (z : List ℕ). slice_get t.list.items d ≡ Some (named z arity)) (some_injective (sym p.symbol_is ∙ e)) p.there
+
+module _ (t : Inside) (h : IsIndexed t) (number arity : ℕ) where
+  pub found_lifted : (found : Option ℕ) → get pair_cmp t.lifted (number, arity) ≡ found → IfSome found (λ d. slice_get t.list.items d ≡ Some (Lifted number arity))
+  found_lifted None f = tt
+  found_lifted (Some d) f = h.lifted_place number arity d f
+
+  pub absent_lifted : (found : Option ℕ) → get pair_cmp t.lifted (number, arity) ≡ found → IfNone found (IsAbsent t.list.items (Lifted number arity))
+  absent_lifted None f = record { absent = λ d e. (let g : None ≡ Some d = sym f ∙ h.lifted_entry number arity d e in cc) }
+  absent_lifted (Some d) f = tt

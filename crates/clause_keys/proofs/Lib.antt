@@ -1,3 +1,4 @@
 pub mod Places
 pub mod Indexing
 pub mod Defined
+pub mod Definitions

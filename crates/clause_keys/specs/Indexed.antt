@@ -26,5 +26,5 @@ pub record IsIndexed (t : Inside) : Type 0 where
   pub small : length t.list.items ≤ 4294967295
   pub place : (symbol arity d : ℕ) → get pair_cmp t.named (symbol, arity) ≡ Some d → IsPlace t symbol arity d
   pub entry : (text : List ℕ) (arity d : ℕ) → slice_get t.list.items d ≡ Some (named text arity) → (symbol : ℕ) × IsEntry t text arity symbol d
-  pub lifted_place : (number d : ℕ) → get nat_cmp t.lifted number ≡ Some d → slice_get t.list.items d ≡ Some (Lifted number)
-  pub lifted_entry : (number d : ℕ) → slice_get t.list.items d ≡ Some (Lifted number) → get nat_cmp t.lifted number ≡ Some d
+  pub lifted_place : (number arity d : ℕ) → get pair_cmp t.lifted (number, arity) ≡ Some d → slice_get t.list.items d ≡ Some (Lifted number arity)
+  pub lifted_entry : (number arity d : ℕ) → slice_get t.list.items d ≡ Some (Lifted number arity) → get pair_cmp t.lifted (number, arity) ≡ Some d

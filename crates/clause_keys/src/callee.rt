@@ -7,6 +7,6 @@ use akl_terms::Key;
 pub enum Callee {
     /// A symbol with a number of arguments.
     Named(Key),
-    /// The definition of this number that was made of an inline choice.
-    Lifted(u32),
+    /// The definition of this number that was made of an inline choice, with a number of arguments.
+    Lifted { number: u32, arity: u32 },
 }

@@ -1,14 +1,14 @@
 //! An index of definitions by what they are called by.
 
-ghost use Rattle.std.specs.Prelude.{◌≡◌, ◌<◌, ◌≤◌, ◌+◌, IfOk, OnErr, IfSome, IfNone, Some, length, slice_get, []};
+ghost use Rattle.std.specs.Prelude.{◌≡◌, ◌<◌, ◌≤◌, ◌+◌, IfOk, OnErr, IfSome, IfNone, Some, length, map, slice_get, []};
 ghost use Rattle.akl_syntax.specs.Answers.{clause_view};
 ghost use Rattle.akl_syntax.specs.Sizes.{clause_size};
-ghost use Rattle.clause_keys.specs.Keys.{named, IsAbsent, Adds, defined_by, called_by};
+ghost use Rattle.clause_keys.specs.Keys.{named, IsAbsent, AreUnique, Adds, defined_by, called_by, arity_of};
 ghost use Rattle.clause_keys.specs.declared.callee.Callee.TheVariants.{Lifted};
 
 use crate::callee::Callee;
 use akl_syntax::{Head, SourceClause};
-use akl_terms::{Definition, Key, Templates, Text};
+use akl_terms::{Clause, Definition, Key, Templates, Text};
 use std::alloc::{AllocError, Global};
 use std::collections::BTreeMap;
 use std::marker::Model;
@@ -20,7 +20,8 @@ pub struct Callees {
     symbols: Templates,
     /// The numbers by symbol and number of arguments.
     named: BTreeMap<(u32, u32), u32>,
-    lifted: BTreeMap<u32, u32>,
+    /// The numbers by the number of the definition and its number of arguments.
+    lifted: BTreeMap<(u32, u32), u32>,
 }
 
 impl Model for Callees {
@@ -33,6 +34,16 @@ impl Model for Callees {
     ghost view = { λ c. c.list.items };
 
     ghost invariant = { IsIndexed };
+}
+
+/// How many arguments the clauses of one definition have.
+fn arity_of(clauses: &[Clause]) -> u32
+    ensures { result ≡ arity_of clauses.now }
+{
+    match clauses.first() {
+        Some(first) => first.count,
+        None => 0,
+    }
 }
 
 impl Callees {
@@ -48,6 +59,19 @@ impl Callees {
         }
     }
 
+    /// What calls the definitions, which is different for each: the number of one is its place.
+    pub fn of_definitions(alloc: Global, definitions: &[Definition]) -> Result<Self, AllocError>
+        requires few { length definitions.now < 4294967295 }
+        requires unique { AreUnique (map called_by definitions.now) }
+        ensures { IfOk result (λ callees. callees ≡ map called_by definitions.now) }
+    {
+        let mut callees = Callees::new(alloc);
+        for definition in definitions {
+            callees.add_definition(definition)?;
+        }
+        Ok(callees)
+    }
+
     /// The number of the symbol with so many arguments, where it has one.
     pub fn named(&self, symbol: &str, arity: u32) -> Option<u32>
         ensures found { IfSome result (λ d. slice_get self.now d ≡ Some (named symbol.now arity)) }
@@ -57,12 +81,12 @@ impl Callees {
         self.named.get(&(symbol, arity)).copied()
     }
 
-    /// The number of the definition that was made of an inline choice, where it has one.
-    pub fn lifted(&self, number: u32) -> Option<u32>
-        ensures found { IfSome result (λ d. slice_get self.now d ≡ Some (Lifted number)) }
-        ensures absent { IfNone result (IsAbsent self.now (Lifted number)) }
+    /// The number of the definition that was made of an inline choice, with so many arguments, where it has one.
+    pub fn lifted(&self, number: u32, arity: u32) -> Option<u32>
+        ensures found { IfSome result (λ d. slice_get self.now d ≡ Some (Lifted number arity)) }
+        ensures absent { IfNone result (IsAbsent self.now (Lifted number arity)) }
     {
-        self.lifted.get(&number).copied()
+        self.lifted.get(&(number, arity)).copied()
     }
 
     /// The number of the symbol with so many arguments: the one that it has, else the next.
@@ -78,16 +102,17 @@ impl Callees {
         }
     }
 
-    /// The number of the definition that was made of an inline choice: the one that it has, else the next.
-    pub fn add_lifted(&mut self, number: u32) -> Result<u32, AllocError>
+    /// The number of the definition that was made of an inline choice, with so many arguments: the one that it has,
+    /// else the next.
+    pub fn add_lifted(&mut self, number: u32, arity: u32) -> Result<u32, AllocError>
         requires { length self.old < 4294967295 }
-        ensures ok { IfOk result (λ d. Adds self.old (Lifted number) self.new d) }
+        ensures ok { IfOk result (λ d. Adds self.old (Lifted number arity) self.new d) }
         ensures grown { length self.new ≤ length self.old + 1 }
         ensures err { OnErr result (self.new ≡ self.old) }
     {
-        match self.lifted(number) {
+        match self.lifted(number, arity) {
             Some(found) => Ok(found),
-            None => self.append_lifted(number),
+            None => self.append_lifted(number, arity),
         }
     }
 
@@ -99,9 +124,10 @@ impl Callees {
         ensures grown { length self.new ≤ length self.old + 1 }
         ensures err { OnErr result (self.new ≡ self.old) }
     {
+        let arity = clause.arguments.len() as u32;
         match &clause.head {
-            Head::Named(symbol) => self.add_named(symbol.as_str(), clause.arguments.len() as u32),
-            Head::Lifted { number, .. } => self.add_lifted(*number),
+            Head::Named(symbol) => self.add_named(symbol.as_str(), arity),
+            Head::Lifted { number, .. } => self.add_lifted(*number, arity),
         }
     }
 
@@ -113,7 +139,7 @@ impl Callees {
         ensures err { OnErr result (self.new ≡ self.old) }
     {
         match definition.lifted {
-            Some(number) => self.add_lifted(number),
+            Some(number) => self.add_lifted(number, arity_of(definition.clauses.as_slice())),
             None => self.add_named(definition.key.symbol.as_str(), definition.key.arity),
         }
     }
@@ -147,28 +173,21 @@ impl Callees {
     }
 
     // A definition of an inline choice that has no number gets the next.
-    fn append_lifted(&mut self, number: u32) -> Result<u32, AllocError>
+    fn append_lifted(&mut self, number: u32, arity: u32) -> Result<u32, AllocError>
         requires room { length self.old < 4294967295 }
-        requires absent { IsAbsent self.old (Lifted number) }
-        ensures ok { IfOk result (λ d. Adds self.old (Lifted number) self.new d) }
+        requires absent { IsAbsent self.old (Lifted number arity) }
+        ensures ok { IfOk result (λ d. Adds self.old (Lifted number arity) self.new d) }
         ensures grown { length self.new ≤ length self.old + 1 }
         ensures err { OnErr result (self.new ≡ self.old) }
     {
         let found = self.list.len() as u32;
-        self.list.push(Callee::Lifted(number))?;
-        match self.lifted.insert(number, found) {
+        self.list.push(Callee::Lifted { number, arity })?;
+        match self.lifted.insert((number, arity), found) {
             Ok(_) => Ok(found),
             Err(_) => {
                 let _ = self.list.pop();
                 Err(AllocError)
             }
         }
-    }
-
-    /// All in order. It takes no memory.
-    pub fn into_vec(self) -> Vec<Callee>
-        ensures { result.items ≡ self }
-    {
-        self.list
     }
 }

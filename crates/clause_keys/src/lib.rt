@@ -4,8 +4,6 @@
 mod callee;
 mod callees;
 mod reserved;
-#[cfg(test)]
-mod tests;
 
 pub use callee::Callee;
 pub use callees::Callees;

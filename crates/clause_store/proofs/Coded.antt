@@ -29,6 +29,7 @@ use Rattle.clause_store.proofs.Sums.{both, goals_sum}
 use Rattle.clause_store.proofs.Growing.{node_stays, still_stands, extends_none, Each, each_none, each_more, each_after, at_group}
 use Rattle.clause_store.proofs.Room.{gains_none, gains_trans, gains_less, gains_group, room_left}
 use Rattle.clause_store.proofs.Renamed.{codes_as}
+use Rattle.clause_store.proofs.VariableNodes.{variables_size}
 
 -- ---- nodes
 pub still_stands_at : {t u : Template} → Extends t u → (at : ℕ) (s : Tree) → StandsAt t at s → StandsAt u at s
@@ -104,28 +105,6 @@ not_one (Arith test) e = omega arith
 not_one OpenPort e = omega arith
 not_one Send e = omega arith
 
--- ---- variables
-variables_size : (ns : List ℕ) → trees_size (variables ns) ≡ length ns
-variables_size [] = refl
-variables_size (n ∷ ns) = omega (arith, variables_size ns)
-
-each_variable : (t : Template) (ns : List ℕ) → Each t (map (λ n. Node.Var n) ns) (plains (variables ns))
-each_variable t [] = each_none
-each_variable t (n ∷ ns) = each_more stands_variable (each_variable t ns)
-
-pub variables_after : (t : Template) (group : List Node) (ns : List ℕ) → group ≡ map (λ n. Node.Var n) ns → All (IsAfter t) group
-variables_after t group ns e = subst (λ (z : List Node). All (IsAfter t) z) (sym e) (each_after _ (each_variable t ns))
-
-pub variables_put : {old new : Template} {group : List Node} {first : ℕ} (ns : List ℕ) → group ≡ map (λ n. Node.Var n) ns → first ≡ length old.nodes → new ≡ record old { nodes = old.nodes ++ group }
-    → ArePut old new first (length ns) (variables ns)
-variables_put {old} {new} {group} ns eg ef e =
-    let len : length group ≡ length ns = ap length eg ∙ length-map ns (λ n. Node.Var n) in
-    let each : Each new group (plains (variables ns)) = subst (λ (z : List Node). Each new z (plains (variables ns))) (sym eg) (each_variable new ns) in
-    record {
-      stand = rw (ef, ← len) (at_group new old.nodes (ap (λ (z : Template). z.nodes) e) each);
-      gains = gains_group group (record { extends = extends_none old; nodes = omega (arith, len, variables_size ns); symbols = omega (arith, len, variables_size ns) }) e;
-    }
-
 -- ---- calls
 not_contained : {callees : List Callee} {callee : Callee} → Contains callees callee → IsAbsent callees callee → ⊥
 not_contained {callees} {callee} k a = a.absent k.0 (contained_at callees k.0 callee k.1 k.2)
@@ -173,7 +152,7 @@ call_put {callees} {old} {new} {d} {first} s ts e n h p =
     let at : slice_get callees d ≡ Some (named s (count ts)) = h ∙ ap (λ (k : ℕ). Some (named s k)) e in
     record { codes = rw e (a_code (calls n at (are_nodes ts p.stand)) no_codes); gains = goal_gains p }
 
-pub lifted_put : {callees : List Callee} {old new : Template} {n d first c : ℕ} (ns : List ℕ) → c ≡ length ns → slice_get callees d ≡ Some (Lifted n) → ArePut old new first (length ns) (variables ns)
+pub lifted_put : {callees : List Callee} {old new : Template} {n d first c : ℕ} (ns : List ℕ) → c ≡ length ns → slice_get callees d ≡ Some (Lifted n (length ns)) → ArePut old new first (length ns) (variables ns)
     → IsGoalPut callees old new (lifted n ns) (Some (made.Call d first c))
 lifted_put ns e h p = record {
   codes = rw e (a_code (calls_lifted h (are_nodes (variables ns) p.stand)) no_codes);

@@ -1,12 +1,11 @@
 -- What collecting callees keeps.
-use Rattle.std.proofs.Common.{◌≡◌, ℕ, zero, suc, ◌+◌, ◌≤◌, ◌-◌, List, [], ◌∷◌, ◌++◌, length, map, slice_get, Some, ◌⊎◌, inl, inr, sym, ap, subst, ◌∙◌, arith}
+use Rattle.std.proofs.Common.{◌≡◌, ℕ, zero, suc, ◌+◌, ◌≤◌, ◌-◌, List, [], ◌∷◌, ◌++◌, length, map, slice_get, get_or, Some, ◌⊎◌, inl, inr, sym, ap, subst, ◌∙◌, arith}
 use Rattle.std.proofs.lemmas.List.{length-append, append-nil}
 use Rattle.akl_terms.proofs.Numbering.{slice_get-front, slice_get-behind, slice_get-one_more}
 use Rattle.akl_syntax.specs.Clauses.{Clause}
 use Rattle.clause_keys.specs.declared.callee.Callee.{Callee}
-use Rattle.clause_keys.specs.Keys.{defined_by, IsAbsent, Adds, known, next, Collects, nothing}
+use Rattle.clause_keys.specs.Keys.{defined_by, IsAbsent, AreUnique, Adds, known, next, Collects, nothing}
 use Rattle.clause_keys.specs.Keys as keys
-use Rattle.clause_store.specs.Conditions.{AreUnique}
 use Rattle.clause_store.specs.Loaded.{AreOf, no_clauses, other}
 
 -- ---- places in two lists
@@ -21,6 +20,11 @@ get_either (y ∷ xs) ys (suc i) x e = elim (get_either xs ys i x e) [
   | inl h ↦ inl h
   | inr h ↦ let z : suc i - suc (length xs) ≡ i - length xs = omega arith in inr (omega (arith, h.0), ap (slice_get ys) z ∙ h.1)
 ]
+
+pub place_is : {A : Type 0} (xs : List A) (i : ℕ) (x : A) → slice_get xs i ≡ Some x → get_or xs i x ≡ x
+place_is [] i x h = absurd cc
+place_is (z ∷ xs) zero x h = cc
+place_is (z ∷ xs) (suc i) x h = place_is xs i x h
 
 -- ---- one that is added
 pub adds_there : {old new : List Callee} {k : Callee} {d : ℕ} → Adds old k new d → slice_get new d ≡ Some k
@@ -80,3 +84,8 @@ collects_each {old} (keys.next {more = more} {c = c} {cs = cs} {d = d} a p) i k 
   | inl h ↦ (i, collects_stays p i k (adds_stays a i k h))
   | inr h ↦ first_or _ (map defined_by cs) d (collects_stays p d (defined_by c) (adds_there a)) (λ n f. collects_each p (length more + n) k (get_further more (map defined_by cs) n ∙ f)) (i - length old) h.1
 ]
+
+-- what some clauses define, and then others behind them
+pub collects_both : {old mid all : List Callee} {cs ds : List Clause} → Collects old cs mid → Collects mid ds all → Collects old (cs ++ ds) all
+collects_both nothing q = q
+collects_both (keys.next a p) q = keys.next a (collects_both p q)

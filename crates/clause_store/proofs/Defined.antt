@@ -21,7 +21,7 @@ use Rattle.akl_terms.specs.declared.program.Code.{Code}
 use Rattle.clause_keys.specs.declared.callee.Callee.{Callee}
 use Rattle.clause_keys.specs.declared.reserved.Reserved.{Reserved}
 use Rattle.clause_keys.specs.Reserved.{reserved_of}
-use Rattle.clause_keys.specs.Keys.{key_of, named, defined_by, called_by, Collects}
+use Rattle.clause_keys.specs.Keys.{key_of, named, defined_by, called, called_by, arity_of, Collects}
 use Rattle.clause_keys.specs.Conditions.{count, MayCall, IsLoadable, IsClauseLoadable, AreUnmixed}
 use Rattle.clause_store.specs.Loaded.{AreLoaded, none_loaded, one_loaded, AreOf, no_clauses, own, other, IsDefinitionOf}
 use Rattle.clause_store.specs.Standing.{StandsAt, HasRoom, Gains, ArePut}
@@ -32,7 +32,7 @@ use Rattle.clause_store.proofs.Room.{gains_none, gains_trans, gains_less, room_l
 use Rattle.clause_store.proofs.Renamed.{nodes_as, codes_as, loaded_as, definitions_as}
 use Rattle.clause_store.proofs.Coded.{still_stands_at, are_nodes, contained_at}
 use Rattle.clause_store.proofs.Yielded.{IsNext}
-use Rattle.clause_store.proofs.Collected.{collects_each}
+use Rattle.clause_store.proofs.Collected.{place_is, collects_each}
 use Rattle.clause_store.proofs.Gathered.{groups_sum, groups_length}
 
 -- ---- a clause
@@ -75,12 +75,12 @@ pub clause_room : {callees : List Callee} {old mid : Template} {cs : List Clause
 clause_room r h l = room_left r h.gains l
 
 -- ---- the clauses of one definition
-of_all : {k : Callee} {cs found : List Clause} (P : Clause → Type 0) → AreOf k cs found → All P cs → All P found
+pub of_all : {k : Callee} {cs found : List Clause} (P : Clause → Type 0) → AreOf k cs found → All P cs → All P found
 of_all P no_clauses a = a
 of_all P (own {c = c} {cs = cs} {found = found} e p) a = All-cons P c found (All-head P c cs a) (of_all P p (All-tail P c cs a))
 of_all P (other {c = c} {cs = cs} e p) a = of_all P p (All-tail P c cs a)
 
-of_defined : {k : Callee} {cs found : List Clause} → AreOf k cs found → All (λ c. defined_by c ≡ k) found
+pub of_defined : {k : Callee} {cs found : List Clause} → AreOf k cs found → All (λ c. defined_by c ≡ k) found
 of_defined {k} no_clauses = All-nil (λ c. defined_by c ≡ k)
 of_defined {k} (own {c = c} {found = found} e p) = All-cons (λ c. defined_by c ≡ k) c found e (of_defined p)
 of_defined (other e p) = of_defined p
@@ -102,11 +102,6 @@ module _ (known callees : List Callee) (f : (k : Callee) → Contains known k �
   loadable_more (call s ts) p = may_more (named s (count ts)) (reserved_of s (count ts)) p
   loadable_more (lifted n ns) p = f _ p
   loadable_more (choice ps) p = absurd p
-
-place_is : {A : Type 0} (xs : List A) (i : ℕ) (x : A) → slice_get xs i ≡ Some x → get_or xs i x ≡ x
-place_is [] i x h = absurd cc
-place_is (z ∷ xs) zero x h = cc
-place_is (z ∷ xs) (suc i) x h = place_is xs i x h
 
 -- what is known or defined is called by its number
 collects_contains : {old all : List Callee} {cs : List Clause} → Collects old cs all → (k : Callee) → Contains (old ++ map defined_by cs) k → Contains all k
@@ -227,15 +222,20 @@ pub first_of : {A : Type 0} (xs : List A) (x : A) → 0 < length xs → x ≡ ge
 first_of [] x h e = absurd (omega arith)
 first_of (y ∷ xs) x h e = (xs, ap (λ z. z ∷ xs) (sym e))
 
+-- as many as the first clause has
+first_arity : {callees : List Callee} {Is : ℕ → Tree → Type 0} {cs more : List Clause} {ls : List program.Clause} {first : Clause} → AreLoaded callees Is cs ls → cs ≡ first ∷ more → arity_of ls ≡ length first.arguments
+first_arity none_loaded e = absurd cc
+first_arity {first = first} (one_loaded {c = c} h p) e = let same : c ≡ first = cc in h.count ∙ ap (λ (z : Clause). length z.arguments) same
+
 pub definition_put : {callees : List Callee} {old new : Template} {cs : List Clause} {ls : List program.Clause} (d : Definition) (first : Clause) (more : List Clause) → cs ≡ first ∷ more → HaveOneOp cs → AreClausesPut callees old new cs ls
-    → d.clauses ≡ ls → d.op ≡ first.part.op → d.key ≡ key_of first.head (length first.arguments) → called_by d ≡ defined_by first → IsDefinitionPut callees old new cs d
+    → d.clauses ≡ ls → d.op ≡ first.part.op → d.key ≡ key_of first.head (length first.arguments) → called d.lifted d.key (length first.arguments) ≡ defined_by first → IsDefinitionPut callees old new cs d
 definition_put {callees} {new = new} {cs = cs} d first more e one p ec eo ek ed =
     let here : Contains cs first = subst (λ z. Contains z first) (sym e) (0, omega arith, refl) in
     record {
       first = first;
       more = more;
       are = e;
-      called = ed;
+      called = ap (called d.lifted d.key) (ap arity_of ec ∙ first_arity p.clauses e) ∙ ed;
       key = ek;
       op = All-weaker (Contains cs) (λ c. c.part.op ≡ d.op) (λ c x. one c first x here ∙ sym eo) cs (All-contains_itself cs);
       clauses = subst (λ z. AreLoaded callees (StandsAt new) cs z) (sym ec) p.clauses;

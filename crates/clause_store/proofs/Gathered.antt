@@ -7,8 +7,7 @@ use Rattle.akl_syntax.specs.Sizes.{clause_size, clauses_size}
 use Rattle.akl_syntax.specs.Answers.{clause_view, clauses_view}
 use Rattle.akl_syntax.specs.declared.source.SourceClause.{SourceClause}
 use Rattle.clause_keys.specs.declared.callee.Callee.{Callee}
-use Rattle.clause_keys.specs.Keys.{defined_by, IsAbsent, Adds, known, next, nothing}
-use Rattle.clause_store.specs.Conditions.{AreUnique}
+use Rattle.clause_keys.specs.Keys.{defined_by, IsAbsent, AreUnique, Adds, known, next, nothing}
 use Rattle.clause_store.specs.Loaded.{AreOf, no_clauses, own, other}
 use Rattle.clause_store.specs.Groups.{put_at, AreGroups, no_groups, a_group, groups_size, AreGathered}
 use Rattle.clause_store.proofs.Sums.{IsSum, both, clauses_sum}

@@ -4,12 +4,14 @@ pub mod Growing
 pub mod Room
 pub mod Turns
 pub mod Renamed
+pub mod VariableNodes
 pub mod Coded
 pub mod Collected
 pub mod Gathered
 pub mod Defined
 pub mod ShownNames
 pub mod Trees
-pub mod Indexed
+pub mod NewLifted
 pub mod Loads
-pub mod VariableNodes
+pub mod Fitting
+pub mod Extended

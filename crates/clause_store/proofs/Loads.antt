@@ -9,11 +9,10 @@ use Rattle.akl_terms.specs.declared.program.Query as program_query
 use Rattle.akl_terms.specs.Template.{Template, IsArranged, AreDistinct}
 use Rattle.akl_syntax.specs.Clauses.{Clause, Query}
 use Rattle.clause_keys.specs.declared.callee.Callee.{Callee}
-use Rattle.clause_keys.specs.Keys.{called_by}
-use Rattle.clause_store.specs.Conditions.{AreUnique}
+use Rattle.clause_keys.specs.Keys.{called_by, AreUnique}
 use Rattle.clause_store.specs.Nodes.{Extends}
-use Rattle.clause_store.specs.Loaded.{IsCell, IsProgramOf, IsQueryOf, shown_from, variable_nodes}
-use Rattle.clause_store.specs.Putting.{AreGoalsPut, IsExtended, IsCellPut}
+use Rattle.clause_store.specs.Loaded.{IsCell, IsProgramOf, IsQueryOf, shown_from}
+use Rattle.clause_store.specs.Putting.{numbers_from, AreGoalsPut, IsExtended, IsCellPut}
 use Rattle.clause_store.proofs.Growing.{extends_trans, node_stays, symbol_stays, Interned, pushed, pushed_lengths}
 use Rattle.clause_store.proofs.Renamed.{codes_as, definitions_as}
 use Rattle.clause_store.proofs.Coded.{still_stands_at}
@@ -54,7 +53,7 @@ cell_put {old} {t} {u} {v} {new} {dot} {nil} {first} i j f e g =
       symbols = omega (arith, i.symbols, j.symbols, l.1, m.1);
     }
 
-cell_stays : {t u : Template} {at : ℕ} → Extends t u → IsCell t at → IsCell u at
+pub cell_stays : {t u : Template} {at : ℕ} → Extends t u → IsCell t at → IsCell u at
 cell_stays g c = record {
   dot = c.dot;
   nil = c.nil;
@@ -90,13 +89,13 @@ nothing_unique callees e = subst AreUnique (sym e) (record { one = λ i j k p q.
 
 -- ---- a query
 pub query_put : {known callees : List Callee} {start mid new : Template} {before after : List Definition} {lifted : List Clause} {goals : List Code} (old : Program) (q : Query) (p : Program) (l : program_query.Query)
-    → start ≡ record old.templates { nodes = old.templates.nodes ++ variable_nodes 0 (length q.names) } → known ≡ map called_by old.definitions → before ≡ old.definitions → IsExtended known callees start mid before after lifted → AreGoalsPut callees mid new q.goals goals
+    → start ≡ record old.templates { nodes = old.templates.nodes ++ map (λ n. Node.Var n) (numbers_from 0 (length q.names)) } → known ≡ map called_by old.definitions → before ≡ old.definitions → IsExtended known callees start mid before after lifted → AreGoalsPut callees mid new q.goals goals
     → p.definitions ≡ after → p.templates ≡ new → p.cell ≡ old.cell → l.goals ≡ goals → l.variables ≡ length q.names → l.shown ≡ shown_from 0 q.names → IsArranged new.nodes → AreDistinct new.symbols → IsQueryOf old lifted q p l
 query_put {known} {callees} {start} {mid} {new} {lifted = lifted} old q p l ep ek eb h g ed et ec eg ev es a d =
     let all : map called_by p.definitions ≡ callees = ap (map called_by) ed ∙ sym h.callees_are in
     let gained : Extends start new = extends_trans h.gains.extends g.gains.extends in
     record {
-      extends = rw et (extends_trans (pushed old.templates start (variable_nodes 0 (length q.names)) ep) gained);
+      extends = rw et (extends_trans (pushed old.templates start (map (λ n. Node.Var n) (numbers_from 0 (length q.names))) ep) gained);
       cell = ec;
       added = h.added;
       definitions_are = ed ∙ h.definitions_are ∙ ap (λ z. z ++ h.added) eb;

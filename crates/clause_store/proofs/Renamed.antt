@@ -1,6 +1,6 @@
 -- What is said of nodes holds of other words about nodes that it implies.
-use Rattle.std.proofs.Common.{ℕ, List}
-use Rattle.std.specs.Prelude.{All}
+use Rattle.std.proofs.Common.{◌≡◌, ℕ, List, Some}
+use Rattle.std.specs.Prelude.{All, slice_get}
 use Rattle.std.proofs.lemmas.List.Elements.{All-weaker}
 use Rattle.akl_terms.specs.declared.program.Code.{Code}
 use Rattle.akl_terms.specs.declared.program.Clause as program
@@ -18,26 +18,35 @@ module _ {P Q : ℕ → Tree → Type 0} (f : (n : ℕ) (s : Tree) → P n s →
   nodes_as no_nodes = no_nodes
   nodes_as (a_node p q) = a_node (f _ _ p) (nodes_as q)
 
-  code_as : {callees : List Callee} {g : Goal} {c : Code} → IsCode callees P g c → IsCode callees Q g c
-  code_as (fail e) = fail e
-  code_as (equal e p q) = equal e (f _ _ p) (f _ _ q)
-  code_as (arithmetic e p q) = arithmetic e (f _ _ p) (f _ _ q)
-  code_as (open_port e p q) = open_port e (f _ _ p) (f _ _ q)
-  code_as (send e p q) = send e (f _ _ p) (f _ _ q)
-  code_as (calls e d p) = calls e d (nodes_as p)
-  code_as (calls_lifted d p) = calls_lifted d (nodes_as p)
+-- over more callees
+module _ {P Q : ℕ → Tree → Type 0} {callees more : List Callee} (f : (n : ℕ) (s : Tree) → P n s → Q n s) (g : (d : ℕ) (k : Callee) → slice_get callees d ≡ Some k → slice_get more d ≡ Some k) where
+  code_over : {g : Goal} {c : Code} → IsCode callees P g c → IsCode more Q g c
+  code_over (fail e) = fail e
+  code_over (equal e p q) = equal e (f _ _ p) (f _ _ q)
+  code_over (arithmetic e p q) = arithmetic e (f _ _ p) (f _ _ q)
+  code_over (open_port e p q) = open_port e (f _ _ p) (f _ _ q)
+  code_over (send e p q) = send e (f _ _ p) (f _ _ q)
+  code_over (calls e d p) = calls e (g _ _ d) (nodes_as f p)
+  code_over (calls_lifted d p) = calls_lifted (g _ _ d) (nodes_as f p)
 
+  codes_over : {gs : List Goal} {cs : List Code} → AreCodes callees P gs cs → AreCodes more Q gs cs
+  codes_over no_codes = no_codes
+  codes_over (true_goal e p) = true_goal e (codes_over p)
+  codes_over (a_code p q) = a_code (code_over p) (codes_over q)
+
+  clause_over : {c : Clause} {l : program.Clause} → IsClauseOf callees P c l → IsClauseOf more Q c l
+  clause_over p = record { variables = p.variables; count = p.count; arguments = nodes_as f p.arguments; guard = codes_over p.guard; body = codes_over p.body }
+
+  pub loaded_over : {cs : List Clause} {ls : List program.Clause} → AreLoaded callees P cs ls → AreLoaded more Q cs ls
+  loaded_over none_loaded = none_loaded
+  loaded_over (one_loaded p q) = one_loaded (clause_over p) (loaded_over q)
+
+module _ {P Q : ℕ → Tree → Type 0} (f : (n : ℕ) (s : Tree) → P n s → Q n s) where
   pub codes_as : {callees : List Callee} {gs : List Goal} {cs : List Code} → AreCodes callees P gs cs → AreCodes callees Q gs cs
-  codes_as no_codes = no_codes
-  codes_as (true_goal e p) = true_goal e (codes_as p)
-  codes_as (a_code p q) = a_code (code_as p) (codes_as q)
-
-  pub clause_as : {callees : List Callee} {c : Clause} {l : program.Clause} → IsClauseOf callees P c l → IsClauseOf callees Q c l
-  clause_as p = record { variables = p.variables; count = p.count; arguments = nodes_as p.arguments; guard = codes_as p.guard; body = codes_as p.body }
+  codes_as p = codes_over f (λ d k e. e) p
 
   pub loaded_as : {callees : List Callee} {cs : List Clause} {ls : List program.Clause} → AreLoaded callees P cs ls → AreLoaded callees Q cs ls
-  loaded_as none_loaded = none_loaded
-  loaded_as (one_loaded p q) = one_loaded (clause_as p) (loaded_as q)
+  loaded_as p = loaded_over f (λ d k e. e) p
 
   definition_as : {callees : List Callee} {cs : List Clause} {d : Definition} → IsDefinitionOf callees P cs d → IsDefinitionOf callees Q cs d
   definition_as p = record { first = p.first; more = p.more; found = p.found; key = p.key; op = p.op; clauses = loaded_as p.clauses }

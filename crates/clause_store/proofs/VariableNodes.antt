@@ -1,38 +1,61 @@
--- The nodes of a query's variables.
-use Rattle.std.proofs.Common.{◌≡◌, ℕ, zero, suc, ◌+◌, ◌<◌, List, [], ◌∷◌, ◌++◌, length, get_or, Some, refl, ◌∙◌, ap, arith}
-use Rattle.std.specs.Prelude.{slice_get}
+-- The nodes of variables.
+use Rattle.std.proofs.Common.{◌≡◌, ℕ, zero, suc, ◌+◌, ◌<◌, List, [], ◌∷◌, ◌++◌, length, map, Some, refl, sym, ◌∙◌, ap, subst, arith}
+use Rattle.std.specs.Prelude.{All, slice_get}
+use Rattle.std.proofs.lemmas.List.{length-map}
 use Rattle.akl_terms.specs.declared.term.Node.{Node}
 use Rattle.akl_terms.specs.Template.{Template, IsAfter}
-use Rattle.clause_store.specs.Loaded.{variable_nodes}
+use Rattle.akl_syntax.specs.Sizes.{trees_size}
+use Rattle.clause_store.specs.Plain.{plains}
+use Rattle.clause_store.specs.Codes.{variables}
+use Rattle.clause_store.specs.Standing.{stands_variable, ArePut}
+use Rattle.clause_store.specs.Putting.{numbers_from}
+use Rattle.clause_store.proofs.Growing.{extends_none, Each, each_none, each_more, each_after, at_group}
+use Rattle.clause_store.proofs.Room.{gains_group}
+use Rattle.clause_store.proofs.Collected.{get_further}
 
-pub variable_nodes-more : (n k : ℕ) → variable_nodes n (suc k) ≡ variable_nodes n k ++ Node.Var (n + k) ∷ []
-variable_nodes-more n zero = let e : n ≡ n + 0 = omega arith in ap (λ (m : ℕ). Node.Var m ∷ []) e
-variable_nodes-more n (suc k) =
+-- ---- the first numbers
+pub numbers_from-more : (n k : ℕ) → numbers_from n (suc k) ≡ numbers_from n k ++ (n + k) ∷ []
+numbers_from-more n zero = let e : n ≡ n + 0 = omega arith in ap (λ (m : ℕ). m ∷ []) e
+numbers_from-more n (suc k) =
     let e : suc n + k ≡ n + suc k = omega arith in
-    ap (λ (ns : List Node). Node.Var n ∷ ns) (variable_nodes-more (suc n) k ∙ ap (λ (m : ℕ). variable_nodes (suc n) k ++ Node.Var m ∷ []) e)
+    ap (λ (ns : List ℕ). n ∷ ns) (numbers_from-more (suc n) k ∙ ap (λ (m : ℕ). numbers_from (suc n) k ++ m ∷ []) e)
 
-get_variable : (n k i : ℕ) → i < k → slice_get (variable_nodes n k) i ≡ Some (Node.Var (n + i))
+pub length-numbers_from : (n k : ℕ) → length (numbers_from n k) ≡ k
+length-numbers_from n zero = refl
+length-numbers_from n (suc k) = ap suc (length-numbers_from (suc n) k)
+
+get_variable : (n k i : ℕ) → i < k → slice_get (map (λ m. Node.Var m) (numbers_from n k)) i ≡ Some (Node.Var (n + i))
 get_variable n zero i h = absurd (omega arith)
 get_variable n (suc k) zero h = let e : n ≡ n + 0 = omega arith in ap (λ (m : ℕ). Some (Node.Var m)) e
 get_variable n (suc k) (suc i) h = let e : suc n + i ≡ n + suc i = omega arith in get_variable (suc n) k i (omega arith) ∙ ap (λ (m : ℕ). Some (Node.Var m)) e
 
-get_behind : (xs ys : List Node) (j i : ℕ) → j ≡ length xs + i → slice_get (xs ++ ys) j ≡ slice_get ys i
-get_behind [] ys j i e = let h : j ≡ i = omega (arith, e) in ap (slice_get ys) h
-get_behind (x ∷ xs) ys zero i e = absurd (omega (arith, e))
-get_behind (x ∷ xs) ys (suc j) i e = get_behind xs ys j i (omega (arith, e))
-
 -- behind other nodes
-pub variables_behind : (nodes : List Node) (k i : ℕ) → i < k → slice_get (nodes ++ variable_nodes 0 k) (length nodes + i) ≡ Some (Node.Var i)
+pub variables_behind : (nodes : List Node) (k i : ℕ) → i < k → slice_get (nodes ++ map (λ m. Node.Var m) (numbers_from 0 k)) (length nodes + i) ≡ Some (Node.Var i)
 variables_behind nodes k i h =
     let z : 0 + i ≡ i = omega arith in
-    get_behind nodes (variable_nodes 0 k) (length nodes + i) i refl ∙ get_variable 0 k i h ∙ ap (λ (m : ℕ). Some (Node.Var m)) z
+    get_further nodes (map (λ m. Node.Var m) (numbers_from 0 k)) i ∙ get_variable 0 k i h ∙ ap (λ (m : ℕ). Some (Node.Var m)) z
 
-pub length-variable_nodes : (n k : ℕ) → length (variable_nodes n k) ≡ k
-length-variable_nodes n zero = refl
-length-variable_nodes n (suc k) = ap suc (length-variable_nodes (suc n) k)
+pub variables_length : (n k : ℕ) → length (map (λ m. Node.Var m) (numbers_from n k)) ≡ k
+variables_length n k = length-map (numbers_from n k) (λ m. Node.Var m) ∙ length-numbers_from n k
 
--- a variable has no arguments
-pub variables_after : (t : Template) (n k i : ℕ) (d : Node) → i < length (variable_nodes n k) → IsAfter t (get_or (variable_nodes n k) i d)
-variables_after t n zero i d h = absurd (omega arith)
-variables_after t n (suc k) zero d h = tt
-variables_after t n (suc k) (suc i) d h = variables_after t (suc n) k i d (omega arith)
+-- ---- any numbers
+pub variables_size : (ns : List ℕ) → trees_size (variables ns) ≡ length ns
+variables_size [] = refl
+variables_size (n ∷ ns) = omega (arith, variables_size ns)
+
+each_variable : (t : Template) (ns : List ℕ) → Each t (map (λ n. Node.Var n) ns) (plains (variables ns))
+each_variable t [] = each_none
+each_variable t (n ∷ ns) = each_more stands_variable (each_variable t ns)
+
+pub variables_after : (t : Template) (group : List Node) (ns : List ℕ) → group ≡ map (λ n. Node.Var n) ns → All (IsAfter t) group
+variables_after t group ns e = subst (λ (z : List Node). All (IsAfter t) z) (sym e) (each_after _ (each_variable t ns))
+
+pub variables_put : {old new : Template} {first : ℕ} (ns : List ℕ) → first ≡ length old.nodes → new ≡ record old { nodes = old.nodes ++ map (λ n. Node.Var n) ns }
+    → ArePut old new first (length ns) (variables ns)
+variables_put {old} {new} {first} ns ef e =
+    let group : List Node = map (λ n. Node.Var n) ns in
+    let len : length group ≡ length ns = length-map ns (λ n. Node.Var n) in
+    record {
+      stand = rw (ef, ← len) (at_group new old.nodes (ap (λ (z : Template). z.nodes) e) (each_variable new ns));
+      gains = gains_group group (record { extends = extends_none old; nodes = omega (arith, len, variables_size ns); symbols = omega (arith, len, variables_size ns) }) e;
+    }

@@ -22,7 +22,7 @@ abbrev pub variables : List ℕ → Trees
 variables [] = no_trees
 variables (n ∷ ns) = more_trees (written.variable n) (variables ns)
 
--- a goal's code: a reserved goal has its own meaning, and any other calls the definition of its symbol and number of arguments
+-- a goal's code: a reserved goal has its own meaning, and any other calls the definition of its symbol, or of its number, and its number of arguments
 pub data IsCode (callees : List Callee) (Is : ℕ → Tree → Type 0) : Goal → Code → Type 0 where
   fail : {s : List ℕ} → reserved_of s 0 ≡ Some Fail → IsCode callees Is (call s no_trees) codes.Fail
   equal : {s : List ℕ} {a b : Tree} {l r : ℕ} → reserved_of s 2 ≡ Some Equal → Is l a → Is r b → IsCode callees Is (call s (pair a b)) (codes.Equal l r)
@@ -31,7 +31,7 @@ pub data IsCode (callees : List Callee) (Is : ℕ → Tree → Type 0) : Goal �
   send : {s : List ℕ} {a b : Tree} {l r : ℕ} → reserved_of s 2 ≡ Some Send → Is l a → Is r b → IsCode callees Is (call s (pair a b)) (codes.Send l r)
   calls : {s : List ℕ} {ts : Trees} {d first : ℕ} → reserved_of s (count ts) ≡ None → slice_get callees d ≡ Some (named s (count ts)) → AreNodes Is first ts
       → IsCode callees Is (call s ts) (codes.Call d first (count ts))
-  calls_lifted : {n d first : ℕ} {ns : List ℕ} → slice_get callees d ≡ Some (Lifted n) → AreNodes Is first (variables ns)
+  calls_lifted : {n d first : ℕ} {ns : List ℕ} → slice_get callees d ≡ Some (Lifted n (length ns)) → AreNodes Is first (variables ns)
       → IsCode callees Is (lifted n ns) (codes.Call d first (length ns))
 
 -- the codes of goals, one for one and in order; `true` gives none

@@ -2,6 +2,7 @@ pub mod Plain
 pub mod Nodes
 pub mod Codes
 pub mod Loaded
+pub mod Fitting
 pub mod Conditions
 pub mod Standing
 pub mod Putting

@@ -72,11 +72,6 @@ abbrev pub shown_from : ℕ → List (List ℕ) → List Shown
 shown_from n [] = []
 shown_from n (w ∷ ws) = if is_hidden w then shown_from (suc n) ws else record { name = w; index = n } ∷ shown_from (suc n) ws
 
--- the nodes of so many variables, from a number on
-abbrev pub variable_nodes : ℕ → ℕ → List Node
-variable_nodes n zero = []
-variable_nodes n (suc k) = Node.Var n ∷ variable_nodes (suc n) k
-
 -- the query that a written one stands for over a program, which gains the definitions of lifted clauses and keeps all that it has
 pub record IsQueryOf (old : Program) (lifted : List Clause) (q : Query) (new : Program) (loaded : program_query.Query) : Type 0 where
   pub extends : Extends old.templates new.templates

@@ -1,5 +1,5 @@
 -- What the functions that load goals, clauses and definitions promise each other. No public clause speaks of it.
-use Rattle.std.specs.Prelude.{◌≡◌, ◌+◌, ◌≤◌, ℕ, List, [], ◌∷◌, ◌++◌, length, map, Option, Some, None, option_to_list}
+use Rattle.std.specs.Prelude.{◌≡◌, ◌+◌, ◌≤◌, ℕ, zero, suc, List, [], ◌∷◌, ◌++◌, length, map, Option, Some, None, option_to_list}
 use Rattle.std.specs.List.{All, Contains}
 use Rattle.akl_terms.specs.declared.program.Code.{Code}
 use Rattle.akl_terms.specs.declared.program.Code.TheVariants as codes
@@ -26,6 +26,11 @@ reserved_code Equal first = Some (codes.Equal first (first + 1))
 reserved_code (Arith test) first = Some (codes.Arith test first (first + 1))
 reserved_code OpenPort first = Some (codes.OpenPort first (first + 1))
 reserved_code Send first = Some (codes.Send first (first + 1))
+
+-- so many numbers, from one on
+abbrev pub numbers_from : ℕ → ℕ → List ℕ
+numbers_from n zero = []
+numbers_from n (suc k) = n ∷ numbers_from (suc n) k
 
 -- what the goal needs was put, and this is its code, or it has none
 pub record IsGoalPut (callees : List Callee) (old new : Template) (g : Goal) (o : Option Code) : Type 0 where

@@ -1,6 +1,6 @@
 //! The codes of written goals.
 
-ghost use Rattle.std.specs.Prelude.{◌≡◌, ◌<◌, IfOk, length, map};
+ghost use Rattle.std.specs.Prelude.{◌≡◌, ◌<◌, IfOk, map};
 ghost use Rattle.std.specs.List.{All};
 ghost use Rattle.term_syntax.specs.Tree.{trees};
 ghost use Rattle.term_syntax.specs.View.{tree};
@@ -8,13 +8,13 @@ ghost use Rattle.akl_syntax.specs.Goals.{call, lifted, goals};
 ghost use Rattle.akl_syntax.specs.GoalView.{goal};
 ghost use Rattle.akl_syntax.specs.Sizes.{goal_size, goals_size};
 ghost use Rattle.clause_keys.specs.Conditions.{IsLoadable};
-ghost use Rattle.clause_store.specs.Codes.{variables};
-ghost use Rattle.clause_store.specs.Standing.{HasRoom, ArePut};
+ghost use Rattle.clause_store.specs.Standing.{HasRoom};
 ghost use Rattle.clause_store.specs.Putting.{reserved_code, IsGoalPut, AreGoalsPut};
 
 use crate::nodes::put_terms;
+use crate::variables::put_variables;
 use akl_syntax::{SourceGoal, SourceTerm};
-use akl_terms::{Code, Node, Templates};
+use akl_terms::{Code, Templates};
 use clause_keys::{Callees, Reserved, meaning_of};
 use std::alloc::{AllocError, Global};
 
@@ -73,23 +73,6 @@ fn call_code(
     }))
 }
 
-/// Puts the nodes of variables as neighbours, and gives the first.
-fn put_variables(
-    alloc: Global,
-    templates: &mut Templates,
-    numbers: &[u32],
-) -> Result<u32, AllocError>
-    requires { HasRoom templates.old (length numbers.now) }
-    ensures { IfOk result (λ n. ArePut templates.old templates.new n (length numbers.now) (variables numbers.now)) }
-{
-    let mut group = Vec::new(alloc);
-    for number in numbers {
-        group.push(Node::Var(*number))?;
-    }
-    let first = templates.push(&group)?;
-    Ok(first)
-}
-
 /// Puts the arguments of a call of a definition that was made of an inline choice, and gives its code.
 fn lifted_code(
     alloc: Global,
@@ -103,13 +86,14 @@ fn lifted_code(
     ensures { IfOk result (λ o. IsGoalPut callees.now templates.old templates.new (lifted number arguments.now) o) }
 {
     let first = put_variables(alloc, templates, arguments)?;
-    let Some(definition) = callees.lifted(number) else {
+    let count = arguments.len() as u32;
+    let Some(definition) = callees.lifted(number, count) else {
         unreachable!();
     };
     Ok(Some(Code::Call {
         definition,
         first,
-        count: arguments.len() as u32,
+        count,
     }))
 }
 

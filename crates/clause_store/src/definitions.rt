@@ -4,9 +4,8 @@ ghost use Rattle.std.specs.Prelude.{◌≡◌, ◌<◌, ◌≤◌, ◌+◌, ◌+
 ghost use Rattle.std.specs.List.{All};
 ghost use Rattle.akl_syntax.specs.Answers.{clause_view, clauses_view};
 ghost use Rattle.akl_syntax.specs.Sizes.{clause_size, clauses_size};
-ghost use Rattle.clause_keys.specs.Keys.{key_of, defined_by, called_by, called, by_head, IsAbsent};
+ghost use Rattle.clause_keys.specs.Keys.{key_of, defined_by, called_by, called, by_head, IsAbsent, AreUnique};
 ghost use Rattle.clause_keys.specs.Conditions.{IsClauseLoadable, AreUnmixed};
-ghost use Rattle.clause_store.specs.Conditions.{AreUnique};
 ghost use Rattle.clause_store.specs.Standing.{HasRoom};
 ghost use Rattle.clause_store.specs.Putting.{IsClausePut, AreClausesPut, IsDefinitionPut, IsExtended, HaveOneOp};
 
@@ -63,7 +62,7 @@ fn load_clauses(
 /// The key of a head with so many arguments, and the number of what was made of an inline choice.
 fn key(head: Head, arity: u32) -> (Key, Option<u32>)
     ensures key { result.0 ≡ key_of head arity }
-    ensures called { called result.1 result.0 ≡ by_head head arity }
+    ensures called { called result.1 result.0 arity ≡ by_head head arity }
 {
     match head {
         Head::Named(symbol) => (Key { symbol, arity }, None),

@@ -4,8 +4,7 @@ ghost use Rattle.std.specs.Prelude.{◌≡◌, ◌<◌, ◌≤◌, ◌+◌, IfOk
 ghost use Rattle.std.specs.List.{All};
 ghost use Rattle.akl_syntax.specs.Answers.{clause_view, clauses_view};
 ghost use Rattle.akl_syntax.specs.Sizes.{clause_size, clauses_size};
-ghost use Rattle.clause_keys.specs.Keys.{defined_by, Adds, IsAbsent};
-ghost use Rattle.clause_store.specs.Conditions.{AreUnique};
+ghost use Rattle.clause_keys.specs.Keys.{defined_by, Adds, IsAbsent, AreUnique};
 ghost use Rattle.clause_store.specs.Groups.{put_at, AreGathered};
 
 use akl_syntax::SourceClause;

@@ -4,13 +4,10 @@
 mod codes;
 mod definitions;
 mod groups;
-mod index;
 mod nodes;
 mod program;
 mod query;
 mod shown;
-#[cfg(test)]
-mod tests;
 mod variables;
 
 pub use program::load;

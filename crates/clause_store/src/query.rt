@@ -1,28 +1,31 @@
 //! Queries.
 
-ghost use Rattle.std.specs.Prelude.{◌≡◌, ◌<◌, ◌≤◌, ◌+◌, ◌*◌, ◌++◌, IfOk, length, map};
+ghost use Rattle.std.specs.Prelude.{◌≡◌, ◌<◌, ◌≤◌, ◌+◌, ◌*◌, ◌++◌, List, IfOk, length, map};
 ghost use Rattle.std.specs.List.{All};
 ghost use Rattle.akl_syntax.specs.Answers.{clauses_view, query_view};
+ghost use Rattle.akl_syntax.specs.Clauses.{Clause};
 ghost use Rattle.akl_syntax.specs.Sizes.{clauses_size, query_size};
-ghost use Rattle.clause_keys.specs.Keys.{called_by, defined_by};
+ghost use Rattle.clause_keys.specs.Keys.{called_by, defined_by, AreUnique};
 ghost use Rattle.clause_keys.specs.Conditions.{IsLoadable, IsClauseLoadable, AreUnmixed};
-ghost use Rattle.clause_store.specs.Conditions.{IsNewLifted, AreUnique};
-ghost use Rattle.clause_store.specs.Loaded.{IsQueryOf};
+ghost use Rattle.clause_store.specs.Conditions.{IsNewLifted};
+ghost use Rattle.clause_store.specs.Loaded.{IsProgramOf, IsQueryOf};
+ghost use Rattle.clause_store.specs.Fitting.{IsOver};
 
 use crate::codes::goal_codes;
 use crate::definitions::extend;
-use crate::index::index;
 use crate::program::in_order;
 use crate::shown::shown;
-use crate::variables::put_variables;
+use crate::variables::{numbers_below, put_variables};
 use akl_syntax::{SourceClause, SourceQuery};
 use akl_terms::{Items, Program, Query};
+use clause_keys::Callees;
 use std::alloc::{AllocError, Global};
 
 /// Loads a query over a program, with the clauses of the definitions that were made of its inline choices.
 ///
 /// The program keeps all that it has and gains what the query needs: first a node for each of its variables, in order,
-/// so that what an answer shows is a term. The variables whose names don't begin with `_` are shown. It is an error only where memory runs out.
+/// so that what an answer shows is a term. A program of some clauses becomes that of these clauses with the lifted ones
+/// behind them. The variables whose names don't begin with `_` are shown. It is an error only where memory runs out.
 pub fn load_query(
     alloc: Global,
     program: Program,
@@ -39,6 +42,7 @@ pub fn load_query(
     requires few_nodes { length program.templates.nodes < 4000000000 }
     requires few_symbols { length program.templates.symbols < 4000000000 }
     requires few_definitions { length program.definitions < 4000000000 }
+    ensures over { IfOk result (λ x. (cs : List Clause) → IsProgramOf cs program → IsOver cs (clauses_view lifted) x.0 x.1) }
     ensures query { IfOk result (λ x. IsQueryOf program (clauses_view lifted) (query_view query) x.0 x.1) }
     ensures unique { IfOk result (λ x. AreUnique (map called_by x.0.definitions)) }
     ensures goals { IfOk result (λ x. length x.1.goals ≤ query_size (query_view query)) }
@@ -48,9 +52,10 @@ pub fn load_query(
 {
     let variables = query.names.len() as u32;
     let mut templates = program.templates;
-    put_variables(alloc, &mut templates, variables)?;
+    let numbers = numbers_below(alloc, variables)?;
+    put_variables(alloc, &mut templates, &numbers)?;
     let mut definitions = program.definitions.into_vec();
-    let mut callees = index(alloc, &definitions)?;
+    let mut callees = Callees::of_definitions(alloc, &definitions)?;
     extend(
         alloc,
         &mut callees,

@@ -1,20 +1,37 @@
-//! The nodes of a query's variables.
+//! The nodes of variables.
 
-ghost use Rattle.std.specs.Prelude.{◌≡◌, ◌<◌, ◌+◌, ◌^◌, ◌++◌, OnOk, length};
-ghost use Rattle.clause_store.specs.Loaded.{variable_nodes};
+ghost use Rattle.std.specs.Prelude.{◌≡◌, ◌<◌, ◌+◌, ◌^◌, ◌++◌, IfOk, OnOk, length, map};
+ghost use Rattle.akl_terms.specs.declared.term.Node.{Node};
+ghost use Rattle.clause_store.specs.Putting.{numbers_from};
 
 use akl_terms::{Node, Templates};
 use std::alloc::{AllocError, Global};
 
-/// Puts the nodes of so many variables as neighbours.
-pub fn put_variables(alloc: Global, templates: &mut Templates, count: u32) -> Result<(), AllocError>
-    requires { length templates.old.nodes + count < 2 ^ 32 }
-    ensures { OnOk result (templates.new ≡ record templates.old { nodes = templates.old.nodes ++ variable_nodes 0 count }) }
+/// The numbers below a count, in order.
+pub fn numbers_below(alloc: Global, count: u32) -> Result<Vec<u32>, AllocError>
+    ensures { IfOk result (λ v. v.items ≡ numbers_from 0 count) }
+{
+    let mut numbers = Vec::new(alloc);
+    for number in 0..count {
+        numbers.push(number)?;
+    }
+    Ok(numbers)
+}
+
+/// Puts the nodes of variables as neighbours, and gives the first.
+pub fn put_variables(
+    alloc: Global,
+    templates: &mut Templates,
+    numbers: &[u32],
+) -> Result<u32, AllocError>
+    requires { length templates.old.nodes + length numbers.now < 2 ^ 32 }
+    ensures first { IfOk result (λ n. n ≡ length templates.old.nodes) }
+    ensures put { OnOk result (templates.new ≡ record templates.old { nodes = templates.old.nodes ++ map (λ n. Node.Var n) numbers.now }) }
 {
     let mut group = Vec::new(alloc);
-    for index in 0..count {
-        group.push(Node::Var(index))?;
+    for number in numbers {
+        group.push(Node::Var(*number))?;
     }
-    templates.push(&group)?;
-    Ok(())
+    let first = templates.push(&group)?;
+    Ok(first)
 }

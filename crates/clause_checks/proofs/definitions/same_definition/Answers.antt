@@ -1,5 +1,7 @@
 use Rattle.std.proofs.Common.{◌≡◌, true, false, length, refl, arith}
+use Rattle.std.specs.Prelude.{◌==◌}
 use Rattle.std.specs.Str.{bytes_eq}
+use Rattle.std.proofs.lemmas.Bool.Decides.{nat_tests}
 use Rattle.clause_checks.proofs.SameCallee.{defines}
 use Rattle.clause_checks.proofs.definitions.same_definition.Goals as goal
 
@@ -18,8 +20,18 @@ returns-else-eq c =
 pub returns-in-Lifted-head : goal.returns-in-Lifted-head
 returns-in-Lifted-head c = rw (defines c.args.clause.now, defines c.args.other.now, c.in-Named.is, c.in-Lifted-head.is)
 
-pub returns-in-Lifted-head-2 : goal.returns-in-Lifted-head-2
-returns-in-Lifted-head-2 c = rw (defines c.args.clause.now, defines c.args.other.now, c.in-Lifted.is, c.in-Lifted-head-2.is)
 
 pub returns-in-Named-head-2 : goal.returns-in-Named-head-2
 returns-in-Named-head-2 c = rw (defines c.args.clause.now, defines c.args.other.now, c.in-Lifted.is, c.in-Named-head-2.is)
+
+pub returns-then-number-found : goal.returns-then-number-found
+returns-then-number-found c =
+    let e : c.in-Lifted.number == c.in-Lifted-head-2.found ≡ true = grind (arith, nat_tests) in
+    let m : length c.args.clause.now.arguments.items ≡ c.len-then-number-found.result = omega arith in
+    let n : length c.args.other.now.arguments.items ≡ c.len-then-number-found-2.result = omega arith in
+    rw (defines c.args.clause.now, defines c.args.other.now, c.in-Lifted.is, c.in-Lifted-head-2.is, e, m, n) refl
+
+pub returns-else-number-found : goal.returns-else-number-found
+returns-else-number-found c =
+    let e : c.in-Lifted.number == c.in-Lifted-head-2.found ≡ false = grind (arith, nat_tests) in
+    rw (defines c.args.clause.now, defines c.args.other.now, c.in-Lifted.is, c.in-Lifted-head-2.is, e) refl

@@ -2,6 +2,7 @@ use Rattle.std.proofs.Common.{length, ap, refl, arith}
 use Rattle.std.proofs.lemmas.List.{length-map}
 use Rattle.akl_syntax.specs.Answers.{clause_view}
 use Rattle.clause_store.proofs.Loads.{program_put, program_unique, definitions_few, nothing_unique}
+use Rattle.clause_store.proofs.Fitting.{program_fits}
 use Rattle.clause_store.proofs.program.load.Goals as goal
 
 pub returns-clause-program : goal.returns-clause-program
@@ -13,3 +14,7 @@ returns-clause-unique c = program_unique _ (nothing_unique _ c.new-callees.ensur
 
 pub returns-clause-definitions : goal.returns-clause-definitions
 returns-clause-definitions c = omega (arith, definitions_few _ c.in_ok-extend.ensures c.new.ensures, ap length c.new-callees.ensures, length-map c.args.clauses.items clause_view)
+
+pub returns-clause-calls : goal.returns-clause-calls
+returns-clause-calls c =
+    program_fits _ _ (program_put _ c.new-callees.ensures c.new-definitions.ensures.items c.in_ok-cell.ensures c.in_ok-extend.ensures c.new.ensures refl c.in_order.ensures.arranged c.in_order.ensures.distinct)

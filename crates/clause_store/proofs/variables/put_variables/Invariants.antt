@@ -1,6 +1,6 @@
-use Rattle.std.proofs.Common.{◌≡◌}
-use Rattle.clause_store.specs.Loaded.{variable_nodes}
+use Rattle.std.proofs.Common.{◌≡◌, map, take}
+use Rattle.akl_terms.specs.declared.term.Node.{Node}
 use Rattle.clause_store.proofs.variables.put_variables.Given as goal
 
-abbrev pub invariant-loop-index : goal.invariant-loop-index
-invariant-loop-index l = l.group.items ≡ variable_nodes 0 l.index
+abbrev pub invariant-loop-number : goal.invariant-loop-number
+invariant-loop-number l = l.group.items ≡ map (λ n. Node.Var n) (take l.number-index l.numbers)

@@ -12,7 +12,7 @@ invariant_of-self c = IsIndexed-symbols c.self.inside _ c.self.invariant (λ i s
 pub invariant_of-self-in-Ok : goal.invariant_of-self-in-Ok
 invariant_of-self-in-Ok c =
     let n : c.len-found.result ≡ length c.self.inside.list.items = search rules in
-    IsIndexed-lifted c.self.inside _ c.args.number c.self.invariant refl c.in_ok-push.ensures.items refl (rw (← n) c.in-Ok.ensures.updates) (rw c.self.view_is c.requires.room) (rw c.self.view_is c.requires.absent)
+    IsIndexed-lifted c.self.inside _ c.args.number c.args.arity c.self.invariant refl c.in_ok-push.ensures.items refl (rw (← n) c.in-Ok.ensures.updates) (rw c.self.view_is c.requires.room) (rw c.self.view_is c.requires.absent)
 
 pub invariant_of-self-in-Err : goal.invariant_of-self-in-Err
 invariant_of-self-in-Err c =
@@ -23,5 +23,5 @@ invariant_of-self-in-Err c =
 pub returns-in-Ok-clause-ok : goal.returns-in-Ok-clause-ok
 returns-in-Ok-clause-ok c =
     let n : c.len-found.result ≡ length c.args.self.now = rw (← c.self.view_is) (search rules) in
-    let list : c.push.new.self.items ≡ c.args.self.now ++ Lifted c.args.number ∷ [] = rw (← c.self.view_is) c.in_ok-push.ensures.items in
+    let list : c.push.new.self.items ≡ c.args.self.now ++ Lifted c.args.number c.args.arity ∷ [] = rw (← c.self.view_is) c.in_ok-push.ensures.items in
     rw (n, list) (next c.requires.absent)

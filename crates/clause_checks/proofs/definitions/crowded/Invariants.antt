@@ -1,8 +1,0 @@
-use Rattle.std.proofs.Common.{map, drop}
-use Rattle.clause_checks.specs.Rows.{crowded_clause}
-use Rattle.clause_checks.specs.Tallies.{clause_of}
-use Rattle.clause_checks.proofs.Searches.{Searches}
-use Rattle.clause_checks.proofs.definitions.crowded.Given as given
-
-abbrev pub invariant-loop-clause : given.invariant-loop-clause
-invariant-loop-clause l = Searches (crowded_clause (map clause_of l.listed)) (map clause_of l.listed) (drop l.clause-index l.listed)

@@ -1,7 +1,0 @@
-use Rattle.std.proofs.Common.{map, drop}
-use Rattle.clause_checks.specs.Tallies.{clause_of}
-use Rattle.clause_checks.proofs.Mixing.{MixedSearch}
-use Rattle.clause_checks.proofs.definitions.mixed.Given as given
-
-abbrev pub invariant-loop-clause : given.invariant-loop-clause
-invariant-loop-clause l = MixedSearch (map clause_of l.listed) (drop l.clause-index l.listed)

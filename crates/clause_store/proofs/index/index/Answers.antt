@@ -1,7 +1,0 @@
-use Rattle.std.proofs.Common.{arith}
-use Rattle.clause_store.proofs.Indexed.{index_more}
-use Rattle.clause_store.proofs.index.index.Goals as goal
-
-pub loop-definition-preserved : goal.loop-definition-preserved
-loop-definition-preserved c =
-    index_more c.args.definitions.now c.loop-definition.definition-index c.definition-item.result c.requires.unique c.loop-definition.invariant (omega (arith, c.loop-definition-test.true, c.loop-definition.auto.definition-index-end)) c.definition-item.is c.in_ok-add_definition.ensures.ok
