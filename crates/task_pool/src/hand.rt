@@ -38,7 +38,7 @@ impl<P: Rule> Model for Hand<P> {
 }
 
 /// The token was handed back, after so many pushes that succeeded.
-#[derive(Clone, Copy, Debug, PartialEq, Eq)]
+#[derive(Drop)]
 pub struct Refused {
     pub token: u64,
     pub pushes: u64,
