@@ -10,7 +10,8 @@ use Rattle.akl_terms.specs.Equal.{Equations, IsTold, EqualBy, Equal, told, IsCon
 use Rattle.akl_terms.specs.Solved.{IsBound, bound, walk, Agree, SameTo, follow}
 use Rattle.akl_terms.specs.Template.{tree}
 use Rattle.akl_terms.proofs.EqualLaws.{EqualBy-follows}
-use Rattle.rational_unify.specs.Known.{same_var, bound_in, end_of}
+use Rattle.akl_terms.specs.Names.{same_var}
+use Rattle.rational_unify.specs.Known.{bound_in, end_of}
 use Rattle.rational_unify.specs.Solving.{equations_in, bindings_in, Tells, IsSolution, IsClashOf}
 use Rattle.rational_unify.proofs.Chains.{same_var-equal}
 use Rattle.rational_unify.proofs.Walks.{walk-equal, walk-free, IsFree}

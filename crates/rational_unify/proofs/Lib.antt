@@ -9,4 +9,6 @@ pub mod Shortening
 pub mod Heads
 pub mod Indexing
 pub mod Turns
+pub mod Taking
+pub mod FormLaws
 pub mod FromNothing

@@ -1,5 +1,6 @@
 pub mod Known
 pub mod Solving
 pub mod Indexes
+pub mod Forms
 pub mod Shortened
 pub mod Meeting

@@ -4,10 +4,13 @@
 mod added;
 mod chain;
 mod compared;
+mod form;
 mod known;
 mod meet;
 mod solver;
 
+pub use added::AddedBindings;
 pub use chain::{chain_end, variable_end};
+pub use form::Form;
 pub use known::{Lookup, Nothing, found};
 pub use solver::{Solved, solve};

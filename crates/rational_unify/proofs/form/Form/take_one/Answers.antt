@@ -1,0 +1,28 @@
+use Rattle.std.proofs.Common.{◌≡◌, ◌≢◌, sym, refl, ◌∙◌, ap, true, false, Some, None, subst}
+use Rattle.std.proofs.lemmas.Result.{IfOk-weaker}
+use Rattle.akl_terms.specs.Tree.{Tree, variable, head_of}
+use Rattle.akl_terms.specs.Template.{tree}
+use Rattle.akl_terms.specs.declared.name.Var.{Var}
+use Rattle.rational_unify.specs.Known.{found_in}
+use Rattle.rational_unify.specs.Forms.{made_equation, made_binding, made_nothing}
+use Rattle.rational_unify.proofs.Chains.{found-none, same_var-refl}
+use Rattle.rational_unify.proofs.Ends.{free-tree, headed-tree}
+use Rattle.rational_unify.proofs.FormLaws.{other_variable, headed_other}
+use Rattle.rational_unify.proofs.form.Form.take_one.Goals as goal
+use Rattle.rational_unify.proofs.form.Form.take_one.Goals.{in_default-look-via-in-Free+else-eq, in_default-look-via-in_default-look}
+
+pub returns-in-Some-clause-taken : goal.returns-in-Some-clause-taken
+returns-in-Some-clause-taken g c = made_equation c.in-Some.other (sym c.in-Some.ensures) refl c.in_ok-push.ensures.items
+
+pub push-requires-in_default-look : goal.push-requires-in_default-look
+push-requires-in_default-look g c = (found-none (g.K.Lookup.bindings c.args.self.now.known.now) c.args.self.now.added c.args.variable (sym c.get.ensures ∙ c.in_default.is)).1
+
+pub returns-in_default-look-clause-taken : goal.returns-in_default-look-clause-taken
+returns-in_default-look-clause-taken g c = IfOk-weaker c.push-in_default-look.result _ _
+    (λ z h. made_binding c.chain_end-last.result (sym c.get.ensures ∙ c.in_default.is) c.chain_end-last.ensures other h refl) c.push-in_default-look.ensures.list
+  where
+    other : tree c.args.templates.now.nodes c.chain_end-last.result ≢ variable c.args.variable
+    other = elim c.in_default-look.branch [
+      | in_default-look-via-in-Free+else-eq w ↦ other_variable c.args.templates.now.nodes c.chain_end-last.result w.in-Free.end c.args.variable w.in-Free.ensures.seen w.if-eq.ensures
+      | in_default-look-via-in_default-look w ↦ headed_other c.args.templates.now.nodes c.chain_end-last.result c.look.result c.args.variable c.look.ensures.seen w.in_default-look.not-Free
+    ]
