@@ -213,7 +213,7 @@ module _ (c : Command) where
   -- a command whose query is loaded stops for a fault, or since a goal isn't built, or since each text of an answer is too long
   loaded_stop : {query program : List ℕ} {l : Loaded} {t : Status} {g : Refusal} → Asks c query program → (from : IsLoadedFrom program query l) → Stops c.words c.source c.source_after t g
       → IsFault t ⊎ (((are_built_goals from.is_query.asked.goals ≡ false) × (t ≡ Status.NotYet) × (g ≡ Refusal.NotYet Part.Query))
-          ⊎ ((are_built_goals from.is_query.asked.goals ≡ true) × (t ≡ Status.NotYet) × (g ≡ Refusal.NotYet Part.Answer)))
+      ⊎ ((are_built_goals from.is_query.asked.goals ≡ true) × (t ≡ Status.NotYet) × (g ≡ Refusal.NotYet Part.Answer)))
   loaded_stop a m (by_words w l) = absurd (asked_words a.asked w)
   loaded_stop a m (by_reading b r) = inl (read_faults r)
   loaded_stop a m (by_program b r k) = inl (loaded_or_stopped m.is_program (stop_at a r k))

@@ -53,60 +53,56 @@ not_both Status.WriteFault e l = e
 not_both Status.NoMemory e l = l
 not_both Status.NotYet e l = l
 
+-- what a stop is: the words are no command, a call of the source failed, or neither
+data Stopping (words : List (List ℕ)) (before after : Side) : Status → Refusal → Type 0 where
+  no_words : query_of words ≡ None → Stopping words before after Status.NotYet (Refusal.NotYet Part.Words)
+  failed_read : HasFaulted before after → Stopping words before after Status.ReadFault Refusal.Nothing
+  other : {s : Status} {f : Refusal} → IsEarly s → (s ≡ Status.ReadFault → ⊥) → (f ≡ Refusal.NotYet Part.Words → ⊥) → Stopping words before after s f
+
 module _ (words : List (List ℕ)) (before after : Side) where
+  stopping : {s : Status} {f : Refusal} → Stops words before after s f → Stopping words before after s f
+  stopping (by_words (commands.no_command n) l) = no_words n
+  stopping (by_words (commands.long_query q h) l) = other tt (λ d. cc) (λ d. cc)
+  stopping (by_reading a (commands.fault r b)) = failed_read r
+  stopping (by_reading a (commands.no_memory b)) = other tt (λ d. cc) (λ d. cc)
+  stopping (by_program a b (loads.by_text e)) = other tt (λ d. cc) (λ d. cc)
+  stopping (by_program a b (loads.not_built e c)) = other tt (λ d. cc) (λ d. cc)
+  stopping (by_program a b (loads.by_loading e c g)) = other tt (λ d. cc) (λ d. cc)
+  stopping (by_program a b loads.no_memory) = other tt (λ d. cc) (λ d. cc)
+  stopping (by_query a b p (loads.by_text e)) = other tt (λ d. cc) (λ d. cc)
+  stopping (by_query a b p (loads.not_built e c)) = other tt (λ d. cc) (λ d. cc)
+  stopping (by_query a b p (loads.by_loading e c g)) = other tt (λ d. cc) (λ d. cc)
+  stopping (by_query a b p loads.no_memory) = other tt (λ d. cc) (λ d. cc)
+  stopping (by_run a b l (reports.not_built e)) = other tt (λ d. cc) (λ d. cc)
+  stopping (by_run a b l (reports.long h e)) = other tt (λ d. cc) (λ d. cc)
+  stopping (by_run a b l reports.no_memory) = other tt (λ d. cc) (λ d. cc)
+
   -- a command that stops has an early status
-  early : {s : Status} {f : Refusal} → Stops words before after s f → IsEarly s
-  early (by_words (commands.no_command n) l) = tt
-  early (by_words (commands.long_query q h) l) = tt
-  early (by_reading a (commands.fault r b)) = tt
-  early (by_reading a (commands.no_memory b)) = tt
-  early (by_program a b (loads.by_text e)) = tt
-  early (by_program a b (loads.not_built e c)) = tt
-  early (by_program a b (loads.by_loading e c d)) = tt
-  early (by_program a b loads.no_memory) = tt
-  early (by_query a b p (loads.by_text e)) = tt
-  early (by_query a b p (loads.not_built e c)) = tt
-  early (by_query a b p (loads.by_loading e c d)) = tt
-  early (by_query a b p loads.no_memory) = tt
-  early (by_run a b l (reports.not_built e)) = tt
-  early (by_run a b l (reports.long h e)) = tt
-  early (by_run a b l reports.no_memory) = tt
+  is_early : {s : Status} {f : Refusal} → Stopping words before after s f → IsEarly s
+  is_early (no_words n) = tt
+  is_early (failed_read r) = tt
+  is_early (other e r w) = e
 
   -- the cause of a read fault
-  pub rose : {s : Status} {f : Refusal} → Stops words before after s f → s ≡ Status.ReadFault → HasFaulted before after
-  rose (by_words (commands.no_command n) l) d = absurd cc
-  rose (by_words (commands.long_query q h) l) d = absurd cc
-  rose (by_reading a (commands.fault r b)) d = r
-  rose (by_reading a (commands.no_memory b)) d = absurd cc
-  rose (by_program a b (loads.by_text e)) d = absurd cc
-  rose (by_program a b (loads.not_built e c)) d = absurd cc
-  rose (by_program a b (loads.by_loading e c g)) d = absurd cc
-  rose (by_program a b loads.no_memory) d = absurd cc
-  rose (by_query a b p (loads.by_text e)) d = absurd cc
-  rose (by_query a b p (loads.not_built e c)) d = absurd cc
-  rose (by_query a b p (loads.by_loading e c g)) d = absurd cc
-  rose (by_query a b p loads.no_memory) d = absurd cc
-  rose (by_run a b l (reports.not_built e)) d = absurd cc
-  rose (by_run a b l (reports.long h e)) d = absurd cc
-  rose (by_run a b l reports.no_memory) d = absurd cc
+  read_failed : {s : Status} {f : Refusal} → Stopping words before after s f → s ≡ Status.ReadFault → HasFaulted before after
+  read_failed (no_words n) d = absurd cc
+  read_failed (failed_read r) d = r
+  read_failed (other e r w) d = absurd (r d)
 
   -- words are refused exactly where they are no command
+  none_there : {s : Status} {f : Refusal} → Stopping words before after s f → f ≡ Refusal.NotYet Part.Words → query_of words ≡ None
+  none_there (no_words n) d = n
+  none_there (failed_read r) d = absurd cc
+  none_there (other e r w) d = absurd (w d)
+
+  early : {s : Status} {f : Refusal} → Stops words before after s f → IsEarly s
+  early q = is_early (stopping q)
+
+  pub rose : {s : Status} {f : Refusal} → Stops words before after s f → s ≡ Status.ReadFault → HasFaulted before after
+  rose q = read_failed (stopping q)
+
   none_asked : {s : Status} {f : Refusal} → Stops words before after s f → f ≡ Refusal.NotYet Part.Words → query_of words ≡ None
-  none_asked (by_words (commands.no_command n) l) d = n
-  none_asked (by_words (commands.long_query q h) l) d = absurd cc
-  none_asked (by_reading a (commands.fault r b)) d = absurd cc
-  none_asked (by_reading a (commands.no_memory b)) d = absurd cc
-  none_asked (by_program a b (loads.by_text e)) d = absurd cc
-  none_asked (by_program a b (loads.not_built e c)) d = absurd cc
-  none_asked (by_program a b (loads.by_loading e c g)) d = absurd cc
-  none_asked (by_program a b loads.no_memory) d = absurd cc
-  none_asked (by_query a b p (loads.by_text e)) d = absurd cc
-  none_asked (by_query a b p (loads.not_built e c)) d = absurd cc
-  none_asked (by_query a b p (loads.by_loading e c g)) d = absurd cc
-  none_asked (by_query a b p loads.no_memory) d = absurd cc
-  none_asked (by_run a b l (reports.not_built e)) d = absurd cc
-  none_asked (by_run a b l (reports.long h e)) d = absurd cc
-  none_asked (by_run a b l reports.no_memory) d = absurd cc
+  none_asked q = none_there (stopping q)
 
   some_query : {query : List ℕ} → query_of words ≡ None → query_of words ≡ Some query → ⊥
   some_query n q = let x : None ≡ Some _ = sym n ∙ q in cc

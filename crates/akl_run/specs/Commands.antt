@@ -177,26 +177,21 @@ pub record IsReported (c : Command) : Type 0 where
   -- The headline, for the outcomes that the rules built so far can have: what was appended to the sink is the text of a run.
   pub done : c.report.status ≡ Status.Done → WroteRun c
   pub failed : c.report.status ≡ Status.Failed → WroteRun c
-
   -- A front of the text was written before the sink failed.
   pub write_fault : c.report.status ≡ Status.WriteFault → HasFaulted c.sink c.sink_after
   pub written_part : c.report.status ≡ Status.WriteFault → WrotePart c
-
   -- Before another status nothing was run or written, and each comes with its refusal from one cause, in the order of the work.
   pub nothing : IsEarly c.report.status → WroteNothing c
   pub stops : IsEarly c.report.status → Stops c.words c.source c.source_after c.report.status c.report.refusal
   pub read_fault : c.report.status ≡ Status.ReadFault → HasFaulted c.source c.source_after
   pub words : (c.report.refusal ≡ Refusal.NotYet Part.Words) ↔ (query_of c.words ≡ None)
-
   -- What is refused, isn't built or is too long ends the command so, unless a fault comes before.
   pub program : ProgramEnds c
   pub query : QueryEnds c
   pub goals : GoalsEnd c
   pub long : LongAnswersEnd c
-
   -- All else is answered.
   pub complete : IsComplete c
-
   -- No other status comes, and a run that was written has no refusal.
   pub built : IsEarly c.report.status ⊎ IsLate c.report.status
   pub refusal : IsLate c.report.status → c.report.refusal ≡ Refusal.Nothing

@@ -83,6 +83,9 @@ fn write_run<K: Sink>(run: Evaluated, out: &mut K) -> Report
 ///   front of the text was written then.
 /// - `NoMemory` comes only for want of memory. Nothing was run or written then.
 ///
+/// So a query of built goals over a program, both accepted, is done, has failed or has too long an
+/// answer, unless the source, the sink or memory fails. `IsReported` says all this, a field for a fact.
+///
 /// The run takes one worker and never waits; the gate isn't called.
 pub fn run_akl<R: Threads + Wait + Sync, S: Source, K: Sink, G: Gate>(
     rt: &R,
