@@ -3,9 +3,9 @@ use Rattle.std.proofs.Common.{◌≡◌, ℕ, ℤ, zero, suc, Some, sym, subst, 
 use Rattle.std.specs.Prelude.{slice_get}
 use Rattle.akl_terms.specs.declared.name.Name.{Name}
 use Rattle.akl_terms.specs.declared.name.Var.{Var}
-use Rattle.akl_terms.specs.Tree.{Tree, variable, integer, port, symbol, Head, integer_head, port_head, symbol_head, head_of, arguments}
+use Rattle.akl_terms.specs.Tree.{Tree, variable, integer, port, Head, integer_head, port_head, symbol_head, head_of, arguments}
 use Rattle.akl_terms.specs.Equal.{Equations, IsTold, Equal, same, turned, joined, inside, IsConsistent, IsStructured}
-use Rattle.akl_terms.specs.Solved.{IsUnstructured, SameIn, SameTree}
+use Rattle.akl_terms.specs.Solved.{SameIn, SameTree}
 use Rattle.akl_terms.specs.Arithmetic.{binary}
 use Rattle.akl_terms.proofs.StandingLaws.{same_equal}
 use Rattle.constraint_laws.proofs.Arguments.{same_value}
