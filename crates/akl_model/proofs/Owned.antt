@@ -1,20 +1,18 @@
 -- The terms of a box stay over frames that they may use: under new names, in goals that are added, taken away or changed.
-use Rattle.std.proofs.Common.{◌≡◌, ℕ, zero, suc, ◌+◌, List, [], ◌∷◌, map, length, Bool, true, false, Some, refl, sym, ap, subst, inl, inr}
+use Rattle.std.proofs.Common.{◌≡◌, ℕ, ◌+◌, List, [], ◌∷◌, length, Bool, true, false, Some, refl, subst, inl, inr}
 use Rattle.std.specs.Prelude.{if◌then◌else◌}
 use Rattle.akl_terms.specs.declared.name.Name.{Name}
 use Rattle.akl_terms.specs.declared.term.Node.{Node}
 use Rattle.akl_terms.specs.declared.program.Op.{Op}
 use Rattle.akl_terms.specs.declared.program.Clause.{Clause}
 use Rattle.akl_terms.specs.Tree.{Tree}
-use Rattle.akl_terms.specs.Equal.{Equations}
 use Rattle.akl_terms.specs.Names.{same_name, is_before}
-use Rattle.akl_model.specs.Config.{IsIn, Atom, Content, Boxes, no_boxes, box, Goals, no_goals, atom, choice, Held, an_atom, a_choice, goal, held_in, with_goal, with_content, without_goal, Port, ShownTree}
-use Rattle.akl_model.specs.Instances.{terms_from, atoms_of, with_atoms, head_equations, instances}
-use Rattle.akl_model.specs.Renaming.{port_names, renamed_tree, renamed_atom, renamed_equation, renamed_port, renamed_shown, renamed_content, renamed, renamed_goals}
+use Rattle.akl_model.specs.Config.{IsIn, Atom, Content, Boxes, no_boxes, box, Goals, no_goals, atom, choice, Held, an_atom, a_choice, goal, held_in, with_goal, with_content, without_goal}
+use Rattle.akl_model.specs.Instances.{terms_from, atoms_of, with_atoms, instances}
+use Rattle.akl_model.specs.Renaming.{renamed_content, renamed, renamed_goals}
 use Rattle.akl_model.specs.Rules.{up_to, alone, others, kept_by}
-use Rattle.akl_model.proofs.Drawn.{port_names-renamed}
 use Rattle.akl_model.specs.Scopes.{Scope, scope_in, TermsScoped, AtomScoped, AtomsScoped, BoxesScoped, GoalsScoped}
-use Rattle.akl_model.proofs.Scoped.{IsIn-left, Goes, Goes-in, IsIn-map, terms_renamed, equations_renamed, atom_renamed, atoms_renamed, tails_renamed, shown_renamed, Within, Within-in, terms_wider, equations_wider, atom_wider, atoms_wider, tails_wider, shown_wider, atoms_scoped, terms_scoped, heads_scoped}
+use Rattle.akl_model.proofs.Scoped.{IsIn-left, Goes, Goes-in, IsIn-map, equations_renamed, atom_renamed, atoms_renamed, tails_renamed, shown_renamed, Within, Within-in, terms_wider, equations_wider, atom_wider, atoms_wider, tails_wider, shown_wider, atoms_scoped, terms_scoped, heads_scoped}
 use Rattle.akl_model.specs.Owned.{own_in, ContentOwned, BoxesOwned, GoalsOwned}
 
 Goes-own : (f : Name → Name) (s t : Scope) (b : Content) → Goes f s t → Goes f (own_in s b) (own_in t (renamed_content f b))

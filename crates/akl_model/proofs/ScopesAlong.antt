@@ -96,6 +96,10 @@ mutual
       on (inl i) x y = let h : times n (only f) + times_path n f.around ≤ times n bs = x i in omega arith
       on (inr i) x y = let h : times n (only f) + times_path n f.around ≤ times_inside n gs = y i.1 in omega arith
 
+-- where names stand once, they do in a box that is found
+pub only_once : (bs : Boxes) → ((n : Name) → times n bs ≤ 1) → (m : Name) (f : Found) → box_at m bs ≡ Some f → (n : Name) → times n (only f) ≤ 1
+only_once bs once m f e n = let k : times n (only f) + times_path n f.around ≤ times n bs = found_path n m bs f e in let o : times n bs ≤ 1 = once n in omega arith
+
 pub counted_in : (n : Name) (ns : List Name) → IsIn n ns → 0 < times_in n ns
 counted_in n [] h = absurd h
 counted_in n (m ∷ ms) (inl e) = let u : one_if (same_name n m) ≡ 1 = ap one_if (subst (λ (k : Name). same_name n k ≡ true) e (same_itself n)) in omega arith

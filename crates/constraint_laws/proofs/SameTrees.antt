@@ -3,29 +3,23 @@ use Rattle.std.proofs.Common.{◌≡◌, ℕ, ℤ, zero, suc, Some, sym, subst, 
 use Rattle.std.specs.Prelude.{slice_get}
 use Rattle.akl_terms.specs.declared.name.Name.{Name}
 use Rattle.akl_terms.specs.declared.name.Var.{Var}
-use Rattle.akl_terms.specs.Tree.{Tree, variable, integer, port, symbol, Head, integer_head, port_head, symbol_head, head_of, arguments}
+use Rattle.akl_terms.specs.Tree.{Tree, variable, integer, port, Head, integer_head, port_head, symbol_head, head_of, arguments}
 use Rattle.akl_terms.specs.Equal.{Equations, IsTold, Equal, same, turned, joined, inside, IsConsistent, IsStructured}
-use Rattle.akl_terms.specs.Solved.{IsUnstructured, SameIn, SameTree}
+use Rattle.akl_terms.specs.Solved.{SameIn, SameTree}
 use Rattle.akl_terms.specs.Arithmetic.{binary}
 use Rattle.akl_terms.proofs.StandingLaws.{same_equal}
 use Rattle.constraint_laws.proofs.Arguments.{same_value}
-use Rattle.constraint_laws.proofs.Grown.{Headed}
-use Rattle.constraint_laws.proofs.ValuesGrow.{term_headed_or, integer_of, binary_of}
-
-headed_or : (E : Equations) (s : Tree) → Headed E s ⊎ IsUnstructured (IsTold E) s
-headed_or E s = elim (term_headed_or E s) [
-  | inl w ↦ inl w
-  | inr w ↦ inr (λ u h e x. w.2 (u, h, subst (λ (z : Tree). Equal E z u) w.1 e, x))
-]
+use Rattle.constraint_laws.proofs.Grown.{Headed, headed_or}
+use Rattle.constraint_laws.proofs.ValuesGrow.{integer_of, binary_of, port_of}
 
 -- equal terms are the same tree
 pub equal_same : (E : Equations) (n : ℕ) (s t : Tree) → Equal E s t → SameIn (IsTold E) n s t
 equal_same E zero s t e = tt
 equal_same E (suc n) s t e = on (headed_or E s) (λ a b p. equal_same E n a b p)
   where
-    on : Headed E s ⊎ IsUnstructured (IsTold E) s → ((a b : Tree) → Equal E a b → SameIn (IsTold E) n a b) → SameIn (IsTold E) (suc n) s t
+    on : Headed E s ⊎ (Headed E s → ⊥) → ((a b : Tree) → Equal E a b → SameIn (IsTold E) n a b) → SameIn (IsTold E) (suc n) s t
     on (inl w) low = inr (w.0, w.0, w.1, w.2, joined (turned e) w.2, w.3, w.3, λ k a b p q. low a b (subst (λ (z : Tree). Equal E a z) (same_value p q) same))
-    on (inr f) low = inl (e, f)
+    on (inr f) low = inl (e, λ u h i x. f (u, h, i, x))
 
 -- what has the tree of a term with a head has a head
 same_headed : (E : Equations) (s t : Tree) (h : Head) → head_of t ≡ Some h → SameTree (IsTold E) s t → Headed E s
@@ -60,12 +54,6 @@ same_agree E c n s t h e (inr (u, v, g, p, q, i, j, k)) =
 -- what is the same tree as an integer, a port or a variable that isn't structured is equal to it
 pub same_integer : (E : Equations) → IsConsistent E → (s : Tree) (z : ℤ) → SameTree (IsTold E) s (integer z) → Equal E s (integer z)
 same_integer E c s z m = let w : _ = same_agree E c 0 s (integer z) (integer_head z) refl (m 1) in subst (λ (u : Tree). Equal E s u) (integer_of w.0 z w.4) w.2
-
-port_of : (u : Tree) (p : Name) → head_of u ≡ Some (port_head p) → u ≡ port p
-port_of (variable x) p e = cc
-port_of (integer y) p e = cc
-port_of (port q) p e = cc
-port_of (symbol f ts) p e = cc
 
 pub same_port : (E : Equations) → IsConsistent E → (s : Tree) (p : Name) → SameTree (IsTold E) s (port p) → Equal E s (port p)
 same_port E c s p m = let w : _ = same_agree E c 0 s (port p) (port_head p) refl (m 1) in subst (λ (u : Tree). Equal E s u) (port_of w.0 p w.4) w.2

@@ -4,14 +4,13 @@ use Rattle.akl_terms.specs.declared.name.Name.{Name}
 use Rattle.akl_terms.specs.declared.name.Var.{Var}
 use Rattle.akl_terms.specs.declared.program.Test.{Test}
 use Rattle.akl_terms.specs.Tree.{Tree, variable, integer, port}
-use Rattle.akl_terms.specs.Equal.{Equations, IsTold, Equal, same, IsConsistent, IsStructured}
+use Rattle.akl_terms.specs.Equal.{Equations, IsTold, Equal, same, IsStructured}
 use Rattle.akl_terms.specs.Solved.{SameTree}
 use Rattle.akl_terms.specs.Touching.{IsUnbound, IsTied, Touches}
 use Rattle.akl_terms.specs.Arithmetic.{binary, HasValue, number, operation, WaitsOn, here, in_left, in_right, Answer, Evaluates, gives, compared, GoalWaitsOn, right_of_is, left_side, right_side}
 use Rattle.akl_terms.proofs.StandingLaws.{StandFor-back}
 use Rattle.constraint_laws.specs.Bound.{IsNewlyBound}
 use Rattle.constraint_laws.specs.Standing.{StandsForConsistent}
-use Rattle.constraint_laws.proofs.SameTerms.{Either}
 use Rattle.constraint_laws.proofs.Decided.{structured_or}
 use Rattle.constraint_laws.proofs.SameTrees.{equal_same, headed_to, equal_to, same_along, same_integer, same_port, same_variable, same_binary}
 

@@ -9,7 +9,7 @@ use Rattle.akl_terms.specs.Names.{same_name}
 use Rattle.akl_terms.specs.Tree.{Tree}
 use Rattle.akl_terms.specs.Arithmetic.{value, truth}
 use Rattle.akl_model.specs.declared.label.Rule.{Rule}
-use Rattle.akl_model.specs.Config.{Atom, Content, no_boxes, box, no_goals, Held, an_atom, a_choice, held_in, without_goal, Port, port_in, Found}
+use Rattle.akl_model.specs.Config.{Atom, no_boxes, box, no_goals, Held, an_atom, a_choice, held_in, without_goal, Port, port_in, Found}
 use Rattle.akl_model.specs.Instances.{with_atoms}
 use Rattle.akl_model.specs.Rules.{Change, becomes, Reading, answer, receiver, tell, fork_by, fork, eval, open_new, send_to, send_by, joining, promote, ChoiceIn, choice_with, split_at, change_by}
 use Rattle.akl_model.proofs.Options.{some_value}
