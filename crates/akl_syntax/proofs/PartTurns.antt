@@ -1,14 +1,13 @@
 -- What reading goals, parts and inline choices rests on.
-use Rattle.std.proofs.Common.{◌≡◌, ℕ, ◌<◌, ◌≤◌, Bool, true, false, List, [], ◌∷◌, ◌++◌, length, map, Option, Some, None, refl, sym, ap, subst, ◌∙◌, arith, append_assoc, Result, Ok, Err, Vec, Global}
+use Rattle.std.proofs.Common.{◌≡◌, ℕ, ◌<◌, ◌≤◌, Bool, true, false, List, [], ◌∷◌, ◌++◌, length, map, Option, Some, None, refl, sym, ap, subst, ◌∙◌, arith, append_assoc, Result, Vec, Global}
 use Rattle.std.proofs.lemmas.List.{append-nil}
-use Rattle.std.specs.Prelude.{not, ◌||◌, is_some, option_map}
+use Rattle.std.specs.Prelude.{is_some, option_map}
 use Rattle.akl_lexemes.specs.declared.lexeme.Lexeme.{Lexeme}
 use Rattle.akl_lexemes.specs.declared.lexeme.Lexeme.TheVariants.{Symbol, Variable, Integer}
 use Rattle.akl_text.specs.declared.token.Kind.{Kind}
 use Rattle.akl_text.specs.declared.token.Kind.TheVariants as kinds
 use Rattle.akl_terms.specs.declared.program.Op.{Op}
 use Rattle.akl_lexemes.specs.declared.fault.Fault.{Fault}
-use Rattle.akl_lexemes.specs.declared.fault.Fault.TheVariants.{Syntax, Memory}
 use Rattle.akl_syntax.specs.declared.source.SourceGoal.TheVariants as source
 use Rattle.akl_syntax.specs.declared.source.SourcePart.{SourcePart, is-SourcePart'}
 use Rattle.akl_syntax.specs.declared.source.SourceGoal.TheOpen as open_goals
@@ -19,7 +18,7 @@ use Rattle.akl_syntax.specs.Goals.{Goal, Part, GoalIs, Conj, Conjs, PartIs, Part
 use Rattle.akl_syntax.specs.Goals as made
 use Rattle.akl_syntax.specs.GoalView.{goal, part, goal_step, part_step}
 use Rattle.akl_syntax.specs.Parts.{guard_at, Guarded, body_of, Alternatives, behind_first}
-use Rattle.akl_lexemes.specs.Parsed.{anywhere, Nothing, Refuses, Parsed}
+use Rattle.akl_lexemes.specs.Parsed.{anywhere, Nothing, Parsed}
 use Rattle.akl_syntax.specs.Ahead.{begins_join, is_test}
 use Rattle.akl_syntax.specs.Ends.{ends_goal, ends_conj, ends_part, ends_parts}
 use Rattle.akl_lexemes.proofs.Refusals.{reads_as}

@@ -3,9 +3,6 @@ use Rattle.std.proofs.Common.{◌≡◌, ℕ, suc, ◌+◌, ◌≤◌, Bool, tru
 use Rattle.std.proofs.lemmas.List.{length-append, length-drop}
 use Rattle.akl_text.specs.declared.token.Token.{Token}
 use Rattle.akl_lexemes.specs.declared.lexeme.Lexeme.{Lexeme}
-use Rattle.term_syntax.specs.declared.level.Level.{Level}
-use Rattle.term_syntax.specs.Tree.{Tree, Step, Tail, trees, steps}
-use Rattle.term_syntax.specs.Grammar.{chained, Expr, More, Operand, Primary, Arguments, ListEnd, Items, Others, operands, done, next, product, primary, variable_is, integer_is, atom, empty_list, whole_list, brackets, plain, call, closed, bar, items, no_others, other}
 use Rattle.term_syntax.proofs.SizeLaws.{expr_size, arguments_size}
 use Rattle.akl_syntax.specs.Goals.{Goal, Part, GoalIs, Conj, Conjs, PartIs, PartsAre, atom_goal, test, conj, no_conjs, and, unguarded, guarded, no_parts_more, or, inlined, written, goals, parts}
 use Rattle.akl_syntax.specs.Goals as made
@@ -13,9 +10,7 @@ use Rattle.akl_syntax.specs.Clauses.{Clause, Query, HasPart, IsClause, IsQuery, 
 use Rattle.akl_lexemes.specs.Lexemes.{Lexemes}
 use Rattle.akl_lexemes.specs.Lexemes as lexed
 use Rattle.akl_syntax.specs.Sizes.{goals_size, parts_size, clause_size, clauses_size, query_size}
-use Rattle.term_syntax.specs.Sizes.{tree_size, trees_size, tail_size, steps_size}
 use Rattle.akl_syntax.specs.Verdicts.{Verdict, accepted, refused, Tests, too_deep, out_of_range, not_derived, derived, ReadsClause, ReadsClauses, ReadsProgram, ReadsQuery, ending_at, with_clause}
-use Rattle.akl_text.specs.Layout.{SkipsFrom}
 use Rattle.akl_syntax.specs.Verdicts as verdicts
 use Rattle.std.specs.Prelude.{Result, Ok, Err, IfOk}
 use Rattle.akl_syntax.specs.Answers.{Answers, query_view}

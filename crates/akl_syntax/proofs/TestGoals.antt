@@ -6,15 +6,13 @@ use Rattle.term_syntax.specs.declared.source.SourceTerm.{SourceTerm}
 use Rattle.akl_syntax.specs.declared.source.SourceGoal.TheVariants as written
 use Rattle.akl_syntax.specs.declared.source.SourceGoal.TheOpen as open_goals
 use Rattle.akl_syntax.specs.declared.source.SourceGoal.TheFolds.{fold-roll-SourceGoal}
-use Rattle.akl_lexemes.specs.declared.fault.Fault.{Fault}
-use Rattle.akl_lexemes.specs.declared.fault.Fault.TheVariants.{Syntax, Memory}
 use Rattle.term_syntax.specs.Tree.{Tree, trees}
 use Rattle.term_syntax.specs.View.{tree}
 use Rattle.term_syntax.specs.Grammar.{Expr}
 use Rattle.akl_syntax.specs.Goals.{Goal, Part, GoalIs, atom_goal, test, relation_of, call}
 use Rattle.akl_syntax.specs.Goals as made
 use Rattle.akl_syntax.specs.GoalView.{goal, goal_step, part_step}
-use Rattle.akl_lexemes.specs.Parsed.{Nothing, Refuses}
+use Rattle.akl_lexemes.specs.Parsed.{Nothing}
 use Rattle.term_syntax.specs.Ends.{ends_chain}
 use Rattle.akl_syntax.specs.Ahead.{begins_join, is_test}
 use Rattle.akl_syntax.specs.Ends.{ends_goal}

@@ -1,25 +1,19 @@
 -- The variables that occur in what is derived are those of the lexemes, which are numbered from 0 without a gap.
-use Rattle.std.proofs.Common.{◌≡◌, ℕ, zero, suc, ◌<◌, ◌≤◌, Bool, true, false, cond, List, [], ◌∷◌, ◌++◌, length, Option, Some, None, refl, sym, ap, subst, ◌∙◌, arith, append_assoc, ◌⊎◌, inl, inr}
-use Rattle.std.proofs.lemmas.List.{length-append, append-nil}
-use Rattle.std.specs.Prelude.{option_map, codes, bytes_eq, Result, Ok, Err, IfOk}
+use Rattle.std.proofs.Common.{◌≡◌, ℕ, Bool, true, false, List, [], ◌∷◌, ◌++◌, Some, refl, sym, ap, ◌∙◌, append_assoc}
+use Rattle.std.proofs.lemmas.List.{append-nil}
+use Rattle.std.specs.Prelude.{Result, Ok, Err, IfOk}
 use Rattle.akl_text.specs.declared.token.Token.{Token}
-use Rattle.akl_text.specs.Spelling.{spelling}
 use Rattle.akl_lexemes.specs.declared.lexeme.Lexeme.{Lexeme}
 use Rattle.akl_lexemes.specs.declared.lexeme.Lexeme.TheVariants.{Symbol, Variable, Integer, Mark}
-use Rattle.term_syntax.specs.declared.level.Level.{Level}
-use Rattle.term_syntax.specs.Tree.{Tree, Step, Tail, trees, steps}
-use Rattle.term_syntax.specs.Grammar.{operator_of, chained, Expr, More, Operand, Primary, Arguments, ListEnd, Items, Others, operands, done, next, product, primary, variable_is, integer_is, atom, empty_list, whole_list, brackets, plain, call, closed, bar, items, no_others, other}
+use Rattle.term_syntax.specs.Tree.{trees}
 use Rattle.akl_terms.specs.declared.program.Op.{Op}
 use Rattle.akl_lexemes.proofs.NumberedLexemes.{lexeme_variables, numbered, are_numbered}
 use Rattle.term_syntax.proofs.VariableLaws.{expr_variables, arguments_variables, joined}
 use Rattle.akl_syntax.specs.Goals.{Goal, Part, GoalIs, Conj, Conjs, PartIs, PartsAre, atom_goal, test, conj, no_conjs, and, unguarded, guarded, no_parts_more, or, inlined, written, goals, parts, relation_of, guard_of}
 use Rattle.akl_syntax.specs.Goals as made
 use Rattle.akl_syntax.specs.Clauses.{Clause, Query, HasPart, IsClause, IsQuery, no_neck, neck, clause, query}
-use Rattle.akl_lexemes.specs.Lexemes.{Lexemes, IsLexeme, place_of, number_of}
-use Rattle.akl_lexemes.specs.Lexemes as lexed
 use Rattle.akl_syntax.specs.Variables.{goal_variables, goals_variables, parts_variables, clause_variables, query_variables, IsClauseNumbered, AreClausesNumbered, IsQueryNumbered}
-use Rattle.akl_lexemes.specs.Occurrences.{Occurs, AreNumbered}
-use Rattle.term_syntax.specs.Variables.{tree_variables, trees_variables, tail_variables, steps_variables}
+use Rattle.term_syntax.specs.Variables.{tree_variables, trees_variables}
 use Rattle.akl_syntax.specs.Answers.{Answers, query_view}
 use Rattle.akl_syntax.specs.Verdicts.{Verdict, accepted, refused, Tests, too_deep, out_of_range, not_derived, derived, ReadsClause, ReadsClauses, ReadsProgram, ReadsQuery, ending_at, with_clause}
 use Rattle.akl_syntax.specs.Verdicts as verdicts

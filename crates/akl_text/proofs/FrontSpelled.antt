@@ -5,7 +5,6 @@ use Rattle.std.specs.List.{prefix_len}
 use Rattle.std.specs.Str.{is_utf8}
 use Rattle.std.proofs.lemmas.Bool.{eqb-true, ltb-true, and_parts}
 use Rattle.std.proofs.lemmas.Bool.Decides.{nat_tests}
-use Rattle.std.proofs.lemmas.Slice.Eq.{bytes_eq-Decides}
 use Rattle.std.proofs.lemmas.List.{take_at, drop_at, length-append}
 use Rattle.akl_terms.specs.Words.{is_lower, is_upper, is_digit, is_word}
 use Rattle.akl_text.specs.Spelling.{Spells, name, variable, natural, negative, quoted, call_bracket, bracket, close, open_list, close_list, comma, bar, semicolon, neck, arrow, question, equal, less, greater, at_most, at_least, same, differs, plus, minus, star, div, word_is, word_mod, end}

@@ -1,5 +1,5 @@
 -- A term takes at least as many lexemes as it has terms.
-use Rattle.std.proofs.Common.{ℕ, ◌+◌, ◌≤◌, List, [], ◌∷◌, length, arith}
+use Rattle.std.proofs.Common.{◌+◌, ◌≤◌, List, [], ◌∷◌, length, arith}
 use Rattle.akl_lexemes.specs.declared.lexeme.Lexeme.{Lexeme}
 use Rattle.term_syntax.specs.declared.level.Level.{Level}
 use Rattle.term_syntax.specs.Tree.{Tree, Step, Tail, trees, steps}

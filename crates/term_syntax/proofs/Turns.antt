@@ -7,7 +7,7 @@ use Rattle.term_syntax.specs.declared.level.Level.{Level}
 use Rattle.term_syntax.specs.declared.level.Level.TheVariants.{Sum, Product}
 use Rattle.term_syntax.specs.Tree.{Tree, Step, chain, steps}
 use Rattle.term_syntax.specs.Grammar.{begins_call, operator_of, chained, Expr, More, Operand, Primary, Arguments, ListEnd, Items, operands, product, primary, atom, empty_list, whole_list, brackets, plain, call, closed, bar, items}
-use Rattle.akl_lexemes.specs.Parsed.{anywhere, Nothing, Refuses, Parsed}
+use Rattle.akl_lexemes.specs.Parsed.{anywhere, Nothing}
 use Rattle.term_syntax.specs.Ends.{ends_chain, ends_items, ends_operand}
 use Rattle.term_syntax.proofs.Unique.{expr_one, operand_one, items_one, more_stops, list_end_stops, no_operator_stops, others_stop}
 

@@ -1,5 +1,5 @@
 -- Where a part of a term ends: the lexeme behind it can't go on with it.
-use Rattle.std.specs.Prelude.{Bool, true, ◌||◌, is_some, List}
+use Rattle.std.specs.Prelude.{Bool, ◌||◌, is_some, List}
 use Rattle.akl_lexemes.specs.declared.lexeme.Lexeme.{Lexeme}
 use Rattle.akl_lexemes.specs.Parsed.{anywhere, ends, is_comma}
 use Rattle.term_syntax.specs.declared.level.Level.{Level}

@@ -1,10 +1,9 @@
 use Rattle.std.proofs.Common.{◌≡◌, ◌∷◌, ◌++◌, ◌≤◌, [], length, map, arith}
 use Rattle.std.proofs.lemmas.Result.{err_from_is_err_and}
 use Rattle.std.proofs.lemmas.List.{map_push}
-use Rattle.akl_syntax.specs.Answers.{clause_view, clauses_view}
+use Rattle.akl_syntax.specs.Answers.{clause_view}
 use Rattle.akl_syntax.specs.Verdicts.{ReadsProgram}
 use Rattle.akl_syntax.specs.Verdicts as verdicts
-use Rattle.akl_syntax.proofs.OneVerdict.{answers_as}
 use Rattle.akl_syntax.proofs.ReadTurns.{program_step, program_end, program_fault}
 use Rattle.akl_syntax.proofs.SizeLaws.{program_size}
 use Rattle.akl_syntax.proofs.VariableLaws.{program_numbered}
