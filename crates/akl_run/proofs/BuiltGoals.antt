@@ -3,7 +3,7 @@ use Rattle.std.proofs.Common.{◌≡◌, ℕ, List, Bool, refl, sym, ap, ◌∙�
 use Rattle.std.specs.Prelude.{◌&&◌}
 use Rattle.akl_terms.specs.declared.program.Code.{Code}
 use Rattle.akl_syntax.specs.Goals.{Goal}
-use Rattle.akl_syntax.specs.Tree.{Tree}
+use Rattle.term_syntax.specs.Tree.{Tree}
 use Rattle.clause_keys.specs.declared.callee.Callee.{Callee}
 use Rattle.clause_store.specs.Codes.{IsCode, fail, equal, arithmetic, open_port, send, calls, calls_lifted, AreCodes, no_codes, true_goal, a_code}
 use Rattle.akl_run.specs.Engine.{is_built, are_built}

@@ -11,7 +11,8 @@ use Rattle.akl_terms.specs.declared.term.Term.TheVariants.{Mol}
 use Rattle.akl_terms.specs.Equal.{Equations, IsConsistent}
 use Rattle.akl_model.specs.declared.label.Rule.{Rule}
 use Rattle.akl_model.specs.declared.label.Label.{Label}
-use Rattle.akl_model.specs.Config.{Atom, Content, Boxes, no_boxes, box, Goals, no_goals, atom, Config, an_atom, held_in, without_goal, with_goal, is_before}
+use Rattle.akl_terms.specs.Names.{is_before}
+use Rattle.akl_model.specs.Config.{Atom, Content, Boxes, no_boxes, box, Goals, no_goals, atom, Config, an_atom, held_in, without_goal, with_goal}
 use Rattle.akl_model.specs.Instances.{atoms_of, with_atoms, start}
 use Rattle.akl_model.specs.Rules.{telling}
 use Rattle.akl_model.specs.Derivations.{raised, Applies, Derives, Replays, AreAnswers, none, one_more, done, failed, is_done, is_failed}
@@ -145,12 +146,12 @@ query_fails l e few c =
 -- ---- a query with `fail`
 failed_goals : (nodes : List Node) (codes : List Code) (n : ℕ) → has_fail codes ≡ true → HasFailed (goals_from n (atoms_of nodes query_frame codes))
 failed_goals nodes [] n e = absurd cc
-failed_goals nodes (Code.Fail ∷ codes) n e = tt
-failed_goals nodes (Code.Equal l r ∷ codes) n e = failed_goals nodes codes (n + 1) e
-failed_goals nodes (Code.Arith a l r ∷ codes) n e = failed_goals nodes codes (n + 1) e
-failed_goals nodes (Code.OpenPort l r ∷ codes) n e = failed_goals nodes codes (n + 1) e
-failed_goals nodes (Code.Send l r ∷ codes) n e = failed_goals nodes codes (n + 1) e
-failed_goals nodes (Code.Call d l r ∷ codes) n e = failed_goals nodes codes (n + 1) e
+failed_goals nodes (Code.Fail ∷ codes) n e = inl tt
+failed_goals nodes (Code.Equal l r ∷ codes) n e = inr (failed_goals nodes codes (n + 1) e)
+failed_goals nodes (Code.Arith a l r ∷ codes) n e = inr (failed_goals nodes codes (n + 1) e)
+failed_goals nodes (Code.OpenPort l r ∷ codes) n e = inr (failed_goals nodes codes (n + 1) e)
+failed_goals nodes (Code.Send l r ∷ codes) n e = inr (failed_goals nodes codes (n + 1) e)
+failed_goals nodes (Code.Call d l r ∷ codes) n e = inr (failed_goals nodes codes (n + 1) e)
 
 -- its box fails at once
 pub query_fails_at_once : (l : Loaded) → has_fail l.query.goals ≡ true → IsRun l (fail_root ∷ []) [] failed

@@ -12,7 +12,7 @@ use Rattle.akl_run.specs.declared.solved_form.SolvedForm.{SolvedForm}
 use Rattle.akl_run.specs.Journals.{AreBy}
 use Rattle.akl_run.specs.Text.{no_answers, an_answer, here}
 use Rattle.akl_run.specs.Engine.{receipts_from, told_box, EndsBy}
-use Rattle.akl_run.specs.RunTexts.{HasShownVariables, AreBelow, IsTextBy, HasNoShortTextBy}
+use Rattle.akl_run.specs.RunTexts.{HasShownVariables, AreBelow, IsTextBy, IsTooLongBy}
 use Rattle.akl_run.specs.Evaluations.{status_by}
 use Rattle.akl_run.specs.Reports.{IsStatusOf, IsRunBy, HasLongRun}
 use Rattle.akl_run.proofs.Commits.{receipts-of_one}
@@ -55,19 +55,19 @@ evaluated l journal receipts (Some s) text e r b t = record {
   are_receipts = (ap (λ rs. map (λ (x : Receipt). (x.at, x.label)) rs) r ∙ receipts-of_one 0 journal b, tt);
   is_text = record {
     answered = codes "answer " ++ decimal 1 ++ 10 ∷ t.0 ++ [];
-    are_texts = an_answer (t.2 (told_box l).equations e.represents) no_answers;
+    are_texts = an_answer (record { prints = t.3 (told_box l).equations e.represents; fits = t.2 }) no_answers;
     whole = t.1 ∙ ap (λ (x : List ℕ). x ++ codes "done\n") (ap (λ (x : List ℕ). x ++ t.0) number_one
         ∙ append_assoc (codes "answer " ++ decimal 1) (10 ∷ []) t.0 ∙ sym (append-nil (codes "answer " ++ decimal 1 ++ 10 ∷ t.0)));
   };
 }
 
 -- a run whose answer is too long
-pub long_run : (l : Loaded) (journal : List Label) (o : Option SolvedForm) → EndsBy l journal o → HasNoShortTextBy l o → HasLongRun l
+pub long_run : (l : Loaded) (journal : List Label) (o : Option SolvedForm) → EndsBy l journal o → IsTooLongBy l o → HasLongRun l
 long_run l journal None e n = absurd n
 long_run l journal (Some s) e n = record {
   journal = journal;
   answers = told_box l ∷ [];
   outcome = done;
   run = e.run;
-  is_long = here (λ text p. n (told_box l).equations e.represents text p);
+  is_long = here (n (told_box l).equations e.represents);
 }

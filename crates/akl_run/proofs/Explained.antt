@@ -1,6 +1,5 @@
 -- What a report says follows from how its command ended.
 use Rattle.std.proofs.Common.{◌≡◌, ℕ, List, Option, Some, None, refl, sym, ◌∙◌, ap, subst, ◌⊎◌, inl, inr}
-use Rattle.akl_outside.specs.Counts.{Rose}
 use Rattle.akl_run.specs.declared.report.Part.{Part}
 use Rattle.akl_run.specs.declared.report.Status.{Status}
 use Rattle.akl_run.specs.declared.report.Refusal.{Refusal}
@@ -11,20 +10,20 @@ use Rattle.akl_run.specs.Words.{query_of}
 use Rattle.akl_run.specs.Loads as loads
 use Rattle.akl_run.specs.Reports.{IsStatusOf}
 use Rattle.akl_run.specs.Reports as reports
-use Rattle.akl_run.specs.Commands.{Stops, by_words, by_reading, by_program, by_query, by_run, WroteRun, WrotePart, WroteNothing, IsEarly, IsLate}
+use Rattle.akl_run.specs.Commands.{Side, HasFaulted, Command, Stops, by_words, by_reading, by_program, by_query, by_run, WroteRun, WrotePart, WroteNothing, IsEarly, IsLate}
 use Rattle.akl_run.specs.Commands as commands
 use Rattle.akl_run.specs.Steps.{IsRunAs, IsStopped, IsWritten, whole, part}
 
 -- how a command ended: it stopped early, or its run was written, or a front of it
-pub data Ended (words : List (List ℕ)) (left left' : Option (List ℕ)) (faults faults' : ℕ) (written written' : Option (List ℕ)) (sunk sunk' : ℕ) (r : Report) : Type 0 where
-  stopped : (stop : Stop) → Stops words left left' faults faults' stop.status stop.refusal → IsStopped stop r → written' ≡ written → Ended words left left' faults faults' written written' sunk sunk' r
-  ran : (e : Evaluated) → IsRunAs words left left' e → IsWritten e written written' sunk sunk' r → Ended words left left' faults faults' written written' sunk sunk' r
+pub data Ended (c : Command) : Type 0 where
+  stopped : (stop : Stop) → Stops c.words c.source c.source_after stop.status stop.refusal → IsStopped stop c.report → c.sink_after.bytes ≡ c.sink.bytes → Ended c
+  ran : (e : Evaluated) → IsRunAs c.words c.source c.source_after e → IsWritten e c.sink c.sink_after c.report → Ended c
 
 -- a status with a run of its own
 abbrev pub HasRun : Status → Type 0
 HasRun s = (s ≡ Status.Done) ⊎ (s ≡ Status.Failed)
 
-status_runs : (s : Status) (o : _) → IsStatusOf s o → HasRun s
+pub status_runs : (s : Status) (o : _) → IsStatusOf s o → HasRun s
 status_runs Status.Done o i = inl refl
 status_runs Status.Failed o i = inr refl
 status_runs Status.Suspended o i = absurd i
@@ -54,11 +53,11 @@ not_both Status.WriteFault e l = e
 not_both Status.NoMemory e l = l
 not_both Status.NotYet e l = l
 
-module _ (words : List (List ℕ)) (left left' : Option (List ℕ)) (faults faults' : ℕ) where
+module _ (words : List (List ℕ)) (before after : Side) where
   -- a command that stops has an early status
-  early : {s : Status} {f : Refusal} → Stops words left left' faults faults' s f → IsEarly s
-  early (by_words (commands.no_command n) l k) = tt
-  early (by_words (commands.long_query q h) l k) = tt
+  early : {s : Status} {f : Refusal} → Stops words before after s f → IsEarly s
+  early (by_words (commands.no_command n) l) = tt
+  early (by_words (commands.long_query q h) l) = tt
   early (by_reading a (commands.fault r b)) = tt
   early (by_reading a (commands.no_memory b)) = tt
   early (by_program a b (loads.by_text e)) = tt
@@ -74,9 +73,9 @@ module _ (words : List (List ℕ)) (left left' : Option (List ℕ)) (faults faul
   early (by_run a b l reports.no_memory) = tt
 
   -- the cause of a read fault
-  rose : {s : Status} {f : Refusal} → Stops words left left' faults faults' s f → s ≡ Status.ReadFault → Rose faults faults'
-  rose (by_words (commands.no_command n) l k) d = absurd cc
-  rose (by_words (commands.long_query q h) l k) d = absurd cc
+  pub rose : {s : Status} {f : Refusal} → Stops words before after s f → s ≡ Status.ReadFault → HasFaulted before after
+  rose (by_words (commands.no_command n) l) d = absurd cc
+  rose (by_words (commands.long_query q h) l) d = absurd cc
   rose (by_reading a (commands.fault r b)) d = r
   rose (by_reading a (commands.no_memory b)) d = absurd cc
   rose (by_program a b (loads.by_text e)) d = absurd cc
@@ -92,9 +91,9 @@ module _ (words : List (List ℕ)) (left left' : Option (List ℕ)) (faults faul
   rose (by_run a b l reports.no_memory) d = absurd cc
 
   -- words are refused exactly where they are no command
-  none_asked : {s : Status} {f : Refusal} → Stops words left left' faults faults' s f → f ≡ Refusal.NotYet Part.Words → query_of words ≡ None
-  none_asked (by_words (commands.no_command n) l k) d = n
-  none_asked (by_words (commands.long_query q h) l k) d = absurd cc
+  none_asked : {s : Status} {f : Refusal} → Stops words before after s f → f ≡ Refusal.NotYet Part.Words → query_of words ≡ None
+  none_asked (by_words (commands.no_command n) l) d = n
+  none_asked (by_words (commands.long_query q h) l) d = absurd cc
   none_asked (by_reading a (commands.fault r b)) d = absurd cc
   none_asked (by_reading a (commands.no_memory b)) d = absurd cc
   none_asked (by_program a b (loads.by_text e)) d = absurd cc
@@ -112,102 +111,102 @@ module _ (words : List (List ℕ)) (left left' : Option (List ℕ)) (faults faul
   some_query : {query : List ℕ} → query_of words ≡ None → query_of words ≡ Some query → ⊥
   some_query n q = let x : None ≡ Some _ = sym n ∙ q in cc
 
-  not_asked : {s : Status} {f : Refusal} → Stops words left left' faults faults' s f → query_of words ≡ None → f ≡ Refusal.NotYet Part.Words
-  not_asked (by_words (commands.no_command n) l k) d = refl
-  not_asked (by_words (commands.long_query q h) l k) d = absurd (some_query d q)
+  not_asked : {s : Status} {f : Refusal} → Stops words before after s f → query_of words ≡ None → f ≡ Refusal.NotYet Part.Words
+  not_asked (by_words (commands.no_command n) l) d = refl
+  not_asked (by_words (commands.long_query q h) l) d = absurd (some_query d q)
   not_asked (by_reading a b) d = absurd (some_query d a.is_query)
   not_asked (by_program a b c) d = absurd (some_query d a.is_query)
   not_asked (by_query a b p c) d = absurd (some_query d a.is_query)
   not_asked (by_run a b l c) d = absurd (some_query d a.is_query)
 
-  module _ (written written' : Option (List ℕ)) (sunk sunk' : ℕ) (r : Report) where
-    stopped_early : (stop : Stop) → Stops words left left' faults faults' stop.status stop.refusal → IsStopped stop r → IsEarly r.status
-    stopped_early stop q s = subst IsEarly (sym s.status) (early q)
+module _ (c : Command) where
+  stopped_early : (stop : Stop) → Stops c.words c.source c.source_after stop.status stop.refusal → IsStopped stop c.report → IsEarly c.report.status
+  stopped_early stop q s = subst IsEarly (sym s.status) (early c.words c.source c.source_after q)
 
-    whole_late : (e : Evaluated) → IsRunAs words left left' e → e.status ≡ r.status → IsLate r.status
-    whole_late e q i = subst IsLate i (late_run e.status (status_runs e.status q.run.outcome q.run.is_status))
+  whole_late : (e : Evaluated) → IsRunAs c.words c.source c.source_after e → e.status ≡ c.report.status → IsLate c.report.status
+  whole_late e q i = subst IsLate i (late_run e.status (status_runs e.status q.run.outcome q.run.is_status))
 
-    status_of : {x y : Report} → x ≡ y → x.status ≡ y.status
-    status_of e = ap (λ (z : Report). z.status) e
+  status_of : {x y : Report} → x ≡ y → x.status ≡ y.status
+  status_of e = ap (λ (z : Report). z.status) e
 
-    write_fault_late : r.status ≡ Status.WriteFault → IsLate r.status
-    write_fault_late d = subst IsLate (sym d) tt
+  write_fault_late : c.report.status ≡ Status.WriteFault → IsLate c.report.status
+  write_fault_late d = subst IsLate (sym d) tt
 
-    -- the report of an early status
-    pub stops : Ended words left left' faults faults' written written' sunk sunk' r → IsEarly r.status → Stops words left left' faults faults' r.status r.refusal
-    stops (stopped stop q s w) d = subst (λ (z : Status). Stops words left left' faults faults' z r.refusal) (sym s.status) (subst (λ (z : Refusal). Stops words left left' faults faults' stop.status z) (sym s.refusal) q)
-    stops (ran e q (whole i w)) d = absurd (not_both r.status d (whole_late e q (sym (status_of i))))
-    stops (ran e q (part i l w f)) d = absurd (not_both r.status d (write_fault_late (status_of i)))
+  -- the report of an early status
+  pub stops : Ended c → IsEarly c.report.status → Stops c.words c.source c.source_after c.report.status c.report.refusal
+  stops (stopped stop q s w) d = subst (λ (z : Status). Stops c.words c.source c.source_after z c.report.refusal) (sym s.status) (subst (λ (z : Refusal). Stops c.words c.source c.source_after stop.status z) (sym s.refusal) q)
+  stops (ran e q (whole i w)) d = absurd (not_both c.report.status d (whole_late e q (sym (status_of i))))
+  stops (ran e q (part i l w f)) d = absurd (not_both c.report.status d (write_fault_late (status_of i)))
 
-    pub nothing_written : Ended words left left' faults faults' written written' sunk sunk' r → IsEarly r.status → WroteNothing written written' r
-    nothing_written (stopped stop q s w) d = record { journal = s.journal; receipts = s.receipts; count = s.written; same = w }
-    nothing_written (ran e q (whole i w)) d = absurd (not_both r.status d (whole_late e q (sym (status_of i))))
-    nothing_written (ran e q (part i l w f)) d = absurd (not_both r.status d (write_fault_late (status_of i)))
+  pub nothing_written : Ended c → IsEarly c.report.status → WroteNothing c
+  nothing_written (stopped stop q s w) d = record { journal = s.journal; receipts = s.receipts; count = s.written; same = w }
+  nothing_written (ran e q (whole i w)) d = absurd (not_both c.report.status d (whole_late e q (sym (status_of i))))
+  nothing_written (ran e q (part i l w f)) d = absurd (not_both c.report.status d (write_fault_late (status_of i)))
 
-    -- a whole text
-    pub wrote_run : Ended words left left' faults faults' written written' sunk sunk' r → HasRun r.status → WroteRun words left left' written written' r
-    wrote_run (stopped stop q s w) d = absurd (not_both r.status (stopped_early stop q s) (late_run r.status d))
-    wrote_run (ran e q (whole i w)) d = subst (λ (x : Report). WroteRun words left left' written written' x) (sym i) (record {
+  -- a whole text
+  pub wrote_run : Ended c → HasRun c.report.status → WroteRun c
+  wrote_run (stopped stop q s w) d = absurd (not_both c.report.status (stopped_early stop q s) (late_run c.report.status d))
+  wrote_run (ran e q (whole i w)) d = subst (λ (x : Report). WroteRun (record c { report = x })) (sym i) (record {
+    query = q.ready.query;
+    program = q.ready.program;
+    asked = q.ready.asked;
+    read = q.ready.read;
+    outcome = q.run.outcome;
+    is_status = q.run.is_status;
+    text = e.text.items;
+    run = record { loaded = q.loaded; is_loaded = q.ready.loaded; run = q.run.run };
+    wrote = w;
+    count = refl;
+  })
+  wrote_run (ran e q (part i l w f)) (inl d) = let x : Status.WriteFault ≡ Status.Done = sym (status_of i) ∙ d in absurd cc
+  wrote_run (ran e q (part i l w f)) (inr d) = let x : Status.WriteFault ≡ Status.Failed = sym (status_of i) ∙ d in absurd cc
+
+  no_write_fault : (e : Evaluated) → IsRunAs c.words c.source c.source_after e → e.status ≡ Status.WriteFault → ⊥
+  no_write_fault e q d = on (status_runs e.status q.run.outcome q.run.is_status)
+    where
+      on : HasRun e.status → ⊥
+      on (inl x) = let y : Status.Done ≡ Status.WriteFault = sym x ∙ d in cc
+      on (inr x) = let y : Status.Failed ≡ Status.WriteFault = sym x ∙ d in cc
+
+  -- a front of a text
+  pub wrote_part : Ended c → c.report.status ≡ Status.WriteFault → WrotePart c × HasFaulted c.sink c.sink_after
+  wrote_part (stopped stop q s w) d = absurd (not_both c.report.status (stopped_early stop q s) (write_fault_late d))
+  wrote_part (ran e q (whole i w)) d = absurd (no_write_fault e q (sym (status_of i) ∙ d))
+  wrote_part (ran e q (part i l w f)) d = (
+    subst (λ (x : Report). WrotePart (record c { report = x })) (sym i) (record {
       query = q.ready.query;
       program = q.ready.program;
       asked = q.ready.asked;
       read = q.ready.read;
       outcome = q.run.outcome;
-      is_status = q.run.is_status;
       text = e.text.items;
       run = record { loaded = q.loaded; is_loaded = q.ready.loaded; run = q.run.run };
       wrote = w;
-      count = refl;
-    })
-    wrote_run (ran e q (part i l w f)) (inl d) = let x : Status.WriteFault ≡ Status.Done = sym (status_of i) ∙ d in absurd cc
-    wrote_run (ran e q (part i l w f)) (inr d) = let x : Status.WriteFault ≡ Status.Failed = sym (status_of i) ∙ d in absurd cc
+      count = l;
+    }),
+    f,
+  )
 
-    no_write_fault : (e : Evaluated) → IsRunAs words left left' e → e.status ≡ Status.WriteFault → ⊥
-    no_write_fault e q d = on (status_runs e.status q.run.outcome q.run.is_status)
-      where
-        on : HasRun e.status → ⊥
-        on (inl x) = let y : Status.Done ≡ Status.WriteFault = sym x ∙ d in cc
-        on (inr x) = let y : Status.Failed ≡ Status.WriteFault = sym x ∙ d in cc
+  pub read_fault : Ended c → c.report.status ≡ Status.ReadFault → HasFaulted c.source c.source_after
+  read_fault k d = rose c.words c.source c.source_after (stops k (subst IsEarly (sym d) tt)) d
 
-    -- a front of a text
-    pub wrote_part : Ended words left left' faults faults' written written' sunk sunk' r → r.status ≡ Status.WriteFault → WrotePart words left left' written written' r × Rose sunk sunk'
-    wrote_part (stopped stop q s w) d = absurd (not_both r.status (stopped_early stop q s) (write_fault_late d))
-    wrote_part (ran e q (whole i w)) d = absurd (no_write_fault e q (sym (status_of i) ∙ d))
-    wrote_part (ran e q (part i l w f)) d = (
-      subst (λ (x : Report). WrotePart words left left' written written' x) (sym i) (record {
-        query = q.ready.query;
-        program = q.ready.program;
-        asked = q.ready.asked;
-        read = q.ready.read;
-        outcome = q.run.outcome;
-        text = e.text.items;
-        run = record { loaded = q.loaded; is_loaded = q.ready.loaded; run = q.run.run };
-        wrote = w;
-        count = l;
-      }),
-      f,
-    )
+  -- the refusal of the words
+  pub refuses_words : Ended c → c.report.refusal ≡ Refusal.NotYet Part.Words → query_of c.words ≡ None
+  refuses_words (stopped stop q s w) d = none_asked c.words c.source c.source_after q (sym s.refusal ∙ d)
+  refuses_words (ran e q (whole i w)) d = let x : Refusal.Nothing ≡ Refusal.NotYet Part.Words = sym (ap (λ (z : Report). z.refusal) i) ∙ d in absurd cc
+  refuses_words (ran e q (part i l w f)) d = let x : Refusal.Nothing ≡ Refusal.NotYet Part.Words = sym (ap (λ (z : Report). z.refusal) i) ∙ d in absurd cc
 
-    pub read_fault : Ended words left left' faults faults' written written' sunk sunk' r → r.status ≡ Status.ReadFault → Rose faults faults'
-    read_fault k d = rose (stops k (subst IsEarly (sym d) tt)) d
+  pub words_refused : Ended c → query_of c.words ≡ None → c.report.refusal ≡ Refusal.NotYet Part.Words
+  words_refused (stopped stop q s w) d = s.refusal ∙ not_asked c.words c.source c.source_after q d
+  words_refused (ran e q w) d = absurd (some_query c.words c.source c.source_after d q.ready.asked.is_query)
 
-    -- the refusal of the words
-    pub refuses_words : Ended words left left' faults faults' written written' sunk sunk' r → r.refusal ≡ Refusal.NotYet Part.Words → query_of words ≡ None
-    refuses_words (stopped stop q s w) d = none_asked q (sym s.refusal ∙ d)
-    refuses_words (ran e q (whole i w)) d = let x : Refusal.Nothing ≡ Refusal.NotYet Part.Words = sym (ap (λ (z : Report). z.refusal) i) ∙ d in absurd cc
-    refuses_words (ran e q (part i l w f)) d = let x : Refusal.Nothing ≡ Refusal.NotYet Part.Words = sym (ap (λ (z : Report). z.refusal) i) ∙ d in absurd cc
+  -- the status is one of those that are built, and a late one has no refusal
+  pub built : Ended c → IsEarly c.report.status ⊎ IsLate c.report.status
+  built (stopped stop q s w) = inl (stopped_early stop q s)
+  built (ran e q (whole i w)) = inr (whole_late e q (sym (status_of i)))
+  built (ran e q (part i l w f)) = inr (write_fault_late (status_of i))
 
-    pub words_refused : Ended words left left' faults faults' written written' sunk sunk' r → query_of words ≡ None → r.refusal ≡ Refusal.NotYet Part.Words
-    words_refused (stopped stop q s w) d = s.refusal ∙ not_asked q d
-    words_refused (ran e q w) d = absurd (some_query d q.ready.asked.is_query)
-
-    -- the status is one of those that are built, and a late one has no refusal
-    pub built : Ended words left left' faults faults' written written' sunk sunk' r → IsEarly r.status ⊎ IsLate r.status
-    built (stopped stop q s w) = inl (stopped_early stop q s)
-    built (ran e q (whole i w)) = inr (whole_late e q (sym (status_of i)))
-    built (ran e q (part i l w f)) = inr (write_fault_late (status_of i))
-
-    pub unrefused : Ended words left left' faults faults' written written' sunk sunk' r → IsLate r.status → r.refusal ≡ Refusal.Nothing
-    unrefused (stopped stop q s w) d = absurd (not_both r.status (stopped_early stop q s) d)
-    unrefused (ran e q (whole i w)) d = ap (λ (z : Report). z.refusal) i
-    unrefused (ran e q (part i l w f)) d = ap (λ (z : Report). z.refusal) i
+  pub unrefused : Ended c → IsLate c.report.status → c.report.refusal ≡ Refusal.Nothing
+  unrefused (stopped stop q s w) d = absurd (not_both c.report.status (stopped_early stop q s) d)
+  unrefused (ran e q (whole i w)) d = ap (λ (z : Report). z.refusal) i
+  unrefused (ran e q (part i l w f)) d = ap (λ (z : Report). z.refusal) i

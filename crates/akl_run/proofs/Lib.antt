@@ -1,4 +1,4 @@
-pub mod Chains
+pub mod Ends
 pub mod Represented
 pub mod Commits
 pub mod Derived
@@ -9,3 +9,4 @@ pub mod Loading
 pub mod Reading
 pub mod Exact
 pub mod BuiltGoals
+pub mod Reported

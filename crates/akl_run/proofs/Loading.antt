@@ -6,8 +6,8 @@ use Rattle.std.specs.Prelude.{◌||◌, slice_index_or, map, Result, Ok, IfErr}
 use Rattle.std.specs.Result.{IsErrAnd}
 use Rattle.std.specs.List.{All, list_any}
 use Rattle.akl_terms.specs.declared.program.Program.{Program}
-use Rattle.akl_syntax.specs.declared.error.SyntaxError.{SyntaxError}
-use Rattle.akl_syntax.specs.declared.error.SyntaxError.TheVariants as syntax_errors
+use Rattle.akl_lexemes.specs.declared.error.SyntaxError.{SyntaxError}
+use Rattle.akl_lexemes.specs.declared.error.SyntaxError.TheVariants as syntax_errors
 use Rattle.akl_syntax.specs.Goals.{Goal, call, choice, lifted}
 use Rattle.akl_syntax.specs.Clauses.{Clause, Query}
 use Rattle.akl_syntax.specs.Verdicts.{Verdict, accepted, ReadsProgram, ReadsQuery, too_long, clauses}

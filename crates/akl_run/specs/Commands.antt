@@ -1,11 +1,11 @@
--- How a command ends.
-use Rattle.std.specs.Prelude.{◌≡◌, ◌⊎◌, ℕ, false, ◌<◌, ◌≤◌, List, [], length, take, map, Option, Some, None, IfSome}
+-- A command, and what its report says of it.
+use Rattle.std.specs.Prelude.{◌≡◌, ◌⊎◌, ◌↔◌, ℕ, true, false, ◌<◌, ◌≤◌, List, [], length, take, map, Option, Some, None, IfSome}
 use Rattle.std.specs.Io.KnownBytes.{prepend_known, append_known}
-use Rattle.akl_outside.specs.Counts.{Rose}
+use Rattle.akl_outside.specs.Counts.{Rose, next_count}
 use Rattle.akl_outside.specs.Transfer.{ReadSome}
 use Rattle.akl_terms.specs.declared.program.Program.{Program}
 use Rattle.akl_model.specs.Derivations.{Outcome}
-use Rattle.akl_syntax.specs.declared.error.SyntaxError.TheVariants.{TooLong}
+use Rattle.akl_lexemes.specs.declared.error.SyntaxError.TheVariants.{TooLong}
 use Rattle.akl_run.specs.declared.report.Part.{Part}
 use Rattle.akl_run.specs.declared.report.Status.{Status}
 use Rattle.akl_run.specs.declared.report.Refusal.{Refusal}
@@ -14,7 +14,35 @@ use Rattle.akl_run.specs.declared.loaded.Loaded.{Loaded}
 use Rattle.akl_run.specs.Words.{query_of}
 use Rattle.akl_run.specs.Goals.{are_built_goals}
 use Rattle.akl_run.specs.Loads.{IsLoadedProgram, ProgramStops, QueryStops, IsLoadedQuery, IsLoadedFrom}
-use Rattle.akl_run.specs.Reports.{IsStatusOf, IsRunOf, RunStops}
+use Rattle.akl_run.specs.Reports.{IsStatusOf, IsRunOf, RunStops, HasOnlyLongRuns}
+
+-- What is seen of a source or of a sink: the bytes still to come, or taken so far, where they are known, and how many
+-- of its calls failed.
+pub record Side : Type 0 where
+  pub bytes : Option (List ℕ)
+  pub faults : ℕ
+
+abbrev pub side : Option (List ℕ) → ℕ → Side
+side bytes faults = record { bytes = bytes; faults = faults }
+
+-- some call failed in between, or the count stands at the last number, from which it can't go up
+abbrev pub HasFaulted : Side → Side → Type 0
+HasFaulted before after = Rose before.faults after.faults
+
+-- no call failed in between
+abbrev pub HasWorked : Side → Side → Type 0
+HasWorked before after = after.faults < next_count before.faults
+
+-- a command: its words, its source and its sink before and after it, and its report
+pub record Command : Type 0 where
+  pub words : List (List ℕ)
+  pub source : Side
+  pub source_after : Side
+  pub sink : Side
+  pub sink_after : Side
+  pub report : Report
+
+-- ---- the words and the source
 
 -- the words are a command with this query, which isn't too long
 pub record IsAskedBy (words : List (List ℕ)) (query : List ℕ) : Type 0 where
@@ -26,28 +54,29 @@ pub data WordsStop (words : List (List ℕ)) : Status → Refusal → Type 0 whe
   no_command : query_of words ≡ None → WordsStop words Status.NotYet (Refusal.NotYet Part.Words)
   long_query : {query : List ℕ} → query_of words ≡ Some query → 10000 < length query → WordsStop words Status.Query (Refusal.TextOf (TooLong (length query)))
 
--- these bytes were read, by what the source had left before and after: all that it had, unless these are more than a program may have
-pub record IsRead (left left' : Option (List ℕ)) (bytes : List ℕ) : Type 0 where
-  pub read : left ≡ prepend_known bytes left'
+-- these bytes were read of a source: all that it had, unless these are more than a program may have
+pub record IsRead (before after : Side) (bytes : List ℕ) : Type 0 where
+  pub read : before.bytes ≡ prepend_known bytes after.bytes
   pub few : length bytes ≤ 1000001
-  pub ended : length bytes ≤ 1000000 → IfSome left' (λ rest. rest ≡ [])
-  pub whole : length bytes ≤ 1000000 → IfSome left (λ all. bytes ≡ all)
+  pub ended : length bytes ≤ 1000000 → IfSome after.bytes (λ rest. rest ≡ [])
+  pub whole : length bytes ≤ 1000000 → IfSome before.bytes (λ all. bytes ≡ all)
 
 -- the source failed before a program's bytes were read; want of memory is free
-pub data ReadStops (left left' : Option (List ℕ)) (faults faults' : ℕ) : Status → Refusal → Type 0 where
-  fault : Rose faults faults' → ReadSome left left' (λ n. n ≤ 1000000) → ReadStops left left' faults faults' Status.ReadFault Refusal.Nothing
-  no_memory : ReadSome left left' (λ n. n ≤ 1000001) → ReadStops left left' faults faults' Status.NoMemory Refusal.Nothing
+pub data ReadStops (before after : Side) : Status → Refusal → Type 0 where
+  fault : HasFaulted before after → ReadSome before.bytes after.bytes (λ n. n ≤ 1000000) → ReadStops before after Status.ReadFault Refusal.Nothing
+  no_memory : ReadSome before.bytes after.bytes (λ n. n ≤ 1000001) → ReadStops before after Status.NoMemory Refusal.Nothing
 
 -- What ends a command before anything is written, in the order of the work: the words, the source, the program, the query, its run.
--- The source is seen as what it had left and its count of faults, before and after.
-pub data Stops (words : List (List ℕ)) (left left' : Option (List ℕ)) (faults faults' : ℕ) : Status → Refusal → Type 0 where
-  by_words : {s : Status} {f : Refusal} → WordsStop words s f → left' ≡ left → faults' ≡ faults → Stops words left left' faults faults' s f
-  by_reading : {s : Status} {f : Refusal} {query : List ℕ} → IsAskedBy words query → ReadStops left left' faults faults' s f → Stops words left left' faults faults' s f
-  by_program : {s : Status} {f : Refusal} {query program : List ℕ} → IsAskedBy words query → IsRead left left' program → ProgramStops program s f → Stops words left left' faults faults' s f
-  by_query : {s : Status} {f : Refusal} {query program : List ℕ} {p : Program} → IsAskedBy words query → IsRead left left' program → IsLoadedProgram program p → QueryStops p query s f
-      → Stops words left left' faults faults' s f
-  by_run : {s : Status} {f : Refusal} {query program : List ℕ} {l : Loaded} → IsAskedBy words query → IsRead left left' program → IsLoadedFrom program query l → RunStops l s f
-      → Stops words left left' faults faults' s f
+pub data Stops (words : List (List ℕ)) (before after : Side) : Status → Refusal → Type 0 where
+  by_words : {s : Status} {f : Refusal} → WordsStop words s f → after ≡ before → Stops words before after s f
+  by_reading : {s : Status} {f : Refusal} {query : List ℕ} → IsAskedBy words query → ReadStops before after s f → Stops words before after s f
+  by_program : {s : Status} {f : Refusal} {query program : List ℕ} → IsAskedBy words query → IsRead before after program → ProgramStops program s f → Stops words before after s f
+  by_query : {s : Status} {f : Refusal} {query program : List ℕ} {p : Program} → IsAskedBy words query → IsRead before after program → IsLoadedProgram program p → QueryStops p query s f
+      → Stops words before after s f
+  by_run : {s : Status} {f : Refusal} {query program : List ℕ} {l : Loaded} → IsAskedBy words query → IsRead before after program → IsLoadedFrom program query l → RunStops l s f
+      → Stops words before after s f
+
+-- ---- how a command ends, by its texts
 
 -- the source failed, or memory was refused: such an end may come in the place of any other
 abbrev pub IsFault : Status → Type 0
@@ -59,51 +88,73 @@ IsFault s = ⊥
 abbrev pub IsUnlessFault : Report → Status → Refusal → Type 0
 IsUnlessFault r s f = IsFault r.status ⊎ ((r.status ≡ s) × (r.refusal ≡ f))
 
+-- the command asks this query, and this is what the source has, up to one byte more than a program may have
+pub record Asks (c : Command) (query program : List ℕ) : Type 0 where
+  pub asked : IsAskedBy c.words query
+  pub text : List ℕ
+  pub has : c.source.bytes ≡ Some text
+  pub front : program ≡ take 1000001 text
+
 -- where the program's text is refused, or isn't built, the command ends so
-abbrev pub ProgramEnds : List (List ℕ) → Option (List ℕ) → Report → Type 0
-ProgramEnds words left r = (query text : List ℕ) (s : Status) (f : Refusal) → IsAskedBy words query → left ≡ Some text → ProgramStops (take 1000001 text) s f → (IsFault s → ⊥) → IsUnlessFault r s f
+abbrev pub ProgramEnds : Command → Type 0
+ProgramEnds c = (query program : List ℕ) (s : Status) (f : Refusal) → Asks c query program → ProgramStops program s f → (IsFault s → ⊥) → IsUnlessFault c.report s f
 
 -- where the program is loaded, and the query's text is refused over it, or isn't built, the command ends so
-abbrev pub QueryEnds : List (List ℕ) → Option (List ℕ) → Report → Type 0
-QueryEnds words left r = (query text : List ℕ) (p : Program) (s : Status) (f : Refusal) → IsAskedBy words query → left ≡ Some text → IsLoadedProgram (take 1000001 text) p → QueryStops p query s f
-    → (IsFault s → ⊥) → IsUnlessFault r s f
+abbrev pub QueryEnds : Command → Type 0
+QueryEnds c = (query program : List ℕ) (p : Program) (s : Status) (f : Refusal) → Asks c query program → IsLoadedProgram program p → QueryStops p query s f → (IsFault s → ⊥) → IsUnlessFault c.report s f
 
 -- where the query is loaded and has a goal that isn't built, the command says so
-abbrev pub GoalsEnd : List (List ℕ) → Option (List ℕ) → Report → Type 0
-GoalsEnd words left r = (query text : List ℕ) (p : Program) (l : Loaded) → IsAskedBy words query → left ≡ Some text → IsLoadedProgram (take 1000001 text) p → (asked : IsLoadedQuery p query l)
-    → are_built_goals asked.asked.goals ≡ false → IsUnlessFault r Status.NotYet (Refusal.NotYet Part.Query)
+abbrev pub GoalsEnd : Command → Type 0
+GoalsEnd c = (query program : List ℕ) (l : Loaded) → Asks c query program → (from : IsLoadedFrom program query l) → are_built_goals from.is_query.asked.goals ≡ false
+    → IsUnlessFault c.report Status.NotYet (Refusal.NotYet Part.Query)
+
+-- where the query is loaded, its goals are built, and each run of it has an answer that is too long, the command says so
+abbrev pub LongAnswersEnd : Command → Type 0
+LongAnswersEnd c = (query program : List ℕ) (l : Loaded) → Asks c query program → (from : IsLoadedFrom program query l) → are_built_goals from.is_query.asked.goals ≡ true
+    → HasOnlyLongRuns program query → IsUnlessFault c.report Status.NotYet (Refusal.NotYet Part.Answer)
+
+-- it was done, or has failed, or its answer is too long
+abbrev pub IsAnswered : Report → Type 0
+IsAnswered r = (r.status ≡ Status.Done) ⊎ (r.status ≡ Status.Failed) ⊎ ((r.status ≡ Status.NotYet) × (r.refusal ≡ Refusal.NotYet Part.Answer))
+
+-- where the query is loaded, its goals are built, the source and the sink work and there is memory, the query is answered
+abbrev pub IsComplete : Command → Type 0
+IsComplete c = (query program : List ℕ) (l : Loaded) → Asks c query program → (from : IsLoadedFrom program query l) → are_built_goals from.is_query.asked.goals ≡ true
+    → HasWorked c.source c.source_after → HasWorked c.sink c.sink_after → (c.report.status ≡ Status.NoMemory → ⊥) → IsAnswered c.report
+
+-- ---- what was written
 
 -- the run of the words' query over the source's program was written whole: what was appended is the text of the answered journal
-pub record WroteRun (words : List (List ℕ)) (left left' written written' : Option (List ℕ)) (r : Report) : Type 0 where
+pub record WroteRun (c : Command) : Type 0 where
   pub query : List ℕ
   pub program : List ℕ
-  pub asked : IsAskedBy words query
-  pub read : IsRead left left' program
+  pub asked : IsAskedBy c.words query
+  pub read : IsRead c.source c.source_after program
   pub outcome : Outcome
-  pub is_status : IsStatusOf r.status outcome
+  pub is_status : IsStatusOf c.report.status outcome
   pub text : List ℕ
-  pub run : IsRunOf program query outcome r.journal.items (map (λ rs. rs.items) r.receipts.items) text
-  pub wrote : written' ≡ append_known written text
-  pub count : r.written ≡ length text
+  pub run : IsRunOf program query outcome c.report.journal.items (map (λ rs. rs.items) c.report.receipts.items) text
+  pub wrote : c.sink_after.bytes ≡ append_known c.sink.bytes text
+  pub count : c.report.written ≡ length text
 
 -- a front of the text was written
-pub record WrotePart (words : List (List ℕ)) (left left' written written' : Option (List ℕ)) (r : Report) : Type 0 where
+pub record WrotePart (c : Command) : Type 0 where
   pub query : List ℕ
   pub program : List ℕ
-  pub asked : IsAskedBy words query
-  pub read : IsRead left left' program
+  pub asked : IsAskedBy c.words query
+  pub read : IsRead c.source c.source_after program
   pub outcome : Outcome
   pub text : List ℕ
-  pub run : IsRunOf program query outcome r.journal.items (map (λ rs. rs.items) r.receipts.items) text
-  pub wrote : written' ≡ append_known written (take r.written text)
-  pub count : r.written < length text
+  pub run : IsRunOf program query outcome c.report.journal.items (map (λ rs. rs.items) c.report.receipts.items) text
+  pub wrote : c.sink_after.bytes ≡ append_known c.sink.bytes (take c.report.written text)
+  pub count : c.report.written < length text
 
 -- nothing was run and nothing was written
-pub record WroteNothing (written written' : Option (List ℕ)) (r : Report) : Type 0 where
-  pub journal : r.journal.items ≡ []
-  pub receipts : r.receipts.items ≡ []
-  pub count : r.written ≡ 0
-  pub same : written' ≡ written
+pub record WroteNothing (c : Command) : Type 0 where
+  pub journal : c.report.journal.items ≡ []
+  pub receipts : c.report.receipts.items ≡ []
+  pub count : c.report.written ≡ 0
+  pub same : c.sink_after.bytes ≡ c.sink.bytes
 
 -- the statuses with which nothing is run
 abbrev pub IsEarly : Status → Type 0
@@ -120,3 +171,32 @@ IsLate Status.Done = Unit {0}
 IsLate Status.Failed = Unit {0}
 IsLate Status.WriteFault = Unit {0}
 IsLate s = ⊥
+
+-- ---- all that a report says of its command
+pub record IsReported (c : Command) : Type 0 where
+  -- The headline, for the outcomes that the rules built so far can have: what was appended to the sink is the text of a run.
+  pub done : c.report.status ≡ Status.Done → WroteRun c
+  pub failed : c.report.status ≡ Status.Failed → WroteRun c
+
+  -- A front of the text was written before the sink failed.
+  pub write_fault : c.report.status ≡ Status.WriteFault → HasFaulted c.sink c.sink_after
+  pub written_part : c.report.status ≡ Status.WriteFault → WrotePart c
+
+  -- Before another status nothing was run or written, and each comes with its refusal from one cause, in the order of the work.
+  pub nothing : IsEarly c.report.status → WroteNothing c
+  pub stops : IsEarly c.report.status → Stops c.words c.source c.source_after c.report.status c.report.refusal
+  pub read_fault : c.report.status ≡ Status.ReadFault → HasFaulted c.source c.source_after
+  pub words : (c.report.refusal ≡ Refusal.NotYet Part.Words) ↔ (query_of c.words ≡ None)
+
+  -- What is refused, isn't built or is too long ends the command so, unless a fault comes before.
+  pub program : ProgramEnds c
+  pub query : QueryEnds c
+  pub goals : GoalsEnd c
+  pub long : LongAnswersEnd c
+
+  -- All else is answered.
+  pub complete : IsComplete c
+
+  -- No other status comes, and a run that was written has no refusal.
+  pub built : IsEarly c.report.status ⊎ IsLate c.report.status
+  pub refusal : IsLate c.report.status → c.report.refusal ≡ Refusal.Nothing

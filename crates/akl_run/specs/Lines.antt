@@ -2,8 +2,8 @@
 use Rattle.std.specs.Prelude.{ℕ, List, [], ◌++◌, codes}
 use Rattle.std.specs.Fmt.{decimal}
 use Rattle.akl_terms.specs.declared.program.Key.{Key}
-use Rattle.akl_syntax.specs.declared.error.SyntaxError.{SyntaxError}
-use Rattle.akl_syntax.specs.declared.error.SyntaxError.TheVariants as syntax_errors
+use Rattle.akl_lexemes.specs.declared.error.SyntaxError.{SyntaxError}
+use Rattle.akl_lexemes.specs.declared.error.SyntaxError.TheVariants as syntax_errors
 use Rattle.answer_text.specs.SymbolText.{symbol_text}
 use Rattle.clause_checks.specs.declared.error.Limit.{Limit}
 use Rattle.clause_checks.specs.declared.error.Limit.TheVariants as limits

@@ -2,7 +2,7 @@
 use Rattle.std.specs.Prelude.{◌≡◌, ◌<◌, ℕ, ◌+◌, ◌^◌, true, false, List, [], length, map, slice_get, Some, None}
 use Rattle.akl_terms.specs.declared.term.Node.{Node}
 use Rattle.akl_terms.specs.declared.program.Program.{Program}
-use Rattle.akl_syntax.specs.declared.error.SyntaxError.{SyntaxError}
+use Rattle.akl_lexemes.specs.declared.error.SyntaxError.{SyntaxError}
 use Rattle.akl_syntax.specs.Clauses.{Clause, Query}
 use Rattle.akl_syntax.specs.Verdicts.{accepted, refused, ReadsProgram, ReadsQuery}
 use Rattle.clause_checks.specs.declared.error.LoadError.{LoadError}

@@ -36,13 +36,18 @@ pub record IsRunOf (program query : List ℕ) (outcome : Outcome) (journal : Lis
   pub is_loaded : IsLoadedFrom program query loaded
   pub run : IsRunBy loaded outcome journal receipts text
 
--- the query's run has an answer without a text of at most a million bytes
+-- some run of the query has an answer that is too long
 pub record HasLongRun (l : Loaded) : Type 0 where
   pub journal : List Label
   pub answers : List Content
   pub outcome : Outcome
   pub run : IsRun l journal answers outcome
-  pub is_long : HasLongAnswer l.program.templates.symbols 1000000 answers
+  pub is_long : HasLongAnswer l.program.templates.symbols answers
+
+-- however two texts are loaded, each run of the query has an answer that is too long
+abbrev pub HasOnlyLongRuns : List ℕ → List ℕ → Type 0
+HasOnlyLongRuns program query = (l : Loaded) → IsLoadedFrom program query l → (journal : List Label) (answers : List Content) (outcome : Outcome) → IsRun l journal answers outcome
+    → HasLongAnswer l.program.templates.symbols answers
 
 -- why a loaded query isn't run, or its text isn't written; want of memory is free
 pub data RunStops (l : Loaded) : Status → Refusal → Type 0 where

@@ -1,16 +1,16 @@
 -- The text of a run of equations, by what stands for its terms.
-use Rattle.std.specs.Prelude.{◌≡◌, ℕ, ◌<◌, List, [], ◌∷◌, ◌++◌, length, map, codes, Option, Some, None}
+use Rattle.std.specs.Prelude.{◌≡◌, ℕ, ◌<◌, ◌≤◌, List, [], ◌∷◌, ◌++◌, length, map, codes, Option, Some, None}
 use Rattle.akl_terms.specs.declared.program.Shown.{Shown}
 use Rattle.akl_terms.specs.declared.program.ShownTerm.{ShownTerm}
 use Rattle.akl_terms.specs.Tree.{Tree}
 use Rattle.akl_terms.specs.Equal.{Equations}
 use Rattle.akl_model.specs.Instances.{shown_of}
-use Rattle.rational_unify.specs.Known.{end_of}
 use Rattle.answer_text.specs.Printed.{PrintsLines}
 use Rattle.answer_text.specs.Classes.{Represents}
-use Rattle.answer_text.specs.Answers.{shown_trees}
+use Rattle.answer_text.specs.Answers.{longest_answer, AreTooLong, shown_trees}
 use Rattle.akl_run.specs.declared.loaded.Loaded.{Loaded}
 use Rattle.akl_run.specs.Text.{shown_lines}
+use Rattle.akl_run.specs.Ends.{led_by}
 use Rattle.akl_run.specs.Engine.{query_frame}
 use Rattle.akl_run.specs.declared.solved_form.SolvedForm.{SolvedForm}
 
@@ -30,13 +30,17 @@ shown_by l terms = shown_trees l.program.templates terms ≡ shown_lines (map (s
 abbrev pub box_lines : Loaded → List (List ℕ × Tree)
 box_lines l = shown_lines (map (shown_of query_frame) l.query.shown)
 
+-- where each term leads, by what stands for it
+abbrev pub goes_by : Loaded → SolvedForm → Tree → Tree
+goes_by l s = led_by l.program.templates.nodes s.ends.entries
+
 -- the text of the answer and the outcome, under all equations for which the form gives what stands for each term
 abbrev pub IsTextBy : Loaded → Option SolvedForm → List ℕ → Type 0
 IsTextBy l None text = text ≡ codes "failed\n"
-IsTextBy l (Some s) text = (lines : List ℕ) × (text ≡ (codes "answer 1\n" ++ lines) ++ codes "done\n")
-    × ((E : Equations) → Represents E (end_of l.program.templates.nodes s.bindings.items) → PrintsLines l.program.templates.symbols E [] (box_lines l) lines)
+IsTextBy l (Some s) text = (lines : List ℕ) × (text ≡ (codes "answer 1\n" ++ lines) ++ codes "done\n") × (length lines ≤ longest_answer)
+    × ((E : Equations) → Represents E (goes_by l s) → PrintsLines l.program.templates.symbols E [] (box_lines l) lines)
 
--- each text of the answer is longer than a million bytes
-abbrev pub HasNoShortTextBy : Loaded → Option SolvedForm → Type 0
-HasNoShortTextBy l None = ⊥
-HasNoShortTextBy l (Some s) = (E : Equations) → Represents E (end_of l.program.templates.nodes s.bindings.items) → (lines : List ℕ) → PrintsLines l.program.templates.symbols E [] (box_lines l) lines → 1000000 < length lines
+-- each text of the answer is too long
+abbrev pub IsTooLongBy : Loaded → Option SolvedForm → Type 0
+IsTooLongBy l None = ⊥
+IsTooLongBy l (Some s) = (E : Equations) → Represents E (goes_by l s) → AreTooLong l.program.templates.symbols E (box_lines l)

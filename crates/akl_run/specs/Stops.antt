@@ -2,8 +2,8 @@
 use Rattle.std.specs.Prelude.{◌≡◌}
 use Rattle.akl_outside.specs.declared.transfer.ReadError.{ReadError}
 use Rattle.akl_outside.specs.declared.transfer.ReadError.TheVariants as read_errors
-use Rattle.akl_syntax.specs.declared.error.SyntaxError.{SyntaxError}
-use Rattle.akl_syntax.specs.declared.error.SyntaxError.TheVariants as syntax_errors
+use Rattle.akl_lexemes.specs.declared.error.SyntaxError.{SyntaxError}
+use Rattle.akl_lexemes.specs.declared.error.SyntaxError.TheVariants as syntax_errors
 use Rattle.clause_checks.specs.declared.error.LoadError.{LoadError}
 use Rattle.clause_checks.specs.declared.error.LoadError.TheVariants as load_errors
 use Rattle.akl_run.specs.declared.report.Status.{Status}

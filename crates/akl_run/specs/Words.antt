@@ -1,5 +1,9 @@
 -- The command line.
-use Rattle.std.specs.Prelude.{ℕ, Bool, false, ◌&&◌, ◌==◌, not, List, [], ◌∷◌, Option, Some, None, if◌then◌else◌, bytes_eq, codes}
+use Rattle.std.specs.Prelude.{ℕ, Bool, false, ◌&&◌, ◌==◌, not, List, [], ◌∷◌, map, Option, Some, None, if◌then◌else◌, String, string_bytes, bytes_eq, codes}
+
+-- the bytes of each word
+abbrev pub bytes_of : {A : Type 0} → List (String A) → List (List ℕ)
+bytes_of words = map (λ word. string_bytes word) words
 
 -- a value that is a word of its own isn't empty and doesn't begin with `-`
 abbrev pub is_value : List ℕ → Bool

@@ -121,7 +121,8 @@ fn tell_and_solve(alloc: Global, loaded: &Loaded, mut run: Run) -> Result<Run, A
     let equations = tell_all(alloc, &mut run, loaded.query.goals.as_slice())?;
     match solve(alloc, &loaded.program.templates, &Nothing, &equations)? {
         Solved::Added(bindings) => {
-            run.solved = Some(SolvedForm { bindings });
+            let form = SolvedForm::new(alloc, &loaded.program.templates, bindings)?;
+            run.solved = Some(form);
             Ok(run)
         }
         Solved::Clash { left: _, right: _ } => {

@@ -4,6 +4,7 @@
 mod choices;
 mod engine;
 mod evaluate;
+mod indexed;
 mod loaded;
 mod prepare;
 mod refusal;
@@ -18,6 +19,3 @@ pub use clause_checks::{Limit, LoadError};
 pub use refusal::refusal_line;
 pub use report::{Part, Refusal, Report, Status};
 pub use run::run_akl;
-
-#[cfg(test)]
-mod tests;

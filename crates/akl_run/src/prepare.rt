@@ -1,7 +1,8 @@
 //! From the words and the source to a loaded query.
 
-ghost use Rattle.std.specs.Prelude.{map, string_bytes, IfOk, IfErr, OnErr, ◌≡◌};
-ghost use Rattle.akl_run.specs.Commands.{IsAskedBy, WordsStop, IsRead, ReadStops, Stops};
+ghost use Rattle.std.specs.Prelude.{IfOk, IfErr};
+ghost use Rattle.akl_run.specs.Words.{bytes_of};
+ghost use Rattle.akl_run.specs.Commands.{side, IsAskedBy, WordsStop, IsRead, ReadStops, Stops};
 ghost use Rattle.akl_run.specs.Steps.{IsReady};
 
 use crate::loaded::{Loaded, load_asked, load_program};
@@ -17,8 +18,8 @@ const MOST_READ: usize = 1_000_001;
 
 // The query's text in the words.
 fn asked(words: &[String]) -> Result<&str, Stop>
-    ensures ok { IfOk result (λ query. IsAskedBy (map (λ word. string_bytes word) words.now) query.now) }
-    ensures stop { IfErr result (λ stop. WordsStop (map (λ word. string_bytes word) words.now) stop.status stop.refusal) }
+    ensures ok { IfOk result (λ query. IsAskedBy (bytes_of words.now) query.now) }
+    ensures stop { IfErr result (λ stop. WordsStop (bytes_of words.now) stop.status stop.refusal) }
 {
     let Some(query) = query_of(words) else {
         return Err(Stop::not_yet(Part::Words));
@@ -31,16 +32,16 @@ fn asked(words: &[String]) -> Result<&str, Stop>
 
 // The source's bytes, up to one more than a program may have.
 fn read<S: Source>(alloc: Global, program: &mut S) -> Result<Vec<u8>, Stop>
-    ensures ok { IfOk result (λ bytes. IsRead (S.left program.old) (S.left program.new) bytes.items) }
-    ensures stop { IfErr result (λ stop. ReadStops (S.left program.old) (S.left program.new) (S.faults program.old) (S.faults program.new) stop.status stop.refusal) }
+    ensures ok { IfOk result (λ bytes. IsRead (side (S.left program.old) (S.faults program.old)) (side (S.left program.new) (S.faults program.new)) bytes.items) }
+    ensures stop { IfErr result (λ stop. ReadStops (side (S.left program.old) (S.faults program.old)) (side (S.left program.new) (S.faults program.new)) stop.status stop.refusal) }
 {
     Ok(read_up_to(alloc, program, MOST_READ)?)
 }
 
 /// Reads the words and the source, and loads the program and the query.
 pub fn prepare<S: Source>(alloc: Global, words: &[String], program: &mut S) -> Result<Loaded, Stop>
-    ensures ready { IfOk result (λ loaded. IsReady (map (λ word. string_bytes word) words.now) (S.left program.old) (S.left program.new) loaded) }
-    ensures stop { IfErr result (λ stop. Stops (map (λ word. string_bytes word) words.now) (S.left program.old) (S.left program.new) (S.faults program.old) (S.faults program.new) stop.status stop.refusal) }
+    ensures ready { IfOk result (λ loaded. IsReady (bytes_of words.now) (side (S.left program.old) (S.faults program.old)) (side (S.left program.new) (S.faults program.new)) loaded) }
+    ensures stop { IfErr result (λ stop. Stops (bytes_of words.now) (side (S.left program.old) (S.faults program.old)) (side (S.left program.new) (S.faults program.new)) stop.status stop.refusal) }
 {
     let query = asked(words)?;
     let bytes = read(alloc, program)?;

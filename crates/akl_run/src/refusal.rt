@@ -7,7 +7,7 @@ ghost use Rattle.akl_run.specs.Lines.{key_text, kind_of, text_cause, loading_cau
 use crate::report::{Part, Refusal, Report, Status};
 use akl_syntax::SyntaxError;
 use akl_terms::Key;
-use answer_text::push_symbol;
+use answer_text::symbol_text;
 use clause_checks::{Limit, LoadError};
 use std::alloc::{AllocError, Global};
 
@@ -29,7 +29,9 @@ fn push_number(line: &mut Vec<u8>, number: usize) -> Result<(), AllocError>
 fn push_key(line: &mut Vec<u8>, key: &Key) -> Result<(), AllocError>
     ensures { OnOk result (line.new.items ≡ line.old.items ++ key_text key.now) }
 {
-    push_symbol(line, key.symbol.as_str())?;
+    let alloc = *line.allocator();
+    let symbol = symbol_text(alloc, key.symbol.as_str())?;
+    line.extend_from_slice(&symbol)?;
     push_text(line, "/")?;
     push_number(line, key.arity as usize)
 }

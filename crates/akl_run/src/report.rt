@@ -8,7 +8,7 @@ use akl_syntax::SyntaxError;
 use clause_checks::LoadError;
 
 /// What a run came to, or what ended the call before or after it.
-#[derive(Clone, Copy, Debug, PartialEq, Eq)]
+#[derive(Clone, Copy)]
 pub enum Status {
     /// No rule applies, and each root box is an answer.
     Done,
@@ -56,7 +56,7 @@ impl Status {
 }
 
 /// A part of a command.
-#[derive(Clone, Copy, Debug, PartialEq, Eq)]
+#[derive(Clone, Copy)]
 pub enum Part {
     Words,
     Program,

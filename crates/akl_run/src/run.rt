@@ -1,14 +1,13 @@
 //! The top call.
 
-ghost use Rattle.std.specs.Prelude.{◌≡◌, ◌↔◌, ◌⊎◌, map, string_bytes, None, IfOk, IfErr};
-ghost use Rattle.akl_outside.specs.Counts.{Rose};
-ghost use Rattle.akl_run.specs.Words.{query_of};
-ghost use Rattle.akl_run.specs.Commands.{Stops, ProgramEnds, QueryEnds, GoalsEnd, WroteRun, WrotePart, WroteNothing, IsEarly, IsLate};
+ghost use Rattle.std.specs.Prelude.{IfOk, IfErr};
+ghost use Rattle.akl_run.specs.Words.{bytes_of};
+ghost use Rattle.akl_run.specs.Commands.{side, Stops, IsReported};
 ghost use Rattle.akl_run.specs.Steps.{IsRunAs, IsStopped, IsWritten};
 
 use crate::evaluate::{Evaluated, evaluate};
 use crate::prepare::prepare;
-use crate::report::{Part, Refusal, Report, Status};
+use crate::report::{Refusal, Report, Status};
 use crate::stop::Stop;
 use akl_outside::{Gate, Sink, Source, write_all};
 use std::alloc::Global;
@@ -17,8 +16,8 @@ use std::thread::Threads;
 
 // Reads the words and the source, and runs the query.
 fn work<S: Source>(alloc: Global, words: &[String], program: &mut S) -> Result<Evaluated, Stop>
-    ensures run { IfOk result (λ e. IsRunAs (map (λ word. string_bytes word) words.now) (S.left program.old) (S.left program.new) e) }
-    ensures stop { IfErr result (λ stop. Stops (map (λ word. string_bytes word) words.now) (S.left program.old) (S.left program.new) (S.faults program.old) (S.faults program.new) stop.status stop.refusal) }
+    ensures run { IfOk result (λ e. IsRunAs (bytes_of words.now) (side (S.left program.old) (S.faults program.old)) (side (S.left program.new) (S.faults program.new)) e) }
+    ensures stop { IfErr result (λ stop. Stops (bytes_of words.now) (side (S.left program.old) (S.faults program.old)) (side (S.left program.new) (S.faults program.new)) stop.status stop.refusal) }
 {
     let loaded = prepare(alloc, words, program)?;
     evaluate(alloc, &loaded)
@@ -40,7 +39,7 @@ fn stopped(alloc: Global, stop: Stop) -> Report
 
 // Writes the text of a run.
 fn write_run<K: Sink>(run: Evaluated, out: &mut K) -> Report
-    ensures { IsWritten run (K.written out.old) (K.written out.new) (K.faults out.old) (K.faults out.new) result }
+    ensures { IsWritten run (side (K.written out.old) (K.faults out.old)) (side (K.written out.new) (K.faults out.new)) result }
 {
     let Evaluated {
         status,
@@ -93,27 +92,14 @@ pub fn run_akl<R: Threads + Wait + Sync, S: Source, K: Sink, G: Gate>(
     out: &mut K,
     gate: &G,
 ) -> Report
-    // The headline, for the outcomes that the rules built so far can have.
-    ensures done { result.status ≡ Status.Done → WroteRun (map (λ word. string_bytes word) words.now) (S.left program.old) (S.left program.new) (K.written out.old) (K.written out.new) result }
-    ensures failed { result.status ≡ Status.Failed → WroteRun (map (λ word. string_bytes word) words.now) (S.left program.old) (S.left program.new) (K.written out.old) (K.written out.new) result }
-
-    // A front of the text was written before the sink failed.
-    ensures write_fault { result.status ≡ Status.WriteFault → Rose (K.faults out.old) (K.faults out.new) }
-    ensures written_part { result.status ≡ Status.WriteFault → WrotePart (map (λ word. string_bytes word) words.now) (S.left program.old) (S.left program.new) (K.written out.old) (K.written out.new) result }
-
-    // Before another status nothing was run or written. Each comes with its refusal from one cause, in the order of
-    // the work, and a text that is refused or isn't built ends the command so, unless a fault comes before.
-    ensures nothing { IsEarly result.status → WroteNothing (K.written out.old) (K.written out.new) result }
-    ensures stops { IsEarly result.status → Stops (map (λ word. string_bytes word) words.now) (S.left program.old) (S.left program.new) (S.faults program.old) (S.faults program.new) result.status result.refusal }
-    ensures program { ProgramEnds (map (λ word. string_bytes word) words.now) (S.left program.old) result }
-    ensures query { QueryEnds (map (λ word. string_bytes word) words.now) (S.left program.old) result }
-    ensures goals { GoalsEnd (map (λ word. string_bytes word) words.now) (S.left program.old) result }
-    ensures read_fault { result.status ≡ Status.ReadFault → Rose (S.faults program.old) (S.faults program.new) }
-    ensures words { (result.refusal ≡ Refusal.NotYet Part.Words) ↔ (query_of (map (λ word. string_bytes word) words.now) ≡ None) }
-
-    // No other status comes, and a run that was written has no refusal.
-    ensures built { IsEarly result.status ⊎ IsLate result.status }
-    ensures refusal { IsLate result.status → result.refusal ≡ Refusal.Nothing }
+    ensures { IsReported (record {
+      words = bytes_of words.now;
+      source = side (S.left program.old) (S.faults program.old);
+      source_after = side (S.left program.new) (S.faults program.new);
+      sink = side (K.written out.old) (K.faults out.old);
+      sink_after = side (K.written out.new) (K.faults out.new);
+      report = result;
+    }) }
 {
     let _ = rt;
     let _ = gate;

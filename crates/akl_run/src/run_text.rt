@@ -1,7 +1,7 @@
 //! The text of a run.
 
 ghost use Rattle.std.specs.Prelude.{◌≡◌, IfOk, Err};
-ghost use Rattle.akl_run.specs.RunTexts.{HasShownVariables, shown_by, IsTextBy, HasNoShortTextBy};
+ghost use Rattle.akl_run.specs.RunTexts.{HasShownVariables, shown_by, IsTextBy, IsTooLongBy};
 ghost use Rattle.answer_text.specs.declared.lines.AnswerError.TheVariants as variants;
 ghost use Rattle.akl_run.specs.Loads.{HasVariables};
 
@@ -39,7 +39,7 @@ pub fn run_text(
     requires variables { HasVariables loaded.now }
     requires shown { HasShownVariables loaded.now }
     ensures text { IfOk result (λ text. IsTextBy loaded.now solved.now text.items) }
-    ensures long { result ≡ Err variants.Long → HasNoShortTextBy loaded.now solved.now }
+    ensures long { result ≡ Err variants.Long → IsTooLongBy loaded.now solved.now }
 {
     let Some(form) = solved else {
         let failed = Vec::from_slice(alloc, b"failed\n")?;

@@ -1,7 +1,7 @@
 //! The command line.
 
-ghost use Rattle.std.specs.Prelude.{◌≡◌, map, string_bytes, option_map};
-ghost use Rattle.akl_run.specs.Words.{is_value, query_of};
+ghost use Rattle.std.specs.Prelude.{◌≡◌, option_map};
+ghost use Rattle.akl_run.specs.Words.{bytes_of, is_value, query_of};
 
 // Whether a word may be an option's value: it isn't empty and doesn't begin with `-`.
 fn is_value(word: &str) -> bool
@@ -15,7 +15,7 @@ fn is_value(word: &str) -> bool
 
 /// The query's text, where the words are `--query` and a value.
 pub fn query_of(words: &[String]) -> Option<&str>
-    ensures { option_map (λ text. text.now) result ≡ query_of (map (λ word. string_bytes word) words.now) }
+    ensures { option_map (λ text. text.now) result ≡ query_of (bytes_of words.now) }
 {
     match words {
         [option, text] => {

@@ -1,25 +1,21 @@
--- Each part closes the brackets that it opens.
-use Rattle.std.proofs.Common.{◌≡◌, ℕ, suc, Bool, true, false, List, [], ◌∷◌, Option, Some, refl, sym, subst, ◌∙◌, inl, inr, ◌⊎◌}
+-- Goals close the brackets that they open, and a goal is a test exactly where it looks so.
+use Rattle.std.proofs.Common.{◌≡◌, ℕ, suc, Bool, true, false, List, [], ◌∷◌, Some, refl, sym, subst, ◌∙◌, inl, inr, ◌⊎◌}
 use Rattle.std.specs.Prelude.{◌||◌, is_some}
-use Rattle.akl_syntax.specs.declared.lexeme.Lexeme.{Lexeme}
-use Rattle.akl_syntax.specs.declared.lexeme.Lexeme.TheVariants.{Symbol, Variable, Integer}
+use Rattle.akl_lexemes.specs.declared.lexeme.Lexeme.{Lexeme}
+use Rattle.akl_lexemes.specs.declared.lexeme.Lexeme.TheVariants.{Symbol, Variable, Integer}
 use Rattle.akl_text.specs.declared.token.Kind.TheVariants as kinds
-use Rattle.akl_syntax.specs.declared.operator.Level.{Level}
-use Rattle.akl_syntax.specs.declared.operator.Level.TheVariants.{Sum, Product}
 use Rattle.akl_terms.specs.declared.program.Op.{Op}
-use Rattle.akl_syntax.specs.declared.brackets.Turn.TheVariants.{Stays}
-use Rattle.akl_syntax.specs.Tree.{Tree, Step, Tail}
-use Rattle.akl_syntax.specs.Grammar.{begins_call, operator_of, kind_operator, Expr, More, Operand, Primary, Arguments, ListEnd, Items, Others, operands, done, next, product, primary, variable_is, integer_is, atom, empty_list, whole_list, brackets, plain, call, closed, bar, items, no_others, other}
+use Rattle.akl_lexemes.specs.declared.brackets.Turn.TheVariants.{Stays}
+use Rattle.akl_lexemes.specs.Brackets.{turn, behind_close}
+use Rattle.term_syntax.specs.declared.level.Level.{Level}
+use Rattle.term_syntax.specs.declared.level.Level.TheVariants.{Sum, Product}
+use Rattle.term_syntax.specs.Tree.{Tree, Step}
+use Rattle.term_syntax.specs.Grammar.{begins_call, operator_of, Expr, More, Operand, Arguments, operands, done, next, product, primary, atom, brackets, plain, call}
+use Rattle.term_syntax.proofs.Unique.{some_is}
+use Rattle.term_syntax.proofs.Balance.{stays_is, expr_even, items_even, arguments_even}
 use Rattle.akl_syntax.specs.Goals.{Goal, Part, GoalIs, Conj, Conjs, PartIs, PartsAre, atom_goal, test, conj, no_conjs, and, unguarded, guarded, no_parts_more, or, relation_of, kind_relation, guard_of, kind_guard}
 use Rattle.akl_syntax.specs.Goals as made
-use Rattle.akl_syntax.specs.Ahead.{turn, behind_close, joins, begins_join, behind_word, is_test}
-
-operator_stays : (l : Level) (o : Lexeme) (w : List ℕ) → operator_of l o ≡ Some w → turn o ≡ Stays
-operator_stays l (Symbol s) w e = refl
-operator_stays l (Variable n) w e = refl
-operator_stays l (Integer z) w e = refl
-operator_stays Sum (Lexeme.Mark m) w e = (elim m as (λ x. kind_operator Sum x ≡ Some w → turn (Lexeme.Mark x) ≡ Stays) [ kinds.Plus ↦ λ h. refl | kinds.Minus ↦ λ h. refl | _ ↦ λ h. absurd cc ]) e
-operator_stays Product (Lexeme.Mark m) w e = (elim m as (λ x. kind_operator Product x ≡ Some w → turn (Lexeme.Mark x) ≡ Stays) [ kinds.Star ↦ λ h. refl | kinds.Div ↦ λ h. refl | kinds.Mod ↦ λ h. refl | _ ↦ λ h. absurd cc ]) e
+use Rattle.akl_syntax.specs.Ahead.{joins, begins_join, behind_word, is_test}
 
 relation_stays : (o : Lexeme) (w : List ℕ) → relation_of o ≡ Some w → turn o ≡ Stays
 relation_stays (Symbol s) w e = refl
@@ -32,44 +28,6 @@ guard_stays (Symbol s) w e = refl
 guard_stays (Variable n) w e = refl
 guard_stays (Integer z) w e = refl
 guard_stays (Lexeme.Mark m) w e = (elim m as (λ x. kind_guard x ≡ Some w → turn (Lexeme.Mark x) ≡ Stays) [ kinds.Arrow ↦ λ h. refl | kinds.Bar ↦ λ h. refl | kinds.Question ↦ λ h. refl | _ ↦ λ h. absurd cc ]) e
-
-stays_is : (o : Lexeme) (n : ℕ) (a : List Lexeme) → turn o ≡ Stays → behind_close n (o ∷ a) ≡ behind_close n a
-stays_is o n a e = rw e refl
-
-mutual
-  pub expr_even : {l : Level} {a b : List Lexeme} {t : Tree} → Expr l a t b → (n : ℕ) → behind_close n a ≡ behind_close n b
-  expr_even (operands p m) n = operand_even p n ∙ more_even m n
-
-  pub more_even : {l : Level} {a b : List Lexeme} {ss : List Step} → More l a ss b → (n : ℕ) → behind_close n a ≡ behind_close n b
-  more_even done n = refl
-  more_even {l} (next {o = o} {a = a} {w = w} e p m) n = stays_is o n a (operator_stays l o w e) ∙ operand_even p n ∙ more_even m n
-
-  pub operand_even : {l : Level} {a b : List Lexeme} {t : Tree} → Operand l a t b → (n : ℕ) → behind_close n a ≡ behind_close n b
-  operand_even (product p) n = expr_even p n
-  operand_even (primary p) n = primary_even p n
-
-  pub primary_even : {a b : List Lexeme} {t : Tree} → Primary a t b → (n : ℕ) → behind_close n a ≡ behind_close n b
-  primary_even variable_is n = refl
-  primary_even integer_is n = refl
-  primary_even (atom p) n = arguments_even p n
-  primary_even empty_list n = refl
-  primary_even (whole_list p q) n = items_even p (suc n) ∙ list_end_even q n
-  primary_even (brackets p) n = expr_even p (suc n)
-
-  pub arguments_even : {a b : List Lexeme} {ts : List Tree} → Arguments a ts b → (n : ℕ) → behind_close n a ≡ behind_close n b
-  arguments_even (plain x) n = refl
-  arguments_even (call p) n = items_even p (suc n)
-
-  pub list_end_even : {a b : List Lexeme} {e : Tail} → ListEnd a e b → (n : ℕ) → behind_close (suc n) a ≡ behind_close n b
-  list_end_even closed n = refl
-  list_end_even (bar p) n = expr_even p (suc n)
-
-  pub items_even : {a b : List Lexeme} {ts : List Tree} → Items a ts b → (n : ℕ) → behind_close n a ≡ behind_close n b
-  items_even (items p q) n = expr_even p n ∙ others_even q n
-
-  pub others_even : {a b : List Lexeme} {ts : List Tree} → Others a ts b → (n : ℕ) → behind_close n a ≡ behind_close n b
-  others_even no_others n = refl
-  others_even (other p q) n = expr_even p n ∙ others_even q n
 
 mutual
   pub goal_even : {a b : List Lexeme} {gs : List Goal} → GoalIs a gs b → (n : ℕ) → behind_close n a ≡ behind_close n b
@@ -100,9 +58,6 @@ or_left x y e = rw e refl
 or_right : (x y : Bool) → y ≡ true → (x || y) ≡ true
 or_right true y e = refl
 or_right false y e = e
-
-some_is : {A : Type 0} (o : Option A) (x : A) → o ≡ Some x → is_some o ≡ true
-some_is o x e = rw e refl
 
 operator_joins : (l : Level) (o : Lexeme) (w : List ℕ) → operator_of l o ≡ Some w → joins o ≡ true
 operator_joins Product o w e = or_left _ _ (or_left _ _ (some_is _ _ e))

@@ -1,20 +1,21 @@
 -- Goals have one reading.
 use Rattle.std.proofs.Common.{◌≡◌, ℕ, ◌<◌, ◌≤◌, Bool, true, false, List, [], ◌∷◌, length, Some, refl, sym, ap, subst, arith}
 use Rattle.std.specs.Prelude.{not, ◌||◌, is_some}
-use Rattle.akl_syntax.specs.declared.lexeme.Lexeme.{Lexeme}
-use Rattle.akl_syntax.specs.declared.lexeme.Lexeme.TheVariants.{Symbol, Variable, Integer}
+use Rattle.akl_lexemes.specs.declared.lexeme.Lexeme.{Lexeme}
+use Rattle.akl_lexemes.specs.declared.lexeme.Lexeme.TheVariants.{Symbol, Variable, Integer}
 use Rattle.akl_text.specs.declared.token.Kind.TheVariants as kinds
-use Rattle.akl_syntax.specs.declared.operator.Level.{Level}
-use Rattle.akl_syntax.specs.declared.operator.Level.TheVariants.{Sum}
+use Rattle.term_syntax.specs.declared.level.Level.{Level}
+use Rattle.term_syntax.specs.declared.level.Level.TheVariants.{Sum}
 use Rattle.akl_terms.specs.declared.program.Op.{Op}
-use Rattle.akl_syntax.specs.Tree.{Tree}
-use Rattle.akl_syntax.specs.Grammar.{Expr, Operand, operands, product, primary, atom, brackets, whole_list, empty_list, variable_is, integer_is}
+use Rattle.term_syntax.specs.Tree.{Tree}
+use Rattle.term_syntax.specs.Grammar.{Expr, Operand, operands, product, primary, atom, brackets, whole_list, empty_list, variable_is, integer_is}
 use Rattle.akl_syntax.specs.Goals.{Goal, Part, GoalIs, Conj, Conjs, PartIs, PartsAre, atom_goal, test, conj, no_conjs, and, unguarded, guarded, no_parts_more, or, relation_of, kind_relation, guard_of, kind_guard, inlined, plain_part}
 use Rattle.akl_syntax.specs.Goals as made
-use Rattle.akl_syntax.specs.Edges.{chains, stops, is_comma}
+use Rattle.akl_lexemes.specs.Parsed.{is_comma}
+use Rattle.term_syntax.specs.Ends.{ends_chain}
 use Rattle.akl_syntax.specs.Ahead.{joins, begins_join}
-use Rattle.akl_syntax.specs.Follow.{after_goal, after_conj, after_part, after_parts, ends}
-use Rattle.akl_syntax.proofs.Unique.{expr_one, arguments_one, expr_takes, arguments_takes, tail_is, not_or_left, not_or_right}
+use Rattle.akl_syntax.specs.Ends.{ends_goal, ends_conj, ends_part, ends_parts}
+use Rattle.term_syntax.proofs.Unique.{expr_one, arguments_one, expr_takes, arguments_takes, tail_is, not_or_left, not_or_right}
 use Rattle.akl_syntax.proofs.Balance.{test_is, atom_is, brackets_is}
 
 -- ---- each takes a lexeme
@@ -41,15 +42,15 @@ mutual
   parts_take (or p q) = omega (arith, part_takes p, parts_take q)
 
 -- ---- edges
-pub goal_ends : (a : List Lexeme) → ends after_conj a ≡ true → ends after_goal a ≡ true
+pub goal_ends : (a : List Lexeme) → ends_conj a ≡ true → ends_goal a ≡ true
 goal_ends [] e = refl
 goal_ends (o ∷ a) e = not_or_left _ _ e
 
-pub conj_ends : (a : List Lexeme) → ends after_part a ≡ true → ends after_conj a ≡ true
+pub conj_ends : (a : List Lexeme) → ends_part a ≡ true → ends_conj a ≡ true
 conj_ends [] e = refl
 conj_ends (o ∷ a) e = not_or_left _ _ e
 
-pub part_ends : (a : List Lexeme) → ends after_parts a ≡ true → ends after_part a ≡ true
+pub part_ends : (a : List Lexeme) → ends_parts a ≡ true → ends_part a ≡ true
 part_ends [] e = refl
 part_ends (o ∷ a) e = not_or_left _ _ e
 
@@ -57,36 +58,36 @@ not_true : (x : Bool) → not x ≡ true → x ≡ false
 not_true true e = absurd cc
 not_true false e = refl
 
-pub no_join : (a : List Lexeme) → ends after_goal a ≡ true → begins_join a ≡ false
+pub no_join : (a : List Lexeme) → ends_goal a ≡ true → begins_join a ≡ false
 no_join [] e = refl
 no_join (o ∷ a) e = not_true _ e
 
-pub sum_ends : (a : List Lexeme) → ends after_goal a ≡ true → stops (chains Sum) a ≡ true
+pub sum_ends : (a : List Lexeme) → ends_goal a ≡ true → ends_chain Sum a ≡ true
 sum_ends [] e = refl
 sum_ends (o ∷ a) e = not_or_left _ _ e
 
-pub relation_stops : (o : Lexeme) (a : List Lexeme) (w : List ℕ) → relation_of o ≡ Some w → stops (chains Sum) (o ∷ a) ≡ true
+pub relation_stops : (o : Lexeme) (a : List Lexeme) (w : List ℕ) → relation_of o ≡ Some w → ends_chain Sum (o ∷ a) ≡ true
 relation_stops (Symbol s) a w e = absurd cc
 relation_stops (Variable n) a w e = absurd cc
 relation_stops (Integer z) a w e = absurd cc
-relation_stops (Lexeme.Mark m) a w e = (elim m as (λ x. kind_relation x ≡ Some w → stops (chains Sum) (Lexeme.Mark x ∷ a) ≡ true) [ kinds.Equal ↦ λ h. refl | kinds.Is ↦ λ h. refl | kinds.Less ↦ λ h. refl | kinds.Greater ↦ λ h. refl | kinds.AtMost ↦ λ h. refl | kinds.AtLeast ↦ λ h. refl | kinds.Same ↦ λ h. refl | kinds.Differs ↦ λ h. refl | _ ↦ λ h. absurd cc ]) e
+relation_stops (Lexeme.Mark m) a w e = (elim m as (λ x. kind_relation x ≡ Some w → ends_chain Sum (Lexeme.Mark x ∷ a) ≡ true) [ kinds.Equal ↦ λ h. refl | kinds.Is ↦ λ h. refl | kinds.Less ↦ λ h. refl | kinds.Greater ↦ λ h. refl | kinds.AtMost ↦ λ h. refl | kinds.AtLeast ↦ λ h. refl | kinds.Same ↦ λ h. refl | kinds.Differs ↦ λ h. refl | _ ↦ λ h. absurd cc ]) e
 
-pub guard_ends : (o : Lexeme) (a : List Lexeme) (w : Op) → guard_of o ≡ Some w → ends after_conj (o ∷ a) ≡ true
+pub guard_ends : (o : Lexeme) (a : List Lexeme) (w : Op) → guard_of o ≡ Some w → ends_conj (o ∷ a) ≡ true
 guard_ends (Symbol s) a w e = absurd cc
 guard_ends (Variable n) a w e = absurd cc
 guard_ends (Integer z) a w e = absurd cc
-guard_ends (Lexeme.Mark m) a w e = (elim m as (λ x. kind_guard x ≡ Some w → ends after_conj (Lexeme.Mark x ∷ a) ≡ true) [ kinds.Arrow ↦ λ h. refl | kinds.Bar ↦ λ h. refl | kinds.Question ↦ λ h. refl | _ ↦ λ h. absurd cc ]) e
+guard_ends (Lexeme.Mark m) a w e = (elim m as (λ x. kind_guard x ≡ Some w → ends_conj (Lexeme.Mark x ∷ a) ≡ true) [ kinds.Arrow ↦ λ h. refl | kinds.Bar ↦ λ h. refl | kinds.Question ↦ λ h. refl | _ ↦ λ h. absurd cc ]) e
 
-pub guard_goes : (o : Lexeme) (a : List Lexeme) (w : Op) → guard_of o ≡ Some w → ends after_part (o ∷ a) ≡ true → ⊥
+pub guard_goes : (o : Lexeme) (a : List Lexeme) (w : Op) → guard_of o ≡ Some w → ends_part (o ∷ a) ≡ true → ⊥
 guard_goes o a w e s =
     let h : is_some (guard_of o) ≡ true = rw e refl in
     let k = not_or_right (joins o || is_comma o) (is_some (guard_of o)) s in cc
 
-pub conjs_end : {a b : List Lexeme} {gs : List Goal} → Conjs a gs b → ends after_conj b ≡ true → ends after_goal a ≡ true
+pub conjs_end : {a b : List Lexeme} {gs : List Goal} → Conjs a gs b → ends_conj b ≡ true → ends_goal a ≡ true
 conjs_end {a} no_conjs s = goal_ends a s
 conjs_end (and p q) s = refl
 
-pub parts_end : {a b : List Lexeme} {xs : List Part} → PartsAre a xs b → ends after_parts b ≡ true → ends after_part a ≡ true
+pub parts_end : {a b : List Lexeme} {xs : List Part} → PartsAre a xs b → ends_parts b ≡ true → ends_part a ≡ true
 parts_end {a} no_parts_more s = part_ends a s
 parts_end (or p q) s = refl
 
@@ -119,7 +120,7 @@ pub opposite : (x : Bool) → x ≡ true → x ≡ false → ⊥
 opposite x e f = absurd cc
 
 mutual
-  pub goal_one : {a b b' : List Lexeme} {gs gs' : List Goal} → GoalIs a gs b → GoalIs a gs' b' → ends after_goal b ≡ true → ends after_goal b' ≡ true → (gs ≡ gs') × (b ≡ b')
+  pub goal_one : {a b b' : List Lexeme} {gs gs' : List Goal} → GoalIs a gs b → GoalIs a gs' b' → ends_goal b ≡ true → ends_goal b' ≡ true → (gs ≡ gs') × (b ≡ b')
   goal_one (atom_goal {ts = ts} p) (atom_goal {ts = ts'} q) s s' = let h = arguments_one p q in ((let e : ts ≡ ts' = h.0 in cc), h.1)
   goal_one {b = b} (atom_goal {s = w} p) (test q e r) s s' = absurd (opposite _ (test_is _ q e) (atom_is w p (no_join b s)))
   goal_one {b' = b'} (test q e r) (atom_goal {s = w} p) s s' = absurd (opposite _ (test_is _ q e) (atom_is w p (no_join b' s')))
@@ -136,30 +137,30 @@ mutual
       let k = parts_one q q' h.1 refl refl in
       ((let e : x ≡ x' = h.0 in let f : xs ≡ xs' = k.0 in cc), tail_is _ _ c c' k.1)
 
-  pub conj_one : {a b b' : List Lexeme} {gs gs' : List Goal} → Conj a gs b → Conj a gs' b' → ends after_conj b ≡ true → ends after_conj b' ≡ true → (gs ≡ gs') × (b ≡ b')
+  pub conj_one : {a b b' : List Lexeme} {gs gs' : List Goal} → Conj a gs b → Conj a gs' b' → ends_conj b ≡ true → ends_conj b' ≡ true → (gs ≡ gs') × (b ≡ b')
   conj_one (conj {gs = gs} {hs = hs} p q) (conj {gs = gs'} {hs = hs'} p' q') s s' =
       let h = goal_one p p' (conjs_end q s) (conjs_end q' s') in
       let k = conjs_one q q' h.1 s s' in
       ((let e : gs ≡ gs' = h.0 in let f : hs ≡ hs' = k.0 in cc), k.1)
 
-  pub conjs_one : {a a' b b' : List Lexeme} {gs gs' : List Goal} → Conjs a gs b → Conjs a' gs' b' → a ≡ a' → ends after_conj b ≡ true → ends after_conj b' ≡ true → (gs ≡ gs') × (b ≡ b')
+  pub conjs_one : {a a' b b' : List Lexeme} {gs gs' : List Goal} → Conjs a gs b → Conjs a' gs' b' → a ≡ a' → ends_conj b ≡ true → ends_conj b' ≡ true → (gs ≡ gs') × (b ≡ b')
   conjs_one no_conjs no_conjs e s s' = (refl, e)
-  conjs_one no_conjs (and {a = a} p q) e s s' = absurd (let h : ends after_conj (Lexeme.Mark kinds.Comma ∷ a) ≡ true = subst (λ (z : List Lexeme). ends after_conj z ≡ true) e s in cc)
-  conjs_one (and {a = a} p q) no_conjs e s s' = absurd (let h : ends after_conj (Lexeme.Mark kinds.Comma ∷ a) ≡ true = subst (λ (z : List Lexeme). ends after_conj z ≡ true) (sym e) s' in cc)
+  conjs_one no_conjs (and {a = a} p q) e s s' = absurd (let h : ends_conj (Lexeme.Mark kinds.Comma ∷ a) ≡ true = subst (λ (z : List Lexeme). ends_conj z ≡ true) e s in cc)
+  conjs_one (and {a = a} p q) no_conjs e s s' = absurd (let h : ends_conj (Lexeme.Mark kinds.Comma ∷ a) ≡ true = subst (λ (z : List Lexeme). ends_conj z ≡ true) (sym e) s' in cc)
   conjs_one (and {a = a} {gs = gs} {hs = hs} p q) (and {a = a'} {b = c'} {gs = gs'} {hs = hs'} p' q') e s s' =
       let h = goal_one p (subst (λ (z : List Lexeme). GoalIs z gs' c') (sym (tail_is _ _ a a' e)) p') (conjs_end q s) (conjs_end q' s') in
       let k = conjs_one q q' h.1 s s' in
       ((let x : gs ≡ gs' = h.0 in let y : hs ≡ hs' = k.0 in cc), k.1)
 
-  pub part_one : {a b b' : List Lexeme} {x x' : Part} → PartIs a x b → PartIs a x' b' → ends after_part b ≡ true → ends after_part b' ≡ true → (x ≡ x') × (b ≡ b')
+  pub part_one : {a b b' : List Lexeme} {x x' : Part} → PartIs a x b → PartIs a x' b' → ends_part b ≡ true → ends_part b' ≡ true → (x ≡ x') × (b ≡ b')
   part_one {b = b} {b' = b'} (made.plain {gs = gs} p) (made.plain {gs = gs'} p') s s' =
       let h = conj_one p p' (conj_ends b s) (conj_ends b' s') in ((let e : gs ≡ gs' = h.0 in ap plain_part e), h.1)
   part_one (made.plain p) (unguarded e p') s s' = absurd (conj_no_guard e p)
   part_one (unguarded e p') (made.plain p) s s' = absurd (conj_no_guard e p)
   part_one {b = b} (made.plain p) (guarded {o = o} {b = c} {op = op} p' e q') s s' =
-      let h = conj_one p p' (conj_ends b s) (guard_ends o c op e) in absurd (guard_goes o c op e (subst (λ (z : List Lexeme). ends after_part z ≡ true) h.1 s))
+      let h = conj_one p p' (conj_ends b s) (guard_ends o c op e) in absurd (guard_goes o c op e (subst (λ (z : List Lexeme). ends_part z ≡ true) h.1 s))
   part_one {b' = b'} (guarded {o = o} {b = c} {op = op} p' e q') (made.plain p) s s' =
-      let h = conj_one p' p (guard_ends o c op e) (conj_ends b' s') in absurd (guard_goes o c op e (subst (λ (z : List Lexeme). ends after_part z ≡ true) (sym h.1) s'))
+      let h = conj_one p' p (guard_ends o c op e) (conj_ends b' s') in absurd (guard_goes o c op e (subst (λ (z : List Lexeme). ends_part z ≡ true) (sym h.1) s'))
   part_one {b = b} {b' = b'} (unguarded {gs = gs} {op = op} e p) (unguarded {gs = gs'} {op = op'} e' p') s s' =
       let h = conj_one p p' (conj_ends b s) (conj_ends b' s') in
       let eo : op ≡ op' = cc in
@@ -173,10 +174,10 @@ mutual
       let ep : op ≡ op' = cc in
       ((let x : gs ≡ gs' = h.0 in let y : hs ≡ hs' = k.0 in cc), k.1)
 
-  pub parts_one : {a a' b b' : List Lexeme} {xs xs' : List Part} → PartsAre a xs b → PartsAre a' xs' b' → a ≡ a' → ends after_parts b ≡ true → ends after_parts b' ≡ true → (xs ≡ xs') × (b ≡ b')
+  pub parts_one : {a a' b b' : List Lexeme} {xs xs' : List Part} → PartsAre a xs b → PartsAre a' xs' b' → a ≡ a' → ends_parts b ≡ true → ends_parts b' ≡ true → (xs ≡ xs') × (b ≡ b')
   parts_one no_parts_more no_parts_more e s s' = (refl, e)
-  parts_one no_parts_more (or {a = a} p q) e s s' = absurd (let h : ends after_parts (Lexeme.Mark kinds.Semicolon ∷ a) ≡ true = subst (λ (z : List Lexeme). ends after_parts z ≡ true) e s in cc)
-  parts_one (or {a = a} p q) no_parts_more e s s' = absurd (let h : ends after_parts (Lexeme.Mark kinds.Semicolon ∷ a) ≡ true = subst (λ (z : List Lexeme). ends after_parts z ≡ true) (sym e) s' in cc)
+  parts_one no_parts_more (or {a = a} p q) e s s' = absurd (let h : ends_parts (Lexeme.Mark kinds.Semicolon ∷ a) ≡ true = subst (λ (z : List Lexeme). ends_parts z ≡ true) e s in cc)
+  parts_one (or {a = a} p q) no_parts_more e s s' = absurd (let h : ends_parts (Lexeme.Mark kinds.Semicolon ∷ a) ≡ true = subst (λ (z : List Lexeme). ends_parts z ≡ true) (sym e) s' in cc)
   parts_one (or {a = a} {p = x} {ps = xs} p q) (or {a = a'} {b = c'} {p = x'} {ps = xs'} p' q') e s s' =
       let h = part_one p (subst (λ (z : List Lexeme). PartIs z x' c') (sym (tail_is _ _ a a' e)) p') (parts_end q s) (parts_end q' s') in
       let k = parts_one q q' h.1 s s' in

@@ -5,27 +5,29 @@ use Rattle.akl_text.specs.declared.token.Kind.TheVariants as kinds
 use Rattle.akl_text.specs.declared.token.Token.{Token}
 use Rattle.akl_text.specs.Tokens.{Outcome, tokens, nothing_at, ReadsFrom}
 use Rattle.akl_text.proofs.Reading.{one_reading}
-use Rattle.akl_syntax.specs.declared.lexeme.Lexeme.{Lexeme}
-use Rattle.akl_syntax.specs.declared.fault.Fault.{Fault}
-use Rattle.akl_syntax.specs.declared.fault.Fault.TheVariants as faults
-use Rattle.akl_syntax.specs.declared.error.SyntaxError.{SyntaxError}
-use Rattle.akl_syntax.specs.declared.error.SyntaxError.TheVariants.{Syntax, TooDeep, IntRange, TooLong, Memory}
-use Rattle.akl_syntax.specs.Memory.{IsMemory}
+use Rattle.akl_lexemes.specs.declared.lexeme.Lexeme.{Lexeme}
+use Rattle.akl_lexemes.specs.declared.fault.Fault.{Fault}
+use Rattle.akl_lexemes.specs.declared.fault.Fault.TheVariants as faults
+use Rattle.akl_lexemes.specs.declared.error.SyntaxError.{SyntaxError}
+use Rattle.akl_lexemes.specs.declared.error.SyntaxError.TheVariants.{Syntax, TooDeep, IntRange, TooLong, Memory}
+use Rattle.akl_lexemes.specs.Memory.{IsMemory}
 use Rattle.akl_syntax.specs.Answers.{Answers}
 use Rattle.akl_syntax.specs.Clauses.{Clause, Query, IsClause, IsQuery, HasPart, clause_of}
 use Rattle.akl_syntax.specs.Clauses as clauses_of
 use Rattle.akl_syntax.specs.Goals.{Part}
-use Rattle.akl_syntax.specs.Tree.{Tree}
-use Rattle.akl_syntax.specs.Faults.{IsLimitFault, IsErrorOf}
-use Rattle.akl_syntax.specs.Lexemes.{Lexemes}
-use Rattle.akl_syntax.specs.Limits.{first_too_deep, first_out_of_range}
-use Rattle.akl_syntax.specs.Verdicts.{Verdict, accepted, refused, Tests, too_deep, out_of_range, not_derived, derived, NotEnded, ending_at, ReadsClause, SkipsFrom, ReadsClauses, with_clause, ReadsProgram, ReadsQuery}
+use Rattle.term_syntax.specs.Tree.{Tree}
+use Rattle.akl_syntax.specs.Faults.{IsErrorOf}
+use Rattle.akl_lexemes.specs.Faults.{IsLimitFault}
+use Rattle.akl_lexemes.specs.Lexemes.{Lexemes}
+use Rattle.akl_lexemes.specs.Limits.{first_too_deep, first_out_of_range}
+use Rattle.akl_syntax.specs.Verdicts.{Verdict, accepted, refused, Tests, too_deep, out_of_range, not_derived, derived, NotEnded, ending_at, ReadsClause, ReadsClauses, with_clause, ReadsProgram, ReadsQuery}
+use Rattle.akl_text.specs.Layout.{SkipsFrom}
 use Rattle.akl_syntax.specs.Verdicts as verdicts
 use Rattle.akl_syntax.specs.Wholes.{RefusesAll}
-use Rattle.akl_syntax.proofs.Unique.{arguments_one}
+use Rattle.term_syntax.proofs.Unique.{arguments_one}
 use Rattle.akl_syntax.proofs.ClauseTurns.{part_alone, query_one}
-use Rattle.akl_syntax.proofs.LexemeTurns.{lexemes_one}
-use Rattle.akl_syntax.proofs.LayoutSkips.{skips_one}
+use Rattle.akl_lexemes.proofs.LexemeTurns.{lexemes_one}
+use Rattle.akl_text.proofs.LayoutSkips.{skips_one}
 
 -- ---- answers
 pub answers_as : {X A : Type 0} (view : X → A) (P : Verdict A → Type 0) (Q : Verdict A → Type 0) (r : Result X SyntaxError) → ((v : Verdict A) → P v → Q v) → Answers view P r → Answers view Q r

@@ -5,14 +5,16 @@ use Rattle.std.proofs.lemmas.List.{append-nil, length-append, length-drop}
 use Rattle.akl_text.specs.declared.token.Kind.TheVariants as kinds
 use Rattle.akl_text.specs.declared.token.Token.{Token}
 use Rattle.akl_text.specs.Tokens.{tokens, ReadsFrom}
-use Rattle.akl_syntax.specs.declared.error.SyntaxError.{SyntaxError}
-use Rattle.akl_syntax.specs.declared.error.SyntaxError.TheVariants.{Syntax, TooDeep, IntRange, TooLong, Memory}
+use Rattle.akl_lexemes.specs.declared.error.SyntaxError.{SyntaxError}
+use Rattle.akl_lexemes.specs.declared.error.SyntaxError.TheVariants.{Syntax, TooDeep, IntRange, TooLong, Memory}
 use Rattle.akl_syntax.specs.Answers.{Answers, ending_view, clauses_view, query_view}
 use Rattle.akl_syntax.specs.Clauses.{Clause}
-use Rattle.akl_syntax.specs.Faults.{IsLimitFault, IsTokenFault, ReadsTokens}
-use Rattle.akl_syntax.specs.Verdicts.{Verdict, accepted, refused, Tests, NotEnded, ReadsClause, SkipsFrom, ReadsClauses, with_clause, ReadsProgram, ReadsQuery}
+use Rattle.akl_syntax.specs.Faults.{IsTokenFault, ReadsTokens}
+use Rattle.akl_lexemes.specs.Faults.{IsLimitFault}
+use Rattle.akl_syntax.specs.Verdicts.{Verdict, accepted, refused, Tests, NotEnded, ReadsClause, ReadsClauses, with_clause, ReadsProgram, ReadsQuery}
+use Rattle.akl_text.specs.Layout.{SkipsFrom}
 use Rattle.akl_syntax.specs.Verdicts as verdicts
-use Rattle.akl_syntax.proofs.TokenBounds.{are_bound, last_behind, AreBound}
+use Rattle.akl_text.proofs.TokenBounds.{are_bound, last_behind, AreBound}
 use Rattle.akl_syntax.proofs.OneVerdict.{passed_on, limit_fault}
 
 -- ---- the tokens before the last

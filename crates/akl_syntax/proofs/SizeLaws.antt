@@ -2,63 +2,27 @@
 use Rattle.std.proofs.Common.{◌≡◌, ℕ, suc, ◌+◌, ◌≤◌, Bool, true, false, List, [], ◌∷◌, ◌++◌, length, drop, refl, ap, arith}
 use Rattle.std.proofs.lemmas.List.{length-append, length-drop}
 use Rattle.akl_text.specs.declared.token.Token.{Token}
-use Rattle.akl_syntax.specs.declared.lexeme.Lexeme.{Lexeme}
-use Rattle.akl_syntax.specs.declared.operator.Level.{Level}
-use Rattle.akl_syntax.specs.Tree.{Tree, Step, Tail, trees, steps}
-use Rattle.akl_syntax.specs.Grammar.{chained, Expr, More, Operand, Primary, Arguments, ListEnd, Items, Others, operands, done, next, product, primary, variable_is, integer_is, atom, empty_list, whole_list, brackets, plain, call, closed, bar, items, no_others, other}
+use Rattle.akl_lexemes.specs.declared.lexeme.Lexeme.{Lexeme}
+use Rattle.term_syntax.specs.declared.level.Level.{Level}
+use Rattle.term_syntax.specs.Tree.{Tree, Step, Tail, trees, steps}
+use Rattle.term_syntax.specs.Grammar.{chained, Expr, More, Operand, Primary, Arguments, ListEnd, Items, Others, operands, done, next, product, primary, variable_is, integer_is, atom, empty_list, whole_list, brackets, plain, call, closed, bar, items, no_others, other}
+use Rattle.term_syntax.proofs.SizeLaws.{expr_size, arguments_size}
 use Rattle.akl_syntax.specs.Goals.{Goal, Part, GoalIs, Conj, Conjs, PartIs, PartsAre, atom_goal, test, conj, no_conjs, and, unguarded, guarded, no_parts_more, or, inlined, written, goals, parts}
 use Rattle.akl_syntax.specs.Goals as made
 use Rattle.akl_syntax.specs.Clauses.{Clause, Query, HasPart, IsClause, IsQuery, no_neck, neck, clause, query}
-use Rattle.akl_syntax.specs.Lexemes.{Lexemes}
-use Rattle.akl_syntax.specs.Lexemes as lexed
-use Rattle.akl_syntax.specs.Sizes.{tree_size, trees_size, tail_size, steps_size, goals_size, parts_size, clause_size, clauses_size, query_size}
-use Rattle.akl_syntax.specs.Verdicts.{Verdict, accepted, refused, Tests, too_deep, out_of_range, not_derived, derived, ReadsClause, SkipsFrom, ReadsClauses, ReadsProgram, ReadsQuery, ending_at, with_clause}
+use Rattle.akl_lexemes.specs.Lexemes.{Lexemes}
+use Rattle.akl_lexemes.specs.Lexemes as lexed
+use Rattle.akl_syntax.specs.Sizes.{goals_size, parts_size, clause_size, clauses_size, query_size}
+use Rattle.term_syntax.specs.Sizes.{tree_size, trees_size, tail_size, steps_size}
+use Rattle.akl_syntax.specs.Verdicts.{Verdict, accepted, refused, Tests, too_deep, out_of_range, not_derived, derived, ReadsClause, ReadsClauses, ReadsProgram, ReadsQuery, ending_at, with_clause}
+use Rattle.akl_text.specs.Layout.{SkipsFrom}
 use Rattle.akl_syntax.specs.Verdicts as verdicts
 use Rattle.std.specs.Prelude.{Result, Ok, Err, IfOk}
 use Rattle.akl_syntax.specs.Answers.{Answers, query_view}
-use Rattle.akl_syntax.specs.declared.error.SyntaxError.{SyntaxError}
+use Rattle.akl_lexemes.specs.declared.error.SyntaxError.{SyntaxError}
 use Rattle.akl_syntax.specs.declared.source.SourceQuery.{SourceQuery}
-use Rattle.akl_syntax.proofs.LayoutSkips.{skips_after}
-use Rattle.akl_syntax.proofs.TokenBounds.{AreBound, are_bound, last_behind_all}
-
-chained_size : (t : Tree) (ss : List Step) → tree_size (chained t ss) ≤ tree_size t + (steps_size (steps ss) + length ss)
-chained_size t [] = omega arith
-chained_size t (s ∷ ss) = omega arith
-
-mutual
-  expr_size : {l : Level} {a b : List Lexeme} {t : Tree} → Expr l a t b → tree_size t + length b ≤ length a
-  expr_size (operands {t = t} {ss = ss} p m) = omega (arith, chained_size t ss, operand_size p, more_size m)
-
-  more_size : {l : Level} {a b : List Lexeme} {ss : List Step} → More l a ss b → (steps_size (steps ss) + length ss) + length b ≤ length a
-  more_size done = omega arith
-  more_size (next e p m) = omega (arith, operand_size p, more_size m)
-
-  operand_size : {l : Level} {a b : List Lexeme} {t : Tree} → Operand l a t b → tree_size t + length b ≤ length a
-  operand_size (product p) = expr_size p
-  operand_size (primary p) = primary_size p
-
-  primary_size : {a b : List Lexeme} {t : Tree} → Primary a t b → tree_size t + length b ≤ length a
-  primary_size variable_is = omega arith
-  primary_size integer_is = omega arith
-  primary_size (atom p) = omega (arith, arguments_size p)
-  primary_size empty_list = omega arith
-  primary_size (whole_list p q) = omega (arith, items_size p, list_end_size q)
-  primary_size (brackets p) = omega (arith, expr_size p)
-
-  arguments_size : {a b : List Lexeme} {ts : List Tree} → Arguments a ts b → trees_size (trees ts) + length b ≤ length a
-  arguments_size (plain x) = omega arith
-  arguments_size (call p) = omega (arith, items_size p)
-
-  list_end_size : {a b : List Lexeme} {e : Tail} → ListEnd a e b → tail_size e + length b ≤ length a
-  list_end_size closed = omega arith
-  list_end_size (bar p) = omega (arith, expr_size p)
-
-  items_size : {a b : List Lexeme} {ts : List Tree} → Items a ts b → trees_size (trees ts) + length b ≤ length a
-  items_size (items p q) = omega (arith, expr_size p, others_size q)
-
-  others_size : {a b : List Lexeme} {ts : List Tree} → Others a ts b → trees_size (trees ts) + length b ≤ length a
-  others_size no_others = omega arith
-  others_size (other p q) = omega (arith, expr_size p, others_size q)
+use Rattle.akl_text.proofs.LayoutSkips.{skips_after}
+use Rattle.akl_text.proofs.TokenBounds.{AreBound, are_bound, last_behind_all}
 
 goals_both : (gs hs : List Goal) → goals_size (goals (gs ++ hs)) ≡ goals_size (goals gs) + goals_size (goals hs)
 goals_both [] hs = omega arith

@@ -1,35 +1,29 @@
 -- What reading a test rests on.
 use Rattle.std.proofs.Common.{◌≡◌, ℕ, true, false, List, [], ◌∷◌, map, Some, None, refl, sym, ap, subst, ◌∙◌, Vec, Global}
-use Rattle.akl_syntax.specs.declared.lexeme.Lexeme.{Lexeme}
-use Rattle.akl_syntax.specs.declared.operator.Level.TheVariants.{Sum}
-use Rattle.akl_syntax.specs.declared.source.SourceTerm.{SourceTerm}
+use Rattle.akl_lexemes.specs.declared.lexeme.Lexeme.{Lexeme}
+use Rattle.term_syntax.specs.declared.level.Level.TheVariants.{Sum}
+use Rattle.term_syntax.specs.declared.source.SourceTerm.{SourceTerm}
 use Rattle.akl_syntax.specs.declared.source.SourceGoal.TheVariants as written
 use Rattle.akl_syntax.specs.declared.source.SourceGoal.TheOpen as open_goals
 use Rattle.akl_syntax.specs.declared.source.SourceGoal.TheFolds.{fold-roll-SourceGoal}
-use Rattle.akl_syntax.specs.declared.fault.Fault.{Fault}
-use Rattle.akl_syntax.specs.declared.fault.Fault.TheVariants.{Syntax, Memory}
-use Rattle.akl_syntax.specs.Tree.{Tree, trees}
-use Rattle.akl_syntax.specs.View.{tree}
-use Rattle.akl_syntax.specs.Grammar.{Expr}
+use Rattle.akl_lexemes.specs.declared.fault.Fault.{Fault}
+use Rattle.akl_lexemes.specs.declared.fault.Fault.TheVariants.{Syntax, Memory}
+use Rattle.term_syntax.specs.Tree.{Tree, trees}
+use Rattle.term_syntax.specs.View.{tree}
+use Rattle.term_syntax.specs.Grammar.{Expr}
 use Rattle.akl_syntax.specs.Goals.{Goal, Part, GoalIs, atom_goal, test, relation_of, call}
 use Rattle.akl_syntax.specs.Goals as made
 use Rattle.akl_syntax.specs.GoalView.{goal, goal_step, part_step}
-use Rattle.akl_syntax.specs.Edges.{Edge, chains, stops, Nothing, Refuses}
+use Rattle.akl_lexemes.specs.Parsed.{Nothing, Refuses}
+use Rattle.term_syntax.specs.Ends.{ends_chain}
 use Rattle.akl_syntax.specs.Ahead.{begins_join, is_test}
-use Rattle.akl_syntax.specs.Follow.{Follow, after_goal, ends, NoneTo, RefusesTo}
-use Rattle.akl_syntax.proofs.Unique.{expr_one, tail_is}
+use Rattle.akl_syntax.specs.Ends.{ends_goal}
+use Rattle.term_syntax.proofs.Unique.{expr_one, tail_is}
 use Rattle.akl_syntax.proofs.Balance.{atom_is, brackets_is}
 use Rattle.akl_syntax.proofs.OneGoal.{no_join, relation_stops, sum_ends, opposite}
 
 pub goal_call : (s : List ℕ) (v : Vec SourceTerm Global) → goal (written.Call s v) ≡ call s (trees (map tree v.items))
 goal_call s v = ap goal (sym (written.rolls-Call s v)) ∙ fold-roll-SourceGoal Goal Part goal_step part_step (open_goals.Call s v)
-
-pub refused_to : (e : Edge) (e' : Follow) {Y Y' : Type 0} {R : Y → List Lexeme → Type 0} {R' : Y' → List Lexeme → Type 0} (f : Fault) → (Nothing R e → NoneTo R' e') → Refuses R e f → RefusesTo R' e' f
-refused_to e e' Syntax k r = k r
-refused_to e e' Memory k r = tt
-
-pub no_memory_to : (e : Follow) {Y : Type 0} (R : Y → List Lexeme → Type 0) (f : Fault) → f ≡ Memory → RefusesTo R e f
-no_memory_to e R f h = subst (λ (z : Fault). RefusesTo R e z) (sym h) tt
 
 pub record TestIs (a b : List Lexeme) : Type 0 where
   pub o : Lexeme
@@ -42,31 +36,31 @@ pub record TestIs (a b : List Lexeme) : Type 0 where
   pub right : Expr Sum c u b
 
 -- a goal that looks like a test is one
-pub the_test : (a b : List Lexeme) (gs : List Goal) → is_test a ≡ true → GoalIs a gs b → ends after_goal b ≡ true → TestIs a b
+pub the_test : (a b : List Lexeme) (gs : List Goal) → is_test a ≡ true → GoalIs a gs b → ends_goal b ≡ true → TestIs a b
 the_test _ b gs h (atom_goal {s = w} p) s = absurd (opposite _ h (atom_is w p (no_join b s)))
 the_test a b gs h (test {o = o} {b = c} {w = w} {t = t} {u = u} p e q) s = record { o = o; c = c; w = w; t = t; u = u; left = p; is = e; right = q }
 the_test _ b gs h (made.brackets p q) s = absurd (opposite _ h (brackets_is p q (no_join b s)))
 
 module _ (a : List Lexeme) (h : is_test a ≡ true) where
-  pub no_left : Nothing (Expr Sum a) (chains Sum) → NoneTo (GoalIs a) after_goal
+  pub no_left : Nothing (Expr Sum a) (ends_chain Sum) → Nothing (GoalIs a) ends_goal
   no_left none gs b p s = (let x = the_test a b gs h p s in none x.t (x.o ∷ x.c) x.left (relation_stops x.o x.c x.w x.is))
 
-  pub no_relation : (r : List Lexeme) (t : Tree) → Expr Sum a t r → stops (chains Sum) r ≡ true → ((o : Lexeme) (c : List Lexeme) (w : List ℕ) → r ≡ o ∷ c → relation_of o ≡ Some w → ⊥) → NoneTo (GoalIs a) after_goal
+  pub no_relation : (r : List Lexeme) (t : Tree) → Expr Sum a t r → ends_chain Sum r ≡ true → ((o : Lexeme) (c : List Lexeme) (w : List ℕ) → r ≡ o ∷ c → relation_of o ≡ Some w → ⊥) → Nothing (GoalIs a) ends_goal
   no_relation r t q k none gs b p s = (let x = the_test a b gs h p s in none x.o x.c x.w (expr_one q x.left k (relation_stops x.o x.c x.w x.is)).1 x.is)
 
-  pub same_behind : (o : Lexeme) (c : List Lexeme) (t : Tree) → Expr Sum a t (o ∷ c) → stops (chains Sum) (o ∷ c) ≡ true → (b : List Lexeme) (x : TestIs a b) → Expr Sum c x.u b
+  pub same_behind : (o : Lexeme) (c : List Lexeme) (t : Tree) → Expr Sum a t (o ∷ c) → ends_chain Sum (o ∷ c) ≡ true → (b : List Lexeme) (x : TestIs a b) → Expr Sum c x.u b
   same_behind o c t q k b x = subst (λ (z : List Lexeme). Expr Sum z x.u b) (sym (tail_is o x.o c x.c (expr_one q x.left k (relation_stops x.o x.c x.w x.is)).1)) x.right
 
-  pub no_right : (o : Lexeme) (c : List Lexeme) (t : Tree) → Expr Sum a t (o ∷ c) → stops (chains Sum) (o ∷ c) ≡ true → Nothing (Expr Sum c) (chains Sum) → NoneTo (GoalIs a) after_goal
+  pub no_right : (o : Lexeme) (c : List Lexeme) (t : Tree) → Expr Sum a t (o ∷ c) → ends_chain Sum (o ∷ c) ≡ true → Nothing (Expr Sum c) (ends_chain Sum) → Nothing (GoalIs a) ends_goal
   no_right o c t q k none gs b p s = (let x = the_test a b gs h p s in none x.u b (same_behind o c t q k b x) (sum_ends b s))
 
-  pub joined_behind : (o : Lexeme) (c r : List Lexeme) (t u : Tree) → Expr Sum a t (o ∷ c) → stops (chains Sum) (o ∷ c) ≡ true → Expr Sum c u r → stops (chains Sum) r ≡ true → begins_join r ≡ true → NoneTo (GoalIs a) after_goal
+  pub joined_behind : (o : Lexeme) (c r : List Lexeme) (t u : Tree) → Expr Sum a t (o ∷ c) → ends_chain Sum (o ∷ c) ≡ true → Expr Sum c u r → ends_chain Sum r ≡ true → begins_join r ≡ true → Nothing (GoalIs a) ends_goal
   joined_behind o c r t u q k q' k' j gs b p s = (
       let x = the_test a b gs h p s in
       let e = (expr_one q' (same_behind o c t q k b x) k' (sum_ends b s)).1 in
       opposite _ (subst (λ (z : List Lexeme). begins_join z ≡ true) e j) (no_join b s))
 
-pub goal_edge : (a : List Lexeme) → begins_join a ≡ false → ends after_goal a ≡ true
+pub goal_edge : (a : List Lexeme) → begins_join a ≡ false → ends_goal a ≡ true
 goal_edge [] e = refl
 goal_edge (o ∷ a) e = rw e refl
 

@@ -1,83 +1,31 @@
 -- The variables that occur in what is derived are those of the lexemes, which are numbered from 0 without a gap.
 use Rattle.std.proofs.Common.{◌≡◌, ℕ, zero, suc, ◌<◌, ◌≤◌, Bool, true, false, cond, List, [], ◌∷◌, ◌++◌, length, Option, Some, None, refl, sym, ap, subst, ◌∙◌, arith, append_assoc, ◌⊎◌, inl, inr}
 use Rattle.std.proofs.lemmas.List.{length-append, append-nil}
-use Rattle.std.specs.Prelude.{option_map, codes, bytes_eq}
+use Rattle.std.specs.Prelude.{option_map, codes, bytes_eq, Result, Ok, Err, IfOk}
 use Rattle.akl_text.specs.declared.token.Token.{Token}
 use Rattle.akl_text.specs.Spelling.{spelling}
-use Rattle.akl_syntax.specs.declared.lexeme.Lexeme.{Lexeme}
-use Rattle.akl_syntax.specs.declared.lexeme.Lexeme.TheVariants.{Symbol, Variable, Integer, Mark}
-use Rattle.akl_syntax.specs.declared.operator.Level.{Level}
-use Rattle.akl_syntax.specs.Tree.{Tree, Step, Tail, trees, steps}
-use Rattle.akl_syntax.specs.Grammar.{operator_of, chained, Expr, More, Operand, Primary, Arguments, ListEnd, Items, Others, operands, done, next, product, primary, variable_is, integer_is, atom, empty_list, whole_list, brackets, plain, call, closed, bar, items, no_others, other}
+use Rattle.akl_lexemes.specs.declared.lexeme.Lexeme.{Lexeme}
+use Rattle.akl_lexemes.specs.declared.lexeme.Lexeme.TheVariants.{Symbol, Variable, Integer, Mark}
+use Rattle.term_syntax.specs.declared.level.Level.{Level}
+use Rattle.term_syntax.specs.Tree.{Tree, Step, Tail, trees, steps}
+use Rattle.term_syntax.specs.Grammar.{operator_of, chained, Expr, More, Operand, Primary, Arguments, ListEnd, Items, Others, operands, done, next, product, primary, variable_is, integer_is, atom, empty_list, whole_list, brackets, plain, call, closed, bar, items, no_others, other}
 use Rattle.akl_terms.specs.declared.program.Op.{Op}
+use Rattle.akl_lexemes.proofs.NumberedLexemes.{lexeme_variables, numbered, are_numbered}
+use Rattle.term_syntax.proofs.VariableLaws.{expr_variables, arguments_variables, joined}
 use Rattle.akl_syntax.specs.Goals.{Goal, Part, GoalIs, Conj, Conjs, PartIs, PartsAre, atom_goal, test, conj, no_conjs, and, unguarded, guarded, no_parts_more, or, inlined, written, goals, parts, relation_of, guard_of}
 use Rattle.akl_syntax.specs.Goals as made
 use Rattle.akl_syntax.specs.Clauses.{Clause, Query, HasPart, IsClause, IsQuery, no_neck, neck, clause, query}
-use Rattle.akl_syntax.specs.Lexemes.{Lexemes, IsLexeme, place_of, number_of}
-use Rattle.akl_syntax.specs.Lexemes as lexed
-use Rattle.akl_syntax.specs.Variables.{tree_variables, trees_variables, tail_variables, steps_variables, goal_variables, goals_variables, parts_variables, clause_variables, query_variables, Occurs, AreNumbered, IsClauseNumbered, AreClausesNumbered, IsQueryNumbered}
-use Rattle.std.specs.Prelude.{Result, Ok, Err, IfOk}
+use Rattle.akl_lexemes.specs.Lexemes.{Lexemes, IsLexeme, place_of, number_of}
+use Rattle.akl_lexemes.specs.Lexemes as lexed
+use Rattle.akl_syntax.specs.Variables.{goal_variables, goals_variables, parts_variables, clause_variables, query_variables, IsClauseNumbered, AreClausesNumbered, IsQueryNumbered}
+use Rattle.akl_lexemes.specs.Occurrences.{Occurs, AreNumbered}
+use Rattle.term_syntax.specs.Variables.{tree_variables, trees_variables, tail_variables, steps_variables}
 use Rattle.akl_syntax.specs.Answers.{Answers, query_view}
 use Rattle.akl_syntax.specs.Verdicts.{Verdict, accepted, refused, Tests, too_deep, out_of_range, not_derived, derived, ReadsClause, ReadsClauses, ReadsProgram, ReadsQuery, ending_at, with_clause}
 use Rattle.akl_syntax.specs.Verdicts as verdicts
-use Rattle.akl_syntax.specs.declared.error.SyntaxError.{SyntaxError}
+use Rattle.akl_lexemes.specs.declared.error.SyntaxError.{SyntaxError}
 use Rattle.akl_syntax.specs.declared.source.SourceQuery.{SourceQuery}
 use Rattle.akl_syntax.proofs.SizeLaws.{IfAccepted, no_query}
-
-abbrev pub lexeme_variables : List Lexeme → List ℕ
-lexeme_variables [] = []
-lexeme_variables (Variable n ∷ a) = n ∷ lexeme_variables a
-lexeme_variables (Symbol s ∷ a) = lexeme_variables a
-lexeme_variables (Integer z ∷ a) = lexeme_variables a
-lexeme_variables (Mark k ∷ a) = lexeme_variables a
-
-joined : {a b : List ℕ} (x y c : List ℕ) → a ≡ x ++ b → b ≡ y ++ c → a ≡ (x ++ y) ++ c
-joined x y c e f = e ∙ ap (λ (z : List ℕ). x ++ z) f ∙ sym (append_assoc x y c)
-
-operator_variables : (l : Level) (o : Lexeme) (a : List Lexeme) (w : List ℕ) → operator_of l o ≡ Some w → lexeme_variables (o ∷ a) ≡ lexeme_variables a
-operator_variables l (Mark k) a w e = refl
-operator_variables l (Symbol s) a w e = refl
-operator_variables l (Integer z) a w e = refl
-operator_variables l (Variable n) a w e = absurd cc
-
-chained_variables : (t : Tree) (ss : List Step) → tree_variables (chained t ss) ≡ tree_variables t ++ steps_variables (steps ss)
-chained_variables t [] = sym (append-nil (tree_variables t))
-chained_variables t (s ∷ ss) = refl
-
-mutual
-  expr_variables : {l : Level} {a b : List Lexeme} {t : Tree} → Expr l a t b → lexeme_variables a ≡ tree_variables t ++ lexeme_variables b
-  expr_variables (operands {c = c} {t = t} {ss = ss} p m) = joined _ _ _ (operand_variables p) (more_variables m) ∙ ap (λ (z : List ℕ). z ++ lexeme_variables c) (sym (chained_variables t ss))
-
-  more_variables : {l : Level} {a b : List Lexeme} {ss : List Step} → More l a ss b → lexeme_variables a ≡ steps_variables (steps ss) ++ lexeme_variables b
-  more_variables done = refl
-  more_variables {l} (next {o = o} {a = a} {w = w} e p m) = operator_variables l o a w e ∙ joined _ _ _ (operand_variables p) (more_variables m)
-
-  operand_variables : {l : Level} {a b : List Lexeme} {t : Tree} → Operand l a t b → lexeme_variables a ≡ tree_variables t ++ lexeme_variables b
-  operand_variables (product p) = expr_variables p
-  operand_variables (primary p) = primary_variables p
-
-  primary_variables : {a b : List Lexeme} {t : Tree} → Primary a t b → lexeme_variables a ≡ tree_variables t ++ lexeme_variables b
-  primary_variables variable_is = refl
-  primary_variables integer_is = refl
-  primary_variables (atom p) = arguments_variables p
-  primary_variables empty_list = refl
-  primary_variables (whole_list p q) = joined _ _ _ (items_variables p) (list_end_variables q)
-  primary_variables (brackets p) = expr_variables p
-
-  arguments_variables : {a b : List Lexeme} {ts : List Tree} → Arguments a ts b → lexeme_variables a ≡ trees_variables (trees ts) ++ lexeme_variables b
-  arguments_variables (plain x) = refl
-  arguments_variables (call p) = items_variables p
-
-  list_end_variables : {a b : List Lexeme} {e : Tail} → ListEnd a e b → lexeme_variables a ≡ tail_variables e ++ lexeme_variables b
-  list_end_variables closed = refl
-  list_end_variables (bar p) = expr_variables p
-
-  items_variables : {a b : List Lexeme} {ts : List Tree} → Items a ts b → lexeme_variables a ≡ trees_variables (trees ts) ++ lexeme_variables b
-  items_variables (items p q) = joined _ _ _ (expr_variables p) (others_variables q)
-
-  others_variables : {a b : List Lexeme} {ts : List Tree} → Others a ts b → lexeme_variables a ≡ trees_variables (trees ts) ++ lexeme_variables b
-  others_variables no_others = refl
-  others_variables (other p q) = joined _ _ _ (expr_variables p) (others_variables q)
 
 -- ---- goals
 goals_both_variables : (gs hs : List Goal) → goals_variables (goals (gs ++ hs)) ≡ goals_variables (goals gs) ++ goals_variables (goals hs)
@@ -146,65 +94,7 @@ one_clause_variables (clause {ts = ts} x y) = arguments_variables x ∙ ap (λ (
 one_query_variables : {names : List (List ℕ)} {ls : List Lexeme} {q : Query} → IsQuery names ls q → lexeme_variables ls ≡ query_variables q
 one_query_variables (query x) = conj_variables x ∙ append-nil _
 
--- ---- lexemes are numbered without a gap
-place_within : (name : List ℕ) (names : List (List ℕ)) (n : ℕ) → place_of name names ≡ Some n → n < length names
-place_within name [] n e = absurd cc
-place_within name (x ∷ names) n e = head_or_tail (bytes_eq x name) (place_of name names) (place_within name names) n e
-  where
-    head_or_tail : (b : Bool) (y : Option ℕ) → ((m : ℕ) → y ≡ Some m → m < length names) → (n : ℕ) → cond b (Some 0) (option_map suc y) ≡ Some n → n < suc (length names)
-    head_or_tail true y h n e = let f : 0 ≡ n = cc in omega (arith, f)
-    head_or_tail false None h n e = absurd cc
-    head_or_tail false (Some m) h n e = let f : suc m ≡ n = cc in omega (arith, f, h m refl)
-
-known_within : (name : List ℕ) (names : List (List ℕ)) (n : ℕ) → number_of name names ≡ Some n → n < length names
-known_within name names n e = named (bytes_eq name (codes "_")) e
-  where
-    named : (b : Bool) → cond b None (place_of name names) ≡ Some n → n < length names
-    named true f = absurd cc
-    named false f = place_within name names n f
-
-below_or_last : (n m : ℕ) → n < suc m → (n < m) ⊎ (n ≡ m)
-below_or_last zero zero h = inr refl
-below_or_last zero (suc m) h = inl (omega arith)
-below_or_last (suc n) zero h = absurd (omega (arith, h))
-below_or_last (suc n) (suc m) h = elim (below_or_last n m (omega (arith, h))) [ inl k ↦ inl (omega (arith, k)) | inr k ↦ inr (ap suc k) ]
-
-record Numbered (names : List (List ℕ)) (ls : List Lexeme) (all : List (List ℕ)) : Type 0 where
-  grows : length names ≤ length all
-  named : (n : ℕ) → Occurs n (lexeme_variables ls) → n < length all
-  occurs : (n : ℕ) → n < length all → (n < length names) ⊎ Occurs n (lexeme_variables ls)
-
-one_more : {bytes : List ℕ} {names : List (List ℕ)} {t : Token} {more all : List (List ℕ)} {l : Lexeme} {ls : List Lexeme} → IsLexeme bytes names t l more → Numbered more ls all → Numbered names (l ∷ ls) all
-one_more (lexed.symbol e s) h = record { grows = h.grows; named = h.named; occurs = h.occurs }
-one_more (lexed.integer e) h = record { grows = h.grows; named = h.named; occurs = h.occurs }
-one_more (lexed.mark e) h = record { grows = h.grows; named = h.named; occurs = h.occurs }
-one_more {bytes} {names} {t} (lexed.known_variable {n = m} k e) h = record {
-  grows = h.grows;
-  named = λ n o. (elim o [ inl f ↦ omega (arith, f, known_within (spelling bytes t) names m e, h.grows) | inr p ↦ h.named n p ]);
-  occurs = λ n l. (elim (h.occurs n l) [ inl f ↦ inl f | inr p ↦ inr (inr p) ]);
-}
-one_more {bytes} {names} {t} (lexed.new_variable k e) h =
-    let len = length-append names (spelling bytes t ∷ []) in
-    record {
-      grows = omega (arith, h.grows, len);
-      named = λ n o. (elim o [ inl f ↦ omega (arith, f, h.grows, len) | inr p ↦ h.named n p ]);
-      occurs = λ n l. (elim (h.occurs n l) [
-        | inl f ↦ (elim (below_or_last n (length names) (omega (arith, f, len))) [ inl g ↦ inl g | inr g ↦ inr (inl g) ])
-        | inr p ↦ inr (inr p)
-      ]);
-    }
-
-numbered : {bytes : List ℕ} {names all : List (List ℕ)} {ts : List Token} {ls : List Lexeme} → Lexemes bytes names ts ls all → Numbered names ls all
-numbered lexed.nothing = record { grows = omega arith; named = λ n o. absurd o; occurs = λ n h. inl h }
-numbered (lexed.next i r) = one_more i (numbered r)
-
 -- ---- verdicts
-are_numbered : {ls : List Lexeme} {all : List (List ℕ)} (vs : List ℕ) → Numbered [] ls all → lexeme_variables ls ≡ vs → AreNumbered vs all
-are_numbered vs h e = record {
-  named = λ n o. h.named n (subst (λ (z : List ℕ). Occurs n z) (sym e) o);
-  occurs = λ n l. (elim (h.occurs n l) [ inl f ↦ absurd (omega (arith, f)) | inr p ↦ subst (λ (z : List ℕ). Occurs n z) e p ]);
-}
-
 clause_names : {start : ℕ} {names : List (List ℕ)} {ls : List Lexeme} {c : Clause} → IsClause start names ls c → c.names ≡ names
 clause_names (clause x y) = refl
 

@@ -1,14 +1,14 @@
 -- What a reader of programs and queries answers.
 use Rattle.std.specs.Prelude.{ℕ, List, map, Result, Ok, Err, ⊤}
 use Rattle.std.proofs.Common.{Vec, Global}
-use Rattle.akl_syntax.specs.View.{tree}
+use Rattle.term_syntax.specs.View.{tree}
 use Rattle.akl_syntax.specs.GoalView.{goal, part}
 use Rattle.akl_syntax.specs.Clauses.{Clause, Query}
 use Rattle.akl_syntax.specs.Verdicts.{Verdict, accepted, refused}
 use Rattle.akl_syntax.specs.declared.source.SourceClause.{SourceClause}
 use Rattle.akl_syntax.specs.declared.source.SourceQuery.{SourceQuery}
-use Rattle.akl_syntax.specs.declared.error.SyntaxError.{SyntaxError}
-use Rattle.akl_syntax.specs.declared.error.SyntaxError.TheVariants.{Syntax, TooDeep, IntRange, TooLong, Memory}
+use Rattle.akl_lexemes.specs.declared.error.SyntaxError.{SyntaxError}
+use Rattle.akl_lexemes.specs.declared.error.SyntaxError.TheVariants.{Syntax, TooDeep, IntRange, TooLong, Memory}
 
 -- what a source clause stands for
 abbrev pub clause_view : SourceClause → Clause

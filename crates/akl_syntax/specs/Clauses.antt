@@ -1,12 +1,12 @@
 -- What lexemes derive as a clause and as a query, without its end token.
 use Rattle.std.specs.Prelude.{ℕ, List, [], ◌∷◌}
 use Rattle.akl_text.specs.declared.token.Kind.TheVariants as kinds
-use Rattle.akl_syntax.specs.declared.lexeme.Lexeme.{Lexeme}
-use Rattle.akl_syntax.specs.declared.lexeme.Lexeme.TheVariants.{Symbol}
+use Rattle.akl_lexemes.specs.declared.lexeme.Lexeme.{Lexeme}
+use Rattle.akl_lexemes.specs.declared.lexeme.Lexeme.TheVariants.{Symbol}
 use Rattle.akl_syntax.specs.declared.source.Head.{Head}
 use Rattle.akl_syntax.specs.declared.source.Head.TheVariants.{Named}
-use Rattle.akl_syntax.specs.Tree.{Tree}
-use Rattle.akl_syntax.specs.Grammar.{Arguments}
+use Rattle.term_syntax.specs.Tree.{Tree}
+use Rattle.term_syntax.specs.Grammar.{Arguments}
 use Rattle.akl_syntax.specs.Goals.{Goal, Part, Conj, PartIs, written, plain_part}
 
 pub record Clause : Type 0 where

@@ -1,7 +1,7 @@
 -- What a source goal stands for.
 use Rattle.std.specs.Prelude.{map, true}
-use Rattle.akl_syntax.specs.Tree.{trees}
-use Rattle.akl_syntax.specs.View.{tree}
+use Rattle.term_syntax.specs.Tree.{trees}
+use Rattle.term_syntax.specs.View.{tree}
 use Rattle.akl_syntax.specs.Goals.{Goal, Part, call, choice, lifted, parts}
 use Rattle.akl_syntax.specs.declared.source.SourceGoal.{SourceGoal}
 use Rattle.akl_syntax.specs.declared.source.SourcePart.{SourcePart}

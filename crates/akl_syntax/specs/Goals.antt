@@ -1,14 +1,14 @@
 -- What lexemes derive as goals.
 use Rattle.std.specs.Prelude.{◌≡◌, ℕ, List, [], ◌∷◌, ◌++◌, Option, Some, None, Bool, true, false, codes}
-use Rattle.akl_syntax.specs.declared.lexeme.Lexeme.{Lexeme}
-use Rattle.akl_syntax.specs.declared.lexeme.Lexeme.TheVariants.{Symbol}
+use Rattle.akl_lexemes.specs.declared.lexeme.Lexeme.{Lexeme}
+use Rattle.akl_lexemes.specs.declared.lexeme.Lexeme.TheVariants.{Symbol}
 use Rattle.akl_text.specs.declared.token.Kind.{Kind}
 use Rattle.akl_text.specs.declared.token.Kind.TheVariants as kinds
-use Rattle.akl_syntax.specs.declared.operator.Level.TheVariants.{Sum}
+use Rattle.term_syntax.specs.declared.level.Level.TheVariants.{Sum}
 use Rattle.akl_terms.specs.declared.program.Op.{Op}
 use Rattle.akl_terms.specs.declared.program.Op.TheVariants as ops
-use Rattle.akl_syntax.specs.Tree.{Tree, Trees, trees}
-use Rattle.akl_syntax.specs.Grammar.{Expr, Arguments}
+use Rattle.term_syntax.specs.Tree.{Tree, Trees, trees}
+use Rattle.term_syntax.specs.Grammar.{Expr, Arguments}
 
 -- a call of a symbol, an inline choice, and a call of a definition that was made of one
 mutual

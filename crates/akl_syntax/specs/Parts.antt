@@ -1,6 +1,6 @@
 -- Pieces of a part and of an inline choice, of which the clauses of private functions speak.
 use Rattle.std.specs.Prelude.{List, [], ◌∷◌, Option, None, option_map, true}
-use Rattle.akl_syntax.specs.declared.lexeme.Lexeme.{Lexeme}
+use Rattle.akl_lexemes.specs.declared.lexeme.Lexeme.{Lexeme}
 use Rattle.akl_terms.specs.declared.program.Op.{Op}
 use Rattle.akl_syntax.specs.Goals.{Goal, Part, Conj, PartsAre, guard_of}
 

@@ -1,14 +1,14 @@
 -- What is said of a text: a clause, a program or a query, or why it is refused.
-use Rattle.std.specs.Prelude.{◌≡◌, ℕ, ◌+◌, ◌<◌, ◌≤◌, List, [], ◌∷◌, ◌++◌, length, drop, Some, None}
+use Rattle.std.specs.Prelude.{◌≡◌, ℕ, ◌<◌, ◌≤◌, List, [], ◌∷◌, ◌++◌, length, Some, None}
 use Rattle.akl_text.specs.declared.token.Kind.TheVariants as kinds
 use Rattle.akl_text.specs.declared.token.Token.{Token}
-use Rattle.akl_text.specs.Layout.{IsLayout}
+use Rattle.akl_text.specs.Layout.{SkipsFrom}
 use Rattle.akl_text.specs.Tokens.{tokens, nothing_at, ReadsFrom}
-use Rattle.akl_syntax.specs.declared.lexeme.Lexeme.{Lexeme}
-use Rattle.akl_syntax.specs.declared.error.SyntaxError.{SyntaxError}
-use Rattle.akl_syntax.specs.declared.error.SyntaxError.TheVariants.{Syntax, TooDeep, IntRange, TooLong}
-use Rattle.akl_syntax.specs.Limits.{first_too_deep, first_out_of_range}
-use Rattle.akl_syntax.specs.Lexemes.{Lexemes}
+use Rattle.akl_lexemes.specs.declared.lexeme.Lexeme.{Lexeme}
+use Rattle.akl_lexemes.specs.declared.error.SyntaxError.{SyntaxError}
+use Rattle.akl_lexemes.specs.declared.error.SyntaxError.TheVariants.{Syntax, TooDeep, IntRange, TooLong}
+use Rattle.akl_lexemes.specs.Limits.{first_too_deep, first_out_of_range}
+use Rattle.akl_lexemes.specs.Lexemes.{Lexemes}
 use Rattle.akl_syntax.specs.Clauses.{Clause, Query, IsClause, IsQuery}
 
 pub data Verdict (A : Type 0) : Type 0 where
@@ -41,14 +41,6 @@ pub data ReadsClause (bytes : List ℕ) (start : ℕ) : Verdict (Clause × ℕ) 
   no_end : {ts : List Token} → ReadsFrom bytes start (tokens ts) → NotEnded ts → ReadsClause bytes start (refused (Syntax start))
   ended : {ts : List Token} (last : Token) {v : Verdict Clause} → ReadsFrom bytes start (tokens (ts ++ last ∷ [])) → last.kind ≡ kinds.End
       → Tests bytes start (IsClause start) ts v → ReadsClause bytes start (ending_at last.end v)
-
--- layout is passed over from a place up to another, where none follows
-pub data Skips : ℕ → List ℕ → ℕ → Type 0 where
-  stays : {at : ℕ} {text : List ℕ} → ((w rest : List ℕ) → text ≡ w ++ rest → IsLayout w rest → ⊥) → Skips at text at
-  layout : {at place : ℕ} {text w rest : List ℕ} → text ≡ w ++ rest → IsLayout w rest → Skips (at + length w) rest place → Skips at text place
-
-abbrev pub SkipsFrom : List ℕ → ℕ → ℕ → Type 0
-SkipsFrom bytes from to = Skips from (drop from bytes) to
 
 abbrev pub with_clause : Clause → Verdict (List Clause) → Verdict (List Clause)
 with_clause c (accepted cs) = accepted (c ∷ cs)

@@ -1,7 +1,7 @@
 -- What a private function answers that reads all lexemes.
 use Rattle.std.specs.Prelude.{Result, Ok, Err}
-use Rattle.akl_syntax.specs.declared.fault.Fault.{Fault}
-use Rattle.akl_syntax.specs.declared.fault.Fault.TheVariants.{Syntax, Memory}
+use Rattle.akl_lexemes.specs.declared.fault.Fault.{Fault}
+use Rattle.akl_lexemes.specs.declared.fault.Fault.TheVariants.{Syntax, Memory}
 
 -- where nothing was found nothing is derived
 abbrev pub RefusesAll : {Y : Type 0} → (Y → Type 0) → Fault → Type 0

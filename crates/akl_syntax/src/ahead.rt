@@ -2,13 +2,12 @@
 
 ghost use Rattle.std.specs.Prelude.{◌≡◌};
 ghost use Rattle.akl_syntax.specs.Ahead.{joins, begins_join, is_test};
-ghost use Rattle.akl_syntax.specs.Brackets.{IsTable};
+ghost use Rattle.akl_lexemes.specs.Brackets.{IsTable};
 
-use crate::brackets::Brackets;
-use crate::front::{front, skip};
-use crate::lexeme::Lexeme;
-use crate::operator::{Level, operator, relation};
+use crate::relation::relation;
+use akl_lexemes::{Brackets, Lexeme, front, skip};
 use akl_text::Kind;
+use term_syntax::{Level, operator};
 
 /// Whether a lexeme joins two terms: an operator or a relation.
 fn joining(lexeme: &Lexeme) -> bool

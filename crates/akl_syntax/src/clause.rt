@@ -2,23 +2,19 @@
 
 ghost use Rattle.std.specs.Prelude.{◌≡◌, ◌∷◌, List};
 ghost use Rattle.akl_text.specs.declared.token.Kind.TheVariants.{Neck};
-ghost use Rattle.akl_syntax.specs.declared.lexeme.Lexeme.{Lexeme};
-ghost use Rattle.akl_syntax.specs.declared.lexeme.Lexeme.TheVariants.{Mark};
+ghost use Rattle.akl_lexemes.specs.declared.lexeme.Lexeme.{Lexeme};
+ghost use Rattle.akl_lexemes.specs.declared.lexeme.Lexeme.TheVariants.{Mark};
 ghost use Rattle.akl_syntax.specs.Answers.{clause_view, query_view};
 ghost use Rattle.akl_syntax.specs.Clauses.{HasPart, IsClause, IsQuery};
 ghost use Rattle.akl_syntax.specs.PartView.{part_of};
 ghost use Rattle.akl_syntax.specs.Wholes.{Whole};
 
-use crate::brackets::Brackets;
-use crate::fault::Fault;
-use crate::front::{front, skip};
 use crate::goals::{WrittenPart, conj, part};
-use crate::lexeme::Lexeme;
-use crate::lexemes::Lexed;
 use crate::source::{Head, SourceClause, SourceQuery};
-use crate::terms::arguments;
+use akl_lexemes::{Brackets, Fault, Lexed, Lexeme, front, skip};
 use akl_text::Kind;
 use std::alloc::Global;
+use term_syntax::arguments;
 
 /// The part behind a neck, or none where the lexemes end.
 fn clause_part(alloc: Global, lexemes: &[Lexeme]) -> Result<WrittenPart, Fault>

@@ -2,27 +2,25 @@
 
 ghost use Rattle.std.specs.Prelude.{◌≡◌, ◌∷◌, [], List, map, true, false, is_some, option_map, IfOk, IfSome, IfNone};
 ghost use Rattle.akl_text.specs.declared.token.Kind.TheVariants.{Open, Close};
-ghost use Rattle.akl_syntax.specs.declared.lexeme.Lexeme.{Lexeme};
-ghost use Rattle.akl_syntax.specs.declared.lexeme.Lexeme.TheVariants.{Symbol};
+ghost use Rattle.akl_lexemes.specs.declared.lexeme.Lexeme.{Lexeme};
+ghost use Rattle.akl_lexemes.specs.declared.lexeme.Lexeme.TheVariants.{Symbol};
 ghost use Rattle.akl_syntax.specs.Goals.{GoalIs, Conj, PartIs, written};
 ghost use Rattle.akl_syntax.specs.GoalView.{goal, part};
 ghost use Rattle.akl_syntax.specs.Parts.{guard_at, Guarded, Alternatives};
 ghost use Rattle.akl_syntax.specs.PartView.{part_of};
 ghost use Rattle.akl_syntax.specs.Ahead.{is_test};
-ghost use Rattle.akl_syntax.specs.Brackets.{IsTable};
-ghost use Rattle.akl_syntax.specs.Follow.{ReadsTo, ends, after_goal, after_conj, after_part, after_parts};
+ghost use Rattle.akl_lexemes.specs.Brackets.{IsTable};
+ghost use Rattle.akl_lexemes.specs.Parsed.{Parsed};
+ghost use Rattle.akl_syntax.specs.Ends.{ends_goal, ends_conj, ends_part, ends_parts};
 
 use crate::ahead::{joined, looks_tested};
-use crate::brackets::Brackets;
-use crate::fault::Fault;
-use crate::front::{behind, front, skip};
-use crate::lexeme::Lexeme;
-use crate::operator::{Level, guard_op, relation};
-use crate::source::{SourceGoal, SourcePart, SourceTerm};
-use crate::terms::{arguments, expr};
+use crate::relation::{guard_op, relation};
+use crate::source::{SourceGoal, SourcePart};
+use akl_lexemes::{Brackets, Fault, Lexeme, behind, front, skip};
 use akl_terms::{Op, Text};
 use akl_text::Kind;
 use std::alloc::{AllocError, Global};
+use term_syntax::{Level, SourceTerm, arguments, expr};
 
 /// A part as it is written, with an operator or without.
 #[derive(Drop)]
@@ -69,7 +67,7 @@ fn pair(alloc: Global, left: SourceTerm, right: SourceTerm) -> Result<Vec<Source
 /// A term, a relation and a term.
 fn test(alloc: Global, lexemes: &[Lexeme]) -> Result<(Vec<SourceGoal>, &[Lexeme]), Fault>
     requires { is_test lexemes.now ≡ true }
-    ensures { ReadsTo (λ x. (map goal x.0.items, x.1.now)) (GoalIs lexemes.now) after_goal result }
+    ensures { Parsed (λ x. (map goal x.0.items, x.1.now)) (GoalIs lexemes.now) ends_goal result }
 {
     let (left, rest) = expr(alloc, Level::Sum, lexemes)?;
     let Some((first, rest)) = front(rest) else {
@@ -95,7 +93,7 @@ fn called<'a>(
     lexemes: &'a [Lexeme],
 ) -> Result<(Vec<SourceGoal>, &'a [Lexeme]), Fault>
     requires { is_test (Symbol symbol.now ∷ lexemes.now) ≡ false }
-    ensures { ReadsTo (λ x. (map goal x.0.items, x.1.now)) (GoalIs (Symbol symbol.now ∷ lexemes.now)) after_goal result }
+    ensures { Parsed (λ x. (map goal x.0.items, x.1.now)) (GoalIs (Symbol symbol.now ∷ lexemes.now)) ends_goal result }
 {
     let symbol = symbol.duplicate()?;
     let (arguments, rest) = arguments(alloc, lexemes)?;
@@ -132,7 +130,7 @@ fn goal<'a>(
     lexemes: &'a [Lexeme],
 ) -> Result<(Vec<SourceGoal>, &'a [Lexeme]), Fault>
     requires { IsTable brackets.now lexemes.now }
-    ensures { ReadsTo (λ x. (map goal x.0.items, x.1.now)) (GoalIs lexemes.now) after_goal result }
+    ensures { Parsed (λ x. (map goal x.0.items, x.1.now)) (GoalIs lexemes.now) ends_goal result }
 {
     if looks_tested(brackets, lexemes) {
         return test(alloc, lexemes);
@@ -147,7 +145,7 @@ fn goal<'a>(
     }
 }
 
-/// Goals with commas between.
+/// Goals with ends_items between.
 #[cycle(goals)]
 pub fn conj<'a>(
     alloc: Global,
@@ -155,7 +153,7 @@ pub fn conj<'a>(
     lexemes: &'a [Lexeme],
 ) -> Result<(Vec<SourceGoal>, &'a [Lexeme]), Fault>
     requires { IsTable brackets.now lexemes.now }
-    ensures { ReadsTo (λ x. (map goal x.0.items, x.1.now)) (Conj lexemes.now) after_conj result }
+    ensures { Parsed (λ x. (map goal x.0.items, x.1.now)) (Conj lexemes.now) ends_conj result }
 {
     let (mut goals, mut rest) = goal(alloc, brackets, lexemes)?;
     while let Some(after) = skip(Kind::Comma, rest) {
@@ -174,7 +172,7 @@ pub fn part<'a>(
     lexemes: &'a [Lexeme],
 ) -> Result<(WrittenPart, &'a [Lexeme]), Fault>
     requires { IsTable brackets.now lexemes.now }
-    ensures { ReadsTo (λ x. (part_of x.0, x.1.now)) (PartIs lexemes.now) after_part result }
+    ensures { Parsed (λ x. (part_of x.0, x.1.now)) (PartIs lexemes.now) ends_part result }
 {
     if let Some((op, rest)) = guard_front(lexemes) {
         return guarded(alloc, brackets, Vec::new(alloc), op, rest);
@@ -201,7 +199,7 @@ fn guarded<'a>(
     lexemes: &'a [Lexeme],
 ) -> Result<(WrittenPart, &'a [Lexeme]), Fault>
     requires { IsTable brackets.now lexemes.now }
-    ensures { ReadsTo (λ x. (part_of x.0, x.1.now)) (Guarded (map goal guard.items) op lexemes.now) after_part result }
+    ensures { Parsed (λ x. (part_of x.0, x.1.now)) (Guarded (map goal guard.items) op lexemes.now) ends_part result }
 {
     let (body, rest) = conj(alloc, brackets, lexemes)?;
     if guard_front(rest).is_some() {
@@ -224,7 +222,7 @@ fn bracketed<'a>(
 ) -> Result<(Vec<SourceGoal>, &'a [Lexeme]), Fault>
     requires table { IsTable brackets.now lexemes.now }
     requires goals { is_test (Lexeme.Mark Open ∷ lexemes.now) ≡ false }
-    ensures { ReadsTo (λ x. (map goal x.0.items, x.1.now)) (GoalIs (Lexeme.Mark Open ∷ lexemes.now)) after_goal result }
+    ensures { Parsed (λ x. (map goal x.0.items, x.1.now)) (GoalIs (Lexeme.Mark Open ∷ lexemes.now)) ends_goal result }
 {
     let (first, rest) = part(alloc, brackets, lexemes)?;
     if let Some(rest) = behind_goals(&first, rest) {
@@ -245,8 +243,8 @@ fn alternatives<'a>(
     lexemes: &'a [Lexeme],
 ) -> Result<(Vec<SourcePart>, &'a [Lexeme]), Fault>
     requires table { IsTable brackets.now lexemes.now }
-    requires edge { ends after_part lexemes.now ≡ true }
-    ensures { ReadsTo (λ x. (map part x.0.items, x.1.now)) (Alternatives (part first) lexemes.now) after_parts result }
+    requires edge { ends_part lexemes.now ≡ true }
+    ensures { Parsed (λ x. (map part x.0.items, x.1.now)) (Alternatives (part first) lexemes.now) ends_parts result }
 {
     let mut parts = Vec::new(alloc);
     parts.push(first)?;

@@ -2,24 +2,15 @@
 #![tactic(auto)]
 
 mod ahead;
-mod brackets;
 mod clause;
-mod depth;
-mod error;
-mod fault;
-mod front;
 mod goals;
-mod layout;
-mod lexeme;
-mod lexemes;
-mod names;
-mod operator;
+mod laws;
 mod program;
+mod relation;
 mod source;
-mod terms;
-#[cfg(test)]
-mod tests;
 
-pub use error::SyntaxError;
+pub use akl_lexemes::SyntaxError;
+pub use laws::one_meaning;
 pub use program::{check_query, read_program, read_query};
-pub use source::{Head, SourceClause, SourceGoal, SourcePart, SourceQuery, SourceStep, SourceTerm};
+pub use source::{Head, SourceClause, SourceGoal, SourcePart, SourceQuery};
+pub use term_syntax::{SourceStep, SourceTerm};

@@ -1,27 +1,21 @@
 //! Reading programs and queries.
 
-ghost use Rattle.std.specs.Prelude.{◌≡◌, ◌≤◌, ◌<◌, ◌++◌, ◌∷◌, [], List, None, length, IfOk, IfErr, IfSome, IfNone};
+ghost use Rattle.std.specs.Prelude.{◌≡◌, ◌≤◌, ◌<◌, ◌++◌, ◌∷◌, [], length, IfOk, IfErr, IfSome, IfNone};
 ghost use Rattle.std.specs.List.{All};
 ghost use Rattle.akl_text.specs.declared.token.Kind.TheVariants.{End};
 ghost use Rattle.akl_text.specs.Spelling.{IsTokenOf};
 ghost use Rattle.akl_syntax.specs.Answers.{Answers, clause_view, ending_view, clauses_view, query_view};
-ghost use Rattle.akl_syntax.specs.Clauses.{Clause, Query, IsClause, IsQuery};
-ghost use Rattle.akl_syntax.specs.Faults.{ReadsTokens, IsTokenFault, IsLimitFault, IsErrorOf};
-ghost use Rattle.akl_syntax.specs.Lexemes.{Lexemes};
-ghost use Rattle.akl_syntax.specs.Limits.{first_too_deep, first_out_of_range};
+ghost use Rattle.akl_syntax.specs.Clauses.{IsClause, IsQuery};
+ghost use Rattle.akl_syntax.specs.Faults.{ReadsTokens, IsTokenFault, IsErrorOf};
 ghost use Rattle.akl_syntax.specs.Sizes.{clauses_size, query_size};
 ghost use Rattle.akl_syntax.specs.Variables.{AreClausesNumbered, IsQueryNumbered};
-ghost use Rattle.akl_syntax.specs.Verdicts.{Verdict, Tests, NotEnded, ReadsClause, ReadsProgram, ReadsQuery};
-ghost use Rattle.akl_syntax.specs.declared.error.SyntaxError.TheVariants.{TooLong};
+ghost use Rattle.akl_syntax.specs.Verdicts.{Tests, NotEnded, ReadsClause, ReadsProgram, ReadsQuery};
+ghost use Rattle.akl_lexemes.specs.declared.error.SyntaxError.TheVariants.{TooLong};
 
 use crate::clause::{clause, query};
-use crate::depth::too_deep;
-use crate::error::SyntaxError;
-use crate::fault::Fault;
-use crate::layout::layout_end;
-use crate::lexemes::{Lexed, lexemes};
 use crate::source::{SourceClause, SourceQuery};
-use akl_text::{Kind, TextError, Token, tokens};
+use akl_lexemes::{Fault, SyntaxError, within_limits};
+use akl_text::{Kind, TextError, Token, layout_end, tokens};
 use std::alloc::{AllocError, Global};
 
 /// How many bytes a program may have.
@@ -55,21 +49,6 @@ fn before_end(tokens: &[Token]) -> Option<(&[Token], Token)>
         Kind::End => Some((before, *last)),
         _ => None,
     }
-}
-
-/// The lexemes of tokens, unless too many brackets are open or an integer is out of range.
-fn within_limits(alloc: Global, bytes: &[u8], tokens: &[Token]) -> Result<Lexed, SyntaxError>
-    requires of_bytes { All (IsTokenOf bytes.now) tokens.now }
-    requires few { length tokens.now < 4294967295 }
-    ensures lexemes { IfOk result (λ x. Lexemes bytes.now [] tokens.now x.lexemes.items x.names.items) }
-    ensures shallow { IfOk result (λ _. first_too_deep tokens.now ≡ None) }
-    ensures in_range { IfOk result (λ _. first_out_of_range bytes.now tokens.now ≡ None) }
-    ensures err { IfErr result (IsLimitFault bytes.now tokens.now) }
-{
-    if let Some(token) = too_deep(tokens) {
-        return Err(SyntaxError::TooDeep { at: token.start });
-    }
-    lexemes(alloc, bytes, tokens)
 }
 
 /// The error for a fault of the text that begins at `start`.
@@ -152,7 +131,6 @@ fn read_clause(
 /// `names`.
 pub fn read_program(alloc: Global, bytes: &[u8]) -> Result<Vec<SourceClause>, SyntaxError>
     ensures reads { Answers clauses_view (ReadsProgram bytes.now) result }
-    ensures only { (v : Verdict (List Clause)) → ReadsProgram bytes.now v → Answers clauses_view (λ w. w ≡ v) result }
     ensures size { IfOk result (λ v. clauses_size (clauses_view v) ≤ length bytes.now) }
     ensures variables { IfOk result (λ v. AreClausesNumbered (clauses_view v)) }
 {
@@ -189,7 +167,6 @@ pub fn check_query(bytes: &[u8]) -> Result<(), SyntaxError>
 pub fn read_query(alloc: Global, bytes: &[u8]) -> Result<SourceQuery, SyntaxError>
     requires { length bytes.now ≤ 10000 }
     ensures reads { Answers query_view (ReadsQuery bytes.now) result }
-    ensures only { (v : Verdict Query) → ReadsQuery bytes.now v → Answers query_view (λ w. w ≡ v) result }
     ensures size { IfOk result (λ q. query_size (query_view q) ≤ length bytes.now) }
     ensures variables { IfOk result (λ q. IsQueryNumbered (query_view q)) }
 {

@@ -1,4 +1,5 @@
 pub mod EqualLaws
+pub mod StandingLaws
 pub mod Numbering
 pub mod Numbers
 pub mod Unfolding

@@ -6,7 +6,8 @@ use Rattle.std.specs.Str.{bytes_eq}
 use Rattle.std.proofs.lemmas.Map.Text.{btree_map_updates_text}
 use Rattle.std.proofs.lemmas.Slice.Eq.{bytes_eq-Decides}
 use Rattle.std.proofs.lemmas.Bool.{cases_Bool}
-use Rattle.akl_terms.specs.Template.{AreDistinct}
+use Rattle.akl_terms.specs.Template.{AreDistinct, MayStandAt}
+use Rattle.akl_terms.specs.declared.term.Node.{Node}
 use Rattle.akl_terms.specs.declared.templates.Templates.TheInside.{Inside}
 use Rattle.akl_terms.specs.Numbered.{IsNumbered}
 use Rattle.akl_terms.proofs.Numbering.{slice_get-front, slice_get-behind, slice_get-one_more}
@@ -14,6 +15,13 @@ use Rattle.akl_terms.proofs.Numbering.{slice_get-front, slice_get-behind, slice_
 -- numbered texts are distinct
 pub IsNumbered-distinct : (t : Inside) → IsNumbered t → AreDistinct t.symbols.items
 IsNumbered-distinct t k = record { one = λ i j text a b. let e : Some i ≡ Some j = sym (k.number text i a) ∙ k.number text j b in cc }
+
+-- each node may stand where it is
+pub IsNumbered-stands : (t : Inside) → IsNumbered t → (i : ℕ) (n : Node) → slice_get t.nodes.items i ≡ Some n
+    → MayStandAt (record { nodes = t.nodes.items; symbols = t.symbols.items }) i n
+IsNumbered-stands t k i (Node.Var x) e = tt
+IsNumbered-stands t k i (Node.Int z) e = tt
+IsNumbered-stands t k i (Node.Struct s first n) e = (k.arranged.each i (Node.Struct s first n) e, k.named.each i s first n e)
 
 -- a text that the map doesn't have is at no place
 pub absent_text : (t : Inside) → IsNumbered t → (text : List ℕ) → get_by_text t.numbers text ≡ None → (n : ℕ) → slice_get t.symbols.items n ≡ Some text → ⊥

@@ -23,8 +23,11 @@ operation_named text =
     else None
 
 -- the integers that a program can hold, of 64 bits
-abbrev pub in_range : ℤ → Option ℤ
-in_range z = if int_le (neg_ℤ (pos (2 ^ 63))) z && int_lt z (pos (2 ^ 63)) then Some z else None
+abbrev pub in_range : ℤ → Bool
+in_range z = int_le (neg_ℤ (pos (2 ^ 63))) z && int_lt z (pos (2 ^ 63))
+
+abbrev pub where_in_range : ℤ → Option ℤ
+where_in_range z = if in_range z then Some z else None
 
 -- the greatest integer that isn't above a / b
 abbrev pub floor_of : ℤ → ℤ → ℤ
@@ -40,11 +43,11 @@ unless_zero b v = v
 
 -- the value of an operation, where it is defined: a quotient is truncated towards zero, and a modulus has the sign of the divisor
 abbrev pub calculated : Operation → ℤ → ℤ → Option ℤ
-calculated plus a b = in_range (a +ℤ b)
-calculated minus a b = in_range (a -ℤ b)
-calculated times a b = in_range (a *ℤ b)
-calculated quotient a b = unless_zero b (in_range (int_div a b))
-calculated modulus a b = unless_zero b (in_range (a -ℤ (b *ℤ floor_of a b)))
+calculated plus a b = where_in_range (a +ℤ b)
+calculated minus a b = where_in_range (a -ℤ b)
+calculated times a b = where_in_range (a *ℤ b)
+calculated quotient a b = unless_zero b (where_in_range (int_div a b))
+calculated modulus a b = unless_zero b (where_in_range (a -ℤ (b *ℤ floor_of a b)))
 
 -- the operation of a symbol, by the symbols' texts
 unfoldable pub operation_of : List (List ℕ) → ℕ → Option Operation

@@ -1,7 +1,10 @@
+pub mod Names
+pub mod Words
 pub mod Tree
 pub mod Equal
 pub mod Decided
 pub mod Solved
+pub mod Standing
 pub mod Template
 pub mod Numbered
 pub mod Touching

@@ -75,10 +75,14 @@ tree nodes (Term.Port p) = port p
 abbrev pub equation_of : List Node → code.Equation → Equation
 equation_of nodes e = record { left = tree nodes e.left; right = tree nodes e.right }
 
--- the argument range and the symbol of a node are there, with this old length
+-- a node that may stand at this place: its arguments stand before the place, and its symbol is there
+abbrev pub MayStandAt : Template → ℕ → Node → Type 0
+MayStandAt t i (Node.Struct s first n) = (first + n ≤ i) × (s < length t.symbols)
+MayStandAt t i n = Unit {0}
+
+-- a node that may stand behind the others
 abbrev pub IsAfter : Template → Node → Type 0
-IsAfter t (Node.Struct s first n) = (first + n ≤ length t.nodes) × (s < length t.symbols)
-IsAfter t n = Unit {0}
+IsAfter t n = MayStandAt t (length t.nodes) n
 
 -- nodes that may be appended as neighbours
 abbrev pub IsGroup : Template → List Node → Type 0

@@ -11,7 +11,7 @@ mod term;
 mod text;
 
 pub use items::Items;
-pub use laws::equality;
+pub use laws::{equality, order, standing};
 pub use name::{Name, Place, Var};
 pub use program::{
     Clause, Code, Definition, Goal, Key, Op, Program, Query, Shown, ShownTerm, Test,
@@ -20,6 +20,3 @@ pub use steps::Steps;
 pub use templates::Templates;
 pub use term::{Equation, Node, Seen, Term};
 pub use text::Text;
-
-#[cfg(test)]
-mod tests;

@@ -12,6 +12,8 @@ pub struct Name {
 }
 
 /// A variable: one of those of a frame.
+///
+/// Variables are ordered by frame, then by index.
 #[derive(Clone, Copy, Debug, PartialEq, Eq, PartialOrd, Ord, Hash)]
 pub struct Var {
     pub frame: Name,
@@ -19,8 +21,8 @@ pub struct Var {
     pub index: u32,
 }
 
-/// Where a rule applies: at a goal, or at a box.
-#[derive(Clone, Copy, Debug, PartialEq, Eq, PartialOrd, Ord, Hash)]
+/// Where a rule applies: at a goal, or at a box. Goals stand before boxes, each by name.
+#[derive(Clone, Copy, Debug, PartialEq, Eq, PartialOrd, Ord)]
 pub enum Place {
     Goal(Name),
     Box(Name),

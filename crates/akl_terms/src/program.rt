@@ -7,7 +7,7 @@ use crate::term::Term;
 use crate::text::Text;
 
 /// The operator of a guard: conditional `->`, commit `|`, nondeterminate `?`.
-#[derive(Clone, Copy, Debug, PartialEq, Eq)]
+#[derive(Clone, Copy, PartialEq, Eq)]
 pub enum Op {
     Condition,
     Commit,
@@ -27,7 +27,7 @@ pub enum Test {
 }
 
 /// An atom of a clause or a query. Numbers of nodes are those of the program's templates.
-#[derive(Clone, Copy, Debug, PartialEq, Eq)]
+#[derive(Clone, Copy)]
 pub enum Code {
     Equal {
         left: u32,
@@ -56,7 +56,7 @@ pub enum Code {
 }
 
 /// An atom under a frame of variables.
-#[derive(Clone, Copy, Debug, PartialEq, Eq)]
+#[derive(Clone, Copy)]
 pub struct Goal {
     pub code: Code,
     pub frame: Name,

@@ -1,7 +1,7 @@
 //! Templates: the nodes and symbols that programs, queries and terms share.
 
 ghost use Rattle.std.specs.Prelude.{◌≡◌, ◌<◌, ◌+◌, ◌^◌, ◌↔◌, IfOk, IfSome, IfNone, IsTrue, OnErr, length, slice_get, Some, [], ◌++◌};
-ghost use Rattle.akl_terms.specs.Template.{IsArranged, AreDistinct, seen_of, IsKnown, IsNew, Appends, Interns, IsGroup};
+ghost use Rattle.akl_terms.specs.Template.{IsArranged, AreDistinct, seen_of, IsKnown, IsNew, Appends, Interns, IsGroup, MayStandAt};
 
 use crate::name::Var;
 use crate::term::{Node, Seen, Term};
@@ -103,10 +103,11 @@ impl Templates {
         Ok(first)
     }
 
-    /// The node of this number.
+    /// The node of this number. The symbol of a structure is there, and its arguments stand before it.
     pub fn node(&self, at: u32) -> Node
         requires { at < length self.now.nodes }
-        ensures { slice_get self.now.nodes at ≡ Some result }
+        ensures node { slice_get self.now.nodes at ≡ Some result }
+        ensures stands { MayStandAt self.now at result }
     {
         self.nodes[at as usize]
     }

@@ -36,7 +36,7 @@ pub enum Seen {
 }
 
 /// An equation between two terms.
-#[derive(Clone, Copy, Debug, PartialEq, Eq)]
+#[derive(Clone, Copy)]
 pub struct Equation {
     pub left: Term,
     pub right: Term,

@@ -7,7 +7,7 @@ use std::fmt;
 use std::marker::Model;
 
 /// A text, as of a symbol or of a variable's name.
-#[derive(Debug, Drop)]
+#[derive(Drop)]
 pub struct Text {
     string: String,
 }

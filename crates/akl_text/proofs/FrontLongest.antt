@@ -6,13 +6,14 @@ use Rattle.std.proofs.lemmas.Bool.{ltb-true, lt-ltb, and_parts, and_from}
 use Rattle.std.proofs.lemmas.Bool.Decides.{nat_tests}
 use Rattle.std.proofs.lemmas.Slice.Eq.{bytes_eq-Decides}
 use Rattle.std.proofs.lemmas.List.{take_at, take-append-drop, length-append, length-take}
-use Rattle.akl_text.specs.Bytes.{is_lower, is_upper, is_digit, is_word}
+use Rattle.akl_terms.specs.Words.{is_lower, is_upper, is_digit, is_word}
 use Rattle.akl_text.specs.Spelling.{Spells, name, variable, natural, negative, quoted, call_bracket, bracket, close, open_list, close_list, comma, bar, semicolon, neck, arrow, question, equal, less, greater, at_most, at_least, same, differs, plus, minus, star, div, word_is, word_mod, end}
-use Rattle.akl_text.specs.Front.{allows_sign, Fits, Begins, IsLongest}
+use Rattle.akl_text.specs.Front.{allows_sign, Fits, BeginsText, IsLongest}
 use Rattle.akl_text.specs.Computed.{word_kind, mark_at, is_negative, front_at}
 use Rattle.akl_text.specs.declared.token.Kind.{Kind}
 use Rattle.akl_text.specs.declared.token.Kind.TheVariants.{Name, Variable, Integer, Arrow, Equal, Greater, Minus}
 use Rattle.akl_text.specs.declared.token.Token.{Token}
+use Rattle.akl_text.proofs.Names.{differ, name_parts}
 use Rattle.akl_text.proofs.Cases.{by_cond, when_true, when_false}
 use Rattle.akl_text.proofs.FrontSpelled.{IfFront, front_found, lower_word, upper_word}
 use Rattle.akl_text.proofs.QuotedBytes.{quoted_is}
@@ -39,14 +40,7 @@ digit_not_upper : (b : ℕ) → is_digit b ≡ true → is_upper b ≡ false
 digit_not_upper b e = grind (arith, nat_tests)
 
 named : (w : List ℕ) → (w ≡ codes "is" → ⊥) → (w ≡ codes "mod" → ⊥) → word_kind w ≡ Name
-named w f g = rw (other w (codes "is") f, other w (codes "mod") g) refl
-  where
-    of_test : (v u : List ℕ) (x : Bool) → bytes_eq v u ≡ x → (v ≡ u → ⊥) → bytes_eq v u ≡ false
-    of_test v u true e f = absurd (f ((bytes_eq-Decides v u).0 e))
-    of_test v u false e f = e
-
-    other : (v u : List ℕ) → (v ≡ u → ⊥) → bytes_eq v u ≡ false
-    other v u f = of_test v u (bytes_eq v u) refl f
+named w f g = rw (differ w (codes "is") f, differ w (codes "mod") g) refl
 
 module _ (before : Option Token) (at : ℕ) where
   -- a lowercase word
@@ -58,7 +52,10 @@ module _ (before : Option Token) (at : ℕ) where
 
   reaches : {k : Kind} {w : List ℕ} (rest : List ℕ) → Spells k w → Fits before at k w rest → Reaches k (length w) (front_at before at (w ++ rest))
   unfolding front_at mark_at
-  reaches rest (name {b = b} {w = w} e f g h) fits = subst (λ (k : Kind). Reaches k (length (b ∷ w)) (front_at before at ((b ∷ w) ++ rest))) (named (b ∷ w) g h) (word_reaches b w rest e f)
+  reaches rest (name {w = w} e) fits =
+      let p = name_parts w e in
+      let h = subst (λ (v : List ℕ). Reaches (word_kind v) (length v) (front_at before at (v ++ rest))) (sym p.is) (word_reaches p.first p.more rest p.lower p.words) in
+      subst (λ (k : Kind). Reaches k (length w) (front_at before at (w ++ rest))) (named w p.not_is p.not_mod) h
   reaches rest (variable {b = b} {w = w} e f) fits =
       let P : Option (Kind × ℕ) → Type 0 = λ x. Reaches Variable (length (b ∷ w)) x in
       when_false P (is_lower b) _ _ (upper_not_lower b e) (when_true P (is_upper b) _ _ e (run_covers is_word (b ∷ w) rest (and_from _ _ (upper_word b e) f), λ h. refl))
@@ -106,7 +103,7 @@ module _ (before : Option Token) (at : ℕ) where
   reaches rest word_mod fits = word_reaches 109 (111 ∷ 100 ∷ []) rest refl refl
   reaches rest end fits = rw fits (exactly _ _)
 
-  pub begins_reaches : {k : Kind} {w : List ℕ} (rest : List ℕ) → Begins before at k w rest → Reaches k (length w) (front_at before at (w ++ rest))
+  pub begins_reaches : {k : Kind} {w : List ℕ} (rest : List ℕ) → BeginsText before at k w rest → Reaches k (length w) (front_at before at (w ++ rest))
   begins_reaches rest b = reaches rest b.spelled b.fits
 
   -- what is computed is the longest token
@@ -125,7 +122,7 @@ module _ (before : Option Token) (at : ℕ) where
         (f.some, f.within),
       )
 
-  pub no_token : (text : List ℕ) → front_at before at text ≡ None → (k : Kind) (w rest : List ℕ) → text ≡ w ++ rest → Begins before at k w rest → ⊥
+  pub no_token : (text : List ℕ) → front_at before at text ≡ None → (k : Kind) (w rest : List ℕ) → text ≡ w ++ rest → BeginsText before at k w rest → ⊥
   no_token text e k w rest parts b = subst (λ x. Reaches k (length w) x) (ap (front_at before at) (sym parts) ∙ e) (begins_reaches rest b)
 
   -- the longest token is what is computed

@@ -7,20 +7,21 @@ use Rattle.std.proofs.lemmas.Bool.{eqb-true, ltb-true, and_parts}
 use Rattle.std.proofs.lemmas.Bool.Decides.{nat_tests}
 use Rattle.std.proofs.lemmas.Slice.Eq.{bytes_eq-Decides}
 use Rattle.std.proofs.lemmas.List.{take_at, drop_at, length-append}
-use Rattle.akl_text.specs.Bytes.{is_lower, is_upper, is_digit, is_word}
+use Rattle.akl_terms.specs.Words.{is_lower, is_upper, is_digit, is_word}
 use Rattle.akl_text.specs.Spelling.{Spells, name, variable, natural, negative, quoted, call_bracket, bracket, close, open_list, close_list, comma, bar, semicolon, neck, arrow, question, equal, less, greater, at_most, at_least, same, differs, plus, minus, star, div, word_is, word_mod, end}
-use Rattle.akl_text.specs.Front.{allows_sign, opens_call, ends_clause, Begins}
+use Rattle.akl_text.specs.Front.{allows_sign, opens_call, ends_clause, BeginsText}
 use Rattle.akl_text.specs.Computed.{quoted_end, if_utf8, word_kind, bracket_at, operator_at, mark_at, is_negative, front_at}
 use Rattle.akl_text.specs.declared.token.Kind.{Kind}
 use Rattle.akl_text.specs.declared.token.Kind.TheVariants.{Name, Variable, Integer, Quoted, OpenCall, Open, Close, OpenList, CloseList, Comma, Bar, Semicolon, Neck, Arrow, Question, Equal, Less, Greater, AtMost, AtLeast, Same, Differs, Plus, Minus, Star, Div, End}
 use Rattle.akl_text.specs.declared.token.Token.{Token}
+use Rattle.akl_text.proofs.Names.{same_bytes, other_bytes, plain_name}
 use Rattle.akl_text.proofs.Cases.{by_cond, or_left, or_right}
 use Rattle.akl_text.proofs.QuotedBytes.{IfClosed, scan_closed, quoted_found}
 use Rattle.akl_text.proofs.Runs.{run_all, run_first, run_within}
 
 -- a token of n bytes at the front
 pub record IsFront (before : Option Token) (at : ℕ) (text : List ℕ) (k : Kind) (n : ℕ) : Type 0 where
-  pub begins : Begins before at k (take n text) (drop n text)
+  pub begins : BeginsText before at k (take n text) (drop n text)
   pub some : 0 < n
   pub within : n ≤ length text
 
@@ -39,7 +40,7 @@ pub digit_no_sign : (b : ℕ) → is_digit b ≡ true → (b == 45) ≡ false
 digit_no_sign b e = grind (arith, nat_tests)
 
 module _ (before : Option Token) (at : ℕ) where
-  from_parts : (k : Kind) (w rest : List ℕ) → 0 < length w → Begins before at k w rest → IsFront before at (w ++ rest) k (length w)
+  from_parts : (k : Kind) (w rest : List ℕ) → 0 < length w → BeginsText before at k w rest → IsFront before at (w ++ rest) k (length w)
   from_parts k w rest h s = record {
     begins = rw (take_at w rest (length w) refl, drop_at w rest (length w) refl) s;
     some = h;
@@ -47,22 +48,16 @@ module _ (before : Option Token) (at : ℕ) where
   }
 
   -- ---- words and numbers
-  word_begins : (w rest : List ℕ) → ((w ≡ codes "is" → ⊥) → (w ≡ codes "mod" → ⊥) → Spells Name w) → Begins before at (word_kind w) w rest
+  word_begins : (w rest : List ℕ) → ((w ≡ codes "is" → ⊥) → (w ≡ codes "mod" → ⊥) → Spells Name w) → BeginsText before at (word_kind w) w rest
   word_begins w rest named =
-      by_cond (λ k. Begins before at k w rest) (bytes_eq w (codes "is")) _ _ (λ e. let q : w ≡ codes "is" = same_bytes w (codes "is") e in rw q (record { spelled = word_is; fits = tt })) (λ not_is.
-      by_cond (λ k. Begins before at k w rest) (bytes_eq w (codes "mod")) _ _ (λ e. let q : w ≡ codes "mod" = same_bytes w (codes "mod") e in rw q (record { spelled = word_mod; fits = tt }))
+      by_cond (λ k. BeginsText before at k w rest) (bytes_eq w (codes "is")) _ _ (λ e. let q : w ≡ codes "is" = same_bytes w (codes "is") e in rw q (record { spelled = word_is; fits = tt })) (λ not_is.
+      by_cond (λ k. BeginsText before at k w rest) (bytes_eq w (codes "mod")) _ _ (λ e. let q : w ≡ codes "mod" = same_bytes w (codes "mod") e in rw q (record { spelled = word_mod; fits = tt }))
       (λ not_mod. record { spelled = named (other_bytes w (codes "is") not_is) (other_bytes w (codes "mod") not_mod); fits = tt }))
-    where
-      same_bytes : (v u : List ℕ) → bytes_eq v u ≡ true → v ≡ u
-      same_bytes v u e = (bytes_eq-Decides v u).0 e
-
-      other_bytes : (v u : List ℕ) → bytes_eq v u ≡ false → v ≡ u → ⊥
-      other_bytes v u e q = absurd (let f = sym ((bytes_eq-Decides v u).1 q) ∙ e in cc)
 
   word_front : (b : ℕ) (t : List ℕ) → is_lower b ≡ true → IsFront before at (b ∷ t) (word_kind (take (prefix_len is_word (b ∷ t)) (b ∷ t))) (prefix_len is_word (b ∷ t))
   word_front b t e =
       rw (run_first is_word b t (lower_word b e))
-      (record { begins = word_begins (b ∷ take (prefix_len is_word t) t) (drop (prefix_len is_word t) t) (λ f g. name e (run_all is_word t) f g); some = omega arith; within = omega (arith, run_within is_word t) })
+      (record { begins = word_begins (b ∷ take (prefix_len is_word t) t) (drop (prefix_len is_word t) t) (λ f g. name (plain_name b _ e (run_all is_word t) f g)); some = omega arith; within = omega (arith, run_within is_word t) })
 
   variable_front : (b : ℕ) (t : List ℕ) → is_upper b ≡ true → IsFront before at (b ∷ t) Variable (prefix_len is_word (b ∷ t))
   variable_front b t e =
@@ -103,13 +98,13 @@ module _ (before : Option Token) (at : ℕ) where
   index_cons [] m e = absurd (omega arith)
   index_cons (b ∷ t) m e = ap (λ (z : ℕ). z ∷ t) e
 
-  one : (k : Kind) (x a : ℕ) (t : List ℕ) → a ≡ x → Begins before at k (x ∷ []) t → IsFront before at (a ∷ t) k 1
+  one : (k : Kind) (x a : ℕ) (t : List ℕ) → a ≡ x → BeginsText before at k (x ∷ []) t → IsFront before at (a ∷ t) k 1
   one k x a t e s = rw e (from_parts k (x ∷ []) t (omega arith) s)
 
-  two : (k : Kind) (x y a : ℕ) (t : List ℕ) → a ≡ x → slice_index t 0 ≡ suc y → Begins before at k (x ∷ suc y ∷ []) (drop 1 t) → IsFront before at (a ∷ t) k 2
+  two : (k : Kind) (x y a : ℕ) (t : List ℕ) → a ≡ x → slice_index t 0 ≡ suc y → BeginsText before at k (x ∷ suc y ∷ []) (drop 1 t) → IsFront before at (a ∷ t) k 2
   two k x y a t e h s = subst (λ (z : List ℕ). IsFront before at (a ∷ z) k 2) (sym (index_cons t y h)) (rw e (from_parts k (x ∷ suc y ∷ []) (drop 1 t) (omega arith) s))
 
-  three : (k : Kind) (x y z a : ℕ) (t : List ℕ) → a ≡ x → slice_index t 0 ≡ suc y → slice_index (drop 1 t) 0 ≡ suc z → Begins before at k (x ∷ suc y ∷ suc z ∷ []) (drop 1 (drop 1 t)) → IsFront before at (a ∷ t) k 3
+  three : (k : Kind) (x y z a : ℕ) (t : List ℕ) → a ≡ x → slice_index t 0 ≡ suc y → slice_index (drop 1 t) 0 ≡ suc z → BeginsText before at k (x ∷ suc y ∷ suc z ∷ []) (drop 1 (drop 1 t)) → IsFront before at (a ∷ t) k 3
   three k x y z a t e h i s =
       let parts : t ≡ suc y ∷ suc z ∷ drop 1 (drop 1 t) = index_cons t y h ∙ ap (λ (w : List ℕ). suc y ∷ w) (index_cons (drop 1 t) z i) in
       subst (λ (w : List ℕ). IsFront before at (a ∷ w) k 3) (sym parts) (rw e (from_parts k (x ∷ suc y ∷ suc z ∷ []) (drop 1 (drop 1 t)) (omega arith) s))

@@ -1,14 +1,19 @@
 -- The spelling of an integer is a numeral, with or without a minus, so that `parse` gives its value or finds it
 -- out of range.
-use Rattle.std.proofs.Common.{◌≡◌, ℕ, ◌<◌, true, List, [], ◌∷◌, arith}
+use Rattle.std.proofs.Common.{◌≡◌, ℕ, ◌<◌, Bool, true, false, List, [], ◌∷◌, refl, subst, arith, Result, Err}
+use Rattle.std.specs.Prelude.{ℤ, pos, negsuc, ◌^◌}
+use mir.Val.{SFits}
+use mir.Syntax.{w64}
 use Rattle.std.specs.List.{list_all}
 use Rattle.std.specs.Char.{digit_value}
 use Rattle.std.specs.Str.{IsAscii}
-use Rattle.std.specs.Str.Parse.{AllDigits, IsNumeral, without_leading_sign}
+use Rattle.std.specs.Str.Parse.{AllDigits, IsNumeral, ParsesSigned, without_leading_sign}
 use Rattle.std.proofs.lemmas.Bool.{and_parts, ne_eqb}
 use Rattle.std.proofs.lemmas.Bool.Decides.{nat_tests}
-use Rattle.akl_text.specs.Bytes.{is_digit}
-use Rattle.akl_text.specs.Spelling.{Spells, natural, negative}
+use Rattle.akl_terms.specs.Words.{is_digit}
+use Rattle.akl_terms.specs.Arithmetic.{in_range}
+use Rattle.akl_text.specs.Spelling.{Spells, natural, negative, integer_value}
+use Rattle.akl_text.specs.declared.token.Kind.{Kind}
 use Rattle.akl_text.specs.declared.token.Kind.TheVariants.{Integer}
 use Rattle.akl_text.proofs.TextFound.{ascii_cons}
 
@@ -36,3 +41,18 @@ digits_ascii (b ∷ w) e = let h = and_parts (is_digit b) (list_all is_digit w) 
 pub integer_ascii : {w : List ℕ} → Spells Integer w → IsAscii w
 integer_ascii (natural {b = b} {w = w} e f) = ascii_cons b w (digit_low b e) (digits_ascii w f)
 integer_ascii (negative {b = b} {w = w} e f) = ascii_cons 45 (b ∷ w) (omega arith) (ascii_cons b w (digit_low b e) (digits_ascii w f))
+
+pub spelled_integer : {k : Kind} {w : List ℕ} → k ≡ Integer → Spells k w → Spells Integer w
+spelled_integer {w = w} e s = subst (λ (z : Kind). Spells z w) e s
+
+-- ---- what is out of range is refused
+not_true : (x : Bool) → (x ≡ true → ⊥) → x ≡ false
+not_true true f = absurd (f refl)
+not_true false f = refl
+
+range_fits : (z : ℤ) → in_range z ≡ true → SFits w64 z
+range_fits (pos n) e = let h : n < 2 ^ 63 = grind (arith, nat_tests) in record { sfits = h }
+range_fits (negsuc n) e = let h : n < 2 ^ 63 = grind (arith, nat_tests) in record { sfits = h }
+
+pub integer_refused : {E : Type 0} (w : List ℕ) (r : Result ℤ E) (e : E) → r ≡ Err e → ParsesSigned w64 10 w r → Spells Integer w → in_range (integer_value w) ≡ false
+integer_refused w r e h p s = not_true _ (λ x. (let q = rw h at p in q (integer_numeral s, range_fits (integer_value w) x)))

@@ -4,9 +4,12 @@ pub mod FrontLongest
 pub mod FrontSpelled
 pub mod Integers
 pub mod LayoutFound
+pub mod LayoutSkips
+pub mod Names
 pub mod QuotedBytes
 pub mod QuotedEnds
 pub mod Reading
 pub mod Runs
 pub mod SoFar
 pub mod TextFound
+pub mod TokenBounds

@@ -4,7 +4,8 @@ use Rattle.std.specs.Prelude.{slice_index}
 use Rattle.std.specs.List.{All}
 use Rattle.std.proofs.lemmas.List.{take_at, drop_at, drop-drop, get_or_append_left, length-append, length-drop}
 use Rattle.akl_text.specs.Layout.{IsLayout, blank, line_comment, block_comment}
-use Rattle.akl_text.specs.Bytes.{is_blank, is_lower, is_upper, is_digit}
+use Rattle.akl_text.specs.Bytes.{is_blank}
+use Rattle.akl_terms.specs.Words.{is_lower, is_upper, is_digit}
 use Rattle.std.proofs.lemmas.Bool.Decides.{nat_tests}
 use Rattle.akl_text.specs.Spelling.{Spells, name, variable, natural, negative, quoted, call_bracket, bracket, close, open_list, close_list, comma, bar, semicolon, neck, arrow, question, equal, less, greater, at_most, at_least, same, differs, plus, minus, star, div, word_is, word_mod, end, spelling, IsTokenOf}
 use Rattle.akl_text.specs.Front.{IsLongest}
@@ -13,23 +14,24 @@ use Rattle.akl_text.specs.Computed.{layout_at, front_at}
 use Rattle.akl_text.specs.declared.token.Kind.{Kind}
 use Rattle.akl_text.specs.declared.token.Kind.TheVariants.{End}
 use Rattle.akl_text.specs.declared.token.Token.{Token}
+use Rattle.akl_text.proofs.Names.{name_parts}
 use Rattle.akl_text.proofs.FrontLongest.{longest_is}
 use Rattle.akl_text.proofs.LayoutFound.{layout_is, layout_not_empty}
 
 -- ---- two pieces at the front of one text
-front_same : (v w more rest : List ℕ) → v ++ more ≡ w ++ rest → length v ≡ length w → (v ≡ w) × (more ≡ rest)
+pub front_same : (v w more rest : List ℕ) → v ++ more ≡ w ++ rest → length v ≡ length w → (v ≡ w) × (more ≡ rest)
 front_same v w more rest e l =
     (sym (take_at v more (length v) refl) ∙ ap (take (length v)) e ∙ take_at w rest (length v) (sym l), sym (drop_at v more (length v) refl) ∙ ap (drop (length v)) e ∙ drop_at w rest (length v) (sym l))
 
 some_same : {A : Type 0} {x y : A} → Some x ≡ Some y → x ≡ y
 some_same e = cc
 
-layouts_same : {v more w rest : List ℕ} → v ++ more ≡ w ++ rest → IsLayout v more → IsLayout w rest → length v ≡ length w
+pub layouts_same : {v more w rest : List ℕ} → v ++ more ≡ w ++ rest → IsLayout v more → IsLayout w rest → length v ≡ length w
 layouts_same e l m = some_same (sym (layout_is l) ∙ ap layout_at e ∙ layout_is m)
 
 -- ---- no token begins as layout does
-record Starts (w : List ℕ) : Type 0 where
-  some : 0 < length w
+pub record Starts (w : List ℕ) : Type 0 where
+  pub some : 0 < length w
   visible : 33 ≤ slice_index w 0
   no_comment : slice_index w 0 ≢ 37
   no_block : slice_index w 0 ≡ 47 → (1 < length w) × (slice_index w 1 ≢ 42)
@@ -46,8 +48,8 @@ upper_begun b w e = begun b w (grind (arith, nat_tests)) (λ f. absurd (let g = 
 digit_begun : (b : ℕ) (w : List ℕ) → is_digit b ≡ true → Starts (b ∷ w)
 digit_begun b w e = begun b w (grind (arith, nat_tests)) (λ f. absurd (let g = rw f at e in cc)) (λ f. absurd (let g = rw f at e in cc))
 
-starts : {k : Kind} {w : List ℕ} → Spells k w → Starts w
-starts (name e f g h) = lower_begun _ _ e
+pub starts : {k : Kind} {w : List ℕ} → Spells k w → Starts w
+starts (name {w = w} e) = let p = name_parts w e in subst Starts (sym p.is) (lower_begun p.first p.more p.lower)
 starts (variable e f) = upper_begun _ _ e
 starts (natural e f) = digit_begun _ _ e
 starts (negative e f) = begun 45 _ (omega arith) (λ x. absurd (omega arith)) (λ x. absurd (omega arith))

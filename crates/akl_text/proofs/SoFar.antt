@@ -6,7 +6,7 @@ use Rattle.akl_text.specs.declared.token.Kind.{Kind}
 use Rattle.akl_text.specs.declared.token.Kind.TheVariants.{End}
 use Rattle.akl_text.specs.declared.token.Token.{Token}
 use Rattle.akl_text.specs.Computed.{front_at}
-use Rattle.akl_text.specs.Front.{Begins, IsLongest}
+use Rattle.akl_text.specs.Front.{BeginsText, IsLongest}
 use Rattle.akl_text.specs.Layout.{IsLayout}
 use Rattle.akl_text.specs.Tokens.{token_at, Outcome, tokens, nothing_at, with_token, Reads, ended, layout, token, last, stuck}
 use Rattle.akl_text.proofs.FrontLongest.{front_longest, no_token}
@@ -56,7 +56,7 @@ module _ {from : ℕ} {text : List ℕ} {found : List Token} {before : Option To
       let one = so_far.onward (tokens (token_at at End (take n rest) ∷ [])) (last (sym (take-append-drop n rest)) t') in
       rw e (subst (λ (m : ℕ). Reads None from text (tokens (found ++ record { kind = End; start = at; end = at + m } ∷ []))) len one)
 
-  pub so_far_stuck : 0 < length rest → ((w more : List ℕ) → rest ≡ w ++ more → IsLayout w more → ⊥) → ((k : Kind) (w more : List ℕ) → rest ≡ w ++ more → Begins before at k w more → ⊥)
+  pub so_far_stuck : 0 < length rest → ((w more : List ℕ) → rest ≡ w ++ more → IsLayout w more → ⊥) → ((k : Kind) (w more : List ℕ) → rest ≡ w ++ more → BeginsText before at k w more → ⊥)
       → Reads None from text (nothing_at at)
   so_far_stuck h unlaid none =
       so_far.onward (nothing_at at) (stuck (record { goes_on = λ x. absurd (let z : length rest ≡ 0 = ap length x in omega (arith, z, h)); no_layout = unlaid; no_token = none }))
@@ -77,6 +77,6 @@ pub longest_within : (before : Option Token) (at : ℕ) (text : List ℕ) (o : O
 longest_within before at text None h e = tt
 longest_within before at text (Some x) h e = (front_longest before at text x.0 x.1 h (sym e)).1
 
-pub longest_none : (before : Option Token) (at : ℕ) (text : List ℕ) (o : Option (Kind × ℕ)) → o ≡ front_at before at text → IfNone o ((k : Kind) (w rest : List ℕ) → text ≡ w ++ rest → Begins before at k w rest → ⊥)
+pub longest_none : (before : Option Token) (at : ℕ) (text : List ℕ) (o : Option (Kind × ℕ)) → o ≡ front_at before at text → IfNone o ((k : Kind) (w rest : List ℕ) → text ≡ w ++ rest → BeginsText before at k w rest → ⊥)
 longest_none before at text None e = no_token before at text (sym e)
 longest_none before at text (Some x) e = tt

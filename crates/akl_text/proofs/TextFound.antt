@@ -7,13 +7,14 @@ use Rattle.std.proofs.lemmas.Bool.{ne_eqb, and_parts}
 use Rattle.std.proofs.lemmas.Bool.Decides.{nat_tests}
 use Rattle.std.proofs.lemmas.List.{take_at, length-append}
 use Rattle.std.proofs.lemmas.Str.{IsUtf8-from_ascii, chars-encodes}
-use Rattle.akl_text.specs.Bytes.{is_word}
+use Rattle.akl_terms.specs.Words.{is_word}
 use Rattle.akl_text.specs.Quotes.{Quotes, nothing, plain, escape, twice, quote, backslash, newline, tab}
-use Rattle.akl_text.specs.Spelling.{Spells, name, variable, quoted, StandsFor, name_itself, variable_itself, between_quotes}
+use Rattle.akl_text.specs.Spelling.{Spells, name, variable, quoted, Denotes, name_itself, variable_itself, between_quotes}
 use Rattle.akl_text.specs.Kinds.{has_text}
 use Rattle.akl_text.specs.Computed.{decode, inside}
 use Rattle.akl_text.specs.declared.token.Kind.{Kind}
 use Rattle.akl_text.specs.declared.token.Kind.TheVariants.{Name, Variable, Quoted}
+use Rattle.akl_text.proofs.Names.{name_parts}
 use Rattle.akl_text.proofs.FrontSpelled.{lower_word, upper_word}
 use Rattle.akl_text.proofs.QuotedBytes.{quotes_scalar}
 
@@ -32,20 +33,15 @@ word_ascii (b ∷ w) e = let h = and_parts (is_word b) (list_all is_word w) e in
 -- a word's text is its spelling
 pub record IsOwnText (k : Kind) (w : List ℕ) : Type 0 where
   pub utf8 : IsUtf8 w
-  pub stands : StandsFor k w w
-  pub only : (text : List ℕ) → StandsFor k w text → w ≡ text
-
-name_only : {w text : List ℕ} → StandsFor Name w text → w ≡ text
-name_only name_itself = refl
-
-variable_only : {w text : List ℕ} → StandsFor Variable w text → w ≡ text
-variable_only variable_itself = refl
+  pub stands : Denotes k w w
 
 name_own : {w : List ℕ} → Spells Name w → IsOwnText Name w
-name_own (name {b = b} {w = w} e f g h) = record { utf8 = IsUtf8-from_ascii (b ∷ w) (word_ascii (b ∷ w) (rw (lower_word b e) f)); stands = name_itself; only = λ text s. name_only s }
+name_own (name {w = w} e) =
+    let p = name_parts w e in
+    subst (IsOwnText Name) (sym p.is) (record { utf8 = IsUtf8-from_ascii (p.first ∷ p.more) (word_ascii (p.first ∷ p.more) (rw (lower_word p.first p.lower) p.words)); stands = name_itself })
 
 variable_own : {w : List ℕ} → Spells Variable w → IsOwnText Variable w
-variable_own (variable {b = b} {w = w} e f) = record { utf8 = IsUtf8-from_ascii (b ∷ w) (word_ascii (b ∷ w) (rw (upper_word b e) f)); stands = variable_itself; only = λ text s. variable_only s }
+variable_own (variable {b = b} {w = w} e f) = record { utf8 = IsUtf8-from_ascii (b ∷ w) (word_ascii (b ∷ w) (rw (upper_word b e) f)); stands = variable_itself }
 
 pub own_text : (k : Kind) (w : List ℕ) → (k ≡ Quoted → ⊥) → has_text k ≡ true → Spells k w → IsOwnText k w
 own_text Name w h t s = name_own s
@@ -70,7 +66,7 @@ decoded w = encode_utf8_all (decode false (chars (inside w)))
 pub record IsQuotedText (k : Kind) (w : List ℕ) : Type 0 where
   pub long : 2 ≤ length w
   pub utf8 : IsUtf8 (inside w)
-  pub stands : StandsFor k w (decoded w)
+  pub stands : Denotes k w (decoded w)
 
 module _ {cs text : List ℕ} (q : Quotes cs text) where
   inside_is : inside (39 ∷ encode_utf8_all cs ++ 39 ∷ []) ≡ encode_utf8_all cs
@@ -83,14 +79,16 @@ quoted_text : {w : List ℕ} → Spells Quoted w → IsQuotedText Quoted w
 quoted_text (quoted {cs = cs} {text = text} q) = record {
   long = omega (arith, length-append (encode_utf8_all cs) (39 ∷ []));
   utf8 = subst IsUtf8 (sym (inside_is q)) (cs, (quotes_scalar q, refl));
-  stands = subst (StandsFor Quoted (39 ∷ encode_utf8_all cs ++ 39 ∷ [])) (sym (decoded_is q)) (between_quotes q);
+  stands = subst (Denotes Quoted (39 ∷ encode_utf8_all cs ++ 39 ∷ [])) (sym (decoded_is q)) (between_quotes q);
 }
 
-quoted_only : {w text : List ℕ} → StandsFor Quoted w text → decoded w ≡ text
+quoted_only : {w text : List ℕ} → Denotes Quoted w text → decoded w ≡ text
 quoted_only (between_quotes q) = decoded_is q
 
 pub text_quoted : (k : Kind) (w : List ℕ) → k ≡ Quoted → Spells k w → IsQuotedText k w
 text_quoted k w e s = subst (λ (z : Kind). IsQuotedText z w) (sym e) (quoted_text (subst (λ (z : Kind). Spells z w) e s))
 
-pub text_only : (k : Kind) (w text : List ℕ) → k ≡ Quoted → StandsFor k w text → decoded w ≡ text
-text_only k w text e s = quoted_only (subst (λ (z : Kind). StandsFor z w text) e s)
+pub one_text : {k : Kind} {w a b : List ℕ} → Denotes k w a → Denotes k w b → a ≡ b
+one_text name_itself name_itself = refl
+one_text variable_itself variable_itself = refl
+one_text (between_quotes q) s = sym (decoded_is q) ∙ quoted_only s

@@ -4,7 +4,8 @@ use Rattle.std.specs.Prelude.{ℕ, suc, ◌+◌, ◌-◌, Bool, true, false, Lis
 use Rattle.std.specs.Prelude.{not, ◌&&◌, ◌||◌, ◌==◌, nat_le, nat_lt, option_map, if◌then◌else◌, codes, slice_index, bytes_eq}
 use Rattle.std.specs.List.{prefix_len}
 use Rattle.std.specs.Str.{is_utf8}
-use Rattle.akl_text.specs.Bytes.{is_blank, is_lower, is_upper, is_digit, is_word}
+use Rattle.akl_text.specs.Bytes.{is_blank}
+use Rattle.akl_terms.specs.Words.{is_lower, is_upper, is_digit, is_word}
 use Rattle.akl_text.specs.Front.{allows_sign, opens_call, ends_clause}
 use Rattle.akl_text.specs.declared.token.Kind.{Kind}
 use Rattle.akl_text.specs.declared.token.Kind.TheVariants.{Name, Variable, Integer, Quoted, OpenCall, Open, Close, OpenList, CloseList, Comma, Bar, Semicolon, Neck, Arrow, Question, Equal, Less, Greater, AtMost, AtLeast, Same, Differs, Plus, Minus, Star, Div, Is, Mod, End}

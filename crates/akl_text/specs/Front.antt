@@ -39,17 +39,17 @@ Fits before at End w rest = IsTrue (ends_clause rest)
 Fits before at _ w rest = ⊤
 
 -- a token that begins the text `w ++ rest`
-pub record Begins (before : Option Token) (at : ℕ) (kind : Kind) (w rest : List ℕ) : Type 0 where
+pub record BeginsText (before : Option Token) (at : ℕ) (kind : Kind) (w rest : List ℕ) : Type 0 where
   pub spelled : Spells kind w
   pub fits : Fits before at kind w rest
 
 -- the longest token that begins the text
 pub record IsLongest (before : Option Token) (at : ℕ) (kind : Kind) (w rest : List ℕ) : Type 0 where
-  pub begins : Begins before at kind w rest
-  pub longest : (other : Kind) (v more : List ℕ) → Begins before at other v more → w ++ rest ≡ v ++ more → length v ≤ length w
+  pub begins : BeginsText before at kind w rest
+  pub longest : (other : Kind) (v more : List ℕ) → BeginsText before at other v more → w ++ rest ≡ v ++ more → length v ≤ length w
 
 -- neither a token nor layout begins the text
 pub record NothingBegins (before : Option Token) (at : ℕ) (text : List ℕ) : Type 0 where
   pub goes_on : text ≢ []
   pub no_layout : (w rest : List ℕ) → text ≡ w ++ rest → IsLayout w rest → ⊥
-  pub no_token : (kind : Kind) (w rest : List ℕ) → text ≡ w ++ rest → Begins before at kind w rest → ⊥
+  pub no_token : (kind : Kind) (w rest : List ℕ) → text ≡ w ++ rest → BeginsText before at kind w rest → ⊥

@@ -2,6 +2,7 @@ pub mod Bytes
 pub mod Computed
 pub mod Front
 pub mod Kinds
+pub mod Laws
 pub mod Layout
 pub mod Quotes
 pub mod Spelling

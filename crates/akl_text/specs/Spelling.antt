@@ -1,16 +1,16 @@
 -- How a token of each kind is spelled, and which text it stands for.
-use Rattle.std.specs.Prelude.{◌≢◌, ℕ, ◌≤◌, ◌-◌, IsTrue, List, ◌∷◌, ◌++◌, length, take, drop, codes, encode_utf8_all, ℤ}
+use Rattle.std.specs.Prelude.{ℕ, ◌≤◌, ◌-◌, IsTrue, List, ◌∷◌, ◌++◌, length, take, drop, codes, encode_utf8_all, ℤ}
 use Rattle.std.specs.List.{list_all}
 use Rattle.std.specs.Str.Parse.{signed_digits_value}
-use Rattle.akl_text.specs.Bytes.{is_lower, is_upper, is_digit, is_word}
+use Rattle.akl_terms.specs.Words.{is_upper, is_digit, is_word, is_plain_name}
 use Rattle.akl_text.specs.Quotes.{Quotes}
 use Rattle.akl_text.specs.declared.token.Kind.{Kind}
 use Rattle.akl_text.specs.declared.token.Kind.TheVariants.{Name, Variable, Integer, Quoted, OpenCall, Open, Close, OpenList, CloseList, Comma, Bar, Semicolon, Neck, Arrow, Question, Equal, Less, Greater, AtMost, AtLeast, Same, Differs, Plus, Minus, Star, Div, Is, Mod, End}
 use Rattle.akl_text.specs.declared.token.Token.{Token}
 
--- The table of kinds: how each is spelled. `is` and `mod` are words of their own, and no names.
+-- The table of kinds: how each is spelled.
 pub data Spells : Kind → List ℕ → Type 0 where
-  name : {b : ℕ} {w : List ℕ} → IsTrue (is_lower b) → IsTrue (list_all is_word w) → b ∷ w ≢ codes "is" → b ∷ w ≢ codes "mod" → Spells Name (b ∷ w)
+  name : {w : List ℕ} → IsTrue (is_plain_name w) → Spells Name w
   variable : {b : ℕ} {w : List ℕ} → IsTrue (is_upper b) → IsTrue (list_all is_word w) → Spells Variable (b ∷ w)
   natural : {b : ℕ} {w : List ℕ} → IsTrue (is_digit b) → IsTrue (list_all is_digit w) → Spells Integer (b ∷ w)
   negative : {b : ℕ} {w : List ℕ} → IsTrue (is_digit b) → IsTrue (list_all is_digit w) → Spells Integer (codes "-" ++ b ∷ w)
@@ -42,10 +42,10 @@ pub data Spells : Kind → List ℕ → Type 0 where
   end : Spells End (codes ".")
 
 -- the text that a spelling stands for: a name and a variable for itself, quoted text for what its quotes hold
-pub data StandsFor : Kind → List ℕ → List ℕ → Type 0 where
-  name_itself : {w : List ℕ} → StandsFor Name w w
-  variable_itself : {w : List ℕ} → StandsFor Variable w w
-  between_quotes : {cs text : List ℕ} → Quotes cs text → StandsFor Quoted (codes "'" ++ encode_utf8_all cs ++ codes "'") (encode_utf8_all text)
+pub data Denotes : Kind → List ℕ → List ℕ → Type 0 where
+  name_itself : {w : List ℕ} → Denotes Name w w
+  variable_itself : {w : List ℕ} → Denotes Variable w w
+  between_quotes : {cs text : List ℕ} → Quotes cs text → Denotes Quoted (codes "'" ++ encode_utf8_all cs ++ codes "'") (encode_utf8_all text)
 
 -- the integer of an Integer token: its digits in base ten, negated where it begins with a sign
 abbrev pub integer_value : List ℕ → ℤ

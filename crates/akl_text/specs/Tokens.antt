@@ -43,7 +43,7 @@ IsMemory (NoToken at) = ⊥
 IsMemory (Memory e) = ⊤
 
 -- P holds of the outcome that was returned, unless memory was refused
-abbrev pub Answers : (Outcome → Type 0) → Result (Vec Token Global) TextError → Type 0
-Answers P (Ok v) = P (tokens v.items)
-Answers P (Err (NoToken at)) = P (nothing_at at)
-Answers P (Err (Memory e)) = ⊤
+abbrev pub IfScanned : (Outcome → Type 0) → Result (Vec Token Global) TextError → Type 0
+IfScanned P (Ok v) = P (tokens v.items)
+IfScanned P (Err (NoToken at)) = P (nothing_at at)
+IfScanned P (Err (Memory e)) = ⊤

@@ -1,8 +1,9 @@
 //! Classes of bytes, and the runs of them at the front of a text.
 
-ghost use Rattle.std.specs.Prelude.{◌≡◌, ◌≤◌, length, slice_index};
+ghost use Rattle.std.specs.Prelude.{◌≡◌, ◌≤◌, length, slice_index, drop};
 ghost use Rattle.std.specs.List.{prefix_len};
-ghost use Rattle.akl_text.specs.Bytes.{is_blank, is_lower, is_upper, is_digit, is_word};
+ghost use Rattle.akl_text.specs.Bytes.{is_blank};
+ghost use Rattle.akl_terms.specs.Words.{is_lower, is_upper, is_digit, is_word};
 
 pub fn is_blank(byte: u8) -> bool
     ensures { result ≡ is_blank byte }
@@ -55,4 +56,12 @@ pub fn byte_at(text: &[u8], at: usize) -> u8
     ensures { result ≡ slice_index text.now at }
 {
     text.get(at).copied().unwrap_or(0)
+}
+
+/// The bytes from a place on.
+pub fn rest_from(bytes: &[u8], at: usize) -> &[u8]
+    requires { at ≤ length bytes.now }
+    ensures { result.now ≡ drop at bytes.now }
+{
+    &bytes[at..]
 }

@@ -1,9 +1,11 @@
 //! The text that a token stands for.
 
-ghost use Rattle.std.specs.Prelude.{◌≡◌, ◌≤◌, IfOk, IsTrue, List, ℕ, length, string_bytes, encode_utf8_all, false};
+ghost use Rattle.std.specs.Prelude.{◌≡◌, ◌≤◌, IfOk, IfSome, IfNone, IsTrue, length, string_bytes, encode_utf8_all, false, true};
 ghost use Rattle.std.specs.Str.{chars, IsUtf8};
 ghost use Rattle.akl_text.specs.Kinds.{has_text};
-ghost use Rattle.akl_text.specs.Spelling.{IsTokenOf, StandsFor, spelling};
+ghost use Rattle.akl_text.specs.Spelling.{IsTokenOf, Denotes, spelling, integer_value};
+ghost use Rattle.akl_text.specs.declared.token.Kind.TheVariants.{Integer};
+ghost use Rattle.akl_terms.specs.Arithmetic.{in_range};
 ghost use Rattle.akl_text.specs.Computed.{decode, meaning, is_mark, inside};
 
 use crate::token::{Kind, Token};
@@ -73,8 +75,7 @@ fn between(spelling: &[u8]) -> &[u8]
 pub fn text_of(alloc: Global, bytes: &[u8], token: &Token) -> Result<Text, AllocError>
     requires of_bytes { IsTokenOf bytes.now token.now }
     requires has_text { IsTrue (has_text token.now.kind) }
-    ensures stands { IfOk result (StandsFor token.now.kind (spelling bytes.now token.now)) }
-    ensures only { (text : List ℕ) → StandsFor token.now.kind (spelling bytes.now token.now) text → IfOk result (λ t. t ≡ text) }
+    ensures { IfOk result (Denotes token.now.kind (spelling bytes.now token.now)) }
 {
     let spelling = &bytes[token.start..token.end];
     if let Kind::Quoted = token.kind {
@@ -82,4 +83,18 @@ pub fn text_of(alloc: Global, bytes: &[u8], token: &Token) -> Result<Text, Alloc
         return Ok(Text::new(decoded(alloc, inner)?));
     }
     Text::from_str(alloc, as_text(spelling))
+}
+
+/// The value of an integer token of these bytes, where it is a signed number of 64 bits.
+pub fn integer_of(bytes: &[u8], token: &Token) -> Option<i64>
+    requires of_bytes { IsTokenOf bytes.now token.now }
+    requires integer { token.now.kind ≡ Integer }
+    ensures value { IfSome result (λ n. n ≡ integer_value (spelling bytes.now token.now)) }
+    ensures some { IfSome result (λ _. in_range (integer_value (spelling bytes.now token.now)) ≡ true) }
+    ensures none { IfNone result (in_range (integer_value (spelling bytes.now token.now)) ≡ false) }
+{
+    match as_text(&bytes[token.start..token.end]).parse::<i64>() {
+        Ok(value) => Some(value),
+        Err(_) => None,
+    }
 }

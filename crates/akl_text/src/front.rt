@@ -1,7 +1,7 @@
 //! The token at the front of a text.
 
 ghost use Rattle.std.specs.Prelude.{◌≡◌, ◌≤◌, ◌<◌, ◌++◌, ℕ, List, length, IfSome, IfNone, take, drop};
-ghost use Rattle.akl_text.specs.Front.{allows_sign, opens_call, ends_clause, IsLongest, Begins};
+ghost use Rattle.akl_text.specs.Front.{allows_sign, opens_call, ends_clause, IsLongest, BeginsText};
 ghost use Rattle.akl_text.specs.Computed.{word_kind, operator_at, mark_at, front_at};
 
 use crate::bytes::{byte_at, digits_len, is_blank, is_digit, is_lower, is_upper, word_len};
@@ -124,7 +124,7 @@ pub fn longest(before: Option<Token>, at: usize, text: &[u8]) -> Option<(Kind, u
     requires { 0 < length text.now }
     ensures found { IfSome result (λ x. IsLongest before at x.0 (take x.1 text.now) (drop x.1 text.now)) }
     ensures within { IfSome result (λ x. (0 < x.1) × (x.1 ≤ length text.now)) }
-    ensures none { IfNone result ((k : Kind) (w rest : List ℕ) → text.now ≡ w ++ rest → Begins before at k w rest → ⊥) }
+    ensures none { IfNone result ((k : Kind) (w rest : List ℕ) → text.now ≡ w ++ rest → BeginsText before at k w rest → ⊥) }
 {
     front(before, at, text)
 }

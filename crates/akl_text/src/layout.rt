@@ -2,10 +2,10 @@
 
 ghost use Rattle.std.specs.Prelude.{◌≡◌, ◌≤◌, ◌<◌, ◌++◌, ℕ, List, not, ◌==◌, false, length, take, drop, IfSome, IfNone};
 ghost use Rattle.std.specs.List.{prefix_len};
-ghost use Rattle.akl_text.specs.Layout.{IsLayout};
+ghost use Rattle.akl_text.specs.Layout.{IsLayout, SkipsFrom};
 ghost use Rattle.akl_text.specs.Computed.{block_len, layout_at};
 
-use crate::bytes::{byte_at, is_blank};
+use crate::bytes::{byte_at, is_blank, rest_from};
 
 /// After a `/*`: how many bytes stand up to the next `*/` and with it, if there is one.
 fn block_len(text: &[u8]) -> Option<usize>
@@ -59,4 +59,21 @@ pub fn layout_len(text: &[u8]) -> Option<usize>
     ensures none { IfNone result ((w rest : List ℕ) → text.now ≡ w ++ rest → IsLayout w rest → ⊥) }
 {
     layout_at(text)
+}
+
+/// Where the layout ends that stands from a place on.
+pub fn layout_end(bytes: &[u8], from: usize) -> usize
+    requires { from ≤ length bytes.now }
+    ensures skips { SkipsFrom bytes.now from result }
+    ensures within { result ≤ length bytes.now }
+    ensures onward { from ≤ result }
+{
+    let mut at = from;
+    while at < bytes.len() {
+        match layout_len(rest_from(bytes, at)) {
+            Some(len) => at += len,
+            None => return at,
+        }
+    }
+    at
 }

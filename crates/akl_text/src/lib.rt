@@ -4,14 +4,14 @@
 mod bytes;
 mod decode;
 mod front;
+mod laws;
 mod layout;
 mod quoted;
 mod scan;
-#[cfg(test)]
-mod tests;
 mod token;
 
-pub use decode::text_of;
-pub use layout::layout_len;
+pub use decode::{integer_of, text_of};
+pub use laws::one_meaning;
+pub use layout::layout_end;
 pub use scan::{TextError, tokens};
 pub use token::{Kind, Token};

@@ -1,19 +1,18 @@
 //! The scan of a text for its tokens.
 
-ghost use Rattle.std.specs.Prelude.{◌≡◌, ◌≤◌, length, drop, IfOk};
+ghost use Rattle.std.specs.Prelude.{◌≤◌, length, IfOk};
 ghost use Rattle.std.specs.List.{All};
 ghost use Rattle.akl_text.specs.Spelling.{IsTokenOf};
-ghost use Rattle.akl_text.specs.Tokens.{Outcome, ReadsFrom, Answers, IsMemory};
+ghost use Rattle.akl_text.specs.Tokens.{ReadsFrom, IfScanned, IsMemory};
 
+use crate::bytes::rest_from;
 use crate::front::longest;
 use crate::layout::layout_len;
 use crate::token::{Kind, Token};
 use std::alloc::{AllocError, AllocFailed, Global};
-use std::error::Error;
-use std::fmt;
 
 /// Why a text was not read.
-#[derive(Debug, Drop)]
+#[derive(Drop)]
 pub enum TextError {
     /// Before any end token, neither a token nor layout begins at this byte.
     NoToken {
@@ -24,17 +23,6 @@ pub enum TextError {
     Memory(AllocError),
 }
 
-impl fmt::Display for TextError {
-    fn fmt<W: fmt::Write>(&self, f: &mut fmt::Formatter<W>) -> fmt::Result {
-        match self {
-            TextError::NoToken { at } => write!(f, "no token begins at byte {at}"),
-            TextError::Memory(error) => write!(f, "{error}"),
-        }
-    }
-}
-
-impl Error for TextError {}
-
 impl<T: Drop> From<AllocFailed<T>> for TextError {
     ghost from_gives = { λ _ e. IsMemory e };
 
@@ -43,22 +31,13 @@ impl<T: Drop> From<AllocFailed<T>> for TextError {
     }
 }
 
-/// The bytes from a place on.
-fn rest_from(bytes: &[u8], at: usize) -> &[u8]
-    requires { at ≤ length bytes.now }
-    ensures { result.now ≡ drop at bytes.now }
-{
-    &bytes[at..]
-}
-
 /// The tokens of a clause that begins at `from`: through its end token, or to the end of the text.
 ///
 /// `NoToken` says where, before any end token, neither a token nor layout begins. Of what stands after the end
 /// token only one byte is looked at, so that a text is read clause by clause in time linear in its bytes.
 pub fn tokens(alloc: Global, bytes: &[u8], from: usize) -> Result<Vec<Token>, TextError>
     requires { from ≤ length bytes.now }
-    ensures read { Answers (ReadsFrom bytes.now from) result }
-    ensures only { (o : Outcome) → ReadsFrom bytes.now from o → Answers (λ p. p ≡ o) result }
+    ensures read { IfScanned (ReadsFrom bytes.now from) result }
     ensures spelled { IfOk result (λ found. All (IsTokenOf bytes.now) found.items) }
 {
     let mut found = Vec::new(alloc);

@@ -1,10 +1,10 @@
 //! Tokens and their kinds.
 
 ghost use Rattle.std.specs.Prelude.{◌≡◌};
-ghost use Rattle.akl_text.specs.Kinds.{ends_operand, is_symbol, has_text};
+ghost use Rattle.akl_text.specs.Kinds.{ends_operand, is_symbol};
 
 /// The kinds of token.
-#[derive(Clone, Copy, Debug, PartialEq, Eq)]
+#[derive(Clone, Copy, Debug, PartialEq)]
 pub enum Kind {
     /// A lowercase letter, then letters, digits and underscores, but neither `is` nor `mod`.
     Name,
@@ -88,17 +88,10 @@ impl Kind {
     {
         matches!(&self, Kind::Name | Kind::Quoted)
     }
-
-    /// Whether such a token has a text, which [`text_of`](crate::text_of) gives.
-    pub fn has_text(self) -> bool
-        ensures { result ≡ has_text self }
-    {
-        matches!(&self, Kind::Name | Kind::Variable | Kind::Quoted)
-    }
 }
 
 /// A token of a text, which lies at the bytes from `start` on and before `end`.
-#[derive(Clone, Copy, Debug, PartialEq, Eq)]
+#[derive(Clone, Copy)]
 pub struct Token {
     pub kind: Kind,
     pub start: usize,

@@ -22,8 +22,9 @@ use Rattle.answer_text.specs.Pieces.{State, Continues, Moves, AreEnds, StandsFor
 use Rattle.answer_text.specs.SymbolText.{constant_text}
 use Rattle.answer_text.specs.declared.piece.Piece.{Piece}
 use Rattle.answer_text.specs.declared.piece.Piece.TheVariants.{Byte, Whole, Tail}
-use Rattle.answer_text.proofs.Turns.{one_head, class-goes, byte-goes, integer-goes, port-goes, AreEnds-with}
-use Rattle.answer_text.proofs.Symbols.{constant-goes, cell-goes, compound-goes, end-goes, element-goes, partial-goes}
+use Rattle.answer_text.proofs.Determined.{one_head}
+use Rattle.answer_text.proofs.Turns.{class-goes, byte-goes, integer-goes, port-goes, constant-goes, AreEnds-with}
+use Rattle.answer_text.proofs.Symbols.{cell-goes, compound-goes, end-goes, element-goes, partial-goes}
 
 -- a term that begins with a variable, an integer or a port is that
 tree-free : (nodes : List Node) (t : Term) (x : Var) → seen_of nodes t ≡ Free x → tree nodes t ≡ variable x
@@ -126,10 +127,10 @@ other-free t E s free = record { other = λ f ts q g. free.free (symbol f ts) (s
 
 tail-goes : (t : Template) (E : Equations) (go : Tree → Tree) → Represents E go → (s : State) (term : Term) (w : StandsFor t go term) → (seen : Seen) → seen_of t.nodes w.end ≡ seen → IsKnown t seen
     → Continues t E (record s { pieces = Tail term ∷ s.pieces }) (tail_begun t term seen s)
-tail-goes t E go r s term w (Free x) e k = partial-goes t E s term (other-free t E (tree t.nodes term) (r.free (tree t.nodes term) x (sym w.goes ∙ tree-free t.nodes w.end x e)))
-tail-goes t E go r s term w (Seen.Int z) e k = partial-goes t E s term
+tail-goes t E go r s term w (Free x) e k = partial-goes t E r.consistent s term (other-free t E (tree t.nodes term) (r.free (tree t.nodes term) x (sym w.goes ∙ tree-free t.nodes w.end x e)))
+tail-goes t E go r s term w (Seen.Int z) e k = partial-goes t E r.consistent s term
     (other-head t E r.consistent (tree t.nodes term) (integer z) (integer_head z) (reached t E go r term w (integer z) (tree-integer t.nodes w.end z e)) refl (λ f ts g h. cc))
-tail-goes t E go r s term w (Seen.Port p) e k = partial-goes t E s term
+tail-goes t E go r s term w (Seen.Port p) e k = partial-goes t E r.consistent s term
     (other-head t E r.consistent (tree t.nodes term) (port p) (port_head p) (reached t E go r term w (port p) (tree-port t.nodes w.end p e)) refl (λ f ts g h. cc))
 tail-goes t E go r s term w (Seen.Struct n i count f) e k = by_end (names_end (name_of t n) count) refl
   where
@@ -145,7 +146,7 @@ tail-goes t E go r s term w (Seen.Struct n i count f) e k = by_end (names_end (n
         let c : (count ≡ 2) × (name_of t n ≡ codes ".") = cell-name (name_of t n) count h in
         let u : arguments_at t f i count ≡ more (tree t.nodes (Mol i f)) (more (tree t.nodes (Mol (i + 1) f)) none) = ap (arguments_at t f i) c.0 ∙ two_arguments t f i in
         element-goes t E r.consistent s term n i f (is ∙ ap Some c.1) (subst (λ (ts : Trees). Equal E (tree t.nodes term) (symbol n ts)) u q)
-    by_cell no_end false h = partial-goes t E s term
+    by_cell no_end false h = partial-goes t E r.consistent s term
         (other-head t E r.consistent (tree t.nodes term) (symbol n (arguments_at t f i count)) (symbol_head n (length (list_of (arguments_at t f i count)))) q refl
         (λ g ts z y. other-symbol t n count (name_of t n) is no_end h g ts z (y ∙ ap (λ (j : ℕ). symbol_head n j) (length-trees_from (λ j. tree t.nodes (Mol j f)) i count))))
 

@@ -1,5 +1,7 @@
-pub mod ClassPlaces
+pub mod ClassNumbers
 pub mod Respects
+pub mod Determined
+pub mod OneText
 pub mod Shorts
 pub mod Turns
 pub mod Symbols

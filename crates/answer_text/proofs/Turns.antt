@@ -1,6 +1,6 @@
 -- One turn of the printer leads on: what is printed from the state behind it is what is printed from the state before it.
 use Rattle.std.proofs.Common.{◌≡◌, ℕ, ℤ, suc, List, [], ◌∷◌, ◌++◌, length, Some, Bool, true, false, cond, refl, sym, ◌∙◌, ap, subst, arith}
-use Rattle.std.specs.Prelude.{codes}
+use Rattle.std.specs.Prelude.{slice_get, codes}
 use Rattle.std.specs.Fmt.{signed_decimal}
 use Rattle.std.proofs.lemmas.Bool.Decides.{nat_tests}
 use Rattle.akl_terms.specs.declared.name.Name.{Name}
@@ -9,21 +9,14 @@ use Rattle.akl_terms.specs.declared.term.Term.{Term}
 use Rattle.akl_terms.specs.Tree.{Tree, variable, integer, port, symbol, none, more, list_of, Head, head_of, integer_head, port_head, symbol_head}
 use Rattle.akl_terms.specs.Equal.{Equations, Equal, turned, joined, IsConsistent}
 use Rattle.akl_terms.specs.Template.{Template, tree}
+use Rattle.answer_text.specs.SymbolText.{constant_text}
 use Rattle.answer_text.specs.Printed.{class_text, IsFree, IsNumbered, first, here, later, Prints, class, number, a_port, constant, compound, cell}
 use Rattle.answer_text.specs.Classes.{Represents}
 use Rattle.answer_text.specs.Pieces.{State, Rest, byte, whole, trees_of, Continues, AreEnds, same_var, class_number, with_class, with_bytes, class_printed}
 use Rattle.answer_text.specs.declared.piece.Piece.TheVariants.{Byte, Whole}
+use Rattle.answer_text.proofs.ClassNumbers.{same_var-true, same_var-refl}
 use Rattle.answer_text.proofs.Respects.{Alike, numbered-one, rest-alike}
-
--- two terms that a term is equal to agree in head
-pub one_head : (E : Equations) → IsConsistent E → (s a b : Tree) (g h : Head) → Equal E s a → Equal E s b → head_of a ≡ Some g → head_of b ≡ Some h → g ≡ h
-one_head E c s a b g h p q x y = c.heads (joined (turned p) q) x y
-
-same_var-true : (x y : Var) → same_var x y ≡ true → x ≡ y
-same_var-true x y e = grind (arith, nat_tests)
-
-same_var-refl : (x : Var) → same_var x x ≡ true
-same_var-refl x = grind (arith, nat_tests)
+use Rattle.answer_text.proofs.Determined.{IsClassText, class-only, integer-only, port-only, constant-only}
 
 -- the number of a class whose terms go to a variable
 pub numbered-by : (E : Equations) (go : Tree → Tree) → Represents E go → (seen : List Var) (s : Tree) (x : Var) → AreEnds go seen → go s ≡ variable x
@@ -61,20 +54,12 @@ class-goes t E go r s term x a e = record { added = class_text (class_number s.s
     to : (rest : List (List ℕ × Tree)) (text : List ℕ) → Rest t E (trees_of (with_class s.seen x)) s.pieces rest text → Rest t E (trees_of s.seen) (Whole term ∷ s.pieces) rest (class_text (class_number s.seen x) ++ text)
     to rest text p = whole (class f n) p
 
-    inner : (rest : List (List ℕ × Tree)) (new : List Tree) (text others : List ℕ) → Prints t.symbols E (trees_of s.seen) (tree t.nodes term) text new → Rest t E new s.pieces rest others
-        → (o : List ℕ) × (text ++ others ≡ class_text (class_number s.seen x) ++ o) × Rest t E (trees_of (with_class s.seen x)) s.pieces rest o
-    inner rest new text others (class {k = k} g m) p =
-        let w : (k ≡ class_number s.seen x) × Alike E new (trees_of (with_class s.seen x)) = numbered-one E (trees_of s.seen) new (trees_of (with_class s.seen x)) (tree t.nodes term) k (class_number s.seen x) m n in
-        (others, ap (λ (j : ℕ). class_text j ++ others) w.0, rest-alike t E new (trees_of (with_class s.seen x)) s.pieces rest others p w.1)
-    inner rest new text others (number {z = z} q) p = absurd (f.free (integer z) (integer_head z) q refl)
-    inner rest new text others (a_port {p = i} q) p = absurd (f.free (port i) (port_head i) q refl)
-    inner rest new text others (constant {f = g} q m) p = absurd (f.free (symbol g none) (symbol_head g 0) q refl)
-    inner rest new text others (compound {t = u} {ts = ts} {f = g} q m c ps) p = absurd (f.free (symbol g (more u ts)) (symbol_head g (length (list_of (more u ts)))) q refl)
-    inner rest new text others (cell {t = u} {u = v} {f = g} q m ps z) p = absurd (f.free (symbol g (more u (more v none))) (symbol_head g 2) q refl)
-
     from : (rest : List (List ℕ × Tree)) (text : List ℕ) → Rest t E (trees_of s.seen) (Whole term ∷ s.pieces) rest text
         → (o : List ℕ) × (text ≡ class_text (class_number s.seen x) ++ o) × Rest t E (trees_of (with_class s.seen x)) s.pieces rest o
-    from rest text (whole {new = new} {text = front} {others = others} p ps) = inner rest new front others p ps
+    from rest text (whole {new = new} {text = front} {others = others} p ps) =
+        let k : IsClassText E (trees_of s.seen) (tree t.nodes term) front new = class-only t.symbols E r.consistent (trees_of s.seen) new (tree t.nodes term) front f p in
+        let w : (k.place ≡ class_number s.seen x) × Alike E new (trees_of (with_class s.seen x)) = numbered-one E (trees_of s.seen) new (trees_of (with_class s.seen x)) (tree t.nodes term) k.place (class_number s.seen x) k.numbered n in
+        (others, ap (λ (y : List ℕ). y ++ others) (k.is ∙ ap class_text w.0), rest-alike t E new (trees_of (with_class s.seen x)) s.pieces rest others ps w.1)
 
 -- a byte
 pub byte-goes : (t : Template) (E : Equations) (s : State) (b : ℕ) → Continues t E (record s { pieces = Byte b ∷ s.pieces }) (with_bytes (b ∷ []) s)
@@ -85,7 +70,7 @@ byte-goes t E s b = record { added = b ∷ []; out = refl; to = λ rest text p. 
     from rest text (byte {text = others} p) = (others, refl, p)
 
 -- a term whose text is known: an integer, a port, a constant
-pub known-goes : (t : Template) (E : Equations) (s : State) (term : Term) (bytes : List ℕ)
+known-goes : (t : Template) (E : Equations) (s : State) (term : Term) (bytes : List ℕ)
     → Prints t.symbols E (trees_of s.seen) (tree t.nodes term) bytes (trees_of s.seen)
     → ((new : List Tree) (text : List ℕ) → Prints t.symbols E (trees_of s.seen) (tree t.nodes term) text new → (text ≡ bytes) × (new ≡ trees_of s.seen))
     → Continues t E (record s { pieces = Whole term ∷ s.pieces }) (with_bytes bytes s)
@@ -99,24 +84,13 @@ known-goes t E s term bytes known one = record { added = bytes; out = refl; to =
 
 pub integer-goes : (t : Template) (E : Equations) → IsConsistent E → (s : State) (term : Term) (z : ℤ) → Equal E (tree t.nodes term) (integer z)
     → Continues t E (record s { pieces = Whole term ∷ s.pieces }) (with_bytes (signed_decimal z) s)
-integer-goes t E c s term z e = known-goes t E s term (signed_decimal z) (number e) one
-  where
-    one : (new : List Tree) (text : List ℕ) → Prints t.symbols E (trees_of s.seen) (tree t.nodes term) text new → (text ≡ signed_decimal z) × (new ≡ trees_of s.seen)
-    one new text (class g m) = absurd (g.free (integer z) (integer_head z) e refl)
-    one new text (number {z = y} q) = let h : integer_head y ≡ integer_head z = one_head E c _ _ _ _ _ q e refl refl in (ap signed_decimal cc, refl)
-    one new text (a_port {p = i} q) = let h : port_head i ≡ integer_head z = one_head E c _ _ _ _ _ q e refl refl in absurd cc
-    one new text (constant {f = g} q m) = let h : symbol_head g 0 ≡ integer_head z = one_head E c _ _ _ _ _ q e refl refl in absurd cc
-    one new text (compound {t = u} {ts = ts} {f = g} q m k ps) = let h : symbol_head g (length (list_of (more u ts))) ≡ integer_head z = one_head E c _ _ _ _ _ q e refl refl in absurd cc
-    one new text (cell {t = u} {u = v} {f = g} q m ps y) = let h : symbol_head g 2 ≡ integer_head z = one_head E c _ _ _ _ _ q e refl refl in absurd cc
+integer-goes t E c s term z e = known-goes t E s term (signed_decimal z) (number e) (λ new text p. integer-only t.symbols E c (trees_of s.seen) new (tree t.nodes term) text z e p)
 
 pub port-goes : (t : Template) (E : Equations) → IsConsistent E → (s : State) (term : Term) (z : Name) → Equal E (tree t.nodes term) (port z)
     → Continues t E (record s { pieces = Whole term ∷ s.pieces }) (with_bytes (codes "port") s)
-port-goes t E c s term z e = known-goes t E s term (codes "port") (a_port e) one
-  where
-    one : (new : List Tree) (text : List ℕ) → Prints t.symbols E (trees_of s.seen) (tree t.nodes term) text new → (text ≡ codes "port") × (new ≡ trees_of s.seen)
-    one new text (class g m) = absurd (g.free (port z) (port_head z) e refl)
-    one new text (number {z = y} q) = let h : integer_head y ≡ port_head z = one_head E c _ _ _ _ _ q e refl refl in absurd cc
-    one new text (a_port {p = i} q) = (refl, refl)
-    one new text (constant {f = g} q m) = let h : symbol_head g 0 ≡ port_head z = one_head E c _ _ _ _ _ q e refl refl in absurd cc
-    one new text (compound {t = u} {ts = ts} {f = g} q m k ps) = let h : symbol_head g (length (list_of (more u ts))) ≡ port_head z = one_head E c _ _ _ _ _ q e refl refl in absurd cc
-    one new text (cell {t = u} {u = v} {f = g} q m ps y) = let h : symbol_head g 2 ≡ port_head z = one_head E c _ _ _ _ _ q e refl refl in absurd cc
+port-goes t E c s term z e = known-goes t E s term (codes "port") (a_port e) (λ new text p. port-only t.symbols E c (trees_of s.seen) new (tree t.nodes term) text z e p)
+
+pub constant-goes : (t : Template) (E : Equations) → IsConsistent E → (s : State) (term : Term) (n : ℕ) (name : List ℕ) → slice_get t.symbols n ≡ Some name
+    → Equal E (tree t.nodes term) (symbol n none) → Continues t E (record s { pieces = Whole term ∷ s.pieces }) (with_bytes (constant_text name) s)
+constant-goes t E c s term n name is e =
+    known-goes t E s term (constant_text name) (constant e is) (λ new text p. constant-only t.symbols E c (trees_of s.seen) new (tree t.nodes term) text n name is e p)

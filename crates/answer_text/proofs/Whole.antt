@@ -8,7 +8,7 @@ use Rattle.akl_terms.specs.Equal.{Equations}
 use Rattle.akl_terms.specs.Template.{Template, tree}
 use Rattle.answer_text.specs.Printed.{PrintsLines, no_lines, line}
 use Rattle.answer_text.specs.Classes.{Represents}
-use Rattle.answer_text.specs.Answers.{shown_trees, IsAnswerText, HasNoShortText}
+use Rattle.answer_text.specs.Answers.{longest_answer, shown_trees, IsAnswerText, IsTooLong}
 use Rattle.answer_text.specs.Pieces.{State, Rest, lines, byte, whole, trees_of, Continues, Moves, AreEnds, Overruns, line_begun}
 use Rattle.answer_text.specs.declared.piece.Piece.{Piece}
 use Rattle.answer_text.specs.declared.piece.Piece.TheVariants.{Byte, Whole}
@@ -37,8 +37,8 @@ Moves-trans t go a b c p q = record {
 }
 
 -- from a state whose print is too long, every text is too long
-pub Moves-overruns : (t : Template) (go : Tree → Tree) (old new : State) (limit : ℕ) → Moves t go old new → limit < length new.out → Overruns t go old limit
-Moves-overruns t go old new limit m long E r a rest text p =
+pub Moves-overruns : (t : Template) (go : Tree → Tree) (old new : State) → Moves t go old new → longest_answer < length new.out → Overruns t go old
+Moves-overruns t go old new m long E r a rest text p =
     let c : Continues t E old new = m.continues E r a in
     let u : (others : List ℕ) × (text ≡ c.added ++ others) × Rest t E (trees_of new.seen) new.pieces rest others = c.from rest text p in
     let e : old.out ++ text ≡ new.out ++ u.0 = ap (λ (x : List ℕ). old.out ++ x) u.1 ∙ sym (append_assoc old.out c.added u.0) ∙ ap (λ (x : List ℕ). x ++ u.0) (sym c.out) in
@@ -106,15 +106,15 @@ pub Covers-text : (t : Template) (go : Tree → Tree) (shown : List ShownTerm) (
 Covers-text t go shown s c E r = subst (λ (x : List ℕ). PrintsLines t.symbols E [] (shown_trees t shown) x) (append-nil s.out) (c.to E r [] no_lines)
 
 -- when a line is too long, so is every text
-pub Covers-long : (t : Template) (go : Tree → Tree) (shown : List ShownTerm) (rest : List (List ℕ × Tree)) (name : List ℕ) (s : Term) (old : State) (limit : ℕ)
-    → Covers t go (shown_trees t shown) ((name, tree t.nodes s) ∷ rest) old → Overruns t go (line_begun name s old) limit → HasNoShortText t go shown limit
-Covers-long t go shown rest name s old limit c o E r text p =
+pub Covers-long : (t : Template) (go : Tree → Tree) (shown : List ShownTerm) (rest : List (List ℕ × Tree)) (name : List ℕ) (s : Term) (old : State)
+    → Covers t go (shown_trees t shown) ((name, tree t.nodes s) ∷ rest) old → Overruns t go (line_begun name s old) → IsTooLong t go shown
+Covers-long t go shown rest name s old c o E r text p =
     let a : (others : List ℕ) × (text ≡ old.out ++ others) × PrintsLines t.symbols E (trees_of old.seen) ((name, tree t.nodes s) ∷ rest) others = c.from E r text p in
     let b : (others : List ℕ) × (a.0 ≡ (name ++ codes " = ") ++ others) × Rest t E (trees_of old.seen) (Whole s ∷ Byte 10 ∷ []) rest others = line-from t E name s (trees_of old.seen) rest a.0 a.2 in
-    let l : limit < length ((old.out ++ (name ++ codes " = ")) ++ b.0) =
+    let l : longest_answer < length ((old.out ++ (name ++ codes " = ")) ++ b.0) =
     o E r (c.ends E r) rest b.0 (subst (λ (x : List Piece). Rest t E (trees_of old.seen) (Whole s ∷ Byte 10 ∷ x) rest b.0) (sym c.none_left) b.2) in
     let e : text ≡ (old.out ++ (name ++ codes " = ")) ++ b.0 = a.1 ∙ ap (λ (x : List ℕ). old.out ++ x) b.1 ∙ sym (append_assoc old.out (name ++ codes " = ") b.0) in
-    subst (λ (x : List ℕ). limit < length x) (sym e) l
+    subst (λ (x : List ℕ). longest_answer < length x) (sym e) l
 
 lines-next : (t : Template) (shown : List ShownTerm) (i : ℕ) (d : ShownTerm) → i < length shown → d ≡ get_or shown i d
     → drop i (shown_trees t shown) ≡ (d.name, tree t.nodes d.term) ∷ drop (suc i) (shown_trees t shown)

@@ -1,11 +1,19 @@
 -- The text of an answer, for whatever equations its terms are represented.
-use Rattle.std.specs.Prelude.{ℕ, ◌<◌, List, [], length, map}
+use Rattle.std.specs.Prelude.{◌≡◌, ℕ, ◌<◌, List, [], length, map}
 use Rattle.akl_terms.specs.declared.program.ShownTerm.{ShownTerm}
 use Rattle.akl_terms.specs.Tree.{Tree}
-use Rattle.akl_terms.specs.Equal.{Equations}
+use Rattle.akl_terms.specs.Equal.{Equations, IsConsistent}
 use Rattle.akl_terms.specs.Template.{Template, tree}
 use Rattle.answer_text.specs.Printed.{PrintsLines}
 use Rattle.answer_text.specs.Classes.{Represents}
+
+-- the most bytes of an answer's text
+abbrev pub longest_answer : ℕ
+longest_answer = 1000000
+
+-- each text of these lines is longer; where a tree has no end there is none
+abbrev pub AreTooLong : List (List ℕ) → Equations → List (List ℕ × Tree) → Type 0
+AreTooLong symbols E lines = (text : List ℕ) → PrintsLines symbols E [] lines text → longest_answer < length text
 
 -- the shown terms as trees, with their names
 abbrev pub shown_trees : Template → List ShownTerm → List (List ℕ × Tree)
@@ -15,6 +23,11 @@ shown_trees t shown = map (λ s. (s.name, tree t.nodes s.term)) shown
 abbrev pub IsAnswerText : Template → (Tree → Tree) → List ShownTerm → List ℕ → Type 0
 IsAnswerText t go shown text = (E : Equations) → Represents E go → PrintsLines t.symbols E [] (shown_trees t shown) text
 
--- each text of the shown terms is longer than the limit
-abbrev pub HasNoShortText : Template → (Tree → Tree) → List ShownTerm → ℕ → Type 0
-HasNoShortText t go shown limit = (E : Equations) → Represents E go → (text : List ℕ) → PrintsLines t.symbols E [] (shown_trees t shown) text → limit < length text
+-- under all these equations the lines of the shown terms are too long
+abbrev pub IsTooLong : Template → (Tree → Tree) → List ShownTerm → Type 0
+IsTooLong t go shown = (E : Equations) → Represents E go → AreTooLong t.symbols E (shown_trees t shown)
+
+-- no consistent equations have two texts of an answer
+abbrev pub OneTextLaw : Type 0
+OneTextLaw = (symbols : List (List ℕ)) (E : Equations) (lines : List (List ℕ × Tree)) (text other : List ℕ) → IsConsistent E
+    → PrintsLines symbols E [] lines text → PrintsLines symbols E [] lines other → text ≡ other

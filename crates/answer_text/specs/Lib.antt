@@ -1,5 +1,5 @@
 pub mod SymbolText
 pub mod Printed
 pub mod Classes
-pub mod Pieces
 pub mod Answers
+pub mod Pieces

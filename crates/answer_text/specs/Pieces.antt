@@ -1,5 +1,6 @@
 -- How the printer's state goes on.
-use Rattle.std.specs.Prelude.{◌≡◌, ℕ, zero, suc, ◌+◌, ◌<◌, ◌^◌, List, [], ◌∷◌, ◌++◌, length, map, Bool, ◌&&◌, ◌==◌, if◌then◌else◌, unwrap_or, slice_get, bytes_eq, codes}
+use Rattle.std.specs.Prelude.{◌≡◌, ℕ, zero, suc, ◌+◌, ◌<◌, ◌^◌, List, [], ◌∷◌, ◌++◌, length, map, Option, Some, None, option_map, Bool, ◌&&◌, ◌==◌, if◌then◌else◌, unwrap_or, slice_get, bytes_eq, codes}
+use Rattle.std.specs.Map.{lookup}
 use Rattle.std.specs.Fmt.{signed_decimal}
 use Rattle.akl_terms.specs.declared.name.Name.{Name}
 use Rattle.akl_terms.specs.declared.name.Var.{Var}
@@ -13,6 +14,7 @@ use Rattle.akl_terms.specs.Template.{Template, IsArranged, IsKnown, seen_of, tre
 use Rattle.answer_text.specs.SymbolText.{symbol_text, constant_text}
 use Rattle.answer_text.specs.Printed.{class_text, Prints, PrintsTail, PrintsLines}
 use Rattle.answer_text.specs.Classes.{Represents}
+use Rattle.answer_text.specs.Answers.{longest_answer}
 use Rattle.answer_text.specs.declared.piece.Piece.{Piece}
 use Rattle.answer_text.specs.declared.piece.Piece.TheVariants.{Byte, Whole, Tail}
 
@@ -63,9 +65,19 @@ abbrev pub class_number : List Var → Var → ℕ
 class_number [] x = 0
 class_number (y ∷ ys) x = if same_var y x then 0 else suc (class_number ys x)
 
+-- those seen with a variable, which comes last where it is new
 abbrev pub with_class : List Var → Var → List Var
 with_class [] x = x ∷ []
 with_class (y ∷ ys) x = if same_var y x then y ∷ ys else y ∷ with_class ys x
+
+-- the number of a variable, from 1 on, where it was seen
+abbrev pub known_number : List Var → Var → Option ℕ
+known_number [] x = None
+known_number (y ∷ ys) x = if same_var y x then Some 1 else option_map (λ k. suc k) (known_number ys x)
+
+-- the index has the number of each variable that was seen
+pub record HasNumbers (index : List (Var × ℕ)) (seen : List Var) : Type 0 where
+  pub each : (x : Var) → lookup (same_var x) index ≡ known_number seen x
 
 -- arguments to print, `,` between, before other pieces
 abbrev pub argument_pieces : Name → ℕ → ℕ → List Piece → List Piece
@@ -147,6 +159,6 @@ Begins t go (Tail s) old new = (w : StandsFor t go s) × (new ≡ tail_begun t s
 abbrev pub Grows : State → State → Type 0
 Grows old new = length old.out < length new.out
 
--- whatever is printed from this state on, its text is longer than the limit
-abbrev pub Overruns : Template → (Tree → Tree) → State → ℕ → Type 0
-Overruns t go s limit = (E : Equations) → Represents E go → AreEnds go s.seen → (rest : List (List ℕ × Tree)) (text : List ℕ) → Rest t E (trees_of s.seen) s.pieces rest text → limit < length (s.out ++ text)
+-- whatever is printed from this state on, its text is too long
+abbrev pub Overruns : Template → (Tree → Tree) → State → Type 0
+Overruns t go s = (E : Equations) → Represents E go → AreEnds go s.seen → (rest : List (List ℕ × Tree)) (text : List ℕ) → Rest t E (trees_of s.seen) s.pieces rest text → longest_answer < length (s.out ++ text)

@@ -1,15 +1,15 @@
 //! The text of an answer.
 #![tactic(auto)]
 
+mod classes;
+mod laws;
 mod lines;
 mod piece;
 mod printer;
 mod representatives;
 mod symbol;
 
-pub use lines::{AnswerError, LIMIT, answer};
+pub use laws::one_text;
+pub use lines::{AnswerError, answer};
 pub use representatives::Representatives;
-pub use symbol::{push_constant, push_symbol};
-
-#[cfg(test)]
-mod tests;
+pub use symbol::symbol_text;

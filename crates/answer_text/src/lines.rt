@@ -1,7 +1,7 @@
 //! The lines of an answer.
 
-ghost use Rattle.std.specs.Prelude.{◌≡◌, ◌≤◌, ◌<◌, IfOk, OnOk, [], length, Err};
-ghost use Rattle.answer_text.specs.Answers.{IsAnswerText, HasNoShortText};
+ghost use Rattle.std.specs.Prelude.{◌≡◌, ◌≤◌, IfOk, OnOk, [], length, Err};
+ghost use Rattle.answer_text.specs.Answers.{longest_answer, IsAnswerText, IsTooLong};
 ghost use Rattle.answer_text.specs.Pieces.{Moves, Overruns};
 
 use crate::printer::Printer;
@@ -9,14 +9,15 @@ use crate::representatives::Representatives;
 use akl_terms::{ShownTerm, Templates};
 use std::alloc::{AllocError, Global};
 
-/// The longest text of an answer, in bytes.
-pub const LIMIT: usize = 1_000_000;
+/// The most bytes of an answer's text.
+const LONGEST: usize = 1_000_000;
 
 /// Why there is no text of an answer.
-#[derive(Clone, Copy, Debug, PartialEq, Eq)]
+#[derive(Clone, Copy, Debug)]
 pub enum AnswerError {
-    /// The lines have more bytes than `LIMIT`, or a tree has no end.
+    /// The lines have more than a million bytes, or a tree has no end.
     Long,
+    /// There was no memory.
     Memory(AllocError),
 }
 
@@ -34,7 +35,7 @@ impl From<AllocError> for AnswerError {
 /// The lines of an answer: for each shown term its name, ` = `, and its tree written out.
 ///
 /// A class of equal variables is `_` and a number, by order of first printing. `Long` comes exactly
-/// where the lines have more bytes than `LIMIT`; a tree without an end has no such lines.
+/// where the lines have more than a million bytes; a tree without an end has no such lines.
 pub fn answer<V: Representatives>(
     alloc: Global,
     templates: &Templates,
@@ -42,8 +43,8 @@ pub fn answer<V: Representatives>(
     shown: &[ShownTerm],
 ) -> Result<Vec<u8>, AnswerError>
     ensures text { IfOk result (λ text. IsAnswerText templates.now (V.go values.now templates.now.nodes) shown.now text.items) }
-    ensures short { IfOk result (λ text. length text.items ≤ LIMIT) }
-    ensures long { result ≡ Err AnswerError.Long → HasNoShortText templates.now (V.go values.now templates.now.nodes) shown.now LIMIT }
+    ensures short { IfOk result (λ text. length text.items ≤ longest_answer) }
+    ensures long { result ≡ Err AnswerError.Long → IsTooLong templates.now (V.go values.now templates.now.nodes) shown.now }
 {
     let mut printer = Printer::new(alloc);
     for line in shown {
@@ -61,11 +62,11 @@ fn print_all<V: Representatives>(
 ) -> Result<(), AnswerError>
     ensures moves { OnOk result (Moves templates.now (V.go values.now templates.now.nodes) printer.old printer.new) }
     ensures none_left { OnOk result (printer.new.pieces ≡ []) }
-    ensures short { OnOk result (length printer.new.out ≤ LIMIT) }
-    ensures long { result ≡ Err AnswerError.Long → Overruns templates.now (V.go values.now templates.now.nodes) printer.old LIMIT }
+    ensures short { OnOk result (length printer.new.out ≤ longest_answer) }
+    ensures long { result ≡ Err AnswerError.Long → Overruns templates.now (V.go values.now templates.now.nodes) printer.old }
 {
     loop {
-        if printer.len() > LIMIT {
+        if printer.len() > LONGEST {
             return Err(AnswerError::Long);
         }
         let Some(piece) = printer.next_piece() else {

@@ -3,7 +3,7 @@
 use akl_terms::Term;
 
 /// A byte, a whole term, or the tail of a list with its closing bracket.
-#[derive(Clone, Copy, Debug)]
+#[derive(Clone, Copy)]
 pub enum Piece {
     Byte(u8),
     Whole(Term),

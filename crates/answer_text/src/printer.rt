@@ -1,10 +1,11 @@
 //! The printer: what was printed, and what is still to be printed.
 
-ghost use Rattle.std.specs.Prelude.{◌≡◌, ◌<◌, ◌+◌, ◌^◌, ◌∷◌, [], length, OnOk, IfOk, IfSome, IfNone, position};
+ghost use Rattle.std.specs.Prelude.{◌≡◌, ◌<◌, ◌+◌, ◌^◌, ◌∷◌, [], length, OnOk, IfSome, IfNone};
 ghost use Rattle.std.specs.Fmt.{signed_decimal};
 ghost use Rattle.akl_terms.specs.Template.{IsKnown};
-ghost use Rattle.answer_text.specs.Pieces.{Begins, Grows, IsShort, same_var, class_number, with_class, class_printed, with_bytes, argument_pieces, cell_pieces, names_cell, names_end, line_begun, whole_begun, tail_begun, symbol_begun, partial_begun};
+ghost use Rattle.answer_text.specs.Pieces.{Begins, Grows, IsShort, class_printed, with_bytes, argument_pieces, cell_pieces, names_cell, names_end, line_begun, whole_begun, tail_begun, symbol_begun, partial_begun};
 
+use crate::classes::Classes;
 use crate::piece::Piece;
 use crate::representatives::Representatives;
 use crate::symbol::{push_constant, push_symbol};
@@ -13,11 +14,11 @@ use std::alloc::{AllocError, Global};
 use std::collections::VecDeque;
 use std::marker::Model;
 
-/// What was printed, the classes that were printed, and what is still to be printed, the next first.
+/// What was printed, the classes printed so far, and what is still to be printed, the next first.
 #[derive(Drop)]
 pub struct Printer {
     out: Vec<u8>,
-    seen: Vec<Var>,
+    seen: Classes,
     pieces: VecDeque<Piece>,
 }
 
@@ -26,7 +27,7 @@ impl Model for Printer {
 
     ghost Value = { State };
 
-    ghost view = { λ p. record { out = p.out.items; seen = p.seen.items; pieces = p.pieces.items } };
+    ghost view = { λ p. record { out = p.out.items; seen = p.seen; pieces = p.pieces.items } };
 }
 
 impl Printer {
@@ -35,7 +36,7 @@ impl Printer {
     {
         Printer {
             out: Vec::new(alloc),
-            seen: Vec::new(alloc),
+            seen: Classes::new(alloc),
             pieces: VecDeque::new(alloc),
         }
     }
@@ -208,34 +209,11 @@ impl Printer {
     fn print_class(&mut self, variable: Var) -> Result<(), AllocError>
         ensures { OnOk result (self.new ≡ class_printed variable self.old) }
     {
-        let number = self.class_of(variable)?;
+        let number = self.seen.number(variable)?;
         let alloc = *self.out.allocator();
-        let text = format!(in alloc; "_{}", number + 1)?;
+        let text = format!(in alloc; "_{number}")?;
         self.out.extend_from_slice(text.as_bytes())
     }
-
-    // The number of a class; a new one comes behind those seen.
-    fn class_of(&mut self, variable: Var) -> Result<usize, AllocError>
-        ensures number { IfOk result (λ k. k ≡ class_number self.old.seen variable) }
-        ensures seen { OnOk result (self.new ≡ record self.old { seen = with_class self.old.seen variable }) }
-        ensures fits { IfOk result (λ k. k + 1 < 2 ^ 64) }
-    {
-        match place(&self.seen, variable) {
-            Some(at) => Ok(at),
-            None => {
-                let at = self.seen.len();
-                self.seen.push(variable)?;
-                Ok(at)
-            }
-        }
-    }
-}
-
-fn place(seen: &[Var], variable: Var) -> Option<usize>
-    ensures place { result ≡ position (λ y. same_var y variable) seen.now }
-    ensures within { IfSome result (λ k. k < length seen.now) }
-{
-    seen.iter().position(|v| *v == variable)
 }
 
 fn names_cell(name: &str, count: u32) -> bool

@@ -1,10 +1,10 @@
 //! How a symbol is written.
 
-ghost use Rattle.std.specs.Prelude.{◌≡◌, ◌++◌, ◌∷◌, [], OnOk, flat_map};
+ghost use Rattle.std.specs.Prelude.{◌≡◌, ◌++◌, ◌∷◌, [], IfOk, OnOk, flat_map};
 ghost use Rattle.std.specs.List.{list_all};
 ghost use Rattle.answer_text.specs.SymbolText.{is_lower, is_word_byte, is_word, is_name, escaped, symbol_text, constant_text};
 
-use std::alloc::AllocError;
+use std::alloc::{AllocError, Global};
 
 fn is_lower(byte: u8) -> bool
     ensures { result ≡ is_lower byte }
@@ -63,8 +63,17 @@ fn push_quoted(out: &mut Vec<u8>, bytes: &[u8]) -> Result<(), AllocError>
     Ok(())
 }
 
-/// Appends a symbol: a name as it stands, any other in quotes, where a quote, a backslash, a newline
-/// and a tab are written with a backslash.
+/// The text of a symbol: a name as it stands, any other in quotes, where a quote, a backslash, a
+/// newline and a tab are written with a backslash.
+pub fn symbol_text(alloc: Global, symbol: &str) -> Result<Vec<u8>, AllocError>
+    ensures { IfOk result (λ text. text.items ≡ symbol_text symbol.now) }
+{
+    let mut text = Vec::new(alloc);
+    push_symbol(&mut text, symbol)?;
+    Ok(text)
+}
+
+/// Appends the text of a symbol.
 pub fn push_symbol(out: &mut Vec<u8>, symbol: &str) -> Result<(), AllocError>
     ensures { OnOk result (out.new.items ≡ out.old.items ++ symbol_text symbol.now) }
 {

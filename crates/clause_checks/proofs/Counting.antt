@@ -1,12 +1,13 @@
 -- How many arguments and parts there are, and that sizes bound them.
 use Rattle.std.proofs.Common.{◌≡◌, ◌≤◌, ℕ, suc, List, [], ◌∷◌, length, map, refl, sym, ap, ◌∙◌, arith, Vec, Global}
 use Rattle.std.proofs.lemmas.List.{length-map}
-use Rattle.akl_syntax.specs.Tree.{Tree, Trees, variable, integer, compound, list, chain, trees, no_trees, more_trees}
-use Rattle.akl_syntax.specs.View.{tree}
+use Rattle.term_syntax.specs.Tree.{Tree, Trees, variable, integer, compound, list, chain, trees, no_trees, more_trees}
+use Rattle.term_syntax.specs.View.{tree}
 use Rattle.akl_syntax.specs.Goals.{Goal, Part, call, lifted, parts}
 use Rattle.akl_syntax.specs.GoalView.{goal, goal_step, part_step}
-use Rattle.akl_syntax.specs.Sizes.{tree_size, trees_size, goal_size}
-use Rattle.akl_syntax.specs.declared.source.SourceTerm.{SourceTerm}
+use Rattle.akl_syntax.specs.Sizes.{goal_size}
+use Rattle.term_syntax.specs.Sizes.{tree_size, trees_size}
+use Rattle.term_syntax.specs.declared.source.SourceTerm.{SourceTerm}
 use Rattle.akl_syntax.specs.declared.source.SourceGoal.{SourceGoal}
 use Rattle.akl_syntax.specs.declared.source.SourceGoal.TheVariants as written
 use Rattle.akl_syntax.specs.declared.source.SourceGoal.TheOpen as open_goals

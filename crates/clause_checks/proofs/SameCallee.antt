@@ -6,7 +6,7 @@ use Rattle.std.specs.Str.{bytes_eq}
 use Rattle.std.proofs.lemmas.List.{length-map}
 use Rattle.std.proofs.lemmas.Slice.Eq.{bytes_eq-Decides}
 use Rattle.std.proofs.lemmas.Bool.Decides.{Decides-eqb}
-use Rattle.akl_syntax.specs.View.{tree}
+use Rattle.term_syntax.specs.View.{tree}
 use Rattle.akl_syntax.specs.Answers.{clause_view}
 use Rattle.akl_syntax.specs.declared.source.SourceClause.{SourceClause}
 use Rattle.clause_keys.specs.declared.callee.Callee.{Callee}

@@ -7,7 +7,7 @@ use Rattle.akl_terms.specs.declared.program.Op.{Op}
 use Rattle.akl_terms.specs.declared.program.Op.TheVariants as ops
 use Rattle.akl_syntax.specs.declared.source.Head.{Head}
 use Rattle.akl_syntax.specs.declared.source.Head.TheVariants as heads
-use Rattle.akl_syntax.specs.Tree.{Tree, Trees, Tail, Steps, variable, integer, compound, list, chain, no_trees, more_trees, no_tail, tail, no_steps, more_steps, trees}
+use Rattle.term_syntax.specs.Tree.{Tree, Trees, Tail, Steps, variable, integer, compound, list, chain, no_trees, more_trees, no_tail, tail, no_steps, more_steps, trees}
 use Rattle.akl_syntax.specs.Goals.{Goal, Parts, call, choice, lifted, no_parts, more_parts}
 use Rattle.akl_syntax.specs.Clauses.{Clause}
 use Rattle.clause_keys.specs.declared.callee.Callee.{Callee}

@@ -2,8 +2,8 @@
 
 ghost use Rattle.std.specs.Prelude.{◌≡◌, map, length};
 ghost use Rattle.std.specs.List.{All};
-ghost use Rattle.akl_syntax.specs.Tree.{trees, steps};
-ghost use Rattle.akl_syntax.specs.View.{tree, step};
+ghost use Rattle.term_syntax.specs.Tree.{trees, steps};
+ghost use Rattle.term_syntax.specs.View.{tree, step};
 ghost use Rattle.akl_syntax.specs.GoalView.{goal};
 ghost use Rattle.clause_checks.specs.Rows.{first, first_wide_in_term, first_wide_in_terms, first_wide_in_steps, first_wide_in_arguments, first_wide_in_goal, wide_head_arity, first_wide_in_clause};
 ghost use Rattle.clause_checks.specs.Tallies.{HasGoals, clause_of};

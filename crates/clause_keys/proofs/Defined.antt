@@ -1,8 +1,9 @@
 -- What a clause defines.
 use Rattle.std.proofs.Common.{◌≡◌, ℕ, ◌≤◌, List, [], ◌∷◌, length, sym, ap, ◌∙◌, arith}
 use Rattle.akl_syntax.specs.declared.source.Head.{Head}
-use Rattle.akl_syntax.specs.Tree.{Tree, variable, integer, compound, list, chain, trees}
-use Rattle.akl_syntax.specs.Sizes.{tree_size, trees_size, clause_size}
+use Rattle.term_syntax.specs.Tree.{Tree, variable, integer, compound, list, chain, trees}
+use Rattle.akl_syntax.specs.Sizes.{clause_size}
+use Rattle.term_syntax.specs.Sizes.{tree_size, trees_size}
 use Rattle.akl_syntax.specs.Clauses.{Clause}
 use Rattle.clause_keys.specs.Keys.{by_head, defined_by}
 

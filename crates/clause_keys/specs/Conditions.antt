@@ -1,7 +1,7 @@
 -- When clauses and queries can be loaded, and when once their inline choices are taken out.
 use Rattle.std.specs.Prelude.{◌≡◌, ◌≤◌, ℕ, zero, suc, List, length, Option, Some, None}
 use Rattle.std.specs.List.{All, Contains}
-use Rattle.akl_syntax.specs.Tree.{Trees, no_trees, more_trees}
+use Rattle.term_syntax.specs.Tree.{Trees, no_trees, more_trees}
 use Rattle.akl_terms.specs.declared.program.Op.{Op}
 use Rattle.akl_syntax.specs.Goals.{Goal, Goals, Parts, call, choice, lifted, goals, no_goals, more_goals, no_parts, more_parts}
 use Rattle.akl_syntax.specs.Clauses.{Clause}

@@ -9,8 +9,9 @@ use Rattle.akl_terms.specs.declared.program.Code.{Code}
 use Rattle.akl_terms.specs.declared.program.Code.TheVariants as made
 use Rattle.akl_terms.specs.declared.program.Test.TheVariants as tests
 use Rattle.akl_terms.specs.Template.{Template, IsAfter}
-use Rattle.akl_syntax.specs.Tree.{Tree, Trees, no_trees, more_trees, trees}
-use Rattle.akl_syntax.specs.Sizes.{trees_size, goal_size, goals_size}
+use Rattle.term_syntax.specs.Tree.{Tree, Trees, no_trees, more_trees, trees}
+use Rattle.akl_syntax.specs.Sizes.{goal_size, goals_size}
+use Rattle.term_syntax.specs.Sizes.{trees_size}
 use Rattle.akl_syntax.specs.Goals.{Goal, call, choice, lifted, goals}
 use Rattle.clause_keys.specs.declared.callee.Callee.{Callee}
 use Rattle.clause_keys.specs.declared.callee.Callee.TheVariants.{Lifted}

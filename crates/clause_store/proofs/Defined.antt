@@ -8,11 +8,11 @@ use Rattle.std.proofs.lemmas.List.Elements.{All-nil, All-cons, All-head, All-tai
 use Rattle.akl_terms.specs.declared.program.Clause as program
 use Rattle.akl_terms.specs.declared.program.Definition.{Definition}
 use Rattle.akl_terms.specs.Template.{Template}
-use Rattle.akl_syntax.specs.Tree.{Tree, trees}
+use Rattle.term_syntax.specs.Tree.{Tree, trees}
 use Rattle.akl_syntax.specs.Goals.{Goal, call, choice, lifted, goals}
 use Rattle.akl_syntax.specs.Clauses.{Clause}
 use Rattle.akl_syntax.specs.Sizes.{goals_size, clauses_size}
-use Rattle.akl_syntax.specs.View.{tree}
+use Rattle.term_syntax.specs.View.{tree}
 use Rattle.akl_syntax.specs.GoalView.{goal, part}
 use Rattle.akl_syntax.specs.Answers.{clause_view}
 use Rattle.akl_syntax.specs.declared.source.SourceClause.{SourceClause}

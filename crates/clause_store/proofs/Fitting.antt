@@ -9,7 +9,7 @@ use Rattle.akl_terms.specs.declared.program.Definition.{Definition}
 use Rattle.akl_terms.specs.declared.program.Program.{Program}
 use Rattle.akl_syntax.specs.declared.source.Head.{Head}
 use Rattle.akl_syntax.specs.declared.source.Head.TheVariants as heads
-use Rattle.akl_syntax.specs.Tree.{Tree}
+use Rattle.term_syntax.specs.Tree.{Tree}
 use Rattle.akl_syntax.specs.Goals.{Goal}
 use Rattle.akl_syntax.specs.Clauses.{Clause}
 use Rattle.clause_keys.specs.declared.callee.Callee.{Callee}

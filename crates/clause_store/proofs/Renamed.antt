@@ -5,7 +5,7 @@ use Rattle.std.proofs.lemmas.List.Elements.{All-weaker}
 use Rattle.akl_terms.specs.declared.program.Code.{Code}
 use Rattle.akl_terms.specs.declared.program.Clause as program
 use Rattle.akl_terms.specs.declared.program.Definition.{Definition}
-use Rattle.akl_syntax.specs.Tree.{Tree, Trees}
+use Rattle.term_syntax.specs.Tree.{Tree, Trees}
 use Rattle.akl_syntax.specs.Goals.{Goal}
 use Rattle.akl_syntax.specs.Clauses.{Clause}
 use Rattle.clause_keys.specs.declared.callee.Callee.{Callee}

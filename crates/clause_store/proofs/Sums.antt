@@ -3,9 +3,10 @@ use Rattle.std.proofs.Common.{◌≡◌, ℕ, zero, suc, ◌+◌, ◌<◌, ◌�
 use Rattle.std.specs.Prelude.{All}
 use Rattle.std.proofs.lemmas.List.{map_push, take_more}
 use Rattle.std.proofs.lemmas.List.Elements.{All-head, All-tail}
-use Rattle.akl_syntax.specs.Tree.{Step, trees, steps}
+use Rattle.term_syntax.specs.Tree.{Step, trees, steps}
 use Rattle.akl_syntax.specs.Goals.{goals}
-use Rattle.akl_syntax.specs.Sizes.{tree_size, trees_size, steps_size, goal_size, goals_size, clause_size, clauses_size}
+use Rattle.akl_syntax.specs.Sizes.{goal_size, goals_size, clause_size, clauses_size}
+use Rattle.term_syntax.specs.Sizes.{tree_size, trees_size, steps_size}
 
 -- a list's size is the sum of its elements'
 pub record IsSum {A : Type 0} (f : A → ℕ) (F : List A → ℕ) : Type 0 where

@@ -6,7 +6,7 @@ use Rattle.akl_terms.specs.declared.name.Name.{Name}
 use Rattle.akl_terms.specs.declared.term.Node.{Node}
 use Rattle.akl_terms.specs.Tree as terms
 use Rattle.akl_terms.specs.Template.{Template, IsArranged, StandsBefore, seen_node, tree_seen, trees_from, tree_at}
-use Rattle.akl_syntax.specs.Tree.{Tree}
+use Rattle.term_syntax.specs.Tree.{Tree}
 use Rattle.clause_store.specs.Plain.{Plain, Plains, plain}
 use Rattle.clause_store.specs.Nodes.{IsTreeOf, of_variable, of_integer, of_compound, AreTreesOf, of_none, of_more, IsNodeOf, Extends}
 use Rattle.clause_store.specs.Standing.{Stands, stands_variable, stands_integer, stands_compound, StandAt, stand_none, stand_more, StandsAt}

@@ -3,9 +3,9 @@ use Rattle.std.proofs.Common.{◌≡◌, ℕ, ℤ, suc, ◌+◌, ◌<◌, ◌≤
 use Rattle.std.proofs.lemmas.List.{length-append}
 use Rattle.akl_terms.specs.declared.term.Node.{Node}
 use Rattle.akl_terms.specs.Template.{Template, IsAfter}
-use Rattle.akl_syntax.specs.Tree.{Tree, Trees, Tail, Step, no_tail, trees, steps}
-use Rattle.akl_syntax.specs.Tree as written
-use Rattle.akl_syntax.specs.Sizes.{tree_size, trees_size, tail_size, steps_size}
+use Rattle.term_syntax.specs.Tree.{Tree, Trees, Tail, Step, no_tail, trees, steps}
+use Rattle.term_syntax.specs.Tree as written
+use Rattle.term_syntax.specs.Sizes.{tree_size, trees_size, tail_size, steps_size}
 use Rattle.clause_store.specs.Plain.{Plain, compound, two, plain, plains, cells, plain_tail, from_left}
 use Rattle.clause_store.specs.Standing.{Stands, stands_variable, stands_integer, stands_compound, stand_none, HasRoom, Gains, IsPut, IsEnd, ArePut}
 use Rattle.clause_store.proofs.Growing.{extends_trans, symbol_stays, still_stands, Each, each_none, each_more, still_each, Interned, pushed, pushed_lengths, node_after, two_stand, at_group}

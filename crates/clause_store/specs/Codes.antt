@@ -3,8 +3,8 @@ use Rattle.std.specs.Prelude.{◌≡◌, ℕ, List, [], ◌∷◌, length, slice
 use Rattle.akl_terms.specs.declared.program.Test.{Test}
 use Rattle.akl_terms.specs.declared.program.Code.{Code}
 use Rattle.akl_terms.specs.declared.program.Code.TheVariants as codes
-use Rattle.akl_syntax.specs.Tree.{Tree, Trees, no_trees, more_trees}
-use Rattle.akl_syntax.specs.Tree as written
+use Rattle.term_syntax.specs.Tree.{Tree, Trees, no_trees, more_trees}
+use Rattle.term_syntax.specs.Tree as written
 use Rattle.akl_syntax.specs.Goals.{Goal, call, lifted}
 use Rattle.clause_keys.specs.declared.callee.Callee.{Callee}
 use Rattle.clause_keys.specs.declared.callee.Callee.TheVariants.{Lifted}

@@ -8,7 +8,7 @@ use Rattle.akl_terms.specs.declared.program.Program.{Program}
 use Rattle.akl_terms.specs.declared.program.Query as program_query
 use Rattle.akl_terms.specs.declared.program.Shown.{Shown}
 use Rattle.akl_terms.specs.Template.{Template, AreDistinct}
-use Rattle.akl_syntax.specs.Tree.{Tree, trees}
+use Rattle.term_syntax.specs.Tree.{Tree, trees}
 use Rattle.akl_syntax.specs.Clauses.{Clause, Query}
 use Rattle.clause_keys.specs.declared.callee.Callee.{Callee}
 use Rattle.clause_keys.specs.Keys.{key_of, defined_by, called_by, Collects}

@@ -6,8 +6,8 @@ use Rattle.akl_terms.specs.declared.term.Term.TheVariants.{Mol}
 use Rattle.akl_terms.specs.Tree.{Tree, Trees}
 use Rattle.akl_terms.specs.Tree as trees
 use Rattle.akl_terms.specs.Template.{Template, tree}
-use Rattle.akl_syntax.specs.Tree.{no_trees, more_trees}
-use Rattle.akl_syntax.specs.Tree as written
+use Rattle.term_syntax.specs.Tree.{no_trees, more_trees}
+use Rattle.term_syntax.specs.Tree as written
 use Rattle.clause_store.specs.Plain.{Plain, Plains, variable, integer, compound, no_plains, more_plains, plain}
 
 mutual

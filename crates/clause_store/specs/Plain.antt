@@ -1,7 +1,7 @@
 -- The plain terms that written terms stand for: lists are cells, and sums and products are symbols over two operands.
 use Rattle.std.specs.Prelude.{ℕ, ℤ, List, codes}
-use Rattle.akl_syntax.specs.Tree.{Tree, Trees, Tail, Steps, no_trees, more_trees, no_tail, no_steps, more_steps}
-use Rattle.akl_syntax.specs.Tree as written
+use Rattle.term_syntax.specs.Tree.{Tree, Trees, Tail, Steps, no_trees, more_trees, no_tail, no_steps, more_steps}
+use Rattle.term_syntax.specs.Tree as written
 
 -- a variable by its number, an integer, a symbol with its arguments
 mutual

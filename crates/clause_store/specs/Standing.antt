@@ -2,8 +2,8 @@
 use Rattle.std.specs.Prelude.{◌≡◌, ◌≤◌, ◌+◌, ◌*◌, ℕ, zero, suc, ℤ, List, length, slice_get, Some}
 use Rattle.akl_terms.specs.declared.term.Node.{Node}
 use Rattle.akl_terms.specs.Template.{Template}
-use Rattle.akl_syntax.specs.Tree as written
-use Rattle.akl_syntax.specs.Sizes.{tree_size, trees_size, tail_size}
+use Rattle.term_syntax.specs.Tree as written
+use Rattle.term_syntax.specs.Sizes.{tree_size, trees_size, tail_size}
 use Rattle.clause_store.specs.Plain.{Plain, Plains, variable, integer, compound, no_plains, more_plains, plain, plains, plain_tail}
 use Rattle.clause_store.specs.Nodes.{Extends}
 

@@ -2,8 +2,8 @@
 
 ghost use Rattle.std.specs.Prelude.{◌≡◌, ◌<◌, IfOk, map};
 ghost use Rattle.std.specs.List.{All};
-ghost use Rattle.akl_syntax.specs.Tree.{trees};
-ghost use Rattle.akl_syntax.specs.View.{tree};
+ghost use Rattle.term_syntax.specs.Tree.{trees};
+ghost use Rattle.term_syntax.specs.View.{tree};
 ghost use Rattle.akl_syntax.specs.Goals.{call, lifted, goals};
 ghost use Rattle.akl_syntax.specs.GoalView.{goal};
 ghost use Rattle.akl_syntax.specs.Sizes.{goal_size, goals_size};

@@ -3,9 +3,9 @@
 ghost use Rattle.std.specs.Prelude.{◌≡◌, suc, ◌++◌, ◌∷◌, [], ◌<◌, ◌+◌, IfOk, Some, length, map, slice_get};
 ghost use Rattle.akl_terms.specs.declared.term.Node.{Node};
 ghost use Rattle.akl_terms.specs.Template.{IsAfter, IsArranged};
-ghost use Rattle.akl_syntax.specs.Tree.{trees, steps, compound, list, chain};
-ghost use Rattle.akl_syntax.specs.View.{tree, step, tail_view};
-ghost use Rattle.akl_syntax.specs.Sizes.{tree_size, trees_size, tail_size};
+ghost use Rattle.term_syntax.specs.Tree.{trees, steps, compound, list, chain};
+ghost use Rattle.term_syntax.specs.View.{tree, step, tail_view};
+ghost use Rattle.term_syntax.specs.Sizes.{tree_size, trees_size, tail_size};
 ghost use Rattle.clause_store.specs.Standing.{HasRoom, IsPut, IsEnd, ArePut};
 
 use akl_syntax::{SourceStep, SourceTerm};

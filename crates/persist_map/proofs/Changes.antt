@@ -1,5 +1,8 @@
 -- A pair that is set, or a key that is taken out, in entries in order.
 use Rattle.std.proofs.Common.{◌≡◌, List, [], ◌∷◌, Some, None, Bool, true, false, cond, refl, sym, ap, ◌∙◌}
+use Rattle.std.specs.Result.{IfOk, IfErr}
+use Rattle.std.specs.declared.result.Result.{Result}
+use Rattle.std.specs.declared.result.Result.TheVariants.{Ok, Err}
 use Rattle.std.specs.declared.cmp.Ordering.{Ordering}
 use Rattle.std.specs.declared.cmp.Ordering.TheVariants.{Less, Equal, Greater}
 use Rattle.std.specs.Cmp.{IsTotalOrder}
@@ -11,8 +14,16 @@ use Rattle.std.specs.Ordering.{is_eq, match_ordering}
 use Rattle.std.proofs.lemmas.Cmp.{eq_by_cmp_equiv}
 use Rattle.std.proofs.lemmas.Map.{lookup-remove_entry}
 use Rattle.std.proofs.lemmas.Map.Keys.{IsDistinct-from_sorted}
+use Rattle.persist_map.specs.declared.tree.Tree.{Tree}
 use Rattle.persist_map.specs.Entries.{IsOrdered, value_at, ChangesOnly}
+use Rattle.persist_map.specs.Contents.{entries_of, IsSearchTree}
+use Rattle.persist_map.specs.Changes.{IsSet, IsTakenOut}
 use Rattle.persist_map.proofs.Sides.{all_weaker, Less-from_greater}
+
+-- a fact that an `Ok` shows and an `Err` too
+pub by_outcome : {X E P Q : Type 0} (R : Type 0) (r : Result X E) → IfOk r (λ _. P) → IfErr r (λ _. Q) → (P → R) → (Q → R) → R
+by_outcome R (Ok x) ok err f g = f ok
+by_outcome R (Err e) ok err f g = g err
 
 Equal-from_is_eq : (a : Ordering) → is_eq a ≡ true → a ≡ Equal
 Equal-from_is_eq Less h = cc
@@ -92,3 +103,9 @@ module _ {K V : Type 0} (cmp : K → K → Ordering) where
     pub value_at-remove_entry : (es : List (K × V)) (k : K) → IsOrdered cmp es → ChangesOnly cmp es (remove_entry (is_at (cmp k)) es) k None
     value_at-remove_entry es k h q =
         lookup-remove_entry (eq_by_cmp_equiv o) (is_at (cmp k)) (λ x y at. (eq_by_cmp_equiv o).congr k x y at) q es (IsDistinct-from_sorted cmp (keys_of es) h)
+
+    pub IsSearchTree-set : (old : Tree K V) (k : K) (v : V) (new : Tree K V) → IsSearchTree cmp old → IsSet cmp old k v new → IsSearchTree cmp new
+    IsSearchTree-set old k v new h set = record { ordered = rw set.entries (IsOrdered-insert_entry (entries_of old) k v h.ordered); balanced = set.balanced }
+
+  pub IsSearchTree-taken_out : (old : Tree K V) (k : K) (new : Tree K V) → IsSearchTree cmp old → IsTakenOut cmp old k new → IsSearchTree cmp new
+  IsSearchTree-taken_out old k new h taken = record { ordered = rw taken.entries (IsOrdered-remove_entry (is_at (cmp k)) (entries_of old) h.ordered); balanced = taken.balanced }

@@ -1,13 +1,15 @@
--- What a fork contains.
-use Rattle.std.proofs.Common.{◌≡◌, ◌<◌, ◌∷◌, ◌++◌, length, length-append, refl, sym, ap, ◌∙◌, subst, arith}
+-- What a fork contains, and how high it is.
+use Rattle.std.proofs.Common.{◌≡◌, ℕ, ◌+◌, ◌<◌, max, Bool, true, false, cond, eqb, ◌&&◌, ◌∷◌, ◌++◌, length, length-append, refl, sym, ap, ◌∙◌, subst, arith}
 use Rattle.std.specs.Arc.{arc_value}
+use Rattle.std.specs.Ordering.{match_ordering}
 use Rattle.std.specs.declared.cmp.Ordering.{Ordering}
 use Rattle.std.specs.declared.sync.Arc.{Arc}
 use Rattle.std.specs.declared.alloc.Global.{Global}
 use Rattle.persist_map.specs.declared.tree.Tree.{Tree}
 use Rattle.persist_map.specs.declared.tree.Tree.TheVariants as tree
 use Rattle.persist_map.specs.declared.tree.Fork.{Fork}
-use Rattle.persist_map.specs.Contents.{entries_of}
+use Rattle.persist_map.specs.Contents.{entries_of, height_of, IsBalanced, IsBalancedFork}
+use Rattle.persist_map.specs.Changes.{is_level, grows, may_shrink, IsSameTree, IsJoined}
 use Rattle.persist_map.specs.Entries.{IsOrdered}
 use Rattle.persist_map.proofs.Sides.{IsOrdered-front, IsOrdered-right}
 
@@ -38,3 +40,39 @@ module _ {K V : Type 0} where
         left_shorter = omega arith;
         right_shorter = omega arith;
       }
+
+-- the balanced tree t, whose top is the fork f
+pub record HasBalancedTop {K V : Type 0} (cmp : K → K → Ordering) (t : Tree K V) (f : Fork K V) : Type 0 where
+  pub fork : IsBalancedFork f
+  pub height : height_of t ≡ max (height_of f.left) (height_of f.right) + 1
+  pub grows_by : (k : K) → grows cmp k t ≡ (eqb (height_of f.left) (height_of f.right) && match_ordering (cmp k f.key) (grows cmp k f.left) false (grows cmp k f.right))
+  pub shrinks_by : (k : K) → may_shrink cmp k t ≡ match_ordering (cmp k f.key) (cond (eqb (height_of f.left) (height_of f.right)) false (may_shrink cmp k f.left)) true (cond (eqb (height_of f.left) (height_of f.right)) false (may_shrink cmp k f.right))
+
+module _ {K V : Type 0} where
+  at_top : (cmp : K → K → Ordering) (a : Arc (Fork K V) Global) → IsBalanced (tree.Fork a) → HasBalancedTop cmp (tree.Fork a) (arc_value a)
+  at_top cmp a b = record {
+    fork = record { left = b.0; right = b.1; kept = b.2; sides = b.3 };
+    height = refl;
+    grows_by = λ k. refl;
+    shrinks_by = λ k. refl;
+  }
+
+  pub has_balanced_top : (cmp : K → K → Ordering) (t : Tree K V) (a : Arc (Fork K V) Global) (f : Fork K V) → t ≡ tree.Fork a → f ≡ arc_value a → IsBalanced t → HasBalancedTop cmp t f
+  has_balanced_top cmp t a f is at b =
+      subst (λ (z : Tree K V). HasBalancedTop cmp z f) (sym is) (subst (λ (z : Fork K V). HasBalancedTop cmp (tree.Fork a) z) (sym at) (at_top cmp a (subst IsBalanced is b)))
+
+  pub same_tree : (t : Tree K V) → IsSameTree t t
+  same_tree t = record { entries = refl; height = refl; balanced = λ b. b }
+
+  -- a fork in its place
+  pub joined_in_place : (a : Arc (Fork K V) Global) → IsBalancedFork (arc_value a) → IsJoined (arc_value a).left (arc_value a).key (arc_value a).value (arc_value a).right (tree.Fork a)
+  joined_in_place a b = record {
+    entries = refl;
+    balanced = (b.left, b.right, b.kept, b.sides);
+    not_lower = omega arith;
+    at_most_one_higher = omega arith;
+    as_it_stands = λ d. refl;
+    level_as_it_stands = λ d. refl;
+    left_comes_up = λ e no. let s = b.sides in absurd (omega arith);
+    right_comes_up = λ e no. let s = b.sides in absurd (omega arith);
+  }

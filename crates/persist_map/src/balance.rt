@@ -1,7 +1,8 @@
 //! Rotations, which bring the higher side of a fork up and keep what the tree contains.
-ghost use Rattle.std.specs.Prelude.{◌≡◌, ◌∷◌, ◌++◌, IfOk};
+ghost use Rattle.std.specs.Prelude.{◌≡◌, ◌+◌, IfOk};
 ghost use Rattle.persist_map.specs.Entries.{ClonesAreEqual};
-ghost use Rattle.persist_map.specs.Contents.{entries_of};
+ghost use Rattle.persist_map.specs.Contents.{height_of, DifferByAtMost, IsBalanced};
+ghost use Rattle.persist_map.specs.Changes.{IsJoined};
 
 use crate::tree::{Fork, Tree};
 use std::alloc::{AllocError, Global};
@@ -17,7 +18,10 @@ pub fn balanced<K: Clone + Drop, V: Clone + Drop>(
 ) -> Result<Tree<K, V>, AllocError>
     requires keys { ClonesAreEqual K.is_clone }
     requires values { ClonesAreEqual V.is_clone }
-    ensures { IfOk result (λ t. entries_of t ≡ entries_of left ++ (key, value) ∷ entries_of right) }
+    requires left { IsBalanced left }
+    requires right { IsBalanced right }
+    requires heights { DifferByAtMost 2 (height_of left) (height_of right) }
+    ensures { IfOk result (λ t. IsJoined left key value right t) }
 {
     if left.height().saturating_sub(right.height()) > 1 {
         turned_right(alloc, &left, key, value, right)
@@ -38,10 +42,13 @@ fn turned_right<K: Clone + Drop, V: Clone + Drop>(
 ) -> Result<Tree<K, V>, AllocError>
     requires keys { ClonesAreEqual K.is_clone }
     requires values { ClonesAreEqual V.is_clone }
-    ensures { IfOk result (λ t. entries_of t ≡ entries_of left.now ++ (key, value) ∷ entries_of right) }
+    requires left { IsBalanced left.now }
+    requires right { IsBalanced right }
+    requires heights { height_of left.now ≡ height_of right + 2 }
+    ensures { IfOk result (λ t. IsJoined left.now key value right t) }
 {
     let Tree::Fork(top) = left else {
-        return Tree::fork(alloc, Tree::Leaf, key, value, right);
+        unreachable!()
     };
     let top: &Fork<K, V> = top;
     match &top.right {
@@ -68,10 +75,13 @@ fn turned_left<K: Clone + Drop, V: Clone + Drop>(
 ) -> Result<Tree<K, V>, AllocError>
     requires keys { ClonesAreEqual K.is_clone }
     requires values { ClonesAreEqual V.is_clone }
-    ensures { IfOk result (λ t. entries_of t ≡ entries_of left ++ (key, value) ∷ entries_of right.now) }
+    requires left { IsBalanced left }
+    requires right { IsBalanced right.now }
+    requires heights { height_of right.now ≡ height_of left + 2 }
+    ensures { IfOk result (λ t. IsJoined left key value right.now t) }
 {
     let Tree::Fork(top) = right else {
-        return Tree::fork(alloc, left, key, value, Tree::Leaf);
+        unreachable!()
     };
     let top: &Fork<K, V> = top;
     match &top.left {
@@ -98,7 +108,10 @@ impl<K: Clone + Drop, V: Clone + Drop> Fork<K, V> {
     ) -> Result<Tree<K, V>, AllocError>
         requires keys { ClonesAreEqual K.is_clone }
         requires values { ClonesAreEqual V.is_clone }
-        ensures { IfOk result (λ t. entries_of t ≡ entries_of left ++ (self.now.key, self.now.value) ∷ entries_of right) }
+        requires left { IsBalanced left }
+        requires right { IsBalanced right }
+        requires heights { DifferByAtMost 1 (height_of left) (height_of right) }
+        ensures { IfOk result (λ t. IsJoined left self.now.key self.now.value right t) }
     {
         Tree::fork(alloc, left, self.key.clone()?, self.value.clone()?, right)
     }

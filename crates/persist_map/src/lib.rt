@@ -7,6 +7,7 @@
 #![tactic(auto)]
 
 mod balance;
+mod change;
 mod map;
 mod tree;
 mod walk;

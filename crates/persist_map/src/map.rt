@@ -1,5 +1,5 @@
 //! The map.
-ghost use Rattle.std.specs.Prelude.{◌≡◌, [], Some, None, IfOk, option_copied};
+ghost use Rattle.std.specs.Prelude.{◌≡◌, ◌+◌, ◌/◌, ◌^◌, ◌<◌, ◌≤◌, [], length, Some, None, IfOk, IfErr, option_copied};
 ghost use Rattle.std.specs.BTreeMap.{is_at, insert_entry};
 ghost use Rattle.std.specs.Map.{remove_entry};
 ghost use Rattle.persist_map.specs.Entries.{IsOrdered, value_at, ChangesOnly, ClonesAreEqual};
@@ -24,12 +24,11 @@ impl<K: Ord, V> Model for PMap<K, V> {
 
     ghost Value = { List (K × V) };
 
-    ghost use Rattle.persist_map.specs.Entries.{IsOrdered};
-    ghost use Rattle.persist_map.specs.Contents.{entries_of};
+    ghost use Rattle.persist_map.specs.Contents.{entries_of, IsSearchTree};
 
     ghost view = { λ m. entries_of m.tree };
 
-    ghost invariant = { λ m. IsOrdered K.cmp (entries_of m.tree) };
+    ghost invariant = { λ m. IsSearchTree K.cmp m.tree };
 }
 
 impl<K: Ord, V> PMap<K, V> {
@@ -48,6 +47,14 @@ impl<K: Ord, V> PMap<K, V> {
         ensures { option_copied result ≡ value_at K.cmp self.now key.now }
     {
         self.tree.get(key)
+    }
+
+    /// How many entries the longest way down from the root meets: how deep the calls on the map go.
+    pub fn height(&self) -> u32
+        ensures at_most { 2 ^ (result / 2) ≤ length self.now + 1 }
+        ensures at_least { length self.now < 2 ^ result }
+    {
+        self.tree.height()
     }
 
     /// The entries, in the order of their keys. It takes no memory, and neither does a step of it.
@@ -95,7 +102,35 @@ impl<K: Ord + Clone + Drop, V: Clone + Drop> PMap<K, V> {
             tree: self.tree.without(self.alloc, key)?,
         })
     }
-}
 
-#[cfg(test)]
-mod tests;
+    /// Sets the pair in this map: where an equal key is there, it stays and takes the value. Entries that no other map
+    /// shares change in place, but for a few around a place that turns. Maps that share entries with this one stay as
+    /// they are. An `Err`, for want of memory, leaves the map as it was.
+    pub fn insert(&mut self, key: K, value: V) -> Result<(), AllocError>
+        requires keys { ClonesAreEqual K.is_clone }
+        requires values { ClonesAreEqual V.is_clone }
+        ensures entries { IfOk result (λ _. self.new ≡ insert_entry K.cmp self.old key value) }
+        ensures changes { IfOk result (λ _. ChangesOnly K.cmp self.old self.new key (Some value)) }
+        ensures unchanged { IfErr result (λ _. self.new ≡ self.old) }
+    {
+        // No memory holds a map of this height.
+        if self.tree.height() == u32::MAX {
+            return Err(AllocError);
+        }
+        self.tree.insert(self.alloc, key, value)
+    }
+
+    /// Takes the key out of this map, in place as `insert`. An `Err`, for want of memory, leaves the map as it was.
+    pub fn remove(&mut self, key: &K) -> Result<(), AllocError>
+        requires keys { ClonesAreEqual K.is_clone }
+        requires values { ClonesAreEqual V.is_clone }
+        ensures entries { IfOk result (λ _. self.new ≡ remove_entry (is_at (K.cmp key.now)) self.old) }
+        ensures changes { IfOk result (λ _. ChangesOnly K.cmp self.old self.new key.now None) }
+        ensures unchanged { IfErr result (λ _. self.new ≡ self.old) }
+    {
+        if self.tree.height() == 0 {
+            return Ok(());
+        }
+        self.tree.remove(self.alloc, key)
+    }
+}

@@ -3,7 +3,8 @@ ghost use Rattle.std.specs.Prelude.{◌≡◌, ◌∷◌, ◌++◌, IfOk, option
 ghost use Rattle.std.specs.BTreeMap.{is_at, insert_entry};
 ghost use Rattle.std.specs.Map.{remove_entry};
 ghost use Rattle.persist_map.specs.Entries.{IsOrdered, value_at, ClonesAreEqual};
-ghost use Rattle.persist_map.specs.Contents.{entries_of};
+ghost use Rattle.persist_map.specs.Contents.{entries_of, height_of, DifferByAtMost, IsBalanced, IsBalancedFork, IsSearchTree};
+ghost use Rattle.persist_map.specs.Changes.{IsSameTree, IsJoined, IsSet, IsTakenOut, IsSplit, IsTogether};
 
 use crate::balance::balanced;
 use std::alloc::{AllocError, Global};
@@ -32,7 +33,7 @@ pub struct Fork<K, V> {
 impl<K, V> Tree<K, V> {
     /// The same tree again. Want of memory comes from a full count of owners.
     pub fn share(&self) -> Result<Tree<K, V>, AllocError>
-        ensures { IfOk result (λ t. entries_of t ≡ entries_of self.now) }
+        ensures { IfOk result (λ t. IsSameTree self.now t) }
     {
         match self {
             Tree::Leaf => Ok(Tree::Leaf),
@@ -40,13 +41,18 @@ impl<K, V> Tree<K, V> {
         }
     }
 
-    pub fn height(&self) -> u32 {
+    /// How many forks the longest way down meets.
+    pub fn height(&self) -> u32
+        requires { IsBalanced self.now }
+        ensures { result ≡ height_of self.now }
+    {
         match self {
             Tree::Leaf => 0,
             Tree::Fork(fork) => fork.height,
         }
     }
 
+    /// The entry between two sides. A height above 2 ^ 32 - 1, which no memory holds, counts as want of memory.
     pub fn fork(
         alloc: Global,
         left: Tree<K, V>,
@@ -57,9 +63,13 @@ impl<K, V> Tree<K, V> {
     where
         K: Drop,
         V: Drop,
-        ensures { IfOk result (λ t. entries_of t ≡ entries_of left ++ (key, value) ∷ entries_of right) }
+        requires left { IsBalanced left }
+        requires right { IsBalanced right }
+        requires heights { DifferByAtMost 1 (height_of left) (height_of right) }
+        ensures { IfOk result (λ t. IsJoined left key value right t) }
     {
-        let height = left.height().max(right.height()).saturating_add(1);
+        let height = left.height().max(right.height());
+        let height = height.checked_add(1).ok_or(AllocError)?;
         let fork = Fork {
             left,
             key,
@@ -94,8 +104,8 @@ impl<K: Ord + Clone + Drop, V: Clone + Drop> Tree<K, V> {
     pub fn with(&self, alloc: Global, key: K, value: V) -> Result<Tree<K, V>, AllocError>
         requires keys { ClonesAreEqual K.is_clone }
         requires values { ClonesAreEqual V.is_clone }
-        requires ordered { IsOrdered K.cmp (entries_of self.now) }
-        ensures { IfOk result (λ t. entries_of t ≡ insert_entry K.cmp (entries_of self.now) key value) }
+        requires tree { IsSearchTree K.cmp self.now }
+        ensures { IfOk result (λ t. IsSet K.cmp self.now key value t) }
     {
         match self {
             Tree::Leaf => Tree::fork(alloc, Tree::Leaf, key, value, Tree::Leaf),
@@ -125,8 +135,8 @@ impl<K: Ord + Clone + Drop, V: Clone + Drop> Tree<K, V> {
     pub fn without(&self, alloc: Global, key: &K) -> Result<Tree<K, V>, AllocError>
         requires keys { ClonesAreEqual K.is_clone }
         requires values { ClonesAreEqual V.is_clone }
-        requires ordered { IsOrdered K.cmp (entries_of self.now) }
-        ensures { IfOk result (λ t. entries_of t ≡ remove_entry (is_at (K.cmp key.now)) (entries_of self.now)) }
+        requires tree { IsSearchTree K.cmp self.now }
+        ensures { IfOk result (λ t. IsTakenOut K.cmp self.now key.now t) }
     {
         match self {
             Tree::Leaf => Ok(Tree::Leaf),
@@ -158,7 +168,10 @@ impl<K: Clone + Drop, V: Clone + Drop> Fork<K, V> {
     ) -> Result<Tree<K, V>, AllocError>
         requires keys { ClonesAreEqual K.is_clone }
         requires values { ClonesAreEqual V.is_clone }
-        ensures { IfOk result (λ t. entries_of t ≡ entries_of left ++ (self.now.key, self.now.value) ∷ entries_of right) }
+        requires left { IsBalanced left }
+        requires right { IsBalanced right }
+        requires heights { DifferByAtMost 2 (height_of left) (height_of right) }
+        ensures { IfOk result (λ t. IsJoined left self.now.key self.now.value right t) }
     {
         balanced(alloc, left, self.key.clone()?, self.value.clone()?, right)
     }
@@ -167,7 +180,8 @@ impl<K: Clone + Drop, V: Clone + Drop> Fork<K, V> {
     fn split_first(&self, alloc: Global) -> Result<((K, V), Tree<K, V>), AllocError>
         requires keys { ClonesAreEqual K.is_clone }
         requires values { ClonesAreEqual V.is_clone }
-        ensures { IfOk result (λ p. entries_of self.now.left ++ (self.now.key, self.now.value) ∷ entries_of self.now.right ≡ p.0 ∷ entries_of p.1) }
+        requires fork { IsBalancedFork self.now }
+        ensures { IfOk result (λ p. IsSplit self.now p.0 p.1) }
     {
         match &self.left {
             Tree::Leaf => Ok((
@@ -191,7 +205,10 @@ fn joined<K: Clone + Drop, V: Clone + Drop>(
 ) -> Result<Tree<K, V>, AllocError>
     requires keys { ClonesAreEqual K.is_clone }
     requires values { ClonesAreEqual V.is_clone }
-    ensures { IfOk result (λ t. entries_of t ≡ entries_of left.now ++ entries_of right.now) }
+    requires left { IsBalanced left.now }
+    requires right { IsBalanced right.now }
+    requires heights { DifferByAtMost 1 (height_of left.now) (height_of right.now) }
+    ensures { IfOk result (λ t. IsTogether left.now right.now t) }
 {
     let Tree::Fork(right) = right else {
         return left.share();

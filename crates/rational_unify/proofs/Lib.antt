@@ -3,6 +3,9 @@ pub mod Same
 pub mod Stands
 pub mod Work
 pub mod Chains
+pub mod Ends
+pub mod Meets
+pub mod Shortening
 pub mod Heads
 pub mod Indexing
 pub mod Turns

@@ -13,6 +13,7 @@ use Rattle.rational_unify.specs.declared.meet.Meeting.TheVariants.{Bind, Agree}
 use Rattle.rational_unify.specs.declared.meet.Pairs.{Pairs}
 use Rattle.rational_unify.specs.declared.solver.Work.{Work}
 use Rattle.rational_unify.specs.Known.{found_in, bound_in, IsSolved, end_of}
+use Rattle.rational_unify.specs.Shortened.{KeepsEnds}
 use Rattle.rational_unify.specs.Solving.{equations_in, Tells, BindNew, IsSolution, IsClashOf}
 use Rattle.rational_unify.specs.Indexes.{IsOf, IsLinked, here, on}
 use Rattle.rational_unify.specs.Meeting.{Meets, argument_pair, argument_pairs, LeadsTo, AgreeInHead, Clashes, Meet, same, bind, agree, Advances}
@@ -21,9 +22,9 @@ use Rattle.rational_unify.proofs.Walks.{IsFree, walk-free, walk-again}
 use Rattle.rational_unify.proofs.Chains.{free_found, one_more-adds, BindNew-push, BindNew-bound}
 use Rattle.rational_unify.proofs.Heads.{head_of_seen, head_seen}
 use Rattle.akl_terms.proofs.Unfolding.{arguments-struct, few_arguments}
-use Rattle.rational_unify.proofs.Work.{IsWork, IsDone, met, was, through, Arguments, work-start, work-same, work-bind, work-agree, pair-follows, work-consistent, work-hold, work-trees, work-stands}
+use Rattle.rational_unify.proofs.Work.{IsWork, IsDone, met, was, back, through, Arguments, work-start, work-shorter, work-same, work-bind, work-agree, pair-follows, work-consistent, work-hold, work-trees, work-stands}
 
-length-push : {X : Type 0} (xs : List X) (x : X) → length (xs ++ x ∷ []) ≡ suc (length xs)
+pub length-push : {X : Type 0} (xs : List X) (x : X) → length (xs ++ x ∷ []) ≡ suc (length xs)
 length-push [] x = refl
 length-push (y ∷ xs) x = let h : length (xs ++ x ∷ []) ≡ suc (length xs) = length-push xs x in omega arith
 
@@ -36,6 +37,12 @@ IsWorkOn nodes known es added pending compared =
 pub record GoesOn (nodes : List Node) (known : List (Var × Term)) (es : List code.Equation) (work : Work) : Type 0 where
   pub kept : IsWorkOn nodes known es work.added work.pending.items work.compared
   pub fresh : BindNew known work.added
+
+-- the work goes on over bindings whose chains end where they did
+pub turn-shorter : (nodes : List Node) (known : List (Var × Term)) (es : List code.Equation) (old new : List (Var × Term)) (pending compared : List code.Equation)
+    → KeepsEnds nodes known old new → IsWorkOn nodes known es old pending compared → IsWorkOn nodes known es new pending compared
+turn-shorter nodes known es old new pending compared k w =
+    work-shorter (bound_in nodes (known ++ old)) (bound_in nodes (known ++ new)) (length (known ++ old)) (length (known ++ new)) w k.solved.ends k.ends
 
 pub equations-either : (nodes : List Node) (ps qs : List code.Equation) (s t : Tree) → IsTold (equations_in nodes (ps ++ qs)) s t → IsTold (equations_in nodes ps) s t ⊎ IsTold (equations_in nodes qs) s t
 equations-either nodes [] qs s t m = inr m
@@ -80,7 +87,8 @@ work-solved nodes known es added pending compared w = record { ends = w.ends }
 linked-done : (nodes : List Node) (go : Tree → Tree) (P : Tree → Tree → Type 0) (pairs : List code.Equation) (s t : Term) → IsLinked pairs s t
     → IsDone go P (IsTold (equations_in nodes pairs)) (tree nodes s) (tree nodes t)
 linked-done nodes go P pairs s t here = met refl
-linked-done nodes go P pairs s u (on {t = t} l m) = through (linked-done nodes go P pairs s t l) (was (IsOf-told nodes pairs (record { left = t; right = u }) m))
+linked-done nodes go P pairs s u (on {t = t} l (inl m)) = through (linked-done nodes go P pairs s t l) (was (IsOf-told nodes pairs (record { left = t; right = u }) m))
+linked-done nodes go P pairs s u (on {t = t} l (inr m)) = through (linked-done nodes go P pairs s t l) (back (was (IsOf-told nodes pairs (record { left = u; right = t }) m)))
 
 leads-done : (nodes : List Node) (bs : List (Var × Term)) (pairs : List code.Equation) (P : Tree → Tree → Type 0) (s t : Term) → IsSolved nodes bs → LeadsTo nodes bs pairs s t
     → IsDone (end_of nodes bs) P (IsTold (equations_in nodes pairs)) (tree nodes s) (tree nodes t)
@@ -100,8 +108,10 @@ leads-free nodes bs pairs s t h a l = at_end l.last t l.linked (subst (IsFree (b
   where
     at_end : (u t : Term) → IsLinked pairs u t → IsFree (bound_in nodes bs) (tree nodes u) → IsFree (bound_in nodes bs) (tree nodes t)
     at_end u t here f = f
-    at_end u t (on {t = k} i m) f = let g : (h : Head) × (head_of (tree nodes k) ≡ Some h) × (head_of (tree nodes t) ≡ Some h) = a.each (record { left = k; right = t }) m in
+    at_end u t (on {t = k} i (inl m)) f = let g : (h : Head) × (head_of (tree nodes k) ≡ Some h) × (head_of (tree nodes t) ≡ Some h) = a.each (record { left = k; right = t }) m in
         headed-free (bound_in nodes bs) (tree nodes t) g.0 g.2
+    at_end u t (on {t = k} i (inr m)) f = let g : (h : Head) × (head_of (tree nodes t) ≡ Some h) × (head_of (tree nodes k) ≡ Some h) = a.each (record { left = t; right = k }) m in
+        headed-free (bound_in nodes bs) (tree nodes t) g.0 g.1
 
 -- the variable that is to be bound has no binding yet
 pub bind-free : (nodes : List Node) (bs : List (Var × Term)) (pairs : List code.Equation) (s t u v : Term) (x : Var) (r : Term) → IsSolved nodes bs → AgreeInHead nodes pairs

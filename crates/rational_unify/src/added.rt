@@ -1,7 +1,8 @@
 //! The bindings that the solver adds.
 
-ghost use Rattle.std.specs.Prelude.{◌≡◌, ◌<◌, ◌^◌, ◌++◌, ◌∷◌, [], IfOk, None, length};
+ghost use Rattle.std.specs.Prelude.{◌≡◌, ◌<◌, ◌^◌, ◌++◌, ◌∷◌, [], IfOk, None, length, slice_get};
 ghost use Rattle.rational_unify.specs.Known.{found_in};
+ghost use Rattle.rational_unify.specs.Shortened.{Rebinds};
 
 use akl_terms::{Term, Var};
 use std::alloc::{AllocError, Global};
@@ -12,7 +13,7 @@ use std::marker::Model;
 #[derive(Drop)]
 pub struct AddedBindings {
     list: Vec<(Var, Term)>,
-    index: HashMap<Var, Term>,
+    places: HashMap<Var, usize>,
 }
 
 impl Model for AddedBindings {
@@ -25,32 +26,39 @@ impl Model for AddedBindings {
 
     ghost view = { λ a. a.list.items };
 
-    ghost invariant = { λ a. IsIndex a.index.entries a.list.items };
+    ghost invariant = { λ a. IsIndex a.places.entries a.list.items };
 }
 
 impl AddedBindings {
+    /// No bindings.
     pub fn new(alloc: Global) -> Self
         ensures { result ≡ [] }
     {
         AddedBindings {
             list: Vec::new(alloc),
-            index: HashMap::new(alloc),
+            places: HashMap::new(alloc),
         }
     }
 
+    /// The term that a variable is bound to; `None` exactly where it has no binding.
     pub fn get(&self, variable: Var) -> Option<Term>
         ensures { result ≡ found_in self.now variable }
     {
-        self.index.get(&variable).copied()
+        match self.places.get(&variable) {
+            Some(place) => Some(self.list[*place].1),
+            None => None,
+        }
     }
 
+    /// Binds a variable that has no binding.
     pub fn push(&mut self, variable: Var, term: Term) -> Result<(), AllocError>
         requires { found_in self.old variable ≡ None }
         ensures list { IfOk result (λ _. self.new ≡ self.old ++ (variable, term) ∷ []) }
         ensures small { IfOk result (λ _. length self.new < 2 ^ 64) }
     {
+        let place = self.list.len();
         self.list.push((variable, term))?;
-        match self.index.insert(variable, term) {
+        match self.places.insert(variable, place) {
             Ok(_) => Ok(()),
             Err(_) => {
                 let _ = self.list.pop();
@@ -59,6 +67,24 @@ impl AddedBindings {
         }
     }
 
+    /// Binds a variable that has a binding to another term; any other variable stays without one.
+    pub fn rebind(&mut self, variable: Var, term: Term)
+        ensures { Rebinds self.old self.new variable term }
+    {
+        if let Some(place) = self.places.get(&variable) {
+            let place = *place;
+            self.list[place] = (variable, term);
+        }
+    }
+
+    /// The bindings in order.
+    pub fn as_slice(&self) -> &[(Var, Term)]
+        ensures { result.now ≡ self.now }
+    {
+        self.list.as_slice()
+    }
+
+    /// The bindings in order. It takes no memory.
     pub fn into_vec(self) -> Vec<(Var, Term)>
         ensures { result.items ≡ self }
     {

@@ -2,13 +2,12 @@
 #![tactic(auto)]
 
 mod added;
+mod chain;
 mod compared;
 mod known;
 mod meet;
 mod solver;
 
+pub use chain::{chain_end, variable_end};
 pub use known::{Lookup, Nothing, found};
 pub use solver::{Solved, solve};
-
-#[cfg(test)]
-mod tests;

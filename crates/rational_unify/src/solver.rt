@@ -1,12 +1,14 @@
 //! The solver.
 
 ghost use Rattle.std.specs.Prelude.{◌≡◌, ◌<◌, ◌^◌, ◌++◌, IfOk, MatchOption, length};
-ghost use Rattle.akl_terms.specs.Template.{IsArranged, tree};
-ghost use Rattle.rational_unify.specs.Known.{IsSolved, end_of, next_in};
+ghost use Rattle.akl_terms.specs.Template.{IsArranged};
+ghost use Rattle.rational_unify.specs.Known.{IsSolved};
+ghost use Rattle.rational_unify.specs.Shortened.{KeepsEnds};
 ghost use Rattle.rational_unify.specs.Meeting.{Advances, AgreeInHead, Clashes};
 ghost use Rattle.rational_unify.specs.Solving.{Solves};
 
 use crate::added::AddedBindings;
+use crate::chain::{Together, chain_end, shorten};
 use crate::compared::Compared;
 use crate::known::Lookup;
 use crate::meet::{Meeting, compare};
@@ -47,6 +49,7 @@ pub fn solve<K: Lookup>(
     };
     work.pending.extend_from_slice(equations)?;
     while let Some(pair) = work.pending.pop() {
+        shorten_sides(templates, known, &mut work.added, pair);
         if let Some(clash) = advance(templates, known, &mut work, pair)? {
             return Ok(Solved::Clash {
                 left: clash.left,
@@ -54,6 +57,7 @@ pub fn solve<K: Lookup>(
             });
         }
     }
+    settle(templates, known, &mut work.added);
     Ok(Solved::Added(work.added.into_vec()))
 }
 
@@ -79,12 +83,16 @@ fn advance<K: Lookup>(
         (Advances templates.now.nodes (K.bindings known.now) pair work.old work.new)
         (λ clash. Clashes templates.now.nodes (K.bindings known.now) pair work.old clash)) }
 {
+    let together = Together {
+        known,
+        added: &work.added,
+    };
     let left = work
         .compared
-        .last_of(walked(templates, known, &work.added, pair.left));
+        .last_of(chain_end(templates, &together, pair.left));
     let right = work
         .compared
-        .last_of(walked(templates, known, &work.added, pair.right));
+        .last_of(chain_end(templates, &together, pair.right));
     match compare(templates, left, right) {
         Meeting::Same => Ok(None),
         Meeting::Differ => Ok(Some(Equation { left, right })),
@@ -100,36 +108,33 @@ fn advance<K: Lookup>(
     }
 }
 
-/// The end of a term's chain.
-fn walked<K: Lookup>(templates: &Templates, known: &K, added: &AddedBindings, term: Term) -> Term
-    requires { IsSolved templates.now.nodes (K.bindings known.now ++ added.now) }
-    ensures arranged { IsArranged templates.now.nodes }
-    ensures small { length templates.now.nodes < 2 ^ 32 }
-    ensures end { tree templates.now.nodes result ≡ end_of templates.now.nodes (K.bindings known.now ++ added.now) (tree templates.now.nodes term) }
-{
-    let mut last = term;
-    while let Some(next) = next_of(templates, known, added, last) {
-        last = next;
-    }
-    last
-}
-
-/// What a term is bound to, where it is a variable that is bound.
-fn next_of<K: Lookup>(
+/// Shortens the chains of both terms of an equation.
+fn shorten_sides<K: Lookup>(
     templates: &Templates,
     known: &K,
-    added: &AddedBindings,
-    term: Term,
-) -> Option<Term>
-    ensures arranged { IsArranged templates.now.nodes }
-    ensures small { length templates.now.nodes < 2 ^ 32 }
-    ensures next { result ≡ next_in templates.now.nodes (K.bindings known.now ++ added.now) term }
+    added: &mut AddedBindings,
+    pair: Equation,
+)
+    requires { IsSolved templates.now.nodes (K.bindings known.now ++ added.old) }
+    ensures { KeepsEnds templates.now.nodes (K.bindings known.now) added.old added.new }
 {
-    match templates.look(term) {
-        Seen::Free(variable) => match known.get(variable) {
-            Some(next) => Some(next),
-            None => added.get(variable),
-        },
-        _ => None,
+    if let Seen::Free(variable) = templates.look(pair.left) {
+        shorten(templates, known, added, variable);
+    }
+    if let Seen::Free(variable) = templates.look(pair.right) {
+        shorten(templates, known, added, variable);
+    }
+}
+
+/// Binds each added variable to the end of its chain.
+fn settle<K: Lookup>(templates: &Templates, known: &K, added: &mut AddedBindings)
+    requires { IsSolved templates.now.nodes (K.bindings known.now ++ added.old) }
+    ensures { KeepsEnds templates.now.nodes (K.bindings known.now) added.old added.new }
+{
+    for place in 0..added.as_slice().len() {
+        if let Some(binding) = added.as_slice().get(place) {
+            let variable = binding.0;
+            shorten(templates, known, added, variable);
+        }
     }
 }

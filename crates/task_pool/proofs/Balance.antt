@@ -4,7 +4,7 @@ use Rattle.std.proofs.lemmas.Bool.{cases_lt}
 use Rattle.std.proofs.lemmas.List.Sums.{sum_by-append}
 use Rattle.std.proofs.lemmas.Option.{get_or_from_slice_get}
 use Rattle.task_pool.specs.Departures.{Departure, tokens, taken_by}
-use Rattle.task_pool.specs.Keeps.{all_first, all_rest}
+use Rattle.task_pool.proofs.Keeps.{all_first, all_rest}
 use Rattle.task_pool.specs.Left.{flat, times, times_pushed, times_taken, LeavesInOrder, IsLeft}
 use Rattle.task_pool.specs.Places.{Standing}
 

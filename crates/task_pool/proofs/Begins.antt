@@ -6,14 +6,14 @@ use Rattle.std.specs.Global.{Global}
 use Rattle.std.specs.Vec.Iter.{into_iter_items, into_iter_len}
 use Rattle.std.specs.declared.vec.IntoIter.{IntoIter}
 use Rattle.crossbeam_deque.specs.declared.handles.Worker.{Worker}
-use Rattle.crossbeam_deque.specs.Handles.{worker_deque, worker_view, worker_capacity}
+use Rattle.crossbeam_deque.specs.Handles.{worker_deque, worker_view}
 use Rattle.task_pool.specs.declared.hand.Hand.TheInside.{Inside}
 use Rattle.task_pool.specs.declared.view.View.{View}
 use Rattle.task_pool.specs.declared.way.Way.{Way}
 use Rattle.task_pool.specs.Hands.{standing_of, IsHand}
-use Rattle.task_pool.specs.Keeps.{all_first, all_rest}
+use Rattle.task_pool.proofs.Keeps.{all_first, all_rest}
 use Rattle.task_pool.specs.Owners.{IsFresh, AreFreshWays}
-use Rattle.task_pool.specs.Places.{DequeId, places_from}
+use Rattle.task_pool.specs.Places.{DequeId, first_room, places_from}
 use Rattle.task_pool.specs.Views.{of_owner}
 use Rattle.task_pool.specs.Ways.{deque_of}
 
@@ -55,18 +55,20 @@ module _ {P : Type 0} (d : Worker ℕ Global View P) (ways : Vec (Way P) Global)
   abbrev pub begun : Inside P
   begun = record { number = number; deque = d; ways = ways; room = room; pushes = 0 }
 
-  pub is_hand : IsFresh (length ids) d → slice_get ids number ≡ Some (worker_deque d) → AreFreshWays number ids ways.items → room ≡ worker_capacity d → IsHand begun
+  pub is_hand : IsFresh (length ids) d → slice_get ids number ≡ Some (worker_deque d) → AreFreshWays number ids ways.items → room ≡ first_room → IsHand begun
   is_hand fresh at row is =
       let count : length ids ≡ ways.len = ap (λ l. length l) (sym row.into) ∙ length-map ways.items deque_of ∙ sym ways.ok.0 in
-      let view : worker_view d ≡ of_owner [] ways.len = fresh.owned.view ∙ ap (of_owner []) count in
+      let view : worker_view d ≡ of_owner 0 [] ways.len = fresh.owned.view ∙ ap (of_owner 0 []) count in
       let pushed : (worker_view d).pushed ≡ [] = ap (λ (v : View). v.pushed) view in
+      let pushed' : [] ≡ (worker_view d).pushed = sym pushed in
+      let calls : 0 ≡ (worker_view d).calls = sym (ap (λ (v : View). v.calls) view) in
       let index = fresh.index in
       let capacity = fresh.capacity in
       record {
         own = subst (λ (l : List DequeId). slice_get l number ≡ Some (worker_deque d)) (sym row.into) at;
         fifo = fresh.owned.fifo;
         port = fresh.owned.port;
-        owner = view ∙ ap (λ l. of_owner l ways.len) (sym pushed);
+        owner = view ∙ (λ i. of_owner (calls i) (pushed' i) ways.len);
         ways = row.of_hand;
         pushes = sym (ap (λ l. length l) pushed);
         index = omega arith;
@@ -77,5 +79,5 @@ module _ {P : Type 0} (d : Worker ℕ Global View P) (ways : Vec (Way P) Global)
   pub begins_at : AreFreshWays number ids ways.items → (standing_of begun).place ≡ record { pool = ids; number = number }
   begins_at row = ap (λ l. record { pool = l; number = number }) row.into
 
-  pub begins_empty : IsFresh (length ids) d → AreFreshWays number ids ways.items → ((standing_of begun).pushed ≡ []) × ((standing_of begun).taken ≡ replicate (length ids) [])
-  begins_empty fresh row = (ap (λ (v : View). v.pushed) fresh.owned.view, row.empty)
+  pub begins_empty : IsFresh (length ids) d → AreFreshWays number ids ways.items → ((standing_of begun).calls ≡ 0) × ((standing_of begun).pushed ≡ []) × ((standing_of begun).taken ≡ replicate (length ids) [])
+  begins_empty fresh row = (ap (λ (v : View). v.calls) fresh.owned.view, ap (λ (v : View). v.pushed) fresh.owned.view, row.empty)

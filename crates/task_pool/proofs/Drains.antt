@@ -8,7 +8,7 @@ use Rattle.crossbeam_deque.specs.Tasks.{Takes, Finds}
 use Rattle.task_pool.specs.declared.view.Account.{Account}
 use Rattle.task_pool.specs.declared.view.View.{View}
 use Rattle.task_pool.specs.Departures.{Departure, tokens, taken_by}
-use Rattle.task_pool.specs.Keeps.{all_first, all_rest, takes}
+use Rattle.task_pool.proofs.Keeps.{all_first, all_rest, takes}
 use Rattle.task_pool.specs.Kept.{Kept, IsTrueOf, count_of, Leaves, Drained}
 use Rattle.task_pool.specs.Owners.{HasAll}
 use Rattle.task_pool.specs.Views.{with_taken}

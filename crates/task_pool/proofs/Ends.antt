@@ -11,7 +11,7 @@ use Rattle.task_pool.specs.declared.view.View.{View}
 use Rattle.task_pool.specs.declared.way.Way.{Way}
 use Rattle.task_pool.specs.Departures.{Departure, taken_by}
 use Rattle.task_pool.specs.Hands.{standing_of, IsHand}
-use Rattle.task_pool.specs.Keeps.{all_first, all_rest, counted_first}
+use Rattle.task_pool.proofs.Keeps.{all_first, all_rest, counted_first}
 use Rattle.task_pool.specs.Kept.{IsTrueOf, count_of}
 use Rattle.task_pool.specs.Owners.{IsOwned, IsNextWay, accounts_from, next_taken}
 use Rattle.task_pool.specs.Places.{DequeId, Place, Standing, places_from, IsPool}
@@ -24,7 +24,7 @@ same_some x y e = cc
 
 -- the parts of a hand
 pub record Apart {P : Type 0} (h : Standing) (d : Worker ℕ Global View P) (ways : List (Way P)) : Type 0 where
-  pub owned : IsOwned (of_owner h.pushed (length h.place.pool)) d
+  pub owned : IsOwned (of_owner h.calls h.pushed (length h.place.pool)) d
   pub own : slice_get h.place.pool h.place.number ≡ Some (worker_deque d)
   pub into : map deque_of ways ≡ h.place.pool
   pub of_hand : All (IsWayOf h.place.number) ways
@@ -36,7 +36,7 @@ module _ {P : Type 0} where
       let count : i.ways.len ≡ length (map deque_of i.ways.items) = i.ways.ok.0 ∙ sym (length-map i.ways.items deque_of) in
       subst (λ (s : Standing). Apart s i.deque i.ways.items) is
       (record {
-        owned = record { fifo = hand.fifo; port = hand.port; view = hand.owner ∙ ap (of_owner (worker_view i.deque).pushed) count };
+        owned = record { fifo = hand.fifo; port = hand.port; view = hand.owner ∙ ap (of_owner (worker_view i.deque).calls (worker_view i.deque).pushed) count };
         own = hand.own;
         into = refl;
         of_hand = hand.ways;

@@ -68,7 +68,7 @@ module _ {P : Type 0} where
       let all : (v0.accounts ++ accounts_from 0 lists) ++ account k t ∷ [] ≡ v0.accounts ++ accounts_from 0 (take (k + 1) (map next_taken rows)) =
       append_assoc v0.accounts (accounts_from 0 lists) (account k t ∷ [])
       ∙ ap (λ as'. v0.accounts ++ as') (ap (λ (m : ℕ). accounts_from 0 lists ++ account m t ∷ []) (sym count) ∙ sym (accounts_snoc 0 lists t) ∙ ap (accounts_from 0) (take_snoc (map next_taken rows) k t here)) in
-      next ∙ ap (λ u. joined u (view w.pass)) is ∙ ap (joined (gathered v0 lists)) way.2 ∙ ap (λ as'. record { pushed = v0.pushed; passes = v0.passes; accounts = as' }) all
+      next ∙ ap (λ u. joined u (view w.pass)) is ∙ ap (joined (gathered v0 lists)) way.2 ∙ ap (λ as'. record { calls = v0.calls; pushed = v0.pushed; passes = v0.passes; accounts = as' }) all
 
   pub next_rows : (rows0 rows : List (IntoIter (Way P) Global)) (k : ℕ) (new : IntoIter (Way P) Global) (row : List (Way P)) (w : Way P) → ways_of rows ≡ changed others k (ways_of rows0)
       → slice_get (ways_of rows0) k ≡ Some row → row ≡ w ∷ into_iter_items new → ways_of (set rows k new) ≡ changed others (k + 1) (ways_of rows0)

@@ -33,12 +33,12 @@ module _ {P : Type 0} (hands : List Standing) (p : IsPool hands) (ds : List (Wor
   own : slice_get p.0 j ≡ Some (worker_deque d)
   own = ap (λ (q : Place). slice_get q.pool q.number) (sym place) ∙ mine.parts.own ∙ ap (λ (e : Worker ℕ Global View P). Some (worker_deque e)) deque_is
 
-  pub the_owner : (h : Standing) → slice_get hands j ≡ Some h → IsOwned (of_owner h.pushed (length p.0)) d
+  pub the_owner : (h : Standing) → slice_get hands j ≡ Some h → IsOwned (of_owner h.calls h.pushed (length p.0)) d
   the_owner h e =
       let same : mine.hand ≡ h = same_some mine.hand h (sym mine.hand_at ∙ e) in
-      subst (λ (s : Standing). IsOwned (of_owner s.pushed (length p.0)) d) same
-      (subst (λ (w : Worker ℕ Global View P). IsOwned (of_owner mine.hand.pushed (length p.0)) w) deque_is
-      (subst (λ (q : Place). IsOwned (of_owner mine.hand.pushed (length q.pool)) mine.deque) place mine.parts.owned))
+      subst (λ (s : Standing). IsOwned (of_owner s.calls s.pushed (length p.0)) d) same
+      (subst (λ (w : Worker ℕ Global View P). IsOwned (of_owner mine.hand.calls mine.hand.pushed (length p.0)) w) deque_is
+      (subst (λ (q : Place). IsOwned (of_owner mine.hand.calls mine.hand.pushed (length q.pool)) mine.deque) place mine.parts.owned))
 
   into_at : (k : ℕ) (o : ApartAt hands ds rows k) → slice_get (map deque_of o.row) j ≡ Some (worker_deque d)
   into_at k o = ap (λ l. slice_get l j) (o.parts.into ∙ ap (λ (q : Place). q.pool) (place_of hands p k o.hand o.hand_at)) ∙ own
@@ -67,7 +67,7 @@ module _ {P : Type 0} (hands : List Standing) (p : IsPool hands) (ds : List (Wor
       )
 
   module _ (v : View) (is : v ≡ gathered (worker_view d) lists) where
-    view : v ≡ record { pushed = mine.hand.pushed; passes = length p.0; accounts = accounts_from 0 lists }
+    view : v ≡ record { calls = mine.hand.calls; pushed = mine.hand.pushed; passes = length p.0; accounts = accounts_from 0 lists }
     view = is ∙ ap (λ (u : View). gathered u lists) (the_owner mine.hand mine.hand_at).view
 
     pub some_pass : 0 < v.passes
@@ -116,7 +116,7 @@ flat_more [] l = append-nil l
 flat_more (x ∷ xs) l = ap (λ z. x ++ z) (flat_more xs l) ∙ sym (append_assoc x (flat xs) l)
 
 pub owner_at : {P : Type 0} (hands : List Standing) (p : IsPool hands) (ds : List (Worker ℕ Global View P)) (rows : List (List (Way P))) (a : Aparts hands ds rows) (j : ℕ) (d : Worker ℕ Global View P) → slice_get ds j ≡ Some d
-    → (h : Standing) × (slice_get hands j ≡ Some h) × IsOwned (of_owner h.pushed (length p.0)) d
+    → (h : Standing) × (slice_get hands j ≡ Some h) × IsOwned (of_owner h.calls h.pushed (length p.0)) d
 owner_at hands p ds rows a j d at =
     let o = aparts_at hands ds rows j a (subst (λ (n : ℕ). j < n) (aparts_count hands ds rows a).0 (slice_get_within ds j d at)) in
     (o.hand, o.hand_at, the_owner hands p ds rows a j d at o.hand o.hand_at)

@@ -4,6 +4,7 @@ pub mod Drains
 pub mod Ends
 pub mod Fresh
 pub mod Gathers
+pub mod Keeps
 pub mod Lefts
 pub mod Looks
 pub mod Moves

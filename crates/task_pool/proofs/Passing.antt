@@ -9,9 +9,10 @@ use Rattle.crossbeam_deque.specs.Tasks.{Forks, Merges}
 use Rattle.task_pool.specs.declared.view.Account.{Account}
 use Rattle.task_pool.specs.declared.view.View.{View}
 use Rattle.task_pool.specs.Departures.{Departure, tokens, taken_by}
-use Rattle.task_pool.specs.Keeps.{all_first, all_rest, all_more, total_set}
+use Rattle.task_pool.proofs.Keeps.{all_first, all_rest, all_more, total_set}
 use Rattle.task_pool.specs.Kept.{Kept, IsTrueOf, count_of, total_of}
-use Rattle.task_pool.specs.Views.{newcomer, spent, one_more, of_next, joined, account}
+use Rattle.task_pool.specs.Steps.{CallsKeep}
+use Rattle.task_pool.specs.Views.{newcomer, spent, one_call, one_more, of_next, joined, account}
 
 only_one : (v w : View) (j : ℕ) → get_elem? (w ∷ []) j ≡ some v → (j ≡ 0) × (w ≡ v)
 only_one v w zero e = (refl, some-injective w v e)
@@ -81,6 +82,29 @@ forks v items (x ∷ xs) kept at =
           (cases_lt k kept.made);
       unused = λ k l. let t = total k in let z = other_count k v.passes (λ s. absurd (omega (arith, o.1))) in let w = kept.unused k (omega arith) in omega arith;
       by_hands = λ i d l. let h = kept.by_hands i d l in omega arith;
+    }
+
+pub calls : CallsKeep Kept
+calls v items [] kept at = absurd (some-ne-none v (sym at))
+calls v items (x ∷ xs) kept at =
+    let left = one_call v in
+    let is : x ≡ v = some-injective x v at in
+    let total : (k : ℕ) → total_of k (left ∷ (xs ++ spent ∷ [])) ≡ total_of k (x ∷ xs) =
+    λ k. let a = total-append k xs (spent ∷ []) in let b = ap (λ (u : View). count_of k u.accounts) is in omega arith in
+    record {
+      gone = kept.gone;
+      made = kept.made;
+      owner = λ u e. subst (λ (z : View). (z.pushed ≡ tokens kept.gone ++ items) × (z.passes ≡ kept.made)) (some-injective left u e) (kept.owner v at);
+      accounts = λ j u e. ⊎_elim
+          (λ (h : get_elem? (left ∷ xs) j ≡ some u). ⊎_elim
+          (λ (s : (j ≡ 0) × (left ≡ u)). subst (λ (z : View). All (IsTrueOf kept.gone) z.accounts) s.1 (kept.accounts 0 v at))
+          (λ (s : (j ≢ 0) × (get_elem? (x ∷ xs) j ≡ some u)). kept.accounts j u s.1)
+          (at_set (x ∷ xs) 0 j left u h))
+          (λ (h : spent ≡ u). subst (λ (z : View). All (IsTrueOf kept.gone) z.accounts) h (All-nil (IsTrueOf kept.gone)))
+          (at_snoc (left ∷ xs) spent u j e);
+      once = λ k. let t = total k in let h = kept.once k in omega arith;
+      unused = λ k l. total k ∙ kept.unused k l;
+      by_hands = kept.by_hands;
     }
 
 pub merges : (v : View) (other : ℕ) (w : View) → Merges Kept 0 v other w (joined v w) spent

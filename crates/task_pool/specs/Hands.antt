@@ -11,6 +11,7 @@ module _ {P : Type 0} where
   standing_of h = record {
     place = record { pool = map deque_of h.ways.items; number = h.number };
     room = h.room;
+    calls = (worker_view h.deque).calls;
     pushed = (worker_view h.deque).pushed;
     taken = map taken_through h.ways.items;
   }
@@ -20,7 +21,7 @@ module _ {P : Type 0} where
     pub own : slice_get (map deque_of h.ways.items) h.number ≡ Some (worker_deque h.deque)
     pub fifo : worker_flavor h.deque ≡ 0
     pub port : worker_port h.deque ≡ 0
-    pub owner : worker_view h.deque ≡ of_owner (worker_view h.deque).pushed (vec_len h.ways)
+    pub owner : worker_view h.deque ≡ of_owner (worker_view h.deque).calls (worker_view h.deque).pushed (vec_len h.ways)
     pub ways : All (IsWayOf h.number) h.ways.items
     pub pushes : h.pushes ≡ length (worker_view h.deque).pushed
     pub index : worker_index h.deque ≤ h.pushes

@@ -1,8 +1,8 @@
 pub mod Departures
 pub mod Hands
 pub mod Kept
-pub mod Keeps
 pub mod Left
+pub mod Looks
 pub mod Owners
 pub mod Places
 pub mod Steps

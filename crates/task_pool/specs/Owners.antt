@@ -1,5 +1,5 @@
 -- The deques of a pool before the hands have them, and while the pool is finished.
-use Rattle.std.specs.Prelude.{◌≡◌, ℕ, ◌+◌, ◌<◌, List, [], ◌∷◌, ◌++◌, All, map, replicate, length}
+use Rattle.std.specs.Prelude.{◌≡◌, ℕ, ◌+◌, ◌<◌, ◌≤◌, List, [], ◌∷◌, ◌++◌, All, map, replicate, length}
 use Rattle.std.specs.Global.{Global}
 use Rattle.std.specs.Vec.Iter.{into_iter_items}
 use Rattle.std.specs.declared.vec.IntoIter.{IntoIter}
@@ -9,7 +9,7 @@ use Rattle.task_pool.specs.declared.view.Account.{Account}
 use Rattle.task_pool.specs.declared.view.View.{View}
 use Rattle.task_pool.specs.declared.way.Way.{Way}
 use Rattle.task_pool.specs.Kept.{count_of}
-use Rattle.task_pool.specs.Places.{DequeId}
+use Rattle.task_pool.specs.Places.{DequeId, first_room}
 use Rattle.task_pool.specs.Views.{of_owner, account, known}
 use Rattle.task_pool.specs.Ways.{deque_of, taken_through, IsWayOf}
 
@@ -22,9 +22,9 @@ module _ {P : Type 0} where
 
   -- nothing was pushed yet, and so many passes were made
   pub record IsFresh (passes : ℕ) (d : Worker ℕ Global View P) : Type 0 where
-    pub owned : IsOwned (of_owner [] passes) d
+    pub owned : IsOwned (of_owner 0 [] passes) d
     pub index : worker_index d ≡ 0
-    pub capacity : 0 < worker_capacity d
+    pub capacity : first_room ≤ worker_capacity d
 
   -- the ways of the hand of this number into these deques, by which nothing was taken yet
   pub record AreFreshWays (number : ℕ) (deques : List DequeId) (ways : List (Way P)) : Type 0 where
@@ -59,4 +59,4 @@ HasAll v = (number : ℕ) → number < v.passes → count_of number v.accounts �
 
 -- the owner after it took back the passes by which the hands took these
 abbrev pub gathered : View → List (List ℕ) → View
-gathered v lists = known v.pushed v.passes (v.accounts ++ accounts_from 0 lists)
+gathered v lists = known v.calls v.pushed v.passes (v.accounts ++ accounts_from 0 lists)

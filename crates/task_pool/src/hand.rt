@@ -1,8 +1,6 @@
 //! One worker's hand.
-ghost use Rattle.std.specs.Prelude.{◌≡◌, ℕ, ◌<◌, ◌≤◌, [], ◌∷◌, ◌++◌, All, length, IfErr, IfNone, IfSome, OnErr, OnOk};
-ghost use Rattle.task_pool.specs.Steps.{SeenEmpty};
-ghost use Rattle.task_pool.specs.Views.{of_hand};
-ghost use Rattle.task_pool.specs.Ways.{appended};
+ghost use Rattle.std.specs.Prelude.{◌≡◌, ℕ, ◌<◌, ◌≤◌, [], ◌∷◌, ◌++◌, length, IfErr, IfNone, IfSome, OnErr, OnOk};
+ghost use Rattle.task_pool.specs.Looks.{HasTaken, HasFoundNone};
 
 use crate::rule::{InOrder, Pushes, Rule};
 use crate::view::View;
@@ -16,8 +14,8 @@ pub(crate) type Deque<P = InOrder> = Worker<u64, Global, View, P>;
 
 /// One worker's hand in a pool: a deque of its own, and a way into each deque of the pool.
 ///
-/// Contracts see which hand of which pool it is, the room of its deque, what it has pushed, and what it has taken from
-/// each deque. They are stated for any rule of the deques, so that only a look at a deque can show what the rule tells.
+/// Contracts see which hand of which pool it is, the room of its deque, how many calls of `take` it began, what it has
+/// pushed, and what it has taken from each deque. They are stated for any rule of the deques, so that only a look at a deque can show what the rule tells.
 #[derive(Drop)]
 pub struct Hand<P: Rule = InOrder> {
     pub(crate) number: usize,
@@ -46,7 +44,7 @@ pub struct Refused {
     pub pushes: u64,
 }
 
-/// The number of first pushes that succeed: the capacity with which the hand's deque was made, at least 1.
+/// The capacity with which the hand's deque was made, at least 1: as many first pushes succeed.
 pub fn room<P: Rule>(hand: &Hand<P>) -> u64
     ensures room { result ≡ hand.now.room }
     ensures some { 0 < result }
@@ -64,6 +62,7 @@ pub fn push<P: Rule>(hand: &mut Hand<P>, token: u64) -> Result<(), Refused>
     ensures same { OnErr result (hand.new ≡ hand.old) }
     ensures place { hand.new.place ≡ hand.old.place }
 {
+    P::laws();
     let pushes = hand.pushes;
     let Some(after) = pushes.checked_add(1) else {
         return Err(Refused { token, pushes });
@@ -79,13 +78,13 @@ pub fn push<P: Rule>(hand: &mut Hand<P>, token: u64) -> Result<(), Refused>
 
 /// Takes the first token of the hand's own deque, or else of another hand's. It may wait while others take.
 ///
-/// `None` comes only where each deque of the pool was seen empty, at one moment of the call each.
+/// Another's token, and `None`, come only where the hand's own deque was seen empty after the call began. `None` comes
+/// only where each other deque was seen empty too, at a moment since the hand last took from it.
 pub fn take<R: Wait, P: Rule>(rt: &R, hand: &mut Hand<P>) -> Option<u64>
-    ensures some { IfSome result (λ token. (k : ℕ) × (k < length hand.old.taken) × (hand.new ≡ record hand.old { taken = appended k token hand.old.taken })) }
-    ensures none { IfNone result (All (λ taken. SeenEmpty P.holds (of_hand hand.old.place.number taken)) hand.old.taken) }
-    ensures same { IfNone result (hand.new ≡ hand.old) }
+    ensures some { IfSome result (λ token. (k : ℕ) × HasTaken P.holds k token hand.old hand.new) }
+    ensures none { IfNone result (HasFoundNone P.holds hand.old hand.new) }
     ensures place { hand.new.place ≡ hand.old.place }
 {
     let number = hand.number;
-    take_around(rt, hand.ways.as_mut_slice(), number)
+    take_around(rt, &mut hand.deque, hand.ways.as_mut_slice(), number)
 }

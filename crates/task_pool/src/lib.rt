@@ -14,6 +14,3 @@ pub use hand::{Hand, Refused, push, room, take};
 pub use pool::Pool;
 pub use rule::{InOrder, Rule};
 pub use view::{Account, View};
-
-#[cfg(test)]
-mod tests;

@@ -1,15 +1,15 @@
 //! How a pool begins.
-ghost use Rattle.std.specs.Prelude.{◌≡◌, ℕ, ◌+◌, ◌<◌, ◌≤◌, [], All, length, map, replicate, IfOk, OnOk, slice_get, Some};
-ghost use Rattle.crossbeam_deque.specs.Handles.{worker_deque};
+ghost use Rattle.std.specs.Prelude.{◌≡◌, ℕ, ◌+◌, ◌<◌, ◌≤◌, All, length, map, IfOk, OnOk, slice_get, Some};
+ghost use Rattle.crossbeam_deque.specs.Handles.{worker_deque, worker_capacity};
 ghost use Rattle.task_pool.specs.Owners.{IsFresh, AreFreshWays};
-ghost use Rattle.task_pool.specs.Places.{IsPool};
+ghost use Rattle.task_pool.specs.Places.{IsPool, IsNew, first_room};
 
 use crate::hand::{Deque, Hand};
 use crate::rule::Passes;
 use crate::way::Way;
 use std::alloc::{AllocError, Global};
 
-// The first capacity of a hand's deque.
+// The capacity with which a hand's deque is made: `first_room` in contracts.
 const ROOM: usize = 64;
 
 /// The hands of workers that share tokens.
@@ -21,7 +21,7 @@ impl Pool {
         requires { (0 < workers) × (workers ≤ 16) }
         ensures pool { IfOk result (λ hands. IsPool hands.items) }
         ensures hands { IfOk result (λ hands. length hands.items ≡ workers) }
-        ensures fresh { IfOk result (λ hands. All (λ h. (h.pushed ≡ []) × (h.taken ≡ replicate workers [])) hands.items) }
+        ensures fresh { IfOk result (λ hands. All (IsNew workers) hands.items) }
     {
         let mut deques = deques(alloc, workers as usize)?;
         let mut rows = Vec::new(alloc);
@@ -36,6 +36,7 @@ impl Pool {
 fn deques(alloc: Global, count: usize) -> Result<Vec<Deque>, AllocError>
     ensures count { IfOk result (λ deques. length deques.items ≡ count) }
     ensures fresh { IfOk result (λ deques. All (IsFresh 0) deques.items) }
+    ensures room { IfOk result (λ deques. All (λ d. worker_capacity d ≡ first_room) deques.items) }
 {
     let mut deques = Vec::new(alloc);
     for _ in 0..count {
@@ -68,7 +69,7 @@ fn hands_of(alloc: Global, deques: Vec<Deque>, rows: Vec<Vec<Way>>) -> Result<Ve
     requires rows { (k : ℕ) (row : _) → slice_get rows.items k ≡ Some row → AreFreshWays k (map worker_deque deques.items) row.items }
     ensures pool { IfOk result (λ hands. IsPool hands.items) }
     ensures count { IfOk result (λ hands. length hands.items ≡ length deques.items) }
-    ensures fresh { IfOk result (λ hands. All (λ h. (h.pushed ≡ []) × (h.taken ≡ replicate (length deques.items) [])) hands.items) }
+    ensures fresh { IfOk result (λ hands. All (IsNew (length deques.items)) hands.items) }
 {
     let mut rows = rows.into_iter();
     let mut hands = Vec::new(alloc);
@@ -77,12 +78,11 @@ fn hands_of(alloc: Global, deques: Vec<Deque>, rows: Vec<Vec<Way>>) -> Result<Ve
             unreachable!()
         };
         let number = hands.len();
-        let room = deque.capacity() as u64;
         hands.push(Hand {
             number,
             deque,
             ways,
-            room,
+            room: ROOM as u64,
             pushes: 0,
         })?;
     }

@@ -1,14 +1,17 @@
 //! The rule of each deque, and what each step tells.
+ghost use Rattle.task_pool.specs.Steps.{PushesKeep, TakesKeep, CallsKeep};
+
 use crate::view::View;
-use crossbeam_deque::protocol::{Join, Outcome, Protocol, Split};
+use crossbeam_deque::protocol::{Join, Lesson, Outcome, Protocol, Split};
+use std::marker::PhantomData;
 
-/// A rule that a push at the back and a take at the front keep.
+/// A rule that a push at the back, a take at the front and the count of a call keep.
 pub trait Rule: Protocol<u64, View> {
-    ghost use Rattle.task_pool.specs.Steps.{PushesKeep, TakesKeep};
-
-    ghost pushes_keep: { PushesKeep Self.holds };
-
-    ghost takes_keep: { TakesKeep Self.holds };
+    /// Does nothing: its contract is what the rule keeps.
+    fn laws()
+        ensures pushes { PushesKeep Self.holds }
+        ensures takes { TakesKeep Self.holds }
+        ensures calls { CallsKeep Self.holds };
 }
 
 /// First in, first out: what was pushed is what has left and then what is there, in one order.
@@ -26,11 +29,7 @@ impl Protocol<u64, View> for InOrder {
 }
 
 impl Rule for InOrder {
-    ghost use Rattle.task_pool.specs.Keeps.{pushes, takes};
-
-    ghost pushes_keep = { pushes };
-
-    ghost takes_keep = { takes };
+    fn laws() {}
 }
 
 pub(crate) struct Pushes;
@@ -44,7 +43,7 @@ impl Outcome<u64, View> for Pushes {
 
 /// A take under the rule `P`. Where it finds none, the deque was empty at that moment.
 pub(crate) struct Takes<P> {
-    of: std::marker::PhantomData<P>,
+    of: PhantomData<P>,
 }
 
 impl<P: Protocol<u64, View>> Outcome<u64, View> for Takes<P> {
@@ -55,6 +54,28 @@ impl<P: Protocol<u64, View>> Outcome<u64, View> for Takes<P> {
     ghost then = { λ v xs w. w ≡ after_take v xs };
 
     ghost empty = { SeenEmpty P.holds };
+}
+
+/// A look of the owner under the rule `P`, at the tokens of one moment.
+pub(crate) struct Looks<P> {
+    of: PhantomData<P>,
+}
+
+impl<P: Protocol<u64, View>> Lesson<u64, View> for Looks<P> {
+    ghost use Rattle.task_pool.specs.Steps.{OwnerSaw};
+
+    ghost fact = { OwnerSaw P.holds };
+}
+
+/// The owner counts a call of `take`. The pass that comes of it knows nothing.
+pub(crate) struct Calls;
+
+impl Split<View> for Calls {
+    ghost use Rattle.task_pool.specs.Views.{one_call, spent};
+
+    ghost left = { one_call };
+
+    ghost right = { λ v. spent };
 }
 
 /// A take by the owner, which learns what was left.

@@ -7,8 +7,10 @@ pub struct Account {
     pub taken: LinkedList<u64>,
 }
 
-/// What a pass knows: the owner's, what was pushed and how many passes were made; each, what some hands have taken.
+/// What a pass knows: the owner's, how many calls of `take` its hand began, what was pushed, and how many passes were
+/// made for hands; each, what some hands have taken.
 pub struct View {
+    pub calls: u64,
     pub pushed: LinkedList<u64>,
     pub passes: u64,
     pub accounts: LinkedList<Account>,

@@ -5,7 +5,7 @@ use Rattle.akl_run.proofs.Loading.{from_error, if_error}
 use Rattle.akl_run.proofs.prepare.prepare.Goals as goal
 
 pub returns-in_err-query-clause-stop : goal.returns-in_err-query-clause-stop
-returns-in_err-query-clause-stop g c = from_error c.from_residual.result c.from_residual.ensures.1 (λ stop p. rw p (by_words c.in_err-query.ensures.stop refl refl))
+returns-in_err-query-clause-stop g c = from_error c.from_residual.result c.from_residual.ensures.1 (λ stop p. rw p (by_words c.in_err-query.ensures.stop refl))
 
 pub returns-in_err-bytes-clause-stop : goal.returns-in_err-bytes-clause-stop
 returns-in_err-bytes-clause-stop g c =

@@ -1,7 +1,7 @@
 use Rattle.std.proofs.Common.{◌≡◌, ◌∷◌, sym, ap, ◌∙◌}
 use Rattle.std.proofs.lemmas.Result.{err_from_is_err_and}
-use Rattle.akl_syntax.specs.declared.lexeme.Lexeme.{Lexeme}
-use Rattle.akl_syntax.specs.declared.lexeme.Lexeme.TheVariants.{Symbol}
+use Rattle.akl_lexemes.specs.declared.lexeme.Lexeme.{Lexeme}
+use Rattle.akl_lexemes.specs.declared.lexeme.Lexeme.TheVariants.{Symbol}
 use Rattle.akl_syntax.specs.Clauses.{clause}
 use Rattle.akl_syntax.proofs.ClauseTurns.{refuses_so, no_clause_part}
 use Rattle.akl_syntax.proofs.clause.clause.Goals as goal

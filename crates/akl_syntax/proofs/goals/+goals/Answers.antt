@@ -2,16 +2,18 @@ use Rattle.std.proofs.Common.{◌≡◌, ◌∷◌, ◌++◌, [], length, map, r
 use Rattle.std.proofs.lemmas.Result.{err_from_is_err_and}
 use Rattle.std.proofs.lemmas.List.{map_push, map-append}
 use Rattle.akl_text.specs.declared.token.Kind.TheVariants.{Close, Comma, Semicolon}
-use Rattle.akl_syntax.specs.declared.lexeme.Lexeme.TheVariants as lexemes
+use Rattle.akl_lexemes.specs.declared.lexeme.Lexeme.TheVariants as lexemes
 use Rattle.akl_syntax.specs.Goals.{PartIs, no_parts_more, written}
 use Rattle.akl_syntax.specs.Goals as made
 use Rattle.akl_syntax.specs.GoalView.{goal, part}
 use Rattle.akl_syntax.specs.PartView.{part_of}
 use Rattle.akl_syntax.specs.Parts.{Alternatives, body_of}
-use Rattle.akl_syntax.specs.Follow.{after_goal, after_conj, after_part, after_parts}
+use Rattle.akl_syntax.specs.Ends.{ends_goal, ends_conj, ends_part, ends_parts}
 use Rattle.akl_syntax.proofs.OneGoal.{goal_takes, conj_takes, part_takes}
-use Rattle.akl_syntax.proofs.PartTurns.{goal_choice, refused_so, a_fault_to, goals_start, goals_step, goals_end, goals_none, no_first_goal, no_comma_ends, guard_takes, no_guard_ends, part_behind_guard, part_no_conj, part_behind_goals, no_body, second_guard, seen_guard, unseen_guard, parts_start, parts_step, parts_all, parts_none, no_semicolon_ends, no_part, bracket_edge, choice_edge, no_alternatives, not_closed_parts, choice_read, goals_read}
-use Rattle.akl_syntax.proofs.BracketTable.{table_behind, table_conj, table_part, table_alternatives, table_guard}
+use Rattle.akl_lexemes.proofs.Refusals.{refused, a_fault}
+use Rattle.akl_syntax.proofs.PartTurns.{goal_choice, goals_start, goals_step, goals_end, goals_none, no_first_goal, no_comma_ends, guard_takes, no_guard_ends, part_behind_guard, part_no_conj, part_behind_goals, no_body, second_guard, seen_guard, unseen_guard, parts_start, parts_step, parts_all, parts_none, no_semicolon_ends, no_part, bracket_edge, choice_edge, no_alternatives, not_closed_parts, choice_read, goals_read}
+use Rattle.akl_syntax.proofs.Tables.{table_conj, table_part, table_alternatives, table_guard}
+use Rattle.akl_lexemes.proofs.BracketTable.{table_behind}
 use Rattle.akl_syntax.proofs.goals.+goals.Goals as given
 
 pub alternatives-loop-after-init : given.alternatives-loop-after-init
@@ -22,7 +24,7 @@ alternatives-loop-after-init t c =
 pub alternatives-returns-in_err-next : given.alternatives-returns-in_err-next
 alternatives-returns-in_err-next t c =
     let p = err_from_is_err_and c.from_residual-in_err-next.result c.from_residual-in_err-next.ensures.1 in
-    rw (p.1, p.2) (refused_so after_part after_parts _ (parts_none (rw c.in-Some.ensures.some at c.loop-after.invariant)) c.in_err-next.ensures)
+    rw (p.1, p.2) (refused ends_part ends_parts _ (parts_none (rw c.in-Some.ensures.some at c.loop-after.invariant)) c.in_err-next.ensures)
 
 pub alternatives-loop-after-smaller : given.alternatives-loop-after-smaller
 alternatives-loop-after-smaller t c = omega (arith, part_takes c.in_ok-next.ensures.0, ap length c.in-Some.ensures.some)
@@ -39,7 +41,7 @@ alternatives-returns t c = (parts_all c.loop-after.invariant, no_semicolon_ends 
 pub bracketed-returns-in_err-first : given.bracketed-returns-in_err-first
 bracketed-returns-in_err-first t c =
     let p = err_from_is_err_and c.from_residual.result c.from_residual.ensures.1 in
-    rw (p.1, p.2) (refused_so after_part after_goal _ (no_part _ c.requires.goals) c.in_err-first.ensures)
+    rw (p.1, p.2) (refused ends_part ends_goal _ (no_part _ c.requires.goals) c.in_err-first.ensures)
 
 pub bracketed-returns-in-Some : given.bracketed-returns-in-Some
 bracketed-returns-in-Some t c =
@@ -52,13 +54,13 @@ bracketed-alternatives-requires t c = (omega (arith, part_takes c.in_ok-first.en
 pub bracketed-returns-in_err-parts : given.bracketed-returns-in_err-parts
 bracketed-returns-in_err-parts t c =
     let p = err_from_is_err_and c.from_residual-in_err-parts.result c.from_residual-in_err-parts.ensures.1 in
-    rw (p.1, p.2) (refused_so after_parts after_goal _ (no_alternatives _ c.requires.goals _ _ c.in_ok-first.ensures.0 c.in_ok-first.ensures.1) (rw c.into_source.ensures at c.in_err-parts.ensures))
+    rw (p.1, p.2) (refused ends_parts ends_goal _ (no_alternatives _ c.requires.goals _ _ c.in_ok-first.ensures.0 c.in_ok-first.ensures.1) (rw c.into_source.ensures at c.in_err-parts.ensures))
 
 pub bracketed-returns-in_err-rest : given.bracketed-returns-in_err-rest
 bracketed-returns-in_err-rest t c =
     let p = err_from_is_err_and c.from_residual-in_err-rest.result c.from_residual-in_err-rest.ensures.1 in
     rw (p.1, p.2)
-    (a_fault_to after_goal _ _ c.in_err-rest.ensures.none
+    (a_fault ends_goal _ _ c.in_err-rest.ensures.none
     (not_closed_parts _ c.requires.goals _ _ _ _ c.in_ok-first.ensures.0 c.in_ok-first.ensures.1 (rw c.into_source.ensures at c.in_ok-parts.ensures.0) c.in_ok-parts.ensures.1 c.in_err-rest.ensures.err))
 
 pub bracketed-returns : given.bracketed-returns
@@ -71,7 +73,7 @@ bracketed-returns t c =
 pub conj-returns-in_err-goals : given.conj-returns-in_err-goals
 conj-returns-in_err-goals t c =
     let p = err_from_is_err_and c.from_residual.result c.from_residual.ensures.1 in
-    rw (p.1, p.2) (refused_so after_goal after_conj _ (no_first_goal _) c.in_err-goals.ensures)
+    rw (p.1, p.2) (refused ends_goal ends_conj _ (no_first_goal _) c.in_err-goals.ensures)
 
 pub conj-loop-after-init : given.conj-loop-after-init
 conj-loop-after-init t c = goals_start c.in_ok-goals.ensures.0 c.in_ok-goals.ensures.1
@@ -79,7 +81,7 @@ conj-loop-after-init t c = goals_start c.in_ok-goals.ensures.0 c.in_ok-goals.ens
 pub conj-returns-in_err-next : given.conj-returns-in_err-next
 conj-returns-in_err-next t c =
     let p = err_from_is_err_and c.from_residual-in_err-next.result c.from_residual-in_err-next.ensures.1 in
-    rw (p.1, p.2) (refused_so after_goal after_conj _ (goals_none (rw c.in-Some.ensures.some at c.loop-after.invariant)) c.in_err-next.ensures)
+    rw (p.1, p.2) (refused ends_goal ends_conj _ (goals_none (rw c.in-Some.ensures.some at c.loop-after.invariant)) c.in_err-next.ensures)
 
 pub conj-loop-after-smaller : given.conj-loop-after-smaller
 conj-loop-after-smaller t c = omega (arith, goal_takes c.in_ok-next.ensures.0, ap length c.in-Some.ensures.some)
@@ -95,7 +97,7 @@ conj-returns t c = (goals_end c.loop-after.invariant, no_comma_ends _ c.in_defau
 pub guarded-returns-in_err-body : given.guarded-returns-in_err-body
 guarded-returns-in_err-body t c =
     let p = err_from_is_err_and c.from_residual.result c.from_residual.ensures.1 in
-    rw (p.1, p.2) (refused_so after_conj after_part _ (no_body _ _ _) c.in_err-body.ensures)
+    rw (p.1, p.2) (refused ends_conj ends_part _ (no_body _ _ _) c.in_err-body.ensures)
 
 pub guarded-returns-then-is_some : given.guarded-returns-then-is_some
 guarded-returns-then-is_some t c =
@@ -111,7 +113,7 @@ part-returns-in-Some t c = part_behind_guard _ c.guarded.result _ _ _ (sym c.in-
 pub part-returns-in_err-goals : given.part-returns-in_err-goals
 part-returns-in_err-goals t c =
     let p = err_from_is_err_and c.from_residual.result c.from_residual.ensures.1 in
-    rw (p.1, p.2) (refused_so after_conj after_part _ (part_no_conj _ (sym c.in_default.ensures)) c.in_err-goals.ensures)
+    rw (p.1, p.2) (refused ends_conj ends_part _ (part_no_conj _ (sym c.in_default.ensures)) c.in_err-goals.ensures)
 
 pub part-guarded-requires-in-Some-guard_front : given.part-guarded-requires-in-Some-guard_front
 part-guarded-requires-in-Some-guard_front t c =

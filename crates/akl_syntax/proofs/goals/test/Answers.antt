@@ -1,16 +1,17 @@
 use Rattle.std.proofs.Common.{sym, ◌∙◌}
 use Rattle.std.proofs.lemmas.Result.{err_from_is_err_and}
-use Rattle.akl_syntax.specs.declared.operator.Level.TheVariants.{Sum}
-use Rattle.akl_syntax.specs.Edges.{chains}
-use Rattle.akl_syntax.specs.Follow.{after_goal}
+use Rattle.term_syntax.specs.declared.level.Level.TheVariants.{Sum}
+use Rattle.term_syntax.specs.Ends.{ends_chain}
+use Rattle.akl_syntax.specs.Ends.{ends_goal}
 use Rattle.akl_syntax.specs.Goals.{test}
-use Rattle.akl_syntax.proofs.TestGoals.{goal_call, refused_to, no_left, no_relation, no_right, joined_behind, goal_edge, end_is_none, other_is_none}
+use Rattle.akl_lexemes.proofs.Refusals.{refused}
+use Rattle.akl_syntax.proofs.TestGoals.{goal_call, no_left, no_relation, no_right, joined_behind, goal_edge, end_is_none, other_is_none}
 use Rattle.akl_syntax.proofs.goals.test.Goals as goal
 
 pub returns-in_err-left : goal.returns-in_err-left
 returns-in_err-left c =
     let p = err_from_is_err_and c.from_residual.result c.from_residual.ensures.1 in
-    rw (p.1, p.2) (refused_to (chains Sum) after_goal _ (no_left _ c.requires) c.in_err-left.ensures)
+    rw (p.1, p.2) (refused (ends_chain Sum) ends_goal _ (no_left _ c.requires) c.in_err-left.ensures)
 
 pub returns-in_default : goal.returns-in_default
 returns-in_default c = no_relation _ c.requires _ _ c.in_ok-left.ensures.0 c.in_ok-left.ensures.1 (end_is_none _ c.in_default.ensures.none)
@@ -21,7 +22,7 @@ returns-in_default-relation c = no_relation _ c.requires _ _ c.in_ok-left.ensure
 pub returns-in_err-right : goal.returns-in_err-right
 returns-in_err-right c =
     let p = err_from_is_err_and c.from_residual-in_err-right.result c.from_residual-in_err-right.ensures.1 in
-    rw (p.1, p.2) (refused_to (chains Sum) after_goal _ (no_right _ c.requires _ _ _ (rw c.in-Some.ensures.some at c.in_ok-left.ensures.0) (rw c.in-Some.ensures.some at c.in_ok-left.ensures.1)) c.in_err-right.ensures)
+    rw (p.1, p.2) (refused (ends_chain Sum) ends_goal _ (no_right _ c.requires _ _ _ (rw c.in-Some.ensures.some at c.in_ok-left.ensures.0) (rw c.in-Some.ensures.some at c.in_ok-left.ensures.1)) c.in_err-right.ensures)
 
 pub returns-then-joined : goal.returns-then-joined
 returns-then-joined c =

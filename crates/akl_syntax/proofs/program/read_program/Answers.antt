@@ -4,7 +4,7 @@ use Rattle.std.proofs.lemmas.List.{map_push}
 use Rattle.akl_syntax.specs.Answers.{clause_view, clauses_view}
 use Rattle.akl_syntax.specs.Verdicts.{ReadsProgram}
 use Rattle.akl_syntax.specs.Verdicts as verdicts
-use Rattle.akl_syntax.proofs.OneVerdict.{answers_as, program_one}
+use Rattle.akl_syntax.proofs.OneVerdict.{answers_as}
 use Rattle.akl_syntax.proofs.ReadTurns.{program_step, program_end, program_fault}
 use Rattle.akl_syntax.proofs.SizeLaws.{program_size}
 use Rattle.akl_syntax.proofs.VariableLaws.{program_numbered}
@@ -19,9 +19,6 @@ returns-in_err-found-clause-reads c =
     let short : length c.args.bytes.now ≤ 1000000 = omega (arith, c.if-bytes-gt-PROGRAM_BYTES.false) in
     rw (p.1, p.2) (program_fault _ short c.loop-start.invariant c.loop-start-test.true c.in_err-found.ensures.reads)
 
-pub returns-in_err-found-clause-only : goal.returns-in_err-found-clause-only
-returns-in_err-found-clause-only c = λ v r. answers_as clauses_view (ReadsProgram c.args.bytes.now) (λ w. w ≡ v) c.from_residual.result (λ w q. program_one q r) (returns-in_err-found-clause-reads c)
-
 pub loop-start-preserved : goal.loop-start-preserved
 loop-start-preserved c =
     let e : map clause_view c.push.new.self.items ≡ map clause_view c.loop-start.clauses.items ++ clause_view c.in_ok-found.found ∷ [] = rw c.in_ok-push.ensures.items (map_push clause_view c.loop-start.clauses.items c.in_ok-found.found) in
@@ -31,9 +28,6 @@ pub returns-clause-reads : goal.returns-clause-reads
 returns-clause-reads c =
     let short : length c.args.bytes.now ≤ 1000000 = omega (arith, c.if-bytes-gt-PROGRAM_BYTES.false) in
     verdicts.clauses short (program_end c.loop-start.invariant (omega (arith, c.loop-start-test.false)))
-
-pub returns-clause-only : goal.returns-clause-only
-returns-clause-only c = λ v r. program_one (returns-clause-reads c) r
 
 pub returns-clause-size : goal.returns-clause-size
 returns-clause-size c = program_size (returns-clause-reads c)

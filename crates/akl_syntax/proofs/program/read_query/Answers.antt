@@ -6,9 +6,10 @@ use Rattle.akl_text.specs.Spelling.{IsTokenOf}
 use Rattle.akl_syntax.specs.Answers.{query_view, Answers}
 use Rattle.akl_syntax.specs.Clauses.{IsQuery}
 use Rattle.akl_syntax.specs.Faults.{ReadsTokens}
-use Rattle.akl_syntax.specs.Verdicts.{Tests, NotEnded, SkipsFrom, ReadsQuery}
+use Rattle.akl_syntax.specs.Verdicts.{Tests, NotEnded, ReadsQuery}
+use Rattle.akl_text.specs.Layout.{SkipsFrom}
 use Rattle.akl_syntax.specs.Verdicts as verdicts
-use Rattle.akl_syntax.proofs.OneVerdict.{answers_as, query_verdict_one}
+use Rattle.akl_syntax.proofs.OneVerdict.{answers_as}
 use Rattle.akl_syntax.proofs.ReadTurns.{all_front, all_last, few_tokens, few_before, query_token_fault, query_limit_fault}
 use Rattle.akl_syntax.proofs.SizeLaws.{answered_size}
 use Rattle.akl_syntax.proofs.VariableLaws.{answered_numbered}
@@ -18,9 +19,6 @@ pub returns-in_err-tokens-clause-reads : goal.returns-in_err-tokens-clause-reads
 returns-in_err-tokens-clause-reads c =
     let p = err_from_is_err_and c.from_residual.result c.from_residual.ensures.1 in
     rw (p.1, p.2) (query_token_fault c.args.bytes.now c.layout_end-start.result _ c.layout_end-start.ensures.skips c.in_err-tokens.ensures.err)
-
-pub returns-in_err-tokens-clause-only : goal.returns-in_err-tokens-clause-only
-returns-in_err-tokens-clause-only c = λ v r. answers_as query_view (ReadsQuery c.args.bytes.now) (λ w. w ≡ v) c.from_residual.result (λ w q. query_verdict_one q r) (returns-in_err-tokens-clause-reads c)
 
 pub query_of-requires-clause-few : goal.query_of-requires-clause-few
 query_of-requires-clause-few c =
@@ -32,9 +30,6 @@ returns-in_default-clause-reads c =
     let h : Answers query_view (Tests c.args.bytes.now c.layout_end-start.result IsQuery c.in_ok-tokens.tokens.items) c.query_of.result = rw c.as_slice-in_default.ensures.value at c.query_of.ensures in
     answers_as query_view (Tests c.args.bytes.now c.layout_end-start.result IsQuery c.in_ok-tokens.tokens.items) (ReadsQuery c.args.bytes.now) c.query_of.result
     (λ v t. verdicts.open_ended c.layout_end-start.ensures.skips c.in_ok-tokens.ensures.read n t) h
-
-pub returns-in_default-clause-only : goal.returns-in_default-clause-only
-returns-in_default-clause-only c = λ v r. answers_as query_view (ReadsQuery c.args.bytes.now) (λ w. w ≡ v) c.query_of.result (λ w q. query_verdict_one q r) (returns-in_default-clause-reads c)
 
 pub layout_end-requires : goal.layout_end-requires
 layout_end-requires c =
@@ -61,19 +56,12 @@ returns-in_err-within_limits-clause-reads c =
     (query_limit_fault c.args.bytes.now c.layout_end-start.result c.layout_end.result c.in-Some.before.now c.in-Some.last _ c.layout_end-start.ensures.skips r c.in-Some.ensures.end
     c.layout_end.ensures.skips c.if-layout_end-bytes.true c.in_err-within_limits.ensures.err)
 
-pub returns-in_err-within_limits-clause-only : goal.returns-in_err-within_limits-clause-only
-returns-in_err-within_limits-clause-only c =
-    λ v r. answers_as query_view (ReadsQuery c.args.bytes.now) (λ w. w ≡ v) c.from_residual-in_err-within_limits.result (λ w q. query_verdict_one q r) (returns-in_err-within_limits-clause-reads c)
-
 pub returns-then-layout_end-bytes-clause-reads : goal.returns-then-layout_end-bytes-clause-reads
 returns-then-layout_end-bytes-clause-reads c =
     let e : c.in_ok-tokens.tokens.items ≡ c.in-Some.before.now ++ c.in-Some.last ∷ [] = sym c.as_slice.ensures.value ∙ c.in-Some.ensures.parts in
     let r : ReadsTokens c.args.bytes.now c.layout_end-start.result (c.in-Some.before.now ++ c.in-Some.last ∷ []) = subst (λ (z : List Token). ReadsTokens c.args.bytes.now c.layout_end-start.result z) e c.in_ok-tokens.ensures.read in
     verdicts.goes_on c.in-Some.last c.layout_end-start.ensures.skips r c.in-Some.ensures.end c.layout_end.ensures.skips c.if-layout_end-bytes.true
     (verdicts.not_derived c.in_ok-within_limits.ensures.shallow c.in_ok-within_limits.ensures.in_range c.in_ok-within_limits.ensures.lexemes (λ x h. h))
-
-pub returns-then-layout_end-bytes-clause-only : goal.returns-then-layout_end-bytes-clause-only
-returns-then-layout_end-bytes-clause-only c = λ v r. query_verdict_one (returns-then-layout_end-bytes-clause-reads c) r
 
 pub query_of-requires-2-clause-of_bytes : goal.query_of-requires-2-clause-of_bytes
 query_of-requires-2-clause-of_bytes c =
@@ -93,9 +81,6 @@ returns-clause-reads c =
     let s : SkipsFrom c.args.bytes.now c.in-Some.last.end (length c.args.bytes.now) = rw (← all) c.layout_end.ensures.skips in
     answers_as query_view (Tests c.args.bytes.now c.layout_end-start.result IsQuery c.in-Some.before.now) (ReadsQuery c.args.bytes.now) c.query_of-2.result
     (λ v t. verdicts.ended c.in-Some.last c.layout_end-start.ensures.skips r c.in-Some.ensures.end s t) c.query_of-2.ensures
-
-pub returns-clause-only : goal.returns-clause-only
-returns-clause-only c = λ v r. answers_as query_view (ReadsQuery c.args.bytes.now) (λ w. w ≡ v) c.query_of-2.result (λ w q. query_verdict_one q r) (returns-clause-reads c)
 
 pub returns-in_default-clause-size : goal.returns-in_default-clause-size
 returns-in_default-clause-size c = answered_size c.args.bytes.now c.query_of.result (returns-in_default-clause-reads c)

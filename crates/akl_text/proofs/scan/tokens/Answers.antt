@@ -1,6 +1,6 @@
 use Rattle.std.proofs.Common.{◌≡◌, ◌+◌, length, drop, arith, sym, ap, ◌∙◌, refl}
 use Rattle.std.proofs.lemmas.List.{length-drop, drop-drop}
-use Rattle.akl_text.proofs.Reading.{one_reading, read_tokens}
+use Rattle.akl_text.proofs.Reading.{read_tokens}
 use Rattle.akl_text.proofs.SoFar.{so_far_layout, so_far_token, so_far_last, so_far_stuck, so_far_end, so_far_at}
 use Rattle.akl_text.proofs.scan.tokens.Goals as goal
 
@@ -19,17 +19,11 @@ returns-in_default-longest-clause-read c =
     let e = c.rest_from-rest.ensures in
     so_far_stuck (so_far_at c.loop-at.invariant.so_far (sym e)) (omega (arith, ap length e, length-drop c.loop-at.at c.args.bytes.now, c.loop-at-test.true)) c.in_default.ensures.none c.in_default-longest.ensures.none
 
-pub returns-in_default-longest-clause-only : goal.returns-in_default-longest-clause-only
-returns-in_default-longest-clause-only c = λ o r. one_reading (returns-in_default-longest-clause-read c) r
-
 pub returns-in-End-clause-read : goal.returns-in-End-clause-read
 returns-in-End-clause-read c =
     let e = c.rest_from-rest.ensures in
     rw c.in_ok-push.ensures.items
     (so_far_last (so_far_at c.loop-at.invariant.so_far (sym e)) c.in-Some-longest.kind c.in-Some-longest.len c.in-Some-longest.ensures.found c.in-Some-longest.ensures.within.1 c.in-End.is)
-
-pub returns-in-End-clause-only : goal.returns-in-End-clause-only
-returns-in-End-clause-only c = λ o r. one_reading (returns-in-End-clause-read c) r
 
 pub returns-in-End-clause-spelled : goal.returns-in-End-clause-spelled
 returns-in-End-clause-spelled c = read_tokens c.args.bytes.now (returns-in-End-clause-read c) c.requires refl
@@ -46,9 +40,6 @@ loop-at-preserved c =
 
 pub returns-clause-read : goal.returns-clause-read
 returns-clause-read c = so_far_end c.loop-at.invariant.so_far (omega (arith, length-drop c.loop-at.at c.args.bytes.now, c.loop-at-test.false))
-
-pub returns-clause-only : goal.returns-clause-only
-returns-clause-only c = λ o r. one_reading (returns-clause-read c) r
 
 pub returns-clause-spelled : goal.returns-clause-spelled
 returns-clause-spelled c = read_tokens c.args.bytes.now (returns-clause-read c) c.requires refl

@@ -2,7 +2,7 @@ use Rattle.std.proofs.Common.{◌≡◌, subst, sym, arith, [], ◌∷◌, drop,
 use Rattle.akl_terms.specs.Template.{tree}
 use Rattle.answer_text.specs.declared.lines.AnswerError.TheVariants as variants
 use Rattle.answer_text.specs.Printed.{PrintsLines}
-use Rattle.answer_text.specs.Answers.{shown_trees}
+use Rattle.answer_text.specs.Answers.{longest_answer, shown_trees}
 use Rattle.answer_text.specs.Pieces.{Moves, line_begun, Overruns}
 use Rattle.answer_text.proofs.Whole.{Covers, Covers-begun, Covers-more, Covers-text, Covers-long, lines-at, lines-end}
 use Rattle.answer_text.proofs.lines.answer.Goals as goal
@@ -11,7 +11,7 @@ pub loop-line-init : goal.loop-line-init
 loop-line-init g c = record {
   covers = subst (λ s. Covers c.args.templates.now (g.V.Representatives.go c.args.values.now c.args.templates.now.nodes) (shown_trees c.args.templates.now c.args.shown.now) (shown_trees c.args.templates.now c.args.shown.now) s)
       (sym c.new-printer.ensures) (Covers-begun c.args.templates.now (g.V.Representatives.go c.args.values.now c.args.templates.now.nodes) (shown_trees c.args.templates.now c.args.shown.now));
-  short = subst (λ s. length s.out ≤ 1000000) (sym c.new-printer.ensures) (omega arith);
+  short = subst (λ s. length s.out ≤ longest_answer) (sym c.new-printer.ensures) (omega arith);
 }
 
 pub loop-line-preserved : goal.loop-line-preserved
@@ -36,9 +36,9 @@ returns-in_err-print_all-clause-long g c e =
     lines-at c.args.templates.now c.args.shown.now c.loop-line.line-index c.line-item.result c.loop-line-test.true c.line-item.is in
     let long : c.print_all.result ≡ Err variants.Long = search rules in
     Covers-long c.args.templates.now (g.V.Representatives.go c.args.values.now c.args.templates.now.nodes) c.args.shown.now
-    (drop (c.loop-line.line-index + 1) (shown_trees c.args.templates.now c.args.shown.now)) c.line-item.result.name c.line-item.result.term c.loop-line.printer 1000000
+    (drop (c.loop-line.line-index + 1) (shown_trees c.args.templates.now c.args.shown.now)) c.line-item.result.name c.line-item.result.term c.loop-line.printer
     (subst (λ rest. Covers c.args.templates.now (g.V.Representatives.go c.args.values.now c.args.templates.now.nodes) (shown_trees c.args.templates.now c.args.shown.now) rest c.loop-line.printer) here c.loop-line.invariant.covers)
-    (subst (λ s. Overruns c.args.templates.now (g.V.Representatives.go c.args.values.now c.args.templates.now.nodes) s 1000000)
+    (subst (λ s. Overruns c.args.templates.now (g.V.Representatives.go c.args.values.now c.args.templates.now.nodes) s)
     (subst (λ n. c.begin_line.new.self ≡ line_begun n c.line-item.result.term c.loop-line.printer) c.as_str.ensures c.in_ok-begin_line.ensures) (c.print_all.ensures.long long))
 
 pub returns-clause-text : goal.returns-clause-text

@@ -1,6 +1,6 @@
 use Rattle.std.proofs.Common.{map, sym}
 use Rattle.std.proofs.lemmas.List.{length-map}
-use Rattle.akl_syntax.specs.View.{tree}
+use Rattle.term_syntax.specs.View.{tree}
 use Rattle.clause_checks.proofs.Counting.{count_trees}
 use Rattle.clause_checks.proofs.arguments.+terms.Goals as goal
 

@@ -1,6 +1,6 @@
 use Rattle.std.proofs.Common.{◌≡◌, map, drop}
-use Rattle.akl_syntax.specs.Tree.{trees, steps}
-use Rattle.akl_syntax.specs.View.{tree, step}
+use Rattle.term_syntax.specs.Tree.{trees, steps}
+use Rattle.term_syntax.specs.View.{tree, step}
 use Rattle.clause_checks.specs.Rows.{first_wide_in_terms, first_wide_in_steps}
 use Rattle.clause_checks.proofs.arguments.+terms.Given as given
 

@@ -1,6 +1,6 @@
 use Rattle.std.proofs.Common.{arith}
 use Rattle.std.proofs.lemmas.List.{length-map}
-use Rattle.akl_syntax.specs.View.{tree}
+use Rattle.term_syntax.specs.View.{tree}
 use Rattle.akl_syntax.specs.Answers.{clause_view}
 use Rattle.clause_keys.proofs.Defined.{few_arguments}
 use Rattle.clause_checks.proofs.keys.clause_key.Goals as goal

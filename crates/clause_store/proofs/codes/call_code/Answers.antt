@@ -1,7 +1,7 @@
 use Rattle.std.proofs.Common.{◌≡◌, ◌∙◌, ap, sym, map, length}
 use Rattle.std.proofs.lemmas.List.{length-map}
-use Rattle.akl_syntax.specs.Tree.{trees}
-use Rattle.akl_syntax.specs.View.{tree}
+use Rattle.term_syntax.specs.Tree.{trees}
+use Rattle.term_syntax.specs.View.{tree}
 use Rattle.clause_keys.specs.Conditions.{count}
 use Rattle.clause_keys.specs.Reserved.{reserved_of}
 use Rattle.clause_store.proofs.Coded.{count_trees, reserved_put, call_put, no_such_callee}

@@ -1,6 +1,6 @@
 use Rattle.std.proofs.Common.{◌∙◌, ap, sym, length, refl, arith}
 use Rattle.std.proofs.lemmas.List.{length-map}
-use Rattle.akl_syntax.specs.View.{tree}
+use Rattle.term_syntax.specs.View.{tree}
 use Rattle.clause_store.proofs.Defined.{clause_put}
 use Rattle.clause_store.proofs.definitions.load_clause.Goals as goal
 

@@ -1,6 +1,6 @@
 use Rattle.std.proofs.Common.{◌≡◌, ◌<◌, ◌∙◌, ap, sym, map, length, refl, arith, rules}
 use Rattle.std.proofs.lemmas.List.{length-map}
-use Rattle.akl_syntax.specs.View.{tree}
+use Rattle.term_syntax.specs.View.{tree}
 use Rattle.akl_syntax.specs.Sizes.{clauses_size}
 use Rattle.akl_syntax.specs.Answers.{clause_view}
 use Rattle.akl_syntax.proofs.PartTurns.{part_is}

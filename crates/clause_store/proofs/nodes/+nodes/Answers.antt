@@ -3,10 +3,10 @@ use Rattle.std.proofs.lemmas.List.{take_all, drop_all, length-map}
 use Rattle.std.proofs.lemmas.Int.{to_z-of_z}
 use mir.Val.{SFits}
 use mir.Syntax.{w64}
-use Rattle.akl_syntax.specs.Tree.{Step}
-use Rattle.akl_syntax.specs.Sizes.{tree_size}
-use Rattle.akl_syntax.specs.View.{tree, step}
-use Rattle.akl_syntax.proofs.Trees.{tree_step, tree_var, tree_int, tree_struct}
+use Rattle.term_syntax.specs.Tree.{Step}
+use Rattle.term_syntax.specs.Sizes.{tree_size}
+use Rattle.term_syntax.specs.View.{tree, step}
+use Rattle.term_syntax.proofs.Trees.{tree_step, tree_var, tree_int, tree_struct}
 use Rattle.clause_store.proofs.Growing.{interned, node_after, each_after}
 use Rattle.clause_store.proofs.Sums.{more_taken, one_dropped, next_taken, next_dropped, taken_within, trees_sum, steps_sum}
 use Rattle.clause_store.proofs.Turns.{group_start, group_more, group_room, group_length, group_put, symbol_room, right_room, left_after, chain_more, pair_room, list_start, list_more, list_room, rest_after, empty_end, variable_put, integer_put, compound_put}

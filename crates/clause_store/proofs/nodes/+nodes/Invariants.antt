@@ -1,7 +1,7 @@
 use Rattle.std.proofs.Common.{◌+◌, ◌*◌, map, take, drop}
-use Rattle.akl_syntax.specs.Tree.{trees, steps}
-use Rattle.akl_syntax.specs.Sizes.{tree_size, trees_size, tail_size, steps_size}
-use Rattle.akl_syntax.specs.View.{tree, step, tail_view}
+use Rattle.term_syntax.specs.Tree.{trees, steps}
+use Rattle.term_syntax.specs.Sizes.{tree_size, trees_size, tail_size, steps_size}
+use Rattle.term_syntax.specs.View.{tree, step, tail_view}
 use Rattle.clause_store.proofs.Turns.{GroupSoFar, ChainSoFar, ListSoFar}
 use Rattle.clause_store.proofs.nodes.+nodes.Given as goal
 

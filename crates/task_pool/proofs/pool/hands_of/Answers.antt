@@ -1,13 +1,13 @@
-use Rattle.std.proofs.Common.{◌≡◌, ℕ, ◌+◌, [], ◌∷◌, ◌++◌, length, map, replicate, slice_get, All, ap, sym, ◌∙◌, subst, append_assoc, length-append, arith}
+use Rattle.std.proofs.Common.{◌≡◌, ℕ, ◌+◌, [], ◌∷◌, ◌++◌, length, map, replicate, slice_get, All, refl, ap, sym, ◌∙◌, subst, append_assoc, length-append, arith}
 use Rattle.std.proofs.lemmas.List.{map-append, length-map}
 use Rattle.std.proofs.lemmas.List.Elements.{All-append, All-nil}
 use Rattle.std.proofs.lemmas.Option.{slice_get_within}
 use Rattle.std.specs.Vec.Iter.{into_iter_items}
 use Rattle.crossbeam_deque.specs.Handles.{worker_deque}
 use Rattle.task_pool.specs.Hands.{standing_of, IsHand}
-use Rattle.task_pool.specs.Keeps.{all_more}
+use Rattle.task_pool.proofs.Keeps.{all_more}
 use Rattle.task_pool.specs.Owners.{IsFresh, AreFreshWays}
-use Rattle.task_pool.specs.Places.{Place, Standing, places_from}
+use Rattle.task_pool.specs.Places.{Place, Standing, IsNew, places_from}
 use Rattle.task_pool.proofs.Begins.{at_seam, all_at, places_snoc, none_to_come, begun, is_hand, begins_at, begins_empty}
 use Rattle.task_pool.proofs.Gathers.{get_mapped}
 use Rattle.task_pool.proofs.pool.hands_of.Goals as goal
@@ -35,8 +35,8 @@ invariant_of-push c =
     let row_at = at_seam l.rows.0 c.in-Some-next.ways _ c.args.rows.items (ap (λ rs. l.rows.0 ++ rs) (sym c.in-Some-next.ensures.items) ∙ l.rows.1) in
     let row : AreFreshWays j ids c.in-Some-next.ways.items = c.requires.rows j c.in-Some-next.ways (ap (λ (n : ℕ). slice_get c.args.rows.items n) (sym l.rows.2) ∙ row_at) in
     let number : c.len-number.result ≡ j = c.len-number.ensures ∙ c.loop-deque.hands.ok.0 ∙ l.count in
-    subst (λ (n : ℕ). IsHand (begun c.in-Some.deque c.in-Some-next.ways ids n c.capacity-room.result)) (sym number)
-    (is_hand c.in-Some.deque c.in-Some-next.ways ids j c.capacity-room.result fresh (get_mapped worker_deque c.args.deques.items j c.in-Some.deque at) row c.capacity-room.ensures)
+    subst (λ (n : ℕ). IsHand (begun c.in-Some.deque c.in-Some-next.ways ids n 64)) (sym number)
+    (is_hand c.in-Some.deque c.in-Some-next.ways ids j 64 fresh (get_mapped worker_deque c.args.deques.items j c.in-Some.deque at) row refl)
 
 pub loop-deque-preserved : goal.loop-deque-preserved
 loop-deque-preserved c =
@@ -49,15 +49,15 @@ loop-deque-preserved c =
     let row_at = at_seam l.rows.0 c.in-Some-next.ways _ c.args.rows.items (ap (λ rs. l.rows.0 ++ rs) (sym c.in-Some-next.ensures.items) ∙ l.rows.1) in
     let row : AreFreshWays j ids c.in-Some-next.ways.items = c.requires.rows j c.in-Some-next.ways (ap (λ (n : ℕ). slice_get c.args.rows.items n) (sym l.rows.2) ∙ row_at) in
     let number : c.len-number.result ≡ j = c.len-number.ensures ∙ c.loop-deque.hands.ok.0 ∙ l.count in
-    let hand : Standing = standing_of (begun c.in-Some.deque c.in-Some-next.ways ids c.len-number.result c.capacity-room.result) in
+    let hand : Standing = standing_of (begun c.in-Some.deque c.in-Some-next.ways ids c.len-number.result 64) in
     let items : c.push.new.self.items ≡ c.loop-deque.hands.items ++ hand ∷ [] = c.in_ok-push.ensures.items in
     let longer = length-append c.loop-deque.yielded (c.in-Some.deque ∷ []) in
     let next : length (c.loop-deque.yielded ++ c.in-Some.deque ∷ []) ≡ j + 1 = omega arith in
     let place : hand.place ≡ record { pool = ids; number = 0 + j } =
-    ap (λ (n : ℕ). (standing_of (begun c.in-Some.deque c.in-Some-next.ways ids n c.capacity-room.result)).place) number
-    ∙ begins_at c.in-Some.deque c.in-Some-next.ways ids j c.capacity-room.result row
+    ap (λ (n : ℕ). (standing_of (begun c.in-Some.deque c.in-Some-next.ways ids n 64)).place) number
+    ∙ begins_at c.in-Some.deque c.in-Some-next.ways ids j 64 row
     ∙ (let z : j ≡ 0 + j = omega arith in ap (λ (n : ℕ). record { pool = ids; number = n }) z) in
-    let empty = begins_empty c.in-Some.deque c.in-Some-next.ways ids j c.capacity-room.result fresh row in
+    let empty = begins_empty c.in-Some.deque c.in-Some-next.ways ids j 64 fresh row in
     record {
       deques = append_assoc c.loop-deque.yielded (c.in-Some.deque ∷ []) (into_iter_items c.next.new.self) ∙ ap (λ ds. c.loop-deque.yielded ++ ds) (sym c.in-Some.ensures.steps.0) ∙ l.deques;
       rows = (
@@ -72,11 +72,11 @@ loop-deque-preserved c =
           ∙ ap (λ (p : Place). places_from ids 0 j ++ p ∷ []) place
           ∙ sym (places_snoc ids 0 j)
           ∙ ap (λ (n : ℕ). places_from ids 0 n) (sym next);
-      fresh = subst (All (λ (h : Standing). (h.pushed ≡ []) × (h.taken ≡ replicate (length c.args.deques.items) []))) (sym items)
-          (All-append (λ (h : Standing). (h.pushed ≡ []) × (h.taken ≡ replicate (length c.args.deques.items) [])) c.loop-deque.hands.items (hand ∷ []) l.fresh
-          (all_more (λ (h : Standing). (h.pushed ≡ []) × (h.taken ≡ replicate (length c.args.deques.items) [])) hand []
-          (empty.0, empty.1 ∙ ap (λ (n : ℕ). replicate n []) count)
-          (All-nil (λ (h : Standing). (h.pushed ≡ []) × (h.taken ≡ replicate (length c.args.deques.items) [])))));
+      fresh = subst (All (IsNew (length c.args.deques.items))) (sym items)
+          (All-append (IsNew (length c.args.deques.items)) c.loop-deque.hands.items (hand ∷ []) l.fresh
+          (all_more (IsNew (length c.args.deques.items)) hand []
+          (refl, empty.0, empty.1, empty.2 ∙ ap (λ (n : ℕ). replicate n []) count)
+          (All-nil (IsNew (length c.args.deques.items)))));
     }
 
 pub returns-clause-pool : goal.returns-clause-pool

@@ -5,7 +5,7 @@ use Rattle.crossbeam_deque.specs.Handles.{worker_deque}
 use Rattle.std.proofs.Math.Seq.{take-length}
 use Rattle.task_pool.specs.declared.rule.InOrder.{InOrder}
 use Rattle.task_pool.specs.declared.way.Way.{Way}
-use Rattle.task_pool.specs.Keeps.{all_more}
+use Rattle.task_pool.proofs.Keeps.{all_more}
 use Rattle.task_pool.specs.Owners.{IsFresh}
 use Rattle.task_pool.specs.Views.{taken_of}
 use Rattle.task_pool.specs.Ways.{IsWayOf, deque_of, taken_through}

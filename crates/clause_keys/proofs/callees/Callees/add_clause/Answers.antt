@@ -1,7 +1,7 @@
 use Rattle.std.proofs.Common.{◌<◌, refl, arith, rules}
 use Rattle.std.proofs.lemmas.List.{length-map}
 use Rattle.akl_syntax.specs.declared.source.Head.TheVariants as heads
-use Rattle.akl_syntax.specs.View.{tree}
+use Rattle.term_syntax.specs.View.{tree}
 use Rattle.akl_syntax.specs.Answers.{clause_view}
 use Rattle.clause_keys.proofs.Defined.{defined_is, few_arguments}
 use Rattle.clause_keys.proofs.callees.Callees.add_clause.Goals as goal

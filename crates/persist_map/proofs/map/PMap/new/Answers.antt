@@ -3,4 +3,4 @@ use Rattle.persist_map.proofs.map.PMap.new.Goals as goal
 
 pub invariant_of-result : goal.invariant_of-result
 unfolding IsStrictlySortedBy
-invariant_of-result g c = tt
+invariant_of-result g c = record { ordered = tt; balanced = tt }

@@ -1,11 +1,11 @@
-use Rattle.std.proofs.Common.{◌≡◌, ℕ, List, [], ◌∷◌, ◌++◌, length, map, replicate, slice_get, All, IfOk, Vec, ap, sym, ◌∙◌, subst, length-append, arith}
+use Rattle.std.proofs.Common.{◌≡◌, ℕ, List, [], ◌∷◌, ◌++◌, length, map, slice_get, All, IfOk, Vec, ap, sym, ◌∙◌, subst, length-append, arith}
 use Rattle.std.proofs.lemmas.List.{length-map}
 use Rattle.std.specs.Global.{Global}
 use Rattle.crossbeam_deque.specs.Handles.{worker_deque}
 use Rattle.task_pool.specs.declared.rule.InOrder.{InOrder}
 use Rattle.task_pool.specs.declared.way.Way.{Way}
 use Rattle.task_pool.specs.Owners.{AreFreshWays}
-use Rattle.task_pool.specs.Places.{DequeId, Standing}
+use Rattle.task_pool.specs.Places.{DequeId, IsNew}
 use Rattle.task_pool.proofs.Begins.{one_more_at}
 use Rattle.task_pool.proofs.pool.Pool.new.Goals as goal
 
@@ -35,4 +35,4 @@ loop-preserved c =
 
 pub returns-clause-fresh : goal.returns-clause-fresh
 returns-clause-fresh c =
-    subst (λ (n : ℕ). IfOk c.hands_of.result (λ hands. All (λ (h : Standing). (h.pushed ≡ []) × (h.taken ≡ replicate n [])) hands.items)) c.loop.invariant.count c.hands_of.ensures.fresh
+    subst (λ (n : ℕ). IfOk c.hands_of.result (λ hands. All (IsNew n) hands.items)) c.loop.invariant.count c.hands_of.ensures.fresh

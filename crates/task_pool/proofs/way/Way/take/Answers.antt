@@ -9,7 +9,7 @@ steal_as-requires-clause-table g c = c.loop.invariant.pass
 
 pub steal_as-requires-clause-takes : goal.steal_as-requires-clause-takes
 steal_as-requires-clause-takes g c =
-    g.met.P.Rule.takes_keep _ _ _ _ (ap (λ (v : View). v.accounts) (c.loop.invariant.view ∙ c.requires.1.2))
+    c.laws.ensures.takes _ _ _ _ (ap (λ (v : View). v.accounts) (c.loop.invariant.view ∙ c.requires.1.2))
 
 pub steal_as-requires-clause-empty : goal.steal_as-requires-clause-empty
 steal_as-requires-clause-empty g c =

@@ -1,0 +1,9 @@
+pub mod Brackets
+pub mod Faults
+pub mod Lexemes
+pub mod Limits
+pub mod Memory
+pub mod Named
+pub mod NumberMap
+pub mod Occurrences
+pub mod Parsed

@@ -1,0 +1,35 @@
+-- Which frames the terms of a box may use: its own, and its equations also those of the box directly around it.
+use Rattle.std.specs.Prelude.{List, ◌++◌, ⊤}
+use Rattle.akl_terms.specs.declared.program.Program.{Program}
+use Rattle.akl_terms.specs.declared.program.Query.{Query}
+use Rattle.akl_model.specs.declared.label.Rule.{Rule}
+use Rattle.akl_model.specs.declared.label.Label.{Label}
+use Rattle.akl_model.specs.Config.{Content, Boxes, no_boxes, box, Goals, no_goals, atom, choice, Config}
+use Rattle.akl_model.specs.Renaming.{port_names}
+use Rattle.akl_model.specs.Derivations.{Replays}
+use Rattle.akl_model.specs.Scopes.{Scope, nowhere, scope_in, EquationsScoped, AtomScoped, AtomsScoped, TailsScoped, ShownScoped}
+
+-- the frames of a box alone, and the ports of it and of the boxes around it
+abbrev pub own_in : Scope → Content → Scope
+own_in s b = record { frames = b.frames; ports = port_names b.ports ++ s.ports }
+
+-- in a box whose own scope is s: the frames of s stand in the equations, argument = head argument, alone
+pub record ContentOwned (s : Scope) (b : Content) : Type 0 where
+  pub equations : EquationsScoped (scope_in s b) b.equations
+  pub tails : TailsScoped (own_in s b) b.ports
+  pub body : AtomsScoped (own_in s b) b.body
+  pub shown : ShownScoped (own_in s b) b.shown
+
+abbrev mutual
+  pub BoxesOwned : Scope → Boxes → Type 0
+  BoxesOwned s no_boxes = ⊤
+  BoxesOwned s (box b gs bs) = ContentOwned s b × GoalsOwned (own_in s b) gs × BoxesOwned s bs
+
+  pub GoalsOwned : Scope → Goals → Type 0
+  GoalsOwned s no_goals = ⊤
+  GoalsOwned s (atom g a gs) = AtomScoped s a × GoalsOwned s gs
+  GoalsOwned s (choice g o bs gs) = BoxesOwned s bs × GoalsOwned s gs
+
+-- so it is in the replay of every journal
+abbrev pub OwnedLaw : Type 0
+OwnedLaw = (rules : List Rule) (p : Program) (q : Query) (journal : List Label) (c : Config) → Replays rules p q journal c → BoxesOwned nowhere c.roots

@@ -1,4 +1,0 @@
-use Rattle.akl_terms.proofs.tests.steps_take_no_room.Given as goal
-
-abbrev pub ghosts-two_steps : goal.ghosts-two_steps
-ghosts-two_steps g a = record { name = a.blank.name; parts = a.blank.parts }

@@ -1,0 +1,56 @@
+use Rattle.std.proofs.Common.{◌≡◌, false, ltb, ◌&&◌, sym, ◌∙◌, arith}
+use Rattle.persist_map.specs.Contents.{height_of}
+use Rattle.persist_map.specs.Changes.{may_shrink}
+use Rattle.persist_map.proofs.Forks.{has_top, has_balanced_top, joined_in_place, same_tree}
+use Rattle.persist_map.proofs.Heights.{taken_in_place}
+use Rattle.persist_map.proofs.Removals.{taken_left, taken_right}
+use Rattle.persist_map.proofs.tree.Tree.+remove.Goals as goal
+
+pub remove-requires : goal.remove-requires
+remove-requires g t c κs within =
+    let top = has_top g.K.Ord.cmp c.args.self.now c.in-Fork.shared c.in-Some.fork.now c.in-Fork.is c.in-Some.ensures.value c.requires.tree.ordered in
+    let high = has_balanced_top g.K.Ord.cmp c.args.self.now c.in-Fork.shared c.in-Some.fork.now c.in-Fork.is c.in-Some.ensures.value c.requires.tree.balanced in
+    let smaller = c.decreases in
+    let room = c.requires.room in
+    (omega arith, (within.0, (within.1, (c.requires.keys, (c.requires.values, (record { ordered = top.left_ordered; balanced = high.fork.left }, omega arith))))))
+
+pub remove-requires-in-Greater : goal.remove-requires-in-Greater
+remove-requires-in-Greater g t c κs within =
+    let top = has_top g.K.Ord.cmp c.args.self.now c.in-Fork.shared c.in-Some.fork.now c.in-Fork.is c.in-Some.ensures.value c.requires.tree.ordered in
+    let high = has_balanced_top g.K.Ord.cmp c.args.self.now c.in-Fork.shared c.in-Some.fork.now c.in-Fork.is c.in-Some.ensures.value c.requires.tree.balanced in
+    let smaller = c.decreases in
+    let room = c.requires.room in
+    (omega arith, (within.0, (within.1, (c.requires.keys, (c.requires.values, (record { ordered = top.right_ordered; balanced = high.fork.right }, omega arith))))))
+
+pub returns-in_ok-remove-in-Less-clause-ok : goal.returns-in_ok-remove-in-Less-clause-ok
+returns-in_ok-remove-in-Less-clause-ok g t c =
+    let top = has_top g.K.Ord.cmp c.args.self.now c.in-Fork.shared c.in-Some.fork.now c.in-Fork.is c.in-Some.ensures.value c.requires.tree.ordered in
+    let high = has_balanced_top g.K.Ord.cmp c.args.self.now c.in-Fork.shared c.in-Some.fork.now c.in-Fork.is c.in-Some.ensures.value c.requires.tree.balanced in
+    let taken = c.in_ok-remove-in-Less.ensures.ok in
+    let sides = taken_in_place _ _ _ _ high.fork.sides (sym c.falls_short_of.ensures ∙ c.if-not-falls_short_of.true) taken.not_higher taken.at_most_one_lower in
+    taken_left g.K.Ord.cmp g.met.K.Ord.total _ _ top high _ (sym c.in-Less.ensures) _ _ _ taken (same_tree _) (joined_in_place _ (record { left = taken.balanced; right = high.fork.right; kept = omega arith; sides = sides }))
+
+pub returns-in_ok-remove-in-Greater-clause-ok : goal.returns-in_ok-remove-in-Greater-clause-ok
+returns-in_ok-remove-in-Greater-clause-ok g t c =
+    let top = has_top g.K.Ord.cmp c.args.self.now c.in-Fork.shared c.in-Some.fork.now c.in-Fork.is c.in-Some.ensures.value c.requires.tree.ordered in
+    let high = has_balanced_top g.K.Ord.cmp c.args.self.now c.in-Fork.shared c.in-Some.fork.now c.in-Fork.is c.in-Some.ensures.value c.requires.tree.balanced in
+    let taken = c.in_ok-remove-in-Greater.ensures.ok in
+    let apart = high.fork.sides in
+    let f = c.in-Some.fork.now in
+    let stays : (ltb (height_of f.right) (height_of f.left) && may_shrink g.K.Ord.cmp c.args.key.now f.right) ≡ false = cc (c.if-not-falls_short_of-2.ensures, c.if-not-falls_short_of-2.true) in
+    let sides = taken_in_place _ _ _ _ (apart.1, apart.0) stays taken.not_higher taken.at_most_one_lower in
+    taken_right g.K.Ord.cmp g.met.K.Ord.total _ _ top high _ (sym c.in-Greater.ensures) _ _ _ taken (same_tree _) (joined_in_place _ (record { left = high.fork.left; right = taken.balanced; kept = omega arith; sides = (sides.1, sides.0) }))
+
+pub overflow_add-fork : goal.overflow_add-fork
+overflow_add-fork g t c =
+    let high = has_balanced_top g.K.Ord.cmp c.args.self.now c.in-Fork.shared c.in-Some.fork.now c.in-Fork.is c.in-Some.ensures.value c.requires.tree.balanced in
+    let taken = c.in_ok-remove-in-Less.ensures.ok in
+    let room = c.requires.room in
+    omega arith
+
+pub overflow_add-fork-in-Greater : goal.overflow_add-fork-in-Greater
+overflow_add-fork-in-Greater g t c =
+    let high = has_balanced_top g.K.Ord.cmp c.args.self.now c.in-Fork.shared c.in-Some.fork.now c.in-Fork.is c.in-Some.ensures.value c.requires.tree.balanced in
+    let taken = c.in_ok-remove-in-Greater.ensures.ok in
+    let room = c.requires.room in
+    omega arith

@@ -1,0 +1,5 @@
+//! Tests of the run of a command.
+#![tactic(auto)]
+
+#[cfg(test)]
+mod commands;
