@@ -46,7 +46,11 @@ fn reserved_goals_have_their_meaning(rt: HostRuntime) -> Result<(), Fail> {
         ("append", 2, "none"),
     ];
     for (symbol, arity, meaning) in cases {
-        assert_eq!(rt; named(meaning_of(symbol, arity)), meaning, "{symbol}/{arity}");
+        assert_eq!(rt;
+            named(meaning_of(symbol, arity)),
+            meaning,
+            "{symbol}/{arity}"
+        );
     }
     Ok(())
 }
