@@ -6,7 +6,7 @@ ghost use Rattle.clause_keys.specs.Reserved.{without_arguments, with_two, reserv
 use akl_terms::Test;
 
 /// The meaning of a goal that calls no definition.
-#[derive(Clone, Copy, Debug, PartialEq, Eq)]
+#[derive(Clone, Copy)]
 pub enum Reserved {
     /// `true`, which gives no goal at all.
     True,

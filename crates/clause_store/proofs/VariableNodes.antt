@@ -4,7 +4,7 @@ use Rattle.std.specs.Prelude.{All, slice_get}
 use Rattle.std.proofs.lemmas.List.{length-map}
 use Rattle.akl_terms.specs.declared.term.Node.{Node}
 use Rattle.akl_terms.specs.Template.{Template, IsAfter}
-use Rattle.akl_syntax.specs.Sizes.{trees_size}
+use Rattle.term_syntax.specs.Sizes.{trees_size}
 use Rattle.clause_store.specs.Plain.{plains}
 use Rattle.clause_store.specs.Codes.{variables}
 use Rattle.clause_store.specs.Standing.{stands_variable, ArePut}

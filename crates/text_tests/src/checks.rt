@@ -1,17 +1,41 @@
-//! Refusals by their lines, at the limits and one past them.
+//! Refusals of loading, at the limits and one past them.
 
-use crate::{LoadError, check_clauses, check_goals};
-use akl_syntax::{SourceClause, check_query, read_program, read_query};
-use akl_terms::{Definition, Items, Key, Op, Program, Templates, Text};
+use akl_syntax::{check_query, read_program, read_query};
+use akl_terms::Key;
+use clause_checks::{Limit, LoadError, check_clauses, check_goals};
+use clause_store::load;
 use std::alloc::Global;
 use std::test::*;
+
+/// A key as it is written here.
+fn keyed(alloc: Global, what: &str, key: &Key) -> Result<String, Fail> {
+    let symbol = key.symbol.as_str();
+    let arity = key.arity;
+    Ok(format!(in alloc; "{what} {symbol}/{arity}")?)
+}
+
+/// What there is too much of.
+fn limited(what: Limit) -> &'static str {
+    match what {
+        Limit::Clauses => "clauses",
+        Limit::PerDefinition => "clauses of one definition",
+        Limit::Variables => "variables",
+        Limit::Arity => "arguments",
+    }
+}
 
 /// The line of a refusal, or `loaded`.
 fn line(alloc: Global, answer: Result<(), LoadError>) -> Result<String, Fail> {
     match answer {
         Ok(()) => Ok(String::from_str(alloc, "loaded")?),
+        Err(LoadError::MixedGuards { key }) => keyed(alloc, "mixed guards in", &key),
+        Err(LoadError::Undefined { key }) => keyed(alloc, "undefined", &key),
+        Err(LoadError::Reserved { key }) => keyed(alloc, "reserved", &key),
+        Err(LoadError::TooMany { what, count }) => {
+            let what = limited(what);
+            Ok(format!(in alloc; "too many {what}, {count}")?)
+        }
         Err(LoadError::Memory(error)) => Err(error.into()),
-        Err(error) => Ok(format!(in alloc; "{error}")?),
     }
 }
 
@@ -23,35 +47,7 @@ fn program(alloc: Global, text: &str) -> Result<String, Fail> {
     line(alloc, check_clauses(alloc, &clauses))
 }
 
-/// A program that defines `p/1` and the number 3.
-fn defining(alloc: Global) -> Result<Program, Fail> {
-    let mut definitions = Vec::new(alloc);
-    definitions.push(Definition {
-        key: Key {
-            symbol: Text::from_str(alloc, "p")?,
-            arity: 1,
-        },
-        lifted: None,
-        op: Op::Choice,
-        clauses: Items::new(Vec::new(alloc)),
-    })?;
-    definitions.push(Definition {
-        key: Key {
-            symbol: Text::from_str(alloc, "q")?,
-            arity: 0,
-        },
-        lifted: Some(3),
-        op: Op::Choice,
-        clauses: Items::new(Vec::new(alloc)),
-    })?;
-    Ok(Program {
-        templates: Templates::new(alloc),
-        definitions: Items::new(definitions),
-        cell: 0,
-    })
-}
-
-/// What is answered for a query over that program.
+/// What is answered for a query over a program without clauses.
 fn query(alloc: Global, text: &str) -> Result<String, Fail> {
     if let Err(_) = check_query(text.as_bytes()) {
         return Err("too long".into());
@@ -59,7 +55,7 @@ fn query(alloc: Global, text: &str) -> Result<String, Fail> {
     let Ok(found) = read_query(alloc, text.as_bytes()) else {
         return Err("no query".into());
     };
-    let program = defining(alloc)?;
+    let program = load(alloc, Vec::new(alloc))?;
     line(alloc, check_goals(alloc, &program, &found))
 }
 
@@ -69,20 +65,6 @@ fn same(found: String, want: &str) -> Result<(), Fail> {
         return Ok(());
     }
     Err(found)?
-}
-
-fn programs(alloc: Global, cases: &[(&str, &str)]) -> Result<(), Fail> {
-    for (text, want) in cases {
-        same(program(alloc, text)?, want)?;
-    }
-    Ok(())
-}
-
-fn queries(alloc: Global, cases: &[(&str, &str)]) -> Result<(), Fail> {
-    for (text, want) in cases {
-        same(query(alloc, text)?, want)?;
-    }
-    Ok(())
 }
 
 /// The text so often, with a separator between.
@@ -105,57 +87,58 @@ fn between(alloc: Global, before: &str, middle: &str, behind: &str) -> Result<St
     Ok(all)
 }
 
+/// Programs, and what is answered. Where two tests are broken, the earlier test decides, not the earlier clause.
+const PROGRAMS: &str = r"
+ => loaded
+p(a) :- -> true. p(X) :- -> p(X), X = a. => loaded
+p(a) :- -> true. q. p(b) :- | true. => mixed guards in p/1
+p(a) :- -> true. p(a,b) :- | true. p. => loaded
+q. p(X) :- (q ; (q -> q ; q | q)), q. => mixed guards in p/1
+q. p(X) :- (q ? q ; q, (q -> q ; q -> q)). => loaded
+p :- q. => undefined q/0
+p :- q(p), r. q(X). => undefined r/0
+p :- p, (p -> (a(X,X) ; b)), c. => undefined a/2
+p :- a. q :- b. => undefined a/0
+send(a,b). => reserved send/2
+p :- q. 'true'. fail. => reserved true/0
+'='(X,X). => reserved =/2
+send(a). open_port(a,b,c). 'is'. '<'. => loaded
+p :- 'true', 'is'(X,1), '<'(1,2), 'open_port'(P,S). => loaded
+p :- send(X). => undefined send/1
+p :- '[]'. => undefined []/0
+'[]' :- '[]'. => loaded
+p :- ''. => undefined /0
+p :- p(a). => undefined p/1
+p :- q. r :- -> true. r :- | true. => mixed guards in r/0
+r :- -> true. r :- | true. 'is'(X,Y). => reserved is/2
+r. r :- -> true. s. s :- | true. r. => mixed guards in r/0";
+
+/// Queries, and what is answered.
+const QUERIES: &str = r"
+X = a, true => loaded
+X = Y, (X = a -> Y = a ; true -> fail) => loaded
+(X = a -> zz ; X = b | true) => mixed guards in /0
+X = a, (X = b ; (true -> true ; true)) => mixed guards in /0
+zz(1) => undefined zz/1
+true(a) => undefined true/1
+X = Y, (fail ; q(X,Y)), r => undefined q/2";
+
 #[test]
 fn a_program_is_loaded_or_refused(rt: HostRuntime) -> Result<(), Fail> {
-    let cases = [
-        ("", "loaded"),
-        ("p(a) :- -> true. p(X) :- -> p(X), X = a.", "loaded"),
-        ("p(a) :- -> true. q. p(b) :- | true.", "mixed guards in p/1"),
-        ("p(a) :- -> true. p(a,b) :- | true. p.", "loaded"),
-        (
-            "q. p(X) :- (q ; (q -> q ; q | q)), q.",
-            "mixed guards in p/1",
-        ),
-        ("q. p(X) :- (q ? q ; q, (q -> q ; q -> q)).", "loaded"),
-        ("p :- q.", "undefined q/0"),
-        ("p :- q(p), r. q(X).", "undefined r/0"),
-        ("p :- p, (p -> (a(X,X) ; b)), c.", "undefined a/2"),
-        ("p :- a. q :- b.", "undefined a/0"),
-        ("send(a,b).", "reserved send/2"),
-        ("p :- q. 'true'. fail.", "reserved true/0"),
-        ("'='(X,X).", "reserved =/2"),
-        ("send(a). open_port(a,b,c). 'is'. '<'.", "loaded"),
-        (
-            "p :- 'true', 'is'(X,1), '<'(1,2), 'open_port'(P,S).",
-            "loaded",
-        ),
-        ("p :- send(X).", "undefined send/1"),
-        ("p :- '[]'.", "undefined []/0"),
-        ("'[]' :- '[]'.", "loaded"),
-        ("p :- ''.", "undefined /0"),
-        ("p :- p(a).", "undefined p/1"),
-        // Two tests are broken: the earlier test decides, not the earlier clause.
-        ("p :- q. r :- -> true. r :- | true.", "mixed guards in r/0"),
-        ("r :- -> true. r :- | true. 'is'(X,Y).", "reserved is/2"),
-        // The first clause that breaks a test decides.
-        ("r. r :- -> true. s. s :- | true. r.", "mixed guards in r/0"),
-    ];
-    programs(rt.alloc(), &cases)
+    for case in PROGRAMS.lines().skip(1) {
+        let (text, want) = case.split_once(" => ").ok_or("no arrow")?;
+        same(program(rt.alloc(), text)?, want)?;
+    }
+    Ok(())
 }
 
 #[test]
 fn a_query_is_loaded_or_refused(rt: HostRuntime) -> Result<(), Fail> {
-    let cases = [
-        ("p(X), X = a, true", "loaded"),
-        ("p(X), (p(a) -> X = a ; true -> fail)", "loaded"),
-        ("(p(X) -> zz ; p(X) | true)", "mixed guards in /0"),
-        ("p(X), (p(X) ; (true -> true ; true))", "mixed guards in /0"),
-        ("zz(1)", "undefined zz/1"),
-        ("p", "undefined p/0"),
-        ("q", "undefined q/0"),
-        ("p(X), (p(a) ; q(X,Y)), r", "undefined q/2"),
-    ];
-    queries(rt.alloc(), &cases)
+    for case in QUERIES.lines().skip(1) {
+        let (text, want) = case.split_once(" => ").ok_or("no arrow")?;
+        same(query(rt.alloc(), text)?, want)?;
+    }
+    Ok(())
 }
 
 #[test]
@@ -178,16 +161,16 @@ fn an_inline_choice_has_256_parts(rt: HostRuntime) -> Result<(), Fail> {
     let want = "too many clauses of one definition, 257";
     let text = between(alloc, "p(X) :- (p(a) ; (", parts.as_str(), ")).")?;
     same(program(alloc, text.as_str())?, want)?;
-    let text = between(alloc, "(p(a) ; p(X), (", parts.as_str(), "))")?;
+    let text = between(alloc, "(true ; X = a, (", parts.as_str(), "))")?;
     same(query(alloc, text.as_str())?, want)
 }
 
 #[test]
 fn there_are_256_variables(rt: HostRuntime) -> Result<(), Fail> {
     let alloc = rt.alloc();
-    let goals = repeated(alloc, "p(_)", ",", 256)?;
+    let goals = repeated(alloc, "_ = a", ",", 256)?;
     same(query(alloc, goals.as_str())?, "loaded")?;
-    let goals = repeated(alloc, "p(_)", ",", 257)?;
+    let goals = repeated(alloc, "_ = a", ",", 257)?;
     let want = "too many variables, 257";
     same(query(alloc, goals.as_str())?, want)?;
     let text = between(alloc, "p(a). p(b) :- ", goals.as_str(), ".")?;
@@ -227,7 +210,7 @@ fn there_are_32_arguments(rt: HostRuntime) -> Result<(), Fail> {
     same(program(alloc, text.as_str())?, want)?;
     let text = between(alloc, term.as_str(), ".", "")?;
     same(program(alloc, text.as_str())?, want)?;
-    let text = between(alloc, "p(X), X = ", term.as_str(), "")?;
+    let text = between(alloc, "true, X = ", term.as_str(), "")?;
     same(query(alloc, text.as_str())?, want)
 }
 

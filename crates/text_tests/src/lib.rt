@@ -2,6 +2,12 @@
 #![tactic(auto)]
 
 #[cfg(test)]
+mod checks;
+#[cfg(test)]
+mod keys;
+#[cfg(test)]
+mod store;
+#[cfg(test)]
 mod syntax;
 #[cfg(test)]
 mod tokens;

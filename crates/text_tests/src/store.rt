@@ -1,8 +1,8 @@
 //! Each public call once. What texts load as can be tested where their conditions are proved.
 
-use crate::{load, load_query};
 use akl_syntax::SourceQuery;
 use akl_terms::{Name, Seen, Term, Text};
+use clause_store::{load, load_query};
 use std::test::*;
 
 #[test]
