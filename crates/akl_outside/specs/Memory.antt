@@ -1,5 +1,5 @@
 -- What contracts see of a source and a sink in memory.
-use Rattle.std.specs.Prelude.{ℕ, List, ◌++◌, drop}
+use Rattle.std.specs.Prelude.{◌≡◌, ℕ, List, ◌++◌}
 use Rattle.akl_outside.specs.Counts.{next_count}
 
 -- a source: the bytes still to come, the most that one read gives, the numbers of the reads that fail,
@@ -11,13 +11,13 @@ pub record SourceState : Type 0 where
   pub calls : ℕ
   pub faults : ℕ
 
--- after a read that gave so many bytes
-abbrev pub after_read : SourceState → ℕ → SourceState
-after_read state count = record state { left = drop count state.left; calls = next_count state.calls }
-
 -- after a read that failed
 abbrev pub after_failed_read : SourceState → SourceState
 after_failed_read state = record state { calls = next_count state.calls; faults = next_count state.faults }
+
+-- a read gave these bytes
+abbrev pub Gives : SourceState → List ℕ → SourceState → Type 0
+Gives old bytes new = (old.left ≡ bytes ++ new.left) × (new ≡ record old { left = new.left; calls = next_count old.calls })
 
 -- a sink: the bytes taken so far, the most that one write takes, the most that all take,
 -- the numbers of the writes that fail, the number of the next write, and how many have failed

@@ -5,17 +5,14 @@
 //! byte.
 #![tactic(auto)]
 
-pub mod memory_sink;
-pub mod memory_source;
-pub mod stream;
-pub mod traits;
-pub mod transfer;
+mod memory_sink;
+mod memory_source;
+mod stream;
+mod traits;
+mod transfer;
 
 pub use memory_sink::MemorySink;
 pub use memory_source::MemorySource;
 pub use stream::{StreamSink, StreamSource};
 pub use traits::{Failed, Gate, NoGate, Sink, Source};
-pub use transfer::{ReadError, ShortWrite, read_byte, read_up_to, write_all};
-
-#[cfg(test)]
-mod tests;
+pub use transfer::{ReadError, ShortWrite, read_up_to, write_all};

@@ -81,6 +81,10 @@ impl Sink for MemorySink {
 
     ghost faults = { λ s. s.faults };
 
+    ghost write_takes = { λ s bytes t. t ≡ after_write s bytes };
+
+    ghost write_fails = { λ s t. t ≡ after_failed_write s };
+
     /// Fails exactly where the number of this write was chosen to, or the room was used up before.
     /// Else it takes as many bytes as the piece given, the sink's piece and the room left allow. It
     /// takes no memory.
@@ -93,14 +97,14 @@ impl Sink for MemorySink {
         ensures kept { OnErr result (self.new.written ≡ self.old.written) }
         ensures failed { OnErr result (Rose self.old.faults self.new.faults) }
         ensures never_falls { self.old.faults ≤ self.new.faults }
+        ensures takes { IfOk result (λ n. self.new ≡ after_write self.old (take n piece.now)) }
+        ensures fails { OnErr result (self.new ≡ after_failed_write self.old) }
 
         // Which writes fail, and how many bytes the others take.
-        ensures fails { IsErr result ↔ (Contains self.old.fails self.old.calls
+        ensures chosen { IsErr result ↔ (Contains self.old.fails self.old.calls
             ⊎ (self.old.room ≤ length self.old.written)) }
         ensures size { IfOk result (λ n. n ≡ min (length piece.now)
             (min self.old.piece (self.old.room - length self.old.written))) }
-        ensures ok { IfOk result (λ n. self.new ≡ after_write self.old (take n piece.now)) }
-        ensures err { OnErr result (self.new ≡ after_failed_write self.old) }
     {
         let call = self.calls;
         self.calls = call.saturating_add(1);

@@ -2,7 +2,7 @@
 ghost use Rattle.std.specs.Prelude.{◌≡◌, ◌↔◌, ◌<◌, ◌≤◌, ◌++◌, [], Some, Contains, length, take, min, IsErr, OnErr, IfOk};
 ghost use Rattle.std.specs.Io.{ReadsAtMost};
 ghost use Rattle.akl_outside.specs.Counts.{Rose};
-ghost use Rattle.akl_outside.specs.Memory.{after_read, after_failed_read};
+ghost use Rattle.akl_outside.specs.Memory.{after_failed_read, Gives};
 
 use crate::traits::{Failed, Source};
 use std::marker::Model;
@@ -65,6 +65,10 @@ impl Source for MemorySource {
 
     ghost faults = { λ s. s.faults };
 
+    ghost read_gives = { Gives };
+
+    ghost read_fails = { λ s t. t ≡ after_failed_read s };
+
     /// Fails exactly where the number of this read was chosen to. Else it gives as many bytes as
     /// the buffer, the piece and what is left allow.
     fn read(&mut self, buffer: &mut [u8]) -> Result<usize, Failed>
@@ -76,13 +80,13 @@ impl Source for MemorySource {
         ensures kept { OnErr result (self.new.left ≡ self.old.left) }
         ensures failed { OnErr result (Rose self.old.faults self.new.faults) }
         ensures never_falls { self.old.faults ≤ self.new.faults }
+        ensures gives { IfOk result (λ n. Gives self.old (take n buffer.new) self.new) }
+        ensures fails { OnErr result (self.new ≡ after_failed_read self.old) }
 
         // Which reads fail, and how many bytes the others give.
-        ensures fails { IsErr result ↔ Contains self.old.fails self.old.calls }
+        ensures chosen { IsErr result ↔ Contains self.old.fails self.old.calls }
         ensures size { IfOk result (λ n. n ≡ min (length buffer.old)
             (min self.old.piece (length self.old.left))) }
-        ensures ok { IfOk result (λ n. self.new ≡ after_read self.old n) }
-        ensures err { OnErr result (self.new ≡ after_failed_read self.old) }
     {
         let call = self.calls;
         self.calls = call.saturating_add(1);

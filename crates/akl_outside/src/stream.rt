@@ -1,16 +1,38 @@
 //! A source and a sink over std's readers and writers.
-ghost use Rattle.std.specs.Prelude.{◌≡◌, ◌↔◌, ◌<◌, ◌≤◌, [], if◌then◌else◌, length, take, is_err, OnErr, IfOk, IfSome};
+ghost use Rattle.std.specs.Prelude.{◌≡◌, ◌↔◌, ◌<◌, ◌≤◌, [], if◌then◌else◌, length, take, is_err, is_some, OnErr, IfOk, IfSome};
+ghost use Rattle.std.specs.Result.{result_ok};
 ghost use Rattle.std.specs.Io.{ReadsAtMost};
 ghost use Rattle.std.specs.Io.KnownBytes.{prepend_known, append_known};
 ghost use Rattle.akl_outside.specs.Counts.{Rose, next_count};
+ghost use Rattle.akl_outside.specs.Answers.{taken_by};
 
 use crate::traits::{Failed, Sink, Source};
+use std::io;
 use std::io::{Read, Write};
 use std::marker::Model;
 use std::snapshot::Snapshot;
 
-/// Reads from a reader and tells what it tells: nothing, of standard input. Every error of the
-/// reader counts as a fault; the count stays at `u64::MAX` once it reaches it.
+// Passes an answer of a stream on, and counts that there is none.
+fn counted(answer: Option<usize>, faults: &mut u64) -> Result<usize, Failed>
+    ensures answer { result_ok result ≡ answer }
+    ensures count { faults.new ≡ (if is_some answer then faults.old else next_count faults.old) }
+{
+    if answer.is_none() {
+        *faults = faults.saturating_add(1);
+    }
+    answer.ok_or(Failed)
+}
+
+// How many bytes a writer took, where it answered so and took some.
+fn taken(answer: io::Result<usize>) -> Option<usize>
+    ensures { result ≡ taken_by (result_ok answer) }
+{
+    answer.ok().filter(|count| *count > 0)
+}
+
+/// Reads from a reader and tells what it tells: nothing, of standard input. A read fails exactly
+/// where the reader answers an error, so an interrupted read is a fault, and so is one that would
+/// block. The count of faults stays at `u64::MAX` once it reaches it.
 #[derive(Drop)]
 pub struct StreamSource<R: Read> {
     reader: R,
@@ -47,9 +69,15 @@ impl<R: Read> StreamSource<R> {
 }
 
 impl<R: Read> Source for StreamSource<R> {
+    ghost use Rattle.akl_outside.specs.Stream.{Gives, Fails};
+
     ghost left = { λ s. s.bytes };
 
     ghost faults = { λ s. s.faults };
+
+    ghost read_gives = { Gives };
+
+    ghost read_fails = { Fails };
 
     fn read(&mut self, buffer: &mut [u8]) -> Result<usize, Failed>
         requires { 0 < length buffer.old }
@@ -61,24 +89,20 @@ impl<R: Read> Source for StreamSource<R> {
         ensures kept { OnErr result (self.new.bytes ≡ self.old.bytes) }
         ensures failed { OnErr result (Rose self.old.faults self.new.faults) }
         ensures never_falls { self.old.faults ≤ self.new.faults }
+        ensures gives { IfOk result (λ n. Gives self.old (take n buffer.new) self.new) }
+        ensures fails { OnErr result (Fails self.old self.new) }
 
         // The count is of the reads that failed.
         ensures faults { self.new.faults
             ≡ (if is_err result then next_count self.old.faults else self.old.faults) }
     {
-        match self.reader.read(buffer) {
-            Ok(count) => Ok(count),
-            Err(_) => {
-                self.faults = self.faults.saturating_add(1);
-                Err(Failed)
-            }
-        }
+        counted(self.reader.read(buffer).ok(), &mut self.faults)
     }
 }
 
-/// Writes to a writer and tells what it tells: nothing, of standard output. Every error of the
-/// writer counts as a fault, and so does a write that takes nothing; the count stays at `u64::MAX`
-/// once it reaches it.
+/// Writes to a writer and tells what it tells: nothing, of standard output. A write fails exactly
+/// where the writer answers an error or takes nothing, so an interrupted write is a fault, and so is
+/// one that would block. The count of faults stays at `u64::MAX` once it reaches it.
 #[derive(Drop)]
 pub struct StreamSink<W: Write> {
     writer: W,
@@ -115,9 +139,15 @@ impl<W: Write> StreamSink<W> {
 }
 
 impl<W: Write> Sink for StreamSink<W> {
+    ghost use Rattle.akl_outside.specs.Stream.{Takes, Fails};
+
     ghost written = { λ s. s.bytes };
 
     ghost faults = { λ s. s.faults };
+
+    ghost write_takes = { Takes };
+
+    ghost write_fails = { Fails };
 
     fn write(&mut self, piece: &[u8]) -> Result<usize, Failed>
         requires { 0 < length piece.now }
@@ -129,17 +159,13 @@ impl<W: Write> Sink for StreamSink<W> {
         ensures kept { OnErr result (self.new.bytes ≡ self.old.bytes) }
         ensures failed { OnErr result (Rose self.old.faults self.new.faults) }
         ensures never_falls { self.old.faults ≤ self.new.faults }
+        ensures takes { IfOk result (λ n. Takes self.old (take n piece.now) self.new) }
+        ensures fails { OnErr result (Fails self.old self.new) }
 
         // The count is of the writes that failed.
         ensures faults { self.new.faults
             ≡ (if is_err result then next_count self.old.faults else self.old.faults) }
     {
-        match self.writer.write(piece) {
-            Ok(count) if count > 0 => Ok(count),
-            _ => {
-                self.faults = self.faults.saturating_add(1);
-                Err(Failed)
-            }
-        }
+        counted(taken(self.writer.write(piece)), &mut self.faults)
     }
 }

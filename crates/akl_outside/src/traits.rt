@@ -5,7 +5,7 @@ ghost use Rattle.std.specs.Io.KnownBytes.{prepend_known, append_known};
 ghost use Rattle.akl_outside.specs.Counts.{Rose};
 
 /// A read or a write that failed. The object's count of faults says so too.
-#[derive(Clone, Copy, Debug, PartialEq, Eq)]
+#[derive(Drop)]
 pub struct Failed;
 
 /// A place that bytes come from.
@@ -15,6 +15,12 @@ pub trait Source {
 
     // How many reads have failed.
     ghost faults: { Self → ℕ };
+
+    // Whether a read that gives these bytes can lead from the one state to the other.
+    ghost read_gives: { Self → List ℕ → Self → Type 0 };
+
+    // Whether a read that fails can lead from the one state to the other.
+    ghost read_fails: { Self → Self → Type 0 };
 
     /// Puts some bytes at the front of the buffer and gives their number; what follows them there
     /// is left open. `Ok(0)` is the end. After `Failed` nothing is known of the buffer.
@@ -26,7 +32,9 @@ pub trait Source {
         ensures end { IfOk result (λ n. IfSome (left self.old) (λ bytes. (n ≡ 0) ↔ (bytes ≡ []))) }
         ensures kept { OnErr result (left self.new ≡ left self.old) }
         ensures failed { OnErr result (Rose (faults self.old) (faults self.new)) }
-        ensures never_falls { faults self.old ≤ faults self.new };
+        ensures never_falls { faults self.old ≤ faults self.new }
+        ensures gives { IfOk result (λ n. read_gives self.old (take n buffer.new) self.new) }
+        ensures fails { OnErr result (read_fails self.old self.new) };
 }
 
 /// A place that bytes go to.
@@ -37,6 +45,12 @@ pub trait Sink {
     // How many writes have failed.
     ghost faults: { Self → ℕ };
 
+    // Whether a write that takes these bytes can lead from the one state to the other.
+    ghost write_takes: { Self → List ℕ → Self → Type 0 };
+
+    // Whether a write that fails can lead from the one state to the other.
+    ghost write_fails: { Self → Self → Type 0 };
+
     /// Takes at least one byte from the front of the piece and gives the number of bytes taken.
     fn write(&mut self, piece: &[u8]) -> Result<usize, Failed>
         requires { 0 < length piece.now }
@@ -46,7 +60,9 @@ pub trait Sink {
             written self.new ≡ append_known (written self.old) (take n piece.now)) }
         ensures kept { OnErr result (written self.new ≡ written self.old) }
         ensures failed { OnErr result (Rose (faults self.old) (faults self.new)) }
-        ensures never_falls { faults self.old ≤ faults self.new };
+        ensures never_falls { faults self.old ≤ faults self.new }
+        ensures takes { IfOk result (λ n. write_takes self.old (take n piece.now) self.new) }
+        ensures fails { OnErr result (write_fails self.old self.new) };
 }
 
 /// A place where a test can hold a worker. It changes nothing that a worker computes.
@@ -56,7 +72,7 @@ pub trait Gate: Sync {
 }
 
 /// Holds nobody.
-#[derive(Clone, Copy, Debug, Default, PartialEq, Eq)]
+#[derive(Drop)]
 pub struct NoGate;
 
 impl Gate for NoGate {

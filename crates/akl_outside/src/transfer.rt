@@ -1,8 +1,8 @@
 //! Reading a source to its end, and writing a text whole.
-ghost use Rattle.std.specs.Prelude.{◌≡◌, ◌↔◌, ◌<◌, ◌≤◌, ℕ, List, [], length, take, OnOk, OnErr, IfOk, IfErr, IfSome, IsNone, option_to_list};
+ghost use Rattle.std.specs.Prelude.{◌≡◌, ◌<◌, ◌≤◌, [], length, take, OnOk, OnErr, IfOk, IfErr, IfSome};
 ghost use Rattle.std.specs.Io.KnownBytes.{prepend_known, append_known};
 ghost use Rattle.akl_outside.specs.Counts.{Rose};
-ghost use Rattle.akl_outside.specs.Transfer.{ReadSome};
+ghost use Rattle.akl_outside.specs.Transfer.{ReadSome, Moves, FailsAfter, StopsReading};
 ghost use Rattle.akl_outside.specs.declared.transfer.ReadError.TheVariants as variants;
 
 use crate::traits::{Failed, Sink, Source};
@@ -12,7 +12,7 @@ use std::alloc::{AllocError, Global};
 const CHUNK: usize = 8192;
 
 /// Why a source wasn't read.
-#[derive(Clone, Copy, Debug, PartialEq, Eq)]
+#[derive(Drop)]
 pub enum ReadError {
     /// A read failed.
     Failed,
@@ -37,29 +37,14 @@ impl From<AllocError> for ReadError {
 }
 
 /// A text that was written in part, since a write failed: its first `written` bytes were taken.
-#[derive(Clone, Copy, Debug, PartialEq, Eq)]
+#[derive(Drop)]
 pub struct ShortWrite {
     pub written: usize,
 }
 
-/// Makes one read, of one byte. `None` is the end.
-pub fn read_byte<S: Source>(source: &mut S) -> Result<Option<u8>, Failed>
-    ensures bytes { IfOk result (λ byte.
-        S.left source.old ≡ prepend_known (option_to_list byte) (S.left source.new)) }
-    ensures end { IfOk result (λ byte.
-        IfSome (S.left source.old) (λ bytes. IsNone byte ↔ (bytes ≡ []))) }
-    ensures kept { OnErr result (S.left source.new ≡ S.left source.old) }
-    ensures failed { OnErr result (Rose (S.faults source.old) (S.faults source.new)) }
-    ensures never_falls { S.faults source.old ≤ S.faults source.new }
-{
-    let mut buffer = [0u8; 1];
-    let count = source.read(&mut buffer)?;
-    Ok(if count == 0 { None } else { Some(buffer[0]) })
-}
-
 /// Reads until a read answers `Ok(0)`, or until `limit` bytes were read, and gives these bytes. So
 /// fewer than `limit` bytes are all that the source had left, and after `limit` bytes nothing more
-/// was read. An `Err` drops what was read.
+/// was read. After a read that failed none follows. An `Err` drops what was read.
 pub fn read_up_to<S: Source>(
     alloc: Global,
     source: &mut S,
@@ -82,6 +67,10 @@ pub fn read_up_to<S: Source>(
         → ReadSome (S.left source.old) (S.left source.new) (λ n. n < limit) }
     ensures err { OnErr result (ReadSome (S.left source.old) (S.left source.new) (λ n. n ≤ limit)) }
     ensures never_falls { S.faults source.old ≤ S.faults source.new }
+
+    // No read follows one that failed.
+    ensures reads { IfOk result (λ bytes. Moves S.read_gives source.old bytes.items source.new) }
+    ensures stops { IfErr result (StopsReading S.read_gives S.read_fails limit source.old source.new) }
 {
     let mut bytes = Vec::new(alloc);
     let mut chunk = [0u8; CHUNK];
@@ -96,7 +85,7 @@ pub fn read_up_to<S: Source>(
     Ok(bytes)
 }
 
-/// Writes all the bytes, in as many writes as it takes.
+/// Writes all the bytes, in as many writes as it takes. After a write that failed none follows.
 pub fn write_all<K: Sink>(sink: &mut K, bytes: &[u8]) -> Result<(), ShortWrite>
     ensures ok { OnOk result (K.written sink.new ≡ append_known (K.written sink.old) bytes.now) }
     ensures err { IfErr result (λ short. K.written sink.new
@@ -104,6 +93,11 @@ pub fn write_all<K: Sink>(sink: &mut K, bytes: &[u8]) -> Result<(), ShortWrite>
     ensures short { IfErr result (λ short. short.written < length bytes.now) }
     ensures failed { OnErr result (Rose (K.faults sink.old) (K.faults sink.new)) }
     ensures never_falls { K.faults sink.old ≤ K.faults sink.new }
+
+    // No write follows one that failed.
+    ensures writes { OnOk result (Moves K.write_takes sink.old bytes.now sink.new) }
+    ensures stops { IfErr result (λ short. FailsAfter K.write_takes K.write_fails sink.old
+        (take short.written bytes.now) sink.new) }
 {
     let mut written = 0;
     while written < bytes.len() {

@@ -1,4 +1,4 @@
-use Rattle.std.proofs.Common.{arith, length-drop, sym, ◌∙◌, ap, List, ℕ, take, drop}
+use Rattle.std.proofs.Common.{rules, arith, length-drop, sym, ◌∙◌, ap, List, ℕ, take, drop}
 use Rattle.std.proofs.lemmas.List.{take_rest}
 use Rattle.akl_outside.specs.Memory.{SourceState}
 use Rattle.akl_outside.proofs.Pieces.{copied_front}
@@ -12,3 +12,6 @@ returns-clause-bytes c =
     ∙ copied_front s.given n s.bytes.items c.copy_from_slice.new.self _ (omega (arith, length-drop {A = ℕ}))
     (c.copy_from_slice.ensures.after ∙ ap (take n) (take_rest c.deref-2.result.now s.given)
     ∙ ap (λ (x : List ℕ). take n (drop s.given x)) c.deref-2.ensures.value)
+
+pub returns-clause-gives : goal.returns-clause-gives
+returns-clause-gives c = (returns-clause-bytes c, search rules)

@@ -1,18 +1,20 @@
 ghost use Rattle.std.specs.Prelude.{◌≡◌, ◌<◌, IfOk};
 
-use crate::{
+use akl_outside::{
     Failed, Gate, MemorySink, MemorySource, NoGate, ReadError, ShortWrite, Sink, Source,
-    StreamSink, StreamSource, read_byte, read_up_to, write_all,
+    StreamSink, StreamSource, read_up_to, write_all,
 };
+use std::alloc::{AllocError, Global};
 use std::io;
 use std::io::{ErrorKind, Read, Write};
 use std::test::Fail;
 
 /// What five reads of up to `size` bytes gave: bytes and a bar, a dot at the end, an exclamation
 /// mark at a failure.
-fn trace<S: Source>(source: &mut S, size: usize, text: &mut String) -> Result<(), Fail>
+fn reads<S: Source>(alloc: Global, source: &mut S, size: usize) -> Result<String, AllocError>
     requires { 0 < size }
 {
+    let mut text = String::new(alloc);
     let mut buffer = [0u8; 8];
     for _ in 0..5 {
         let most = size.min(buffer.len());
@@ -27,11 +29,25 @@ fn trace<S: Source>(source: &mut S, size: usize, text: &mut String) -> Result<()
             Err(Failed) => text.push('!')?,
         }
     }
-    Ok(())
+    Ok(text)
+}
+
+/// What four writes of `abcdef` took: a number of bytes each, an exclamation mark at a failure.
+fn writes<K: Sink>(alloc: Global, sink: &mut K) -> Result<String, AllocError> {
+    let mut text = String::new(alloc);
+    for _ in 0..4 {
+        match sink.write(b"abcdef") {
+            Ok(count) => text.push_str(count.to_string(alloc)?.as_str())?,
+            Err(Failed) => text.push('!')?,
+        }
+    }
+    Ok(text)
 }
 
 #[test]
-fn memory_source_reads_in_pieces_and_fails_at_chosen_calls(rt: HostRuntime) -> Result<(), Fail> {
+fn a_source_in_memory_reads_in_pieces_and_fails_at_chosen_calls(
+    rt: HostRuntime,
+) -> Result<(), Fail> {
     let cases: [(usize, usize, &[u64], &str); 7] = [
         (1, 8, &[], "a|b|c|d|e|"),
         (4, 8, &[], "abcd|ef|..."),
@@ -44,15 +60,14 @@ fn memory_source_reads_in_pieces_and_fails_at_chosen_calls(rt: HostRuntime) -> R
     for (piece, size, fails, want) in cases {
         let bytes = b"abcdef".to_vec(rt.alloc())?;
         let mut source = MemorySource::new(bytes, piece, fails.to_vec(rt.alloc())?);
-        let mut text = String::new(rt.alloc());
-        trace(&mut source, size, &mut text)?;
+        let text = reads(rt.alloc(), &mut source, size)?;
         assert_eq!(rt; text.as_str(), want);
     }
     Ok(())
 }
 
 #[test]
-fn memory_sink_takes_pieces_up_to_its_room_and_fails_at_chosen_calls(
+fn a_sink_in_memory_takes_pieces_up_to_its_room_and_fails_at_chosen_calls(
     rt: HostRuntime,
 ) -> Result<(), Fail> {
     let cases: [(usize, usize, &[u64], &str, &str); 6] = [
@@ -65,13 +80,7 @@ fn memory_sink_takes_pieces_up_to_its_room_and_fails_at_chosen_calls(
     ];
     for (piece, room, fails, want, bytes) in cases {
         let mut sink = MemorySink::new(rt.alloc(), piece, room, fails.to_vec(rt.alloc())?)?;
-        let mut text = String::new(rt.alloc());
-        for _ in 0..4 {
-            match sink.write(b"abcdef") {
-                Ok(count) => text.push_str(count.to_string(rt.alloc())?.as_str())?,
-                Err(Failed) => text.push('!')?,
-            }
-        }
+        let text = writes(rt.alloc(), &mut sink)?;
         assert_eq!(rt; text.as_str(), want);
         assert_eq!(rt; sink.bytes(), bytes.as_bytes());
     }
@@ -94,7 +103,8 @@ fn reads_to_the_end_or_to_the_limit(rt: HostRuntime) -> Result<(), Fail> {
         let mut source = MemorySource::new(bytes, piece, fails.to_vec(rt.alloc())?);
         match read_up_to(rt.alloc(), &mut source, limit) {
             Ok(bytes) => assert_eq!(rt; bytes.as_slice(), want.as_bytes()),
-            Err(error) => assert!(rt; error == ReadError::Failed && want == "failed"),
+            Err(ReadError::Failed) => assert_eq!(rt; want, "failed"),
+            Err(ReadError::Memory(error)) => return Err(Fail::from(error)),
         }
     }
     Ok(())
@@ -102,16 +112,20 @@ fn reads_to_the_end_or_to_the_limit(rt: HostRuntime) -> Result<(), Fail> {
 
 #[test]
 fn writes_whole_or_says_how_much(rt: HostRuntime) -> Result<(), Fail> {
-    let cases: [(usize, usize, &[u64], Result<(), ShortWrite>, &str); 5] = [
-        (1, 6, &[], Ok(()), "abcdef"),
-        (9, 6, &[], Ok(()), "abcdef"),
-        (4, 5, &[], Err(ShortWrite { written: 5 }), "abcde"),
-        (5, 6, &[1], Err(ShortWrite { written: 5 }), "abcde"),
-        (4, 6, &[0], Err(ShortWrite { written: 0 }), ""),
+    let cases: [(usize, usize, &[u64], usize, &str); 5] = [
+        (1, 6, &[], 6, "abcdef"),
+        (9, 6, &[], 6, "abcdef"),
+        (4, 5, &[], 5, "abcde"),
+        (5, 6, &[1], 5, "abcde"),
+        (4, 6, &[0], 0, ""),
     ];
     for (piece, room, fails, want, bytes) in cases {
         let mut sink = MemorySink::new(rt.alloc(), piece, room, fails.to_vec(rt.alloc())?)?;
-        assert_eq!(rt; write_all(&mut sink, b"abcdef"), want);
+        let written = match write_all(&mut sink, b"abcdef") {
+            Ok(()) => 6,
+            Err(ShortWrite { written }) => written,
+        };
+        assert_eq!(rt; written, want);
         assert_eq!(rt; sink.bytes(), bytes.as_bytes());
     }
     Ok(())
@@ -127,7 +141,7 @@ impl Broken {
     {
         self.0 = !self.0;
         if self.0 {
-            Err(io::Error::from(ErrorKind::Other))
+            Err(io::Error::from(ErrorKind::WouldBlock))
         } else {
             Ok(0)
         }
@@ -151,27 +165,18 @@ impl Write for Broken {
 }
 
 #[test]
-fn stream_source_passes_on_bytes_and_counts_errors(rt: HostRuntime) {
-    let mut source = StreamSource::new(b"a".as_slice());
-    assert_eq!(rt; read_byte(&mut source), Ok(Some(b'a')));
-    assert_eq!(rt; read_byte(&mut source), Ok(None));
-    let mut source = StreamSource::new(Broken(false));
-    assert_eq!(rt; read_byte(&mut source), Err(Failed));
-    assert_eq!(rt; read_byte(&mut source), Ok(None));
-}
-
-#[test]
-fn stream_sink_passes_on_bytes_and_counts_errors(rt: HostRuntime) {
-    let mut room = [0u8; 4];
-    let mut sink = StreamSink::new(room.as_mut_slice());
-    assert_eq!(rt;
-        write_all(&mut sink, b"abcdef"),
-        Err(ShortWrite { written: 4 })
-    );
-    drop(sink);
-    assert_eq!(rt; room.as_slice(), b"abcd".as_slice());
-    let mut sink = StreamSink::new(Broken(false));
-    assert_eq!(rt; sink.write(b"a"), Err(Failed));
-    assert_eq!(rt; sink.write(b"a"), Err(Failed));
+fn streams_pass_bytes_on_and_their_errors_are_failures(rt: HostRuntime) -> Result<(), Fail> {
+    let mut source = StreamSource::new(b"abcdef".as_slice());
+    let text = reads(rt.alloc(), &mut source, 4)?;
+    assert_eq!(rt; text.as_str(), "abcd|ef|...");
+    let text = reads(rt.alloc(), &mut StreamSource::new(Broken(false)), 4)?;
+    assert_eq!(rt; text.as_str(), "!.!.!");
+    let mut room = [0u8; 9];
+    let text = writes(rt.alloc(), &mut StreamSink::new(room.as_mut_slice()))?;
+    assert_eq!(rt; text.as_str(), "63!!");
+    assert_eq!(rt; room.as_slice(), b"abcdefabc".as_slice());
+    let text = writes(rt.alloc(), &mut StreamSink::new(Broken(false)))?;
+    assert_eq!(rt; text.as_str(), "!!!!");
     NoGate.before_plan(1);
+    Ok(())
 }

@@ -1,0 +1,5 @@
+//! Tests of the crates that stand on no other.
+#![tactic(auto)]
+
+#[cfg(test)]
+mod outside;
