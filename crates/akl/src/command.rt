@@ -1,0 +1,61 @@
+//! A whole command, over any source and sinks.
+ghost use Rattle.std.specs.Prelude.{◌≡◌, map, string_bytes, None, IfSome};
+ghost use Rattle.std.specs.IoError.{error_kind};
+ghost use Rattle.akl.specs.Streams.{seen};
+ghost use Rattle.akl.specs.Notices.{notice_of};
+ghost use Rattle.akl.specs.Endings.{Notifies, Answers, SaysWhy, words_status, words_refusal};
+
+use crate::ending::Ending;
+use crate::notice::{HELP, VERSION, notice};
+use akl_outside::{NoGate, Sink, Source};
+use akl_run::{Part, Refusal, Report, Status, run_akl};
+use std::alloc::Global;
+use std::io;
+use std::sync::Wait;
+use std::thread::Threads;
+
+/// Does what the words ask: prints a notice, or runs a query. Says how the process is to end.
+pub fn run<R: Threads + Wait + Sync, S: Source, K: Sink, E: Sink>(
+    rt: &R,
+    alloc: Global,
+    words: &[String],
+    program: &mut S,
+    out: &mut K,
+    errors: &mut E,
+) -> Ending
+    ensures notice { IfSome (notice_of HELP.now VERSION.now (map (λ word. string_bytes word) words.now)) (λ text.
+        Notifies text
+        (seen K.written K.faults out.old) (seen K.written K.faults out.new)
+        (seen E.written E.faults errors.old) (seen E.written E.faults errors.new) result) }
+    ensures query { notice_of HELP.now VERSION.now (map (λ word. string_bytes word) words.now) ≡ None →
+        Answers (map (λ word. string_bytes word) words.now)
+        (seen S.left S.faults program.old) (seen S.left S.faults program.new)
+        (seen K.written K.faults out.old) (seen K.written K.faults out.new)
+        (seen E.written E.faults errors.old) (seen E.written E.faults errors.new) result }
+{
+    if let Some(text) = notice(words) {
+        return Ending::of_notice(text, out, errors);
+    }
+    let report = run_akl(rt, alloc, words, program, out, &NoGate);
+    Ending::of_report(alloc, &report, errors)
+}
+
+/// Says why there are no words: for want of memory, or since they are no text.
+pub fn refuse_words<E: Sink>(alloc: Global, error: &io::Error, errors: &mut E) -> Ending
+    ensures status { result.status ≡ words_status (error_kind error.now) }
+    ensures line { SaysWhy (words_status (error_kind error.now)) (words_refusal (error_kind error.now))
+        (seen E.written E.faults errors.old) (seen E.written E.faults errors.new) }
+{
+    let (status, refusal) = match error.kind() {
+        io::ErrorKind::OutOfMemory => (Status::NoMemory, Refusal::Nothing),
+        _ => (Status::NotYet, Refusal::NotYet(Part::Words)),
+    };
+    let report = Report {
+        status,
+        refusal,
+        journal: Vec::new(alloc),
+        receipts: Vec::new(alloc),
+        written: 0,
+    };
+    Ending::of_report(alloc, &report, errors)
+}

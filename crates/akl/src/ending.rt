@@ -1,0 +1,68 @@
+//! How the process ends.
+ghost use Rattle.std.specs.Prelude.{◌≡◌};
+ghost use Rattle.std.specs.Process.{exit_status};
+ghost use Rattle.akl_run.specs.Statuses.{number_of};
+ghost use Rattle.akl.specs.Streams.{seen, Says};
+
+use akl_outside::{Sink, write_all};
+use akl_run::{Report, Status, refusal_line};
+use std::alloc::Global;
+use std::io::Eprint;
+use std::process::{ExitCode, Termination};
+
+/// How a command ended. `main` gives it to the system, and can neither make nor drop one.
+pub struct Ending {
+    status: Status,
+}
+
+impl Termination for Ending {
+    /// The number is that of the status.
+    fn report<R: Eprint>(self, _rt: &R) -> ExitCode
+        ensures { exit_status result ≡ number_of self.status }
+    {
+        let Ending { status } = self;
+        ExitCode::from(status.number())
+    }
+}
+
+impl Ending {
+    ghost use Rattle.akl.specs.Endings.{SaysWhy, Notifies};
+
+    /// Says the report's line.
+    pub fn of_report<E: Sink>(alloc: Global, report: &Report, errors: &mut E) -> Ending
+        ensures status { result.status ≡ report.now.status }
+        ensures line { SaysWhy report.now.status report.now.refusal
+            (seen E.written E.faults errors.old) (seen E.written E.faults errors.new) }
+    {
+        match refusal_line(alloc, report) {
+            Ok(line) => say(&line, errors),
+            Err(_) => say(b"akl: out of memory\n", errors),
+        }
+        Ending {
+            status: report.status,
+        }
+    }
+
+    /// Prints a notice, or says that it couldn't.
+    pub fn of_notice<K: Sink, E: Sink>(text: &str, out: &mut K, errors: &mut E) -> Ending
+        ensures { Notifies text.now
+            (seen K.written K.faults out.old) (seen K.written K.faults out.new)
+            (seen E.written E.faults errors.old) (seen E.written E.faults errors.new) result }
+    {
+        let status = match write_all(out, text.as_bytes()) {
+            Ok(()) => Status::Done,
+            Err(_) => {
+                say(b"akl: write fault\n", errors);
+                Status::WriteFault
+            }
+        };
+        Ending { status }
+    }
+}
+
+// Says a line. Where a write fails it is lost: there is no other place to say so.
+fn say<E: Sink>(line: &[u8], errors: &mut E)
+    ensures { Says line.now (seen E.written E.faults errors.old) (seen E.written E.faults errors.new) }
+{
+    let _ = write_all(errors, line);
+}

@@ -1,0 +1,54 @@
+//! What `akl` says of itself.
+ghost use Rattle.std.specs.Prelude.{◌≡◌, map, option_map, string_bytes};
+ghost use Rattle.akl.specs.Notices.{notice_of};
+
+/// What a lone `--help` prints.
+pub const HELP: &str = "\
+Usage: ./akl --query TEXT < FILE
+
+Runs the query TEXT over the program in FILE, and prints the answers and the outcome. The program is
+read from standard input, to its end: without `< FILE` akl waits for it there.
+
+Options:
+  --query TEXT  the query
+  --help        as the only word: prints this text
+  --version     as the only word: prints the version
+
+Examples:
+  ./akl --query 'X = f(Y), Y = a' < /dev/null
+  echo 'p(a).' | ./akl --query 'X = [1,2|T], T = Y'
+
+Programs are read, checked and loaded. So far a query's goals are equations, `true` and `fail`, and
+programs and queries have no choices in brackets.
+
+Exit status:
+   0  done: the query has an answer
+   1  failed: it has none
+   5  the program is refused
+   6  the query is refused
+   7  standard input failed, or would block
+   8  standard output failed, or would block
+   9  out of memory
+  10  this part isn't built yet
+With 5 to 10 a line on standard error says why.
+";
+
+/// What a lone `--version` prints.
+pub const VERSION: &str = "akl 0.1.0\n";
+
+/// What a lone `--help` or `--version` prints.
+pub fn notice(words: &[String]) -> Option<&'static str>
+    ensures { option_map (λ text. text.now) result
+        ≡ notice_of HELP.now VERSION.now (map (λ word. string_bytes word) words.now) }
+{
+    let [word] = words else {
+        return None;
+    };
+    if word.as_str() == "--help" {
+        Some(HELP)
+    } else if word.as_str() == "--version" {
+        Some(VERSION)
+    } else {
+        None
+    }
+}
