@@ -7,6 +7,7 @@ use mathlib.Core.Logic.{dite}
 use mathlib.Core.Option.{Option as Place, some, none, some-injective}
 use native.Mathlib.Decide.{ℕ_discrete}
 use Rattle.turn_lock.specs.declared.view.Joined.{Joined}
+use Rattle.turn_lock.specs.declared.view.View.{View}
 use Rattle.turn_lock.specs.declared.view.Standing.{Standing}
 use Rattle.turn_lock.specs.declared.view.Stage.TheVariants.{Idle}
 use Rattle.turn_lock.specs.Histories.{GoesOnWithout}
@@ -17,6 +18,13 @@ use Rattle.turn_lock.proofs.Goings.{goes_on-refl, all_seen}
 use Rattle.turn_lock.proofs.Places.{at_below, only_one, Some-injective, Some-ne-None}
 use Rattle.turn_lock.proofs.Standings.{others_spent, same_place}
 use Rattle.turn_lock.proofs.Whole.{holds_nothing}
+
+-- what the value is that a lock gives once the first pass knows so much
+pub record IsGivenBy {T F E : Type 0} (fixed : T → F) (history : T → List E) (maker : E → ℕ) (start : F) (v : View F E) (y : T) : Type 0 where
+  pub fixed_is : fixed y ≡ start
+  pub seen_all : history y ≡ v.seen
+  pub joined : All (λ (j : Joined E). GoesOnWithout maker j.number j.seen (history y)) v.joined
+  pub made : All (λ e. maker e ≤ v.split_count) (history y)
 
 module _ {T F E : Type 0} (fixed : T → F) (history : T → List E) (maker : E → ℕ) where
   pub begins : (v : T) → history v ≡ [] → Kept fixed history maker (fixed v) (opening (0 ∷ 0 ∷ []) (Some v ∷ []) (Some (idle (newcomer 0 (fixed v) []))))
@@ -39,7 +47,7 @@ module _ {T F E : Type 0} (fixed : T → F) (history : T → List E) (maker : E 
 
   -- the value is in the slot, and its history is what the first pass has seen
   closes : (start : F) (state : State (Option T) (Option (Standing F E))) → Kept fixed history maker start state → (place : ℕ) (s : Standing F E) → get_elem? state.views place ≡ some (Some s) → s.view.number ≡ 0 → s.stage ≡ Idle → length s.view.joined ≡ s.view.split_count
-      → (y : T) × (get_elem? state.homes 0 ≡ some (some (Some y))) × (fixed y ≡ start) × (history y ≡ s.view.seen) × All (λ (j : Joined E). GoesOnWithout maker j.number j.seen (history y)) s.view.joined
+      → (y : T) × (get_elem? state.homes 0 ≡ some (some (Some y))) × IsGivenBy fixed history maker start s.view y
   closes start state r place s at first still all =
       let vs : List (Option (Standing F E)) = state.views in
       let mine = r.each place s at in
@@ -54,14 +62,17 @@ module _ {T F E : Type 0} (fixed : T → F) (history : T → List E) (maker : E 
       (λ (h : (y : T) × (state.homes ≡ some (Some y) ∷ []) × NoneServed vs × (history y ≡ r.log) × (fixed y ≡ start)). (
         h.0,
         ap (λ (hs : List (Place (Option T))). get_elem? hs 0) h.1,
-        h.4,
-        h.3 ∙ whole,
-        All-weaker
-            (λ (j : Joined E). JoinedFits maker r.log vs j.number j.seen)
-            (λ (j : Joined E). GoesOnWithout maker j.number j.seen (history h.0))
-            (λ j g. subst (GoesOnWithout maker j.number j.seen) (sym h.3) g.1)
-            s.view.joined
-            f.5,
+        record {
+          fixed_is = h.4;
+          seen_all = h.3 ∙ whole;
+          joined = All-weaker
+              (λ (j : Joined E). JoinedFits maker r.log vs j.number j.seen)
+              (λ (j : Joined E). GoesOnWithout maker j.number j.seen (history h.0))
+              (λ j g. subst (GoesOnWithout maker j.number j.seen) (sym h.3) g.1)
+              s.view.joined
+              f.5;
+          made = subst (λ (log : List E). All (λ e. maker e ≤ s.view.split_count) log) (sym h.3) f.3;
+        },
       ))
       (λ (h : OneServed vs × (state.homes ≡ none ∷ [])).
       let o = h.0 in
@@ -73,16 +84,16 @@ module _ {T F E : Type 0} (fixed : T → F) (history : T → List E) (maker : E 
   -- what is in the slot once the lock is closed with the first pass
   pub closed_slot : (start : F) (words : List ℕ) (slots : List (Option T)) (slot : Option T) (place : ℕ) (m : Held T F E) (whole : is_whole m ≡ true) → let s = standing_of m whole in Final (Seen (Kept fixed history maker start) place m.0) words slots → get_elem? slots 0 ≡ some slot
       → s.view.number ≡ 0 → ticket_served s.stage ≡ None → length s.view.joined ≡ s.view.split_count
-      → (y : T) × (slot ≡ Some y) × (fixed y ≡ start) × (history y ≡ s.view.seen) × All (λ (j : Joined E). GoesOnWithout maker j.number j.seen (history y)) s.view.joined
+      → (y : T) × (slot ≡ Some y) × IsGivenBy fixed history maker start s.view y
   closed_slot start words slots slot place m whole ended at first no_turn all =
       let free = holds_nothing m whole no_turn in
       let got = closes start ended.0 ended.1.0 place (standing_of m whole) (ended.1.1 ∙ ap (λ (h : Held T F E). some h.0) free.0) first free.1 all in
-      (got.0, some-injective slot (Some got.0) (sym at ∙ ended.4 0 (Some got.0) got.1), got.2, got.3, got.4)
+      (got.0, some-injective slot (Some got.0) (sym at ∙ ended.4 0 (Some got.0) got.1), got.2)
 
   pub closed_value : (start : F) (words : List ℕ) (slots : List (Option T)) (slot : Option T) (v : T) (place : ℕ) (m : Held T F E) (whole : is_whole m ≡ true) → let s = standing_of m whole in Final (Seen (Kept fixed history maker start) place m.0) words slots → get_elem? slots 0 ≡ some slot
       → s.view.number ≡ 0 → ticket_served s.stage ≡ None → length s.view.joined ≡ s.view.split_count → slot ≡ Some v
-      → (fixed v ≡ start) × (history v ≡ s.view.seen) × All (λ (j : Joined E). GoesOnWithout maker j.number j.seen (history v)) s.view.joined
+      → IsGivenBy fixed history maker start s.view v
   closed_value start words slots slot v place m whole ended at first no_turn all is =
       let got = closed_slot start words slots slot place m whole ended at first no_turn all in
       let view = (standing_of m whole).view in
-      subst (λ (y : T). (fixed y ≡ start) × (history y ≡ view.seen) × All (λ (j : Joined E). GoesOnWithout maker j.number j.seen (history y)) view.joined) (Some-injective got.0 v (sym got.1 ∙ is)) (got.2, got.3, got.4)
+      subst (IsGivenBy fixed history maker start view) (Some-injective got.0 v (sym got.1 ∙ is)) got.2

@@ -10,6 +10,3 @@ mod view;
 pub use booked::Booked;
 pub use lock::{Pass, Turn, TurnLock};
 pub use view::{Joined, View};
-
-#[cfg(test)]
-mod tests;

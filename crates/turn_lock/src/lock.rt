@@ -1,5 +1,5 @@
 //! The lock, its passes and its turns.
-ghost use Rattle.std.specs.Prelude.{◌≡◌, ◌<◌, ◌+◌, ◌++◌, true, [], ◌∷◌, length, All, IfOk};
+ghost use Rattle.std.specs.Prelude.{◌≡◌, ◌<◌, ◌≤◌, ◌+◌, ◌++◌, true, [], ◌∷◌, length, All, IfOk};
 ghost use Rattle.turn_lock.specs.Histories.{GoesOnBy, GoesOnWithout, longer};
 ghost use Rattle.turn_lock.specs.Known.{is_whole, Idles, Serves};
 ghost use Rattle.turn_lock.specs.Views.{newcomer, with_joined};
@@ -128,7 +128,8 @@ impl<T: Booked> TurnLock<T> {
 
     /// Ends the lock, once every pass that was split from the first was joined, and gives the value.
     ///
-    /// Its history is what the first pass has seen. For each pass that was joined it begins with what
+    /// Its history is what the first pass has seen, and the first pass, or one that was split from it,
+    /// made each entry. For each pass that was joined it begins with what
     /// that pass had seen, and none of the further entries was made by that pass.
     pub fn close(self, first: Pass<T>) -> T
         requires lock { IsPassOf self first }
@@ -137,6 +138,7 @@ impl<T: Booked> TurnLock<T> {
         requires alone { length (view first).joined ≡ (view first).split_count }
         ensures fixed { T.fixed result ≡ fixed_part T.fixed self }
         ensures history { T.history result ≡ (view first).seen }
+        ensures makers { All (λ e. T.maker e ≤ (view first).split_count) (T.history result) }
         ensures joined { All (λ j. GoesOnWithout T.maker j.number j.seen (T.history result)) (view first).joined }
     {
         let TurnLock { table } = self;

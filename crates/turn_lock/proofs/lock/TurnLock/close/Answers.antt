@@ -7,10 +7,13 @@ unreachable-requires g c =
     c.in_default.not-Some full.0 full.1
 
 pub returns-clause-fixed : goal.returns-clause-fixed
-returns-clause-fixed g c = (closed_value _ _ g.T.Booked.maker _ _ _ _ _ _ _ c.args.first.whole c.close_with-closed.ensures.values.2 c.take-slot.ensures.value c.requires.first c.requires.idle c.requires.alone c.in-Some.is).0
+returns-clause-fixed g c = (closed_value _ _ g.T.Booked.maker _ _ _ _ _ _ _ c.args.first.whole c.close_with-closed.ensures.values.2 c.take-slot.ensures.value c.requires.first c.requires.idle c.requires.alone c.in-Some.is).fixed_is
 
 pub returns-clause-history : goal.returns-clause-history
-returns-clause-history g c = (closed_value _ _ g.T.Booked.maker _ _ _ _ _ _ _ c.args.first.whole c.close_with-closed.ensures.values.2 c.take-slot.ensures.value c.requires.first c.requires.idle c.requires.alone c.in-Some.is).1
+returns-clause-history g c = (closed_value _ _ g.T.Booked.maker _ _ _ _ _ _ _ c.args.first.whole c.close_with-closed.ensures.values.2 c.take-slot.ensures.value c.requires.first c.requires.idle c.requires.alone c.in-Some.is).seen_all
 
 pub returns-clause-joined : goal.returns-clause-joined
-returns-clause-joined g c = (closed_value _ _ g.T.Booked.maker _ _ _ _ _ _ _ c.args.first.whole c.close_with-closed.ensures.values.2 c.take-slot.ensures.value c.requires.first c.requires.idle c.requires.alone c.in-Some.is).2
+returns-clause-joined g c = (closed_value _ _ g.T.Booked.maker _ _ _ _ _ _ _ c.args.first.whole c.close_with-closed.ensures.values.2 c.take-slot.ensures.value c.requires.first c.requires.idle c.requires.alone c.in-Some.is).joined
+
+pub returns-clause-makers : goal.returns-clause-makers
+returns-clause-makers g c = (closed_value _ _ g.T.Booked.maker _ _ _ _ _ _ _ c.args.first.whole c.close_with-closed.ensures.values.2 c.take-slot.ensures.value c.requires.first c.requires.idle c.requires.alone c.in-Some.is).made

@@ -1,6 +1,6 @@
 use Rattle.std.proofs.Common.{◌≡◌, ◌+◌, All, length, vec_len}
 use Rattle.turn_lock.specs.Passes.{view, HasNoTurn, IsPassOf}
-use Rattle.turn_lock.proofs.tests.dismiss.Given as goal
+use Rattle.worker_tests.proofs.lock.dismiss.Given as goal
 
 abbrev pub invariant-loop-worker : goal.invariant-loop-worker
 invariant-loop-worker l = IsPassOf l.lock l.first × All (λ w. IsPassOf l.lock w.pass) l.workers.items × ((view l.first).number ≡ 0) × HasNoTurn l.first

@@ -1,12 +1,12 @@
 ghost use Rattle.std.specs.Prelude.{◌≡◌, ◌+◌, ◌<◌, [], All, length, vec_len, IfOk};
 ghost use Rattle.turn_lock.specs.Passes.{view, IsPassOf, HasNoTurn};
 
-use crate::{Booked, Pass, TurnLock};
 use std::alloc::{AllocError, Global};
 use std::sync::Wait;
 use std::test::Fail;
 use std::thread;
 use std::thread::Threads;
+use turn_lock::{Booked, Pass, TurnLock};
 
 #[derive(Clone, Copy, PartialEq, Debug)]
 struct Entry {
@@ -155,7 +155,7 @@ fn turns_in_order(log: &Log, worker: u64) -> Option<u64> {
 
 #[test]
 fn workers_find_their_entries_in_order(rt: HostRuntime) -> Result<(), Fail> {
-    for (count, turns) in [(1u8, 20u64), (2, 1000), (16, 20_000)] {
+    for (count, turns) in [(1u8, 20u64), (2, 1000), (16, 5_000)] {
         let log = Log {
             title: 7,
             entries: Vec::new(rt.alloc()),

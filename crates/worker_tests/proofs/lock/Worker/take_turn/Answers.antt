@@ -1,8 +1,8 @@
 use Rattle.std.proofs.Common.{sym, ap, ◌∙◌, ℕ}
 use Rattle.turn_lock.specs.declared.view.View.{View}
-use Rattle.turn_lock.specs.declared.tests.Entry.{Entry}
+use Rattle.worker_tests.specs.declared.lock.Entry.{Entry}
 use Rattle.turn_lock.proofs.Goings.{goes_on_by-push}
-use Rattle.turn_lock.proofs.tests.Worker.take_turn.Goals as goal
+use Rattle.worker_tests.proofs.lock.Worker.take_turn.Goals as goal
 
 pub unlock-requires-clause-history : goal.unlock-requires-clause-history
 unlock-requires-clause-history g c =

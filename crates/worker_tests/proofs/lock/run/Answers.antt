@@ -1,6 +1,6 @@
 use Rattle.std.proofs.Common.{rules, sym, subst, ◌<◌, length}
 use Rattle.turn_lock.specs.Passes.{IsPassOf}
-use Rattle.turn_lock.proofs.tests.run.Goals as goal
+use Rattle.worker_tests.proofs.lock.run.Goals as goal
 
 pub for_each_mut-requires-clause-accepts : goal.for_each_mut-requires-clause-accepts
 for_each_mut-requires-clause-accepts g c κs within i p l is = subst (λ w. IsPassOf c.args.lock.now w.pass) (sym is) (c.requires i p.now l)
