@@ -17,42 +17,42 @@ use Rattle.akl_model.proofs.Options.{some_value}
 -- the change that a rule makes of a goal in one box it makes of the goal in another one too, and draws as many names, whatever the next numbers are.
 -- A port has to be there
 module _ (p : Program) (w before next : ℕ) (g : Name) (f k : Found) where
-  abbrev pub Again : Option Change → Change → Type 0
-  Again o ch = (x : Change) × (o ≡ Some x) × (x.drawn ≡ ch.drawn)
+  abbrev pub DrawsAsMany : Option Change → Change → Type 0
+  DrawsAsMany o ch = (x : Change) × (o ≡ Some x) × (x.drawn ≡ ch.drawn)
 
   drawn_of : (x y : Change) → Some x ≡ Some y → x.drawn ≡ y.drawn
   drawn_of x y e = ap (λ (c : Change). c.drawn) (some_value e)
 
-  pub tell_in : (h : Option Held) (ch : Change) → tell g k h ≡ Some ch → Again (tell g f h) ch
+  pub tell_in : (h : Option Held) (ch : Change) → tell g k h ≡ Some ch → DrawsAsMany (tell g f h) ch
   tell_in (Some (an_atom (Atom.equation s t))) ch e = (_, refl, drawn_of _ ch e)
   tell_in _ ch e = cc
 
-  pub fork_in : (h : Option Held) (ch : Change) → fork p w next g k h ≡ Some ch → Again (fork p w before g f h) ch
+  pub fork_in : (h : Option Held) (ch : Change) → fork p w next g k h ≡ Some ch → DrawsAsMany (fork p w before g f h) ch
   fork_in (Some (an_atom (Atom.call d ts))) ch e = on (slice_get p.definitions d) e
     where
-      on : (o : Option Definition) → fork_by p w next g ts k o ≡ Some ch → Again (fork_by p w before g ts f o) ch
+      on : (o : Option Definition) → fork_by p w next g ts k o ≡ Some ch → DrawsAsMany (fork_by p w before g ts f o) ch
       on None i = cc
       on (Some x) i = (_, refl, drawn_of _ ch i)
   fork_in _ ch e = cc
 
-  pub eval_in : (v : Reading) (h : Option Held) (ch : Change) → eval v g k h ≡ Some ch → Again (eval v g f h) ch
+  pub eval_in : (v : Reading) (h : Option Held) (ch : Change) → eval v g k h ≡ Some ch → DrawsAsMany (eval v g f h) ch
   eval_in (answer (value z)) (Some (an_atom (Atom.arithmetic test l r))) ch e = (_, refl, drawn_of _ ch e)
   eval_in (answer (truth true)) (Some (an_atom (Atom.arithmetic test l r))) ch e = (_, refl, drawn_of _ ch e)
   eval_in (answer (truth false)) (Some (an_atom (Atom.arithmetic test l r))) ch e = (_, refl, drawn_of _ ch e)
   eval_in _ _ ch e = cc
 
-  pub open_in : (h : Option Held) (ch : Change) → open_new w next g k h ≡ Some ch → Again (open_new w before g f h) ch
+  pub open_in : (h : Option Held) (ch : Change) → open_new w next g k h ≡ Some ch → DrawsAsMany (open_new w before g f h) ch
   open_in (Some (an_atom (Atom.open_port r s))) ch e = (_, refl, drawn_of _ ch e)
   open_in _ ch e = cc
 
-  pub send_in : (m : Tree) (q r : Port) (ch : Change) → send_to p w next g m k (Some q) ≡ Some ch → Again (send_to p w before g m f (Some r)) ch
+  pub send_in : (m : Tree) (q r : Port) (ch : Change) → send_to p w next g m k (Some q) ≡ Some ch → DrawsAsMany (send_to p w before g m f (Some r)) ch
   send_in m q r ch e = (_, refl, drawn_of _ ch e)
 
-  pub promote_in : (n : Name) (h : Option Held) (ch : Change) → promote w next g n k h ≡ Some ch → Again (promote w before g n f h) ch
+  pub promote_in : (n : Name) (h : Option Held) (ch : Change) → promote w next g n k h ≡ Some ch → DrawsAsMany (promote w before g n f h) ch
   promote_in n (Some (a_choice o (box a no_goals no_boxes))) ch e = on (same_name n a.name) e
     where
       on : (t : Bool) → (if t then Some (becomes (joining a k.content) (with_atoms w next a.body (without_goal g k.goals)) (length a.body)) else None) ≡ Some ch
-          → Again (if t then Some (becomes (joining a f.content) (with_atoms w before a.body (without_goal g f.goals)) (length a.body)) else None) ch
+          → DrawsAsMany (if t then Some (becomes (joining a f.content) (with_atoms w before a.body (without_goal g f.goals)) (length a.body)) else None) ch
       on true i = (_, refl, drawn_of _ ch i)
       on false i = cc
   promote_in n _ ch e = cc
