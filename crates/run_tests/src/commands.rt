@@ -279,7 +279,12 @@ fn an_answer_has_at_most_a_million_bytes(rt: HostRuntime) -> Result<(), Fail> {
     assert_eq!(rt; longest.status, 0);
     assert_eq!(rt; longest.written.len(), 1_000_014);
     assert!(rt; longest.written.as_slice().ends_with(b"aaaa)\ndone\n"));
-    assert!(rt; longest.written.as_slice().starts_with(b"answer 1\nX = h(f(f("));
+    assert!(rt;
+        longest
+            .written
+            .as_slice()
+            .starts_with(b"answer 1\nX = h(f(f(")
+    );
 
     let long = answer_at_once(&rt, alloc, long_query(alloc, 1605)?.as_str())?;
     assert_eq!(rt; shown(alloc, &long)?.as_str(), "10 / akl: not yet: answer");
