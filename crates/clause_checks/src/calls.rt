@@ -32,7 +32,10 @@ fn is_defined(callees: &Callees, written: &SourceGoal) -> bool
 }
 
 /// The first goal that is neither reserved nor calls one of the callees.
-pub fn first_undefined_goal<'a>(callees: &Callees, written: &[&'a SourceGoal]) -> Option<&'a SourceGoal>
+pub fn first_undefined_goal<'a>(
+    callees: &Callees,
+    written: &[&'a SourceGoal],
+) -> Option<&'a SourceGoal>
     requires { All (λ g. goal_size (goal g.now) ≤ 1000000) written.now }
     ensures found { option_map (λ g. goal_key (goal g.now)) result ≡ first (key_if_undefined callees.now) (map (λ g. goal g.now) written.now) }
     ensures small { IfSome result (λ g. goal_size (goal g.now) ≤ 1000000) }

@@ -20,7 +20,6 @@ returns-else-eq c =
 pub returns-in-Lifted-head : goal.returns-in-Lifted-head
 returns-in-Lifted-head c = rw (defines c.args.clause.now, defines c.args.other.now, c.in-Named.is, c.in-Lifted-head.is)
 
-
 pub returns-in-Named-head-2 : goal.returns-in-Named-head-2
 returns-in-Named-head-2 c = rw (defines c.args.clause.now, defines c.args.other.now, c.in-Lifted.is, c.in-Named-head-2.is)
 
