@@ -1,12 +1,15 @@
 -- Which frames the terms of a box may use: its own, and its equations also those of the box directly around it.
-use Rattle.std.specs.Prelude.{List, ◌++◌, ⊤}
+use Rattle.std.specs.Prelude.{◌≡◌, List, ◌++◌, ⊤}
 use Rattle.akl_terms.specs.declared.program.Program.{Program}
 use Rattle.akl_terms.specs.declared.program.Query.{Query}
 use Rattle.akl_model.specs.declared.label.Rule.{Rule}
 use Rattle.akl_model.specs.declared.label.Label.{Label}
-use Rattle.akl_model.specs.Config.{Content, Boxes, no_boxes, box, Goals, no_goals, atom, choice, Config}
+use Rattle.akl_model.specs.Config.{Content, Boxes, no_boxes, box, Goals, no_goals, atom, choice, Config, Found}
 use Rattle.akl_model.specs.Renaming.{port_names}
-use Rattle.akl_model.specs.Derivations.{Replays}
+use Rattle.akl_terms.specs.Equal.{Equations}
+use Rattle.akl_terms.specs.Touching.{IsLocal}
+use Rattle.constraint_laws.specs.Growth.{TellsOver}
+use Rattle.akl_model.specs.Derivations.{Applies, Replays}
 use Rattle.akl_model.specs.Scopes.{Scope, nowhere, scope_in, EquationsScoped, AtomScoped, AtomsScoped, TailsScoped, ShownScoped}
 
 -- the frames of a box alone, and the ports of it and of the boxes around it
@@ -33,3 +36,14 @@ abbrev mutual
 -- so it is in the replay of every journal
 abbrev pub OwnedLaw : Type 0
 OwnedLaw = (rules : List Rule) (p : Program) (q : Query) (journal : List Label) (c : Config) → Replays rules p q journal c → BoxesOwned nowhere c.roots
+
+-- the box f gains equations that are over the frames that it then has, and loses none
+pub record AddsOwn (f : Found) (b : Content) : Type 0 where
+  pub added : Equations
+  pub equations : b.equations ≡ f.content.equations ++ added
+  pub over : TellsOver (IsLocal b.frames) added
+
+-- so it is with each label, where the box of its place stays
+abbrev pub AddsOwnLaw : Type 0
+AddsOwnLaw = (rules : List Rule) (p : Program) (q : Query) (journal : List Label) (c : Config) (l : Label) (d : Config) → Replays rules p q journal c → (a : Applies rules p c l d)
+    → (b : Content) (gs : Goals) (rest : Boxes) → a.change.boxes ≡ box b gs rest → AddsOwn a.site b
