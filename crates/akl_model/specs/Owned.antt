@@ -16,13 +16,14 @@ use Rattle.akl_model.specs.Scopes.{Scope, nowhere, scope_in, EquationsScoped, At
 abbrev pub own_in : Scope → Content → Scope
 own_in s b = record { frames = b.frames; ports = port_names b.ports ++ s.ports }
 
--- in a box whose own scope is s: the frames of s stand in the equations, argument = head argument, alone
+-- the terms of a box that stands directly in one with the frames of s: its equations alone may use these too, since they equate the arguments of a call with those of a head
 pub record ContentOwned (s : Scope) (b : Content) : Type 0 where
   pub equations : EquationsScoped (scope_in s b) b.equations
   pub tails : TailsScoped (own_in s b) b.ports
   pub body : AtomsScoped (own_in s b) b.body
   pub shown : ShownScoped (own_in s b) b.shown
 
+-- so for each box, and goals use the frames of their box alone
 abbrev mutual
   pub BoxesOwned : Scope → Boxes → Type 0
   BoxesOwned s no_boxes = ⊤
