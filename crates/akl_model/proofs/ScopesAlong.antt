@@ -185,6 +185,11 @@ local_in [] x h = h
 local_in (f ∷ fs) x (inl e) = inl e
 local_in (f ∷ fs) x (inr h) = inr (local_in fs x h)
 
+pub in_local : (fs : List Name) (x : Var) → IsIn x.frame fs → IsLocal fs x
+in_local [] x h = h
+in_local (f ∷ fs) x (inl e) = inl e
+in_local (f ∷ fs) x (inr h) = inr (in_local fs x h)
+
 mutual
   pub frames_counted : (n : Name) (bs : Boxes) → IsIn n (frames_of bs) → 0 < times n bs
   frames_counted n no_boxes h = absurd h
