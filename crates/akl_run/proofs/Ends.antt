@@ -11,7 +11,8 @@ use Rattle.akl_terms.specs.Tree.{Tree, variable, integer, port, symbol}
 use Rattle.akl_terms.specs.Equal.{Equations}
 use Rattle.akl_terms.specs.Solved.{walk, follow}
 use Rattle.akl_terms.specs.Template.{tree, seen_of, tree_seen}
-use Rattle.rational_unify.specs.Known.{same_var, found_in, bound_in, IsSolved, end_of, next_in, next_seen}
+use Rattle.akl_terms.specs.Names.{same_var}
+use Rattle.rational_unify.specs.Known.{found_in, bound_in, IsSolved, end_of, next_in, next_seen}
 use Rattle.rational_unify.specs.Indexes.{IsIndex}
 use Rattle.rational_unify.proofs.Chains.{tree_of_seen, same_var-equal, same_var-refl, next_walks, no_next_stays}
 use Rattle.rational_unify.proofs.Walks.{walk-bound}

@@ -6,7 +6,8 @@ use Rattle.akl_terms.specs.declared.term.Node.{Node}
 use Rattle.akl_terms.specs.declared.term.Term.{Term}
 use Rattle.akl_terms.specs.Tree.{Tree, variable}
 use Rattle.akl_terms.specs.Template.{tree}
-use Rattle.rational_unify.specs.Known.{same_var, end_of}
+use Rattle.akl_terms.specs.Names.{same_var}
+use Rattle.rational_unify.specs.Known.{end_of}
 
 -- the tree, or another one that is known to stand for it
 abbrev pub other_or : Tree → Option Tree → Tree
