@@ -1,7 +1,7 @@
 -- How many entries a balanced tree has, by its height.
-use Rattle.std.proofs.Common.{◌≡◌, ℕ, suc, ◌+◌, ◌*◌, ◌/◌, ◌^◌, ◌<◌, ◌≤◌, max, ◌∷◌, ◌++◌, length, length-append, refl, sym, ap, ◌∙◌, subst, arith}
+use Rattle.std.proofs.Common.{ℕ, ◌+◌, ◌/◌, ◌^◌, ◌<◌, ◌≤◌, max, ◌∷◌, length, length-append, arith}
 use Rattle.std.proofs.Math.Pow.{pow_mono}
-use Rattle.std.proofs.lemmas.Nat.{pow_pos, pow-add}
+use Rattle.std.proofs.lemmas.Nat.{pow-add}
 use Rattle.persist_map.specs.declared.tree.Tree.{Tree, Leaf, Fork'}
 use Rattle.persist_map.specs.Contents.{entries_of, height_of, DifferByAtMost, IsBalanced}
 

@@ -1,5 +1,5 @@
 -- What a fork contains, and how high it is.
-use Rattle.std.proofs.Common.{◌≡◌, ℕ, ◌+◌, ◌<◌, max, Bool, true, false, cond, eqb, ◌&&◌, ◌∷◌, ◌++◌, length, length-append, refl, sym, ap, ◌∙◌, subst, arith}
+use Rattle.std.proofs.Common.{◌≡◌, ◌+◌, ◌<◌, max, true, false, cond, eqb, ◌&&◌, ◌∷◌, ◌++◌, length, length-append, refl, sym, ap, ◌∙◌, subst, arith}
 use Rattle.std.specs.Arc.{arc_value}
 use Rattle.std.specs.Ordering.{match_ordering}
 use Rattle.std.specs.declared.cmp.Ordering.{Ordering}
@@ -9,7 +9,7 @@ use Rattle.persist_map.specs.declared.tree.Tree.{Tree}
 use Rattle.persist_map.specs.declared.tree.Tree.TheVariants as tree
 use Rattle.persist_map.specs.declared.tree.Fork.{Fork}
 use Rattle.persist_map.specs.Contents.{entries_of, height_of, IsBalanced, IsBalancedFork}
-use Rattle.persist_map.specs.Changes.{is_level, grows, may_shrink, IsSameTree, IsJoined}
+use Rattle.persist_map.specs.Changes.{grows, may_shrink, IsSameTree, IsJoined}
 use Rattle.persist_map.specs.Entries.{IsOrdered}
 use Rattle.persist_map.proofs.Sides.{IsOrdered-front, IsOrdered-right}
 

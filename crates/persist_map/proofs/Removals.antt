@@ -1,12 +1,12 @@
 -- A key that is taken out of a tree, from the tree that it makes of a side.
-use Rattle.std.proofs.Common.{◌≡◌, ℕ, ◌+◌, ◌≤◌, max, Bool, true, false, cond, eqb, ◌∷◌, ◌++◌, sym, ap, ◌∙◌, arith}
+use Rattle.std.proofs.Common.{◌≡◌, ◌+◌, ◌≤◌, max, true, false, cond, eqb, sym, ap, ◌∙◌, arith}
 use Rattle.std.specs.declared.cmp.Ordering.{Ordering}
 use Rattle.std.specs.declared.cmp.Ordering.TheVariants.{Less, Equal, Greater}
 use Rattle.std.specs.Cmp.{IsTotalOrder}
 use Rattle.std.specs.Ordering.{match_ordering}
 use Rattle.persist_map.specs.declared.tree.Tree.{Tree}
 use Rattle.persist_map.specs.declared.tree.Fork.{Fork}
-use Rattle.persist_map.specs.Contents.{entries_of, height_of, DifferByAtMost}
+use Rattle.persist_map.specs.Contents.{height_of, DifferByAtMost}
 use Rattle.persist_map.specs.Changes.{may_shrink, IsSameTree, IsJoined, IsTogether, IsTakenOut}
 use Rattle.persist_map.proofs.Sides.{remove_entry-left, remove_entry-here, remove_entry-right}
 use Rattle.persist_map.proofs.Heights.{eqb_either_way, taken_height}

@@ -1,14 +1,12 @@
 -- A pair that is set in a tree, from the tree that it makes of a side.
-use Rattle.std.proofs.Common.{◌≡◌, ℕ, ◌+◌, ◌<◌, ◌≤◌, max, Bool, true, false, cond, eqb, ◌&&◌, ◌∷◌, ◌++◌, refl, sym, ap, ◌∙◌, subst, arith}
+use Rattle.std.proofs.Common.{◌≡◌, ◌+◌, max, Bool, false, eqb, ◌&&◌, refl, sym, ap, ◌∙◌, arith}
 use Rattle.std.specs.declared.cmp.Ordering.{Ordering}
 use Rattle.std.specs.declared.cmp.Ordering.TheVariants.{Less, Equal, Greater}
 use Rattle.std.specs.Cmp.{IsTotalOrder}
 use Rattle.std.specs.Ordering.{match_ordering}
-use Rattle.std.specs.BTreeMap.{insert_entry}
-use Rattle.std.proofs.lemmas.Bool.{eqb-true, eqb-false}
 use Rattle.persist_map.specs.declared.tree.Tree.{Tree}
 use Rattle.persist_map.specs.declared.tree.Fork.{Fork}
-use Rattle.persist_map.specs.Contents.{entries_of, height_of, DifferByAtMost}
+use Rattle.persist_map.specs.Contents.{height_of, DifferByAtMost}
 use Rattle.persist_map.specs.Changes.{is_level, grows, IsSameTree, IsJoined, IsSet}
 use Rattle.persist_map.proofs.Sides.{insert_entry-left, insert_entry-here, insert_entry-right}
 use Rattle.persist_map.proofs.Heights.{and_false, eqb_either_way, set_height, set_leans}

@@ -1,6 +1,5 @@
-use Rattle.std.proofs.Common.{refl, sym, subst, arith}
+use Rattle.std.proofs.Common.{sym, arith}
 use Rattle.std.proofs.lemmas.Result.{IfOk-weaker}
-use Rattle.persist_map.specs.Changes.{IsJoined, IsSet}
 use Rattle.persist_map.proofs.Forks.{has_top, has_balanced_top}
 use Rattle.persist_map.proofs.Settings.{set_left, set_here, set_right}
 use Rattle.persist_map.proofs.tree.Tree.+with.Goals as goal
