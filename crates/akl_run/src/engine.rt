@@ -7,7 +7,7 @@ use crate::loaded::Loaded;
 use crate::solved_form::SolvedForm;
 use akl_model::{Label, Receipt, Rule};
 use akl_terms::{Code, Equation, Name, Place, Term};
-use rational_unify::{Nothing, Solved, solve};
+use rational_unify::{Nothing, Solution, Solved, solve};
 use std::alloc::{AllocError, Global};
 
 /// The box of a query.
@@ -119,7 +119,11 @@ fn tell_and_solve(alloc: Global, loaded: &Loaded, mut run: Run) -> Result<Run, A
     ensures { IfOk result (λ run. HasEnded loaded.now run) }
 {
     let equations = tell_all(alloc, &mut run, loaded.query.goals.as_slice())?;
-    match solve(alloc, &loaded.program.templates, &Nothing, &equations)? {
+    let Solution {
+        solved,
+        followed: _,
+    } = solve(alloc, &loaded.program.templates, &Nothing, &equations)?;
+    match solved {
         Solved::Added(bindings) => {
             let form = SolvedForm::new(alloc, &loaded.program.templates, bindings)?;
             run.solved = Some(form);

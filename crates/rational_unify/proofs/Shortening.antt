@@ -9,7 +9,7 @@ use Rattle.akl_terms.specs.Tree.{Tree, variable, integer, port, symbol}
 use Rattle.akl_terms.specs.Solved.{Bindings, walk, follow, steps, steps_on, EndsWithin}
 use Rattle.akl_terms.specs.Template.{tree}
 use Rattle.rational_unify.specs.Known.{found_in, bound_in, IsSolved, end_of}
-use Rattle.rational_unify.specs.Shortened.{Rebinds, KeepsEnds, variable_of}
+use Rattle.rational_unify.specs.Shortened.{Rebinds, KeepsEnds}
 use Rattle.rational_unify.specs.Solving.{BindNew}
 use Rattle.rational_unify.proofs.Same.{same_value}
 use Rattle.rational_unify.proofs.Walks.{IsFree, walk-bound, bound_falls, walk-free, walk-again, free-steps}
@@ -179,10 +179,3 @@ BindNew-variables ks ls (b ∷ bs) (c ∷ cs) f e h = (
 
 pub KeepsEnds-new : (nodes : List Node) (known old new : List (Var × Term)) → KeepsEnds nodes known old new → BindNew known old → BindNew known new
 KeepsEnds-new nodes known old new k h = BindNew-variables known known old new (λ y e. e) k.variables h
-
-pub variable_of-some : (o : Option Tree) (y : Var) → Some y ≡ variable_of o → o ≡ Some (variable y)
-variable_of-some None y e = cc
-variable_of-some (Some (integer z)) y e = cc
-variable_of-some (Some (port p)) y e = cc
-variable_of-some (Some (symbol f ts)) y e = cc
-variable_of-some (Some (variable x)) y e = ap (λ z. Some (variable z)) (same_value refl (sym e))

@@ -3,4 +3,5 @@ pub mod Solving
 pub mod Indexes
 pub mod Forms
 pub mod Shortened
+pub mod Followed
 pub mod Meeting

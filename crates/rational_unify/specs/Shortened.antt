@@ -12,11 +12,6 @@ abbrev pub IsEndOf : List Node → List (Var × Term) → Var → Option Var →
 IsEndOf nodes bs x (Some y) = end_of nodes bs (variable x) ≡ variable y
 IsEndOf nodes bs x None = (h : Head) × (head_of (end_of nodes bs (variable x)) ≡ Some h)
 
--- the variable that a tree is
-abbrev pub variable_of : Option Tree → Option Var
-variable_of (Some (variable x)) = Some x
-variable_of _ = None
-
 -- the same variables are bound, this one, where it is, to this term, and the others to what they were
 pub record Rebinds (old new : List (Var × Term)) (x : Var) (t : Term) : Type 0 where
   pub variables : map (λ b. b.0) new ≡ map (λ b. b.0) old

@@ -1,13 +1,15 @@
 //! Chains of bindings from variable to variable.
 
-ghost use Rattle.std.specs.Prelude.{◌≡◌, ◌++◌};
+ghost use Rattle.std.specs.Prelude.{◌≡◌, ◌++◌, IfOk};
 ghost use Rattle.akl_terms.specs.Template.{tree};
-ghost use Rattle.rational_unify.specs.Known.{IsSolved, bound_in, end_of, next_in};
-ghost use Rattle.rational_unify.specs.Shortened.{IsEndOf, KeepsEnds, variable_of};
+ghost use Rattle.rational_unify.specs.Known.{IsSolved, end_of, next_in};
+ghost use Rattle.rational_unify.specs.Shortened.{IsEndOf};
+ghost use Rattle.rational_unify.specs.Followed.{IsPath, Follows, ReboundAll};
 
 use crate::added::AddedBindings;
 use crate::known::Lookup;
 use akl_terms::{Seen, Templates, Term, Var};
+use std::alloc::{AllocError, Global};
 
 /// The end of a term's chain: the term itself, where it is no variable that is bound.
 pub fn chain_end<K: Lookup>(templates: &Templates, known: &K, term: Term) -> Term
@@ -65,34 +67,67 @@ impl<'a, K: Lookup> Lookup for Together<'a, K> {
     }
 }
 
-/// Binds each added variable on a variable's chain to the end of the chain.
-pub fn shorten<K: Lookup>(
+/// The variables along a term's chain, and its end.
+#[derive(Drop)]
+pub struct Path {
+    pub variables: Vec<Var>,
+    pub end: Term,
+}
+
+/// Follows a term's chain.
+fn path_of<K: Lookup>(
+    alloc: Global,
+    templates: &Templates,
+    known: &K,
+    term: Term,
+) -> Result<Path, AllocError>
+    requires { IsSolved templates.now.nodes (K.bindings known.now) }
+    ensures { IfOk result (λ p. IsPath templates.now.nodes (K.bindings known.now) term p.variables.items p.end) }
+{
+    let mut variables = Vec::new(alloc);
+    let mut last = term;
+    while let Seen::Free(variable) = templates.look(last) {
+        variables.push(variable)?;
+        match known.get(variable) {
+            Some(next) => last = next,
+            None => {
+                return Ok(Path {
+                    variables,
+                    end: last,
+                });
+            }
+        }
+    }
+    Ok(Path {
+        variables,
+        end: last,
+    })
+}
+
+/// The end of a term's chain. Each added variable on the chain is bound to it, and all variables
+/// on the chain are put to those that were followed.
+pub fn follow<K: Lookup>(
+    alloc: Global,
     templates: &Templates,
     known: &K,
     added: &mut AddedBindings,
-    variable: Var,
-)
+    followed: &mut Vec<Var>,
+    term: Term,
+) -> Result<Term, AllocError>
     requires { IsSolved templates.now.nodes (K.bindings known.now ++ added.old) }
-    ensures { KeepsEnds templates.now.nodes (K.bindings known.now) added.old added.new }
+    ensures { IfOk result (λ end. Follows templates.now.nodes (K.bindings known.now) term added.old added.new followed.old.items followed.new.items end) }
 {
-    let together = Together { known, added };
-    let Some(first) = together.get(variable) else {
-        return;
-    };
-    let end = chain_end(templates, &together, first);
-    let mut last = variable;
-    while let Some(next) = next_variable(templates, &Together { known, added }, last) {
-        added.rebind(last, end);
-        last = next;
-    }
+    let path = path_of(alloc, templates, &Together { known, added }, term)?;
+    rebind_all(added, path.variables.as_slice(), path.end);
+    followed.extend_from_slice(&path.variables)?;
+    Ok(path.end)
 }
 
-/// The variable that a variable is bound to.
-fn next_variable<K: Lookup>(templates: &Templates, known: &K, variable: Var) -> Option<Var>
-    ensures { result ≡ variable_of (bound_in templates.now.nodes (K.bindings known.now) variable) }
+/// Binds each of these variables that is bound to a term.
+fn rebind_all(added: &mut AddedBindings, variables: &[Var], term: Term)
+    ensures { ReboundAll term added.old variables.now added.new }
 {
-    match templates.look(known.get(variable)?) {
-        Seen::Free(next) => Some(next),
-        _ => None,
+    for variable in variables {
+        added.rebind(*variable, term);
     }
 }

@@ -8,7 +8,7 @@ ghost use Rattle.rational_unify.specs.Forms.{Takes, IsClashOfBindings, OneTaken}
 use crate::added::AddedBindings;
 use crate::chain::{Together, chain_end};
 use crate::known::Lookup;
-use crate::solver::{Solved, solve};
+use crate::solver::{Solution, Solved, solve};
 use akl_terms::{Equation, Seen, Templates, Term, Var};
 use std::alloc::{AllocError, Global};
 
@@ -52,7 +52,11 @@ impl<'a, K: Lookup> Form<'a, K> {
         for binding in bindings {
             self.take_one(templates, binding.0, binding.1, &mut pending)?;
         }
-        match solve(alloc, templates, &*self, pending.as_slice())? {
+        let Solution {
+            solved,
+            followed: _,
+        } = solve(alloc, templates, &*self, pending.as_slice())?;
+        match solved {
             Solved::Clash { left, right } => Ok(Some(Equation { left, right })),
             Solved::Added(more) => {
                 self.add(more.as_slice())?;

@@ -13,4 +13,4 @@ pub use added::AddedBindings;
 pub use chain::{chain_end, variable_end};
 pub use form::Form;
 pub use known::{Lookup, Nothing, found};
-pub use solver::{Solved, solve};
+pub use solver::{Solution, Solved, solve};

@@ -3,19 +3,19 @@
 ghost use Rattle.std.specs.Prelude.{◌≡◌, ◌<◌, ◌^◌, ◌++◌, IfOk, MatchOption, length};
 ghost use Rattle.akl_terms.specs.Template.{IsArranged};
 ghost use Rattle.rational_unify.specs.Known.{IsSolved};
-ghost use Rattle.rational_unify.specs.Shortened.{KeepsEnds};
 ghost use Rattle.rational_unify.specs.Meeting.{Advances, AgreeInHead, Clashes};
-ghost use Rattle.rational_unify.specs.Solving.{Solves};
+ghost use Rattle.rational_unify.specs.Solving.{BindNew, Solves};
+ghost use Rattle.rational_unify.specs.Followed.{Settles, SolvesAlso};
 
 use crate::added::AddedBindings;
-use crate::chain::{Together, chain_end, shorten};
+use crate::chain::{Together, chain_end, follow};
 use crate::compared::Compared;
 use crate::known::Lookup;
 use crate::meet::{Meeting, compare};
-use akl_terms::{Equation, Seen, Templates, Term, Var};
+use akl_terms::{Equation, Templates, Term, Var};
 use std::alloc::{AllocError, Global};
 
-/// The answer of `solve`.
+/// Bindings, or a clash.
 #[derive(Drop)]
 pub enum Solved {
     /// The known bindings and the equations are consistent. With these bindings, of variables that
@@ -25,11 +25,20 @@ pub enum Solved {
     Clash { left: Term, right: Term },
 }
 
+/// What `solve` found, and the variables whose known bindings it read, some of them more than
+/// once.
+#[derive(Drop)]
+pub struct Solution {
+    pub solved: Solved,
+    pub followed: Vec<Var>,
+}
+
 /// Solves equations over known bindings, by rational trees: there is no occurs check.
 ///
 /// The known bindings must be a solved form: no chain of bindings from variable to variable
 /// returns to its start. `Clash` comes exactly where they and the equations together are
-/// inconsistent.
+/// inconsistent. The answer holds too over any other solved form that gives each followed variable
+/// what the known bindings give it.
 ///
 /// Of the terms that are found to be equal one stands for all (after G. Huet's thesis of 1976), so
 /// no more terms are compared than there are symbols in them.
@@ -38,9 +47,10 @@ pub fn solve<K: Lookup>(
     templates: &Templates,
     known: &K,
     equations: &[Equation],
-) -> Result<Solved, AllocError>
+) -> Result<Solution, AllocError>
     requires known { IsSolved templates.now.nodes (K.bindings known.now) }
-    ensures { IfOk result (λ solved. Solves templates.now.nodes (K.bindings known.now) equations.now solved) }
+    ensures solves { IfOk result (λ s. Solves templates.now.nodes (K.bindings known.now) equations.now s.solved) }
+    ensures followed { IfOk result (λ s. SolvesAlso templates.now.nodes (K.bindings known.now) equations.now s) }
 {
     let mut work = Work {
         added: AddedBindings::new(alloc),
@@ -48,17 +58,22 @@ pub fn solve<K: Lookup>(
         compared: Compared::new(alloc),
     };
     work.pending.extend_from_slice(equations)?;
+    let mut followed = Vec::new(alloc);
     while let Some(pair) = work.pending.pop() {
-        shorten_sides(templates, known, &mut work.added, pair);
-        if let Some(clash) = advance(templates, known, &mut work, pair)? {
-            return Ok(Solved::Clash {
+        let added = &mut work.added;
+        let left = follow(alloc, templates, known, added, &mut followed, pair.left)?;
+        let right = follow(alloc, templates, known, added, &mut followed, pair.right)?;
+        if let Some(clash) = advance(templates, known, &mut work, Equation { left, right })? {
+            let solved = Solved::Clash {
                 left: clash.left,
                 right: clash.right,
-            });
+            };
+            return Ok(Solution { solved, followed });
         }
     }
-    settle(templates, known, &mut work.added);
-    Ok(Solved::Added(work.added.into_vec()))
+    settle(alloc, templates, known, &mut work.added, &mut followed)?;
+    let solved = Solved::Added(work.added.into_vec());
+    Ok(Solution { solved, followed })
 }
 
 /// What the solver keeps from equation to equation.
@@ -108,33 +123,25 @@ fn advance<K: Lookup>(
     }
 }
 
-/// Shortens the chains of both terms of an equation.
-fn shorten_sides<K: Lookup>(
+/// Binds each added variable to the end of its chain.
+fn settle<K: Lookup>(
+    alloc: Global,
     templates: &Templates,
     known: &K,
     added: &mut AddedBindings,
-    pair: Equation,
-)
-    requires { IsSolved templates.now.nodes (K.bindings known.now ++ added.old) }
-    ensures { KeepsEnds templates.now.nodes (K.bindings known.now) added.old added.new }
-{
-    if let Seen::Free(variable) = templates.look(pair.left) {
-        shorten(templates, known, added, variable);
-    }
-    if let Seen::Free(variable) = templates.look(pair.right) {
-        shorten(templates, known, added, variable);
-    }
-}
-
-/// Binds each added variable to the end of its chain.
-fn settle<K: Lookup>(templates: &Templates, known: &K, added: &mut AddedBindings)
-    requires { IsSolved templates.now.nodes (K.bindings known.now ++ added.old) }
-    ensures { KeepsEnds templates.now.nodes (K.bindings known.now) added.old added.new }
+    followed: &mut Vec<Var>,
+) -> Result<(), AllocError>
+    requires solved { IsSolved templates.now.nodes (K.bindings known.now ++ added.old) }
+    requires fresh { BindNew (K.bindings known.now) added.old }
+    ensures { IfOk result (λ _. Settles templates.now.nodes (K.bindings known.now) added.old added.new followed.old.items followed.new.items) }
 {
     for place in 0..added.as_slice().len() {
-        if let Some(binding) = added.as_slice().get(place) {
-            let variable = binding.0;
-            shorten(templates, known, added, variable);
-        }
+        let Some(binding) = added.as_slice().get(place) else {
+            return Ok(());
+        };
+        let (variable, term) = *binding;
+        let end = follow(alloc, templates, known, added, followed, term)?;
+        added.rebind(variable, end);
     }
+    Ok(())
 }

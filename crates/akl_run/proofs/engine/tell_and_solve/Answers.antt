@@ -21,7 +21,7 @@ returns-in-Added c =
     Represents-same (told_box c.args.loaded.now).equations (end_of c.args.loaded.now.program.templates.nodes c.in-Added.bindings.items) (led_by c.args.loaded.now.program.templates.nodes c.in_ok-form-in-Added.form.ends.entries)
     c.in_ok-form-in-Added.ensures.each
     (represented c.args.loaded.now.program.templates.nodes (equations_by c.args.loaded.now.query.goals) c.in-Added.bindings.items
-    (subst (λ es. IsSolution c.args.loaded.now.program.templates.nodes [] es c.in-Added.bindings.items) told (rw c.in-Added.is at c.in_ok-bindings.ensures))) in
+    (subst (λ es. IsSolution c.args.loaded.now.program.templates.nodes [] es c.in-Added.bindings.items) told (rw c.in-Added.is at c.in_ok-solved.ensures.solves))) in
     record {
       ends = record {
         run = subst (λ j. IsRun c.args.loaded.now j (told_box c.args.loaded.now ∷ []) done) (sym journal)
@@ -41,7 +41,7 @@ returns c =
       ends = rw (c.in_ok-commit-in-Clash.ensures.solved, all)
           (query_fails c.args.loaded.now c.requires.equations c.requires.within
           (clash_contradicts c.args.loaded.now.program.templates.nodes (equations_by c.args.loaded.now.query.goals) c.in-Clash.left c.in-Clash.right
-          (subst (λ es. IsClashOf c.args.loaded.now.program.templates.nodes [] es c.in-Clash.left c.in-Clash.right) told (rw c.in-Clash.is at c.in_ok-bindings.ensures))));
+          (subst (λ es. IsClashOf c.args.loaded.now.program.templates.nodes [] es c.in-Clash.left c.in-Clash.right) told (rw c.in-Clash.is at c.in_ok-solved.ensures.solves))));
       receipts =
           let before : length c.tell_all.new.run.journal.items ≡ 0 + length c.tell_all.new.run.journal.items = omega arith in
           c.in_ok-commit-in-Clash.ensures.receipts ∙ ap (λ rs. rs ++ receipt_of (length c.tell_all.new.run.journal.items) fail_root ∷ []) c.in_ok-equations.ensures.receipts

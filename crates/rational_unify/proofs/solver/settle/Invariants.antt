@@ -1,5 +1,5 @@
-use Rattle.rational_unify.specs.Shortened.{KeepsEnds}
+use Rattle.rational_unify.specs.Followed.{Settles}
 use Rattle.rational_unify.proofs.solver.settle.Given as goal
 
 abbrev pub invariant-loop-place : goal.invariant-loop-place
-invariant-loop-place g l = KeepsEnds l.templates.nodes (g.K.Lookup.bindings l.known) l.initial.added l.added
+invariant-loop-place g l = Settles l.templates.nodes (g.K.Lookup.bindings l.known) l.initial.added l.added l.initial.followed.items l.followed.items

@@ -20,7 +20,7 @@ returns-in-Clash-clause-taken g c =
         (let a = c.loop-binding.auto.binding-index-end in let b = c.loop-binding-test.false in omega arith) in
     half-clashes c.args.templates.now.nodes (g.K.Lookup.bindings c.args.self.now.known.now) c.args.self.now.added c.loop-binding.self.added c.loop-binding.pending.items c.args.bindings.now
     (rw all at c.loop-binding.invariant.1) c.in-Clash.left c.in-Clash.right
-    (rw (c.loop-binding.invariant.0, c.in-Clash.is, c.as_slice.ensures.value) at c.in_ok-left.ensures)
+    (rw (c.loop-binding.invariant.0, c.in-Clash.is, c.as_slice.ensures.value) at c.in_ok-solved.ensures.solves)
 
 pub returns-clause-taken : goal.returns-clause-taken
 returns-clause-taken g c =
@@ -29,4 +29,4 @@ returns-clause-taken g c =
     rw (c.in_ok-add-in-Added.ensures.added, c.as_slice-in-Added.ensures.value)
     (half-ends c.args.templates.now.nodes (g.K.Lookup.bindings c.args.self.now.known.now) c.args.self.now.added c.loop-binding.self.added c.loop-binding.pending.items c.args.bindings.now
     (rw all at c.loop-binding.invariant.1) c.in-Added.more.items
-    (rw (c.loop-binding.invariant.0, c.in-Added.is, c.as_slice.ensures.value) at c.in_ok-left.ensures))
+    (rw (c.loop-binding.invariant.0, c.in-Added.is, c.as_slice.ensures.value) at c.in_ok-solved.ensures.solves))
