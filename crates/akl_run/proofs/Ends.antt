@@ -5,16 +5,15 @@ use Rattle.std.specs.Map.{lookup}
 use Rattle.akl_terms.specs.declared.name.Var.{Var}
 use Rattle.akl_terms.specs.declared.term.Node.{Node}
 use Rattle.akl_terms.specs.declared.term.Term.{Term}
-use Rattle.akl_terms.specs.declared.term.Seen.{Seen}
 use Rattle.akl_terms.specs.declared.term.Seen.TheVariants.{Free}
 use Rattle.akl_terms.specs.Tree.{Tree, variable, integer, port, symbol}
 use Rattle.akl_terms.specs.Equal.{Equations}
 use Rattle.akl_terms.specs.Solved.{walk, follow}
 use Rattle.akl_terms.specs.Template.{tree, seen_of, tree_seen}
 use Rattle.akl_terms.specs.Names.{same_var}
-use Rattle.rational_unify.specs.Known.{found_in, bound_in, IsSolved, end_of, next_in, next_seen}
+use Rattle.rational_unify.specs.Known.{found_in, bound_in, IsSolved, end_of}
 use Rattle.rational_unify.specs.Indexes.{IsIndex}
-use Rattle.rational_unify.proofs.Chains.{tree_of_seen, same_var-equal, same_var-refl, next_walks, no_next_stays}
+use Rattle.rational_unify.proofs.Chains.{tree_of_seen, same_var-equal, same_var-refl}
 use Rattle.rational_unify.proofs.Walks.{walk-bound}
 use Rattle.answer_text.specs.Classes.{Represents}
 use Rattle.akl_run.specs.Ends.{other_or, led_by, AreEnds, GivesEnds}

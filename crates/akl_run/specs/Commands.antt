@@ -13,7 +13,7 @@ use Rattle.akl_run.specs.declared.report.Report.{Report}
 use Rattle.akl_run.specs.declared.loaded.Loaded.{Loaded}
 use Rattle.akl_run.specs.Words.{query_of}
 use Rattle.akl_run.specs.Goals.{are_built_goals}
-use Rattle.akl_run.specs.Loads.{IsLoadedProgram, ProgramStops, QueryStops, IsLoadedQuery, IsLoadedFrom}
+use Rattle.akl_run.specs.Loads.{IsLoadedProgram, ProgramStops, QueryStops, IsLoadedFrom}
 use Rattle.akl_run.specs.Reports.{IsStatusOf, IsRunOf, RunStops, HasOnlyLongRuns}
 
 -- What is seen of a source or of a sink: the bytes still to come, or taken so far, where they are known, and how many

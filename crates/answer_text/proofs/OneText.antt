@@ -1,12 +1,12 @@
 -- Consistent equations have one text of an answer.
 use Rattle.std.proofs.Common.{◌≡◌, ℕ, List, [], ◌∷◌, ◌++◌, refl, sym, ◌∙◌, ap}
 use Rattle.std.specs.Prelude.{codes}
-use Rattle.akl_terms.specs.Tree.{Tree, Trees, none, more, integer, port}
+use Rattle.akl_terms.specs.Tree.{Tree, Trees, more}
 use Rattle.akl_terms.specs.Equal.{Equations, same, joined, IsConsistent}
 use Rattle.answer_text.specs.SymbolText.{symbol_text}
 use Rattle.answer_text.specs.Printed.{class_text, Prints, class, number, a_port, constant, compound, cell, PrintsAll, last, next, PrintsTail, ends, element, partial, PrintsLines, no_lines, line}
 use Rattle.answer_text.specs.Answers.{OneTextLaw}
-use Rattle.answer_text.proofs.Respects.{Alike, Alike-refl, Alike-turned, AlikeTrees-refl, numbered-one, prints-alike, all-alike, tail-alike, lines-alike}
+use Rattle.answer_text.proofs.Respects.{Alike, Alike-refl, Alike-turned, AlikeTrees-refl, numbered-one, all-alike, tail-alike, lines-alike}
 use Rattle.answer_text.proofs.Determined.{IsClassText, IsCompoundText, IsCellText, IsPartialText, class-only, integer-only, port-only, constant-only, compound-only, cell-only, end-only, element-only, partial-only}
 
 Alike-joined : (E : Equations) (xs ys zs : List Tree) → Alike E xs ys → Alike E ys zs → Alike E xs zs

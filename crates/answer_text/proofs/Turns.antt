@@ -1,16 +1,15 @@
 -- One turn of the printer leads on: what is printed from the state behind it is what is printed from the state before it.
-use Rattle.std.proofs.Common.{◌≡◌, ℕ, ℤ, suc, List, [], ◌∷◌, ◌++◌, length, Some, Bool, true, false, cond, refl, sym, ◌∙◌, ap, subst, arith}
+use Rattle.std.proofs.Common.{◌≡◌, ℕ, ℤ, suc, List, [], ◌∷◌, ◌++◌, Some, Bool, true, false, cond, refl, sym, ◌∙◌, ap, subst}
 use Rattle.std.specs.Prelude.{slice_get, codes}
 use Rattle.std.specs.Fmt.{signed_decimal}
-use Rattle.std.proofs.lemmas.Bool.Decides.{nat_tests}
 use Rattle.akl_terms.specs.declared.name.Name.{Name}
 use Rattle.akl_terms.specs.declared.name.Var.{Var}
 use Rattle.akl_terms.specs.declared.term.Term.{Term}
-use Rattle.akl_terms.specs.Tree.{Tree, variable, integer, port, symbol, none, more, list_of, Head, head_of, integer_head, port_head, symbol_head}
-use Rattle.akl_terms.specs.Equal.{Equations, Equal, turned, joined, IsConsistent}
+use Rattle.akl_terms.specs.Tree.{Tree, variable, integer, port, symbol, none}
+use Rattle.akl_terms.specs.Equal.{Equations, Equal, IsConsistent}
 use Rattle.akl_terms.specs.Template.{Template, tree}
 use Rattle.answer_text.specs.SymbolText.{constant_text}
-use Rattle.answer_text.specs.Printed.{class_text, IsFree, IsNumbered, first, here, later, Prints, class, number, a_port, constant, compound, cell}
+use Rattle.answer_text.specs.Printed.{class_text, IsFree, IsNumbered, first, here, later, Prints, class, number, a_port, constant}
 use Rattle.answer_text.specs.Classes.{Represents}
 use Rattle.answer_text.specs.Pieces.{State, Rest, byte, whole, trees_of, Continues, AreEnds, same_var, class_number, with_class, with_bytes, class_printed}
 use Rattle.answer_text.specs.declared.piece.Piece.TheVariants.{Byte, Whole}

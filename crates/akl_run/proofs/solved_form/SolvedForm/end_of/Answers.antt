@@ -1,6 +1,6 @@
 use Rattle.std.proofs.Common.{◌≡◌, Some, sym, ◌∙◌, ap}
 use Rattle.rational_unify.specs.Known.{next_in, next_seen}
-use Rattle.rational_unify.proofs.Chains.{next_falls, next_walks, no_next_stays}
+use Rattle.rational_unify.proofs.Chains.{next_falls, next_walks}
 use Rattle.akl_run.proofs.solved_form.SolvedForm.end_of.Goals as goal
 
 pub chain-smaller : goal.chain-smaller

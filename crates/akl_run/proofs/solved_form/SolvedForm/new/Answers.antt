@@ -1,4 +1,4 @@
-use Rattle.std.proofs.Common.{◌≡◌, ◌-◌, ◌≤◌, ◌<◌, length, None, Some, sym, subst, rules, ◌∙◌, ap, List, arith, drop, get_or}
+use Rattle.std.proofs.Common.{◌≡◌, ◌-◌, ◌≤◌, length, None, Some, sym, subst, ◌∙◌, ap, List, arith, drop, get_or}
 use Rattle.akl_terms.specs.declared.name.Var.{Var}
 use Rattle.akl_terms.specs.declared.term.Term.{Term}
 use Rattle.akl_terms.specs.declared.term.Term.TheVariants.{Mol}
