@@ -1,4 +1,4 @@
--- The ends of the chains of bindings.
+-- Bindings that are found at once, and the ends of their chains.
 use Rattle.std.specs.Prelude.{◌≡◌, List, Option, Some, None, option_map}
 use Rattle.std.specs.Map.{lookup}
 use Rattle.akl_terms.specs.declared.name.Var.{Var}
@@ -7,7 +7,11 @@ use Rattle.akl_terms.specs.declared.term.Term.{Term}
 use Rattle.akl_terms.specs.Tree.{Tree, variable}
 use Rattle.akl_terms.specs.Template.{tree}
 use Rattle.akl_terms.specs.Names.{same_var}
-use Rattle.rational_unify.specs.Known.{end_of}
+use Rattle.rational_unify.specs.Known.{found_in, end_of}
+
+-- the index has what the first binding of each variable binds it to
+pub record IsIndex (index list : List (Var × Term)) : Type 0 where
+  pub each : (x : Var) → lookup (same_var x) index ≡ found_in list x
 
 -- the tree, or another one that is known to stand for it
 abbrev pub other_or : Tree → Option Tree → Tree

@@ -19,7 +19,7 @@ impl Model for Indexed {
     ghost use Rattle.std.specs.Prelude.{List};
     ghost use Rattle.akl_terms.specs.declared.name.Var.{Var};
     ghost use Rattle.akl_terms.specs.declared.term.Term.{Term};
-    ghost use Rattle.rational_unify.specs.Indexes.{IsIndex};
+    ghost use Rattle.akl_run.specs.Ends.{IsIndex};
 
     ghost Value = { List (Var × Term) };
 

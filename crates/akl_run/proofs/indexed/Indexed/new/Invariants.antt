@@ -1,5 +1,5 @@
 use Rattle.std.proofs.Common.{drop}
-use Rattle.rational_unify.specs.Indexes.{IsIndex}
+use Rattle.akl_run.specs.Ends.{IsIndex}
 use Rattle.akl_run.proofs.indexed.Indexed.new.Given as goal
 
 abbrev pub invariant-loop-at : goal.invariant-loop-at
