@@ -1,13 +1,12 @@
 -- What stands at the ends of chains.
-use Rattle.std.proofs.Common.{◌≡◌, List, Some, None, ◌++◌, refl, sym, ◌∙◌, ap}
+use Rattle.std.proofs.Common.{◌≡◌, List, Some, refl, sym, ◌∙◌, ap}
 use Rattle.std.specs.Prelude.{option_map}
 use Rattle.akl_terms.specs.declared.name.Var.{Var}
 use Rattle.akl_terms.specs.declared.term.Node.{Node}
 use Rattle.akl_terms.specs.declared.term.Term.{Term}
 use Rattle.akl_terms.specs.declared.term.Seen.{Seen}
 use Rattle.akl_terms.specs.declared.term.Seen.TheVariants.{Free}
-use Rattle.akl_terms.specs.Tree.{Tree, variable, Head, head_of, integer_head, port_head, symbol_head}
-use Rattle.akl_terms.specs.Solved.{follow, walk}
+use Rattle.akl_terms.specs.Tree.{variable, Head, head_of, integer_head, port_head, symbol_head}
 use Rattle.akl_terms.specs.Template.{tree, seen_of, tree_seen}
 use Rattle.rational_unify.specs.Known.{found_in, bound_in, IsSolved, end_of}
 use Rattle.rational_unify.proofs.Walks.{walk-bound}

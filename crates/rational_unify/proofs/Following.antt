@@ -1,5 +1,5 @@
 -- What was followed holds over other bindings that give the followed variables the same.
-use Rattle.std.proofs.Common.{◌≡◌, ℕ, suc, [], ◌∷◌, List, ◌++◌, length, Option, Some, None, refl, sym, ◌∙◌, ap, subst, append_assoc}
+use Rattle.std.proofs.Common.{◌≡◌, [], ◌∷◌, List, ◌++◌, length, Option, Some, None, refl, sym, ◌∙◌, ap, subst, append_assoc}
 use Rattle.akl_terms.specs.declared.name.Var.{Var}
 use Rattle.akl_terms.specs.declared.term.Node.{Node}
 use Rattle.akl_terms.specs.declared.term.Term.{Term}
@@ -9,7 +9,7 @@ use Rattle.akl_terms.specs.declared.term.Equation as code
 use Rattle.akl_terms.specs.Tree.{Tree, variable}
 use Rattle.akl_terms.specs.Template.{tree, seen_of}
 use Rattle.rational_unify.specs.declared.solver.Work.{Work}
-use Rattle.rational_unify.specs.Known.{found_in, bound_in, next_seen, next_in, IsSolved, end_of}
+use Rattle.rational_unify.specs.Known.{found_in, bound_in, next_seen, IsSolved, end_of}
 use Rattle.rational_unify.specs.Shortened.{Rebinds, KeepsEnds}
 use Rattle.rational_unify.specs.Followed.{AgreeOn, LeadsAlong, start, on, IsPath, headed, free, ReboundAll, unchanged, rebound, Follows, Settles}
 use Rattle.rational_unify.specs.Solving.{bindings_in, BindNew}
@@ -72,8 +72,7 @@ LeadsAlong-ends : (nodes : List Node) (bs : List (Var × Term)) (t : Term) (xs :
     → (end_of nodes bs (tree nodes s) ≡ end_of nodes bs (tree nodes t)) × EndWith nodes bs (tree nodes t) xs
 LeadsAlong-ends nodes bs t xs s h start = (refl, tt)
 LeadsAlong-ends nodes bs t xs u h (on {xs = ys} {s = s} {x = x} l p q) =
-    let low : (end_of nodes bs (tree nodes s) ≡ end_of nodes bs (tree nodes t)) × EndWith nodes bs (tree nodes t) ys = LeadsAlong-ends nodes bs t ys s h l in
-    (
+    let low : (end_of nodes bs (tree nodes s) ≡ end_of nodes bs (tree nodes t)) × EndWith nodes bs (tree nodes t) ys = LeadsAlong-ends nodes bs t ys s h l in (
       sym (next_walks nodes bs s u h (ap (next_seen bs) (sym p) ∙ q)) ∙ low.0,
       EndWith-push nodes bs (tree nodes t) ys x low.1 (ap (end_of nodes bs) (sym (free-tree nodes s x p)) ∙ low.0),
     )
@@ -90,8 +89,7 @@ path-ends nodes bs t xs s h (headed l n) =
     nothing (Seen.Port z) e = refl
     nothing (Seen.Struct a b c d) e = refl
 path-ends nodes bs t xs s h (free {xs = ys} {x = x} l p q) =
-    let low : (end_of nodes bs (tree nodes s) ≡ end_of nodes bs (tree nodes t)) × EndWith nodes bs (tree nodes t) ys = LeadsAlong-ends nodes bs t ys s h l in
-    (
+    let low : (end_of nodes bs (tree nodes s) ≡ end_of nodes bs (tree nodes t)) × EndWith nodes bs (tree nodes t) ys = LeadsAlong-ends nodes bs t ys s h l in (
       no_next_stays nodes bs s (ap (next_seen bs) (sym p) ∙ q) ∙ low.0,
       EndWith-push nodes bs (tree nodes t) ys x low.1 (ap (end_of nodes bs) (sym (free-tree nodes s x p)) ∙ low.0),
     )
@@ -190,6 +188,6 @@ Settles-on nodes known old cur mid new f f' f'' x t end s m l r = record {
         let b : AgreeOn l.path known other = AgreeOn-right s.path l.path known other a in
         let j : KeepsEnds nodes other cur mid = follows-keeps nodes known other t cur mid f' f'' end l k.solved b in
         let e : end_of nodes (other ++ cur) (variable x) ≡ end_of nodes (other ++ cur) (tree nodes t) =
-            bound-end (other ++ cur) k.solved (BindNew-bound nodes other cur (variable x) (tree nodes t) (KeepsEnds-new nodes other old cur k n) m) in
+        bound-end (other ++ cur) k.solved (BindNew-bound nodes other cur (variable x) (tree nodes t) (KeepsEnds-new nodes other old cur k n) m) in
         KeepsEnds-on nodes other old cur new k (KeepsEnds-on nodes other cur mid new j
         (rebound-keeps nodes other mid new x end j.solved r (follows-end nodes known other t cur mid f' f'' end l k.solved b ∙ sym e ∙ sym (j.ends (variable x)))))

@@ -7,18 +7,18 @@ use Rattle.akl_terms.specs.declared.term.Term.{Term}
 use Rattle.akl_terms.specs.declared.term.Equation as code
 use Rattle.akl_terms.specs.declared.term.Seen.{Seen}
 use Rattle.akl_terms.specs.declared.term.Seen.TheVariants.{Free}
-use Rattle.akl_terms.specs.Tree.{Tree, variable, Head, head_of, integer_head, port_head, symbol_head}
-use Rattle.akl_terms.specs.Equal.{IsTold, EqualBy, told, same, turned, joined, IsConsistentBy}
-use Rattle.akl_terms.specs.Solved.{IsBound, bound, SameTo, Leads, EndsWithin, follow, walk}
-use Rattle.akl_terms.specs.Template.{tree, seen_of, tree_seen}
+use Rattle.akl_terms.specs.Tree.{Tree, variable, Head, head_of}
+use Rattle.akl_terms.specs.Equal.{IsTold, EqualBy, told, turned, joined, IsConsistentBy}
+use Rattle.akl_terms.specs.Solved.{IsBound, bound, SameTo, Leads, EndsWithin}
+use Rattle.akl_terms.specs.Template.{tree, seen_of}
 use Rattle.akl_terms.proofs.EqualLaws.{EqualBy-follows}
 use Rattle.akl_terms.specs.Names.{same_var}
 use Rattle.rational_unify.specs.Known.{found_in, bound_in, IsSolved, end_of}
 use Rattle.rational_unify.specs.Solving.{bindings_in, equations_in, Tells, BindNew, IsSolution, IsClashOf}
 use Rattle.rational_unify.specs.Forms.{IsFormOf, TellsBindings, Takes, IsClashOfBindings, OneTaken, made_equation, made_binding, made_nothing}
-use Rattle.rational_unify.proofs.Same.{same_value, Equal-same, Bound-same, Same-consistent}
-use Rattle.rational_unify.proofs.Walks.{walk-bound, walk-equal, walk-free, IsFree, Adds, Adds-ends, EndsWithin-leads}
-use Rattle.rational_unify.proofs.Chains.{found-first, found-second, found-none, one_more-adds, BindNew-push, tree_of_seen, same_var-equal, same_var-refl}
+use Rattle.rational_unify.proofs.Same.{same_value, Equal-same, Same-consistent}
+use Rattle.rational_unify.proofs.Walks.{walk-equal, walk-free, IsFree, Adds, Adds-ends, EndsWithin-leads}
+use Rattle.rational_unify.proofs.Chains.{found-first, found-second, one_more-adds, BindNew-push, same_var-equal, same_var-refl}
 use Rattle.rational_unify.proofs.Turns.{length-push, equations-left, equations-right, equations-either}
 use Rattle.rational_unify.proofs.Ends.{free-tree, headed-tree}
 
@@ -71,8 +71,10 @@ module _ (nodes : List Node) (cs : List (Var × Term)) (x : Var) (u : Term) (t :
   one_more = one_more-adds nodes cs x u f is_free other
 
   pub one_more-solved : IsSolved nodes (cs ++ (x, u) ∷ [])
-  one_more-solved = record { ends = subst (λ (n : ℕ). EndsWithin n (bound_in nodes (cs ++ (x, u) ∷ []))) (sym (length-push cs (x, u)))
-      (Adds-ends (bound_in nodes cs) (bound_in nodes (cs ++ (x, u) ∷ [])) x (tree nodes u) (length cs) one_more h.ends) }
+  one_more-solved = record {
+    ends = subst (λ (n : ℕ). EndsWithin n (bound_in nodes (cs ++ (x, u) ∷ []))) (sym (length-push cs (x, u)))
+        (Adds-ends (bound_in nodes cs) (bound_in nodes (cs ++ (x, u) ∷ [])) x (tree nodes u) (length cs) one_more h.ends);
+  }
 
   pub one_more-bound : IsBound (bound_in nodes (cs ++ (x, u) ∷ [])) (variable x) (tree nodes u)
   one_more-bound = bound one_more.now

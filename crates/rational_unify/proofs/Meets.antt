@@ -1,5 +1,5 @@
 -- When two constants are one.
-use Rattle.std.proofs.Common.{◌≡◌, Some, ℤ, Bool, true, false, List, refl, sym, ◌∙◌, ap, arith}
+use Rattle.std.proofs.Common.{◌≡◌, Some, true, false, List, refl, sym, ◌∙◌, ap, arith}
 use Rattle.std.proofs.lemmas.Bool.Decides.{nat_tests}
 use Rattle.std.specs.Ordering.{int_eq}
 use Rattle.akl_terms.specs.declared.name.Name.{Name}
@@ -54,10 +54,15 @@ heads_differ (Seen.Port p) (Seen.Struct c i k r) f g e n = (port_head p, symbol_
 heads_differ (Seen.Struct c i k r) (Free x) f g e n = absurd (g x refl)
 heads_differ (Seen.Struct c i k r) (Seen.Int m) f g e n = (symbol_head c k, integer_head m, refl, refl, λ d. cc)
 heads_differ (Seen.Struct c i k r) (Seen.Port p) f g e n = (symbol_head c k, port_head p, refl, refl, λ d. cc)
-heads_differ (Seen.Struct c i k r) (Seen.Struct d j l s) f g e n = (symbol_head c k, symbol_head d l, refl, refl,
-    λ q. let cd : c ≡ d = cc in let kl : k ≡ l = cc in
-        n (record { symbol = c; count = k; left = i; left_frame = r; right = j; right_frame = s })
-        (refl, λ z. Seen.Struct (sym cd z) j (sym kl z) s))
+heads_differ (Seen.Struct c i k r) (Seen.Struct d j l s) f g e n = (
+  symbol_head c k,
+  symbol_head d l,
+  refl,
+  refl,
+  λ q. let cd : c ≡ d = cc in let kl : k ≡ l = cc in
+      n (record { symbol = c; count = k; left = i; left_frame = r; right = j; right_frame = s })
+      (refl, λ z. Seen.Struct (sym cd z) j (sym kl z) s),
+)
 
 pub meet-differ : (nodes : List Node) (s t : Term) (a b : Seen) → a ≡ seen_of nodes s → b ≡ seen_of nodes t → ((x : Var) → a ≡ Free x → ⊥) → ((x : Var) → b ≡ Free x → ⊥)
     → is_one_constant a b ≡ false → IsNoSymbolPair a b → DifferInHead (tree nodes s) (tree nodes t)

@@ -134,9 +134,9 @@ module _ (nodes : List Node) (known old new : List (Var × Term)) (x : Var) (u :
       nearer y t e = elim (changed y) [
         | inl p ↦ bound_falls before n y t h.ends (sym p ∙ e)
         | inr p ↦
-          let a : steps (suc n) before t ≡ 0 = ap (steps (suc n) before) (same_value e p.1) ∙ free-steps before (suc n) (tree nodes u) end_free in
-          let b : steps (suc n) before (variable y) ≡ suc (steps n before p.2.0) = ap (steps_on (steps n before)) p.2.1 in
-          omega arith
+            let a : steps (suc n) before t ≡ 0 = ap (steps (suc n) before) (same_value e p.1) ∙ free-steps before (suc n) (tree nodes u) end_free in
+            let b : steps (suc n) before (variable y) ≡ suc (steps n before p.2.0) = ap (steps_on (steps n before)) p.2.1 in
+            omega arith
       ]
 
   pub rebound-keeps : KeepsEnds nodes known old new

@@ -34,7 +34,7 @@ impl Lookup for Vec<(Var, Term)> {
 }
 
 /// Binds no variable.
-#[derive(Clone, Copy, Debug, PartialEq, Eq)]
+#[derive(Clone, Copy)]
 pub struct Nothing;
 
 impl Lookup for Nothing {

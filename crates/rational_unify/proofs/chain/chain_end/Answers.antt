@@ -1,5 +1,5 @@
 use Rattle.std.proofs.Common.{sym, ◌∙◌}
-use Rattle.rational_unify.proofs.Chains.{next_falls, next_walks, no_next_stays}
+use Rattle.rational_unify.proofs.Chains.{next_falls, next_walks}
 use Rattle.rational_unify.proofs.chain.chain_end.Goals as goal
 
 pub loop-next-smaller : goal.loop-next-smaller

@@ -13,5 +13,5 @@ loop-variable-preserved c = rw (take-next c.args.variables.now c.loop-variable.v
 pub returns : goal.returns
 returns c =
     let all : take c.loop-variable.variable-index c.args.variables.now ≡ c.args.variables.now = take-all c.args.variables.now c.loop-variable.variable-index
-        (let a = c.loop-variable.auto.variable-index-end in let b = c.loop-variable-test.false in omega arith) in
+    (let a = c.loop-variable.auto.variable-index-end in let b = c.loop-variable-test.false in omega arith) in
     rw all at c.loop-variable.invariant

@@ -1,5 +1,5 @@
 use Rattle.std.proofs.Common.{sym, ◌∙◌}
-use Rattle.rational_unify.proofs.Meets.{constant-same, meet-differ}
+use Rattle.rational_unify.proofs.Meets.{meet-differ}
 use Rattle.rational_unify.proofs.meet.compare.Goals as goal
 
 pub returns-in-None : goal.returns-in-None

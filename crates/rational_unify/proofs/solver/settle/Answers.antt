@@ -13,5 +13,5 @@ follow-requires g c = (c.loop-place.invariant.keeps (g.K.Lookup.bindings c.args.
 
 pub loop-place-preserved : goal.loop-place-preserved
 loop-place-preserved g c = Settles-on _ _ _ _ _ _ _ _ _ _ _ _ c.loop-place.invariant
-    (bound-told _ _ c.loop-place.place c.in-Some.binding.now (ap (λ l. slice_get l c.loop-place.place) (sym c.as_slice.ensures) 
+    (bound-told _ _ c.loop-place.place c.in-Some.binding.now (ap (λ l. slice_get l c.loop-place.place) (sym c.as_slice.ensures)
     ∙ slice_get_read c.as_slice.result.now (length c.as_slice.result.now) c.loop-place.place c.in-Some.binding.now refl c.in-Some.ensures.lookup.3.0 c.in-Some.ensures.lookup.1)) c.in_ok-end.ensures c.rebind.ensures

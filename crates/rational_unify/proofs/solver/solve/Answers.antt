@@ -1,7 +1,5 @@
-use Rattle.std.proofs.Common.{refl, arith, ◌≡◌, ◌++◌, ◌∷◌, [], List, length, append-nil, sym, subst}
+use Rattle.std.proofs.Common.{refl, arith, ◌≡◌, ◌++◌, ◌∷◌, [], List, length, subst}
 use Rattle.akl_terms.specs.declared.name.Var.{Var}
-use Rattle.akl_terms.specs.declared.term.Term.{Term}
-use Rattle.rational_unify.specs.Known.{IsSolved}
 use Rattle.rational_unify.specs.Followed.{AgreeOn}
 use Rattle.rational_unify.proofs.Shortening.{KeepsEnds-new, length-variables}
 use Rattle.rational_unify.proofs.Following.{AgreeOn-refl, AgreeOn-left, AgreeOn-right, sides-agree, sides-end, follows-keeps, EndsOf, Advances-end, Clashes-end}
@@ -35,9 +33,9 @@ returns-in-Some-2-clause-followed g c = λ other h a.
     let before = c.loop-pair.invariant other h (sides-agree _ _ c.in-Some.pair _ _ _ _ _ _ _ _ c.in_ok-left.ensures c.in_ok-right.ensures other a).0 in
     let was = c.loop-pair.invariant known c.requires.known (AgreeOn-refl _ _) in
     let e : EndsOf nodes other c.loop-pair.work.added c.follow-in-Some.new.added c.in-Some.pair c.in_ok-left.left c.in_ok-right.right =
-        sides-end _ _ c.in-Some.pair _ _ _ _ _ _ _ _ c.in_ok-left.ensures c.in_ok-right.ensures other (work-solved _ _ _ _ _ _ before.kept) a in
+    sides-end _ _ c.in-Some.pair _ _ _ _ _ _ _ _ c.in_ok-left.ensures c.in_ok-right.ensures other (work-solved _ _ _ _ _ _ before.kept) a in
     let k : EndsOf nodes known c.loop-pair.work.added c.follow-in-Some.new.added c.in-Some.pair c.in_ok-left.left c.in_ok-right.right =
-        sides-end _ _ c.in-Some.pair _ _ _ _ _ _ _ _ c.in_ok-left.ensures c.in_ok-right.ensures known (work-solved _ _ _ _ _ _ was.kept) (AgreeOn-refl _ _) in
+    sides-end _ _ c.in-Some.pair _ _ _ _ _ _ _ _ c.in_ok-left.ensures c.in_ok-right.ensures known (work-solved _ _ _ _ _ _ was.kept) (AgreeOn-refl _ _) in
     clash-follows nodes other c.args.equations.now
     (record { added = c.follow-in-Some.new.added; pending = c.pop.new.self; compared = c.loop-pair.work.compared }) c.in-Some.pair
     (turn-shorter _ _ _ _ _ _ _ e.keeps (rw c.in-Some.ensures.items at before.kept)) c.in-Some-2.clash
@@ -53,9 +51,9 @@ loop-pair-preserved g c = λ other h a.
     let before = c.loop-pair.invariant other h (sides-agree _ _ c.in-Some.pair _ _ _ _ _ _ _ _ c.in_ok-left.ensures c.in_ok-right.ensures other a).0 in
     let was = c.loop-pair.invariant known c.requires.known (AgreeOn-refl _ _) in
     let e : EndsOf nodes other c.loop-pair.work.added c.follow-in-Some.new.added c.in-Some.pair c.in_ok-left.left c.in_ok-right.right =
-        sides-end _ _ c.in-Some.pair _ _ _ _ _ _ _ _ c.in_ok-left.ensures c.in_ok-right.ensures other (work-solved _ _ _ _ _ _ before.kept) a in
+    sides-end _ _ c.in-Some.pair _ _ _ _ _ _ _ _ c.in_ok-left.ensures c.in_ok-right.ensures other (work-solved _ _ _ _ _ _ before.kept) a in
     let k : EndsOf nodes known c.loop-pair.work.added c.follow-in-Some.new.added c.in-Some.pair c.in_ok-left.left c.in_ok-right.right =
-        sides-end _ _ c.in-Some.pair _ _ _ _ _ _ _ _ c.in_ok-left.ensures c.in_ok-right.ensures known (work-solved _ _ _ _ _ _ was.kept) (AgreeOn-refl _ _) in
+    sides-end _ _ c.in-Some.pair _ _ _ _ _ _ _ _ c.in_ok-left.ensures c.in_ok-right.ensures known (work-solved _ _ _ _ _ _ was.kept) (AgreeOn-refl _ _) in
     turn-goes nodes other c.args.equations.now
     (record { added = c.follow-in-Some.new.added; pending = c.pop.new.self; compared = c.loop-pair.work.compared }) c.in-Some.pair
     (turn-shorter _ _ _ _ _ _ _ e.keeps (rw c.in-Some.ensures.items at before.kept)) c.in_ok-clash.ensures.arranged c.advance.new.work
@@ -70,10 +68,10 @@ pub loop-pair-smaller : goal.loop-pair-smaller
 loop-pair-smaller g c =
     let was = c.loop-pair.invariant (g.K.Lookup.bindings c.args.known.now) c.requires.known (AgreeOn-refl _ _) in
     let k : EndsOf c.args.templates.now.nodes (g.K.Lookup.bindings c.args.known.now) c.loop-pair.work.added c.follow-in-Some.new.added c.in-Some.pair c.in_ok-left.left c.in_ok-right.right =
-        sides-end _ _ c.in-Some.pair _ _ _ _ _ _ _ _ c.in_ok-left.ensures c.in_ok-right.ensures (g.K.Lookup.bindings c.args.known.now) (work-solved _ _ _ _ _ _ was.kept) (AgreeOn-refl _ _) in
+    sides-end _ _ c.in-Some.pair _ _ _ _ _ _ _ _ c.in_ok-left.ensures c.in_ok-right.ensures (g.K.Lookup.bindings c.args.known.now) (work-solved _ _ _ _ _ _ was.kept) (AgreeOn-refl _ _) in
     let a = turn-falls c.args.templates.now.nodes (g.K.Lookup.bindings c.args.known.now) (record { left = c.in_ok-left.left; right = c.in_ok-right.right })
-        (record { added = c.follow-in-Some.new.added; pending = c.pop.new.self; compared = c.loop-pair.work.compared }) c.advance.new.work
-        (omega (arith, c.advance.new.work.pending.ok, c.advance.new.work.pending.small)) (rw c.in_default-2.is at c.in_ok-clash.ensures.turn) in
+    (record { added = c.follow-in-Some.new.added; pending = c.pop.new.self; compared = c.loop-pair.work.compared }) c.advance.new.work
+    (omega (arith, c.advance.new.work.pending.ok, c.advance.new.work.pending.small)) (rw c.in_default-2.is at c.in_ok-clash.ensures.turn) in
     rw (c.in-Some.ensures.items, length-push c.pop.new.self.items c.in-Some.pair, ← length-variables c.follow-in-Some.new.added c.loop-pair.work.added k.keeps.variables) a
 
 pub settle-requires-clause-solved : goal.settle-requires-clause-solved

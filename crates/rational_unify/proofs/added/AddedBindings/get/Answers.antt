@@ -1,4 +1,4 @@
-use Rattle.std.proofs.Common.{◌≡◌, Some, None, ap, sym, ◌∙◌, arith, ◌<◌, length}
+use Rattle.std.proofs.Common.{◌≡◌, Some, ap, sym, ◌∙◌, arith, ◌<◌, length}
 use Rattle.std.proofs.lemmas.Option.{slice_get_within, get_or_from_slice_get}
 use Rattle.rational_unify.specs.Known.{found_in}
 use Rattle.rational_unify.specs.Indexes.{place_in}

@@ -1,7 +1,5 @@
-use Rattle.std.proofs.Common.{◌≡◌, Some, None, ap, sym, ◌∙◌, subst, arith, ◌<◌, length}
+use Rattle.std.proofs.Common.{◌≡◌, Some, sym, ◌∙◌, arith, ◌<◌, length}
 use Rattle.std.proofs.lemmas.Option.{slice_get_within}
-use Rattle.rational_unify.specs.Known.{found_in}
-use Rattle.rational_unify.specs.Shortened.{Rebinds}
 use Rattle.rational_unify.specs.Indexes.{place_in}
 use Rattle.rational_unify.proofs.Indexing.{place_in-found, place_in-none, rebinds-set, rebinds-nothing, IsIndex-set}
 use Rattle.rational_unify.proofs.added.AddedBindings.rebind.Goals as goal

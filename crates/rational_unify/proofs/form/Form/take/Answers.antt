@@ -1,4 +1,4 @@
-use Rattle.std.proofs.Common.{◌≡◌, ◌++◌, refl, sym, ◌∙◌, ap, take, length, arith, ◌+◌, Some}
+use Rattle.std.proofs.Common.{◌≡◌, refl, ◌∙◌, take, arith, ◌+◌}
 use Rattle.rational_unify.proofs.FormLaws.{half-starts, half-goes, half-clashes, half-ends, bound-told}
 use Rattle.rational_unify.proofs.Taking.{take-next, take-all, get-index, past}
 use Rattle.rational_unify.proofs.form.Form.take.Goals as goal
@@ -7,17 +7,19 @@ pub loop-binding-init : goal.loop-binding-init
 loop-binding-init g c = (refl, rw c.new-pending.ensures.items (half-starts _ _ _ _ c.requires))
 
 pub loop-binding-preserved : goal.loop-binding-preserved
-loop-binding-preserved g c = (c.take_one.ensures.known ∙ c.loop-binding.invariant.0,
-    rw (take-next c.args.bindings.now c.loop-binding.binding-index (c.loop-binding.binding-index + 1) past c.loop-binding-test.true (omega arith))
-    (half-goes c.args.templates.now.nodes (g.K.Lookup.bindings c.args.self.now.known.now) c.args.self.now.added c.loop-binding.self.added c.take_one.new.self.added
-    c.loop-binding.pending.items c.take_one.new.pending.items c.args.bindings.now (take c.loop-binding.binding-index c.args.bindings.now) _ _ c.loop-binding.invariant.1
-    (bound-told c.args.templates.now.nodes c.args.bindings.now c.loop-binding.binding-index _ (get-index c.args.bindings.now c.loop-binding.binding-index past c.loop-binding-test.true))
-    (rw c.loop-binding.invariant.0 at c.in_ok-take_one.ensures.taken)))
+loop-binding-preserved g c = (
+  c.take_one.ensures.known ∙ c.loop-binding.invariant.0,
+  rw (take-next c.args.bindings.now c.loop-binding.binding-index (c.loop-binding.binding-index + 1) past c.loop-binding-test.true (omega arith))
+      (half-goes c.args.templates.now.nodes (g.K.Lookup.bindings c.args.self.now.known.now) c.args.self.now.added c.loop-binding.self.added c.take_one.new.self.added
+      c.loop-binding.pending.items c.take_one.new.pending.items c.args.bindings.now (take c.loop-binding.binding-index c.args.bindings.now) _ _ c.loop-binding.invariant.1
+      (bound-told c.args.templates.now.nodes c.args.bindings.now c.loop-binding.binding-index _ (get-index c.args.bindings.now c.loop-binding.binding-index past c.loop-binding-test.true))
+      (rw c.loop-binding.invariant.0 at c.in_ok-take_one.ensures.taken)),
+)
 
 pub returns-in-Clash-clause-taken : goal.returns-in-Clash-clause-taken
 returns-in-Clash-clause-taken g c =
     let all : take c.loop-binding.binding-index c.args.bindings.now ≡ c.args.bindings.now = take-all c.args.bindings.now c.loop-binding.binding-index
-        (let a = c.loop-binding.auto.binding-index-end in let b = c.loop-binding-test.false in omega arith) in
+    (let a = c.loop-binding.auto.binding-index-end in let b = c.loop-binding-test.false in omega arith) in
     half-clashes c.args.templates.now.nodes (g.K.Lookup.bindings c.args.self.now.known.now) c.args.self.now.added c.loop-binding.self.added c.loop-binding.pending.items c.args.bindings.now
     (rw all at c.loop-binding.invariant.1) c.in-Clash.left c.in-Clash.right
     (rw (c.loop-binding.invariant.0, c.in-Clash.is, c.as_slice.ensures.value) at c.in_ok-solved.ensures.solves)
@@ -25,7 +27,7 @@ returns-in-Clash-clause-taken g c =
 pub returns-clause-taken : goal.returns-clause-taken
 returns-clause-taken g c =
     let all : take c.loop-binding.binding-index c.args.bindings.now ≡ c.args.bindings.now = take-all c.args.bindings.now c.loop-binding.binding-index
-        (let a = c.loop-binding.auto.binding-index-end in let b = c.loop-binding-test.false in omega arith) in
+    (let a = c.loop-binding.auto.binding-index-end in let b = c.loop-binding-test.false in omega arith) in
     rw (c.in_ok-add-in-Added.ensures.added, c.as_slice-in-Added.ensures.value)
     (half-ends c.args.templates.now.nodes (g.K.Lookup.bindings c.args.self.now.known.now) c.args.self.now.added c.loop-binding.self.added c.loop-binding.pending.items c.args.bindings.now
     (rw all at c.loop-binding.invariant.1) c.in-Added.more.items

@@ -1,12 +1,9 @@
-use Rattle.std.proofs.Common.{◌≡◌, ◌≢◌, sym, refl, ◌∙◌, ap, true, false, Some, None, subst}
+use Rattle.std.proofs.Common.{◌≢◌, sym, refl, ◌∙◌}
 use Rattle.std.proofs.lemmas.Result.{IfOk-weaker}
-use Rattle.akl_terms.specs.Tree.{Tree, variable, head_of}
+use Rattle.akl_terms.specs.Tree.{variable}
 use Rattle.akl_terms.specs.Template.{tree}
-use Rattle.akl_terms.specs.declared.name.Var.{Var}
-use Rattle.rational_unify.specs.Known.{found_in}
-use Rattle.rational_unify.specs.Forms.{made_equation, made_binding, made_nothing}
-use Rattle.rational_unify.proofs.Chains.{found-none, same_var-refl}
-use Rattle.rational_unify.proofs.Ends.{free-tree, headed-tree}
+use Rattle.rational_unify.specs.Forms.{made_equation, made_binding}
+use Rattle.rational_unify.proofs.Chains.{found-none}
 use Rattle.rational_unify.proofs.FormLaws.{other_variable, headed_other}
 use Rattle.rational_unify.proofs.form.Form.take_one.Goals as goal
 use Rattle.rational_unify.proofs.form.Form.take_one.Goals.{in_default-look-via-in-Free+else-eq, in_default-look-via-in_default-look}
