@@ -1,3 +1,2 @@
 pub mod Notices
-pub mod Streams
 pub mod Endings

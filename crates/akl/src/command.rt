@@ -1,7 +1,8 @@
 //! A whole command, over any source and sinks.
-ghost use Rattle.std.specs.Prelude.{◌≡◌, map, string_bytes, None, IfSome};
+ghost use Rattle.std.specs.Prelude.{◌≡◌, None, IfSome};
 ghost use Rattle.std.specs.IoError.{error_kind};
-ghost use Rattle.akl.specs.Streams.{seen};
+ghost use Rattle.akl_run.specs.Commands.{side};
+ghost use Rattle.akl_run.specs.Words.{bytes_of};
 ghost use Rattle.akl.specs.Notices.{notice_of};
 ghost use Rattle.akl.specs.Endings.{Notifies, Answers, SaysWhy, words_status, words_refusal};
 
@@ -23,15 +24,15 @@ pub fn run<R: Threads + Wait + Sync, S: Source, K: Sink, E: Sink>(
     out: &mut K,
     errors: &mut E,
 ) -> Ending
-    ensures notice { IfSome (notice_of HELP.now VERSION.now (map (λ word. string_bytes word) words.now)) (λ text.
+    ensures notice { IfSome (notice_of HELP.now VERSION.now (bytes_of words.now)) (λ text.
         Notifies text
-        (seen K.written K.faults out.old) (seen K.written K.faults out.new)
-        (seen E.written E.faults errors.old) (seen E.written E.faults errors.new) result) }
-    ensures query { notice_of HELP.now VERSION.now (map (λ word. string_bytes word) words.now) ≡ None →
-        Answers (map (λ word. string_bytes word) words.now)
-        (seen S.left S.faults program.old) (seen S.left S.faults program.new)
-        (seen K.written K.faults out.old) (seen K.written K.faults out.new)
-        (seen E.written E.faults errors.old) (seen E.written E.faults errors.new) result }
+        (side (K.written out.old) (K.faults out.old)) (side (K.written out.new) (K.faults out.new))
+        (side (E.written errors.old) (E.faults errors.old)) (side (E.written errors.new) (E.faults errors.new)) result) }
+    ensures query { notice_of HELP.now VERSION.now (bytes_of words.now) ≡ None →
+        Answers (bytes_of words.now)
+        (side (S.left program.old) (S.faults program.old)) (side (S.left program.new) (S.faults program.new))
+        (side (K.written out.old) (K.faults out.old)) (side (K.written out.new) (K.faults out.new))
+        (side (E.written errors.old) (E.faults errors.old)) (side (E.written errors.new) (E.faults errors.new)) result }
 {
     if let Some(text) = notice(words) {
         return Ending::of_notice(text, out, errors);
@@ -44,7 +45,7 @@ pub fn run<R: Threads + Wait + Sync, S: Source, K: Sink, E: Sink>(
 pub fn refuse_words<E: Sink>(alloc: Global, error: &io::Error, errors: &mut E) -> Ending
     ensures status { result.status ≡ words_status (error_kind error.now) }
     ensures line { SaysWhy (words_status (error_kind error.now)) (words_refusal (error_kind error.now))
-        (seen E.written E.faults errors.old) (seen E.written E.faults errors.new) }
+        (side (E.written errors.old) (E.faults errors.old)) (side (E.written errors.new) (E.faults errors.new)) }
 {
     let (status, refusal) = match error.kind() {
         io::ErrorKind::OutOfMemory => (Status::NoMemory, Refusal::Nothing),

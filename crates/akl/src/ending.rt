@@ -2,7 +2,8 @@
 ghost use Rattle.std.specs.Prelude.{◌≡◌};
 ghost use Rattle.std.specs.Process.{exit_status};
 ghost use Rattle.akl_run.specs.Statuses.{number_of};
-ghost use Rattle.akl.specs.Streams.{seen, Says};
+ghost use Rattle.akl_run.specs.Commands.{side};
+ghost use Rattle.akl.specs.Endings.{Says};
 
 use akl_outside::{Sink, write_all};
 use akl_run::{Report, Status, refusal_line};
@@ -32,7 +33,7 @@ impl Ending {
     pub fn of_report<E: Sink>(alloc: Global, report: &Report, errors: &mut E) -> Ending
         ensures status { result.status ≡ report.now.status }
         ensures line { SaysWhy report.now.status report.now.refusal
-            (seen E.written E.faults errors.old) (seen E.written E.faults errors.new) }
+            (side (E.written errors.old) (E.faults errors.old)) (side (E.written errors.new) (E.faults errors.new)) }
     {
         match refusal_line(alloc, report) {
             Ok(line) => say(&line, errors),
@@ -46,8 +47,8 @@ impl Ending {
     /// Prints a notice, or says that it couldn't.
     pub fn of_notice<K: Sink, E: Sink>(text: &str, out: &mut K, errors: &mut E) -> Ending
         ensures { Notifies text.now
-            (seen K.written K.faults out.old) (seen K.written K.faults out.new)
-            (seen E.written E.faults errors.old) (seen E.written E.faults errors.new) result }
+            (side (K.written out.old) (K.faults out.old)) (side (K.written out.new) (K.faults out.new))
+            (side (E.written errors.old) (E.faults errors.old)) (side (E.written errors.new) (E.faults errors.new)) result }
     {
         let status = match write_all(out, text.as_bytes()) {
             Ok(()) => Status::Done,
@@ -62,7 +63,7 @@ impl Ending {
 
 // Says a line. Where a write fails it is lost: there is no other place to say so.
 fn say<E: Sink>(line: &[u8], errors: &mut E)
-    ensures { Says line.now (seen E.written E.faults errors.old) (seen E.written E.faults errors.new) }
+    ensures { Says line.now (side (E.written errors.old) (E.faults errors.old)) (side (E.written errors.new) (E.faults errors.new)) }
 {
     let _ = write_all(errors, line);
 }

@@ -1,5 +1,6 @@
 //! What `akl` says of itself.
-ghost use Rattle.std.specs.Prelude.{◌≡◌, map, option_map, string_bytes};
+ghost use Rattle.std.specs.Prelude.{◌≡◌, option_map};
+ghost use Rattle.akl_run.specs.Words.{bytes_of};
 ghost use Rattle.akl.specs.Notices.{notice_of};
 
 /// What a lone `--help` prints.
@@ -39,7 +40,7 @@ pub const VERSION: &str = "akl 0.1.0\n";
 /// What a lone `--help` or `--version` prints.
 pub fn notice(words: &[String]) -> Option<&'static str>
     ensures { option_map (λ text. text.now) result
-        ≡ notice_of HELP.now VERSION.now (map (λ word. string_bytes word) words.now) }
+        ≡ notice_of HELP.now VERSION.now (bytes_of words.now) }
 {
     let [word] = words else {
         return None;
