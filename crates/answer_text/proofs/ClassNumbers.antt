@@ -4,7 +4,8 @@ use Rattle.std.specs.Prelude.{option_map}
 use Rattle.std.specs.Map.{lookup}
 use Rattle.std.proofs.lemmas.Bool.Decides.{nat_tests}
 use Rattle.akl_terms.specs.declared.name.Var.{Var}
-use Rattle.answer_text.specs.Pieces.{same_var, class_number, with_class, known_number, HasNumbers}
+use Rattle.akl_terms.specs.Names.{same_var}
+use Rattle.answer_text.specs.Pieces.{class_number, with_class, known_number, HasNumbers}
 
 pub same_var-true : (x y : Var) → same_var x y ≡ true → x ≡ y
 same_var-true x y e =

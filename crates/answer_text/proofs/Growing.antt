@@ -3,14 +3,15 @@ use Rattle.std.specs.Fmt.{signed_decimal, decimal, digits, digits_onto, digit_gl
 use Rattle.std.specs.Prelude.{◌/◌, ◌%◌, ◌==◌, ℤ, pos, negsuc}
 use Rattle.std.proofs.Common.{ℕ, zero, suc, ◌<◌, List, [], ◌∷◌, ◌++◌, length, Bool, true, false, cond, length-append, arith}
 use Rattle.std.specs.Prelude.{bytes_eq, codes, flat_map}
-use Rattle.answer_text.specs.SymbolText.{symbol_text, constant_text, is_name, escaped}
+use Rattle.akl_terms.specs.Words.{is_plain_name}
+use Rattle.answer_text.specs.SymbolText.{symbol_text, constant_text, escaped}
 
 quoted_some : (bs : List ℕ) → 0 < length (39 ∷ flat_map escaped bs ++ 39 ∷ [])
 quoted_some bs = omega (arith, length-append {A = ℕ})
 
 pub symbol_text-some : (bs : List ℕ) → 0 < length (symbol_text bs)
 symbol_text-some [] = quoted_some []
-symbol_text-some (b ∷ bs) = on (is_name (b ∷ bs))
+symbol_text-some (b ∷ bs) = on (is_plain_name (b ∷ bs))
   where
     on : (c : Bool) → 0 < length (cond c (b ∷ bs) (39 ∷ flat_map escaped (b ∷ bs) ++ 39 ∷ []))
     on true = omega arith

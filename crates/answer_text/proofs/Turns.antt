@@ -11,7 +11,8 @@ use Rattle.akl_terms.specs.Template.{Template, tree}
 use Rattle.answer_text.specs.SymbolText.{constant_text}
 use Rattle.answer_text.specs.Printed.{class_text, IsFree, IsNumbered, first, here, later, Prints, class, number, a_port, constant}
 use Rattle.answer_text.specs.Classes.{Represents}
-use Rattle.answer_text.specs.Pieces.{State, Rest, byte, whole, trees_of, Continues, AreEnds, same_var, class_number, with_class, with_bytes, class_printed}
+use Rattle.akl_terms.specs.Names.{same_var}
+use Rattle.answer_text.specs.Pieces.{State, Rest, byte, whole, trees_of, Continues, AreEnds, class_number, with_class, with_bytes, class_printed}
 use Rattle.answer_text.specs.declared.piece.Piece.TheVariants.{Byte, Whole}
 use Rattle.answer_text.proofs.ClassNumbers.{same_var-true, same_var-refl}
 use Rattle.answer_text.proofs.Respects.{Alike, numbered-one, rest-alike}

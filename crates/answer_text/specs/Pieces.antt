@@ -8,6 +8,7 @@ use Rattle.akl_terms.specs.declared.term.Term.{Term}
 use Rattle.akl_terms.specs.declared.term.Term.TheVariants.{Mol}
 use Rattle.akl_terms.specs.declared.term.Seen.{Seen}
 use Rattle.akl_terms.specs.declared.term.Seen.TheVariants.{Free}
+use Rattle.akl_terms.specs.Names.{same_var}
 use Rattle.akl_terms.specs.Tree.{Tree, variable}
 use Rattle.akl_terms.specs.Equal.{Equations}
 use Rattle.akl_terms.specs.Template.{Template, IsArranged, IsKnown, seen_of, tree}
@@ -53,12 +54,6 @@ AreEnds go (x ∷ xs) = (go (variable x) ≡ variable x) × AreEnds go xs
 pub record Moves (t : Template) (go : Tree → Tree) (old new : State) : Type 0 where
   pub continues : (E : Equations) → Represents E go → AreEnds go old.seen → Continues t E old new
   pub ends : (E : Equations) → Represents E go → AreEnds go old.seen → AreEnds go new.seen
-
-abbrev pub same_name : Name → Name → Bool
-same_name a b = (a.worker == b.worker) && (a.number == b.number)
-
-abbrev pub same_var : Var → Var → Bool
-same_var x y = same_name x.frame y.frame && (x.index == y.index)
 
 -- the place of a variable among those seen, or behind them
 abbrev pub class_number : List Var → Var → ℕ

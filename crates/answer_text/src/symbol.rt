@@ -2,7 +2,8 @@
 
 ghost use Rattle.std.specs.Prelude.{◌≡◌, ◌++◌, ◌∷◌, [], IfOk, OnOk, flat_map};
 ghost use Rattle.std.specs.List.{list_all};
-ghost use Rattle.answer_text.specs.SymbolText.{is_lower, is_word_byte, is_word, is_name, escaped, symbol_text, constant_text};
+ghost use Rattle.akl_terms.specs.Words.{is_lower, is_word, is_lower_word, is_plain_name};
+ghost use Rattle.answer_text.specs.SymbolText.{escaped, symbol_text, constant_text};
 
 use std::alloc::{AllocError, Global};
 
@@ -12,32 +13,32 @@ fn is_lower(byte: u8) -> bool
     b'a' <= byte && byte <= b'z'
 }
 
-fn is_word_byte(byte: u8) -> bool
-    ensures { result ≡ is_word_byte byte }
+fn is_word(byte: u8) -> bool
+    ensures { result ≡ is_word byte }
 {
     is_lower(byte) || b'A' <= byte && byte <= b'Z' || b'0' <= byte && byte <= b'9' || byte == b'_'
 }
 
-fn are_word_bytes(bytes: &[u8]) -> bool
-    ensures { result ≡ list_all is_word_byte bytes.now }
+fn are_words(bytes: &[u8]) -> bool
+    ensures { result ≡ list_all is_word bytes.now }
 {
-    bytes.iter().all(|b| is_word_byte(*b))
+    bytes.iter().all(|b| is_word(*b))
 }
 
-fn is_word(bytes: &[u8]) -> bool
-    ensures { result ≡ is_word bytes.now }
+fn is_lower_word(bytes: &[u8]) -> bool
+    ensures { result ≡ is_lower_word bytes.now }
 {
     match bytes {
         [] => false,
-        [first, rest @ ..] => is_lower(*first) && are_word_bytes(rest),
+        [first, rest @ ..] => is_lower(*first) && are_words(rest),
     }
 }
 
 // Whether a text is a name as it stands.
-fn is_name(text: &str) -> bool
-    ensures { result ≡ is_name text.now }
+fn is_plain_name(text: &str) -> bool
+    ensures { result ≡ is_plain_name text.now }
 {
-    is_word(text.as_bytes()) && !(text == "is") && !(text == "mod")
+    is_lower_word(text.as_bytes()) && !(text == "is") && !(text == "mod")
 }
 
 fn push_escaped(out: &mut Vec<u8>, byte: u8) -> Result<(), AllocError>
@@ -77,7 +78,7 @@ pub fn symbol_text(alloc: Global, symbol: &str) -> Result<Vec<u8>, AllocError>
 pub fn push_symbol(out: &mut Vec<u8>, symbol: &str) -> Result<(), AllocError>
     ensures { OnOk result (out.new.items ≡ out.old.items ++ symbol_text symbol.now) }
 {
-    if is_name(symbol) {
+    if is_plain_name(symbol) {
         out.extend_from_slice(symbol.as_bytes())
     } else {
         push_quoted(out, symbol.as_bytes())

@@ -1,7 +1,7 @@
 use Rattle.std.proofs.Common.{◌≡◌, ℕ, suc, cond, rules, ◌++◌, ◌∷◌, [], Some, None, length, subst, sym, ◌∙◌, ap, arith, length-append}
 use Rattle.akl_terms.specs.declared.name.Var.{Var}
 use Rattle.std.specs.Map.{lookup}
-use Rattle.answer_text.specs.Pieces.{same_var}
+use Rattle.akl_terms.specs.Names.{same_var}
 use Rattle.answer_text.proofs.ClassNumbers.{IsFound, known_number-found, HasNumbers-push}
 use Rattle.answer_text.proofs.classes.Classes.number.Goals as goal
 
