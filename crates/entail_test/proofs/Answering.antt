@@ -1,30 +1,28 @@
 -- What is read from solved forms is what is asked.
 use Rattle.std.proofs.Common.{◌≡◌, ℕ, List, [], ◌∷◌, ◌++◌, length, ◌-◌, take, drop, refl, sym, ap, subst, ◌∙◌, ◌⊎◌, inl, inr, append-nil, None, Bool, true, false, zero, suc, arith}
-use Rattle.std.specs.Prelude.{map, filter, ◌==◌}
+use Rattle.std.specs.Prelude.{◌==◌}
 use Rattle.akl_terms.specs.declared.name.Name.{Name}
 use Rattle.akl_terms.specs.declared.name.Var.{Var}
 use Rattle.akl_terms.specs.declared.term.Node.{Node}
 use Rattle.akl_terms.specs.declared.term.Term.{Term}
-use Rattle.akl_terms.specs.Tree.{Tree, variable, head_of}
+use Rattle.akl_terms.specs.Tree.{variable, head_of}
 use Rattle.akl_terms.specs.Touching.{IsLocal, IsTied, Touches}
-use Rattle.akl_terms.specs.Equal.{Equations, IsTold, EqualBy, Equal, told, IsConsistent, IsStructured, IsQuiet}
+use Rattle.akl_terms.specs.Equal.{Equations, IsTold, Equal, told, IsConsistent, IsStructured, IsQuiet}
 use Rattle.akl_terms.specs.Solved.{IsBound}
-use Rattle.akl_terms.specs.Template.{tree}
 use Rattle.akl_terms.proofs.EqualLaws.{EqualBy-follows, IsTold-left, IsTold-right, IsTold-either}
 use Rattle.rational_unify.specs.Known.{bound_in, end_of}
 use Rattle.akl_terms.specs.Names.{same_var}
-use Rattle.rational_unify.specs.Solving.{bindings_in}
 use Rattle.rational_unify.specs.Forms.{IsFormOf, TellsBindings, Takes, IsClashOfBindings}
 use Rattle.rational_unify.proofs.FormLaws.{form-consistent}
 use Rattle.rational_unify.proofs.Stands.{HasHead}
 use Rattle.rational_unify.proofs.Chains.{same_var-equal, same_var-refl}
 use Rattle.local_store.specs.Stored.{Stored}
-use Rattle.local_store.specs.Chained.{bindings_from, ToldBy, IsSolvedChain, IsKnown}
+use Rattle.local_store.specs.Chained.{bindings_from, IsSolvedChain}
 use Rattle.local_store.proofs.Layers.{end-extends, form-join, form-as, chain-form, chain-clash}
 use Rattle.local_store.proofs.Known.{drop-whole}
 use Rattle.entail_test.specs.declared.outside.Outside.{Outside}
 use Rattle.entail_test.specs.declared.outside.Outside.TheVariants.{Touched, Clash}
-use Rattle.entail_test.specs.Asked.{frames_from, environment_at, own_at, KeepsApart, Reads, ReadsOver, AnswersOver}
+use Rattle.entail_test.specs.Asked.{frames_from, environment_at, own_at, KeepsApart, Reads, AnswersOver}
 use Rattle.entail_test.specs.Touched.{AreTouched}
 use Rattle.entail_test.proofs.Ends.{are_touched, has_head, unheaded, structured, unstructured, one_class, one_end}
 use Rattle.entail_test.proofs.Enough.{ends-outside, enough}

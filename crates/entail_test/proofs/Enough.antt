@@ -1,22 +1,20 @@
 -- The added bindings show every class that may be noisy, where no inner variable stands in the environment.
-use Rattle.std.proofs.Common.{◌≡◌, ◌≢◌, ℕ, zero, suc, List, [], ◌∷◌, ◌++◌, length, Option, Some, None, Bool, true, false, cond, refl, sym, ap, subst, ◌∙◌, ◌⊎◌, inl, inr}
+use Rattle.std.proofs.Common.{◌≡◌, List, [], ◌∷◌, ◌++◌, length, Option, Some, None, Bool, true, false, cond, refl, sym, ap, subst, ◌∙◌, ◌⊎◌, inl, inr}
 use Rattle.std.proofs.Common.{arith}
 use Rattle.std.proofs.lemmas.Bool.Decides.{nat_tests}
-use Rattle.std.specs.Prelude.{option_map, find, slice_get, ◌||◌}
+use Rattle.std.specs.Prelude.{option_map, find, ◌||◌}
 use Rattle.std.specs.List.{AllByRecursion}
 use Rattle.akl_terms.specs.declared.name.Name.{Name}
 use Rattle.akl_terms.specs.declared.name.Var.{Var}
 use Rattle.akl_terms.specs.declared.term.Node.{Node}
 use Rattle.akl_terms.specs.declared.term.Term.{Term}
-use Rattle.akl_terms.specs.Tree.{Tree, Trees, none, more, variable, integer, port, symbol, Head, head_of, arguments, list_of}
-use Rattle.akl_terms.specs.Equal.{Equations, IsTold, EqualBy, Equal, told, same, turned, joined, inside, IsStructured}
+use Rattle.akl_terms.specs.Tree.{Tree, variable}
+use Rattle.akl_terms.specs.Equal.{Equations, IsTold, Equal, IsStructured}
 use Rattle.akl_terms.specs.Touching.{IsLocal, IsOutside}
 use Rattle.rational_unify.specs.Known.{found_in, bound_in, end_of}
 use Rattle.akl_terms.specs.Names.{same_name, same_var}
-use Rattle.rational_unify.specs.Solving.{BindNew}
 use Rattle.rational_unify.specs.Forms.{IsFormOf}
 use Rattle.rational_unify.specs.Shortened.{IsEndOf}
-use Rattle.rational_unify.proofs.Same.{same_value}
 use Rattle.rational_unify.proofs.Walks.{IsFree, walk-free}
 use Rattle.rational_unify.proofs.Chains.{found-second, free_found, same_var-equal}
 use Rattle.rational_unify.proofs.FormLaws.{form-follows}
@@ -25,7 +23,7 @@ use Rattle.local_store.specs.Stored.{Stored, is_named}
 use Rattle.constraint_laws.specs.Touched.{IsAmong}
 use Rattle.entail_test.specs.Classes.{IsNoisyEnd, Suffices}
 use Rattle.entail_test.specs.Asked.{KeepsApart, AreCandidates, frames_from, named_in}
-use Rattle.constraint_laws.specs.Growth.{IsOver, AreOver}
+use Rattle.constraint_laws.specs.Growth.{IsOver}
 use Rattle.entail_test.proofs.Classes.{among-either, among-left, among-right}
 use Rattle.entail_test.proofs.Ends.{no_head, unstructured}
 use Rattle.constraint_laws.specs.Growth.{TellsOver}

@@ -1,5 +1,5 @@
 -- What is asked of a chain at a depth: what the stores from there on tell the variables from outside of them.
-use Rattle.std.specs.Prelude.{◌≡◌, ℕ, List, [], ◌∷◌, ◌++◌, take, drop, ◌⊎◌, Bool, map, filter}
+use Rattle.std.specs.Prelude.{◌≡◌, ℕ, List, [], ◌∷◌, ◌++◌, take, drop, Bool, map, filter}
 use Rattle.std.specs.List.{AllByRecursion, list_any}
 use Rattle.akl_terms.specs.declared.name.Name.{Name}
 use Rattle.akl_terms.specs.declared.name.Var.{Var}
