@@ -101,11 +101,14 @@ module _ (nodes : List Node) (known whole : List (Var × Term)) (E W : Equations
     where
       on : (o : Option Var) → IsEndOf nodes whole c.member o → (o ≡ c.end) → noisy_end cs o ≡ true → IsStructured W c.member ⊎ ((y : Var) × IsTied inner E W c.member y)
       on None h q e = inl (structured nodes whole W fW c.member h)
-      on (Some v) h q e = inr (w.0.member, record {
-        other = is_unbound w.0.member w.0.root (suffices.outside w.0.member (k.member w.0 w.1)) (k.root w.0 w.1);
-        equal = one_class nodes whole W fW c.member w.0.member (h ∙ sym (subst (λ (o : Option Var). IsEndOf nodes whole w.0.member o) w.3 (k.end w.0 w.1)));
-        apart = λ p. roots_apart c.member w.0.member c.root w.0.root (k.root c m) (k.root w.0 w.1) w.2 p;
-      })
+      on (Some v) h q e = inr (
+        w.0.member,
+        record {
+          other = is_unbound w.0.member w.0.root (suffices.outside w.0.member (k.member w.0 w.1)) (k.root w.0 w.1);
+          equal = one_class nodes whole W fW c.member w.0.member (h ∙ sym (subst (λ (o : Option Var). IsEndOf nodes whole w.0.member o) w.3 (k.end w.0 w.1)));
+          apart = λ p. roots_apart c.member w.0.member c.root w.0.root (k.root c m) (k.root w.0 w.1) w.2 p;
+        },
+      )
         where
           w : (d : Class) × IsClassIn d cs × (c.root ≢ d.root) × (d.end ≡ Some v)
           w = again-other cs c v k.distinct m (sym q) e
@@ -177,18 +180,26 @@ module _ (nodes : List Node) (known whole : List (Var × Term)) (E W : Equations
             tied (inl h) = found r.0 r.1 (inl h)
             tied (inr h) =
                 let u : (y : Var) × (end_of nodes whole (variable v) ≡ variable y) = unheaded (end_of nodes whole (variable v)) h in
-                found r.0 r.1 (inr (w.0, s.0, w.1.other.outside, s.1,
-                λ p. w.1.apart (one_class nodes known E fE v w.0 (r.1 ∙ ap variable (sym p) ∙ sym s.1)),
-                sym (one_end nodes whole W fW v w.0 u.0 u.1 w.1.equal)))
+                found r.0 r.1 (inr (
+                  w.0,
+                  s.0,
+                  w.1.other.outside,
+                  s.1,
+                  λ p. w.1.apart (one_class nodes known E fE v w.0 (r.1 ∙ ap variable (sym p) ∙ sym s.1)),
+                  sym (one_end nodes whole W fW v w.0 u.0 u.1 w.1.equal),
+                ))
 
   apart_members : (ds : List Class) → ((c : Class) → IsClassIn c ds → IsClassIn c cs) → AreDistinct ds → AreApart E (members ds)
   apart_members [] f d = tt
   apart_members (c ∷ ds) f d = on (is_noisy cs c) (apart_members ds (λ e m. f e (inr m)) d.1)
     where
       on : (b : Bool) → AreApart E (members ds) → AreApart E (map (λ (c : Class). c.member) (cond b (c ∷ filter (λ c. is_noisy cs c) ds) (filter (λ c. is_noisy cs c) ds)))
-      on true h = (λ y m q.
-          let w : (e : Class) × IsClassIn e ds × (y ≡ e.member) × (is_noisy cs e ≡ true) = member-in ds y m in
-          roots_apart c.member w.0.member c.root w.0.root (k.root c (f c (inl refl))) (k.root w.0 (f w.0 (inr w.1))) (d.0 w.0 w.1) (subst (λ (z : Var). Equal E (variable c.member) (variable z)) w.2 q), h)
+      on true h = (
+        λ y m q.
+            let w : (e : Class) × IsClassIn e ds × (y ≡ e.member) × (is_noisy cs e ≡ true) = member-in ds y m in
+            roots_apart c.member w.0.member c.root w.0.root (k.root c (f c (inl refl))) (k.root w.0 (f w.0 (inr w.1))) (d.0 w.0 w.1) (subst (λ (z : Var). Equal E (variable c.member) (variable z)) w.2 q),
+        h,
+      )
       on false h = h
 
   pub are_touched : AreTouched inner E W (members cs)

@@ -166,20 +166,26 @@ module _ (nodes : List Node) (whole : List (Var × Term)) (inner : List Name) wh
     pub candidates-inner_end : (y : Var) → is_named inner b.0.frame ≡ false → IsEndOf nodes whole b.0 (Some y) → is_named inner y.frame ≡ true → AreCandidates nodes whole inner (bs ++ b ∷ []) (cs ++ b.0 ∷ [])
     candidates-inner_end y e n i = record {
       outside = λ x m. outside-push inner cs b.0 h.outside (not-named inner b.0 e) x m;
-      each = shown-push bs (cs ++ b.0 ∷ []) b (more-shown bs cs (b.0 ∷ []) h.each) (λ o. (among-right cs (b.0 ∷ []) b.0 (inl refl), λ z p q.
-          let r : variable y ≡ variable z = sym n ∙ q in
-          let s : y ≡ z = cc in
-          absurd (p (subst (IsLocal inner) s (is-named inner y i)))));
+      each = shown-push bs (cs ++ b.0 ∷ []) b (more-shown bs cs (b.0 ∷ []) h.each) (λ o. (
+        among-right cs (b.0 ∷ []) b.0 (inl refl),
+        λ z p q.
+            let r : variable y ≡ variable z = sym n ∙ q in
+            let s : y ≡ z = cc in
+            absurd (p (subst (IsLocal inner) s (is-named inner y i))),
+      ));
     }
 
     pub candidates-end : (y : Var) → is_named inner b.0.frame ≡ false → IsEndOf nodes whole b.0 (Some y) → is_named inner y.frame ≡ false → AreCandidates nodes whole inner (bs ++ b ∷ []) ((cs ++ b.0 ∷ []) ++ y ∷ [])
     candidates-end y e n i = record {
       outside = λ x m. outside-push inner (cs ++ b.0 ∷ []) y (λ z l. outside-push inner cs b.0 h.outside (not-named inner b.0 e) z l) (not-named inner y i) x m;
       each = shown-push bs ((cs ++ b.0 ∷ []) ++ y ∷ []) b (more-shown bs (cs ++ b.0 ∷ []) (y ∷ []) (more-shown bs cs (b.0 ∷ []) h.each))
-          (λ o. (among-left (cs ++ b.0 ∷ []) (y ∷ []) b.0 (among-right cs (b.0 ∷ []) b.0 (inl refl)), λ z p q.
-          let r : variable z ≡ variable y = sym q ∙ n in
-          let s : z ≡ y = cc in
-          among-right (cs ++ b.0 ∷ []) (y ∷ []) z (inl s)));
+          (λ o. (
+            among-left (cs ++ b.0 ∷ []) (y ∷ []) b.0 (among-right cs (b.0 ∷ []) b.0 (inl refl)),
+            λ z p q.
+                let r : variable z ≡ variable y = sym q ∙ n in
+                let s : z ≡ y = cc in
+                among-right (cs ++ b.0 ∷ []) (y ∷ []) z (inl s),
+          ));
     }
 
 -- by the stores that have them
