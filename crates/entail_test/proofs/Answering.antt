@@ -1,30 +1,28 @@
 -- What is read from solved forms is what is asked.
 use Rattle.std.proofs.Common.{◌≡◌, ℕ, List, [], ◌∷◌, ◌++◌, length, ◌-◌, take, drop, refl, sym, ap, subst, ◌∙◌, ◌⊎◌, inl, inr, append-nil, None, Bool, true, false, zero, suc, arith}
-use Rattle.std.specs.Prelude.{map, filter, ◌==◌}
+use Rattle.std.specs.Prelude.{◌==◌}
 use Rattle.akl_terms.specs.declared.name.Name.{Name}
 use Rattle.akl_terms.specs.declared.name.Var.{Var}
 use Rattle.akl_terms.specs.declared.term.Node.{Node}
 use Rattle.akl_terms.specs.declared.term.Term.{Term}
-use Rattle.akl_terms.specs.Tree.{Tree, variable, head_of}
+use Rattle.akl_terms.specs.Tree.{variable, head_of}
 use Rattle.akl_terms.specs.Touching.{IsLocal, IsTied, Touches}
-use Rattle.akl_terms.specs.Equal.{Equations, IsTold, EqualBy, Equal, told, IsConsistent, IsStructured, IsQuiet}
+use Rattle.akl_terms.specs.Equal.{Equations, IsTold, Equal, told, IsConsistent, IsStructured, IsQuiet}
 use Rattle.akl_terms.specs.Solved.{IsBound}
-use Rattle.akl_terms.specs.Template.{tree}
 use Rattle.akl_terms.proofs.EqualLaws.{EqualBy-follows, IsTold-left, IsTold-right, IsTold-either}
 use Rattle.rational_unify.specs.Known.{bound_in, end_of}
 use Rattle.akl_terms.specs.Names.{same_var}
-use Rattle.rational_unify.specs.Solving.{bindings_in}
 use Rattle.rational_unify.specs.Forms.{IsFormOf, TellsBindings, Takes, IsClashOfBindings}
 use Rattle.rational_unify.proofs.FormLaws.{form-consistent}
 use Rattle.rational_unify.proofs.Stands.{HasHead}
 use Rattle.rational_unify.proofs.Chains.{same_var-equal, same_var-refl}
 use Rattle.local_store.specs.Stored.{Stored}
-use Rattle.local_store.specs.Chained.{bindings_from, ToldBy, IsSolvedChain, IsKnown}
+use Rattle.local_store.specs.Chained.{bindings_from, IsSolvedChain}
 use Rattle.local_store.proofs.Layers.{end-extends, form-join, form-as, chain-form, chain-clash}
 use Rattle.local_store.proofs.Known.{drop-whole}
 use Rattle.entail_test.specs.declared.outside.Outside.{Outside}
 use Rattle.entail_test.specs.declared.outside.Outside.TheVariants.{Touched, Clash}
-use Rattle.entail_test.specs.Asked.{frames_from, environment_at, own_at, KeepsApart, Reads, ReadsOver, AnswersOver}
+use Rattle.entail_test.specs.Asked.{frames_from, environment_at, own_at, KeepsApart, Reads, AnswersOver}
 use Rattle.entail_test.specs.Touched.{AreTouched}
 use Rattle.entail_test.proofs.Ends.{are_touched, has_head, unheaded, structured, unstructured, one_class, one_end}
 use Rattle.entail_test.proofs.Enough.{ends-outside, enough}
@@ -85,10 +83,12 @@ module _ (nodes : List Node) (ss : List Stored) (depth : ℕ) (known : List (Var
       (IsTold-either (environment_at nodes ss depth) (own_at nodes ss depth))
 
   pub answers-reads : KeepsApart (frames_from (drop depth ss)) (environment_at nodes ss depth) → (o : Outside) → AnswersOver nodes known (drop depth ss) o → Reads nodes ss depth o
-  answers-reads scoped (Touched on) r = (form-consistent nodes (known ++ r.added) (IsTold (environment_at nodes ss depth ++ own_at nodes ss depth)) fW,
-      touched_all,
-      λ e. quiet-none nodes known (environment_at nodes ss depth) (own_at nodes ss depth) (frames_from (drop depth ss)) fE (form-consistent nodes (known ++ r.added) (IsTold (environment_at nodes ss depth ++ own_at nodes ss depth)) fW)
-          (rw e at touched_all))
+  answers-reads scoped (Touched on) r = (
+    form-consistent nodes (known ++ r.added) (IsTold (environment_at nodes ss depth ++ own_at nodes ss depth)) fW,
+    touched_all,
+    λ e. quiet-none nodes known (environment_at nodes ss depth) (own_at nodes ss depth) (frames_from (drop depth ss)) fE (form-consistent nodes (known ++ r.added) (IsTold (environment_at nodes ss depth ++ own_at nodes ss depth)) fW)
+        (rw e at touched_all),
+  )
     where
       fW : IsFormOf nodes (known ++ r.added) (IsTold (environment_at nodes ss depth ++ own_at nodes ss depth))
       fW = whole-form r.added r.takes
@@ -98,10 +98,13 @@ module _ (nodes : List Node) (ss : List Stored) (depth : ℕ) (known : List (Var
           (end-extends nodes known r.added fW.solved) r.candidates r.classes r.classified
           (enough nodes known r.added (IsTold (environment_at nodes ss depth)) (IsTold (environment_at nodes ss depth ++ own_at nodes ss depth)) (frames_from (drop depth ss)) r.candidates fE fW
           (end-extends nodes known r.added fW.solved) (ends-outside nodes known (environment_at nodes ss depth) (frames_from (drop depth ss)) fE scoped) r.shown))
-  answers-reads scoped (Clash left right) c = (EqualBy-follows (λ a b m. elim m [
-    | inl x ↦ EqualBy-follows (λ u v y. told (IsTold-left (environment_at nodes ss depth) (own_at nodes ss depth) u v y)) (fE.follow a b (subst (λ (l : List (Var × Term)). IsBound (bound_in nodes l) a b) (append-nil known) x))
-    | inr x ↦ told (IsTold-right (environment_at nodes ss depth) (own_at nodes ss depth) a b x)
-  ]) c.equal, c.differ)
+  answers-reads scoped (Clash left right) c = (
+    EqualBy-follows (λ a b m. elim m [
+      | inl x ↦ EqualBy-follows (λ u v y. told (IsTold-left (environment_at nodes ss depth) (own_at nodes ss depth) u v y)) (fE.follow a b (subst (λ (l : List (Var × Term)). IsBound (bound_in nodes l) a b) (append-nil known) x))
+      | inr x ↦ told (IsTold-right (environment_at nodes ss depth) (own_at nodes ss depth) a b x)
+    ]) c.equal,
+    c.differ,
+  )
 
 module _ (nodes : List Node) (ss : List Stored) (depth k : ℕ) (f : IsSolvedChain nodes (take k (take depth ss))) where
   pub environment-form : (new : List (Var × Term)) → Takes nodes (bindings_from (take k (take depth ss))) [] new (bindings_from (take (length (take depth ss) - k) (drop k (take depth ss))))
@@ -111,9 +114,11 @@ module _ (nodes : List Node) (ss : List Stored) (depth k : ℕ) (f : IsSolvedCha
 
   pub environment-clash : (left right : Term) → IsClashOfBindings nodes (bindings_from (take k (take depth ss)) ++ []) (bindings_from (take (length (take depth ss) - k) (drop k (take depth ss)))) left right
       → Reads nodes ss depth (Clash left right)
-  environment-clash left right c = (EqualBy-follows (λ a b m. told (IsTold-left (environment_at nodes ss depth) (own_at nodes ss depth) a b m))
-      (chain-clash nodes (take depth ss) k (bindings_from (take k (take depth ss))) left right f (subst (λ (l : List Stored). IsClashOfBindings nodes (bindings_from (take k (take depth ss)) ++ []) (bindings_from l) left right) (drop-whole (take depth ss) k) c)),
-      c.differ)
+  environment-clash left right c = (
+    EqualBy-follows (λ a b m. told (IsTold-left (environment_at nodes ss depth) (own_at nodes ss depth) a b m))
+        (chain-clash nodes (take depth ss) k (bindings_from (take k (take depth ss))) left right f (subst (λ (l : List Stored). IsClashOfBindings nodes (bindings_from (take k (take depth ss)) ++ []) (bindings_from l) left right) (drop-whole (take depth ss) k) c)),
+    c.differ,
+  )
 
 pub noisy-some : (E C : Equations) (inner : List Name) (xs : List Var) → (length xs ≡ 0 → ⊥) → AreTouched inner E (E ++ C) xs → IsQuiet E (IsLocal inner) C → ⊥
 noisy-some E C inner [] n t q = n refl

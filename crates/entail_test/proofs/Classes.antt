@@ -1,19 +1,20 @@
 -- Classes are gathered one by one.
-use Rattle.std.proofs.Common.{◌≡◌, ◌≢◌, ℕ, List, [], ◌∷◌, ◌++◌, Option, Some, None, Bool, true, false, cond, if◌then◌else◌, refl, sym, ap, subst, ◌∙◌, ◌⊎◌, inl, inr}
-use Rattle.std.specs.Prelude.{◌||◌, not, ◌&&◌, filter, map}
+use Rattle.std.proofs.Common.{◌≡◌, ◌≢◌, List, [], ◌∷◌, ◌++◌, Option, Some, None, Bool, true, false, cond, if◌then◌else◌, refl, sym, ap, subst, ◌∙◌, ◌⊎◌, inl, inr}
+use Rattle.std.specs.Prelude.{◌||◌, filter, map}
 use Rattle.std.specs.List.{list_any}
-use Rattle.akl_terms.specs.declared.name.Name.{Name}
 use Rattle.akl_terms.specs.declared.name.Var.{Var}
 use Rattle.akl_terms.specs.declared.term.Node.{Node}
 use Rattle.akl_terms.specs.declared.term.Term.{Term}
-use Rattle.akl_terms.specs.Tree.{Tree, variable, Head, head_of}
+use Rattle.akl_terms.specs.Tree.{variable, head_of}
 use Rattle.rational_unify.specs.Known.{end_of}
 use Rattle.akl_terms.specs.Names.{same_var}
 use Rattle.rational_unify.specs.Shortened.{IsEndOf}
 use Rattle.rational_unify.proofs.Chains.{same_var-equal, same_var-refl}
 use Rattle.entail_test.specs.declared.reading.Class.{Class}
 use Rattle.constraint_laws.specs.Touched.{IsAmong}
-use Rattle.entail_test.specs.Classes.{IsClassIn, has_root, AreDistinct, AreClasses}
+use Rattle.entail_test.specs.Classes.{IsClassIn, has_root, AreDistinct, AreClasses, AreEnds, AreRoots, ends_in, same_end}
+use Rattle.std.specs.Option.{is_some, unwrap_or}
+use Rattle.std.specs.Map.{lookup}
 
 -- a test that some class meets
 pub any-class : (p : Class → Bool) (cs : List Class) → list_any p cs ≡ true → (c : Class) × IsClassIn c cs × (p c ≡ true)
@@ -166,3 +167,134 @@ filter-push p (d ∷ cs) c = on (p d) (p c) (filter-push p cs c)
     on true false h = ap (λ (l : List Var). d.member ∷ l) h
     on false true h = h
     on false false h = h
+
+-- where classes end, one by one
+module _ (cs : List Class) (c : Class) (x : Var) where
+  ends-push : ends_in (cs ++ c ∷ []) x ≡ (if same_end c.end x then Some (is_some (ends_in cs x)) else ends_in cs x)
+  ends-push = go cs
+    where
+      step : (k l : Bool) (o p : Option Bool) → o ≡ (if l then Some (is_some p) else p) → (if k then Some (is_some o) else o) ≡ (if l then Some (is_some (if k then Some (is_some p) else p)) else (if k then Some (is_some p) else p))
+      step true true o p e = ap (λ (q : Option Bool). Some (is_some q)) e
+      step true false o p e = ap (λ (q : Option Bool). Some (is_some q)) e
+      step false l o p e = e
+
+      go : (ds : List Class) → ends_in (ds ++ c ∷ []) x ≡ (if same_end c.end x then Some (is_some (ends_in ds x)) else ends_in ds x)
+      go [] = refl
+      go (d ∷ ds) = step (same_end d.end x) (same_end c.end x) (ends_in (ds ++ c ∷ []) x) (ends_in ds x) (go ds)
+
+pub ends-none : AreEnds [] []
+ends-none = record { each = λ e. refl }
+
+module _ (cs : List Class) (c : Class) (old new : List (Var × Bool)) (h : AreEnds old cs) where
+  pub ends-same : c.end ≡ None → AreEnds old (cs ++ c ∷ [])
+  ends-same n = record { each = λ x. h.each x ∙ sym (ends-push cs c x ∙ ap (λ (o : Option Var). if same_end o x then Some (is_some (ends_in cs x)) else ends_in cs x) n) }
+
+  pub ends-more : (e : Var) (again : Bool) → c.end ≡ Some e → again ≡ is_some (lookup (same_var e) old)
+      → ((x : Var) → lookup (same_var x) new ≡ cond (same_var e x) (Some again) (lookup (same_var x) old)) → AreEnds new (cs ++ c ∷ [])
+  ends-more e again q a f = record { each = λ x. f x ∙ at x (same_var e x) refl ∙ sym (ends-push cs c x ∙ ap (λ (o : Option Var). if same_end o x then Some (is_some (ends_in cs x)) else ends_in cs x) q) }
+    where
+      at : (x : Var) (k : Bool) → same_var e x ≡ k → cond k (Some again) (lookup (same_var x) old) ≡ (if k then Some (is_some (ends_in cs x)) else ends_in cs x)
+      at x true p = ap Some (a ∙ ap (λ (z : Var). is_some (lookup (same_var z) old)) (same_var-equal e x p) ∙ ap is_some (h.each x))
+      at x false p = h.each x
+
+same_end-true : (o : Option Var) (e : Var) → same_end o e ≡ true → o ≡ Some e
+same_end-true None e h = cc
+same_end-true (Some x) e h = ap Some (same_var-equal x e h)
+
+same_end-some : (o : Option Var) (e : Var) → o ≡ Some e → same_end o e ≡ true
+same_end-some o e q = ap (λ (p : Option Var). same_end p e) q ∙ same_var-refl e
+
+ends-some : (cs : List Class) (e : Var) → is_some (ends_in cs e) ≡ true → (d : Class) × IsClassIn d cs × (d.end ≡ Some e)
+ends-some [] e h = cc
+ends-some (c ∷ cs) e h = on (same_end c.end e) refl h (λ g. ends-some cs e g)
+  where
+    on : (k : Bool) → same_end c.end e ≡ k → is_some (if k then Some (is_some (ends_in cs e)) else ends_in cs e) ≡ true
+        → (is_some (ends_in cs e) ≡ true → (d : Class) × IsClassIn d cs × (d.end ≡ Some e)) → (d : Class) × IsClassIn d (c ∷ cs) × (d.end ≡ Some e)
+    on true q h f = (c, inl refl, same_end-true c.end e q)
+    on false q h f = let w : (d : Class) × IsClassIn d cs × (d.end ≡ Some e) = f h in (w.0, inr w.1, w.2)
+
+some-ends : (cs : List Class) (e : Var) (d : Class) → IsClassIn d cs → d.end ≡ Some e → is_some (ends_in cs e) ≡ true
+some-ends [] e d m q = absurd m
+some-ends (c ∷ cs) e d (inl p) q = let h : same_end c.end e ≡ true = same_end-some c.end e (ap (λ (z : Class). z.end) (sym p) ∙ q) in rw h refl
+some-ends (c ∷ cs) e d (inr m) q = on (same_end c.end e) (some-ends cs e d m q)
+  where
+    on : (k : Bool) → is_some (ends_in cs e) ≡ true → is_some (if k then Some (is_some (ends_in cs e)) else ends_in cs e) ≡ true
+    on true h = refl
+    on false h = h
+
+-- more than one class ends in a variable exactly where another class does
+pub again-other : (cs : List Class) (c : Class) (e : Var) → AreDistinct cs → IsClassIn c cs → c.end ≡ Some e → unwrap_or (ends_in cs e) false ≡ true
+    → (d : Class) × IsClassIn d cs × (c.root ≢ d.root) × (d.end ≡ Some e)
+again-other [] c e n m q h = absurd m
+again-other (b ∷ cs) c e n m q h = on (same_end b.end e) refl m h (λ l g. again-other cs c e n.1 l q g)
+  where
+    Found : List Class → Type 0
+    Found ds = (d : Class) × IsClassIn d ds × (c.root ≢ d.root) × (d.end ≡ Some e)
+
+    on : (k : Bool) → same_end b.end e ≡ k → IsClassIn c (b ∷ cs) → unwrap_or (if k then Some (is_some (ends_in cs e)) else ends_in cs e) false ≡ true
+        → (IsClassIn c cs → unwrap_or (ends_in cs e) false ≡ true → Found cs) → Found (b ∷ cs)
+    on true p (inl r) h f =
+        let w : (d : Class) × IsClassIn d cs × (d.end ≡ Some e) = ends-some cs e h in
+        (w.0, inr w.1, λ z. n.0 w.0 w.1 (ap (λ (y : Class). y.root) (sym r) ∙ z), w.2)
+    on true p (inr l) h f = (b, inl refl, λ z. n.0 c l (sym z), same_end-true b.end e p)
+    on false p (inl r) h f = let z : true ≡ false = sym (same_end-some b.end e (ap (λ (y : Class). y.end) (sym r) ∙ q)) ∙ p in cc
+    on false p (inr l) h f = let w : Found cs = f l h in (w.0, inr w.1, w.2, w.3)
+
+pub other-again : (cs : List Class) (c d : Class) (e : Var) → IsClassIn c cs → IsClassIn d cs → c.root ≢ d.root → c.end ≡ Some e → d.end ≡ Some e → unwrap_or (ends_in cs e) false ≡ true
+other-again [] c d e m l n p q = absurd m
+other-again (b ∷ cs) c d e m l n p q = on (same_end b.end e) refl m l (λ i j. other-again cs c d e i j n p q)
+  where
+    on : (k : Bool) → same_end b.end e ≡ k → IsClassIn c (b ∷ cs) → IsClassIn d (b ∷ cs) → (IsClassIn c cs → IsClassIn d cs → unwrap_or (ends_in cs e) false ≡ true)
+        → unwrap_or (if k then Some (is_some (ends_in cs e)) else ends_in cs e) false ≡ true
+    on k z (inl r) (inl s) f = absurd (n (ap (λ (y : Class). y.root) (r ∙ sym s)))
+    on true z (inl r) (inr j) f = some-ends cs e d j q
+    on true z (inr i) s f = some-ends cs e c i p
+    on false z (inl r) (inr j) f = let t : true ≡ false = sym (same_end-some b.end e (ap (λ (y : Class). y.end) (sym r) ∙ p)) ∙ z in cc
+    on false z (inr i) (inl s) f = let t : true ≡ false = sym (same_end-some b.end e (ap (λ (y : Class). y.end) (sym s) ∙ q)) ∙ z in cc
+    on false z (inr i) (inr j) f = f i j
+
+-- roots, one by one
+has_root-push : (cs : List Class) (c : Class) (r : Var) → has_root (cs ++ c ∷ []) r ≡ (has_root cs r || same_var c.root r)
+has_root-push [] c r = on (same_var c.root r)
+  where
+    on : (k : Bool) → (k || false) ≡ k
+    on true = refl
+    on false = refl
+has_root-push (d ∷ cs) c r = on (same_var d.root r) (has_root-push cs c r)
+  where
+    on : (k : Bool) → has_root (cs ++ c ∷ []) r ≡ (has_root cs r || same_var c.root r) → (k || has_root (cs ++ c ∷ []) r) ≡ ((k || has_root cs r) || same_var c.root r)
+    on true h = refl
+    on false h = h
+
+pub roots-none : AreRoots [] []
+roots-none = record { each = λ r. refl }
+
+module _ (cs : List Class) (old new : List (Var × Bool)) (h : AreRoots old cs) (root : Var) (again : Bool)
+    (before : again ≡ is_some (lookup (same_var root) old)) (met : (x : Var) → lookup (same_var x) new ≡ cond (same_var root x) (Some again) (lookup (same_var x) old)) where
+  is_there : has_root cs root ≡ again
+  is_there = sym (before ∙ h.each root)
+
+  pub root-there : (k : Bool) → again ≡ k → has_root cs root ≡ k
+  root-there k e = is_there ∙ e
+
+  pub roots-same : again ≡ true → AreRoots new cs
+  roots-same e = record { each = λ x. ap is_some (met x) ∙ at x (same_var root x) refl }
+    where
+      at : (x : Var) (k : Bool) → same_var root x ≡ k → is_some (cond k (Some again) (lookup (same_var x) old)) ≡ has_root cs x
+      at x true p = sym (ap (has_root cs) (sym (same_var-equal root x p)) ∙ is_there ∙ e)
+      at x false p = h.each x
+
+  pub roots-more : (c : Class) → c.root ≡ root → AreRoots new (cs ++ c ∷ [])
+  roots-more c e = record { each = λ x. ap is_some (met x) ∙ at x (same_var root x) refl ∙ sym (has_root-push cs c x ∙ ap (λ (z : Var). has_root cs x || same_var z x) e) }
+    where
+      at : (x : Var) (k : Bool) → same_var root x ≡ k → is_some (cond k (Some again) (lookup (same_var x) old)) ≡ (has_root cs x || k)
+      at x true p = on (has_root cs x)
+        where
+          on : (l : Bool) → true ≡ (l || true)
+          on true = refl
+          on false = refl
+      at x false p = h.each x ∙ on (has_root cs x)
+        where
+          on : (l : Bool) → l ≡ (l || false)
+          on true = refl
+          on false = refl

@@ -1,28 +1,25 @@
 -- What solved forms of an environment and of the whole tell the variables from outside.
-use Rattle.std.proofs.Common.{◌≡◌, ◌≢◌, ℕ, List, [], ◌∷◌, ◌++◌, Option, Some, None, Bool, true, false, cond, refl, sym, ap, subst, ◌∙◌, ◌⊎◌, inl, inr, length}
-use Rattle.std.specs.Prelude.{not, ◌&&◌, filter, map, option_map}
-use Rattle.std.specs.List.{list_any}
+use Rattle.std.proofs.Common.{◌≡◌, ◌≢◌, List, [], ◌∷◌, Option, Some, None, Bool, true, false, cond, refl, sym, ap, subst, ◌∙◌, ◌⊎◌, inl, inr, length}
+use Rattle.std.specs.Prelude.{filter, map, option_map}
 use Rattle.akl_terms.specs.declared.name.Name.{Name}
 use Rattle.akl_terms.specs.declared.name.Var.{Var}
 use Rattle.akl_terms.specs.declared.term.Node.{Node}
 use Rattle.akl_terms.specs.declared.term.Term.{Term}
-use Rattle.akl_terms.specs.Tree.{Tree, variable, integer, port, symbol, Head, integer_head, port_head, symbol_head, head_of, list_of}
-use Rattle.akl_terms.specs.Equal.{Equations, IsTold, EqualBy, Equal, turned, IsStructured}
+use Rattle.akl_terms.specs.Tree.{Tree, variable, integer, port, symbol, integer_head, port_head, symbol_head, head_of, list_of}
+use Rattle.akl_terms.specs.Equal.{Equations, IsTold, Equal, IsStructured}
 use Rattle.akl_terms.specs.Touching.{IsOutside, IsUnbound, IsTied, Touches}
 use Rattle.akl_terms.specs.Template.{tree}
 use Rattle.akl_terms.specs.Solved.{walk, follow}
 use Rattle.rational_unify.specs.Known.{found_in, bound_in, end_of}
-use Rattle.akl_terms.specs.Names.{same_var}
 use Rattle.rational_unify.specs.Forms.{IsFormOf}
 use Rattle.rational_unify.specs.Shortened.{IsEndOf}
 use Rattle.rational_unify.proofs.Stands.{HasHead, structured-end, unstructured-end, equal-end}
-use Rattle.rational_unify.proofs.Chains.{same_var-equal, same_var-refl}
 use Rattle.rational_unify.proofs.FormLaws.{form-holds, form-follows, form-stays}
 use Rattle.entail_test.specs.declared.reading.Class.{Class}
 use Rattle.entail_test.specs.Touched.{AreApart, AreTouched}
 use Rattle.constraint_laws.specs.Touched.{IsAmong}
-use Rattle.entail_test.specs.Classes.{IsClassIn, AreDistinct, AreClasses, same_end, noisy_end, is_noisy, IsNoisyEnd, Suffices}
-use Rattle.entail_test.proofs.Classes.{any-class, class-any}
+use Rattle.entail_test.specs.Classes.{IsClassIn, AreDistinct, AreClasses, noisy_end, is_noisy, IsNoisyEnd, Suffices}
+use Rattle.entail_test.proofs.Classes.{again-other, other-again}
 
 pub end-free : (nodes : List Node) (bs : List (Var × Term)) (x : Var) → found_in bs x ≡ None → end_of nodes bs (variable x) ≡ variable x
 end-free nodes bs x e = ap (follow (walk (length bs) (bound_in nodes bs)) (variable x)) (ap (option_map (tree nodes)) e)
@@ -41,22 +38,6 @@ has_head (symbol f ts) = inl (symbol_head f (length (list_of ts)), refl)
 
 pub no_head : (t : Tree) (y : Var) → t ≡ variable y → HasHead t → ⊥
 no_head t y e h = let z : None ≡ Some h.0 = sym (ap head_of e) ∙ h.1 in cc
-
-other-true : (x y : Var) → (x ≢ y) → not (same_var x y) ≡ true
-other-true x y n = on (same_var x y) refl
-  where
-    on : (k : Bool) → same_var x y ≡ k → not k ≡ true
-    on true e = absurd (n (same_var-equal x y e))
-    on false e = refl
-
-both-true : (a b : Bool) → (a && b) ≡ true → (a ≡ true) × (b ≡ true)
-both-true true true e = (refl, refl)
-both-true true false e = cc
-both-true false b e = cc
-
-same_end-true : (o : Option Var) (e : Var) → same_end o e ≡ true → o ≡ Some e
-same_end-true None e h = cc
-same_end-true (Some x) e h = ap Some (same_var-equal x e h)
 
 -- one solved form
 module _ (nodes : List Node) (bs : List (Var × Term)) (E : Equations) (f : IsFormOf nodes bs (IsTold E)) where
@@ -116,27 +97,21 @@ module _ (nodes : List Node) (known whole : List (Var × Term)) (E W : Equations
 
   -- a noisy class is touched
   touched_class : (c : Class) → IsClassIn c cs → is_noisy cs c ≡ true → Touches inner E W c.member
-  touched_class c m e = record { unbound = is_unbound c.member c.root (suffices.outside c.member (k.member c m)) (k.root c m); told = on c.end (k.end c m) e }
+  touched_class c m e = record { unbound = is_unbound c.member c.root (suffices.outside c.member (k.member c m)) (k.root c m); told = on c.end (k.end c m) refl e }
     where
-      on : (o : Option Var) → IsEndOf nodes whole c.member o → noisy_end cs c.root o ≡ true → IsStructured W c.member ⊎ ((y : Var) × IsTied inner E W c.member y)
-      on None h e = inl (structured nodes whole W fW c.member h)
-      on (Some v) h e = inr (w.0.member, record {
-        other = is_unbound w.0.member w.0.root (suffices.outside w.0.member (k.member w.0 w.1)) (k.root w.0 w.1);
-        equal = one_class nodes whole W fW c.member w.0.member (h ∙ sym (subst (λ (o : Option Var). IsEndOf nodes whole w.0.member o) (same_end-true w.0.end v is.1) (k.end w.0 w.1)));
-        apart = λ q. roots_apart c.member w.0.member c.root w.0.root (k.root c m) (k.root w.0 w.1) differ q;
-      })
+      on : (o : Option Var) → IsEndOf nodes whole c.member o → (o ≡ c.end) → noisy_end cs o ≡ true → IsStructured W c.member ⊎ ((y : Var) × IsTied inner E W c.member y)
+      on None h q e = inl (structured nodes whole W fW c.member h)
+      on (Some v) h q e = inr (
+        w.0.member,
+        record {
+          other = is_unbound w.0.member w.0.root (suffices.outside w.0.member (k.member w.0 w.1)) (k.root w.0 w.1);
+          equal = one_class nodes whole W fW c.member w.0.member (h ∙ sym (subst (λ (o : Option Var). IsEndOf nodes whole w.0.member o) w.3 (k.end w.0 w.1)));
+          apart = λ p. roots_apart c.member w.0.member c.root w.0.root (k.root c m) (k.root w.0 w.1) w.2 p;
+        },
+      )
         where
-          w : (d : Class) × IsClassIn d cs × ((not (same_var d.root c.root) && same_end d.end v) ≡ true)
-          w = any-class (λ d. not (same_var d.root c.root) && same_end d.end v) cs e
-
-          is : (not (same_var w.0.root c.root) ≡ true) × (same_end w.0.end v ≡ true)
-          is = both-true (not (same_var w.0.root c.root)) (same_end w.0.end v) w.2
-
-          differ : c.root ≢ w.0.root
-          differ p =
-              let a : same_var w.0.root c.root ≡ true = ap (λ (z : Var). same_var w.0.root z) p ∙ same_var-refl w.0.root in
-              let b : false ≡ true = sym (ap not a) ∙ is.0 in
-              cc
+          w : (d : Class) × IsClassIn d cs × (c.root ≢ d.root) × (d.end ≡ Some v)
+          w = again-other cs c v k.distinct m (sym q) e
 
   -- a touched variable has a noisy class
   module _ (v : Var) (t : Touches inner E W v) where
@@ -168,13 +143,12 @@ module _ (nodes : List Node) (known whole : List (Var × Term)) (E W : Equations
         at = same_whole v c.0 c.1 r e c.2
 
         noise : is_noisy cs c.0 ≡ true
-        noise = on c.0.end (k.end c.0 c.1) n
+        noise = on c.0.end (k.end c.0 c.1) refl n
           where
-            on : (o : Option Var) → IsEndOf nodes whole c.0.member o → IsNoisyEnd nodes known whole inner v r → noisy_end cs c.0.root o ≡ true
-            on None h n = refl
-            on (Some y) h (inl g) = absurd (no_head (end_of nodes whole (variable v)) y (sym at ∙ h) g)
-            on (Some y) h (inr w) = class-any (λ d. not (same_var d.root c.0.root) && same_end d.end y) cs d.0 d.1
-                (both (not (same_var d.0.root c.0.root)) (same_end d.0.end y) (other-true d.0.root c.0.root (λ p. w.4 (sym d.2 ∙ p ∙ c.2))) (same d.0.end (k.end d.0 d.1)))
+            on : (o : Option Var) → IsEndOf nodes whole c.0.member o → c.0.end ≡ o → IsNoisyEnd nodes known whole inner v r → noisy_end cs o ≡ true
+            on None h z n = refl
+            on (Some y) h z (inl g) = absurd (no_head (end_of nodes whole (variable v)) y (sym at ∙ h) g)
+            on (Some y) h z (inr w) = other-again cs c.0 d.0 y c.1 d.1 (λ p. w.4 (sym (sym c.2 ∙ p ∙ d.2))) z (same d.0.end (k.end d.0 d.1))
               where
                 d : HasClass w.1
                 d = class_of w.0 w.1 (is_unbound w.0 w.1 w.2 w.3) w.3 (inr (v, r, t.unbound.outside, e, λ p. w.4 (sym p), sym w.5))
@@ -182,15 +156,12 @@ module _ (nodes : List Node) (known whole : List (Var × Term)) (E W : Equations
                 ends : end_of nodes whole (variable d.0.member) ≡ variable y
                 ends = same_whole w.0 d.0 d.1 w.1 w.3 d.2 ∙ w.5 ∙ sym at ∙ h
 
-                same : (o : Option Var) → IsEndOf nodes whole d.0.member o → same_end o y ≡ true
+                same : (o : Option Var) → IsEndOf nodes whole d.0.member o → o ≡ Some y
                 same None g = absurd (no_head (end_of nodes whole (variable d.0.member)) y ends g)
                 same (Some z) g =
                     let p : variable z ≡ variable y = sym g ∙ ends in
                     let q : z ≡ y = cc in
-                    ap (λ (u : Var). same_var u y) q ∙ same_var-refl y
-
-                both : (a b : Bool) → a ≡ true → b ≡ true → (a && b) ≡ true
-                both a b p q = rw (p, q) refl
+                    ap Some q
 
     pub is_found : (y : Var) × IsAmong y (members cs) × Equal E (variable v) (variable y)
     is_found = on t.told
@@ -209,18 +180,26 @@ module _ (nodes : List Node) (known whole : List (Var × Term)) (E W : Equations
             tied (inl h) = found r.0 r.1 (inl h)
             tied (inr h) =
                 let u : (y : Var) × (end_of nodes whole (variable v) ≡ variable y) = unheaded (end_of nodes whole (variable v)) h in
-                found r.0 r.1 (inr (w.0, s.0, w.1.other.outside, s.1,
-                λ p. w.1.apart (one_class nodes known E fE v w.0 (r.1 ∙ ap variable (sym p) ∙ sym s.1)),
-                sym (one_end nodes whole W fW v w.0 u.0 u.1 w.1.equal)))
+                found r.0 r.1 (inr (
+                  w.0,
+                  s.0,
+                  w.1.other.outside,
+                  s.1,
+                  λ p. w.1.apart (one_class nodes known E fE v w.0 (r.1 ∙ ap variable (sym p) ∙ sym s.1)),
+                  sym (one_end nodes whole W fW v w.0 u.0 u.1 w.1.equal),
+                ))
 
   apart_members : (ds : List Class) → ((c : Class) → IsClassIn c ds → IsClassIn c cs) → AreDistinct ds → AreApart E (members ds)
   apart_members [] f d = tt
   apart_members (c ∷ ds) f d = on (is_noisy cs c) (apart_members ds (λ e m. f e (inr m)) d.1)
     where
       on : (b : Bool) → AreApart E (members ds) → AreApart E (map (λ (c : Class). c.member) (cond b (c ∷ filter (λ c. is_noisy cs c) ds) (filter (λ c. is_noisy cs c) ds)))
-      on true h = (λ y m q.
-          let w : (e : Class) × IsClassIn e ds × (y ≡ e.member) × (is_noisy cs e ≡ true) = member-in ds y m in
-          roots_apart c.member w.0.member c.root w.0.root (k.root c (f c (inl refl))) (k.root w.0 (f w.0 (inr w.1))) (d.0 w.0 w.1) (subst (λ (z : Var). Equal E (variable c.member) (variable z)) w.2 q), h)
+      on true h = (
+        λ y m q.
+            let w : (e : Class) × IsClassIn e ds × (y ≡ e.member) × (is_noisy cs e ≡ true) = member-in ds y m in
+            roots_apart c.member w.0.member c.root w.0.root (k.root c (f c (inl refl))) (k.root w.0 (f w.0 (inr w.1))) (d.0 w.0 w.1) (subst (λ (z : Var). Equal E (variable c.member) (variable z)) w.2 q),
+        h,
+      )
       on false h = h
 
   pub are_touched : AreTouched inner E W (members cs)

@@ -1,22 +1,20 @@
 -- The added bindings show every class that may be noisy, where no inner variable stands in the environment.
-use Rattle.std.proofs.Common.{◌≡◌, ◌≢◌, ℕ, zero, suc, List, [], ◌∷◌, ◌++◌, length, Option, Some, None, Bool, true, false, cond, refl, sym, ap, subst, ◌∙◌, ◌⊎◌, inl, inr}
+use Rattle.std.proofs.Common.{◌≡◌, List, [], ◌∷◌, ◌++◌, length, Option, Some, None, Bool, true, false, cond, refl, sym, ap, subst, ◌∙◌, ◌⊎◌, inl, inr}
 use Rattle.std.proofs.Common.{arith}
 use Rattle.std.proofs.lemmas.Bool.Decides.{nat_tests}
-use Rattle.std.specs.Prelude.{option_map, find, slice_get, ◌||◌}
+use Rattle.std.specs.Prelude.{option_map, find, ◌||◌}
 use Rattle.std.specs.List.{AllByRecursion}
 use Rattle.akl_terms.specs.declared.name.Name.{Name}
 use Rattle.akl_terms.specs.declared.name.Var.{Var}
 use Rattle.akl_terms.specs.declared.term.Node.{Node}
 use Rattle.akl_terms.specs.declared.term.Term.{Term}
-use Rattle.akl_terms.specs.Tree.{Tree, Trees, none, more, variable, integer, port, symbol, Head, head_of, arguments, list_of}
-use Rattle.akl_terms.specs.Equal.{Equations, IsTold, EqualBy, Equal, told, same, turned, joined, inside, IsStructured}
+use Rattle.akl_terms.specs.Tree.{Tree, variable}
+use Rattle.akl_terms.specs.Equal.{Equations, IsTold, Equal, IsStructured}
 use Rattle.akl_terms.specs.Touching.{IsLocal, IsOutside}
 use Rattle.rational_unify.specs.Known.{found_in, bound_in, end_of}
 use Rattle.akl_terms.specs.Names.{same_name, same_var}
-use Rattle.rational_unify.specs.Solving.{BindNew}
 use Rattle.rational_unify.specs.Forms.{IsFormOf}
 use Rattle.rational_unify.specs.Shortened.{IsEndOf}
-use Rattle.rational_unify.proofs.Same.{same_value}
 use Rattle.rational_unify.proofs.Walks.{IsFree, walk-free}
 use Rattle.rational_unify.proofs.Chains.{found-second, free_found, same_var-equal}
 use Rattle.rational_unify.proofs.FormLaws.{form-follows}
@@ -25,7 +23,7 @@ use Rattle.local_store.specs.Stored.{Stored, is_named}
 use Rattle.constraint_laws.specs.Touched.{IsAmong}
 use Rattle.entail_test.specs.Classes.{IsNoisyEnd, Suffices}
 use Rattle.entail_test.specs.Asked.{KeepsApart, AreCandidates, frames_from, named_in}
-use Rattle.constraint_laws.specs.Growth.{IsOver, AreOver}
+use Rattle.constraint_laws.specs.Growth.{IsOver}
 use Rattle.entail_test.proofs.Classes.{among-either, among-left, among-right}
 use Rattle.entail_test.proofs.Ends.{no_head, unstructured}
 use Rattle.constraint_laws.specs.Growth.{TellsOver}
@@ -168,20 +166,26 @@ module _ (nodes : List Node) (whole : List (Var × Term)) (inner : List Name) wh
     pub candidates-inner_end : (y : Var) → is_named inner b.0.frame ≡ false → IsEndOf nodes whole b.0 (Some y) → is_named inner y.frame ≡ true → AreCandidates nodes whole inner (bs ++ b ∷ []) (cs ++ b.0 ∷ [])
     candidates-inner_end y e n i = record {
       outside = λ x m. outside-push inner cs b.0 h.outside (not-named inner b.0 e) x m;
-      each = shown-push bs (cs ++ b.0 ∷ []) b (more-shown bs cs (b.0 ∷ []) h.each) (λ o. (among-right cs (b.0 ∷ []) b.0 (inl refl), λ z p q.
-          let r : variable y ≡ variable z = sym n ∙ q in
-          let s : y ≡ z = cc in
-          absurd (p (subst (IsLocal inner) s (is-named inner y i)))));
+      each = shown-push bs (cs ++ b.0 ∷ []) b (more-shown bs cs (b.0 ∷ []) h.each) (λ o. (
+        among-right cs (b.0 ∷ []) b.0 (inl refl),
+        λ z p q.
+            let r : variable y ≡ variable z = sym n ∙ q in
+            let s : y ≡ z = cc in
+            absurd (p (subst (IsLocal inner) s (is-named inner y i))),
+      ));
     }
 
     pub candidates-end : (y : Var) → is_named inner b.0.frame ≡ false → IsEndOf nodes whole b.0 (Some y) → is_named inner y.frame ≡ false → AreCandidates nodes whole inner (bs ++ b ∷ []) ((cs ++ b.0 ∷ []) ++ y ∷ [])
     candidates-end y e n i = record {
       outside = λ x m. outside-push inner (cs ++ b.0 ∷ []) y (λ z l. outside-push inner cs b.0 h.outside (not-named inner b.0 e) z l) (not-named inner y i) x m;
       each = shown-push bs ((cs ++ b.0 ∷ []) ++ y ∷ []) b (more-shown bs (cs ++ b.0 ∷ []) (y ∷ []) (more-shown bs cs (b.0 ∷ []) h.each))
-          (λ o. (among-left (cs ++ b.0 ∷ []) (y ∷ []) b.0 (among-right cs (b.0 ∷ []) b.0 (inl refl)), λ z p q.
-          let r : variable z ≡ variable y = sym q ∙ n in
-          let s : z ≡ y = cc in
-          among-right (cs ++ b.0 ∷ []) (y ∷ []) z (inl s)));
+          (λ o. (
+            among-left (cs ++ b.0 ∷ []) (y ∷ []) b.0 (among-right cs (b.0 ∷ []) b.0 (inl refl)),
+            λ z p q.
+                let r : variable z ≡ variable y = sym q ∙ n in
+                let s : z ≡ y = cc in
+                among-right (cs ++ b.0 ∷ []) (y ∷ []) z (inl s),
+          ));
     }
 
 -- by the stores that have them

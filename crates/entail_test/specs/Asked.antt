@@ -1,5 +1,5 @@
 -- What is asked of a chain at a depth: what the stores from there on tell the variables from outside of them.
-use Rattle.std.specs.Prelude.{◌≡◌, ℕ, List, [], ◌∷◌, ◌++◌, take, drop, ◌⊎◌, Bool, map, filter}
+use Rattle.std.specs.Prelude.{◌≡◌, ℕ, List, [], ◌∷◌, ◌++◌, take, drop, Bool, map, filter}
 use Rattle.std.specs.List.{AllByRecursion, list_any}
 use Rattle.akl_terms.specs.declared.name.Name.{Name}
 use Rattle.akl_terms.specs.declared.name.Var.{Var}
@@ -44,20 +44,33 @@ own_at nodes ss depth = bindings_in nodes (bindings_from (drop depth ss))
 pub record KeepsApart (inner : List Name) (environment : Equations) : Type 0 where
   pub each : (x y : Var) → IsOutside inner x → IsLocal inner y → Equal environment (variable x) (variable y) → IsStructured environment x
 
--- all together is consistent, with one variable of each class that is touched; or two terms that are made equal differ in head
-abbrev pub Reads : List Node → List Stored → ℕ → Outside → Type 0
-Reads nodes ss depth (Touched on) = IsConsistent (environment_at nodes ss depth ++ own_at nodes ss depth)
-    × AreTouched (frames_from (drop depth ss)) (environment_at nodes ss depth) (environment_at nodes ss depth ++ own_at nodes ss depth) on.items
-    × (on.items ≡ [] → IsQuiet (environment_at nodes ss depth) (IsLocal (frames_from (drop depth ss))) (own_at nodes ss depth))
-Reads nodes ss depth (Clash left right) = Equal (environment_at nodes ss depth ++ own_at nodes ss depth) (tree nodes left) (tree nodes right) × DifferInHead (tree nodes left) (tree nodes right)
+abbrev pub whole_at : List Node → List Stored → ℕ → Equations
+whole_at nodes ss depth = environment_at nodes ss depth ++ own_at nodes ss depth
+
+abbrev pub KeepsApartAt : List Node → List Stored → ℕ → Type 0
+KeepsApartAt nodes ss depth = KeepsApart (frames_from (drop depth ss)) (environment_at nodes ss depth)
+
+abbrev pub IsQuietAt : List Node → List Stored → ℕ → Type 0
+IsQuietAt nodes ss depth = IsQuiet (environment_at nodes ss depth) (IsLocal (frames_from (drop depth ss))) (own_at nodes ss depth)
+
+-- one variable of each class that the stores from the depth on touch, and nothing else
+abbrev pub AreTouchedAt : List Node → List Stored → ℕ → List Var → Type 0
+AreTouchedAt nodes ss depth on = AreTouched (frames_from (drop depth ss)) (environment_at nodes ss depth) (whole_at nodes ss depth) on
+
+-- two terms of different heads that all together make equal
+abbrev pub IsClashAt : List Node → List Stored → ℕ → Term → Term → Type 0
+IsClashAt nodes ss depth left right = Equal (whole_at nodes ss depth) (tree nodes left) (tree nodes right) × DifferInHead (tree nodes left) (tree nodes right)
 
 -- the answer for the innermost box
 abbrev pub Answers : List Node → List Stored → ℕ → Quietness → Type 0
-Answers nodes ss depth Quiet = IsQuiet (environment_at nodes ss depth) (IsLocal (frames_from (drop depth ss))) (own_at nodes ss depth)
-Answers nodes ss depth (Noisy on) = IsConsistent (environment_at nodes ss depth ++ own_at nodes ss depth)
-    × (IsQuiet (environment_at nodes ss depth) (IsLocal (frames_from (drop depth ss))) (own_at nodes ss depth) → ⊥)
-    × AreTouched (frames_from (drop depth ss)) (environment_at nodes ss depth) (environment_at nodes ss depth ++ own_at nodes ss depth) on.items
-Answers nodes ss depth (Inconsistent left right) = Equal (environment_at nodes ss depth ++ own_at nodes ss depth) (tree nodes left) (tree nodes right) × DifferInHead (tree nodes left) (tree nodes right)
+Answers nodes ss depth Quiet = IsQuietAt nodes ss depth
+Answers nodes ss depth (Noisy on) = IsConsistent (whole_at nodes ss depth) × (IsQuietAt nodes ss depth → ⊥) × AreTouchedAt nodes ss depth on.items
+Answers nodes ss depth (Inconsistent left right) = IsClashAt nodes ss depth left right
+
+-- what is read, before it is an answer: nothing is touched exactly where all is quiet
+abbrev pub Reads : List Node → List Stored → ℕ → Outside → Type 0
+Reads nodes ss depth (Touched on) = IsConsistent (whole_at nodes ss depth) × AreTouchedAt nodes ss depth on.items × (on.items ≡ [] → IsQuietAt nodes ss depth)
+Reads nodes ss depth (Clash left right) = IsClashAt nodes ss depth left right
 
 -- candidates: of the added bindings each variable from outside, and the one in which its chain ends, if it is from outside
 pub record AreCandidates (nodes : List Node) (whole : List (Var × Term)) (inner : List Name) (added : List (Var × Term)) (candidates : List Var) : Type 0 where

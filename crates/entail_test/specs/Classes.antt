@@ -1,11 +1,13 @@
 -- Classes of variables from outside, by where their chains end.
-use Rattle.std.specs.Prelude.{◌≡◌, ◌≢◌, ℕ, List, [], ◌∷◌, ◌⊎◌, Option, Some, None, Bool, true, false, if◌then◌else◌, ◌&&◌, not, filter, map}
+use Rattle.std.specs.Prelude.{◌≡◌, ◌≢◌, List, [], ◌∷◌, ◌⊎◌, Option, Some, None, Bool, true, false, if◌then◌else◌, is_some}
+use Rattle.std.specs.Option.{unwrap_or}
+use Rattle.std.specs.Map.{lookup}
 use Rattle.std.specs.List.{list_any}
 use Rattle.akl_terms.specs.declared.name.Name.{Name}
 use Rattle.akl_terms.specs.declared.name.Var.{Var}
 use Rattle.akl_terms.specs.declared.term.Node.{Node}
 use Rattle.akl_terms.specs.declared.term.Term.{Term}
-use Rattle.akl_terms.specs.Tree.{Tree, variable, Head, head_of}
+use Rattle.akl_terms.specs.Tree.{variable, Head, head_of}
 use Rattle.akl_terms.specs.Touching.{IsOutside}
 use Rattle.rational_unify.specs.Known.{end_of}
 use Rattle.akl_terms.specs.Names.{same_var}
@@ -38,13 +40,26 @@ abbrev pub same_end : Option Var → Var → Bool
 same_end None e = false
 same_end (Some x) e = same_var x e
 
--- the whole makes a class structured, or equal to another class
-abbrev pub noisy_end : List Class → Var → Option Var → Bool
-noisy_end cs r None = true
-noisy_end cs r (Some e) = list_any (λ (d : Class). not (same_var d.root r) && same_end d.end e) cs
+-- whether more than one class ends in a variable; `None` where none does
+abbrev pub ends_in : List Class → Var → Option Bool
+ends_in [] e = None
+ends_in (c ∷ cs) e = if same_end c.end e then Some (is_some (ends_in cs e)) else ends_in cs e
+
+-- the whole makes a class with this end structured, or equal to another class
+abbrev pub noisy_end : List Class → Option Var → Bool
+noisy_end cs None = true
+noisy_end cs (Some e) = unwrap_or (ends_in cs e) false
 
 abbrev pub is_noisy : List Class → Class → Bool
-is_noisy cs c = noisy_end cs c.root c.end
+is_noisy cs c = noisy_end cs c.end
+
+-- a map says where classes end
+pub record AreEnds (ends : List (Var × Bool)) (cs : List Class) : Type 0 where
+  pub each : (e : Var) → lookup (same_var e) ends ≡ ends_in cs e
+
+-- a map has the roots of classes
+pub record AreRoots (roots : List (Var × Bool)) (cs : List Class) : Type 0 where
+  pub each : (r : Var) → is_some (lookup (same_var r) roots) ≡ has_root cs r
 
 -- what is noisy at the end of a chain
 abbrev pub IsNoisyEnd : List Node → List (Var × Term) → List (Var × Term) → List Name → Var → Var → Type 0

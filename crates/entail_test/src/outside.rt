@@ -1,7 +1,7 @@
 //! What the stores of a chain from a depth on tell the variables from outside of them.
-ghost use Rattle.std.specs.Prelude.{◌≡◌, ◌≤◌, IfOk, length, drop};
+ghost use Rattle.std.specs.Prelude.{◌≡◌, ◌≤◌, IfOk, length};
 ghost use Rattle.rational_unify.specs.Known.{IsSolved};
-ghost use Rattle.entail_test.specs.Asked.{Reads, KeepsApart, AreCandidates, frames_from, environment_at, named_in, AnswersOver};
+ghost use Rattle.entail_test.specs.Asked.{Reads, KeepsApartAt, AreCandidates, frames_from, named_in, AnswersOver};
 
 use crate::reading::touched;
 use akl_terms::{Name, Templates, Term, Var};
@@ -24,9 +24,8 @@ pub enum Outside {
 /// It solves the bindings of these stores over a solved form of those before them, and reads the
 /// answer from the bindings that this adds.
 pub fn outside_of(alloc: Global, chain: &Chain, depth: usize) -> Result<Outside, AllocError>
-    requires depth { depth ≤ length chain.now.stores }
-    requires scoped { KeepsApart (frames_from (drop depth chain.now.stores)) (environment_at chain.now.nodes chain.now.stores depth) }
-    ensures { IfOk result (λ answer. Reads chain.now.nodes chain.now.stores depth answer) }
+    requires { depth ≤ length chain.now.stores }
+    ensures { IfOk result (λ answer. KeepsApartAt chain.now.nodes chain.now.stores depth → Reads chain.now.nodes chain.now.stores depth answer) }
 {
     let templates = chain.templates();
     let environment = chain.outer(depth);
@@ -65,14 +64,20 @@ fn told_by<K: Lookup>(
             right: clash.right,
         }),
         None => {
-            let candidates =
-                candidates_of(alloc, templates, &whole, whole.added.as_slice(), inner)?;
+            let candidates = candidates_of(
+                alloc,
+                templates,
+                &whole,
+                whole.added.as_slice(),
+                inner,
+            )?;
             let on = touched(alloc, templates, known, &whole, candidates.as_slice())?;
             Ok(Outside::Touched(on))
         }
     }
 }
 
+// The candidates that the added bindings show.
 fn candidates_of<W: Lookup>(
     alloc: Global,
     templates: &Templates,
@@ -97,6 +102,7 @@ fn candidates_of<W: Lookup>(
     Ok(list)
 }
 
+// Whether one of the stores has the frame.
 fn is_inner(inner: &[Shared<Store>], frame: Name) -> bool
     ensures { result ≡ named_in inner.now frame }
 {

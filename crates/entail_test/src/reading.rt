@@ -1,12 +1,15 @@
 //! What solved forms tell variables from outside.
-ghost use Rattle.std.specs.Prelude.{◌≡◌, IfOk, filter, map, not, ◌&&◌, Some};
-ghost use Rattle.rational_unify.specs.Known.{IsSolved};
+ghost use Rattle.std.specs.Prelude.{◌≡◌, IfOk, filter, map, not, ◌||◌, Some, is_some, cond};
+ghost use Rattle.std.specs.Option.{unwrap_or};
+ghost use Rattle.std.specs.Map.{lookup};
 ghost use Rattle.akl_terms.specs.Names.{same_var};
-ghost use Rattle.entail_test.specs.Classes.{AreClasses, has_root, is_noisy, noisy_end, same_end};
+ghost use Rattle.rational_unify.specs.Known.{IsSolved};
+ghost use Rattle.entail_test.specs.Classes.{AreClasses, AreEnds, is_noisy, noisy_end};
 
 use akl_terms::{Templates, Var};
 use rational_unify::{Lookup, variable_end};
 use std::alloc::{AllocError, Global};
+use std::collections::HashMap;
 
 /// A class of variables of the environment: one of its variables, and the variables at the ends
 /// of its chain in the environment and in the whole. `end` is `None` where another term is there.
@@ -31,21 +34,11 @@ pub fn touched<K: Lookup, W: Lookup>(
         × (on.items ≡ map (λ c. c.member) (filter (λ c. is_noisy cs c) cs))) }
 {
     let classes = classes_of(alloc, templates, known, whole, candidates)?;
-    noisy_members(alloc, classes.as_slice())
+    let ends = ends_of(alloc, classes.as_slice())?;
+    noisy_members(alloc, classes.as_slice(), &ends)
 }
 
-fn noisy_members(alloc: Global, classes: &[Class]) -> Result<Vec<Var>, AllocError>
-    ensures { IfOk result (λ on. on.items ≡ map (λ c. c.member) (filter (λ c. is_noisy classes.now c) classes.now)) }
-{
-    let mut on = Vec::new(alloc);
-    for class in classes {
-        if noisy(classes, *class) {
-            on.push(class.member)?;
-        }
-    }
-    Ok(on)
-}
-
+// The classes of the candidates.
 fn classes_of<K: Lookup, W: Lookup>(
     alloc: Global,
     templates: &Templates,
@@ -58,9 +51,10 @@ fn classes_of<K: Lookup, W: Lookup>(
     ensures { IfOk result (λ classes. AreClasses templates.now.nodes (K.bindings known.now) (W.bindings whole.now) candidates.now classes.items) }
 {
     let mut classes = Vec::new(alloc);
+    let mut roots = HashMap::new(alloc);
     for member in candidates {
         if let Some(root) = variable_end(templates, known, *member) {
-            if !is_root(&classes, root) {
+            if !meet(&mut roots, root)? {
                 classes.push(Class {
                     member: *member,
                     root,
@@ -72,39 +66,55 @@ fn classes_of<K: Lookup, W: Lookup>(
     Ok(classes)
 }
 
-fn is_root(classes: &[Class], root: Var) -> bool
-    ensures { result ≡ has_root classes.now root }
+// The variables in which classes end, and whether more than one class ends there.
+fn ends_of(alloc: Global, classes: &[Class]) -> Result<HashMap<Var, bool>, AllocError>
+    ensures { IfOk result (λ ends. AreEnds ends.entries classes.now) }
 {
-    classes.iter().any(|c| c.root == root)
+    let mut ends = HashMap::new(alloc);
+    for class in classes {
+        if let Some(end) = class.end {
+            meet(&mut ends, end)?;
+        }
+    }
+    Ok(ends)
 }
 
-fn noisy(classes: &[Class], class: Class) -> bool
-    ensures { result ≡ is_noisy classes.now class }
+// Meets a variable: whether it was met before.
+fn meet(met: &mut HashMap<Var, bool>, variable: Var) -> Result<bool, AllocError>
+    ensures before { IfOk result (λ again. again ≡ is_some (lookup (same_var variable) met.old.entries)) }
+    ensures met { IfOk result (λ again. (x : Var) → lookup (same_var x) met.new.entries ≡ cond (same_var variable x) (Some again) (lookup (same_var x) met.old.entries)) }
 {
-    match class.end {
-        None => true,
-        Some(end) => is_met(classes, class.root, end),
+    let again = met.contains_key(&variable);
+    match met.insert(variable, again) {
+        Ok(_) => Ok(again),
+        Err(_) => Err(AllocError),
     }
 }
 
-// Whether another class ends in the variable.
-fn is_met(classes: &[Class], root: Var, end: Var) -> bool
-    ensures { result ≡ noisy_end classes.now root (Some end) }
+// The members of the classes that are noisy.
+fn noisy_members(
+    alloc: Global,
+    classes: &[Class],
+    ends: &HashMap<Var, bool>,
+) -> Result<Vec<Var>, AllocError>
+    requires { AreEnds ends.now.entries classes.now }
+    ensures { IfOk result (λ on. on.items ≡ map (λ c. c.member) (filter (λ c. is_noisy classes.now c) classes.now)) }
 {
-    classes.iter().any(|d| meets(*d, root, end))
+    let mut on = Vec::new(alloc);
+    for class in classes {
+        if is_noisy(ends, class.end) {
+            on.push(class.member)?;
+        }
+    }
+    Ok(on)
 }
 
-fn meets(class: Class, root: Var, end: Var) -> bool
-    ensures { result ≡ (not (same_var class.root root) && same_end class.end end) }
-{
-    class.root != root && ends_in(class.end, end)
-}
-
-fn ends_in(end: Option<Var>, variable: Var) -> bool
-    ensures { result ≡ same_end end variable }
+// Whether a class with this end is structured in the whole, or ends where another one does.
+fn is_noisy(ends: &HashMap<Var, bool>, end: Option<Var>) -> bool
+    ensures { (cs : _) → AreEnds ends.now.entries cs → result ≡ noisy_end cs end }
 {
     match end {
-        None => false,
-        Some(found) => found == variable,
+        None => true,
+        Some(end) => ends.get(&end).copied().unwrap_or(false),
     }
 }
