@@ -14,7 +14,7 @@ use Rattle.akl_model.specs.Names.{one_if, times_in}
 use Rattle.constraint_laws.specs.Growth.{IsOver, AreOver, TellsOver}
 use Rattle.akl_model.specs.Scopes.{Scope, nowhere, scope_in, IsScoped, AreScoped, EquationsScoped}
 use Rattle.akl_model.proofs.Finds.{times, times_of, times_inside}
-use Rattle.akl_model.proofs.Drawn.{same_itself}
+use Rattle.akl_terms.proofs.SameNames.{same_name-refl}
 use Rattle.akl_model.proofs.NamesKept.{Stand}
 use Rattle.akl_model.proofs.Options.{map_some, or_some, some_value}
 use Rattle.akl_model.proofs.Scoped.{IsIn-right, IsIn-either, Within, equations_wider, equations_append, Within-in}
@@ -102,7 +102,7 @@ only_once bs once m f e n = let k : times n (only f) + times_path n f.around ≤
 
 pub counted_in : (n : Name) (ns : List Name) → IsIn n ns → 0 < times_in n ns
 counted_in n [] h = absurd h
-counted_in n (m ∷ ms) (inl e) = let u : one_if (same_name n m) ≡ 1 = ap one_if (subst (λ (k : Name). same_name n k ≡ true) e (same_itself n)) in omega arith
+counted_in n (m ∷ ms) (inl e) = let u : one_if (same_name n m) ≡ 1 = ap one_if (subst (λ (k : Name). same_name n k ≡ true) e (same_name-refl n)) in omega arith
 counted_in n (m ∷ ms) (inr h) = let i : 0 < times_in n ms = counted_in n ms h in omega arith
 
 along_frames : (n : Name) (s : Scope) (path : List Content) → IsIn n (scope_along s path).frames → IsIn n s.frames ⊎ (0 < times_path n path)

@@ -16,7 +16,7 @@ use Rattle.akl_model.specs.Config.{Atom, Content, Boxes, no_boxes, box, Goals, n
 use Rattle.akl_model.specs.Instances.{atoms_of, with_atoms, start}
 use Rattle.akl_model.specs.Rules.{telling}
 use Rattle.akl_model.specs.Derivations.{raised, Applies, Derives, Replays, AreAnswers, none, one_more, done, failed, is_done, is_failed}
-use Rattle.akl_model.proofs.Drawn.{same_itself}
+use Rattle.akl_terms.proofs.SameNames.{same_name-refl}
 use Rattle.akl_model.proofs.LoneBox.{lone, tell_lone, fail_lone, quiet_end}
 use Rattle.akl_model.proofs.Results.{Derives-append}
 use Rattle.rational_unify.specs.Solving.{equations_in}
@@ -63,10 +63,10 @@ tell_first p b n s t gs next =
     g = record { worker = 0; number = n }
 
     held : held_in g (atom g (Atom.equation s t) gs) ≡ Some (an_atom (Atom.equation s t))
-    held = ap (λ (c : Bool). cond c (Some (an_atom (Atom.equation s t))) (held_in g gs)) (same_itself g)
+    held = ap (λ (c : Bool). cond c (Some (an_atom (Atom.equation s t))) (held_in g gs)) (same_name-refl g)
 
     gone : without_goal g (atom g (Atom.equation s t) gs) ≡ gs
-    gone = ap (λ (c : Bool). cond c gs (atom g (Atom.equation s t) (without_goal g gs))) (same_itself g)
+    gone = ap (λ (c : Bool). cond c gs (atom g (Atom.equation s t) (without_goal g gs))) (same_name-refl g)
 
 -- the labels tell all equations, in order
 derive_tells : (p : Program) (codes : List Code) (n : ℕ) (b : Content) (next : List ℕ) → AreEquations codes

@@ -12,7 +12,8 @@ use Rattle.akl_terms.specs.Solved.{walk, follow}
 use Rattle.akl_terms.specs.Template.{tree, seen_of, tree_seen}
 use Rattle.akl_terms.specs.Names.{same_var}
 use Rattle.rational_unify.specs.Known.{found_in, bound_in, IsSolved, end_of}
-use Rattle.rational_unify.proofs.Chains.{tree_of_seen, same_var-equal, same_var-refl}
+use Rattle.akl_terms.proofs.SameNames.{same_var-equal, same_var-refl}
+use Rattle.rational_unify.proofs.Chains.{tree_of_seen}
 use Rattle.rational_unify.proofs.Walks.{walk-bound}
 use Rattle.answer_text.specs.Classes.{Represents}
 use Rattle.akl_run.specs.Ends.{IsIndex, other_or, led_by, AreEnds, GivesEnds}

@@ -13,7 +13,7 @@ use Rattle.akl_terms.proofs.EqualLaws.{EqualBy-follows}
 use Rattle.akl_terms.specs.Names.{same_var}
 use Rattle.rational_unify.specs.Known.{bound_in, end_of}
 use Rattle.rational_unify.specs.Solving.{equations_in, bindings_in, Tells, IsSolution, IsClashOf}
-use Rattle.rational_unify.proofs.Chains.{same_var-equal}
+use Rattle.akl_terms.proofs.SameNames.{same_var-equal}
 use Rattle.rational_unify.proofs.Walks.{walk-equal, walk-free, IsFree}
 use Rattle.answer_text.specs.Printed.{IsFree as IsUnbound}
 use Rattle.answer_text.specs.Classes.{Represents}

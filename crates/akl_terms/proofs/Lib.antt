@@ -1,3 +1,5 @@
+pub mod SameNames
+pub mod Arguments
 pub mod EqualLaws
 pub mod StandingLaws
 pub mod Numbering

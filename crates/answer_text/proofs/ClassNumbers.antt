@@ -5,17 +5,8 @@ use Rattle.std.specs.Map.{lookup}
 use Rattle.std.proofs.lemmas.Bool.Decides.{nat_tests}
 use Rattle.akl_terms.specs.declared.name.Var.{Var}
 use Rattle.akl_terms.specs.Names.{same_var}
+use Rattle.akl_terms.proofs.SameNames.{same_var-equal, same_var-refl}
 use Rattle.answer_text.specs.Pieces.{class_number, with_class, known_number, HasNumbers}
-
-pub same_var-true : (x y : Var) → same_var x y ≡ true → x ≡ y
-same_var-true x y e =
-    let a : x.frame.worker ≡ y.frame.worker = grind (arith, nat_tests) in
-    let b : x.frame.number ≡ y.frame.number = grind (arith, nat_tests) in
-    let c : x.index ≡ y.index = grind (arith, nat_tests) in
-    λ i. record { frame = record { worker = a i; number = b i }; index = c i }
-
-pub same_var-refl : (x : Var) → same_var x x ≡ true
-same_var-refl x = grind (arith, nat_tests)
 
 -- what a search found: nothing, and the class comes last, or its number from 1 on
 abbrev pub IsFound : List Var → Var → Option ℕ → Type 0
@@ -43,7 +34,7 @@ known_number-push (z ∷ zs) x y n = on (λ m. known_number-push zs x y m) (same
     later : known_number (zs ++ x ∷ []) y ≡ cond (same_var x y) (Some (suc (length zs))) (known_number zs y) → same_var z x ≡ false → (b c : Bool) → same_var z y ≡ b → same_var x y ≡ c
         → cond b (Some 1) (option_map (λ k. suc k) (known_number (zs ++ x ∷ []) y)) ≡ cond c (Some (suc (suc (length zs)))) (cond b (Some 1) (option_map (λ k. suc k) (known_number zs y)))
     later h f true true p q =
-        let e : z ≡ x = same_var-true z y p ∙ sym (same_var-true x y q) in
+        let e : z ≡ x = same_var-equal z y p ∙ sym (same_var-equal x y q) in
         let w : true ≡ false = sym (subst (λ (v : Var). same_var z v ≡ true) e (same_var-refl z)) ∙ f in absurd cc
     later h f true false p q = refl
     later h f false c p q =

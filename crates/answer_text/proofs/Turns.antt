@@ -14,7 +14,7 @@ use Rattle.answer_text.specs.Classes.{Represents}
 use Rattle.akl_terms.specs.Names.{same_var}
 use Rattle.answer_text.specs.Pieces.{State, Rest, byte, whole, trees_of, Continues, AreEnds, class_number, with_class, with_bytes, class_printed}
 use Rattle.answer_text.specs.declared.piece.Piece.TheVariants.{Byte, Whole}
-use Rattle.answer_text.proofs.ClassNumbers.{same_var-true, same_var-refl}
+use Rattle.akl_terms.proofs.SameNames.{same_var-equal, same_var-refl}
 use Rattle.answer_text.proofs.Respects.{Alike, numbered-one, rest-alike}
 use Rattle.answer_text.proofs.Determined.{IsClassText, class-only, integer-only, port-only, constant-only}
 
@@ -26,7 +26,7 @@ numbered-by E go r (y ∷ ys) s x a e = on (same_var y x) refl (numbered-by E go
   where
     on : (b : Bool) → same_var y x ≡ b → IsNumbered E (trees_of ys) s (class_number ys x) (trees_of (with_class ys x))
         → IsNumbered E (variable y ∷ trees_of ys) s (cond b 0 (suc (class_number ys x))) (trees_of (cond b (y ∷ ys) (y ∷ with_class ys x)))
-    on true q n = here (subst (λ (t : Tree). Equal E s t) (e ∙ ap (λ (z : Var). variable z) (sym (same_var-true y x q))) (r.equal s))
+    on true q n = here (subst (λ (t : Tree). Equal E s t) (e ∙ ap (λ (z : Var). variable z) (sym (same_var-equal y x q))) (r.equal s))
     on false q n = later (λ p.
         let o : x ≡ y = r.one s (variable y) x y e a.0 p in
         let t : same_var y x ≡ true = subst (λ (z : Var). same_var z x ≡ true) o (same_var-refl x) in

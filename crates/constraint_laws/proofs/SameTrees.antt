@@ -8,7 +8,7 @@ use Rattle.akl_terms.specs.Equal.{Equations, IsTold, Equal, same, turned, joined
 use Rattle.akl_terms.specs.Solved.{SameIn, SameTree}
 use Rattle.akl_terms.specs.Arithmetic.{binary}
 use Rattle.akl_terms.proofs.StandingLaws.{same_equal}
-use Rattle.constraint_laws.proofs.Arguments.{same_value}
+use Rattle.akl_terms.proofs.Arguments.{same_value}
 use Rattle.constraint_laws.proofs.Grown.{Headed, headed_or}
 use Rattle.constraint_laws.proofs.ValuesGrow.{integer_of, binary_of, port_of}
 

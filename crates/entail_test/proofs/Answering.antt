@@ -15,7 +15,7 @@ use Rattle.akl_terms.specs.Names.{same_var}
 use Rattle.rational_unify.specs.Forms.{IsFormOf, TellsBindings, Takes, IsClashOfBindings}
 use Rattle.rational_unify.proofs.FormLaws.{form-consistent}
 use Rattle.rational_unify.proofs.Stands.{HasHead}
-use Rattle.rational_unify.proofs.Chains.{same_var-equal, same_var-refl}
+use Rattle.akl_terms.proofs.SameNames.{same_var-equal, same_var-refl}
 use Rattle.local_store.specs.Stored.{Stored}
 use Rattle.local_store.specs.Chained.{bindings_from, IsSolvedChain}
 use Rattle.local_store.proofs.Layers.{end-extends, form-join, form-as, chain-form, chain-clash}

@@ -9,7 +9,7 @@ use Rattle.akl_terms.specs.Tree.{variable, head_of}
 use Rattle.rational_unify.specs.Known.{end_of}
 use Rattle.akl_terms.specs.Names.{same_var}
 use Rattle.rational_unify.specs.Shortened.{IsEndOf}
-use Rattle.rational_unify.proofs.Chains.{same_var-equal, same_var-refl}
+use Rattle.akl_terms.proofs.SameNames.{same_var-equal, same_var-refl}
 use Rattle.entail_test.specs.declared.reading.Class.{Class}
 use Rattle.constraint_laws.specs.Touched.{IsAmong}
 use Rattle.entail_test.specs.Classes.{IsClassIn, has_root, AreDistinct, AreClasses, AreEnds, AreRoots, ends_in, same_end}

@@ -16,7 +16,8 @@ use Rattle.akl_terms.specs.Names.{same_name, same_var}
 use Rattle.rational_unify.specs.Forms.{IsFormOf}
 use Rattle.rational_unify.specs.Shortened.{IsEndOf}
 use Rattle.rational_unify.proofs.Walks.{IsFree, walk-free}
-use Rattle.rational_unify.proofs.Chains.{found-second, free_found, same_var-equal}
+use Rattle.akl_terms.proofs.SameNames.{same_var-equal}
+use Rattle.rational_unify.proofs.Chains.{found-second, free_found}
 use Rattle.rational_unify.proofs.FormLaws.{form-follows}
 use Rattle.entail_test.proofs.Ends.{end-free}
 use Rattle.local_store.specs.Stored.{Stored, is_named}

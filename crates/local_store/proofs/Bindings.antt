@@ -14,7 +14,7 @@ use Rattle.akl_terms.specs.declared.name.Var.{Var}
 use Rattle.akl_terms.specs.declared.term.Term.{Term}
 use Rattle.akl_terms.specs.Names.{same_var, var_cmp}
 use Rattle.rational_unify.specs.Known.{found_in}
-use Rattle.rational_unify.proofs.Chains.{same_var-equal}
+use Rattle.akl_terms.proofs.SameNames.{same_var-equal}
 use Rattle.persist_map.specs.Entries.{IsOrdered, value_at}
 use Rattle.persist_map.proofs.Changes.{IsOrdered-insert_entry, value_at-insert_entry}
 use Rattle.local_store.specs.Stored.{joined}

@@ -17,7 +17,8 @@ use Rattle.rational_unify.specs.Forms.{IsFormOf, TellsBindings, Takes, IsClashOf
 use Rattle.local_store.specs.Stored.{Stored, var_before, joined, joins}
 use Rattle.akl_terms.specs.Standing.{StandFor}
 use Rattle.local_store.specs.Chained.{bindings_from, innermost, around}
-use Rattle.rational_unify.proofs.Chains.{found-first, found-second, found-none, same_var-equal, same_var-refl, BindNew-bound}
+use Rattle.akl_terms.proofs.SameNames.{same_var-equal, same_var-refl}
+use Rattle.rational_unify.proofs.Chains.{found-first, found-second, found-none, BindNew-bound}
 use Rattle.rational_unify.proofs.Taking.{take-next}
 use Rattle.rational_unify.proofs.Walks.{walk-extends, Extends, EndsWithin-leads}
 use Rattle.rational_unify.proofs.Same.{Bound-same}

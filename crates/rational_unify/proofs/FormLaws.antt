@@ -16,9 +16,11 @@ use Rattle.akl_terms.specs.Names.{same_var}
 use Rattle.rational_unify.specs.Known.{found_in, bound_in, IsSolved, end_of}
 use Rattle.rational_unify.specs.Solving.{bindings_in, equations_in, Tells, BindNew, IsSolution, IsClashOf}
 use Rattle.rational_unify.specs.Forms.{IsFormOf, TellsBindings, Takes, IsClashOfBindings, OneTaken, made_equation, made_binding, made_nothing}
-use Rattle.rational_unify.proofs.Same.{same_value, Equal-same, Same-consistent}
+use Rattle.akl_terms.proofs.Arguments.{same_value}
+use Rattle.rational_unify.proofs.Same.{Equal-same, Same-consistent}
 use Rattle.rational_unify.proofs.Walks.{walk-equal, walk-free, IsFree, Adds, Adds-ends, EndsWithin-leads}
-use Rattle.rational_unify.proofs.Chains.{found-first, found-second, one_more-adds, BindNew-push, same_var-equal, same_var-refl}
+use Rattle.akl_terms.proofs.SameNames.{same_var-equal, same_var-refl}
+use Rattle.rational_unify.proofs.Chains.{found-first, found-second, one_more-adds, BindNew-push}
 use Rattle.rational_unify.proofs.Turns.{length-push, equations-left, equations-right, equations-either}
 use Rattle.rational_unify.proofs.Ends.{free-tree, headed-tree}
 

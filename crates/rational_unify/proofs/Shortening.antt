@@ -11,9 +11,10 @@ use Rattle.akl_terms.specs.Template.{tree}
 use Rattle.rational_unify.specs.Known.{found_in, bound_in, IsSolved, end_of}
 use Rattle.rational_unify.specs.Shortened.{Rebinds, KeepsEnds}
 use Rattle.rational_unify.specs.Solving.{BindNew}
-use Rattle.rational_unify.proofs.Same.{same_value}
+use Rattle.akl_terms.proofs.Arguments.{same_value}
 use Rattle.rational_unify.proofs.Walks.{IsFree, walk-bound, bound_falls, walk-free, walk-again, free-steps}
-use Rattle.rational_unify.proofs.Chains.{found-first, found-second, found-none, same_var-equal}
+use Rattle.akl_terms.proofs.SameNames.{same_var-equal}
+use Rattle.rational_unify.proofs.Chains.{found-first, found-second, found-none}
 
 -- the same variables are bound, and each new binding leads further along the old chain
 pub record Shortens (n : ℕ) (old new : Bindings) : Type 0 where

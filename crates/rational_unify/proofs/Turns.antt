@@ -17,7 +17,7 @@ use Rattle.rational_unify.specs.Shortened.{KeepsEnds}
 use Rattle.rational_unify.specs.Solving.{equations_in, Tells, BindNew, IsSolution, IsClashOf}
 use Rattle.rational_unify.specs.Indexes.{IsOf, IsLinked, here, on}
 use Rattle.rational_unify.specs.Meeting.{Meets, argument_pair, argument_pairs, LeadsTo, AgreeInHead, Clashes, Meet, same, bind, agree, Advances}
-use Rattle.rational_unify.proofs.Same.{same_value}
+use Rattle.akl_terms.proofs.Arguments.{same_value}
 use Rattle.rational_unify.proofs.Walks.{IsFree, walk-free, walk-again}
 use Rattle.rational_unify.proofs.Chains.{free_found, one_more-adds, BindNew-push, BindNew-bound}
 use Rattle.rational_unify.proofs.Heads.{head_of_seen, head_seen}

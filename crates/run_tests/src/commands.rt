@@ -160,7 +160,8 @@ fn commands_are_answered_or_refused(rt: HostRuntime) -> Result<(), Fail> {
 }
 
 /// The answer to this query is 998,396 bytes longer than what stands behind it and before `)`.
-const LONG: &str = "_0 = a, _1 = f(_0,_0), _2 = f(_1,_1), _3 = f(_2,_2), _4 = f(_3,_3), _5 = f(_4,_4), _6 = f(_5,_5), _7 = f(_6,_6), _8 = f(_7,_7), _9 = f(_8,_8), _10 = f(_9,_9), _11 = f(_10,_10), _12 = f(_11,_11), _13 = f(_12,_12), _14 = f(_13,_13), _15 = f(_14,_14), _16 = f(_15,_15), _17 = f(_16,_16), X = h(_17,_16,_11,_10,";
+const LONG: &str =
+    "_0 = a, _1 = f(_0,_0), _2 = f(_1,_1), _3 = f(_2,_2), _4 = f(_3,_3), _5 = f(_4,_4), _6 = f(_5,_5), _7 = f(_6,_6), _8 = f(_7,_7), _9 = f(_8,_8), _10 = f(_9,_9), _11 = f(_10,_10), _12 = f(_11,_11), _13 = f(_12,_12), _14 = f(_13,_13), _15 = f(_14,_14), _16 = f(_15,_15), _17 = f(_16,_16), X = h(_17,_16,_11,_10,";
 
 #[test]
 fn an_answer_has_at_most_a_million_bytes(rt: HostRuntime) -> Result<(), Fail> {

@@ -10,7 +10,7 @@ use Rattle.akl_model.specs.Changes.{box_names, goal_names, shape_of}
 use Rattle.akl_model.specs.Names.{one_if, times_in}
 use Rattle.akl_model.proofs.Options.{some_value}
 use Rattle.akl_model.proofs.Finds.{times, times_inside}
-use Rattle.akl_model.proofs.Drawn.{same_itself}
+use Rattle.akl_terms.proofs.SameNames.{same_name-refl}
 use Rattle.constraint_laws.proofs.SameTerms.{Either}
 use Rattle.step_laws.proofs.Whereabouts.{held_counted}
 use Rattle.step_laws.proofs.Edits.{other, past}
@@ -43,7 +43,7 @@ failing_found g (choice i o bs gs) h e x = on (same_name g i) e (λ q. failing_f
     on false q r = inr (r q)
 
 first : (g : Name) (h : Held) (gs : Goals) → (if same_name g g then Some h else held_in g gs) ≡ Some h
-first g h gs = on (same_name g g) (same_itself g)
+first g h gs = on (same_name g g) (same_name-refl g)
   where
     on : (t : Bool) → t ≡ true → (if t then Some h else held_in g gs) ≡ Some h
     on true e = refl
