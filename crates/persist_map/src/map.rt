@@ -9,7 +9,8 @@ use crate::walk::Walk;
 use std::alloc::{AllocError, Global};
 use std::marker::Model;
 
-/// A map from keys to values, in the order of the keys, that no call changes.
+/// A map from keys to values, in the order of the keys. Maps share nodes, and no call changes a map that it isn't lent
+/// to change.
 ///
 /// Contracts see it as the list of its entries in the order of their keys. A call that makes nodes asks that clones of
 /// keys and values equal them, since a new node clones the entry of the old one that it stands for.
