@@ -145,7 +145,7 @@ fn goal<'a>(
     }
 }
 
-/// Goals with ends_items between.
+/// Goals with commas between.
 #[cycle(goals)]
 pub fn conj<'a>(
     alloc: Global,

@@ -154,7 +154,7 @@ pub fn arguments(alloc: Global, lexemes: &[Lexeme]) -> Result<(Vec<SourceTerm>, 
     Ok((items, rest))
 }
 
-/// At least one term, with ends_items between.
+/// At least one term, with commas between.
 #[cycle(terms)]
 fn some_items(alloc: Global, lexemes: &[Lexeme]) -> Result<(Vec<SourceTerm>, &[Lexeme]), Fault>
     ensures { Parsed (λ x. (map tree x.0.items, x.1.now)) (Items lexemes.now) ends_items result }
