@@ -1,4 +1,4 @@
-pub mod Ends
+pub mod Chains
 pub mod Represented
 pub mod Commits
 pub mod Derived

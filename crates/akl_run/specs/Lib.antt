@@ -6,7 +6,6 @@ pub mod Choices
 pub mod Goals
 pub mod Loads
 pub mod Stops
-pub mod Ends
 pub mod Engine
 pub mod Statuses
 pub mod RunTexts

@@ -10,7 +10,7 @@ use Rattle.answer_text.specs.Classes.{Represents}
 use Rattle.answer_text.specs.Answers.{longest_answer, AreTooLong, shown_trees}
 use Rattle.akl_run.specs.declared.loaded.Loaded.{Loaded}
 use Rattle.akl_run.specs.Text.{shown_lines}
-use Rattle.akl_run.specs.Ends.{led_by}
+use Rattle.rational_unify.specs.Known.{end_of}
 use Rattle.akl_run.specs.Engine.{query_frame}
 use Rattle.akl_run.specs.declared.solved_form.SolvedForm.{SolvedForm}
 
@@ -32,7 +32,7 @@ box_lines l = shown_lines (map (shown_of query_frame) l.query.shown)
 
 -- where each term leads, by what stands for it
 abbrev pub goes_by : Loaded → SolvedForm → Tree → Tree
-goes_by l s = led_by l.program.templates.nodes s.ends.entries
+goes_by l s = end_of l.program.templates.nodes s.bindings
 
 -- the text of the answer and the outcome, under all equations for which the form gives what stands for each term
 abbrev pub IsTextBy : Loaded → Option SolvedForm → List ℕ → Type 0

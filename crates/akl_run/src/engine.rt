@@ -125,7 +125,7 @@ fn tell_and_solve(alloc: Global, loaded: &Loaded, mut run: Run) -> Result<Run, A
     } = solve(alloc, &loaded.program.templates, &Nothing, &equations)?;
     match solved {
         Solved::Added(bindings) => {
-            let form = SolvedForm::new(alloc, &loaded.program.templates, bindings)?;
+            let form = SolvedForm::new(alloc, &bindings)?;
             run.solved = Some(form);
             Ok(run)
         }

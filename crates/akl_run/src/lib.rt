@@ -4,7 +4,6 @@
 mod choices;
 mod engine;
 mod evaluate;
-mod indexed;
 mod loaded;
 mod prepare;
 mod refusal;

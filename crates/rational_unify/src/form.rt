@@ -94,7 +94,7 @@ impl<'a, K: Lookup> Form<'a, K> {
     }
 
     /// Adds bindings of variables that have none.
-    fn add(&mut self, more: &[(Var, Term)]) -> Result<(), AllocError>
+    pub fn add(&mut self, more: &[(Var, Term)]) -> Result<(), AllocError>
         requires { BindNew (K.bindings self.old.known.now ++ self.old.added) more.now }
         ensures known { self.new.known ≡ self.old.known }
         ensures added { IfOk result (λ _. self.new.added ≡ self.old.added ++ more.now) }

@@ -7,8 +7,6 @@ use Rattle.akl_run.specs.Runs.{IsRun}
 use Rattle.akl_run.specs.Journals.{AreBy}
 use Rattle.akl_run.specs.Engine.{tells, receipt_of, receipts_from, equations_by, told_box}
 use Rattle.akl_run.proofs.Commits.{receipts-more, tells-by, by-more}
-use Rattle.akl_run.specs.Ends.{led_by}
-use Rattle.akl_run.proofs.Ends.{Represents-same}
 use Rattle.akl_run.proofs.Represented.{represented, clash_contradicts}
 use Rattle.akl_run.proofs.Derived.{query_done, query_fails, fail_root}
 use Rattle.akl_run.proofs.engine.tell_and_solve.Goals as goal
@@ -17,16 +15,14 @@ pub returns-in-Added : goal.returns-in-Added
 returns-in-Added c =
     let told : c.deref.result.now ≡ equations_by c.args.loaded.now.query.goals = c.deref.ensures.value ∙ c.in_ok-equations.ensures.equations ∙ ap equations_by c.as_slice.ensures in
     let journal : c.tell_all.new.run.journal.items ≡ tells 2 (length c.args.loaded.now.query.goals) = c.in_ok-equations.ensures.journal ∙ ap (λ gs. tells 2 (length gs)) c.as_slice.ensures in
-    let represents : Represents (told_box c.args.loaded.now).equations (led_by c.args.loaded.now.program.templates.nodes c.in_ok-form-in-Added.form.ends.entries) =
-    Represents-same (told_box c.args.loaded.now).equations (end_of c.args.loaded.now.program.templates.nodes c.in-Added.bindings.items) (led_by c.args.loaded.now.program.templates.nodes c.in_ok-form-in-Added.form.ends.entries)
-    c.in_ok-form-in-Added.ensures.each
-    (represented c.args.loaded.now.program.templates.nodes (equations_by c.args.loaded.now.query.goals) c.in-Added.bindings.items
-    (subst (λ es. IsSolution c.args.loaded.now.program.templates.nodes [] es c.in-Added.bindings.items) told (rw c.in-Added.is at c.in_ok-solved.ensures.solves))) in
+    let represents : Represents (told_box c.args.loaded.now).equations (end_of c.args.loaded.now.program.templates.nodes c.in-Added.bindings.items) =
+    represented c.args.loaded.now.program.templates.nodes (equations_by c.args.loaded.now.query.goals) c.in-Added.bindings.items
+    (subst (λ es. IsSolution c.args.loaded.now.program.templates.nodes [] es c.in-Added.bindings.items) told (rw c.in-Added.is at c.in_ok-solved.ensures.solves)) in
     record {
       ends = record {
         run = subst (λ j. IsRun c.args.loaded.now j (told_box c.args.loaded.now ∷ []) done) (sym journal)
             (query_done c.args.loaded.now c.requires.equations c.requires.within represents.consistent);
-        represents = represents;
+        represents = subst (λ bs. Represents (told_box c.args.loaded.now).equations (end_of c.args.loaded.now.program.templates.nodes bs)) (sym (c.in_ok-form-in-Added.ensures ∙ c.deref-in-Added.ensures.value)) represents;
       };
       receipts = c.in_ok-equations.ensures.receipts;
       one_worker = subst (AreBy 1) (sym journal) (tells-by 2 (length c.args.loaded.now.query.goals));
