@@ -1,0 +1,139 @@
+-- A store that takes what is found for equations.
+use Rattle.std.proofs.Common.{◌≡◌, ℕ, List, [], ◌∷◌, ◌++◌, length, refl, sym, ap, subst, ◌∙◌, ◌⊎◌, inl, inr, arith, ◌+◌, ◌-◌, take, drop}
+use Rattle.akl_terms.specs.declared.name.Var.{Var}
+use Rattle.akl_terms.specs.declared.term.Node.{Node}
+use Rattle.akl_terms.specs.declared.term.Term.{Term}
+use Rattle.akl_terms.specs.declared.term.Equation as code
+use Rattle.akl_terms.specs.Tree.{Tree, variable}
+use Rattle.akl_terms.specs.Equal.{IsTold, EqualBy, told, turned, joined, IsConsistentBy}
+use Rattle.akl_terms.specs.Template.{tree}
+use Rattle.akl_terms.specs.Decided.{DifferInHead}
+use Rattle.akl_terms.proofs.EqualLaws.{EqualBy-follows}
+use Rattle.rational_unify.specs.Solving.{bindings_in, equations_in, BindNew, IsSolution, IsClashOf}
+use Rattle.rational_unify.specs.Forms.{IsFormOf, Takes, IsClashOfBindings}
+use Rattle.local_store.specs.Stored.{Stored, joins, with_binding, with_bindings}
+use Rattle.akl_terms.specs.Standing.{StandFor}
+use Rattle.local_store.specs.Chained.{bindings_from, innermost, around, replaced, ToldBy, IsSolvedChain}
+use Rattle.local_store.specs.Telling.{ToldAlso, Tells, Adds, added, clash, clashed, somewhere}
+use Rattle.local_store.proofs.Layers.{form-as, form-equations, form-added, forms-stand, inconsistent-stand, form-reorder, joins-found, joins-length, joins-told, told-joins, from-last, from-innermost, bindings-either, bindings-left, bindings-right, chain-form, chain-clash}
+use Rattle.local_store.proofs.Known.{drop-whole}
+
+pub length-append : (xs ys : List (Var × Term)) → length (xs ++ ys) ≡ length xs + length ys
+length-append [] ys = omega arith
+length-append (x ∷ xs) ys = let h : length (xs ++ ys) ≡ length xs + length ys = length-append xs ys in omega arith
+
+module _ (nodes : List Node) (ss : List Stored) (more : List (Var × Term)) where
+  inner : List (Var × Term)
+  inner = (innermost ss).bindings
+
+  -- with further bindings in the innermost store
+  pub replaced-list : (new : Stored) → bindings_from (replaced ss new) ≡ new.bindings ++ bindings_from (around ss)
+  replaced-list new = from-last (around ss) new
+
+  pub replaced-told : (new : Stored) → new.bindings ≡ joins (innermost ss).bindings more → (s t : Tree) → ToldBy nodes (replaced ss new) s t → ToldBy nodes ss s t ⊎ IsTold (bindings_in nodes more) s t
+  replaced-told new e s t m = elim (bindings-either nodes (joins (innermost ss).bindings more) (bindings_from (around ss)) s t
+      (subst (λ (l : List (Var × Term)). IsTold (bindings_in nodes l) s t) (replaced-list new ∙ ap (λ (l : List (Var × Term)). l ++ bindings_from (around ss)) e) m)) [
+        | inl x ↦ elim (joins-told nodes (innermost ss).bindings more s t x) [ inl y ↦ inl (all (bindings-left nodes (innermost ss).bindings (bindings_from (around ss)) s t y)) | inr y ↦ inr y ]
+        | inr x ↦ inl (all (bindings-right nodes (innermost ss).bindings (bindings_from (around ss)) s t x))
+      ]
+    where
+      all : IsTold (bindings_in nodes ((innermost ss).bindings ++ bindings_from (around ss))) s t → ToldBy nodes ss s t
+      all m = subst (λ (l : List (Var × Term)). IsTold (bindings_in nodes l) s t) (sym (from-innermost ss)) m
+
+  pub told-replaced : (new : Stored) → new.bindings ≡ joins (innermost ss).bindings more → (s t : Tree) → ToldBy nodes ss s t ⊎ IsTold (bindings_in nodes more) s t → ToldBy nodes (replaced ss new) s t
+  told-replaced new e s t m = subst (λ (l : List (Var × Term)). IsTold (bindings_in nodes l) s t) (sym (replaced-list new ∙ ap (λ (l : List (Var × Term)). l ++ bindings_from (around ss)) e)) (on m)
+    where
+      on : ToldBy nodes ss s t ⊎ IsTold (bindings_in nodes more) s t → IsTold (bindings_in nodes (joins (innermost ss).bindings more ++ bindings_from (around ss))) s t
+      on (inr y) = bindings-left nodes (joins (innermost ss).bindings more) (bindings_from (around ss)) s t (told-joins nodes (innermost ss).bindings more s t (inr y))
+      on (inl x) = elim (bindings-either nodes (innermost ss).bindings (bindings_from (around ss)) s t (subst (λ (l : List (Var × Term)). IsTold (bindings_in nodes l) s t) (from-innermost ss) x)) [
+        | inl y ↦ bindings-left nodes (joins (innermost ss).bindings more) (bindings_from (around ss)) s t (told-joins nodes (innermost ss).bindings more s t (inl y))
+        | inr y ↦ bindings-right nodes (joins (innermost ss).bindings more) (bindings_from (around ss)) s t y
+      ]
+
+module _ (nodes : List Node) (ss : List Stored) (known : ℕ) (bs : List (Var × Term)) (es : List code.Equation) (new : Stored) (f : IsFormOf nodes bs (ToldBy nodes ss)) (whole : length ss ≡ known → bs ≡ bindings_from ss) where
+  pub tells-added : (more : List (Var × Term)) → IsSolution nodes bs es more → new ≡ with_bindings (innermost ss) more → Tells nodes ss known es new
+  tells-added more s e = record {
+    frames = ap (λ (r : Stored). r.frames) e;
+    ports = ap (λ (r : Stored). r.ports) e;
+    stands = forms-stand nodes (bs ++ more) (ToldAlso nodes ss es) (ToldBy nodes (replaced ss new)) (form-equations nodes bs es more (ToldBy nodes ss) f s) form;
+    solved = λ l c. solved (whole l);
+  }
+    where
+      is : new.bindings ≡ joins (innermost ss).bindings more
+      is = ap (λ (r : Stored). r.bindings) e
+
+      form : IsFormOf nodes (bs ++ more) (ToldBy nodes (replaced ss new))
+      form = form-as nodes (bs ++ more) (λ a b. ToldBy nodes ss a b ⊎ IsTold (bindings_in nodes more) a b) (ToldBy nodes (replaced ss new)) (form-added nodes bs es more (ToldBy nodes ss) f s)
+          (told-replaced nodes ss more new is) (replaced-told nodes ss more new is)
+
+      solved : bs ≡ bindings_from ss → IsSolvedChain nodes (replaced ss new)
+      solved q = subst (λ (l : List (Var × Term)). IsFormOf nodes l (ToldBy nodes (replaced ss new))) (sym (replaced-list nodes ss more new ∙ ap (λ (l : List (Var × Term)). l ++ o) is))
+          (form-reorder nodes ((b ++ o) ++ more) (joins b more ++ o) (ToldBy nodes (replaced ss new))
+          (λ y. sym (joins-found b o more (subst (λ (l : List (Var × Term)). BindNew l more) q' s.fresh) y)) long
+          (subst (λ (l : List (Var × Term)). IsFormOf nodes (l ++ more) (ToldBy nodes (replaced ss new))) q' form))
+        where
+          b : List (Var × Term)
+          b = (innermost ss).bindings
+
+          o : List (Var × Term)
+          o = bindings_from (around ss)
+
+          q' : bs ≡ b ++ o
+          q' = q ∙ from-innermost ss
+
+          long : length ((b ++ o) ++ more) ≡ length (joins b more ++ o)
+          long =
+              let p : length ((b ++ o) ++ more) ≡ length (b ++ o) + length more = length-append (b ++ o) more in
+              let r : length (b ++ o) ≡ length b + length o = length-append b o in
+              let u : length (joins b more ++ o) ≡ length (joins b more) + length o = length-append (joins b more) o in
+              let v : length (joins b more) ≡ length b + length more = joins-length b more in
+              omega arith
+
+  -- two terms of different heads, made equal
+  pub tells-clash : (left right : Term) → EqualBy (ToldAlso nodes ss es) (tree nodes left) (tree nodes right) → DifferInHead (tree nodes left) (tree nodes right) → new ≡ clashed (innermost ss) left right → Tells nodes ss known es new
+  tells-clash left right q d e = record {
+    frames = ap (λ (r : Stored). r.frames) e;
+    ports = ap (λ (r : Stored). r.ports) e;
+    stands = inconsistent-stand (ToldAlso nodes ss es) (ToldBy nodes (replaced ss new)) bad (λ k. d.differ (k.heads (joined (turned (told (there left (inl (refl, refl))))) (told (there right (inr (inl (refl, refl)))))) d.is_left d.is_right));
+    solved = λ l c. absurd (bad c);
+  }
+    where
+      both : List (Var × Term)
+      both = (somewhere, left) ∷ (somewhere, right) ∷ []
+
+      bad : IsConsistentBy (ToldAlso nodes ss es) → ⊥
+      bad k = d.differ (k.heads q d.is_left d.is_right)
+
+      there : (t : Term) → IsTold (bindings_in nodes ((somewhere, left) ∷ (somewhere, right) ∷ [])) (variable somewhere) (tree nodes t) → ToldBy nodes (replaced ss new) (variable somewhere) (tree nodes t)
+      there t m = told-replaced nodes ss ((somewhere, left) ∷ (somewhere, right) ∷ []) new (ap (λ (r : Stored). r.bindings) e) (variable somewhere) (tree nodes t) (inr m)
+
+  pub tells-adds : Adds nodes bs es (innermost ss) new → Tells nodes ss known es new
+  tells-adds (added more s e) = tells-added more s e
+  tells-adds (clash left right c e) = tells-clash left right
+      (EqualBy-follows (λ a b m. elim m [ inl x ↦ EqualBy-follows (λ u v y. told (inl y)) (f.follow a b x) | inr x ↦ told (inr x) ]) c.equal) c.differ e
+
+-- over the stores that are known to be solved, with the others taken in
+module _ (nodes : List Node) (ss : List Stored) (known k : ℕ) (es : List code.Equation) (s : Stored) (f : IsSolvedChain nodes (take k ss)) (less : length ss ≡ known → ⊥) where
+  pub tells-further : (new : List (Var × Term)) → Takes nodes (bindings_from (take k ss)) [] new (bindings_from (take (length ss - k) (drop k ss)))
+      → Adds nodes (bindings_from (take k ss) ++ new) es (innermost ss) s → Tells nodes ss known es s
+  tells-further new t a = tells-adds nodes ss known (bindings_from (take k ss) ++ new) es s
+      (chain-form nodes ss k (bindings_from (take k ss)) new f (subst (λ (l : List Stored). Takes nodes (bindings_from (take k ss)) [] new (bindings_from l)) (drop-whole ss k) t))
+      (λ e. absurd (less e)) a
+
+  pub tells-further-clash : (left right : Term) → IsClashOfBindings nodes (bindings_from (take k ss) ++ []) (bindings_from (take (length ss - k) (drop k ss))) left right
+      → s ≡ clashed (innermost ss) left right → Tells nodes ss known es s
+  tells-further-clash left right c e = record {
+    frames = ap (λ (r : Stored). r.frames) e;
+    ports = ap (λ (r : Stored). r.ports) e;
+    stands = inconsistent-stand (ToldAlso nodes ss es) (ToldBy nodes (replaced ss s)) bad (λ i. c.differ.differ (i.heads (joined (turned (told (there left (inl (refl, refl))))) (told (there right (inr (inl (refl, refl)))))) c.differ.is_left c.differ.is_right));
+    solved = λ l i. absurd (bad i);
+  }
+    where
+      equal : EqualBy (ToldBy nodes ss) (tree nodes left) (tree nodes right)
+      equal = chain-clash nodes ss k (bindings_from (take k ss)) left right f (subst (λ (l : List Stored). IsClashOfBindings nodes (bindings_from (take k ss) ++ []) (bindings_from l) left right) (drop-whole ss k) c)
+
+      bad : IsConsistentBy (ToldAlso nodes ss es) → ⊥
+      bad i = c.differ.differ (i.heads (EqualBy-follows (λ a b m. told (inl m)) equal) c.differ.is_left c.differ.is_right)
+
+      there : (t : Term) → IsTold (bindings_in nodes ((somewhere, left) ∷ (somewhere, right) ∷ [])) (variable somewhere) (tree nodes t) → ToldBy nodes (replaced ss s) (variable somewhere) (tree nodes t)
+      there t m = told-replaced nodes ss ((somewhere, left) ∷ (somewhere, right) ∷ []) s (ap (λ (r : Stored). r.bindings) e) (variable somewhere) (tree nodes t) (inr m)

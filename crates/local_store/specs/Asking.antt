@@ -1,0 +1,33 @@
+-- What a chain says, and how it is made solved.
+use Rattle.std.specs.Prelude.{◌≡◌, List, Some}
+use Rattle.akl_terms.specs.declared.name.Var.{Var}
+use Rattle.akl_terms.specs.declared.term.Node.{Node}
+use Rattle.akl_terms.specs.declared.term.Term.{Term}
+use Rattle.akl_terms.specs.Tree.{variable, Head, head_of}
+use Rattle.akl_terms.specs.Equal.{EqualBy, IsConsistentBy}
+use Rattle.akl_terms.specs.Decided.{DifferInHead}
+use Rattle.akl_terms.specs.Solved.{IsUnstructured}
+use Rattle.akl_terms.specs.Template.{tree}
+use Rattle.local_store.specs.declared.asking.Consistency.{Consistency}
+use Rattle.local_store.specs.declared.asking.Consistency.TheVariants.{Consistent, Clash}
+use Rattle.local_store.specs.declared.asking.Valued.{Valued}
+use Rattle.local_store.specs.declared.asking.Valued.TheVariants.{Free, Bound}
+use Rattle.local_store.specs.Stored.{Stored}
+use Rattle.akl_terms.specs.Standing.{StandFor}
+use Rattle.local_store.specs.Chained.{ToldBy, IsSolvedChain, innermost, replaced}
+
+abbrev pub Decides : List Node → List Stored → Consistency → Type 0
+Decides nodes ss Consistent = IsConsistentBy (ToldBy nodes ss)
+Decides nodes ss (Clash left right) = EqualBy (ToldBy nodes ss) (tree nodes left) (tree nodes right) × DifferInHead (tree nodes left) (tree nodes right)
+
+-- a variable of the term's class, which isn't structured, or a term of its class that has a head
+abbrev pub Values : List Node → List Stored → Term → Valued → Type 0
+Values nodes ss t (Free x) = EqualBy (ToldBy nodes ss) (tree nodes t) (variable x) × IsUnstructured (ToldBy nodes ss) (tree nodes t)
+Values nodes ss t (Bound u) = EqualBy (ToldBy nodes ss) (tree nodes t) (tree nodes u) × ((h : Head) × (head_of (tree nodes u) ≡ Some h))
+
+-- a store with the innermost store's frames and ports, with which the chain is solved and stands for the same
+pub record Resolves (nodes : List Node) (ss : List Stored) (new : Stored) : Type 0 where
+  pub frames : new.frames ≡ (innermost ss).frames
+  pub ports : new.ports ≡ (innermost ss).ports
+  pub solved : IsSolvedChain nodes (replaced ss new)
+  pub stands : StandFor (ToldBy nodes ss) (ToldBy nodes (replaced ss new))

@@ -1,0 +1,52 @@
+-- Chains of stores.
+use Rattle.std.specs.Prelude.{◌≡◌, ℕ, ◌≤◌, List, [], ◌∷◌, ◌++◌, length, take, drop, ◌⊎◌}
+use Rattle.akl_terms.specs.declared.name.Var.{Var}
+use Rattle.akl_terms.specs.declared.term.Node.{Node}
+use Rattle.akl_terms.specs.declared.term.Term.{Term}
+use Rattle.akl_terms.specs.declared.term.Equation as code
+use Rattle.akl_terms.specs.Tree.{Tree}
+use Rattle.akl_terms.specs.Equal.{IsTold, IsConsistentBy}
+use Rattle.akl_terms.specs.Solved.{SameTree}
+use Rattle.rational_unify.specs.Solving.{bindings_in}
+use Rattle.rational_unify.specs.Forms.{IsFormOf}
+use Rattle.local_store.specs.Stored.{Stored, nothing}
+
+-- the nodes of the templates, the stores from the root box inwards, and how many of the outermost are known to be solved together
+pub record Chained : Type 0 where
+  pub nodes : List Node
+  pub stores : List Stored
+  pub known : ℕ
+
+-- all bindings of these stores, those of inner stores first, so that the first binding of a variable is that of the innermost store that has one
+abbrev pub bindings_from : List Stored → List (Var × Term)
+bindings_from [] = []
+bindings_from (s ∷ ss) = bindings_from ss ++ s.bindings
+
+-- the equations that stores stand for: all of their bindings
+abbrev pub ToldBy : List Node → List Stored → Tree → Tree → Type 0
+ToldBy nodes ss = IsTold (bindings_in nodes (bindings_from ss))
+
+-- what is found is a solved form of all that the stores stand for
+abbrev pub IsSolvedChain : List Node → List Stored → Type 0
+IsSolvedChain nodes ss = IsFormOf nodes (bindings_from ss) (ToldBy nodes ss)
+
+-- as far as is known each chain of the outermost stores is solved
+pub record IsKnown (nodes : List Node) (ss : List Stored) (known : ℕ) : Type 0 where
+  pub within : known ≤ length ss
+  pub each : (k : ℕ) → k ≤ known → IsSolvedChain nodes (take k ss)
+
+-- the innermost store
+abbrev pub innermost : List Stored → Stored
+innermost [] = nothing
+innermost (s ∷ []) = s
+innermost (s ∷ t ∷ ss) = innermost (t ∷ ss)
+
+-- the stores around it
+abbrev pub around : List Stored → List Stored
+around [] = []
+around (s ∷ []) = []
+around (s ∷ t ∷ ss) = s ∷ around (t ∷ ss)
+
+-- another one in the innermost place
+abbrev pub replaced : List Stored → Stored → List Stored
+replaced ss s = around ss ++ s ∷ []

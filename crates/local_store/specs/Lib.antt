@@ -1,0 +1,5 @@
+pub mod Stored
+pub mod Kept
+pub mod Chained
+pub mod Telling
+pub mod Asking

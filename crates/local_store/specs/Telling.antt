@@ -1,0 +1,36 @@
+-- Equations told to a chain.
+use Rattle.std.specs.Prelude.{◌≡◌, ℕ, List, length, ◌⊎◌}
+use Rattle.akl_terms.specs.declared.name.Var.{Var}
+use Rattle.akl_terms.specs.declared.term.Node.{Node}
+use Rattle.akl_terms.specs.declared.term.Term.{Term}
+use Rattle.akl_terms.specs.declared.term.Equation as code
+use Rattle.akl_terms.specs.Tree.{Tree}
+use Rattle.akl_terms.specs.Equal.{IsTold, IsConsistentBy}
+use Rattle.akl_terms.specs.Standing.{StandFor}
+use Rattle.rational_unify.specs.Solving.{equations_in, IsSolution, IsClashOf}
+use Rattle.local_store.specs.Stored.{Stored, with_binding, with_bindings}
+use Rattle.local_store.specs.Chained.{ToldBy, IsSolvedChain, innermost, replaced}
+
+-- what stores stand for, and further equations
+abbrev pub ToldAlso : List Node → List Stored → List code.Equation → Tree → Tree → Type 0
+ToldAlso nodes ss es s t = ToldBy nodes ss s t ⊎ IsTold (equations_in nodes es) s t
+
+-- a store in which the equations are told: the frames and ports stay, and with it in the innermost place the chain stands for what it stood for and the equations.
+-- Where the whole chain was known to be solved and is consistent with the equations, it stays solved
+pub record Tells (nodes : List Node) (ss : List Stored) (known : ℕ) (es : List code.Equation) (new : Stored) : Type 0 where
+  pub frames : new.frames ≡ (innermost ss).frames
+  pub ports : new.ports ≡ (innermost ss).ports
+  pub stands : StandFor (ToldAlso nodes ss es) (ToldBy nodes (replaced ss new))
+  pub solved : length ss ≡ known → IsConsistentBy (ToldAlso nodes ss es) → IsSolvedChain nodes (replaced ss new)
+
+-- a variable that is bound to two terms
+abbrev pub somewhere : Var
+somewhere = record { frame = record { worker = 0; number = 0 }; index = 0 }
+
+abbrev pub clashed : Stored → Term → Term → Stored
+clashed s l r = with_binding (with_binding s somewhere l) somewhere r
+
+-- what is found for equations over a solved form, put into a store
+pub data Adds (nodes : List Node) (bs : List (Var × Term)) (es : List code.Equation) (old new : Stored) : Type 0 where
+  added : (more : List (Var × Term)) → IsSolution nodes bs es more → new ≡ with_bindings old more → Adds nodes bs es old new
+  clash : (left right : Term) → IsClashOf nodes bs es left right → new ≡ clashed old left right → Adds nodes bs es old new

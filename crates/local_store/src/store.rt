@@ -1,0 +1,211 @@
+//! The store of one box.
+ghost use Rattle.std.specs.Prelude.{◌≡◌, ◌+◌, IfOk, IfErr};
+ghost use Rattle.std.specs.Map.{lookup};
+ghost use Rattle.akl_terms.specs.Names.{same_name};
+ghost use Rattle.rational_unify.specs.Known.{found_in};
+ghost use Rattle.local_store.specs.Stored.{nothing, unbound, is_named, with_frame, with_port, with_binding, with_bindings};
+
+use akl_terms::{Name, Term, Var};
+use persist_map::PMap;
+use std::alloc::{AllocError, Global};
+use std::marker::Model;
+
+/// The frames, bindings and ports of one box.
+///
+/// Copies share what they have in common: a change of one costs in the order of the logarithm of its size and leaves
+/// the others as they were. What no copy shares changes in place.
+#[derive(Drop)]
+pub struct Store {
+    alloc: Global,
+    frames: PMap<Name, ()>,
+    // Each binding under its variable and a number: 0 for the first of its variable, a new one for each further.
+    bindings: PMap<(Var, u64), Term>,
+    // The number of the next further binding.
+    next: u64,
+    ports: PMap<Name, Term>,
+}
+
+impl Model for Store {
+    ghost use Rattle.local_store.specs.Stored.{Stored};
+    ghost use Rattle.local_store.specs.Kept.{value_of, IsKept};
+
+    ghost Value = { Stored };
+
+    ghost view = { λ s. value_of s.frames s.bindings s.ports };
+
+    ghost invariant = { λ s. IsKept s.bindings s.next };
+}
+
+impl Store {
+    /// A store that has nothing. It takes no memory.
+    pub fn new(alloc: Global) -> Store
+        ensures { result ≡ nothing }
+    {
+        Store {
+            alloc,
+            frames: PMap::new(alloc),
+            bindings: PMap::new(alloc),
+            next: 1,
+            ports: PMap::new(alloc),
+        }
+    }
+
+    /// An equal store, in constant time. Want of memory comes only where a count of holders is full.
+    pub fn share(&self) -> Result<Store, AllocError>
+        ensures { IfOk result (λ s. s ≡ self.now) }
+    {
+        Ok(Store {
+            alloc: self.alloc,
+            frames: self.frames.share()?,
+            bindings: self.bindings.share()?,
+            next: self.next,
+            ports: self.ports.share()?,
+        })
+    }
+
+    /// Also has the frame. An `Err`, for want of memory, leaves the store as it was.
+    pub fn add_frame(&mut self, frame: Name) -> Result<(), AllocError>
+        ensures added { IfOk result (λ _. self.new ≡ with_frame self.old frame) }
+        ensures unchanged { IfErr result (λ _. self.new ≡ self.old) }
+    {
+        self.frames.insert(frame, ())
+    }
+
+    /// Also has the port; one that is there takes the new tail. An `Err`, for want of memory, leaves the store as it
+    /// was.
+    pub fn set_port(&mut self, port: Name, tail: Term) -> Result<(), AllocError>
+        ensures set { IfOk result (λ _. self.new ≡ with_port self.old port tail) }
+        ensures unchanged { IfErr result (λ _. self.new ≡ self.old) }
+    {
+        self.ports.insert(port, tail)
+    }
+
+    /// Also has the binding, after those that the variable has. None is replaced: all of them are equations of the
+    /// store. An `Err`, for want of memory, leaves the store as it was.
+    pub fn add_binding(&mut self, variable: Var, term: Term) -> Result<(), AllocError>
+        ensures added { IfOk result (λ _. self.new ≡ with_binding self.old variable term) }
+        ensures unchanged { IfErr result (λ _. self.new ≡ self.old) }
+    {
+        if self.first_binding(variable).is_none() {
+            self.bindings.insert((variable, 0), term)?;
+            return Ok(());
+        }
+        let number = self.next;
+        let next = after(number)?;
+        self.bindings.insert((variable, number), term)?;
+        self.next = next;
+        Ok(())
+    }
+
+    /// The store that also has the frame.
+    pub fn with_frame(&self, frame: Name) -> Result<Store, AllocError>
+        ensures { IfOk result (λ s. s ≡ with_frame self.now frame) }
+    {
+        let mut store = self.share()?;
+        store.add_frame(frame)?;
+        Ok(store)
+    }
+
+    /// The store that also has the port; one that is there takes the new tail.
+    pub fn with_port(&self, port: Name, tail: Term) -> Result<Store, AllocError>
+        ensures { IfOk result (λ s. s ≡ with_port self.now port tail) }
+    {
+        let mut store = self.share()?;
+        store.set_port(port, tail)?;
+        Ok(store)
+    }
+
+    /// The store that also has the binding, after those that the variable has. None is replaced.
+    pub fn with_binding(&self, variable: Var, term: Term) -> Result<Store, AllocError>
+        ensures { IfOk result (λ s. s ≡ with_binding self.now variable term) }
+    {
+        let mut store = self.share()?;
+        store.add_binding(variable, term)?;
+        Ok(store)
+    }
+
+    /// The store that also has these bindings, added one after another.
+    pub(crate) fn with_all(&self, bindings: &[(Var, Term)]) -> Result<Store, AllocError>
+        ensures { IfOk result (λ s. s ≡ with_bindings self.now bindings.now) }
+    {
+        let mut store = self.share()?;
+        for binding in bindings {
+            store.add_binding(binding.0, binding.1)?;
+        }
+        Ok(store)
+    }
+
+    /// The frames and ports alone.
+    pub(crate) fn without_bindings(&self) -> Result<Store, AllocError>
+        ensures { IfOk result (λ s. s ≡ unbound self.now) }
+    {
+        Ok(Store {
+            alloc: self.alloc,
+            frames: self.frames.share()?,
+            bindings: PMap::new(self.alloc),
+            next: 1,
+            ports: self.ports.share()?,
+        })
+    }
+
+    /// Whether the store has the frame.
+    pub fn has_frame(&self, frame: Name) -> bool
+        ensures { result ≡ is_named self.now.frames frame }
+    {
+        self.frames.get(&frame).copied().is_some()
+    }
+
+    /// What the first binding of the variable binds it to; `None` exactly where it has no binding.
+    pub fn first_binding(&self, variable: Var) -> Option<Term>
+        ensures { result ≡ found_in self.now.bindings variable }
+    {
+        self.bindings.get(&(variable, 0)).copied()
+    }
+
+    /// The tail of the port; `None` exactly where the store has no such port.
+    pub fn port_tail(&self, port: Name) -> Option<Term>
+        ensures { result ≡ lookup (same_name port) self.now.ports }
+    {
+        self.ports.get(&port).copied()
+    }
+
+    /// The frames, in increasing order of names.
+    pub fn frames(&self) -> Result<Vec<Name>, AllocError>
+        ensures { IfOk result (λ list. list.items ≡ self.now.frames) }
+    {
+        let mut list = Vec::new(self.alloc);
+        for (frame, _) in self.frames.walk() {
+            list.push(*frame)?;
+        }
+        Ok(list)
+    }
+
+    /// The bindings in increasing order of variables, those of one variable in the order in which they were added.
+    pub fn bindings(&self) -> Result<Vec<(Var, Term)>, AllocError>
+        ensures { IfOk result (λ list. list.items ≡ self.now.bindings) }
+    {
+        let mut list = Vec::new(self.alloc);
+        for (key, term) in self.bindings.walk() {
+            list.push((key.0, *term))?;
+        }
+        Ok(list)
+    }
+
+    /// The ports with their tails, in increasing order of names.
+    pub fn ports(&self) -> Result<Vec<(Name, Term)>, AllocError>
+        ensures { IfOk result (λ list. list.items ≡ self.now.ports) }
+    {
+        let mut list = Vec::new(self.alloc);
+        for (port, tail) in self.ports.walk() {
+            list.push((*port, *tail))?;
+        }
+        Ok(list)
+    }
+}
+
+// The number after this one. No memory holds as many bindings as there are numbers.
+fn after(number: u64) -> Result<u64, AllocError>
+    ensures { IfOk result (λ next. next ≡ number + 1) }
+{
+    number.checked_add(1).ok_or(AllocError)
+}
