@@ -1,0 +1,110 @@
+//! What the stores of a chain from a depth on tell the variables from outside of them.
+ghost use Rattle.std.specs.Prelude.{◌≡◌, ◌≤◌, IfOk, length};
+ghost use Rattle.rational_unify.specs.Known.{IsSolved};
+ghost use Rattle.entail_test.specs.Asked.{Reads, KeepsApartAt, AreCandidates, frames_from, named_in, AnswersOver};
+
+use crate::reading::touched;
+use akl_terms::{Name, Templates, Term, Var};
+use local_store::{Chain, Shared, Store, take_stores};
+use rational_unify::{AddedBindings, Form, Lookup, variable_end};
+use std::alloc::{AllocError, Global};
+
+/// What is told to the variables from outside.
+#[derive(Drop)]
+pub enum Outside {
+    /// One variable of each class that the stores from the depth on make structured, or equal to
+    /// another class.
+    Touched(Vec<Var>),
+    /// All together is inconsistent: two terms of different heads are made equal.
+    Clash { left: Term, right: Term },
+}
+
+/// What the stores from a depth on tell the variables from outside of them.
+///
+/// It solves the bindings of these stores over a solved form of those before them, and reads the
+/// answer from the bindings that this adds.
+pub fn outside_of(alloc: Global, chain: &Chain, depth: usize) -> Result<Outside, AllocError>
+    requires { depth ≤ length chain.now.stores }
+    ensures { IfOk result (λ answer. KeepsApartAt chain.now.nodes chain.now.stores depth → Reads chain.now.nodes chain.now.stores depth answer) }
+{
+    let templates = chain.templates();
+    let environment = chain.outer(depth);
+    let known = environment.known();
+    let base = environment.outer(known);
+    let mut form = Form {
+        known: &base,
+        added: AddedBindings::new(alloc),
+    };
+    match take_stores(alloc, templates, &mut form, &environment.stores()[known..])? {
+        Some(clash) => Ok(Outside::Clash {
+            left: clash.left,
+            right: clash.right,
+        }),
+        None => told_by(alloc, templates, &form, &chain.stores()[depth..]),
+    }
+}
+
+// What inner stores tell over a solved form of the others.
+fn told_by<K: Lookup>(
+    alloc: Global,
+    templates: &Templates,
+    known: &K,
+    inner: &[Shared<Store>],
+) -> Result<Outside, AllocError>
+    requires { IsSolved templates.now.nodes (K.bindings known.now) }
+    ensures { IfOk result (λ answer. AnswersOver templates.now.nodes (K.bindings known.now) inner.now answer) }
+{
+    let mut whole = Form {
+        known,
+        added: AddedBindings::new(alloc),
+    };
+    match take_stores(alloc, templates, &mut whole, inner)? {
+        Some(clash) => Ok(Outside::Clash {
+            left: clash.left,
+            right: clash.right,
+        }),
+        None => {
+            let candidates = candidates_of(
+                alloc,
+                templates,
+                &whole,
+                whole.added.as_slice(),
+                inner,
+            )?;
+            let on = touched(alloc, templates, known, &whole, candidates.as_slice())?;
+            Ok(Outside::Touched(on))
+        }
+    }
+}
+
+// The candidates that the added bindings show.
+fn candidates_of<W: Lookup>(
+    alloc: Global,
+    templates: &Templates,
+    whole: &W,
+    added: &[(Var, Term)],
+    inner: &[Shared<Store>],
+) -> Result<Vec<Var>, AllocError>
+    requires { IsSolved templates.now.nodes (W.bindings whole.now) }
+    ensures { IfOk result (λ list. AreCandidates templates.now.nodes (W.bindings whole.now) (frames_from inner.now) added.now list.items) }
+{
+    let mut list = Vec::new(alloc);
+    for binding in added {
+        if !is_inner(inner, binding.0.frame) {
+            list.push(binding.0)?;
+            if let Some(end) = variable_end(templates, whole, binding.0) {
+                if !is_inner(inner, end.frame) {
+                    list.push(end)?;
+                }
+            }
+        }
+    }
+    Ok(list)
+}
+
+// Whether one of the stores has the frame.
+fn is_inner(inner: &[Shared<Store>], frame: Name) -> bool
+    ensures { result ≡ named_in inner.now frame }
+{
+    inner.iter().any(|store| store.get().has_frame(frame))
+}

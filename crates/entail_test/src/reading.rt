@@ -1,0 +1,120 @@
+//! What solved forms tell variables from outside.
+ghost use Rattle.std.specs.Prelude.{◌≡◌, IfOk, filter, map, not, ◌||◌, Some, is_some, cond};
+ghost use Rattle.std.specs.Option.{unwrap_or};
+ghost use Rattle.std.specs.Map.{lookup};
+ghost use Rattle.akl_terms.specs.Names.{same_var};
+ghost use Rattle.rational_unify.specs.Known.{IsSolved};
+ghost use Rattle.entail_test.specs.Classes.{AreClasses, AreEnds, is_noisy, noisy_end};
+
+use akl_terms::{Templates, Var};
+use rational_unify::{Lookup, variable_end};
+use std::alloc::{AllocError, Global};
+use std::collections::HashMap;
+
+/// A class of variables of the environment: one of its variables, and the variables at the ends
+/// of its chain in the environment and in the whole. `end` is `None` where another term is there.
+#[derive(Clone, Copy, Debug, PartialEq, Eq)]
+pub struct Class {
+    pub member: Var,
+    pub root: Var,
+    pub end: Option<Var>,
+}
+
+/// The candidates, one of each class that the whole makes structured, or equal to another class.
+pub fn touched<K: Lookup, W: Lookup>(
+    alloc: Global,
+    templates: &Templates,
+    known: &K,
+    whole: &W,
+    candidates: &[Var],
+) -> Result<Vec<Var>, AllocError>
+    requires known { IsSolved templates.now.nodes (K.bindings known.now) }
+    requires whole { IsSolved templates.now.nodes (W.bindings whole.now) }
+    ensures { IfOk result (λ on. (cs : _) × AreClasses templates.now.nodes (K.bindings known.now) (W.bindings whole.now) candidates.now cs
+        × (on.items ≡ map (λ c. c.member) (filter (λ c. is_noisy cs c) cs))) }
+{
+    let classes = classes_of(alloc, templates, known, whole, candidates)?;
+    let ends = ends_of(alloc, classes.as_slice())?;
+    noisy_members(alloc, classes.as_slice(), &ends)
+}
+
+// The classes of the candidates.
+fn classes_of<K: Lookup, W: Lookup>(
+    alloc: Global,
+    templates: &Templates,
+    known: &K,
+    whole: &W,
+    candidates: &[Var],
+) -> Result<Vec<Class>, AllocError>
+    requires known { IsSolved templates.now.nodes (K.bindings known.now) }
+    requires whole { IsSolved templates.now.nodes (W.bindings whole.now) }
+    ensures { IfOk result (λ classes. AreClasses templates.now.nodes (K.bindings known.now) (W.bindings whole.now) candidates.now classes.items) }
+{
+    let mut classes = Vec::new(alloc);
+    let mut roots = HashMap::new(alloc);
+    for member in candidates {
+        if let Some(root) = variable_end(templates, known, *member) {
+            if !meet(&mut roots, root)? {
+                classes.push(Class {
+                    member: *member,
+                    root,
+                    end: variable_end(templates, whole, *member),
+                })?;
+            }
+        }
+    }
+    Ok(classes)
+}
+
+// The variables in which classes end, and whether more than one class ends there.
+fn ends_of(alloc: Global, classes: &[Class]) -> Result<HashMap<Var, bool>, AllocError>
+    ensures { IfOk result (λ ends. AreEnds ends.entries classes.now) }
+{
+    let mut ends = HashMap::new(alloc);
+    for class in classes {
+        if let Some(end) = class.end {
+            meet(&mut ends, end)?;
+        }
+    }
+    Ok(ends)
+}
+
+// Meets a variable: whether it was met before.
+fn meet(met: &mut HashMap<Var, bool>, variable: Var) -> Result<bool, AllocError>
+    ensures before { IfOk result (λ again. again ≡ is_some (lookup (same_var variable) met.old.entries)) }
+    ensures met { IfOk result (λ again. (x : Var) → lookup (same_var x) met.new.entries ≡ cond (same_var variable x) (Some again) (lookup (same_var x) met.old.entries)) }
+{
+    let again = met.contains_key(&variable);
+    match met.insert(variable, again) {
+        Ok(_) => Ok(again),
+        Err(_) => Err(AllocError),
+    }
+}
+
+// The members of the classes that are noisy.
+fn noisy_members(
+    alloc: Global,
+    classes: &[Class],
+    ends: &HashMap<Var, bool>,
+) -> Result<Vec<Var>, AllocError>
+    requires { AreEnds ends.now.entries classes.now }
+    ensures { IfOk result (λ on. on.items ≡ map (λ c. c.member) (filter (λ c. is_noisy classes.now c) classes.now)) }
+{
+    let mut on = Vec::new(alloc);
+    for class in classes {
+        if is_noisy(ends, class.end) {
+            on.push(class.member)?;
+        }
+    }
+    Ok(on)
+}
+
+// Whether a class with this end is structured in the whole, or ends where another one does.
+fn is_noisy(ends: &HashMap<Var, bool>, end: Option<Var>) -> bool
+    ensures { (cs : _) → AreEnds ends.now.entries cs → result ≡ noisy_end cs end }
+{
+    match end {
+        None => true,
+        Some(end) => ends.get(&end).copied().unwrap_or(false),
+    }
+}
