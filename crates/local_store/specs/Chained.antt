@@ -11,9 +11,10 @@ use Rattle.rational_unify.specs.Solving.{bindings_in}
 use Rattle.rational_unify.specs.Forms.{IsFormOf}
 use Rattle.local_store.specs.Stored.{Stored, nothing}
 
--- the nodes of the templates, the stores from the root box inwards, and how many of the outermost are known to be solved together
+-- the nodes and symbols of the templates, the stores from the root box inwards, and how many of the outermost are known to be solved together
 pub record Chained : Type 0 where
   pub nodes : List Node
+  pub symbols : List (List ℕ)
   pub stores : List Stored
   pub known : ℕ
 

@@ -5,14 +5,14 @@ use Rattle.local_store.proofs.Resolved.{around-take, resolves, no-clash}
 use Rattle.local_store.proofs.asking.solved_store.Goals as goal
 
 pub take-requires : goal.take-requires
-take-requires c = rw (c.templates.ensures, c.new.ensures, c.outer-outer.ensures.stores, c.saturating_sub.ensures, c.stores-stores.ensures, around-take c.args.chain.now.stores, append-nil (bindings_from (around c.args.chain.now.stores)))
+take-requires c = rw (c.templates.ensures.nodes, c.new.ensures, c.outer-outer.ensures.stores, c.saturating_sub.ensures, c.stores-stores.ensures, around-take c.args.chain.now.stores, append-nil (bindings_from (around c.args.chain.now.stores)))
     c.requires.around.solved
 
 pub returns-in-Some : goal.returns-in-Some
 returns-in-Some c = absurd (no-clash c.args.chain.now.nodes c.args.chain.now.stores c.requires.around c.in-Some.field-0.left c.in-Some.field-0.right c.requires.consistent
     (rw (
       c.in-Some.is,
-      c.templates.ensures,
+      c.templates.ensures.nodes,
       c.new.ensures,
       c.outer-outer.ensures.stores,
       c.saturating_sub.ensures,
@@ -27,7 +27,7 @@ pub returns : goal.returns
 returns c =
     let t = rw (
       c.in-None.is,
-      c.templates.ensures,
+      c.templates.ensures.nodes,
       c.new.ensures,
       c.outer-outer.ensures.stores,
       c.saturating_sub.ensures,

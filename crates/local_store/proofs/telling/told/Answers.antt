@@ -12,12 +12,12 @@ pub returns-then-known-stores : goal.returns-then-known-stores
 returns-then-known-stores c = IfOk-weaker c.tell.result _ _
     (λ z h. tells-adds c.args.chain.now.nodes c.args.chain.now.stores c.args.chain.now.known (bindings_from c.args.chain.now.stores) c.args.equations.now z
     (whole-known c.args.chain.now.nodes c.args.chain.now.stores c.known-known.result c.known-known.ensures.solved (c.if-known-stores.true ∙ ap length c.stores-stores.ensures)) (λ e. refl) h)
-    (rw (c.templates-templates.ensures, c.in_ok-store.ensures, c.stores-stores.ensures) at c.tell.ensures)
+    (rw (c.templates-templates.ensures.nodes, c.in_ok-store.ensures, c.stores-stores.ensures) at c.tell.ensures)
 
 pub returns-in-Some : goal.returns-in-Some
 returns-in-Some c =
     let part = c.known-known.ensures.solved.each c.known-known.result (omega arith) in
-    let t = rw (c.in-Some.is, c.new.ensures, c.templates-templates.ensures, c.outer-base.ensures.stores, c.stores-stores.ensures) at c.in_ok-clash.ensures.taken in
+    let t = rw (c.in-Some.is, c.new.ensures, c.templates-templates.ensures.nodes, c.outer-base.ensures.stores, c.stores-stores.ensures) at c.in_ok-clash.ensures.taken in
     IfOk-weaker c.clashing.result _ _
     (λ z h. tells-further-clash c.args.chain.now.nodes c.args.chain.now.stores c.args.chain.now.known c.known-known.result c.args.equations.now z part
     (λ e. c.if-known-stores.false (c.known-known.ensures.known ∙ sym e ∙ ap length (sym c.stores-stores.ensures))) c.in-Some.clash.left c.in-Some.clash.right t h) (rw (c.in_ok-store.ensures, c.stores-stores.ensures) at c.clashing.ensures)
@@ -25,8 +25,8 @@ returns-in-Some c =
 pub returns : goal.returns
 returns c =
     let part = c.known-known.ensures.solved.each c.known-known.result (omega arith) in
-    let t = rw (c.in-None.is, c.new.ensures, c.templates-templates.ensures, c.outer-base.ensures.stores, c.stores-stores.ensures) at c.in_ok-clash.ensures.taken in
+    let t = rw (c.in-None.is, c.new.ensures, c.templates-templates.ensures.nodes, c.outer-base.ensures.stores, c.stores-stores.ensures) at c.in_ok-clash.ensures.taken in
     IfOk-weaker c.tell-in-None.result _ _
     (λ z h. tells-further c.args.chain.now.nodes c.args.chain.now.stores c.args.chain.now.known c.known-known.result c.args.equations.now z part
     (λ e. c.if-known-stores.false (c.known-known.ensures.known ∙ sym e ∙ ap length (sym c.stores-stores.ensures))) c.take_stores.new.form.added t h)
-    (rw (c.templates-templates.ensures, c.in_ok-store.ensures, c.in_ok-clash.ensures.known, c.outer-base.ensures.stores, c.stores-stores.ensures) at c.tell-in-None.ensures)
+    (rw (c.templates-templates.ensures.nodes, c.in_ok-store.ensures, c.in_ok-clash.ensures.known, c.outer-base.ensures.stores, c.stores-stores.ensures) at c.tell-in-None.ensures)

@@ -1,0 +1,7 @@
+mod Comparing
+mod Expressing
+mod Forming
+mod Modulus
+mod Naming
+mod Paths
+mod Walks

@@ -1,0 +1,20 @@
+use Rattle.std.proofs.Common.{sym, FitsSigned, w64, rules}
+use Rattle.std.proofs.lemmas.Int.{to_z-of_z}
+use Rattle.std.proofs.lemmas.Result.{IfOk-weaker}
+use Rattle.akl_terms.specs.declared.term.Term.TheVariants.{Mol}
+use Rattle.akl_terms.specs.Template.{tree}
+use Rattle.akl_terms.specs.Arithmetic.{gives, right_of_is}
+use Rattle.arith_goals.proofs.Comparing.{is-stuck}
+use Rattle.arith_goals.proofs.goals.answer.Goals as goal
+
+pub returns-in-Is-2 : goal.returns-in-Is-2
+returns-in-Is-2 g c = λ E f.
+    let v : FitsSigned w64 c.in-Is-2.value = search rules in
+    rw (c.in-Arith.is, c.in-Is.is, to_z-of_z w64 c.in-Is-2.value v) (gives ((rw c.in-Is-2.is at c.in_ok-value-in-Is.ensures) E f))
+
+pub returns-in-Waits : goal.returns-in-Waits
+returns-in-Waits g c = λ E f. rw (c.in-Arith.is, c.in-Is.is) (right_of_is ((rw c.in-Waits.is at c.in_ok-value-in-Is.ensures) E f))
+
+pub returns-in-Never : goal.returns-in-Never
+returns-in-Never g c = λ E f. rw (c.in-Arith.is, c.in-Is.is) (is-stuck c.args.templates.now.symbols E (tree c.args.templates.now.nodes (Mol c.in-Arith.left c.args.goal.frame))
+    (tree c.args.templates.now.nodes (Mol c.in-Arith.right c.args.goal.frame)) ((rw c.in-Never.is at c.in_ok-value-in-Is.ensures) E f))

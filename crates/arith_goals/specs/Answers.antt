@@ -1,0 +1,57 @@
+-- What is answered of expressions and of arithmetic goals.
+use Rattle.std.specs.Prelude.{ℕ, ℤ, List, true, false}
+use Rattle.akl_terms.specs.declared.name.Var.{Var}
+use Rattle.akl_terms.specs.declared.program.Code.{Code}
+use Rattle.akl_terms.specs.declared.program.Goal.{Goal}
+use Rattle.akl_terms.specs.declared.program.Test.{Test}
+use Rattle.akl_terms.specs.declared.term.Term.TheVariants.{Mol}
+use Rattle.akl_terms.specs.Tree.{Tree}
+use Rattle.akl_terms.specs.Equal.{Equations}
+use Rattle.akl_terms.specs.Template.{Template, tree}
+use Rattle.akl_terms.specs.Arithmetic.{HasValue, WaitsOn, Answer, value, truth, Evaluates, GoalWaitsOn}
+use Rattle.rational_unify.specs.Solving.{bindings_in}
+use Rattle.local_store.specs.Chained.{Chained, bindings_from}
+use Rattle.arith_goals.specs.declared.walk.Walked.{Walked}
+use Rattle.arith_goals.specs.declared.walk.Walked.TheVariants as walked
+use Rattle.arith_goals.specs.declared.goals.ArithValue.{ArithValue}
+use Rattle.arith_goals.specs.declared.goals.ArithValue.TheVariants.{Is, Holds, Fails, Waits, Never}
+
+-- no value, and nothing to wait on
+pub record IsStuck (symbols : List (List ℕ)) (E : Equations) (t : Tree) : Type 0 where
+  pub no_value : (z : ℤ) → HasValue symbols E t z → ⊥
+  pub no_wait : (x : Var) → WaitsOn symbols E t x → ⊥
+
+-- what an expression comes to
+abbrev pub Comes : List (List ℕ) → Equations → Tree → Walked → Type 0
+Comes symbols E t (walked.Is z) = HasValue symbols E t z
+Comes symbols E t (walked.Waits x) = WaitsOn symbols E t x
+Comes symbols E t walked.Never = IsStuck symbols E t
+
+-- no answer, and nothing to wait on
+pub record IsGoalStuck (symbols : List (List ℕ)) (E : Equations) (test : Test) (l r : Tree) : Type 0 where
+  pub no_answer : (a : Answer) → Evaluates symbols E test l r a → ⊥
+  pub no_wait : (x : Var) → GoalWaitsOn symbols E test l r x → ⊥
+
+-- what a goal of two terms comes to
+abbrev pub ComesTo : List (List ℕ) → Equations → Test → Tree → Tree → ArithValue → Type 0
+ComesTo symbols E test l r (Is z) = Evaluates symbols E test l r (value z)
+ComesTo symbols E test l r Holds = Evaluates symbols E test l r (truth true)
+ComesTo symbols E test l r Fails = Evaluates symbols E test l r (truth false)
+ComesTo symbols E test l r (Waits x) = GoalWaitsOn symbols E test l r x
+ComesTo symbols E test l r Never = IsGoalStuck symbols E test l r
+
+abbrev pub IsArithmetic : Code → Type 0
+IsArithmetic (Code.Arith test l r) = Unit {0}
+IsArithmetic code = ⊥
+
+-- what an arithmetic goal comes to
+abbrev pub Answers : Template → Equations → Goal → ArithValue → Type 0
+Answers t E goal answer = at goal.code
+  where
+    at : Code → Type 0
+    at (Code.Arith test l r) = ComesTo t.symbols E test (tree t.nodes (Mol l goal.frame)) (tree t.nodes (Mol r goal.frame)) answer
+    at code = ⊥
+
+-- what it comes to under the equations that a chain's stores tell
+abbrev pub AnswersIn : Chained → Goal → ArithValue → Type 0
+AnswersIn chain goal answer = Answers (record { nodes = chain.nodes; symbols = chain.symbols }) (bindings_in chain.nodes (bindings_from chain.stores)) goal answer

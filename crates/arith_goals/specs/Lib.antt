@@ -1,0 +1,4 @@
+pub mod Operations
+pub mod Expressions
+pub mod Walking
+pub mod Answers

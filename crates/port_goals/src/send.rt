@@ -1,0 +1,57 @@
+//! Where the port of a send is.
+
+ghost use Rattle.std.specs.Prelude.{◌≡◌, is_some};
+ghost use Rattle.std.specs.Map.{lookup};
+ghost use Rattle.akl_terms.specs.Names.{same_name};
+ghost use Rattle.local_store.specs.Chained.{IsSolvedChain, innermost};
+ghost use Rattle.port_goals.specs.Sends.{IsSend, IsStateOf};
+
+use akl_terms::{Code, Goal, Name, Seen, Term, Var};
+use local_store::Chain;
+use rational_unify::chain_end;
+
+/// What the port operand of a send is under the equations of a chain.
+#[derive(Clone, Copy, Debug, PartialEq, Eq)]
+pub enum SendState {
+    /// A port of the innermost box.
+    Owned(Name),
+    /// A port of another box.
+    Elsewhere(Name),
+    /// No term with a head; the variable stands for its class.
+    Waits { on: Var },
+    /// A term with a head that is no port.
+    NoPort,
+}
+
+/// What the port operand of a send is under the equations that a chain's stores tell. It takes no
+/// memory.
+pub fn sendable(chain: &Chain, goal: Goal) -> SendState
+    requires solved { IsSolvedChain chain.now.nodes chain.now.stores }
+    requires send { IsSend goal.code }
+    ensures { IsStateOf chain.now.nodes chain.now.stores goal result }
+{
+    let Code::Send { message: _, port } = goal.code else {
+        return SendState::NoPort;
+    };
+    let templates = chain.templates();
+    let operand = Term::Mol {
+        node: port,
+        frame: goal.frame,
+    };
+    match templates.look(chain_end(templates, chain, operand)) {
+        Seen::Free(on) => SendState::Waits { on },
+        Seen::Port(port) if is_owned(chain, port) => SendState::Owned(port),
+        Seen::Port(port) => SendState::Elsewhere(port),
+        _ => SendState::NoPort,
+    }
+}
+
+/// Whether the innermost store has the port.
+fn is_owned(chain: &Chain, port: Name) -> bool
+    ensures { result ≡ is_some (lookup (same_name port) (innermost chain.now.stores).ports) }
+{
+    match chain.stores().last() {
+        Some(store) => store.get().port_tail(port).is_some(),
+        None => false,
+    }
+}
