@@ -9,7 +9,7 @@ use crate::chain::Chain;
 use crate::shared::Shared;
 use crate::store::Store;
 use akl_terms::{Equation, Name, Templates, Term, Var};
-use rational_unify::{AddedBindings, Form, Lookup, Solved, solve};
+use rational_unify::{AddedBindings, Form, Lookup, Solution, Solved, solve};
 use std::alloc::{AllocError, Global};
 
 /// The innermost store, with the equations told.
@@ -68,7 +68,11 @@ fn tell<K: Lookup>(
     requires { IsSolved templates.now.nodes (K.bindings known.now) }
     ensures { IfOk result (λ s. Adds templates.now.nodes (K.bindings known.now) equations.now store.now s) }
 {
-    match solve(alloc, templates, known, equations)? {
+    let Solution {
+        solved,
+        followed: _,
+    } = solve(alloc, templates, known, equations)?;
+    match solved {
         Solved::Clash { left, right } => clashing(store, left, right),
         Solved::Added(added) => store.with_all(added.as_slice()),
     }
