@@ -6,7 +6,7 @@ use Rattle.akl_terms.specs.Tree.{Tree}
 use Rattle.akl_terms.specs.Equal.{Equations, same, IsConsistent}
 use Rattle.akl_terms.specs.Arithmetic.{HasValue, WaitsOn, Answer, Evaluates, gives, compared, compares, GoalWaitsOn, right_of_is, left_side, right_side}
 use Rattle.arith_goals.specs.Answers.{IsStuck, IsGoalStuck}
-use Rattle.arith_goals.proofs.Expressing.{value_waits}
+use Rattle.constraint_laws.proofs.WaitsOne.{value_waits}
 
 module _ (symbols : List (List ℕ)) (E : Equations) (l r : Tree) where
   pub is-stuck : IsStuck symbols E r → IsGoalStuck symbols E Test.Is l r

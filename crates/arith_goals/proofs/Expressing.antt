@@ -6,10 +6,9 @@ use Rattle.akl_terms.specs.Tree.{Tree, variable, integer, Head, integer_head, sy
 use Rattle.akl_terms.specs.Equal.{Equations, Equal, same, turned, joined, inside, IsConsistent, IsStructured}
 use Rattle.akl_terms.specs.Arithmetic.{Operation, calculated, operation_of, value_of, binary, HasValue, number, operation, WaitsOn, here, in_left, in_right}
 use Rattle.constraint_laws.proofs.Values.{HasValue-along, HasValue-one}
+use Rattle.akl_terms.proofs.Arguments.{same_value}
+use Rattle.constraint_laws.proofs.WaitsOne.{one_symbol, left_of, right_of, value_waits}
 use Rattle.arith_goals.specs.Answers.{IsStuck}
-
-pub same_value : {A : Type 0} {o : Option A} {x y : A} → o ≡ Some x → o ≡ Some y → x ≡ y
-same_value e k = let h : Some _ ≡ Some _ = sym e ∙ k in cc
 
 unfolding_value : (symbols : List (List ℕ)) (f : ℕ) (o : Operation) (x y : ℤ) → operation_of symbols f ≡ Some o → value_of symbols f x y ≡ calculated o x y
 unfolding value_of
@@ -25,28 +24,6 @@ unfolding_operation symbols f x y z e = on (operation_of symbols f) refl e
     on (Some o) q e = (o, q)
 
 module _ (symbols : List (List ℕ)) (E : Equations) (c : IsConsistent E) where
-  one_symbol : (a b x y : Tree) (f g : ℕ) → Equal E (binary f a b) (binary g x y) → f ≡ g
-  one_symbol a b x y f g e = let h : symbol_head f 2 ≡ symbol_head g 2 = c.heads e refl refl in cc
-
-  pub left_of : (a b x y : Tree) (f g : ℕ) → Equal E (binary f a b) (binary g x y) → Equal E a x
-  left_of a b x y f g e =
-      let q : f ≡ g = one_symbol a b x y f g e in
-      inside {h = symbol_head f 2} 0 (subst (λ (n : ℕ). Equal E (binary f a b) (binary n x y)) (sym q) e) refl refl refl refl
-
-  pub right_of : (a b x y : Tree) (f g : ℕ) → Equal E (binary f a b) (binary g x y) → Equal E b y
-  right_of a b x y f g e =
-      let q : f ≡ g = one_symbol a b x y f g e in
-      inside {h = symbol_head f 2} 1 (subst (λ (n : ℕ). Equal E (binary f a b) (binary n x y)) (sym q) e) refl refl refl refl
-
-  -- what has a value waits on nothing
-  pub value_waits : {t s : Tree} {z : ℤ} {x : Var} → HasValue symbols E t z → Equal E t s → WaitsOn symbols E s x → ⊥
-  value_waits (number {z = z} e) q (here k n) = n (integer z, integer_head z, joined (turned k) (joined (turned q) e), refl)
-  value_waits (number {z = z} e) q (in_left {f = f} k o w) = let h : integer_head z ≡ symbol_head f 2 = c.heads (joined (turned e) (joined q k)) refl refl in cc
-  value_waits (number {z = z} e) q (in_right {f = f} k o v w) = let h : integer_head z ≡ symbol_head f 2 = c.heads (joined (turned e) (joined q k)) refl refl in cc
-  value_waits (operation {a = a} {b = b} {f = f} e u v o) q (here k n) = n (binary f a b, symbol_head f 2, joined (turned k) (joined (turned q) e), refl)
-  value_waits (operation {a = a} {b = b} {f = f} e u v o) q (in_left {a = x} {b = y} {f = g} k i w) = value_waits u (left_of a b x y f g (joined (turned e) (joined q k))) w
-  value_waits (operation {a = a} {b = b} {f = f} e u v o) q (in_right {a = x} {b = y} {f = g} k i h w) = value_waits v (right_of a b x y f g (joined (turned e) (joined q k))) w
-
   pub WaitsOn-along : {s t : Tree} {x : Var} → Equal E s t → WaitsOn symbols E t x → WaitsOn symbols E s x
   WaitsOn-along e (here f n) = here (joined e f) n
   WaitsOn-along e (in_left f o w) = in_left (joined e f) o w
@@ -78,12 +55,12 @@ module _ (symbols : List (List ℕ)) (E : Equations) (c : IsConsistent E) where
       where
         no_value : (z : ℤ) → HasValue symbols E t z → ⊥
         no_value z (number k) = let h : symbol_head f 2 ≡ integer_head z = c.heads (joined (turned q) k) refl refl in cc
-        no_value z (operation {a = m} {b = n} {f = g} {x = x} k u v w) = s.no_value x (HasValue-along (left_of a b m n f g (joined (turned q) k)) u)
+        no_value z (operation {a = m} {b = n} {f = g} {x = x} k u v w) = s.no_value x (HasValue-along (left_of symbols E c a b m n f g (joined (turned q) k)) u)
 
         no_wait : (x : Var) → WaitsOn symbols E t x → ⊥
         no_wait x (here k n) = n (binary f a b, symbol_head f 2, joined (turned k) q, refl)
-        no_wait x (in_left {a = m} {b = n} {f = g} k j w) = s.no_wait x (WaitsOn-along (left_of a b m n f g (joined (turned q) k)) w)
-        no_wait x (in_right {a = m} {b = n} {f = g} {v = y} k j v w) = s.no_value y (HasValue-along (left_of a b m n f g (joined (turned q) k)) v)
+        no_wait x (in_left {a = m} {b = n} {f = g} k j w) = s.no_wait x (WaitsOn-along (left_of symbols E c a b m n f g (joined (turned q) k)) w)
+        no_wait x (in_right {a = m} {b = n} {f = g} {v = y} k j v w) = s.no_value y (HasValue-along (left_of symbols E c a b m n f g (joined (turned q) k)) v)
 
     -- the left operand has a value
     module _ (x : ℤ) (l : HasValue symbols E a x) where
@@ -92,12 +69,12 @@ module _ (symbols : List (List ℕ)) (E : Equations) (c : IsConsistent E) where
         where
           no_value : (z : ℤ) → HasValue symbols E t z → ⊥
           no_value z (number k) = let h : symbol_head f 2 ≡ integer_head z = c.heads (joined (turned q) k) refl refl in cc
-          no_value z (operation {a = m} {b = n} {f = g} {y = y} k u v w) = s.no_value y (HasValue-along (right_of a b m n f g (joined (turned q) k)) v)
+          no_value z (operation {a = m} {b = n} {f = g} {y = y} k u v w) = s.no_value y (HasValue-along (right_of symbols E c a b m n f g (joined (turned q) k)) v)
 
           no_wait : (y : Var) → WaitsOn symbols E t y → ⊥
           no_wait y (here k n) = n (binary f a b, symbol_head f 2, joined (turned k) q, refl)
-          no_wait y (in_left {a = m} {b = n} {f = g} k j w) = value_waits l (left_of a b m n f g (joined (turned q) k)) w
-          no_wait y (in_right {a = m} {b = n} {f = g} k j v w) = s.no_wait y (WaitsOn-along (right_of a b m n f g (joined (turned q) k)) w)
+          no_wait y (in_left {a = m} {b = n} {f = g} k j w) = value_waits symbols E c l (left_of symbols E c a b m n f g (joined (turned q) k)) w
+          no_wait y (in_right {a = m} {b = n} {f = g} k j v w) = s.no_wait y (WaitsOn-along (right_of symbols E c a b m n f g (joined (turned q) k)) w)
 
       module _ (y : ℤ) (r : HasValue symbols E b y) where
         pub calculated-value : (z : ℤ) → calculated o x y ≡ Some z → HasValue symbols E t z
@@ -109,14 +86,14 @@ module _ (symbols : List (List ℕ)) (E : Equations) (c : IsConsistent E) where
             no_value : (z : ℤ) → HasValue symbols E t z → ⊥
             no_value z (number k) = let h : symbol_head f 2 ≡ integer_head z = c.heads (joined (turned q) k) refl refl in cc
             no_value z (operation {a = m} {b = n} {f = g} {x = x2} {y = y2} k u v w) =
-                let p : f ≡ g = one_symbol a b m n f g (joined (turned q) k) in
-                let px : x ≡ x2 = HasValue-one c l (HasValue-along (left_of a b m n f g (joined (turned q) k)) u) in
-                let py : y ≡ y2 = HasValue-one c r (HasValue-along (right_of a b m n f g (joined (turned q) k)) v) in
+                let p : f ≡ g = one_symbol symbols E c a b m n f g (joined (turned q) k) in
+                let px : x ≡ x2 = HasValue-one c l (HasValue-along (left_of symbols E c a b m n f g (joined (turned q) k)) u) in
+                let py : y ≡ y2 = HasValue-one c r (HasValue-along (right_of symbols E c a b m n f g (joined (turned q) k)) v) in
                 let d : value_of symbols f x y ≡ value_of symbols g x2 y2 = cc in
                 let n : None ≡ Some z = sym (unfolding_value symbols f o x y i ∙ e) ∙ d ∙ w in
                 cc
 
             no_wait : (k : Var) → WaitsOn symbols E t k → ⊥
             no_wait k (here d n) = n (binary f a b, symbol_head f 2, joined (turned d) q, refl)
-            no_wait k (in_left {a = m} {b = n} {f = g} d j w) = value_waits l (left_of a b m n f g (joined (turned q) d)) w
-            no_wait k (in_right {a = m} {b = n} {f = g} d j v w) = value_waits r (right_of a b m n f g (joined (turned q) d)) w
+            no_wait k (in_left {a = m} {b = n} {f = g} d j w) = value_waits symbols E c l (left_of symbols E c a b m n f g (joined (turned q) d)) w
+            no_wait k (in_right {a = m} {b = n} {f = g} d j v w) = value_waits symbols E c r (right_of symbols E c a b m n f g (joined (turned q) d)) w

@@ -6,7 +6,7 @@ use Rattle.akl_terms.specs.Equal.{Equations, Equal, same, turned, joined, IsCons
 use Rattle.akl_terms.specs.Arithmetic.{Operation, operation_of, binary, HasValue, number, operation, WaitsOn, here, in_left, in_right}
 use Rattle.constraint_laws.proofs.Values.{HasValue-along}
 use Rattle.arith_goals.specs.Answers.{IsStuck}
-use Rattle.arith_goals.proofs.Expressing.{left_of, right_of, value_waits}
+use Rattle.constraint_laws.proofs.WaitsOne.{left_of, right_of, value_waits}
 
 -- an operand that is walked in an expression: the left one, or the right one where the left one has a value
 pub data Operand (symbols : List (List ℕ)) (E : Equations) (t u : Tree) : Type 0 where

@@ -31,7 +31,8 @@ use Rattle.arith_goals.specs.Operations.{meaning}
 use Rattle.arith_goals.specs.Expressions.{tree_there, IsApplication, IsOther}
 use Rattle.arith_goals.specs.Walking.{same_place, or_ahead, progress_at, IsSame, Begins, known, inside_itself, begins, Enters, number, free, other, operation, Leaves, last, to_right, undefined, out, Turns}
 use Rattle.arith_goals.specs.Answers.{IsStuck, Comes}
-use Rattle.arith_goals.proofs.Expressing.{same_value, WaitsOn-along, other-stuck, left-stuck, right-stuck, calculated-value, undefined-stuck}
+use Rattle.akl_terms.proofs.Arguments.{same_value}
+use Rattle.arith_goals.proofs.Expressing.{WaitsOn-along, other-stuck, left-stuck, right-stuck, calculated-value, undefined-stuck}
 use Rattle.arith_goals.proofs.Paths.{Operand, to_left, to_right, Path, one, further, circle-stuck}
 use Rattle.akl_terms.specs.Arithmetic as arithmetic
 
