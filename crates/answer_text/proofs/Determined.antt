@@ -18,13 +18,13 @@ abbrev symbols_of : (E : Equations) → IsConsistent E → (s : Tree) (f g : ℕ
 symbols_of E c s f g ts us p q = one_symbol E c f g ts us (joined (turned p) q)
 
 -- two names of one symbol
-one_name : (symbols : List (List ℕ)) (f g : ℕ) (a b : List ℕ) → f ≡ g → slice_get symbols f ≡ Some a → slice_get symbols g ≡ Some b → a ≡ b
+pub one_name : (symbols : List (List ℕ)) (f g : ℕ) (a b : List ℕ) → f ≡ g → slice_get symbols f ≡ Some a → slice_get symbols g ≡ Some b → a ≡ b
 one_name symbols f g a b e p q = let h : Some a ≡ Some b = sym p ∙ ap (slice_get symbols) e ∙ q in cc
 
 -- the text of a class
 pub record IsClassText (E : Equations) (seen : List Tree) (s : Tree) (text : List ℕ) (new : List Tree) : Type 0 where
   pub place : ℕ
-  pub numbered : IsNumbered E seen s place new
+  pub numbered : IsNumbered (Equal E) seen s place new
   pub is : text ≡ class_text place
 
 -- the text of a symbol with these arguments
@@ -32,7 +32,7 @@ pub record IsCompoundText (symbols : List (List ℕ)) (E : Equations) (seen : Li
   pub arguments : List ℕ
   pub after : List Tree
   pub prints : PrintsAll symbols E seen ts arguments after
-  pub alike : Alike E new after
+  pub alike : Alike (Equal E) new after
   pub is : text ≡ symbol_text name ++ 40 ∷ arguments ++ 41 ∷ []
 
 -- the text of a list cell with this element and this rest, behind a byte
@@ -43,7 +43,7 @@ pub record IsCellText (symbols : List (List ℕ)) (E : Equations) (seen : List T
   pub after : List Tree
   pub prints : Prints symbols E seen a first between
   pub goes_on : PrintsTail symbols E between b rest after
-  pub alike : Alike E new after
+  pub alike : Alike (Equal E) new after
   pub is : text ≡ begin ∷ first ++ rest
 
 -- the text of a tail that is no list
@@ -99,7 +99,7 @@ module _ (symbols : List (List ℕ)) (E : Equations) (c : IsConsistent E) where
   compound-only seen new s text n name w ws is no_cell e (compound {t = u} {ts = ts} {f = g} {name = other} {text = x} q m k ps) =
       let o : IsOneSymbol E g n (more u ts) (more w ws) = symbols_of E c s g n (more u ts) (more w ws) q e in
       let d : other ≡ name = one_name symbols g n other name o.symbols m is in
-      let r : (new' : List Tree) × PrintsAll symbols E seen (more w ws) x new' × Alike E new new' = all-alike symbols E seen new seen (more u ts) (more w ws) x ps (Alike-refl E seen) o.arguments in
+      let r : (new' : List Tree) × PrintsAll symbols E seen (more w ws) x new' × Alike (Equal E) new new' = all-alike symbols E seen new seen (more u ts) (more w ws) x ps (Alike-refl E seen) o.arguments in
       record { arguments = x; after = r.0; prints = r.1; alike = r.2; is = ap (λ (y : List ℕ). symbol_text y ++ 40 ∷ x ++ 41 ∷ []) d }
 
   pub cell-only : (seen new : List Tree) (s : Tree) (text : List ℕ) → (n : ℕ) (a b : Tree) → slice_get symbols n ≡ Some (codes ".") → Equal E s (symbol n (more a (more b none))) → Prints symbols E seen s text new → IsCellText symbols E seen 91 a b text new
@@ -114,8 +114,8 @@ module _ (symbols : List (List ℕ)) (E : Equations) (c : IsConsistent E) where
       let y : true ≡ false = sym (x ∙ ap (λ (z : List ℕ). bytes_eq z (codes ".")) w) ∙ k in absurd cc
   cell-only seen new s text n a b is e (cell {middle = middle} {t = u} {u = v} {f = g} {first = x} {rest = y} q m ps z) =
       let o : IsOneSymbol E g n (more u (more v none)) (more a (more b none)) = symbols_of E c s g n (more u (more v none)) (more a (more b none)) q e in
-      let l : (new' : List Tree) × Prints symbols E seen a x new' × Alike E middle new' = prints-alike symbols E seen middle seen u a x ps (Alike-refl E seen) o.arguments.0 in
-      let r : (new' : List Tree) × PrintsTail symbols E l.0 b y new' × Alike E new new' = tail-alike symbols E middle new l.0 v b y z l.2 o.arguments.1.0 in
+      let l : (new' : List Tree) × Prints symbols E seen a x new' × Alike (Equal E) middle new' = prints-alike symbols E seen middle seen u a x ps (Alike-refl E seen) o.arguments.0 in
+      let r : (new' : List Tree) × PrintsTail symbols E l.0 b y new' × Alike (Equal E) new new' = tail-alike symbols E middle new l.0 v b y z l.2 o.arguments.1.0 in
       record { first = x; rest = y; between = l.0; after = r.0; prints = l.1; goes_on = r.1; alike = r.2; is = refl }
 
   pub end-only : (seen new : List Tree) (s : Tree) (text : List ℕ) → (n : ℕ) → slice_get symbols n ≡ Some (codes "[]") → Equal E s (symbol n none) → PrintsTail symbols E seen s text new → (text ≡ 93 ∷ []) × (new ≡ seen)
@@ -128,8 +128,8 @@ module _ (symbols : List (List ℕ)) (E : Equations) (c : IsConsistent E) where
   element-only seen new s text n a b is e (partial o ps) = absurd (o.other n (more a (more b none)) e is)
   element-only seen new s text n a b is e (element {middle = middle} {t = u} {u = v} {f = g} {first = x} {rest = y} q m ps z) =
       let o : IsOneSymbol E g n (more u (more v none)) (more a (more b none)) = symbols_of E c s g n (more u (more v none)) (more a (more b none)) q e in
-      let l : (new' : List Tree) × Prints symbols E seen a x new' × Alike E middle new' = prints-alike symbols E seen middle seen u a x ps (Alike-refl E seen) o.arguments.0 in
-      let r : (new' : List Tree) × PrintsTail symbols E l.0 b y new' × Alike E new new' = tail-alike symbols E middle new l.0 v b y z l.2 o.arguments.1.0 in
+      let l : (new' : List Tree) × Prints symbols E seen a x new' × Alike (Equal E) middle new' = prints-alike symbols E seen middle seen u a x ps (Alike-refl E seen) o.arguments.0 in
+      let r : (new' : List Tree) × PrintsTail symbols E l.0 b y new' × Alike (Equal E) new new' = tail-alike symbols E middle new l.0 v b y z l.2 o.arguments.1.0 in
       record { first = x; rest = y; between = l.0; after = r.0; prints = l.1; goes_on = r.1; alike = r.2; is = refl }
 
   pub partial-only : (seen new : List Tree) (s : Tree) (text : List ℕ) → IsOtherTail symbols E s → PrintsTail symbols E seen s text new → IsPartialText symbols E seen s text new

@@ -1,10 +1,15 @@
 pub mod ClassNumbers
 pub mod Respects
 pub mod Determined
-pub mod OneText
 pub mod Shorts
 pub mod Turns
 pub mod Symbols
 pub mod Goes
 pub mod Growing
 pub mod Whole
+pub mod SameTrees
+pub mod OneAnswer
+pub mod GraphTrees
+pub mod AnswerThere
+pub mod WrittenOut
+pub mod CycleExamples

@@ -6,7 +6,7 @@ use Rattle.akl_terms.specs.declared.name.Name.{Name}
 use Rattle.akl_terms.specs.declared.name.Var.{Var}
 use Rattle.akl_terms.specs.declared.term.Term.{Term}
 use Rattle.akl_terms.specs.Tree.{Tree, variable, integer, port, symbol, none}
-use Rattle.akl_terms.specs.Equal.{Equations, Equal, IsConsistent}
+use Rattle.akl_terms.specs.Equal.{Equations, Equal, same, turned, joined, IsConsistent}
 use Rattle.akl_terms.specs.Template.{Template, tree}
 use Rattle.answer_text.specs.SymbolText.{constant_text}
 use Rattle.answer_text.specs.Printed.{class_text, IsFree, IsNumbered, first, here, later, Prints, class, number, a_port, constant}
@@ -15,17 +15,17 @@ use Rattle.akl_terms.specs.Names.{same_var}
 use Rattle.answer_text.specs.Pieces.{State, Rest, byte, whole, trees_of, Continues, AreEnds, class_number, with_class, with_bytes, class_printed}
 use Rattle.answer_text.specs.declared.piece.Piece.TheVariants.{Byte, Whole}
 use Rattle.akl_terms.proofs.SameNames.{same_var-equal, same_var-refl}
-use Rattle.answer_text.proofs.Respects.{Alike, numbered-one, rest-alike}
+use Rattle.answer_text.proofs.Respects.{Alike, Alike-refl, numbered-one, rest-alike}
 use Rattle.answer_text.proofs.Determined.{IsClassText, class-only, integer-only, port-only, constant-only}
 
 -- the number of a class whose terms go to a variable
 pub numbered-by : (E : Equations) (go : Tree → Tree) → Represents E go → (seen : List Var) (s : Tree) (x : Var) → AreEnds go seen → go s ≡ variable x
-    → IsNumbered E (trees_of seen) s (class_number seen x) (trees_of (with_class seen x))
+    → IsNumbered (Equal E) (trees_of seen) s (class_number seen x) (trees_of (with_class seen x))
 numbered-by E go r [] s x a e = first (subst (λ (t : Tree). Equal E s t) e (r.equal s))
 numbered-by E go r (y ∷ ys) s x a e = on (same_var y x) refl (numbered-by E go r ys s x a.1 e)
   where
-    on : (b : Bool) → same_var y x ≡ b → IsNumbered E (trees_of ys) s (class_number ys x) (trees_of (with_class ys x))
-        → IsNumbered E (variable y ∷ trees_of ys) s (cond b 0 (suc (class_number ys x))) (trees_of (cond b (y ∷ ys) (y ∷ with_class ys x)))
+    on : (b : Bool) → same_var y x ≡ b → IsNumbered (Equal E) (trees_of ys) s (class_number ys x) (trees_of (with_class ys x))
+        → IsNumbered (Equal E) (variable y ∷ trees_of ys) s (cond b 0 (suc (class_number ys x))) (trees_of (cond b (y ∷ ys) (y ∷ with_class ys x)))
     on true q n = here (subst (λ (t : Tree). Equal E s t) (e ∙ ap (λ (z : Var). variable z) (sym (same_var-equal y x q))) (r.equal s))
     on false q n = later (λ p.
         let o : x ≡ y = r.one s (variable y) x y e a.0 p in
@@ -45,7 +45,7 @@ pub class-goes : (t : Template) (E : Equations) (go : Tree → Tree) → Represe
     → Continues t E (record s { pieces = Whole term ∷ s.pieces }) (class_printed x s)
 class-goes t E go r s term x a e = record { added = class_text (class_number s.seen x); out = refl; to = to; from = from }
   where
-    n : IsNumbered E (trees_of s.seen) (tree t.nodes term) (class_number s.seen x) (trees_of (with_class s.seen x))
+    n : IsNumbered (Equal E) (trees_of s.seen) (tree t.nodes term) (class_number s.seen x) (trees_of (with_class s.seen x))
     n = numbered-by E go r s.seen (tree t.nodes term) x a e
 
     f : IsFree E (tree t.nodes term)
@@ -58,7 +58,7 @@ class-goes t E go r s term x a e = record { added = class_text (class_number s.s
         → (o : List ℕ) × (text ≡ class_text (class_number s.seen x) ++ o) × Rest t E (trees_of (with_class s.seen x)) s.pieces rest o
     from rest text (whole {new = new} {text = front} {others = others} p ps) =
         let k : IsClassText E (trees_of s.seen) (tree t.nodes term) front new = class-only t.symbols E r.consistent (trees_of s.seen) new (tree t.nodes term) front f p in
-        let w : (k.place ≡ class_number s.seen x) × Alike E new (trees_of (with_class s.seen x)) = numbered-one E (trees_of s.seen) new (trees_of (with_class s.seen x)) (tree t.nodes term) k.place (class_number s.seen x) k.numbered n in
+        let w : (k.place ≡ class_number s.seen x) × Alike (Equal E) new (trees_of (with_class s.seen x)) = numbered-one (Equal E) (λ u v m. turned m) (λ u v o m l. joined m l) k.numbered n (Alike-refl E (trees_of s.seen)) same in
         (others, ap (λ (y : List ℕ). y ++ others) (k.is ∙ ap class_text w.0), rest-alike t E new (trees_of (with_class s.seen x)) s.pieces rest others ps w.1)
 
 -- a byte

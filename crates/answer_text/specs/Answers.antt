@@ -1,8 +1,8 @@
 -- The text of an answer, for whatever equations its terms are represented.
-use Rattle.std.specs.Prelude.{◌≡◌, ℕ, ◌<◌, List, [], length, map}
+use Rattle.std.specs.Prelude.{ℕ, ◌<◌, List, [], length, map}
 use Rattle.akl_terms.specs.declared.program.ShownTerm.{ShownTerm}
 use Rattle.akl_terms.specs.Tree.{Tree}
-use Rattle.akl_terms.specs.Equal.{Equations, IsConsistent}
+use Rattle.akl_terms.specs.Equal.{Equations}
 use Rattle.akl_terms.specs.Template.{Template, tree}
 use Rattle.answer_text.specs.Printed.{PrintsLines}
 use Rattle.answer_text.specs.Classes.{Represents}
@@ -26,8 +26,3 @@ IsAnswerText t go shown text = (E : Equations) → Represents E go → PrintsLin
 -- under all these equations the lines of the shown terms are too long
 abbrev pub IsTooLong : Template → (Tree → Tree) → List ShownTerm → Type 0
 IsTooLong t go shown = (E : Equations) → Represents E go → AreTooLong t.symbols E (shown_trees t shown)
-
--- no consistent equations have two texts of an answer
-abbrev pub OneTextLaw : Type 0
-OneTextLaw = (symbols : List (List ℕ)) (E : Equations) (lines : List (List ℕ × Tree)) (text other : List ℕ) → IsConsistent E
-    → PrintsLines symbols E [] lines text → PrintsLines symbols E [] lines other → text ≡ other

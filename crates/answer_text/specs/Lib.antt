@@ -3,3 +3,8 @@ pub mod Printed
 pub mod Classes
 pub mod Answers
 pub mod Pieces
+pub mod Cyclic
+pub mod AnswerLines
+pub mod Graph
+pub mod Examples
+pub mod Laws

@@ -10,11 +10,11 @@ use Rattle.answer_text.specs.SymbolText.{symbol_text, constant_text}
 pub record IsFree (E : Equations) (s : Tree) : Type 0 where
   pub free : (t : Tree) (h : Head) → Equal E s t → head_of t ≡ Some h → ⊥
 
--- the number of a class among those seen, by order of first printing; a new class comes last
-pub data IsNumbered (E : Equations) : List Tree → Tree → ℕ → List Tree → Type 0 where
-  first : {s x : Tree} → Equal E s x → IsNumbered E [] s 0 (x ∷ [])
-  here : {s x : Tree} {seen : List Tree} → Equal E s x → IsNumbered E (x ∷ seen) s 0 (x ∷ seen)
-  later : {s x : Tree} {seen new : List Tree} {k : ℕ} → (Equal E s x → ⊥) → IsNumbered E seen s k new → IsNumbered E (x ∷ seen) s (suc k) (x ∷ new)
+-- the number of a tree among those seen, by order of first printing, where trees that R relates have one number; a new one comes last
+pub data IsNumbered (R : Tree → Tree → Type 0) : List Tree → Tree → ℕ → List Tree → Type 0 where
+  first : {s x : Tree} → R s x → IsNumbered R [] s 0 (x ∷ [])
+  here : {s x : Tree} {seen : List Tree} → R s x → IsNumbered R (x ∷ seen) s 0 (x ∷ seen)
+  later : {s x : Tree} {seen new : List Tree} {k : ℕ} → (R s x → ⊥) → IsNumbered R seen s k new → IsNumbered R (x ∷ seen) s (suc k) (x ∷ new)
 
 -- `_` and a number from 1 on
 abbrev pub class_text : ℕ → List ℕ
@@ -38,7 +38,7 @@ pub record IsOtherTail (symbols : List (List ℕ)) (E : Equations) (s : Tree) : 
 mutual
   -- the text of a tree, with the classes that were printed before it and with it
   pub data Prints (symbols : List (List ℕ)) (E : Equations) : List Tree → Tree → List ℕ → List Tree → Type 0 where
-    class : {seen new : List Tree} {s : Tree} {k : ℕ} → IsFree E s → IsNumbered E seen s k new → Prints symbols E seen s (class_text k) new
+    class : {seen new : List Tree} {s : Tree} {k : ℕ} → IsFree E s → IsNumbered (Equal E) seen s k new → Prints symbols E seen s (class_text k) new
     number : {seen : List Tree} {s : Tree} {z : ℤ} → Equal E s (integer z) → Prints symbols E seen s (signed_decimal z) seen
     a_port : {seen : List Tree} {s : Tree} {p : Name} → Equal E s (port p) → Prints symbols E seen s (codes "port") seen
     constant : {seen : List Tree} {s : Tree} {f : ℕ} {name : List ℕ} → Equal E s (symbol f none) → slice_get symbols f ≡ Some name

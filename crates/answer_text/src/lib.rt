@@ -9,7 +9,7 @@ mod printer;
 mod representatives;
 mod symbol;
 
-pub use laws::one_text;
+pub use laws::{cyclic_texts, one_text, text_exists, written_out};
 pub use lines::{AnswerError, answer};
 pub use representatives::Representatives;
 pub use symbol::symbol_text;

@@ -1,0 +1,22 @@
+-- What is proved of the lines of an answer.
+use Rattle.std.specs.Prelude.{◌≡◌, ℕ, List, [], Bool}
+use Rattle.akl_terms.specs.Tree.{Tree}
+use Rattle.akl_terms.specs.Equal.{Equations, IsConsistent}
+use Rattle.answer_text.specs.Printed.{PrintsLines}
+use Rattle.answer_text.specs.AnswerLines.{AreAnswerLines}
+use Rattle.answer_text.specs.Graph.{Graph, IsDecided, AreThere}
+
+-- consistent equations have at most one text of an answer
+abbrev pub OneTextLaw : Type 0
+OneTextLaw = (symbols : List (List ℕ)) (E : Equations) (shown : List (List ℕ × Tree)) (text other : List ℕ) → IsConsistent E
+    → AreAnswerLines symbols E shown text → AreAnswerLines symbols E shown other → text ≡ other
+
+-- where every tree can be written out, the lines with all trees written out are the text
+abbrev pub WrittenOutLaw : Type 0
+WrittenOutLaw = (symbols : List (List ℕ)) (E : Equations) (shown : List (List ℕ × Tree)) (text : List ℕ) → IsConsistent E
+    → PrintsLines symbols E [] shown text → AreAnswerLines symbols E shown text
+
+-- shown terms that stand in a decided graph have a text, however long
+abbrev pub TextLaw : Type 0
+TextLaw = (symbols : List (List ℕ)) (E : Equations) (g : Graph) (block rank : ℕ → ℕ) (cyclic : ℕ → Bool) (shown : List (List ℕ × Tree)) → IsConsistent E
+    → IsDecided symbols E g block rank cyclic → AreThere E g shown → (text : List ℕ) × AreAnswerLines symbols E shown text
