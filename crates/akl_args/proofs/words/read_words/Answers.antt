@@ -1,0 +1,16 @@
+use Rattle.std.proofs.Common.{rules, ◌≡◌, ℕ, suc, ◌+◌, ◌<◌, List, ◌∷◌, length, map, drop, get_or, add-one, drop-cons, ◌∙◌, Ok, string_bytes}
+use Rattle.akl_args.specs.Table.{reading_from, after_word}
+use Rattle.akl_args.specs.declared.reader.Reader.{Reader}
+use Rattle.akl_args.proofs.words.read_words.Goals as goal
+
+-- a word taken, the rest is read after it
+one_more : {A : Type 0} (text : A → List ℕ) (words : List A) (at : ℕ) (word : A) (r s : Reader)
+    → at < length words → word ≡ get_or words at word → after_word at (text word) r ≡ Ok s
+    → reading_from at (map text (drop at words)) r ≡ reading_from (at + 1) (map text (drop (at + 1) words)) s
+one_more text words at word r s inside is taken = rw (add-one, drop-cons words at word, ← is, taken)
+
+pub loop-at-preserved : goal.loop-at-preserved
+loop-at-preserved c =
+    let taken : after_word c.loop-at.at (string_bytes c.index-words-at.result) c.loop-at.reader ≡ Ok c.take.new.self = search (rules, c.in_ok-take.ensures.takes, c.as_str.ensures.value) in
+    c.loop-at.invariant
+    ∙ one_more string_bytes c.args.words.now c.loop-at.at c.index-words-at.result c.loop-at.reader c.take.new.self (search rules) c.index-words-at.is taken
