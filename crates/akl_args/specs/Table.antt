@@ -36,27 +36,27 @@ with_value Generate text r = option_map (λ n. record r { generate = Some n }) (
 with_value Workers text r = option_map (λ n. record r { workers = Some n }) (number_in 1 16 text)
 with_value Budget text r = option_map (λ n. record r { budget = Some n }) (number_in 1 4000000 text)
 
--- after the value of an option, which stands in word `at`
-abbrev pub after_value_text : Setting → ℕ → List ℕ → Reader → Result Reader WordsError
-after_value_text setting at text r = ok_or (with_value setting text r) (Value at)
+-- after an option gets its value, which stands in word `at`
+abbrev pub after_set : Setting → ℕ → List ℕ → Reader → Result Reader WordsError
+after_set setting at text r = ok_or (with_value setting text r) (Value at)
 
 -- after word `at`, which must be the value of the option before it
 abbrev pub after_value : Pending → ℕ → List ℕ → Reader → Result Reader WordsError
 after_value p at word r =
     if starts_with_minus word then Err (Missing p.at)
-    else after_value_text p.setting at word (record r { pending = None })
+    else after_set p.setting at word (record r { pending = None })
 
 abbrev pub is_equals : ℕ → Bool
 is_equals b = b == 61
 
--- after an option with a value, or nothing of this kind, in word `at`: `then` says how it goes on
+-- after word `at`, which names an option with a value, or nothing of this kind, and goes on
 abbrev pub after_setting : Option Setting → ℕ → Reader → (Setting → Result Reader WordsError) → Result Reader WordsError
 after_setting None at r go = Err (Unknown at)
 after_setting (Some setting) at r go = if is_given setting r then Err (Repeated at) else go setting
 
 -- after word `at`, a name with a value behind `=`
 abbrev pub after_joined : ℕ → List ℕ → List ℕ → Reader → Result Reader WordsError
-after_joined at name value r = after_setting (setting_named name) at r (λ setting. after_value_text setting at value r)
+after_joined at name value r = after_setting (setting_named name) at r (λ setting. after_set setting at value r)
 
 -- after `--trace` in word `at`
 abbrev pub after_trace : ℕ → Reader → Result Reader WordsError
@@ -100,11 +100,11 @@ completed_behind None count r = ok_or (option_map (options_of r) (job_of r.query
 abbrev pub completed : ℕ → Reader → Result Options WordsError
 completed count r = completed_behind r.pending count r
 
--- the words from number `at` on, from left to right, after what those before say
 abbrev pub read_after : Result Reader WordsError → (Reader → Result Options WordsError) → Result Options WordsError
 read_after (Ok r) go = go r
 read_after (Err e) go = Err e
 
+-- what the words from number `at` on ask for, read from left to right, after what those before say
 abbrev pub reading_from : ℕ → List (List ℕ) → Reader → Result Options WordsError
 reading_from at [] r = completed at r
 reading_from at (word ∷ words) r = read_after (after_word at word r) (λ s. reading_from (suc at) words s)

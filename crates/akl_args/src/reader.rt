@@ -2,7 +2,7 @@
 
 ghost use Rattle.std.specs.Prelude.{◌≡◌, ◌≤◌, Ok, IfOk, IfErr, OnOk, ok_or};
 ghost use Rattle.akl_args.specs.Numbers.{number_in};
-ghost use Rattle.akl_args.specs.Table.{nothing_said, is_given, with_value, after_joined, after_alone, after_option, after_value, after_word, after_trace, after_value_text, job_of, completed, IsRefusalOf};
+ghost use Rattle.akl_args.specs.Table.{nothing_said, is_given, with_value, after_joined, after_alone, after_option, after_value, after_word, after_trace, after_set, job_of, completed, IsRefusalOf};
 
 use crate::number::number_in;
 use crate::options::{Job, Options, WordsError};
@@ -150,8 +150,8 @@ impl Reader {
         at: usize,
         text: &str,
     ) -> Result<(), WordsError>
-        ensures takes { OnOk result (after_value_text setting at text.now self.old ≡ Ok self.new) }
-        ensures refuses { IfErr result (IsRefusalOf (after_value_text setting at text.now self.old)) }
+        ensures takes { OnOk result (after_set setting at text.now self.old ≡ Ok self.new) }
+        ensures refuses { IfErr result (IsRefusalOf (after_set setting at text.now self.old)) }
     {
         match setting {
             Setting::Query if text.is_empty() => return Err(WordsError::Value { at }),

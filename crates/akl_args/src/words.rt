@@ -1,6 +1,7 @@
 //! Reading the words of a command line.
 
 ghost use Rattle.std.specs.Prelude.{◌≡◌, Ok, IfOk, IfErr, map, string_bytes};
+ghost use Rattle.akl_args.specs.Limits.{IsWithinLimits};
 ghost use Rattle.akl_args.specs.Table.{reading, IsRefusalOf};
 
 use crate::options::{Options, WordsError};
@@ -14,6 +15,7 @@ use std::alloc::{AllocError, Global};
 /// last. `Memory` may come at any point.
 pub fn read_words(alloc: Global, words: &[String]) -> Result<Options, WordsError>
     ensures options { IfOk result (λ options. reading (map string_bytes words.now) ≡ Ok options) }
+    ensures limits { IfOk result IsWithinLimits }
     ensures refusal { IfErr result (IsRefusalOf (reading (map string_bytes words.now))) }
 {
     let mut reader = Reader::new();

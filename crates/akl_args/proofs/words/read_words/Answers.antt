@@ -1,5 +1,11 @@
-use Rattle.std.proofs.Common.{rules, ◌≡◌, ℕ, suc, ◌+◌, ◌<◌, List, ◌∷◌, length, map, drop, get_or, add-one, drop-cons, ◌∙◌, Ok, string_bytes}
-use Rattle.akl_args.specs.Table.{reading_from, after_word}
+use Rattle.std.proofs.Common.{rules, arith, ◌≡◌, ℕ, suc, ◌+◌, ◌<◌, List, ◌∷◌, length, map, drop, get_or, add-one, drop-cons, ◌∙◌, Ok, IfOk, Result, string_bytes}
+use Rattle.akl_args.specs.Table.{reading, reading_from, after_word}
+use Rattle.std.proofs.lemmas.Grind.{common_steps}
+use Rattle.std.proofs.lemmas.Result.{IfOk-weaker}
+use Rattle.akl_args.proofs.LimitLaws.{reading_within}
+use Rattle.akl_args.specs.declared.options.Options.{Options}
+use Rattle.akl_args.specs.declared.options.WordsError.{WordsError}
+use Rattle.akl_args.specs.Limits.{IsWithinLimits}
 use Rattle.akl_args.specs.declared.reader.Reader.{Reader}
 use Rattle.akl_args.proofs.words.read_words.Goals as goal
 
@@ -14,3 +20,12 @@ loop-at-preserved c =
     let taken : after_word c.loop-at.at (string_bytes c.index-words-at.result) c.loop-at.reader ≡ Ok c.take.new.self = search (rules, c.in_ok-take.ensures.takes, c.as_str.ensures.value) in
     c.loop-at.invariant
     ∙ one_more string_bytes c.args.words.now c.loop-at.at c.index-words-at.result c.loop-at.reader c.take.new.self (search rules) c.index-words-at.is taken
+
+-- the options of a reading are within the limits
+within : (wanted : Result Options WordsError) (options : Options) → wanted ≡ Ok options → IfOk wanted IsWithinLimits → IsWithinLimits options
+within wanted options is h = rw is at h
+
+pub returns-clause-limits : goal.returns-clause-limits
+returns-clause-limits c =
+    let is : IfOk c.complete.result (λ (options : Options). reading (map string_bytes c.args.words.now) ≡ Ok options) = grind (arith, common_steps) in
+    IfOk-weaker c.complete.result _ _ (λ options h. within _ options h (reading_within (map string_bytes c.args.words.now))) is
