@@ -2,7 +2,11 @@
 #![tactic(auto)]
 
 #[cfg(test)]
+mod args;
+#[cfg(test)]
 mod checks;
+#[cfg(test)]
+mod generated;
 #[cfg(test)]
 mod keys;
 #[cfg(test)]

@@ -1,0 +1,119 @@
+-- What the words of a command line ask for.
+--
+-- The options are `--query`, `--generate`, `--workers` and `--budget`, each with a value, and `--trace` without one. They
+-- come in any order. A value is the next word, which doesn't begin with `-`, or stands behind `=` in the option's word.
+use Rattle.std.specs.Prelude.{◌≡◌, ℕ, suc, ◌==◌, Bool, false, true, ◌||◌, List, [], ◌∷◌, length, nat_lt, Option, Some, None, is_some, unwrap_or, option_map, option_and_then, ok_or, Result, Ok, Err, if◌then◌else◌, bytes_eq, codes, ⊤}
+use Rattle.std.specs.List.{position_or_len, before_first, after_first}
+use Rattle.std.specs.Str.Parse.{starts_with_minus}
+use Rattle.akl_args.specs.Numbers.{number_in}
+use Rattle.akl_args.specs.Settings.{setting_named}
+use Rattle.akl_args.specs.declared.options.Job.{Job}
+use Rattle.akl_args.specs.declared.options.Job.TheVariants as jobs
+use Rattle.akl_args.specs.declared.options.Options.{Options}
+use Rattle.akl_args.specs.declared.options.WordsError.{WordsError}
+use Rattle.akl_args.specs.declared.options.WordsError.TheVariants.{Missing, Unknown, Value, Repeated, Memory}
+use Rattle.akl_args.specs.declared.reader.Pending.{Pending}
+use Rattle.akl_args.specs.declared.reader.Reader.{Reader}
+use Rattle.akl_args.specs.declared.setting.Setting.{Setting}
+use Rattle.akl_args.specs.declared.setting.Setting.TheVariants.{Query, Generate, Workers, Budget}
+
+-- what no words say
+abbrev pub nothing_said : Reader
+nothing_said = record { query = None; generate = None; workers = None; budget = None; trace = false; pending = None }
+
+-- an option with a value came before, or it is the second of `--query` and `--generate`
+abbrev pub is_given : Setting → Reader → Bool
+is_given Query r = is_some r.query || is_some r.generate
+is_given Generate r = is_some r.query || is_some r.generate
+is_given Workers r = is_some r.workers
+is_given Budget r = is_some r.budget
+
+-- with the value of an option, where it is one: a text that isn't empty, or a number in its range
+abbrev pub with_value : Setting → List ℕ → Reader → Option Reader
+with_value Query [] r = None
+with_value Query (b ∷ bs) r = Some (record r { query = Some (b ∷ bs) })
+with_value Generate text r = option_map (λ n. record r { generate = Some n }) (number_in 0 4294967295 text)
+with_value Workers text r = option_map (λ n. record r { workers = Some n }) (number_in 1 16 text)
+with_value Budget text r = option_map (λ n. record r { budget = Some n }) (number_in 1 4000000 text)
+
+-- after an option gets its value, which stands in word `at`
+abbrev pub after_set : Setting → ℕ → List ℕ → Reader → Result Reader WordsError
+after_set setting at text r = ok_or (with_value setting text r) (Value at)
+
+-- after word `at`, which must be the value of the option before it
+abbrev pub after_value : Pending → ℕ → List ℕ → Reader → Result Reader WordsError
+after_value p at word r =
+    if starts_with_minus word then Err (Missing p.at)
+    else after_set p.setting at word (record r { pending = None })
+
+abbrev pub is_equals : ℕ → Bool
+is_equals b = b == 61
+
+-- after word `at`, which names an option with a value, or nothing of this kind, and goes on
+abbrev pub after_setting : Option Setting → ℕ → Reader → (Setting → Result Reader WordsError) → Result Reader WordsError
+after_setting None at r go = Err (Unknown at)
+after_setting (Some setting) at r go = if is_given setting r then Err (Repeated at) else go setting
+
+-- after word `at`, a name with a value behind `=`
+abbrev pub after_joined : ℕ → List ℕ → List ℕ → Reader → Result Reader WordsError
+after_joined at name value r = after_setting (setting_named name) at r (λ setting. after_set setting at value r)
+
+-- after `--trace` in word `at`
+abbrev pub after_trace : ℕ → Reader → Result Reader WordsError
+after_trace at r = if r.trace then Err (Repeated at) else Ok (record r { trace = true })
+
+-- after word `at`, a name alone
+abbrev pub after_alone : ℕ → List ℕ → Reader → Result Reader WordsError
+after_alone at name r =
+    if bytes_eq name (codes "--trace") then after_trace at r
+    else after_setting (setting_named name) at r (λ setting. Ok (record r { pending = Some (record { setting = setting; at = at }) }))
+
+-- after word `at`, which must be an option
+abbrev pub after_option : ℕ → List ℕ → Reader → Result Reader WordsError
+after_option at word r =
+    if nat_lt (position_or_len is_equals word) (length word)
+    then after_joined at (before_first is_equals word) (after_first is_equals word) r
+    else after_alone at word r
+
+abbrev pub after_expected : Option Pending → ℕ → List ℕ → Reader → Result Reader WordsError
+after_expected None at word r = after_option at word r
+after_expected (Some p) at word r = after_value p at word r
+
+-- after word `at`
+abbrev pub after_word : ℕ → List ℕ → Reader → Result Reader WordsError
+after_word at word r = after_expected r.pending at word r
+
+-- what is to be run: `--query` or `--generate` is there
+abbrev pub job_of : Option (List ℕ) → Option ℕ → Option Job
+job_of (Some text) generate = Some (jobs.Query text)
+job_of None generate = option_map jobs.Generate generate
+
+-- all that was said, where no value is missing
+abbrev pub options_of : Reader → Job → Options
+options_of r job = record { job = job; workers = unwrap_or r.workers 1; budget = unwrap_or r.budget 100000; trace = r.trace }
+
+abbrev pub completed_behind : Option Pending → ℕ → Reader → Result Options WordsError
+completed_behind (Some p) count r = Err (Missing p.at)
+completed_behind None count r = ok_or (option_map (options_of r) (job_of r.query r.generate)) (Missing count)
+
+-- after the last of so many words
+abbrev pub completed : ℕ → Reader → Result Options WordsError
+completed count r = completed_behind r.pending count r
+
+abbrev pub read_after : Result Reader WordsError → (Reader → Result Options WordsError) → Result Options WordsError
+read_after (Ok r) go = go r
+read_after (Err e) go = Err e
+
+-- what the words from number `at` on ask for, read from left to right, after what those before say
+abbrev pub reading_from : ℕ → List (List ℕ) → Reader → Result Options WordsError
+reading_from at [] r = completed at r
+reading_from at (word ∷ words) r = read_after (after_word at word r) (λ s. reading_from (suc at) words s)
+
+-- What words ask for, or the refusal of the first that breaks the table.
+abbrev pub reading : List (List ℕ) → Result Options WordsError
+reading words = reading_from 0 words nothing_said
+
+-- this refusal is the one wanted, or memory was wanting
+abbrev pub IsRefusalOf : {A : Type 0} → Result A WordsError → WordsError → Type 0
+IsRefusalOf wanted (Memory e) = ⊤
+IsRefusalOf wanted e = wanted ≡ Err e

@@ -1,0 +1,134 @@
+//! The words of a command line.
+
+use akl_args::{Job, Options, WordsError, read_words};
+use std::alloc::{AllocError, Global};
+use std::process::Abort;
+use std::test::*;
+
+/// The words of a line, which stand between bars.
+fn words_of(alloc: Global, line: &str) -> Result<Vec<String>, AllocError> {
+    let mut words = Vec::new(alloc);
+    for word in line.split('|') {
+        words.push(String::from_str(alloc, word)?)?;
+    }
+    Ok(words)
+}
+
+fn shown_options(alloc: Global, options: &Options) -> Result<String, AllocError> {
+    let workers = options.workers;
+    let budget = options.budget;
+    let trace = options.trace;
+    match &options.job {
+        Job::Query(text) => {
+            let query = text.as_str();
+            format!(in alloc; "query {query}, {workers}, {budget}, {trace}")
+        }
+        Job::Generate(number) => {
+            format!(in alloc; "generate {number}, {workers}, {budget}, {trace}")
+        }
+    }
+}
+
+fn shown_refusal(alloc: Global, error: WordsError) -> Result<String, AllocError> {
+    match error {
+        WordsError::Missing { at } => format!(in alloc; "missing {at}"),
+        WordsError::Unknown { at } => format!(in alloc; "unknown {at}"),
+        WordsError::Value { at } => format!(in alloc; "value {at}"),
+        WordsError::Repeated { at } => format!(in alloc; "repeated {at}"),
+        WordsError::Memory(error) => Err(error),
+    }
+}
+
+/// What words ask for, or why they are refused.
+fn shown(alloc: Global, words: &[String]) -> Result<String, AllocError> {
+    match read_words(alloc, words) {
+        Ok(options) => shown_options(alloc, &options),
+        Err(error) => shown_refusal(alloc, error),
+    }
+}
+
+/// Each line has words and, behind ` => `, what they ask for or why they are refused.
+fn all_as_shown(rt: &impl Abort, alloc: Global, lines: &str) -> Result<(), Fail> {
+    for line in lines.lines() {
+        let (words, wanted) = line.split_once(" => ").ok_or("no arrow")?;
+        let words = words_of(alloc, words)?;
+        let found = shown(alloc, &words)?;
+        assert_eq!(rt; found.as_str(), wanted, "{line}");
+    }
+    Ok(())
+}
+
+const TAKEN: &str = "\
+--query|true => query true, 1, 100000, false
+--query=true => query true, 1, 100000, false
+--query=-1 = X => query -1 = X, 1, 100000, false
+--query==-= => query =-=, 1, 100000, false
+--query|X = '=' => query X = '=', 1, 100000, false
+--query|true|--workers=4 => query true, 4, 100000, false
+--workers|16|--query|true|--budget|1 => query true, 16, 1, false
+--workers|1|--trace|--budget|4000000|--query|a b => query a b, 1, 4000000, true
+--trace|--query=true|--workers=0000000002|--budget=0000000300 => query true, 2, 300, true
+--generate|0 => generate 0, 1, 100000, false
+--generate=4294967295|--trace => generate 4294967295, 1, 100000, true
+--budget|0004000000|--generate|0000000097 => generate 97, 1, 4000000, false
+";
+
+const REFUSED: &str = "\
+--query => missing 0
+--query|-1 = X => missing 0
+--workers|--query|true => missing 0
+--trace|--budget|-1|--query|true => missing 1
+--query|true|--workers => missing 2
+--trace => missing 1
+--workers|4|--trace => missing 3
+--query|true|--generate => repeated 2
+ => unknown 0
+query => unknown 0
+-q|true => unknown 0
+--|--query|true => unknown 0
+--Query|true => unknown 0
+--queries=true => unknown 0
+--trace=x|--query|true => unknown 0
+--query|true|--trace=|--workers|0 => unknown 2
+--query|true|4|--workers|0 => unknown 2
+--query|true|--workers|2|--help => unknown 4
+--query|true|--workers|2|=3 => unknown 4
+--query| => value 1
+--query= => value 0
+--workers|0|--query|true => value 1
+--workers|17|--query|true => value 1
+--workers=17 => value 0
+--query|true|--workers|17 => value 3
+--query|true|--workers=16x => value 2
+--query|true|--workers=+4 => value 2
+--query|true|--workers|4 |--trace => value 3
+--query|true|--workers|00000000004 => value 3
+--budget|0 => value 1
+--budget=4000001|--query|true => value 0
+--trace|--budget||--query|true => value 2
+--generate|4294967296 => value 1
+--generate=00000000000 => value 0
+--generate|9999999999 => value 1
+--trace|--trace|--query|true => repeated 1
+--query|a|--query|b => repeated 2
+--query|a|--query => repeated 2
+--query|a|--query= => repeated 2
+--workers|2|--workers|0|--query|a => repeated 2
+--query|a|--generate=x => repeated 2
+--generate|1|--trace|--query=a => repeated 3
+--trace|--workers=2|--budget|5|--workers => repeated 4
+--query|true|--budget=5|--trace|--budget=5 => repeated 4
+";
+
+#[test]
+fn words_are_taken(rt: HostRuntime) -> Result<(), Fail> {
+    all_as_shown(&rt, rt.alloc(), TAKEN)
+}
+
+#[test]
+fn words_are_refused(rt: HostRuntime) -> Result<(), Fail> {
+    all_as_shown(&rt, rt.alloc(), REFUSED)?;
+    let none: Vec<String> = Vec::new(rt.alloc());
+    assert_eq!(rt; shown(rt.alloc(), &none)?.as_str(), "missing 0");
+    Ok(())
+}
