@@ -1,21 +1,19 @@
 -- What words ask for is within the limits.
-use Rattle.std.proofs.Common.{rules, arith, ◌≡◌, ℕ, suc, ◌<◌, ◌≤◌, ◌&&◌, Bool, true, false, List, [], ◌∷◌, length, refl, nat_le, nat_lt, Option, Some, None, IfSome, IfOk, Result, Ok, Err, ok_or, option_map, option_and_then, bytes_eq, codes, if◌then◌else◌, unwrap_or}
+use Rattle.std.proofs.Common.{arith, ◌≡◌, ℕ, suc, ◌<◌, ◌≤◌, ◌&&◌, Bool, true, false, List, [], ◌∷◌, length, refl, nat_le, nat_lt, Option, Some, None, IfSome, IfOk, Result, Ok, Err, ok_or, option_map, option_and_then, bytes_eq, codes, if◌then◌else◌, unwrap_or}
 use Rattle.std.proofs.lemmas.Bool.Decides.{nat_tests}
 use Rattle.std.specs.List.{position_or_len, before_first, after_first}
 use Rattle.std.specs.Str.Parse.{starts_with_minus}
-use Rattle.akl_args.specs.declared.options.Job.{Job}
 use Rattle.akl_args.specs.declared.options.Job.TheVariants as jobs
 use Rattle.akl_args.specs.declared.options.Options.{Options}
 use Rattle.akl_args.specs.declared.options.WordsError.{WordsError}
-use Rattle.akl_args.specs.declared.options.WordsError.TheVariants.{Missing, Unknown, Value, Repeated}
+use Rattle.akl_args.specs.declared.options.WordsError.TheVariants.{Missing, Value, Repeated}
 use Rattle.akl_args.specs.declared.reader.Pending.{Pending}
 use Rattle.akl_args.specs.declared.reader.Reader.{Reader}
 use Rattle.akl_args.specs.declared.setting.Setting.{Setting}
 use Rattle.akl_args.specs.declared.setting.Setting.TheVariants.{Query, Generate, Workers, Budget}
 use Rattle.akl_args.specs.Limits.{IsWithinLimits, IsJobWithinLimits}
 use Rattle.akl_args.specs.Numbers.{value_of, within, number_in}
-use Rattle.akl_args.specs.Settings.{setting_named}
-use Rattle.akl_args.specs.Table.{nothing_said, is_given, is_equals, with_value, after_set, after_value, after_joined, after_trace, after_setting, after_alone, after_option, after_expected, after_word, completed, completed_behind, job_of, options_of, read_after, reading_from, reading}
+use Rattle.akl_args.specs.Table.{nothing_said, new_setting, is_equals, after_set, after_joined, after_trace, after_alone, after_expected, after_word, completed_behind, job_of, options_of, and_then, reading_from, reading}
 
 -- what was said so far is within the limits
 record SaysWithin (r : Reader) : Type 0 where
@@ -60,10 +58,9 @@ set_within Budget at text r h =
     picked SaysWithin _ (Value at) (mapped _ SaysWithin _ (number_in 1 4000000 text) (number_between 1 4000000 (value_of text))
     (λ n k. record { query = h.query; generate = h.generate; workers = h.workers; budget = k }))
 
-setting_within : (o : Option Setting) (at : ℕ) (r : Reader) (go : Setting → Result Reader WordsError)
-    → ((setting : Setting) → IfOk (go setting) SaysWithin) → IfOk (after_setting o at r go) SaysWithin
-setting_within None at r go h = tt
-setting_within (Some setting) at r go h = chosen SaysWithin (is_given setting r) (Err (Repeated at)) (go setting) tt (h setting)
+always : {A : Type 0} (x : Result A WordsError) (go : A → Result Reader WordsError) → ((a : A) → IfOk (go a) SaysWithin) → IfOk (and_then x go) SaysWithin
+always (Ok a) go h = h a
+always (Err e) go h = tt
 
 -- fields that no limit speaks of may change
 same_limits : (r s : Reader) → r.query ≡ s.query → r.generate ≡ s.generate → r.workers ≡ s.workers → r.budget ≡ s.budget → SaysWithin r → SaysWithin s
@@ -73,12 +70,12 @@ trace_within : (at : ℕ) (r : Reader) → SaysWithin r → IfOk (after_trace at
 trace_within at r h = chosen SaysWithin r.trace (Err (Repeated at)) (Ok (record r { trace = true })) tt (same_limits r _ refl refl refl refl h)
 
 joined_within : (at : ℕ) (name value : List ℕ) (r : Reader) → SaysWithin r → IfOk (after_joined at name value r) SaysWithin
-joined_within at name value r h = setting_within (setting_named name) at r (λ setting. after_set setting at value r) (λ setting. set_within setting at value r h)
+joined_within at name value r h = always (new_setting at name r) (λ setting. after_set setting at value r) (λ setting. set_within setting at value r h)
 
 alone_within : (at : ℕ) (name : List ℕ) (r : Reader) → SaysWithin r → IfOk (after_alone at name r) SaysWithin
 alone_within at name r h =
     chosen SaysWithin (bytes_eq name (codes "--trace")) (after_trace at r) _ (trace_within at r h)
-    (setting_within (setting_named name) at r _ (λ setting. same_limits r _ refl refl refl refl h))
+    (always (new_setting at name r) _ (λ setting. same_limits r _ refl refl refl refl h))
 
 word_within : (o : Option Pending) (at : ℕ) (word : List ℕ) (r : Reader) → SaysWithin r → IfOk (after_expected o at word r) SaysWithin
 word_within None at word r h =
@@ -106,7 +103,7 @@ completed_within None count r h =
     (λ job k. record { job = k; some_worker = workers.0; workers = workers.1; some_budget = budget.0; budget = budget.1 }))
 
 after_within : (x : Result Reader WordsError) (go : Reader → Result Options WordsError) → IfOk x SaysWithin
-    → ((s : Reader) → SaysWithin s → IfOk (go s) IsWithinLimits) → IfOk (read_after x go) IsWithinLimits
+    → ((s : Reader) → SaysWithin s → IfOk (go s) IsWithinLimits) → IfOk (and_then x go) IsWithinLimits
 after_within (Ok s) go h k = k s h
 after_within (Err e) go h k = tt
 

@@ -1,5 +1,5 @@
 -- The limits of what is asked for.
-use Rattle.std.specs.Prelude.{ℕ, ◌<◌, ◌≤◌, length}
+use Rattle.std.specs.Prelude.{◌<◌, ◌≤◌, length}
 use Rattle.akl_args.specs.declared.options.Job.{Job}
 use Rattle.akl_args.specs.declared.options.Job.TheVariants.{Query, Generate}
 use Rattle.akl_args.specs.declared.options.Options.{Options}

@@ -2,7 +2,7 @@
 --
 -- The options are `--query`, `--generate`, `--workers` and `--budget`, each with a value, and `--trace` without one. They
 -- come in any order. A value is the next word, which doesn't begin with `-`, or stands behind `=` in the option's word.
-use Rattle.std.specs.Prelude.{◌≡◌, ℕ, suc, ◌==◌, Bool, false, true, ◌||◌, List, [], ◌∷◌, length, nat_lt, Option, Some, None, is_some, unwrap_or, option_map, option_and_then, ok_or, Result, Ok, Err, if◌then◌else◌, bytes_eq, codes, ⊤}
+use Rattle.std.specs.Prelude.{◌≡◌, ℕ, suc, ◌==◌, Bool, false, true, ◌||◌, List, [], ◌∷◌, length, nat_lt, Option, Some, None, is_some, unwrap_or, option_map, ok_or, Result, Ok, Err, if◌then◌else◌, bytes_eq, codes, ⊤}
 use Rattle.std.specs.List.{position_or_len, before_first, after_first}
 use Rattle.std.specs.Str.Parse.{starts_with_minus}
 use Rattle.akl_args.specs.Numbers.{number_in}
@@ -16,6 +16,11 @@ use Rattle.akl_args.specs.declared.reader.Pending.{Pending}
 use Rattle.akl_args.specs.declared.reader.Reader.{Reader}
 use Rattle.akl_args.specs.declared.setting.Setting.{Setting}
 use Rattle.akl_args.specs.declared.setting.Setting.TheVariants.{Query, Generate, Workers, Budget}
+
+-- what comes of a value, unless there is a refusal instead
+abbrev pub and_then : {A B : Type 0} → Result A WordsError → (A → Result B WordsError) → Result B WordsError
+and_then (Ok x) go = go x
+and_then (Err e) go = Err e
 
 -- what no words say
 abbrev pub nothing_said : Reader
@@ -49,14 +54,17 @@ after_value p at word r =
 abbrev pub is_equals : ℕ → Bool
 is_equals b = b == 61
 
--- after word `at`, which names an option with a value, or nothing of this kind, and goes on
-abbrev pub after_setting : Option Setting → ℕ → Reader → (Setting → Result Reader WordsError) → Result Reader WordsError
-after_setting None at r go = Err (Unknown at)
-after_setting (Some setting) at r go = if is_given setting r then Err (Repeated at) else go setting
+abbrev pub once : Option Setting → ℕ → Reader → Result Setting WordsError
+once None at r = Err (Unknown at)
+once (Some setting) at r = if is_given setting r then Err (Repeated at) else Ok setting
+
+-- the option with a value that word `at` names
+abbrev pub new_setting : ℕ → List ℕ → Reader → Result Setting WordsError
+new_setting at name r = once (setting_named name) at r
 
 -- after word `at`, a name with a value behind `=`
 abbrev pub after_joined : ℕ → List ℕ → List ℕ → Reader → Result Reader WordsError
-after_joined at name value r = after_setting (setting_named name) at r (λ setting. after_set setting at value r)
+after_joined at name value r = and_then (new_setting at name r) (λ setting. after_set setting at value r)
 
 -- after `--trace` in word `at`
 abbrev pub after_trace : ℕ → Reader → Result Reader WordsError
@@ -66,7 +74,7 @@ after_trace at r = if r.trace then Err (Repeated at) else Ok (record r { trace =
 abbrev pub after_alone : ℕ → List ℕ → Reader → Result Reader WordsError
 after_alone at name r =
     if bytes_eq name (codes "--trace") then after_trace at r
-    else after_setting (setting_named name) at r (λ setting. Ok (record r { pending = Some (record { setting = setting; at = at }) }))
+    else and_then (new_setting at name r) (λ setting. Ok (record r { pending = Some (record { setting = setting; at = at }) }))
 
 -- after word `at`, which must be an option
 abbrev pub after_option : ℕ → List ℕ → Reader → Result Reader WordsError
@@ -100,14 +108,10 @@ completed_behind None count r = ok_or (option_map (options_of r) (job_of r.query
 abbrev pub completed : ℕ → Reader → Result Options WordsError
 completed count r = completed_behind r.pending count r
 
-abbrev pub read_after : Result Reader WordsError → (Reader → Result Options WordsError) → Result Options WordsError
-read_after (Ok r) go = go r
-read_after (Err e) go = Err e
-
 -- what the words from number `at` on ask for, read from left to right, after what those before say
 abbrev pub reading_from : ℕ → List (List ℕ) → Reader → Result Options WordsError
 reading_from at [] r = completed at r
-reading_from at (word ∷ words) r = read_after (after_word at word r) (λ s. reading_from (suc at) words s)
+reading_from at (word ∷ words) r = and_then (after_word at word r) (λ s. reading_from (suc at) words s)
 
 -- What words ask for, or the refusal of the first that breaks the table.
 abbrev pub reading : List (List ℕ) → Result Options WordsError

@@ -2,7 +2,7 @@
 
 ghost use Rattle.std.specs.Prelude.{◌≡◌, ◌≤◌, Ok, IfOk, IfErr, OnOk, ok_or};
 ghost use Rattle.akl_args.specs.Numbers.{number_in};
-ghost use Rattle.akl_args.specs.Table.{nothing_said, is_given, with_value, after_joined, after_alone, after_option, after_value, after_word, after_trace, after_set, job_of, completed, IsRefusalOf};
+ghost use Rattle.akl_args.specs.Table.{nothing_said, is_given, new_setting, after_joined, after_alone, after_option, after_value, after_word, after_trace, after_set, job_of, completed, IsRefusalOf};
 
 use crate::number::number_in;
 use crate::options::{Job, Options, WordsError};
@@ -94,11 +94,8 @@ impl Reader {
         ensures takes { OnOk result (after_joined at name.now value.now self.old ≡ Ok self.new) }
         ensures refuses { IfErr result (IsRefusalOf (after_joined at name.now value.now self.old)) }
     {
-        match setting_named(name) {
-            None => Err(WordsError::Unknown { at }),
-            Some(setting) if self.is_given(setting) => Err(WordsError::Repeated { at }),
-            Some(setting) => self.set(alloc, setting, at, value),
-        }
+        let setting = self.new_setting(at, name)?;
+        self.set(alloc, setting, at, value)
     }
 
     // Takes a word that has no `=`.
@@ -109,13 +106,19 @@ impl Reader {
         if word == "--trace" {
             return self.take_trace(at);
         }
-        match setting_named(word) {
+        let setting = self.new_setting(at, word)?;
+        self.pending = Some(Pending { setting, at });
+        Ok(())
+    }
+
+    // The option with a value that word `at` names, which is none that can't come any more.
+    fn new_setting(&self, at: usize, name: &str) -> Result<Setting, WordsError>
+        ensures { result ≡ new_setting at name.now self.now }
+    {
+        match setting_named(name) {
             None => Err(WordsError::Unknown { at }),
             Some(setting) if self.is_given(setting) => Err(WordsError::Repeated { at }),
-            Some(setting) => {
-                self.pending = Some(Pending { setting, at });
-                Ok(())
-            }
+            Some(setting) => Ok(setting),
         }
     }
 

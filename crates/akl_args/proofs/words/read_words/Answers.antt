@@ -1,4 +1,4 @@
-use Rattle.std.proofs.Common.{rules, arith, ◌≡◌, ℕ, suc, ◌+◌, ◌<◌, List, ◌∷◌, length, map, drop, get_or, add-one, drop-cons, ◌∙◌, Ok, IfOk, Result, string_bytes}
+use Rattle.std.proofs.Common.{rules, arith, ◌≡◌, ℕ, ◌+◌, ◌<◌, List, length, map, drop, get_or, add-one, drop-cons, ◌∙◌, Ok, IfOk, Result, string_bytes}
 use Rattle.akl_args.specs.Table.{reading, reading_from, after_word}
 use Rattle.std.proofs.lemmas.Grind.{common_steps}
 use Rattle.std.proofs.lemmas.Result.{IfOk-weaker}

@@ -1,4 +1,4 @@
-use Rattle.std.proofs.Common.{◌≡◌, ◌≤◌, length, map, drop, string_bytes}
+use Rattle.std.proofs.Common.{◌≡◌, map, drop, string_bytes}
 use Rattle.akl_args.specs.Table.{reading, reading_from}
 use Rattle.akl_args.proofs.words.read_words.Given as goal
 
