@@ -2,11 +2,7 @@
 #![tactic(auto)]
 
 #[cfg(test)]
-mod args;
-#[cfg(test)]
 mod checks;
-#[cfg(test)]
-mod generated;
 #[cfg(test)]
 mod keys;
 #[cfg(test)]
