@@ -1,10 +1,10 @@
 -- What arithmetic goals come to, by their sides.
-use Rattle.std.proofs.Common.{◌≡◌, ℕ, ℤ, List, Some, Bool, refl}
+use Rattle.std.proofs.Common.{◌≡◌, ℕ, ℤ, List, refl}
 use Rattle.akl_terms.specs.declared.name.Var.{Var}
 use Rattle.akl_terms.specs.declared.program.Test.{Test}
 use Rattle.akl_terms.specs.Tree.{Tree}
 use Rattle.akl_terms.specs.Equal.{Equations, same, IsConsistent}
-use Rattle.akl_terms.specs.Arithmetic.{HasValue, WaitsOn, Answer, Evaluates, gives, compared, compares, GoalWaitsOn, right_of_is, left_side, right_side}
+use Rattle.akl_terms.specs.Arithmetic.{HasValue, Answer, Evaluates, gives, compared, GoalWaitsOn, right_of_is, left_side, right_side}
 use Rattle.arith_goals.specs.Answers.{IsStuck, IsGoalStuck}
 use Rattle.constraint_laws.proofs.WaitsOne.{value_waits}
 

@@ -1,12 +1,11 @@
 -- What expressions come to, by their operands.
-use Rattle.std.proofs.Common.{◌≡◌, ℕ, ℤ, List, Option, Some, None, refl, sym, ◌∙◌, ap, subst}
+use Rattle.std.proofs.Common.{◌≡◌, ℕ, ℤ, List, Option, Some, None, refl, sym, ◌∙◌, ap}
 use Rattle.std.specs.Prelude.{option_and_then}
 use Rattle.akl_terms.specs.declared.name.Var.{Var}
-use Rattle.akl_terms.specs.Tree.{Tree, variable, integer, Head, integer_head, symbol_head, head_of}
-use Rattle.akl_terms.specs.Equal.{Equations, Equal, same, turned, joined, inside, IsConsistent, IsStructured}
+use Rattle.akl_terms.specs.Tree.{Tree, Head, integer_head, symbol_head, head_of}
+use Rattle.akl_terms.specs.Equal.{Equations, Equal, turned, joined, IsConsistent}
 use Rattle.akl_terms.specs.Arithmetic.{Operation, calculated, operation_of, value_of, binary, HasValue, number, operation, WaitsOn, here, in_left, in_right}
 use Rattle.constraint_laws.proofs.Values.{HasValue-along, HasValue-one}
-use Rattle.akl_terms.proofs.Arguments.{same_value}
 use Rattle.constraint_laws.proofs.WaitsOne.{one_symbol, left_of, right_of, value_waits}
 use Rattle.arith_goals.specs.Answers.{IsStuck}
 

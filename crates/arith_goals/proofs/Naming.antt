@@ -1,20 +1,19 @@
 -- Operations by the texts of their symbols, and what a term that is no expression begins with.
-use Rattle.std.proofs.Common.{◌≡◌, ℕ, ℤ, zero, suc, ◌+◌, ◌<◌, List, Option, Some, None, refl, sym, ◌∙◌, ap, subst, arith}
-use Rattle.std.specs.Prelude.{slice_get, option_and_then, option_map}
+use Rattle.std.proofs.Common.{◌≡◌, ℕ, ℤ, ◌+◌, List, Option, Some, None, refl, sym, ◌∙◌, ap, arith}
+use Rattle.std.specs.Prelude.{slice_get, option_and_then}
 use Rattle.akl_terms.specs.declared.name.Name.{Name}
 use Rattle.akl_terms.specs.declared.term.Term.{Term}
 use Rattle.akl_terms.specs.declared.term.Term.TheVariants.{Mol}
 use Rattle.akl_terms.specs.declared.term.Node.{Node}
 use Rattle.akl_terms.specs.declared.term.Seen.{Seen}
-use Rattle.akl_terms.specs.Tree.{Tree, head_of, integer, port_head, symbol_head, integer_head}
-use Rattle.akl_terms.specs.Template.{Template, IsArranged, tree, seen_of, seen_node, tree_seen, trees_from}
+use Rattle.akl_terms.specs.Tree.{integer, port_head, symbol_head}
+use Rattle.akl_terms.specs.Template.{Template, IsArranged, tree, seen_of, seen_node, tree_seen}
 use Rattle.akl_terms.specs.Arithmetic.{Operation, operation_named, operation_of, binary}
 use Rattle.akl_terms.proofs.Unfolding.{tree-struct}
 use Rattle.rational_unify.proofs.Chains.{tree_of_seen}
 use Rattle.rational_unify.proofs.Heads.{head_of_seen, head_seen}
 use Rattle.arith_goals.specs.declared.operation.Operation as code
-use Rattle.arith_goals.specs.declared.expression.Application.{Application}
-use Rattle.arith_goals.specs.Operations.{meaning, named}
+use Rattle.arith_goals.specs.Operations.{meaning}
 use Rattle.arith_goals.specs.Expressions.{IsApplication, IsOther}
 
 pub operation_is : (symbols : List (List ℕ)) (f : ℕ) (text : List ℕ) (o : Option Operation) → slice_get symbols f ≡ Some text → operation_named text ≡ o → o ≡ operation_of symbols f

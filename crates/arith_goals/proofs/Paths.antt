@@ -4,7 +4,6 @@ use Rattle.akl_terms.specs.declared.name.Var.{Var}
 use Rattle.akl_terms.specs.Tree.{Tree, variable, integer, integer_head, symbol_head}
 use Rattle.akl_terms.specs.Equal.{Equations, Equal, same, turned, joined, IsConsistent, IsStructured}
 use Rattle.akl_terms.specs.Arithmetic.{Operation, operation_of, binary, HasValue, number, operation, WaitsOn, here, in_left, in_right}
-use Rattle.constraint_laws.proofs.Values.{HasValue-along}
 use Rattle.arith_goals.specs.Answers.{IsStuck}
 use Rattle.constraint_laws.proofs.WaitsOne.{left_of, right_of, value_waits}
 

@@ -1,12 +1,11 @@
 -- What holds of a walk from turn to turn.
-use Rattle.std.proofs.Common.{◌≡◌, ℕ, zero, suc, ℤ, ◌+◌, ◌-◌, ◌*◌, ◌<◌, ◌^◌, List, [], ◌∷◌, ◌++◌, Option, Some, None, Bool, true, false, cond, refl, sym, ◌∙◌, ap, subst, arith, ◌⊎◌, inl, inr}
+use Rattle.std.proofs.Common.{◌≡◌, ℕ, ℤ, ◌+◌, ◌-◌, ◌*◌, ◌<◌, ◌^◌, List, [], ◌∷◌, ◌++◌, Some, None, Bool, true, false, cond, refl, sym, ◌∙◌, ap, subst, arith, ◌⊎◌, inl, inr}
 use Rattle.std.proofs.lemmas.Bool.Decides.{nat_tests}
 use Rattle.std.specs.Map.{lookup}
 use Rattle.akl_terms.specs.declared.name.Var.{Var}
 use Rattle.akl_terms.specs.declared.term.Term.{Term}
-use Rattle.akl_terms.specs.Tree.{Tree, variable, integer, head_of}
+use Rattle.akl_terms.specs.Tree.{Tree, variable, head_of}
 use Rattle.akl_terms.specs.Equal.{Equations, IsTold, Equal, same, turned, joined, IsConsistent}
-use Rattle.akl_terms.specs.Solved.{IsUnstructured}
 use Rattle.akl_terms.specs.Template.{Template, tree}
 use Rattle.akl_terms.specs.Arithmetic.{operation_of, binary, calculated, HasValue, number, WaitsOn, here, in_left, in_right}
 use Rattle.rational_unify.specs.Known.{end_of}
@@ -20,19 +19,16 @@ use Rattle.arith_goals.specs.declared.walk.Walk.{Walk}
 use Rattle.arith_goals.specs.declared.walk.Progress.{Progress}
 use Rattle.arith_goals.specs.declared.walk.Progress.TheVariants.{Ahead, Begun, Value}
 use Rattle.arith_goals.specs.declared.walk.Walked.{Walked}
-use Rattle.arith_goals.specs.declared.walk.Walked.TheVariants as walked
 use Rattle.arith_goals.specs.declared.walk.Walking.{Walking}
 use Rattle.arith_goals.specs.declared.walk.Walking.TheVariants.{Left, Right}
 use Rattle.arith_goals.specs.declared.walk.Step.{Step}
 use Rattle.arith_goals.specs.declared.walk.Step.TheVariants.{Enter, Leave}
-use Rattle.arith_goals.specs.declared.walk.Turn.{Turn}
 use Rattle.arith_goals.specs.declared.walk.Turn.TheVariants.{Go, Stop}
 use Rattle.arith_goals.specs.Operations.{meaning}
-use Rattle.arith_goals.specs.Expressions.{tree_there, IsApplication, IsOther}
+use Rattle.arith_goals.specs.Expressions.{tree_there, IsApplication}
 use Rattle.arith_goals.specs.Walking.{same_place, or_ahead, progress_at, IsSame, Begins, known, inside_itself, begins, Enters, number, free, other, operation, Leaves, last, to_right, undefined, out, Turns}
 use Rattle.arith_goals.specs.Answers.{IsStuck, Comes}
-use Rattle.akl_terms.proofs.Arguments.{same_value}
-use Rattle.arith_goals.proofs.Expressing.{WaitsOn-along, other-stuck, left-stuck, right-stuck, calculated-value, undefined-stuck}
+use Rattle.arith_goals.proofs.Expressing.{other-stuck, left-stuck, right-stuck, calculated-value, undefined-stuck}
 use Rattle.arith_goals.proofs.Paths.{Operand, to_left, to_right, Path, one, further, circle-stuck}
 use Rattle.akl_terms.specs.Arithmetic as arithmetic
 

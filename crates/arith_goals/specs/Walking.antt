@@ -1,5 +1,5 @@
 -- What the walk does in one turn.
-use Rattle.std.specs.Prelude.{◌≡◌, ℕ, ℤ, ◌+◌, ◌<◌, ◌^◌, List, [], ◌∷◌, ◌++◌, Option, None, Some, Bool, cond, ◌&&◌, ◌==◌}
+use Rattle.std.specs.Prelude.{◌≡◌, ℤ, ◌+◌, ◌<◌, ◌^◌, List, [], ◌∷◌, ◌++◌, Option, None, Some, Bool, cond, ◌&&◌, ◌==◌}
 use Rattle.std.specs.Map.{lookup}
 use Rattle.akl_terms.specs.declared.name.Var.{Var}
 use Rattle.akl_terms.specs.declared.term.Term.{Term}
@@ -9,7 +9,6 @@ use Rattle.akl_terms.specs.Arithmetic.{calculated}
 use Rattle.rational_unify.specs.Known.{end_of}
 use Rattle.arith_goals.specs.declared.expression.Place.{Place}
 use Rattle.arith_goals.specs.declared.expression.Application.{Application}
-use Rattle.arith_goals.specs.declared.expression.Expression.{Expression}
 use Rattle.arith_goals.specs.declared.expression.Expression.TheVariants as expression
 use Rattle.arith_goals.specs.declared.walk.Walk.{Walk}
 use Rattle.arith_goals.specs.declared.walk.Walking.{Walking}

@@ -1,13 +1,13 @@
 -- Solved forms of one layer over another.
 use Rattle.std.proofs.Common.{◌≡◌, ℕ, zero, suc, List, [], ◌∷◌, ◌++◌, length, Option, Some, None, Bool, true, false, cond, if◌then◌else◌, refl, sym, ap, subst, ◌∙◌, ◌⊎◌, inl, inr, arith, ◌+◌, append_assoc, append-nil, take, drop, slice_index_or, ◌<◌}
-use Rattle.std.specs.Prelude.{option_map, find, slice_get, ◌↔◌}
+use Rattle.std.specs.Prelude.{option_map, find, slice_get}
 use Rattle.akl_terms.specs.declared.name.Var.{Var}
 use Rattle.akl_terms.specs.declared.term.Node.{Node}
 use Rattle.akl_terms.specs.declared.term.Term.{Term}
 use Rattle.akl_terms.specs.declared.term.Equation as code
-use Rattle.akl_terms.specs.Tree.{Tree, variable, Head, head_of, arguments}
+use Rattle.akl_terms.specs.Tree.{Tree, Head, head_of, arguments}
 use Rattle.akl_terms.specs.Equal.{IsTold, EqualBy, told, IsConsistentBy}
-use Rattle.akl_terms.specs.Solved.{Bindings, IsBound, bound, SameTo, SameTree, Agree, EndsWithin, walk}
+use Rattle.akl_terms.specs.Solved.{Bindings, IsBound, SameTo, SameTree, Agree, EndsWithin, walk}
 use Rattle.akl_terms.specs.Template.{tree}
 use Rattle.akl_terms.proofs.EqualLaws.{EqualBy-follows}
 use Rattle.akl_terms.specs.Names.{same_var}
@@ -23,7 +23,7 @@ use Rattle.rational_unify.proofs.Taking.{take-next}
 use Rattle.rational_unify.proofs.Walks.{walk-extends, Extends, EndsWithin-leads}
 use Rattle.rational_unify.proofs.Same.{Bound-same}
 use Rattle.rational_unify.proofs.Stands.{SameIn-to, SameTo-in}
-use Rattle.rational_unify.proofs.FormLaws.{bound-either, bound-first, form-leads, form-holds, form-follows, form-stays, form-consistent}
+use Rattle.rational_unify.proofs.FormLaws.{bound-either, form-leads, form-holds, form-follows, form-stays, form-consistent}
 
 -- a solved form that has more bindings
 module _ (nodes : List Node) (bs more : List (Var × Term)) (h : IsSolved nodes (bs ++ more)) where

@@ -9,10 +9,9 @@ use Rattle.akl_terms.specs.Equal.{IsTold, EqualBy, told, turned, joined, IsConsi
 use Rattle.akl_terms.specs.Template.{tree}
 use Rattle.akl_terms.specs.Decided.{DifferInHead}
 use Rattle.akl_terms.proofs.EqualLaws.{EqualBy-follows}
-use Rattle.rational_unify.specs.Solving.{bindings_in, equations_in, BindNew, IsSolution, IsClashOf}
+use Rattle.rational_unify.specs.Solving.{bindings_in, BindNew, IsSolution}
 use Rattle.rational_unify.specs.Forms.{IsFormOf, Takes, IsClashOfBindings}
-use Rattle.local_store.specs.Stored.{Stored, joins, with_binding, with_bindings}
-use Rattle.akl_terms.specs.Standing.{StandFor}
+use Rattle.local_store.specs.Stored.{Stored, joins, with_bindings}
 use Rattle.local_store.specs.Chained.{bindings_from, innermost, around, replaced, ToldBy, IsSolvedChain}
 use Rattle.local_store.specs.Telling.{ToldAlso, Tells, Adds, added, clash, clashed, somewhere}
 use Rattle.local_store.proofs.Layers.{form-as, form-equations, form-added, forms-stand, inconsistent-stand, form-reorder, joins-found, joins-length, joins-told, told-joins, from-last, from-innermost, bindings-either, bindings-left, bindings-right, chain-form, chain-clash}

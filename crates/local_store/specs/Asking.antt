@@ -1,6 +1,5 @@
 -- What a chain says, and how it is made solved.
 use Rattle.std.specs.Prelude.{◌≡◌, List, Some}
-use Rattle.akl_terms.specs.declared.name.Var.{Var}
 use Rattle.akl_terms.specs.declared.term.Node.{Node}
 use Rattle.akl_terms.specs.declared.term.Term.{Term}
 use Rattle.akl_terms.specs.Tree.{variable, Head, head_of}

@@ -1,12 +1,10 @@
 -- Chains of stores.
-use Rattle.std.specs.Prelude.{◌≡◌, ℕ, ◌≤◌, List, [], ◌∷◌, ◌++◌, length, take, drop, ◌⊎◌}
+use Rattle.std.specs.Prelude.{ℕ, ◌≤◌, List, [], ◌∷◌, ◌++◌, length, take}
 use Rattle.akl_terms.specs.declared.name.Var.{Var}
 use Rattle.akl_terms.specs.declared.term.Node.{Node}
 use Rattle.akl_terms.specs.declared.term.Term.{Term}
-use Rattle.akl_terms.specs.declared.term.Equation as code
 use Rattle.akl_terms.specs.Tree.{Tree}
-use Rattle.akl_terms.specs.Equal.{IsTold, IsConsistentBy}
-use Rattle.akl_terms.specs.Solved.{SameTree}
+use Rattle.akl_terms.specs.Equal.{IsTold}
 use Rattle.rational_unify.specs.Solving.{bindings_in}
 use Rattle.rational_unify.specs.Forms.{IsFormOf}
 use Rattle.local_store.specs.Stored.{Stored, nothing}

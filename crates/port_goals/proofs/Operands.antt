@@ -6,7 +6,7 @@ use Rattle.akl_terms.specs.declared.term.Node.{Node}
 use Rattle.akl_terms.specs.declared.term.Term.{Term}
 use Rattle.akl_terms.specs.declared.term.Seen.{Seen}
 use Rattle.akl_terms.specs.declared.term.Seen.TheVariants.{Free}
-use Rattle.akl_terms.specs.Tree.{port, Head, integer_head, port_head, symbol_head, head_of}
+use Rattle.akl_terms.specs.Tree.{port, Head, port_head, head_of}
 use Rattle.akl_terms.specs.Equal.{EqualBy, turned, joined}
 use Rattle.akl_terms.specs.Template.{tree, seen_of, tree_seen}
 use Rattle.rational_unify.specs.Known.{end_of}

@@ -1,5 +1,4 @@
-use Rattle.std.proofs.Common.{sym, ◌∙◌, ◌+◌, ◌<◌, ◌^◌, length, arith}
-use Rattle.akl_terms.specs.declared.term.Term.TheVariants.{Mol}
+use Rattle.std.proofs.Common.{sym, ◌+◌, ◌<◌, ◌^◌, length, arith}
 use Rattle.rational_unify.proofs.Heads.{struct-within}
 use Rattle.arith_goals.proofs.Naming.{symbol-other, application-seen}
 use Rattle.arith_goals.proofs.expression.applied.Goals as goal

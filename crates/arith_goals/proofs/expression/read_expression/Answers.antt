@@ -1,4 +1,3 @@
-use Rattle.std.proofs.Common.{sym, ◌∙◌}
 use Rattle.arith_goals.proofs.Naming.{port-other, count-other}
 use Rattle.arith_goals.proofs.expression.read_expression.Goals as goal
 

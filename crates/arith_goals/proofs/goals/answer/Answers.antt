@@ -1,6 +1,5 @@
-use Rattle.std.proofs.Common.{sym, FitsSigned, w64, rules}
+use Rattle.std.proofs.Common.{FitsSigned, w64, rules}
 use Rattle.std.proofs.lemmas.Int.{to_z-of_z}
-use Rattle.std.proofs.lemmas.Result.{IfOk-weaker}
 use Rattle.akl_terms.specs.declared.term.Term.TheVariants.{Mol}
 use Rattle.akl_terms.specs.Template.{tree}
 use Rattle.akl_terms.specs.Arithmetic.{gives, right_of_is}

@@ -1,4 +1,4 @@
-use Rattle.std.proofs.Common.{sym, FitsSigned, w64, rules}
+use Rattle.std.proofs.Common.{FitsSigned, w64, rules}
 use Rattle.std.proofs.lemmas.Int.{to_z-of_z}
 use Rattle.akl_terms.specs.Equal.{IsTold}
 use Rattle.akl_terms.specs.Template.{tree}

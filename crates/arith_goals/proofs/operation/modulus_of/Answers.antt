@@ -1,4 +1,4 @@
-use Rattle.std.proofs.Common.{◌≡◌, pos, ◌<ℤ◌, ◌+ℤ◌, Some, ap, subst, sym, ◌∙◌, FitsSigned, w64, rules, arith}
+use Rattle.std.proofs.Common.{◌≡◌, pos, ◌<ℤ◌, ◌+ℤ◌, sym, FitsSigned, w64, rules, arith}
 use Rattle.std.proofs.lemmas.Int.{to_z-of_z, ints}
 use Rattle.std.specs.Int.{int_rem_euclid}
 use Rattle.arith_goals.proofs.Modulus.{modulus-low, modulus-rest}

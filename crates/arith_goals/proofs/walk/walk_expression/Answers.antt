@@ -1,4 +1,3 @@
-use Rattle.std.proofs.Common.{refl}
 use Rattle.arith_goals.proofs.Walks.{walk-starts, turn-goes, turn-stops, turn-falls}
 use Rattle.arith_goals.proofs.walk.walk_expression.Goals as goal
 

@@ -1,4 +1,4 @@
-use Rattle.std.proofs.Common.{◌≡◌, ◌∙◌, sym, append-nil}
+use Rattle.std.proofs.Common.{◌∙◌, append-nil}
 use Rattle.std.proofs.lemmas.Result.{IfOk-weaker}
 use Rattle.local_store.specs.Chained.{bindings_from, around}
 use Rattle.local_store.proofs.Resolved.{around-take, resolves, no-clash}

@@ -1,5 +1,4 @@
-use Rattle.std.proofs.Common.{◌≡◌, refl, sym, ◌∙◌, ap}
-use Rattle.rational_unify.specs.Forms.{Takes}
+use Rattle.std.proofs.Common.{refl, ◌∙◌}
 use Rattle.local_store.proofs.Layers.{takes-none, takes-store, store-clash}
 use Rattle.local_store.proofs.telling.take_stores.Goals as goal
 

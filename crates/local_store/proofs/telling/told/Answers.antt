@@ -1,10 +1,7 @@
-use Rattle.std.proofs.Common.{◌≡◌, refl, sym, ◌∙◌, ap, subst, length, take, drop, List, [], ◌∷◌, ◌++◌, arith}
+use Rattle.std.proofs.Common.{refl, sym, ◌∙◌, ap, length, arith}
 use Rattle.std.proofs.lemmas.Result.{IfOk-weaker}
-use Rattle.local_store.specs.Stored.{Stored}
-use Rattle.local_store.specs.Chained.{bindings_from, innermost}
-use Rattle.local_store.specs.Telling.{Adds}
+use Rattle.local_store.specs.Chained.{bindings_from}
 use Rattle.local_store.proofs.Known.{whole-known}
-use Rattle.local_store.proofs.Layers.{chain-form, chain-clash}
 use Rattle.local_store.proofs.Replaced.{tells-adds, tells-further, tells-further-clash}
 use Rattle.local_store.proofs.telling.told.Goals as goal
 

@@ -1,4 +1,4 @@
-use Rattle.std.proofs.Common.{refl, sym, ◌∙◌, FitsSigned, w64, rules, arith}
+use Rattle.std.proofs.Common.{refl, sym, FitsSigned, w64, rules, arith}
 use Rattle.std.proofs.lemmas.Int.{to_z-of_z}
 use Rattle.arith_goals.specs.Walking.{known, inside_itself, begins}
 use Rattle.arith_goals.proofs.walk.Walk.begin.Goals as goal

@@ -1,4 +1,4 @@
-use Rattle.std.proofs.Common.{refl, sym, ◌∙◌, FitsSigned, w64, rules}
+use Rattle.std.proofs.Common.{refl, FitsSigned, w64, rules}
 use Rattle.std.proofs.lemmas.Int.{to_z-of_z}
 use Rattle.std.proofs.lemmas.Result.{IfOk-weaker}
 use Rattle.arith_goals.specs.Walking.{number, free, other, operation}

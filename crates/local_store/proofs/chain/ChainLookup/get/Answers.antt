@@ -1,5 +1,4 @@
-use Rattle.std.proofs.Common.{◌≡◌, ◌-◌, ◌≤◌, ap, sym, ◌∙◌, arith, List, length}
-use Rattle.local_store.specs.Stored.{Stored}
+use Rattle.std.proofs.Common.{◌≤◌, ap, sym, ◌∙◌, arith, length}
 use Rattle.local_store.specs.Chained.{Chained}
 use Rattle.local_store.proofs.Known.{get-found, get-none}
 use Rattle.local_store.proofs.chain.ChainLookup.get.Goals as goal

@@ -1,10 +1,10 @@
-use Rattle.std.proofs.Common.{◌≡◌, sym, ap, ◌∙◌, List, Some, None, Option, arith, ◌+◌}
+use Rattle.std.proofs.Common.{◌≡◌, sym, ap, ◌∙◌, List, Some}
 use Rattle.std.specs.Map.{keys_of}
 use Rattle.akl_terms.specs.declared.name.Var.{Var}
 use Rattle.akl_terms.specs.declared.term.Term.{Term}
 use Rattle.rational_unify.specs.Known.{found_in}
 use Rattle.local_store.specs.Stored.{Stored, with_binding}
-use Rattle.local_store.specs.Kept.{IsKept, bindings_of}
+use Rattle.local_store.specs.Kept.{bindings_of}
 use Rattle.local_store.proofs.Bindings.{kept-first, first-joined, kept-further, further-joined, None-from_test, Some-from_test}
 use Rattle.local_store.proofs.store.Store.add_binding.Goals as goal
 

@@ -1,4 +1,4 @@
-use Rattle.std.proofs.Common.{◌≡◌, sym, ap, ◌∙◌}
+use Rattle.std.proofs.Common.{sym, ap, ◌∙◌}
 use Rattle.rational_unify.specs.Known.{found_in}
 use Rattle.local_store.specs.Stored.{Stored}
 use Rattle.local_store.proofs.Bindings.{found-first_key}

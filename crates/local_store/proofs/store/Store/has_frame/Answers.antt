@@ -1,4 +1,4 @@
-use Rattle.std.proofs.Common.{◌≡◌, ap, ◌∙◌}
+use Rattle.std.proofs.Common.{ap, ◌∙◌}
 use Rattle.std.specs.Option.{is_some}
 use Rattle.local_store.specs.Stored.{Stored, is_named}
 use Rattle.local_store.proofs.Ports.{frame-named}
