@@ -34,8 +34,8 @@ pub enum ArithValue {
 /// What an arithmetic goal comes to under the equations that a chain's stores tell.
 ///
 /// Of `is` the right side is walked, of a comparison the left side and then the right one; depth
-/// first, left operands before right ones. The cost is in the order of the operations and bindings
-/// that are walked; a chain that isn't known to be solved is solved first.
+/// first, left operands before right ones, and no operation twice. What isn't known to be solved of
+/// the chain is solved first.
 pub fn evaluate(alloc: Global, chain: &Chain, goal: Goal) -> Result<ArithValue, AllocError>
     requires consistent { IsConsistentBy (ToldBy chain.now.nodes chain.now.stores) }
     requires arithmetic { IsArithmetic goal.code }
@@ -67,6 +67,7 @@ fn answer<K: Lookup>(
     ensures { IfOk result (λ answer. (E : Equations) → IsFormOf templates.now.nodes (K.bindings known.now) (IsTold E) → Answers templates.now E goal answer) }
 {
     let Code::Arith { test, left, right } = goal.code else {
+        // Not where the goal is arithmetic.
         return Ok(ArithValue::Never);
     };
     let frame = goal.frame;
@@ -119,6 +120,7 @@ fn holds(test: Test, left: i64, right: i64) -> bool
     ensures { compares test left right ≡ Some result }
 {
     match test {
+        // Not a comparison.
         Test::Is => false,
         Test::Less => left < right,
         Test::Greater => left > right,

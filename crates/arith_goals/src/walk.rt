@@ -90,7 +90,7 @@ pub struct Walk {
     walking: Vec<Walking>,
     /// How far each operation is that was begun.
     progress: HashMap<Place, Progress>,
-    /// How many operations were begun.
+    /// How many operations were begun, by which the walk is seen to end.
     begun: u64,
 }
 

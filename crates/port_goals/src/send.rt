@@ -13,11 +13,11 @@ use rational_unify::chain_end;
 /// What the port operand of a send is under the equations of a chain.
 #[derive(Clone, Copy, Debug, PartialEq, Eq)]
 pub enum SendState {
-    /// A port of the innermost box.
+    /// A port that the innermost store has.
     Owned(Name),
-    /// A port of another box.
+    /// A port that the innermost store doesn't have: one of another box.
     Elsewhere(Name),
-    /// No term with a head; the variable stands for its class.
+    /// The operand's class isn't structured; the variable stands for it.
     Waits { on: Var },
     /// A term with a head that is no port.
     NoPort,
@@ -31,6 +31,7 @@ pub fn sendable(chain: &Chain, goal: Goal) -> SendState
     ensures { IsStateOf chain.now.nodes chain.now.stores goal result }
 {
     let Code::Send { message: _, port } = goal.code else {
+        // Not where the goal is a send.
         return SendState::NoPort;
     };
     let templates = chain.templates();
