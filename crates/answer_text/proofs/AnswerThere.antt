@@ -27,7 +27,7 @@ walk-strict g block rank cyclic w {i = i} f (on {j = j} {m = m} k x r) = let a :
 
 ranked-cyclic : (E : Equations) (g : Graph) (block rank : ℕ → ℕ) (cyclic : ℕ → Bool) → IsConsistent E → IsGraphOf E g → IsStable E g block → IsFair E g block → IsRanked g block rank cyclic
     → (i : ℕ) (t : Tree) → Stands g i t → (cyclic i ≡ true → IsCyclic E t) × (cyclic i ≡ false → IsCyclic E t → ⊥)
-ranked-cyclic E g block rank cyclic c r b f w i t p = (λ e. back-cyclic E c g block r b i t p (w.back i e), never)
+ranked-cyclic E g block rank cyclic c r b f w i t p = (λ e. back-cyclic E c g block r b i t p (w.back i t p e), never)
   where
     never : cyclic i ≡ false → IsCyclic E t → ⊥
     never e y =
