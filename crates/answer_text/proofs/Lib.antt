@@ -15,3 +15,4 @@ pub mod Coarsest
 pub mod WorkedOut
 pub mod WrittenOut
 pub mod CycleExamples
+pub mod LoopGraph

@@ -1,6 +1,6 @@
 //! Laws of all texts of answers, each the contract of a function without a body.
 
-ghost use Rattle.answer_text.specs.Examples.{CyclicListLaw, TwoCyclesLaw};
+ghost use Rattle.answer_text.specs.Examples.{CyclicListLaw, LoopGraphLaw, TwoCyclesLaw};
 ghost use Rattle.answer_text.specs.Laws.{OneTextLaw, RepresentedTextLaw, TextLaw, WrittenOutLaw};
 
 /// Consistent equations have at most one text of an answer.
@@ -20,8 +20,9 @@ pub fn written_out()
     ensures { WrittenOutLaw }
 {}
 
-/// Small cyclic trees and their texts.
+/// Small cyclic trees, their texts, and a graph that is worked out.
 pub fn cyclic_texts()
     ensures two_cycles { TwoCyclesLaw }
     ensures cyclic_list { CyclicListLaw }
+    ensures loop_graph { LoopGraphLaw }
 {}
