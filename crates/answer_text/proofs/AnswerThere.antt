@@ -14,7 +14,8 @@ use Rattle.answer_text.specs.AnswerLines.{Numbers, IsLastTail, PrintsTree, class
 use Rattle.answer_text.specs.Graph.{Graph, Stands, IsChild, IsGraphOf, IsStable, IsFair, Walks, at, on, ComesBack, IsRanked, HasNames, AreThere}
 use Rattle.answer_text.specs.Laws.{TextLaw}
 use Rattle.answer_text.proofs.Respects.{free-alike, other-alike}
-use Rattle.answer_text.proofs.SameTrees.{same_value, Same-equal, Same-equal', Same-free, free-self}
+use Rattle.akl_terms.proofs.Arguments.{same_value}
+use Rattle.answer_text.proofs.SameTrees.{Same-equal, Same-equal', Same-free, free-self}
 use Rattle.answer_text.proofs.GraphTrees.{stable-same, either_nat, back-cyclic, cyclic-back}
 
 -- no walk leads up

@@ -7,7 +7,8 @@ use Rattle.answer_text.specs.Printed.{IsFree}
 use Rattle.answer_text.specs.Cyclic.{SameTree}
 use Rattle.answer_text.specs.Graph.{Graph, Stands, IsChild, IsGraphOf, AgreeIn, one_class, one_head, IsStable, IsFair, Walks, at, on, ComesBack}
 use Rattle.answer_text.specs.BuiltGraph.{at_node, Differ, by_top, by_child, IsCoarsest, Passes, one_step, and_on}
-use Rattle.answer_text.proofs.SameTrees.{headed, partner, Same-equal, Same-equal', Same-arguments, Same-down, Down, Same-free, free-same, Same-turned}
+use Rattle.akl_terms.proofs.Arguments.{partner}
+use Rattle.answer_text.proofs.SameTrees.{headed, Same-equal, Same-equal', Same-arguments, Same-down, Down, Same-free, free-same, Same-turned}
 
 -- nodes have one number exactly where they are one unstructured class or have one head
 pub record AreTops (E : Equations) (g : Graph) (tops : List ℕ) : Type 0 where
