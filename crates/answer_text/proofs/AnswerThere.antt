@@ -14,7 +14,8 @@ use Rattle.answer_text.specs.AnswerLines.{Numbers, IsLastTail, PrintsTree, class
 use Rattle.answer_text.specs.Graph.{Graph, Stands, IsChild, IsGraphOf, IsStable, IsFair, Walks, at, on, ComesBack, IsRanked, HasNames, AreThere}
 use Rattle.answer_text.specs.Laws.{TextLaw}
 use Rattle.answer_text.proofs.Respects.{free-alike, other-alike}
-use Rattle.answer_text.proofs.SameTrees.{same_value, Same-equal, Same-equal', Same-free, free-self}
+use Rattle.akl_terms.proofs.Arguments.{same_value}
+use Rattle.answer_text.proofs.SameTrees.{Same-equal, Same-equal', Same-free, free-self}
 use Rattle.answer_text.proofs.GraphTrees.{stable-same, either_nat, back-cyclic, cyclic-back}
 
 -- no walk leads up
@@ -27,7 +28,7 @@ walk-strict g block rank cyclic w {i = i} f (on {j = j} {m = m} k x r) = let a :
 
 ranked-cyclic : (E : Equations) (g : Graph) (block rank : ℕ → ℕ) (cyclic : ℕ → Bool) → IsConsistent E → IsGraphOf E g → IsStable E g block → IsFair E g block → IsRanked g block rank cyclic
     → (i : ℕ) (t : Tree) → Stands g i t → (cyclic i ≡ true → IsCyclic E t) × (cyclic i ≡ false → IsCyclic E t → ⊥)
-ranked-cyclic E g block rank cyclic c r b f w i t p = (λ e. back-cyclic E c g block r b i t p (w.back i e), never)
+ranked-cyclic E g block rank cyclic c r b f w i t p = (λ e. back-cyclic E c g block r b i t p (w.back i t p e), never)
   where
     never : cyclic i ≡ false → IsCyclic E t → ⊥
     never e y =

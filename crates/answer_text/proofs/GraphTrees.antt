@@ -8,7 +8,8 @@ use Rattle.akl_terms.specs.Solved.{SameIn}
 use Rattle.answer_text.specs.Printed.{IsFree}
 use Rattle.answer_text.specs.Cyclic.{SameTree, LeadsTo, stays, goes, IsCyclic}
 use Rattle.answer_text.specs.Graph.{Graph, Stands, IsChild, IsGraphOf, AgreeIn, one_class, one_head, IsStable, IsFair, Walks, at, on, ComesBack}
-use Rattle.answer_text.proofs.SameTrees.{headed, partner, In-equal, In-turned, Same-equal', equal-inside}
+use Rattle.akl_terms.proofs.Arguments.{partner}
+use Rattle.answer_text.proofs.SameTrees.{headed, In-equal, In-turned, Same-equal', equal-inside}
 
 -- nodes of one block are the same down to each depth
 stable-in : (E : Equations) → (c : IsConsistent E) → (g : Graph) (block : ℕ → ℕ) → IsGraphOf E g → IsStable E g block

@@ -11,5 +11,8 @@ pub mod SameTrees
 pub mod OneAnswer
 pub mod GraphTrees
 pub mod AnswerThere
+pub mod Coarsest
+pub mod WorkedOut
 pub mod WrittenOut
 pub mod CycleExamples
+pub mod LoopGraph

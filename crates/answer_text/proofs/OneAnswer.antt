@@ -12,7 +12,8 @@ use Rattle.answer_text.specs.AnswerLines.{Numbers, cycle_text, IsLastTail, Print
 use Rattle.answer_text.specs.Laws.{OneTextLaw}
 use Rattle.answer_text.proofs.Respects.{Alike, numbered-one}
 use Rattle.answer_text.proofs.Determined.{one_head, one_name}
-use Rattle.answer_text.proofs.SameTrees.{same_value, Same-turned, Same-joined, Same-heads, Same-arguments, Same-down, Down, headed, partner, Same-free, free-self, cyclic-same, cyclic-structured, free-same}
+use Rattle.akl_terms.proofs.Arguments.{same_value, partner}
+use Rattle.answer_text.proofs.SameTrees.{Same-turned, Same-joined, Same-heads, Same-arguments, Same-down, Down, headed, Same-free, free-self, cyclic-same, cyclic-structured, free-same}
 
 abbrev Is : ℕ → ℕ → Type 0
 Is a b = a ≡ b

@@ -1,39 +1,14 @@
 -- The same tree, under consistent equations: an equivalence on the trees that are themselves, and it goes down.
-use Rattle.std.proofs.Common.{◌≡◌, ℕ, zero, suc, List, [], ◌∷◌, length, refl, sym, ◌∙◌, ap, inl, inr, arith, Option, Some}
+use Rattle.std.proofs.Common.{◌≡◌, ℕ, zero, suc, List, ◌∷◌, length, refl, sym, ◌∙◌, ap, inl, inr, Some}
 use Rattle.std.specs.Prelude.{slice_get}
 use Rattle.akl_terms.specs.Tree.{Tree, variable, integer, port, symbol, Head, integer_head, port_head, symbol_head, head_of, arguments}
 use Rattle.akl_terms.specs.Equal.{Equations, Equal, IsTold, same, turned, joined, inside, IsConsistent}
 use Rattle.akl_terms.specs.Solved.{IsUnstructured, SameIn}
+use Rattle.akl_terms.proofs.Arguments.{partner}
+use Rattle.akl_terms.proofs.StandingLaws.{same_equal}
 use Rattle.answer_text.specs.Printed.{IsFree}
 use Rattle.answer_text.proofs.Determined.{one_head}
 use Rattle.answer_text.specs.Cyclic.{SameTree, LeadsTo, stays, goes, IsCyclic}
-
-pub same_value : {A : Type 0} {o : Option A} {a b : A} → o ≡ Some a → o ≡ Some b → a ≡ b
-same_value p q = cc
-
--- a term at a place is there in an equal list too
-pub get_some : (xs ys : List Tree) (k : ℕ) (a : Tree) → length xs ≡ length ys → slice_get xs k ≡ Some a → (b : Tree) × (slice_get ys k ≡ Some b)
-get_some [] ys k a e p = cc
-get_some (x ∷ xs) [] k a e p = cc
-get_some (x ∷ xs) (y ∷ ys) zero a e p = (y, refl)
-get_some (x ∷ xs) (y ∷ ys) (suc k) a e p = get_some xs ys k a (omega arith) p
-
-abbrev pub arity : Head → ℕ
-arity (integer_head n) = 0
-arity (port_head p) = 0
-arity (symbol_head f n) = n
-
--- how many arguments a head has
-pub length-arguments : (t : Tree) (h : Head) → head_of t ≡ Some h → length (arguments t) ≡ arity h
-length-arguments (variable x) h e = cc
-length-arguments (integer n) h e = rw (← same_value refl e)
-length-arguments (port p) h e = rw (← same_value refl e)
-length-arguments (symbol f ts) h e = ap arity (same_value refl e)
-
--- where two terms agree in head, an argument of the one has its partner
-pub partner : (u v : Tree) (h : Head) (k : ℕ) (a : Tree) → head_of u ≡ Some h → head_of v ≡ Some h → slice_get (arguments u) k ≡ Some a
-    → (b : Tree) × (slice_get (arguments v) k ≡ Some b)
-partner u v h k a p q e = get_some (arguments u) (arguments v) k a (length-arguments u h p ∙ sym (length-arguments v h q)) e
 
 -- a term with an argument has a head
 pub headed : (t : Tree) (k : ℕ) (a : Tree) → slice_get (arguments t) k ≡ Some a → (h : Head) × (head_of t ≡ Some h)
@@ -101,11 +76,7 @@ module _ (E : Equations) (c : IsConsistent E) where
 
   -- an unstructured class is the same tree as its own terms alone
   pub Same-free : {s t : Tree} → SameTree E s t → IsFree E s → Equal E s t
-  Same-free {s} {t} m f = on (m 1)
-    where
-      on : SameIn (IsTold E) 1 s t → Equal E s t
-      on (inl a) = a.0
-      on (inr (u, v, h, p, q, x, y, g)) = absurd (f.free u h p x)
+  Same-free {s} {t} m f = same_equal s t m (λ u h p x. f.free u h p x)
 
   pub free-same : {s t : Tree} → SameTree E s t → IsFree E s → IsFree E t
   free-same m f = record { free = λ u h p x. f.free u h (joined (Same-free m f) p) x }

@@ -10,7 +10,8 @@ use Rattle.answer_text.specs.AnswerLines as lines_text
 use Rattle.answer_text.specs.AnswerLines.{Numbers, plain, all_shown, all_written}
 use Rattle.answer_text.specs.Laws.{WrittenOutLaw}
 use Rattle.answer_text.proofs.Determined.{one_head}
-use Rattle.answer_text.proofs.SameTrees.{headed, partner, Same-leads, leads-structured, equal-inside}
+use Rattle.akl_terms.proofs.Arguments.{partner}
+use Rattle.answer_text.proofs.SameTrees.{headed, Same-leads, leads-structured, equal-inside}
 
 -- no list of more positions leads down from the tree
 record IsWithin (E : Equations) (d : ℕ) (s : Tree) : Type 0 where

@@ -55,7 +55,7 @@ pub record IsRanked (g : Graph) (block rank : ℕ → ℕ) (cyclic : ℕ → Boo
   pub one : (i j : ℕ) → block i ≡ block j → rank i ≡ rank j
   pub down : (i k j : ℕ) → IsChild g i k j → rank j ≤ rank i
   pub strict : (i k j : ℕ) → cyclic i ≡ false → IsChild g i k j → rank j < rank i
-  pub back : (i : ℕ) → cyclic i ≡ true → ComesBack g block i
+  pub back : (i : ℕ) (t : Tree) → Stands g i t → cyclic i ≡ true → ComesBack g block i
 
 -- each symbol of a node has a name
 pub record HasNames (symbols : List (List ℕ)) (g : Graph) : Type 0 where

@@ -4,6 +4,8 @@ use Rattle.akl_terms.specs.Tree.{Tree}
 use Rattle.akl_terms.specs.Equal.{Equations, IsConsistent}
 use Rattle.answer_text.specs.Printed.{PrintsLines}
 use Rattle.answer_text.specs.AnswerLines.{AreAnswerLines}
+use Rattle.answer_text.specs.Classes.{Represents}
+use Rattle.answer_text.specs.BuiltGraph.{IsWorkedOut, AreBuilt}
 use Rattle.answer_text.specs.Graph.{Graph, IsDecided, AreThere}
 
 -- consistent equations have at most one text of an answer
@@ -20,3 +22,8 @@ WrittenOutLaw = (symbols : List (List ℕ)) (E : Equations) (shown : List (List 
 abbrev pub TextLaw : Type 0
 TextLaw = (symbols : List (List ℕ)) (E : Equations) (g : Graph) (block rank : ℕ → ℕ) (cyclic : ℕ → Bool) (shown : List (List ℕ × Tree)) → IsConsistent E
     → IsDecided symbols E g block rank cyclic → AreThere E g shown → (text : List ℕ) × AreAnswerLines symbols E shown text
+
+-- shown terms of a graph that is worked out have a text under all equations whose classes go represents
+abbrev pub RepresentedTextLaw : Type 0
+RepresentedTextLaw = (symbols : List (List ℕ)) (go : Tree → Tree) (g : Graph) (tops blocks : List ℕ) (rank : ℕ → ℕ) (marked : ℕ → Bool) (shown : List (List ℕ × Tree))
+    → IsWorkedOut symbols go g tops blocks rank marked → AreBuilt go g shown → (E : Equations) → Represents E go → (text : List ℕ) × AreAnswerLines symbols E shown text

@@ -6,5 +6,6 @@ pub mod Pieces
 pub mod Cyclic
 pub mod AnswerLines
 pub mod Graph
+pub mod BuiltGraph
 pub mod Examples
 pub mod Laws

@@ -1,16 +1,18 @@
 //! Laws of all texts of answers, each the contract of a function without a body.
 
-ghost use Rattle.answer_text.specs.Examples.{CyclicListLaw, TwoCyclesLaw};
-ghost use Rattle.answer_text.specs.Laws.{OneTextLaw, TextLaw, WrittenOutLaw};
+ghost use Rattle.answer_text.specs.Examples.{CyclicListLaw, LoopGraphLaw, TwoCyclesLaw};
+ghost use Rattle.answer_text.specs.Laws.{OneTextLaw, RepresentedTextLaw, TextLaw, WrittenOutLaw};
 
 /// Consistent equations have at most one text of an answer.
 pub fn one_text()
     ensures { OneTextLaw }
 {}
 
-/// Shown terms of a graph whose equal and cyclic trees are decided have a text, however long.
+/// Shown terms have a text, however long, where a graph decides which of their trees are the same
+/// and which are cyclic, and where it is worked out from what stands for each term.
 pub fn text_exists()
-    ensures { TextLaw }
+    ensures decided { TextLaw }
+    ensures represented { RepresentedTextLaw }
 {}
 
 /// Lines with every tree written out are the text of the answer: no tree of them is cyclic.
@@ -18,8 +20,9 @@ pub fn written_out()
     ensures { WrittenOutLaw }
 {}
 
-/// Small cyclic trees and their texts.
+/// Small cyclic trees, their texts, and a graph that is worked out.
 pub fn cyclic_texts()
     ensures two_cycles { TwoCyclesLaw }
     ensures cyclic_list { CyclicListLaw }
+    ensures loop_graph { LoopGraphLaw }
 {}

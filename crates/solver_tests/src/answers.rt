@@ -3,7 +3,10 @@
 ghost use Rattle.std.specs.Prelude.{◌≡◌};
 
 use akl_terms::{Name, Node, ShownTerm, Templates, Term, Text};
-use answer_text::{AnswerError, Representatives, answer, one_text, symbol_text};
+use answer_text::{
+    AnswerError, Representatives, answer, cyclic_texts, one_text, symbol_text, text_exists,
+    written_out,
+};
 use std::alloc::{AllocError, Global};
 use std::test::Fail;
 
@@ -148,6 +151,9 @@ it's 'it\'s'
 #[test]
 fn symbols_are_written_plainly_or_in_quotes(rt: HostRuntime) -> Result<(), Fail> {
     one_text();
+    written_out();
+    text_exists();
+    cyclic_texts();
     let alloc = rt.alloc();
     for case in SYMBOLS.lines().skip(1) {
         let (symbol, want) = case.split_once(" ").ok_or("case")?;
