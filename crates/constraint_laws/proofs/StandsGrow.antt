@@ -1,133 +1,177 @@
 -- What stands for equations stands for them with more equations on both sides.
-use Rattle.std.proofs.Common.{◌≡◌, ℕ, zero, suc, ◌++◌, Some, sym, ◌∙◌, ap, ◌⊎◌, inl, inr}
+use Rattle.std.proofs.Common.{◌≡◌, ℕ, zero, suc, ◌++◌, Some, sym, ◌∙◌, ap, subst, ◌⊎◌, inl, inr}
 use Rattle.std.specs.Prelude.{slice_get}
 use Rattle.akl_terms.specs.Tree.{Tree, Head, head_of, arguments}
-use Rattle.akl_terms.specs.Equal.{Equations, IsTold, Equal, told, same, turned, joined, inside, Follows, IsConsistent}
-use Rattle.akl_terms.specs.Solved.{SameIn, SameTree}
+use Rattle.akl_terms.specs.Equal.{Equations, IsTold, EqualBy, told, same, turned, joined, inside, IsConsistentBy}
+use Rattle.akl_terms.specs.Solved.{IsUnstructured, SameIn, SameTree}
 use Rattle.akl_terms.specs.Standing.{StandFor}
-use Rattle.akl_terms.proofs.Arguments.{partner}
-use Rattle.akl_terms.proofs.EqualLaws.{Equal-follows, IsConsistent-follows, IsTold-left, IsTold-right, IsTold-either}
-use Rattle.akl_terms.proofs.StandingLaws.{StandFor-follows, StandFor-back, StandFor-on}
+use Rattle.akl_terms.proofs.Arguments.{same_value, partner}
+use Rattle.akl_terms.proofs.EqualLaws.{EqualBy-follows, IsTold-left, IsTold-right, IsTold-either}
+use Rattle.akl_terms.proofs.StandingLaws.{IsConsistentBy-follows, StandFor-follows, StandFor-back, StandFor-on}
 use Rattle.constraint_laws.specs.StandingGrows.{AreToldIn}
-use Rattle.constraint_laws.proofs.Beside.{left_follows}
-use Rattle.constraint_laws.proofs.SameTrees.{equal_same, same_along}
+use Rattle.constraint_laws.proofs.SameTrees.{equal_same}
 
--- under equations, down to a depth
-module _ (E : Equations) where
-  pub same_turned : (n : ℕ) (s t : Tree) → SameIn (IsTold E) n s t → SameIn (IsTold E) n t s
-  same_turned zero s t m = tt
-  same_turned (suc n) s t m = on m (λ a b p. same_turned n a b p)
-    where
-      on : SameIn (IsTold E) (suc n) s t → ((a b : Tree) → SameIn (IsTold E) n a b → SameIn (IsTold E) n b a) → SameIn (IsTold E) (suc n) t s
-      on (inl w) low = inl (turned w.0, λ u h e i. w.1 u h (joined w.0 e) i)
-      on (inr w) low = inr (w.1, w.0, w.2, w.4, w.3, w.6, w.5, λ k a b p q. low b a (w.7 k b a q p))
+-- what a term has under a relation another one has, down to a depth: it is equal to it where it isn't structured, and else to a term with its head and such arguments
+abbrev Carries : (Tree → Tree → Type 0) → ℕ → Tree → Tree → Type 0
+Carries V zero s t = Unit {0}
+Carries V (suc n) s t = (IsUnstructured V s → EqualBy V s t)
+    × ((u : Tree) (h : Head) → EqualBy V s u → head_of u ≡ Some h → (v : Tree) × EqualBy V t v × (head_of v ≡ Some h)
+    × ((k : ℕ) (a b : Tree) → slice_get (arguments u) k ≡ Some a → slice_get (arguments v) k ≡ Some b → Carries V n a b))
 
-  pub same_joined : IsConsistent E → (n : ℕ) (s t u : Tree) → SameIn (IsTold E) n s t → SameIn (IsTold E) n t u → SameIn (IsTold E) n s u
-  same_joined c zero s t u m o = tt
-  same_joined c (suc n) s t u m o = on m o (λ x y z p q. same_joined c n x y z p q)
+module _ (V : Tree → Tree → Type 0) where
+  carries_equal : (n : ℕ) (s t : Tree) → EqualBy V s t → Carries V n s t
+  carries_equal zero s t e = tt
+  carries_equal (suc n) s t e = on (λ a b p. carries_equal n a b p)
     where
-      on : SameIn (IsTold E) (suc n) s t → SameIn (IsTold E) (suc n) t u
-          → ((x y z : Tree) → SameIn (IsTold E) n x y → SameIn (IsTold E) n y z → SameIn (IsTold E) n x z) → SameIn (IsTold E) (suc n) s u
-      on (inl w) (inl v) low = inl (joined w.0 v.0, w.1)
-      on (inl w) (inr v) low = absurd (w.1 v.0 v.2 (joined w.0 v.3) v.5)
-      on (inr w) (inl v) low = absurd (v.1 w.1 w.2 w.4 w.6)
-      on (inr w) (inr v) low = inr (w.0, v.1, w.2, w.3, v.4, w.5, v.6 ∙ ap Some (sym heads), args)
+      on : ((a b : Tree) → EqualBy V a b → Carries V n a b) → Carries V (suc n) s t
+      on low = (λ f. e, λ u h d i. (u, joined (turned e) d, i, λ k a b p q. low a b (subst (λ (z : Tree). EqualBy V a z) (same_value p q) same)))
+
+  carries_joined : (n : ℕ) (s t r : Tree) → Carries V n s t → Carries V n t r → Carries V n s r
+  carries_joined zero s t r m o = tt
+  carries_joined (suc n) s t r m o = on (λ a b c p q. carries_joined n a b c p q)
+    where
+      first : IsUnstructured V s → EqualBy V s r
+      first f = let e : EqualBy V s t = m.0 f in joined e (o.0 (λ u h d i. f u h (joined e d) i))
+
+      on : ((a b c : Tree) → Carries V n a b → Carries V n b c → Carries V n a c) → Carries V (suc n) s r
+      on low = (
+        first,
+        λ u h d i.
+            let v : (v : Tree) × EqualBy V t v × (head_of v ≡ Some h) × ((k : ℕ) (a b : Tree) → slice_get (arguments u) k ≡ Some a → slice_get (arguments v) k ≡ Some b → Carries V n a b) = m.1 u h d i in
+            let w : (w : Tree) × EqualBy V r w × (head_of w ≡ Some h) × ((k : ℕ) (a b : Tree) → slice_get (arguments v.0) k ≡ Some a → slice_get (arguments w) k ≡ Some b → Carries V n a b) = o.1 v.0 h v.1 v.2 in (
+              w.0,
+              w.1,
+              w.2,
+              λ k a b p q.
+                  let c : (c : Tree) × (slice_get (arguments v.0) k ≡ Some c) = partner u v.0 h k a i v.2 p in
+                  low a c.0 b (v.3 k a c.0 p c.1) (w.3 k c.0 b c.1 q),
+            ),
+      )
+
+  carries_inside : (n : ℕ) (s t a b : Tree) (h : Head) (k : ℕ) → Carries V (suc n) s t → head_of s ≡ Some h → head_of t ≡ Some h
+      → slice_get (arguments s) k ≡ Some a → slice_get (arguments t) k ≡ Some b → Carries V n a b
+  carries_inside n s t a b h k m x y i j =
+      let v : (v : Tree) × EqualBy V t v × (head_of v ≡ Some h) × ((k : ℕ) (a b : Tree) → slice_get (arguments s) k ≡ Some a → slice_get (arguments v) k ≡ Some b → Carries V n a b) = m.1 s h same x in
+      let c : (c : Tree) × (slice_get (arguments v.0) k ≡ Some c) = partner t v.0 h k b y v.2 j in
+      carries_joined n a c.0 b (v.3 k a c.0 i c.1) (carries_equal n c.0 b (inside k (turned v.1) v.2 y c.1 j))
+
+  -- what is the same tree under fewer equations
+  carries_same : (S : Tree → Tree → Type 0) → ((s t : Tree) → S s t → EqualBy V s t) → IsConsistentBy V → (n : ℕ) (s t : Tree) → SameIn S n s t → Carries V n s t × Carries V n t s
+  carries_same S f c zero s t m = (tt, tt)
+  carries_same S f c (suc n) s t m = on m (λ a b p. carries_same S f c n a b p)
+    where
+      on : SameIn S (suc n) s t → ((a b : Tree) → SameIn S n a b → Carries V n a b × Carries V n b a) → Carries V (suc n) s t × Carries V (suc n) t s
+      on (inl w) low = let e : EqualBy V s t = EqualBy-follows f w.0 in (carries_equal (suc n) s t e, carries_equal (suc n) t s (turned e))
+      on (inr w) low = (
+        side s w.0 t w.1 w.2 (EqualBy-follows f w.3) (EqualBy-follows f w.4) w.5 w.6 (λ k a b p q. (low a b (w.7 k a b p q)).0),
+        side t w.1 s w.0 w.2 (EqualBy-follows f w.4) (EqualBy-follows f w.3) w.6 w.5 (λ k a b p q. (low b a (w.7 k b a q p)).1),
+      )
         where
-          middle : Equal E w.1 v.0
-          middle = joined (turned w.4) v.3
+          side : (x u y v : Tree) (h : Head) → EqualBy V x u → EqualBy V y v → head_of u ≡ Some h → head_of v ≡ Some h
+              → ((k : ℕ) (a b : Tree) → slice_get (arguments u) k ≡ Some a → slice_get (arguments v) k ≡ Some b → Carries V n a b) → Carries V (suc n) x y
+          side x u y v h e d i j args = (
+            λ g. absurd (g u h e i),
+            λ z g l r.
+                let q : g ≡ h = c.heads (joined (turned l) e) r i in
+                let ru : head_of z ≡ Some h = r ∙ ap Some q in (
+                  v,
+                  d,
+                  j ∙ ap Some (sym q),
+                  λ k a b p o.
+                      let m : (m : Tree) × (slice_get (arguments u) k ≡ Some m) = partner z u h k a ru i p in
+                      carries_joined n a m.0 b (carries_equal n a m.0 (inside k (joined (turned l) e) ru i p m.1)) (args k m.0 b m.1 o),
+                ),
+          )
 
-          heads : w.2 ≡ v.2
-          heads = c.heads middle w.6 v.5
-
-          args : (k : ℕ) (a b : Tree) → slice_get (arguments w.0) k ≡ Some a → slice_get (arguments v.1) k ≡ Some b → SameIn (IsTold E) n a b
-          args k a b x y =
-              let p : (d : Tree) × (slice_get (arguments w.1) k ≡ Some d) = partner w.0 w.1 w.2 k a w.5 w.6 x in
-              let q : (d : Tree) × (slice_get (arguments v.0) k ≡ Some d) = partner v.1 v.0 v.2 k b v.6 v.5 y in
-              let e : Equal E p.0 q.0 = inside k middle w.6 (v.5 ∙ ap Some (sym heads)) p.1 q.1 in
-              low a q.0 b (same_along E n a a p.0 q.0 same e (w.7 k a p.0 x p.1)) (v.7 k q.0 b q.1 y)
-
-  pub same_inside : IsConsistent E → (n : ℕ) (s t a b : Tree) (h : Head) (k : ℕ) → SameIn (IsTold E) (suc n) s t → head_of s ≡ Some h → head_of t ≡ Some h
-      → slice_get (arguments s) k ≡ Some a → slice_get (arguments t) k ≡ Some b → SameIn (IsTold E) n a b
-  same_inside c n s t a b h k (inl w) x y i j = absurd (w.1 s h same x)
-  same_inside c n s t a b h k (inr w) x y i j =
-      let g : w.2 ≡ h = sym (c.heads w.3 x w.5) in
-      let hu : head_of w.0 ≡ Some h = w.5 ∙ ap Some g in
-      let hv : head_of w.1 ≡ Some h = w.6 ∙ ap Some g in
-      let p : (d : Tree) × (slice_get (arguments w.0) k ≡ Some d) = partner s w.0 h k a x hu i in
-      let q : (d : Tree) × (slice_get (arguments w.1) k ≡ Some d) = partner t w.1 h k b y hv j in
-      same_along E n a p.0 q.0 b (inside k w.3 x hu i p.1) (inside k (turned w.4) hv y q.1 j) (w.7 k p.0 q.0 p.1 q.1)
-
-  -- the same trees agree in head
-  pub same_heads : IsConsistent E → (s t : Tree) (g h : Head) → SameTree (IsTold E) s t → head_of s ≡ Some g → head_of t ≡ Some h → g ≡ h
-  same_heads c s t g h m x y = on (m 1)
+  -- what has all that two terms have which are the same tree
+  same_carried : (n : ℕ) (a b c d : Tree) → Carries V n b a → SameIn V n b c → Carries V n c d → SameIn V n a d
+  same_carried zero a b c d m o r = tt
+  same_carried (suc n) a b c d m o r = on o (λ x y z w p q l. same_carried n x y z w p q l)
     where
-      on : SameIn (IsTold E) 1 s t → g ≡ h
-      on (inl w) = absurd (w.1 s g same x)
-      on (inr w) = c.heads w.3 x w.5 ∙ sym (c.heads w.4 y w.6)
-
--- the same tree stays the same tree where more is told
-pub same_follows : (E F : Equations) → Follows E F → (n : ℕ) (s t : Tree) → SameIn (IsTold E) n s t → SameIn (IsTold F) n s t
-same_follows E F f zero s t m = tt
-same_follows E F f (suc n) s t m = on m (λ a b p. same_follows E F f n a b p)
-  where
-    on : SameIn (IsTold E) (suc n) s t → ((a b : Tree) → SameIn (IsTold E) n a b → SameIn (IsTold F) n a b) → SameIn (IsTold F) (suc n) s t
-    on (inl w) low = equal_same F (suc n) s t (Equal-follows f w.0)
-    on (inr w) low = inr (w.0, w.1, w.2, Equal-follows f w.3, Equal-follows f w.4, w.5, w.6, λ k a b p q. low a b (w.7 k a b p q))
-
--- where what U tells is the same tree under consistent equations V, so is what follows from U, and what is the same tree under U
-module _ (U V : Equations) (c : IsConsistent V) (tells : (s t : Tree) → IsTold U s t → SameTree (IsTold V) s t) where
-  pub equal_is_same : {s t : Tree} → Equal U s t → SameTree (IsTold V) s t
-  equal_is_same (told {s = s} {t = t} m) = tells s t m
-  equal_is_same (same {t = t}) = λ n. equal_same V n t t same
-  equal_is_same (turned {s = s} {t = t} e) = let m : SameTree (IsTold V) s t = equal_is_same e in λ n. same_turned V n s t (m n)
-  equal_is_same (joined {s = s} {t = t} {u = u} e f) =
-      let m : SameTree (IsTold V) s t = equal_is_same e in
-      let o : SameTree (IsTold V) t u = equal_is_same f in
-      λ n. same_joined V c n s t u (m n) (o n)
-  equal_is_same (inside {s = s} {t = t} {a = a} {b = b} {h = h} k e x y i j) =
-      let m : SameTree (IsTold V) s t = equal_is_same e in
-      λ n. same_inside V c n s t a b h k (m (suc n)) x y i j
-
-  pub told_consistent : IsConsistent U
-  told_consistent = record { heads = λ {s} {t} {g} {h} e x y. same_heads V c s t g h (equal_is_same e) x y }
-
-  pub same_is_same : (n : ℕ) (s t : Tree) → SameIn (IsTold U) n s t → SameIn (IsTold V) n s t
-  same_is_same zero s t m = tt
-  same_is_same (suc n) s t m = on m (λ a b p. same_is_same n a b p)
-    where
-      on : SameIn (IsTold U) (suc n) s t → ((a b : Tree) → SameIn (IsTold U) n a b → SameIn (IsTold V) n a b) → SameIn (IsTold V) (suc n) s t
-      on (inl w) low = equal_is_same w.0 (suc n)
+      on : SameIn V (suc n) b c → ((x y z w : Tree) → Carries V n y x → SameIn V n y z → Carries V n z w → SameIn V n x w) → SameIn V (suc n) a d
+      on (inl w) low =
+          let ba : EqualBy V b a = m.0 w.1 in
+          let cd : EqualBy V c d = r.0 (λ u h e i. w.1 u h (joined w.0 e) i) in
+          inl (joined (turned ba) (joined w.0 cd), λ u h e i. w.1 u h (joined ba e) i)
       on (inr w) low =
-          let middle : SameIn (IsTold V) (suc n) w.0 w.1 = inr (w.0, w.1, w.2, same, same, w.5, w.6, λ k a b p q. low a b (w.7 k a b p q)) in
-          same_joined V c (suc n) s w.0 t (equal_is_same w.3 (suc n)) (same_joined V c (suc n) w.0 w.1 t middle (same_turned V (suc n) t w.1 (equal_is_same w.4 (suc n))))
+          let u : (u : Tree) × EqualBy V a u × (head_of u ≡ Some w.2) × ((k : ℕ) (x y : Tree) → slice_get (arguments w.0) k ≡ Some x → slice_get (arguments u) k ≡ Some y → Carries V n x y) = m.1 w.0 w.2 w.3 w.5 in
+          let v : (v : Tree) × EqualBy V d v × (head_of v ≡ Some w.2) × ((k : ℕ) (x y : Tree) → slice_get (arguments w.1) k ≡ Some x → slice_get (arguments v) k ≡ Some y → Carries V n x y) = r.1 w.1 w.2 w.4 w.6 in
+          inr (
+            u.0,
+            v.0,
+            w.2,
+            u.1,
+            v.1,
+            u.2,
+            v.2,
+            λ k x y p q.
+                let i : (i : Tree) × (slice_get (arguments w.0) k ≡ Some i) = partner u.0 w.0 w.2 k x u.2 w.5 p in
+                let j : (j : Tree) × (slice_get (arguments w.1) k ≡ Some j) = partner v.0 w.1 w.2 k y v.2 w.6 q in
+                low x i.0 j.0 y (u.3 k i.0 x i.1 p) (w.7 k i.0 j.0 i.1 j.1) (v.3 k j.0 y j.1 q),
+          )
 
--- what the first equations with more tell is the same tree under the second with more
-tells_with : (E F G : Equations) → StandFor (IsTold E) (IsTold F) → IsConsistent (F ++ G) → (s t : Tree) → IsTold (E ++ G) s t → SameTree (IsTold (F ++ G)) s t
-tells_with E F G w c s t m = elim (IsTold-either E G s t m) [
-  | inl x ↦ λ n. same_follows F (F ++ G) (left_follows F G) n s t (w.same_to (w.back (IsConsistent-follows (left_follows F G) c)) s t (λ k. equal_same E k s t (told x)) n)
-  | inr x ↦ λ n. equal_same (F ++ G) n s t (told (IsTold-right F G s t x))
-]
+-- where what is told by U carries over under V, so does what follows from U
+module _ (U V : Tree → Tree → Type 0) (tells : (s t : Tree) → U s t → (n : ℕ) → Carries V n s t × Carries V n t s) where
+  equal_carries : {s t : Tree} → EqualBy U s t → (n : ℕ) → Carries V n s t × Carries V n t s
+  equal_carries (told {s = s} {t = t} m) = tells s t m
+  equal_carries (same {t = t}) = λ n. (carries_equal V n t t same, carries_equal V n t t same)
+  equal_carries (turned {s = s} {t = t} e) = let m : (n : ℕ) → Carries V n s t × Carries V n t s = equal_carries e in λ n. ((m n).1, (m n).0)
+  equal_carries (joined {s = s} {t = t} {u = u} e f) =
+      let m : (n : ℕ) → Carries V n s t × Carries V n t s = equal_carries e in
+      let o : (n : ℕ) → Carries V n t u × Carries V n u t = equal_carries f in
+      λ n. (carries_joined V n s t u (m n).0 (o n).0, carries_joined V n u t s (o n).1 (m n).1)
+  equal_carries (inside {s = s} {t = t} {a = a} {b = b} {h = h} k e x y i j) =
+      let m : (n : ℕ) → Carries V n s t × Carries V n t s = equal_carries e in
+      λ n. (carries_inside V n s t a b h k (m (suc n)).0 x y i j, carries_inside V n t s b a h k (m (suc n)).1 y x j i)
+
+  -- a term equal to one with a head is so under V
+  headed_carries : (s u : Tree) (h : Head) → EqualBy U s u → head_of u ≡ Some h → (v : Tree) × EqualBy V s v × (head_of v ≡ Some h)
+  headed_carries s u h e i = let w : _ = (equal_carries e 1).1.1 u h same i in (w.0, w.1, w.2)
+
+  told_consistent : IsConsistentBy V → IsConsistentBy U
+  told_consistent c = record { heads = λ {s} {t} {g} {h} e x y. let w : (v : Tree) × EqualBy V s v × (head_of v ≡ Some h) = headed_carries s t h e y in c.heads w.1 x w.2 }
+
+  same_carries : ((s : Tree) → IsUnstructured U s → IsUnstructured V s) → (n : ℕ) (s t : Tree) → SameIn U n s t → SameIn V n s t
+  same_carries f zero s t m = tt
+  same_carries f (suc n) s t m = on m (λ a b p. same_carries f n a b p)
+    where
+      on : SameIn U (suc n) s t → ((a b : Tree) → SameIn U n a b → SameIn V n a b) → SameIn V (suc n) s t
+      on (inl w) low = let g : IsUnstructured V s = f s w.1 in inl ((equal_carries w.0 1).0.0 g, g)
+      on (inr w) low = same_carried V (suc n) s w.0 w.1 t (equal_carries w.3 (suc n)).1
+          (inr (w.0, w.1, w.2, same, same, w.5, w.6, λ k a b p q. low a b (w.7 k a b p q))) (equal_carries w.4 (suc n)).1
+
+-- with any further relation on both sides
+module _ (T : Tree → Tree → Type 0) where
+  abbrev With : Equations → Tree → Tree → Type 0
+  With E s t = IsTold E s t ⊎ T s t
+
+  tells_with : (E F : Equations) → StandFor (IsTold E) (IsTold F) → IsConsistentBy (With F) → (s t : Tree) → With E s t → (n : ℕ) → Carries (With F) n s t × Carries (With F) n t s
+  tells_with E F w c s t (inl m) =
+      let f : SameTree (IsTold F) s t = w.same_to (w.back (IsConsistentBy-follows (λ a b x. told (inl x)) c)) s t (λ k. equal_same E k s t (told m)) in
+      λ n. carries_same (With F) (IsTold F) (λ a b x. told (inl x)) c n s t (f n)
+  tells_with E F w c s t (inr m) = λ n. (carries_equal (With F) n s t (told (inr m)), carries_equal (With F) n t s (turned (told (inr m))))
+
+  consistent_with : (E F : Equations) → StandFor (IsTold E) (IsTold F) → IsConsistentBy (With F) → IsConsistentBy (With E)
+  consistent_with E F w c = told_consistent (With E) (With F) (tells_with E F w c) c
+
+  same_with : (E F : Equations) → StandFor (IsTold E) (IsTold F) → IsConsistentBy (With E) → IsConsistentBy (With F) → (s t : Tree) → SameTree (With E) s t → SameTree (With F) s t
+  same_with E F w ce cf s t m n = same_carries (With E) (With F) (tells_with E F w cf)
+      (λ r f u h e i. let v : (v : Tree) × EqualBy (With E) r v × (head_of v ≡ Some h) = headed_carries (With F) (With E) (tells_with F E (StandFor-back w) ce) r u h e i in f v.0 h v.1 v.2) n s t (m n)
+
+  pub stands_with_any : (E F : Equations) → StandFor (IsTold E) (IsTold F) → StandFor (λ s t. IsTold E s t ⊎ T s t) (λ s t. IsTold F s t ⊎ T s t)
+  stands_with_any E F w = record {
+    to = consistent_with F E (StandFor-back w);
+    back = consistent_with E F w;
+    same_to = λ c. same_with E F w c (consistent_with F E (StandFor-back w) c);
+    same_back = λ c. same_with F E (StandFor-back w) (consistent_with F E (StandFor-back w) c) c;
+  }
+
+-- one list after another tells what both tell
+pub both_stand : (E G : Equations) → StandFor (λ s t. IsTold E s t ⊎ IsTold G s t) (IsTold (E ++ G))
+both_stand E G = StandFor-follows (λ s t m. elim m [ inl x ↦ told (IsTold-left E G s t x) | inr x ↦ told (IsTold-right E G s t x) ]) (λ s t m. told (IsTold-either E G s t m))
 
 pub stands_with_more : (E F G : Equations) → StandFor (IsTold E) (IsTold F) → StandFor (IsTold (E ++ G)) (IsTold (F ++ G))
-stands_with_more E F G w = record {
-  to = to;
-  back = back;
-  same_to = λ c s t m n. same_is_same (E ++ G) (F ++ G) (to c) (tells_with E F G w (to c)) n s t (m n);
-  same_back = λ c s t m n. same_is_same (F ++ G) (E ++ G) c (tells_with F E G (StandFor-back w) c) n s t (m n);
-}
-  where
-    to : IsConsistent (E ++ G) → IsConsistent (F ++ G)
-    to c = told_consistent (F ++ G) (E ++ G) c (tells_with F E G (StandFor-back w) c)
-
-    back : IsConsistent (F ++ G) → IsConsistent (E ++ G)
-    back c = told_consistent (E ++ G) (F ++ G) c (tells_with E F G w c)
-
--- the same, by relations
-pub stands_beside : (E F G : Equations) → StandFor (IsTold E) (IsTold F) → StandFor (λ s t. IsTold E s t ⊎ IsTold G s t) (λ s t. IsTold F s t ⊎ IsTold G s t)
-stands_beside E F G w = StandFor-on (joins E) (StandFor-on (stands_with_more E F G w) (StandFor-back (joins F)))
-  where
-    joins : (E : Equations) → StandFor (λ s t. IsTold E s t ⊎ IsTold G s t) (IsTold (E ++ G))
-    joins E = StandFor-follows (λ s t m. elim m [ inl x ↦ told (IsTold-left E G s t x) | inr x ↦ told (IsTold-right E G s t x) ]) (λ s t m. told (IsTold-either E G s t m))
+stands_with_more E F G w = StandFor-on (StandFor-back (both_stand E G)) (StandFor-on (stands_with_any (IsTold G) E F w) (both_stand F G))
 
 -- lists with the same members
 pub same_told_stands : (E F : Equations) → AreToldIn E F → AreToldIn F E → StandFor (IsTold E) (IsTold F)
