@@ -1,0 +1,106 @@
+-- What a plan makes of the box of its place: a step, right for the box that was found.
+use Rattle.std.specs.Prelude.{◌≡◌, ℕ, ◌≤◌, Bool, true, false, List, [], ◌∷◌, ◌++◌, Option, Some, None, ⊤, slice_get}
+use Rattle.akl_terms.specs.declared.name.Name.{Name}
+use Rattle.akl_terms.specs.declared.name.Place.{Place}
+use Rattle.akl_terms.specs.declared.term.Node.{Node}
+use Rattle.akl_terms.specs.declared.program.Op.{Op}
+use Rattle.akl_terms.specs.declared.program.Definition.{Definition}
+use Rattle.akl_terms.specs.declared.program.Program.{Program}
+use Rattle.akl_terms.specs.Tree.{Tree}
+use Rattle.akl_terms.specs.Equal.{Equations, IsTold}
+use Rattle.akl_terms.specs.Standing.{StandFor}
+use Rattle.akl_model.specs.declared.item.Item.{Item}
+use Rattle.akl_model.specs.declared.label.Rule.{Rule}
+use Rattle.akl_model.specs.declared.label.Label.{Label}
+use Rattle.akl_model.specs.Config.{IsIn, Atom, Content, Boxes, no_boxes, box, Goals, no_goals, atom, an_atom, held_in, Found, environment, whole}
+use Rattle.akl_model.specs.Instances.{instances}
+use Rattle.akl_model.specs.Wakes.{names_around, names_down_to}
+use Rattle.rational_unify.specs.Solving.{bindings_in}
+use Rattle.local_store.specs.Stored.{Stored}
+use Rattle.local_store.specs.Chained.{IsSolvedChain}
+use Rattle.plan_laws.specs.Right.{Reads}
+use Rattle.table_laws.specs.Rows.{Table, stores_along, ports_in}
+
+-- a new box: its store, and whether this was solved over the stores around it; its goals, which are atoms; and its body
+pub record NewBox : Type 0 where
+  pub name : Name
+  pub store : Stored
+  pub solved : Bool
+  pub goals : List (Name × Atom)
+  pub body : List Atom
+
+-- a box gets a store, which may be solved over those around it, and the goal goes; the goal becomes a choice of new boxes; or the box goes
+pub data Step : Type 0 where
+  tells : Stored → Bool → Step
+  forks : Op → List NewBox → Step
+  fails : Step
+
+-- the equation of a goal is told: under all that stands for the equations around the box, the store stands for the box's equations and this one
+pub record TellsGoal (nodes : List Node) (f : Found) (g : Name) (new : Stored) : Type 0 where
+  pub left : Tree
+  pub right : Tree
+  pub held : held_in g f.goals ≡ Some (an_atom (Atom.equation left right))
+  pub frames : new.frames ≡ f.content.frames
+  pub ports : ports_in nodes new.ports ≡ f.content.ports
+  pub stands : (D : Equations) → StandFor (IsTold D) (IsTold (environment f)) → StandFor (IsTold (D ++ bindings_in nodes new.bindings)) (IsTold (whole f ++ record { left = left; right = right } ∷ []))
+
+abbrev pub AreAtoms : List (Name × Atom) → Goals → Type 0
+AreAtoms [] no_goals = ⊤
+AreAtoms (x ∷ xs) (atom g a gs) = (x.0 ≡ g) × (x.1 ≡ a) × AreAtoms xs gs
+AreAtoms xs gs = ⊥
+
+-- the new box is of this content and has these goals, where these equations are told around it
+pub record IsNewBox (nodes : List Node) (around : Equations) (n : NewBox) (b : Content) (gs : Goals) : Type 0 where
+  pub name : n.name ≡ b.name
+  pub frames : n.store.frames ≡ b.frames
+  pub ports : ports_in nodes n.store.ports ≡ b.ports
+  pub stands : (D : Equations) → StandFor (IsTold D) (IsTold around) → StandFor (IsTold (D ++ bindings_in nodes n.store.bindings)) (IsTold (around ++ b.equations))
+  pub goals : AreAtoms n.goals gs
+  pub body : n.body ≡ b.body
+
+abbrev pub AreNewBoxes : List Node → Equations → List NewBox → Boxes → Type 0
+AreNewBoxes nodes around [] no_boxes = ⊤
+AreNewBoxes nodes around (n ∷ ns) (box b gs bs) = IsNewBox nodes around n b gs × AreNewBoxes nodes around ns bs
+AreNewBoxes nodes around ns bs = ⊥
+
+-- a call becomes the choice of its definition's clauses, with names of a worker from a number on
+pub record ForksGoal (p : Program) (worker next : ℕ) (f : Found) (g : Name) (op : Op) (news : List NewBox) : Type 0 where
+  pub number : ℕ
+  pub arguments : List Tree
+  pub held : held_in g f.goals ≡ Some (an_atom (Atom.call number arguments))
+  pub definition : Definition
+  pub is_definition : slice_get p.definitions number ≡ Some definition
+  pub operator : op ≡ definition.op
+  pub boxes : AreNewBoxes p.templates.nodes (whole f) news (instances p.templates.nodes worker next arguments definition.clauses)
+
+-- the step is what the label makes of the box of its place, where the names drawn go on from the next number
+abbrev pub Makes : Program → Label → ℕ → Found → Step → Type 0
+Makes p l next f (tells new solved) = (l.rule ≡ Rule.Tell) × ((g : Name) × (l.place ≡ Place.Goal g) × TellsGoal p.templates.nodes f g new)
+Makes p l next f (forks op news) = (l.rule ≡ Rule.Fork) × ((g : Name) × (l.place ≡ Place.Goal g) × ForksGoal p l.worker next f g op news)
+Makes p l next f fails = l.rule ≡ Rule.Fail
+
+-- what has to be unchanged for a step to be right still: what its label reads, and for one that gives the box a store, the constraints
+-- down to the box
+abbrev pub ReadsFor : (Item → Type 0) → Label → Found → Step → Type 0
+ReadsFor U l f (tells new solved) = Reads U l.rule l.place l.alternative f × ((m : Name) → IsIn m (names_down_to f) → U (Item.Store m))
+ReadsFor U l f step = Reads U l.rule l.place l.alternative f
+
+-- a store is solved with those around it, where it says so
+abbrev pub IsSolvedIf : Bool → Table → List Name → Stored → Type 0
+IsSolvedIf false T around new = ⊤
+IsSolvedIf true T around new = IsSolvedChain T.nodes (stores_along T around ++ new ∷ [])
+
+abbrev pub AreSolvedIf : Table → List Name → List NewBox → Type 0
+AreSolvedIf T around [] = ⊤
+AreSolvedIf T around (n ∷ ns) = IsSolvedIf n.solved T around n.store × AreSolvedIf T around ns
+
+-- the new stores of a step are solved in a table, where they say so
+abbrev pub IsSolvedIn : Table → Found → Step → Type 0
+IsSolvedIn T f (tells new solved) = IsSolvedIf solved T (names_around f) new
+IsSolvedIn T f (forks op news) = AreSolvedIf T (names_down_to f) news
+IsSolvedIn T f fails = ⊤
+
+-- as many labels were made when the step was planned, in the very table; or nothing is known of that
+abbrev pub IsSolvedWhen : Option ℕ → Table → Found → Step → Type 0
+IsSolvedWhen None T f step = ⊤
+IsSolvedWhen (Some k) T f step = (k ≡ T.steps) × IsSolvedIn T f step

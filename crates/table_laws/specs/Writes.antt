@@ -1,0 +1,184 @@
+-- What a step makes of a table.
+use Rattle.std.specs.Prelude.{◌≡◌, ℕ, ◌+◌, ◌≤◌, Bool, true, false, List, [], ◌∷◌, ◌++◌, map, Option, Some, None, option_map, if◌then◌else◌, ⊤, slice_index}
+use Rattle.akl_terms.specs.declared.name.Name.{Name}
+use Rattle.akl_terms.specs.declared.name.Place.{Place}
+use Rattle.akl_terms.specs.declared.program.Op.{Op}
+use Rattle.akl_terms.specs.Names.{same_name}
+use Rattle.akl_model.specs.declared.label.Label.{Label}
+use Rattle.akl_model.specs.Config.{IsIn, Atom, or_else}
+use Rattle.akl_model.specs.Names.{times_in}
+use Rattle.akl_model.specs.Changes.{Shape, of_atom, of_choice}
+use Rattle.akl_model.specs.Derivations.{raised}
+use Rattle.local_store.specs.Stored.{Stored}
+use Rattle.table_laws.specs.Rows.{BoxRow, GoalRow, Table}
+use Rattle.table_laws.specs.Inside.{IsInside, IsGoalInside}
+use Rattle.table_laws.specs.Steps.{NewBox, Step, tells, forks, fails}
+
+-- the same table
+pub record IsTable (U T : Table) : Type 0 where
+  pub nodes : U.nodes ≡ T.nodes
+  pub boxes : (n : Name) → U.box_of n ≡ T.box_of n
+  pub goals : (g : Name) → U.goal_of g ≡ T.goal_of g
+  pub roots : U.roots ≡ T.roots
+  pub roots_changed : U.roots_changed ≡ T.roots_changed
+  pub next : (w : ℕ) → slice_index U.next w ≡ slice_index T.next w
+  pub steps : U.steps ≡ T.steps
+
+abbrev pub set : {A : Type 0} → Name → Option A → (Name → Option A) → Name → Option A
+set n r at m = if same_name m n then r else at m
+
+abbrev pub less_name : Name → List Name → List Name
+less_name g [] = []
+less_name g (h ∷ hs) = if same_name g h then hs else h ∷ less_name g hs
+
+-- when a store was solved, where it says that it is
+abbrev pub solved_when : Option ℕ → Bool → Option ℕ
+solved_when at false = None
+solved_when at true = at
+
+-- the box in which a goal stands
+abbrev pub home_in : Option GoalRow → Option Name
+home_in None = None
+home_in (Some r) = Some r.home
+
+-- a box with another row, by what its row was
+abbrev pub changed_box : Option Name → (BoxRow → BoxRow) → (Name → Option BoxRow) → Name → Option BoxRow
+changed_box None change at = at
+changed_box (Some n) change at = set n (option_map change (at n)) at
+
+-- a goal tells its box, which gets a store, and goes
+
+abbrev pub told_row : Name → Stored → Option ℕ → ℕ → BoxRow → BoxRow
+told_row g new solved_at number r = record r { store = new; changed = number; solved_at = solved_at; goals = less_name g r.goals; goals_changed = number }
+
+abbrev pub after_tell : Name → Stored → Option ℕ → Table → Table
+after_tell g new solved_at T = record T {
+  box_of = changed_box (home_in (T.goal_of g)) (told_row g new solved_at (T.steps + 1)) T.box_of;
+  goal_of = set g None T.goal_of;
+  steps = T.steps + 1;
+}
+
+-- a goal becomes a choice of new boxes
+
+abbrev pub fails_first : Name → Atom → Option Name → Option Name
+fails_first g Atom.fail rest = Some g
+fails_first g a rest = rest
+
+abbrev pub first_fail : List (Name × Atom) → Option Name
+first_fail [] = None
+first_fail (x ∷ xs) = fails_first x.0 x.1 (first_fail xs)
+
+abbrev pub new_row : Name → Option ℕ → ℕ → NewBox → BoxRow
+new_row g at number n = record {
+  holder = Some g;
+  store = n.store;
+  changed = number;
+  solved_at = solved_when at n.solved;
+  goals = map (λ (x : Name × Atom). x.0) n.goals;
+  goals_changed = number;
+  failing = first_fail n.goals;
+  body = n.body;
+  shown = [];
+}
+
+abbrev pub new_box_of : Name → Option ℕ → ℕ → List NewBox → Name → Option BoxRow
+new_box_of g at number [] m = None
+new_box_of g at number (n ∷ ns) m = if same_name m n.name then Some (new_row g at number n) else new_box_of g at number ns m
+
+abbrev pub atom_among : Name → ℕ → List (Name × Atom) → Name → Option GoalRow
+atom_among home number [] m = None
+atom_among home number (x ∷ xs) m = if same_name m x.0 then Some (record { home = home; shape = of_atom x.1; changed = number }) else atom_among home number xs m
+
+abbrev pub new_goal_of : ℕ → List NewBox → Name → Option GoalRow
+new_goal_of number [] m = None
+new_goal_of number (n ∷ ns) m = or_else (atom_among n.name number n.goals m) (new_goal_of number ns m)
+
+abbrev pub forked_row : Op → List NewBox → ℕ → GoalRow → GoalRow
+forked_row op news number r = record r { shape = of_choice op (map (λ (n : NewBox). n.name) news); changed = number }
+
+-- a choice without alternatives makes its box fail
+abbrev pub failing_by : Name → List NewBox → BoxRow → BoxRow
+failing_by g [] r = record r { failing = Some g }
+failing_by g news r = r
+
+abbrev pub after_fork : Name → Op → List NewBox → Option ℕ → ℕ → ℕ → Table → Table
+after_fork g op news at worker drawn T = record T {
+  box_of = λ m. or_else (new_box_of g at (T.steps + 1) news m) (changed_box (home_in (T.goal_of g)) (failing_by g news) T.box_of m);
+  goal_of = λ m. or_else (new_goal_of (T.steps + 1) news m) (set g (option_map (forked_row op news (T.steps + 1)) (T.goal_of g)) T.goal_of m);
+  next = raised worker drawn T.next;
+  steps = T.steps + 1;
+}
+
+-- a box goes with all that stands in it
+
+abbrev pub less_alternative : Name → Shape → Shape
+less_alternative n (of_atom a) = of_atom a
+less_alternative n (of_choice op alternatives) = of_choice op (less_name n alternatives)
+
+abbrev pub left_row : Name → ℕ → GoalRow → GoalRow
+left_row n number r = record r { shape = less_alternative n r.shape; changed = number }
+
+abbrev pub none_left : Shape → Bool
+none_left (of_choice op []) = true
+none_left s = false
+
+-- where no alternative is left, the box of the choice fails by it
+abbrev pub left_by : Name → Option GoalRow → BoxRow → BoxRow
+left_by g None r = r
+left_by g (Some row) r = if none_left row.shape then record r { failing = Some g } else r
+
+-- what holds the box loses it: a choice, or the list of root boxes
+abbrev pub held_without : Name → Option Name → Table → Table
+held_without n None T = record T { roots = less_name n T.roots; roots_changed = T.steps + 1 }
+held_without n (Some g) T =
+    let row : Option GoalRow = option_map (left_row n (T.steps + 1)) (T.goal_of g) in
+    record T { goal_of = set g row T.goal_of; box_of = changed_box (home_in (T.goal_of g)) (left_by g row) T.box_of }
+
+abbrev pub holder_in_row : Option BoxRow → Option Name
+holder_in_row None = None
+holder_in_row (Some r) = r.holder
+
+pub record Fails (T U : Table) (n : Name) : Type 0 where
+  pub nodes : U.nodes ≡ T.nodes
+  pub box_goes : (m : Name) → IsInside T n m → U.box_of m ≡ None
+  pub goal_goes : (g : Name) → IsGoalInside T n g → U.goal_of g ≡ None
+  pub box_stays : (m : Name) → (IsInside T n m → ⊥) → U.box_of m ≡ (held_without n (holder_in_row (T.box_of n)) T).box_of m
+  pub goal_stays : (g : Name) → (IsGoalInside T n g → ⊥) → U.goal_of g ≡ (held_without n (holder_in_row (T.box_of n)) T).goal_of g
+  pub roots : U.roots ≡ (held_without n (holder_in_row (T.box_of n)) T).roots
+  pub roots_changed : U.roots_changed ≡ (held_without n (holder_in_row (T.box_of n)) T).roots_changed
+  pub next : (w : ℕ) → slice_index U.next w ≡ slice_index T.next w
+  pub steps : U.steps ≡ T.steps + 1
+
+-- the names that a step draws for boxes and goals stand nowhere in a table, and no two are the same
+
+abbrev pub names_drawn : List NewBox → List Name
+names_drawn [] = []
+names_drawn (n ∷ ns) = n.name ∷ (map (λ (x : Name × Atom). x.0) n.goals ++ names_drawn ns)
+
+pub record IsFresh (T : Table) (names : List Name) : Type 0 where
+  pub once : (m : Name) → times_in m names ≤ 1
+  pub no_box : (m : Name) → IsIn m names → T.box_of m ≡ None
+  pub no_goal : (m : Name) → IsIn m names → T.goal_of m ≡ None
+
+abbrev pub DrawsFresh : Table → Step → Type 0
+DrawsFresh T (tells new solved) = ⊤
+DrawsFresh T (forks op news) = IsFresh T (names_drawn news)
+DrawsFresh T fails = ⊤
+
+-- the step of a label leads from table to table: `at` is how many labels there were when its stores were solved, where they still are
+abbrev pub Leads : Table → Label → Option ℕ → ℕ → Step → Table → Type 0
+Leads T l at drawn (tells new solved) U = of_place l.place
+  where
+    of_place : Place → Type 0
+    of_place (Place.Goal g) = IsTable U (after_tell g new (solved_when at solved) T)
+    of_place (Place.Box n) = ⊥
+Leads T l at drawn (forks op news) U = of_place l.place
+  where
+    of_place : Place → Type 0
+    of_place (Place.Goal g) = IsTable U (after_fork g op news at l.worker drawn T)
+    of_place (Place.Box n) = ⊥
+Leads T l at drawn fails U = of_place l.place
+  where
+    of_place : Place → Type 0
+    of_place (Place.Goal g) = ⊥
+    of_place (Place.Box n) = Fails T U n

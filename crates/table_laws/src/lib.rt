@@ -1,0 +1,4 @@
+//! What a flat table of boxes and goals stands for, and what the rules make of it.
+//!
+//! The crate holds definitions and laws; nothing of it is called at run time.
+#![tactic(auto)]
