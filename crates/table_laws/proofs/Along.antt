@@ -124,7 +124,7 @@ pub record IsUnder (w next : ℕ) (s : Found) (c : Change) (e f : Found) : Type 
   pub was : e.around ≡ s.around ++ s.content ∷ rest
   pub is : f.around ≡ s.around ++ becomes.content ∷ rest
 
-named_path : (s : Name) (r : List Content) → times_path s r ≡ 0 → IsIn s (map (λ (b : Content). b.name) r) → ⊥
+pub named_path : (s : Name) (r : List Content) → times_path s r ≡ 0 → IsIn s (map (λ (b : Content). b.name) r) → ⊥
 named_path s [] z i = i
 named_path s (b ∷ r) z (inl e) = let u : one_if (same_name s b.name) ≡ 1 = ap one_if (subst (λ (k : Name). same_name s k ≡ true) e (same_name-refl s)) in omega arith
 named_path s (b ∷ r) z (inr i) = named_path s r (omega arith) i
