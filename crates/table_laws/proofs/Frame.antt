@@ -173,7 +173,7 @@ module _ (rules : List Rule) (p : Program) (q : Query) (journal : List Label) (c
   site_around k b m i = around_told k a.site (site_now b) (site_stands rules p c l d s a) (found_in a.site.content.name d.roots (site_now b) (site_there rules p c l d s a b)) refl m i
       (not_same a.site.content.name m (λ e. site_apart rules p c l d s a (subst (λ (z : Name). IsIn z (names_around a.site)) (sym e) i)))
 
-  same_told : (ns : List Name) → U.nodes ≡ T.nodes → ((m : Name) → IsIn m ns → IsAsTold T U m) → told_along U ns ≡ told_along T ns
+  pub same_told : (ns : List Name) → U.nodes ≡ T.nodes → ((m : Name) → IsIn m ns → IsAsTold T U m) → told_along U ns ≡ told_along T ns
   same_told ns e h = λ i. told_in (e i) (same_stores T U ns (λ m x. (h m x).store) i)
 
   -- the row of a box that stays, other than that of the place

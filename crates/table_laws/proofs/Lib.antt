@@ -1,3 +1,4 @@
 pub mod Stores
 pub mod Along
 pub mod Frame
+pub mod Onward
