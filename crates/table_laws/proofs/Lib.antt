@@ -2,3 +2,4 @@ pub mod Stores
 pub mod Along
 pub mod Frame
 pub mod Onward
+pub mod Marked
