@@ -3,3 +3,4 @@ pub mod Along
 pub mod Frame
 pub mod Onward
 pub mod Marked
+pub mod Reducing
