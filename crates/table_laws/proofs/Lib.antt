@@ -4,3 +4,4 @@ pub mod Frame
 pub mod Onward
 pub mod Marked
 pub mod Reducing
+pub mod Told

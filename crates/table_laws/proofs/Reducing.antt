@@ -1,16 +1,15 @@
 -- A label by which an atom goes: what is there before and afterwards.
-use Rattle.std.proofs.Common.{◌≡◌, ℕ, ◌+◌, ◌≤◌, ◌<◌, List, [], ◌∷◌, ◌++◌, Bool, true, false, Option, Some, None, refl, sym, ◌∙◌, ap, subst, ◌⊎◌, inl, inr, arith}
+use Rattle.std.proofs.Common.{◌≡◌, ◌+◌, ◌≤◌, List, [], ◌∷◌, ◌++◌, Bool, true, false, Option, Some, None, refl, sym, ◌∙◌, ap, subst, ◌⊎◌, inl, inr, arith}
 use Rattle.std.specs.Prelude.{if◌then◌else◌, slice_index, option_map, option_and_then}
 use Rattle.akl_terms.specs.declared.name.Name.{Name}
 use Rattle.akl_terms.specs.declared.name.Place.{Place}
-use Rattle.akl_terms.specs.declared.program.Op.{Op}
 use Rattle.akl_terms.specs.declared.program.Program.{Program}
 use Rattle.akl_terms.specs.Names.{same_name}
-use Rattle.akl_terms.proofs.SameNames.{same_name-refl, same_name-equal}
+use Rattle.akl_terms.proofs.SameNames.{same_name-equal}
 use Rattle.akl_model.specs.declared.item.Item.{Item}
 use Rattle.akl_model.specs.declared.label.Rule.{Rule}
 use Rattle.akl_model.specs.declared.label.Label.{Label}
-use Rattle.akl_model.specs.Config.{IsIn, Atom, Content, Boxes, no_boxes, box, Goals, no_goals, atom, choice, Config, Held, an_atom, a_choice, held_in, without_goal, Found, box_at, home_of, site_of, edited, edited_inside}
+use Rattle.akl_model.specs.Config.{Atom, Content, Boxes, no_boxes, box, Goals, no_goals, atom, choice, Config, Held, an_atom, a_choice, held_in, without_goal, Found, box_at, home_of, site_of}
 use Rattle.akl_model.specs.Conditions.{HasFailed, IsFailing}
 use Rattle.akl_model.specs.Derivations.{Applies}
 use Rattle.akl_model.specs.Changes.{shape_of, shape_at, box_names, goal_names, goals_at}
@@ -22,7 +21,7 @@ use Rattle.step_laws.specs.ChangedItems.{IsReplaced, MayChange, store, goals, st
 use Rattle.step_laws.specs.ChangedItems as may
 use Rattle.step_laws.specs.Whereabouts.{BoxIn, InGoals, Stands}
 use Rattle.step_laws.proofs.Whereabouts.{found_in, in_found, home_in, in_home, in_counted}
-use Rattle.step_laws.proofs.Deeper.{one_box, named_found, home_found, in_deeper}
+use Rattle.step_laws.proofs.Deeper.{one_box, named_found, in_deeper}
 use Rattle.step_laws.proofs.Edits.{AfterEdit, outside, replaced}
 use Rattle.step_laws.proofs.GoalEdits.{HasGoal, has_names, without_in, without_gone, without_other}
 use Rattle.step_laws.proofs.Becomes.{Becomes, IsBox}
