@@ -1,0 +1,4 @@
+pub mod Atoms
+pub mod Started
+pub mod Fresh
+pub mod Later
