@@ -2,3 +2,4 @@ pub mod Atoms
 pub mod Started
 pub mod Fresh
 pub mod Later
+pub mod Stores
