@@ -3,3 +3,4 @@ pub mod Started
 pub mod Fresh
 pub mod Later
 pub mod Stores
+pub mod NewRows
