@@ -4,3 +4,6 @@ pub mod Fresh
 pub mod Later
 pub mod Stores
 pub mod NewRows
+pub mod Along
+pub mod Frame
+pub mod Onward
