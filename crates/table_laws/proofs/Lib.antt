@@ -7,3 +7,4 @@ pub mod NewRows
 pub mod Along
 pub mod Frame
 pub mod Onward
+pub mod Forking
