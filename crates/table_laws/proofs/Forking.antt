@@ -21,16 +21,16 @@ use Rattle.akl_model.proofs.Options.{some_value, none_or}
 use Rattle.akl_model.proofs.Finds.{times, times_of, times_inside, box_at-none}
 use Rattle.akl_model.proofs.NamesKept.{Stand, stands_after, box-itself}
 use Rattle.step_laws.specs.Whereabouts.{BoxIn, InGoals, Stands}
-use Rattle.step_laws.specs.ChangedItems.{IsReplaced, MayChange, store, goals, store_gone, goals_gone, goal_gone, store_new, goals_new, goal_new, holder, roots, binding}
+use Rattle.step_laws.specs.ChangedItems.{goal_of, IsReplaced, MayChange, store, goals, store_gone, goals_gone, goal_gone, store_new, goals_new, goal_new, holder, roots, binding}
 use Rattle.step_laws.specs.ChangedItems as may
-use Rattle.step_laws.proofs.Whereabouts.{found_in, home_in, in_named}
-use Rattle.step_laws.proofs.Deeper.{in_deeper, named_found, home_found}
-use Rattle.step_laws.proofs.Decide.{names_or, not_not}
+use Rattle.step_laws.proofs.Whereabouts.{found_in, home_in, in_counted, held_counted, in_named}
+use Rattle.step_laws.proofs.Deeper.{in_deeper, one_box, named_found, home_found}
+use Rattle.step_laws.proofs.Decide.{option_or, names_or, shape_or, not_not}
 use Rattle.step_laws.proofs.Edits.{AfterEdit, outside, replaced}
-use Rattle.step_laws.proofs.GoalEdits.{HasGoal, InHeld, held_inside, with_content_in, with_content_here, with_content_other}
+use Rattle.step_laws.proofs.GoalEdits.{HasGoal, has_names, InHeld, held_inside, with_content_in, with_content_here, with_content_other}
 use Rattle.step_laws.proofs.Becomes.{Becomes, IsBox, BecomesAt}
 use Rattle.step_laws.proofs.Steps.{after_edit, made, site_now, site_stands, site_there}
-use Rattle.step_laws.proofs.ChangedItems.{items}
+use Rattle.step_laws.proofs.ChangedItems.{frame_names, items}
 use Rattle.table_laws.proofs.Along.{all_stay}
 
 -- the change of a fork
@@ -206,3 +206,72 @@ module _ (rules : List Rule) (p : Program) (c : Config) (l : Label) (d : Config)
 
   pub same_roots : box_names c.roots ≡ box_names d.roots
   same_roots = not_not (names_or (box_names c.roots) (box_names d.roots)) (λ h. not_replaced (replaced_roots Item.Roots refl (items rules p c l d s m Item.Roots h)))
+
+  -- each box has goals of the same names
+
+  pub same_names : (n : Name) (e f : Found) → box_at n c.roots ≡ Some e → box_at n d.roots ≡ Some f → goal_names e.goals ≡ goal_names f.goals
+  same_names n e f i j = on (same_name m.site.content.name e.content.name) refl
+    where
+      name : e.content.name ≡ f.content.name
+      name = sym (box-itself n c.roots e i) ∙ box-itself n d.roots f j
+
+      on : (v : Bool) → same_name m.site.content.name e.content.name ≡ v → goal_names e.goals ≡ goal_names f.goals
+      on false q = frame_names rules p c l d s m e f (found_in n c.roots e i) (found_in n d.roots f j) name q
+      on true q =
+          let z : m.site.content.name ≡ e.content.name = same_name-equal m.site.content.name e.content.name q in
+          let x : m.site ≡ e = one_box c.roots s.once m.site e (site_stands rules p c l d s m) (found_in n c.roots e i) z in
+          let y : site_now forks_to ≡ f = one_box d.roots t.once (site_now forks_to) f (found_in m.site.content.name d.roots (site_now forks_to) now_there) (found_in n d.roots f j)
+              (ap (λ (k : Content). k.name) (forked forks_to).content ∙ z ∙ name) in
+          ap (λ (k : Found). goal_names k.goals) (sym x) ∙ sym (forked forks_to).names ∙ ap (λ (k : Found). goal_names k.goals) y
+
+  -- another goal that isn't new isn't changed
+
+  same_goal : (item : Item) (i : Name) → item ≡ Item.Goal i → same_name i g ≡ false → ((k : Content) (hs : Goals) → BoxIn [] k hs bs → HasGoal i hs → ⊥) → MayChange m item → ⊥
+  same_goal item i e apart none (store) = cc
+  same_goal item i e apart none (goals) = cc
+  same_goal item i e apart none (may.goal {g = j} x) =
+      let y : Some g ≡ Some j = subst (λ (u : Place). goal_of u l.alternative m.site ≡ Some j) place x in
+      let z : same_name i g ≡ true = subst (λ (n : Name). same_name i n ≡ true) (let w : i ≡ g = cc in w) (same_name-refl i) in
+      cc
+  same_goal item i e apart none (store_gone x y) = cc
+  same_goal item i e apart none (goals_gone x y) = cc
+  same_goal item i e apart none (goal_gone {g = j} {e = k} x y) =
+      let q : home_of i c.roots ≡ Some k = let w : j ≡ i = cc in subst (λ (n : Name). home_of n c.roots ≡ Some k) w x in
+      let v : _ = home_in i c.roots k q in
+      let b : box_at k.content.name c.roots ≡ Some k = named_found c.roots s.once k.content.name k v.0 refl in
+      let f : (f : Found) × (box_at k.content.name d.roots ≡ Some f) = all_there k.content.name k b in
+      let h : HasGoal i f.0.goals = has_names i k.goals f.0.goals (same_names k.content.name k f.0 b f.1) v.1 in
+      let z : home_of i d.roots ≡ Some f.0 = home_found d.roots t.once i k.content.name f.0 h.0 f.1 h.1 in
+      let u : home_of i d.roots ≡ None = let w : j ≡ i = cc in subst (λ (n : Name). home_of n d.roots ≡ None) w y in
+      cc
+  same_goal item i e apart none (store_new x y) = cc
+  same_goal item i e apart none (goals_new x y) = cc
+  same_goal item i e apart none (goal_new {g = j} {f = f} x y) = on (home_in i d.roots f at) (came f (home_in i d.roots f at).0)
+    where
+      named : j ≡ i
+      named = cc
+
+      at : home_of i d.roots ≡ Some f
+      at = subst (λ (n : Name). home_of n d.roots ≡ Some f) named y
+
+      on : Stands f d.roots × HasGoal i f.goals → ((k : Found) × Stands k c.roots × (k.content.name ≡ f.content.name)) ⊎ BoxIn [] f.content f.goals bs → ⊥
+      on v (inr z) = none f.content f.goals z v.1
+      on v (inl (k, z, q)) =
+          let b : box_at f.content.name c.roots ≡ Some k = named_found c.roots s.once f.content.name k z (sym q) in
+          let h : HasGoal i k.goals = has_names i f.goals k.goals (sym (same_names f.content.name k f b (named_found d.roots t.once f.content.name f v.0 refl))) v.1 in
+          let w : home_of i c.roots ≡ Some k = home_found c.roots s.once i f.content.name k h.0 b h.1 in
+          let u : home_of i c.roots ≡ None = subst (λ (n : Name). home_of n c.roots ≡ None) named x in
+          cc
+  same_goal item i e apart none (holder r x y z) = not_replaced r
+  same_goal item i e apart none (roots r x) = not_replaced r
+  same_goal item i e apart none (binding x) = cc
+
+  pub same_shape : (i : Name) → same_name i g ≡ false → ((k : Content) (hs : Goals) → BoxIn [] k hs bs → HasGoal i hs → ⊥) → shape_at i c.roots ≡ shape_at i d.roots
+  same_shape i apart none = not_not (option_or Shape shape_or (shape_at i c.roots) (shape_at i d.roots)) (λ h. same_goal (Item.Goal i) i refl apart none (items rules p c l d s m (Item.Goal i) h))
+
+  -- a new goal is nowhere before
+  pub new_goal_nowhere : (i : Name) (k : Content) (hs : Goals) (h : Held) → BoxIn [] k hs bs → held_in i hs ≡ Some h → times i c.roots ≡ 0
+  new_goal_nowhere i k hs h x e = drawn i (
+      let v : times i (box k hs no_boxes) + 0 ≤ times i bs = in_counted i [] k hs bs x in
+      let w : 1 ≤ times_inside i hs = held_counted i h hs e in
+      omega arith)
