@@ -8,3 +8,4 @@ pub mod Along
 pub mod Frame
 pub mod Onward
 pub mod Forking
+pub mod Marked
