@@ -9,3 +9,4 @@ pub mod Frame
 pub mod Onward
 pub mod Forking
 pub mod Marked
+pub mod Forked
