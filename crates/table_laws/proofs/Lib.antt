@@ -1,7 +1,14 @@
+pub mod Atoms
+pub mod Started
+pub mod Fresh
+pub mod Later
 pub mod Stores
+pub mod NewRows
 pub mod Along
 pub mod Frame
 pub mod Onward
+pub mod Forking
 pub mod Marked
 pub mod Reducing
 pub mod Told
+pub mod Forked
