@@ -14,10 +14,11 @@ use Rattle.akl_model.specs.Wakes.{names_around, names_down_to, holder_in}
 use Rattle.akl_model.proofs.Options.{none_or, none_where, some_value, map_some}
 use Rattle.akl_model.proofs.Finds.{times, times_inside}
 use Rattle.akl_model.proofs.NamesKept.{box-itself, home-box}
+use Rattle.akl_model.proofs.ScopesAlong.{times_path}
 use Rattle.akl_model.proofs.Scoped.{IsIn-left, IsIn-right, IsIn-either}
 use Rattle.step_laws.specs.Whereabouts.{BoxIn, Stands}
 use Rattle.step_laws.specs.Holders.{IsHeldBy, IsAlternativeAt}
-use Rattle.step_laws.proofs.Whereabouts.{found_in, home_in, in_home}
+use Rattle.step_laws.proofs.Whereabouts.{found_in, in_counted, home_in, in_home}
 use Rattle.step_laws.proofs.Deeper.{Over, over, path_in, one_box, named_found, in_path}
 use Rattle.step_laws.proofs.Edits.{AfterEdit, outside, replaced, edit_in, edit_out, NotNamed, edited_held, held_edited}
 use Rattle.step_laws.proofs.Failing.{failed_goal, failing_found}
@@ -32,7 +33,7 @@ unnamed n m h = on (same_name n m) refl
     on true e = absurd (h (same_name-equal n m e))
     on false e = e
 
-other_name : (n m : Name) → same_name n m ≡ false → n ≡ m → ⊥
+pub other_name : (n m : Name) → same_name n m ≡ false → n ≡ m → ⊥
 other_name n m e q = let k : same_name n m ≡ true = subst (λ (x : Name). same_name n x ≡ true) q (same_name-refl n) in cc
 
 not_around : (n : Name) (new : Boxes) (r : List Content) → (IsIn n (map (λ (b : Content). b.name) r) → ⊥) → NotNamed n new r
@@ -41,7 +42,7 @@ not_around n new (b ∷ r) h = (unnamed n b.name (λ e. h (inl e)), not_around n
 
 -- names of boxes of which one goes
 
-same_names : (n : Name) (bs : Boxes) → (IsIn n (box_names bs) → ⊥) → box_names (edited n no_boxes bs) ≡ box_names bs
+pub same_names : (n : Name) (bs : Boxes) → (IsIn n (box_names bs) → ⊥) → box_names (edited n no_boxes bs) ≡ box_names bs
 same_names n no_boxes h = refl
 same_names n (box b gs bs) h = on (same_name n b.name) refl (same_names n bs (λ i. h (inr i)))
   where
@@ -55,14 +56,24 @@ is_counted n [] i = absurd i
 is_counted n (m ∷ ms) (inl e) = let u : one_if (same_name n m) ≡ 1 = ap one_if (subst (λ (x : Name). same_name n x ≡ true) e (same_name-refl n)) in omega arith
 is_counted n (m ∷ ms) (inr i) = let u : 1 ≤ times_in n ms = is_counted n ms i in omega arith
 
-pub names_less : (n : Name) (bs : Boxes) → times_in n (box_names bs) ≤ 1 → box_names (edited n no_boxes bs) ≡ less_name n (box_names bs)
-names_less n no_boxes o = refl
-names_less n (box b gs bs) o = on (same_name n b.name) refl (names_less n bs (omega arith))
+pub names_left : (n : Name) (bs : Boxes) → times_in n (box_names bs) ≤ 1 → box_names (edited n no_boxes bs) ≡ less_name n (box_names bs)
+names_left n no_boxes o = refl
+names_left n (box b gs bs) o = on (same_name n b.name) refl (names_left n bs (omega arith))
   where
     on : (t : Bool) → same_name n b.name ≡ t → box_names (edited n no_boxes bs) ≡ less_name n (box_names bs)
         → box_names (if t then joined_boxes no_boxes (edited n no_boxes bs) else box b (edited_inside n no_boxes gs) (edited n no_boxes bs)) ≡ (if t then box_names bs else b.name ∷ less_name n (box_names bs))
     on true r e = same_names n bs (λ i. let u : one_if (same_name n b.name) ≡ 1 = ap one_if r in let v : 1 ≤ times_in n (box_names bs) = is_counted n (box_names bs) i in omega (arith, u, v, o))
     on false r e = ap (λ (ns : List Name). b.name ∷ ns) e
+
+pub names_gone : (n : Name) (bs : Boxes) → IsIn n (box_names (edited n no_boxes bs)) → ⊥
+names_gone n no_boxes i = i
+names_gone n (box b gs bs) i = on (same_name n b.name) refl i (names_gone n bs)
+  where
+    on : (t : Bool) → same_name n b.name ≡ t → IsIn n (box_names (if t then joined_boxes no_boxes (edited n no_boxes bs) else box b (edited_inside n no_boxes gs) (edited n no_boxes bs)))
+        → (IsIn n (box_names (edited n no_boxes bs)) → ⊥) → ⊥
+    on true r j f = f j
+    on false r (inl e) f = other_name n b.name r e
+    on false r (inr j) f = f j
 
 -- a box of another name is one of them still
 pub named_still : (n m : Name) (bs : Boxes) → (n ≡ m → ⊥) → IsIn m (box_names bs) → IsIn m (box_names (edited n no_boxes bs))
@@ -125,12 +136,19 @@ fails_by_empty n g o bs gs e z = (
 pub kept_where : (n : Name) (bs : Boxes) → (IsIn n (box_names bs) → ⊥) → edited n no_boxes bs ≡ no_boxes → bs ≡ no_boxes
 kept_where n bs h e = no_names bs (sym (same_names n bs h) ∙ ap box_names e)
 
-module _ (n : Name) (cs : Boxes) (once : (m : Name) → times m cs ≤ 1) (still : (m : Name) → times m (edited n no_boxes cs) ≤ 1) where
-  abbrev pub ds : Boxes
-  ds = edited n no_boxes cs
+pub goals_once : (bs : Boxes) → ((m : Name) → times m bs ≤ 1) → (f : Found) → Stands f bs → (m : Name) → times_inside m f.goals ≤ 1
+goals_once bs once f x m =
+    let a : times m (box f.content f.goals no_boxes) + times_path m f.around ≤ times m bs = in_counted m f.around f.content f.goals bs x in
+    let o : times m bs ≤ 1 = once m in
+    omega arith
 
-  abbrev pub left : Found → Found
-  left f = record { around = f.around; content = f.content; goals = edited_inside n no_boxes f.goals }
+-- a box from which one goes
+abbrev pub left : Name → Found → Found
+left n f = record { around = f.around; content = f.content; goals = edited_inside n no_boxes f.goals }
+
+module _ (n : Name) (cs : Boxes) (once : (m : Name) → times m cs ≤ 1) (still : (m : Name) → times m (edited n no_boxes cs) ≤ 1) where
+  abbrev ds : Boxes
+  ds = edited n no_boxes cs
 
   -- what stands stood
   pub was : (g : Found) → Stands g ds → (gs : Goals) × BoxIn g.around g.content gs cs × (same_name n g.content.name ≡ false) × (g.goals ≡ edited_inside n no_boxes gs)
@@ -140,13 +158,13 @@ module _ (n : Name) (cs : Boxes) (once : (m : Name) → times m cs ≤ 1) (still
       on (outside gs y q e) = (gs, y, q, e)
       on (replaced a b gs rest y q e z) = absurd z
 
-  pub left_stands : (f : Found) → Stands f cs → (IsIn n (names_down_to f) → ⊥) → Stands (left f) ds
+  pub left_stands : (f : Found) → Stands f cs → (IsIn n (names_down_to f) → ⊥) → Stands (left n f) ds
   left_stands f x h = edit_out n no_boxes cs f.around f.content f.goals x (unnamed n f.content.name (λ e. h (IsIn-right n (names_around f) (f.content.name ∷ []) (inl e))))
       (not_around n no_boxes f.around (λ i. h (IsIn-left n (names_around f) (f.content.name ∷ []) i)))
 
   -- a box that isn't inside stays
-  pub box_left : (k : Name) (f : Found) → box_at k cs ≡ Some f → (IsIn n (names_down_to f) → ⊥) → box_at k ds ≡ Some (left f)
-  box_left k f e h = named_found ds still k (left f) (left_stands f (found_in k cs f e) h) (box-itself k cs f e)
+  pub box_left : (k : Name) (f : Found) → box_at k cs ≡ Some f → (IsIn n (names_down_to f) → ⊥) → box_at k ds ≡ Some (left n f)
+  box_left k f e h = named_found ds still k (left n f) (left_stands f (found_in k cs f e) h) (box-itself k cs f e)
 
   pub box_was : (k : Name) (g : Found) → box_at k ds ≡ Some g → (gs : Goals) × (box_at k cs ≡ Some (record { around = g.around; content = g.content; goals = gs })) × (IsIn n (names_down_to g) → ⊥)
   box_was k g e = on (was g (found_in k ds g e))
@@ -177,13 +195,13 @@ module _ (n : Name) (cs : Boxes) (once : (m : Name) → times m cs ≤ 1) (still
 
   -- so with goals and their homes
 
-  pub held_left : (g : Name) (f : Found) (h : Held) → held_in g f.goals ≡ Some h → held_in g (left f).goals ≡ Some (edited_held n no_boxes h)
+  pub held_left : (g : Name) (f : Found) (h : Held) → held_in g f.goals ≡ Some h → held_in g (left n f).goals ≡ Some (edited_held n no_boxes h)
   held_left g f h e = held_edited n no_boxes g f.goals ∙ ap (option_map (edited_held n no_boxes)) e
 
-  pub home_left : (g : Name) (f : Found) → home_of g cs ≡ Some f → (IsIn n (names_down_to f) → ⊥) → home_of g ds ≡ Some (left f)
+  pub home_left : (g : Name) (f : Found) → home_of g cs ≡ Some f → (IsIn n (names_down_to f) → ⊥) → home_of g ds ≡ Some (left n f)
   home_left g f e h =
       let x : Stands f cs × ((k : Held) × (held_in g f.goals ≡ Some k)) = home_in g cs f e in
-      in_home g (edited_held n no_boxes x.1.0) ds (left f) still (left_stands f x.0 h) (held_left g f x.1.0 x.1.1)
+      in_home g (edited_held n no_boxes x.1.0) ds (left n f) still (left_stands f x.0 h) (held_left g f x.1.0 x.1.1)
 
   pub home_was : (g : Name) (k : Found) → home_of g ds ≡ Some k → (gs : Goals) × (home_of g cs ≡ Some (record { around = k.around; content = k.content; goals = gs })) × (IsIn n (names_down_to k) → ⊥)
   home_was g k e = on (box_was k.content.name k (home-box g ds k still e)) (was k (home_in g ds k e).0)
@@ -213,7 +231,7 @@ module _ (n : Name) (cs : Boxes) (once : (m : Name) → times m cs ≤ 1) (still
   pub holder_left : (k : Name) (f : Found) → box_at k cs ≡ Some f → (IsIn n (names_down_to f) → ⊥) → holder_in k ds ≡ holder_in k cs
   holder_left k f e h = on (held_or cs once k f e)
     where
-      none : f.around ≡ [] → ((f.around ≡ []) × (holder_in k ds ≡ None)) ⊎ ((g : Name) × (holder_in k ds ≡ Some g) × IsHeldBy k g (left f) ds) → holder_in k ds ≡ None
+      none : f.around ≡ [] → ((f.around ≡ []) × (holder_in k ds ≡ None)) ⊎ ((g : Name) × (holder_in k ds ≡ Some g) × IsHeldBy k g (left n f) ds) → holder_in k ds ≡ None
       none r (inl x) = x.1
       none r (inr x) =
           let q : length f.around ≡ length (x.2.home.around ++ x.2.home.content ∷ []) = ap length x.2.around in
@@ -225,9 +243,9 @@ module _ (n : Name) (cs : Boxes) (once : (m : Name) → times m cs ≤ 1) (still
       some g i x =
           let outer : IsIn n (names_down_to x.home) → ⊥ = λ j. h (IsIn-left n (names_around f) (f.content.name ∷ []) (subst (IsIn n) (sym x.names) j)) in
           let other : n ≡ k → ⊥ = λ q. h (IsIn-right n (names_around f) (f.content.name ∷ []) (inl (q ∙ box-itself k cs f e))) in
-          (alternative_at ds still k g (left x.home) x.op (edited n no_boxes x.alternatives) (home_left g x.home x.is_home outer) (held_left g x.home (a_choice x.op x.alternatives) x.held)
+          (alternative_at ds still k g (left n x.home) x.op (edited n no_boxes x.alternatives) (home_left g x.home x.is_home outer) (held_left g x.home (a_choice x.op x.alternatives) x.held)
           (named_still n k x.alternatives other x.among)).holder
 
       on : ((f.around ≡ []) × (holder_in k cs ≡ None)) ⊎ ((g : Name) × (holder_in k cs ≡ Some g) × IsHeldBy k g f cs) → holder_in k ds ≡ holder_in k cs
-      on (inl x) = none x.0 (held_or ds still k (left f) (box_left k f e h)) ∙ sym x.1
+      on (inl x) = none x.0 (held_or ds still k (left n f) (box_left k f e h)) ∙ sym x.1
       on (inr x) = some x.0 x.1 x.2 ∙ sym x.1

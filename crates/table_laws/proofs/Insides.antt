@@ -45,10 +45,10 @@ both_other P None (Some k) b h e = absurd h
 both_other P (Some a) None b h e = absurd h
 both_other P (Some a) (Some k) b h e = (a, refl, subst (λ (z : _). P a z) (some_value e) h)
 
-pub both_none : {A B : Type 0} (P : A → B → Type 0) (x : Option A) (y : Option B) → AreBoth P x y → x ≡ None → y ≡ None
-both_none P None None h e = refl
-both_none P None (Some k) h e = absurd h
-both_none P (Some a) y h e = cc
+pub both_absent : {A B : Type 0} (P : A → B → Type 0) (x : Option A) (y : Option B) → AreBoth P x y → x ≡ None → y ≡ None
+both_absent P None None h e = refl
+both_absent P None (Some k) h e = absurd h
+both_absent P (Some a) y h e = cc
 
 -- a goal's spot, by the box in which it is held
 pub spot_held : (g : Name) (roots : Boxes) (f : Found) (h : Held) → home_of g roots ≡ Some f → held_in g f.goals ≡ Some h → spot_in g roots ≡ Some (record { home = f.content.name; shape = shape_of h })

@@ -1,2 +1,3 @@
 pub mod Insides
 pub mod Gone
+pub mod Loses
