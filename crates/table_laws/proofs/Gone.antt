@@ -26,7 +26,7 @@ use Rattle.step_laws.proofs.Holders.{alternative_at, held_or}
 use Rattle.table_laws.specs.Unfolds.{FailsBy}
 use Rattle.table_laws.specs.Writes.{less_name}
 
-unnamed : (n m : Name) → (n ≡ m → ⊥) → same_name n m ≡ false
+pub unnamed : (n m : Name) → (n ≡ m → ⊥) → same_name n m ≡ false
 unnamed n m h = on (same_name n m) refl
   where
     on : (t : Bool) → same_name n m ≡ t → same_name n m ≡ false

@@ -260,5 +260,5 @@ module _ (T U : Table) (c : Config) (u : Unfolds T c) (once : (m : Name) → tim
         roots_same : box_names (edited n no_boxes c.roots) ≡ box_names c.roots
         roots_same = same_names n c.roots (λ i. let r : holder_in n c.roots ≡ None = (root_box c.roots once n i).holder in not_some (sym r ∙ held))
 
-  is_left : IsLeft T U c n
+  pub is_left : IsLeft T U c n
   is_left = elim (held_or c.roots once n site there) [ inl w ↦ root_left w.1 | inr w ↦ held_left w.0 w.1 w.2 ]
