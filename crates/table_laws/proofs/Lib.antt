@@ -1,3 +1,7 @@
+pub mod Stores
+pub mod Along
+pub mod Frame
+pub mod Onward
 pub mod Insides
 pub mod Gone
 pub mod Loses
