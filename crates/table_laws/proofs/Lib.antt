@@ -5,3 +5,4 @@ pub mod Onward
 pub mod Insides
 pub mod Gone
 pub mod Loses
+pub mod Failed
