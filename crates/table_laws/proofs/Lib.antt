@@ -2,6 +2,7 @@ pub mod Stores
 pub mod Along
 pub mod Frame
 pub mod Onward
+pub mod Marked
 pub mod Insides
 pub mod Gone
 pub mod Loses
