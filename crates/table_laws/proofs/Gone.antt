@@ -1,5 +1,5 @@
 -- What a box takes with it where it goes, and what stays.
-use Rattle.std.proofs.Common.{◌≡◌, ℕ, ◌+◌, ◌≤◌, ◌<◌, List, [], ◌∷◌, ◌++◌, length, map, Bool, true, false, Option, Some, None, refl, sym, ◌∙◌, ap, subst, ◌⊎◌, inl, inr, arith}
+use Rattle.std.proofs.Common.{◌≡◌, ◌+◌, ◌≤◌, List, [], ◌∷◌, ◌++◌, length, map, Bool, true, false, Option, Some, None, refl, sym, ◌∙◌, ap, subst, ◌⊎◌, inl, inr, arith}
 use Rattle.std.specs.Prelude.{option_map, if◌then◌else◌}
 use Rattle.std.proofs.lemmas.List.{length-append}
 use Rattle.akl_terms.specs.declared.name.Name.{Name}
@@ -7,19 +7,19 @@ use Rattle.akl_terms.specs.declared.program.Op.{Op}
 use Rattle.akl_terms.specs.Names.{same_name}
 use Rattle.akl_terms.proofs.SameNames.{same_name-equal, same_name-refl}
 use Rattle.akl_model.specs.Config.{IsIn, Content, Boxes, no_boxes, box, Goals, joined_boxes, Held, an_atom, a_choice, held_in, Found, box_at, home_of, edited, edited_inside}
-use Rattle.akl_model.specs.Conditions.{FailsWhenEmpty, IsFailing, HasFailed}
+use Rattle.akl_model.specs.Conditions.{IsFailing}
 use Rattle.akl_model.specs.Names.{one_if, times_in}
-use Rattle.akl_model.specs.Changes.{shape_of, of_choice, box_names, goal_names}
+use Rattle.akl_model.specs.Changes.{box_names}
 use Rattle.akl_model.specs.Wakes.{names_around, names_down_to, holder_in}
-use Rattle.akl_model.proofs.Options.{none_or, none_where, some_value, map_some}
+use Rattle.akl_model.proofs.Options.{none_where, some_value, map_some}
 use Rattle.akl_model.proofs.Finds.{times, times_inside}
 use Rattle.akl_model.proofs.NamesKept.{box-itself, home-box}
 use Rattle.akl_model.proofs.ScopesAlong.{times_path}
 use Rattle.akl_model.proofs.Scoped.{IsIn-left, IsIn-right, IsIn-either}
 use Rattle.step_laws.specs.Whereabouts.{BoxIn, Stands}
-use Rattle.step_laws.specs.Holders.{IsHeldBy, IsAlternativeAt}
+use Rattle.step_laws.specs.Holders.{IsHeldBy}
 use Rattle.step_laws.proofs.Whereabouts.{found_in, in_counted, home_in, in_home}
-use Rattle.step_laws.proofs.Deeper.{Over, over, path_in, one_box, named_found, in_path}
+use Rattle.step_laws.proofs.Deeper.{Over, over, named_found}
 use Rattle.step_laws.proofs.Edits.{AfterEdit, outside, replaced, edit_in, edit_out, NotNamed, edited_held, held_edited}
 use Rattle.step_laws.proofs.Failing.{failed_goal, failing_found}
 use Rattle.step_laws.proofs.Holders.{alternative_at, held_or}

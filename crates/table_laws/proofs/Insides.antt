@@ -1,16 +1,16 @@
 -- What stands inside a box by a table's rows is what stands inside it in the configuration.
-use Rattle.std.proofs.Common.{◌≡◌, ℕ, zero, suc, ◌+◌, ◌≤◌, ◌<◌, List, [], ◌∷◌, ◌++◌, length, map, Bool, true, false, Option, Some, None, refl, sym, ◌∙◌, ap, subst, ◌⊎◌, inl, inr, arith}
-use Rattle.std.specs.Prelude.{option_map, option_and_then, if◌then◌else◌}
+use Rattle.std.proofs.Common.{◌≡◌, ℕ, zero, suc, ◌+◌, ◌≤◌, ◌<◌, List, [], ◌∷◌, ◌++◌, length, map, Bool, true, false, Some, None, refl, sym, ◌∙◌, ap, subst, ◌⊎◌, inl, inr, arith}
+use Rattle.std.specs.Prelude.{option_map, option_and_then}
 use Rattle.std.proofs.lemmas.List.{length-append}
 use Rattle.akl_terms.specs.declared.name.Name.{Name}
 use Rattle.akl_terms.specs.declared.program.Op.{Op}
 use Rattle.akl_terms.specs.Names.{same_name}
 use Rattle.akl_terms.proofs.SameNames.{same_name-equal}
-use Rattle.akl_model.specs.Config.{IsIn, Content, Boxes, Goals, Config, Held, an_atom, a_choice, held_in, Found, box_at, home_of}
+use Rattle.akl_model.specs.Config.{IsIn, Content, Boxes, Config, Held, an_atom, a_choice, held_in, Found, box_at, home_of}
 use Rattle.akl_model.specs.Names.{one_if, times_in}
-use Rattle.akl_model.specs.Changes.{Shape, of_atom, of_choice, shape_of, box_names, goal_names}
+use Rattle.akl_model.specs.Changes.{of_choice, shape_of, box_names, goal_names}
 use Rattle.akl_model.specs.Wakes.{names_around, names_down_to, holder_in}
-use Rattle.akl_model.proofs.Options.{none_or, some_value, map_some, map_none}
+use Rattle.akl_model.proofs.Options.{some_value, map_some}
 use Rattle.akl_model.proofs.Finds.{times}
 use Rattle.akl_model.proofs.NamesKept.{box-itself, home-box}
 use Rattle.akl_model.proofs.Scoped.{IsIn-left, IsIn-right, IsIn-either}
@@ -20,9 +20,9 @@ use Rattle.step_laws.proofs.Whereabouts.{home_in}
 use Rattle.step_laws.proofs.Deeper.{home_found, names_snoc}
 use Rattle.step_laws.proofs.GoalEdits.{named_held, held_named}
 use Rattle.step_laws.proofs.Holders.{alternative_at, held_or}
-use Rattle.step_laws.proofs.Stays.{choice_shape}
 use Rattle.table_laws.specs.Rows.{BoxRow, GoalRow, Table}
-use Rattle.table_laws.specs.Unfolds.{AreBoth, IsBoxRow, Spot, spot_in, spot_of, Unfolds}
+use Rattle.table_laws.specs.Unfolds.{IsBoxRow, Spot, spot_in, spot_of, Unfolds}
+use Rattle.table_laws.proofs.Frame.{row_of, found_of}
 use Rattle.table_laws.specs.Inside.{IsDirectlyIn, IsAlternativeOf, IsInside, itself, further, IsGoalInside}
 
 pub named_counted : (n : Name) (ns : List Name) → 0 < times_in n ns → IsIn n ns
@@ -32,23 +32,6 @@ named_counted n (m ∷ ms) l = on (same_name n m) refl l (λ k. named_counted n 
     on : (t : Bool) → same_name n m ≡ t → 0 < one_if t + times_in n ms → (0 < times_in n ms → IsIn n ms) → IsIn n (m ∷ ms)
     on true r k f = inl (same_name-equal n m r)
     on false r k f = inr (f (omega arith))
-
--- both are there, or neither is
-pub both_some : {A B : Type 0} (P : A → B → Type 0) (x : Option A) (y : Option B) (a : A) → AreBoth P x y → x ≡ Some a → (b : B) × (y ≡ Some b) × P a b
-both_some P None y a h e = cc
-both_some P (Some k) None a h e = absurd h
-both_some P (Some k) (Some b) a h e = (b, refl, subst (λ (z : _). P z b) (some_value e) h)
-
-pub both_other : {A B : Type 0} (P : A → B → Type 0) (x : Option A) (y : Option B) (b : B) → AreBoth P x y → y ≡ Some b → (a : A) × (x ≡ Some a) × P a b
-both_other P None None b h e = cc
-both_other P None (Some k) b h e = absurd h
-both_other P (Some a) None b h e = absurd h
-both_other P (Some a) (Some k) b h e = (a, refl, subst (λ (z : _). P a z) (some_value e) h)
-
-pub both_absent : {A B : Type 0} (P : A → B → Type 0) (x : Option A) (y : Option B) → AreBoth P x y → x ≡ None → y ≡ None
-both_absent P None None h e = refl
-both_absent P None (Some k) h e = absurd h
-both_absent P (Some a) y h e = cc
 
 -- a goal's spot, by the box in which it is held
 pub spot_held : (g : Name) (roots : Boxes) (f : Found) (h : Held) → home_of g roots ≡ Some f → held_in g f.goals ≡ Some h → spot_in g roots ≡ Some (record { home = f.content.name; shape = shape_of h })
@@ -72,12 +55,6 @@ named_down n f a e i =
 module _ (T : Table) (c : Config) (u : Unfolds T c) (once : (m : Name) → times m c.roots ≤ 1) where
   -- rows and searches
 
-  pub box_row : (m : Name) (f : Found) → box_at m c.roots ≡ Some f → (r : BoxRow) × (T.box_of m ≡ Some r) × IsBoxRow T c.roots f r
-  box_row m f e = both_some (IsBoxRow T c.roots) (box_at m c.roots) (T.box_of m) f (u.boxes m) e
-
-  pub row_box : (m : Name) (r : BoxRow) → T.box_of m ≡ Some r → (f : Found) × (box_at m c.roots ≡ Some f) × IsBoxRow T c.roots f r
-  row_box m r e = both_other (IsBoxRow T c.roots) (box_at m c.roots) (T.box_of m) r (u.boxes m) e
-
   pub goal_row : (g : Name) (f : Found) (h : Held) → home_of g c.roots ≡ Some f → held_in g f.goals ≡ Some h → (r : GoalRow) × (T.goal_of g ≡ Some r) × (r.home ≡ f.content.name) × (r.shape ≡ shape_of h)
   goal_row g f h e i =
       let w : (r : GoalRow) × (T.goal_of g ≡ Some r) × (spot_of r ≡ record { home = f.content.name; shape = shape_of h }) =
@@ -86,12 +63,12 @@ module _ (T : Table) (c : Config) (u : Unfolds T c) (once : (m : Name) → times
 
   pub directly : (m g : Name) (f : Found) (h : Held) → box_at m c.roots ≡ Some f → held_in g f.goals ≡ Some h → IsDirectlyIn T m g
   directly m g f h e i =
-      let w : (r : BoxRow) × (T.box_of m ≡ Some r) × IsBoxRow T c.roots f r = box_row m f e in
+      let w : (r : BoxRow) × (T.box_of m ≡ Some r) × IsBoxRow T c.roots f r = row_of T c u m f e in
       record { row = w.0; there = w.1; named = subst (IsIn g) (sym w.2.goals) (named_counted g (goal_names f.goals) (held_named g f.goals h i)) }
 
   pub held_directly : (m g : Name) (f : Found) → box_at m c.roots ≡ Some f → IsDirectlyIn T m g → (h : Held) × (held_in g f.goals ≡ Some h)
   held_directly m g f e d =
-      let w : (k : Found) × (box_at m c.roots ≡ Some k) × IsBoxRow T c.roots k d.row = row_box m d.row d.there in
+      let w : (k : Found) × (box_at m c.roots ≡ Some k) × IsBoxRow T c.roots k d.row = found_of T c u m d.row d.there in
       let q : w.0 ≡ f = some_value (sym w.1 ∙ e) in
       named_held g f.goals (counted_in g (goal_names f.goals) (subst (IsIn g) (w.2.goals ∙ ap (λ (k : Found). goal_names k.goals) q) d.named))
 

@@ -1,21 +1,20 @@
 -- What holds a box that goes loses it: a choice, whose box may fail by it then, or the list of root boxes.
-use Rattle.std.proofs.Common.{◌≡◌, ℕ, ◌+◌, ◌≤◌, ◌<◌, List, [], ◌∷◌, Bool, true, false, Option, Some, None, refl, sym, ◌∙◌, ap, subst, ◌⊎◌, inl, inr, arith}
+use Rattle.std.proofs.Common.{◌≡◌, ◌+◌, ◌≤◌, List, [], ◌∷◌, Bool, true, false, Option, Some, None, refl, sym, ◌∙◌, ap, subst, ◌⊎◌, inl, inr, arith}
 use Rattle.std.specs.Prelude.{option_map, if◌then◌else◌}
 use Rattle.akl_terms.specs.declared.name.Name.{Name}
 use Rattle.akl_terms.specs.declared.program.Op.{Op}
 use Rattle.akl_terms.specs.Names.{same_name}
-use Rattle.akl_terms.proofs.SameNames.{same_name-equal, same_name-refl}
-use Rattle.akl_model.specs.Config.{IsIn, Boxes, no_boxes, Goals, Config, Held, an_atom, a_choice, held_in, Found, box_at, home_of, edited, edited_inside}
+use Rattle.akl_terms.proofs.SameNames.{same_name-equal}
+use Rattle.akl_model.specs.Config.{IsIn, Boxes, no_boxes, Config, Held, an_atom, a_choice, held_in, Found, box_at, home_of, edited, edited_inside}
 use Rattle.akl_model.specs.Names.{times_in}
-use Rattle.akl_model.specs.Changes.{Shape, of_atom, of_choice, shape_of, box_names}
+use Rattle.akl_model.specs.Changes.{Shape, of_choice, shape_of, box_names}
 use Rattle.akl_model.specs.Wakes.{names_down_to, holder_in}
-use Rattle.akl_model.proofs.Options.{none_or, some_value, map_some, map_none}
+use Rattle.akl_model.proofs.Options.{some_value}
 use Rattle.akl_model.proofs.Finds.{times, times_inside}
 use Rattle.akl_model.proofs.NamesKept.{box-itself, home-box}
-use Rattle.constraint_laws.proofs.SameTerms.{Either}
 use Rattle.step_laws.specs.Holders.{IsHeldBy}
 use Rattle.step_laws.proofs.Decide.{in_or}
-use Rattle.step_laws.proofs.Edits.{edited_held, held_edited}
+use Rattle.step_laws.proofs.Edits.{edited_held}
 use Rattle.step_laws.proofs.Whereabouts.{found_in, home_in}
 use Rattle.step_laws.proofs.Deeper.{home_found}
 use Rattle.step_laws.proofs.Holders.{alternative_at, held_or, unheld_around, root_box, root_named, names_less, choice_less}
@@ -23,25 +22,26 @@ use Rattle.table_laws.specs.Rows.{BoxRow, GoalRow, Table}
 use Rattle.table_laws.specs.Unfolds.{FailsBy, IsBoxRow, spot_of, Unfolds}
 use Rattle.table_laws.specs.Inside.{IsInside, IsGoalInside}
 use Rattle.table_laws.specs.Writes.{less_name, set, home_in as home_of_row, changed_box, less_alternative, left_row, none_left, left_by, held_without, holder_in_row, Fails}
-use Rattle.table_laws.proofs.Insides.{both_absent, spot_none, box_row, goal_row, not_inside, not_inside_none, not_goal_inside, not_goal_inside_none}
-use Rattle.table_laws.proofs.Gone.{same_names, names_left, names_gone, other_name, goals_once, left, left_stands, KeepsAlternatives, fails_by_kept, fails_by_empty, kept_where}
+use Rattle.table_laws.proofs.Frame.{neither, row_of}
+use Rattle.table_laws.proofs.Onward.{IsMark}
+use Rattle.table_laws.proofs.Insides.{goal_row, not_inside, not_inside_none, not_goal_inside, not_goal_inside_none}
+use Rattle.table_laws.proofs.Gone.{unnamed, same_names, names_left, names_gone, other_name, goals_once, left, left_stands, KeepsAlternatives, fails_by_kept, fails_by_empty, kept_where}
 
--- the row of a goal that loses an alternative, or none
-abbrev pub IsGoalLeft : Name → Held → GoalRow → GoalRow → ℕ → Type 0
-IsGoalLeft n h r k number = (k.shape ≡ shape_of (edited_held n no_boxes h))
-    × (((shape_of h ≡ shape_of (edited_held n no_boxes h)) × (k.changed ≡ r.changed)) ⊎ ((shape_of h ≡ shape_of (edited_held n no_boxes h) → ⊥) × (k.changed ≡ number)))
+-- a goal's row stays as it is with the goal's shape, or the goal has lost an alternative, and its row is new
+abbrev pub GoalLoses : Table → Table → Name → Name → Found → Held → Type 0
+GoalLoses T U n g e h = ((U.goal_of g ≡ T.goal_of g) × (shape_of h ≡ shape_of (edited_held n no_boxes h)))
+    ⊎ ((k : GoalRow) × (U.goal_of g ≡ Some k) × (spot_of k ≡ record { home = e.content.name; shape = shape_of (edited_held n no_boxes h) }) × (k.changed ≡ T.steps + 1)
+    × (shape_of h ≡ shape_of (edited_held n no_boxes h) → ⊥))
 
 -- what was done to the rows of what stays, and to the roots
 pub record IsLeft (T U : Table) (c : Config) (n : Name) : Type 0 where
   pub box_none : (k : Name) → box_at k c.roots ≡ None → U.box_of k ≡ None
-  pub goal_none : (g : Name) → home_of g c.roots ≡ None → U.goal_of g ≡ None
+  pub goal_none : (g : Name) → home_of g c.roots ≡ None → U.goal_of g ≡ T.goal_of g
   pub box_left : (k : Name) (e : Found) (r : BoxRow) → box_at k c.roots ≡ Some e → (IsIn n (names_down_to e) → ⊥) → T.box_of k ≡ Some r → FailsBy e.goals r.failing
       → (o : Option Name) × (U.box_of k ≡ Some (record r { failing = o })) × FailsBy (edited_inside n no_boxes e.goals) o
-  pub goal_left : (g : Name) (e : Found) (h : Held) (r : GoalRow) → home_of g c.roots ≡ Some e → (IsIn n (names_down_to e) → ⊥) → held_in g e.goals ≡ Some h → T.goal_of g ≡ Some r
-      → (k : GoalRow) × (U.goal_of g ≡ Some k) × (k.home ≡ r.home) × IsGoalLeft n h r k (T.steps + 1)
+  pub goal_left : (g : Name) (e : Found) (h : Held) → home_of g c.roots ≡ Some e → (IsIn n (names_down_to e) → ⊥) → held_in g e.goals ≡ Some h → GoalLoses T U n g e h
   pub roots : U.roots ≡ box_names (edited n no_boxes c.roots)
-  pub roots_changed : ((box_names c.roots ≡ box_names (edited n no_boxes c.roots)) × (U.roots_changed ≡ T.roots_changed))
-      ⊎ ((box_names c.roots ≡ box_names (edited n no_boxes c.roots) → ⊥) × (U.roots_changed ≡ T.steps + 1))
+  pub root_mark : IsMark T.steps (box_names c.roots ≡ box_names (edited n no_boxes c.roots) → ⊥) T.roots_changed U.roots_changed
 
 -- a shape of which no alternative goes
 same_shape : (n : Name) (h : Held) → ((o : Op) (bs : Boxes) → h ≡ a_choice o bs → IsIn n (box_names bs) → ⊥) → shape_of h ≡ shape_of (edited_held n no_boxes h)
@@ -73,7 +73,7 @@ module _ (T U : Table) (c : Config) (u : Unfolds T c) (once : (m : Name) → tim
     (site : Found) (there : box_at n c.roots ≡ Some site) (f : Fails T U n) where
   holder : holder_in_row (T.box_of n) ≡ holder_in n c.roots
   holder =
-      let w : (r : BoxRow) × (T.box_of n ≡ Some r) × IsBoxRow T c.roots site r = box_row T c u once n site there in
+      let w : (r : BoxRow) × (T.box_of n ≡ Some r) × IsBoxRow T c.roots site r = row_of T c u n site there in
       ap holder_in_row w.1 ∙ w.2.holder ∙ ap (λ (k : Name). holder_in k c.roots) (sym (box-itself n c.roots site there))
 
   box_stays : (o : Option Name) → holder_in n c.roots ≡ o → (k : Name) → (IsInside T n k → ⊥) → U.box_of k ≡ (held_without n o T).box_of k
@@ -90,10 +90,10 @@ module _ (T U : Table) (c : Config) (u : Unfolds T c) (once : (m : Name) → tim
 
   -- no row where nothing stands
   no_box : (k : Name) → box_at k c.roots ≡ None → (T.box_of k ≡ None) × (IsInside T n k → ⊥)
-  no_box k e = (both_absent (IsBoxRow T c.roots) (box_at k c.roots) (T.box_of k) (u.boxes k) e, not_inside_none T c u once n k site there e)
+  no_box k e = (neither (IsBoxRow T c.roots) (box_at k c.roots) (T.box_of k) (u.boxes k) e, not_inside_none T c u once n k site there e)
 
-  no_goal : (g : Name) → home_of g c.roots ≡ None → (T.goal_of g ≡ None) × (IsGoalInside T n g → ⊥)
-  no_goal g e = (map_none spot_of (T.goal_of g) (u.goals g ∙ spot_none g c.roots e), not_goal_inside_none T c u once n g site there e)
+  no_goal : (g : Name) → home_of g c.roots ≡ None → IsGoalInside T n g → ⊥
+  no_goal g e = not_goal_inside_none T c u once n g site there e
 
   -- the choice with the box among its alternatives holds it
   holds : (g : Name) (e : Found) (o : Op) (bs : Boxes) → home_of g c.roots ≡ Some e → held_in g e.goals ≡ Some (a_choice o bs) → IsIn n (box_names bs) → holder_in n c.roots ≡ Some g
@@ -108,23 +108,14 @@ module _ (T U : Table) (c : Config) (u : Unfolds T c) (once : (m : Name) → tim
     fails_by_kept n e.goals r.failing (λ g. goals_once (edited n no_boxes c.roots) still (left n e) (left_stands n c.roots once still e (found_in k c.roots e i) h) g) keeps x,
   )
 
-  -- a goal of which no alternative goes
-  goal_as_it_was : (g : Name) (e : Found) (h : Held) (r : GoalRow) → home_of g c.roots ≡ Some e → held_in g e.goals ≡ Some h → T.goal_of g ≡ Some r → U.goal_of g ≡ T.goal_of g
-      → ((o : Op) (bs : Boxes) → h ≡ a_choice o bs → IsIn n (box_names bs) → ⊥) → (k : GoalRow) × (U.goal_of g ≡ Some k) × (k.home ≡ r.home) × IsGoalLeft n h r k (T.steps + 1)
-  goal_as_it_was g e h r i j x q none =
-      let w : (k : GoalRow) × (T.goal_of g ≡ Some k) × (k.home ≡ e.content.name) × (k.shape ≡ shape_of h) = goal_row T c u once g e h i j in
-      let v : w.0 ≡ r = some_value (sym w.1 ∙ x) in
-      let s : shape_of h ≡ shape_of (edited_held n no_boxes h) = same_shape n h none in
-      (r, q ∙ x, refl, (ap (λ (k : GoalRow). k.shape) (sym v) ∙ w.3 ∙ s, inl (s, refl)))
-
   root_left : holder_in n c.roots ≡ None → IsLeft T U c n
   root_left z = record {
     box_none = λ k e. let w : (T.box_of k ≡ None) × (IsInside T n k → ⊥) = no_box k e in box_stays None z k w.1 ∙ w.0;
-    goal_none = λ g e. let w : (T.goal_of g ≡ None) × (IsGoalInside T n g → ⊥) = no_goal g e in goal_stays None z g w.1 ∙ w.0;
+    goal_none = λ g e. goal_stays None z g (no_goal g e);
     box_left = λ k e r i h x y. as_it_was k e r i h y (box_stays None z k (not_inside T c u once n k site e there i h) ∙ x) (λ g o bs j q. kept_where n bs (unheld g e o bs (home_found c.roots once g k e (a_choice o bs) i j) j) q);
-    goal_left = λ g e h r i k j x. goal_as_it_was g e h r i j x (goal_stays None z g (not_goal_inside T c u once n g site e there i k)) (λ o bs q. unheld g e o bs i (j ∙ ap Some q));
+    goal_left = λ g e h i k j. inl (goal_stays None z g (not_goal_inside T c u once n g site e there i k), same_shape n h (λ o bs q. unheld g e o bs i (j ∙ ap Some q)));
     roots = roots_are None z ∙ ap (less_name n) u.roots ∙ sym (names_left n c.roots few);
-    roots_changed = inr (λ e. names_gone n c.roots (subst (IsIn n) e named), roots_number None z);
+    root_mark = inr (roots_number None z, λ e. names_gone n c.roots (subst (IsIn n) e named));
   }
     where
       unheld : (g : Name) (e : Found) (o : Op) (bs : Boxes) → home_of g c.roots ≡ Some e → held_in g e.goals ≡ Some (a_choice o bs) → IsIn n (box_names bs) → ⊥
@@ -206,11 +197,11 @@ module _ (T U : Table) (c : Config) (u : Unfolds T c) (once : (m : Name) → tim
     held_left : IsLeft T U c n
     held_left = record {
       box_none = λ k e. let w : (T.box_of k ≡ None) × (IsInside T n k → ⊥) = no_box k e in box_now k w.1 ∙ absent k (same_name k goal.0.home) refl e w.0;
-      goal_none = λ k e. let w : (T.goal_of k ≡ None) × (IsGoalInside T n k → ⊥) = no_goal k e in goal_now k w.1 ∙ absent_goal k (same_name k g) refl e w.0;
+      goal_none = λ k e. goal_now k (no_goal k e) ∙ set_other g k (Some now) T.goal_of (unnamed k g (λ q. not_some (sym e ∙ ap (λ (m : Name). home_of m c.roots) q ∙ x.is_home)));
       box_left = λ k e r i h y v. of_box k e r i h y v (same_name k goal.0.home) refl;
-      goal_left = λ k e h r i z j y. of_goal k e h r i z j y (same_name k g) refl;
+      goal_left = λ k e h i z j. of_goal k e h i z j (same_name k g) refl;
       roots = roots_are (Some g) held ∙ u.roots ∙ sym roots_same;
-      roots_changed = inl (sym roots_same, roots_number (Some g) held);
+      root_mark = inl (roots_number (Some g) held, λ h. h (sym roots_same));
     }
       where
         absent : (k : Name) (t : Bool) → same_name k goal.0.home ≡ t → box_at k c.roots ≡ None → T.box_of k ≡ None → set goal.0.home (option_map (left_by g (Some now)) (T.box_of goal.0.home)) T.box_of k ≡ None
@@ -218,10 +209,6 @@ module _ (T U : Table) (c : Config) (u : Unfolds T c) (once : (m : Name) → tim
             let is_there : box_at k c.roots ≡ Some x.home = ap (λ (m : Name). box_at m c.roots) (same_name-equal k goal.0.home q ∙ goal.2) ∙ home-box g c.roots x.home once x.is_home in
             absurd (not_some (sym e ∙ is_there))
         absent k false q e w = set_other goal.0.home k (option_map (left_by g (Some now)) (T.box_of goal.0.home)) T.box_of q ∙ w
-
-        absent_goal : (k : Name) (t : Bool) → same_name k g ≡ t → home_of k c.roots ≡ None → T.goal_of k ≡ None → set g (Some now) T.goal_of k ≡ None
-        absent_goal k true q e w = absurd (not_some (sym e ∙ ap (λ (m : Name). home_of m c.roots) (same_name-equal k g q) ∙ x.is_home))
-        absent_goal k false q e w = set_other g k (Some now) T.goal_of q ∙ w
 
         of_box : (k : Name) (e : Found) (r : BoxRow) → box_at k c.roots ≡ Some e → (IsIn n (names_down_to e) → ⊥) → T.box_of k ≡ Some r → FailsBy e.goals r.failing → (t : Bool) → same_name k goal.0.home ≡ t
             → (o : Option Name) × (U.box_of k ≡ Some (record r { failing = o })) × FailsBy (edited_inside n no_boxes e.goals) o
@@ -237,24 +224,23 @@ module _ (T U : Table) (c : Config) (u : Unfolds T c) (once : (m : Name) → tim
                 let same : e ≡ x.home = home_is e (ap (λ (m : Name). home_of m c.roots) (sym is_it) ∙ at) in
                 other_name k goal.0.home t (box-itself k c.roots e i ∙ ap (λ (z : Found). z.content.name) same ∙ sym goal.2)
 
-        of_goal : (k : Name) (e : Found) (h : Held) (r : GoalRow) → home_of k c.roots ≡ Some e → (IsIn n (names_down_to e) → ⊥) → held_in k e.goals ≡ Some h → T.goal_of k ≡ Some r → (t : Bool) → same_name k g ≡ t
-            → (v : GoalRow) × (U.goal_of k ≡ Some v) × (v.home ≡ r.home) × IsGoalLeft n h r v (T.steps + 1)
-        of_goal k e h r i z j y false t =
-            goal_as_it_was k e h r i j y (goal_now k (not_goal_inside T c u once n k site e there i z) ∙ set_other g k (Some now) T.goal_of t)
-            (λ o bs q among. other_name k g t (only_holder k e o bs i (j ∙ ap Some q) among))
-        of_goal k e h r i z j y true t =
+        of_goal : (k : Name) (e : Found) (h : Held) → home_of k c.roots ≡ Some e → (IsIn n (names_down_to e) → ⊥) → held_in k e.goals ≡ Some h → (t : Bool) → same_name k g ≡ t → GoalLoses T U n k e h
+        of_goal k e h i z j false t = inl (
+          goal_now k (not_goal_inside T c u once n k site e there i z) ∙ set_other g k (Some now) T.goal_of t,
+          same_shape n h (λ o bs q among. other_name k g t (only_holder k e o bs i (j ∙ ap Some q) among)),
+        )
+        of_goal k e h i z j true t =
             let is_it : k ≡ g = same_name-equal k g t in
             let same : e ≡ x.home = home_is e (ap (λ (m : Name). home_of m c.roots) (sym is_it) ∙ i) in
             let content : h ≡ a_choice x.op x.alternatives = some_value (sym j ∙ (λ v. held_in (is_it v) (same v).goals) ∙ x.held) in
-            let its : goal.0 ≡ r = some_value (sym goal.1 ∙ ap T.goal_of (sym is_it) ∙ y) in
-            (
+            let home : goal.0.home ≡ e.content.name = goal.2 ∙ ap (λ (v : Found). v.content.name) (sym same) in
+            let shape : now.shape ≡ shape_of (edited_held n no_boxes h) = shape_now ∙ ap (of_choice x.op) (sym names_now) ∙ ap (λ (v : Held). shape_of (edited_held n no_boxes v)) (sym content) in
+            inr (
               now,
               goal_now k (not_goal_inside T c u once n k site e there i z) ∙ set_here g k (Some now) T.goal_of t,
-              ap (λ (v : GoalRow). v.home) its,
-              (
-                shape_now ∙ ap (of_choice x.op) (sym names_now) ∙ ap (λ (v : Held). shape_of (edited_held n no_boxes v)) (sym content),
-                inr (subst (λ (v : Held). shape_of v ≡ shape_of (edited_held n no_boxes v) → ⊥) (sym content) (other_shape n x.op x.alternatives x.among), refl),
-              ),
+              (λ v. record { home = home v; shape = shape v }),
+              refl,
+              subst (λ (v : Held). shape_of v ≡ shape_of (edited_held n no_boxes v) → ⊥) (sym content) (other_shape n x.op x.alternatives x.among),
             )
 
         roots_same : box_names (edited n no_boxes c.roots) ≡ box_names c.roots
