@@ -12,3 +12,7 @@ pub mod Marked
 pub mod Reducing
 pub mod Told
 pub mod Forked
+pub mod Insides
+pub mod Gone
+pub mod Loses
+pub mod Failed
