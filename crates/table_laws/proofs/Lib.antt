@@ -16,3 +16,4 @@ pub mod Insides
 pub mod Gone
 pub mod Loses
 pub mod Failed
+pub mod StepMakes
