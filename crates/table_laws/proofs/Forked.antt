@@ -1,25 +1,21 @@
 -- A fork leads from table to table.
-use Rattle.std.proofs.Common.{◌≡◌, ℕ, zero, suc, ◌+◌, ◌≤◌, ◌<◌, List, [], ◌∷◌, ◌++◌, map, Bool, true, false, Option, Some, None, refl, sym, ◌∙◌, ap, subst, ◌⊎◌, inl, inr, arith}
+use Rattle.std.proofs.Common.{◌≡◌, ℕ, zero, suc, ◌+◌, ◌≤◌, List, [], ◌∷◌, ◌++◌, map, Bool, true, false, Option, Some, None, refl, sym, ◌∙◌, ap, subst, ◌⊎◌, inl, inr, arith}
 use Rattle.std.specs.Prelude.{if◌then◌else◌, option_map, option_and_then, slice_index, ⊤}
 use Rattle.akl_terms.specs.declared.name.Name.{Name}
 use Rattle.akl_terms.specs.declared.name.Place.{Place}
 use Rattle.akl_terms.specs.declared.term.Node.{Node}
 use Rattle.akl_terms.specs.declared.program.Op.{Op}
-use Rattle.akl_terms.specs.declared.program.Program.{Program}
-use Rattle.akl_terms.specs.Equal.{Equations, IsTold}
-use Rattle.akl_terms.specs.Standing.{StandFor}
+use Rattle.akl_terms.specs.Equal.{Equations}
 use Rattle.akl_terms.specs.Names.{same_name}
 use Rattle.akl_terms.proofs.SameNames.{same_name-equal, same_name-refl}
-use Rattle.akl_model.specs.declared.item.Item.{Item}
 use Rattle.akl_model.specs.declared.label.Rule.{Rule}
 use Rattle.akl_model.specs.declared.label.Label.{Label}
-use Rattle.akl_model.specs.Config.{IsIn, Atom, Content, Boxes, no_boxes, box, Goals, no_goals, Config, Held, an_atom, a_choice, held_in, with_content, Found, whole, or_else, box_at, home_of}
+use Rattle.akl_model.specs.Config.{IsIn, Atom, Content, Boxes, no_boxes, box, Goals, Config, Held, an_atom, a_choice, held_in, with_content, Found, whole, or_else, box_at, home_of}
 use Rattle.akl_model.specs.Instances.{instances, drawn_by}
 use Rattle.akl_model.specs.Rules.{Change, becomes, change_by}
-use Rattle.akl_model.specs.Conditions.{HasFailed, IsFailing}
+use Rattle.akl_model.specs.Conditions.{IsFailing}
 use Rattle.akl_model.specs.Derivations.{Applies, raised}
-use Rattle.akl_model.specs.Changes.{Shape, of_atom, of_choice, shape_of, shape_at, box_names, goal_names, goals_at, constraint_of, constraint_at, by_store, Changes}
-use Rattle.akl_model.specs.Names.{one_if}
+use Rattle.akl_model.specs.Changes.{of_atom, of_choice, shape_of, shape_at, box_names, goal_names, constraint_of}
 use Rattle.akl_model.specs.Wakes.{names_around, names_down_to}
 use Rattle.akl_model.proofs.Options.{none_or, some_value, map_some}
 use Rattle.akl_model.proofs.Finds.{times, times_inside, box_at-none}
@@ -28,7 +24,7 @@ use Rattle.akl_model.proofs.NamesKept.{Stand, replay-stands, stands_after, box-i
 use Rattle.akl_model.proofs.ScopesAlong.{times_path}
 use Rattle.local_store.specs.Stored.{Stored}
 use Rattle.local_store.specs.Chained.{IsSolvedChain}
-use Rattle.step_laws.specs.Whereabouts.{BoxIn, Stands}
+use Rattle.step_laws.specs.Whereabouts.{BoxIn}
 use Rattle.step_laws.proofs.Whereabouts.{found_in, in_counted, home_of-none}
 use Rattle.step_laws.proofs.GoalEdits.{HasGoal}
 use Rattle.step_laws.proofs.Failing.{failing_found, failed_goal}
@@ -36,13 +32,13 @@ use Rattle.step_laws.proofs.Becomes.{Becomes}
 use Rattle.step_laws.proofs.Steps.{site_now, found}
 use Rattle.step_laws.proofs.Stays.{shape_held}
 use Rattle.table_laws.specs.Rows.{BoxRow, GoalRow, Table, store_in, stores_along}
-use Rattle.table_laws.specs.Unfolds.{FailsBy, IsBoxRow, AreBoth, Spot, spot_in, spot_of, Unfolds}
+use Rattle.table_laws.specs.Unfolds.{FailsBy, IsBoxRow, Spot, spot_in, spot_of}
 use Rattle.table_laws.specs.Stamped.{Run, followed_by, IsTableOf}
-use Rattle.table_laws.specs.Steps.{NewBox, Step, forks, IsNewBox, AreNewBoxes, ForksGoal, IsSolvedIf, AreSolvedIf, IsSolvedWhen, Makes}
+use Rattle.table_laws.specs.Steps.{NewBox, forks, IsNewBox, AreNewBoxes, ForksGoal, IsSolvedIf, IsSolvedWhen, Makes}
 use Rattle.table_laws.specs.Writes.{IsTable, set, solved_when, home_in, changed_box, new_row, new_box_of, new_goal_of, forked_row, failing_by, after_fork, Leads}
-use Rattle.table_laws.proofs.Stores.{told_along, IsAsTold, same_stores, stores_join, in_either}
+use Rattle.table_laws.proofs.Stores.{IsAsTold, same_stores, in_either}
 use Rattle.table_laws.proofs.Frame.{row_of, neither, KeepsRows, KeepsBoxes, site_around}
-use Rattle.table_laws.proofs.Onward.{IsMark, GoalGoes, LeadsOn, site_same, fails_as}
+use Rattle.table_laws.proofs.Onward.{GoalGoes, LeadsOn, site_same, fails_as}
 use Rattle.table_laws.proofs.Marked.{led}
 use Rattle.table_laws.proofs.Fresh.{drawn_nowhere}
 use Rattle.table_laws.proofs.NewRows.{new_box_names, only_alternatives, shows_none, EachNew, IsOfNew, new_box_or, new_goal_or, IsSolvedNew, new_is_row}
@@ -233,11 +229,13 @@ module _ (rules : List Rule) (r : Run) (T U : Table) (l : Label) (d : Config) (t
     steps = is.steps;
     rows = λ n e f row apart i j x.
         let w : (v : BoxRow) × (T.box_of n ≡ Some v) × IsBoxRow T t.config.roots e v = row_of T t.config t.unfolds n e i in
-        let same : w.0 ≡ row = some_value (sym w.1 ∙ x) in
-        (row.failing, other_row n (old_box n e i) (turned n a.site.content.name apart) ∙ x,
-        fails_as rules r.program r.query r.journal t.config l d t.replays a T U t.unfolds n e f row.failing apart i j
-        (λ h k cs replaced y z. forking.not_replaced rules r.program t.config l d s a g place op bs was fork.held boxes_are nowhere flat replaced)
-        (subst (λ (v : BoxRow). FailsBy e.goals v.failing) same w.2.failing));
+        let same : w.0 ≡ row = some_value (sym w.1 ∙ x) in (
+          row.failing,
+          other_row n (old_box n e i) (turned n a.site.content.name apart) ∙ x,
+          fails_as rules r.program r.query r.journal t.config l d t.replays a T U t.unfolds n e f row.failing apart i j
+              (λ h k cs replaced y z. forking.not_replaced rules r.program t.config l d s a g place op bs was fork.held boxes_are nowhere flat replaced)
+              (subst (λ (v : BoxRow). FailsBy e.goals v.failing) same w.2.failing),
+        );
   }
 
   -- the row of the box of the place
@@ -315,11 +313,16 @@ module _ (rules : List Rule) (r : Run) (T U : Table) (l : Label) (d : Config) (t
         subst (λ (E : Equations). IsNewBox U.nodes E new of.content of.goals) (ap (λ (v : Content). whole (record a.site { content = v })) (sym forked.content))
         (subst (λ (ms : List Node). IsNewBox ms (whole a.site) new of.content of.goals) (sym (is.nodes ∙ t.nodes)) of.is_new) in
         let shown : of.content.shown ≡ [] =
-        shows_none r.program.templates.nodes l.worker (slice_index t.config.next l.worker) fork.arguments fork.definition.clauses [] of.content of.goals refl of.alternative in
-        (new_row g at number new, has, subst (λ (v : Found). IsBoxRow U d.roots v (new_row g at number new)) (some_value (sym there ∙ j))
-        (new_is_row U d.roots sd.once g (site_now b) op bs home_now forked.choice_held site_row.0.stands at number n k new there of.named
-        (subst (λ (v : Name). IsIn v (box_names bs)) (sym of.named)
-        (forking.new_named rules r.program t.config l d s a g place op bs was fork.held boxes_are nowhere flat of.content of.goals of.alternative)) is_new of.more shown has), refl, refl)
+        shows_none r.program.templates.nodes l.worker (slice_index t.config.next l.worker) fork.arguments fork.definition.clauses [] of.content of.goals refl of.alternative in (
+          new_row g at number new,
+          has,
+          subst (λ (v : Found). IsBoxRow U d.roots v (new_row g at number new)) (some_value (sym there ∙ j))
+              (new_is_row U d.roots sd.once g (site_now b) op bs home_now forked.choice_held site_row.0.stands at number n k new there of.named
+              (subst (λ (v : Name). IsIn v (box_names bs)) (sym of.named)
+              (forking.new_named rules r.program t.config l d s a g place op bs was fork.held boxes_are nowhere flat of.content of.goals of.alternative)) is_new of.more shown has),
+          refl,
+          refl,
+        )
   ]
 
   gone_box : (n : Name) → box_at n d.roots ≡ None → U.box_of n ≡ None
@@ -359,10 +362,12 @@ module _ (rules : List Rule) (r : Run) (T U : Table) (l : Label) (d : Config) (t
         let row_is : U.goal_of i ≡ Some row = goal_rows i ∙ ap (λ (o : Option GoalRow). or_else o (set g (option_map (forked_row op news number) (T.goal_of g)) T.goal_of i)) has in
         let before : shape_at i t.config.roots ≡ None = ap (option_and_then (λ (f : Found). option_map shape_of (held_in i f.goals))) (home_of-none i t.config.roots z) in
         let afterwards : shape_at i d.roots ≡ Some (shape_of h) = shape_held i d.roots (record { around = a.site.around ++ b.content ∷ []; content = k; goals = hs }) h there held in
-        inr (ap (option_map spot_of) row_is ∙ ap Some spot
-        ∙ sym (ap (option_and_then (λ (f : Found). option_map {U = Spot} (λ (h : Held). record { home = f.content.name; shape = shape_of h }) (held_in i f.goals))) there
-        ∙ ap (option_map {U = Spot} (λ (h : Held). record { home = k.name; shape = shape_of h })) held),
-        λ v e. (ap (λ (w : GoalRow). w.changed) (some_value (sym e ∙ row_is)) ∙ changed, λ q. cc))
+        inr (
+          ap (option_map spot_of) row_is ∙ ap Some spot
+              ∙ sym (ap (option_and_then (λ (f : Found). option_map {U = Spot} (λ (h : Held). record { home = f.content.name; shape = shape_of h }) (held_in i f.goals))) there
+              ∙ ap (option_map {U = Spot} (λ (h : Held). record { home = k.name; shape = shape_of h })) held),
+          λ v e. (ap (λ (w : GoalRow). w.changed) (some_value (sym e ∙ row_is)) ∙ changed, λ q. cc),
+        )
     | inl none ↦ on none (same_name i g) refl
   ]
     where
@@ -377,10 +382,12 @@ module _ (rules : List Rule) (r : Run) (T U : Table) (l : Label) (d : Config) (t
           let afterwards : shape_at g d.roots ≡ Some (of_choice op (box_names bs)) = shape_held g d.roots (site_now b) (a_choice op bs) home_now forked.choice_held in
           let names : map (λ (n : NewBox). n.name) news ≡ box_names bs = new_box_names r.program.templates.nodes (whole a.site) news bs fork.boxes in
           let home : its_row.0.home ≡ b.content.name = ap (λ (k : Spot). k.home) its_row.2 ∙ ap (λ (k : Content). k.name) (sym forked.content) in
-          inr (ap (option_map spot_of) row_is ∙ (λ k. Some (record { home = home k; shape = of_choice op (names k) }))
-          ∙ sym (ap (option_and_then (λ (f : Found). option_map {U = Spot} (λ (h : Held). record { home = f.content.name; shape = shape_of h }) (held_in g f.goals))) home_now
-          ∙ ap (option_map {U = Spot} (λ (h : Held). record { home = b.content.name; shape = shape_of h })) forked.choice_held),
-          λ v e. (ap (λ (w : GoalRow). w.changed) (some_value (sym e ∙ row_is)), λ q. cc))
+          inr (
+            ap (option_map spot_of) row_is ∙ (λ k. Some (record { home = home k; shape = of_choice op (names k) }))
+                ∙ sym (ap (option_and_then (λ (f : Found). option_map {U = Spot} (λ (h : Held). record { home = f.content.name; shape = shape_of h }) (held_in g f.goals))) home_now
+                ∙ ap (option_map {U = Spot} (λ (h : Held). record { home = b.content.name; shape = shape_of h })) forked.choice_held),
+            λ v e. (ap (λ (w : GoalRow). w.changed) (some_value (sym e ∙ row_is)), λ q. cc),
+          )
 
       on : (new_goal_of number news i ≡ None) × ((k : Content) (hs : Goals) → BoxIn [] k hs bs → HasGoal i hs → ⊥) → (v : Bool) → same_name i g ≡ v → GoalGoes T U t.config d i
       on none true q = subst (GoalGoes T U t.config d) (sym (same_name-equal i g q)) (itself (subst (λ (n : Name). new_goal_of number news n ≡ None) (same_name-equal i g q) none.0))
@@ -397,11 +404,15 @@ module _ (rules : List Rule) (r : Run) (T U : Table) (l : Label) (d : Config) (t
         let x : v ≡ site_was.0 = some_value (sym i ∙ site_was.1) in
         let y : k ≡ site_is = some_value (sym j ∙ site_has) in
         let was_there : box_at a.site.content.name t.config.roots ≡ Some a.site = found rules r.program t.config l d s a in (
-          inl (ap (λ (w : BoxRow). w.changed) y ∙ ap (λ (w : BoxRow). w.changed) (sym x),
-              λ h. h (ap (option_map constraint_of) was_there ∙ ap (λ (w : Content). Some (record { frames = w.frames; equations = w.equations; ports = w.ports })) (sym forked.content)
-              ∙ sym (ap (option_map constraint_of) now_there))),
-          inl (ap (λ (w : BoxRow). w.goals_changed) y ∙ ap (λ (w : BoxRow). w.goals_changed) (sym x),
-              λ h. h (ap (option_map (λ (f : Found). goal_names f.goals)) was_there ∙ ap Some (sym forked.names) ∙ sym (ap (option_map (λ (f : Found). goal_names f.goals)) now_there))),
+          inl (
+            ap (λ (w : BoxRow). w.changed) y ∙ ap (λ (w : BoxRow). w.changed) (sym x),
+            λ h. h (ap (option_map constraint_of) was_there ∙ ap (λ (w : Content). Some (record { frames = w.frames; equations = w.equations; ports = w.ports })) (sym forked.content)
+                ∙ sym (ap (option_map constraint_of) now_there)),
+          ),
+          inl (
+            ap (λ (w : BoxRow). w.goals_changed) y ∙ ap (λ (w : BoxRow). w.goals_changed) (sym x),
+            λ h. h (ap (option_map (λ (f : Found). goal_names f.goals)) was_there ∙ ap Some (sym forked.names) ∙ sym (ap (option_map (λ (f : Found). goal_names f.goals)) now_there)),
+          ),
         );
     new_boxes = new_box;
     gone_boxes = gone_box;

@@ -1,6 +1,6 @@
 -- What stands where a call has become a choice of new boxes.
-use Rattle.std.proofs.Common.{◌≡◌, ◌≢◌, ℕ, ◌+◌, ◌≤◌, ◌<◌, List, [], ◌∷◌, ◌++◌, Bool, true, false, Option, Some, None, refl, sym, ◌∙◌, ap, subst, ◌⊎◌, inl, inr, arith}
-use Rattle.std.specs.Prelude.{if◌then◌else◌, option_map, option_and_then, slice_index, slice_get}
+use Rattle.std.proofs.Common.{◌≡◌, ℕ, ◌+◌, ◌≤◌, List, [], ◌∷◌, ◌++◌, Bool, true, false, Option, Some, None, refl, sym, ◌∙◌, ap, subst, ◌⊎◌, inl, inr, arith}
+use Rattle.std.specs.Prelude.{if◌then◌else◌, slice_index, slice_get}
 use Rattle.akl_terms.specs.declared.name.Name.{Name}
 use Rattle.akl_terms.specs.declared.name.Place.{Place}
 use Rattle.akl_terms.specs.declared.program.Op.{Op}
@@ -16,9 +16,9 @@ use Rattle.akl_model.specs.Config.{IsIn, Atom, Content, Boxes, no_boxes, box, Go
 use Rattle.akl_model.specs.Instances.{instances, drawn_by}
 use Rattle.akl_model.specs.Rules.{Reading, Change, becomes, fork, fork_by, change_by}
 use Rattle.akl_model.specs.Derivations.{Applies}
-use Rattle.akl_model.specs.Changes.{Shape, of_choice, shape_of, shape_at, box_names, goal_names}
-use Rattle.akl_model.proofs.Options.{some_value, none_or}
-use Rattle.akl_model.proofs.Finds.{times, times_of, times_inside, box_at-none}
+use Rattle.akl_model.specs.Changes.{Shape, shape_at, box_names, goal_names}
+use Rattle.akl_model.proofs.Options.{some_value}
+use Rattle.akl_model.proofs.Finds.{times, times_inside}
 use Rattle.akl_model.proofs.NamesKept.{Stand, stands_after, box-itself}
 use Rattle.step_laws.specs.Whereabouts.{BoxIn, InGoals, Stands}
 use Rattle.step_laws.specs.ChangedItems.{goal_of, IsReplaced, MayChange, store, goals, store_gone, goals_gone, goal_gone, store_new, goals_new, goal_new, holder, roots, binding}
@@ -28,7 +28,7 @@ use Rattle.step_laws.proofs.Deeper.{in_deeper, one_box, named_found, home_found}
 use Rattle.step_laws.proofs.Decide.{option_or, names_or, shape_or, not_not}
 use Rattle.step_laws.proofs.Edits.{AfterEdit, outside, replaced}
 use Rattle.step_laws.proofs.GoalEdits.{HasGoal, has_names, InHeld, held_inside, with_content_in, with_content_here, with_content_other}
-use Rattle.step_laws.proofs.Becomes.{Becomes, IsBox, BecomesAt}
+use Rattle.step_laws.proofs.Becomes.{Becomes, IsBox}
 use Rattle.step_laws.proofs.Steps.{after_edit, made, site_now, site_stands, site_there}
 use Rattle.step_laws.proofs.ChangedItems.{frame_names, items}
 use Rattle.table_laws.proofs.Along.{all_stay}
@@ -165,8 +165,11 @@ module _ (rules : List Rule) (p : Program) (c : Config) (l : Label) (d : Config)
 
       inner : (r : List Content) → InHeld r f.content f.goals (a_choice op bs) ⊎ InGoals r f.content f.goals m.site.goals → Result
       inner r (inl y) = inr (subst (λ (a : List Content). BoxIn a f.content f.goals bs) (flat r f.content f.goals y) y)
-      inner r (inr y) = inl (record { around = m.site.around ++ m.site.content ∷ r; content = f.content; goals = f.goals },
-          in_deeper m.site.around m.site.content m.site.goals r f.content f.goals c.roots (site_stands rules p c l d s m) y, refl)
+      inner r (inr y) = inl (
+        record { around = m.site.around ++ m.site.content ∷ r; content = f.content; goals = f.goals },
+        in_deeper m.site.around m.site.content m.site.goals r f.content f.goals c.roots (site_stands rules p c l d s m) y,
+        refl,
+      )
 
       new : (r : List Content) → BoxIn r f.content f.goals (box m.site.content (with_content g (a_choice op bs) m.site.goals) no_boxes) → Result
       new r (inl e) = inl (m.site, site_stands rules p c l d s m, ap (λ (k : Content). k.name) (sym e.1))
@@ -221,7 +224,7 @@ module _ (rules : List Rule) (p : Program) (c : Config) (l : Label) (d : Config)
           let z : m.site.content.name ≡ e.content.name = same_name-equal m.site.content.name e.content.name q in
           let x : m.site ≡ e = one_box c.roots s.once m.site e (site_stands rules p c l d s m) (found_in n c.roots e i) z in
           let y : site_now forks_to ≡ f = one_box d.roots t.once (site_now forks_to) f (found_in m.site.content.name d.roots (site_now forks_to) now_there) (found_in n d.roots f j)
-              (ap (λ (k : Content). k.name) (forked forks_to).content ∙ z ∙ name) in
+          (ap (λ (k : Content). k.name) (forked forks_to).content ∙ z ∙ name) in
           ap (λ (k : Found). goal_names k.goals) (sym x) ∙ sym (forked forks_to).names ∙ ap (λ (k : Found). goal_names k.goals) y
 
   -- another goal that isn't new isn't changed
