@@ -163,8 +163,14 @@ module _ (rules : List Rule) (p : Program) (c : Config) (l : Label) (d : Config)
         let e : box_at m.site.content.name d.roots ≡ Some o.outer = named_found d.roots t.once m.site.content.name o.outer o.stands o.named in
         let n : box_at m.site.content.name d.roots ≡ None = site_gone rules p c l d s m z.1 in
         absurd cc)
-    | inr z ↦ (z.0, (o.rest, subst (λ (k : Found). f.around ≡ k.around ++ k.content ∷ o.rest)
-        (one_box d.roots t.once o.outer (site_now z.0) o.stands (found_in m.site.content.name d.roots (site_now z.0) (site_there rules p c l d s m z.0)) (sym o.named ∙ sym z.0.keeps.name)) o.path))
+    | inr z ↦ (
+      z.0,
+      (
+        o.rest,
+        subst (λ (k : Found). f.around ≡ k.around ++ k.content ∷ o.rest)
+            (one_box d.roots t.once o.outer (site_now z.0) o.stands (found_in m.site.content.name d.roots (site_now z.0) (site_there rules p c l d s m z.0)) (sym o.named ∙ sym z.0.keeps.name)) o.path,
+      ),
+    )
   ]
     where
       o : Over m.site.content.name f d.roots
@@ -199,7 +205,7 @@ module _ (rules : List Rule) (p : Program) (c : Config) (l : Label) (d : Config)
       let q : n ≡ e.content.name = box-itself n c.roots e i in
       let f : Found = record { around = e.around; content = e.content; goals = edited_inside m.site.content.name m.change.boxes e.goals } in
       let x : Stands f d.roots = subst (λ (k : Config). Stands f k.roots) m.result (edit_out m.site.content.name m.change.boxes c.roots e.around e.content e.goals (found_in n c.roots e i)
-          (subst (λ (k : Name). same_name m.site.content.name k ≡ false) q apart) (not_among m.site.content.name m.change.boxes e.around h)) in
+      (subst (λ (k : Name). same_name m.site.content.name k ≡ false) q apart) (not_among m.site.content.name m.change.boxes e.around h)) in
       (f, named_found d.roots t.once n f x q)
 
   -- and one in it stays where it stands in its new goals

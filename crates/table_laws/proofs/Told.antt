@@ -130,8 +130,11 @@ module _ (rules : List Rule) (r : Run) (T U : Table) (l : Label) (d : Config) (t
   keeps = record {
     nodes = leads.nodes;
     steps = leads.steps;
-    rows = λ n e f v apart i j k. (v.failing, box_other n apart ∙ k,
-      fails_as rules r.program r.query r.journal t.config l d t.replays a T U t.unfolds n e f v.failing apart i j (λ h o bs x y z. whole_box x) (old_fails n e v i k));
+    rows = λ n e f v apart i j k. (
+      v.failing,
+      box_other n apart ∙ k,
+      fails_as rules r.program r.query r.journal t.config l d t.replays a T U t.unfolds n e f v.failing apart i j (λ h o bs x y z. whole_box x) (old_fails n e v i k),
+    );
   }
     where
       old_fails : (n : Name) (e : Found) (v : BoxRow) → box_at n t.config.roots ≡ Some e → T.box_of n ≡ Some v → FailsBy e.goals v.failing
