@@ -7,3 +7,5 @@ pub mod Insides
 pub mod Gone
 pub mod Loses
 pub mod Failed
+pub mod Walks
+pub mod Drops
