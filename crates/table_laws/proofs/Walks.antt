@@ -7,13 +7,14 @@ use Rattle.akl_terms.specs.declared.name.Name.{Name}
 use Rattle.akl_terms.specs.declared.program.Op.{Op}
 use Rattle.akl_terms.specs.Names.{same_name}
 use Rattle.akl_terms.proofs.SameNames.{same_name-equal, same_name-refl}
+use Rattle.akl_model.specs.declared.label.Rule.{Rule}
 use Rattle.akl_model.specs.Config.{IsIn, Content, Boxes, no_boxes, box, Goals, no_goals, atom, choice, Config, Held, an_atom, a_choice, held_in, Found, box_at, home_of}
 use Rattle.akl_model.specs.Names.{one_if, times_in}
 use Rattle.akl_model.specs.Changes.{Shape, of_atom, of_choice, shape_of, box_names, goal_names}
 use Rattle.akl_model.specs.Wakes.{names_around, names_down_to, holder_in}
 use Rattle.akl_model.proofs.Options.{none_or, some_value}
 use Rattle.akl_model.proofs.Finds.{times, times_inside, times_in-append}
-use Rattle.akl_model.proofs.NamesKept.{box-itself}
+use Rattle.akl_model.proofs.NamesKept.{replay-stands, box-itself}
 use Rattle.akl_model.proofs.Scoped.{IsIn-left, IsIn-right, IsIn-either}
 use Rattle.akl_model.proofs.ScopesAlong.{times_path, counted_in}
 use Rattle.step_laws.specs.Holders.{IsAlternativeAt}
@@ -23,10 +24,11 @@ use Rattle.step_laws.proofs.Edits.{other, past}
 use Rattle.step_laws.proofs.Holders.{names_less, alternative_at}
 use Rattle.table_laws.specs.Rows.{BoxRow, GoalRow, Table}
 use Rattle.table_laws.specs.Unfolds.{IsBoxRow, Unfolds}
+use Rattle.table_laws.specs.Stamped.{Run, IsTableOf}
 use Rattle.table_laws.specs.Inside.{IsDirectlyIn, IsAlternativeOf, IsInside, itself, further, IsGoalInside}
 use Rattle.table_laws.specs.Walks.{alternatives_in, alternatives_of, alternatives_among, boxes_in_row, boxes_directly_in, ListsInside}
 use Rattle.table_laws.proofs.Along.{named_path}
-use Rattle.table_laws.proofs.Frame.{row_of}
+use Rattle.table_laws.proofs.Frame.{row_of, found_of}
 use Rattle.table_laws.proofs.Gone.{goals_once}
 use Rattle.table_laws.proofs.Insides.{named_counted, goal_row, held_directly, held_alternative, IsUnder, under}
 
@@ -189,6 +191,13 @@ at_middle [] ys y z (suc at) l e = absurd (omega arith)
 at_middle (x ∷ xs) ys y z zero l e = absurd (omega arith)
 at_middle (x ∷ xs) ys y z (suc at) l e = at_middle xs ys y z at (omega arith) e
 
+-- no box stands twice inside a box, nor this inside itself; and each has its row, but for the box itself where that isn't there
+pub record IsNested (T : Table) (n : Name) : Type 0 where
+  pub boxes_once : (h : Name) → IsInside T n h → (m : Name) → times_in m (boxes_directly_in T h) ≤ 1
+  pub one_outer : (h k m : Name) → IsInside T n h → IsInside T n k → IsIn m (boxes_directly_in T h) → IsIn m (boxes_directly_in T k) → h ≡ k
+  pub not_first : (h : Name) → IsInside T n h → IsIn n (boxes_directly_in T h) → ⊥
+  pub there : ((h : Name) → IsInside T n h → h ≡ n) ⊎ ((h : Name) → IsInside T n h → (r : BoxRow) × (T.box_of h ≡ Some r))
+
 module _ (T : Table) (c : Config) (u : Unfolds T c) (once : (m : Name) → times m c.roots ≤ 1) (n : Name) (e : Found) (there : box_at n c.roots ≡ Some e) where
   -- a box directly in another is found in it, and held by the goal
   record Within (h m g : Name) : Type 0 where
@@ -258,85 +267,131 @@ module _ (T : Table) (c : Config) (u : Unfolds T c) (once : (m : Name) → times
       let same : times_in m (boxes_directly_in T h) ≡ times_in m (alternatives_among T (goal_names v.found.goals)) = ap (times_in m) (ap (boxes_in_row T) r.1 ∙ ap (alternatives_among T) r.2.goals) in
       omega (arith, all, one, same)
 
-  -- each gathered name is a box's
-  pub gathered_there : (names : List Name) (at : ℕ) → Walk T n names at → (m : Name) → IsIn m names → (r : BoxRow) × (T.box_of m ≡ Some r)
-  gathered_there names at w m i =
-      let v : IsUnder T c u once n m = under T c u once n m e there (w.inside m i) in
-      let r : (r : BoxRow) × (T.box_of m ≡ Some r) × IsBoxRow T c.roots v.found r = row_of T c u m v.found v.is_found in
+  there_inside : (h : Name) → IsInside T n h → (r : BoxRow) × (T.box_of h ≡ Some r)
+  there_inside h i =
+      let v : IsUnder T c u once n h = under T c u once n h e there i in
+      let r : (r : BoxRow) × (T.box_of h ≡ Some r) × IsBoxRow T c.roots v.found r = row_of T c u h v.found v.is_found in
       (r.0, r.1)
 
-  -- one step: the next name is done
-  pub next_walk : (names : List Name) (at : ℕ) (here : Name) → here ≡ get_or names at here → at < length names → Walk T n names at → Walk T n (names ++ boxes_directly_in T here) (at + 1)
-  next_walk names at here is_here l w = on w.rest refl
-    where
-      on : (rest : List Name) → w.rest ≡ rest → Walk T n (names ++ boxes_directly_in T here) (at + 1)
-      on [] q =
-          let i : length names ≡ length (w.done ++ []) = ap length (w.parts ∙ ap (λ (r : List Name). w.done ++ r) q) in
-          let j : length (w.done ++ []) ≡ length w.done + 0 = length-append w.done [] in
-          let k : length w.done ≡ at = w.place in
-          absurd (omega arith)
-      on (x ∷ rest) q = record {
-        done = w.done ++ x ∷ [];
-        rest = rest ++ boxes_directly_in T here;
-        parts = ap (λ (ns : List Name). ns ++ boxes_directly_in T here) (parts ∙ sym (append_assoc w.done (x ∷ []) rest)) ∙ append_assoc (w.done ++ x ∷ []) rest (boxes_directly_in T here);
-        place = let i : length (w.done ++ x ∷ []) ≡ length w.done + 1 = length-append w.done (x ∷ []) in let k : length w.done ≡ at = w.place in omega arith;
-        has = IsIn-left n names (boxes_directly_in T here) w.has;
-        once = each_once;
-        inside = λ m i. elim (IsIn-either m names (boxes_directly_in T here) i) [
-          | inl j ↦ w.inside m j
-          | inr j ↦ (let v : IsBoxIn T here m = in_box T here m j in further inside_here v.1 v.2)
-        ];
-        closed = λ h m i j. elim (IsIn-either h w.done (x ∷ []) i) [
-          | inl k ↦ IsIn-left m names (boxes_directly_in T here) (w.closed h m k j)
-          | inr k ↦ elim k [
-            | inl y ↦ IsIn-right m names (boxes_directly_in T here) (subst (λ (z : Name). IsIn m (boxes_directly_in T z)) (y ∙ is_x) j)
-            | inr z ↦ absurd z
-          ]
-        ];
-        from = λ m i. elim (IsIn-either m names (boxes_directly_in T here) i) [
-          | inl j ↦ elim (w.from m j) [ inl y ↦ inl y | inr y ↦ inr (y.0, IsIn-left y.0 w.done (x ∷ []) y.1, y.2) ]
-          | inr j ↦ inr (here, IsIn-right here w.done (x ∷ []) (inl (sym is_x)), j)
-        ];
-      }
-        where
-          parts : names ≡ w.done ++ x ∷ rest
-          parts = w.parts ∙ ap (λ (r : List Name). w.done ++ r) q
+  nested_there : IsNested T n
+  nested_there = record { boxes_once = boxes_once; one_outer = one_outer; not_first = not_first; there = inr there_inside }
 
-          is_x : x ≡ here
-          is_x = at_middle w.done rest x here at w.place (subst (λ (ns : List Name). here ≡ get_or ns at here) parts is_here)
+-- where the box isn't there, nothing is inside it
+nested_none : (T : Table) (n : Name) → T.box_of n ≡ None → IsNested T n
+nested_none T n z = record {
+  boxes_once = λ h i m. subst (λ (ns : List Name). times_in m ns ≤ 1) (sym (none h i)) (omega arith);
+  one_outer = λ h k m i j x y. absurd (subst (IsIn m) (none h i) x);
+  not_first = λ h i x. subst (IsIn n) (none h i) x;
+  there = inl alone;
+}
+  where
+    alone : (h : Name) → IsInside T n h → h ≡ n
+    alone h itself = refl
+    alone a (further {m = m} {g = g} x d y) = let q : T.box_of m ≡ None = ap T.box_of (alone m x) ∙ z in let k : T.box_of m ≡ Some d.row = d.there in absurd cc
 
-          inside_here : IsInside T n here
-          inside_here = w.inside here (subst (IsIn here) (sym parts) (IsIn-right here w.done (x ∷ rest) (inl (sym is_x))))
+    none : (h : Name) → IsInside T n h → boxes_directly_in T h ≡ []
+    none h i = ap (boxes_in_row T) (ap T.box_of (alone h i) ∙ z)
 
-          -- it wasn't done before
-          not_done : IsIn here w.done → ⊥
-          not_done i =
-              let a : 0 < times_in here w.done = counted_in here w.done i in
-              let b : 0 < times_in here (x ∷ rest) = counted_in here (x ∷ rest) (inl (sym is_x)) in
-              let d : times_in here names ≡ times_in here (w.done ++ x ∷ rest) = ap (times_in here) parts in
-              let f : times_in here (w.done ++ x ∷ rest) ≡ times_in here w.done + times_in here (x ∷ rest) = times_in-append here w.done (x ∷ rest) in
-              let o : times_in here names ≤ 1 = w.once here in
-              omega (arith, a, b, d, f, o)
+-- in a table of a run
+pub nested : (rules : List Rule) (r : Run) (T : Table) → IsTableOf rules r T → (n : Name) → IsNested T n
+nested rules r T t n = on (T.box_of n) refl
+  where
+    on : (o : Option BoxRow) → T.box_of n ≡ o → IsNested T n
+    on None e = nested_none T n e
+    on (Some row) e =
+        let w : (f : Found) × (box_at n t.config.roots ≡ Some f) × IsBoxRow T t.config.roots f row = found_of T t.config t.unfolds n row e in
+        nested_there T t.config t.unfolds (replay-stands rules r.program r.query r.journal t.config t.replays).once n w.0 w.1
 
-          -- so what is directly in it wasn't gathered
-          apart : (m : Name) → IsIn m names → IsIn m (boxes_directly_in T here) → ⊥
-          apart m i j = elim (w.from m i) [
-            | inl y ↦ not_first here inside_here (subst (λ (z : Name). IsIn z (boxes_directly_in T here)) y j)
-            | inr y ↦
-                let outer : IsInside T n y.0 = w.inside y.0 (subst (IsIn y.0) (sym w.parts) (IsIn-left y.0 w.done w.rest y.1)) in
-                not_done (subst (λ (z : Name). IsIn z w.done) (one_outer y.0 here m outer inside_here y.2 j) y.1)
-          ]
+all_one : (n : Name) (names : List Name) → ((m : Name) → times_in m names ≤ 1) → ((m : Name) → IsIn m names → m ≡ n) → length names ≤ 1
+all_one n [] once h = omega arith
+all_one n (m ∷ []) once h = omega arith
+all_one n (m ∷ k ∷ names) once h =
+    let a : one_if (same_name m m) ≡ 1 = ap one_if (same_name-refl m) in
+    let e : m ≡ k = h m (inl refl) ∙ sym (h k (inr (inl refl))) in
+    let b : one_if (same_name m k) ≡ 1 = ap one_if (subst (λ (x : Name). same_name m x ≡ true) e (same_name-refl m)) in
+    let o : times_in m (m ∷ k ∷ names) ≤ 1 = once m in
+    absurd (omega (arith, a, b, o))
 
-          each_once : (m : Name) → times_in m (names ++ boxes_directly_in T here) ≤ 1
-          each_once m =
-              let parts : times_in m (names ++ boxes_directly_in T here) ≡ times_in m names + times_in m (boxes_directly_in T here) = times_in-append m names (boxes_directly_in T here) in
-              by (times_in m names) (times_in m (boxes_directly_in T here)) refl refl (w.once m) (boxes_once here inside_here m) parts
-            where
-              by : (a b : ℕ) → times_in m names ≡ a → times_in m (boxes_directly_in T here) ≡ b → times_in m names ≤ 1 → times_in m (boxes_directly_in T here) ≤ 1
-                  → times_in m (names ++ boxes_directly_in T here) ≡ times_in m names + times_in m (boxes_directly_in T here) → times_in m (names ++ boxes_directly_in T here) ≤ 1
-              by zero b i j o k parts = omega arith
-              by (suc a) zero i j o k parts = omega arith
-              by (suc a) (suc b) i j o k parts = absurd (apart m (named_counted m names (omega arith)) (named_counted m (boxes_directly_in T here) (omega arith)))
+-- no more names are gathered than the table has boxes, and one
+pub few_gathered : {X : Type 0} (T : Table) (n : Name) (es : List (Name × X)) (names : List Name) (at : ℕ) → IsNested T n → ((m : Name) (r : BoxRow) → T.box_of m ≡ Some r → IsSome (lookup (same_name m) es))
+    → Walk T n names at → length names ≤ length es + 1
+few_gathered T n es names at k keys w = elim k.there [
+  | inl h ↦ (let l : length names ≤ 1 = all_one n names w.once (λ m i. h m (w.inside m i)) in omega arith)
+  | inr h ↦ (let l : length names ≤ length es = no_more names es w.once (λ m i. let r : (r : BoxRow) × (T.box_of m ≡ Some r) = h m (w.inside m i) in keys m r.0 r.1) in omega arith)
+]
+
+-- one step: the next name is done
+pub next_walk : (T : Table) (n : Name) → IsNested T n → (names : List Name) (at : ℕ) (here : Name) → here ≡ get_or names at here → at < length names → Walk T n names at → Walk T n (names ++ boxes_directly_in T here) (at + 1)
+next_walk T n nest names at here is_here l w = on w.rest refl
+  where
+    on : (rest : List Name) → w.rest ≡ rest → Walk T n (names ++ boxes_directly_in T here) (at + 1)
+    on [] q =
+        let i : length names ≡ length (w.done ++ []) = ap length (w.parts ∙ ap (λ (r : List Name). w.done ++ r) q) in
+        let j : length (w.done ++ []) ≡ length w.done + 0 = length-append w.done [] in
+        let k : length w.done ≡ at = w.place in
+        absurd (omega arith)
+    on (x ∷ rest) q = record {
+      done = w.done ++ x ∷ [];
+      rest = rest ++ boxes_directly_in T here;
+      parts = ap (λ (ns : List Name). ns ++ boxes_directly_in T here) (parts ∙ sym (append_assoc w.done (x ∷ []) rest)) ∙ append_assoc (w.done ++ x ∷ []) rest (boxes_directly_in T here);
+      place = let i : length (w.done ++ x ∷ []) ≡ length w.done + 1 = length-append w.done (x ∷ []) in let k : length w.done ≡ at = w.place in omega arith;
+      has = IsIn-left n names (boxes_directly_in T here) w.has;
+      once = each_once;
+      inside = λ m i. elim (IsIn-either m names (boxes_directly_in T here) i) [
+        | inl j ↦ w.inside m j
+        | inr j ↦ (let v : IsBoxIn T here m = in_box T here m j in further inside_here v.1 v.2)
+      ];
+      closed = λ h m i j. elim (IsIn-either h w.done (x ∷ []) i) [
+        | inl k ↦ IsIn-left m names (boxes_directly_in T here) (w.closed h m k j)
+        | inr k ↦ elim k [
+          | inl y ↦ IsIn-right m names (boxes_directly_in T here) (subst (λ (z : Name). IsIn m (boxes_directly_in T z)) (y ∙ is_x) j)
+          | inr z ↦ absurd z
+        ]
+      ];
+      from = λ m i. elim (IsIn-either m names (boxes_directly_in T here) i) [
+        | inl j ↦ elim (w.from m j) [ inl y ↦ inl y | inr y ↦ inr (y.0, IsIn-left y.0 w.done (x ∷ []) y.1, y.2) ]
+        | inr j ↦ inr (here, IsIn-right here w.done (x ∷ []) (inl (sym is_x)), j)
+      ];
+    }
+      where
+        parts : names ≡ w.done ++ x ∷ rest
+        parts = w.parts ∙ ap (λ (r : List Name). w.done ++ r) q
+
+        is_x : x ≡ here
+        is_x = at_middle w.done rest x here at w.place (subst (λ (ns : List Name). here ≡ get_or ns at here) parts is_here)
+
+        inside_here : IsInside T n here
+        inside_here = w.inside here (subst (IsIn here) (sym parts) (IsIn-right here w.done (x ∷ rest) (inl (sym is_x))))
+
+        -- it wasn't done before
+        not_done : IsIn here w.done → ⊥
+        not_done i =
+            let a : 0 < times_in here w.done = counted_in here w.done i in
+            let b : 0 < times_in here (x ∷ rest) = counted_in here (x ∷ rest) (inl (sym is_x)) in
+            let d : times_in here names ≡ times_in here (w.done ++ x ∷ rest) = ap (times_in here) parts in
+            let f : times_in here (w.done ++ x ∷ rest) ≡ times_in here w.done + times_in here (x ∷ rest) = times_in-append here w.done (x ∷ rest) in
+            let o : times_in here names ≤ 1 = w.once here in
+            omega (arith, a, b, d, f, o)
+
+        -- so what is directly in it wasn't gathered
+        apart : (m : Name) → IsIn m names → IsIn m (boxes_directly_in T here) → ⊥
+        apart m i j = elim (w.from m i) [
+          | inl y ↦ nest.not_first here inside_here (subst (λ (z : Name). IsIn z (boxes_directly_in T here)) y j)
+          | inr y ↦
+              let outer : IsInside T n y.0 = w.inside y.0 (subst (IsIn y.0) (sym w.parts) (IsIn-left y.0 w.done w.rest y.1)) in
+              not_done (subst (λ (z : Name). IsIn z w.done) (nest.one_outer y.0 here m outer inside_here y.2 j) y.1)
+        ]
+
+        each_once : (m : Name) → times_in m (names ++ boxes_directly_in T here) ≤ 1
+        each_once m =
+            let parts : times_in m (names ++ boxes_directly_in T here) ≡ times_in m names + times_in m (boxes_directly_in T here) = times_in-append m names (boxes_directly_in T here) in
+            by (times_in m names) (times_in m (boxes_directly_in T here)) refl refl (w.once m) (nest.boxes_once here inside_here m) parts
+          where
+            by : (a b : ℕ) → times_in m names ≡ a → times_in m (boxes_directly_in T here) ≡ b → times_in m names ≤ 1 → times_in m (boxes_directly_in T here) ≤ 1
+                → times_in m (names ++ boxes_directly_in T here) ≡ times_in m names + times_in m (boxes_directly_in T here) → times_in m (names ++ boxes_directly_in T here) ≤ 1
+            by zero b i j o k parts = omega arith
+            by (suc a) zero i j o k parts = omega arith
+            by (suc a) (suc b) i j o k parts = absurd (apart m (named_counted m names (omega arith)) (named_counted m (boxes_directly_in T here) (omega arith)))
 
 -- a goal inside a box is directly in one that is listed
 pub goal_listed : (T : Table) (n g : Name) (names : List Name) → ListsInside T n names → IsGoalInside T n g → (m : Name) × IsIn m names × IsDirectlyIn T m g
