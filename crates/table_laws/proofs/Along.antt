@@ -1,5 +1,5 @@
 -- Where boxes stand before and after a label, and the choices that hold them.
-use Rattle.std.proofs.Common.{◌≡◌, ℕ, ◌+◌, ◌≤◌, List, [], ◌∷◌, ◌++◌, map, Bool, true, false, Option, Some, None, refl, sym, ◌∙◌, ap, subst, ◌⊎◌, inl, inr, arith, append_assoc}
+use Rattle.std.proofs.Common.{◌≡◌, ℕ, ◌+◌, ◌≤◌, List, [], ◌∷◌, ◌++◌, map, Bool, true, false, Some, None, refl, sym, ◌∙◌, ap, subst, ◌⊎◌, inl, inr, arith}
 use Rattle.std.specs.Prelude.{if◌then◌else◌, slice_index}
 use Rattle.std.proofs.lemmas.List.{append_cancel_left}
 use Rattle.akl_terms.specs.declared.name.Name.{Name}
@@ -10,22 +10,21 @@ use Rattle.akl_terms.specs.Names.{same_name}
 use Rattle.akl_terms.proofs.SameNames.{same_name-refl, same_name-equal}
 use Rattle.akl_model.specs.declared.label.Rule.{Rule}
 use Rattle.akl_model.specs.declared.label.Label.{Label}
-use Rattle.akl_model.specs.Config.{IsIn, Content, Boxes, no_boxes, box, Goals, no_goals, atom, choice, Config, Held, an_atom, a_choice, held_in, Found, box_at, home_of, edited, edited_inside}
+use Rattle.akl_model.specs.Config.{IsIn, Content, Boxes, no_boxes, box, Goals, no_goals, atom, choice, Config, an_atom, a_choice, held_in, Found, box_at, edited_inside}
 use Rattle.akl_model.specs.Rules.{Change}
 use Rattle.akl_model.specs.Derivations.{Applies, Replays}
 use Rattle.akl_model.specs.Paths.{StandsAt, StandsInside}
 use Rattle.akl_model.specs.Changes.{box_names}
-use Rattle.akl_model.specs.Wakes.{names_around, names_down_to, holder_in}
+use Rattle.akl_model.specs.Wakes.{names_around, holder_in}
 use Rattle.akl_model.specs.Names.{one_if}
 use Rattle.akl_model.proofs.Finds.{times}
 use Rattle.akl_model.proofs.NamesKept.{Stand, replay-stands, stands_after, box-itself}
 use Rattle.akl_model.proofs.PathsKept.{stays}
 use Rattle.akl_model.proofs.ScopesAlong.{times_path}
-use Rattle.constraint_laws.proofs.SameTerms.{Either}
 use Rattle.step_laws.specs.Whereabouts.{BoxIn, InGoals, Stands}
 use Rattle.step_laws.specs.Holders.{IsHeldBy}
-use Rattle.step_laws.proofs.Whereabouts.{found_in, in_found, home_in, in_counted}
-use Rattle.step_laws.proofs.Deeper.{one_box, named_found, Over, over, in_path}
+use Rattle.step_laws.proofs.Whereabouts.{found_in, home_in, in_counted}
+use Rattle.step_laws.proofs.Deeper.{one_box, named_found, Over, over}
 use Rattle.step_laws.proofs.Edits.{NotNamed, edit_out, edit_new}
 use Rattle.step_laws.proofs.Becomes.{Becomes}
 use Rattle.step_laws.proofs.Steps.{Moved, aside, at_site, inside, site_now, site_stands, site_there, site_gone, made, moved}

@@ -1,0 +1,128 @@
+-- What contracts see of a table.
+use Rattle.std.specs.Prelude.{◌≡◌, ℕ, Bool, true, false, List, [], ◌∷◌, map, Option, Some, None, option_map, ⊤}
+use Rattle.std.specs.Map.{lookup}
+use Rattle.akl_terms.specs.declared.name.Name.{Name}
+use Rattle.akl_terms.specs.declared.term.Node.{Node}
+use Rattle.akl_terms.specs.declared.program.Goal.{Goal}
+use Rattle.akl_terms.specs.declared.program.Program.{Program}
+use Rattle.akl_terms.specs.declared.program.Query.{Query}
+use Rattle.akl_terms.specs.declared.program.ShownTerm.{ShownTerm}
+use Rattle.akl_terms.specs.Template.{tree}
+use Rattle.akl_terms.specs.Names.{same_name}
+use Rattle.akl_model.specs.declared.label.Rule.{Rule}
+use Rattle.akl_model.specs.Config.{Atom, ShownTree}
+use Rattle.akl_model.specs.Instances.{atom_of}
+use Rattle.akl_model.specs.Changes.{Shape, of_atom, of_choice}
+use Rattle.akl_terms.specs.declared.name.Place.{Place}
+use Rattle.akl_model.specs.declared.label.Label.{Label}
+use Rattle.table_laws.specs.Rows.{BoxRow, GoalRow, Table}
+use Rattle.table_laws.specs.Stamped.{Run, IsTableOf}
+use Rattle.table_laws.specs.Writes.{DrawsFresh, Leads}
+use Rattle.table_laws.specs.Steps as laws
+use Rattle.box_tree.specs.declared.entries.Held.{Held}
+use Rattle.box_tree.specs.declared.entries.BoxEntry.{BoxEntry}
+use Rattle.box_tree.specs.declared.entries.GoalEntry.{GoalEntry}
+use Rattle.box_tree.specs.declared.step.NewBox.{NewBox}
+use Rattle.box_tree.specs.declared.step.Step.{Step}
+
+-- the rules that are built
+abbrev pub rules_in_force : List Rule
+rules_in_force = Rule.Tell ∷ Rule.Fork ∷ Rule.Fail ∷ []
+
+-- the atom of a goal
+abbrev pub goal_atom : List Node → Goal → Atom
+goal_atom nodes g = atom_of nodes g.frame g.code
+
+abbrev pub shown_tree : List Node → ShownTerm → ShownTree
+shown_tree nodes s = record { text = s.name; tree = tree nodes s.term }
+
+abbrev pub shape_held : List Node → Held → Shape
+shape_held nodes (Held.Atom g) = of_atom (goal_atom nodes g)
+shape_held nodes (Held.Choice op alternatives) = of_choice op alternatives.items
+
+abbrev pub box_row : List Node → BoxEntry → BoxRow
+box_row nodes e = record {
+  holder = e.holder;
+  store = e.store;
+  changed = e.changed;
+  solved_at = e.solved_at;
+  goals = e.goals.keys;
+  goals_changed = e.goals_changed;
+  failing = e.failing;
+  body = map (goal_atom nodes) e.body.items;
+  shown = map (shown_tree nodes) e.shown.items;
+}
+
+abbrev pub goal_row : List Node → GoalEntry → GoalRow
+goal_row nodes e = record { home = e.home; shape = shape_held nodes e.held; changed = e.changed }
+
+-- the program and the query with which a table was started, and what it has, in the order of names
+pub record TableValue : Type 0 where
+  pub program : Program
+  pub query : Query
+  pub boxes : List (Name × BoxEntry)
+  pub goals : List (Name × GoalEntry)
+  pub roots : List Name
+  pub roots_changed : ℕ
+  pub next : List ℕ
+  pub steps : ℕ
+
+abbrev pub table_of : TableValue → Table
+table_of t = record {
+  nodes = t.program.templates.nodes;
+  box_of = λ n. option_map (box_row t.program.templates.nodes) (lookup (same_name n) t.boxes);
+  goal_of = λ g. option_map (goal_row t.program.templates.nodes) (lookup (same_name g) t.goals);
+  roots = t.roots;
+  roots_changed = t.roots_changed;
+  next = t.next;
+  steps = t.steps;
+}
+
+abbrev pub new_box : List Node → NewBox → laws.NewBox
+new_box nodes n = record {
+  name = n.name;
+  store = n.store;
+  solved = n.solved;
+  goals = map (λ (x : Name × Goal). (x.0, goal_atom nodes x.1)) n.goals.items;
+  body = map (goal_atom nodes) n.body.items;
+}
+
+abbrev pub step_of : List Node → Step → laws.Step
+step_of nodes (Step.Tell store solved) = laws.tells store solved
+step_of nodes (Step.Fork op alternatives) = laws.forks op (map (new_box nodes) alternatives.items)
+step_of nodes Step.Fail = laws.fails
+
+-- the names of a row's goals; none where there is no row
+abbrev pub goals_in : Option BoxRow → List Name
+goals_in None = []
+goals_in (Some r) = r.goals
+
+abbrev pub shown_in : Option BoxRow → List ShownTree
+shown_in None = []
+shown_in (Some r) = r.shown
+
+abbrev pub is_empty : List Name → Bool
+is_empty [] = true
+is_empty (n ∷ ns) = false
+
+abbrev pub shown_trees_of : TableValue → List ShownTerm → List ShownTree
+shown_trees_of t terms = map (shown_tree t.program.templates.nodes) terms
+
+-- a step may be made of a table to which a run has come: its place is of the kind that it needs and is there, and the names that it draws
+-- stand nowhere
+abbrev pub FitsPlace : Place → laws.Step → Type 0
+FitsPlace (Place.Goal g) (laws.tells new solved) = ⊤
+FitsPlace (Place.Goal g) (laws.forks op news) = ⊤
+FitsPlace (Place.Box n) laws.fails = ⊤
+FitsPlace place step = ⊥
+
+pub record MayApply (t : TableValue) (l : Label) (step : Step) : Type 0 where
+  pub run : Run
+  pub table : IsTableOf rules_in_force run (table_of t)
+  pub fits : FitsPlace l.place (step_of t.program.templates.nodes step)
+  pub fresh : DrawsFresh (table_of t) (step_of t.program.templates.nodes step)
+
+pub record Applied (t : TableValue) (l : Label) (at : Option ℕ) (names : ℕ) (step : Step) (u : TableValue) : Type 0 where
+  pub program : u.program ≡ t.program
+  pub query : u.query ≡ t.query
+  pub leads : Leads (table_of t) l at names (step_of t.program.templates.nodes step) (table_of u)

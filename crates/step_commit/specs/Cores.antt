@@ -1,0 +1,73 @@
+-- The state of a run, and when a plan is committed to it.
+use Rattle.std.specs.Prelude.{◌≡◌, ℕ, ◌+◌, ◌≤◌, ◌<◌, List, [], ◌∷◌, ◌++◌, length, Option, Some, None, option_map}
+use Rattle.akl_terms.specs.declared.name.Place.{Place}
+use Rattle.akl_model.specs.declared.item.Item.{Item}
+use Rattle.akl_model.specs.declared.label.Label.{Label}
+use Rattle.akl_model.specs.declared.label.Receipt.{Receipt}
+use Rattle.plan_laws.specs.Right.{NoneBy}
+use Rattle.table_laws.specs.Stamped.{Run, IsTableOf, LastChange, stamp_in}
+use Rattle.box_tree.specs.Tables.{rules_in_force, TableValue, table_of}
+use Rattle.box_tree.specs.Views.{run_of}
+use Rattle.box_tree.specs.Plans.{PlanValue, IsRead}
+use Rattle.step_commit.specs.declared.commit.CommitError.{CommitError}
+
+pub record CoreValue : Type 0 where
+  pub table : TableValue
+  pub journal : List Label
+  pub workers : ℕ
+  pub budget : ℕ
+
+abbrev pub run_by : CoreValue → Run
+run_by c = run_of c.table c.journal
+
+-- the table unfolds to the replay of the journal, which has at most as many labels as the budget, and keeps the number of the last change of
+-- each item
+pub record IsCore (c : CoreValue) : Type 0 where
+  pub table : IsTableOf rules_in_force (run_by c) (table_of c.table)
+  pub within : length c.journal ≤ c.budget
+
+-- what no call changes
+pub record KeepsFixed (c d : CoreValue) : Type 0 where
+  pub program : d.table.program ≡ c.table.program
+  pub query : d.table.query ≡ c.table.query
+  pub workers : d.workers ≡ c.workers
+  pub budget : d.budget ≡ c.budget
+
+-- a plan was made for a front of the journal, behind which its worker has made no label; where it has seen the whole journal, it has seen the table
+pub record MayCommit (c : CoreValue) (p : PlanValue) : Type 0 where
+  pub program : p.table.program ≡ c.table.program
+  pub query : p.table.query ≡ c.table.query
+  pub further : List Label
+  pub front : c.journal ≡ p.journal ++ further
+  pub none_by : NoneBy p.label further
+  pub same_table : further ≡ [] → p.table ≡ c.table
+
+-- no label that the plan didn't see changed the item
+abbrev pub IsUnchanged : CoreValue → PlanValue → Item → Type 0
+IsUnchanged c p i = (k : ℕ) → LastChange rules_in_force (run_by c) i k → k ≤ length p.journal
+
+-- one did, and the item is the first such of those that it read
+pub record IsStale (c : CoreValue) (p : PlanValue) (item : Item) (stamp : Option ℕ) : Type 0 where
+  pub earlier : List Item
+  pub later : List Item
+  pub is_read : p.reads ≡ earlier ++ item ∷ later
+  pub first : (i : Item) → IsRead earlier i → IsUnchanged c p i
+  pub number : ℕ
+  pub last : LastChange rules_in_force (run_by c) item number
+  pub unseen : length p.journal < number
+  pub is_stamp : stamp ≡ stamp_in (table_of c.table) item
+  pub as_kept : (k : ℕ) → stamp ≡ Some k → k ≡ number
+
+-- the plan's label is the next one of the journal
+pub record Commits (c : CoreValue) (p : PlanValue) (d : CoreValue) (r : Receipt) : Type 0 where
+  pub fixed : KeepsFixed c d
+  pub journal : d.journal ≡ c.journal ++ p.label ∷ []
+  pub receipt : r ≡ record { at = length c.journal + 1; seen = length p.journal; label = p.label }
+  pub unspent : length c.journal < c.budget
+  pub fresh : (i : Item) → IsRead p.reads i → IsUnchanged c p i
+
+-- why a plan isn't committed; want of memory is free
+abbrev pub IsRefused : CoreValue → PlanValue → CommitError → Type 0
+IsRefused c p (CommitError.Spent budget) = (budget ≡ c.budget) × (length c.journal ≡ c.budget)
+IsRefused c p (CommitError.Stale item stamp) = (length c.journal < c.budget) × IsStale c p item stamp
+IsRefused c p (CommitError.Memory error) = Unit {0}

@@ -1,0 +1,118 @@
+//! The state of a run.
+
+ghost use Rattle.std.specs.Prelude.{◌≡◌, IfOk, IfErr, [], length, true};
+ghost use Rattle.box_tree.specs.Tables.{table_of, goals_in, is_empty, shown_in, shown_trees_of};
+ghost use Rattle.box_tree.specs.Views.{is_there, IsUnseen, AreAllPlaces};
+ghost use Rattle.step_commit.specs.Cores.{MayCommit, Commits, IsRefused};
+
+use crate::commit::CommitError;
+use akl_model::{Label, Receipt};
+use akl_terms::{Name, Place, Program, Query, ShownTerm};
+use box_tree::{LookError, Plan, Table, View};
+use std::alloc::{AllocError, Global};
+use std::marker::Model;
+
+/// The state of a run: a table, with the journal whose replay it unfolds to. Its program, its query, the number of its
+/// workers and its budget never change.
+#[derive(Drop)]
+pub struct Core {
+    table: Table,
+    journal: Vec<Label>,
+    workers: u32,
+    budget: u64,
+}
+
+impl Model for Core {
+    ghost use Rattle.step_commit.specs.Cores.{CoreValue, IsCore};
+
+    ghost Value = { CoreValue };
+
+    ghost view = { λ c. record { table = c.table; journal = c.journal.items; workers = c.workers; budget = c.budget } };
+
+    ghost invariant = { λ c. IsCore (record { table = c.table; journal = c.journal.items; workers = c.workers; budget = c.budget }) };
+}
+
+impl Core {
+    /// The state of a query before its first label.
+    pub fn new(
+        alloc: Global,
+        program: &Program,
+        query: &Query,
+        workers: u32,
+        budget: u64,
+    ) -> Result<Core, AllocError>
+        ensures program { IfOk result (λ c. c.table.program ≡ program.now) }
+        ensures query { IfOk result (λ c. c.table.query ≡ query.now) }
+        ensures journal { IfOk result (λ c. c.journal ≡ []) }
+        ensures workers { IfOk result (λ c. c.workers ≡ workers) }
+        ensures budget { IfOk result (λ c. c.budget ≡ budget) }
+    {
+        let _ = (alloc, program, query, workers, budget);
+        Err(AllocError)
+    }
+
+    /// How many labels the journal has.
+    pub fn journal_len(&self) -> u64
+        ensures { result ≡ length self.now.journal }
+    {
+        self.journal.len() as u64
+    }
+
+    /// What a worker sees of a place. `Gone` comes exactly where the place isn't in the configuration.
+    pub fn look(&self, alloc: Global, place: Place, worker: u32) -> Result<View, LookError>
+        ensures table { IfOk result (λ v. v.table ≡ self.now.table) }
+        ensures journal { IfOk result (λ v. v.journal ≡ self.now.journal) }
+        ensures place { IfOk result (λ v. v.place ≡ place) }
+        ensures worker { IfOk result (λ v. v.worker ≡ worker) }
+        ensures there { IfOk result (λ _. is_there (table_of self.now.table) place ≡ true) }
+        ensures unseen { IfErr result (IsUnseen (table_of self.now.table) place) }
+    {
+        self.table.look(alloc, &self.journal, place, worker)
+    }
+
+    /// All boxes and goals: boxes first, each in increasing order of names.
+    pub fn places(&self, alloc: Global) -> Result<Vec<Place>, AllocError>
+        ensures { IfOk result (λ places. AreAllPlaces (table_of self.now.table) places.items) }
+    {
+        self.table.places(alloc)
+    }
+
+    /// The root boxes in order.
+    pub fn roots(&self) -> &[Name]
+        ensures { result.now ≡ self.now.table.roots }
+    {
+        self.table.roots()
+    }
+
+    /// Whether a box has no goals; so it is of one that isn't there.
+    pub fn is_solved(&self, name: Name) -> bool
+        ensures { result ≡ is_empty (goals_in ((table_of self.now.table).box_of name)) }
+    {
+        self.table.is_solved(name)
+    }
+
+    /// What an answer shows of a root box; nothing of a box that isn't there.
+    pub fn shown_of(&self, name: Name) -> &[ShownTerm]
+        ensures { shown_trees_of self.now.table result.now ≡ shown_in ((table_of self.now.table).box_of name) }
+    {
+        self.table.shown_of(name)
+    }
+
+    /// Appends the plan's label, and makes its step. An `Err` leaves the core as it was.
+    pub fn commit(&mut self, alloc: Global, plan: Plan) -> Result<Receipt, CommitError>
+        requires { MayCommit self.old plan }
+        ensures committed { IfOk result (Commits self.old plan self.new) }
+        ensures refused { IfErr result (IsRefused self.old plan) }
+        ensures unchanged { IfErr result (λ _. self.new ≡ self.old) }
+    {
+        let _ = (alloc, plan);
+        Err(CommitError::Memory(AllocError))
+    }
+
+    /// The journal.
+    pub fn into_journal(self) -> Vec<Label>
+        ensures { result.items ≡ self.journal }
+    {
+        self.journal
+    }
+}
