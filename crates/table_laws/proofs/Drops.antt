@@ -1,5 +1,5 @@
 -- The rows of boxes go one after another, and by them a box with all that stands in it.
-use Rattle.std.proofs.Common.{◌≡◌, ℕ, ◌+◌, List, [], ◌∷◌, ◌++◌, Bool, true, false, Option, Some, None, refl, sym, ◌∙◌, ap, subst, ◌⊎◌, inl, inr}
+use Rattle.std.proofs.Common.{◌≡◌, ℕ, ◌+◌, List, [], ◌∷◌, ◌++◌, Bool, true, false, Option, Some, None, refl, sym, ◌∙◌, ap, subst, inl, inr}
 use Rattle.std.specs.Prelude.{if◌then◌else◌, option_map, slice_index}
 use Rattle.akl_terms.specs.declared.name.Name.{Name}
 use Rattle.akl_terms.specs.Names.{same_name}
@@ -10,8 +10,8 @@ use Rattle.akl_model.proofs.Scoped.{IsIn-left, IsIn-right, IsIn-either}
 use Rattle.constraint_laws.proofs.SameTerms.{Either, name_or}
 use Rattle.step_laws.proofs.Decide.{in_or}
 use Rattle.table_laws.specs.Rows.{BoxRow, GoalRow, Table}
-use Rattle.table_laws.specs.Inside.{IsDirectlyIn, IsInside, IsGoalInside}
-use Rattle.table_laws.specs.Writes.{home_in, set, changed_box, left_row, left_by, none_left, held_without, holder_in_row, Fails}
+use Rattle.table_laws.specs.Inside.{IsDirectlyIn}
+use Rattle.table_laws.specs.Writes.{home_in, changed_box, left_row, left_by, none_left, held_without, holder_in_row, Fails}
 use Rattle.table_laws.specs.Walks.{ListsInside, Drops}
 use Rattle.table_laws.proofs.Walks.{goal_listed, listed_goal}
 

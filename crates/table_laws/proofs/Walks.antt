@@ -11,8 +11,8 @@ use Rattle.akl_model.specs.declared.label.Rule.{Rule}
 use Rattle.akl_model.specs.Config.{IsIn, Content, Boxes, no_boxes, box, Goals, no_goals, atom, choice, Config, Held, an_atom, a_choice, held_in, Found, box_at, home_of}
 use Rattle.akl_model.specs.Names.{one_if, times_in}
 use Rattle.akl_model.specs.Changes.{Shape, of_atom, of_choice, shape_of, box_names, goal_names}
-use Rattle.akl_model.specs.Wakes.{names_around, names_down_to, holder_in}
-use Rattle.akl_model.proofs.Options.{none_or, some_value}
+use Rattle.akl_model.specs.Wakes.{names_around, names_down_to}
+use Rattle.akl_model.proofs.Options.{some_value}
 use Rattle.akl_model.proofs.Finds.{times, times_inside, times_in-append}
 use Rattle.akl_model.proofs.NamesKept.{replay-stands, box-itself}
 use Rattle.akl_model.proofs.Scoped.{IsIn-left, IsIn-right, IsIn-either}
@@ -135,9 +135,9 @@ among_counted T m (choice g op bs gs) once rows =
     let rest : times_in m (alternatives_among T (goal_names gs)) ≤ times_inside m gs = among_counted T m gs
     (λ i. let o : one_if (same_name i g) + (times i bs + times_inside i gs) ≤ 1 = once i in omega arith)
     (λ i h e. rows i h (
-      let c : 1 ≤ times_inside i gs = held_counted i h gs e in
-      let o : one_if (same_name i g) + (times i bs + times_inside i gs) ≤ 1 = once i in
-      past (same_name i g) (a_choice op bs) (held_in i gs) h (other i g (times_inside i gs) c (omega arith)) e)) in
+    let c : 1 ≤ times_inside i gs = held_counted i h gs e in
+    let o : one_if (same_name i g) + (times i bs + times_inside i gs) ≤ 1 = once i in
+    past (same_name i g) (a_choice op bs) (held_in i gs) h (other i g (times_inside i gs) c (omega arith)) e)) in
     omega arith
 
 -- how far a walk is: of the names gathered, so many are done, the boxes directly in which are gathered too
