@@ -128,7 +128,7 @@ named_path s [] z i = i
 named_path s (b ∷ r) z (inl e) = let u : one_if (same_name s b.name) ≡ 1 = ap one_if (subst (λ (k : Name). same_name s k ≡ true) e (same_name-refl s)) in omega arith
 named_path s (b ∷ r) z (inr i) = named_path s r (omega arith) i
 
-not_among : (s : Name) (new : Boxes) (r : List Content) → (IsIn s (map (λ (b : Content). b.name) r) → ⊥) → NotNamed s new r
+pub not_among : (s : Name) (new : Boxes) (r : List Content) → (IsIn s (map (λ (b : Content). b.name) r) → ⊥) → NotNamed s new r
 not_among s new [] h = tt
 not_among s new (b ∷ r) h = (on (same_name s b.name) refl, not_among s new r (λ i. h (inr i)))
   where

@@ -92,7 +92,7 @@ once_among : (A : List Content) (b : Content) (rest : List Content) → times_pa
 once_among [] b rest h i = let u : one_if (same_name b.name b.name) ≡ 1 = ap one_if (same_name-refl b.name) in named_path b.name rest (omega arith) i
 once_among (x ∷ A) b rest h i = once_among A b rest (omega arith) i
 
-not_same : (n m : Name) → (n ≡ m → ⊥) → same_name n m ≡ false
+pub not_same : (n m : Name) → (n ≡ m → ⊥) → same_name n m ≡ false
 not_same n m h = on (same_name n m) refl
   where
     on : (t : Bool) → same_name n m ≡ t → same_name n m ≡ false

@@ -1,44 +1,32 @@
 -- What a box takes with it where it goes, and what stays.
-use Rattle.std.proofs.Common.{◌≡◌, ◌+◌, ◌≤◌, List, [], ◌∷◌, ◌++◌, length, map, Bool, true, false, Option, Some, None, refl, sym, ◌∙◌, ap, subst, ◌⊎◌, inl, inr, arith}
+use Rattle.std.proofs.Common.{◌≡◌, ◌+◌, ◌≤◌, ◌<◌, List, [], ◌∷◌, Bool, true, false, Option, Some, None, refl, sym, ◌∙◌, ap, subst, inl, inr, arith}
 use Rattle.std.specs.Prelude.{option_map, if◌then◌else◌}
-use Rattle.std.proofs.lemmas.List.{length-append}
 use Rattle.akl_terms.specs.declared.name.Name.{Name}
 use Rattle.akl_terms.specs.declared.program.Op.{Op}
 use Rattle.akl_terms.specs.Names.{same_name}
 use Rattle.akl_terms.proofs.SameNames.{same_name-equal, same_name-refl}
-use Rattle.akl_model.specs.Config.{IsIn, Content, Boxes, no_boxes, box, Goals, joined_boxes, Held, an_atom, a_choice, held_in, Found, box_at, home_of, edited, edited_inside}
+use Rattle.akl_model.specs.Config.{IsIn, Boxes, no_boxes, box, Goals, joined_boxes, Held, an_atom, a_choice, held_in, Found, box_at, home_of, edited, edited_inside}
 use Rattle.akl_model.specs.Conditions.{IsFailing}
 use Rattle.akl_model.specs.Names.{one_if, times_in}
 use Rattle.akl_model.specs.Changes.{box_names}
-use Rattle.akl_model.specs.Wakes.{names_around, names_down_to, holder_in}
+use Rattle.akl_model.specs.Wakes.{names_around, names_down_to}
 use Rattle.akl_model.proofs.Options.{none_where, some_value, map_some}
 use Rattle.akl_model.proofs.Finds.{times, times_inside}
 use Rattle.akl_model.proofs.NamesKept.{box-itself, home-box}
-use Rattle.akl_model.proofs.ScopesAlong.{times_path}
+use Rattle.akl_model.proofs.ScopesAlong.{times_path, counted_in}
 use Rattle.akl_model.proofs.Scoped.{IsIn-left, IsIn-right, IsIn-either}
 use Rattle.step_laws.specs.Whereabouts.{BoxIn, Stands}
-use Rattle.step_laws.specs.Holders.{IsHeldBy}
 use Rattle.step_laws.proofs.Whereabouts.{found_in, in_counted, home_in, in_home}
 use Rattle.step_laws.proofs.Deeper.{Over, over, named_found}
-use Rattle.step_laws.proofs.Edits.{AfterEdit, outside, replaced, edit_in, edit_out, NotNamed, edited_held, held_edited}
+use Rattle.step_laws.proofs.Edits.{AfterEdit, outside, replaced, edit_in, edit_out, edited_held, held_edited}
 use Rattle.step_laws.proofs.Failing.{failed_goal, failing_found}
-use Rattle.step_laws.proofs.Holders.{alternative_at, held_or}
 use Rattle.table_laws.specs.Unfolds.{FailsBy}
+use Rattle.table_laws.proofs.Along.{not_among}
+use Rattle.table_laws.proofs.Frame.{not_same}
 use Rattle.table_laws.specs.Writes.{less_name}
-
-pub unnamed : (n m : Name) → (n ≡ m → ⊥) → same_name n m ≡ false
-unnamed n m h = on (same_name n m) refl
-  where
-    on : (t : Bool) → same_name n m ≡ t → same_name n m ≡ false
-    on true e = absurd (h (same_name-equal n m e))
-    on false e = e
 
 pub other_name : (n m : Name) → same_name n m ≡ false → n ≡ m → ⊥
 other_name n m e q = let k : same_name n m ≡ true = subst (λ (x : Name). same_name n x ≡ true) q (same_name-refl n) in cc
-
-not_around : (n : Name) (new : Boxes) (r : List Content) → (IsIn n (map (λ (b : Content). b.name) r) → ⊥) → NotNamed n new r
-not_around n new [] h = tt
-not_around n new (b ∷ r) h = (unnamed n b.name (λ e. h (inl e)), not_around n new r (λ i. h (inr i)))
 
 -- names of boxes of which one goes
 
@@ -51,18 +39,13 @@ same_names n (box b gs bs) h = on (same_name n b.name) refl (same_names n bs (λ
     on true r e = absurd (h (inl (same_name-equal n b.name r)))
     on false r e = ap (λ (ns : List Name). b.name ∷ ns) e
 
-is_counted : (n : Name) (ns : List Name) → IsIn n ns → 1 ≤ times_in n ns
-is_counted n [] i = absurd i
-is_counted n (m ∷ ms) (inl e) = let u : one_if (same_name n m) ≡ 1 = ap one_if (subst (λ (x : Name). same_name n x ≡ true) e (same_name-refl n)) in omega arith
-is_counted n (m ∷ ms) (inr i) = let u : 1 ≤ times_in n ms = is_counted n ms i in omega arith
-
 pub names_left : (n : Name) (bs : Boxes) → times_in n (box_names bs) ≤ 1 → box_names (edited n no_boxes bs) ≡ less_name n (box_names bs)
 names_left n no_boxes o = refl
 names_left n (box b gs bs) o = on (same_name n b.name) refl (names_left n bs (omega arith))
   where
     on : (t : Bool) → same_name n b.name ≡ t → box_names (edited n no_boxes bs) ≡ less_name n (box_names bs)
         → box_names (if t then joined_boxes no_boxes (edited n no_boxes bs) else box b (edited_inside n no_boxes gs) (edited n no_boxes bs)) ≡ (if t then box_names bs else b.name ∷ less_name n (box_names bs))
-    on true r e = same_names n bs (λ i. let u : one_if (same_name n b.name) ≡ 1 = ap one_if r in let v : 1 ≤ times_in n (box_names bs) = is_counted n (box_names bs) i in omega (arith, u, v, o))
+    on true r e = same_names n bs (λ i. let u : one_if (same_name n b.name) ≡ 1 = ap one_if r in let v : 0 < times_in n (box_names bs) = counted_in n (box_names bs) i in omega (arith, u, v, o))
     on false r e = ap (λ (ns : List Name). b.name ∷ ns) e
 
 pub names_gone : (n : Name) (bs : Boxes) → IsIn n (box_names (edited n no_boxes bs)) → ⊥
@@ -74,18 +57,6 @@ names_gone n (box b gs bs) i = on (same_name n b.name) refl i (names_gone n bs)
     on true r j f = f j
     on false r (inl e) f = other_name n b.name r e
     on false r (inr j) f = f j
-
--- a box of another name is one of them still
-pub named_still : (n m : Name) (bs : Boxes) → (n ≡ m → ⊥) → IsIn m (box_names bs) → IsIn m (box_names (edited n no_boxes bs))
-named_still n m no_boxes h i = absurd i
-named_still n m (box b gs bs) h i = on (same_name n b.name) refl i (λ j. named_still n m bs h j)
-  where
-    on : (t : Bool) → same_name n b.name ≡ t → IsIn m (b.name ∷ box_names bs) → (IsIn m (box_names bs) → IsIn m (box_names (edited n no_boxes bs)))
-        → IsIn m (box_names (if t then joined_boxes no_boxes (edited n no_boxes bs) else box b (edited_inside n no_boxes gs) (edited n no_boxes bs)))
-    on true r (inl e) f = absurd (h (same_name-equal n b.name r ∙ sym e))
-    on true r (inr j) f = f j
-    on false r (inl e) f = inl e
-    on false r (inr j) f = inr (f j)
 
 -- the goals by which a box fails
 
@@ -159,8 +130,8 @@ module _ (n : Name) (cs : Boxes) (once : (m : Name) → times m cs ≤ 1) (still
       on (replaced a b gs rest y q e z) = absurd z
 
   pub left_stands : (f : Found) → Stands f cs → (IsIn n (names_down_to f) → ⊥) → Stands (left n f) ds
-  left_stands f x h = edit_out n no_boxes cs f.around f.content f.goals x (unnamed n f.content.name (λ e. h (IsIn-right n (names_around f) (f.content.name ∷ []) (inl e))))
-      (not_around n no_boxes f.around (λ i. h (IsIn-left n (names_around f) (f.content.name ∷ []) i)))
+  left_stands f x h = edit_out n no_boxes cs f.around f.content f.goals x (not_same n f.content.name (λ e. h (IsIn-right n (names_around f) (f.content.name ∷ []) (inl e))))
+      (not_among n no_boxes f.around (λ i. h (IsIn-left n (names_around f) (f.content.name ∷ []) i)))
 
   -- a box that isn't inside stays
   pub box_left : (k : Name) (f : Found) → box_at k cs ≡ Some f → (IsIn n (names_down_to f) → ⊥) → box_at k ds ≡ Some (left n f)
@@ -226,26 +197,3 @@ module _ (n : Name) (cs : Boxes) (once : (m : Name) → times m cs ≤ 1) (still
   home_none g e = none_where (home_of g ds) (λ k x.
       let w : (gs : Goals) × (home_of g cs ≡ Some (record { around = k.around; content = k.content; goals = gs })) × (IsIn n (names_down_to k) → ⊥) = home_was g k x in
       cc)
-
-  -- a box that stays keeps its holder
-  pub holder_left : (k : Name) (f : Found) → box_at k cs ≡ Some f → (IsIn n (names_down_to f) → ⊥) → holder_in k ds ≡ holder_in k cs
-  holder_left k f e h = on (held_or cs once k f e)
-    where
-      none : f.around ≡ [] → ((f.around ≡ []) × (holder_in k ds ≡ None)) ⊎ ((g : Name) × (holder_in k ds ≡ Some g) × IsHeldBy k g (left n f) ds) → holder_in k ds ≡ None
-      none r (inl x) = x.1
-      none r (inr x) =
-          let q : length f.around ≡ length (x.2.home.around ++ x.2.home.content ∷ []) = ap length x.2.around in
-          let v : length (x.2.home.around ++ x.2.home.content ∷ []) ≡ length x.2.home.around + 1 = length-append x.2.home.around (x.2.home.content ∷ []) in
-          let z : length f.around ≡ 0 = ap length r in
-          absurd (omega (arith, q, v, z))
-
-      some : (g : Name) → holder_in k cs ≡ Some g → IsHeldBy k g f cs → holder_in k ds ≡ Some g
-      some g i x =
-          let outer : IsIn n (names_down_to x.home) → ⊥ = λ j. h (IsIn-left n (names_around f) (f.content.name ∷ []) (subst (IsIn n) (sym x.names) j)) in
-          let other : n ≡ k → ⊥ = λ q. h (IsIn-right n (names_around f) (f.content.name ∷ []) (inl (q ∙ box-itself k cs f e))) in
-          (alternative_at ds still k g (left n x.home) x.op (edited n no_boxes x.alternatives) (home_left g x.home x.is_home outer) (held_left g x.home (a_choice x.op x.alternatives) x.held)
-          (named_still n k x.alternatives other x.among)).holder
-
-      on : ((f.around ≡ []) × (holder_in k cs ≡ None)) ⊎ ((g : Name) × (holder_in k cs ≡ Some g) × IsHeldBy k g f cs) → holder_in k ds ≡ holder_in k cs
-      on (inl x) = none x.0 (held_or ds still k (left n f) (box_left k f e h)) ∙ sym x.1
-      on (inr x) = some x.0 x.1 x.2 ∙ sym x.1
