@@ -1,7 +1,6 @@
 -- What a box takes with it where it goes, and what stays.
-use Rattle.std.proofs.Common.{◌≡◌, ◌+◌, ◌≤◌, List, [], ◌∷◌, ◌++◌, length, Bool, true, false, Option, Some, None, refl, sym, ◌∙◌, ap, subst, ◌⊎◌, inl, inr, arith}
+use Rattle.std.proofs.Common.{◌≡◌, ◌+◌, ◌≤◌, List, [], ◌∷◌, Bool, true, false, Option, Some, None, refl, sym, ◌∙◌, ap, subst, inl, inr, arith}
 use Rattle.std.specs.Prelude.{option_map, if◌then◌else◌}
-use Rattle.std.proofs.lemmas.List.{length-append}
 use Rattle.akl_terms.specs.declared.name.Name.{Name}
 use Rattle.akl_terms.specs.declared.program.Op.{Op}
 use Rattle.akl_terms.specs.Names.{same_name}
@@ -10,23 +9,21 @@ use Rattle.akl_model.specs.Config.{IsIn, Boxes, no_boxes, box, Goals, joined_box
 use Rattle.akl_model.specs.Conditions.{IsFailing}
 use Rattle.akl_model.specs.Names.{one_if, times_in}
 use Rattle.akl_model.specs.Changes.{box_names}
-use Rattle.akl_model.specs.Wakes.{names_around, names_down_to, holder_in}
+use Rattle.akl_model.specs.Wakes.{names_around, names_down_to}
 use Rattle.akl_model.proofs.Options.{none_where, some_value, map_some}
 use Rattle.akl_model.proofs.Finds.{times, times_inside}
 use Rattle.akl_model.proofs.NamesKept.{box-itself, home-box}
 use Rattle.akl_model.proofs.ScopesAlong.{counted_in, times_path}
 use Rattle.akl_model.proofs.Scoped.{IsIn-left, IsIn-right, IsIn-either}
 use Rattle.step_laws.specs.Whereabouts.{BoxIn, Stands}
-use Rattle.step_laws.specs.Holders.{IsHeldBy}
 use Rattle.step_laws.proofs.Whereabouts.{found_in, in_counted, home_in, in_home}
 use Rattle.step_laws.proofs.Deeper.{Over, over, named_found}
 use Rattle.step_laws.proofs.Edits.{AfterEdit, outside, replaced, edit_in, edit_out, edited_held, held_edited}
 use Rattle.step_laws.proofs.Failing.{failed_goal, failing_found}
-use Rattle.step_laws.proofs.Holders.{alternative_at, held_or}
 use Rattle.table_laws.specs.Unfolds.{FailsBy}
+use Rattle.table_laws.proofs.Along.{not_among}
 use Rattle.table_laws.specs.Writes.{less_name}
 use Rattle.table_laws.proofs.Sets.{other_by, other_name}
-use Rattle.table_laws.proofs.Along.{not_among}
 
 -- names of boxes of which one goes
 
@@ -57,18 +54,6 @@ names_gone n (box b gs bs) i = on (same_name n b.name) refl i (names_gone n bs)
     on true r j f = f j
     on false r (inl e) f = other_name n b.name r e
     on false r (inr j) f = f j
-
--- a box of another name is one of them still
-pub named_still : (n m : Name) (bs : Boxes) → (n ≡ m → ⊥) → IsIn m (box_names bs) → IsIn m (box_names (edited n no_boxes bs))
-named_still n m no_boxes h i = absurd i
-named_still n m (box b gs bs) h i = on (same_name n b.name) refl i (λ j. named_still n m bs h j)
-  where
-    on : (t : Bool) → same_name n b.name ≡ t → IsIn m (b.name ∷ box_names bs) → (IsIn m (box_names bs) → IsIn m (box_names (edited n no_boxes bs)))
-        → IsIn m (box_names (if t then joined_boxes no_boxes (edited n no_boxes bs) else box b (edited_inside n no_boxes gs) (edited n no_boxes bs)))
-    on true r (inl e) f = absurd (h (same_name-equal n b.name r ∙ sym e))
-    on true r (inr j) f = f j
-    on false r (inl e) f = inl e
-    on false r (inr j) f = inr (f j)
 
 -- the goals by which a box fails
 
@@ -209,26 +194,3 @@ module _ (n : Name) (cs : Boxes) (once : (m : Name) → times m cs ≤ 1) (still
   home_none g e = none_where (home_of g ds) (λ k x.
       let w : (gs : Goals) × (home_of g cs ≡ Some (record { around = k.around; content = k.content; goals = gs })) × (IsIn n (names_down_to k) → ⊥) = home_was g k x in
       cc)
-
-  -- a box that stays keeps its holder
-  pub holder_left : (k : Name) (f : Found) → box_at k cs ≡ Some f → (IsIn n (names_down_to f) → ⊥) → holder_in k ds ≡ holder_in k cs
-  holder_left k f e h = on (held_or cs once k f e)
-    where
-      none : f.around ≡ [] → ((f.around ≡ []) × (holder_in k ds ≡ None)) ⊎ ((g : Name) × (holder_in k ds ≡ Some g) × IsHeldBy k g (left n f) ds) → holder_in k ds ≡ None
-      none r (inl x) = x.1
-      none r (inr x) =
-          let q : length f.around ≡ length (x.2.home.around ++ x.2.home.content ∷ []) = ap length x.2.around in
-          let v : length (x.2.home.around ++ x.2.home.content ∷ []) ≡ length x.2.home.around + 1 = length-append x.2.home.around (x.2.home.content ∷ []) in
-          let z : length f.around ≡ 0 = ap length r in
-          absurd (omega (arith, q, v, z))
-
-      some : (g : Name) → holder_in k cs ≡ Some g → IsHeldBy k g f cs → holder_in k ds ≡ Some g
-      some g i x =
-          let outer : IsIn n (names_down_to x.home) → ⊥ = λ j. h (IsIn-left n (names_around f) (f.content.name ∷ []) (subst (IsIn n) (sym x.names) j)) in
-          let other : n ≡ k → ⊥ = λ q. h (IsIn-right n (names_around f) (f.content.name ∷ []) (inl (q ∙ box-itself k cs f e))) in
-          (alternative_at ds still k g (left n x.home) x.op (edited n no_boxes x.alternatives) (home_left g x.home x.is_home outer) (held_left g x.home (a_choice x.op x.alternatives) x.held)
-          (named_still n k x.alternatives other x.among)).holder
-
-      on : ((f.around ≡ []) × (holder_in k cs ≡ None)) ⊎ ((g : Name) × (holder_in k cs ≡ Some g) × IsHeldBy k g f cs) → holder_in k ds ≡ holder_in k cs
-      on (inl x) = none x.0 (held_or ds still k (left n f) (box_left k f e h)) ∙ sym x.1
-      on (inr x) = some x.0 x.1 x.2 ∙ sym x.1

@@ -14,6 +14,8 @@ pub mod Forked
 pub mod Gone
 pub mod Loses
 pub mod Failed
+pub mod Walks
+pub mod Drops
 pub mod Started
 pub mod Fresh
 pub mod Later
