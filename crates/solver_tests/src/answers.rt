@@ -122,6 +122,23 @@ fn store_of(alloc: Global, text: &str) -> Result<Store, Fail> {
     Ok(store)
 }
 
+/// The stores of bindings with `/` between, from the outermost inwards.
+fn stores_of(alloc: Global, text: &str) -> Result<Vec<Shared<Store>>, Fail> {
+    let mut stores = Vec::new(alloc);
+    for told in text.split('/') {
+        stores.push(Shared::new(alloc, store_of(alloc, told)?)?)?;
+    }
+    Ok(stores)
+}
+
+/// The lines of what X and Y are, or a word.
+fn wanted(alloc: Global, want: &str) -> Result<String, AllocError> {
+    match want.split_once(' ') {
+        Some((x, y)) => format!(in alloc; "X = {x}\nY = {y}\n"),
+        None => String::from_str(alloc, want),
+    }
+}
+
 /// The answer of X and Y under stores, or a word where there is none.
 fn text_under(
     alloc: Global,
@@ -161,15 +178,9 @@ fn what_is_shown_is_written_under_all_stores(rt: HostRuntime) -> Result<(), Fail
     let templates = templates(alloc)?;
     for case in CHAINS.lines().skip(1) {
         let (told, want) = case.split_once(" => ").ok_or("case")?;
-        let mut stores = Vec::new(alloc);
-        for text in told.split('/') {
-            stores.push(Shared::new(alloc, store_of(alloc, text)?)?)?;
-        }
+        let stores = stores_of(alloc, told)?;
         let found = text_under(alloc, &templates, stores.as_slice())?;
-        let expected = match want.split_once(' ') {
-            Some((x, y)) => format!(in alloc; "X = {x}\nY = {y}\n")?,
-            None => String::from_str(alloc, want)?,
-        };
+        let expected = wanted(alloc, want)?;
         assert_eq!(rt; found.as_slice(), expected.as_bytes(), "{case}");
     }
     Ok(())
