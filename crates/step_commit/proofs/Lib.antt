@@ -1,1 +1,2 @@
 pub mod LastChanges
+pub mod Committed

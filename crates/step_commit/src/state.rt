@@ -127,7 +127,9 @@ impl Core {
         let names = plan.names();
         // Stores that were solved over this very table are solved in it.
         let at = if seen == before { Some(seen) } else { None };
-        self.journal.push(label)?;
+        if let Err(failed) = self.journal.push(label) {
+            return Err(CommitError::Memory(AllocError::from(failed)));
+        }
         if let Err(error) = self.table.apply(alloc, label, names, plan.into_step(), at) {
             let _ = self.journal.pop();
             return Err(CommitError::Memory(error));
