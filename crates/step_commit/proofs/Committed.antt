@@ -2,6 +2,7 @@
 use Rattle.std.proofs.Common.{◌≡◌, ℕ, ◌+◌, ◌≤◌, List, [], ◌∷◌, ◌++◌, length, Bool, true, false, Option, Some, None, refl, sym, ap, subst, ◌∙◌, ◌⊎◌, inl, inr, arith}
 use Rattle.std.specs.Prelude.{IsSome, nat_le, slice_index}
 use Rattle.std.proofs.lemmas.List.{length-append}
+use Rattle.std.proofs.lemmas.Bool.Decides.{nat_tests}
 use Rattle.akl_terms.specs.declared.program.Program.{Program}
 use Rattle.akl_terms.specs.declared.program.Query.{Query}
 use Rattle.akl_model.specs.declared.item.Item.{Item}

@@ -37,19 +37,20 @@ module _ (rules : List Rule) (p : Program) (q : Query) (i : Item) (part : IsPart
   last_on : (journal further : List Label) (c d : Config) (k : ℕ) → Replays rules p q journal c → IsLastChange by_store rules p q journal i k → Derives rules p c further d
       → (m : ℕ) × IsLastChange by_store rules p q (journal ++ further) i m
   last_on journal [] c d k r x w = (k, subst (λ (j : List Label). IsLastChange by_store rules p q j i k) (sym (append-nil journal)) x)
-  last_on journal (l ∷ ls) c d k r x w = on (changes_or c w.0 i part)
+  last_on journal (l ∷ ls) c d k r x w = on (changes_or c w.0 i part) (λ n y. last_on (journal ++ l ∷ []) ls w.0 d n goes y w.2)
     where
       goes : Replays rules p q (journal ++ l ∷ []) w.0
       goes = record { derives = Derives-append rules p (start p q) c w.0 journal (l ∷ []) r.derives (w.0, w.1, refl) }
 
-      next : (n : ℕ) → IsLastChange by_store rules p q (journal ++ l ∷ []) i n → (m : ℕ) × IsLastChange by_store rules p q (journal ++ l ∷ ls) i m
-      next n y =
-          let z : (m : ℕ) × IsLastChange by_store rules p q ((journal ++ l ∷ []) ++ ls) i m = last_on (journal ++ l ∷ []) ls w.0 d n goes y w.2 in
-          (z.0, subst (λ (j : List Label). IsLastChange by_store rules p q j i z.0) (append_assoc journal (l ∷ []) ls) z.1)
+      abbrev Rest : Type 0
+      Rest = (n : ℕ) → IsLastChange by_store rules p q (journal ++ l ∷ []) i n → (m : ℕ) × IsLastChange by_store rules p q ((journal ++ l ∷ []) ++ ls) i m
 
-      on : Either (Changes by_store c w.0 i) → (m : ℕ) × IsLastChange by_store rules p q (journal ++ l ∷ ls) i m
-      on (inl y) = next (length journal + 1) (new_stamp by_store rules p q journal c l w.0 i r w.1 y)
-      on (inr n) = next k (old_stamp by_store rules p q journal c l w.0 i k r w.1 n x)
+      joined : (m : ℕ) × IsLastChange by_store rules p q ((journal ++ l ∷ []) ++ ls) i m → (m : ℕ) × IsLastChange by_store rules p q (journal ++ l ∷ ls) i m
+      joined z = (z.0, subst (λ (j : List Label). IsLastChange by_store rules p q j i z.0) (append_assoc journal (l ∷ []) ls) z.1)
+
+      on : Either (Changes by_store c w.0 i) → Rest → (m : ℕ) × IsLastChange by_store rules p q (journal ++ l ∷ ls) i m
+      on (inl y) rest = joined (rest (length journal + 1) (new_stamp by_store rules p q journal c l w.0 i r w.1 y))
+      on (inr n) rest = joined (rest k (old_stamp by_store rules p q journal c l w.0 i k r w.1 n x))
 
   pub last_change : (journal : List Label) (c : Config) → Replays rules p q journal c → (m : ℕ) × IsLastChange by_store rules p q journal i m
   last_change journal c r = last_on [] journal (start p q) c 0 (record { derives = refl }) (first_stamp by_store rules p q i) r.derives

@@ -4,3 +4,7 @@ pub mod Fresh
 pub mod Later
 pub mod Stores
 pub mod NewRows
+pub mod Along
+pub mod Frame
+pub mod Onward
+pub mod Marked

@@ -62,6 +62,10 @@ in_left n [] ms h = absurd h
 in_left n (m ∷ ns) ms (inl e) = inl e
 in_left n (m ∷ ns) ms (inr h) = inr (in_left n ns ms h)
 
+pub in_right : (n : Name) (ns ms : List Name) → IsIn n ms → IsIn n (ns ++ ms)
+in_right n [] ms h = h
+in_right n (m ∷ ns) ms h = inr (in_right n ns ms h)
+
 pub in_either : (n : Name) (ns ms : List Name) → IsIn n (ns ++ ms) → IsIn n ns ⊎ IsIn n ms
 in_either n [] ms h = inr h
 in_either n (m ∷ ns) ms (inl e) = inl (inl e)
