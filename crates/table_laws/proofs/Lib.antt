@@ -8,3 +8,7 @@ pub mod Along
 pub mod Frame
 pub mod Onward
 pub mod Marked
+pub mod Insides
+pub mod Gone
+pub mod Loses
+pub mod Failed
