@@ -18,14 +18,16 @@ use Rattle.plan_laws.proofs.Right.{reads_map}
 use Rattle.table_laws.specs.Rows.{BoxRow, GoalRow, Table}
 use Rattle.table_laws.specs.Stamped.{Run, followed_by, LastChange, IsStamped, IsTableOf, store_stamp, goals_stamp, goal_stamp, stamp_in}
 use Rattle.table_laws.specs.Steps.{Step, tells, forks, fails, Makes, ReadsFor, IsSolvedIn, IsSolvedWhen}
-use Rattle.table_laws.specs.Writes.{Leads, DrawsFresh}
+use Rattle.table_laws.specs.Writes.{IsTable, Leads, DrawsFresh}
 use Rattle.table_laws.proofs.Later.{later_law}
 use Rattle.table_laws.proofs.Fresh.{fresh_step}
-use Rattle.box_tree.specs.Tables.{rules_in_force}
-use Rattle.box_tree.specs.Plans.{IsRead}
-use Rattle.step_commit.specs.Cores.{is_within, AllWithin}
+use Rattle.table_laws.specs.Laws.{started}
+use Rattle.table_laws.proofs.Started.{start_law}
+use Rattle.box_tree.specs.Tables.{rules_in_force, TableValue, table_of, step_of}
+use Rattle.box_tree.specs.Plans.{PlanValue, IsRead, IsRight}
+use Rattle.step_commit.specs.Cores.{CoreValue, IsCore, MayCommit, is_within, AllWithin}
 
-some_of : {A : Type 0} {a b : A} → Some a ≡ Some b → a ≡ b
+pub some_of : {A : Type 0} {a b : A} → Some a ≡ Some b → a ≡ b
 some_of e = cc
 
 -- what a table keeps of an item is its last change
@@ -66,12 +68,26 @@ pub record IsPlanned (p : Program) (q : Query) (journal : List Label) (T : Table
   pub reads_all : ReadsFor (IsRead reads) l applies.site step
   pub there : (i : Item) → IsRead reads i → IsSome (stamp_in T i)
 
+of_plan : (p : PlanValue) → IsRight p → IsPlanned p.table.program p.table.query p.journal (table_of p.table) p.label p.reads p.names (step_of p.table.program.templates.nodes p.step)
+of_plan p r = record { table = r.table; result = r.result; applies = r.applies; makes = r.makes; solved = r.solved; drawn = r.names; reads_all = r.reads; there = r.there }
+
+pub planned : (c : CoreValue) (p : PlanValue) → IsRight p → MayCommit c p → IsPlanned c.table.program c.table.query p.journal (table_of p.table) p.label p.reads p.names (step_of c.table.program.templates.nodes p.step)
+planned c p r m = subst (λ (x : Program). IsPlanned x c.table.query p.journal (table_of p.table) p.label p.reads p.names (step_of x.templates.nodes p.step)) m.program
+    (subst (λ (y : Query). IsPlanned p.table.program y p.journal (table_of p.table) p.label p.reads p.names (step_of p.table.program.templates.nodes p.step)) m.query (of_plan p r))
+
 -- the label applies after further labels, and the step is what it makes there
 pub record LeadsOn (p : Program) (q : Query) (journal : List Label) (T : Table) (t : IsTableOf rules_in_force (record { program = p; query = q; journal = journal }) T) (l : Label) (names : ℕ) (step : Step) : Type 0 where
   pub result : Config
   pub applies : Applies rules_in_force p t.config l result
   pub makes : Makes p l (slice_index t.config.next l.worker) applies.site step
   pub drawn : names ≡ applies.change.drawn
+
+module _ (p : Program) (q : Query) (journal further : List Label) (S T : Table) (l : Label) (reads : List Item) (names : ℕ) (step : Step) (x : IsPlanned p q journal S l reads names step)
+    (t : IsTableOf rules_in_force (record { program = p; query = q; journal = journal ++ further }) T) where
+  pub goes : Derives rules_in_force p x.table.config further t.config
+  goes =
+      let d : (m : Config) × Derives rules_in_force p (start p q) journal m × Derives rules_in_force p m further t.config = Derives-prefix rules_in_force p (start p q) t.config journal further t.replays.derives in
+      subst (λ (m : Config). Derives rules_in_force p m further t.config) (Derives-one rules_in_force p (start p q) d.0 x.table.config journal d.1 x.table.replays.derives) d.2
 
 module _ (p : Program) (q : Query) (journal further : List Label) (S T : Table) (l : Label) (reads : List Item) (names : ℕ) (step : Step) (x : IsPlanned p q journal S l reads names step)
     (t : IsTableOf rules_in_force (record { program = p; query = q; journal = journal ++ further }) T) (none : NoneBy l further) (within : AllWithin T reads (length journal)) where
@@ -85,15 +101,10 @@ module _ (p : Program) (q : Query) (journal further : List Label) (S T : Table) 
   stamped : (i : Item) → IsRead reads i → stamps.IsStamped rules_in_force p q (journal ++ further) (length journal) i
   stamped i r = unseen (stamp_in T i) i refl (within i r)
 
-  goes : Derives rules_in_force p x.table.config further t.config
-  goes =
-      let d : (m : Config) × Derives rules_in_force p (start p q) journal m × Derives rules_in_force p m further t.config = Derives-prefix rules_in_force p (start p q) t.config journal further t.replays.derives in
-      subst (λ (m : Config). Derives rules_in_force p m further t.config) (Derives-one rules_in_force p (start p q) d.0 x.table.config journal d.1 x.table.replays.derives) d.2
-
   pub leads_on : LeadsOn p q (journal ++ further) T t l names step
   leads_on =
       let w : (result : Config) × (now : Applies rules_in_force p t.config l result) × Makes p l (slice_index t.config.next l.worker) now.site step × (now.site.content.name ≡ x.applies.site.content.name) × (now.change.drawn ≡ x.applies.change.drawn) =
-      later_law rules_in_force p q journal further x.table.config t.config l x.result x.applies step x.table.replays goes none
+      later_law rules_in_force p q journal further x.table.config t.config l x.result x.applies step x.table.replays (goes p q journal further S T l reads names step x t) none
       (reads_for (IsRead reads) (stamps.IsStamped rules_in_force p q (journal ++ further) (length journal)) stamped l x.applies.site step x.reads_all) x.makes in
       record { result = w.0; applies = w.1; makes = w.2; drawn = x.drawn ∙ sym w.4 }
 
@@ -111,10 +122,18 @@ module _ (p : Program) (q : Query) (journal further : List Label) (S T : Table) 
       empty = none_left further n
 
       config : x.table.config ≡ t.config
-      config = Derives-one rules_in_force p x.table.config x.table.config t.config [] refl (subst (λ (ls : List Label). Derives rules_in_force p x.table.config ls t.config) empty goes)
+      config = Derives-one rules_in_force p x.table.config x.table.config t.config [] refl (subst (λ (ls : List Label). Derives rules_in_force p x.table.config ls t.config) empty (goes p q journal further S T l reads names step x t))
 
       site : x.applies.site ≡ w.applies.site
       site = some_of (sym x.applies.is_site ∙ ap (λ (c : Config). site_of l.place c.roots) config ∙ w.applies.is_site)
 
       here : IsSolvedIn T w.applies.site step
       here = subst (λ (f : Found). IsSolvedIn T f step) site (subst (λ (u : Table). IsSolvedIn u x.applies.site step) (same empty) x.solved)
+
+-- a core of a table that was started
+pub new_core : (t : TableValue) (p : Program) (q : Query) (workers budget : ℕ) (journal : List Label) → t.program ≡ p → t.query ≡ q → IsTable (table_of t) (started p q) → journal ≡ []
+    → IsCore (record { table = t; journal = journal; workers = workers; budget = budget })
+new_core t p q workers budget journal e f s n = subst (λ (j : List Label). IsCore (record { table = t; journal = j; workers = workers; budget = budget })) (sym n) (record {
+  table = start_law rules_in_force t.program t.query (table_of t) (subst (λ (x : Program). IsTable (table_of t) (started x t.query)) (sym e) (subst (λ (x : Query). IsTable (table_of t) (started p x)) (sym f) s));
+  within = omega arith;
+})

@@ -42,7 +42,7 @@ module _ (rules : List Rule) (p : Program) (q : Query) (i : Item) (part : IsPart
       goes : Replays rules p q (journal ++ l ∷ []) w.0
       goes = record { derives = Derives-append rules p (start p q) c w.0 journal (l ∷ []) r.derives (w.0, w.1, refl) }
 
-      abbrev Rest : Type 0
+      Rest : Type 0
       Rest = (n : ℕ) → IsLastChange by_store rules p q (journal ++ l ∷ []) i n → (m : ℕ) × IsLastChange by_store rules p q ((journal ++ l ∷ []) ++ ls) i m
 
       joined : (m : ℕ) × IsLastChange by_store rules p q ((journal ++ l ∷ []) ++ ls) i m → (m : ℕ) × IsLastChange by_store rules p q (journal ++ l ∷ ls) i m

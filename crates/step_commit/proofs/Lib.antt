@@ -1,2 +1,3 @@
 pub mod LastChanges
 pub mod Committed
+pub mod Stale
