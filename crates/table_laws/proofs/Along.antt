@@ -1,5 +1,5 @@
 -- Where boxes stand before and after a label, and the choices that hold them.
-use Rattle.std.proofs.Common.{◌≡◌, ℕ, ◌+◌, ◌≤◌, List, [], ◌∷◌, ◌++◌, map, Bool, true, false, Option, Some, None, refl, sym, ◌∙◌, ap, subst, ◌⊎◌, inl, inr, arith, append_assoc}
+use Rattle.std.proofs.Common.{◌≡◌, ℕ, ◌+◌, ◌≤◌, List, [], ◌∷◌, ◌++◌, map, Bool, true, false, Some, None, refl, sym, ◌∙◌, ap, subst, ◌⊎◌, inl, inr, arith}
 use Rattle.std.specs.Prelude.{if◌then◌else◌, slice_index}
 use Rattle.std.proofs.lemmas.List.{append_cancel_left}
 use Rattle.akl_terms.specs.declared.name.Name.{Name}
@@ -10,22 +10,21 @@ use Rattle.akl_terms.specs.Names.{same_name}
 use Rattle.akl_terms.proofs.SameNames.{same_name-refl, same_name-equal}
 use Rattle.akl_model.specs.declared.label.Rule.{Rule}
 use Rattle.akl_model.specs.declared.label.Label.{Label}
-use Rattle.akl_model.specs.Config.{IsIn, Content, Boxes, no_boxes, box, Goals, no_goals, atom, choice, Config, Held, an_atom, a_choice, held_in, Found, box_at, home_of, edited, edited_inside}
+use Rattle.akl_model.specs.Config.{IsIn, Content, Boxes, no_boxes, box, Goals, no_goals, atom, choice, Config, an_atom, a_choice, held_in, Found, box_at, edited_inside}
 use Rattle.akl_model.specs.Rules.{Change}
 use Rattle.akl_model.specs.Derivations.{Applies, Replays}
 use Rattle.akl_model.specs.Paths.{StandsAt, StandsInside}
 use Rattle.akl_model.specs.Changes.{box_names}
-use Rattle.akl_model.specs.Wakes.{names_around, names_down_to, holder_in}
+use Rattle.akl_model.specs.Wakes.{names_around, holder_in}
 use Rattle.akl_model.specs.Names.{one_if}
 use Rattle.akl_model.proofs.Finds.{times}
 use Rattle.akl_model.proofs.NamesKept.{Stand, replay-stands, stands_after, box-itself}
 use Rattle.akl_model.proofs.PathsKept.{stays}
 use Rattle.akl_model.proofs.ScopesAlong.{times_path}
-use Rattle.constraint_laws.proofs.SameTerms.{Either}
 use Rattle.step_laws.specs.Whereabouts.{BoxIn, InGoals, Stands}
 use Rattle.step_laws.specs.Holders.{IsHeldBy}
-use Rattle.step_laws.proofs.Whereabouts.{found_in, in_found, home_in, in_counted}
-use Rattle.step_laws.proofs.Deeper.{one_box, named_found, Over, over, in_path}
+use Rattle.step_laws.proofs.Whereabouts.{found_in, home_in, in_counted}
+use Rattle.step_laws.proofs.Deeper.{one_box, named_found, Over, over}
 use Rattle.step_laws.proofs.Edits.{NotNamed, edit_out, edit_new}
 use Rattle.step_laws.proofs.Becomes.{Becomes}
 use Rattle.step_laws.proofs.Steps.{Moved, aside, at_site, inside, site_now, site_stands, site_there, site_gone, made, moved}
@@ -164,8 +163,14 @@ module _ (rules : List Rule) (p : Program) (c : Config) (l : Label) (d : Config)
         let e : box_at m.site.content.name d.roots ≡ Some o.outer = named_found d.roots t.once m.site.content.name o.outer o.stands o.named in
         let n : box_at m.site.content.name d.roots ≡ None = site_gone rules p c l d s m z.1 in
         absurd cc)
-    | inr z ↦ (z.0, (o.rest, subst (λ (k : Found). f.around ≡ k.around ++ k.content ∷ o.rest)
-        (one_box d.roots t.once o.outer (site_now z.0) o.stands (found_in m.site.content.name d.roots (site_now z.0) (site_there rules p c l d s m z.0)) (sym o.named ∙ sym z.0.keeps.name)) o.path))
+    | inr z ↦ (
+      z.0,
+      (
+        o.rest,
+        subst (λ (k : Found). f.around ≡ k.around ++ k.content ∷ o.rest)
+            (one_box d.roots t.once o.outer (site_now z.0) o.stands (found_in m.site.content.name d.roots (site_now z.0) (site_there rules p c l d s m z.0)) (sym o.named ∙ sym z.0.keeps.name)) o.path,
+      ),
+    )
   ]
     where
       o : Over m.site.content.name f d.roots
@@ -200,7 +205,7 @@ module _ (rules : List Rule) (p : Program) (c : Config) (l : Label) (d : Config)
       let q : n ≡ e.content.name = box-itself n c.roots e i in
       let f : Found = record { around = e.around; content = e.content; goals = edited_inside m.site.content.name m.change.boxes e.goals } in
       let x : Stands f d.roots = subst (λ (k : Config). Stands f k.roots) m.result (edit_out m.site.content.name m.change.boxes c.roots e.around e.content e.goals (found_in n c.roots e i)
-          (subst (λ (k : Name). same_name m.site.content.name k ≡ false) q apart) (not_among m.site.content.name m.change.boxes e.around h)) in
+      (subst (λ (k : Name). same_name m.site.content.name k ≡ false) q apart) (not_among m.site.content.name m.change.boxes e.around h)) in
       (f, named_found d.roots t.once n f x q)
 
   -- and one in it stays where it stands in its new goals

@@ -4,18 +4,18 @@ use Rattle.std.proofs.lemmas.Bool.Decides.{nat_tests}
 use Rattle.std.specs.Prelude.{if◌then◌else◌, option_map, ⊤}
 use Rattle.akl_terms.specs.declared.name.Name.{Name}
 use Rattle.akl_terms.specs.Names.{same_name, is_before}
-use Rattle.akl_model.specs.Config.{Atom, Content, Boxes, no_boxes, box, Goals, no_goals, atom, choice, Held, an_atom, held_in, with_goal, Found, home_inside, box_inside, home_of}
+use Rattle.akl_model.specs.Config.{Atom, Content, Goals, no_goals, atom, choice, Held, an_atom, held_in, with_goal, home_inside, box_inside}
 use Rattle.akl_model.specs.Instances.{with_atoms}
-use Rattle.akl_model.specs.Conditions.{HasFailed, IsFailing}
+use Rattle.akl_model.specs.Conditions.{IsFailing}
 use Rattle.akl_model.specs.Changes.{shape_of, of_atom, goal_names}
 use Rattle.akl_model.specs.Names.{one_if}
 use Rattle.akl_model.specs.Wakes.{holder_inside}
 use Rattle.akl_model.proofs.Finds.{times_inside}
-use Rattle.akl_terms.proofs.SameNames.{same_name-equal, same_name-refl}
+use Rattle.akl_terms.proofs.SameNames.{same_name-refl}
 use Rattle.step_laws.specs.Whereabouts.{InGoals}
 use Rattle.step_laws.proofs.Whereabouts.{held_counted}
 use Rattle.table_laws.specs.Rows.{GoalRow}
-use Rattle.table_laws.specs.Unfolds.{FailsBy, Spot, spot_of}
+use Rattle.table_laws.specs.Unfolds.{FailsBy, spot_of}
 use Rattle.table_laws.specs.Steps.{AreAtoms}
 use Rattle.table_laws.specs.Writes.{fails_first, first_fail, atom_among}
 use Rattle.table_laws.specs.Laws.{named_from}

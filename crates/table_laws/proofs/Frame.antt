@@ -1,6 +1,6 @@
 -- Rows of boxes that a label leaves.
-use Rattle.std.proofs.Common.{◌≡◌, ℕ, ◌+◌, ◌≤◌, List, [], ◌∷◌, ◌++◌, map, Bool, true, false, Option, Some, None, refl, sym, ◌∙◌, ap, subst, ◌⊎◌, inl, inr, arith, append_assoc}
-use Rattle.std.specs.Prelude.{slice_index, option_map}
+use Rattle.std.proofs.Common.{◌≡◌, ◌+◌, ◌≤◌, List, [], ◌∷◌, ◌++◌, map, Bool, true, false, Option, Some, None, refl, sym, ◌∙◌, ap, subst, ◌⊎◌, inl, inr, arith, append_assoc}
+use Rattle.std.specs.Prelude.{slice_index}
 use Rattle.akl_terms.specs.declared.name.Name.{Name}
 use Rattle.akl_terms.specs.declared.term.Node.{Node}
 use Rattle.akl_terms.specs.declared.program.Program.{Program}
@@ -11,9 +11,8 @@ use Rattle.akl_terms.specs.Names.{same_name}
 use Rattle.akl_terms.proofs.SameNames.{same_name-refl, same_name-equal}
 use Rattle.akl_model.specs.declared.label.Rule.{Rule}
 use Rattle.akl_model.specs.declared.label.Label.{Label}
-use Rattle.akl_model.specs.Config.{IsIn, Content, Boxes, no_boxes, box, Goals, Config, Found, Port, Atom, ShownTree, box_at, equations_of, environment, whole}
+use Rattle.akl_model.specs.Config.{IsIn, Content, no_boxes, box, Config, Found, box_at, equations_of, environment, whole}
 use Rattle.akl_model.specs.Derivations.{Applies, Replays}
-use Rattle.akl_model.specs.Changes.{goal_names}
 use Rattle.akl_model.specs.Wakes.{names_around, names_down_to, holder_in}
 use Rattle.akl_model.specs.Names.{one_if}
 use Rattle.akl_model.proofs.Finds.{times}
@@ -21,7 +20,6 @@ use Rattle.akl_model.proofs.NamesKept.{Stand, replay-stands, stands_after, box-i
 use Rattle.akl_model.proofs.Options.{some_value}
 use Rattle.akl_model.proofs.ScopesAlong.{times_path}
 use Rattle.constraint_laws.proofs.StandsGrow.{same_told_stands}
-use Rattle.local_store.specs.Stored.{Stored}
 use Rattle.local_store.specs.Chained.{IsSolvedChain}
 use Rattle.rational_unify.specs.Solving.{bindings_in}
 use Rattle.step_laws.specs.Whereabouts.{Stands}
@@ -148,9 +146,6 @@ module _ (rules : List Rule) (p : Program) (q : Query) (journal : List Label) (c
   t : Stand d
   t = stands_after rules p c l d s a
 
-  abbrev n : Name
-  n = a.site.content.name
-
   alike : (e f : Found) → Stands e c.roots → Stands f d.roots → e.content.name ≡ f.content.name → IsLike e f
   alike e f x y q = like_box c d s t (later_step rules p c l d s a) e f x y q
 
@@ -240,15 +235,6 @@ module _ (rules : List Rule) (p : Program) (q : Query) (journal : List Label) (c
       within : IsUnder l.worker (slice_index c.next l.worker) a.site a.change e f → IsBoxRow U d.roots f (record r { failing = o })
       within w = by stands (elim now.3 [ inl h ↦ solved (λ z v. each h z v (same_name a.site.content.name z) refl) | inr h ↦ again h ])
         where
-          b : Becomes l.worker (slice_index c.next l.worker) a.site a.change
-          b = w.becomes
-
-          ns : List Name
-          ns = names_around a.site
-
-          more : List Name
-          more = map (λ (z : Content). z.name) w.rest ++ e.content.name ∷ []
-
           now : (v : BoxRow) × (U.box_of a.site.content.name ≡ Some v) × IsBoxRow U d.roots (site_now w.becomes) v × (IsAsTold T U a.site.content.name ⊎ (v.changed ≡ T.steps + 1))
           now = k.site (site_now w.becomes) (site_there rules p c l d s a w.becomes)
 
@@ -286,9 +272,6 @@ module _ (rules : List Rule) (p : Program) (q : Query) (journal : List Label) (c
                   let g : times a.site.content.name c.roots ≤ 1 = s.once a.site.content.name in
                   let h : times_path a.site.content.name e.around ≡ times_path a.site.content.name (a.site.around ++ a.site.content ∷ w.rest) = ap (times_path a.site.content.name) w.was in
                   omega arith
-
-          A : Equations
-          A = told_along T (names_around a.site)
 
           at_around : told_along U (names_around a.site) ≡ told_along T (names_around a.site)
           at_around = same_told (names_around a.site) k.keeps.nodes (site_around k.keeps w.becomes)

@@ -1,30 +1,28 @@
 -- The names that a fork draws are the next ones of its worker: they stand nowhere in a table, and no two are the same.
-use Rattle.std.proofs.Common.{◌≡◌, ℕ, ◌+◌, ◌≤◌, ◌<◌, List, [], ◌∷◌, ◌++◌, map, Option, Some, None, refl, sym, ◌∙◌, ap, subst, ◌⊎◌, inl, inr, arith}
+use Rattle.std.proofs.Common.{◌≡◌, ℕ, ◌+◌, ◌≤◌, ◌<◌, List, [], ◌∷◌, ◌++◌, Option, Some, None, refl, ◌∙◌, ap, subst, ◌⊎◌, inl, inr, arith}
 use Rattle.std.specs.Prelude.{option_map, option_and_then, slice_index}
 use Rattle.akl_terms.specs.declared.name.Name.{Name}
 use Rattle.akl_terms.specs.declared.term.Node.{Node}
-use Rattle.akl_terms.specs.declared.program.Program.{Program}
 use Rattle.akl_terms.specs.Equal.{Equations}
 use Rattle.akl_terms.specs.Names.{same_name}
 use Rattle.akl_model.specs.declared.label.Rule.{Rule}
 use Rattle.akl_model.specs.declared.label.Label.{Label}
-use Rattle.akl_model.specs.Config.{IsIn, Atom, Boxes, no_boxes, box, Goals, no_goals, atom, choice, Config, Held, held_in, Found, box_at, home_of, whole}
+use Rattle.akl_model.specs.Config.{IsIn, Boxes, no_boxes, box, Goals, no_goals, atom, choice, Config, Held, held_in, Found, whole}
 use Rattle.akl_model.specs.Instances.{instances, drawn_by}
-use Rattle.akl_model.specs.Rules.{Change}
 use Rattle.akl_model.specs.Derivations.{Applies}
 use Rattle.akl_model.specs.Changes.{goal_names, shape_of}
 use Rattle.akl_model.specs.Names.{one_if, times_in}
 use Rattle.akl_model.proofs.Options.{map_none}
-use Rattle.akl_model.proofs.Finds.{zero_or, times_in-append, times, times_of, times_inside, box_at-none}
+use Rattle.akl_model.proofs.Finds.{zero_or, times_in-append, times, times_inside, box_at-none}
 use Rattle.akl_model.proofs.Drawn.{drawn_times, drawn_place, drawn_once, times-instances}
 use Rattle.akl_model.proofs.NamesKept.{Stand, replay-stands}
 use Rattle.akl_model.proofs.ScopesAlong.{counted_in}
 use Rattle.step_laws.proofs.Whereabouts.{home_of-none}
-use Rattle.table_laws.specs.Rows.{BoxRow, GoalRow, Table}
-use Rattle.table_laws.specs.Unfolds.{IsBoxRow, AreBoth, Spot, spot_of, spot_in, Unfolds}
+use Rattle.table_laws.specs.Rows.{BoxRow, Table}
+use Rattle.table_laws.specs.Unfolds.{IsBoxRow, AreBoth, spot_of, Unfolds}
 use Rattle.table_laws.specs.Stamped.{Run, IsTableOf}
-use Rattle.table_laws.specs.Steps.{ForksGoal, NewBox, Step, tells, forks, fails, AreAtoms, AreNewBoxes, Makes}
-use Rattle.table_laws.specs.Writes.{names_drawn, IsFresh, DrawsFresh}
+use Rattle.table_laws.specs.Steps.{ForksGoal, NewBox, Step, tells, forks, fails, AreNewBoxes, Makes}
+use Rattle.table_laws.specs.Writes.{names_drawn, DrawsFresh}
 use Rattle.table_laws.proofs.Atoms.{first_names, atom_names}
 
 goal_names_less : (m : Name) (gs : Goals) → times_in m (goal_names gs) ≤ times_inside m gs

@@ -1,6 +1,6 @@
 -- A step that was made for a prefix of a run is right for the whole of it, where by its stamps what it reads is unchanged.
-use Rattle.std.proofs.Common.{◌≡◌, ℕ, List, [], ◌∷◌, ◌++◌, length, Bool, Option, Some, None, refl, sym, ◌∙◌, ap, subst, ◌⊎◌, inl, inr}
-use Rattle.std.specs.Prelude.{option_map, slice_index}
+use Rattle.std.proofs.Common.{◌≡◌, ℕ, List, [], ◌∷◌, ◌++◌, length, Option, Some, None, sym, ◌∙◌, ap, subst, ◌⊎◌, inl, inr}
+use Rattle.std.specs.Prelude.{slice_index}
 use Rattle.akl_terms.specs.declared.name.Name.{Name}
 use Rattle.akl_terms.specs.declared.name.Place.{Place}
 use Rattle.akl_terms.specs.declared.term.Node.{Node}
@@ -12,12 +12,11 @@ use Rattle.akl_terms.specs.Standing.{StandFor}
 use Rattle.akl_model.specs.declared.item.Item.{Item}
 use Rattle.akl_model.specs.declared.label.Rule.{Rule}
 use Rattle.akl_model.specs.declared.label.Label.{Label}
-use Rattle.akl_model.specs.Config.{IsIn, Atom, Content, Boxes, no_boxes, box, Goals, Config, Held, an_atom, a_choice, held_in, Found, environment, whole, box_at, home_of, site_of}
+use Rattle.akl_model.specs.Config.{IsIn, Atom, Content, Boxes, no_boxes, box, Config, Held, an_atom, a_choice, held_in, Found, whole, box_at, home_of, site_of}
 use Rattle.akl_model.specs.Instances.{instances}
-use Rattle.akl_model.specs.Changes.{Shape, of_atom, shape_of}
 use Rattle.akl_model.specs.Derivations.{Applies, Derives, Replays}
 use Rattle.akl_model.specs.Wakes.{names_down_to}
-use Rattle.akl_model.proofs.Options.{some_value, map_some}
+use Rattle.akl_model.proofs.Options.{some_value}
 use Rattle.akl_model.proofs.NamesKept.{Stand, replay-stands, derived-stands, site-box}
 use Rattle.constraint_laws.specs.StandingGrows.{AreToldIn}
 use Rattle.constraint_laws.proofs.StandsGrow.{same_told_stands, stands_over, stands_within}
@@ -28,8 +27,7 @@ use Rattle.plan_laws.specs.Right.{Reads, NoneBy, IsRightOn}
 use Rattle.plan_laws.specs.Stamps as stamps
 use Rattle.plan_laws.proofs.Right.{fresh}
 use Rattle.plan_laws.proofs.StampLaws.{stamped, stamped_right}
-use Rattle.table_laws.specs.Rows.{ports_in}
-use Rattle.table_laws.specs.Steps.{NewBox, Step, tells, forks, fails, TellsGoal, IsNewBox, AreNewBoxes, ForksGoal, Makes, ReadsFor}
+use Rattle.table_laws.specs.Steps.{NewBox, Step, tells, forks, fails, TellsGoal, AreNewBoxes, ForksGoal, Makes, ReadsFor}
 
 -- an atom by its shape
 atom_shape : (a : Atom) (h : Option Held) → HaveShape (Some (an_atom a)) h → h ≡ Some (an_atom a)

@@ -7,8 +7,13 @@ pub mod NewRows
 pub mod Along
 pub mod Frame
 pub mod Onward
+pub mod Forking
 pub mod Marked
+pub mod Reducing
+pub mod Told
+pub mod Forked
 pub mod Insides
 pub mod Gone
 pub mod Loses
 pub mod Failed
+pub mod StepMakes

@@ -10,7 +10,7 @@ use Rattle.akl_model.specs.declared.label.Rule.{Rule}
 use Rattle.akl_model.specs.declared.label.Label.{Label}
 use Rattle.akl_model.specs.Config.{Content, Config, Found, box_at}
 use Rattle.akl_model.specs.Instances.{start}
-use Rattle.akl_model.specs.Derivations.{Applies, Replays}
+use Rattle.akl_model.specs.Derivations.{Applies}
 use Rattle.akl_model.specs.Changes.{goal_names, goals_at, constraint_of, constraint_at, by_store, Changes}
 use Rattle.akl_model.proofs.NamesKept.{Stand, replay-stands, box-itself}
 use Rattle.akl_model.proofs.Options.{none_or, some_value}
@@ -21,24 +21,17 @@ use Rattle.step_laws.proofs.ChangedItems.{frame, frame_names}
 use Rattle.plan_laws.proofs.StampLaws.{new_stamp, old_stamp}
 use Rattle.table_laws.specs.Rows.{BoxRow, GoalRow, Table}
 use Rattle.table_laws.specs.Unfolds.{FailsBy, IsBoxRow}
-use Rattle.table_laws.specs.Stamped.{Run, followed_by, LastChange, IsStamped, IsTableOf}
+use Rattle.table_laws.specs.Stamped.{Run, followed_by, LastChange, IsTableOf}
 use Rattle.table_laws.proofs.Frame.{row_of}
 use Rattle.table_laws.proofs.Onward.{IsMark, GoalGoes, LeadsOn, unfolds_on}
 
 module _ (rules : List Rule) (r : Run) (T U : Table) (l : Label) (d : Config) (t : IsTableOf rules r T) (a : Applies rules r.program t.config l d) (k : LeadsOn a T U) where
-  abbrev c : Config
-  c = t.config
-
   s : Stand t.config
   s = replay-stands rules r.program r.query r.journal t.config t.replays
 
   marked : (item : Item) (old new : ℕ) → LastChange rules r item old → IsMark T.steps (Changes by_store t.config d item) old new → LastChange rules (followed_by r l) item new
   marked item old new last (inl x) = subst (LastChange rules (followed_by r l) item) (sym x.0) (old_stamp by_store rules r.program r.query r.journal t.config l d item old t.replays a x.1 last)
   marked item old new last (inr x) = subst (LastChange rules (followed_by r l) item) (ap (λ (n : ℕ). n + 1) (sym t.stamped.steps) ∙ sym x.0) (new_stamp by_store rules r.program r.query r.journal t.config l d item t.replays a x.1)
-
-  -- the marks of a box's row
-  Marks : Name → BoxRow → BoxRow → Type 0
-  Marks n old new = IsMark T.steps (Changes by_store t.config d (Item.Store n)) old.changed new.changed × IsMark T.steps (Changes by_store t.config d (Item.Goals n)) old.goals_changed new.goals_changed
 
   -- a row is new, with a box that is, or it was there
   row_marks : (n : Name) (row : BoxRow) → U.box_of n ≡ Some row

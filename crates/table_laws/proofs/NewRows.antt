@@ -10,24 +10,23 @@ use Rattle.akl_terms.specs.Standing.{StandFor}
 use Rattle.akl_terms.specs.Names.{same_name}
 use Rattle.akl_terms.specs.Tree.{Tree}
 use Rattle.akl_terms.proofs.SameNames.{same_name-equal, same_name-refl}
-use Rattle.akl_model.specs.Config.{IsIn, Atom, Content, Boxes, no_boxes, box, Goals, no_goals, Held, a_choice, held_in, Found, environment, whole, or_else, box_at, home_of}
+use Rattle.akl_model.specs.Config.{IsIn, Content, Boxes, no_boxes, box, Goals, Held, a_choice, held_in, Found, whole, or_else, box_at, home_of}
 use Rattle.akl_model.specs.Instances.{instances}
-use Rattle.akl_model.specs.Changes.{Shape, shape_of, box_names}
+use Rattle.akl_model.specs.Changes.{shape_of, box_names}
 use Rattle.akl_model.specs.Wakes.{names_around, names_down_to, holder_in}
-use Rattle.akl_model.proofs.Options.{map_none, map_some, some_value, none_or}
-use Rattle.akl_model.proofs.Finds.{times, times_of, times_inside}
+use Rattle.akl_model.proofs.Options.{map_none, map_some, some_value}
+use Rattle.akl_model.proofs.Finds.{times, times_inside}
 use Rattle.akl_model.proofs.ScopesAlong.{times_path}
 use Rattle.rational_unify.specs.Solving.{bindings_in}
-use Rattle.local_store.specs.Stored.{Stored}
 use Rattle.local_store.specs.Chained.{IsSolvedChain}
-use Rattle.step_laws.specs.Whereabouts.{BoxIn, InGoals}
+use Rattle.step_laws.specs.Whereabouts.{BoxIn}
 use Rattle.step_laws.specs.Holders.{IsHeldBy, IsAlternativeAt}
 use Rattle.step_laws.proofs.Whereabouts.{found_in, in_counted}
 use Rattle.step_laws.proofs.GoalEdits.{HasGoal}
 use Rattle.step_laws.proofs.Holders.{alternative_at, held_around}
-use Rattle.table_laws.specs.Rows.{BoxRow, GoalRow, Table, store_in, stores_along, told_in}
-use Rattle.table_laws.specs.Unfolds.{UnchangedSince, StaysSolved, IsBoxRow, Spot, spot_of}
-use Rattle.table_laws.specs.Steps.{NewBox, AreAtoms, IsNewBox, AreNewBoxes}
+use Rattle.table_laws.specs.Rows.{GoalRow, Table, store_in, stores_along}
+use Rattle.table_laws.specs.Unfolds.{IsBoxRow, Spot, spot_of}
+use Rattle.table_laws.specs.Steps.{NewBox, IsNewBox, AreNewBoxes}
 use Rattle.table_laws.specs.Writes.{solved_when, new_row, new_box_of, atom_among, new_goal_of}
 use Rattle.table_laws.proofs.Atoms.{atom_names, nothing_among, atom_spots, atom_changed, atoms_failing}
 use Rattle.table_laws.proofs.Stores.{told_along, told_last, stores_join}

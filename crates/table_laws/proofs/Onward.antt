@@ -1,6 +1,5 @@
 -- From a table to the next one of a run: what a step has to show.
-use Rattle.std.proofs.Common.{◌≡◌, ℕ, ◌+◌, ◌≤◌, List, [], ◌∷◌, ◌++◌, length, Bool, true, false, Option, Some, None, refl, sym, ◌∙◌, ap, subst, ◌⊎◌, inl, inr, arith}
-use Rattle.std.proofs.lemmas.List.{length-append}
+use Rattle.std.proofs.Common.{◌≡◌, ℕ, ◌+◌, ◌≤◌, List, [], ◌∷◌, ◌++◌, Bool, true, false, Option, Some, None, refl, sym, ◌∙◌, ap, subst, ◌⊎◌, inl, inr, arith}
 use Rattle.std.specs.Prelude.{slice_index, option_map, option_and_then}
 use Rattle.akl_terms.specs.declared.name.Name.{Name}
 use Rattle.akl_terms.specs.declared.term.Node.{Node}
@@ -10,38 +9,31 @@ use Rattle.akl_terms.specs.declared.program.Query.{Query}
 use Rattle.akl_terms.specs.Equal.{Equations, IsTold}
 use Rattle.akl_terms.specs.Standing.{StandFor}
 use Rattle.akl_terms.specs.Names.{same_name}
-use Rattle.akl_terms.proofs.SameNames.{same_name-refl, same_name-equal}
+use Rattle.akl_terms.proofs.SameNames.{same_name-equal}
 use Rattle.akl_model.specs.declared.item.Item.{Item}
 use Rattle.akl_model.specs.declared.label.Rule.{Rule}
 use Rattle.akl_model.specs.declared.label.Label.{Label}
-use Rattle.akl_model.specs.Config.{IsIn, Content, Boxes, no_boxes, box, Goals, Config, Held, a_choice, held_in, Found, box_at, home_of, whole}
-use Rattle.akl_model.specs.Instances.{start}
-use Rattle.akl_model.specs.Conditions.{HasFailed, IsFailing}
+use Rattle.akl_model.specs.Config.{IsIn, Content, Boxes, no_boxes, box, Config, Held, a_choice, held_in, Found, box_at, home_of, whole}
 use Rattle.akl_model.specs.Derivations.{Applies, Replays}
-use Rattle.akl_model.specs.Changes.{Shape, shape_of, shape_at, box_names, goal_names, goals_at, Constraint, constraint_of, constraint_at, by_store, Changes, IsLastChange}
+use Rattle.akl_model.specs.Changes.{shape_of, shape_at, box_names, goal_names, by_store, Changes}
 use Rattle.akl_model.specs.Wakes.{names_around, names_down_to, holder_in}
 use Rattle.akl_model.proofs.Finds.{times, times_inside}
 use Rattle.akl_model.proofs.NamesKept.{Stand, replay-stands, stands_after, box-itself}
 use Rattle.akl_model.proofs.Options.{none_or, some_value, map_some}
-use Rattle.akl_model.proofs.Results.{Derives-append}
 use Rattle.akl_model.proofs.ScopesAlong.{times_path}
 use Rattle.rational_unify.specs.Solving.{bindings_in}
-use Rattle.local_store.specs.Stored.{Stored}
 use Rattle.step_laws.specs.ChangedItems.{IsReplaced}
 use Rattle.step_laws.specs.Whereabouts.{Stands}
-use Rattle.step_laws.specs.Likeness.{IsLike}
 use Rattle.step_laws.specs.Stays.{HaveShape}
 use Rattle.step_laws.proofs.Whereabouts.{found_in, home_in, in_counted}
 use Rattle.step_laws.proofs.GoalEdits.{HasGoal}
 use Rattle.step_laws.proofs.Failing.{failing_shape, failed_before}
 use Rattle.step_laws.proofs.Becomes.{Becomes}
-use Rattle.step_laws.proofs.Steps.{site_now, site_there, site_stands, found, later_step}
-use Rattle.step_laws.proofs.Stays.{like_home, shape_home}
-use Rattle.step_laws.proofs.ChangedItems.{frame, frame_names, frame_shape}
-use Rattle.plan_laws.proofs.StampLaws.{new_stamp, old_stamp}
-use Rattle.table_laws.specs.Rows.{BoxRow, GoalRow, Table, store_in, stores_along, ports_in}
+use Rattle.step_laws.proofs.Steps.{site_now, site_there, found, later_step}
+use Rattle.step_laws.proofs.Stays.{like_home}
+use Rattle.step_laws.proofs.ChangedItems.{frame_names, frame_shape}
+use Rattle.table_laws.specs.Rows.{BoxRow, GoalRow, Table, store_in, ports_in}
 use Rattle.table_laws.specs.Unfolds.{FailsBy, StaysSolved, IsBoxRow, AreBoth, Spot, spot_in, spot_of, Unfolds}
-use Rattle.table_laws.specs.Stamped.{Run, followed_by, LastChange, IsStamped, IsTableOf}
 use Rattle.table_laws.proofs.Stores.{told_along, told_last, IsAsTold, in_either}
 use Rattle.table_laws.proofs.Along.{holder_stays}
 use Rattle.table_laws.proofs.Frame.{are_both, are_neither, row_of, KeepsRows, KeepsBoxes, row_stays, site_around, same_told, solved_same}

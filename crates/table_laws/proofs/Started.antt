@@ -1,41 +1,35 @@
 -- A table of a query's one box, to which nothing was told, is one of the run without labels.
-use Rattle.std.proofs.Common.{◌≡◌, ℕ, ◌+◌, ◌≤◌, List, [], ◌∷◌, ◌++◌, length, map, Bool, true, false, Option, Some, None, refl, sym, ◌∙◌, ap, subst, ◌⊎◌, inl, inr, arith}
-use Rattle.std.specs.Prelude.{if◌then◌else◌, option_map, option_and_then, slice_index}
+use Rattle.std.proofs.Common.{◌≡◌, ℕ, ◌+◌, ◌≤◌, List, [], ◌∷◌, map, Bool, true, false, Option, Some, None, refl, sym, ◌∙◌, ap, subst, arith}
+use Rattle.std.specs.Prelude.{if◌then◌else◌, option_map, option_and_then}
 use Rattle.akl_terms.specs.declared.name.Name.{Name}
-use Rattle.akl_terms.specs.declared.name.Var.{Var}
 use Rattle.akl_terms.specs.declared.term.Node.{Node}
-use Rattle.akl_terms.specs.declared.term.Term.{Term}
 use Rattle.akl_terms.specs.declared.program.Program.{Program}
 use Rattle.akl_terms.specs.declared.program.Query.{Query}
 use Rattle.akl_terms.specs.Names.{same_name}
 use Rattle.akl_terms.specs.Tree.{Tree}
-use Rattle.akl_terms.specs.Equal.{Equations, IsTold}
+use Rattle.akl_terms.specs.Equal.{IsTold}
 use Rattle.akl_terms.specs.Solved.{IsBound, bound}
 use Rattle.akl_terms.specs.Standing.{StandFor}
-use Rattle.akl_terms.proofs.SameNames.{same_name-equal, same_name-refl}
 use Rattle.akl_model.specs.declared.label.Rule.{Rule}
 use Rattle.akl_model.specs.declared.item.Item.{Item}
-use Rattle.akl_model.specs.Config.{Atom, Content, Boxes, no_boxes, box, Goals, no_goals, Held, held_in, Found, or_else, within, box_at, box_inside, home_of, home_inside, when_held}
-use Rattle.akl_model.specs.Changes.{Shape, shape_of}
+use Rattle.akl_model.specs.Config.{Atom, Content, no_boxes, box, Goals, no_goals, Held, held_in, Found, or_else, within, box_at, home_inside, when_held}
+use Rattle.akl_model.specs.Changes.{shape_of}
 use Rattle.akl_model.specs.Instances.{start, with_atoms, atoms_of, shown_of}
-use Rattle.akl_model.specs.Derivations.{Replays}
-use Rattle.akl_model.specs.Wakes.{holder_in, holder_inside}
-use Rattle.akl_model.proofs.Options.{none_map, some_value}
+use Rattle.akl_model.proofs.Options.{some_value}
 use Rattle.akl_model.proofs.Finds.{times, times_of, times_inside}
-use Rattle.akl_model.proofs.NamesKept.{Stand, start-stands}
+use Rattle.akl_model.proofs.NamesKept.{start-stands}
 use Rattle.constraint_laws.proofs.StandsGrow.{same_told_stands}
 use Rattle.rational_unify.specs.Known.{bound_in}
-use Rattle.rational_unify.specs.Forms.{IsFormOf}
 use Rattle.rational_unify.proofs.Chains.{nothing-solved}
-use Rattle.local_store.specs.Stored.{Stored, nothing, with_frame}
+use Rattle.local_store.specs.Stored.{nothing, with_frame}
 use Rattle.local_store.specs.Chained.{IsSolvedChain}
 use Rattle.plan_laws.proofs.StampLaws.{first_stamp}
 use Rattle.akl_model.specs.Changes.{by_store}
-use Rattle.table_laws.specs.Rows.{BoxRow, GoalRow, Table, store_in, stores_along, told_in}
-use Rattle.table_laws.specs.Unfolds.{FailsBy, StaysSolved, IsBoxRow, AreBoth, Spot, spot_of, spot_in, Unfolds}
-use Rattle.table_laws.specs.Stamped.{Run, LastChange, IsStamped, IsTableOf}
+use Rattle.table_laws.specs.Rows.{BoxRow, Table, store_in, told_in}
+use Rattle.table_laws.specs.Unfolds.{IsBoxRow, AreBoth, Spot, spot_of, spot_in, Unfolds}
+use Rattle.table_laws.specs.Stamped.{Run, LastChange, IsTableOf}
 use Rattle.table_laws.specs.Steps.{AreAtoms}
-use Rattle.table_laws.specs.Writes.{IsTable, atom_among, first_fail}
+use Rattle.table_laws.specs.Writes.{IsTable}
 use Rattle.table_laws.specs.Laws.{named_from, first_row, started}
 use Rattle.table_laws.proofs.Atoms.{atom_names, no_box_inside, no_home_inside, no_holder_inside, atom_spots, atom_changed, atoms_failing, in_order}
 

@@ -1,10 +1,16 @@
 //! Laws of tables, each the contract of a function without a body.
 
-ghost use Rattle.table_laws.specs.Laws.{FreshStepLaw, LaterLaw, StartLaw};
+ghost use Rattle.table_laws.specs.Laws.{FreshStepLaw, LaterLaw, StartLaw, StepLaw};
 
 /// A table of a query's one box, to which nothing was told, is one of the run without labels.
 pub fn start()
     ensures { StartLaw }
+{}
+
+/// A table to which the step of a label leads is one of the run that goes on with the label, and unfolds
+/// to the configuration to which the label leads.
+pub fn steps()
+    ensures { StepLaw }
 {}
 
 /// The names that a step draws stand nowhere in the table, and no two of them are the same.
