@@ -1,3 +1,4 @@
 pub mod LastChanges
 pub mod Committed
 pub mod Stale
+pub mod Made
