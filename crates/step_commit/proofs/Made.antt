@@ -23,10 +23,10 @@ use Rattle.box_tree.specs.declared.step.Step.{Step}
 use Rattle.box_tree.specs.Tables.{rules_in_force, TableValue, table_of, step_of, FitsPlace, MayApply, Applied}
 use Rattle.box_tree.specs.Views.{run_of}
 use Rattle.box_tree.specs.Plans.{PlanValue, IsRead, IsRight}
-
 use Rattle.step_commit.specs.Cores.{CoreValue, IsCore, run_by, KeepsFixed, MayCommit, Commits, AllWithin, IsFirstUnseen}
 use Rattle.step_commit.proofs.Committed.{IsPlanned, planned, LeadsOn, leads_on, solved_now}
 use Rattle.step_commit.proofs.Stale.{unchanged}
+use Rattle.step_commit.proofs.InOrder.{makes_ordered}
 
 some_none : {A : Type 0} {x : A} → None ≡ Some x → ⊥
 some_none e = cc
@@ -67,7 +67,7 @@ module _ (c : CoreValue) (k : IsCore c) (p : PlanValue) (r : IsRight p) (m : May
     table = t;
     fits = fits rules_in_force c.table.program t.config p.label on.result _ on.applies step on.makes;
     fresh = fresh_step rules_in_force (run_of c.table (p.journal ++ m.further)) (table_of c.table) p.label on.result t on.applies step on.makes;
-    ordered = ?;
+    ordered = makes_ordered c.table.program p.label _ on.applies.site step on.makes;
   }
 
   solved : (at : Option ℕ) → IsNow c p at → IsSolvedWhen at (table_of c.table) on.applies.site step

@@ -21,10 +21,12 @@ returns-in-Some-clause-refused c =
     let long : c.len-before.result ≡ length c.self.inside.journal.items = c.len-before.ensures ∙ c.self.inside.journal.ok.0 in
     let same : length c.self.inside.journal.items ≡ length c.args.self.now.journal = ap (λ (k : CoreValue). length k.journal) c.self.view_is in
     let most : c.self.inside.budget ≡ c.args.self.now.budget = ap (λ (k : CoreValue). k.budget) c.self.view_is in
-    let less : length c.args.self.now.journal < c.args.self.now.budget = grind (arith, nat_tests) in
-    (less, stale c.args.self.now core c.args.plan plan c.requires c.in-Some.item c.in-Some.stamp
-        (unseen_as (table_of c.self.inside.table) (table_of c.args.self.now.table) c.reads.result.now c.args.plan.reads c.seen-seen.result (length c.args.plan.journal) c.in-Some.item c.in-Some.stamp
-        (ap (λ (k : CoreValue). table_of k.table) c.self.view_is) c.reads.ensures c.seen-seen.ensures c.in-Some.ensures))
+    let less : length c.args.self.now.journal < c.args.self.now.budget = grind (arith, nat_tests) in (
+      less,
+      stale c.args.self.now core c.args.plan plan c.requires c.in-Some.item c.in-Some.stamp
+          (unseen_as (table_of c.self.inside.table) (table_of c.args.self.now.table) c.reads.result.now c.args.plan.reads c.seen-seen.result (length c.args.plan.journal) c.in-Some.item c.in-Some.stamp
+          (ap (λ (k : CoreValue). table_of k.table) c.self.view_is) c.reads.ensures c.seen-seen.ensures c.in-Some.ensures),
+    )
 
 -- src/state.rt:133:29
 pub apply-requires : goal.apply-requires
@@ -35,7 +37,7 @@ apply-requires c =
     within_as (table_of c.self.inside.table) (table_of c.args.self.now.table) c.reads.result.now c.args.plan.reads c.seen-seen.result (length c.args.plan.journal)
     (ap (λ (k : CoreValue). table_of k.table) c.self.view_is) c.reads.ensures c.seen-seen.ensures c.in_default.ensures in
     may_apply_as c.args.self.now.table c.self.inside.table c.args.plan.label c.label-label.result c.args.plan.step c.into_step.result (ap (λ (k : CoreValue). k.table) (sym c.self.view_is)) (sym c.label-label.ensures)
-        (sym c.into_step.ensures) (may_apply c.args.self.now core c.args.plan plan c.requires within)
+    (sym c.into_step.ensures) (may_apply c.args.self.now core c.args.plan plan c.requires within)
 
 pub invariant_of-self-in_default-apply : goal.invariant_of-self-in_default-apply
 invariant_of-self-in_default-apply c =
@@ -60,7 +62,7 @@ invariant_of-self-in_default-apply c =
     let longer : c.push.new.self.items ≡ c.args.self.now.journal ++ c.args.plan.label ∷ [] =
     c.in_default-push.ensures.items ∙ ap (λ (k : CoreValue). k.journal ++ c.label-label.result ∷ []) c.self.view_is ∙ ap (λ (l : Label). c.args.self.now.journal ++ l ∷ []) c.label-label.ensures in
     subst (λ (k : CoreValue). IsCore (record { table = c.apply.new.self; journal = c.push.new.self.items; workers = k.workers; budget = k.budget })) (sym c.self.view_is)
-        (core_on c.args.self.now core c.args.plan plan c.requires within c.if-seen-before.at c.apply.new.self now applied c.push.new.self.items longer less)
+    (core_on c.args.self.now core c.args.plan plan c.requires within c.if-seen-before.at c.apply.new.self now applied c.push.new.self.items longer less)
 
 -- src/state.rt:110:5
 pub returns-clause-committed : goal.returns-clause-committed
@@ -88,6 +90,6 @@ returns-clause-committed c =
     let counted : record { at = c.len-before.result + 1; seen = c.seen-seen.result; label = c.label-label.result } ≡ record { at = length c.args.self.now.journal + 1; seen = length c.args.plan.journal; label = c.args.plan.label } =
     (λ i. record { at = (long ∙ same) i + 1; seen = number i; label = c.label-label.ensures i }) in
     subst (λ (k : CoreValue). Commits c.args.self.now c.args.plan (record { table = c.apply.new.self; journal = c.push.new.self.items; workers = k.workers; budget = k.budget })
-        (record { at = c.len-before.result + 1; seen = c.seen-seen.result; label = c.label-label.result })) (sym c.self.view_is)
-        (commits c.args.self.now core c.args.plan plan c.requires within c.if-seen-before.at c.apply.new.self now applied c.push.new.self.items (record { at = c.len-before.result + 1; seen = c.seen-seen.result; label = c.label-label.result })
-        longer counted less)
+    (record { at = c.len-before.result + 1; seen = c.seen-seen.result; label = c.label-label.result })) (sym c.self.view_is)
+    (commits c.args.self.now core c.args.plan plan c.requires within c.if-seen-before.at c.apply.new.self now applied c.push.new.self.items (record { at = c.len-before.result + 1; seen = c.seen-seen.result; label = c.label-label.result })
+    longer counted less)
