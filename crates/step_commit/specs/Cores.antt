@@ -1,10 +1,10 @@
 -- The state of a run, and when a plan is committed to it.
-use Rattle.std.specs.Prelude.{◌≡◌, ℕ, ◌+◌, ◌≤◌, ◌<◌, List, [], ◌∷◌, ◌++◌, length, Option, Some, None, option_map}
-use Rattle.akl_terms.specs.declared.name.Place.{Place}
+use Rattle.std.specs.Prelude.{◌≡◌, ℕ, ◌+◌, ◌≤◌, ◌<◌, nat_le, Bool, true, false, List, [], ◌∷◌, ◌++◌, length, Option, Some, None}
 use Rattle.akl_model.specs.declared.item.Item.{Item}
 use Rattle.akl_model.specs.declared.label.Label.{Label}
 use Rattle.akl_model.specs.declared.label.Receipt.{Receipt}
 use Rattle.plan_laws.specs.Right.{NoneBy}
+use Rattle.table_laws.specs.Rows.{Table}
 use Rattle.table_laws.specs.Stamped.{Run, IsTableOf, LastChange, stamp_in}
 use Rattle.box_tree.specs.Tables.{rules_in_force, TableValue, table_of}
 use Rattle.box_tree.specs.Views.{run_of}
@@ -71,3 +71,24 @@ abbrev pub IsRefused : CoreValue → PlanValue → CommitError → Type 0
 IsRefused c p (CommitError.Spent budget) = (budget ≡ c.budget) × (length c.journal ≡ c.budget)
 IsRefused c p (CommitError.Stale item stamp) = (length c.journal < c.budget) × IsStale c p item stamp
 IsRefused c p (CommitError.Memory error) = Unit {0}
+
+-- the item is there, and was last changed by one of the first labels, so many as are given
+abbrev pub is_within : Option ℕ → ℕ → Bool
+is_within None seen = false
+is_within (Some k) seen = nat_le k seen
+
+abbrev pub AllWithin : Table → List Item → ℕ → Type 0
+AllWithin T reads seen = (i : Item) → IsRead reads i → is_within (stamp_in T i) seen ≡ true
+
+-- the first item of a list that isn't, with its stamp
+pub record IsFirstUnseen (T : Table) (reads : List Item) (seen : ℕ) (item : Item) (stamp : Option ℕ) : Type 0 where
+  pub earlier : List Item
+  pub later : List Item
+  pub is_read : reads ≡ earlier ++ item ∷ later
+  pub first : AllWithin T earlier seen
+  pub is_stamp : stamp ≡ stamp_in T item
+  pub unseen : is_within stamp seen ≡ false
+
+abbrev pub IsFirstStale : Table → List Item → ℕ → Option (Item × Option ℕ) → Type 0
+IsFirstStale T reads seen None = AllWithin T reads seen
+IsFirstStale T reads seen (Some found) = IsFirstUnseen T reads seen found.0 found.1

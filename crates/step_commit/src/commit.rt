@@ -14,3 +14,14 @@ pub enum CommitError {
     /// There was no memory.
     Memory(AllocError),
 }
+
+impl From<AllocError> for CommitError {
+    ghost use Rattle.std.specs.Prelude.{◌≡◌};
+    ghost use Rattle.step_commit.specs.declared.commit.CommitError.TheVariants as variants;
+
+    ghost from_gives = { λ cause error. error ≡ variants.Memory cause };
+
+    fn from(error: AllocError) -> Self {
+        CommitError::Memory(error)
+    }
+}

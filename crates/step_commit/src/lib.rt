@@ -2,7 +2,7 @@
 #![tactic(auto)]
 
 mod commit;
-mod core;
+mod state;
 
 pub use commit::CommitError;
-pub use core::Core;
+pub use state::Core;

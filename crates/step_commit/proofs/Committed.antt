@@ -1,0 +1,139 @@
+-- A plan that nothing made stale leads the run on.
+use Rattle.std.proofs.Common.{◌≡◌, ℕ, ◌+◌, ◌≤◌, List, [], ◌∷◌, ◌++◌, length, Bool, true, false, Option, Some, None, refl, sym, ap, subst, ◌∙◌, ◌⊎◌, inl, inr, arith}
+use Rattle.std.specs.Prelude.{IsSome, nat_le, slice_index}
+use Rattle.std.proofs.lemmas.List.{length-append}
+use Rattle.std.proofs.lemmas.Bool.Decides.{nat_tests}
+use Rattle.akl_terms.specs.declared.program.Program.{Program}
+use Rattle.akl_terms.specs.declared.program.Query.{Query}
+use Rattle.akl_model.specs.declared.item.Item.{Item}
+use Rattle.akl_model.specs.declared.label.Rule.{Rule}
+use Rattle.akl_model.specs.declared.label.Label.{Label}
+use Rattle.akl_model.specs.Config.{Config, Found, site_of}
+use Rattle.akl_model.specs.Instances.{start}
+use Rattle.akl_model.specs.Derivations.{Applies, Derives, Replays}
+use Rattle.akl_model.proofs.Results.{Derives-prefix, Derives-one}
+use Rattle.plan_laws.specs.Right.{NoneBy}
+use Rattle.plan_laws.specs.Stamps as stamps
+use Rattle.plan_laws.proofs.Right.{reads_map}
+use Rattle.table_laws.specs.Rows.{BoxRow, GoalRow, Table}
+use Rattle.table_laws.specs.Stamped.{Run, followed_by, LastChange, IsStamped, IsTableOf, store_stamp, goals_stamp, goal_stamp, stamp_in}
+use Rattle.table_laws.specs.Steps.{Step, tells, forks, fails, Makes, ReadsFor, IsSolvedIn, IsSolvedWhen}
+use Rattle.table_laws.specs.Writes.{IsTable, Leads, DrawsFresh}
+use Rattle.table_laws.proofs.Later.{later_law}
+use Rattle.table_laws.proofs.Fresh.{fresh_step}
+use Rattle.table_laws.specs.Laws.{started}
+use Rattle.table_laws.proofs.Started.{start_law}
+use Rattle.box_tree.specs.Tables.{rules_in_force, TableValue, table_of, step_of}
+use Rattle.box_tree.specs.Plans.{PlanValue, IsRead, IsRight}
+use Rattle.step_commit.specs.Cores.{CoreValue, IsCore, MayCommit, is_within, AllWithin}
+
+pub some_of : {A : Type 0} {a b : A} → Some a ≡ Some b → a ≡ b
+some_of e = cc
+
+-- what a table keeps of an item is its last change
+module _ (rules : List Rule) (r : Run) (T : Table) (s : IsStamped rules r T) where
+  of_store : (n : _) (k : ℕ) (o : Option BoxRow) → T.box_of n ≡ o → store_stamp o ≡ Some k → LastChange rules r (Item.Store n) k
+  of_store n k None e i = absurd cc
+  of_store n k (Some row) e i = subst (LastChange rules r (Item.Store n)) (some_of i) (s.store n row e)
+
+  of_goals : (n : _) (k : ℕ) (o : Option BoxRow) → T.box_of n ≡ o → goals_stamp o ≡ Some k → LastChange rules r (Item.Goals n) k
+  of_goals n k None e i = absurd cc
+  of_goals n k (Some row) e i = subst (LastChange rules r (Item.Goals n)) (some_of i) (s.goals n row e)
+
+  of_goal : (g : _) (k : ℕ) (o : Option GoalRow) → T.goal_of g ≡ o → goal_stamp o ≡ Some k → LastChange rules r (Item.Goal g) k
+  of_goal g k None e i = absurd cc
+  of_goal g k (Some row) e i = subst (LastChange rules r (Item.Goal g)) (some_of i) (s.goal g row e)
+
+  pub stamp_last : (i : Item) (k : ℕ) → stamp_in T i ≡ Some k → LastChange rules r i k
+  stamp_last Item.Roots k e = subst (LastChange rules r Item.Roots) (some_of e) s.roots
+  stamp_last (Item.Store n) k e = of_store n k (T.box_of n) refl e
+  stamp_last (Item.Goals n) k e = of_goals n k (T.box_of n) refl e
+  stamp_last (Item.Goal g) k e = of_goal g k (T.goal_of g) refl e
+  stamp_last (Item.Binding x) k e = absurd cc
+
+-- what a step reads, by a weaker fact of each item
+pub reads_for : (U V : Item → Type 0) → ((i : Item) → U i → V i) → (l : Label) (f : Found) (step : Step) → ReadsFor U l f step → ReadsFor V l f step
+reads_for U V h l f (tells new solved) r = (reads_map U V h l.rule l.place l.alternative f r.0, λ m i. h (Item.Store m) (r.1 m i))
+reads_for U V h l f (forks op news) r = reads_map U V h l.rule l.place l.alternative f r
+reads_for U V h l f fails r = reads_map U V h l.rule l.place l.alternative f r
+
+-- all that a plan's type keeps, over a program and a query
+pub record IsPlanned (p : Program) (q : Query) (journal : List Label) (T : Table) (l : Label) (reads : List Item) (names : ℕ) (step : Step) : Type 0 where
+  pub table : IsTableOf rules_in_force (record { program = p; query = q; journal = journal }) T
+  pub result : Config
+  pub applies : Applies rules_in_force p table.config l result
+  pub makes : Makes p l (slice_index table.config.next l.worker) applies.site step
+  pub solved : IsSolvedIn T applies.site step
+  pub drawn : names ≡ applies.change.drawn
+  pub reads_all : ReadsFor (IsRead reads) l applies.site step
+  pub there : (i : Item) → IsRead reads i → IsSome (stamp_in T i)
+
+of_plan : (p : PlanValue) → IsRight p → IsPlanned p.table.program p.table.query p.journal (table_of p.table) p.label p.reads p.names (step_of p.table.program.templates.nodes p.step)
+of_plan p r = record { table = r.table; result = r.result; applies = r.applies; makes = r.makes; solved = r.solved; drawn = r.names; reads_all = r.reads; there = r.there }
+
+pub planned : (c : CoreValue) (p : PlanValue) → IsRight p → MayCommit c p → IsPlanned c.table.program c.table.query p.journal (table_of p.table) p.label p.reads p.names (step_of c.table.program.templates.nodes p.step)
+planned c p r m = subst (λ (x : Program). IsPlanned x c.table.query p.journal (table_of p.table) p.label p.reads p.names (step_of x.templates.nodes p.step)) m.program
+    (subst (λ (y : Query). IsPlanned p.table.program y p.journal (table_of p.table) p.label p.reads p.names (step_of p.table.program.templates.nodes p.step)) m.query (of_plan p r))
+
+-- the label applies after further labels, and the step is what it makes there
+pub record LeadsOn (p : Program) (q : Query) (journal : List Label) (T : Table) (t : IsTableOf rules_in_force (record { program = p; query = q; journal = journal }) T) (l : Label) (names : ℕ) (step : Step) : Type 0 where
+  pub result : Config
+  pub applies : Applies rules_in_force p t.config l result
+  pub makes : Makes p l (slice_index t.config.next l.worker) applies.site step
+  pub drawn : names ≡ applies.change.drawn
+
+module _ (p : Program) (q : Query) (journal further : List Label) (S T : Table) (l : Label) (reads : List Item) (names : ℕ) (step : Step) (x : IsPlanned p q journal S l reads names step)
+    (t : IsTableOf rules_in_force (record { program = p; query = q; journal = journal ++ further }) T) where
+  pub goes : Derives rules_in_force p x.table.config further t.config
+  goes =
+      let d : (m : Config) × Derives rules_in_force p (start p q) journal m × Derives rules_in_force p m further t.config = Derives-prefix rules_in_force p (start p q) t.config journal further t.replays.derives in
+      subst (λ (m : Config). Derives rules_in_force p m further t.config) (Derives-one rules_in_force p (start p q) d.0 x.table.config journal d.1 x.table.replays.derives) d.2
+
+module _ (p : Program) (q : Query) (journal further : List Label) (S T : Table) (l : Label) (reads : List Item) (names : ℕ) (step : Step) (x : IsPlanned p q journal S l reads names step)
+    (t : IsTableOf rules_in_force (record { program = p; query = q; journal = journal ++ further }) T) (none : NoneBy l further) (within : AllWithin T reads (length journal)) where
+  unseen : (o : Option ℕ) (i : Item) → stamp_in T i ≡ o → is_within o (length journal) ≡ true → stamps.IsStamped rules_in_force p q (journal ++ further) (length journal) i
+  unseen None i e w = absurd cc
+  unseen (Some k) i e w = record { number = k; last = stamp_last rules_in_force (record { program = p; query = q; journal = journal ++ further }) T t.stamped i k e; early = within_is k w }
+    where
+      within_is : (k : ℕ) → nat_le k (length journal) ≡ true → k ≤ length journal
+      within_is k w = grind (arith, nat_tests)
+
+  stamped : (i : Item) → IsRead reads i → stamps.IsStamped rules_in_force p q (journal ++ further) (length journal) i
+  stamped i r = unseen (stamp_in T i) i refl (within i r)
+
+  pub leads_on : LeadsOn p q (journal ++ further) T t l names step
+  leads_on =
+      let w : (result : Config) × (now : Applies rules_in_force p t.config l result) × Makes p l (slice_index t.config.next l.worker) now.site step × (now.site.content.name ≡ x.applies.site.content.name) × (now.change.drawn ≡ x.applies.change.drawn) =
+      later_law rules_in_force p q journal further x.table.config t.config l x.result x.applies step x.table.replays (goes p q journal further S T l reads names step x t) none
+      (reads_for (IsRead reads) (stamps.IsStamped rules_in_force p q (journal ++ further) (length journal)) stamped l x.applies.site step x.reads_all) x.makes in
+      record { result = w.0; applies = w.1; makes = w.2; drawn = x.drawn ∙ sym w.4 }
+
+  -- where the plan has seen the whole run, and this very table, its stores are solved there
+  pub solved_now : (same : further ≡ [] → S ≡ T) (w : LeadsOn p q (journal ++ further) T t l names step) (at : Option ℕ)
+      → (at ≡ None) ⊎ ((at ≡ Some (length journal)) × (length journal ≡ length (journal ++ further))) → IsSolvedWhen at T w.applies.site step
+  solved_now same w at (inl e) = subst (λ (o : Option ℕ). IsSolvedWhen o T w.applies.site step) (sym e) tt
+  solved_now same w at (inr (e, n)) = subst (λ (o : Option ℕ). IsSolvedWhen o T w.applies.site step) (sym e) (n ∙ sym t.stamped.steps, here)
+    where
+      none_left : (ls : List Label) → length journal ≡ length (journal ++ ls) → ls ≡ []
+      none_left [] i = refl
+      none_left (k ∷ ks) i = let j : length (journal ++ k ∷ ks) ≡ length journal + length (k ∷ ks) = length-append journal (k ∷ ks) in absurd (omega (arith, i, j))
+
+      empty : further ≡ []
+      empty = none_left further n
+
+      config : x.table.config ≡ t.config
+      config = Derives-one rules_in_force p x.table.config x.table.config t.config [] refl (subst (λ (ls : List Label). Derives rules_in_force p x.table.config ls t.config) empty (goes p q journal further S T l reads names step x t))
+
+      site : x.applies.site ≡ w.applies.site
+      site = some_of (sym x.applies.is_site ∙ ap (λ (c : Config). site_of l.place c.roots) config ∙ w.applies.is_site)
+
+      here : IsSolvedIn T w.applies.site step
+      here = subst (λ (f : Found). IsSolvedIn T f step) site (subst (λ (u : Table). IsSolvedIn u x.applies.site step) (same empty) x.solved)
+
+-- a core of a table that was started
+pub new_core : (t : TableValue) (p : Program) (q : Query) (workers budget : ℕ) (journal : List Label) → t.program ≡ p → t.query ≡ q → IsTable (table_of t) (started p q) → journal ≡ []
+    → IsCore (record { table = t; journal = journal; workers = workers; budget = budget })
+new_core t p q workers budget journal e f s n = subst (λ (j : List Label). IsCore (record { table = t; journal = j; workers = workers; budget = budget })) (sym n) (record {
+  table = start_law rules_in_force t.program t.query (table_of t) (subst (λ (x : Program). IsTable (table_of t) (started x t.query)) (sym e) (subst (λ (x : Query). IsTable (table_of t) (started p x)) (sym f) s));
+  within = omega arith;
+})

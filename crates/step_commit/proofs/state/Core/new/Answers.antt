@@ -1,0 +1,7 @@
+use Rattle.table_laws.proofs.Started.{start_law}
+use Rattle.step_commit.proofs.Committed.{new_core}
+use Rattle.step_commit.proofs.state.Core.new.Goals as goal
+
+-- src/state.rt:54:9
+pub invariant_of-result : goal.invariant_of-result
+invariant_of-result c = new_core c.in_ok-table.table c.args.program.now c.args.query.now c.args.workers c.args.budget c.new.result.items c.in_ok-table.ensures.program c.in_ok-table.ensures.query c.in_ok-table.ensures.started c.new.ensures.items
