@@ -1,2 +1,3 @@
 mod Maps
 mod Stamping
+mod Written
