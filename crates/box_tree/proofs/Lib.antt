@@ -1,3 +1,6 @@
 mod Maps
 mod Stamping
 mod Written
+mod Adding
+mod News
+mod Numbers

@@ -2,6 +2,7 @@
 #![tactic(auto)]
 
 mod entries;
+mod forking;
 mod plan;
 mod step;
 mod table;
