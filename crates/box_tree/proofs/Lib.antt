@@ -4,3 +4,5 @@ mod Written
 mod Adding
 mod News
 mod Numbers
+mod Forked
+mod Applies

@@ -1,5 +1,5 @@
 -- How the parts of a step change a table.
-use Rattle.std.specs.Prelude.{◌≡◌, ℕ, Bool, true, false, ◌||◌, if◌then◌else◌, List, [], ◌∷◌, map, Option, None}
+use Rattle.std.specs.Prelude.{◌≡◌, ℕ, Bool, true, false, ◌||◌, if◌then◌else◌, List, [], ◌∷◌, map, Option, Some, None}
 use Rattle.std.specs.Map.{lookup}
 use Rattle.akl_terms.specs.declared.name.Name.{Name}
 use Rattle.akl_terms.specs.declared.term.Node.{Node}
@@ -7,9 +7,12 @@ use Rattle.akl_terms.specs.declared.program.Goal.{Goal}
 use Rattle.akl_terms.specs.declared.program.Code.{Code}
 use Rattle.akl_terms.specs.Names.{same_name}
 use Rattle.akl_model.specs.Config.{IsIn, Atom, or_else}
+use Rattle.akl_terms.specs.declared.program.Op.{Op}
+use Rattle.akl_model.specs.Changes.{of_choice}
 use Rattle.table_laws.specs.Rows.{BoxRow, GoalRow, Table}
 use Rattle.table_laws.specs.Steps as laws
 use Rattle.table_laws.specs.Writes.{IsTable, new_box_of, new_goal_of, atom_among}
+use Rattle.box_tree.specs.declared.step.NewBox.{NewBox}
 use Rattle.box_tree.specs.Tables.{TableValue, table_of, goal_atom}
 
 -- boxes get these rows, and all else stays
@@ -74,3 +77,14 @@ pub record Clears (t u : TableValue) (own : List Name) : Type 0 where
   pub boxes_stay : (m : Name) → lookup (same_name m) t.boxes ≡ None → lookup (same_name m) u.boxes ≡ None
   pub goals : (m : Name) → IsIn m own → lookup (same_name m) u.goals ≡ None
   pub goals_stay : (m : Name) → lookup (same_name m) t.goals ≡ None → lookup (same_name m) u.goals ≡ None
+
+abbrev pub choice_row : Op → List Name → ℕ → GoalRow → GoalRow
+choice_row op names number r = record r { shape = of_choice op names; changed = number }
+
+abbrev pub failing_row : Name → BoxRow → BoxRow
+failing_row g r = record r { failing = Some g }
+
+-- the box that fails by a choice of these boxes: its home, where there are none
+abbrev pub home_if_empty : Name → List NewBox → Option Name
+home_if_empty home [] = Some home
+home_if_empty home (n ∷ ns) = None

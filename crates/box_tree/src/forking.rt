@@ -6,7 +6,7 @@ ghost use Rattle.akl_model.specs.Ordered.{IsIncreasing};
 ghost use Rattle.akl_model.specs.Derivations.{raised};
 ghost use Rattle.table_laws.specs.Writes.{set, first_fail, failing_by, forked_row, names_drawn, IsFresh, after_fork, changed_box};
 ghost use Rattle.box_tree.specs.Tables.{table_of, box_row, goal_row, new_box, AreInOrder};
-ghost use Rattle.box_tree.specs.Edits.{is_fail, SetsBoxes, SetsGoals, SetsRows, AddsOnly, Becomes, named_atoms, boxes_with, goals_with, atoms_with};
+ghost use Rattle.box_tree.specs.Edits.{is_fail, SetsBoxes, SetsGoals, SetsRows, AddsOnly, Becomes, Clears, named_atoms, boxes_with, goals_with, atoms_with, choice_row, failing_row, home_if_empty};
 
 use crate::entries::{BoxEntry, GoalEntry, Held};
 use crate::step::NewBox;
@@ -91,6 +91,13 @@ fn pad(next: &mut Vec<u64>, worker: usize) -> Result<(), AllocError>
         next.push(0)?;
     }
     Ok(())
+}
+
+// The box that fails by a choice of these boxes.
+fn home_if_empty(home: Name, news: &[NewBox]) -> Option<Name>
+    ensures { result ≡ home_if_empty home news.now }
+{
+    if news.is_empty() { Some(home) } else { None }
 }
 
 impl Table {
@@ -204,6 +211,85 @@ impl Table {
         while let Some(new) = left.pop() {
             self.put_new(alloc, holder, new, at, number)?;
         }
+        Ok(())
+    }
+
+    // The entries of a name go.
+    fn drop_entry(&mut self, name: Name)
+        ensures { Clears self.old self.new (name ∷ []) }
+    {
+        self.boxes.remove(&name);
+        self.goals.remove(&name);
+    }
+
+    // The entries of names go.
+    fn drop_entries(&mut self, names: &[Name])
+        ensures { Clears self.old self.new names.now }
+    {
+        for name in names {
+            self.drop_entry(*name);
+        }
+    }
+
+    // A goal becomes the choice of these boxes.
+    fn make_choice(&mut self, goal: Name, op: Op, names: Vec<Name>, number: u64)
+        ensures { SetsGoals self.old self.new (set goal (option_map (choice_row op names.items number) ((table_of self.old).goal_of goal)) (table_of self.old).goal_of) }
+    {
+        if let Some(entry) = self.goals.get_mut(&goal) {
+            entry.held = Held::Choice {
+                op,
+                alternatives: names,
+            };
+            entry.changed = number;
+        }
+    }
+
+    // A box, where there is one, fails by a goal.
+    pub(crate) fn fail_by(&mut self, home: Option<Name>, goal: Name)
+        ensures { SetsBoxes self.old self.new (changed_box home (failing_row goal) (table_of self.old).box_of) }
+    {
+        let Some(name) = home else {
+            return;
+        };
+        if let Some(entry) = self.boxes.get_mut(&name) {
+            entry.failing = Some(goal);
+        }
+    }
+
+    /// A goal becomes the choice of new boxes, for which a worker draws so many names. An `Err` leaves the table as
+    /// it was.
+    pub(crate) fn fork(
+        &mut self,
+        alloc: Global,
+        goal: Name,
+        op: Op,
+        news: Vec<NewBox>,
+        at: Option<u64>,
+        number: u64,
+        worker: u32,
+        count: u64,
+    ) -> Result<(), AllocError>
+        requires number { number ≡ self.old.steps + 1 }
+        requires fresh { IsFresh (table_of self.old) (names_drawn (map (new_box self.old.program.templates.nodes) news.items)) }
+        requires ordered { AreInOrder (map (new_box self.old.program.templates.nodes) news.items) }
+        ensures made { OnOk result (Becomes self.old self.new (after_fork goal op (map (new_box self.old.program.templates.nodes) news.items) at worker count (table_of self.old))) }
+        ensures unchanged { IfErr result (λ _. self.new ≡ self.old) }
+    {
+        let Some(home) = self.home_of(goal) else {
+            return Err(AllocError);
+        };
+        let failing = home_if_empty(home, news.as_slice());
+        let names = box_names(alloc, news.as_slice())?;
+        let drawn = drawn_names(alloc, news.as_slice())?;
+        let next = self.raised(alloc, worker, count)?;
+        let Ok(()) = self.put_news(alloc, goal, news, at, number) else {
+            self.drop_entries(drawn.as_slice());
+            return Err(AllocError);
+        };
+        self.make_choice(goal, op, names, number);
+        self.fail_by(failing, goal);
+        self.next = next;
+        self.steps = number;
         Ok(())
     }
 }
