@@ -6,14 +6,13 @@ use Rattle.akl_terms.specs.declared.program.Query.{Query}
 use Rattle.akl_model.specs.declared.label.Rule.{Rule}
 use Rattle.akl_model.specs.declared.label.Label.{Label}
 use Rattle.akl_model.specs.Config.{Config, Atom}
-use Rattle.akl_model.specs.Instances.{start, atoms_of, shown_of}
+use Rattle.akl_model.specs.Instances.{atoms_of, shown_of}
 use Rattle.akl_model.specs.Derivations.{Applies, Derives, Replays}
-use Rattle.local_store.specs.Stored.{Stored, nothing, with_frame}
+use Rattle.local_store.specs.Stored.{nothing, with_frame}
 use Rattle.plan_laws.specs.Right.{NoneBy}
 use Rattle.plan_laws.specs.Stamps as stamps
-use Rattle.table_laws.specs.Rows.{BoxRow, GoalRow, Table}
-use Rattle.table_laws.specs.Unfolds.{Unfolds}
-use Rattle.table_laws.specs.Stamped.{Run, followed_by, IsStamped, IsTableOf}
+use Rattle.table_laws.specs.Rows.{BoxRow, Table}
+use Rattle.table_laws.specs.Stamped.{Run, followed_by, IsTableOf}
 use Rattle.table_laws.specs.Steps.{Step, Makes, ReadsFor, IsSolvedWhen}
 use Rattle.table_laws.specs.Writes.{IsTable, DrawsFresh, Leads, set, atom_among, first_fail}
 

@@ -5,3 +5,4 @@ pub mod Inside
 pub mod Writes
 pub mod Steps
 pub mod Laws
+pub mod Walks

@@ -1,5 +1,5 @@
 -- A flat table unfolds to a configuration: under each name it has what stands there.
-use Rattle.std.specs.Prelude.{◌≡◌, ℕ, ◌≤◌, List, [], ◌∷◌, ◌++◌, Option, Some, None, option_map, option_and_then, ⊤, slice_index}
+use Rattle.std.specs.Prelude.{◌≡◌, ℕ, ◌≤◌, List, [], ◌∷◌, Option, Some, None, option_map, option_and_then, ⊤, slice_index}
 use Rattle.akl_terms.specs.declared.name.Name.{Name}
 use Rattle.akl_terms.specs.Equal.{IsTold}
 use Rattle.akl_terms.specs.Standing.{StandFor}

@@ -2,3 +2,7 @@
 //!
 //! The crate holds definitions and laws; nothing of it is called at run time.
 #![tactic(auto)]
+
+mod laws;
+
+pub use laws::{drawn_names, later_steps, start, steps};

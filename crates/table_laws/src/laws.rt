@@ -1,0 +1,25 @@
+//! Laws of tables, each the contract of a function without a body.
+
+ghost use Rattle.table_laws.specs.Laws.{FreshStepLaw, LaterLaw, StartLaw, StepLaw};
+
+/// A table of a query's one box, to which nothing was told, is one of the run without labels.
+pub fn start()
+    ensures { StartLaw }
+{}
+
+/// A table to which the step of a label leads is one of the run that goes on with the label, and unfolds
+/// to the configuration to which the label leads.
+pub fn steps()
+    ensures { StepLaw }
+{}
+
+/// The names that a step draws stand nowhere in the table, and no two of them are the same.
+pub fn drawn_names()
+    ensures { FreshStepLaw }
+{}
+
+/// A step that was made for a prefix of a run is right for the whole of it, where no label after the
+/// prefix changed what it reads, by its stamps, and its worker has made no label since.
+pub fn later_steps()
+    ensures { LaterLaw }
+{}
