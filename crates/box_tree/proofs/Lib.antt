@@ -6,3 +6,4 @@ mod News
 mod Numbers
 mod Forked
 mod Applies
+mod Begins

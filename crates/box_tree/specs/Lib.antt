@@ -1,4 +1,5 @@
 pub mod Tables
 pub mod Edits
+pub mod Starts
 pub mod Views
 pub mod Plans

@@ -59,7 +59,7 @@ fn is_fail(code: Code) -> bool
 }
 
 // The first goal that is `fail`.
-fn first_fail(goals: &[(Name, Goal)]) -> Option<Name>
+pub(crate) fn first_fail(goals: &[(Name, Goal)]) -> Option<Name>
     ensures { (nodes : List Node) → result ≡ first_fail (named_atoms nodes goals.now) }
 {
     for (name, goal) in goals {
@@ -71,7 +71,7 @@ fn first_fail(goals: &[(Name, Goal)]) -> Option<Name>
 }
 
 // The names of goals as a set.
-fn goal_set(alloc: Global, goals: &[(Name, Goal)]) -> Result<BTreeSet<Name>, AllocError>
+pub(crate) fn goal_set(alloc: Global, goals: &[(Name, Goal)]) -> Result<BTreeSet<Name>, AllocError>
     requires { IsIncreasing (map (λ x. x.0) goals.now) }
     ensures { IfOk result (λ names. names.keys ≡ map (λ x. x.0) goals.now) }
 {
@@ -125,7 +125,7 @@ impl Table {
     }
 
     // A box's entry comes.
-    fn put_box(&mut self, name: Name, entry: BoxEntry) -> Result<(), AllocError>
+    pub(crate) fn put_box(&mut self, name: Name, entry: BoxEntry) -> Result<(), AllocError>
         ensures put { OnOk result (SetsBoxes self.old self.new (set name (Some (box_row self.old.program.templates.nodes entry)) (table_of self.old).box_of)) }
         ensures only { AddsOnly self.old self.new (name ∷ []) }
     {
@@ -134,7 +134,7 @@ impl Table {
     }
 
     // The goals of a new box come.
-    fn put_goals(
+    pub(crate) fn put_goals(
         &mut self,
         home: Name,
         goals: Vec<(Name, Goal)>,

@@ -4,6 +4,7 @@
 mod entries;
 mod forking;
 mod plan;
+mod starting;
 mod step;
 mod table;
 mod telling;

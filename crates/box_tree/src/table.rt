@@ -1,6 +1,6 @@
 //! The table.
 
-ghost use Rattle.std.specs.Prelude.{◌≡◌, IfOk, IfErr, true, false, is_some, IfSome};
+ghost use Rattle.std.specs.Prelude.{◌≡◌, ◌++◌, map, IfOk, IfErr, OnOk, true, false, is_some, IfSome};
 ghost use Rattle.table_laws.specs.Writes.{IsTable};
 ghost use Rattle.table_laws.specs.Laws.{started};
 ghost use Rattle.table_laws.specs.Stamped.{IsTableOf, stamp_in};
@@ -44,22 +44,6 @@ impl Model for Table {
 }
 
 impl Table {
-    /// The table of the query's one box. The query's variables are the nodes from `first_variable` on.
-    pub fn start(
-        alloc: Global,
-        program: &Program,
-        query: &Query,
-        first_variable: u32,
-    ) -> Result<Table, AllocError>
-        requires variables { HasVariables program.now query.now first_variable }
-        requires shown { HasShownVariables query.now }
-        ensures program { IfOk result (λ t. t.program ≡ program.now) }
-        ensures query { IfOk result (λ t. t.query ≡ query.now) }
-        ensures started { IfOk result (λ t. IsTable (table_of t) (started program.now query.now)) }
-    {
-        Err(AllocError)
-    }
-
     /// What a worker sees of a place. `Gone` comes exactly where the place isn't in the configuration.
     pub fn look(
         &self,
@@ -105,7 +89,30 @@ impl Table {
     pub fn places(&self, alloc: Global) -> Result<Vec<Place>, AllocError>
         ensures { IfOk result (λ places. AreAllPlaces (table_of self.now) places.items) }
     {
-        Err(AllocError)
+        let mut places = Vec::new(alloc);
+        self.push_boxes(&mut places)?;
+        self.push_goals(&mut places)?;
+        Ok(places)
+    }
+
+    // The boxes come to the end of the places.
+    fn push_boxes(&self, places: &mut Vec<Place>) -> Result<(), AllocError>
+        ensures { OnOk result (places.new.items ≡ places.old.items ++ map (λ e. Place.Box e.0) self.now.boxes) }
+    {
+        for name in self.boxes.keys() {
+            places.push(Place::Box(*name))?;
+        }
+        Ok(())
+    }
+
+    // The goals come to the end of the places.
+    fn push_goals(&self, places: &mut Vec<Place>) -> Result<(), AllocError>
+        ensures { OnOk result (places.new.items ≡ places.old.items ++ map (λ e. Place.Goal e.0) self.now.goals) }
+    {
+        for name in self.goals.keys() {
+            places.push(Place::Goal(*name))?;
+        }
+        Ok(())
     }
 
     /// The root boxes in order.
@@ -164,7 +171,16 @@ impl Table {
                 let Place::Goal(goal) = label.place else {
                     return Err(AllocError);
                 };
-                self.fork(alloc, goal, op, alternatives, at, number, label.worker, names)?;
+                self.fork(
+                    alloc,
+                    goal,
+                    op,
+                    alternatives,
+                    at,
+                    number,
+                    label.worker,
+                    names,
+                )?;
                 Ok(())
             }
             Step::Fail => Err(AllocError),
