@@ -1,0 +1,3 @@
+mod Maps
+mod Stamping
+mod Written

@@ -5,6 +5,7 @@ mod entries;
 mod plan;
 mod step;
 mod table;
+mod telling;
 mod view;
 
 pub use entries::{BoxEntry, GoalEntry, Held};
