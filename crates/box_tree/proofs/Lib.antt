@@ -1,3 +1,4 @@
 mod Maps
 mod Stamping
 mod Written
+pub mod Dropped

@@ -2,3 +2,4 @@ pub mod Tables
 pub mod Edits
 pub mod Views
 pub mod Plans
+pub mod Drops
