@@ -2,3 +2,8 @@ mod Maps
 mod Stamping
 mod Written
 pub mod Dropped
+mod Adding
+mod News
+mod Numbers
+mod Forked
+mod Applies

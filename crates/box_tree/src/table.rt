@@ -9,6 +9,7 @@ ghost use Rattle.box_tree.specs.Views.{run_of, is_there, IsUnseen, AreAllPlaces}
 
 use crate::entries::{BoxEntry, GoalEntry};
 use crate::step::Step;
+use crate::telling::solved_when;
 use crate::view::{LookError, View};
 use akl_model::{Item, Label};
 use akl_terms::{Name, Place, Program, Query, ShownTerm};
@@ -148,6 +149,25 @@ impl Table {
         ensures applied { IfOk result (λ _. Applied self.old label at names step self.new) }
         ensures unchanged { IfErr result (λ _. self.new ≡ self.old) }
     {
-        Err(AllocError)
+        let Some(number) = self.steps.checked_add(1) else {
+            return Err(AllocError);
+        };
+        match step {
+            Step::Tell { store, solved } => {
+                let Place::Goal(goal) = label.place else {
+                    return Err(AllocError);
+                };
+                self.tell(goal, store, solved_when(at, solved), number);
+                Ok(())
+            }
+            Step::Fork { op, alternatives } => {
+                let Place::Goal(goal) = label.place else {
+                    return Err(AllocError);
+                };
+                self.fork(alloc, goal, op, alternatives, at, number, label.worker, names)?;
+                Ok(())
+            }
+            Step::Fail => Err(AllocError),
+        }
     }
 }
