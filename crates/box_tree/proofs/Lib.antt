@@ -7,3 +7,4 @@ mod News
 mod Numbers
 mod Forked
 mod Applies
+mod Removed

@@ -3,6 +3,7 @@
 
 mod dropping;
 mod entries;
+mod failing;
 mod forking;
 mod plan;
 mod step;
