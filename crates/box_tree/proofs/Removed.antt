@@ -2,10 +2,8 @@
 use Rattle.std.proofs.Common.{◌≡◌, ℕ, ◌+◌, Bool, true, false, List, Option, Some, None, refl, sym, ◌∙◌, ap, subst}
 use Rattle.std.specs.Prelude.{if◌then◌else◌, option_map, slice_index}
 use Rattle.akl_terms.specs.declared.name.Name.{Name}
-use Rattle.akl_terms.specs.declared.term.Node.{Node}
 use Rattle.akl_terms.specs.Names.{same_name}
 use Rattle.akl_terms.proofs.SameNames.{same_name-equal, same_name-refl}
-use Rattle.akl_model.specs.Config.{IsIn}
 use Rattle.table_laws.specs.Rows.{BoxRow, GoalRow, Table}
 use Rattle.table_laws.specs.Inside.{IsDirectlyIn}
 use Rattle.table_laws.specs.Walks.{ListsInside, Drops}

@@ -1,4 +1,4 @@
-use Rattle.std.proofs.Common.{◌≡◌, ◌++◌, ◌-◌, take, drop, length}
+use Rattle.std.proofs.Common.{◌≡◌, ◌++◌, ◌-◌, take, drop}
 use Rattle.table_laws.specs.Writes.{less_name}
 use Rattle.box_tree.proofs.failing.remove_name.Given as goal
 

@@ -1,7 +1,6 @@
 use Rattle.std.proofs.Common.{refl, sym, ap, ◌∙◌}
 use Rattle.std.specs.Option.{option_copied_mut}
 use Rattle.akl_model.specs.Changes.{Shape}
-use Rattle.table_laws.specs.Rows.{GoalRow}
 use Rattle.table_laws.specs.Writes.{left_row}
 use Rattle.box_tree.specs.declared.entries.GoalEntry.{GoalEntry}
 use Rattle.box_tree.specs.Tables.{TableValue, goal_row}
