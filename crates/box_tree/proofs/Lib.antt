@@ -6,3 +6,5 @@ mod News
 mod Numbers
 mod Forked
 mod Applies
+mod Looks
+mod Seen

@@ -1,4 +1,5 @@
 pub mod Tables
 pub mod Edits
 pub mod Views
+pub mod Paths
 pub mod Plans

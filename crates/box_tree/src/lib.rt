@@ -3,6 +3,7 @@
 
 mod entries;
 mod forking;
+mod looking;
 mod plan;
 mod step;
 mod table;
