@@ -1,6 +1,7 @@
 mod Maps
 mod Stamping
 mod Written
+pub mod Dropped
 mod Adding
 mod News
 mod Numbers
@@ -8,3 +9,4 @@ mod Forked
 mod Applies
 mod Looks
 mod Seen
+mod Removed

@@ -3,3 +3,4 @@ pub mod Edits
 pub mod Views
 pub mod Paths
 pub mod Plans
+pub mod Drops

@@ -190,7 +190,14 @@ impl Table {
                 self.fork(alloc, goal, op, alternatives, at, number, label.worker, names)?;
                 Ok(())
             }
-            Step::Fail => Err(AllocError),
+            Step::Fail => {
+                let Place::Box(name) = label.place else {
+                    return Err(AllocError);
+                };
+                let inside = self.inside(alloc, name)?;
+                self.fail(name, &inside, number);
+                Ok(())
+            }
         }
     }
 }
