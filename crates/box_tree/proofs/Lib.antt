@@ -7,4 +7,6 @@ mod News
 mod Numbers
 mod Forked
 mod Applies
+mod Looks
+mod Seen
 mod Removed

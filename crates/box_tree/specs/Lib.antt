@@ -1,5 +1,6 @@
 pub mod Tables
 pub mod Edits
 pub mod Views
+pub mod Paths
 pub mod Plans
 pub mod Drops

@@ -5,6 +5,7 @@ mod dropping;
 mod entries;
 mod failing;
 mod forking;
+mod looking;
 mod plan;
 mod step;
 mod table;
