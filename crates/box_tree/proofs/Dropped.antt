@@ -10,7 +10,7 @@ use Rattle.akl_model.proofs.Scoped.{IsIn-left, IsIn-right, IsIn-either}
 use Rattle.constraint_laws.proofs.SameTerms.{name_or}
 use Rattle.table_laws.specs.Rows.{BoxRow}
 use Rattle.table_laws.specs.Writes.{set}
-use Rattle.table_laws.proofs.Frame.{not_same}
+use Rattle.table_laws.proofs.Sets.{other_by}
 use Rattle.table_laws.proofs.Drops.{drops_none, drops_more}
 use Rattle.box_tree.specs.Tables.{TableValue, table_of}
 use Rattle.box_tree.specs.Edits.{SetsBoxes, SetsGoals}
@@ -20,7 +20,7 @@ set_here : {A : Type 0} (g m : Name) (r : Option A) (at : Name → Option A) →
 set_here g m r at e = ap (λ (t : Bool). if t then r else at m) (subst (λ (k : Name). same_name m k ≡ true) e (same_name-refl m))
 
 set_other : {A : Type 0} (g m : Name) (r : Option A) (at : Name → Option A) → (m ≡ g → ⊥) → set g r at m ≡ at m
-set_other g m r at h = ap (λ (t : Bool). if t then r else at m) (not_same m g h)
+set_other g m r at h = ap (λ (t : Bool). if t then r else at m) (other_by m g h)
 
 pub no_goals_gone : (t : TableValue) → DropsGoals t t []
 no_goals_gone t = record { goes = λ g i. absurd i; stays = λ g h. refl; rest = refl }
