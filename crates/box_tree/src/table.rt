@@ -60,7 +60,30 @@ impl Table {
         ensures there { IfOk result (λ _. is_there (table_of self.now) place ≡ true) }
         ensures unseen { IfErr result (IsUnseen (table_of self.now) place) }
     {
-        Err(LookError::Memory(AllocError))
+        let Some((home, sight)) = self.sight_of(place) else {
+            return Err(LookError::Gone);
+        };
+        let path = match self.path_to(alloc, home) {
+            Ok(path) => path,
+            Err(error) => return Err(LookError::Memory(error)),
+        };
+        let stores = match self.stores_of(alloc, path.as_slice()) {
+            Ok(stores) => stores,
+            Err(error) => return Err(LookError::Memory(error)),
+        };
+        let known = self.known_of(path.as_slice());
+        Ok(View {
+            table: Snapshot::of(self),
+            journal: Snapshot::of(journal),
+            place,
+            worker,
+            seen: journal.len() as u64,
+            next: self.next_of(worker),
+            path,
+            stores,
+            known,
+            sight,
+        })
     }
 
     /// The number of the last label that changed the item, 0 where there is none; `None` where it has gone.
@@ -183,7 +206,14 @@ impl Table {
                 )?;
                 Ok(())
             }
-            Step::Fail => Err(AllocError),
+            Step::Fail => {
+                let Place::Box(name) = label.place else {
+                    return Err(AllocError);
+                };
+                let inside = self.inside(alloc, name)?;
+                self.fail(name, &inside, number);
+                Ok(())
+            }
         }
     }
 }

@@ -8,6 +8,7 @@ use Rattle.akl_terms.specs.declared.program.Program.{Program}
 use Rattle.akl_terms.specs.declared.program.Query.{Query}
 use Rattle.akl_terms.specs.Names.{same_name}
 use Rattle.akl_terms.proofs.SameNames.{same_name-refl, same_name-equal}
+use Rattle.akl_model.specs.declared.item.Item.{Item}
 use Rattle.akl_model.specs.declared.label.Rule.{Rule}
 use Rattle.akl_model.specs.declared.label.Label.{Label}
 use Rattle.akl_model.specs.Config.{IsIn, Content, Boxes, no_boxes, box, Goals, no_goals, atom, choice, Config, an_atom, a_choice, held_in, Found, box_at, edited_inside}
@@ -19,9 +20,13 @@ use Rattle.akl_model.specs.Wakes.{names_around, holder_in}
 use Rattle.akl_model.specs.Names.{one_if}
 use Rattle.akl_model.proofs.Finds.{times}
 use Rattle.akl_model.proofs.NamesKept.{Stand, replay-stands, stands_after, box-itself}
+use Rattle.akl_model.proofs.NextNumbers.{next_own, next_other}
 use Rattle.akl_model.proofs.PathsKept.{stays}
 use Rattle.akl_model.proofs.ScopesAlong.{times_path}
+use Rattle.constraint_laws.proofs.SameTerms.{Either, nat_or}
 use Rattle.step_laws.specs.Whereabouts.{BoxIn, InGoals, Stands}
+use Rattle.step_laws.specs.ChangedItems.{IsReplaced, MayChange, store, goals, store_gone, goals_gone, goal_gone, store_new, goals_new, goal_new, holder, roots, binding}
+use Rattle.step_laws.specs.ChangedItems as may
 use Rattle.step_laws.specs.Holders.{IsHeldBy}
 use Rattle.step_laws.proofs.Whereabouts.{found_in, home_in, in_counted}
 use Rattle.step_laws.proofs.Deeper.{one_box, named_found, Over, over}
@@ -29,7 +34,9 @@ use Rattle.step_laws.proofs.Edits.{NotNamed, edit_out, edit_new}
 use Rattle.step_laws.proofs.Becomes.{Becomes}
 use Rattle.step_laws.proofs.Steps.{Moved, aside, at_site, inside, site_now, site_stands, site_there, site_gone, made, moved}
 use Rattle.step_laws.proofs.Holders.{held_or, root_named}
-use Rattle.step_laws.proofs.Decide.{in_or}
+use Rattle.step_laws.proofs.Decide.{in_or, names_or, not_not}
+use Rattle.step_laws.proofs.ChangedItems.{items}
+use Rattle.table_laws.proofs.Sets.{other_by}
 
 -- who holds a box, by its path
 
@@ -130,11 +137,7 @@ named_path s (b ∷ r) z (inr i) = named_path s r (omega arith) i
 
 pub not_among : (s : Name) (new : Boxes) (r : List Content) → (IsIn s (map (λ (b : Content). b.name) r) → ⊥) → NotNamed s new r
 not_among s new [] h = tt
-not_among s new (b ∷ r) h = (on (same_name s b.name) refl, not_among s new r (λ i. h (inr i)))
-  where
-    on : (t : Bool) → same_name s b.name ≡ t → same_name s b.name ≡ false
-    on true e = absurd (h (inl (same_name-equal s b.name e)))
-    on false e = e
+not_among s new (b ∷ r) h = (other_by s b.name (λ e. h (inl e)), not_among s new r (λ i. h (inr i)))
 
 -- one label
 module _ (rules : List Rule) (p : Program) (c : Config) (l : Label) (d : Config) (s : Stand c) (m : Applies rules p c l d) where
@@ -163,8 +166,14 @@ module _ (rules : List Rule) (p : Program) (c : Config) (l : Label) (d : Config)
         let e : box_at m.site.content.name d.roots ≡ Some o.outer = named_found d.roots t.once m.site.content.name o.outer o.stands o.named in
         let n : box_at m.site.content.name d.roots ≡ None = site_gone rules p c l d s m z.1 in
         absurd cc)
-    | inr z ↦ (z.0, (o.rest, subst (λ (k : Found). f.around ≡ k.around ++ k.content ∷ o.rest)
-        (one_box d.roots t.once o.outer (site_now z.0) o.stands (found_in m.site.content.name d.roots (site_now z.0) (site_there rules p c l d s m z.0)) (sym o.named ∙ sym z.0.keeps.name)) o.path))
+    | inr z ↦ (
+      z.0,
+      (
+        o.rest,
+        subst (λ (k : Found). f.around ≡ k.around ++ k.content ∷ o.rest)
+            (one_box d.roots t.once o.outer (site_now z.0) o.stands (found_in m.site.content.name d.roots (site_now z.0) (site_there rules p c l d s m z.0)) (sym o.named ∙ sym z.0.keeps.name)) o.path,
+      ),
+    )
   ]
     where
       o : Over m.site.content.name f d.roots
@@ -199,7 +208,7 @@ module _ (rules : List Rule) (p : Program) (c : Config) (l : Label) (d : Config)
       let q : n ≡ e.content.name = box-itself n c.roots e i in
       let f : Found = record { around = e.around; content = e.content; goals = edited_inside m.site.content.name m.change.boxes e.goals } in
       let x : Stands f d.roots = subst (λ (k : Config). Stands f k.roots) m.result (edit_out m.site.content.name m.change.boxes c.roots e.around e.content e.goals (found_in n c.roots e i)
-          (subst (λ (k : Name). same_name m.site.content.name k ≡ false) q apart) (not_among m.site.content.name m.change.boxes e.around h)) in
+      (subst (λ (k : Name). same_name m.site.content.name k ≡ false) q apart) (not_among m.site.content.name m.change.boxes e.around h)) in
       (f, named_found d.roots t.once n f x q)
 
   -- and one in it stays where it stands in its new goals
@@ -235,3 +244,33 @@ module _ (rules : List Rule) (p : Program) (c : Config) (l : Label) (d : Config)
       let o : Over n e c.roots = over n e c.roots x i in
       let v : Over n f d.roots = over n f d.roots y (subst (IsIn n) q i) in
       ((o.outer, named_found c.roots s.once n o.outer o.stands o.named), (v.outer, named_found d.roots t.once n v.outer v.stands v.named))
+
+  -- a box that isn't replaced leaves the list of root boxes
+
+  replaced_roots : (i : Item) → i ≡ Item.Roots → MayChange m i → IsReplaced m
+  replaced_roots i e (store) = cc
+  replaced_roots i e (goals) = cc
+  replaced_roots i e (may.goal x) = cc
+  replaced_roots i e (store_gone x y) = cc
+  replaced_roots i e (goals_gone x y) = cc
+  replaced_roots i e (goal_gone x y) = cc
+  replaced_roots i e (store_new x y) = cc
+  replaced_roots i e (goals_new x y) = cc
+  replaced_roots i e (goal_new x y) = cc
+  replaced_roots i e (holder r x y z) = r
+  replaced_roots i e (roots r x) = r
+  replaced_roots i e (binding x) = cc
+
+  pub same_roots : (IsReplaced m → ⊥) → box_names c.roots ≡ box_names d.roots
+  same_roots not = not_not (names_or (box_names c.roots) (box_names d.roots)) (λ h. not (replaced_roots Item.Roots refl (items rules p c l d s m Item.Roots h)))
+
+  -- where no name is drawn, each next number stays
+  pub same_next : m.change.drawn ≡ 0 → (w : ℕ) → slice_index c.next w ≡ slice_index d.next w
+  same_next none w = on (nat_or w l.worker)
+    where
+      own : slice_index d.next l.worker ≡ slice_index c.next l.worker + m.change.drawn
+      own = next_own rules p c l d m
+
+      on : Either (w ≡ l.worker) → slice_index c.next w ≡ slice_index d.next w
+      on (inl e) = ap (slice_index c.next) e ∙ (let z : slice_index c.next l.worker ≡ slice_index d.next l.worker = omega (arith, none, own) in z) ∙ ap (slice_index d.next) (sym e)
+      on (inr h) = sym (next_other rules p c l d m w h)

@@ -1,5 +1,5 @@
 -- A table after Fail: the box has gone, with all that stood in it.
-use Rattle.std.proofs.Common.{◌≡◌, ℕ, ◌+◌, ◌≤◌, List, [], ◌∷◌, Option, Some, None, refl, sym, ◌∙◌, ap, subst, ◌⊎◌, inl, inr, arith}
+use Rattle.std.proofs.Common.{◌≡◌, ℕ, ◌≤◌, List, [], ◌∷◌, Option, Some, None, refl, sym, ◌∙◌, ap, subst, ◌⊎◌, inl, inr}
 use Rattle.std.specs.Prelude.{option_map, option_and_then, slice_index}
 use Rattle.akl_terms.specs.declared.name.Name.{Name}
 use Rattle.akl_terms.specs.declared.name.Place.{Place}
@@ -14,9 +14,7 @@ use Rattle.akl_model.specs.Wakes.{names_around, names_down_to}
 use Rattle.akl_model.proofs.Options.{none_or, some_value}
 use Rattle.akl_model.proofs.Finds.{times}
 use Rattle.akl_model.proofs.NamesKept.{Stand, replay-stands, stands_after, box-itself}
-use Rattle.akl_model.proofs.NextNumbers.{next_own, next_other}
 use Rattle.akl_model.proofs.Scoped.{IsIn-right}
-use Rattle.constraint_laws.proofs.SameTerms.{Either, nat_or}
 use Rattle.step_laws.proofs.Whereabouts.{home_in}
 use Rattle.step_laws.proofs.Decide.{in_or}
 use Rattle.step_laws.proofs.Edits.{edited_held}
@@ -26,6 +24,7 @@ use Rattle.table_laws.specs.Unfolds.{FailsBy, IsBoxRow, spot_of}
 use Rattle.table_laws.specs.Stamped.{Run, followed_by, IsTableOf}
 use Rattle.table_laws.specs.Steps.{fails}
 use Rattle.table_laws.specs.Writes.{Fails, Leads}
+use Rattle.table_laws.proofs.Along.{same_next}
 use Rattle.table_laws.proofs.Frame.{row_of, KeepsRows, KeepsBoxes}
 use Rattle.table_laws.proofs.Onward.{IsMark, GoalGoes, LeadsOn}
 use Rattle.table_laws.proofs.Marked.{led}
@@ -170,17 +169,7 @@ module _ (rules : List Rule) (r : Run) (T U : Table) (l : Label) (d : Config) (t
       ]
 
   next_now : (w : ℕ) → slice_index U.next w ≡ slice_index d.next w
-  next_now w = f.next w ∙ t.unfolds.next w ∙ on (nat_or w l.worker)
-    where
-      none : a.change.drawn ≡ 0
-      none = ap (λ (x : Change). x.drawn) made
-
-      own : slice_index d.next l.worker ≡ slice_index t.config.next l.worker + a.change.drawn
-      own = next_own rules r.program t.config l d a
-
-      on : Either (w ≡ l.worker) → slice_index t.config.next w ≡ slice_index d.next w
-      on (inl e) = ap (slice_index t.config.next) e ∙ (let z : slice_index t.config.next l.worker ≡ slice_index d.next l.worker = omega (arith, none, own) in z) ∙ ap (slice_index d.next) (sym e)
-      on (inr h) = sym (next_other rules r.program t.config l d a w h)
+  next_now w = f.next w ∙ t.unfolds.next w ∙ same_next rules r.program t.config l d s a (ap (λ (x : Change). x.drawn) made) w
 
   pub leads_on : LeadsOn a T U
   leads_on = record {

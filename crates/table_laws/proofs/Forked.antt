@@ -20,6 +20,7 @@ use Rattle.akl_model.specs.Wakes.{names_around, names_down_to}
 use Rattle.akl_model.proofs.Options.{none_or, some_value, map_some}
 use Rattle.akl_model.proofs.Finds.{times, times_inside, box_at-none}
 use Rattle.akl_model.proofs.Drawn.{drawn_times, times-instances}
+use Rattle.akl_model.proofs.Scoped.{IsIn-either}
 use Rattle.akl_model.proofs.NamesKept.{Stand, replay-stands, stands_after, box-itself}
 use Rattle.akl_model.proofs.ScopesAlong.{times_path}
 use Rattle.local_store.specs.Stored.{Stored}
@@ -36,13 +37,16 @@ use Rattle.table_laws.specs.Unfolds.{FailsBy, IsBoxRow, Spot, spot_in, spot_of}
 use Rattle.table_laws.specs.Stamped.{Run, followed_by, IsTableOf}
 use Rattle.table_laws.specs.Steps.{NewBox, forks, IsNewBox, AreNewBoxes, ForksGoal, IsSolvedIf, IsSolvedWhen, Makes}
 use Rattle.table_laws.specs.Writes.{IsTable, set, solved_when, home_in, changed_box, new_row, new_box_of, new_goal_of, forked_row, failing_by, after_fork, Leads}
-use Rattle.table_laws.proofs.Stores.{IsAsTold, same_stores, in_either}
+use Rattle.table_laws.proofs.Stores.{IsAsTold, same_stores}
 use Rattle.table_laws.proofs.Frame.{row_of, neither, KeepsRows, KeepsBoxes, site_around}
 use Rattle.table_laws.proofs.Onward.{GoalGoes, LeadsOn, site_same, fails_as}
 use Rattle.table_laws.proofs.Marked.{led}
 use Rattle.table_laws.proofs.Fresh.{drawn_nowhere}
 use Rattle.table_laws.proofs.NewRows.{new_box_names, only_alternatives, shows_none, EachNew, IsOfNew, new_box_or, new_goal_or, IsSolvedNew, new_is_row}
 use Rattle.table_laws.proofs.Forking as forking
+use Rattle.table_laws.proofs.Along as along
+use Rattle.table_laws.proofs.Gone.{empty_fails}
+use Rattle.table_laws.proofs.Sets.{turned}
 
 -- next numbers that read the same are raised alike
 raised_same : (w k v : ℕ) (xs ys : List ℕ) → ((i : ℕ) → slice_index xs i ≡ slice_index ys i) → slice_index (raised w k xs) v ≡ slice_index (raised w k ys) v
@@ -71,11 +75,6 @@ failing_of g (n ∷ ns) r = r.failing
 failing_is : (g : Name) (news : List NewBox) (r : BoxRow) → failing_by g news r ≡ record r { failing = failing_of g news r }
 failing_is g [] r = refl
 failing_is g (n ∷ ns) r = refl
-
-empty_fails : (op : Op) → IsFailing (a_choice op no_boxes)
-empty_fails Op.Condition = tt
-empty_fails Op.Commit = tt
-empty_fails Op.Choice = tt
 
 -- a call has become a choice of the new boxes
 choice_fails : (nodes : List Node) (E : Equations) (g : Name) (op : Op) (news : List NewBox) (bs : Boxes) (a : Atom) (gs hs : Goals) (r : BoxRow) → AreNewBoxes nodes E news bs
@@ -172,7 +171,7 @@ module _ (rules : List Rule) (r : Run) (T U : Table) (l : Label) (d : Config) (t
   home_was = forking.home_was rules r.program t.config l d s a g place op bs was fork.held boxes_are nowhere flat
 
   same_roots : box_names t.config.roots ≡ box_names d.roots
-  same_roots = forking.same_roots rules r.program t.config l d s a g place op bs was fork.held boxes_are nowhere flat
+  same_roots = along.same_roots rules r.program t.config l d s a (forking.not_replaced rules r.program t.config l d s a g place op bs was fork.held boxes_are nowhere flat)
 
   new_there : (n : Name) (k : Content) (hs : Goals) → n ≡ k.name → BoxIn [] k hs bs → box_at n d.roots ≡ Some (record { around = a.site.around ++ b.content ∷ []; content = k; goals = hs })
   new_there = forking.new_there rules r.program t.config l d s a g place op bs was fork.held boxes_are nowhere flat
@@ -216,13 +215,6 @@ module _ (rules : List Rule) (r : Run) (T U : Table) (l : Label) (d : Config) (t
         absurd cc
   ]
 
-  turned : (n m : Name) → same_name m n ≡ false → same_name n m ≡ false
-  turned n m e = on (same_name n m) refl
-    where
-      on : (v : Bool) → same_name n m ≡ v → same_name n m ≡ false
-      on false q = q
-      on true q = let z : same_name m n ≡ true = subst (λ (k : Name). same_name m k ≡ true) (sym (same_name-equal n m q)) (same_name-refl m) in cc
-
   keeps : KeepsRows a T U
   keeps = record {
     nodes = is.nodes;
@@ -231,7 +223,7 @@ module _ (rules : List Rule) (r : Run) (T U : Table) (l : Label) (d : Config) (t
         let w : (v : BoxRow) × (T.box_of n ≡ Some v) × IsBoxRow T t.config.roots e v = row_of T t.config t.unfolds n e i in
         let same : w.0 ≡ row = some_value (sym w.1 ∙ x) in (
           row.failing,
-          other_row n (old_box n e i) (turned n a.site.content.name apart) ∙ x,
+          other_row n (old_box n e i) (turned a.site.content.name n apart) ∙ x,
           fails_as rules r.program r.query r.journal t.config l d t.replays a T U t.unfolds n e f row.failing apart i j
               (λ h k cs replaced y z. forking.not_replaced rules r.program t.config l d s a g place op bs was fork.held boxes_are nowhere flat replaced)
               (subst (λ (v : BoxRow). FailsBy e.goals v.failing) same w.2.failing),
@@ -274,7 +266,7 @@ module _ (rules : List Rule) (r : Run) (T U : Table) (l : Label) (d : Config) (t
   path_same = ap (λ (k : Content). names_around a.site ++ k.name ∷ []) forked.content
 
   stores_same : stores_along U (names_down_to (site_now b)) ≡ stores_along T (names_down_to a.site)
-  stores_same = ap (stores_along U) path_same ∙ same_stores T U (names_down_to a.site) (λ m i. elim (in_either m (names_around a.site) (a.site.content.name ∷ []) i) [
+  stores_same = ap (stores_along U) path_same ∙ same_stores T U (names_down_to a.site) (λ m i. elim (IsIn-either m (names_around a.site) (a.site.content.name ∷ []) i) [
     | inl x ↦ (site_around rules r.program r.query r.journal t.config l d t.replays a T U t.unfolds keeps b m x).store
     | inr x ↦ elim x [ inl e ↦ subst (λ (k : Name). store_in (U.box_of k) ≡ store_in (T.box_of k)) (sym e) site_row.1.store | inr y ↦ absurd y ]
   ])

@@ -25,7 +25,7 @@ use Rattle.step_laws.specs.ChangedItems.{goal_of, IsReplaced, MayChange, store, 
 use Rattle.step_laws.specs.ChangedItems as may
 use Rattle.step_laws.proofs.Whereabouts.{found_in, home_in, in_counted, held_counted, in_named}
 use Rattle.step_laws.proofs.Deeper.{in_deeper, one_box, named_found, home_found}
-use Rattle.step_laws.proofs.Decide.{option_or, names_or, shape_or, not_not}
+use Rattle.step_laws.proofs.Decide.{option_or, shape_or, not_not}
 use Rattle.step_laws.proofs.Edits.{AfterEdit, outside, replaced}
 use Rattle.step_laws.proofs.GoalEdits.{HasGoal, has_names, InHeld, held_inside, with_content_in, with_content_here, with_content_other}
 use Rattle.step_laws.proofs.Becomes.{Becomes, IsBox}
@@ -192,23 +192,6 @@ module _ (rules : List Rule) (p : Program) (c : Config) (l : Label) (d : Config)
 
   pub not_replaced : IsReplaced m → ⊥
   not_replaced r = r.not_one (ap box_names is_change)
-
-  replaced_roots : (i : Item) → i ≡ Item.Roots → MayChange m i → IsReplaced m
-  replaced_roots i e (store) = cc
-  replaced_roots i e (goals) = cc
-  replaced_roots i e (may.goal x) = cc
-  replaced_roots i e (store_gone x y) = cc
-  replaced_roots i e (goals_gone x y) = cc
-  replaced_roots i e (goal_gone x y) = cc
-  replaced_roots i e (store_new x y) = cc
-  replaced_roots i e (goals_new x y) = cc
-  replaced_roots i e (goal_new x y) = cc
-  replaced_roots i e (holder r x y z) = r
-  replaced_roots i e (roots r x) = r
-  replaced_roots i e (binding x) = cc
-
-  pub same_roots : box_names c.roots ≡ box_names d.roots
-  same_roots = not_not (names_or (box_names c.roots) (box_names d.roots)) (λ h. not_replaced (replaced_roots Item.Roots refl (items rules p c l d s m Item.Roots h)))
 
   -- each box has goals of the same names
 

@@ -16,6 +16,7 @@ use Rattle.akl_model.specs.Derivations.{Applies, Replays}
 use Rattle.akl_model.specs.Wakes.{names_around, names_down_to, holder_in}
 use Rattle.akl_model.specs.Names.{one_if}
 use Rattle.akl_model.proofs.Finds.{times}
+use Rattle.akl_model.proofs.Scoped.{IsIn-left, IsIn-right, IsIn-either}
 use Rattle.akl_model.proofs.NamesKept.{Stand, replay-stands, stands_after, box-itself}
 use Rattle.akl_model.proofs.Options.{some_value}
 use Rattle.akl_model.proofs.ScopesAlong.{times_path}
@@ -34,7 +35,8 @@ use Rattle.step_laws.proofs.ChangedItems.{frame, frame_names}
 use Rattle.step_laws.proofs.Holders.{held_or}
 use Rattle.table_laws.specs.Rows.{BoxRow, Table, store_in, stores_along, told_in, ports_in}
 use Rattle.table_laws.specs.Unfolds.{FailsBy, UnchangedSince, StaysSolved, IsBoxRow, AreBoth, Unfolds}
-use Rattle.table_laws.proofs.Stores.{told_along, told_parts, told_last, IsAsTold, same_stores, unchanged_before, unchanged_at, in_left, in_right, in_either, grown}
+use Rattle.table_laws.proofs.Sets.{other_by}
+use Rattle.table_laws.proofs.Stores.{told_along, told_parts, told_last, IsAsTold, same_stores, unchanged_before, unchanged_at, grown}
 use Rattle.table_laws.proofs.Along.{holder_stays, IsUnder, along, named_path, site_apart, around_there}
 
 -- what is under a name in both
@@ -92,13 +94,6 @@ once_among : (A : List Content) (b : Content) (rest : List Content) → times_pa
 once_among [] b rest h i = let u : one_if (same_name b.name b.name) ≡ 1 = ap one_if (same_name-refl b.name) in named_path b.name rest (omega arith) i
 once_among (x ∷ A) b rest h i = once_among A b rest (omega arith) i
 
-pub not_same : (n m : Name) → (n ≡ m → ⊥) → same_name n m ≡ false
-not_same n m h = on (same_name n m) refl
-  where
-    on : (t : Bool) → same_name n m ≡ t → same_name n m ≡ false
-    on true e = absurd (h (same_name-equal n m e))
-    on false e = e
-
 -- the stores around a box stand for its environment
 pub around_stands : (T : Table) (c : Config) → Stand c → Unfolds T c → (n : Name) (e : Found) → box_at n c.roots ≡ Some e → StandFor (IsTold (told_along T (names_around e))) (IsTold (environment e))
 around_stands T c s u n e i = elim (held_or c.roots s.once n e i) [
@@ -119,7 +114,7 @@ solved_same T U e f r k nodes steps around name told at s = record {
   within = λ j q. let h : j ≤ T.steps = s.within j (sym at ∙ q) in omega arith;
   solved = λ j q x.
       let y : IsSolvedChain T.nodes (stores_along T (names_down_to e)) =
-      s.solved j (sym at ∙ q) (unchanged_before T U j (names_around e) (λ n i. told n (in_left n (names_around e) (e.content.name ∷ []) i)) (subst (UnchangedSince U j) (sym around) x)) in
+      s.solved j (sym at ∙ q) (unchanged_before T U j (names_around e) (λ n i. told n (IsIn-left n (names_around e) (e.content.name ∷ []) i)) (subst (UnchangedSince U j) (sym around) x)) in
       subst (λ (ns : List Name). IsSolvedChain U.nodes (stores_along U ns)) (λ i. around i ++ name i ∷ [])
       (subst (λ (nodes : List Node). IsSolvedChain nodes (stores_along U (names_down_to e))) (sym nodes)
       (subst (IsSolvedChain T.nodes) (sym (same_stores T U (names_down_to e) (λ n i. (told n i).store))) y));
@@ -166,7 +161,7 @@ module _ (rules : List Rule) (p : Program) (q : Query) (journal : List Label) (c
   -- around the place
   pub site_around : KeepsRows a T U → (b : Becomes l.worker (slice_index c.next l.worker) a.site a.change) → (m : Name) → IsIn m (names_around a.site) → IsAsTold T U m
   site_around k b m i = around_told k a.site (site_now b) (site_stands rules p c l d s a) (found_in a.site.content.name d.roots (site_now b) (site_there rules p c l d s a b)) refl m i
-      (not_same a.site.content.name m (λ e. site_apart rules p c l d s a (subst (λ (z : Name). IsIn z (names_around a.site)) (sym e) i)))
+      (other_by a.site.content.name m (λ e. site_apart rules p c l d s a (subst (λ (z : Name). IsIn z (names_around a.site)) (sym e) i)))
 
   pub same_told : (ns : List Name) → U.nodes ≡ T.nodes → ((m : Name) → IsIn m ns → IsAsTold T U m) → told_along U ns ≡ told_along T ns
   same_told ns e h = λ i. told_in (e i) (same_stores T U ns (λ m x. (h m x).store) i)
@@ -211,7 +206,7 @@ module _ (rules : List Rule) (p : Program) (q : Query) (journal : List Label) (c
       }
 
       solved : ((z : Name) → IsIn z (names_around e) → IsAsTold T U z) → StaysSolved U f (record r { failing = o })
-      solved told = solved_same T U e f r (record r { failing = o }) k.keeps.nodes k.keeps.steps like.around name (λ z h. elim (in_either z (names_around e) (e.content.name ∷ []) h) [
+      solved told = solved_same T U e f r (record r { failing = o }) k.keeps.nodes k.keeps.steps like.around name (λ z h. elim (IsIn-either z (names_around e) (e.content.name ∷ []) h) [
         | inl v ↦ told z v
         | inr v ↦ elim v [ inl q ↦ subst (IsAsTold T U) (sym q) own | inr q ↦ absurd q ]
       ]) refl row.stays_solved
@@ -223,10 +218,10 @@ module _ (rules : List Rule) (p : Program) (q : Query) (journal : List Label) (c
           (subst (λ (E : Equations). StandFor (IsTold E) (IsTold (whole e))) (sym (same_told (names_down_to e) k.keeps.nodes down)) row.stands)) (solved told)
         where
           told : (z : Name) → IsIn z (names_around e) → IsAsTold T U z
-          told z h = around_told k.keeps e f x y like.around z h (not_same a.site.content.name z (λ q. none (subst (λ (v : Name). IsIn v (names_around e)) (sym q) h)))
+          told z h = around_told k.keeps e f x y like.around z h (other_by a.site.content.name z (λ q. none (subst (λ (v : Name). IsIn v (names_around e)) (sym q) h)))
 
           down : (z : Name) → IsIn z (names_down_to e) → IsAsTold T U z
-          down z h = elim (in_either z (names_around e) (e.content.name ∷ []) h) [
+          down z h = elim (IsIn-either z (names_around e) (e.content.name ∷ []) h) [
             | inl v ↦ told z v
             | inr v ↦ elim v [ inl q ↦ subst (IsAsTold T U) (sym q) own | inr q ↦ absurd q ]
           ]
@@ -257,14 +252,14 @@ module _ (rules : List Rule) (p : Program) (q : Query) (journal : List Label) (c
 
           -- the boxes between the place and this one
           between : (z : Name) → IsIn z (map (λ (v : Content). v.name) w.rest ++ e.content.name ∷ []) → IsAsTold T U z
-          between z h = elim (in_either z (map (λ (v : Content). v.name) w.rest) (e.content.name ∷ []) h) [
-            | inl v ↦ around_told k.keeps e f x y like.around z (inner v) (not_same a.site.content.name z (λ g. once_among a.site.around a.site.content w.rest counted (subst (λ (m : Name). IsIn m (map (λ (v : Content). v.name) w.rest)) (sym g) v)))
+          between z h = elim (IsIn-either z (map (λ (v : Content). v.name) w.rest) (e.content.name ∷ []) h) [
+            | inl v ↦ around_told k.keeps e f x y like.around z (inner v) (other_by a.site.content.name z (λ g. once_among a.site.around a.site.content w.rest counted (subst (λ (m : Name). IsIn m (map (λ (v : Content). v.name) w.rest)) (sym g) v)))
             | inr v ↦ elim v [ inl g ↦ subst (IsAsTold T U) (sym g) own | inr g ↦ absurd g ]
           ]
             where
               inner : IsIn z (map (λ (v : Content). v.name) w.rest) → IsIn z (names_around e)
               inner v = subst (λ (ms : List Name). IsIn z ms) (sym (ap (map (λ (v : Content). v.name)) w.was ∙ names_join a.site.around (a.site.content ∷ w.rest)))
-                  (in_right z (names_around a.site) (a.site.content.name ∷ map (λ (v : Content). v.name) w.rest) (inr v))
+                  (IsIn-right z (names_around a.site) (a.site.content.name ∷ map (λ (v : Content). v.name) w.rest) (inr v))
 
               counted : times_path a.site.content.name (a.site.around ++ a.site.content ∷ w.rest) ≤ 1
               counted =

@@ -1,10 +1,10 @@
 -- What a box takes with it where it goes, and what stays.
-use Rattle.std.proofs.Common.{◌≡◌, ◌+◌, ◌≤◌, ◌<◌, List, [], ◌∷◌, Bool, true, false, Option, Some, None, refl, sym, ◌∙◌, ap, subst, inl, inr, arith}
+use Rattle.std.proofs.Common.{◌≡◌, ◌+◌, ◌≤◌, List, [], ◌∷◌, Bool, true, false, Option, Some, None, refl, sym, ◌∙◌, ap, subst, inl, inr, arith}
 use Rattle.std.specs.Prelude.{option_map, if◌then◌else◌}
 use Rattle.akl_terms.specs.declared.name.Name.{Name}
 use Rattle.akl_terms.specs.declared.program.Op.{Op}
 use Rattle.akl_terms.specs.Names.{same_name}
-use Rattle.akl_terms.proofs.SameNames.{same_name-equal, same_name-refl}
+use Rattle.akl_terms.proofs.SameNames.{same_name-equal}
 use Rattle.akl_model.specs.Config.{IsIn, Boxes, no_boxes, box, Goals, joined_boxes, Held, an_atom, a_choice, held_in, Found, box_at, home_of, edited, edited_inside}
 use Rattle.akl_model.specs.Conditions.{IsFailing}
 use Rattle.akl_model.specs.Names.{one_if, times_in}
@@ -13,7 +13,7 @@ use Rattle.akl_model.specs.Wakes.{names_around, names_down_to}
 use Rattle.akl_model.proofs.Options.{none_where, some_value, map_some}
 use Rattle.akl_model.proofs.Finds.{times, times_inside}
 use Rattle.akl_model.proofs.NamesKept.{box-itself, home-box}
-use Rattle.akl_model.proofs.ScopesAlong.{times_path, counted_in}
+use Rattle.akl_model.proofs.ScopesAlong.{counted_in, times_path}
 use Rattle.akl_model.proofs.Scoped.{IsIn-left, IsIn-right, IsIn-either}
 use Rattle.step_laws.specs.Whereabouts.{BoxIn, Stands}
 use Rattle.step_laws.proofs.Whereabouts.{found_in, in_counted, home_in, in_home}
@@ -22,11 +22,8 @@ use Rattle.step_laws.proofs.Edits.{AfterEdit, outside, replaced, edit_in, edit_o
 use Rattle.step_laws.proofs.Failing.{failed_goal, failing_found}
 use Rattle.table_laws.specs.Unfolds.{FailsBy}
 use Rattle.table_laws.proofs.Along.{not_among}
-use Rattle.table_laws.proofs.Frame.{not_same}
 use Rattle.table_laws.specs.Writes.{less_name}
-
-pub other_name : (n m : Name) → same_name n m ≡ false → n ≡ m → ⊥
-other_name n m e q = let k : same_name n m ≡ true = subst (λ (x : Name). same_name n x ≡ true) q (same_name-refl n) in cc
+use Rattle.table_laws.proofs.Sets.{other_by, other_name}
 
 -- names of boxes of which one goes
 
@@ -45,7 +42,7 @@ names_left n (box b gs bs) o = on (same_name n b.name) refl (names_left n bs (om
   where
     on : (t : Bool) → same_name n b.name ≡ t → box_names (edited n no_boxes bs) ≡ less_name n (box_names bs)
         → box_names (if t then joined_boxes no_boxes (edited n no_boxes bs) else box b (edited_inside n no_boxes gs) (edited n no_boxes bs)) ≡ (if t then box_names bs else b.name ∷ less_name n (box_names bs))
-    on true r e = same_names n bs (λ i. let u : one_if (same_name n b.name) ≡ 1 = ap one_if r in let v : 0 < times_in n (box_names bs) = counted_in n (box_names bs) i in omega (arith, u, v, o))
+    on true r e = same_names n bs (λ i. let u : one_if (same_name n b.name) ≡ 1 = ap one_if r in let v : 1 ≤ times_in n (box_names bs) = counted_in n (box_names bs) i in omega (arith, u, v, o))
     on false r e = ap (λ (ns : List Name). b.name ∷ ns) e
 
 pub names_gone : (n : Name) (bs : Boxes) → IsIn n (box_names (edited n no_boxes bs)) → ⊥
@@ -90,7 +87,7 @@ no_names : (bs : Boxes) → box_names bs ≡ [] → bs ≡ no_boxes
 no_names no_boxes e = refl
 no_names (box b gs bs) e = cc
 
-empty_fails : (o : Op) → IsFailing (a_choice o no_boxes)
+pub empty_fails : (o : Op) → IsFailing (a_choice o no_boxes)
 empty_fails Op.Condition = tt
 empty_fails Op.Commit = tt
 empty_fails Op.Choice = tt
@@ -130,7 +127,7 @@ module _ (n : Name) (cs : Boxes) (once : (m : Name) → times m cs ≤ 1) (still
       on (replaced a b gs rest y q e z) = absurd z
 
   pub left_stands : (f : Found) → Stands f cs → (IsIn n (names_down_to f) → ⊥) → Stands (left n f) ds
-  left_stands f x h = edit_out n no_boxes cs f.around f.content f.goals x (not_same n f.content.name (λ e. h (IsIn-right n (names_around f) (f.content.name ∷ []) (inl e))))
+  left_stands f x h = edit_out n no_boxes cs f.around f.content f.goals x (other_by n f.content.name (λ e. h (IsIn-right n (names_around f) (f.content.name ∷ []) (inl e))))
       (not_among n no_boxes f.around (λ i. h (IsIn-left n (names_around f) (f.content.name ∷ []) i)))
 
   -- a box that isn't inside stays

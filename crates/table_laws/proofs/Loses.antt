@@ -22,10 +22,11 @@ use Rattle.table_laws.specs.Rows.{BoxRow, GoalRow, Table}
 use Rattle.table_laws.specs.Unfolds.{FailsBy, IsBoxRow, spot_of, Unfolds}
 use Rattle.table_laws.specs.Inside.{IsInside, IsGoalInside}
 use Rattle.table_laws.specs.Writes.{less_name, set, home_in as home_of_row, changed_box, less_alternative, left_row, none_left, left_by, held_without, holder_in_row, Fails}
-use Rattle.table_laws.proofs.Frame.{not_same, neither, row_of}
+use Rattle.table_laws.proofs.Sets.{other_by, other_name, set_here, set_other}
+use Rattle.table_laws.proofs.Frame.{neither, row_of}
 use Rattle.table_laws.proofs.Onward.{IsMark}
 use Rattle.table_laws.proofs.Insides.{goal_row, not_inside, not_inside_none, not_goal_inside, not_goal_inside_none}
-use Rattle.table_laws.proofs.Gone.{same_names, names_left, names_gone, other_name, goals_once, left, left_stands, KeepsAlternatives, fails_by_kept, fails_by_empty, kept_where}
+use Rattle.table_laws.proofs.Gone.{same_names, names_left, names_gone, goals_once, left, left_stands, KeepsAlternatives, fails_by_kept, fails_by_empty, kept_where}
 
 -- a goal's row stays as it is with the goal's shape, or the goal has lost an alternative, and its row is new
 abbrev pub GoalLoses : Table → Table → Name → Name → Found → Held → Type 0
@@ -50,12 +51,6 @@ same_shape n (a_choice o bs) x = ap (of_choice o) (sym (same_names n bs (x o bs 
 
 other_shape : (n : Name) (o : Op) (bs : Boxes) → IsIn n (box_names bs) → shape_of (a_choice o bs) ≡ shape_of (a_choice o (edited n no_boxes bs)) → ⊥
 other_shape n o bs i e = let q : box_names bs ≡ box_names (edited n no_boxes bs) = cc in names_gone n bs (subst (IsIn n) q i)
-
-set_here : {A : Type 0} (g m : Name) (r : Option A) (at : Name → Option A) → same_name m g ≡ true → set g r at m ≡ r
-set_here g m r at e = ap (λ (t : Bool). if t then r else at m) e
-
-set_other : {A : Type 0} (g m : Name) (r : Option A) (at : Name → Option A) → same_name m g ≡ false → set g r at m ≡ at m
-set_other g m r at e = ap (λ (t : Bool). if t then r else at m) e
 
 left_empty : (g : Name) (r : BoxRow) (row : GoalRow) (o : Op) → row.shape ≡ of_choice o [] → left_by g (Some row) r ≡ record r { failing = Some g }
 left_empty g r row o e = ap (λ (s : Shape). if none_left s then record r { failing = Some g } else r) e
@@ -197,7 +192,7 @@ module _ (T U : Table) (c : Config) (u : Unfolds T c) (once : (m : Name) → tim
     held_left : IsLeft T U c n
     held_left = record {
       box_none = λ k e. let w : (T.box_of k ≡ None) × (IsInside T n k → ⊥) = no_box k e in box_now k w.1 ∙ absent k (same_name k goal.0.home) refl e w.0;
-      goal_none = λ k e. goal_now k (no_goal k e) ∙ set_other g k (Some now) T.goal_of (not_same k g (λ q. not_some (sym e ∙ ap (λ (m : Name). home_of m c.roots) q ∙ x.is_home)));
+      goal_none = λ k e. goal_now k (no_goal k e) ∙ set_other g k (Some now) T.goal_of (other_by k g (λ q. not_some (sym e ∙ ap (λ (m : Name). home_of m c.roots) q ∙ x.is_home)));
       box_left = λ k e r i h y v. of_box k e r i h y v (same_name k goal.0.home) refl;
       goal_left = λ k e h i z j. of_goal k e h i z j (same_name k g) refl;
       roots = roots_are (Some g) held ∙ u.roots ∙ sym roots_same;

@@ -18,6 +18,7 @@ use Rattle.akl_model.specs.Derivations.{Applies, Replays}
 use Rattle.akl_model.specs.Changes.{shape_of, shape_at, box_names, goal_names, by_store, Changes}
 use Rattle.akl_model.specs.Wakes.{names_around, names_down_to, holder_in}
 use Rattle.akl_model.proofs.Finds.{times, times_inside}
+use Rattle.akl_model.proofs.Scoped.{IsIn-either}
 use Rattle.akl_model.proofs.NamesKept.{Stand, replay-stands, stands_after, box-itself}
 use Rattle.akl_model.proofs.Options.{none_or, some_value, map_some}
 use Rattle.akl_model.proofs.ScopesAlong.{times_path}
@@ -30,12 +31,13 @@ use Rattle.step_laws.proofs.GoalEdits.{HasGoal}
 use Rattle.step_laws.proofs.Failing.{failing_shape, failed_before}
 use Rattle.step_laws.proofs.Becomes.{Becomes}
 use Rattle.step_laws.proofs.Steps.{site_now, site_there, found, later_step}
-use Rattle.step_laws.proofs.Stays.{like_home}
+use Rattle.step_laws.proofs.Stays.{like_home, shape_held}
 use Rattle.step_laws.proofs.ChangedItems.{frame_names, frame_shape}
 use Rattle.table_laws.specs.Rows.{BoxRow, GoalRow, Table, store_in, ports_in}
-use Rattle.table_laws.specs.Unfolds.{FailsBy, StaysSolved, IsBoxRow, AreBoth, Spot, spot_in, spot_of, Unfolds}
-use Rattle.table_laws.proofs.Stores.{told_along, told_last, IsAsTold, in_either}
+use Rattle.table_laws.specs.Unfolds.{FailsBy, StaysSolved, IsBoxRow, AreBoth, spot_in, spot_of, Unfolds}
+use Rattle.table_laws.proofs.Stores.{told_along, told_last, IsAsTold}
 use Rattle.table_laws.proofs.Along.{holder_stays}
+use Rattle.table_laws.proofs.Insides.{spot_held, spot_none}
 use Rattle.table_laws.proofs.Frame.{are_both, are_neither, row_of, KeepsRows, KeepsBoxes, row_stays, site_around, same_told, solved_same}
 
 -- the number of an item's last change after a label: as it was where this doesn't change the item, and else the label's
@@ -65,28 +67,16 @@ pub spot_stays : (c d : Config) (g : Name) → ((e f : Found) → home_of g c.ro
     → spot_in g c.roots ≡ spot_in g d.roots
 spot_stays c d g home same = on (none_or (home_of g c.roots)) (none_or (home_of g d.roots))
   where
-    spot : Found → Held → Spot
-    spot f h = record { home = f.content.name; shape = shape_of h }
-
-    none : (roots : Boxes) → home_of g roots ≡ None → (shape_at g roots ≡ None) × (spot_in g roots ≡ None)
-    none roots e = (
-      ap (option_and_then (λ (f : Found). option_map shape_of (held_in g f.goals))) e,
-      ap (option_and_then (λ (f : Found). option_map (λ (h : Held). record { home = f.content.name; shape = shape_of h }) (held_in g f.goals))) e,
-    )
+    none : (roots : Boxes) → home_of g roots ≡ None → shape_at g roots ≡ None
+    none roots e = ap (option_and_then (λ (f : Found). option_map shape_of (held_in g f.goals))) e
 
     some : (roots : Boxes) (f : Found) → home_of g roots ≡ Some f → (h : Held) × (shape_at g roots ≡ Some (shape_of h)) × (spot_in g roots ≡ Some (record { home = f.content.name; shape = shape_of h }))
-    some roots f e =
-        let h : HasGoal g f.goals = (home_in g roots f e).1 in (
-          h.0,
-          ap (option_and_then (λ (f : Found). option_map shape_of (held_in g f.goals))) e ∙ ap (option_map shape_of) h.1,
-          ap (option_and_then (λ (f : Found). option_map (λ (h : Held). record { home = f.content.name; shape = shape_of h }) (held_in g f.goals))) e
-              ∙ ap (option_map (λ (h : Held). record { home = f.content.name; shape = shape_of h })) h.1,
-        )
+    some roots f e = let h : HasGoal g f.goals = (home_in g roots f e).1 in (h.0, shape_held g roots f h.0 e h.1, spot_held g roots f h.0 e h.1)
 
     on : (home_of g c.roots ≡ None) ⊎ ((e : Found) × (home_of g c.roots ≡ Some e)) → (home_of g d.roots ≡ None) ⊎ ((f : Found) × (home_of g d.roots ≡ Some f)) → spot_in g c.roots ≡ spot_in g d.roots
-    on (inl x) (inl y) = (none c.roots x).1 ∙ sym (none d.roots y).1
-    on (inl x) (inr (f, j)) = let v : _ = some d.roots f j in let z : shape_at g c.roots ≡ None = (none c.roots x).0 in let k : shape_at g d.roots ≡ Some (shape_of v.0) = v.1 in absurd cc
-    on (inr (e, i)) (inl y) = let v : _ = some c.roots e i in let z : shape_at g d.roots ≡ None = (none d.roots y).0 in let k : shape_at g c.roots ≡ Some (shape_of v.0) = v.1 in absurd cc
+    on (inl x) (inl y) = spot_none g c.roots x ∙ sym (spot_none g d.roots y)
+    on (inl x) (inr (f, j)) = let v : _ = some d.roots f j in let z : shape_at g c.roots ≡ None = none c.roots x in let k : shape_at g d.roots ≡ Some (shape_of v.0) = v.1 in absurd cc
+    on (inr (e, i)) (inl y) = let v : _ = some c.roots e i in let z : shape_at g d.roots ≡ None = none d.roots y in let k : shape_at g c.roots ≡ Some (shape_of v.0) = v.1 in absurd cc
     on (inr (e, i)) (inr (f, j)) =
         let v : _ = some c.roots e i in
         let w : _ = some d.roots f j in
@@ -137,7 +127,7 @@ module _ (rules : List Rule) (p : Program) (q : Query) (journal : List Label) (c
         (subst (λ (z : Content). StandFor (IsTold (told_along T (names_around a.site) ++ bindings_in T.nodes r.store.bindings)) (IsTold (whole (record a.site { content = z })))) (sym content)
         (subst (λ (E : Equations). StandFor (IsTold E) (IsTold (whole a.site))) (told_last T (names_around a.site) a.site.content.name r.store (ap store_in i)) was.stands))
         (solved_same T U a.site (site_now b) r (record r { failing = o }) keeps.nodes keeps.steps refl (sym b.keeps.name)
-        (λ z h. elim (in_either z (names_around a.site) (a.site.content.name ∷ []) h) [
+        (λ z h. elim (IsIn-either z (names_around a.site) (a.site.content.name ∷ []) h) [
           | inl v ↦ site_around rules p q journal c l d replays a T U u keeps b z v
           | inr v ↦ elim v [ inl e ↦ subst (IsAsTold T U) (sym e) told | inr e ↦ absurd e ]
         ]) refl was.stays_solved)

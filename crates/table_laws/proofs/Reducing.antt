@@ -6,7 +6,6 @@ use Rattle.akl_terms.specs.declared.name.Place.{Place}
 use Rattle.akl_terms.specs.declared.program.Program.{Program}
 use Rattle.akl_terms.specs.Names.{same_name}
 use Rattle.akl_terms.proofs.SameNames.{same_name-equal}
-use Rattle.akl_model.specs.declared.item.Item.{Item}
 use Rattle.akl_model.specs.declared.label.Rule.{Rule}
 use Rattle.akl_model.specs.declared.label.Label.{Label}
 use Rattle.akl_model.specs.Config.{Atom, Content, Boxes, no_boxes, box, Goals, no_goals, atom, choice, Config, Held, an_atom, a_choice, held_in, without_goal, Found, box_at, home_of, site_of}
@@ -17,8 +16,7 @@ use Rattle.akl_model.proofs.Finds.{times, times_inside}
 use Rattle.akl_model.proofs.NamesKept.{Stand, stands_after, box-itself}
 use Rattle.akl_model.proofs.Options.{none_or, none_where, some_value, map_some}
 use Rattle.akl_model.proofs.ScopesAlong.{times_path}
-use Rattle.step_laws.specs.ChangedItems.{IsReplaced, MayChange, store, goals, store_gone, goals_gone, goal_gone, store_new, goals_new, goal_new, holder, roots, binding}
-use Rattle.step_laws.specs.ChangedItems as may
+use Rattle.step_laws.specs.ChangedItems.{IsReplaced}
 use Rattle.step_laws.specs.Whereabouts.{BoxIn, InGoals, Stands}
 use Rattle.step_laws.proofs.Whereabouts.{found_in, in_found, home_in, in_home, in_counted}
 use Rattle.step_laws.proofs.Deeper.{one_box, named_found, in_deeper}
@@ -26,13 +24,13 @@ use Rattle.step_laws.proofs.Edits.{AfterEdit, outside, replaced}
 use Rattle.step_laws.proofs.GoalEdits.{HasGoal, has_names, without_in, without_gone, without_other}
 use Rattle.step_laws.proofs.Becomes.{Becomes, IsBox}
 use Rattle.step_laws.proofs.Steps.{site_now, site_stands, site_there, made, found, after_edit, later_step}
-use Rattle.step_laws.proofs.ChangedItems.{items, frame_names, frame_shape}
-use Rattle.step_laws.proofs.Decide.{names_or, not_not}
+use Rattle.step_laws.proofs.ChangedItems.{frame_names, frame_shape}
 use Rattle.step_laws.proofs.Stays.{like_home, shape_home}
 use Rattle.step_laws.specs.Likeness.{IsLike}
 use Rattle.step_laws.specs.Stays.{HaveShape}
 use Rattle.table_laws.specs.Unfolds.{FailsBy, spot_in}
 use Rattle.table_laws.specs.Writes.{less_name}
+use Rattle.table_laws.proofs.Insides.{spot_none}
 use Rattle.table_laws.proofs.Along.{all_stay}
 
 -- goals without one of them
@@ -91,25 +89,6 @@ fails_without g h gs (Some i) e not (k, j, x) = on (same_name i g) refl
         let z : h ≡ k = some_value (sym e ∙ ap (λ (n : Name). held_in n gs) (sym (same_name-equal i g q)) ∙ j) in
         absurd (not (subst IsFailing (sym z) x))
     on false q = (k, without_other g i gs q ∙ j, x)
-
--- a box that isn't replaced leaves the list of root boxes
-module _ (rules : List Rule) (p : Program) (c : Config) (l : Label) (d : Config) (s : Stand c) (m : Applies rules p c l d) where
-  replaced_roots : (i : Item) → i ≡ Item.Roots → MayChange m i → IsReplaced m
-  replaced_roots i e (store) = cc
-  replaced_roots i e (goals) = cc
-  replaced_roots i e (may.goal x) = cc
-  replaced_roots i e (store_gone x y) = cc
-  replaced_roots i e (goals_gone x y) = cc
-  replaced_roots i e (goal_gone x y) = cc
-  replaced_roots i e (store_new x y) = cc
-  replaced_roots i e (goals_new x y) = cc
-  replaced_roots i e (goal_new x y) = cc
-  replaced_roots i e (holder r x y z) = r
-  replaced_roots i e (roots r x) = r
-  replaced_roots i e (binding x) = cc
-
-  pub same_roots : (IsReplaced m → ⊥) → box_names c.roots ≡ box_names d.roots
-  same_roots not = not_not (names_or (box_names c.roots) (box_names d.roots)) (λ h. not (replaced_roots Item.Roots refl (items rules p c l d s m Item.Roots h)))
 
 module _ (rules : List Rule) (p : Program) (c : Config) (l : Label) (d : Config) (s : Stand c) (m : Applies rules p c l d) (g : Name) (place : l.place ≡ Place.Goal g) (was : Atom)
     (held : held_in g m.site.goals ≡ Some (an_atom was)) (now : Content) (is_change : m.change.boxes ≡ box now (without_goal g m.site.goals) no_boxes) where
@@ -190,7 +169,7 @@ module _ (rules : List Rule) (p : Program) (c : Config) (l : Label) (d : Config)
       absurd cc)
 
   pub spot_gone : spot_in g d.roots ≡ None
-  spot_gone = ap (option_and_then (λ (f : Found). option_map (λ (h : Held). record { home = f.content.name; shape = shape_of h }) (held_in g f.goals))) home_gone
+  spot_gone = spot_none g d.roots home_gone
 
   pub goals_differ : goals_at m.site.content.name c.roots ≡ goals_at m.site.content.name d.roots → ⊥
   goals_differ e =

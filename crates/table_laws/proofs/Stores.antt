@@ -1,5 +1,5 @@
 -- Stores along a path of boxes, and what they tell.
-use Rattle.std.proofs.Common.{◌≡◌, ℕ, ◌≤◌, List, [], ◌∷◌, ◌++◌, Some, refl, sym, ◌∙◌, ap, subst, ◌⊎◌, inl, inr, append_assoc, append-nil}
+use Rattle.std.proofs.Common.{◌≡◌, ℕ, ◌≤◌, List, [], ◌∷◌, ◌++◌, Some, refl, sym, ◌∙◌, ap, subst, inl, inr, append_assoc, append-nil}
 use Rattle.akl_terms.specs.declared.name.Name.{Name}
 use Rattle.akl_terms.specs.declared.term.Node.{Node}
 use Rattle.akl_terms.specs.Tree.{Tree}
@@ -55,21 +55,6 @@ pub unchanged_at : (T : Table) (k : ℕ) (ns : List Name) (n : Name) (r : BoxRow
 unchanged_at T k [] n r x i e = absurd i
 unchanged_at T k (m ∷ ns) n r x (inl q) e = x.0 r (ap T.box_of (sym q) ∙ e)
 unchanged_at T k (m ∷ ns) n r x (inr i) e = unchanged_at T k ns n r x.1 i e
-
--- names of a path in two parts
-pub in_left : (n : Name) (ns ms : List Name) → IsIn n ns → IsIn n (ns ++ ms)
-in_left n [] ms h = absurd h
-in_left n (m ∷ ns) ms (inl e) = inl e
-in_left n (m ∷ ns) ms (inr h) = inr (in_left n ns ms h)
-
-pub in_right : (n : Name) (ns ms : List Name) → IsIn n ms → IsIn n (ns ++ ms)
-in_right n [] ms h = h
-in_right n (m ∷ ns) ms h = inr (in_right n ns ms h)
-
-pub in_either : (n : Name) (ns ms : List Name) → IsIn n (ns ++ ms) → IsIn n ns ⊎ IsIn n ms
-in_either n [] ms h = inr h
-in_either n (m ∷ ns) ms (inl e) = inl (inl e)
-in_either n (m ∷ ns) ms (inr h) = elim (in_either n ns ms h) [ inl x ↦ inl (inr x) | inr x ↦ inr x ]
 
 -- equations in the middle go to the front
 front : (X F Y : Equations) → StandFor (IsTold (X ++ (F ++ Y))) (IsTold (F ++ (X ++ Y)))

@@ -1,7 +1,7 @@
 -- An equation is told: what the step makes of a table is a table of the run that goes on.
 use Rattle.std.proofs.Common.{◌≡◌, ℕ, ◌+◌, List, [], ◌∷◌, ◌++◌, length, Bool, true, false, Option, Some, None, refl, sym, ◌∙◌, ap, subst, ◌⊎◌, inl, inr, arith, append_assoc}
 use Rattle.std.proofs.lemmas.List.{length-append}
-use Rattle.std.specs.Prelude.{if◌then◌else◌, slice_index, option_map, option_and_then}
+use Rattle.std.specs.Prelude.{slice_index, option_map}
 use Rattle.akl_terms.specs.declared.name.Name.{Name}
 use Rattle.akl_terms.specs.declared.name.Place.{Place}
 use Rattle.akl_terms.specs.declared.program.Program.{Program}
@@ -13,15 +13,13 @@ use Rattle.akl_terms.specs.Names.{same_name}
 use Rattle.akl_terms.proofs.SameNames.{same_name-refl, same_name-equal}
 use Rattle.akl_model.specs.declared.label.Rule.{Rule}
 use Rattle.akl_model.specs.declared.label.Label.{Label}
-use Rattle.akl_model.specs.Config.{Atom, Content, no_boxes, box, Goals, Config, Held, an_atom, held_in, without_goal, Found, box_at, environment, whole}
+use Rattle.akl_model.specs.Config.{Atom, Content, no_boxes, box, Goals, Config, an_atom, held_in, without_goal, Found, box_at, environment, whole}
 use Rattle.akl_model.specs.Rules.{Reading, Change, change_by, becomes, telling, tell}
 use Rattle.akl_model.specs.Derivations.{Applies}
-use Rattle.akl_model.specs.Changes.{of_atom, shape_of, box_names, goal_names, constraint_of, constraint_at, Constraint}
+use Rattle.akl_model.specs.Changes.{of_atom, box_names, goal_names, constraint_of, constraint_at, Constraint}
 use Rattle.akl_model.specs.Wakes.{names_around, names_down_to}
 use Rattle.akl_model.proofs.NamesKept.{Stand, replay-stands}
-use Rattle.akl_model.proofs.NextNumbers.{next_own, next_other}
 use Rattle.akl_model.proofs.Options.{none_or, some_value, map_some}
-use Rattle.constraint_laws.proofs.SameTerms.{nat_or}
 use Rattle.local_store.specs.Stored.{Stored}
 use Rattle.local_store.specs.Chained.{IsSolvedChain}
 use Rattle.rational_unify.specs.Solving.{bindings_in}
@@ -32,27 +30,15 @@ use Rattle.table_laws.specs.Rows.{BoxRow, GoalRow, Table, store_in, stores_along
 use Rattle.table_laws.specs.Unfolds.{FailsBy, StaysSolved, IsBoxRow, Spot, spot_in, spot_of}
 use Rattle.table_laws.specs.Stamped.{Run, followed_by, IsTableOf}
 use Rattle.table_laws.specs.Steps.{tells, TellsGoal, IsSolvedWhen, Makes}
-use Rattle.table_laws.specs.Writes.{IsTable, set, less_name, home_in, changed_box, told_row, after_tell, solved_when, Leads}
+use Rattle.table_laws.specs.Writes.{IsTable, less_name, home_in, changed_box, told_row, after_tell, solved_when, Leads}
+use Rattle.table_laws.proofs.Sets.{turned, set_here, set_other}
+use Rattle.table_laws.proofs.Insides.{spot_held}
+use Rattle.table_laws.proofs.Along.{same_roots, same_next}
 use Rattle.table_laws.proofs.Stores.{told_along, stores_join, same_stores}
 use Rattle.table_laws.proofs.Frame.{neither, row_of, KeepsRows, KeepsBoxes, around_stands, site_around}
 use Rattle.table_laws.proofs.Onward.{GoalGoes, LeadsOn, site_row, fails_as}
 use Rattle.table_laws.proofs.Marked.{led}
-use Rattle.table_laws.proofs.Reducing.{names_without, fails_without, same_roots, home_was, reduces_to, content_now, goals_now, now_there, not_replaced, stays_there, was_there, spot_gone, goals_differ, shape_stays}
-
--- what is set under a name
-
-set_here : {A : Type 0} (n : Name) (o : Option A) (at : Name → Option A) → set n o at n ≡ o
-set_here n o at = subst (λ (t : Bool). (if t then o else at n) ≡ o) (sym (same_name-refl n)) refl
-
-set_other : {A : Type 0} (n m : Name) (o : Option A) (at : Name → Option A) → same_name m n ≡ false → set n o at m ≡ at m
-set_other n m o at e = subst (λ (t : Bool). (if t then o else at m) ≡ at m) (sym e) refl
-
-turned : (n m : Name) → same_name n m ≡ false → same_name m n ≡ false
-turned n m e = on (same_name m n) refl
-  where
-    on : (t : Bool) → same_name m n ≡ t → same_name m n ≡ false
-    on true q = let z : same_name n m ≡ true = subst (λ (k : Name). same_name k m ≡ true) (same_name-equal m n q) (same_name-refl m) in cc
-    on false q = q
+use Rattle.table_laws.proofs.Reducing.{names_without, fails_without, home_was, reduces_to, content_now, goals_now, now_there, not_replaced, stays_there, was_there, spot_gone, goals_differ, shape_stays}
 
 one_more : (E F : Equations) (x : _) → E ≡ F → F ≡ E ++ x ∷ [] → ⊥
 one_more E F x e q =
@@ -106,15 +92,14 @@ module _ (rules : List Rule) (r : Run) (T U : Table) (l : Label) (d : Config) (t
   home = ap home_in w.1 ∙ ap (λ (k : Spot). Some k.home) w.2
     where
       spot : spot_in g t.config.roots ≡ Some (record { home = a.site.content.name; shape = of_atom (Atom.equation makes.left makes.right) })
-      spot = ap (option_and_then (λ (f : Found). option_map (λ (h : Held). record { home = f.content.name; shape = shape_of h }) (held_in g f.goals))) (home_was rules r.program t.config l d s a g place (Atom.equation makes.left makes.right) makes.held (telling makes.left makes.right a.site.content) is_change)
-          ∙ ap (option_map (λ (h : Held). record { home = a.site.content.name; shape = shape_of h })) makes.held
+      spot = spot_held g t.config.roots a.site (an_atom (Atom.equation makes.left makes.right)) (home_was rules r.program t.config l d s a g place (Atom.equation makes.left makes.right) makes.held (telling makes.left makes.right a.site.content) is_change) makes.held
 
       w : (k : GoalRow) × (T.goal_of g ≡ Some k) × (spot_of k ≡ record { home = a.site.content.name; shape = of_atom (Atom.equation makes.left makes.right) })
       w = map_some spot_of (T.goal_of g) (record { home = a.site.content.name; shape = of_atom (Atom.equation makes.left makes.right) }) (t.unfolds.goals g ∙ spot)
 
   box_here : U.box_of a.site.content.name ≡ option_map (told_row g new (solved_when at solved) (T.steps + 1)) (T.box_of a.site.content.name)
   box_here = leads.boxes a.site.content.name ∙ ap (λ (o : Option Name). changed_box o (told_row g new (solved_when at solved) (T.steps + 1)) T.box_of a.site.content.name) home
-      ∙ set_here a.site.content.name (option_map (told_row g new (solved_when at solved) (T.steps + 1)) (T.box_of a.site.content.name)) T.box_of
+      ∙ set_here a.site.content.name a.site.content.name (option_map (told_row g new (solved_when at solved) (T.steps + 1)) (T.box_of a.site.content.name)) T.box_of (same_name-refl a.site.content.name)
 
   box_other : (n : Name) → same_name a.site.content.name n ≡ false → U.box_of n ≡ T.box_of n
   box_other n apart = leads.boxes n ∙ ap (λ (o : Option Name). changed_box o (told_row g new (solved_when at solved) (T.steps + 1)) T.box_of n) home
@@ -130,8 +115,11 @@ module _ (rules : List Rule) (r : Run) (T U : Table) (l : Label) (d : Config) (t
   keeps = record {
     nodes = leads.nodes;
     steps = leads.steps;
-    rows = λ n e f v apart i j k. (v.failing, box_other n apart ∙ k,
-      fails_as rules r.program r.query r.journal t.config l d t.replays a T U t.unfolds n e f v.failing apart i j (λ h o bs x y z. whole_box x) (old_fails n e v i k));
+    rows = λ n e f v apart i j k. (
+      v.failing,
+      box_other n apart ∙ k,
+      fails_as rules r.program r.query r.journal t.config l d t.replays a T U t.unfolds n e f v.failing apart i j (λ h o bs x y z. whole_box x) (old_fails n e v i k),
+    );
   }
     where
       old_fails : (n : Name) (e : Found) (v : BoxRow) → box_at n t.config.roots ≡ Some e → T.box_of n ≡ Some v → FailsBy e.goals v.failing
@@ -189,7 +177,7 @@ module _ (rules : List Rule) (r : Run) (T U : Table) (l : Label) (d : Config) (t
   goal_goes i = on (same_name i g) refl
     where
       gone : U.goal_of g ≡ None
-      gone = leads.goals g ∙ set_here g None T.goal_of
+      gone = leads.goals g ∙ set_here g g None T.goal_of (same_name-refl g)
 
       on : (v : Bool) → same_name i g ≡ v → GoalGoes T U t.config d i
       on true e =
@@ -197,16 +185,6 @@ module _ (rules : List Rule) (r : Run) (T U : Table) (l : Label) (d : Config) (t
           let z : U.goal_of i ≡ None = ap U.goal_of q ∙ gone in
           inr (ap (option_map spot_of) z ∙ sym (ap (λ (n : Name). spot_in n d.roots) q ∙ spot_gone rules r.program t.config l d s a g place (Atom.equation makes.left makes.right) makes.held (telling makes.left makes.right a.site.content) is_change), λ v h. (let y : None ≡ Some v = sym z ∙ h in absurd cc))
       on false e = inl (leads.goals i ∙ set_other g i None T.goal_of e, shape_stays rules r.program t.config l d s a g place (Atom.equation makes.left makes.right) makes.held (telling makes.left makes.right a.site.content) is_change i e)
-
-  same_next : (w : ℕ) → slice_index d.next w ≡ slice_index t.config.next w
-  same_next w = elim (nat_or w l.worker) [
-    | inl e ↦
-        let x : slice_index d.next l.worker ≡ slice_index t.config.next l.worker + a.change.drawn = next_own rules r.program t.config l d a in
-        let z : a.change.drawn ≡ 0 = drawn in
-        let y : slice_index d.next l.worker ≡ slice_index t.config.next l.worker = omega arith in
-        ap (slice_index d.next) e ∙ y ∙ ap (slice_index t.config.next) (sym e)
-    | inr n ↦ next_other rules r.program t.config l d a w n
-  ]
 
   pub leads_on : LeadsOn a T U
   leads_on = record {
@@ -221,7 +199,7 @@ module _ (rules : List Rule) (r : Run) (T U : Table) (l : Label) (d : Config) (t
     goals = goal_goes;
     roots = leads.roots ∙ t.unfolds.roots ∙ roots;
     root_mark = inl (leads.roots_changed, λ h. h roots);
-    next = λ w. leads.next w ∙ t.unfolds.next w ∙ sym (same_next w);
+    next = λ w. leads.next w ∙ t.unfolds.next w ∙ same_next rules r.program t.config l d s a drawn w;
   }
     where
       roots : box_names t.config.roots ≡ box_names d.roots
