@@ -5,8 +5,9 @@ use Rattle.akl_model.specs.declared.label.Label.{Label}
 use Rattle.akl_model.specs.Config.{Config}
 use Rattle.akl_model.specs.Derivations.{Applies}
 use Rattle.table_laws.specs.Stamped.{IsTableOf, stamp_in}
-use Rattle.table_laws.specs.Steps.{Step, Makes, ReadsFor, IsSolvedIn}
-use Rattle.box_tree.specs.Tables.{rules_in_force, TableValue, table_of}
+use Rattle.table_laws.specs.Steps.{Makes, ReadsFor, IsSolvedIn}
+use Rattle.box_tree.specs.declared.step.Step.{Step}
+use Rattle.box_tree.specs.Tables.{rules_in_force, TableValue, table_of, step_of}
 use Rattle.box_tree.specs.Views.{run_of}
 
 -- the table and the journal of the view that a plan was made of; its label, the items that it read, how many names it draws, and its step
@@ -27,8 +28,8 @@ pub record IsRight (v : PlanValue) : Type 0 where
   pub table : IsTableOf rules_in_force (run_of v.table v.journal) (table_of v.table)
   pub result : Config
   pub applies : Applies rules_in_force v.table.program table.config v.label result
-  pub makes : Makes v.table.program v.label (slice_index table.config.next v.label.worker) applies.site v.step
-  pub solved : IsSolvedIn (table_of v.table) applies.site v.step
+  pub makes : Makes v.table.program v.label (slice_index table.config.next v.label.worker) applies.site (step_of v.table.program.templates.nodes v.step)
+  pub solved : IsSolvedIn (table_of v.table) applies.site (step_of v.table.program.templates.nodes v.step)
   pub names : v.names ≡ applies.change.drawn
-  pub reads : ReadsFor (IsRead v.reads) v.label applies.site v.step
+  pub reads : ReadsFor (IsRead v.reads) v.label applies.site (step_of v.table.program.templates.nodes v.step)
   pub there : (i : Item) → IsRead v.reads i → IsSome (stamp_in (table_of v.table) i)

@@ -1,5 +1,5 @@
 -- What contracts see of a table.
-use Rattle.std.specs.Prelude.{◌≡◌, ℕ, Bool, true, false, List, [], ◌∷◌, map, Option, Some, None, option_map, ⊤}
+use Rattle.std.specs.Prelude.{◌≡◌, ◌<◌, ◌+◌, ◌^◌, slice_get, ℕ, Bool, true, false, List, [], ◌∷◌, map, Option, Some, None, option_map, ⊤}
 use Rattle.std.specs.Map.{lookup}
 use Rattle.akl_terms.specs.declared.name.Name.{Name}
 use Rattle.akl_terms.specs.declared.term.Node.{Node}
@@ -7,6 +7,8 @@ use Rattle.akl_terms.specs.declared.program.Goal.{Goal}
 use Rattle.akl_terms.specs.declared.program.Program.{Program}
 use Rattle.akl_terms.specs.declared.program.Query.{Query}
 use Rattle.akl_terms.specs.declared.program.ShownTerm.{ShownTerm}
+use Rattle.akl_terms.specs.declared.program.Shown.{Shown}
+use Rattle.akl_model.specs.Ordered.{IsIncreasing}
 use Rattle.akl_terms.specs.Template.{tree}
 use Rattle.akl_terms.specs.Names.{same_name}
 use Rattle.akl_model.specs.declared.label.Rule.{Rule}
@@ -92,6 +94,19 @@ step_of nodes (Step.Tell store solved) = laws.tells store solved
 step_of nodes (Step.Fork op alternatives) = laws.forks op (map (new_box nodes) alternatives.items)
 step_of nodes Step.Fail = laws.fails
 
+-- each variable of the query has its node
+pub record HasVariables (p : Program) (q : Query) (first_variable : ℕ) : Type 0 where
+  pub fits : first_variable + q.variables < 2 ^ 32
+  pub each : (i : ℕ) → i < q.variables → slice_get p.templates.nodes (first_variable + i) ≡ Some (Node.Var i)
+
+-- each shown variable is one of the query's
+abbrev pub AreBelow : ℕ → List Shown → Type 0
+AreBelow n [] = ⊤
+AreBelow n (s ∷ ss) = (s.index < n) × AreBelow n ss
+
+abbrev pub HasShownVariables : Query → Type 0
+HasShownVariables q = AreBelow q.variables q.shown
+
 -- the names of a row's goals; none where there is no row
 abbrev pub goals_in : Option BoxRow → List Name
 goals_in None = []
@@ -108,19 +123,29 @@ is_empty (n ∷ ns) = false
 abbrev pub shown_trees_of : TableValue → List ShownTerm → List ShownTree
 shown_trees_of t terms = map (shown_tree t.program.templates.nodes) terms
 
--- a step may be made of a table to which a run has come: its place is of the kind that it needs and is there, and the names that it draws
--- stand nowhere
+-- a step may be made of a table to which a run has come: its place is of the kind that it needs, and the names that it draws stand nowhere,
+-- those of a box's goals in increasing order
 abbrev pub FitsPlace : Place → laws.Step → Type 0
 FitsPlace (Place.Goal g) (laws.tells new solved) = ⊤
 FitsPlace (Place.Goal g) (laws.forks op news) = ⊤
 FitsPlace (Place.Box n) laws.fails = ⊤
 FitsPlace place step = ⊥
 
+abbrev pub AreInOrder : List laws.NewBox → Type 0
+AreInOrder [] = ⊤
+AreInOrder (n ∷ ns) = IsIncreasing (map (λ (x : Name × Atom). x.0) n.goals) × AreInOrder ns
+
+abbrev pub DrawsInOrder : laws.Step → Type 0
+DrawsInOrder (laws.tells new solved) = ⊤
+DrawsInOrder (laws.forks op news) = AreInOrder news
+DrawsInOrder laws.fails = ⊤
+
 pub record MayApply (t : TableValue) (l : Label) (step : Step) : Type 0 where
   pub run : Run
   pub table : IsTableOf rules_in_force run (table_of t)
   pub fits : FitsPlace l.place (step_of t.program.templates.nodes step)
   pub fresh : DrawsFresh (table_of t) (step_of t.program.templates.nodes step)
+  pub ordered : DrawsInOrder (step_of t.program.templates.nodes step)
 
 pub record Applied (t : TableValue) (l : Label) (at : Option ℕ) (names : ℕ) (step : Step) (u : TableValue) : Type 0 where
   pub program : u.program ≡ t.program

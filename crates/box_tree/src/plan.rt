@@ -1,50 +1,45 @@
 //! Plans, each right for every journal that goes on from the one that it saw and leaves alone what it read.
 
 ghost use Rattle.std.specs.Prelude.{◌≡◌, length};
-ghost use Rattle.box_tree.specs.Tables.{step_of};
 ghost use Rattle.box_tree.specs.Plans.{PlanValue, IsRight};
 
 use crate::step::Step;
-use crate::table::Table;
 use crate::view::View;
 use akl_model::{Item, Label};
 use std::marker::Model;
 use std::snapshot::Snapshot;
 
-/// A label that was planned, with what it read and what it makes. It remembers in no bytes the table and the journal
-/// of its view.
+/// A label that was planned, with what it read and what it makes. It remembers in no bytes the view of which it was
+/// made.
 #[derive(Drop)]
 pub struct Plan {
-    table: Snapshot<Table>,
-    journal: Snapshot<Vec<Label>>,
+    view: Snapshot<View>,
     seen: u64,
     label: Label,
     reads: Vec<Item>,
     names: u64,
     step: Step,
-    ghost same_length: { seen ≡ length journal.value.items },
+    ghost same_length: { seen ≡ length view.value.journal },
 }
 
 impl Model for Plan {
-    ghost use Rattle.box_tree.specs.Tables.{step_of};
-    ghost use Rattle.box_tree.specs.Plans.{PlanValue, IsRight};
+        ghost use Rattle.box_tree.specs.Plans.{PlanValue, IsRight};
 
     ghost Value = { PlanValue };
 
-    ghost view = { λ p. record { table = p.table.value; journal = p.journal.value.items; label = p.label; reads = p.reads.items; names = p.names; step = step_of p.table.value.program.templates.nodes p.step } };
+    ghost view = { λ p. record { table = p.view.value.table; journal = p.view.value.journal; label = p.label; reads = p.reads.items; names = p.names; step = p.step } };
 
-    ghost invariant = { λ p. IsRight (record { table = p.table.value; journal = p.journal.value.items; label = p.label; reads = p.reads.items; names = p.names; step = step_of p.table.value.program.templates.nodes p.step }) };
+    ghost invariant = { λ p. IsRight (record { table = p.view.value.table; journal = p.view.value.journal; label = p.label; reads = p.reads.items; names = p.names; step = p.step }) };
 }
 
 impl Plan {
     /// A plan of what is right for its view.
     pub fn new(view: &View, label: Label, reads: Vec<Item>, names: u64, step: Step) -> Plan
-        requires { IsRight (record { table = view.now.table; journal = view.now.journal; label = label; reads = reads.items; names = names; step = step_of view.now.table.program.templates.nodes step }) }
-        ensures { result ≡ record { table = view.now.table; journal = view.now.journal; label = label; reads = reads.items; names = names; step = step_of view.now.table.program.templates.nodes step } }
+        requires { IsRight (record { table = view.now.table; journal = view.now.journal; label = label; reads = reads.items; names = names; step = step }) }
+        ensures { result ≡ record { table = view.now.table; journal = view.now.journal; label = label; reads = reads.items; names = names; step = step } }
     {
         Plan {
-            table: view.table,
-            journal: view.journal,
+            view: Snapshot::of(view),
             seen: view.seen,
             label,
             reads,
@@ -83,7 +78,7 @@ impl Plan {
 
     /// What the plan makes.
     pub fn into_step(self) -> Step
-        ensures { step_of self.table.program.templates.nodes result ≡ self.step }
+        ensures { result ≡ self.step }
     {
         self.step
     }

@@ -4,7 +4,7 @@ ghost use Rattle.std.specs.Prelude.{◌≡◌, IfOk, IfErr, true, false, is_some
 ghost use Rattle.table_laws.specs.Writes.{IsTable};
 ghost use Rattle.table_laws.specs.Laws.{started};
 ghost use Rattle.table_laws.specs.Stamped.{IsTableOf, stamp_in};
-ghost use Rattle.box_tree.specs.Tables.{rules_in_force, table_of, MayApply, Applied, goals_in, is_empty, shown_in, shown_trees_of};
+ghost use Rattle.box_tree.specs.Tables.{rules_in_force, table_of, MayApply, Applied, HasVariables, HasShownVariables, goals_in, is_empty, shown_in, shown_trees_of};
 ghost use Rattle.box_tree.specs.Views.{run_of, is_there, IsUnseen, AreAllPlaces};
 
 use crate::entries::{BoxEntry, GoalEntry};
@@ -22,16 +22,16 @@ use std::snapshot::Snapshot;
 /// An entry goes when its box or its goal goes.
 #[derive(Drop)]
 pub struct Table {
-    program: Snapshot<Program>,
-    query: Snapshot<Query>,
-    boxes: BTreeMap<Name, BoxEntry>,
-    goals: BTreeMap<Name, GoalEntry>,
-    roots: Vec<Name>,
-    roots_changed: u64,
+    pub(crate) program: Snapshot<Program>,
+    pub(crate) query: Snapshot<Query>,
+    pub(crate) boxes: BTreeMap<Name, BoxEntry>,
+    pub(crate) goals: BTreeMap<Name, GoalEntry>,
+    pub(crate) roots: Vec<Name>,
+    pub(crate) roots_changed: u64,
     // The next number of each worker, 0 for those past the end.
-    next: Vec<u64>,
+    pub(crate) next: Vec<u64>,
     // How many labels were made.
-    steps: u64,
+    pub(crate) steps: u64,
 }
 
 impl Model for Table {
@@ -43,13 +43,19 @@ impl Model for Table {
 }
 
 impl Table {
-    /// The table of the query's one box.
-    pub fn start(alloc: Global, program: &Program, query: &Query) -> Result<Table, AllocError>
+    /// The table of the query's one box. The query's variables are the nodes from `first_variable` on.
+    pub fn start(
+        alloc: Global,
+        program: &Program,
+        query: &Query,
+        first_variable: u32,
+    ) -> Result<Table, AllocError>
+        requires variables { HasVariables program.now query.now first_variable }
+        requires shown { HasShownVariables query.now }
         ensures program { IfOk result (λ t. t.program ≡ program.now) }
         ensures query { IfOk result (λ t. t.query ≡ query.now) }
         ensures started { IfOk result (λ t. IsTable (table_of t) (started program.now query.now)) }
     {
-        let _ = (alloc, program, query);
         Err(AllocError)
     }
 
@@ -69,7 +75,6 @@ impl Table {
         ensures there { IfOk result (λ _. is_there (table_of self.now) place ≡ true) }
         ensures unseen { IfErr result (IsUnseen (table_of self.now) place) }
     {
-        let _ = (alloc, journal, place, worker);
         Err(LookError::Memory(AllocError))
     }
 
@@ -77,15 +82,28 @@ impl Table {
     pub fn stamp(&self, item: Item) -> Option<u64>
         ensures { result ≡ stamp_in (table_of self.now) item }
     {
-        let _ = item;
-        None
+        match item {
+            Item::Roots => Some(self.roots_changed),
+            Item::Store(name) => match self.boxes.get(&name) {
+                Some(entry) => Some(entry.changed),
+                None => None,
+            },
+            Item::Goals(name) => match self.boxes.get(&name) {
+                Some(entry) => Some(entry.goals_changed),
+                None => None,
+            },
+            Item::Goal(name) => match self.goals.get(&name) {
+                Some(entry) => Some(entry.changed),
+                None => None,
+            },
+            Item::Binding(_) => None,
+        }
     }
 
     /// All boxes and goals: boxes first, each in increasing order of names.
     pub fn places(&self, alloc: Global) -> Result<Vec<Place>, AllocError>
         ensures { IfOk result (λ places. AreAllPlaces (table_of self.now) places.items) }
     {
-        let _ = alloc;
         Err(AllocError)
     }
 
@@ -130,7 +148,6 @@ impl Table {
         ensures applied { IfOk result (λ _. Applied self.old label at names step self.new) }
         ensures unchanged { IfErr result (λ _. self.new ≡ self.old) }
     {
-        let _ = (alloc, label, names, step, at);
         Err(AllocError)
     }
 }
