@@ -39,22 +39,22 @@ pub record IsTableOf (rules : List Rule) (r : Run) (T : Table) : Type 0 where
   pub unfolds : Unfolds T config
   pub stamped : IsStamped rules r T
 
+abbrev pub store_stamp : Option BoxRow → Option ℕ
+store_stamp None = None
+store_stamp (Some r) = Some r.changed
+
+abbrev pub goals_stamp : Option BoxRow → Option ℕ
+goals_stamp None = None
+goals_stamp (Some r) = Some r.goals_changed
+
+abbrev pub goal_stamp : Option GoalRow → Option ℕ
+goal_stamp None = None
+goal_stamp (Some r) = Some r.changed
+
 -- the stamp that a table has of an item; none of one that has gone
 abbrev pub stamp_in : Table → Item → Option ℕ
 stamp_in T Item.Roots = Some T.roots_changed
-stamp_in T (Item.Store n) = changed_in (T.box_of n)
-  where
-    changed_in : Option BoxRow → Option ℕ
-    changed_in None = None
-    changed_in (Some r) = Some r.changed
-stamp_in T (Item.Goals n) = changed_in (T.box_of n)
-  where
-    changed_in : Option BoxRow → Option ℕ
-    changed_in None = None
-    changed_in (Some r) = Some r.goals_changed
-stamp_in T (Item.Goal g) = changed_in (T.goal_of g)
-  where
-    changed_in : Option GoalRow → Option ℕ
-    changed_in None = None
-    changed_in (Some r) = Some r.changed
+stamp_in T (Item.Store n) = store_stamp (T.box_of n)
+stamp_in T (Item.Goals n) = goals_stamp (T.box_of n)
+stamp_in T (Item.Goal g) = goal_stamp (T.goal_of g)
 stamp_in T (Item.Binding x) = None
