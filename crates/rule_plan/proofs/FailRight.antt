@@ -1,9 +1,8 @@
 -- A plan of Fail is right.
-use Rattle.std.proofs.Common.{◌≡◌, ℕ, List, [], ◌∷◌, ◌++◌, Option, Some, None, refl, sym, ◌∙◌, ap, subst, ◌⊎◌, inl, inr, arith}
+use Rattle.std.proofs.Common.{◌≡◌, [], ◌∷◌, Some, None, refl, sym, subst, ◌⊎◌, inl, inr, arith}
 use Rattle.std.specs.Prelude.{IsSome, slice_index}
 use Rattle.akl_terms.specs.declared.name.Name.{Name}
 use Rattle.akl_terms.specs.declared.name.Place.{Place}
-use Rattle.akl_terms.specs.declared.term.Node.{Node}
 use Rattle.akl_terms.specs.declared.term.Term.{Term}
 use Rattle.akl_terms.specs.Template.{tree}
 use Rattle.akl_terms.specs.Decided.{DifferInHead}
@@ -11,13 +10,11 @@ use Rattle.akl_terms.specs.Equal.{EqualBy, IsConsistent, IsConsistentBy}
 use Rattle.akl_model.specs.declared.item.Item.{Item}
 use Rattle.akl_model.specs.declared.label.Rule.{Rule}
 use Rattle.akl_model.specs.declared.label.Label.{Label}
-use Rattle.akl_model.specs.Config.{IsIn, no_boxes, Held, held_in, Found, whole, site_of, box_at}
-use Rattle.akl_model.specs.Rules.{nothing, Change, change_by}
-use Rattle.akl_model.specs.Conditions.{HasFailed, IsFailing, Makes}
+use Rattle.akl_model.specs.Config.{no_boxes, whole, site_of}
+use Rattle.akl_model.specs.Rules.{nothing, change_by}
+use Rattle.akl_model.specs.Conditions.{HasFailed, Makes}
 use Rattle.akl_model.specs.Stable.{Allows}
 use Rattle.akl_model.specs.Derivations.{after}
-use Rattle.akl_model.specs.Wakes.{names_down_to}
-use Rattle.akl_model.proofs.NamesKept.{box-itself}
 use Rattle.step_laws.proofs.Failing.{failing_found}
 use Rattle.local_store.specs.Chained.{ToldBy}
 use Rattle.plan_laws.specs.Right.{Reads}

@@ -1,5 +1,5 @@
 -- A plan of Fork is right.
-use Rattle.std.proofs.Common.{◌≡◌, ℕ, ◌<◌, ◌≤◌, ◌^◌, List, [], ◌∷◌, map, Option, Some, None, refl, sym, ◌∙◌, ap, subst, inl, inr, arith}
+use Rattle.std.proofs.Common.{◌≡◌, ℕ, ◌<◌, ◌≤◌, ◌^◌, List, [], ◌∷◌, map, Some, None, refl, sym, ◌∙◌, ap, subst, inl, inr}
 use Rattle.std.specs.Prelude.{IsSome, slice_get, slice_index}
 use Rattle.akl_terms.specs.declared.name.Name.{Name}
 use Rattle.akl_terms.specs.declared.name.Place.{Place}
@@ -8,7 +8,7 @@ use Rattle.akl_terms.specs.declared.program.Definition.{Definition}
 use Rattle.akl_model.specs.declared.item.Item.{Item}
 use Rattle.akl_model.specs.declared.label.Rule.{Rule}
 use Rattle.akl_model.specs.declared.label.Label.{Label}
-use Rattle.akl_model.specs.Config.{Atom, an_atom, a_choice, held_in, with_content, Found, whole}
+use Rattle.akl_model.specs.Config.{Atom, an_atom, a_choice, held_in, with_content, whole}
 use Rattle.akl_model.specs.Instances.{terms_from, instances, drawn_by}
 use Rattle.akl_model.specs.Rules.{nothing, Change, becomes, fork, fork_by, change_by}
 use Rattle.akl_model.specs.Conditions.{Makes}
@@ -17,7 +17,6 @@ use Rattle.akl_model.specs.Derivations.{after}
 use Rattle.akl_model.specs.Wakes.{names_down_to}
 use Rattle.local_store.specs.Stored.{Stored}
 use Rattle.plan_laws.specs.Right.{Reads}
-use Rattle.table_laws.specs.Rows.{stores_along}
 use Rattle.table_laws.specs.Stamped.{stamp_in}
 use Rattle.table_laws.specs.Steps as laws
 use Rattle.table_laws.specs.Steps.{ForksGoal, ReadsFor, IsSolvedIn, AreNewBoxes, AreSolvedIf}
@@ -30,7 +29,8 @@ use Rattle.box_tree.specs.Plans.{IsRead, IsRight}
 use Rattle.rule_plan.specs.declared.heads.Call.{Call}
 use Rattle.rule_plan.specs.Made.{AreMade}
 use Rattle.rule_plan.specs.Planned.{HasNoRule}
-use Rattle.rule_plan.proofs.NoRule.{goal_none, call_idle}
+use Rattle.rule_plan.proofs.NoRule.{goal_none}
+use Rattle.rule_plan.proofs.Idle.{call_idle}
 use Rattle.rule_plan.proofs.Sites.{goal_there, stand, found, whole_stands, stores_path, shows_at}
 use Rattle.rule_plan.proofs.NewBoxes.{all_made, all_solved}
 

@@ -1,16 +1,14 @@
 -- The boxes that are made for a call are the instances of its clauses.
-use Rattle.std.proofs.Common.{◌≡◌, ℕ, zero, suc, ◌+◌, ◌<◌, ◌≤◌, List, [], ◌∷◌, ◌++◌, map, length, take, Bool, true, false, cond, refl, sym, ◌∙◌, ap, subst, ◌⊎◌, inl, inr, append-nil, append_assoc, arith}
+use Rattle.std.proofs.Common.{◌≡◌, ℕ, zero, suc, ◌+◌, ◌<◌, ◌≤◌, List, [], ◌∷◌, ◌++◌, map, length, take, Bool, true, false, cond, refl, sym, ◌∙◌, ap, subst, ◌⊎◌, inl, inr, append-nil, arith}
 use Rattle.std.proofs.lemmas.Bool.Decides.{nat_tests}
 use Rattle.akl_terms.specs.declared.name.Name.{Name}
 use Rattle.akl_terms.specs.declared.name.Var.{Var}
 use Rattle.akl_terms.specs.declared.term.Node.{Node}
 use Rattle.akl_terms.specs.declared.term.Term.{Term}
-use Rattle.akl_terms.specs.declared.term.Equation as code
 use Rattle.akl_terms.specs.declared.program.Code.{Code}
 use Rattle.akl_terms.specs.declared.program.Goal.{Goal}
 use Rattle.akl_terms.specs.declared.program.Clause.{Clause}
 use Rattle.akl_terms.specs.Names.{is_before}
-use Rattle.akl_terms.specs.Tree.{Tree}
 use Rattle.akl_terms.specs.Equal.{Equations, IsTold}
 use Rattle.akl_terms.specs.Standing.{StandFor}
 use Rattle.akl_terms.proofs.StandingLaws.{StandFor-back, StandFor-on}
@@ -19,14 +17,12 @@ use Rattle.akl_model.specs.Instances.{term_at, terms_from, atom_of, atoms_of, wi
 use Rattle.rational_unify.specs.Solving.{bindings_in, equations_in}
 use Rattle.local_store.specs.declared.telling.ToldStore.{ToldStore}
 use Rattle.local_store.specs.Stored.{Stored}
-use Rattle.local_store.specs.Chained.{bindings_from, innermost, around, replaced, IsSolvedChain, IsKnown}
-use Rattle.local_store.specs.Telling.{AnswersTold}
+use Rattle.local_store.specs.Chained.{IsSolvedChain, IsKnown}
 use Rattle.local_store.proofs.Layers.{from-last}
 use Rattle.rational_unify.specs.Forms.{IsFormOf}
 use Rattle.rational_unify.proofs.Taking.{take-all}
 use Rattle.akl_model.proofs.Orders.{lt_or}
 use Rattle.table_laws.specs.Rows.{Table, stores_along, told_in, ports_in}
-use Rattle.table_laws.specs.Steps as laws
 use Rattle.table_laws.specs.Steps.{AreAtoms, IsNewBox, AreNewBoxes, IsSolvedIf, AreSolvedIf}
 use Rattle.table_laws.proofs.Stores.{told_join}
 use Rattle.box_tree.specs.declared.step.NewBox.{NewBox}
@@ -139,47 +135,3 @@ all_solved T ns call w n (c ∷ cs) (b ∷ bs) m = (
     on : (t : Bool) → (t ≡ true → IsSolvedChain T.nodes (stores_along T ns ++ b.store ∷ [])) → IsSolvedIf t T ns b.store
     on false h = tt
     on true h = h refl
-
--- a store without bindings leaves a chain as known as it was, and one more
-take_front : (k : ℕ) (ss ts : List Stored) → k ≤ length ss → take k (ss ++ ts) ≡ take k ss
-take_front zero ss ts h = refl
-take_front (suc k) [] ts h = absurd (omega arith)
-take_front (suc k) (s ∷ ss) ts h = ap (λ (l : List Stored). s ∷ l) (take_front k ss ts (omega arith))
-
-long_push : (ss : List Stored) (s : Stored) → length (ss ++ s ∷ []) ≡ length ss + 1
-long_push [] s = omega arith
-long_push (r ∷ ss) s = let h : length (ss ++ s ∷ []) ≡ length ss + 1 = long_push ss s in omega arith
-
-framed : (nodes : List Node) (path : List Stored) (frame : Name) → IsSolvedChain nodes path → IsSolvedChain nodes (path ++ store_with frame ∷ [])
-framed nodes path frame h = subst (λ (l : List (Var × Term)). IsFormOf nodes l (IsTold (bindings_in nodes l))) (sym (from-last path (store_with frame))) h
-
-pub more_known : (nodes : List Node) (path : List Stored) (frame : Name) (known more : ℕ) → IsKnown nodes path known → MoreKnown known (length path) more → IsKnown nodes (path ++ store_with frame ∷ []) more
-more_known nodes path frame known more h (inl e) = record {
-  within = let l : length (path ++ store_with frame ∷ []) ≡ length path + 1 = long_push path (store_with frame) in let x : known ≤ length path = h.within in omega arith;
-  each = λ k q. subst (IsSolvedChain nodes) (sym (take_front k path (store_with frame ∷ []) (let x : known ≤ length path = h.within in omega arith))) (h.each k (omega arith));
-}
-more_known nodes path frame known more h (inr w) = record {
-  within = let e : known ≡ length path = w.0 in let n : more ≡ suc known = w.1 in let l : length (path ++ store_with frame ∷ []) ≡ length path + 1 = long_push path (store_with frame) in omega arith;
-  each = λ k q. on k q (lt_or k more);
-}
-  where
-    same : known ≡ length path
-    same = w.0
-
-    next : more ≡ suc known
-    next = w.1
-
-    long : length (path ++ store_with frame ∷ []) ≡ length path + 1
-    long = long_push path (store_with frame)
-
-    whole : IsSolvedChain nodes path
-    whole = subst (IsSolvedChain nodes) (take-all path known (sym same)) (h.each known (omega arith))
-
-    at_end : (k : ℕ) → length (path ++ store_with frame ∷ []) ≡ k → IsSolvedChain nodes (take k (path ++ store_with frame ∷ []))
-    at_end k e = subst (IsSolvedChain nodes) (sym (take-all (path ++ store_with frame ∷ []) k e)) (framed nodes path frame whole)
-
-    on : (k : ℕ) → k ≤ more → (k < more) ⊎ ((k ≡ more) ⊎ (more < k)) → IsSolvedChain nodes (take k (path ++ store_with frame ∷ []))
-    on k q (inl x) = let e : known ≡ length path = same in let n : more ≡ suc known = next in
-        subst (IsSolvedChain nodes) (sym (take_front k path (store_with frame ∷ []) (omega arith))) (h.each k (omega arith))
-    on k q (inr (inl x)) = let e : known ≡ length path = same in let n : more ≡ suc known = next in let l : length (path ++ store_with frame ∷ []) ≡ length path + 1 = long in at_end k (omega arith)
-    on k q (inr (inr x)) = absurd (omega arith)

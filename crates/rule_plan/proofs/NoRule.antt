@@ -1,5 +1,5 @@
 -- Places at which no rule in force applies.
-use Rattle.std.proofs.Common.{◌≡◌, ℕ, ◌<◌, ◌≤◌, ◌^◌, List, [], ◌∷◌, Option, Some, None, refl, sym, ◌∙◌, ap, subst, ◌⊎◌, inl, inr, arith}
+use Rattle.std.proofs.Common.{◌≡◌, ℕ, ◌<◌, ◌≤◌, ◌^◌, List, Option, Some, None, refl, sym, ◌∙◌, ap, subst, ◌⊎◌, inl, inr, arith}
 use Rattle.std.specs.Prelude.{slice_get, slice_index}
 use Rattle.akl_terms.specs.declared.name.Name.{Name}
 use Rattle.akl_terms.specs.declared.name.Place.{Place}
@@ -19,12 +19,12 @@ use Rattle.akl_model.specs.Stable.{Allows}
 use Rattle.akl_model.specs.Derivations.{IsInForce, Applies}
 use Rattle.akl_model.proofs.Options.{some_value}
 use Rattle.akl_model.proofs.Results.{Derives-one}
-use Rattle.table_laws.specs.Stamped.{IsTableOf}
 use Rattle.box_tree.specs.declared.view.Sight.{Sight}
-use Rattle.box_tree.specs.Tables.{rules_in_force, goal_atom, table_of}
-use Rattle.box_tree.specs.Views.{ViewValue, IsViewOf, Shows, run_of}
+use Rattle.box_tree.specs.Tables.{rules_in_force, goal_atom}
+use Rattle.box_tree.specs.Views.{ViewValue, IsViewOf, Shows}
 use Rattle.rule_plan.specs.Planned.{HasNoRule}
 use Rattle.rule_plan.proofs.Sites.{shows_at}
+use Rattle.rule_plan.proofs.Idle.{IsIdle, choice_idle, IsOther, other_idle}
 
 -- one configuration and one box
 pub has_none : (v : ViewValue) (i : IsViewOf v)
@@ -42,11 +42,6 @@ has_none v i f = record {
 
     on : (c : Config) → c ≡ i.table.config → (l : Label) (d : Config) → Applies rules_in_force v.table.program c l d → l.place ≡ v.place → ⊥
     on c same l d a e = at l d (subst (λ (k : Config). Applies rules_in_force v.table.program k l d) same a) e
-
--- a goal of which neither Tell nor Fork makes anything
-pub record IsIdle (p : Program) (h : Held) : Type 0 where
-  pub tells : (g : Name) (f : Found) → tell g f (Some h) ≡ None
-  pub forks : (w next : ℕ) (g : Name) (f : Found) (c : Change) → fork p w next g f (Some h) ≡ Some c → c.drawn < 2 ^ 32 → ⊥
 
 pub goal_none : (v : ViewValue) (i : IsViewOf v) (g : Name) (h : Held) → v.place ≡ Place.Goal g → held_in g i.site.goals ≡ Some h → IsIdle v.table.program h → HasNoRule v
 goal_none v i g h p held idle = has_none v i (λ l change e r m. by l.rule l.alternative m.reading l.worker (slice_index i.table.config.next l.worker) change r
@@ -78,38 +73,6 @@ goal_none v i g h p held idle = has_none v i (λ l change e r m. by l.rule l.alt
     by rule a reading w next c (inr (inl e)) x few = second rule a reading w next c e x few
     by rule a reading w next c (inr (inr (inl e))) x few = third rule a reading w next c e x
     by rule a reading w next c (inr (inr (inr z))) x few = z
-
-none_made : (c : Change) → None ≡ Some c → ⊥
-none_made c e = cc
-
--- what isn't an equation, and a call that has no definition or draws too many names
-
-pub choice_idle : (p : Program) (o : Op) (bs : Boxes) → IsIdle p (a_choice o bs)
-choice_idle p o bs = record { tells = λ g f. refl; forks = λ w next g f c e few. none_made c e }
-
--- neither an equation nor a call
-abbrev pub IsOther : Atom → Type 0
-IsOther (Atom.equation s t) = ⊥
-IsOther (Atom.call d ts) = ⊥
-IsOther a = Unit {0}
-
-pub other_idle : (p : Program) (a : Atom) → IsOther a → IsIdle p (an_atom a)
-other_idle p (Atom.equation s t) o = absurd o
-other_idle p (Atom.call d ts) o = absurd o
-other_idle p (Atom.arithmetic test s t) o = record { tells = λ g f. refl; forks = λ w next g f c e few. none_made c e }
-other_idle p (Atom.open_port s t) o = record { tells = λ g f. refl; forks = λ w next g f c e few. none_made c e }
-other_idle p (Atom.send s t) o = record { tells = λ g f. refl; forks = λ w next g f c e few. none_made c e }
-other_idle p Atom.fail o = record { tells = λ g f. refl; forks = λ w next g f c e few. none_made c e }
-
-pub call_idle : (p : Program) (d : ℕ) (ts : List Tree) → ((x : Definition) → slice_get p.definitions d ≡ Some x → 2 ^ 32 ≤ drawn_by x.clauses) → IsIdle p (an_atom (Atom.call d ts))
-call_idle p d ts many = record { tells = λ g f. refl; forks = λ w next g f c e few. on w next g f c (slice_get p.definitions d) refl e few }
-  where
-    on : (w next : ℕ) (g : Name) (f : Found) (c : Change) (o : Option Definition) → slice_get p.definitions d ≡ o → fork_by p w next g ts f o ≡ Some c → c.drawn < 2 ^ 32 → ⊥
-    on w next g f c None q e few = none_made c e
-    on w next g f c (Some x) q e few =
-        let r : drawn_by x.clauses ≡ c.drawn = ap (λ (k : Change). k.drawn) (some_value e) in
-        let m : 2 ^ 32 ≤ drawn_by x.clauses = many x q in
-        omega arith
 
 -- a box that is consistent, and has no goal by which it fails
 pub box_none : (v : ViewValue) (i : IsViewOf v) (n : Name) → v.place ≡ Place.Box n → (HasFailed i.site.goals → ⊥) → IsConsistent (whole i.site) → HasNoRule v

@@ -1,9 +1,8 @@
 -- What a view shows of the box of its place.
-use Rattle.std.proofs.Common.{◌≡◌, ℕ, List, [], ◌∷◌, ◌++◌, Option, Some, None, refl, sym, ◌∙◌, ap, subst, inl, inr}
+use Rattle.std.proofs.Common.{◌≡◌, List, [], ◌∷◌, ◌++◌, Option, Some, sym, ◌∙◌, ap, subst, inl, inr}
 use Rattle.std.specs.Prelude.{option_map, option_and_then, is_some, IsSome}
 use Rattle.akl_terms.specs.declared.name.Name.{Name}
 use Rattle.akl_terms.specs.declared.name.Place.{Place}
-use Rattle.akl_terms.specs.declared.term.Node.{Node}
 use Rattle.akl_terms.specs.Equal.{IsTold}
 use Rattle.akl_terms.specs.Standing.{StandFor}
 use Rattle.akl_model.specs.declared.item.Item.{Item}
@@ -16,7 +15,7 @@ use Rattle.step_laws.proofs.Whereabouts.{found_in}
 use Rattle.step_laws.proofs.Deeper.{Over, over, named_found, home_found}
 use Rattle.local_store.specs.Stored.{Stored}
 use Rattle.table_laws.specs.Rows.{BoxRow, GoalRow, Table, store_in, stores_along, told_in}
-use Rattle.table_laws.specs.Unfolds.{IsBoxRow, Spot, spot_of, spot_in, Unfolds}
+use Rattle.table_laws.specs.Unfolds.{IsBoxRow, Spot, spot_of, Unfolds}
 use Rattle.table_laws.specs.Stamped.{store_stamp, goal_stamp, stamp_in}
 use Rattle.table_laws.proofs.Stores.{told_along, stores_join, in_either}
 use Rattle.table_laws.proofs.Frame.{row_of, around_stands}

@@ -1,39 +1,36 @@
 -- A plan of Tell is right.
-use Rattle.std.proofs.Common.{◌≡◌, ℕ, List, [], ◌∷◌, ◌++◌, map, Option, Some, None, Bool, true, false, refl, sym, ◌∙◌, ap, subst, ◌⊎◌, inl, inr, arith}
-use Rattle.std.specs.Prelude.{IsSome, IsTrue, slice_index}
+use Rattle.std.proofs.Common.{◌≡◌, ℕ, List, [], ◌∷◌, ◌++◌, map, Some, None, Bool, true, false, refl, sym, ◌∙◌, ap, subst, inl, inr, arith}
+use Rattle.std.specs.Prelude.{IsSome, slice_index}
 use Rattle.akl_terms.specs.declared.name.Name.{Name}
 use Rattle.akl_terms.specs.declared.name.Place.{Place}
-use Rattle.akl_terms.specs.declared.term.Node.{Node}
 use Rattle.akl_terms.specs.declared.term.Term.TheVariants.{Mol}
 use Rattle.akl_terms.specs.declared.term.Equation as code
 use Rattle.akl_terms.specs.declared.program.Code.{Code}
-use Rattle.akl_terms.specs.Tree.{Tree}
 use Rattle.akl_terms.specs.Equal.{Equations, IsTold}
 use Rattle.akl_terms.specs.Standing.{StandFor}
 use Rattle.akl_terms.proofs.StandingLaws.{StandFor-back, StandFor-on}
 use Rattle.akl_model.specs.declared.item.Item.{Item}
 use Rattle.akl_model.specs.declared.label.Rule.{Rule}
 use Rattle.akl_model.specs.declared.label.Label.{Label}
-use Rattle.akl_model.specs.Config.{Atom, IsIn, an_atom, held_in, without_goal, Held, Found, environment, whole}
+use Rattle.akl_model.specs.Config.{Atom, IsIn, an_atom, held_in, without_goal, environment, whole}
 use Rattle.akl_model.specs.Instances.{term_at}
 use Rattle.akl_model.specs.Rules.{nothing, Change, becomes, telling, tell, change_by}
 use Rattle.akl_model.specs.Conditions.{Makes}
 use Rattle.akl_model.specs.Stable.{Allows}
 use Rattle.akl_model.specs.Derivations.{after}
-use Rattle.akl_model.specs.Wakes.{names_around, names_down_to}
+use Rattle.akl_model.specs.Wakes.{names_around}
 use Rattle.rational_unify.specs.Solving.{bindings_in, equations_in}
 use Rattle.local_store.specs.declared.telling.ToldStore.{ToldStore}
 use Rattle.local_store.specs.Stored.{Stored}
-use Rattle.local_store.specs.Chained.{innermost, around, replaced, IsSolvedChain}
-use Rattle.local_store.specs.Telling.{Tells, AnswersTold}
+use Rattle.local_store.specs.Chained.{innermost, around, IsSolvedChain}
+use Rattle.local_store.specs.Telling.{AnswersTold}
 use Rattle.plan_laws.specs.Right.{Reads}
 use Rattle.table_laws.specs.Rows.{stores_along, told_in, ports_in}
 use Rattle.table_laws.specs.Stamped.{stamp_in}
 use Rattle.table_laws.specs.Steps.{TellsGoal, IsSolvedIf}
-use Rattle.table_laws.proofs.Stores.{told_along}
 use Rattle.box_tree.specs.declared.step.Step.{Step}
 use Rattle.box_tree.specs.declared.view.Sight.{Sight}
-use Rattle.box_tree.specs.Tables.{rules_in_force, table_of}
+use Rattle.box_tree.specs.Tables.{table_of}
 use Rattle.box_tree.specs.Views.{ViewValue, IsViewOf}
 use Rattle.box_tree.specs.Plans.{IsRead, IsRight}
 use Rattle.rule_plan.proofs.Sites.{goal_there, store_there, stand, found, row, environment_stands, whole_stands, stores_split, shows_at}

@@ -1,7 +1,6 @@
 use Rattle.std.proofs.Common.{List, [], sym, subst, append-nil}
 use Rattle.std.proofs.lemmas.List.{at_drop_all}
 use Rattle.akl_terms.specs.declared.program.Clause.{Clause}
-use Rattle.box_tree.specs.declared.step.NewBox.{NewBox}
 use Rattle.rule_plan.specs.Made.{AreMade}
 use Rattle.rule_plan.proofs.boxes.new_boxes.Goals as goal
 

@@ -1,5 +1,4 @@
-use Rattle.std.proofs.Common.{ap, length}
-use Rattle.rule_plan.proofs.NewBoxes.{more_known}
+use Rattle.rule_plan.proofs.Framed.{more_known}
 use Rattle.rule_plan.proofs.heads.head_store.Goals as goal
 
 pub of_solved-inner-requires : goal.of_solved-inner-requires

@@ -1,4 +1,4 @@
-use Rattle.std.proofs.Common.{◌∙◌, refl, sym}
+use Rattle.std.proofs.Common.{◌∙◌, sym}
 use Rattle.rule_plan.proofs.NoRule.{choice_none}
 use Rattle.rule_plan.proofs.planning.plan.Goals as goal
 

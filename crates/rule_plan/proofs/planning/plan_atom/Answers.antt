@@ -3,7 +3,8 @@ use Rattle.akl_terms.specs.declared.name.Name.{Name}
 use Rattle.akl_terms.specs.declared.term.Node.{Node}
 use Rattle.akl_terms.specs.declared.program.Code.{Code}
 use Rattle.akl_model.specs.Instances.{atom_of}
-use Rattle.rule_plan.proofs.NoRule.{IsOther, atom_none}
+use Rattle.rule_plan.proofs.Idle.{IsOther}
+use Rattle.rule_plan.proofs.NoRule.{atom_none}
 use Rattle.rule_plan.proofs.planning.plan_atom.Goals as goal
 
 other_code : (nodes : List Node) (f : Name) (code : Code) → ((l r : ℕ) → code ≡ Code.Equal l r → ⊥) → ((d first n : ℕ) → code ≡ Code.Call d first n → ⊥) → IsOther (atom_of nodes f code)
