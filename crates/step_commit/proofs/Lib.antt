@@ -1,3 +1,2 @@
 pub mod LastChanges
 pub mod Committed
-pub mod Stale
