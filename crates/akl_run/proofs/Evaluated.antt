@@ -12,7 +12,7 @@ use Rattle.akl_run.specs.declared.solved_form.SolvedForm.{SolvedForm}
 use Rattle.akl_run.specs.Journals.{AreBy}
 use Rattle.akl_run.specs.Text.{no_answers, an_answer, here}
 use Rattle.akl_run.specs.Engine.{receipts_from, told_box, EndsBy}
-use Rattle.akl_run.specs.RunTexts.{HasShownVariables, AreBelow, IsTextBy, IsTooLongBy}
+use Rattle.akl_run.specs.RunTexts.{HasShownVariables, AreBelow, IsSolvedBy, IsTextBy, IsTooLongBy}
 use Rattle.akl_run.specs.Evaluations.{status_by}
 use Rattle.akl_run.specs.Reports.{IsStatusOf, IsRunBy, HasLongRun}
 use Rattle.akl_run.proofs.Commits.{receipts-of_one}
@@ -31,6 +31,11 @@ outcome_by (Some s) = done
 pub status_of : (o : Option SolvedForm) → IsStatusOf (status_by o) (outcome_by o)
 status_of None = refl
 status_of (Some s) = refl
+
+-- what stands for the terms of a run is a solved form
+pub solved_by : (l : Loaded) (journal : List Label) (o : Option SolvedForm) → EndsBy l journal o → IsSolvedBy l o
+solved_by l journal None e = tt
+solved_by l journal (Some s) e = e.solved
 
 number_one : codes "answer 1\n" ≡ codes "answer " ++ decimal 1 ++ 10 ∷ []
 unfolding digits

@@ -1,4 +1,3 @@
-pub mod Chains
 pub mod Represented
 pub mod Commits
 pub mod Derived

@@ -17,7 +17,7 @@ use Rattle.answer_text.specs.Classes.{Represents}
 use Rattle.akl_run.specs.declared.loaded.Loaded.{Loaded}
 use Rattle.akl_run.specs.Runs.{IsRun}
 use Rattle.akl_run.specs.Journals.{AreBy}
-use Rattle.rational_unify.specs.Known.{end_of}
+use Rattle.rational_unify.specs.Known.{IsSolved, end_of}
 use Rattle.akl_run.specs.declared.solved_form.SolvedForm.{SolvedForm}
 use Rattle.akl_run.specs.declared.engine.Run.{Run}
 
@@ -91,9 +91,10 @@ told_box l = record {
   shown = map (shown_of query_frame) l.query.shown;
 }
 
--- the equations are consistent, and the form gives what stands for each term
+-- the equations are consistent, and the solved form gives what stands for each term
 pub record IsAnswered (l : Loaded) (journal : List Label) (s : SolvedForm) : Type 0 where
   pub run : IsRun l journal (told_box l ∷ []) done
+  pub solved : IsSolved l.program.templates.nodes s.bindings
   pub represents : Represents (told_box l).equations (end_of l.program.templates.nodes s.bindings)
 
 -- the run has ended: with an answer, or the box has failed

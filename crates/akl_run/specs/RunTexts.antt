@@ -10,7 +10,7 @@ use Rattle.answer_text.specs.Classes.{Represents}
 use Rattle.answer_text.specs.Answers.{longest_answer, AreTooLong, shown_trees}
 use Rattle.akl_run.specs.declared.loaded.Loaded.{Loaded}
 use Rattle.akl_run.specs.Text.{shown_lines}
-use Rattle.rational_unify.specs.Known.{end_of}
+use Rattle.rational_unify.specs.Known.{IsSolved, end_of}
 use Rattle.akl_run.specs.Engine.{query_frame}
 use Rattle.akl_run.specs.declared.solved_form.SolvedForm.{SolvedForm}
 
@@ -29,6 +29,11 @@ shown_by l terms = shown_trees l.program.templates terms ≡ shown_lines (map (s
 -- the lines of the query's box
 abbrev pub box_lines : Loaded → List (List ℕ × Tree)
 box_lines l = shown_lines (map (shown_of query_frame) l.query.shown)
+
+-- what stands for its terms, where it is given, is a solved form
+abbrev pub IsSolvedBy : Loaded → Option SolvedForm → Type 0
+IsSolvedBy l None = Unit {0}
+IsSolvedBy l (Some s) = IsSolved l.program.templates.nodes s.bindings
 
 -- where each term leads, by what stands for it
 abbrev pub goes_by : Loaded → SolvedForm → Tree → Tree

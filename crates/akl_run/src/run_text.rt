@@ -1,7 +1,7 @@
 //! The text of a run.
 
 ghost use Rattle.std.specs.Prelude.{◌≡◌, IfOk, Err};
-ghost use Rattle.akl_run.specs.RunTexts.{HasShownVariables, shown_by, IsTextBy, IsTooLongBy};
+ghost use Rattle.akl_run.specs.RunTexts.{HasShownVariables, shown_by, IsSolvedBy, IsTextBy, IsTooLongBy};
 ghost use Rattle.answer_text.specs.declared.lines.AnswerError.TheVariants as variants;
 ghost use Rattle.akl_run.specs.Loads.{HasVariables};
 
@@ -38,6 +38,7 @@ pub fn run_text(
 ) -> Result<Vec<u8>, AnswerError>
     requires variables { HasVariables loaded.now }
     requires shown { HasShownVariables loaded.now }
+    requires solved { IsSolvedBy loaded.now solved.now }
     ensures text { IfOk result (λ text. IsTextBy loaded.now solved.now text.items) }
     ensures long { result ≡ Err variants.Long → IsTooLongBy loaded.now solved.now }
 {

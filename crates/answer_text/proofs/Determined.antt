@@ -94,7 +94,7 @@ module _ (symbols : List (List ℕ)) (E : Equations) (c : IsConsistent E) where
   compound-only seen new s text n name w ws is no_cell e (cell {t = u} {u = v} {f = g} q m ps z) =
       let o : IsOneSymbol E g n (more u (more v none)) (more w ws) = symbols_of E c s g n (more u (more v none)) (more w ws) q e in
       let d : codes "." ≡ name = one_name symbols g n (codes ".") name o.symbols m is in
-      let x : is_cell name (more u (more v none)) ≡ is_cell name (more w ws) = is_cell-alike E name (more u (more v none)) (more w ws) o.arguments in
+      let x : is_cell name (more u (more v none)) ≡ is_cell name (more w ws) = is_cell-alike (Equal E) name (more u (more v none)) (more w ws) o.arguments in
       let y : true ≡ false = ap (λ (z : List ℕ). bytes_eq z (codes ".")) d ∙ x ∙ no_cell in absurd cc
   compound-only seen new s text n name w ws is no_cell e (compound {t = u} {ts = ts} {f = g} {name = other} {text = x} q m k ps) =
       let o : IsOneSymbol E g n (more u ts) (more w ws) = symbols_of E c s g n (more u ts) (more w ws) q e in
@@ -110,7 +110,7 @@ module _ (symbols : List (List ℕ)) (E : Equations) (c : IsConsistent E) where
   cell-only seen new s text n a b is e (compound {t = u} {ts = ts} {f = g} {name = name} q m k ps) =
       let o : IsOneSymbol E g n (more u ts) (more a (more b none)) = symbols_of E c s g n (more u ts) (more a (more b none)) q e in
       let w : name ≡ codes "." = one_name symbols g n name (codes ".") o.symbols m is in
-      let x : is_cell name (more u ts) ≡ is_cell name (more a (more b none)) = is_cell-alike E name (more u ts) (more a (more b none)) o.arguments in
+      let x : is_cell name (more u ts) ≡ is_cell name (more a (more b none)) = is_cell-alike (Equal E) name (more u ts) (more a (more b none)) o.arguments in
       let y : true ≡ false = sym (x ∙ ap (λ (z : List ℕ). bytes_eq z (codes ".")) w) ∙ k in absurd cc
   cell-only seen new s text n a b is e (cell {middle = middle} {t = u} {u = v} {f = g} {first = x} {rest = y} q m ps z) =
       let o : IsOneSymbol E g n (more u (more v none)) (more a (more b none)) = symbols_of E c s g n (more u (more v none)) (more a (more b none)) q e in

@@ -16,3 +16,5 @@ pub mod WorkedOut
 pub mod WrittenOut
 pub mod CycleExamples
 pub mod LoopGraph
+pub mod TextsStand
+pub mod FormEnds

@@ -1,7 +1,7 @@
 //! Laws of all texts of answers, each the contract of a function without a body.
 
 ghost use Rattle.answer_text.specs.Examples.{CyclicListLaw, LoopGraphLaw, TwoCyclesLaw};
-ghost use Rattle.answer_text.specs.Laws.{OneTextLaw, RepresentedTextLaw, TextLaw, WrittenOutLaw};
+ghost use Rattle.answer_text.specs.Laws.{LongTextsStandLaw, OneTextLaw, RepresentedTextLaw, TextLaw, TextsStandLaw, WrittenOutLaw};
 
 /// Consistent equations have at most one text of an answer.
 pub fn one_text()
@@ -18,6 +18,12 @@ pub fn text_exists()
 /// Lines with every tree written out are the text of the answer: no tree of them is cyclic.
 pub fn written_out()
     ensures { WrittenOutLaw }
+{}
+
+/// Equations that stand for others give their texts, and only too long ones where these do.
+pub fn texts_stand()
+    ensures texts { TextsStandLaw }
+    ensures long { LongTextsStandLaw }
 {}
 
 /// Small cyclic trees, their texts, and a graph that is worked out.

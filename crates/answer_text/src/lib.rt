@@ -6,10 +6,8 @@ mod laws;
 mod lines;
 mod piece;
 mod printer;
-mod representatives;
 mod symbol;
 
-pub use laws::{cyclic_texts, one_text, text_exists, written_out};
+pub use laws::{cyclic_texts, one_text, text_exists, texts_stand, written_out};
 pub use lines::{AnswerError, answer};
-pub use representatives::Representatives;
 pub use symbol::symbol_text;

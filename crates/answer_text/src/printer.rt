@@ -3,13 +3,14 @@
 ghost use Rattle.std.specs.Prelude.{◌≡◌, ◌<◌, ◌+◌, ◌^◌, ◌∷◌, [], length, OnOk, IfSome, IfNone};
 ghost use Rattle.std.specs.Fmt.{signed_decimal};
 ghost use Rattle.akl_terms.specs.Template.{IsKnown};
+ghost use Rattle.rational_unify.specs.Known.{IsSolved, end_of};
 ghost use Rattle.answer_text.specs.Pieces.{Begins, Grows, IsShort, class_printed, with_bytes, argument_pieces, cell_pieces, names_cell, names_end, line_begun, whole_begun, tail_begun, symbol_begun, partial_begun};
 
 use crate::classes::Classes;
 use crate::piece::Piece;
-use crate::representatives::Representatives;
 use crate::symbol::{push_constant, push_symbol};
 use akl_terms::{Name, Seen, Templates, Term, Var};
+use rational_unify::{Lookup, chain_end};
 use std::alloc::{AllocError, Global};
 use std::collections::VecDeque;
 use std::marker::Model;
@@ -75,24 +76,25 @@ impl Printer {
     }
 
     /// Begins a piece: prints what is known of it, and leaves the rest to be printed.
-    pub fn begin<V: Representatives>(
+    pub fn begin<K: Lookup>(
         &mut self,
         templates: &Templates,
-        values: &V,
+        form: &K,
         piece: Piece,
     ) -> Result<(), AllocError>
-        ensures begins { OnOk result (Begins templates.now (V.go values.now templates.now.nodes) piece self.old self.new) }
+        requires { IsSolved templates.now.nodes (K.bindings form.now) }
+        ensures begins { OnOk result (Begins templates.now (end_of templates.now.nodes (K.bindings form.now)) piece self.old self.new) }
         ensures grows { OnOk result (Grows self.old self.new) }
     {
         match piece {
             Piece::Byte(byte) => Ok(self.out.push(byte)?),
             Piece::Whole(term) => {
-                let seen = templates.look(values.representative(templates, term));
+                let seen = templates.look(chain_end(templates, form, term));
                 self.begin_whole(templates, seen)?;
                 Ok(())
             }
             Piece::Tail(term) => {
-                let seen = templates.look(values.representative(templates, term));
+                let seen = templates.look(chain_end(templates, form, term));
                 self.begin_tail(templates, term, seen)?;
                 Ok(())
             }

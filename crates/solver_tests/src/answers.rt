@@ -2,41 +2,15 @@
 
 ghost use Rattle.std.specs.Prelude.{◌≡◌};
 
-use akl_terms::{Name, Node, ShownTerm, Templates, Term, Text};
+use akl_terms::{Name, Node, ShownTerm, Templates, Term, Text, Var};
 use answer_text::{
-    AnswerError, Representatives, answer, cyclic_texts, one_text, symbol_text, text_exists,
-    written_out,
+    AnswerError, answer, cyclic_texts, one_text, symbol_text, text_exists, texts_stand, written_out,
 };
+use chain_text::chain_answer;
+use local_store::{Chain, Consistency, Shared, Store, consistent};
+use rational_unify::Nothing;
 use std::alloc::{AllocError, Global};
 use std::test::Fail;
-
-#[derive(Drop)]
-struct Themselves;
-
-impl Representatives for Themselves {
-    ghost go = { λ _ _ t. t };
-
-    fn representative(&self, templates: &Templates, term: Term) -> Term {
-        let _ = templates;
-        term
-    }
-}
-
-/// One term stands for all.
-#[derive(Drop)]
-struct OneForAll(Term);
-
-impl Representatives for OneForAll {
-    ghost use Rattle.akl_terms.specs.Template.{tree};
-
-    ghost go = { λ s nodes _. tree nodes s.0 };
-
-    fn representative(&self, templates: &Templates, term: Term) -> Term {
-        let _ = templates;
-        let _ = term;
-        self.0
-    }
-}
 
 const FRAME: Name = Name {
     worker: 0,
@@ -113,22 +87,101 @@ fn each_kind_of_term_is_written(rt: HostRuntime) -> Result<(), Fail> {
         lines.push(shown(alloc, name, mol(node))?)?;
     }
     lines.push(shown(alloc, "P", Term::Port(FRAME))?)?;
-    let text = answer(alloc, &templates, &Themselves, &lines)?;
+    let text = answer(alloc, &templates, &Nothing, &lines)?;
     let expected =
         b"A = _1\nB = _2\nC = [_2|_1]\nD = [_2]\nE = []\nF = 'it\\'s'\nG = f(-7,[_2|_1])\nP = port\n";
     assert_eq!(rt; text.as_slice(), expected.as_slice());
     Ok(())
 }
 
+/// A variable or a term by its name in a case.
+fn term_of(name: &str) -> Result<Term, Fail> {
+    Ok(match name {
+        "X" => mol(0),
+        "Y" => mol(1),
+        "[X|Y]" => mol(2),
+        "[]" => mol(3),
+        "[X]" => mol(7),
+        number => Term::Int(number.parse::<i64>()?),
+    })
+}
+
+/// The store of bindings such as `X=[] Y=1`.
+fn store_of(alloc: Global, text: &str) -> Result<Store, Fail> {
+    let mut store = Store::new(alloc);
+    for told in text.split(' ') {
+        if let Some((variable, name)) = told.split_once('=') {
+            let index = match variable {
+                "X" => 0,
+                _ => 1,
+            };
+            let frame = FRAME;
+            store.add_binding(Var { frame, index }, term_of(name)?)?;
+        }
+    }
+    Ok(store)
+}
+
+/// The stores of bindings with `/` between, from the outermost inwards.
+fn stores_of(alloc: Global, text: &str) -> Result<Vec<Shared<Store>>, Fail> {
+    let mut stores = Vec::new(alloc);
+    for told in text.split('/') {
+        stores.push(Shared::new(alloc, store_of(alloc, told)?)?)?;
+    }
+    Ok(stores)
+}
+
+/// The lines of what X and Y are, or a word.
+fn wanted(alloc: Global, want: &str) -> Result<String, AllocError> {
+    match want.split_once(' ') {
+        Some((x, y)) => format!(in alloc; "X = {x}\nY = {y}\n"),
+        None => String::from_str(alloc, want),
+    }
+}
+
+/// The answer of X and Y under stores, or a word where there is none.
+fn text_under(
+    alloc: Global,
+    templates: &Templates,
+    stores: &[Shared<Store>],
+) -> Result<Vec<u8>, AllocError> {
+    let lines = [shown(alloc, "X", mol(0))?, shown(alloc, "Y", mol(1))?];
+    let chain = Chain::new(templates, stores);
+    match consistent(alloc, &chain)? {
+        Consistency::Clash { left: _, right: _ } => Vec::from_slice(alloc, b"clash"),
+        Consistency::Consistent => match chain_answer(alloc, &chain, &lines) {
+            Ok(text) => Ok(text),
+            Err(AnswerError::Long) => Vec::from_slice(alloc, b"long"),
+            Err(AnswerError::Memory(error)) => Err(error),
+        },
+    }
+}
+
+/// The stores from the outermost inwards, each with its bindings, and what X and Y are.
+const CHAINS: &str = r"
+- => _1 _2
+X=Y => _1 _1
+- / Y=X / - => _1 _1
+X=Y Y=[] => [] []
+X=Y / Y=[] => [] []
+Y=[] / X=Y => [] []
+Y=[X] / X=-7 => -7 [-7]
+X=Y X=3 => 3 3
+Y=[X] / Y=[X|Y] => clash
+X=1 / X=Y / Y=2 => clash
+X=-9223372036854775808 / Y=[X|Y] => long
+";
+
 #[test]
-fn a_tree_without_an_end_is_long(rt: HostRuntime) -> Result<(), Fail> {
+fn what_is_shown_is_written_under_all_stores(rt: HostRuntime) -> Result<(), Fail> {
     let alloc = rt.alloc();
     let templates = templates(alloc)?;
-    let mut lines = Vec::new(alloc);
-    lines.push(shown(alloc, "X", mol(0))?)?;
-    for node in [2, 10] {
-        let text = answer(alloc, &templates, &OneForAll(mol(node)), &lines);
-        assert!(rt; matches!(text, Err(AnswerError::Long)), "{node}");
+    for case in CHAINS.lines().skip(1) {
+        let (told, want) = case.split_once(" => ").ok_or("case")?;
+        let stores = stores_of(alloc, told)?;
+        let found = text_under(alloc, &templates, stores.as_slice())?;
+        let expected = wanted(alloc, want)?;
+        assert_eq!(rt; found.as_slice(), expected.as_bytes(), "{case}");
     }
     Ok(())
 }
@@ -153,6 +206,7 @@ fn symbols_are_written_plainly_or_in_quotes(rt: HostRuntime) -> Result<(), Fail>
     one_text();
     written_out();
     text_exists();
+    texts_stand();
     cyclic_texts();
     let alloc = rt.alloc();
     for case in SYMBOLS.lines().skip(1) {

@@ -1,7 +1,7 @@
 use Rattle.std.proofs.Common.{◌≡◌, ◌+◌, ◌++◌, ◌∷◌, [], length, ap, sym, ◌∙◌, subst, arith, refl}
 use Rattle.akl_model.specs.Derivations.{done}
 use Rattle.answer_text.specs.Classes.{Represents}
-use Rattle.rational_unify.specs.Known.{end_of}
+use Rattle.rational_unify.specs.Known.{IsSolved, end_of}
 use Rattle.rational_unify.specs.Solving.{IsSolution, IsClashOf}
 use Rattle.akl_run.specs.Runs.{IsRun}
 use Rattle.akl_run.specs.Journals.{AreBy}
@@ -15,13 +15,15 @@ pub returns-in-Added : goal.returns-in-Added
 returns-in-Added c =
     let told : c.deref.result.now ≡ equations_by c.args.loaded.now.query.goals = c.deref.ensures.value ∙ c.in_ok-equations.ensures.equations ∙ ap equations_by c.as_slice.ensures in
     let journal : c.tell_all.new.run.journal.items ≡ tells 2 (length c.args.loaded.now.query.goals) = c.in_ok-equations.ensures.journal ∙ ap (λ gs. tells 2 (length gs)) c.as_slice.ensures in
+    let solution : IsSolution c.args.loaded.now.program.templates.nodes [] (equations_by c.args.loaded.now.query.goals) c.in-Added.bindings.items =
+    subst (λ es. IsSolution c.args.loaded.now.program.templates.nodes [] es c.in-Added.bindings.items) told (rw c.in-Added.is at c.in_ok-solved.ensures.solves) in
     let represents : Represents (told_box c.args.loaded.now).equations (end_of c.args.loaded.now.program.templates.nodes c.in-Added.bindings.items) =
-    represented c.args.loaded.now.program.templates.nodes (equations_by c.args.loaded.now.query.goals) c.in-Added.bindings.items
-    (subst (λ es. IsSolution c.args.loaded.now.program.templates.nodes [] es c.in-Added.bindings.items) told (rw c.in-Added.is at c.in_ok-solved.ensures.solves)) in
+    represented c.args.loaded.now.program.templates.nodes (equations_by c.args.loaded.now.query.goals) c.in-Added.bindings.items solution in
     record {
       ends = record {
         run = subst (λ j. IsRun c.args.loaded.now j (told_box c.args.loaded.now ∷ []) done) (sym journal)
             (query_done c.args.loaded.now c.requires.equations c.requires.within represents.consistent);
+        solved = subst (IsSolved c.args.loaded.now.program.templates.nodes) (sym (c.in_ok-form-in-Added.ensures ∙ c.deref-in-Added.ensures.value)) solution.solved;
         represents = subst (λ bs. Represents (told_box c.args.loaded.now).equations (end_of c.args.loaded.now.program.templates.nodes bs)) (sym (c.in_ok-form-in-Added.ensures ∙ c.deref-in-Added.ensures.value)) represents;
       };
       receipts = c.in_ok-equations.ensures.receipts;

@@ -1,8 +1,11 @@
 use Rattle.std.proofs.Common.{◌≡◌, ◌++◌, ◌∷◌, [], map, sym, ◌∙◌, ap, subst, Err}
 use Rattle.akl_run.specs.Reports.{IsStatusOf, IsRunBy, RunStops, long, not_built, no_memory}
 use Rattle.akl_run.proofs.Loading.{stops_as, from_error}
-use Rattle.akl_run.proofs.Evaluated.{outcome_by, status_of, evaluated, long_run}
+use Rattle.akl_run.proofs.Evaluated.{outcome_by, status_of, solved_by, evaluated, long_run}
 use Rattle.akl_run.proofs.evaluate.evaluate.Goals as goal
+
+pub run_text-requires-clause-solved : goal.run_text-requires-clause-solved
+run_text-requires-clause-solved c = solved_by c.args.loaded.now c.in_ok-journal.field-0.journal.items c.in_ok-journal.field-0.solved c.in_ok-journal.ensures.ends
 
 pub returns-in-Err-Long-clause-stop : goal.returns-in-Err-Long-clause-stop
 returns-in-Err-Long-clause-stop c =

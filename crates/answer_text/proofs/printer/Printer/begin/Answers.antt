@@ -14,8 +14,8 @@ pub returns-in_ok-begin_whole-in-Whole-clause-begins : goal.returns-in_ok-begin_
 returns-in_ok-begin_whole-in-Whole-clause-begins g c =
     rw c.in-Whole.is (
       record {
-        end = c.representative.result;
-        goes = c.representative.ensures;
+        end = c.chain_end.result;
+        goes = c.chain_end.ensures;
         arranged = c.look-seen.ensures.arranged;
         known = subst (IsKnown c.args.templates.now) c.look-seen.ensures.seen c.look-seen.ensures.known;
       },
@@ -26,8 +26,8 @@ pub returns-in_ok-begin_tail-in-Tail-clause-begins : goal.returns-in_ok-begin_ta
 returns-in_ok-begin_tail-in-Tail-clause-begins g c =
     rw c.in-Tail.is (
       record {
-        end = c.representative-in-Tail.result;
-        goes = c.representative-in-Tail.ensures;
+        end = c.chain_end-in-Tail.result;
+        goes = c.chain_end-in-Tail.ensures;
         arranged = c.look-seen-in-Tail.ensures.arranged;
         known = subst (IsKnown c.args.templates.now) c.look-seen-in-Tail.ensures.seen c.look-seen-in-Tail.ensures.known;
       },
