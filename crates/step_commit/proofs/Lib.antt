@@ -1,2 +1,5 @@
 pub mod LastChanges
 pub mod Committed
+pub mod Stale
+pub mod InOrder
+pub mod Made

@@ -1,0 +1,115 @@
+-- What a commit makes of a core.
+use Rattle.std.proofs.Common.{◌≡◌, ℕ, ◌+◌, ◌<◌, ◌≤◌, List, [], ◌∷◌, ◌++◌, length, Bool, true, false, Option, Some, None, refl, sym, ap, subst, ◌∙◌, ◌⊎◌, inl, inr, arith}
+use Rattle.std.proofs.lemmas.List.{length-append}
+use Rattle.akl_terms.specs.declared.name.Name.{Name}
+use Rattle.akl_terms.specs.declared.name.Place.{Place}
+use Rattle.akl_terms.specs.declared.program.Program.{Program}
+use Rattle.akl_terms.specs.declared.program.Query.{Query}
+use Rattle.akl_model.specs.declared.item.Item.{Item}
+use Rattle.akl_model.specs.declared.label.Rule.{Rule}
+use Rattle.akl_model.specs.declared.label.Label.{Label}
+use Rattle.akl_model.specs.declared.label.Receipt.{Receipt}
+use Rattle.akl_model.specs.Config.{Config, Found}
+use Rattle.akl_model.specs.Rules.{Change, Reading, change_by}
+use Rattle.akl_model.specs.Derivations.{Applies}
+use Rattle.table_laws.specs.Rows.{Table}
+use Rattle.table_laws.specs.Stamped.{IsTableOf, LastChange, stamp_in}
+use Rattle.table_laws.specs.Steps as laws
+use Rattle.table_laws.specs.Steps.{Makes, IsSolvedWhen}
+use Rattle.table_laws.specs.Writes.{Leads}
+use Rattle.table_laws.proofs.Fresh.{fresh_step}
+use Rattle.table_laws.proofs.StepMakes.{step_law}
+use Rattle.box_tree.specs.declared.step.Step.{Step}
+use Rattle.box_tree.specs.Tables.{rules_in_force, TableValue, table_of, step_of, FitsPlace, MayApply, Applied}
+use Rattle.box_tree.specs.Views.{run_of}
+use Rattle.box_tree.specs.Plans.{PlanValue, IsRead, IsRight}
+use Rattle.step_commit.specs.Cores.{CoreValue, IsCore, run_by, KeepsFixed, MayCommit, Commits, AllWithin, IsFirstUnseen}
+use Rattle.step_commit.proofs.Committed.{IsPlanned, planned, LeadsOn, leads_on, solved_now}
+use Rattle.step_commit.proofs.Stale.{unchanged}
+use Rattle.step_commit.proofs.InOrder.{makes_ordered}
+
+some_none : {A : Type 0} {x : A} → None ≡ Some x → ⊥
+some_none e = cc
+
+-- Fail stands at a box
+fail_place : (p : Program) (v : Reading) (w n : ℕ) (r : Rule) (place : Place) (a : Option Name) (f : Found) (c : Change) → r ≡ Rule.Fail → change_by p v w n r place a f ≡ Some c → FitsPlace place laws.fails
+fail_place p v w n r (Place.Box m) a f c e i = tt
+fail_place p v w n r (Place.Goal g) a f c e i = some_none (subst (λ (x : Rule). change_by p v w n x (Place.Goal g) a f ≡ Some c) e i)
+
+fits_goal : (place : Place) (g : Name) (step : laws.Step) → place ≡ Place.Goal g → FitsPlace (Place.Goal g) step → FitsPlace place step
+fits_goal place g step e f = subst (λ (x : Place). FitsPlace x step) (sym e) f
+
+fits : (rules : List Rule) (p : Program) (c : Config) (l : Label) (d : Config) (n : ℕ) (a : Applies rules p c l d) (step : laws.Step) → Makes p l n a.site step → FitsPlace l.place step
+fits rules p c l d n a (laws.tells new solved) m = fits_goal l.place m.1.0 (laws.tells new solved) m.1.1 tt
+fits rules p c l d n a (laws.forks op news) m = fits_goal l.place m.1.0 (laws.forks op news) m.1.1 tt
+fits rules p c l d n a laws.fails m = fail_place p a.makes.reading l.worker _ l.rule l.place l.alternative a.site a.change m a.makes.change
+
+-- the number of labels is that of the plan's view, where it is given
+abbrev pub IsNow : CoreValue → PlanValue → Option ℕ → Type 0
+IsNow c p at = (at ≡ None) ⊎ ((at ≡ Some (length p.journal)) × (length p.journal ≡ length c.journal))
+
+module _ (c : CoreValue) (k : IsCore c) (p : PlanValue) (r : IsRight p) (m : MayCommit c p) (within : AllWithin (table_of c.table) p.reads (length p.journal)) where
+  abbrev step : laws.Step
+  step = step_of c.table.program.templates.nodes p.step
+
+  x : IsPlanned c.table.program c.table.query p.journal (table_of p.table) p.label p.reads p.names step
+  x = planned c p r m
+
+  t : IsTableOf rules_in_force (run_of c.table (p.journal ++ m.further)) (table_of c.table)
+  t = subst (λ (j : List Label). IsTableOf rules_in_force (run_of c.table j) (table_of c.table)) m.front k.table
+
+  on : LeadsOn c.table.program c.table.query (p.journal ++ m.further) (table_of c.table) t p.label p.names step
+  on = leads_on c.table.program c.table.query p.journal m.further (table_of p.table) (table_of c.table) p.label p.reads p.names step x t m.none_by within
+
+  pub may_apply : MayApply c.table p.label p.step
+  may_apply = record {
+    run = run_of c.table (p.journal ++ m.further);
+    table = t;
+    fits = fits rules_in_force c.table.program t.config p.label on.result _ on.applies step on.makes;
+    fresh = fresh_step rules_in_force (run_of c.table (p.journal ++ m.further)) (table_of c.table) p.label on.result t on.applies step on.makes;
+    ordered = makes_ordered c.table.program p.label _ on.applies.site step on.makes;
+  }
+
+  solved : (at : Option ℕ) → IsNow c p at → IsSolvedWhen at (table_of c.table) on.applies.site step
+  solved at h = solved_now c.table.program c.table.query p.journal m.further (table_of p.table) (table_of c.table) p.label p.reads p.names step x t m.none_by within
+      (λ e. ap table_of (m.same_table e)) on at (elim h [ inl e ↦ inl e | inr (e, n) ↦ inr (e, n ∙ ap length m.front) ])
+
+  module _ (at : Option ℕ) (u : TableValue) (h : IsNow c p at) (a : Applied c.table p.label at p.names p.step u) where
+    next : IsTableOf rules_in_force (run_of c.table ((p.journal ++ m.further) ++ p.label ∷ [])) (table_of u)
+    next = (step_law rules_in_force (run_of c.table (p.journal ++ m.further)) (table_of c.table) (table_of u) p.label on.result t on.applies step at on.makes (solved at h)
+        (subst (λ (n : ℕ). Leads (table_of c.table) p.label at n step (table_of u)) on.drawn a.leads)).0
+
+    pub core_on : (journal : List Label) → journal ≡ c.journal ++ p.label ∷ [] → length c.journal < c.budget → IsCore (record { table = u; journal = journal; workers = c.workers; budget = c.budget })
+    core_on journal e less = subst (λ (j : List Label). IsCore (record { table = u; journal = j; workers = c.workers; budget = c.budget })) (sym (e ∙ ap (λ (j : List Label). j ++ p.label ∷ []) m.front)) (record {
+      table = subst (λ (q : Query). IsTableOf rules_in_force (record { program = u.program; query = q; journal = (p.journal ++ m.further) ++ p.label ∷ [] }) (table_of u)) (sym a.query)
+          (subst (λ (y : Program). IsTableOf rules_in_force (record { program = y; query = c.table.query; journal = (p.journal ++ m.further) ++ p.label ∷ [] }) (table_of u)) (sym a.program) next);
+      within =
+          let i : length ((p.journal ++ m.further) ++ p.label ∷ []) ≡ length (p.journal ++ m.further) + length (p.label ∷ []) = length-append (p.journal ++ m.further) (p.label ∷ []) in
+          let j : length c.journal ≡ length (p.journal ++ m.further) = ap length m.front in
+          omega (arith, i, j, less);
+    })
+
+    pub commits : (journal : List Label) (receipt : Receipt) → journal ≡ c.journal ++ p.label ∷ [] → receipt ≡ record { at = length c.journal + 1; seen = length p.journal; label = p.label } → length c.journal < c.budget
+        → Commits c p (record { table = u; journal = journal; workers = c.workers; budget = c.budget }) receipt
+    commits journal receipt e f less = record {
+      fixed = record { program = a.program; query = a.query; workers = refl; budget = refl };
+      journal = e;
+      receipt = f;
+      unspent = less;
+      fresh = λ i j n y. unchanged c.table.program c.table.query p.journal m.further (table_of p.table) (table_of c.table) p.label p.reads p.names step x t i (stamp_in (table_of c.table) i) refl (within i j) n
+          (subst (λ (j : List Label). LastChange rules_in_force (run_of c.table j) i n) m.front y);
+    }
+
+-- the same over equal tables, items and numbers
+pub within_as : (T U : Table) (xs ys : List Item) (m n : ℕ) → T ≡ U → xs ≡ ys → m ≡ n → AllWithin T xs m → AllWithin U ys n
+within_as T U xs ys m n e f g h = subst (λ (k : ℕ). AllWithin U ys k) g (subst (λ (zs : List Item). AllWithin U zs m) f (subst (λ (V : Table). AllWithin V xs m) e h))
+
+pub unseen_as : (T U : Table) (xs ys : List Item) (m n : ℕ) (i : Item) (o : Option ℕ) → T ≡ U → xs ≡ ys → m ≡ n → IsFirstUnseen T xs m i o → IsFirstUnseen U ys n i o
+unseen_as T U xs ys m n i o e f g h = subst (λ (k : ℕ). IsFirstUnseen U ys k i o) g (subst (λ (zs : List Item). IsFirstUnseen U zs m i o) f (subst (λ (V : Table). IsFirstUnseen V xs m i o) e h))
+
+pub may_apply_as : (t u : TableValue) (l k : Label) (a b : Step) → t ≡ u → l ≡ k → a ≡ b → MayApply t l a → MayApply u k b
+may_apply_as t u l k a b e f g h = subst (λ (x : Step). MayApply u k x) g (subst (λ (x : Label). MayApply u x a) f (subst (λ (x : TableValue). MayApply x l a) e h))
+
+pub applied_as : (t s : TableValue) (l k : Label) (at : Option ℕ) (m n : ℕ) (a b : Step) (u : TableValue) → t ≡ s → l ≡ k → m ≡ n → a ≡ b → Applied t l at m a u → Applied s k at n b u
+applied_as t s l k at m n a b u e f g i h =
+    subst (λ (x : Step). Applied s k at n x u) i (subst (λ (x : ℕ). Applied s k at x a u) g (subst (λ (x : Label). Applied s x at m a u) f (subst (λ (x : TableValue). Applied x l at m a u) e h)))
