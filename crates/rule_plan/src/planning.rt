@@ -12,6 +12,5 @@ pub fn plan(alloc: Global, program: &Program, view: &View) -> Result<Option<Plan
     requires { program.now ≡ view.now.table.program }
     ensures { IfOk result (IsPlannedBy view.now) }
 {
-    let _ = (alloc, program, view);
     Err(AllocError)
 }

@@ -3,10 +3,10 @@
 ghost use Rattle.std.specs.Prelude.{◌≡◌, IfOk, IfErr, [], length, true};
 ghost use Rattle.box_tree.specs.Tables.{table_of, goals_in, is_empty, shown_in, shown_trees_of, HasVariables, HasShownVariables};
 ghost use Rattle.box_tree.specs.Views.{is_there, IsUnseen, AreAllPlaces};
-ghost use Rattle.step_commit.specs.Cores.{MayCommit, Commits, IsRefused};
+ghost use Rattle.step_commit.specs.Cores.{MayCommit, Commits, IsRefused, IsFirstStale, is_within};
 
 use crate::commit::CommitError;
-use akl_model::{Label, Receipt};
+use akl_model::{Item, Label, Receipt};
 use akl_terms::{Name, Place, Program, Query, ShownTerm};
 use box_tree::{LookError, Plan, Table, View};
 use std::alloc::{AllocError, Global};
@@ -113,8 +113,32 @@ impl Core {
         ensures refused { IfErr result (IsRefused self.old plan) }
         ensures unchanged { IfErr result (λ _. self.new ≡ self.old) }
     {
-        let _ = (alloc, plan);
-        Err(CommitError::Memory(AllocError))
+        let before = self.journal.len() as u64;
+        if before == self.budget {
+            return Err(CommitError::Spent {
+                budget: self.budget,
+            });
+        }
+        let seen = plan.seen();
+        if let Some((item, stamp)) = first_stale(&self.table, plan.reads(), seen) {
+            return Err(CommitError::Stale { item, stamp });
+        }
+        let label = plan.label();
+        let names = plan.names();
+        // Stores that were solved over this very table are solved in it.
+        let at = if seen == before { Some(seen) } else { None };
+        if let Err(failed) = self.journal.push(label) {
+            return Err(CommitError::Memory(AllocError::from(failed)));
+        }
+        if let Err(error) = self.table.apply(alloc, label, names, plan.into_step(), at) {
+            let _ = self.journal.pop();
+            return Err(CommitError::Memory(error));
+        }
+        Ok(Receipt {
+            at: before + 1,
+            seen,
+            label,
+        })
     }
 
     /// The journal.
@@ -125,3 +149,25 @@ impl Core {
     }
 }
 
+// The first item that a label after the first ones, so many as are given, has changed, with its stamp.
+fn first_stale(table: &Table, reads: &[Item], seen: u64) -> Option<(Item, Option<u64>)>
+    ensures { IsFirstStale (table_of table.now) reads.now seen result }
+{
+    for item in reads {
+        let stamp = table.stamp(*item);
+        if !is_within(stamp, seen) {
+            return Some((*item, stamp));
+        }
+    }
+    None
+}
+
+// Whether the item is there, and was last changed by one of the first labels, so many as are given.
+fn is_within(stamp: Option<u64>, seen: u64) -> bool
+    ensures { result ≡ is_within stamp seen }
+{
+    match stamp {
+        Some(number) => number <= seen,
+        None => false,
+    }
+}

@@ -1,0 +1,214 @@
+-- What a plan read, and a later label changed.
+use Rattle.std.proofs.Common.{◌≡◌, ℕ, zero, suc, ◌+◌, ◌<◌, ◌≤◌, List, [], ◌∷◌, ◌++◌, length, take, drop, slice_index_or, Bool, true, false, Option, Some, None, refl, sym, ap, subst, ◌∙◌, ◌⊎◌, inl, inr, arith}
+use Rattle.std.specs.Prelude.{IsSome, nat_le, option_map, option_and_then}
+use Rattle.std.proofs.lemmas.Bool.Decides.{nat_tests}
+use Rattle.akl_terms.specs.declared.name.Name.{Name}
+use Rattle.akl_terms.specs.declared.program.Program.{Program}
+use Rattle.akl_terms.specs.declared.program.Query.{Query}
+use Rattle.akl_model.specs.declared.item.Item.{Item}
+use Rattle.akl_model.specs.declared.label.Rule.{Rule}
+use Rattle.akl_model.specs.declared.label.Label.{Label}
+use Rattle.akl_model.specs.Config.{Boxes, Config, Held, Found, held_in, box_at, home_of}
+use Rattle.akl_model.specs.Changes.{shape_of}
+use Rattle.akl_model.proofs.Orders.{lt_or}
+use Rattle.step_laws.specs.Stays.{GoesOn, Leaves, HaveShape}
+use Rattle.step_laws.proofs.StaysLaws.{box_stays, goals_stay, goal_stays}
+use Rattle.plan_laws.specs.Right.{NoneBy}
+use Rattle.plan_laws.specs.Stamps as stamps
+use Rattle.plan_laws.proofs.StampLaws.{stamped, one_stamp}
+use Rattle.akl_model.specs.Changes.{by_store}
+use Rattle.table_laws.specs.Rows.{BoxRow, GoalRow, Table}
+use Rattle.table_laws.specs.Unfolds.{Unfolds, Spot, spot_of, spot_in}
+use Rattle.table_laws.specs.Stamped.{Run, LastChange, IsTableOf, store_stamp, goals_stamp, goal_stamp, stamp_in}
+use Rattle.table_laws.specs.Steps.{Step}
+use Rattle.table_laws.proofs.Frame.{row_of, found_of}
+use Rattle.table_laws.proofs.Insides.{spot_held}
+use Rattle.box_tree.specs.Tables.{rules_in_force, table_of, step_of}
+use Rattle.box_tree.specs.Views.{run_of}
+use Rattle.box_tree.specs.Plans.{PlanValue, IsRead, IsRight}
+use Rattle.step_commit.specs.Cores.{CoreValue, IsCore, MayCommit, IsStale, is_within, IsFirstUnseen}
+use Rattle.step_commit.proofs.LastChanges.{IsPart, last_change}
+use Rattle.step_commit.proofs.Committed.{IsPlanned, planned, goes, stamp_last, some_of}
+
+-- lists of items
+
+read_suc : (xs : List Item) (i : ℕ) (d j : Item) → i < length xs → IsRead (take (suc i) xs) j → IsRead (take i xs) j ⊎ (j ≡ slice_index_or xs i d)
+read_suc [] i d j l r = absurd (omega arith)
+read_suc (x ∷ xs) zero d j l r = elim r [ inl e ↦ inr e | inr z ↦ absurd z ]
+read_suc (x ∷ xs) (suc i) d j l r = elim r [
+  | inl e ↦ inl (inl e)
+  | inr z ↦ elim (read_suc xs i d j (omega arith) z) [ inl y ↦ inl (inr y) | inr e ↦ inr e ]
+]
+
+pub read_next : (xs : List Item) (i : ℕ) (d j : Item) → i < length xs → IsRead (take (i + 1) xs) j → IsRead (take i xs) j ⊎ (j ≡ slice_index_or xs i d)
+read_next xs i d j l r = let e : i + 1 ≡ suc i = omega arith in read_suc xs i d j l (subst (λ (n : ℕ). IsRead (take n xs) j) e r)
+
+pub split_at : (xs : List Item) (i : ℕ) (d : Item) → i < length xs → xs ≡ take i xs ++ slice_index_or xs i d ∷ drop (suc i) xs
+split_at [] i d l = absurd (omega arith)
+split_at (x ∷ xs) zero d l = refl
+split_at (x ∷ xs) (suc i) d l = ap (λ (ys : List Item). x ∷ ys) (split_at xs i d (omega arith))
+
+in_front : (xs ys : List Item) (j : Item) → IsRead (xs ++ j ∷ ys) j
+in_front [] ys j = inl refl
+in_front (x ∷ xs) ys j = inr (in_front xs ys j)
+
+-- what has a stamp is a part of a configuration
+pub stamped_part : (T : Table) (i : Item) → IsSome (stamp_in T i) → IsPart i
+stamped_part T Item.Roots s = tt
+stamped_part T (Item.Store n) s = tt
+stamped_part T (Item.Goals n) s = tt
+stamped_part T (Item.Goal g) s = tt
+stamped_part T (Item.Binding x) s = absurd cc
+
+box_there : (n : Name) (o : Option BoxRow) → IsSome (store_stamp o) → (r : BoxRow) × (o ≡ Some r)
+box_there n None s = absurd cc
+box_there n (Some r) s = (r, refl)
+
+goals_there : (n : Name) (o : Option BoxRow) → IsSome (goals_stamp o) → (r : BoxRow) × (o ≡ Some r)
+goals_there n None s = absurd cc
+goals_there n (Some r) s = (r, refl)
+
+goal_there : (g : Name) (o : Option GoalRow) → IsSome (goal_stamp o) → (r : GoalRow) × (o ≡ Some r)
+goal_there g None s = absurd cc
+goal_there g (Some r) s = (r, refl)
+
+abbrev spot_at : Name → Found → Option Spot
+spot_at g f = option_map (λ (h : Held). record { home = f.content.name; shape = shape_of h }) (held_in g f.goals)
+
+then_some : (F : Found → Option Spot) (o : Option Found) (s : Spot) → option_and_then F o ≡ Some s → (f : Found) × (o ≡ Some f) × (F f ≡ Some s)
+then_some F None s e = cc
+then_some F (Some f) s e = (f, refl, e)
+
+some_held : (f : Found) (o : Option Held) (s : Spot) → option_map (λ (h : Held). record { home = f.content.name; shape = shape_of h }) o ≡ Some s → (h : Held) × (o ≡ Some h)
+some_held f None s e = cc
+some_held f (Some h) s e = (h, refl)
+
+-- a table that unfolds has a stamp of what is there
+module _ (T : Table) (c : Config) (u : Unfolds T c) where
+  some_store : (n : Name) (f : Found) → box_at n c.roots ≡ Some f → store_stamp (T.box_of n) ≡ None → ⊥
+  some_store n f e s =
+      let r : (r : BoxRow) × (T.box_of n ≡ Some r) × _ = row_of T c u n f e in
+      let q : store_stamp (T.box_of n) ≡ Some r.0.changed = ap store_stamp r.1 in
+      cc
+
+  some_goals : (n : Name) (f : Found) → box_at n c.roots ≡ Some f → goals_stamp (T.box_of n) ≡ None → ⊥
+  some_goals n f e s =
+      let r : (r : BoxRow) × (T.box_of n ≡ Some r) × _ = row_of T c u n f e in
+      let q : goals_stamp (T.box_of n) ≡ Some r.0.goals_changed = ap goals_stamp r.1 in
+      cc
+
+  no_goal : (o : Option GoalRow) → goal_stamp o ≡ None → option_map spot_of o ≡ None
+  no_goal None s = refl
+  no_goal (Some r) s = absurd cc
+
+  some_goal : (g : Name) (f : Found) (h : Held) → home_of g c.roots ≡ Some f → held_in g f.goals ≡ Some h → goal_stamp (T.goal_of g) ≡ None → ⊥
+  some_goal g f h e k s =
+      let a : spot_in g c.roots ≡ Some (record { home = f.content.name; shape = shape_of h }) = spot_held g c.roots f h e k in
+      let b : option_map spot_of (T.goal_of g) ≡ None = no_goal (T.goal_of g) s in
+      let q : None ≡ Some _ = sym b ∙ u.goals g ∙ a in
+      cc
+
+  -- a goal that has a row is held in a box
+  goal_held : (g : Name) (r : GoalRow) → T.goal_of g ≡ Some r → (f : Found) × (h : Held) × (home_of g c.roots ≡ Some f) × (held_in g f.goals ≡ Some h)
+  goal_held g r e =
+      let a : spot_in g c.roots ≡ Some (spot_of r) = sym (u.goals g) ∙ ap (option_map spot_of) e in
+      let b : (f : Found) × (home_of g c.roots ≡ Some f) × (spot_at g f ≡ Some (spot_of r)) = then_some (spot_at g) (home_of g c.roots) (spot_of r) a in
+      let k : (h : Held) × (held_in g b.0.goals ≡ Some h) = some_held b.0 (held_in g b.0.goals) (spot_of r) b.2 in
+      (b.0, k.0, b.1, k.1)
+
+same_held : (g : Name) (e f : Found) (h : Held) → held_in g e.goals ≡ Some h → HaveShape (held_in g e.goals) (held_in g f.goals) → (o : Option Held) → held_in g f.goals ≡ o → (k : Held) × (held_in g f.goals ≡ Some k)
+same_held g e f h i s None j = let a : option_map shape_of (held_in g e.goals) ≡ Some (shape_of h) = ap (option_map shape_of) i in let b : option_map shape_of (held_in g f.goals) ≡ None = ap (option_map shape_of) j in absurd (let q : Some (shape_of h) ≡ None = sym a ∙ s ∙ b in cc)
+same_held g e f h i s (Some k) j = (k, j)
+
+module _ (p : Program) (q : Query) (journal further : List Label) (S T : Table) (l : Label) (reads : List Item) (names : ℕ) (step : Step) (x : IsPlanned p q journal S l reads names step)
+    (t : IsTableOf rules_in_force (record { program = p; query = q; journal = journal ++ further }) T) where
+  abbrev run : Run
+  run = record { program = p; query = q; journal = journal ++ further }
+
+  on : GoesOn rules_in_force p x.table.config further t.config
+  on = record { query = q; journal = journal; replays = x.table.replays; derives = goes p q journal further S T l reads names step x t }
+
+  -- an item that was read has its stamp still, where no later label changed it
+  there_still : (i : Item) → IsSome (stamp_in S i) → Leaves on i → stamp_in T i ≡ None → ⊥
+  there_still Item.Roots s u n = cc
+  there_still (Item.Store m) s u n =
+      let r : _ = box_there m (S.box_of m) s in
+      let f : _ = found_of S x.table.config x.table.unfolds m r.0 r.1 in
+      let g : _ = box_stays rules_in_force p x.table.config further t.config on m f.0 f.1 u in
+      some_store T t.config t.unfolds m g.0 g.1 n
+  there_still (Item.Goals m) s u n =
+      let r : _ = goals_there m (S.box_of m) s in
+      let f : _ = found_of S x.table.config x.table.unfolds m r.0 r.1 in
+      let g : _ = goals_stay rules_in_force p x.table.config further t.config on m f.0 f.1 u in
+      some_goals T t.config t.unfolds m g.0 g.1 n
+  there_still (Item.Goal m) s u n =
+      let r : _ = goal_there m (S.goal_of m) s in
+      let f : _ = goal_held S x.table.config x.table.unfolds m r.0 r.1 in
+      let g : _ = goal_stays rules_in_force p x.table.config further t.config on m f.0 f.2 u in
+      let h : (k : Held) × (held_in m g.0.goals ≡ Some k) = same_held m f.0 g.0 f.1 f.3 g.3 (held_in m g.0.goals) refl in
+      some_goal T t.config t.unfolds m g.0 h.0 g.1 h.1 n
+  there_still (Item.Binding v) s u n = absurd cc
+
+  -- the number of its last change
+  pub record Changed (i : Item) (stamp : Option ℕ) : Type 0 where
+    pub number : ℕ
+    pub last : LastChange rules_in_force run i number
+    pub unseen : length journal < number
+    pub as_kept : (k : ℕ) → stamp ≡ Some k → k ≡ number
+
+  over : (k n : ℕ) → nat_le k n ≡ false → n < k
+  over k n e = grind (arith, nat_tests)
+
+  pub changed : (i : Item) → IsSome (stamp_in S i) → (o : Option ℕ) → stamp_in T i ≡ o → is_within o (length journal) ≡ false → Changed i o
+  changed i s (Some k) e w = record { number = k; last = stamp_last rules_in_force run T t.stamped i k e; unseen = over k (length journal) w; as_kept = λ m j. sym (some_of j) }
+  changed i s None e w = of_last (last_change rules_in_force p q i (stamped_part S i s) (journal ++ further) t.config t.replays)
+    where
+      of_last : (m : ℕ) × LastChange rules_in_force (record { program = p; query = q; journal = journal ++ further }) i m → Changed i None
+      of_last z = elim (lt_or (length journal) z.0) [
+        | inl h ↦ record { number = z.0; last = z.1; unseen = h; as_kept = λ m j. absurd cc }
+        | inr h ↦ absurd (there_still i s (stamped rules_in_force p q journal further x.table.config t.config i x.table.replays on.derives (record { number = z.0; last = z.1; early = elim h [ inl a ↦ omega arith | inr b ↦ omega arith ] })) e)
+      ]
+
+  -- one that has a stamp which was seen was changed by no later label
+  pub unchanged : (i : Item) → (o : Option ℕ) → stamp_in T i ≡ o → is_within o (length journal) ≡ true → (k : ℕ) → LastChange rules_in_force run i k → k ≤ length journal
+  unchanged i None e w k v = absurd cc
+  unchanged i (Some m) e w k v =
+      let a : m ≡ k = one_stamp by_store rules_in_force p q (journal ++ further) i m k (stamp_last rules_in_force run T t.stamped i m e) v in
+      let b : m ≤ length journal = under m (length journal) w in
+      omega arith
+    where
+      under : (k n : ℕ) → nat_le k n ≡ true → k ≤ n
+      under k n e = grind (arith, nat_tests)
+
+-- so the plan is stale
+pub stale : (c : CoreValue) (k : IsCore c) (p : PlanValue) (r : IsRight p) (m : MayCommit c p) (item : Item) (stamp : Option ℕ) → IsFirstUnseen (table_of c.table) p.reads (length p.journal) item stamp → IsStale c p item stamp
+stale c k p r m item stamp f = of_journal c.journal m.front k.table
+  where
+    of_journal : (journal : List Label) → journal ≡ p.journal ++ m.further → IsTableOf rules_in_force (run_of c.table journal) (table_of c.table) → IsStale (record c { journal = journal }) p item stamp
+    of_journal journal e t = subst (λ (j : List Label). IsStale (record c { journal = j }) p item stamp) (sym e) made
+      where
+        x : IsPlanned c.table.program c.table.query p.journal (table_of p.table) p.label p.reads p.names (step_of c.table.program.templates.nodes p.step)
+        x = planned c p r m
+
+        u : IsTableOf rules_in_force (run_of c.table (p.journal ++ m.further)) (table_of c.table)
+        u = subst (λ (j : List Label). IsTableOf rules_in_force (run_of c.table j) (table_of c.table)) e t
+
+        there : IsSome (stamp_in (table_of p.table) item)
+        there = r.there item (subst (λ (is : List Item). IsRead is item) (sym f.is_read) (in_front f.earlier f.later item))
+
+        was : Changed c.table.program c.table.query p.journal m.further (table_of p.table) (table_of c.table) p.label p.reads p.names (step_of c.table.program.templates.nodes p.step) x u item stamp
+        was = changed c.table.program c.table.query p.journal m.further (table_of p.table) (table_of c.table) p.label p.reads p.names (step_of c.table.program.templates.nodes p.step) x u item there stamp (sym f.is_stamp) f.unseen
+
+        made : IsStale (record c { journal = p.journal ++ m.further }) p item stamp
+        made = record {
+          earlier = f.earlier;
+          later = f.later;
+          is_read = f.is_read;
+          first = λ i j. unchanged c.table.program c.table.query p.journal m.further (table_of p.table) (table_of c.table) p.label p.reads p.names (step_of c.table.program.templates.nodes p.step) x u i
+              (stamp_in (table_of c.table) i) refl (f.first i j);
+          number = was.number;
+          last = was.last;
+          unseen = was.unseen;
+          is_stamp = f.is_stamp;
+          as_kept = was.as_kept;
+        }
