@@ -1,14 +1,4 @@
 -- How the parts of a step change a table.
-<<<<<<< HEAD
-use Rattle.std.specs.Prelude.{◌≡◌, ℕ, List, [], ◌∷◌, Option, Some, None, option_map}
-use Rattle.std.specs.Map.{lookup}
-use Rattle.akl_terms.specs.declared.name.Name.{Name}
-use Rattle.akl_terms.specs.declared.name.Place.{Place}
-use Rattle.akl_terms.specs.Names.{same_name}
-use Rattle.table_laws.specs.Rows.{BoxRow, GoalRow, Table}
-use Rattle.table_laws.specs.Writes.{IsTable}
-use Rattle.box_tree.specs.Tables.{TableValue, table_of}
-=======
 use Rattle.std.specs.Prelude.{◌≡◌, ℕ, Bool, true, false, ◌||◌, if◌then◌else◌, List, [], ◌∷◌, map, Option, Some, None}
 use Rattle.std.specs.Map.{lookup}
 use Rattle.akl_terms.specs.declared.name.Name.{Name}
@@ -24,7 +14,6 @@ use Rattle.table_laws.specs.Steps as laws
 use Rattle.table_laws.specs.Writes.{IsTable, new_box_of, new_goal_of, atom_among}
 use Rattle.box_tree.specs.declared.step.NewBox.{NewBox}
 use Rattle.box_tree.specs.Tables.{TableValue, table_of, goal_atom}
->>>>>>> b81b43b1ea018db364574a36a44ce7d7f3e021c7
 
 -- boxes get these rows, and all else stays
 pub record SetsBoxes (t u : TableValue) (new : Name → Option BoxRow) : Type 0 where
@@ -41,8 +30,6 @@ pub record Becomes (t u : TableValue) (T : Table) : Type 0 where
   pub program : u.program ≡ t.program
   pub query : u.query ≡ t.query
   pub table : IsTable (table_of u) T
-<<<<<<< HEAD
-=======
 
 -- entries whose names are none of these
 abbrev pub is_among : Name → List Name → Bool
@@ -101,4 +88,3 @@ failing_row g r = record r { failing = Some g }
 abbrev pub home_if_empty : Name → List NewBox → Option Name
 home_if_empty home [] = Some home
 home_if_empty home (n ∷ ns) = None
->>>>>>> b81b43b1ea018db364574a36a44ce7d7f3e021c7

@@ -23,11 +23,7 @@ pub struct Plan {
 }
 
 impl Model for Plan {
-<<<<<<< HEAD
-        ghost use Rattle.box_tree.specs.Plans.{PlanValue, IsRight};
-=======
     ghost use Rattle.box_tree.specs.Plans.{PlanValue, IsRight};
->>>>>>> b81b43b1ea018db364574a36a44ce7d7f3e021c7
 
     ghost Value = { PlanValue };
 

@@ -44,25 +44,6 @@ impl Model for Table {
 }
 
 impl Table {
-<<<<<<< HEAD
-    /// The table of the query's one box. The query's variables are the nodes from `first_variable` on.
-    pub fn start(
-        alloc: Global,
-        program: &Program,
-        query: &Query,
-        first_variable: u32,
-    ) -> Result<Table, AllocError>
-        requires variables { HasVariables program.now query.now first_variable }
-        requires shown { HasShownVariables query.now }
-        ensures program { IfOk result (λ t. t.program ≡ program.now) }
-        ensures query { IfOk result (λ t. t.query ≡ query.now) }
-        ensures started { IfOk result (λ t. IsTable (table_of t) (started program.now query.now)) }
-    {
-        Err(AllocError)
-    }
-
-=======
->>>>>>> b81b43b1ea018db364574a36a44ce7d7f3e021c7
     /// What a worker sees of a place. `Gone` comes exactly where the place isn't in the configuration.
     pub fn look(
         &self,
@@ -79,9 +60,6 @@ impl Table {
         ensures there { IfOk result (λ _. is_there (table_of self.now) place ≡ true) }
         ensures unseen { IfErr result (IsUnseen (table_of self.now) place) }
     {
-<<<<<<< HEAD
-        Err(LookError::Memory(AllocError))
-=======
         let Some((home, sight)) = self.sight_of(place) else {
             return Err(LookError::Gone);
         };
@@ -106,7 +84,6 @@ impl Table {
             known,
             sight,
         })
->>>>>>> b81b43b1ea018db364574a36a44ce7d7f3e021c7
     }
 
     /// The number of the last label that changed the item, 0 where there is none; `None` where it has gone.
@@ -135,9 +112,6 @@ impl Table {
     pub fn places(&self, alloc: Global) -> Result<Vec<Place>, AllocError>
         ensures { IfOk result (λ places. AreAllPlaces (table_of self.now) places.items) }
     {
-<<<<<<< HEAD
-        Err(AllocError)
-=======
         let mut places = Vec::new(alloc);
         self.push_boxes(&mut places)?;
         self.push_goals(&mut places)?;
@@ -162,7 +136,6 @@ impl Table {
             places.push(Place::Goal(*name))?;
         }
         Ok(())
->>>>>>> b81b43b1ea018db364574a36a44ce7d7f3e021c7
     }
 
     /// The root boxes in order.
@@ -206,9 +179,6 @@ impl Table {
         ensures applied { IfOk result (λ _. Applied self.old label at names step self.new) }
         ensures unchanged { IfErr result (λ _. self.new ≡ self.old) }
     {
-<<<<<<< HEAD
-        Err(AllocError)
-=======
         let Some(number) = self.steps.checked_add(1) else {
             return Err(AllocError);
         };
@@ -245,6 +215,5 @@ impl Table {
                 Ok(())
             }
         }
->>>>>>> b81b43b1ea018db364574a36a44ce7d7f3e021c7
     }
 }

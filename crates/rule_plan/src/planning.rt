@@ -18,7 +18,6 @@ pub fn plan(alloc: Global, program: &Program, view: &View) -> Result<Option<Plan
     requires { program.now ≡ view.now.table.program }
     ensures { IfOk result (IsPlannedBy view.now) }
 {
-<<<<<<< HEAD
     match view.place() {
         Place::Goal(goal) => match view.sight() {
             Sight::Atom(atom) => plan_atom(alloc, program, view, goal, atom),
@@ -61,7 +60,4 @@ fn plan_atom(
         }
         _ => Ok(None),
     }
-=======
-    Err(AllocError)
->>>>>>> 9bced13b05eae408808957bd58834479a750af19
 }
