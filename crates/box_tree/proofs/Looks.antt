@@ -37,15 +37,17 @@ climb_step t n at home names c e = on c.rest c.deep c.parts c.few
     on [] d p l = let z : Some home ≡ None = e ∙ d in absurd cc
     on (m ∷ ms) d p l =
         let q : home ≡ m = some_value (e ∙ d.0) in
-        let a : length (names ++ home ∷ []) ≡ length names + length (home ∷ []) = length-append names (home ∷ []) in
-        (record {
-          rest = ms;
-          deep = subst (λ (x : Name). Deep (table_of t) x ms) (sym q) d.1;
-          all = c.all;
-          whole = c.whole;
-          parts = p ∙ ap (λ (x : Name). names ++ x ∷ ms) (sym q) ∙ last_end names ms home;
-          few = omega arith;
-        }, omega arith)
+        let a : length (names ++ home ∷ []) ≡ length names + length (home ∷ []) = length-append names (home ∷ []) in (
+          record {
+            rest = ms;
+            deep = subst (λ (x : Name). Deep (table_of t) x ms) (sym q) d.1;
+            all = c.all;
+            whole = c.whole;
+            parts = p ∙ ap (λ (x : Name). names ++ x ∷ ms) (sym q) ∙ last_end names ms home;
+            few = omega arith;
+          },
+          omega arith,
+        )
 
 pub climb_end : (t : TableValue) (n at : Name) (names path : List Name) → Climb t n at names → None ≡ outside_of (table_of t) at → path ≡ reverse names → IsPath (table_of t) n path
 climb_end t n at names path c e r = on c.rest c.deep c.parts

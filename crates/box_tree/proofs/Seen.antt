@@ -184,8 +184,7 @@ module _ (T : Table) (c : Config) (u : Unfolds T c) (once : (m : Name) → times
           let held : IsHeldBy n h.0 f c.roots = h.2 in
           let a : length f.around ≡ length held.home.around + 1 = length_around n h.0 f held in
           let x : PathOf held.home.content.name held.home = rec held.home.content.name held.home (omega arith) (home-box h.0 c.roots held.home once held.is_home) in
-          let b : length x.0 ≡ length held.home.around = x.3 in
-          (
+          let b : length x.0 ≡ length held.home.around = x.3 in (
             held.home.content.name ∷ x.0,
             (ap (home_at T) (holder_row n f e ∙ h.1) ∙ home_row n h.0 f held, x.1),
             ap (λ (ns : List Name). ns ++ f.content.name ∷ []) (held.names ∙ x.2) ∙ ap (λ (k : Name). reverse (held.home.content.name ∷ x.0) ++ k ∷ []) (sym (box-itself n c.roots f e)) ∙ sym (reverse_cons n (held.home.content.name ∷ x.0)),
