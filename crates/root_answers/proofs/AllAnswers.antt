@@ -172,4 +172,3 @@ found_every c n count text h x t =
     let y : Found c t n count text = x t in
     let l : length (box_names t.config.roots) ≤ n = subst (λ (ns : List Name). length ns ≤ n) t.unfolds.roots h in
     record { answers = y.answers; are_answers = subst (λ (bs : Boxes). AreAnswers bs y.answers) (take_every t.config.roots n l) y.are_answers; counted = y.counted; are_texts = y.are_texts }
-

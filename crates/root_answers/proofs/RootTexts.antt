@@ -144,5 +144,5 @@ module _ (c : CoreValue) (name : Name) (v : ViewValue) (k : Chained) (w : IsRoot
   is_long terms s h shown x t b gs e = (
     answers_so s h t b gs e,
     subst (λ (ss : List (List ℕ)). AreTooLong ss b.equations (shown_lines b.shown)) w.symbols
-    (subst (λ (lines : List (List ℕ × Tree)). AreTooLong k.symbols b.equations lines) (shown_so terms shown t b gs e) (x b.equations (chain_stands t b gs e))),
+        (subst (λ (lines : List (List ℕ × Tree)). AreTooLong k.symbols b.equations lines) (shown_so terms shown t b gs e) (x b.equations (chain_stands t b gs e))),
   )

@@ -36,11 +36,7 @@ fn push_answer(text: &mut Vec<u8>, number: usize, lines: &[u8]) -> Result<(), Al
 /// The answers among the root boxes of a core.
 ///
 /// `Long` comes exactly where the lines of one have more than a million bytes.
-pub fn root_answers(
-    alloc: Global,
-    program: &Program,
-    core: &Core,
-) -> Result<Answered, AnswerError>
+pub fn root_answers(alloc: Global, program: &Program, core: &Core) -> Result<Answered, AnswerError>
     requires { program.now ≡ core.now.table.program }
     ensures answers { IfOk result (HasAnswers core.now) }
     ensures long { result ≡ Err variants.Long → HasLongAnswers core.now }

@@ -30,28 +30,28 @@ loop-name-preserved c =
     let text : HasText c.args.core.now (get_or c.args.core.now.table.roots c.loop-name.name-index d) c.in-Ok.found =
     subst (λ ns. HasText c.args.core.now (get_or ns c.loop-name.name-index d) c.in-Ok.found) c.roots-name-items.ensures.roots c.in-Ok.ensures.text in
     elim c.match-found.branch [
-      in-Some+in_ok-push_answer w ↦
-        let lines : w.deref.result.now ≡ w.in-Some.lines.items = w.deref.ensures.value in
-        let one : c.match-found.count ≡ c.loop-name.count + 1 = w.count-is in
-        record {
-          found =
-              subst (λ n. HaveFound c.args.core.now (c.loop-name.name-index + 1) n c.match-found.text.items) (sym one)
-              (subst (HaveFound c.args.core.now (c.loop-name.name-index + 1) (c.loop-name.count + 1))
-              (sym (ap (λ v. v.items) w.text-is ∙ w.in_ok-push_answer.ensures ∙ ap (λ ls. c.loop-name.text.items ++ (codes "answer " ++ decimal (c.loop-name.count + 1) ++ 10 ∷ ls)) lines))
-              (found_more c.args.core.now c.loop-name.name-index d h c.loop-name.count c.loop-name.text.items w.in-Some.lines.items c.loop-name.invariant.found
-              (subst (HasText c.args.core.now (get_or c.args.core.now.table.roots c.loop-name.name-index d)) w.in-Some.is text)));
-          few = omega (arith, one, few);
-        }
-    | in_default w ↦
-        let same : c.match-found.count ≡ c.loop-name.count = w.count-is in
-        record {
-          found =
-              subst (λ n. HaveFound c.args.core.now (c.loop-name.name-index + 1) n c.match-found.text.items) (sym same)
-              (subst (HaveFound c.args.core.now (c.loop-name.name-index + 1) c.loop-name.count) (sym (ap (λ v. v.items) w.text-is))
-              (found_same c.args.core.now c.loop-name.name-index d h c.loop-name.count c.loop-name.text.items c.loop-name.invariant.found
-              (subst (HasText c.args.core.now (get_or c.args.core.now.table.roots c.loop-name.name-index d)) w.in_default.is text)));
-          few = omega (arith, same, few);
-        }
+      | in-Some+in_ok-push_answer w ↦
+          let lines : w.deref.result.now ≡ w.in-Some.lines.items = w.deref.ensures.value in
+          let one : c.match-found.count ≡ c.loop-name.count + 1 = w.count-is in
+          record {
+            found =
+                subst (λ n. HaveFound c.args.core.now (c.loop-name.name-index + 1) n c.match-found.text.items) (sym one)
+                (subst (HaveFound c.args.core.now (c.loop-name.name-index + 1) (c.loop-name.count + 1))
+                (sym (ap (λ v. v.items) w.text-is ∙ w.in_ok-push_answer.ensures ∙ ap (λ ls. c.loop-name.text.items ++ (codes "answer " ++ decimal (c.loop-name.count + 1) ++ 10 ∷ ls)) lines))
+                (found_more c.args.core.now c.loop-name.name-index d h c.loop-name.count c.loop-name.text.items w.in-Some.lines.items c.loop-name.invariant.found
+                (subst (HasText c.args.core.now (get_or c.args.core.now.table.roots c.loop-name.name-index d)) w.in-Some.is text)));
+            few = omega (arith, one, few);
+          }
+      | in_default w ↦
+          let same : c.match-found.count ≡ c.loop-name.count = w.count-is in
+          record {
+            found =
+                subst (λ n. HaveFound c.args.core.now (c.loop-name.name-index + 1) n c.match-found.text.items) (sym same)
+                (subst (HaveFound c.args.core.now (c.loop-name.name-index + 1) c.loop-name.count) (sym (ap (λ v. v.items) w.text-is))
+                (found_same c.args.core.now c.loop-name.name-index d h c.loop-name.count c.loop-name.text.items c.loop-name.invariant.found
+                (subst (HasText c.args.core.now (get_or c.args.core.now.table.roots c.loop-name.name-index d)) w.in_default.is text)));
+            few = omega (arith, same, few);
+          }
     ]
 
 -- src/answers.rt:39:1
