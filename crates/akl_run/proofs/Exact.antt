@@ -1,11 +1,12 @@
 -- A text that is refused is refused in one way, and a command ends so.
-use Rattle.std.proofs.Common.{◌≡◌, ◌<◌, ◌≤◌, ℕ, zero, suc, List, [], ◌++◌, length, map, Option, Some, None, Bool, true, false, refl, sym, ap, subst, ◌∙◌, ◌⊎◌, inl, inr, arith}
+use Rattle.std.proofs.Common.{◌≡◌, ◌<◌, ◌≤◌, ℕ, zero, suc, List, [], ◌++◌, length, map, Option, Some, None, Result, Ok, Err, Bool, true, false, refl, sym, ap, subst, ◌∙◌, ◌⊎◌, inl, inr, arith}
 use Rattle.std.specs.Prelude.{take}
 use Rattle.std.proofs.lemmas.List.{take_at, take_all}
 use Rattle.akl_terms.specs.declared.program.Program.{Program}
 use Rattle.akl_lexemes.specs.declared.error.SyntaxError.{SyntaxError}
+use Rattle.akl_lexemes.specs.declared.error.SyntaxError.TheVariants.{TooLong}
 use Rattle.akl_syntax.specs.Clauses.{Clause, Query}
-use Rattle.akl_syntax.specs.Verdicts.{Verdict, accepted, refused, ReadsQuery}
+use Rattle.akl_syntax.specs.Verdicts.{Verdict, accepted, refused, ReadsProgram, ReadsQuery}
 use Rattle.akl_syntax.proofs.OneVerdict.{program_one, query_verdict_one}
 use Rattle.clause_keys.specs.declared.callee.Callee.{Callee}
 use Rattle.clause_keys.specs.Keys.{called_by, Adds, known, next, Collects}
@@ -16,22 +17,25 @@ use Rattle.akl_run.specs.declared.report.Status.{Status}
 use Rattle.akl_run.specs.declared.report.Refusal.{Refusal}
 use Rattle.akl_run.specs.declared.report.Report.{Report}
 use Rattle.akl_run.specs.declared.loaded.Loaded.{Loaded}
-use Rattle.akl_run.specs.Words.{query_of}
+use Rattle.akl_args.specs.declared.options.Options.{Options}
+use Rattle.akl_args.specs.declared.options.Job.{Job}
+use Rattle.akl_args.specs.declared.options.Job.TheVariants as jobs
+use Rattle.akl_args.specs.declared.options.WordsError.{WordsError}
+use Rattle.akl_run.specs.Words.{asking, is_built}
+use Rattle.akl_run.specs.Goals.{are_built_goals, are_built_clauses}
 use Rattle.akl_run.specs.Choices.{has_choice, have_choices}
 use Rattle.akl_model.specs.Config.{Content}
 use Rattle.answer_text.specs.Answers.{longest_answer}
 use Rattle.akl_run.specs.declared.evaluate.Evaluated.{Evaluated}
 use Rattle.akl_run.specs.declared.stop.Stop.{Stop}
-use Rattle.akl_run.specs.Text.{AreTexts, no_answers, an_answer, HasLongAnswer, here, there}
+use Rattle.root_answers.specs.Text.{AreTexts, no_answers, an_answer, HasLongAnswer, here, there}
 use Rattle.akl_run.specs.Steps.{IsRunAs, IsStopped, whole, part}
-use Rattle.akl_run.specs.Loads.{IsLoadedFrom, IsLoadedProgram, ProgramStops, QueryStops, IsLoadedQuery, by_text, not_built, by_loading, no_memory}
-use Rattle.akl_run.specs.Commands.{Side, side, Command, HasFaulted, HasWorked, Asks, IsAskedBy, IsRead, Stops, by_words, by_reading, by_program, by_query, by_run, no_command, long_query, fault, IsFault, ProgramEnds, QueryEnds, GoalsEnd, LongAnswersEnd, IsAnswered, IsComplete}
+use Rattle.akl_run.specs.Loads.{IsLoadedFrom, IsLoadedProgram, ProgramStops, QueryStops, IsLoadedQuery, by_text, not_built, by_loading, not_built_goal, no_memory}
+use Rattle.akl_run.specs.Commands.{Side, side, Command, HasFaulted, HasWorked, Asks, IsAskedBy, IsRead, Stops, by_words, by_reading, by_program, by_query, by_run, fault, IsFault, WordsEnd, ProgramEnds, QueryEnds, LongAnswersEnd, IsOutcome, IsAnswered, IsComplete}
 use Rattle.akl_run.specs.Commands as commands
+use Rattle.akl_run.specs.Runs.{IsRun}
 use Rattle.akl_run.specs.Reports as reports
-use Rattle.akl_run.specs.Engine.{are_built}
-use Rattle.akl_run.specs.Goals.{are_built_goals}
-use Rattle.akl_run.proofs.BuiltGoals.{built_codes}
-use Rattle.akl_run.proofs.Explained.{Ended, stopped, ran, HasRun, status_runs, rose}
+use Rattle.akl_run.proofs.Explained.{Ended, stopped, ran, status_runs, rose}
 
 -- ---- what was read is the front of what there was
 or_more : (m n : ℕ) → (m ≤ n) ⊎ (n < m)
@@ -59,7 +63,7 @@ read_front : (before after : Side) (text bytes : List ℕ) → before.bytes ≡ 
 read_front before after text bytes e h = front_of text before.faults after.faults after.bytes bytes (subst (λ (z : Option (List ℕ)). IsRead (side z before.faults) after bytes) e h)
 
 -- what a command read is the front of its source
-same_read : (c : Command) {query program bytes : List ℕ} → Asks c query program → IsRead c.source c.source_after bytes → bytes ≡ program
+same_read : (c : Command) {query program bytes : List ℕ} {budget : ℕ} → Asks c query budget program → IsRead c.source c.source_after bytes → bytes ≡ program
 same_read c a b = read_front c.source c.source_after a.text _ a.has b ∙ sym a.front
 
 -- ---- a program's text is refused in one way
@@ -78,24 +82,36 @@ true_false p q = let r : true ≡ false = sym p ∙ q in cc
 none_some : {X : Type 0} {o : Option X} {x : X} → o ≡ None → o ≡ Some x → ⊥
 none_some p q = let r : None ≡ Some _ = sym p ∙ q in cc
 
+-- the clauses of one text are one list
+clauses_one : {text : List ℕ} {cs ds : List Clause} → ReadsProgram text (accepted cs) → ReadsProgram text (accepted ds) → cs ≡ ds
+clauses_one r q = accepted_same (program_one r q)
+
 same_program_stop : {text : List ℕ} {s t : Status} {f g : Refusal} → ProgramStops text s f → ProgramStops text t g → (IsFault s → ⊥) → IsFault t ⊎ ((t ≡ s) × (g ≡ f))
 same_program_stop no_memory q n = absurd (n tt)
 same_program_stop p no_memory n = inl tt
 same_program_stop (by_text r) (by_text q) n = inr (refl, ap Refusal.TextOf (refused_same (program_one q r)))
 same_program_stop (by_text r) (not_built q c) n = absurd (not_both (program_one q r))
 same_program_stop (by_text r) (by_loading q c e) n = absurd (not_both (program_one q r))
+same_program_stop (by_text r) (not_built_goal q c e b) n = absurd (not_both (program_one q r))
 same_program_stop (not_built r c) (by_text q) n = absurd (not_both (program_one r q))
 same_program_stop (not_built r c) (not_built q d) n = inr (refl, refl)
-same_program_stop (not_built {cs = cs} r c) (by_loading q d e) n = absurd (true_false c (subst (λ (z : List Clause). have_choices z ≡ false) (accepted_same (program_one q r)) d))
+same_program_stop (not_built r c) (by_loading q d e) n = absurd (true_false c (subst (λ (z : List Clause). have_choices z ≡ false) (clauses_one q r) d))
+same_program_stop (not_built r c) (not_built_goal q d e b) n = inr (refl, refl)
 same_program_stop (by_loading r c e) (by_text q) n = absurd (not_both (program_one r q))
-same_program_stop (by_loading r c e) (not_built q d) n = absurd (true_false d (subst (λ (z : List Clause). have_choices z ≡ false) (accepted_same (program_one r q)) c))
+same_program_stop (by_loading r c e) (not_built q d) n = absurd (true_false d (subst (λ (z : List Clause). have_choices z ≡ false) (clauses_one r q) c))
 same_program_stop (by_loading {e = cause} r c e) (by_loading q d h) n =
-    inr (refl, ap Refusal.Loading (some_same (sym h ∙ subst (λ (z : List Clause). refusal_of z ≡ Some cause) (accepted_same (program_one r q)) e)))
+    inr (refl, ap Refusal.Loading (some_same (sym h ∙ subst (λ (z : List Clause). refusal_of z ≡ Some cause) (clauses_one r q) e)))
+same_program_stop (by_loading {e = cause} r c e) (not_built_goal q d h b) n = absurd (none_some h (subst (λ (z : List Clause). refusal_of z ≡ Some cause) (clauses_one r q) e))
+same_program_stop (not_built_goal r c e b) (by_text q) n = absurd (not_both (program_one r q))
+same_program_stop (not_built_goal r c e b) (not_built q d) n = inr (refl, refl)
+same_program_stop (not_built_goal r c e b) (by_loading q d h) n = absurd (none_some (subst (λ (z : List Clause). refusal_of z ≡ None) (clauses_one r q) e) h)
+same_program_stop (not_built_goal r c e b) (not_built_goal q d h a) n = inr (refl, refl)
 
 loaded_or_stopped : {text : List ℕ} {p : Program} {s : Status} {f : Refusal} → IsLoadedProgram text p → ProgramStops text s f → IsFault s
 loaded_or_stopped l (by_text r) = absurd (not_both (program_one l.reads r))
-loaded_or_stopped l (not_built r c) = absurd (true_false c (subst (λ (z : List Clause). have_choices z ≡ false) (accepted_same (program_one l.reads r)) l.plain))
-loaded_or_stopped l (by_loading r c e) = absurd (none_some (subst (λ (z : List Clause). refusal_of z ≡ None) (accepted_same (program_one l.reads r)) l.allowed) e)
+loaded_or_stopped l (not_built r c) = absurd (true_false c (subst (λ (z : List Clause). have_choices z ≡ false) (clauses_one l.reads r) l.plain))
+loaded_or_stopped l (by_loading r c e) = absurd (none_some (subst (λ (z : List Clause). refusal_of z ≡ None) (clauses_one l.reads r) l.allowed) e)
+loaded_or_stopped l (not_built_goal r c e b) = absurd (true_false (subst (λ (z : List Clause). are_built_clauses z ≡ true) (clauses_one l.reads r) l.built) b)
 loaded_or_stopped l no_memory = tt
 
 -- ---- a query's text is refused in one way, over each program that the clauses stand for
@@ -120,6 +136,13 @@ same_refusal p q asked e = rw e refl
 query_one : {text : List ℕ} {x y : Query} → ReadsQuery text (accepted x) → ReadsQuery text (accepted y) → x ≡ y
 query_one r q = accepted_same (query_verdict_one r q)
 
+-- a query that isn't refused over one program isn't over the other
+none_other : {program : List ℕ} {p q : Program} (x y : Query) → IsLoadedProgram program p → IsLoadedProgram program q → x ≡ y → query_refusal_of p x ≡ None → query_refusal_of q y ≡ None
+none_other {p = p} {q = q} x y l k e h = subst (λ (z : Query). query_refusal_of q z ≡ None) e (sym (same_refusal p q x (same_callees l k)) ∙ h)
+
+some_other : {program : List ℕ} {p q : Program} {cause : _} (x y : Query) → IsLoadedProgram program p → IsLoadedProgram program q → x ≡ y → query_refusal_of p x ≡ Some cause → query_refusal_of q y ≡ Some cause
+some_other {p = p} {q = q} {cause = cause} x y l k e h = subst (λ (z : Query). query_refusal_of q z ≡ Some cause) e (sym (same_refusal p q x (same_callees l k)) ∙ h)
+
 same_query_stop : {program text : List ℕ} {p q : Program} {s t : Status} {f g : Refusal} → IsLoadedProgram program p → IsLoadedProgram program q → QueryStops p text s f → QueryStops q text t g → (IsFault s → ⊥)
     → IsFault t ⊎ ((t ≡ s) × (g ≡ f))
 same_query_stop l k no_memory b n = absurd (n tt)
@@ -127,41 +150,78 @@ same_query_stop l k a no_memory n = inl tt
 same_query_stop l k (by_text r) (by_text q) n = inr (refl, ap Refusal.TextOf (refused_same (query_verdict_one q r)))
 same_query_stop l k (by_text r) (not_built q c) n = absurd (not_both (query_verdict_one q r))
 same_query_stop l k (by_text r) (by_loading q c e) n = absurd (not_both (query_verdict_one q r))
+same_query_stop l k (by_text r) (not_built_goal q c e b) n = absurd (not_both (query_verdict_one q r))
 same_query_stop l k (not_built r c) (by_text q) n = absurd (not_both (query_verdict_one r q))
 same_query_stop l k (not_built r c) (not_built q d) n = inr (refl, refl)
 same_query_stop l k (not_built r c) (by_loading q d e) n = absurd (true_false c (subst (λ (z : Query). has_choice z.goals ≡ false) (query_one q r) d))
+same_query_stop l k (not_built r c) (not_built_goal q d e b) n = inr (refl, refl)
 same_query_stop l k (by_loading r c e) (by_text q) n = absurd (not_both (query_verdict_one r q))
 same_query_stop l k (by_loading r c e) (not_built q d) n = absurd (true_false d (subst (λ (z : Query). has_choice z.goals ≡ false) (query_one r q) c))
-same_query_stop {p = p} {q = other} l k (by_loading {q = asked} {e = cause} r c e) (by_loading q d h) n =
-    inr (refl, ap Refusal.Loading (some_same (sym h ∙ subst (λ (z : Query). query_refusal_of other z ≡ Some cause) (query_one r q) (sym (same_refusal p other asked (same_callees l k)) ∙ e))))
+same_query_stop l k (by_loading {q = x} r c e) (by_loading {q = y} q d h) n = inr (refl, ap Refusal.Loading (some_same (sym h ∙ some_other x y l k (query_one r q) e)))
+same_query_stop l k (by_loading {q = x} r c e) (not_built_goal {q = y} q d h b) n = absurd (none_some h (some_other x y l k (query_one r q) e))
+same_query_stop l k (not_built_goal r c e b) (by_text q) n = absurd (not_both (query_verdict_one r q))
+same_query_stop l k (not_built_goal r c e b) (not_built q d) n = inr (refl, refl)
+same_query_stop l k (not_built_goal {q = x} r c e b) (by_loading {q = y} q d h) n = absurd (none_some (none_other x y l k (query_one r q) e) h)
+same_query_stop l k (not_built_goal r c e b) (not_built_goal q d h a) n = inr (refl, refl)
 
 asked_or_stopped : {program text : List ℕ} {p q : Program} {l : Loaded} {s : Status} {f : Refusal} → IsLoadedProgram program p → IsLoadedProgram program q → IsLoadedQuery p text l → QueryStops q text s f → IsFault s
 asked_or_stopped a b l (by_text r) = absurd (not_both (query_verdict_one l.reads r))
 asked_or_stopped a b l (not_built r c) = absurd (true_false c (subst (λ (z : Query). has_choice z.goals ≡ false) (query_one l.reads r) l.plain))
-asked_or_stopped {p = p} {q = q} a b l (by_loading r c e) =
-    absurd (none_some (subst (λ (z : Query). query_refusal_of q z ≡ None) (query_one l.reads r) (sym (same_refusal p q l.asked (same_callees a b)) ∙ l.allowed)) e)
+asked_or_stopped a b l (by_loading {q = y} r c e) = absurd (none_some (none_other l.asked y a b (query_one l.reads r) l.allowed) e)
+asked_or_stopped a b l (not_built_goal r c e i) = absurd (true_false (subst (λ (z : Query). are_built_goals z.goals ≡ true) (query_one l.reads r) l.built) i)
 asked_or_stopped a b l no_memory = tt
 
-same_query : {words : List (List ℕ)} {query other : List ℕ} → IsAskedBy words query → query_of words ≡ Some other → query ≡ other
-same_query a e = some_same (sym a.is_query ∙ e)
+-- ---- words ask for one thing
 
-asked_words : {words : List (List ℕ)} {query : List ℕ} {s : Status} {f : Refusal} → IsAskedBy words query → commands.WordsStop words s f → ⊥
-asked_words a (no_command n) = none_some n a.is_query
-asked_words a (long_query e h) = let k = subst (λ (z : List ℕ). length z ≤ 10000) (same_query a e) a.short in omega (arith, k, h)
+ok_same : {o k : Options} → ◌≡◌ {A = Result Options WordsError} (Ok o) (Ok k) → o ≡ k
+ok_same e = cc
+
+err_same : {e d : WordsError} → ◌≡◌ {A = Result Options WordsError} (Err e) (Err d) → e ≡ d
+err_same p = cc
+
+ok_or_err : {o : Options} {e : WordsError} → ◌≡◌ {A = Result Options WordsError} (Ok o) (Err e) → ⊥
+ok_or_err p = cc
+
+text_of : Job → List ℕ
+text_of (jobs.Query text) = text
+text_of (jobs.Generate n) = []
+
+same_query : {words : List (List ℕ)} {query other : List ℕ} {b d : ℕ} → IsAskedBy words query b → IsAskedBy words other d → query ≡ other
+unfolding text_of
+same_query x y = ap (λ (o : Options). text_of o.job) (ok_same (sym x.reads ∙ y.reads))
+
+same_budget : {words : List (List ℕ)} {query other : List ℕ} {b d : ℕ} → IsAskedBy words query b → IsAskedBy words other d → b ≡ d
+same_budget x y = ap (λ (o : Options). o.budget) (ok_same (sym x.reads ∙ y.reads))
+
+asking_query : {query other : List ℕ} {b d : ℕ} → asking query b ≡ asking other d → query ≡ other
+unfolding text_of
+asking_query e = ap (λ (o : Options). text_of o.job) e
+
+same_words_stop : {words : List (List ℕ)} {s t : Status} {f g : Refusal} → commands.WordsStop words s f → commands.WordsStop words t g → (IsFault s → ⊥) → IsFault t ⊎ ((t ≡ s) × (g ≡ f))
+same_words_stop commands.no_memory q n = absurd (n tt)
+same_words_stop p commands.no_memory n = inl tt
+same_words_stop (commands.refused r) (commands.refused q) n = inr (refl, ap Refusal.Words (err_same (sym q ∙ r)))
+same_words_stop (commands.refused r) (commands.not_built q b) n = absurd (ok_or_err (sym q ∙ r))
+same_words_stop (commands.refused r) (commands.long_query q h) n = absurd (ok_or_err (sym q ∙ r))
+same_words_stop (commands.not_built r b) (commands.refused q) n = absurd (ok_or_err (sym r ∙ q))
+same_words_stop (commands.not_built r b) (commands.not_built q d) n = inr (refl, refl)
+same_words_stop (commands.not_built r b) (commands.long_query q h) n = absurd (true_false refl (subst (λ (o : Options). is_built o ≡ false) (ok_same (sym r ∙ q)) b))
+same_words_stop (commands.long_query r h) (commands.refused q) n = absurd (ok_or_err (sym r ∙ q))
+same_words_stop (commands.long_query r h) (commands.not_built q b) n = absurd (true_false refl (subst (λ (o : Options). is_built o ≡ false) (ok_same (sym q ∙ r)) b))
+same_words_stop (commands.long_query r h) (commands.long_query q k) n = inr (refl, ap (λ (text : List ℕ). Refusal.TextOf (TooLong (length text))) (asking_query (ok_same (sym q ∙ r))))
+
+asked_words : {words : List (List ℕ)} {query : List ℕ} {budget : ℕ} {s : Status} {f : Refusal} → IsAskedBy words query budget → commands.WordsStop words s f → IsFault s
+asked_words a commands.no_memory = tt
+asked_words a (commands.refused r) = absurd (ok_or_err (sym a.reads ∙ r))
+asked_words a (commands.not_built r b) = absurd (true_false refl (subst (λ (o : Options). is_built o ≡ false) (ok_same (sym r ∙ a.reads)) b))
+asked_words a (commands.long_query r h) = let k = subst (λ (z : List ℕ). length z ≤ 10000) (asking_query (ok_same (sym a.reads ∙ r))) a.short in absurd (omega (arith, k, h))
 
 read_faults : {before after : Side} {s : Status} {f : Refusal} → commands.ReadStops before after s f → IsFault s
 read_faults (fault r b) = tt
-read_faults (commands.no_memory b) = tt
+read_faults (commands.no_memory_read b) = tt
 
-query_stop_of : {words : List (List ℕ)} {query other : List ℕ} {p : Program} {s : Status} {f : Refusal} → IsAskedBy words query → IsAskedBy words other → QueryStops p other s f → QueryStops p query s f
-query_stop_of {p = p} {s = s} {f = f} a b q = subst (λ (z : List ℕ). QueryStops p z s f) (sym (same_query a b.is_query)) q
-
--- one query is loaded with goals that are built, or with goals that aren't
-same_built : {words : List (List ℕ)} {query other : List ℕ} {p q : Program} {l k : Loaded} → IsAskedBy words query → IsAskedBy words other → (one : IsLoadedQuery p query l) → IsLoadedQuery q other k
-    → are_built k.query.goals ≡ are_built_goals one.asked.goals
-same_built a b one two =
-    built_codes two.stands.goals
-    ∙ ap (λ (z : Query). are_built_goals z.goals) (query_one two.reads (subst (λ (z : List ℕ). ReadsQuery z (accepted one.asked)) (same_query a b.is_query) one.reads))
+query_stop_of : {words : List (List ℕ)} {query other : List ℕ} {b d : ℕ} {p : Program} {s : Status} {f : Refusal} → IsAskedBy words query b → IsAskedBy words other d → QueryStops p other s f → QueryStops p query s f
+query_stop_of {p = p} {s = s} {f = f} a b q = subst (λ (z : List ℕ). QueryStops p z s f) (sym (same_query a b)) q
 
 -- texts that fit belong to no answer that is too long
 all_fit : {symbols : List (List ℕ)} {k : ℕ} {answers : List Content} {text : List ℕ} → AreTexts symbols k answers text → HasLongAnswer symbols answers → ⊥
@@ -188,91 +248,80 @@ fault_is Status.NotYet f = absurd f
 
 -- what follows of a command that stopped, or whose run was written
 module _ (c : Command) where
-  program_at : {query program bytes : List ℕ} {p : Program} → Asks c query program → IsRead c.source c.source_after bytes → IsLoadedProgram bytes p → IsLoadedProgram program p
+  program_at : {query program bytes : List ℕ} {budget : ℕ} {p : Program} → Asks c query budget program → IsRead c.source c.source_after bytes → IsLoadedProgram bytes p → IsLoadedProgram program p
   program_at {p = p} a b l = subst (λ (z : List ℕ). IsLoadedProgram z p) (same_read c a b) l
 
-  stop_at : {query program bytes : List ℕ} {s : Status} {f : Refusal} → Asks c query program → IsRead c.source c.source_after bytes → ProgramStops bytes s f → ProgramStops program s f
+  stop_at : {query program bytes : List ℕ} {budget : ℕ} {s : Status} {f : Refusal} → Asks c query budget program → IsRead c.source c.source_after bytes → ProgramStops bytes s f → ProgramStops program s f
   stop_at {s = s} {f = f} a b q = subst (λ (z : List ℕ). ProgramStops z s f) (same_read c a b) q
 
-  program_stop : {query program : List ℕ} {s t : Status} {f g : Refusal} → Asks c query program → ProgramStops program s f → (IsFault s → ⊥) → Stops c.words c.source c.source_after t g → IsFault t ⊎ ((t ≡ s) × (g ≡ f))
-  program_stop a p n (by_words w l) = absurd (asked_words a.asked w)
+  words_stop : {s t : Status} {f g : Refusal} → commands.WordsStop c.words s f → (IsFault s → ⊥) → Stops c.words c.source c.source_after t g → IsFault t ⊎ ((t ≡ s) × (g ≡ f))
+  words_stop p n (by_words w l) = same_words_stop p w n
+  words_stop p n (by_reading a r) = absurd (n (asked_words a p))
+  words_stop p n (by_program a r q) = absurd (n (asked_words a p))
+  words_stop p n (by_query a r l q) = absurd (n (asked_words a p))
+  words_stop p n (by_run a r l q) = absurd (n (asked_words a p))
+
+  program_stop : {query program : List ℕ} {budget : ℕ} {s t : Status} {f g : Refusal} → Asks c query budget program → ProgramStops program s f → (IsFault s → ⊥) → Stops c.words c.source c.source_after t g
+      → IsFault t ⊎ ((t ≡ s) × (g ≡ f))
+  program_stop a p n (by_words w l) = inl (asked_words a.asked w)
   program_stop a p n (by_reading b r) = inl (read_faults r)
   program_stop a p n (by_program b r q) = same_program_stop p (stop_at a r q) n
   program_stop a p n (by_query b r l q) = absurd (n (loaded_or_stopped (program_at a r l) p))
   program_stop a p n (by_run b r l q) = absurd (n (loaded_or_stopped (program_at a r l.is_program) p))
 
-  query_stop : {query program : List ℕ} {p : Program} {s t : Status} {f g : Refusal} → Asks c query program → IsLoadedProgram program p → QueryStops p query s f → (IsFault s → ⊥)
+  query_stop : {query program : List ℕ} {budget : ℕ} {p : Program} {s t : Status} {f g : Refusal} → Asks c query budget program → IsLoadedProgram program p → QueryStops p query s f → (IsFault s → ⊥)
       → Stops c.words c.source c.source_after t g → IsFault t ⊎ ((t ≡ s) × (g ≡ f))
-  query_stop a l q n (by_words w m) = absurd (asked_words a.asked w)
+  query_stop a l q n (by_words w m) = inl (asked_words a.asked w)
   query_stop a l q n (by_reading b r) = inl (read_faults r)
   query_stop a l q n (by_program b r k) = inl (loaded_or_stopped l (stop_at a r k))
   query_stop a l q n (by_query b r m k) = same_query_stop l (program_at a r m) q (query_stop_of a.asked b k) n
   query_stop a l q n (by_run {l = loaded} b r m k) =
-      absurd (n (asked_or_stopped (program_at a r m.is_program) l (subst (λ (z : List ℕ). IsLoadedQuery m.base z loaded) (sym (same_query a.asked b.is_query)) m.is_query) q))
+      absurd (n (asked_or_stopped (program_at a r m.is_program) l (subst (λ (z : List ℕ). IsLoadedQuery m.base z loaded) (sym (same_query a.asked b)) m.is_query) q))
 
-  -- a command whose query is loaded stops for a fault, or since a goal isn't built, or since each text of an answer is too long
-  loaded_stop : {query program : List ℕ} {l : Loaded} {t : Status} {g : Refusal} → Asks c query program → (from : IsLoadedFrom program query l) → Stops c.words c.source c.source_after t g
-      → IsFault t ⊎ (((are_built_goals from.is_query.asked.goals ≡ false) × (t ≡ Status.NotYet) × (g ≡ Refusal.NotYet Part.Query))
-      ⊎ ((are_built_goals from.is_query.asked.goals ≡ true) × (t ≡ Status.NotYet) × (g ≡ Refusal.NotYet Part.Answer)))
-  loaded_stop a m (by_words w l) = absurd (asked_words a.asked w)
+  -- a command whose query is loaded stops for a fault, or since each text of an answer is too long
+  loaded_stop : {query program : List ℕ} {budget : ℕ} {l : Loaded} {t : Status} {g : Refusal} → Asks c query budget program → IsLoadedFrom program query l → Stops c.words c.source c.source_after t g
+      → IsFault t ⊎ ((t ≡ Status.NotYet) × (g ≡ Refusal.NotYet Part.Answer))
+  loaded_stop a m (by_words w l) = inl (asked_words a.asked w)
   loaded_stop a m (by_reading b r) = inl (read_faults r)
   loaded_stop a m (by_program b r k) = inl (loaded_or_stopped m.is_program (stop_at a r k))
   loaded_stop a m (by_query b r l k) = inl (asked_or_stopped m.is_program (program_at a r l) m.is_query (query_stop_of a.asked b k))
-  loaded_stop a m (by_run b r l (reports.not_built h)) = inr (inl (sym (same_built a.asked b m.is_query l.is_query) ∙ h, refl, refl))
-  loaded_stop a m (by_run b r l (reports.long h d)) = inr (inr (sym (same_built a.asked b m.is_query l.is_query) ∙ h, refl, refl))
+  loaded_stop a m (by_run b r l (reports.long d)) = inr (refl, refl)
   loaded_stop a m (by_run b r l reports.no_memory) = inl tt
 
   at_report : (P : Status → Refusal → Type 0) (stop : Stop) → IsStopped stop c.report → P stop.status stop.refusal → P c.report.status c.report.refusal
   at_report P stop i p = subst (λ (z : Status). P z c.report.refusal) (sym i.status) (subst (λ (z : Refusal). P stop.status z) (sym i.refusal) p)
 
+  pub words_end : Ended c → WordsEnd c
+  words_end (stopped stop q i w) = λ s f p n. at_report (λ t g. IsFault t ⊎ ((t ≡ s) × (g ≡ f))) stop i (words_stop p n q)
+  words_end (ran run q i) = λ s f p n. absurd (n (asked_words q.ready.asked p))
+
   pub program_ends : Ended c → ProgramEnds c
-  program_ends (stopped stop q i w) = λ query program s f a p n. at_report (λ t g. IsFault t ⊎ ((t ≡ s) × (g ≡ f))) stop i (program_stop a p n q)
-  program_ends (ran run q i) = λ query program s f a p n. absurd (n (loaded_or_stopped (program_at a q.ready.read q.ready.loaded.is_program) p))
+  program_ends (stopped stop q i w) = λ query budget program s f a p n. at_report (λ t g. IsFault t ⊎ ((t ≡ s) × (g ≡ f))) stop i (program_stop a p n q)
+  program_ends (ran run q i) = λ query budget program s f a p n. absurd (n (loaded_or_stopped (program_at a q.ready.read q.ready.loaded.is_program) p))
 
   pub query_ends : Ended c → QueryEnds c
-  query_ends (stopped stop q i w) = λ query program p s f a l k n. at_report (λ t g. IsFault t ⊎ ((t ≡ s) × (g ≡ f))) stop i (query_stop a l k n q)
-  query_ends (ran run q i) = λ query program p s f a l k n.
+  query_ends (stopped stop q i w) = λ query budget program p s f a l k n. at_report (λ t g. IsFault t ⊎ ((t ≡ s) × (g ≡ f))) stop i (query_stop a l k n q)
+  query_ends (ran run q i) = λ query budget program p s f a l k n.
       absurd (n (asked_or_stopped (program_at a q.ready.read q.ready.loaded.is_program) l
-      (subst (λ (z : List ℕ). IsLoadedQuery q.ready.loaded.base z q.loaded) (sym (same_query a.asked q.ready.asked.is_query)) q.ready.loaded.is_query) k))
-
-  not_built_ends : {b : Bool} {t : Status} {g : Refusal} → b ≡ false
-      → IsFault t ⊎ (((b ≡ false) × (t ≡ Status.NotYet) × (g ≡ Refusal.NotYet Part.Query)) ⊎ ((b ≡ true) × (t ≡ Status.NotYet) × (g ≡ Refusal.NotYet Part.Answer)))
-      → IsFault t ⊎ ((t ≡ Status.NotYet) × (g ≡ Refusal.NotYet Part.Query))
-  not_built_ends n (inl f) = inl f
-  not_built_ends n (inr (inl x)) = inr (x.1, x.2)
-  not_built_ends n (inr (inr x)) = absurd (true_false x.0 n)
-
-  long_ends_so : {b : Bool} {t : Status} {g : Refusal} → b ≡ true
-      → IsFault t ⊎ (((b ≡ false) × (t ≡ Status.NotYet) × (g ≡ Refusal.NotYet Part.Query)) ⊎ ((b ≡ true) × (t ≡ Status.NotYet) × (g ≡ Refusal.NotYet Part.Answer)))
-      → IsFault t ⊎ ((t ≡ Status.NotYet) × (g ≡ Refusal.NotYet Part.Answer))
-  long_ends_so y (inl f) = inl f
-  long_ends_so y (inr (inl x)) = absurd (true_false y x.0)
-  long_ends_so y (inr (inr x)) = inr (x.1, x.2)
-
-  pub goals_end : Ended c → GoalsEnd c
-  goals_end (stopped stop q i w) = λ query program l a m n. at_report (λ t g. IsFault t ⊎ ((t ≡ Status.NotYet) × (g ≡ Refusal.NotYet Part.Query))) stop i (not_built_ends n (loaded_stop a m q))
-  goals_end (ran run q i) = λ query program l a m n. absurd (true_false q.run.built (same_built a.asked q.ready.asked m.is_query q.ready.loaded.is_query ∙ n))
+      (subst (λ (z : List ℕ). IsLoadedQuery q.ready.loaded.base z q.loaded) (sym (same_query a.asked q.ready.asked)) q.ready.loaded.is_query) k))
 
   pub long_answers_end : Ended c → LongAnswersEnd c
-  long_answers_end (stopped stop q i w) = λ query program l a m y long. at_report (λ t g. IsFault t ⊎ ((t ≡ Status.NotYet) × (g ≡ Refusal.NotYet Part.Answer))) stop i (long_ends_so y (loaded_stop a m q))
-  long_answers_end (ran run q i) = λ query program l a m y long.
+  long_answers_end (stopped stop q i w) = λ query budget program l a m long. at_report (λ t g. IsFault t ⊎ ((t ≡ Status.NotYet) × (g ≡ Refusal.NotYet Part.Answer))) stop i (loaded_stop a m q)
+  long_answers_end (ran run q i) = λ query budget program l a m long.
       let k : IsLoadedFrom program query q.loaded =
       subst (λ (z : List ℕ). IsLoadedFrom z query q.loaded) (same_read c a q.ready.read)
-      (subst (λ (z : List ℕ). IsLoadedFrom q.ready.program z q.loaded) (sym (same_query a.asked q.ready.asked.is_query)) q.ready.loaded) in
-      absurd (all_fit q.run.run.is_text.are_texts (long q.loaded k run.journal.items q.run.run.answers q.run.outcome q.run.run.run))
+      (subst (λ (z : List ℕ). IsLoadedFrom q.ready.program z q.loaded) (sym (same_query a.asked q.ready.asked)) q.ready.loaded) in
+      let r = subst (λ (b : ℕ). IsRun q.loaded b run.journal.items q.run.run.answers q.run.outcome) (sym (same_budget a.asked q.ready.asked)) q.run.run.run in
+      absurd (all_fit q.run.run.is_text.are_texts (long q.loaded k run.journal.items q.run.run.answers q.run.outcome r))
 
   -- the status of a run that was written whole
   has_run : {e : Evaluated} → IsRunAs c.words c.source c.source_after e → e.status ≡ c.report.status → IsAnswered c.report
-  has_run {e} q i = on (status_runs e.status q.run.outcome q.run.is_status)
-    where
-      on : HasRun e.status → IsAnswered c.report
-      on (inl d) = inl (sym i ∙ d)
-      on (inr d) = inr (inl (sym i ∙ d))
+  has_run {e} q i = inl (subst IsOutcome i (status_runs e.status q.run.outcome q.run.is_status))
 
   -- a fault that isn't want of memory is one of the source
   answered_or_fault : (stop : Stop) → Stops c.words c.source c.source_after stop.status stop.refusal → IsStopped stop c.report → HasWorked c.source c.source_after → (c.report.status ≡ Status.NoMemory → ⊥)
       → IsFault stop.status ⊎ ((stop.status ≡ Status.NotYet) × (stop.refusal ≡ Refusal.NotYet Part.Answer)) → IsAnswered c.report
-  answered_or_fault stop q i works memory (inr x) = inr (inr (i.status ∙ x.0, i.refusal ∙ x.1))
+  answered_or_fault stop q i works memory (inr x) = inr (i.status ∙ x.0, i.refusal ∙ x.1)
   answered_or_fault stop q i works memory (inl f) = absurd (on (fault_is stop.status f))
     where
       on : (stop.status ≡ Status.ReadFault) ⊎ (stop.status ≡ Status.NoMemory) → ⊥
@@ -280,6 +329,6 @@ module _ (c : Command) where
       on (inr d) = memory (i.status ∙ d)
 
   pub complete : Ended c → IsComplete c
-  complete (stopped stop q i w) = λ query program l a m y works writes memory. answered_or_fault stop q i works memory (long_ends_so y (loaded_stop a m q))
-  complete (ran run q (whole i w)) = λ query program l a m y works writes memory. has_run q (sym (ap (λ (z : Report). z.status) i))
-  complete (ran run q (part i l w f)) = λ query program k a m y works writes memory. absurd (both c.sink c.sink_after writes f)
+  complete (stopped stop q i w) = λ query budget program l a m works writes memory. answered_or_fault stop q i works memory (loaded_stop a m q)
+  complete (ran run q (whole i w)) = λ query budget program l a m works writes memory. has_run q (sym (ap (λ (z : Report). z.status) i))
+  complete (ran run q (part i l w f)) = λ query budget program k a m works writes memory. absurd (both c.sink c.sink_after writes f)

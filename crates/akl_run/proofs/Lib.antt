@@ -1,11 +1,7 @@
-pub mod Represented
-pub mod Commits
-pub mod Derived
 pub mod ShownTerms
 pub mod Evaluated
 pub mod Explained
 pub mod Loading
 pub mod Reading
 pub mod Exact
-pub mod BuiltGoals
 pub mod Reported

@@ -2,9 +2,9 @@
 use Rattle.std.proofs.Common.{◌≡◌, ◌<◌, ◌≤◌, ℕ, zero, suc, List, [], ◌∷◌, length, Bool, true, false, refl, sym, ap, subst, Err, arith, Vec, Global}
 use Rattle.std.proofs.lemmas.List.{length-map}
 use Rattle.akl_syntax.specs.declared.source.SourceClause.{SourceClause}
-use Rattle.std.specs.Prelude.{◌||◌, slice_index_or, map, Result, Ok, IfErr}
+use Rattle.std.specs.Prelude.{◌||◌, ◌&&◌, slice_index_or, map, Result, Ok, IfErr}
 use Rattle.std.specs.Result.{IsErrAnd}
-use Rattle.std.specs.List.{All, list_any}
+use Rattle.std.specs.List.{All, list_any, list_all}
 use Rattle.akl_terms.specs.declared.program.Program.{Program}
 use Rattle.akl_lexemes.specs.declared.error.SyntaxError.{SyntaxError}
 use Rattle.akl_lexemes.specs.declared.error.SyntaxError.TheVariants as syntax_errors
@@ -24,7 +24,12 @@ use Rattle.akl_run.specs.declared.report.Status.{Status}
 use Rattle.akl_run.specs.declared.report.Refusal.{Refusal}
 use Rattle.akl_run.specs.declared.stop.Stop.{Stop}
 use Rattle.akl_run.specs.Choices.{is_choice, has_choice, is_chosen, have_choices}
-use Rattle.akl_run.specs.Stops.{IsStop, IsTextStop, IsLoadingStop}
+use Rattle.akl_args.specs.declared.options.WordsError.{WordsError}
+use Rattle.akl_args.specs.declared.options.WordsError.TheVariants as words_errors
+use Rattle.akl_args.specs.Table.{reading, IsRefusalOf}
+use Rattle.akl_run.specs.Commands.{WordsStop}
+use Rattle.akl_run.specs.Commands as commands
+use Rattle.akl_run.specs.Stops.{IsStop, IsWordsStop, IsTextStop, IsLoadingStop}
 use Rattle.akl_run.specs.Loads.{ProgramStops, QueryStops, by_text, by_loading, no_memory}
 
 -- ---- no inline choice
@@ -113,3 +118,15 @@ query_loading_stops p bytes q (load_errors.Undefined key) stop r n a i = stops_a
 query_loading_stops p bytes q (load_errors.Reserved key) stop r n a i = stops_as (QueryStops p bytes) _ _ stop i (by_loading r n a)
 query_loading_stops p bytes q (load_errors.TooMany what count) stop r n a i = stops_as (QueryStops p bytes) _ _ stop i (by_loading r n a)
 query_loading_stops p bytes q (load_errors.Memory e) stop r n a i = stops_as (QueryStops p bytes) _ _ stop i no_memory
+
+pub words_stops : (words : List (List ℕ)) (e : WordsError) (stop : Stop) → IsRefusalOf (reading words) e → IsWordsStop e stop → WordsStop words stop.status stop.refusal
+words_stops words (words_errors.Missing at) stop r i = stops_as (WordsStop words) _ _ stop i (commands.refused r)
+words_stops words (words_errors.Unknown at) stop r i = stops_as (WordsStop words) _ _ stop i (commands.refused r)
+words_stops words (words_errors.Value at) stop r i = stops_as (WordsStop words) _ _ stop i (commands.refused r)
+words_stops words (words_errors.Repeated at) stop r i = stops_as (WordsStop words) _ _ stop i (commands.refused r)
+words_stops words (words_errors.Memory e) stop r i = stops_as (WordsStop words) _ _ stop i commands.no_memory
+
+-- whether all of some goals are built, one by one
+pub list_all-map : {X Y : Type 0} (p : Y → Bool) (f : X → Y) (xs : List X) → list_all p (map f xs) ≡ list_all (λ (x : X). p (f x)) xs
+list_all-map p f [] = refl
+list_all-map p f (x ∷ xs) = ap (λ (b : Bool). p (f x) && b) (list_all-map p f xs)

@@ -1,5 +1,5 @@
 -- A command, and what its report says of it.
-use Rattle.std.specs.Prelude.{◌≡◌, ◌⊎◌, ◌↔◌, ℕ, true, false, ◌<◌, ◌≤◌, List, [], length, take, map, Option, Some, None, IfSome}
+use Rattle.std.specs.Prelude.{◌≡◌, ◌⊎◌, ℕ, false, ◌<◌, ◌≤◌, List, [], length, take, map, Option, Some, IfSome, Ok, Err}
 use Rattle.std.specs.Io.KnownBytes.{prepend_known, append_known}
 use Rattle.akl_outside.specs.Counts.{Rose, next_count}
 use Rattle.akl_outside.specs.Transfer.{ReadSome}
@@ -11,8 +11,10 @@ use Rattle.akl_run.specs.declared.report.Status.{Status}
 use Rattle.akl_run.specs.declared.report.Refusal.{Refusal}
 use Rattle.akl_run.specs.declared.report.Report.{Report}
 use Rattle.akl_run.specs.declared.loaded.Loaded.{Loaded}
-use Rattle.akl_run.specs.Words.{query_of}
-use Rattle.akl_run.specs.Goals.{are_built_goals}
+use Rattle.akl_args.specs.declared.options.Options.{Options}
+use Rattle.akl_args.specs.declared.options.WordsError.{WordsError}
+use Rattle.akl_args.specs.Table.{reading}
+use Rattle.akl_run.specs.Words.{asking, is_built}
 use Rattle.akl_run.specs.Loads.{IsLoadedProgram, ProgramStops, QueryStops, IsLoadedFrom}
 use Rattle.akl_run.specs.Reports.{IsStatusOf, IsRunOf, RunStops, HasOnlyLongRuns}
 
@@ -44,15 +46,17 @@ pub record Command : Type 0 where
 
 -- ---- the words and the source
 
--- the words are a command with this query, which isn't too long
-pub record IsAskedBy (words : List (List ℕ)) (query : List ℕ) : Type 0 where
-  pub is_query : query_of words ≡ Some query
+-- the words are a command with this query, which isn't too long, and this budget
+pub record IsAskedBy (words : List (List ℕ)) (query : List ℕ) (budget : ℕ) : Type 0 where
+  pub reads : reading words ≡ Ok (asking query budget)
   pub short : length query ≤ 10000
 
--- the words are no command, or one with a query that is too long
+-- the words are refused, ask for what isn't built, or have a query that is too long; want of memory is free
 pub data WordsStop (words : List (List ℕ)) : Status → Refusal → Type 0 where
-  no_command : query_of words ≡ None → WordsStop words Status.NotYet (Refusal.NotYet Part.Words)
-  long_query : {query : List ℕ} → query_of words ≡ Some query → 10000 < length query → WordsStop words Status.Query (Refusal.TextOf (TooLong (length query)))
+  refused : {e : WordsError} → reading words ≡ Err e → WordsStop words Status.Words (Refusal.Words e)
+  not_built : {o : Options} → reading words ≡ Ok o → is_built o ≡ false → WordsStop words Status.NotYet (Refusal.NotYet Part.Words)
+  long_query : {query : List ℕ} {budget : ℕ} → reading words ≡ Ok (asking query budget) → 10000 < length query → WordsStop words Status.Query (Refusal.TextOf (TooLong (length query)))
+  no_memory : WordsStop words Status.NoMemory Refusal.Nothing
 
 -- these bytes were read of a source: all that it had, unless these are more than a program may have
 pub record IsRead (before after : Side) (bytes : List ℕ) : Type 0 where
@@ -64,16 +68,16 @@ pub record IsRead (before after : Side) (bytes : List ℕ) : Type 0 where
 -- the source failed before a program's bytes were read; want of memory is free
 pub data ReadStops (before after : Side) : Status → Refusal → Type 0 where
   fault : HasFaulted before after → ReadSome before.bytes after.bytes (λ n. n ≤ 1000000) → ReadStops before after Status.ReadFault Refusal.Nothing
-  no_memory : ReadSome before.bytes after.bytes (λ n. n ≤ 1000001) → ReadStops before after Status.NoMemory Refusal.Nothing
+  no_memory_read : ReadSome before.bytes after.bytes (λ n. n ≤ 1000001) → ReadStops before after Status.NoMemory Refusal.Nothing
 
 -- What ends a command before anything is written, in the order of the work: the words, the source, the program, the query, its run.
 pub data Stops (words : List (List ℕ)) (before after : Side) : Status → Refusal → Type 0 where
   by_words : {s : Status} {f : Refusal} → WordsStop words s f → after ≡ before → Stops words before after s f
-  by_reading : {s : Status} {f : Refusal} {query : List ℕ} → IsAskedBy words query → ReadStops before after s f → Stops words before after s f
-  by_program : {s : Status} {f : Refusal} {query program : List ℕ} → IsAskedBy words query → IsRead before after program → ProgramStops program s f → Stops words before after s f
-  by_query : {s : Status} {f : Refusal} {query program : List ℕ} {p : Program} → IsAskedBy words query → IsRead before after program → IsLoadedProgram program p → QueryStops p query s f
+  by_reading : {s : Status} {f : Refusal} {query : List ℕ} {budget : ℕ} → IsAskedBy words query budget → ReadStops before after s f → Stops words before after s f
+  by_program : {s : Status} {f : Refusal} {query program : List ℕ} {budget : ℕ} → IsAskedBy words query budget → IsRead before after program → ProgramStops program s f → Stops words before after s f
+  by_query : {s : Status} {f : Refusal} {query program : List ℕ} {budget : ℕ} {p : Program} → IsAskedBy words query budget → IsRead before after program → IsLoadedProgram program p → QueryStops p query s f
       → Stops words before after s f
-  by_run : {s : Status} {f : Refusal} {query program : List ℕ} {l : Loaded} → IsAskedBy words query → IsRead before after program → IsLoadedFrom program query l → RunStops l s f
+  by_run : {s : Status} {f : Refusal} {query program : List ℕ} {budget : ℕ} {l : Loaded} → IsAskedBy words query budget → IsRead before after program → IsLoadedFrom program query l → RunStops l budget s f
       → Stops words before after s f
 
 -- ---- how a command ends, by its texts
@@ -88,64 +92,74 @@ IsFault s = ⊥
 abbrev pub IsUnlessFault : Report → Status → Refusal → Type 0
 IsUnlessFault r s f = IsFault r.status ⊎ ((r.status ≡ s) × (r.refusal ≡ f))
 
--- the command asks this query, and this is what the source has, up to one byte more than a program may have
-pub record Asks (c : Command) (query program : List ℕ) : Type 0 where
-  pub asked : IsAskedBy c.words query
+-- where the words are refused, ask for what isn't built, or have a query that is too long, the command ends so
+abbrev pub WordsEnd : Command → Type 0
+WordsEnd c = (s : Status) (f : Refusal) → WordsStop c.words s f → (IsFault s → ⊥) → IsUnlessFault c.report s f
+
+-- the command asks this query with this budget, and this is what the source has, up to one byte more than a program may have
+pub record Asks (c : Command) (query : List ℕ) (budget : ℕ) (program : List ℕ) : Type 0 where
+  pub asked : IsAskedBy c.words query budget
   pub text : List ℕ
   pub has : c.source.bytes ≡ Some text
   pub front : program ≡ take 1000001 text
 
 -- where the program's text is refused, or isn't built, the command ends so
 abbrev pub ProgramEnds : Command → Type 0
-ProgramEnds c = (query program : List ℕ) (s : Status) (f : Refusal) → Asks c query program → ProgramStops program s f → (IsFault s → ⊥) → IsUnlessFault c.report s f
+ProgramEnds c = (query : List ℕ) (budget : ℕ) (program : List ℕ) (s : Status) (f : Refusal) → Asks c query budget program → ProgramStops program s f → (IsFault s → ⊥) → IsUnlessFault c.report s f
 
 -- where the program is loaded, and the query's text is refused over it, or isn't built, the command ends so
 abbrev pub QueryEnds : Command → Type 0
-QueryEnds c = (query program : List ℕ) (p : Program) (s : Status) (f : Refusal) → Asks c query program → IsLoadedProgram program p → QueryStops p query s f → (IsFault s → ⊥) → IsUnlessFault c.report s f
+QueryEnds c = (query : List ℕ) (budget : ℕ) (program : List ℕ) (p : Program) (s : Status) (f : Refusal) → Asks c query budget program → IsLoadedProgram program p → QueryStops p query s f → (IsFault s → ⊥)
+    → IsUnlessFault c.report s f
 
--- where the query is loaded and has a goal that isn't built, the command says so
-abbrev pub GoalsEnd : Command → Type 0
-GoalsEnd c = (query program : List ℕ) (l : Loaded) → Asks c query program → (from : IsLoadedFrom program query l) → are_built_goals from.is_query.asked.goals ≡ false
-    → IsUnlessFault c.report Status.NotYet (Refusal.NotYet Part.Query)
-
--- where the query is loaded, its goals are built, and each run of it has an answer that is too long, the command says so
+-- where the query is loaded, and each run of it has an answer that is too long, the command says so
 abbrev pub LongAnswersEnd : Command → Type 0
-LongAnswersEnd c = (query program : List ℕ) (l : Loaded) → Asks c query program → (from : IsLoadedFrom program query l) → are_built_goals from.is_query.asked.goals ≡ true
-    → HasOnlyLongRuns program query → IsUnlessFault c.report Status.NotYet (Refusal.NotYet Part.Answer)
+LongAnswersEnd c = (query : List ℕ) (budget : ℕ) (program : List ℕ) (l : Loaded) → Asks c query budget program → IsLoadedFrom program query l → HasOnlyLongRuns program query budget
+    → IsUnlessFault c.report Status.NotYet (Refusal.NotYet Part.Answer)
 
--- it was done, or has failed, or its answer is too long
+-- the statuses of outcomes
+abbrev pub IsOutcome : Status → Type 0
+IsOutcome Status.Done = Unit {0}
+IsOutcome Status.Failed = Unit {0}
+IsOutcome Status.Suspended = Unit {0}
+IsOutcome Status.Budget = Unit {0}
+IsOutcome s = ⊥
+
+-- it has an outcome, or an answer is too long
 abbrev pub IsAnswered : Report → Type 0
-IsAnswered r = (r.status ≡ Status.Done) ⊎ (r.status ≡ Status.Failed) ⊎ ((r.status ≡ Status.NotYet) × (r.refusal ≡ Refusal.NotYet Part.Answer))
+IsAnswered r = IsOutcome r.status ⊎ ((r.status ≡ Status.NotYet) × (r.refusal ≡ Refusal.NotYet Part.Answer))
 
--- where the query is loaded, its goals are built, the source and the sink work and there is memory, the query is answered
+-- where the query is loaded, the source and the sink work and there is memory, the query is answered
 abbrev pub IsComplete : Command → Type 0
-IsComplete c = (query program : List ℕ) (l : Loaded) → Asks c query program → (from : IsLoadedFrom program query l) → are_built_goals from.is_query.asked.goals ≡ true
-    → HasWorked c.source c.source_after → HasWorked c.sink c.sink_after → (c.report.status ≡ Status.NoMemory → ⊥) → IsAnswered c.report
+IsComplete c = (query : List ℕ) (budget : ℕ) (program : List ℕ) (l : Loaded) → Asks c query budget program → IsLoadedFrom program query l → HasWorked c.source c.source_after → HasWorked c.sink c.sink_after
+    → (c.report.status ≡ Status.NoMemory → ⊥) → IsAnswered c.report
 
 -- ---- what was written
 
 -- the run of the words' query over the source's program was written whole: what was appended is the text of the answered journal
 pub record WroteRun (c : Command) : Type 0 where
   pub query : List ℕ
+  pub budget : ℕ
   pub program : List ℕ
-  pub asked : IsAskedBy c.words query
+  pub asked : IsAskedBy c.words query budget
   pub read : IsRead c.source c.source_after program
   pub outcome : Outcome
   pub is_status : IsStatusOf c.report.status outcome
   pub text : List ℕ
-  pub run : IsRunOf program query outcome c.report.journal.items (map (λ rs. rs.items) c.report.receipts.items) text
+  pub run : IsRunOf program query budget outcome c.report.journal.items (map (λ rs. rs.items) c.report.receipts.items) text
   pub wrote : c.sink_after.bytes ≡ append_known c.sink.bytes text
   pub count : c.report.written ≡ length text
 
 -- a front of the text was written
 pub record WrotePart (c : Command) : Type 0 where
   pub query : List ℕ
+  pub budget : ℕ
   pub program : List ℕ
-  pub asked : IsAskedBy c.words query
+  pub asked : IsAskedBy c.words query budget
   pub read : IsRead c.source c.source_after program
   pub outcome : Outcome
   pub text : List ℕ
-  pub run : IsRunOf program query outcome c.report.journal.items (map (λ rs. rs.items) c.report.receipts.items) text
+  pub run : IsRunOf program query budget outcome c.report.journal.items (map (λ rs. rs.items) c.report.receipts.items) text
   pub wrote : c.sink_after.bytes ≡ append_known c.sink.bytes (take c.report.written text)
   pub count : c.report.written < length text
 
@@ -158,6 +172,7 @@ pub record WroteNothing (c : Command) : Type 0 where
 
 -- the statuses with which nothing is run
 abbrev pub IsEarly : Status → Type 0
+IsEarly Status.Words = Unit {0}
 IsEarly Status.Program = Unit {0}
 IsEarly Status.Query = Unit {0}
 IsEarly Status.ReadFault = Unit {0}
@@ -169,14 +184,15 @@ IsEarly s = ⊥
 abbrev pub IsLate : Status → Type 0
 IsLate Status.Done = Unit {0}
 IsLate Status.Failed = Unit {0}
+IsLate Status.Suspended = Unit {0}
+IsLate Status.Budget = Unit {0}
 IsLate Status.WriteFault = Unit {0}
 IsLate s = ⊥
 
 -- ---- all that a report says of its command
 pub record IsReported (c : Command) : Type 0 where
-  -- The headline, for the outcomes that the rules built so far can have: what was appended to the sink is the text of a run.
-  pub done : c.report.status ≡ Status.Done → WroteRun c
-  pub failed : c.report.status ≡ Status.Failed → WroteRun c
+  -- The headline: what was appended to the sink is the text of a run with this outcome.
+  pub outcome : IsOutcome c.report.status → WroteRun c
   -- A front of the text was written before the sink failed.
   pub write_fault : c.report.status ≡ Status.WriteFault → HasFaulted c.sink c.sink_after
   pub written_part : c.report.status ≡ Status.WriteFault → WrotePart c
@@ -184,14 +200,12 @@ pub record IsReported (c : Command) : Type 0 where
   pub nothing : IsEarly c.report.status → WroteNothing c
   pub stops : IsEarly c.report.status → Stops c.words c.source c.source_after c.report.status c.report.refusal
   pub read_fault : c.report.status ≡ Status.ReadFault → HasFaulted c.source c.source_after
-  pub words : (c.report.refusal ≡ Refusal.NotYet Part.Words) ↔ (query_of c.words ≡ None)
   -- What is refused, isn't built or is too long ends the command so, unless a fault comes before.
+  pub words : WordsEnd c
   pub program : ProgramEnds c
   pub query : QueryEnds c
-  pub goals : GoalsEnd c
   pub long : LongAnswersEnd c
   -- All else is answered.
   pub complete : IsComplete c
-  -- No other status comes, and a run that was written has no refusal.
-  pub built : IsEarly c.report.status ⊎ IsLate c.report.status
+  -- A run that was written has no refusal.
   pub refusal : IsLate c.report.status → c.report.refusal ≡ Refusal.Nothing

@@ -1,26 +1,27 @@
 -- What becomes of a loaded query, of which the clauses of private functions speak.
-use Rattle.std.specs.Prelude.{◌≡◌, true, map, Option, Some, None}
+use Rattle.std.specs.Prelude.{◌≡◌, ℕ, map}
 use Rattle.akl_model.specs.Derivations.{Outcome}
-use Rattle.akl_run.specs.declared.report.Status.{Status}
-use Rattle.akl_run.specs.declared.solved_form.SolvedForm.{SolvedForm}
+use Rattle.seq_engine.specs.declared.run.Finished.{Finished}
+use Rattle.seq_engine.specs.Runs.{AreKept, EndsAs}
 use Rattle.akl_run.specs.declared.loaded.Loaded.{Loaded}
 use Rattle.akl_run.specs.declared.evaluate.Evaluated.{Evaluated}
 use Rattle.akl_run.specs.declared.stop.Stop.{Stop}
-use Rattle.akl_run.specs.Engine.{are_built}
 use Rattle.akl_run.specs.Reports.{IsStatusOf, IsRunBy, RunStops}
 
--- the status of a run, by what stands for its terms
-abbrev pub status_by : Option SolvedForm → Status
-status_by None = Status.Failed
-status_by (Some s) = Status.Done
+-- a core of the query was run to an end within the budget
+pub record HasFinished (l : Loaded) (budget : ℕ) (f : Finished) : Type 0 where
+  pub program : f.core.table.program ≡ l.program
+  pub query : f.core.table.query ≡ l.query
+  pub same_budget : f.core.budget ≡ budget
+  pub kept : AreKept f.core f.receipts.items
+  pub ends : EndsAs f.core f.end
 
 -- the query was run, with the status of the outcome
-pub record IsEvaluated (l : Loaded) (e : Evaluated) : Type 0 where
-  pub built : are_built l.query.goals ≡ true
+pub record IsEvaluated (l : Loaded) (budget : ℕ) (e : Evaluated) : Type 0 where
   pub outcome : Outcome
   pub is_status : IsStatusOf e.status outcome
-  pub run : IsRunBy l outcome e.journal.items (map (λ rs. rs.items) e.receipts.items) e.text.items
+  pub run : IsRunBy l budget outcome e.journal.items (map (λ rs. rs.items) e.receipts.items) e.text.items
 
--- why it has no run, or no text
-abbrev pub StopsRun : Loaded → Stop → Type 0
-StopsRun l stop = RunStops l stop.status stop.refusal
+-- why it has no text
+abbrev pub StopsRun : Loaded → ℕ → Stop → Type 0
+StopsRun l budget stop = RunStops l budget stop.status stop.refusal

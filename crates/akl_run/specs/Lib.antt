@@ -1,15 +1,13 @@
 pub mod Words
 pub mod Text
-pub mod Journals
 pub mod Runs
 pub mod Choices
 pub mod Goals
 pub mod Loads
 pub mod Stops
-pub mod Engine
 pub mod Statuses
-pub mod RunTexts
 pub mod Reports
+pub mod Endings
 pub mod Evaluations
 pub mod Commands
 pub mod Steps

@@ -4,6 +4,8 @@ use Rattle.std.specs.Fmt.{decimal}
 use Rattle.akl_terms.specs.declared.program.Key.{Key}
 use Rattle.akl_lexemes.specs.declared.error.SyntaxError.{SyntaxError}
 use Rattle.akl_lexemes.specs.declared.error.SyntaxError.TheVariants as syntax_errors
+use Rattle.akl_args.specs.declared.options.WordsError.{WordsError}
+use Rattle.akl_args.specs.declared.options.WordsError.TheVariants as words_errors
 use Rattle.answer_text.specs.SymbolText.{symbol_text}
 use Rattle.clause_checks.specs.declared.error.Limit.{Limit}
 use Rattle.clause_checks.specs.declared.error.Limit.TheVariants as limits
@@ -23,7 +25,14 @@ kind_of limits.PerDefinition = codes "clauses of one definition"
 kind_of limits.Variables = codes "variables"
 kind_of limits.Arity = codes "arguments"
 
--- want of memory is no cause of a text
+-- want of memory is no cause of words, nor of a text
+abbrev pub words_cause : WordsError → List ℕ
+words_cause (words_errors.Missing at) = codes "missing at word " ++ decimal at
+words_cause (words_errors.Unknown at) = codes "unknown at word " ++ decimal at
+words_cause (words_errors.Value at) = codes "bad value at word " ++ decimal at
+words_cause (words_errors.Repeated at) = codes "repeated at word " ++ decimal at
+words_cause (words_errors.Memory e) = []
+
 abbrev pub text_cause : SyntaxError → List ℕ
 text_cause (syntax_errors.Syntax at) = codes "syntax at " ++ decimal at
 text_cause (syntax_errors.TooDeep at) = codes "too deep at " ++ decimal at
@@ -39,11 +48,12 @@ loading_cause (load_errors.TooMany what count) = codes "too many " ++ kind_of wh
 loading_cause (load_errors.Memory e) = []
 
 abbrev pub cause_of : Refusal → List ℕ
+cause_of (Refusal.Words e) = words_cause e
 cause_of (Refusal.TextOf e) = text_cause e
 cause_of (Refusal.Loading e) = loading_cause e
 cause_of f = []
 
--- the line of a text that is refused
+-- the line of words, or of a text, that are refused
 abbrev pub refused_line : List ℕ → Refusal → List ℕ
 refused_line side f = codes "akl: " ++ side ++ codes ": " ++ cause_of f ++ codes "\n"
 
@@ -64,6 +74,7 @@ fixed_line Status.NotYet f = part_line f
 fixed_line s f = []
 
 abbrev pub refusal_text : Status → Refusal → List ℕ
+refusal_text Status.Words f = refused_line (codes "words") f
 refusal_text Status.Program f = refused_line (codes "program") f
 refusal_text Status.Query f = refused_line (codes "query") f
 refusal_text s f = fixed_line s f

@@ -1,21 +1,13 @@
 -- The runs of a loaded query.
-use Rattle.std.specs.Prelude.{ℕ, ◌≤◌, List, [], ◌∷◌, length}
-use Rattle.akl_model.specs.declared.label.Rule.{Rule}
+use Rattle.std.specs.Prelude.{ℕ, ◌≤◌, List, length}
 use Rattle.akl_model.specs.declared.label.Label.{Label}
 use Rattle.akl_model.specs.Config.{Config, Content}
 use Rattle.akl_model.specs.Derivations.{Replays, HasOutcome, Outcome}
+use Rattle.box_tree.specs.Tables.{rules_in_force}
 use Rattle.akl_run.specs.declared.loaded.Loaded.{Loaded}
 
--- the rules that are built
-abbrev pub rules_in_force : List Rule
-rules_in_force = Rule.Tell ∷ Rule.Fail ∷ []
-
--- the most labels of a journal
-abbrev pub budget : ℕ
-budget = 100000
-
--- the journal is a derivation from the query's box, with these answers and this outcome
-pub record IsRun (l : Loaded) (journal : List Label) (answers : List Content) (outcome : Outcome) : Type 0 where
+-- the journal is a derivation from the query's box within the budget, with these answers and this outcome
+pub record IsRun (l : Loaded) (budget : ℕ) (journal : List Label) (answers : List Content) (outcome : Outcome) : Type 0 where
   pub last : Config
   pub replays : Replays rules_in_force l.program l.query journal last
   pub ends : HasOutcome rules_in_force l.program budget (length journal) last answers outcome

@@ -1,5 +1,5 @@
 -- The steps of a command, of which the clauses of private functions speak.
-use Rattle.std.specs.Prelude.{◌≡◌, ◌≤◌, ◌<◌, ℕ, List, [], length, take}
+use Rattle.std.specs.Prelude.{◌≡◌, ◌<◌, ℕ, List, [], length, take}
 use Rattle.std.specs.Io.KnownBytes.{append_known}
 use Rattle.akl_run.specs.declared.report.Status.{Status}
 use Rattle.akl_run.specs.declared.report.Refusal.{Refusal}
@@ -7,25 +7,26 @@ use Rattle.akl_run.specs.declared.report.Report.{Report}
 use Rattle.akl_run.specs.declared.loaded.Loaded.{Loaded}
 use Rattle.akl_run.specs.declared.evaluate.Evaluated.{Evaluated}
 use Rattle.akl_run.specs.declared.stop.Stop.{Stop}
-use Rattle.akl_run.specs.Loads.{IsLoadedFrom, HasVariables}
+use Rattle.akl_run.specs.Loads.{IsLoadedFrom}
+use Rattle.box_tree.specs.Tables.{HasVariables}
 use Rattle.akl_run.specs.Evaluations.{IsEvaluated}
 use Rattle.akl_run.specs.Commands.{Side, HasFaulted, IsAskedBy, IsRead}
 
 -- the query over the program is that of the words and the source, and it is ready to run
-pub record IsReady (words : List (List ℕ)) (before after : Side) (l : Loaded) : Type 0 where
+pub record IsReady (words : List (List ℕ)) (before after : Side) (l : Loaded) (budget : ℕ) : Type 0 where
   pub query : List ℕ
   pub program : List ℕ
-  pub asked : IsAskedBy words query
+  pub asked : IsAskedBy words query budget
   pub read : IsRead before after program
   pub loaded : IsLoadedFrom program query l
-  pub variables : HasVariables l
-  pub few : length l.query.goals ≤ 10000
+  pub variables : HasVariables l.program l.query l.first_variable
 
 -- it was run
 pub record IsRunAs (words : List (List ℕ)) (before after : Side) (e : Evaluated) : Type 0 where
   pub loaded : Loaded
-  pub ready : IsReady words before after loaded
-  pub run : IsEvaluated loaded e
+  pub budget : ℕ
+  pub ready : IsReady words before after loaded budget
+  pub run : IsEvaluated loaded budget e
 
 -- the report of a command that stopped: nothing was run
 pub record IsStopped (stop : Stop) (r : Report) : Type 0 where

@@ -1,18 +1,21 @@
--- The command line.
-use Rattle.std.specs.Prelude.{ℕ, Bool, false, ◌&&◌, ◌==◌, not, List, [], ◌∷◌, map, Option, Some, None, if◌then◌else◌, String, string_bytes, bytes_eq, codes}
+-- What the words of a command ask for.
+use Rattle.std.specs.Prelude.{ℕ, Bool, true, false, ◌&&◌, ◌==◌, not, List, map, String, string_bytes}
+use Rattle.akl_args.specs.declared.options.Job.{Job}
+use Rattle.akl_args.specs.declared.options.Job.TheVariants.{Query, Generate}
+use Rattle.akl_args.specs.declared.options.Options.{Options}
 
 -- the bytes of each word
 abbrev pub bytes_of : {A : Type 0} → List (String A) → List (List ℕ)
 bytes_of words = map (λ word. string_bytes word) words
 
--- a value that is a word of its own isn't empty and doesn't begin with `-`
-abbrev pub is_value : List ℕ → Bool
-is_value [] = false
-is_value (b ∷ bs) = not (b == 45)
+-- this query, with one worker and this budget, and without a trace
+abbrev pub asking : List ℕ → ℕ → Options
+asking query budget = record { job = Query query; workers = 1; budget = budget; trace = false }
 
--- the query's text, where the words are `--query` and a value
-abbrev pub query_of : List (List ℕ) → Option (List ℕ)
-query_of [] = None
-query_of (option ∷ []) = None
-query_of (option ∷ text ∷ []) = if bytes_eq option (codes "--query") && is_value text then Some text else None
-query_of (option ∷ text ∷ more ∷ rest) = None
+abbrev pub is_query : Job → Bool
+is_query (Query text) = true
+is_query (Generate number) = false
+
+-- a query with one worker and without a trace, which are built
+abbrev pub is_built : Options → Bool
+is_built o = is_query o.job && (o.workers == 1) && not o.trace

@@ -1,19 +1,19 @@
 //! From a loaded query to the text of its run.
 
-ghost use Rattle.std.specs.Prelude.{◌≡◌, ◌<◌, IfOk, IfErr, length};
-ghost use Rattle.akl_run.specs.Loads.{HasVariables};
-ghost use Rattle.akl_run.specs.RunTexts.{HasShownVariables};
-ghost use Rattle.akl_run.specs.Evaluations.{status_by, IsEvaluated, StopsRun};
+ghost use Rattle.std.specs.Prelude.{IfOk, IfErr};
+ghost use Rattle.box_tree.specs.Tables.{HasVariables, HasShownVariables};
+ghost use Rattle.akl_run.specs.Evaluations.{HasFinished, IsEvaluated, StopsRun};
 
-use crate::engine::{Run, are_built, run_query};
+use crate::ending::{ending_of, push_ending, status_of};
 use crate::loaded::Loaded;
 use crate::report::{Part, Status};
-use crate::run_text::run_text;
-use crate::solved_form::SolvedForm;
 use crate::stop::Stop;
 use akl_model::{Label, Receipt};
 use answer_text::AnswerError;
-use std::alloc::Global;
+use root_answers::root_answers;
+use seq_engine::{Finished, run_one};
+use std::alloc::{AllocError, Global};
+use step_commit::Core;
 
 /// A run with its text.
 #[derive(Drop)]
@@ -24,48 +24,48 @@ pub struct Evaluated {
     pub text: Vec<u8>,
 }
 
-// The status of a run that has ended.
-fn status_of(solved: &Option<SolvedForm>) -> Status
-    ensures { result ≡ status_by solved.now }
+// Runs a loaded query as worker 1, to its end.
+fn run_loaded(alloc: Global, loaded: &Loaded, budget: u64) -> Result<Finished, AllocError>
+    requires variables { HasVariables loaded.now.program loaded.now.query loaded.now.first_variable }
+    requires shown { HasShownVariables loaded.now.query }
+    ensures { IfOk result (HasFinished loaded.now budget) }
 {
-    match solved {
-        Some(_) => Status::Done,
-        None => Status::Failed,
+    let program = &loaded.program;
+    let first_variable = loaded.first_variable;
+    match Core::new(alloc, program, &loaded.query, first_variable, 1, budget) {
+        Ok(core) => run_one(alloc, program, core),
+        Err(error) => Err(error),
     }
 }
 
-/// Runs a loaded query, and writes out its answer.
+/// Runs a loaded query, and writes out its answers and its outcome.
 ///
-/// `NotYet(Query)` comes exactly where a goal is neither an equation nor `fail`, and `NotYet(Answer)`
-/// exactly where the answer has more than a million bytes.
-pub fn evaluate(alloc: Global, loaded: &Loaded) -> Result<Evaluated, Stop>
-    requires variables { HasVariables loaded.now }
-    requires shown { HasShownVariables loaded.now }
-    requires few { length loaded.now.query.goals < 100000 }
-    ensures run { IfOk result (IsEvaluated loaded.now) }
-    ensures stop { IfErr result (StopsRun loaded.now) }
+/// `NotYet(Answer)` comes exactly where an answer has more than a million bytes.
+pub fn evaluate(alloc: Global, loaded: &Loaded, budget: u64) -> Result<Evaluated, Stop>
+    requires variables { HasVariables loaded.now.program loaded.now.query loaded.now.first_variable }
+    requires shown { HasShownVariables loaded.now.query }
+    ensures run { IfOk result (IsEvaluated loaded.now budget) }
+    ensures stop { IfErr result (StopsRun loaded.now budget) }
 {
-    if !are_built(loaded.query.goals.as_slice()) {
-        return Err(Stop::not_yet(Part::Query));
-    }
-    let Run {
-        journal,
-        receipts,
-        solved,
-    } = run_query(alloc, loaded)?;
-    let status = status_of(&solved);
-    match run_text(alloc, loaded, &solved) {
-        Err(AnswerError::Long) => Err(Stop::not_yet(Part::Answer)),
-        Err(AnswerError::Memory(error)) => Err(Stop::from(error)),
-        Ok(text) => {
-            let mut lists = Vec::new(alloc);
-            lists.push(receipts)?;
-            Ok(Evaluated {
-                status,
-                journal,
-                receipts: lists,
-                text,
-            })
-        }
-    }
+    let finished = match run_loaded(alloc, loaded, budget) {
+        Ok(finished) => finished,
+        Err(error) => return Err(Stop::from(error)),
+    };
+    let roots = finished.core.roots().len();
+    let found = match root_answers(alloc, &loaded.program, &finished.core) {
+        Ok(found) => found,
+        Err(AnswerError::Long) => return Err(Stop::not_yet(Part::Answer)),
+        Err(AnswerError::Memory(error)) => return Err(Stop::from(error)),
+    };
+    let ending = ending_of(finished.end, roots, found.count);
+    let mut text = found.text;
+    push_ending(&mut text, ending)?;
+    let mut lists = Vec::new(alloc);
+    lists.push(finished.receipts)?;
+    Ok(Evaluated {
+        status: status_of(ending),
+        journal: finished.core.into_journal(),
+        receipts: lists,
+        text,
+    })
 }

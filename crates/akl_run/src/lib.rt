@@ -2,18 +2,18 @@
 #![tactic(auto)]
 
 mod choices;
-mod engine;
+mod ending;
 mod evaluate;
 mod loaded;
 mod prepare;
 mod refusal;
 mod report;
 mod run;
-mod run_text;
-mod solved_form;
 mod stop;
+mod text;
 mod words;
 
+pub use akl_args::WordsError;
 pub use clause_checks::{Limit, LoadError};
 pub use refusal::refusal_line;
 pub use report::{Part, Refusal, Report, Status};

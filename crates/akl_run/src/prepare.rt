@@ -2,32 +2,23 @@
 
 ghost use Rattle.std.specs.Prelude.{IfOk, IfErr};
 ghost use Rattle.akl_run.specs.Words.{bytes_of};
-ghost use Rattle.akl_run.specs.Commands.{side, IsAskedBy, WordsStop, IsRead, ReadStops, Stops};
+ghost use Rattle.akl_run.specs.Commands.{side, IsRead, ReadStops, Stops};
 ghost use Rattle.akl_run.specs.Steps.{IsReady};
 
 use crate::loaded::{Loaded, load_asked, load_program};
-use crate::report::{Part, Status};
 use crate::stop::Stop;
-use crate::words::query_of;
+use crate::words::read_asked;
 use akl_outside::{Source, read_up_to};
-use akl_syntax::check_query;
 use std::alloc::Global;
 
 /// One byte more than a program may have.
 const MOST_READ: usize = 1_000_001;
 
-// The query's text in the words.
-fn asked(words: &[String]) -> Result<&str, Stop>
-    ensures ok { IfOk result (λ query. IsAskedBy (bytes_of words.now) query.now) }
-    ensures stop { IfErr result (λ stop. WordsStop (bytes_of words.now) stop.status stop.refusal) }
-{
-    let Some(query) = query_of(words) else {
-        return Err(Stop::not_yet(Part::Words));
-    };
-    match check_query(query.as_bytes()) {
-        Ok(()) => Ok(query),
-        Err(error) => Err(Stop::text(Status::Query, error)),
-    }
+/// A query that is ready to run, and how many labels its run may make.
+#[derive(Drop)]
+pub struct Prepared {
+    pub loaded: Loaded,
+    pub budget: u64,
 }
 
 // The source's bytes, up to one more than a program may have.
@@ -39,12 +30,22 @@ fn read<S: Source>(alloc: Global, program: &mut S) -> Result<Vec<u8>, Stop>
 }
 
 /// Reads the words and the source, and loads the program and the query.
-pub fn prepare<S: Source>(alloc: Global, words: &[String], program: &mut S) -> Result<Loaded, Stop>
-    ensures ready { IfOk result (λ loaded. IsReady (bytes_of words.now) (side (S.left program.old) (S.faults program.old)) (side (S.left program.new) (S.faults program.new)) loaded) }
+pub fn prepare<S: Source>(
+    alloc: Global,
+    words: &[String],
+    program: &mut S,
+) -> Result<Prepared, Stop>
+    ensures ready { IfOk result (λ p. IsReady (bytes_of words.now) (side (S.left program.old) (S.faults program.old)) (side (S.left program.new) (S.faults program.new)) p.loaded p.budget) }
     ensures stop { IfErr result (λ stop. Stops (bytes_of words.now) (side (S.left program.old) (S.faults program.old)) (side (S.left program.new) (S.faults program.new)) stop.status stop.refusal) }
 {
-    let query = asked(words)?;
+    let wanted = read_asked(alloc, words)?;
     let bytes = read(alloc, program)?;
     let program = load_program(alloc, &bytes)?;
-    load_asked(alloc, program, query.as_bytes())
+    match load_asked(alloc, program, wanted.query.as_str().as_bytes()) {
+        Ok(loaded) => Ok(Prepared {
+            loaded,
+            budget: wanted.budget,
+        }),
+        Err(stop) => Err(stop),
+    }
 }

@@ -1,29 +1,16 @@
 //! The line that a refused command gets.
 
 ghost use Rattle.std.specs.Prelude.{◌≡◌, ◌++◌, IfOk, OnOk};
-ghost use Rattle.std.specs.Fmt.{decimal};
-ghost use Rattle.akl_run.specs.Lines.{key_text, kind_of, text_cause, loading_cause, cause_of, refused_line, fixed_line, refusal_text};
+ghost use Rattle.akl_run.specs.Lines.{key_text, kind_of, words_cause, text_cause, loading_cause, cause_of, refused_line, fixed_line, refusal_text};
 
 use crate::report::{Part, Refusal, Report, Status};
+use crate::text::{push_number, push_text};
+use akl_args::WordsError;
 use akl_syntax::SyntaxError;
 use akl_terms::Key;
 use answer_text::symbol_text;
 use clause_checks::{Limit, LoadError};
 use std::alloc::{AllocError, Global};
-
-fn push_text(line: &mut Vec<u8>, text: &str) -> Result<(), AllocError>
-    ensures { OnOk result (line.new.items ≡ line.old.items ++ text.now) }
-{
-    line.extend_from_slice(text.as_bytes())
-}
-
-fn push_number(line: &mut Vec<u8>, number: usize) -> Result<(), AllocError>
-    ensures { OnOk result (line.new.items ≡ line.old.items ++ decimal number) }
-{
-    let alloc = *line.allocator();
-    let digits = format!(in alloc; "{number}")?;
-    push_text(line, digits.as_str())
-}
 
 // The symbol as it is written in an answer, `/`, and the number of arguments.
 fn push_key(line: &mut Vec<u8>, key: &Key) -> Result<(), AllocError>
@@ -45,6 +32,20 @@ fn kind_of(limit: Limit) -> &'static str
         Limit::Variables => "variables",
         Limit::Arity => "arguments",
     }
+}
+
+fn push_words_cause(line: &mut Vec<u8>, error: &WordsError) -> Result<(), AllocError>
+    ensures { OnOk result (line.new.items ≡ line.old.items ++ words_cause error.now) }
+{
+    let (before, at) = match error {
+        WordsError::Missing { at } => ("missing at word ", *at),
+        WordsError::Unknown { at } => ("unknown at word ", *at),
+        WordsError::Value { at } => ("bad value at word ", *at),
+        WordsError::Repeated { at } => ("repeated at word ", *at),
+        WordsError::Memory(_) => return Ok(()),
+    };
+    push_text(line, before)?;
+    push_number(line, at)
 }
 
 fn push_text_cause(line: &mut Vec<u8>, error: &SyntaxError) -> Result<(), AllocError>
@@ -92,13 +93,14 @@ fn push_cause(line: &mut Vec<u8>, refusal: &Refusal) -> Result<(), AllocError>
     ensures { OnOk result (line.new.items ≡ line.old.items ++ cause_of refusal.now) }
 {
     match refusal {
+        Refusal::Words(error) => push_words_cause(line, error),
         Refusal::TextOf(error) => push_text_cause(line, error),
         Refusal::Loading(error) => push_loading_cause(line, error),
         _ => Ok(()),
     }
 }
 
-// The line of a text that is refused.
+// The line of words, or of a text, that are refused.
 fn refused_line(alloc: Global, side: &str, refusal: &Refusal) -> Result<Vec<u8>, AllocError>
     ensures { IfOk result (λ line. line.items ≡ refused_line side.now refusal.now) }
 {
@@ -134,6 +136,7 @@ pub fn refusal_line(alloc: Global, report: &Report) -> Result<Vec<u8>, AllocErro
     ensures { IfOk result (λ line. line.items ≡ refusal_text report.now.status report.now.refusal) }
 {
     match report.status {
+        Status::Words => refused_line(alloc, "words", &report.refusal),
         Status::Program => refused_line(alloc, "program", &report.refusal),
         Status::Query => refused_line(alloc, "query", &report.refusal),
         status => Vec::from_slice(alloc, fixed_line(status, &report.refusal).as_bytes()),

@@ -3,6 +3,7 @@
 ghost use Rattle.std.specs.Prelude.{◌≡◌};
 ghost use Rattle.akl_run.specs.Statuses.{number_of};
 
+use akl_args::WordsError;
 use akl_model::{Label, Receipt};
 use akl_syntax::SyntaxError;
 use clause_checks::LoadError;
@@ -68,6 +69,8 @@ pub enum Part {
 #[derive(Drop)]
 pub enum Refusal {
     Nothing,
+    /// The words are no command. It is never for want of memory.
+    Words(WordsError),
     /// The text of the program or of the query is refused. It is never for want of memory.
     TextOf(SyntaxError),
     /// The program or the query isn't loaded. It is never for want of memory.

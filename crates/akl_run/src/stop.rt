@@ -1,9 +1,10 @@
 //! What ends a command before anything is written.
 
 ghost use Rattle.std.specs.Prelude.{◌≡◌};
-ghost use Rattle.akl_run.specs.Stops.{IsStop, IsTextStop, IsLoadingStop};
+ghost use Rattle.akl_run.specs.Stops.{IsStop, IsWordsStop, IsTextStop, IsLoadingStop};
 
 use crate::report::{Part, Refusal, Status};
+use akl_args::WordsError;
 use akl_outside::ReadError;
 use akl_syntax::SyntaxError;
 use clause_checks::LoadError;
@@ -34,6 +35,19 @@ impl Stop {
         Stop {
             status: Status::NotYet,
             refusal: Refusal::NotYet(part),
+        }
+    }
+
+    /// The words are no command.
+    pub fn words(error: WordsError) -> Self
+        ensures { IsWordsStop error result }
+    {
+        match error {
+            WordsError::Memory(_) => Stop::no_memory(),
+            error => Stop {
+                status: Status::Words,
+                refusal: Refusal::Words(error),
+            },
         }
     }
 

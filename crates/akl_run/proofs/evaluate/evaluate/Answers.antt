@@ -1,40 +1,46 @@
-use Rattle.std.proofs.Common.{◌≡◌, ◌++◌, ◌∷◌, [], map, sym, ◌∙◌, ap, subst, Err}
-use Rattle.akl_run.specs.Reports.{IsStatusOf, IsRunBy, RunStops, long, not_built, no_memory}
+use Rattle.std.proofs.Common.{◌≡◌, ◌++◌, ◌∷◌, [], map, sym, ◌∙◌, ap, subst, Err, length}
+use Rattle.akl_run.specs.Text.{outcome_line}
+use Rattle.akl_run.specs.Endings.{ending_by, status_by, outcome_by}
+use Rattle.akl_run.specs.declared.ending.Ending.{Ending}
+use Rattle.akl_run.specs.Reports.{IsStatusOf, IsRunBy, RunStops, long, no_memory}
 use Rattle.akl_run.proofs.Loading.{stops_as, from_error}
-use Rattle.akl_run.proofs.Evaluated.{outcome_by, status_of, solved_by, evaluated, long_run}
+use Rattle.akl_run.proofs.Evaluated.{status_of, evaluated, long_run}
 use Rattle.akl_run.proofs.evaluate.evaluate.Goals as goal
 
-pub run_text-requires-clause-solved : goal.run_text-requires-clause-solved
-run_text-requires-clause-solved c = solved_by c.args.loaded.now c.in_ok-journal.field-0.journal.items c.in_ok-journal.field-0.solved c.in_ok-journal.ensures.ends
+pub returns-in-Err-clause-stop : goal.returns-in-Err-clause-stop
+returns-in-Err-clause-stop c = stops_as (RunStops c.args.loaded.now c.args.budget) _ _ c.from.result c.from.ensures no_memory
 
 pub returns-in-Err-Long-clause-stop : goal.returns-in-Err-Long-clause-stop
 returns-in-Err-Long-clause-stop c =
-    stops_as (RunStops c.args.loaded.now) _ _ c.not_yet-in-Err-Long.result c.not_yet-in-Err-Long.ensures
-    (long (rw (← c.as_slice.ensures) (sym c.if-not-are_built.ensures)) (long_run c.args.loaded.now c.in_ok-journal.field-0.journal.items c.in_ok-journal.field-0.solved c.in_ok-journal.ensures.ends
-    (c.run_text.ensures.long (c.in-Err-Long.is ∙ ap Err c.in-Err-Long.field-0-is))))
+    stops_as (RunStops c.args.loaded.now c.args.budget) _ _ c.not_yet.result c.not_yet.ensures
+    (long (long_run c.args.loaded.now c.args.budget c.in-Ok.finished c.in-Ok.ensures c.roots-roots.ensures.core
+    (c.root_answers.ensures.long (c.in-Err-Long.is ∙ ap Err c.in-Err-Long.field-0-is) c.roots-roots.ensures.core.table)))
+
+pub returns-in-Err-Memory-clause-stop : goal.returns-in-Err-Memory-clause-stop
+returns-in-Err-Memory-clause-stop c = stops_as (RunStops c.args.loaded.now c.args.budget) _ _ c.from-in-Err-Memory.result c.from-in-Err-Memory.ensures no_memory
+
+pub returns-in_err-push_ending-clause-stop : goal.returns-in_err-push_ending-clause-stop
+returns-in_err-push_ending-clause-stop c = from_error c.from_residual.result c.from_residual.ensures.1 (λ stop p. stops_as (RunStops c.args.loaded.now c.args.budget) _ _ stop p no_memory)
+
+pub returns-in_err-push-clause-stop : goal.returns-in_err-push-clause-stop
+returns-in_err-push-clause-stop c =
+    from_error c.from_residual-in_err-push.result c.from_residual-in_err-push.ensures.1 (λ stop p. stops_as (RunStops c.args.loaded.now c.args.budget) _ _ stop p no_memory)
 
 pub returns-clause-run : goal.returns-clause-run
 returns-clause-run c =
-    let lists : map (λ rs. rs.items) c.push.new.self.items ≡ c.in_ok-journal.field-0.receipts.items ∷ [] =
-    ap (λ xs. map (λ rs. rs.items) xs) (c.in_ok-push-in-Ok.ensures.items ∙ ap (λ xs. xs ++ c.in_ok-journal.field-0.receipts ∷ []) c.new-lists.ensures.items) in
+    let e : Ending = ending_by c.in-Ok.finished.end (length c.in-Ok.finished.core.table.roots) c.in-Ok-root_answers.found.count in
+    let ending : c.ending_of-ending.result ≡ ending_by c.in-Ok.finished.end (length c.in-Ok.finished.core.table.roots) c.in-Ok-root_answers.found.count =
+    c.ending_of-ending.ensures ∙ ap (λ ns. ending_by c.in-Ok.finished.end (length ns) c.in-Ok-root_answers.found.count) c.roots-roots.ensures.roots in
+    let text : c.push_ending.new.text.items ≡ c.in-Ok-root_answers.found.text.items ++ outcome_line (outcome_by e) =
+    c.in_ok-push_ending.ensures ∙ ap (λ x. c.in-Ok-root_answers.found.text.items ++ outcome_line (outcome_by x)) ending in
+    let lists : map (λ rs. rs.items) c.push.new.self.items ≡ c.in-Ok.finished.receipts.items ∷ [] =
+    ap (λ xs. map (λ rs. rs.items) xs) (c.in_ok-push.ensures.items ∙ ap (λ xs. xs ++ c.in-Ok.finished.receipts ∷ []) c.new-lists.ensures.items) in
     record {
-      built = rw (← c.as_slice.ensures) (sym c.if-not-are_built.ensures);
-      outcome = outcome_by c.in_ok-journal.field-0.solved;
-      is_status = subst (λ s. IsStatusOf s (outcome_by c.in_ok-journal.field-0.solved)) (sym c.status_of-status.ensures) (status_of c.in_ok-journal.field-0.solved);
-      run = subst (λ rs. IsRunBy c.args.loaded.now (outcome_by c.in_ok-journal.field-0.solved) c.in_ok-journal.field-0.journal.items rs c.in-Ok.text.items) (sym lists)
-          (evaluated c.args.loaded.now c.in_ok-journal.field-0.journal.items c.in_ok-journal.field-0.receipts.items c.in_ok-journal.field-0.solved c.in-Ok.text.items
-          c.in_ok-journal.ensures.ends c.in_ok-journal.ensures.receipts c.in_ok-journal.ensures.one_worker c.in-Ok.ensures.text);
+      outcome = outcome_by e;
+      is_status = subst (λ s. IsStatusOf s (outcome_by e)) (sym (c.status_of.ensures ∙ ap status_by ending)) (status_of e);
+      run = subst (IsRunBy c.args.loaded.now c.args.budget (outcome_by e) c.into_journal.result.items (map (λ rs. rs.items) c.push.new.self.items)) (sym text)
+          (subst (λ rs. IsRunBy c.args.loaded.now c.args.budget (outcome_by e) c.into_journal.result.items rs (c.in-Ok-root_answers.found.text.items ++ outcome_line (outcome_by e))) (sym lists)
+          (subst (λ j. IsRunBy c.args.loaded.now c.args.budget (outcome_by e) j (c.in-Ok.finished.receipts.items ∷ []) (c.in-Ok-root_answers.found.text.items ++ outcome_line (outcome_by e))) (sym c.into_journal.ensures)
+          (evaluated c.args.loaded.now c.args.budget c.in-Ok.finished c.in-Ok-root_answers.found.count c.in-Ok-root_answers.found.text.items c.in-Ok.ensures c.roots-roots.ensures.core
+          (c.in-Ok-root_answers.ensures.answers c.roots-roots.ensures.core.table))));
     }
-
-pub returns-then-not-are_built-clause-stop : goal.returns-then-not-are_built-clause-stop
-returns-then-not-are_built-clause-stop c = stops_as (RunStops c.args.loaded.now) _ _ c.not_yet.result c.not_yet.ensures (not_built (rw (← c.as_slice.ensures) (sym c.if-not-are_built.ensures)))
-
-pub returns-in_err-journal-clause-stop : goal.returns-in_err-journal-clause-stop
-returns-in_err-journal-clause-stop c = from_error c.from_residual.result c.from_residual.ensures.1 (λ stop p. stops_as (RunStops c.args.loaded.now) _ _ stop p no_memory)
-
-pub returns-in-Err-Memory-clause-stop : goal.returns-in-Err-Memory-clause-stop
-returns-in-Err-Memory-clause-stop c = stops_as (RunStops c.args.loaded.now) _ _ c.from.result c.from.ensures no_memory
-
-pub returns-in_err-push-in-Ok-clause-stop : goal.returns-in_err-push-in-Ok-clause-stop
-returns-in_err-push-in-Ok-clause-stop c =
-    from_error c.from_residual-in_err-push-in-Ok.result c.from_residual-in_err-push-in-Ok.ensures.1 (λ stop p. stops_as (RunStops c.args.loaded.now) _ _ stop p no_memory)

@@ -4,8 +4,8 @@ use Rattle.akl_run.proofs.Evaluated.{loaded_shown}
 use Rattle.akl_run.proofs.run.work.Goals as goal
 
 pub evaluate-requires-clause-shown : goal.evaluate-requires-clause-shown
-evaluate-requires-clause-shown g c = loaded_shown c.in_ok-loaded.ensures.ready.program c.in_ok-loaded.ensures.ready.query c.in_ok-loaded.loaded c.in_ok-loaded.ensures.ready.loaded
+evaluate-requires-clause-shown g c = loaded_shown c.in_ok-prepared.ensures.ready.program c.in_ok-prepared.ensures.ready.query c.in_ok-prepared.prepared.loaded c.in_ok-prepared.ensures.ready.loaded
 
 pub returns-clause-stop : goal.returns-clause-stop
 returns-clause-stop g c =
-    if_error c.evaluate.result c.evaluate.ensures.stop (λ stop p. by_run c.in_ok-loaded.ensures.ready.asked c.in_ok-loaded.ensures.ready.read c.in_ok-loaded.ensures.ready.loaded p)
+    if_error c.evaluate.result c.evaluate.ensures.stop (λ stop p. by_run c.in_ok-prepared.ensures.ready.asked c.in_ok-prepared.ensures.ready.read c.in_ok-prepared.ensures.ready.loaded p)
