@@ -3,7 +3,7 @@ use Rattle.std.specs.Prelude.{◌≡◌, ℕ, ◌⊎◌, List, codes}
 use Rattle.std.specs.Io.KnownBytes.{append_known}
 use Rattle.std.specs.declared.io.ErrorKind.{ErrorKind}
 use Rattle.std.specs.declared.io.ErrorKind.TheVariants.{OutOfMemory}
-use Rattle.akl_run.specs.declared.report.Part.{Part}
+use Rattle.akl_args.specs.declared.options.WordsError.TheVariants.{Unknown}
 use Rattle.akl_run.specs.declared.report.Refusal.{Refusal}
 use Rattle.akl_run.specs.declared.report.Status.{Status}
 use Rattle.akl_run.specs.declared.report.Report.{Report}
@@ -19,14 +19,14 @@ Says text old new = (new.bytes ≡ append_known old.bytes text) ⊎ HasFaulted o
 abbrev pub SaysWhy : Status → Refusal → Side → Side → Type 0
 SaysWhy status refusal old new = Says (refusal_text status refusal) old new ⊎ Says (codes "akl: out of memory\n") old new
 
--- why there are no words: there was no memory, or they are no text
+-- why there are no words: there was no memory, or they are no text, and then no word is known
 abbrev pub words_status : ErrorKind → Status
 words_status OutOfMemory = Status.NoMemory
-words_status _ = Status.NotYet
+words_status _ = Status.Words
 
 abbrev pub words_refusal : ErrorKind → Refusal
 words_refusal OutOfMemory = Refusal.Nothing
-words_refusal _ = Refusal.NotYet Part.Words
+words_refusal _ = Refusal.Words (Unknown 0)
 
 -- the notice was printed, or standard output failed, and then standard error says so
 abbrev pub Notifies : List ℕ → Side → Side → Side → Side → Ending → Type 0

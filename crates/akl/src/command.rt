@@ -8,8 +8,9 @@ ghost use Rattle.akl.specs.Endings.{Notifies, Answers, SaysWhy, words_status, wo
 
 use crate::ending::Ending;
 use crate::notice::{HELP, VERSION, notice};
+use akl_args::WordsError;
 use akl_outside::{NoGate, Sink, Source};
-use akl_run::{Part, Refusal, Report, Status, run_akl};
+use akl_run::{Refusal, Report, Status, run_akl};
 use std::alloc::Global;
 use std::io;
 use std::sync::Wait;
@@ -49,7 +50,7 @@ pub fn refuse_words<E: Sink>(alloc: Global, error: &io::Error, errors: &mut E) -
 {
     let (status, refusal) = match error.kind() {
         io::ErrorKind::OutOfMemory => (Status::NoMemory, Refusal::Nothing),
-        _ => (Status::NotYet, Refusal::NotYet(Part::Words)),
+        _ => (Status::Words, Refusal::Words(WordsError::Unknown { at: 0 })),
     };
     let report = Report {
         status,
