@@ -1,2 +1,13 @@
 mod Maps
 mod Stamping
+mod Written
+pub mod Dropped
+mod Adding
+mod News
+mod Numbers
+mod Forked
+mod Applies
+mod Begins
+mod Looks
+mod Seen
+mod Removed

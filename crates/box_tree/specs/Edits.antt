@@ -1,12 +1,19 @@
 -- How the parts of a step change a table.
-use Rattle.std.specs.Prelude.{◌≡◌, ℕ, List, [], ◌∷◌, Option, Some, None, option_map}
+use Rattle.std.specs.Prelude.{◌≡◌, ℕ, Bool, true, false, ◌||◌, if◌then◌else◌, List, [], ◌∷◌, map, Option, Some, None}
 use Rattle.std.specs.Map.{lookup}
 use Rattle.akl_terms.specs.declared.name.Name.{Name}
-use Rattle.akl_terms.specs.declared.name.Place.{Place}
+use Rattle.akl_terms.specs.declared.term.Node.{Node}
+use Rattle.akl_terms.specs.declared.program.Goal.{Goal}
+use Rattle.akl_terms.specs.declared.program.Code.{Code}
 use Rattle.akl_terms.specs.Names.{same_name}
+use Rattle.akl_model.specs.Config.{IsIn, Atom, or_else}
+use Rattle.akl_terms.specs.declared.program.Op.{Op}
+use Rattle.akl_model.specs.Changes.{of_choice}
 use Rattle.table_laws.specs.Rows.{BoxRow, GoalRow, Table}
-use Rattle.table_laws.specs.Writes.{IsTable}
-use Rattle.box_tree.specs.Tables.{TableValue, table_of}
+use Rattle.table_laws.specs.Steps as laws
+use Rattle.table_laws.specs.Writes.{IsTable, new_box_of, new_goal_of, atom_among}
+use Rattle.box_tree.specs.declared.step.NewBox.{NewBox}
+use Rattle.box_tree.specs.Tables.{TableValue, table_of, goal_atom}
 
 -- boxes get these rows, and all else stays
 pub record SetsBoxes (t u : TableValue) (new : Name → Option BoxRow) : Type 0 where
@@ -23,3 +30,61 @@ pub record Becomes (t u : TableValue) (T : Table) : Type 0 where
   pub program : u.program ≡ t.program
   pub query : u.query ≡ t.query
   pub table : IsTable (table_of u) T
+
+-- entries whose names are none of these
+abbrev pub is_among : Name → List Name → Bool
+is_among m [] = false
+is_among m (n ∷ ns) = same_name m n || is_among m ns
+
+abbrev pub without : {A : Type 0} → List Name → List (Name × A) → List (Name × A)
+without ns [] = []
+without ns (e ∷ es) = if is_among e.0 ns then without ns es else e ∷ without ns es
+
+-- entries of these names may come, or get other values, and nothing else changes
+pub record AddsOnly (t u : TableValue) (own : List Name) : Type 0 where
+  pub boxes : (names : List Name) → ((m : Name) → IsIn m own → IsIn m names) → without names u.boxes ≡ without names t.boxes
+  pub goals : (names : List Name) → ((m : Name) → IsIn m own → IsIn m names) → without names u.goals ≡ without names t.goals
+  pub rest : u ≡ record t { boxes = u.boxes; goals = u.goals }
+
+-- the rows of boxes and goals become these, and all else stays
+pub record SetsRows (t u : TableValue) (new_boxes : Name → Option BoxRow) (new_goals : Name → Option GoalRow) : Type 0 where
+  pub boxes : (m : Name) → (table_of u).box_of m ≡ new_boxes m
+  pub goals : (m : Name) → (table_of u).goal_of m ≡ new_goals m
+  pub rest : u ≡ record t { boxes = u.boxes; goals = u.goals }
+
+-- goals with names, as atoms
+abbrev pub named_atoms : List Node → List (Name × Goal) → List (Name × Atom)
+named_atoms nodes goals = map (λ (x : Name × Goal). (x.0, goal_atom nodes x.1)) goals
+
+-- boxes with their goals come before what is there
+abbrev pub boxes_with : Name → Option ℕ → ℕ → List laws.NewBox → Table → Name → Option BoxRow
+boxes_with g at number news T m = or_else (new_box_of g at number news m) (T.box_of m)
+
+abbrev pub goals_with : ℕ → List laws.NewBox → Table → Name → Option GoalRow
+goals_with number news T m = or_else (new_goal_of number news m) (T.goal_of m)
+
+abbrev pub atoms_with : Name → ℕ → List (Name × Atom) → Table → Name → Option GoalRow
+atoms_with home number atoms T m = or_else (atom_among home number atoms m) (T.goal_of m)
+
+abbrev pub is_fail : Code → Bool
+is_fail Code.Fail = true
+is_fail c = false
+
+-- the entries of these names go, and no other
+pub record Clears (t u : TableValue) (own : List Name) : Type 0 where
+  pub only : AddsOnly t u own
+  pub boxes : (m : Name) → IsIn m own → lookup (same_name m) u.boxes ≡ None
+  pub boxes_stay : (m : Name) → lookup (same_name m) t.boxes ≡ None → lookup (same_name m) u.boxes ≡ None
+  pub goals : (m : Name) → IsIn m own → lookup (same_name m) u.goals ≡ None
+  pub goals_stay : (m : Name) → lookup (same_name m) t.goals ≡ None → lookup (same_name m) u.goals ≡ None
+
+abbrev pub choice_row : Op → List Name → ℕ → GoalRow → GoalRow
+choice_row op names number r = record r { shape = of_choice op names; changed = number }
+
+abbrev pub failing_row : Name → BoxRow → BoxRow
+failing_row g r = record r { failing = Some g }
+
+-- the box that fails by a choice of these boxes: its home, where there are none
+abbrev pub home_if_empty : Name → List NewBox → Option Name
+home_if_empty home [] = Some home
+home_if_empty home (n ∷ ns) = None

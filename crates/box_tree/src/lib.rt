@@ -1,10 +1,16 @@
 //! A flat table of boxes and goals that unfolds to a configuration, what is seen of a place in it, and plans that are right.
 #![tactic(auto)]
 
+mod dropping;
 mod entries;
+mod failing;
+mod forking;
+mod looking;
 mod plan;
+mod starting;
 mod step;
 mod table;
+mod telling;
 mod view;
 
 pub use entries::{BoxEntry, GoalEntry, Held};

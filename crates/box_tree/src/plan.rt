@@ -23,7 +23,7 @@ pub struct Plan {
 }
 
 impl Model for Plan {
-        ghost use Rattle.box_tree.specs.Plans.{PlanValue, IsRight};
+    ghost use Rattle.box_tree.specs.Plans.{PlanValue, IsRight};
 
     ghost Value = { PlanValue };
 

@@ -1,6 +1,6 @@
 //! The table.
 
-ghost use Rattle.std.specs.Prelude.{◌≡◌, IfOk, IfErr, true, false, is_some, IfSome};
+ghost use Rattle.std.specs.Prelude.{◌≡◌, ◌++◌, map, IfOk, IfErr, OnOk, true, false, is_some, IfSome};
 ghost use Rattle.table_laws.specs.Writes.{IsTable};
 ghost use Rattle.table_laws.specs.Laws.{started};
 ghost use Rattle.table_laws.specs.Stamped.{IsTableOf, stamp_in};
@@ -9,6 +9,7 @@ ghost use Rattle.box_tree.specs.Views.{run_of, is_there, IsUnseen, AreAllPlaces}
 
 use crate::entries::{BoxEntry, GoalEntry};
 use crate::step::Step;
+use crate::telling::solved_when;
 use crate::view::{LookError, View};
 use akl_model::{Item, Label};
 use akl_terms::{Name, Place, Program, Query, ShownTerm};
@@ -43,22 +44,6 @@ impl Model for Table {
 }
 
 impl Table {
-    /// The table of the query's one box. The query's variables are the nodes from `first_variable` on.
-    pub fn start(
-        alloc: Global,
-        program: &Program,
-        query: &Query,
-        first_variable: u32,
-    ) -> Result<Table, AllocError>
-        requires variables { HasVariables program.now query.now first_variable }
-        requires shown { HasShownVariables query.now }
-        ensures program { IfOk result (λ t. t.program ≡ program.now) }
-        ensures query { IfOk result (λ t. t.query ≡ query.now) }
-        ensures started { IfOk result (λ t. IsTable (table_of t) (started program.now query.now)) }
-    {
-        Err(AllocError)
-    }
-
     /// What a worker sees of a place. `Gone` comes exactly where the place isn't in the configuration.
     pub fn look(
         &self,
@@ -75,7 +60,30 @@ impl Table {
         ensures there { IfOk result (λ _. is_there (table_of self.now) place ≡ true) }
         ensures unseen { IfErr result (IsUnseen (table_of self.now) place) }
     {
-        Err(LookError::Memory(AllocError))
+        let Some((home, sight)) = self.sight_of(place) else {
+            return Err(LookError::Gone);
+        };
+        let path = match self.path_to(alloc, home) {
+            Ok(path) => path,
+            Err(error) => return Err(LookError::Memory(error)),
+        };
+        let stores = match self.stores_of(alloc, path.as_slice()) {
+            Ok(stores) => stores,
+            Err(error) => return Err(LookError::Memory(error)),
+        };
+        let known = self.known_of(path.as_slice());
+        Ok(View {
+            table: Snapshot::of(self),
+            journal: Snapshot::of(journal),
+            place,
+            worker,
+            seen: journal.len() as u64,
+            next: self.next_of(worker),
+            path,
+            stores,
+            known,
+            sight,
+        })
     }
 
     /// The number of the last label that changed the item, 0 where there is none; `None` where it has gone.
@@ -104,7 +112,30 @@ impl Table {
     pub fn places(&self, alloc: Global) -> Result<Vec<Place>, AllocError>
         ensures { IfOk result (λ places. AreAllPlaces (table_of self.now) places.items) }
     {
-        Err(AllocError)
+        let mut places = Vec::new(alloc);
+        self.push_boxes(&mut places)?;
+        self.push_goals(&mut places)?;
+        Ok(places)
+    }
+
+    // The boxes come to the end of the places.
+    fn push_boxes(&self, places: &mut Vec<Place>) -> Result<(), AllocError>
+        ensures { OnOk result (places.new.items ≡ places.old.items ++ map (λ e. Place.Box e.0) self.now.boxes) }
+    {
+        for name in self.boxes.keys() {
+            places.push(Place::Box(*name))?;
+        }
+        Ok(())
+    }
+
+    // The goals come to the end of the places.
+    fn push_goals(&self, places: &mut Vec<Place>) -> Result<(), AllocError>
+        ensures { OnOk result (places.new.items ≡ places.old.items ++ map (λ e. Place.Goal e.0) self.now.goals) }
+    {
+        for name in self.goals.keys() {
+            places.push(Place::Goal(*name))?;
+        }
+        Ok(())
     }
 
     /// The root boxes in order.
@@ -148,6 +179,41 @@ impl Table {
         ensures applied { IfOk result (λ _. Applied self.old label at names step self.new) }
         ensures unchanged { IfErr result (λ _. self.new ≡ self.old) }
     {
-        Err(AllocError)
+        let Some(number) = self.steps.checked_add(1) else {
+            return Err(AllocError);
+        };
+        match step {
+            Step::Tell { store, solved } => {
+                let Place::Goal(goal) = label.place else {
+                    return Err(AllocError);
+                };
+                self.tell(goal, store, solved_when(at, solved), number);
+                Ok(())
+            }
+            Step::Fork { op, alternatives } => {
+                let Place::Goal(goal) = label.place else {
+                    return Err(AllocError);
+                };
+                self.fork(
+                    alloc,
+                    goal,
+                    op,
+                    alternatives,
+                    at,
+                    number,
+                    label.worker,
+                    names,
+                )?;
+                Ok(())
+            }
+            Step::Fail => {
+                let Place::Box(name) = label.place else {
+                    return Err(AllocError);
+                };
+                let inside = self.inside(alloc, name)?;
+                self.fail(name, &inside, number);
+                Ok(())
+            }
+        }
     }
 }

@@ -1,6 +1,7 @@
 //! What is seen of a place.
 
 ghost use Rattle.std.specs.Prelude.{◌≡◌, length};
+ghost use Rattle.box_tree.specs.Views.{IsViewOf};
 
 use crate::table::Table;
 use akl_model::Label;
@@ -58,7 +59,8 @@ impl Model for View {
 impl View {
     /// The place that was looked at.
     pub fn place(&self) -> Place
-        ensures { result ≡ self.now.place }
+        ensures place { result ≡ self.now.place }
+        ensures seen { IsViewOf self.now }
     {
         self.place
     }

@@ -1,5 +1,7 @@
 -- A store that takes what is found for equations.
-use Rattle.std.proofs.Common.{◌≡◌, ℕ, List, [], ◌∷◌, ◌++◌, length, refl, sym, ap, subst, ◌∙◌, ◌⊎◌, inl, inr, arith, ◌+◌, ◌-◌, take, drop}
+use Rattle.std.proofs.Common.{◌≡◌, ℕ, List, [], ◌∷◌, ◌++◌, length, refl, sym, ap, subst, ◌∙◌, ◌⊎◌, inl, inr, arith, ◌+◌, ◌-◌, take, drop, Bool, false}
+use Rattle.std.specs.Prelude.{IsTrue, ◌↔◌}
+use Rattle.std.proofs.lemmas.Bool.{false≢true}
 use Rattle.akl_terms.specs.declared.name.Var.{Var}
 use Rattle.akl_terms.specs.declared.term.Node.{Node}
 use Rattle.akl_terms.specs.declared.term.Term.{Term}
@@ -9,11 +11,13 @@ use Rattle.akl_terms.specs.Equal.{IsTold, EqualBy, told, turned, joined, IsConsi
 use Rattle.akl_terms.specs.Template.{tree}
 use Rattle.akl_terms.specs.Decided.{DifferInHead}
 use Rattle.akl_terms.proofs.EqualLaws.{EqualBy-follows}
-use Rattle.rational_unify.specs.Solving.{bindings_in, BindNew, IsSolution}
+use Rattle.rational_unify.specs.Solving.{bindings_in, BindNew, IsSolution, IsClashOf}
 use Rattle.rational_unify.specs.Forms.{IsFormOf, Takes, IsClashOfBindings}
+use Rattle.rational_unify.proofs.FormLaws.{form-consistent}
 use Rattle.local_store.specs.Stored.{Stored, joins, with_bindings}
 use Rattle.local_store.specs.Chained.{bindings_from, innermost, around, replaced, ToldBy, IsSolvedChain}
-use Rattle.local_store.specs.Telling.{ToldAlso, Tells, Adds, added, clash, clashed, somewhere}
+use Rattle.local_store.specs.declared.telling.ToldStore.{ToldStore}
+use Rattle.local_store.specs.Telling.{ToldAlso, Tells, AnswersTold, Adds, added, clash, clashed, somewhere}
 use Rattle.local_store.proofs.Layers.{form-as, form-equations, form-added, forms-stand, inconsistent-stand, form-reorder, joins-found, joins-length, joins-told, told-joins, from-last, from-innermost, bindings-either, bindings-left, bindings-right, chain-form, chain-clash}
 use Rattle.local_store.proofs.Known.{drop-whole}
 
@@ -106,18 +110,25 @@ module _ (nodes : List Node) (ss : List Stored) (known : ℕ) (bs : List (Var ×
       there : (t : Term) → IsTold (bindings_in nodes ((somewhere, left) ∷ (somewhere, right) ∷ [])) (variable somewhere) (tree nodes t) → ToldBy nodes (replaced ss new) (variable somewhere) (tree nodes t)
       there t m = told-replaced nodes ss ((somewhere, left) ∷ (somewhere, right) ∷ []) new (ap (λ (r : Stored). r.bindings) e) (variable somewhere) (tree nodes t) (inr m)
 
-  pub tells-adds : Adds nodes bs es (innermost ss) new → Tells nodes ss known es new
-  tells-adds (added more s e) = tells-added more s e
-  tells-adds (clash left right c e) = tells-clash left right
-      (EqualBy-follows (λ a b m. elim m [ inl x ↦ EqualBy-follows (λ u v y. told (inl y)) (f.follow a b x) | inr x ↦ told (inr x) ]) c.equal) c.differ e
+  clash_here : (left right : Term) → IsClashOf nodes bs es left right → EqualBy (ToldAlso nodes ss es) (tree nodes left) (tree nodes right)
+  clash_here left right c = EqualBy-follows (λ a b m. elim m [ inl x ↦ EqualBy-follows (λ u v y. told (inl y)) (f.follow a b x) | inr x ↦ told (inr x) ]) c.equal
+
+  pub tells-adds : (t : Bool) → Adds nodes bs es (innermost ss) new t → Tells nodes ss known es new
+  tells-adds t (added more s e i) = tells-added more s e
+  tells-adds t (clash left right c e i) = tells-clash left right (clash_here left right c) c.differ e
+
+  -- consistent exactly where it says so
+  pub adds-says : (t : Bool) → Adds nodes bs es (innermost ss) new t → IsTrue t ↔ IsConsistentBy (ToldAlso nodes ss es)
+  adds-says t (added more s e i) = (λ _. form-consistent nodes (bs ++ more) (ToldAlso nodes ss es) (form-equations nodes bs es more (ToldBy nodes ss) f s), λ _. i)
+  adds-says t (clash left right c e i) = (λ h. absurd (false≢true (sym i ∙ h)), λ k. absurd (c.differ.differ (k.heads (clash_here left right c) c.differ.is_left c.differ.is_right)))
 
 -- over the stores that are known to be solved, with the others taken in
 module _ (nodes : List Node) (ss : List Stored) (known k : ℕ) (es : List code.Equation) (s : Stored) (f : IsSolvedChain nodes (take k ss)) (less : length ss ≡ known → ⊥) where
   pub tells-further : (new : List (Var × Term)) → Takes nodes (bindings_from (take k ss)) [] new (bindings_from (take (length ss - k) (drop k ss)))
-      → Adds nodes (bindings_from (take k ss) ++ new) es (innermost ss) s → Tells nodes ss known es s
-  tells-further new t a = tells-adds nodes ss known (bindings_from (take k ss) ++ new) es s
+      → (solved : Bool) → Adds nodes (bindings_from (take k ss) ++ new) es (innermost ss) s solved → Tells nodes ss known es s
+  tells-further new t solved a = tells-adds nodes ss known (bindings_from (take k ss) ++ new) es s
       (chain-form nodes ss k (bindings_from (take k ss)) new f (subst (λ (l : List Stored). Takes nodes (bindings_from (take k ss)) [] new (bindings_from l)) (drop-whole ss k) t))
-      (λ e. absurd (less e)) a
+      (λ e. absurd (less e)) solved a
 
   pub tells-further-clash : (left right : Term) → IsClashOfBindings nodes (bindings_from (take k ss) ++ []) (bindings_from (take (length ss - k) (drop k ss))) left right
       → s ≡ clashed (innermost ss) left right → Tells nodes ss known es s
@@ -136,3 +147,16 @@ module _ (nodes : List Node) (ss : List Stored) (known k : ℕ) (es : List code.
 
       there : (t : Term) → IsTold (bindings_in nodes ((somewhere, left) ∷ (somewhere, right) ∷ [])) (variable somewhere) (tree nodes t) → ToldBy nodes (replaced ss s) (variable somewhere) (tree nodes t)
       there t m = told-replaced nodes ss ((somewhere, left) ∷ (somewhere, right) ∷ []) s (ap (λ (r : Stored). r.bindings) e) (variable somewhere) (tree nodes t) (inr m)
+
+-- the whole answer: over a chain that is known to be solved, and over one that isn't
+pub answers-whole : (nodes : List Node) (ss : List Stored) (known : ℕ) (es : List code.Equation) (answer : ToldStore) → IsSolvedChain nodes ss → length ss ≡ known
+    → Adds nodes (bindings_from ss) es (innermost ss) answer.store answer.solved → AnswersTold nodes ss known es answer
+answers-whole nodes ss known es answer f l a =
+    let says : IsTrue answer.solved ↔ IsConsistentBy (ToldAlso nodes ss es) = adds-says nodes ss known (bindings_from ss) es answer.store f (λ e. refl) answer.solved a in record {
+      tells = tells-adds nodes ss known (bindings_from ss) es answer.store f (λ e. refl) answer.solved a;
+      is_solved = (λ h. (l, says.0 h), λ w. says.1 w.1);
+    }
+
+pub answers-further : (nodes : List Node) (ss : List Stored) (known : ℕ) (es : List code.Equation) (answer : ToldStore) → (length ss ≡ known → ⊥) → answer.solved ≡ false
+    → Tells nodes ss known es answer.store → AnswersTold nodes ss known es answer
+answers-further nodes ss known es answer less e t = record { tells = t; is_solved = (λ h. absurd (false≢true (sym e ∙ h)), λ w. absurd (less w.0)) }

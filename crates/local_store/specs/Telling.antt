@@ -1,5 +1,5 @@
 -- Equations told to a chain.
-use Rattle.std.specs.Prelude.{◌≡◌, ℕ, List, length, ◌⊎◌}
+use Rattle.std.specs.Prelude.{◌≡◌, ℕ, Bool, true, false, List, length, ◌⊎◌, ◌↔◌, IsTrue}
 use Rattle.akl_terms.specs.declared.name.Var.{Var}
 use Rattle.akl_terms.specs.declared.term.Node.{Node}
 use Rattle.akl_terms.specs.declared.term.Term.{Term}
@@ -8,6 +8,7 @@ use Rattle.akl_terms.specs.Tree.{Tree}
 use Rattle.akl_terms.specs.Equal.{IsTold, IsConsistentBy}
 use Rattle.akl_terms.specs.Standing.{StandFor}
 use Rattle.rational_unify.specs.Solving.{equations_in, IsSolution, IsClashOf}
+use Rattle.local_store.specs.declared.telling.ToldStore.{ToldStore}
 use Rattle.local_store.specs.Stored.{Stored, with_binding, with_bindings}
 use Rattle.local_store.specs.Chained.{ToldBy, IsSolvedChain, innermost, replaced}
 
@@ -23,6 +24,11 @@ pub record Tells (nodes : List Node) (ss : List Stored) (known : ℕ) (es : List
   pub stands : StandFor (ToldAlso nodes ss es) (ToldBy nodes (replaced ss new))
   pub solved : length ss ≡ known → IsConsistentBy (ToldAlso nodes ss es) → IsSolvedChain nodes (replaced ss new)
 
+-- such a store, and whether the chain is known to be solved with it: the whole chain was, and is consistent with the equations
+pub record AnswersTold (nodes : List Node) (ss : List Stored) (known : ℕ) (es : List code.Equation) (answer : ToldStore) : Type 0 where
+  pub tells : Tells nodes ss known es answer.store
+  pub is_solved : IsTrue answer.solved ↔ ((length ss ≡ known) × IsConsistentBy (ToldAlso nodes ss es))
+
 -- a variable that is bound to two terms
 abbrev pub somewhere : Var
 somewhere = record { frame = record { worker = 0; number = 0 }; index = 0 }
@@ -30,7 +36,7 @@ somewhere = record { frame = record { worker = 0; number = 0 }; index = 0 }
 abbrev pub clashed : Stored → Term → Term → Stored
 clashed s l r = with_binding (with_binding s somewhere l) somewhere r
 
--- what is found for equations over a solved form, put into a store
-pub data Adds (nodes : List Node) (bs : List (Var × Term)) (es : List code.Equation) (old new : Stored) : Type 0 where
-  added : (more : List (Var × Term)) → IsSolution nodes bs es more → new ≡ with_bindings old more → Adds nodes bs es old new
-  clash : (left right : Term) → IsClashOf nodes bs es left right → new ≡ clashed old left right → Adds nodes bs es old new
+-- what is found for equations over a solved form, put into a store, and whether they are consistent with it
+pub data Adds (nodes : List Node) (bs : List (Var × Term)) (es : List code.Equation) (old new : Stored) (consistent : Bool) : Type 0 where
+  added : (more : List (Var × Term)) → IsSolution nodes bs es more → new ≡ with_bindings old more → consistent ≡ true → Adds nodes bs es old new consistent
+  clash : (left right : Term) → IsClashOf nodes bs es left right → new ≡ clashed old left right → consistent ≡ false → Adds nodes bs es old new consistent

@@ -3,7 +3,7 @@ ghost use Rattle.std.specs.Prelude.{◌≡◌, ◌++◌, IfOk, MatchOption};
 ghost use Rattle.rational_unify.specs.Known.{IsSolved};
 ghost use Rattle.rational_unify.specs.Forms.{Takes, IsClashOfBindings};
 ghost use Rattle.local_store.specs.Chained.{bindings_from, innermost};
-ghost use Rattle.local_store.specs.Telling.{clashed, Tells, Adds};
+ghost use Rattle.local_store.specs.Telling.{clashed, Adds, AnswersTold};
 
 use crate::chain::Chain;
 use crate::shared::Shared;
@@ -12,9 +12,18 @@ use akl_terms::{Equation, Name, Templates, Term, Var};
 use rational_unify::{AddedBindings, Form, Lookup, Solution, Solved, solve};
 use std::alloc::{AllocError, Global};
 
+/// What `told` answers.
+#[derive(Drop)]
+pub struct ToldStore {
+    /// The innermost store, with the equations told.
+    pub store: Store,
+    /// Whether the chain is known to be solved with it: the whole chain was, and the equations are consistent with it.
+    pub solved: bool,
+}
+
 /// The innermost store, with the equations told.
-pub fn told(alloc: Global, chain: &Chain, equations: &[Equation]) -> Result<Store, AllocError>
-    ensures { IfOk result (λ s. Tells chain.now.nodes chain.now.stores chain.now.known equations.now s) }
+pub fn told(alloc: Global, chain: &Chain, equations: &[Equation]) -> Result<ToldStore, AllocError>
+    ensures { IfOk result (λ t. AnswersTold chain.now.nodes chain.now.stores chain.now.known equations.now t) }
 {
     let templates = chain.templates();
     let stores = chain.stores();
@@ -29,8 +38,14 @@ pub fn told(alloc: Global, chain: &Chain, equations: &[Equation]) -> Result<Stor
         added: AddedBindings::new(alloc),
     };
     match take_stores(alloc, templates, &mut form, &stores[known..])? {
-        Some(clash) => clashing(&store, clash.left, clash.right),
-        None => tell(alloc, templates, &form, &store, equations),
+        Some(clash) => Ok(ToldStore {
+            store: clashing(&store, clash.left, clash.right)?,
+            solved: false,
+        }),
+        None => Ok(ToldStore {
+            store: tell(alloc, templates, &form, &store, equations)?.store,
+            solved: false,
+        }),
     }
 }
 
@@ -57,24 +72,30 @@ pub fn take_stores<K: Lookup>(
     Ok(None)
 }
 
-// A store with what is found for the equations over a solved form.
+// A store with what is found for the equations over a solved form, and whether they are consistent with it.
 fn tell<K: Lookup>(
     alloc: Global,
     templates: &Templates,
     known: &K,
     store: &Store,
     equations: &[Equation],
-) -> Result<Store, AllocError>
+) -> Result<ToldStore, AllocError>
     requires { IsSolved templates.now.nodes (K.bindings known.now) }
-    ensures { IfOk result (λ s. Adds templates.now.nodes (K.bindings known.now) equations.now store.now s) }
+    ensures { IfOk result (λ t. Adds templates.now.nodes (K.bindings known.now) equations.now store.now t.store t.solved) }
 {
     let Solution {
         solved,
         followed: _,
     } = solve(alloc, templates, known, equations)?;
     match solved {
-        Solved::Clash { left, right } => clashing(store, left, right),
-        Solved::Added(added) => store.with_all(added.as_slice()),
+        Solved::Clash { left, right } => Ok(ToldStore {
+            store: clashing(store, left, right)?,
+            solved: false,
+        }),
+        Solved::Added(added) => Ok(ToldStore {
+            store: store.with_all(added.as_slice())?,
+            solved: true,
+        }),
     }
 }
 

@@ -1,1 +1,3 @@
 pub mod Planned
+pub mod Made
+pub mod Failed

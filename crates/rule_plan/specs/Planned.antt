@@ -6,10 +6,11 @@ use Rattle.akl_model.specs.Derivations.{Applies}
 use Rattle.table_laws.specs.Stamped.{IsTableOf}
 use Rattle.box_tree.specs.Tables.{rules_in_force, table_of}
 use Rattle.box_tree.specs.Views.{ViewValue, run_of}
-use Rattle.box_tree.specs.Plans.{PlanValue}
+use Rattle.box_tree.specs.Plans.{PlanValue, IsRight}
 
--- a plan was made of a view, for its place and its worker
+-- a right plan was made of a view, for its place and its worker
 pub record IsPlanOf (v : ViewValue) (p : PlanValue) : Type 0 where
+  pub right : IsRight p
   pub table : p.table ≡ v.table
   pub journal : p.journal ≡ v.journal
   pub place : p.label.place ≡ v.place

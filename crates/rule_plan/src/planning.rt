@@ -1,10 +1,16 @@
 //! Plans by what stands at a place.
 
 ghost use Rattle.std.specs.Prelude.{◌≡◌, IfOk};
+ghost use Rattle.akl_terms.specs.declared.name.Place.{Place};
+ghost use Rattle.box_tree.specs.declared.view.Sight.{Sight};
 ghost use Rattle.rule_plan.specs.Planned.{IsPlannedBy};
 
-use akl_terms::Program;
-use box_tree::{Plan, View};
+use crate::failing::fail;
+use crate::forking::fork;
+use crate::heads::Call;
+use crate::telling::tell;
+use akl_terms::{Code, Goal, Name, Place, Program};
+use box_tree::{Plan, Sight, View};
 use std::alloc::{AllocError, Global};
 
 /// A right plan for the place of a view, by its worker; `None` exactly where no rule in force applies there.
@@ -12,6 +18,46 @@ pub fn plan(alloc: Global, program: &Program, view: &View) -> Result<Option<Plan
     requires { program.now ≡ view.now.table.program }
     ensures { IfOk result (IsPlannedBy view.now) }
 {
-    let _ = (alloc, program, view);
-    Err(AllocError)
+    match view.place() {
+        Place::Goal(goal) => match view.sight() {
+            Sight::Atom(atom) => plan_atom(alloc, program, view, goal, atom),
+            _ => Ok(None),
+        },
+        Place::Box(name) => match view.sight() {
+            Sight::Box { failing } => fail(alloc, program, view, name, failing),
+            _ => Ok(None),
+        },
+    }
+}
+
+// The same for a goal that is an atom.
+fn plan_atom(
+    alloc: Global,
+    program: &Program,
+    view: &View,
+    goal: Name,
+    atom: Goal,
+) -> Result<Option<Plan>, AllocError>
+    requires program { program.now ≡ view.now.table.program }
+    requires place { view.now.place ≡ Place.Goal goal }
+    requires sight { view.now.sight ≡ Sight.Atom atom }
+    ensures { IfOk result (IsPlannedBy view.now) }
+{
+    let _place = view.place();
+    match atom.code {
+        Code::Equal { left, right } => { tell(alloc, program, view, goal, atom.frame, left, right) }
+        Code::Call {
+            definition,
+            first,
+            count,
+        } => {
+            let call = Call {
+                frame: atom.frame,
+                first,
+                count,
+            };
+            fork(alloc, program, view, goal, definition, call)
+        }
+        _ => Ok(None),
+    }
 }

@@ -1,5 +1,5 @@
 -- The run of one worker.
-use Rattle.std.specs.Prelude.{◌≡◌, ◌<◌, ℕ, ◌+◌, List, [], ◌∷◌, ◌++◌, length}
+use Rattle.std.specs.Prelude.{◌≡◌, ◌<◌, ◌≤◌, ℕ, ◌+◌, List, [], ◌∷◌, ◌++◌, length}
 use Rattle.akl_terms.specs.declared.name.Place.{Place}
 use Rattle.akl_model.specs.declared.label.Label.{Label}
 use Rattle.akl_model.specs.declared.label.Receipt.{Receipt}
@@ -34,6 +34,7 @@ IsQuiet c = (t : TableIn c) → IsQuietEnd rules_in_force c.table.program t.conf
 pub record Follows (c : CoreValue) (before : List Receipt) (d : CoreValue) (afterwards : List Receipt) : Type 0 where
   pub fixed : KeepsFixed c d
   pub label : Label
+  pub unspent : length c.journal < c.budget
   pub journal : d.journal ≡ c.journal ++ label ∷ []
   pub worker : label.worker ≡ 1
   pub seen : ℕ
@@ -50,11 +51,14 @@ pub record AreKept (c : CoreValue) (rs : List Receipt) : Type 0 where
   pub receipts : AreReceipts 1 c.journal (rs ∷ [])
   pub by_one : AreBy 1 c.journal
 
--- what a pass came to
+-- a core goes on to another by labels of worker 1, with their receipts
 pub record KeepsOn (c : CoreValue) (rs : List Receipt) (d : CoreValue) (ss : List Receipt) : Type 0 where
   pub fixed : KeepsFixed c d
   pub kept : AreKept c rs → AreKept d ss
+  pub longer : length c.journal ≤ length d.journal
+  pub within : length c.journal ≤ c.budget → length d.journal ≤ d.budget
 
+-- what a pass came to
 abbrev pub HasPassed : CoreValue → List Receipt → CoreValue → List Receipt → Pass → Type 0
 HasPassed c rs d ss Pass.Moved = KeepsOn c rs d ss × (length c.journal < length d.journal)
 HasPassed c rs d ss Pass.Quiet = KeepsOn c rs d ss × IsQuiet d

@@ -63,7 +63,7 @@ fn look_at(
 }
 
 /// Looks at all places in turn.
-pub fn pass(
+pub fn look_at_all(
     alloc: Global,
     program: &Program,
     core: &mut Core,

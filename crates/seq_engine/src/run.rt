@@ -3,7 +3,7 @@
 ghost use Rattle.std.specs.Prelude.{◌≡◌, IfOk, []};
 ghost use Rattle.seq_engine.specs.Runs.{HasRun};
 
-use crate::pass::{Pass, pass};
+use crate::pass::{Pass, look_at_all};
 use akl_model::Receipt;
 use akl_terms::Program;
 use std::alloc::{AllocError, Global};
@@ -38,7 +38,7 @@ pub fn run_one(alloc: Global, program: &Program, core: Core) -> Result<Finished,
     let mut core = core;
     let mut receipts = Vec::new(alloc);
     loop {
-        match pass(alloc, program, &mut core, &mut receipts)? {
+        match look_at_all(alloc, program, &mut core, &mut receipts)? {
             Pass::Moved => {}
             Pass::Quiet => {
                 return Ok(Finished {

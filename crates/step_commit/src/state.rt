@@ -3,7 +3,7 @@
 ghost use Rattle.std.specs.Prelude.{◌≡◌, IfOk, IfErr, [], length, true};
 ghost use Rattle.box_tree.specs.Tables.{table_of, goals_in, is_empty, shown_in, shown_trees_of, HasVariables, HasShownVariables};
 ghost use Rattle.box_tree.specs.Views.{is_there, IsUnseen, AreAllPlaces};
-ghost use Rattle.step_commit.specs.Cores.{MayCommit, Commits, IsRefused, IsFirstStale, is_within};
+ghost use Rattle.step_commit.specs.Cores.{IsCore, MayCommit, Commits, IsRefused, IsFirstStale, is_within};
 
 use crate::commit::CommitError;
 use akl_model::{Item, Label, Receipt};
@@ -87,7 +87,8 @@ impl Core {
 
     /// The root boxes in order.
     pub fn roots(&self) -> &[Name]
-        ensures { result.now ≡ self.now.table.roots }
+        ensures roots { result.now ≡ self.now.table.roots }
+        ensures core { IsCore self.now }
     {
         self.table.roots()
     }

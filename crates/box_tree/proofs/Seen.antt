@@ -1,0 +1,402 @@
+-- A view of a place, by what rows say.
+use Rattle.std.proofs.Common.{◌≡◌, ℕ, zero, suc, ◌+◌, ◌<◌, ◌≤◌, Bool, true, false, List, [], ◌∷◌, ◌++◌, length, reverse, take, get_or, map, max, Option, Some, None, refl, sym, ap, subst, ◌∙◌, ◌⊎◌, inl, inr, arith}
+use Rattle.std.proofs.lemmas.List.{length-append, length-map, reverse-append}
+use Rattle.std.proofs.lemmas.Bool.Decides.{nat_tests}
+use Rattle.std.specs.Prelude.{option_map, option_and_then, if◌then◌else◌, IsSome, not, nat_lt, ⊤, is_some, slice_index}
+use Rattle.std.specs.Map.{lookup}
+use Rattle.akl_terms.specs.declared.name.Name.{Name}
+use Rattle.akl_terms.specs.declared.name.Place.{Place}
+use Rattle.akl_terms.specs.declared.term.Node.{Node}
+use Rattle.akl_terms.specs.Tree.{Tree}
+use Rattle.akl_terms.specs.Names.{same_name}
+use Rattle.akl_model.specs.declared.label.Label.{Label}
+use Rattle.akl_model.specs.Config.{IsIn, Atom, Content, Boxes, Goals, no_goals, Config, Held, an_atom, a_choice, held_in, Found, box_at, home_of, site_of}
+use Rattle.akl_model.specs.Names.{one_if, times_in}
+use Rattle.akl_model.specs.Changes.{of_atom, of_choice, shape_of}
+use Rattle.akl_model.specs.Wakes.{names_around, names_down_to, holder_in}
+use Rattle.akl_model.proofs.Options.{some_value}
+use Rattle.akl_model.proofs.Finds.{times, times_inside, times_in-append}
+use Rattle.akl_model.proofs.NamesKept.{Stand, box-itself, home-box, replay-stands}
+use Rattle.akl_model.proofs.ScopesAlong.{times_path, found_path}
+use Rattle.akl_model.specs.Stable.{only}
+use Rattle.step_laws.specs.Holders.{IsHeldBy}
+use Rattle.step_laws.proofs.Deeper.{names_snoc}
+use Rattle.step_laws.proofs.Holders.{held_or}
+use Rattle.rational_unify.specs.Forms.{IsFormOf}
+use Rattle.rational_unify.specs.Solving.{bindings_in}
+use Rattle.akl_terms.specs.Solved.{IsBound, bound}
+use Rattle.rational_unify.specs.Known.{bound_in}
+use Rattle.rational_unify.proofs.Chains.{nothing-solved}
+use Rattle.local_store.specs.Stored.{Stored}
+use Rattle.local_store.specs.Chained.{IsSolvedChain, IsKnown}
+use Rattle.table_laws.specs.Rows.{BoxRow, GoalRow, Table, store_in, stores_along}
+use Rattle.table_laws.specs.Unfolds.{IsBoxRow, UnchangedSince, Unfolds, Spot, spot_in, spot_of, FailsBy}
+use Rattle.table_laws.specs.Stamped.{Run, IsTableOf}
+use Rattle.table_laws.specs.Writes.{home_in, holder_in_row}
+use Rattle.table_laws.proofs.Frame.{row_of, found_of}
+use Rattle.table_laws.proofs.Insides.{goal_row}
+use Rattle.table_laws.proofs.Walks.{no_more}
+use Rattle.box_tree.specs.declared.entries.Held.{Held as Stands}
+use Rattle.box_tree.specs.declared.entries.BoxEntry.{BoxEntry}
+use Rattle.box_tree.specs.declared.entries.GoalEntry.{GoalEntry}
+use Rattle.box_tree.specs.declared.view.Sight.{Sight}
+use Rattle.box_tree.specs.Tables as tables
+use Rattle.box_tree.specs.Tables.{rules_in_force, TableValue, table_of, goal_atom, shape_held}
+use Rattle.box_tree.specs.Views.{run_of, Shows, IsViewOf, ViewValue, is_there}
+use Rattle.box_tree.specs.Paths.{home_at, outside_of, Deep, IsPath, HasPath, sight_held, sight_in, is_at_least, solving_in, known_in}
+use Rattle.box_tree.proofs.Looks.{stores_append}
+
+-- lists
+
+reverse_cons : (x : Name) (xs : List Name) → reverse (x ∷ xs) ≡ reverse xs ++ x ∷ []
+reverse_cons x xs = reverse-append (x ∷ []) xs
+
+get_last : (xs : List Name) (y d : Name) → get_or (xs ++ y ∷ []) (length xs) d ≡ y
+get_last [] y d = refl
+get_last (x ∷ xs) y d = get_last xs y d
+
+get_front : (xs ys : List Name) (j : ℕ) (d : Name) → j < length xs → get_or (xs ++ ys) j d ≡ get_or xs j d
+get_front [] ys j d l = absurd (omega arith)
+get_front (x ∷ xs) ys zero d l = refl
+get_front (x ∷ xs) ys (suc j) d l = get_front xs ys j d (omega arith)
+
+take_front : (xs ys : List Name) (j : ℕ) → j ≤ length xs → take j (xs ++ ys) ≡ take j xs
+take_front xs ys zero l = refl
+take_front [] ys (suc j) l = absurd (omega arith)
+take_front (x ∷ xs) ys (suc j) l = ap (λ (zs : List Name). x ∷ zs) (take_front xs ys j (omega arith))
+
+take_whole : (xs : List Name) (j : ℕ) → length xs ≡ j → take j xs ≡ xs
+take_whole [] zero l = refl
+take_whole [] (suc j) l = absurd (omega arith)
+take_whole (x ∷ xs) zero l = absurd (omega arith)
+take_whole (x ∷ xs) (suc j) l = ap (λ (zs : List Name). x ∷ zs) (take_whole xs j (omega arith))
+
+in_index : (m : Name) (xs : List Name) → IsIn m xs → (j : ℕ) × (j < length xs) × (get_or xs j m ≡ m)
+in_index m [] i = absurd i
+in_index m (x ∷ xs) (inl e) = (0, omega arith, sym e)
+in_index m (x ∷ xs) (inr i) = let r : (j : ℕ) × (j < length xs) × (get_or xs j m ≡ m) = in_index m xs i in let l : r.0 < length xs = r.1 in (suc r.0, omega arith, r.2)
+
+take_stores : (T : Table) (j : ℕ) (ns : List Name) → take j (stores_along T ns) ≡ stores_along T (take j ns)
+take_stores T zero ns = refl
+take_stores T (suc j) [] = refl
+take_stores T (suc j) (n ∷ ns) = ap (λ (ss : List Stored). store_in (T.box_of n) ∷ ss) (take_stores T j ns)
+
+length_stores : (T : Table) (ns : List Name) → length (stores_along T ns) ≡ length ns
+length_stores T [] = refl
+length_stores T (n ∷ ns) = ap suc (length_stores T ns)
+
+-- solved chains
+
+no_chain : (nodes : List Node) → IsSolvedChain nodes []
+no_chain nodes = record { solved = nothing-solved nodes; follow = λ s t b. absurd (unbound s t b); hold = λ s t o n. absurd o }
+  where
+    unbound : (s t : Tree) → IsBound (bound_in nodes []) s t → ⊥
+    unbound s t (bound e) = cc
+
+record IsSolvedAt (T : Table) (latest : ℕ) (ns : List Name) (j : ℕ) (d : Name) : Type 0 where
+  pub row : BoxRow
+  pub is_row : T.box_of (get_or ns j d) ≡ Some row
+  pub at : ℕ
+  pub solved : row.solved_at ≡ Some at
+  pub late : latest ≤ at
+  pub unchanged : UnchangedSince T at (take j ns)
+
+known_row : (T : Table) (latest : ℕ) (ns : List Name) (j : ℕ) (d : Name) → j < known_in T latest ns → IsSolvedAt T latest ns j d
+known_row T latest [] j d l = absurd (omega arith)
+known_row T latest (n ∷ ns) j d l = on (T.box_of n) refl l (λ i k. known_row T (max latest (solving_in (T.box_of n)).1) ns i d k)
+  where
+    on : (o : Option BoxRow) → T.box_of n ≡ o → j < (if is_at_least (solving_in o).0 latest then known_in T (max latest (solving_in o).1) ns + 1 else 0)
+        → ((i : ℕ) → i < known_in T (max latest (solving_in (T.box_of n)).1) ns → IsSolvedAt T (max latest (solving_in (T.box_of n)).1) ns i d) → IsSolvedAt T latest (n ∷ ns) j d
+    on None e l k = absurd (omega arith)
+    on (Some r) e l k = off r.solved_at refl l
+      where
+        at_row : (a i : ℕ) → r.solved_at ≡ Some a → latest ≤ a → j ≡ i → i < known_in T (max latest r.changed) ns + 1 → IsSolvedAt T latest (n ∷ ns) j d
+        at_row a zero s p q m = subst (λ (x : ℕ). IsSolvedAt T latest (n ∷ ns) x d) (sym q) (record { row = r; is_row = e; at = a; solved = s; late = p; unchanged = tt })
+        at_row a (suc i) s p q m =
+            let changed : (solving_in (T.box_of n)).1 ≡ r.changed = ap (λ (o : Option BoxRow). (solving_in o).1) e in
+            let x : IsSolvedAt T (max latest (solving_in (T.box_of n)).1) ns i d = k i (subst (λ (y : ℕ). i < known_in T (max latest y) ns) (sym changed) (omega arith)) in
+            let late : max latest (solving_in (T.box_of n)).1 ≤ x.at = x.late in
+            subst (λ (y : ℕ). IsSolvedAt T latest (n ∷ ns) y d) (sym q) (record {
+              row = x.row;
+              is_row = x.is_row;
+              at = x.at;
+              solved = x.solved;
+              late = omega arith;
+              unchanged = (λ r' e'. let same : r ≡ r' = some_value (sym e ∙ e') in let c : r.changed ≡ r'.changed = ap (λ (y : BoxRow). y.changed) same in omega arith, x.unchanged);
+            })
+
+        least : (b : Bool) (a : ℕ) → nat_lt a latest ≡ b → r.solved_at ≡ Some a → j < (if not b then known_in T (max latest r.changed) ns + 1 else 0) → IsSolvedAt T latest (n ∷ ns) j d
+        least true a q s m = absurd (omega arith)
+        least false a q s m = let p : latest ≤ a = grind (arith, nat_tests) in at_row a j s p refl m
+
+        off : (o : Option ℕ) → r.solved_at ≡ o → j < (if is_at_least o latest then known_in T (max latest r.changed) ns + 1 else 0) → IsSolvedAt T latest (n ∷ ns) j d
+        off None s m = absurd (omega arith)
+        off (Some a) s m = least (nat_lt a latest) a refl s m
+
+known_few : (T : Table) (latest : ℕ) (ns : List Name) → known_in T latest ns ≤ length ns
+known_few T latest [] = omega arith
+known_few T latest (n ∷ ns) = on (is_at_least (solving_in (T.box_of n)).0 latest) (known_few T (max latest (solving_in (T.box_of n)).1) ns)
+  where
+    on : (b : Bool) → known_in T (max latest (solving_in (T.box_of n)).1) ns ≤ length ns → (if b then known_in T (max latest (solving_in (T.box_of n)).1) ns + 1 else 0) ≤ length (n ∷ ns)
+    on true k = omega arith
+    on false k = omega arith
+
+-- paths
+
+record IsPrefix (roots : Boxes) (path : List Name) (j : ℕ) (d : Name) : Type 0 where
+  pub name : Name
+  pub found : Found
+  pub is_found : box_at name roots ≡ Some found
+  pub named : get_or path j d ≡ name
+  pub around : take j path ≡ names_around found
+  pub down : take (suc j) path ≡ names_down_to found
+
+longer : (roots : Boxes) (xs ys : List Name) (j : ℕ) (d : Name) → j < length xs → IsPrefix roots xs j d → IsPrefix roots (xs ++ ys) j d
+longer roots xs ys j d l p = record { name = p.name; found = p.found; is_found = p.is_found; named = get_front xs ys j d l ∙ p.named; around = take_front xs ys j (omega arith) ∙ p.around; down = take_front xs ys (suc j) (omega arith) ∙ p.down }
+
+module _ (T : Table) (c : Config) (u : Unfolds T c) (once : (m : Name) → times m c.roots ≤ 1) where
+  holder_row : (n : Name) (f : Found) → box_at n c.roots ≡ Some f → holder_in_row (T.box_of n) ≡ holder_in n c.roots
+  holder_row n f e =
+      let r : (r : BoxRow) × (T.box_of n ≡ Some r) × IsBoxRow T c.roots f r = row_of T c u n f e in
+      ap holder_in_row r.1 ∙ r.2.holder ∙ ap (λ (k : Name). holder_in k c.roots) (sym (box-itself n c.roots f e))
+
+  home_row : (n g : Name) (f : Found) (h : IsHeldBy n g f c.roots) → home_in (T.goal_of g) ≡ Some h.home.content.name
+  home_row n g f h =
+      let r : (r : GoalRow) × (T.goal_of g ≡ Some r) × (r.home ≡ h.home.content.name) × (r.shape ≡ shape_of (a_choice h.op h.alternatives)) = goal_row T c u once g h.home (a_choice h.op h.alternatives) h.is_home h.held in
+      ap home_in r.1 ∙ ap (λ (k : Name). Some k) r.2
+
+  length_around : (n g : Name) (f : Found) (h : IsHeldBy n g f c.roots) → length f.around ≡ length h.home.around + 1
+  length_around n g f h = ap (λ (xs : List Content). length xs) h.around ∙ length-append h.home.around (h.home.content ∷ [])
+
+  abbrev PathOf : Name → Found → Type 0
+  PathOf n f = (ms : List Name) × Deep T n ms × (names_down_to f ≡ reverse (n ∷ ms)) × (length ms ≡ length f.around)
+
+  path_found : (k : ℕ) (n : Name) (f : Found) → length f.around ≡ k → box_at n c.roots ≡ Some f → PathOf n f
+  path_found zero n f l e = elim (held_or c.roots once n f e) [
+    | inl r ↦ ([], ap (home_at T) (holder_row n f e ∙ r.1), ap (λ (bs : List Content). map (λ (b : Content). b.name) bs ++ f.content.name ∷ []) r.0 ∙ ap (λ (k : Name). k ∷ []) (sym (box-itself n c.roots f e)), sym l)
+    | inr h ↦ let a : length f.around ≡ length h.2.home.around + 1 = length_around n h.0 f h.2 in absurd (omega arith)
+  ]
+  path_found (suc k) n f l e = on (held_or c.roots once n f e) (λ m g i j. path_found k m g i j)
+    where
+      on : ((f.around ≡ []) × (holder_in n c.roots ≡ None)) ⊎ ((g : Name) × (holder_in n c.roots ≡ Some g) × IsHeldBy n g f c.roots) → ((m : Name) (g : Found) → length g.around ≡ k → box_at m c.roots ≡ Some g → PathOf m g) → PathOf n f
+      on (inl r) rec = let z : length f.around ≡ 0 = ap (λ (xs : List Content). length xs) r.0 in absurd (omega arith)
+      on (inr h) rec =
+          let held : IsHeldBy n h.0 f c.roots = h.2 in
+          let a : length f.around ≡ length held.home.around + 1 = length_around n h.0 f held in
+          let x : PathOf held.home.content.name held.home = rec held.home.content.name held.home (omega arith) (home-box h.0 c.roots held.home once held.is_home) in
+          let b : length x.0 ≡ length held.home.around = x.3 in (
+            held.home.content.name ∷ x.0,
+            (ap (home_at T) (holder_row n f e ∙ h.1) ∙ home_row n h.0 f held, x.1),
+            ap (λ (ns : List Name). ns ++ f.content.name ∷ []) (held.names ∙ x.2) ∙ ap (λ (k : Name). reverse (held.home.content.name ∷ x.0) ++ k ∷ []) (sym (box-itself n c.roots f e)) ∙ sym (reverse_cons n (held.home.content.name ∷ x.0)),
+            omega arith,
+          )
+
+  last_prefix : (n : Name) (f : Found) → box_at n c.roots ≡ Some f → (j : ℕ) (d : Name) → j ≡ length (names_around f) → IsPrefix c.roots (names_down_to f) j d
+  last_prefix n f e j d q = subst (λ (i : ℕ). IsPrefix c.roots (names_down_to f) i d) (sym q) (record {
+    name = n;
+    found = f;
+    is_found = e;
+    named = get_last (names_around f) f.content.name d ∙ sym (box-itself n c.roots f e);
+    around = take_front (names_around f) (f.content.name ∷ []) (length (names_around f)) (omega arith) ∙ take_whole (names_around f) (length (names_around f)) refl;
+    down = let a : length (names_down_to f) ≡ length (names_around f) + 1 = length-append (names_around f) (f.content.name ∷ []) in take_whole (names_down_to f) (suc (length (names_around f))) (omega arith);
+  })
+
+  prefix : (k : ℕ) (n : Name) (f : Found) → length f.around ≡ k → box_at n c.roots ≡ Some f → (j : ℕ) (d : Name) → j < length (names_down_to f) → IsPrefix c.roots (names_down_to f) j d
+  prefix zero n f l e j d m =
+      let a : length (names_down_to f) ≡ length (names_around f) + 1 = length-append (names_around f) (f.content.name ∷ []) in
+      let b : length (names_around f) ≡ length f.around = length-map f.around (λ (x : Content). x.name) in
+      last_prefix n f e j d (omega arith)
+  prefix (suc k) n f l e j d m = on (held_or c.roots once n f e) (λ m g i h w. prefix k m g i h j d w)
+    where
+      here : length (names_down_to f) ≡ length (names_around f) + 1
+      here = length-append (names_around f) (f.content.name ∷ [])
+
+      on : ((f.around ≡ []) × (holder_in n c.roots ≡ None)) ⊎ ((g : Name) × (holder_in n c.roots ≡ Some g) × IsHeldBy n g f c.roots)
+          → ((m : Name) (g : Found) → length g.around ≡ k → box_at m c.roots ≡ Some g → j < length (names_down_to g) → IsPrefix c.roots (names_down_to g) j d) → IsPrefix c.roots (names_down_to f) j d
+      on (inl r) rec = let z : length f.around ≡ 0 = ap (λ (xs : List Content). length xs) r.0 in absurd (omega arith)
+      on (inr h) rec = within (nat_lt j (length (names_around f))) refl
+        where
+          held : IsHeldBy n h.0 f c.roots
+          held = h.2
+
+          within : (b : Bool) → nat_lt j (length (names_around f)) ≡ b → IsPrefix c.roots (names_down_to f) j d
+          within true q =
+              let i : j < length (names_around f) = grind (arith, nat_tests) in
+              let a : length f.around ≡ length held.home.around + 1 = length_around n h.0 f held in
+              let y : length (names_around f) ≡ length (names_down_to held.home) = ap (λ (ns : List Name). length ns) held.names in
+              let x : IsPrefix c.roots (names_down_to held.home) j d = rec held.home.content.name held.home (omega arith) (home-box h.0 c.roots held.home once held.is_home) (omega arith) in
+              longer c.roots (names_around f) (f.content.name ∷ []) j d i (subst (λ (ns : List Name). IsPrefix c.roots ns j d) (sym held.names) x)
+          within false q =
+              let i : length (names_around f) ≤ j = grind (arith, nat_tests) in
+              let a : length (names_down_to f) ≡ length (names_around f) + 1 = here in
+              last_prefix n f e j d (omega arith)
+
+  pub known_is : (n : Name) (f : Found) → box_at n c.roots ≡ Some f → IsKnown T.nodes (stores_along T (names_down_to f)) (known_in T 0 (names_down_to f))
+  known_is n f e = record {
+    within = let a : length (stores_along T (names_down_to f)) ≡ length (names_down_to f) = length_stores T (names_down_to f) in let b : known_in T 0 (names_down_to f) ≤ length (names_down_to f) = known_few T 0 (names_down_to f) in omega arith;
+    each = each;
+  }
+    where
+      each : (k : ℕ) → k ≤ known_in T 0 (names_down_to f) → IsSolvedChain T.nodes (take k (stores_along T (names_down_to f)))
+      each zero l = no_chain T.nodes
+      each (suc j) l =
+          let b : known_in T 0 (names_down_to f) ≤ length (names_down_to f) = known_few T 0 (names_down_to f) in
+          let p : IsPrefix c.roots (names_down_to f) j n = prefix (length f.around) n f refl e j n (omega arith) in
+          let x : IsSolvedAt T 0 (names_down_to f) j n = known_row T 0 (names_down_to f) j n (omega arith) in
+          let r : (r : BoxRow) × (T.box_of p.name ≡ Some r) × IsBoxRow T c.roots p.found r = row_of T c u p.name p.found p.is_found in
+          let same : x.row ≡ r.0 = some_value (sym x.is_row ∙ ap T.box_of p.named ∙ r.1) in
+          let solved : IsSolvedChain T.nodes (stores_along T (names_down_to p.found)) = r.2.stays_solved.solved x.at (ap (λ (y : BoxRow). y.solved_at) (sym same) ∙ x.solved) (subst (UnchangedSince T x.at) p.around x.unchanged) in
+          subst (IsSolvedChain T.nodes) (sym (take_stores T (suc j) (names_down_to f) ∙ ap (stores_along T) p.down)) solved
+
+  -- no name stands twice on a path
+
+  name_times : (m : Name) (bs : List Content) → times_in m (map (λ (b : Content). b.name) bs) ≤ times_path m bs
+  name_times m [] = omega arith
+  name_times m (b ∷ bs) = let k : times_in m (map (λ (b : Content). b.name) bs) ≤ times_path m bs = name_times m bs in omega arith
+
+  path_once : (n : Name) (f : Found) → box_at n c.roots ≡ Some f → (m : Name) → times_in m (names_down_to f) ≤ 1
+  path_once n f e m =
+      let a : times_in m (names_down_to f) ≡ times_in m (names_around f) + times_in m (f.content.name ∷ []) = times_in-append m (names_around f) (f.content.name ∷ []) in
+      let b : times_in m (names_around f) ≤ times_path m f.around = name_times m f.around in
+      let p : times m (only f) + times_path m f.around ≤ times m c.roots = found_path m n c.roots f e in
+      let o : times m c.roots ≤ 1 = once m in
+      omega arith
+
+  pub path_there : (n : Name) (f : Found) → box_at n c.roots ≡ Some f → (m : Name) → IsIn m (names_down_to f) → (r : BoxRow) × (T.box_of m ≡ Some r)
+  path_there n f e m i =
+      let j : (j : ℕ) × (j < length (names_down_to f)) × (get_or (names_down_to f) j m ≡ m) = in_index m (names_down_to f) i in
+      let p : IsPrefix c.roots (names_down_to f) j.0 m = prefix (length f.around) n f refl e j.0 m j.1 in
+      let r : (r : BoxRow) × (T.box_of p.name ≡ Some r) × IsBoxRow T c.roots p.found r = row_of T c u p.name p.found p.is_found in
+      (r.0, ap T.box_of (sym j.2 ∙ p.named) ∙ r.1)
+
+  pub path_few : {A : Type 0} (es : List (Name × A)) → ((m : Name) (r : BoxRow) → T.box_of m ≡ Some r → IsSome (lookup (same_name m) es)) → (n : Name) (f : Found) → box_at n c.roots ≡ Some f → length f.around < length es
+  path_few es keys n f e =
+      let a : length (names_down_to f) ≡ length (names_around f) + 1 = length-append (names_around f) (f.content.name ∷ []) in
+      let b : length (names_around f) ≡ length f.around = length-map f.around (λ (x : Content). x.name) in
+      let k : length (names_down_to f) ≤ length es = no_more (names_down_to f) es (path_once n f e) (λ m i. let r : (r : BoxRow) × (T.box_of m ≡ Some r) = path_there n f e m i in keys m r.0 r.1) in
+      omega arith
+
+deep_one : (T : Table) (n : Name) (ms ks : List Name) → Deep T n ms → Deep T n ks → ms ≡ ks
+deep_one T n [] [] a b = refl
+deep_one T n [] (k ∷ ks) a b = let z : None ≡ Some k = sym a ∙ b.0 in absurd cc
+deep_one T n (m ∷ ms) [] a b = let z : Some m ≡ None = sym a.0 ∙ b in absurd cc
+deep_one T n (m ∷ ms) (k ∷ ks) a b =
+    let q : m ≡ k = some_value (sym a.0 ∙ b.0) in
+    let r : ms ≡ ks = deep_one T m ms ks a.1 (subst (λ (x : Name). Deep T x ks) (sym q) b.1) in
+    λ i. q i ∷ r i
+
+-- what is there
+
+no_entry : {A B : Type 0} (f : A → B) (o : Option A) (b : B) → option_map f o ≡ Some b → (a : A) × (o ≡ Some a) × (f a ≡ b)
+no_entry f None b e = cc
+no_entry f (Some a) b e = (a, refl, some_value e)
+
+spot_found : (g : Name) (roots : Boxes) (s : Spot) → spot_in g roots ≡ Some s → (f : Found) × (h : Held) × (home_of g roots ≡ Some f) × (held_in g f.goals ≡ Some h) × (f.content.name ≡ s.home) × (shape_of h ≡ s.shape)
+spot_found g roots s e = on (home_of g roots) refl e
+  where
+    held : (f : Found) (o : Option Held) → home_of g roots ≡ Some f → held_in g f.goals ≡ o → option_map (λ (h : Held). record { home = f.content.name; shape = shape_of h }) o ≡ Some s
+        → (f : Found) × (h : Held) × (home_of g roots ≡ Some f) × (held_in g f.goals ≡ Some h) × (f.content.name ≡ s.home) × (shape_of h ≡ s.shape)
+    held f None i j k = cc
+    held f (Some h) i j k = (f, h, i, j, ap (λ (x : Spot). x.home) (some_value k), ap (λ (x : Spot). x.shape) (some_value k))
+
+    on : (o : Option Found) → home_of g roots ≡ o → option_and_then (λ (f : Found). option_map (λ (h : Held). record { home = f.content.name; shape = shape_of h }) (held_in g f.goals)) o ≡ Some s
+        → (f : Found) × (h : Held) × (home_of g roots ≡ Some f) × (held_in g f.goals ≡ Some h) × (f.content.name ≡ s.home) × (shape_of h ≡ s.shape)
+    on None i k = cc
+    on (Some f) i k = held f (held_in g f.goals) i refl k
+
+-- what stands at a place
+pub record IsSeen (t : TableValue) (c : Config) (place : Place) (home : Name) (sight : Sight) : Type 0 where
+  pub found : Found
+  pub is_site : site_of place c.roots ≡ Some found
+  pub named : found.content.name ≡ home
+  pub is_box : box_at home c.roots ≡ Some found
+  pub shows : Shows t.program.templates.nodes place found sight
+  pub there : is_there (table_of t) place ≡ true
+
+held_shows : (nodes : List Node) (g : Name) (f : Found) (h : Held) (e : Stands) → held_in g f.goals ≡ Some h → shape_of h ≡ shape_held nodes e → Shows nodes (Place.Goal g) f (sight_held e)
+held_shows nodes g f (an_atom a) (Stands.Atom x) i j = let q : a ≡ goal_atom nodes x = cc in i ∙ ap (λ (y : Atom). Some (an_atom y)) q
+held_shows nodes g f (an_atom a) (Stands.Choice op alternatives) i j = cc
+held_shows nodes g f (a_choice o bs) (Stands.Atom x) i j = cc
+held_shows nodes g f (a_choice o bs) (Stands.Choice op alternatives) i j = (o, bs, i)
+
+module _ (t : TableValue) (c : Config) (u : Unfolds (table_of t) c) (once : (m : Name) → times m c.roots ≤ 1) where
+  pub seen : (place : Place) (home : Name) (sight : Sight) → sight_in t place ≡ Some (home, sight) → IsSeen t c place home sight
+  seen (Place.Goal g) home sight e =
+      let w : (x : GoalEntry) × (lookup (same_name g) t.goals ≡ Some x) × ((x.home, sight_held x.held) ≡ (home, sight)) = no_entry (λ (x : GoalEntry). (x.home, sight_held x.held)) (lookup (same_name g) t.goals) (home, sight) e in
+      let r : (table_of t).goal_of g ≡ Some (tables.goal_row t.program.templates.nodes w.0) = ap (option_map (tables.goal_row t.program.templates.nodes)) w.1 in
+      let s : spot_in g c.roots ≡ Some (spot_of (tables.goal_row t.program.templates.nodes w.0)) = sym (u.goals g) ∙ ap (option_map spot_of) r in
+      let x : (f : Found) × (h : Held) × (home_of g c.roots ≡ Some f) × (held_in g f.goals ≡ Some h) × (f.content.name ≡ w.0.home) × (shape_of h ≡ shape_held t.program.templates.nodes w.0.held) =
+      spot_found g c.roots (spot_of (tables.goal_row t.program.templates.nodes w.0)) s in
+      let q : x.0.content.name ≡ home = x.4 ∙ ap (λ (p : Name × Sight). p.0) w.2 in
+      record {
+        found = x.0;
+        is_site = x.2;
+        named = q;
+        is_box = subst (λ (n : Name). box_at n c.roots ≡ Some x.0) q (home-box g c.roots x.0 once x.2);
+        shows = subst (Shows t.program.templates.nodes (Place.Goal g) x.0) (ap (λ (p : Name × Sight). p.1) w.2) (held_shows t.program.templates.nodes g x.0 x.1 w.0.held x.3 x.5);
+        there = ap is_some r;
+      }
+  seen (Place.Box n) home sight e =
+      let w : (x : BoxEntry) × (lookup (same_name n) t.boxes ≡ Some x) × ((n, Sight.Box x.failing) ≡ (home, sight)) = no_entry (λ (x : BoxEntry). (n, Sight.Box x.failing)) (lookup (same_name n) t.boxes) (home, sight) e in
+      let r : (table_of t).box_of n ≡ Some (tables.box_row t.program.templates.nodes w.0) = ap (option_map (tables.box_row t.program.templates.nodes)) w.1 in
+      let x : (f : Found) × (box_at n c.roots ≡ Some f) × IsBoxRow (table_of t) c.roots f (tables.box_row t.program.templates.nodes w.0) = found_of (table_of t) c u n (tables.box_row t.program.templates.nodes w.0) r in
+      let q : n ≡ home = ap (λ (p : Name × Sight). p.0) w.2 in
+      record {
+        found = x.0;
+        is_site = x.1;
+        named = sym (box-itself n c.roots x.0 x.1) ∙ q;
+        is_box = subst (λ (m : Name). box_at m c.roots ≡ Some x.0) q x.1;
+        shows = subst (Shows t.program.templates.nodes (Place.Box n) x.0) (ap (λ (p : Name × Sight). p.1) w.2) x.2.failing;
+        there = ap is_some r;
+      }
+
+pub unseen : (t : TableValue) (place : Place) → sight_in t place ≡ None → is_there (table_of t) place ≡ false
+unseen t (Place.Goal g) e = on (lookup (same_name g) t.goals) e
+  where
+    on : (o : Option GoalEntry) → option_map {U = Name × Sight} (λ (x : GoalEntry). (x.home, sight_held x.held)) o ≡ None → is_some (option_map (tables.goal_row t.program.templates.nodes) o) ≡ false
+    on None e = refl
+    on (Some x) e = cc
+unseen t (Place.Box n) e = on (lookup (same_name n) t.boxes) e
+  where
+    on : (o : Option BoxEntry) → option_map {U = Name × Sight} (λ (x : BoxEntry). (n, Sight.Box x.failing)) o ≡ None → is_some (option_map (tables.box_row t.program.templates.nodes) o) ≡ false
+    on None e = refl
+    on (Some x) e = cc
+
+module _ (t : TableValue) (journal : List Label) (i : IsTableOf rules_in_force (run_of t journal) (table_of t)) where
+  stood : (m : Name) → times m i.config.roots ≤ 1
+  stood = (replay-stands rules_in_force t.program t.query journal i.config i.replays).once
+
+  key_there : (m : Name) (r : BoxRow) → (table_of t).box_of m ≡ Some r → IsSome (lookup (same_name m) t.boxes)
+  key_there m r e = on (lookup (same_name m) t.boxes) e
+    where
+      on : (o : Option BoxEntry) → option_map (tables.box_row t.program.templates.nodes) o ≡ Some r → IsSome o
+      on None e = cc
+      on (Some x) e = refl
+
+  pub has_path : (place : Place) (home : Name) (sight : Sight) → sight_in t place ≡ Some (home, sight) → HasPath t home
+  has_path place home sight e =
+      let s : IsSeen t i.config place home sight = seen t i.config i.unfolds stood place home sight e in
+      let p : PathOf (table_of t) i.config i.unfolds stood home s.found = path_found (table_of t) i.config i.unfolds stood (length s.found.around) home s.found refl s.is_box in
+      let few : length s.found.around < length t.boxes = path_few (table_of t) i.config i.unfolds stood t.boxes key_there home s.found s.is_box in
+      let same : length p.0 ≡ length s.found.around = p.3 in
+      (p.0, p.1, omega arith)
+
+  pub view_of : (place : Place) (worker : ℕ) (home : Name) (sight : Sight) (path : List Name) (stores : List Stored) (known next : ℕ) → sight_in t place ≡ Some (home, sight) → IsPath (table_of t) home path
+      → stores ≡ stores_along (table_of t) path → known ≡ known_in (table_of t) 0 path → next ≡ slice_index t.next worker
+      → IsViewOf (record { table = t; journal = journal; place = place; worker = worker; next = next; path = path; stores = stores; known = known; sight = sight })
+  view_of place worker home sight path stores known next e p ss k n =
+      let s : IsSeen t i.config place home sight = seen t i.config i.unfolds stood place home sight e in
+      let x : PathOf (table_of t) i.config i.unfolds stood home s.found = path_found (table_of t) i.config i.unfolds stood (length s.found.around) home s.found refl s.is_box in
+      let same : path ≡ names_down_to s.found = p.2 ∙ ap (λ (ms : List Name). reverse (home ∷ ms)) (deep_one (table_of t) home p.0 x.0 p.1 x.1) ∙ sym x.2 in
+      let known_here : IsKnown t.program.templates.nodes (stores_along (table_of t) (names_down_to s.found)) (known_in (table_of t) 0 (names_down_to s.found)) = known_is (table_of t) i.config i.unfolds stood home s.found s.is_box in
+      record {
+        table = i;
+        site = s.found;
+        is_site = s.is_site;
+        next = n ∙ i.unfolds.next worker;
+        path = same;
+        stores = ss;
+        known = subst (λ (z : List Stored × ℕ). IsKnown t.program.templates.nodes z.0 z.1)
+            (λ j. ((sym (ss ∙ ap (stores_along (table_of t)) same)) j, (sym (k ∙ ap (known_in (table_of t) 0) same)) j)) known_here;
+        shows = s.shows;
+      }

@@ -1,0 +1,57 @@
+-- What a look finds by rows.
+use Rattle.std.specs.Prelude.{◌≡◌, ℕ, ◌+◌, ◌<◌, Bool, false, not, nat_lt, max, List, [], ◌∷◌, length, reverse, Option, Some, None, option_map, if◌then◌else◌}
+use Rattle.std.specs.Map.{lookup}
+use Rattle.akl_terms.specs.declared.name.Name.{Name}
+use Rattle.akl_terms.specs.declared.name.Place.{Place}
+use Rattle.akl_terms.specs.Names.{same_name}
+use Rattle.table_laws.specs.Rows.{BoxRow, Table}
+use Rattle.table_laws.specs.Writes.{home_in, holder_in_row}
+use Rattle.box_tree.specs.declared.entries.Held.{Held}
+use Rattle.box_tree.specs.declared.entries.BoxEntry.{BoxEntry}
+use Rattle.box_tree.specs.declared.entries.GoalEntry.{GoalEntry}
+use Rattle.box_tree.specs.declared.view.Sight.{Sight}
+use Rattle.box_tree.specs.Tables.{TableValue, table_of}
+
+-- the box in which the choice stands that holds a box
+abbrev pub home_at : Table → Option Name → Option Name
+home_at T None = None
+home_at T (Some g) = home_in (T.goal_of g)
+
+abbrev pub outside_of : Table → Name → Option Name
+outside_of T n = home_at T (holder_in_row (T.box_of n))
+
+-- these boxes are around a box, innermost first
+abbrev pub Deep : Table → Name → List Name → Type 0
+Deep T n [] = outside_of T n ≡ None
+Deep T n (m ∷ ms) = (outside_of T n ≡ Some m) × Deep T m ms
+
+-- the boxes down to a box, outermost first
+abbrev pub IsPath : Table → Name → List Name → Type 0
+IsPath T n path = (ms : List Name) × Deep T n ms × (path ≡ reverse (n ∷ ms))
+
+-- a box has fewer boxes around it than the table has
+abbrev pub HasPath : TableValue → Name → Type 0
+HasPath t n = (ms : List Name) × Deep (table_of t) n ms × (length ms < length t.boxes)
+
+-- what stands at a place, and its box
+abbrev pub sight_held : Held → Sight
+sight_held (Held.Atom g) = Sight.Atom g
+sight_held (Held.Choice op alternatives) = Sight.Choice
+
+abbrev pub sight_in : TableValue → Place → Option (Name × Sight)
+sight_in t (Place.Goal g) = option_map (λ (e : GoalEntry). (e.home, sight_held e.held)) (lookup (same_name g) t.goals)
+sight_in t (Place.Box n) = option_map (λ (e : BoxEntry). (n, Sight.Box e.failing)) (lookup (same_name n) t.boxes)
+
+-- how many of the outermost boxes were solved when no box around them was changed later, where others around all of them were last changed
+-- by the label of this number
+abbrev pub is_at_least : Option ℕ → ℕ → Bool
+is_at_least None latest = false
+is_at_least (Some k) latest = not (nat_lt k latest)
+
+abbrev pub solving_in : Option BoxRow → Option ℕ × ℕ
+solving_in None = (None, 0)
+solving_in (Some r) = (r.solved_at, r.changed)
+
+abbrev pub known_in : Table → ℕ → List Name → ℕ
+known_in T latest [] = 0
+known_in T latest (n ∷ ns) = if is_at_least (solving_in (T.box_of n)).0 latest then known_in T (max latest (solving_in (T.box_of n)).1) ns + 1 else 0

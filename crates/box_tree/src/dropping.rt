@@ -1,0 +1,83 @@
+//! The boxes inside a box, and their rows that go.
+
+ghost use Rattle.std.specs.Prelude.{◌≡◌, ◌++◌, [], ◌∷◌, OnOk, IfOk};
+ghost use Rattle.table_laws.specs.Walks.{alternatives_of, boxes_directly_in, ListsInside};
+ghost use Rattle.box_tree.specs.Tables.{table_of};
+ghost use Rattle.box_tree.specs.Drops.{IsOfRun, DropsGoals, DropsBoxes};
+
+use crate::entries::Held;
+use crate::table::Table;
+use akl_terms::Name;
+use std::alloc::{AllocError, Global};
+use std::collections::BTreeSet;
+
+impl Table {
+    // The alternatives of a goal, where it is a choice, come to the end of the names.
+    fn push_alternatives(&self, goal: Name, names: &mut Vec<Name>) -> Result<(), AllocError>
+        ensures { OnOk result (names.new.items ≡ names.old.items ++ alternatives_of ((table_of self.now).goal_of goal)) }
+    {
+        if let Some(entry) = self.goals.get(&goal) {
+            if let Held::Choice { alternatives, .. } = &entry.held {
+                for name in alternatives {
+                    names.push(*name)?;
+                }
+            }
+        }
+        Ok(())
+    }
+
+    // The alternatives of all choices directly in a box come to the end of the names.
+    fn push_inside(&self, name: Name, names: &mut Vec<Name>) -> Result<(), AllocError>
+        ensures { OnOk result (names.new.items ≡ names.old.items ++ boxes_directly_in (table_of self.now) name) }
+    {
+        if let Some(entry) = self.boxes.get(&name) {
+            for goal in entry.goals.iter() {
+                self.push_alternatives(*goal, names)?;
+            }
+        }
+        Ok(())
+    }
+
+    /// A box and the boxes inside it, each once.
+    pub(crate) fn inside(&self, alloc: Global, name: Name) -> Result<Vec<Name>, AllocError>
+        requires { IsOfRun self.now }
+        ensures { IfOk result (λ v. ListsInside (table_of self.now) name v.items) }
+    {
+        let mut names = Vec::new(alloc);
+        names.push(name)?;
+        let mut at = 0;
+        while at < names.len() {
+            let here = names[at];
+            self.push_inside(here, &mut names)?;
+            at += 1;
+        }
+        Ok(names)
+    }
+
+    // The entries of goals go. It takes no memory.
+    fn drop_goals(&mut self, goals: &BTreeSet<Name>)
+        ensures { DropsGoals self.old self.new goals.now.keys }
+    {
+        for goal in goals.iter() {
+            self.drop_goal(*goal);
+        }
+    }
+
+    // A box's entry goes, with those of the goals directly in it. It takes no memory.
+    fn drop_box(&mut self, name: Name)
+        ensures { DropsBoxes self.old self.new (name ∷ []) }
+    {
+        if let Some(entry) = self.boxes.remove(&name) {
+            self.drop_goals(&entry.goals);
+        }
+    }
+
+    /// The entries of boxes go, with those of the goals directly in them. It takes no memory.
+    pub(crate) fn drop_boxes(&mut self, names: &Vec<Name>)
+        ensures { DropsBoxes self.old self.new names.now.items }
+    {
+        for name in names {
+            self.drop_box(*name);
+        }
+    }
+}

@@ -1,0 +1,144 @@
+//! What is seen of a place.
+
+ghost use Rattle.std.specs.Prelude.{◌≡◌, IfOk, slice_index};
+ghost use Rattle.table_laws.specs.Rows.{store_in, stores_along};
+ghost use Rattle.box_tree.specs.Tables.{table_of};
+ghost use Rattle.box_tree.specs.Paths.{outside_of, IsPath, HasPath, sight_held, sight_in, is_at_least, solving_in, known_in};
+
+use crate::entries::Held;
+use crate::table::Table;
+use crate::view::Sight;
+use akl_terms::{Name, Place};
+use local_store::{Shared, Store};
+use std::alloc::{AllocError, Global};
+
+fn sight_held(held: &Held) -> Sight
+    ensures { result ≡ sight_held held.now }
+{
+    match held {
+        Held::Atom(goal) => Sight::Atom(*goal),
+        Held::Choice { .. } => Sight::Choice,
+    }
+}
+
+// Whether a store was solved when there were at least so many labels.
+fn is_at_least(solved_at: Option<u64>, latest: u64) -> bool
+    ensures { result ≡ is_at_least solved_at latest }
+{
+    match solved_at {
+        Some(at) => !(at < latest),
+        None => false,
+    }
+}
+
+impl Table {
+    /// What stands at a place, and its box.
+    pub(crate) fn sight_of(&self, place: Place) -> Option<(Name, Sight)>
+        ensures { result ≡ sight_in self.now place }
+    {
+        match place {
+            Place::Goal(name) => match self.goals.get(&name) {
+                Some(entry) => Some((entry.home, sight_held(&entry.held))),
+                None => None,
+            },
+            Place::Box(name) => match self.boxes.get(&name) {
+                Some(entry) => Some((
+                    name,
+                    Sight::Box {
+                        failing: entry.failing,
+                    },
+                )),
+                None => None,
+            },
+        }
+    }
+
+    // The box in which the choice stands that holds a box.
+    fn outside(&self, name: Name) -> Option<Name>
+        ensures { result ≡ outside_of (table_of self.now) name }
+    {
+        match self.boxes.get(&name) {
+            Some(entry) => match entry.holder {
+                Some(goal) => self.home_of(goal),
+                None => None,
+            },
+            None => None,
+        }
+    }
+
+    /// The boxes down to a box, outermost first.
+    pub(crate) fn path_to(&self, alloc: Global, name: Name) -> Result<Vec<Name>, AllocError>
+        requires { HasPath self.now name }
+        ensures { IfOk result (λ path. IsPath (table_of self.now) name path.items) }
+    {
+        let mut path = Vec::new(alloc);
+        path.push(name)?;
+        let mut at = name;
+        while let Some(home) = self.outside(at) {
+            path.push(home)?;
+            at = home;
+        }
+        path.reverse();
+        Ok(path)
+    }
+
+    // The store of a box; one that isn't there has nothing.
+    fn store_of(&self, alloc: Global, name: Name) -> Result<Shared<Store>, AllocError>
+        ensures { IfOk result (λ store. store ≡ store_in ((table_of self.now).box_of name)) }
+    {
+        match self.boxes.get(&name) {
+            Some(entry) => entry.store.share(),
+            None => Shared::new(alloc, Store::new(alloc)),
+        }
+    }
+
+    /// The stores of boxes, in their order.
+    pub(crate) fn stores_of(
+        &self,
+        alloc: Global,
+        names: &[Name],
+    ) -> Result<Vec<Shared<Store>>, AllocError>
+        ensures { IfOk result (λ stores. stores.items ≡ stores_along (table_of self.now) names.now) }
+    {
+        let mut stores = Vec::new(alloc);
+        for name in names {
+            stores.push(self.store_of(alloc, *name)?)?;
+        }
+        Ok(stores)
+    }
+
+    /// How many of the outermost boxes were solved when no box around them was changed later.
+    pub(crate) fn known_of(&self, path: &[Name]) -> usize
+        ensures { result ≡ known_in (table_of self.now) 0 path.now }
+    {
+        let mut known = 0;
+        let mut latest = 0;
+        for name in path {
+            let (solved_at, changed) = self.solving_of(*name);
+            if !is_at_least(solved_at, latest) {
+                return known;
+            }
+            latest = latest.max(changed);
+            known += 1;
+        }
+        known
+    }
+
+    // When a box's store was solved, and the number of the last label that changed it; `None` and 0 of a box that isn't
+    // there.
+    fn solving_of(&self, name: Name) -> (Option<u64>, u64)
+        ensures { result ≡ solving_in ((table_of self.now).box_of name) }
+    {
+        match self.boxes.get(&name) {
+            Some(entry) => (entry.solved_at, entry.changed),
+            None => (None, 0),
+        }
+    }
+
+    /// A worker's next number.
+    pub(crate) fn next_of(&self, worker: u32) -> u64
+        ensures { result ≡ slice_index self.now.next worker }
+    {
+        self.next.get(worker as usize).copied().unwrap_or(0)
+    }
+}

@@ -1,0 +1,156 @@
+//! The table of a query's one box.
+
+ghost use Rattle.std.specs.Prelude.{◌≡◌, ◌+◌, ◌∷◌, [], map, IfOk};
+ghost use Rattle.akl_model.specs.Ordered.{IsIncreasing};
+ghost use Rattle.akl_model.specs.Instances.{shown_of};
+ghost use Rattle.table_laws.specs.Writes.{IsTable};
+ghost use Rattle.table_laws.specs.Laws.{started};
+ghost use Rattle.box_tree.specs.Tables.{table_of, shown_tree, HasVariables, HasShownVariables};
+ghost use Rattle.box_tree.specs.Starts.{query_frame, goals_from, IsFirstEntry, IsEmpty};
+
+use crate::entries::BoxEntry;
+use crate::forking::{first_fail, goal_set};
+use crate::table::Table;
+use akl_terms::{Goal, Name, Program, Query, ShownTerm, Term};
+use local_store::{Shared, Store};
+use std::alloc::{AllocError, Global};
+use std::collections::BTreeMap;
+use std::snapshot::Snapshot;
+
+/// The box of a query.
+const ROOT: Name = Name {
+    worker: 0,
+    number: 0,
+};
+
+/// The frame of a query's variables.
+const FRAME: Name = Name {
+    worker: 0,
+    number: 1,
+};
+
+// The query's goals, under names from 2 on.
+fn first_goals(alloc: Global, query: &Query) -> Result<Vec<(Name, Goal)>, AllocError>
+    ensures { IfOk result (λ goals. goals.items ≡ goals_from 2 query.now.goals) }
+{
+    let mut goals = Vec::new(alloc);
+    let mut number = 2;
+    for code in query.goals.as_slice() {
+        let name = Name { worker: 0, number };
+        let goal = Goal {
+            code: *code,
+            frame: FRAME,
+        };
+        goals.push((name, goal))?;
+        number = after(number)?;
+    }
+    Ok(goals)
+}
+
+// The number after this one. No memory holds as many goals as there are numbers.
+fn after(number: u64) -> Result<u64, AllocError>
+    ensures { IfOk result (λ next. next ≡ 1 + number) }
+{
+    number.checked_add(1).ok_or(AllocError)
+}
+
+// What the query's box shows, as terms.
+fn shown_terms(
+    alloc: Global,
+    program: &Program,
+    query: &Query,
+    first_variable: u32,
+) -> Result<Vec<ShownTerm>, AllocError>
+    requires variables { HasVariables program.now query.now first_variable }
+    requires shown { HasShownVariables query.now }
+    ensures { IfOk result (λ terms. map (shown_tree program.now.templates.nodes) terms.items ≡ map (shown_of query_frame) query.now.shown) }
+{
+    let _ = program;
+    let mut terms = Vec::new(alloc);
+    for shown in query.shown.as_slice() {
+        let name = shown.name.duplicate()?;
+        let node = first_variable + shown.index;
+        let term = Term::Mol { node, frame: FRAME };
+        terms.push(ShownTerm { name, term })?;
+    }
+    Ok(terms)
+}
+
+// The entry of the query's box.
+fn first_entry(
+    alloc: Global,
+    goals: &[(Name, Goal)],
+    shown: Vec<ShownTerm>,
+) -> Result<BoxEntry, AllocError>
+    requires { IsIncreasing (map (λ x. x.0) goals.now) }
+    ensures { IfOk result (IsFirstEntry goals.now shown.items) }
+{
+    let mut store = Store::new(alloc);
+    store.add_frame(FRAME)?;
+    Ok(BoxEntry {
+        holder: None,
+        store: Shared::new(alloc, store)?,
+        changed: 0,
+        solved_at: Some(0),
+        goals: goal_set(alloc, goals)?,
+        goals_changed: 0,
+        failing: first_fail(goals),
+        body: Vec::new(alloc),
+        shown,
+    })
+}
+
+// A list of one.
+fn only<T: Drop>(alloc: Global, value: T) -> Result<Vec<T>, AllocError>
+    ensures { IfOk result (λ list. list.items ≡ value ∷ []) }
+{
+    let mut list = Vec::new(alloc);
+    list.push(value)?;
+    Ok(list)
+}
+
+impl Table {
+    // The table of no box.
+    fn empty(
+        alloc: Global,
+        program: &Program,
+        query: &Query,
+        goals: usize,
+    ) -> Result<Table, AllocError>
+        ensures { IfOk result (IsEmpty program.now query.now goals) }
+    {
+        let number = (goals as u64).checked_add(2).ok_or(AllocError)?;
+        Ok(Table {
+            program: Snapshot::of(program),
+            query: Snapshot::of(query),
+            boxes: BTreeMap::new(alloc),
+            goals: BTreeMap::new(alloc),
+            roots: only(alloc, ROOT)?,
+            roots_changed: 0,
+            next: only(alloc, number)?,
+            steps: 0,
+        })
+    }
+
+    /// The table of the query's one box. The query's variables are the nodes from `first_variable` on.
+    pub fn start(
+        alloc: Global,
+        program: &Program,
+        query: &Query,
+        first_variable: u32,
+    ) -> Result<Table, AllocError>
+        requires variables { HasVariables program.now query.now first_variable }
+        requires shown { HasShownVariables query.now }
+        ensures program { IfOk result (λ t. t.program ≡ program.now) }
+        ensures query { IfOk result (λ t. t.query ≡ query.now) }
+        ensures started { IfOk result (λ t. IsTable (table_of t) (started program.now query.now)) }
+    {
+        let goals = first_goals(alloc, query)?;
+        let shown = shown_terms(alloc, program, query, first_variable)?;
+        let entry = first_entry(alloc, goals.as_slice(), shown)?;
+        let mut table = Table::empty(alloc, program, query, goals.len())?;
+        table.put_goals(ROOT, goals, 0)?;
+        table.put_box(ROOT, entry)?;
+        Ok(table)
+    }
+}

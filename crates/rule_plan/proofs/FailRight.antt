@@ -1,0 +1,92 @@
+-- A plan of Fail is right.
+use Rattle.std.proofs.Common.{◌≡◌, [], ◌∷◌, Some, None, refl, sym, subst, ◌⊎◌, inl, inr, arith}
+use Rattle.std.specs.Prelude.{IsSome, slice_index}
+use Rattle.akl_terms.specs.declared.name.Name.{Name}
+use Rattle.akl_terms.specs.declared.name.Place.{Place}
+use Rattle.akl_terms.specs.declared.term.Term.{Term}
+use Rattle.akl_terms.specs.Template.{tree}
+use Rattle.akl_terms.specs.Decided.{DifferInHead}
+use Rattle.akl_terms.specs.Equal.{EqualBy, IsConsistent, IsConsistentBy}
+use Rattle.akl_model.specs.declared.item.Item.{Item}
+use Rattle.akl_model.specs.declared.label.Rule.{Rule}
+use Rattle.akl_model.specs.declared.label.Label.{Label}
+use Rattle.akl_model.specs.Config.{no_boxes, whole, site_of}
+use Rattle.akl_model.specs.Rules.{nothing, change_by}
+use Rattle.akl_model.specs.Conditions.{HasFailed, Makes}
+use Rattle.akl_model.specs.Stable.{Allows}
+use Rattle.akl_model.specs.Derivations.{after}
+use Rattle.step_laws.proofs.Failing.{failing_found}
+use Rattle.local_store.specs.Chained.{ToldBy}
+use Rattle.plan_laws.specs.Right.{Reads}
+use Rattle.table_laws.specs.Unfolds.{FailsBy}
+use Rattle.table_laws.specs.Stamped.{stamp_in}
+use Rattle.box_tree.specs.declared.step.Step.{Step}
+use Rattle.box_tree.specs.declared.view.Sight.{Sight}
+use Rattle.box_tree.specs.Tables.{table_of}
+use Rattle.box_tree.specs.Views.{ViewValue, IsViewOf}
+use Rattle.box_tree.specs.Plans.{IsRead, IsRight}
+use Rattle.rule_plan.specs.Failed.{FailsFor}
+use Rattle.rule_plan.specs.Planned.{HasNoRule}
+use Rattle.rule_plan.proofs.NoRule.{box_none}
+use Rattle.rule_plan.proofs.Sites.{goal_there, box_there, stand, found, whole_stands, shows_at}
+use Rattle.rule_plan.proofs.Storing.{told_stands}
+
+abbrev pub fail_label : ViewValue → Label
+fail_label v = record { rule = Rule.Fail; place = v.place; alternative = None; worker = v.worker }
+
+module _ (v : ViewValue) (item : Item) (f : FailsFor v item) where
+  allowed : Reads (λ k. k ≡ item) Rule.Fail (Place.Box f.name) None f.seen.site → (IsConsistent (whole f.seen.site) → ⊥) ⊎ HasFailed f.seen.site.goals
+  allowed (inl x) = inl x.0
+  allowed (inr x) = inr (failing_found x.0 f.seen.site.goals x.1 x.2 x.3)
+
+  makes : Makes (Allows v.table.program) v.table.program (slice_index f.seen.table.config.next v.worker) (fail_label v) f.seen.site (record { boxes = no_boxes; drawn = 0 })
+  makes = record {
+    reading = nothing;
+    change = subst (λ (q : Place). change_by v.table.program nothing v.worker (slice_index f.seen.table.config.next v.worker) Rule.Fail q None f.seen.site ≡ Some (record { boxes = no_boxes; drawn = 0 })) (sym f.is_place) refl;
+    allowed = subst (λ (q : Place). Allows v.table.program nothing Rule.Fail q None f.seen.site) (sym f.is_place) (allowed f.reads);
+    few_names = omega arith;
+  }
+
+  read : Reads (λ k. k ≡ item) Rule.Fail (Place.Box f.name) None f.seen.site → Reads (IsRead (item ∷ [])) Rule.Fail (Place.Box f.name) None f.seen.site
+  read (inl x) = inl (x.0, inl x.1)
+  read (inr x) = inr (x.0, x.1, x.2, x.3, inl x.4)
+
+  there : Reads (λ k. k ≡ item) Rule.Fail (Place.Box f.name) None f.seen.site → IsSome (stamp_in (table_of v.table) item)
+  there (inl x) = subst (λ (k : Item). IsSome (stamp_in (table_of v.table) k)) x.1
+      (box_there (table_of v.table) f.seen.table.config (stand v f.seen) f.seen.table.unfolds f.seen.site (found v f.seen) f.name f.seen.site
+      (subst (λ (q : Place). site_of q f.seen.table.config.roots ≡ Some f.seen.site) f.is_place f.seen.is_site))
+  there (inr x) = subst (λ (k : Item). IsSome (stamp_in (table_of v.table) k)) x.4
+      (goal_there (table_of v.table) f.seen.table.config (stand v f.seen) f.seen.table.unfolds f.seen.site (found v f.seen) x.0 x.1 x.2)
+
+  pub fail_right : IsRight (record { table = v.table; journal = v.journal; label = fail_label v; reads = item ∷ []; names = 0; step = Step.Fail })
+  fail_right = record {
+    table = f.seen.table;
+    result = after f.seen.table.config (fail_label v) f.seen.site (record { boxes = no_boxes; drawn = 0 });
+    applies = record { in_force = inr (inr (inl refl)); site = f.seen.site; is_site = f.seen.is_site; change = record { boxes = no_boxes; drawn = 0 }; makes = makes; result = refl };
+    makes = refl;
+    solved = tt;
+    names = refl;
+    reads = subst (λ (q : Place). Reads (IsRead (item ∷ [])) Rule.Fail q None f.seen.site) (sym f.is_place) (read f.reads);
+    there = λ j h. elim h [ inl e ↦ subst (λ (k : Item). IsSome (stamp_in (table_of v.table) k)) (sym e) (there f.reads) | inr z ↦ absurd z ];
+  }
+
+-- a box that fails by a goal
+pub fails_by_goal : (v : ViewValue) (i : IsViewOf v) (n g : Name) → v.place ≡ Place.Box n → v.sight ≡ Sight.Box (Some g) → FailsFor v (Item.Goal g)
+fails_by_goal v i n g p s = let w : FailsBy i.site.goals (Some g) = shows_at v i (Place.Box n) (Sight.Box (Some g)) p s in
+    record { seen = i; name = n; is_place = p; reads = inr (g, w.0, w.1, w.2, refl) }
+
+-- a box whose stores clash
+pub fails_by_clash : (v : ViewValue) (i : IsViewOf v) (n : Name) (left right : Term) → v.place ≡ Place.Box n
+    → EqualBy (ToldBy v.table.program.templates.nodes v.stores) (tree v.table.program.templates.nodes left) (tree v.table.program.templates.nodes right)
+    → DifferInHead (tree v.table.program.templates.nodes left) (tree v.table.program.templates.nodes right) → FailsFor v (Item.Store n)
+fails_by_clash v i n left right p e d = record { seen = i; name = n; is_place = p; reads = inl (bad, refl) }
+  where
+    bad : IsConsistent (whole i.site) → ⊥
+    bad c =
+        let k : IsConsistentBy (ToldBy v.table.program.templates.nodes v.stores) = (told_stands v.table.program.templates.nodes v.stores).back ((whole_stands v i).back c) in
+        d.differ (k.heads e d.is_left d.is_right)
+
+pub consistent_none : (v : ViewValue) (i : IsViewOf v) (n : Name) → v.place ≡ Place.Box n → v.sight ≡ Sight.Box None
+    → IsConsistentBy (ToldBy v.table.program.templates.nodes v.stores) → HasNoRule v
+consistent_none v i n p s c = box_none v i n p (shows_at v i (Place.Box n) (Sight.Box None) p s)
+    ((whole_stands v i).to ((told_stands v.table.program.templates.nodes v.stores).to c))

@@ -1,0 +1,104 @@
+-- A plan of Fork is right.
+use Rattle.std.proofs.Common.{◌≡◌, ℕ, ◌<◌, ◌≤◌, ◌^◌, List, [], ◌∷◌, map, Some, None, refl, sym, ◌∙◌, ap, subst, inl, inr}
+use Rattle.std.specs.Prelude.{IsSome, slice_get, slice_index}
+use Rattle.akl_terms.specs.declared.name.Name.{Name}
+use Rattle.akl_terms.specs.declared.name.Place.{Place}
+use Rattle.akl_terms.specs.declared.program.Code.{Code}
+use Rattle.akl_terms.specs.declared.program.Definition.{Definition}
+use Rattle.akl_model.specs.declared.item.Item.{Item}
+use Rattle.akl_model.specs.declared.label.Rule.{Rule}
+use Rattle.akl_model.specs.declared.label.Label.{Label}
+use Rattle.akl_model.specs.Config.{Atom, an_atom, a_choice, held_in, with_content, whole}
+use Rattle.akl_model.specs.Instances.{terms_from, instances, drawn_by}
+use Rattle.akl_model.specs.Rules.{nothing, Change, becomes, fork, fork_by, change_by}
+use Rattle.akl_model.specs.Conditions.{Makes}
+use Rattle.akl_model.specs.Stable.{Allows}
+use Rattle.akl_model.specs.Derivations.{after}
+use Rattle.akl_model.specs.Wakes.{names_down_to}
+use Rattle.local_store.specs.Stored.{Stored}
+use Rattle.plan_laws.specs.Right.{Reads}
+use Rattle.table_laws.specs.Stamped.{stamp_in}
+use Rattle.table_laws.specs.Steps as laws
+use Rattle.table_laws.specs.Steps.{ForksGoal, ReadsFor, IsSolvedIn, AreNewBoxes, AreSolvedIf}
+use Rattle.box_tree.specs.declared.step.NewBox.{NewBox}
+use Rattle.box_tree.specs.declared.step.Step.{Step}
+use Rattle.box_tree.specs.declared.view.Sight.{Sight}
+use Rattle.box_tree.specs.Tables.{table_of, new_box, step_of}
+use Rattle.box_tree.specs.Views.{ViewValue, IsViewOf}
+use Rattle.box_tree.specs.Plans.{IsRead, IsRight}
+use Rattle.rule_plan.specs.declared.heads.Call.{Call}
+use Rattle.rule_plan.specs.Made.{AreMade}
+use Rattle.rule_plan.specs.Planned.{HasNoRule}
+use Rattle.rule_plan.proofs.NoRule.{goal_none}
+use Rattle.rule_plan.proofs.Idle.{call_idle}
+use Rattle.rule_plan.proofs.Sites.{goal_there, stand, found, whole_stands, stores_path, shows_at}
+use Rattle.rule_plan.proofs.NewBoxes.{all_made, all_solved}
+
+abbrev pub fork_label : ViewValue → Label
+fork_label v = record { rule = Rule.Fork; place = v.place; alternative = None; worker = v.worker }
+
+module _ (v : ViewValue) (i : IsViewOf v) (g : Name) (d : ℕ) (call : Call) (p : v.place ≡ Place.Goal g) (s : v.sight ≡ Sight.Atom (record { code = Code.Call d call.first call.count; frame = call.frame })) where
+  held : held_in g i.site.goals ≡ Some (an_atom (Atom.call d (terms_from v.table.program.templates.nodes call.frame call.first call.count)))
+  held = shows_at v i (Place.Goal g) (Sight.Atom (record { code = Code.Call d call.first call.count; frame = call.frame })) p s
+
+  -- without a definition, or with too many names
+  pub fork_none : ((x : Definition) → slice_get v.table.program.definitions d ≡ Some x → 2 ^ 32 ≤ drawn_by x.clauses) → HasNoRule v
+  fork_none many = goal_none v i g (an_atom (Atom.call d (terms_from v.table.program.templates.nodes call.frame call.first call.count))) p held
+      (call_idle v.table.program d (terms_from v.table.program.templates.nodes call.frame call.first call.count) many)
+
+  module _ (x : Definition) (is : slice_get v.table.program.definitions d ≡ Some x) (few : drawn_by x.clauses < 2 ^ 32) (news : List NewBox)
+      (made : AreMade v.table.program.templates.nodes v.stores call v.worker v.next x.clauses news) (step : Step) (made_step : step_of v.table.program.templates.nodes step ≡ laws.forks x.op (map (new_box v.table.program.templates.nodes) news)) where
+    boxes : AreNewBoxes v.table.program.templates.nodes (whole i.site) (map (new_box v.table.program.templates.nodes) news)
+        (instances v.table.program.templates.nodes v.worker (slice_index i.table.config.next v.worker) (terms_from v.table.program.templates.nodes call.frame call.first call.count) x.clauses)
+    boxes = subst (λ (n : ℕ). AreNewBoxes v.table.program.templates.nodes (whole i.site) (map (new_box v.table.program.templates.nodes) news)
+        (instances v.table.program.templates.nodes v.worker n (terms_from v.table.program.templates.nodes call.frame call.first call.count) x.clauses)) i.next
+        (all_made v.table.program.templates.nodes v.stores (whole i.site) (whole_stands v i) call v.worker v.next x.clauses news made)
+
+    solved : AreSolvedIf (table_of v.table) (names_down_to i.site) (map (new_box v.table.program.templates.nodes) news)
+    solved = all_solved (table_of v.table) (names_down_to i.site) call v.worker v.next x.clauses news
+        (subst (λ (ss : List Stored). AreMade v.table.program.templates.nodes ss call v.worker v.next x.clauses news) (stores_path v i) made)
+
+    abbrev change : Change
+    change = becomes i.site.content
+        (with_content g (a_choice x.op (instances v.table.program.templates.nodes v.worker (slice_index i.table.config.next v.worker) (terms_from v.table.program.templates.nodes call.frame call.first call.count) x.clauses)) i.site.goals)
+        (drawn_by x.clauses)
+
+    forked : fork v.table.program v.worker (slice_index i.table.config.next v.worker) g i.site (held_in g i.site.goals) ≡ Some change
+    forked = ap (fork v.table.program v.worker (slice_index i.table.config.next v.worker) g i.site) held
+        ∙ ap (fork_by v.table.program v.worker (slice_index i.table.config.next v.worker) g (terms_from v.table.program.templates.nodes call.frame call.first call.count) i.site) is
+
+    makes : Makes (Allows v.table.program) v.table.program (slice_index i.table.config.next v.worker) (fork_label v) i.site change
+    makes = record {
+      reading = nothing;
+      change = subst (λ (q : Place). change_by v.table.program nothing v.worker (slice_index i.table.config.next v.worker) Rule.Fork q None i.site ≡ Some change) (sym p) forked;
+      allowed = tt;
+      few_names = few;
+    }
+
+    forks_goal : ForksGoal v.table.program v.worker (slice_index i.table.config.next v.worker) i.site g x.op (map (new_box v.table.program.templates.nodes) news)
+    forks_goal = record {
+      number = d;
+      arguments = terms_from v.table.program.templates.nodes call.frame call.first call.count;
+      held = held;
+      definition = x;
+      is_definition = is;
+      operator = refl;
+      boxes = boxes;
+    }
+
+    pub fork_right : IsRight (record { table = v.table; journal = v.journal; label = fork_label v; reads = Item.Goal g ∷ []; names = drawn_by x.clauses; step = step })
+    fork_right = record {
+      table = i.table;
+      result = after i.table.config (fork_label v) i.site change;
+      applies = record { in_force = inr (inl refl); site = i.site; is_site = i.is_site; change = change; makes = makes; result = refl };
+      makes = subst (laws.Makes v.table.program (fork_label v) (slice_index i.table.config.next v.worker) i.site) (sym made_step) (refl, (g, p, forks_goal));
+      solved = subst (IsSolvedIn (table_of v.table) i.site) (sym made_step) solved;
+      names = refl;
+      reads = subst (ReadsFor (IsRead (Item.Goal g ∷ [])) (fork_label v) i.site) (sym made_step)
+          (subst (λ (q : Place). Reads (IsRead (Item.Goal g ∷ [])) Rule.Fork q None i.site) (sym p) (inl refl));
+      there = λ j h. elim h [
+        | inl e ↦ subst (λ (k : Item). IsSome (stamp_in (table_of v.table) k)) (sym e)
+            (goal_there (table_of v.table) i.table.config (stand v i) i.table.unfolds i.site (found v i) g (an_atom (Atom.call d (terms_from v.table.program.templates.nodes call.frame call.first call.count))) held)
+        | inr z ↦ absurd z
+      ];
+    }

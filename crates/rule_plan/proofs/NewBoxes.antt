@@ -1,0 +1,137 @@
+-- The boxes that are made for a call are the instances of its clauses.
+use Rattle.std.proofs.Common.{◌≡◌, ℕ, zero, suc, ◌+◌, ◌<◌, ◌≤◌, List, [], ◌∷◌, ◌++◌, map, length, take, Bool, true, false, cond, refl, sym, ◌∙◌, ap, subst, ◌⊎◌, inl, inr, append-nil, arith}
+use Rattle.std.proofs.lemmas.Bool.Decides.{nat_tests}
+use Rattle.akl_terms.specs.declared.name.Name.{Name}
+use Rattle.akl_terms.specs.declared.name.Var.{Var}
+use Rattle.akl_terms.specs.declared.term.Node.{Node}
+use Rattle.akl_terms.specs.declared.term.Term.{Term}
+use Rattle.akl_terms.specs.declared.program.Code.{Code}
+use Rattle.akl_terms.specs.declared.program.Goal.{Goal}
+use Rattle.akl_terms.specs.declared.program.Clause.{Clause}
+use Rattle.akl_terms.specs.Names.{is_before}
+use Rattle.akl_terms.specs.Equal.{Equations, IsTold}
+use Rattle.akl_terms.specs.Standing.{StandFor}
+use Rattle.akl_terms.proofs.StandingLaws.{StandFor-back, StandFor-on}
+use Rattle.akl_model.specs.Config.{Atom, Boxes, Goals, no_goals, atom, an_atom, with_goal}
+use Rattle.akl_model.specs.Instances.{term_at, terms_from, atom_of, atoms_of, with_atoms, head_equations, instances}
+use Rattle.rational_unify.specs.Solving.{bindings_in, equations_in}
+use Rattle.local_store.specs.declared.telling.ToldStore.{ToldStore}
+use Rattle.local_store.specs.Stored.{Stored}
+use Rattle.local_store.specs.Chained.{IsSolvedChain, IsKnown}
+use Rattle.local_store.proofs.Layers.{from-last}
+use Rattle.rational_unify.specs.Forms.{IsFormOf}
+use Rattle.rational_unify.proofs.Taking.{take-all}
+use Rattle.akl_model.proofs.Orders.{lt_or}
+use Rattle.table_laws.specs.Rows.{Table, stores_along, told_in, ports_in}
+use Rattle.table_laws.specs.Steps.{AreAtoms, IsNewBox, AreNewBoxes, IsSolvedIf, AreSolvedIf}
+use Rattle.table_laws.proofs.Stores.{told_join}
+use Rattle.box_tree.specs.declared.step.NewBox.{NewBox}
+use Rattle.box_tree.specs.Tables.{goal_atom, new_box}
+use Rattle.rule_plan.specs.declared.heads.Call.{Call}
+use Rattle.rule_plan.specs.Made.{heads, heads_of, goals_under, named_under, store_with, IsHeadStore, IsMade, AreMade, MoreKnown}
+use Rattle.rule_plan.proofs.Storing.{tells_stands, told_over, around_push, innermost_push}
+
+-- equations of arguments with head arguments
+pub heads_equations : (nodes : List Node) (f : Name) (i n : ℕ) (g : Name) (j m : ℕ) → equations_in nodes (heads f i n g j m) ≡ head_equations (terms_from nodes f i n) (terms_from nodes g j m)
+heads_equations nodes f i zero g j zero = refl
+heads_equations nodes f i zero g j (suc m) = refl
+heads_equations nodes f i (suc n) g j zero = refl
+heads_equations nodes f i (suc n) g j (suc m) = ap (λ (E : Equations). record { left = term_at nodes f i; right = term_at nodes g j } ∷ E) (heads_equations nodes f (suc i) n g (suc j) m)
+
+-- goals under names that are drawn in order
+
+goals_from : ℕ → ℕ → List Atom → Goals
+goals_from w n [] = no_goals
+goals_from w n (a ∷ rest) = atom (record { worker = w; number = n }) a (goals_from w (n + 1) rest)
+
+goal_behind : (w n m : ℕ) (a b : Atom) (gs : Goals) → n < m
+    → with_goal (record { worker = w; number = m }) (an_atom b) (atom (record { worker = w; number = n }) a gs)
+    ≡ atom (record { worker = w; number = n }) a (with_goal (record { worker = w; number = m }) (an_atom b) gs)
+goal_behind w n m a b gs h =
+    let f : is_before (record { worker = w; number = m }) (record { worker = w; number = n }) ≡ false = grind (arith, nat_tests) in
+    ap (λ (c : Bool). cond c (atom (record { worker = w; number = m }) b (atom (record { worker = w; number = n }) a gs))
+    (atom (record { worker = w; number = n }) a (with_goal (record { worker = w; number = m }) (an_atom b) gs))) f
+
+atoms_behind : (w n m : ℕ) (a : Atom) (rest : List Atom) (gs : Goals) → n < m
+    → with_atoms w m rest (atom (record { worker = w; number = n }) a gs) ≡ atom (record { worker = w; number = n }) a (with_atoms w m rest gs)
+atoms_behind w n m a [] gs h = refl
+atoms_behind w n m a (b ∷ rest) gs h =
+    ap (λ (hs : Goals). with_atoms w (m + 1) rest hs) (goal_behind w n m a b gs h)
+    ∙ atoms_behind w n (m + 1) a rest (with_goal (record { worker = w; number = m }) (an_atom b) gs) (omega arith)
+
+with_atoms_next : (w n : ℕ) (a : Atom) (rest : List Atom) → with_atoms w n (a ∷ rest) no_goals ≡ atom (record { worker = w; number = n }) a (with_atoms w (n + 1) rest no_goals)
+with_atoms_next w n a rest = atoms_behind w n (n + 1) a rest no_goals (omega arith)
+
+named_atoms : (nodes : List Node) (frame : Name) (n : ℕ) (codes : List Code)
+    → AreAtoms (map (λ (x : Name × Goal). (x.0, goal_atom nodes x.1)) (named_under frame n codes)) (with_atoms frame.worker n (atoms_of nodes frame codes) no_goals)
+named_atoms nodes frame n [] = tt
+named_atoms nodes frame n (c ∷ codes) = subst (AreAtoms (map (λ (x : Name × Goal). (x.0, goal_atom nodes x.1)) (named_under frame n (c ∷ codes))))
+    (sym (with_atoms_next frame.worker n (atom_of nodes frame c) (atoms_of nodes frame codes))) (refl, refl, named_atoms nodes frame (n + 1) codes)
+
+body_atoms : (nodes : List Node) (frame : Name) (codes : List Code) → map (goal_atom nodes) (goals_under frame codes) ≡ atoms_of nodes frame codes
+body_atoms nodes frame [] = refl
+body_atoms nodes frame (c ∷ codes) = ap (λ (rest : List Atom). atom_of nodes frame c ∷ rest) (body_atoms nodes frame codes)
+
+-- a store with a frame alone, innermost, tells nothing
+told_frame : (nodes : List Node) (path : List Stored) (frame : Name) → told_in nodes (path ++ store_with frame ∷ []) ≡ told_in nodes path
+told_frame nodes path frame = told_join nodes path (store_with frame ∷ []) ∙ append-nil (told_in nodes path)
+
+module _ (nodes : List Node) (path : List Stored) (W : Equations) (stands : StandFor (IsTold (told_in nodes path)) (IsTold W)) (call : Call) (w : ℕ) where
+  head_stands : (frame : Name) (c : Clause) (answer : ToldStore) → IsHeadStore nodes path call frame c answer
+      → (D : Equations) → StandFor (IsTold D) (IsTold W)
+      → StandFor (IsTold (D ++ bindings_in nodes answer.store.bindings)) (IsTold (W ++ head_equations (terms_from nodes call.frame call.first call.count) (terms_from nodes frame c.first c.count)))
+  head_stands frame c answer h D d = subst (λ (E : Equations). StandFor (IsTold (D ++ bindings_in nodes answer.store.bindings)) (IsTold (W ++ E)))
+      (heads_equations nodes call.frame call.first call.count frame c.first c.count)
+      (told_over D (told_in nodes path) (told_in nodes path) W (bindings_in nodes answer.store.bindings) (equations_in nodes (heads_of call frame c)) (StandFor-on d (StandFor-back stands)) stands tells)
+    where
+      tells : StandFor (IsTold (told_in nodes path ++ equations_in nodes (heads_of call frame c))) (IsTold (told_in nodes path ++ bindings_in nodes answer.store.bindings))
+      tells = subst (λ (E : Equations). StandFor (IsTold (E ++ equations_in nodes (heads_of call frame c))) (IsTold (told_in nodes path ++ bindings_in nodes answer.store.bindings))) (told_frame nodes path frame)
+          (subst (λ (ss : List Stored). StandFor (IsTold (told_in nodes (path ++ store_with frame ∷ []) ++ equations_in nodes (heads_of call frame c))) (IsTold (told_in nodes ss ++ bindings_in nodes answer.store.bindings)))
+          (around_push path (store_with frame)) (tells_stands nodes (path ++ store_with frame ∷ []) h.known (heads_of call frame c) answer.store h.told.tells))
+
+  one_made : (n : ℕ) (c : Clause) (b : NewBox) → IsMade nodes path call w n c b → (rest : Boxes)
+      → IsNewBox nodes W (new_box nodes b) (record {
+        name = record { worker = w; number = n };
+        frames = record { worker = w; number = n + 1 } ∷ [];
+        equations = head_equations (terms_from nodes call.frame call.first call.count) (terms_from nodes (record { worker = w; number = n + 1 }) c.first c.count);
+        ports = [];
+        body = atoms_of nodes (record { worker = w; number = n + 1 }) c.body;
+        shown = [];
+      }) (with_atoms w (n + 2) (atoms_of nodes (record { worker = w; number = n + 1 }) c.guard) no_goals)
+  one_made n c b m rest = record {
+    name = m.name;
+    frames = m.store.told.tells.frames ∙ ap (λ (k : Stored). k.frames) (innermost_push path (store_with (record { worker = w; number = n + 1 })));
+    ports = ap (ports_in nodes) (m.store.told.tells.ports ∙ ap (λ (k : Stored). k.ports) (innermost_push path (store_with (record { worker = w; number = n + 1 }))));
+    stands = head_stands (record { worker = w; number = n + 1 }) c (record { store = b.store; solved = b.solved }) m.store;
+    goals = subst (λ (l : List (Name × Goal)). AreAtoms (map (λ (x : Name × Goal). (x.0, goal_atom nodes x.1)) l) (with_atoms w (n + 2) (atoms_of nodes (record { worker = w; number = n + 1 }) c.guard) no_goals))
+        (sym m.goals) (named_atoms nodes (record { worker = w; number = n + 1 }) (n + 2) c.guard);
+    body = ap (map (goal_atom nodes)) m.body ∙ body_atoms nodes (record { worker = w; number = n + 1 }) c.body;
+  }
+
+  pub all_made : (n : ℕ) (cs : List Clause) (bs : List NewBox) → AreMade nodes path call w n cs bs
+      → AreNewBoxes nodes W (map (new_box nodes) bs) (instances nodes w n (terms_from nodes call.frame call.first call.count) cs)
+  all_made n [] [] m = tt
+  all_made n [] (b ∷ bs) m = absurd m
+  all_made n (c ∷ cs) [] m = absurd m
+  all_made n (c ∷ cs) (b ∷ bs) m =
+      (one_made n c b m.0 (instances nodes w (n + (2 + length c.guard)) (terms_from nodes call.frame call.first call.count) cs), all_made (n + (2 + length c.guard)) cs bs m.1)
+
+-- solved, where a box says so
+one_solved : (nodes : List Node) (path : List Stored) (call : Call) (frame : Name) (c : Clause) (store : Stored) (t : Bool) → IsHeadStore nodes path call frame c (record { store = store; solved = t })
+    → t ≡ true → IsSolvedChain nodes (path ++ store ∷ [])
+one_solved nodes path call frame c store t h e =
+    let k : _ = h.told.is_solved.0 e in
+    subst (λ (ss : List Stored). IsSolvedChain nodes (ss ++ store ∷ [])) (around_push path (store_with frame)) (h.told.tells.solved k.0 k.1)
+
+pub all_solved : (T : Table) (ns : List Name) (call : Call) (w n : ℕ) (cs : List Clause) (bs : List NewBox) → AreMade T.nodes (stores_along T ns) call w n cs bs → AreSolvedIf T ns (map (new_box T.nodes) bs)
+all_solved T ns call w n [] [] m = tt
+all_solved T ns call w n [] (b ∷ bs) m = absurd m
+all_solved T ns call w n (c ∷ cs) [] m = absurd m
+all_solved T ns call w n (c ∷ cs) (b ∷ bs) m = (
+  on b.solved (λ e. one_solved T.nodes (stores_along T ns) call (record { worker = w; number = n + 1 }) c b.store b.solved m.0.store e),
+  all_solved T ns call w (n + (2 + length c.guard)) cs bs m.1,
+)
+  where
+    on : (t : Bool) → (t ≡ true → IsSolvedChain T.nodes (stores_along T ns ++ b.store ∷ [])) → IsSolvedIf t T ns b.store
+    on false h = tt
+    on true h = h refl

@@ -1,0 +1,44 @@
+use Rattle.std.proofs.Common.{◌≡◌, ℕ, zero, suc, ◌<◌, ◌≤◌, List, [], ◌∷◌, length, get_or, Some, refl, sym, ap, ◌∙◌, subst, arith}
+use Rattle.std.specs.Prelude.{slice_get, ◌^◌}
+use Rattle.akl_model.specs.Instances.{drawn_by}
+use Rattle.box_tree.specs.declared.step.Step.{Step}
+use Rattle.akl_terms.specs.declared.program.Definition.{Definition}
+use Rattle.rule_plan.proofs.ForkRight.{fork_right, fork_none}
+use Rattle.rule_plan.proofs.forking.fork.Goals as goal
+
+get_at : (xs : List Definition) (d : ℕ) (x : Definition) → d < length xs → x ≡ get_or xs d x → slice_get xs d ≡ Some x
+get_at [] d x l e = absurd (omega arith)
+get_at (y ∷ ys) zero x l e = ap Some (sym e)
+get_at (y ∷ ys) (suc d) x l e = get_at ys d x (omega arith) e
+
+get_within : (xs : List Definition) (d : ℕ) (x : Definition) → slice_get xs d ≡ Some x → d < length xs
+get_within [] d x e = cc
+get_within (y ∷ ys) zero x e = omega arith
+get_within (y ∷ ys) (suc d) x e = let h : d < length ys = get_within ys d x e in omega arith
+
+one_value : {x y : Definition} → Some x ≡ Some y → x ≡ y
+one_value e = cc
+
+pub returns-in_default : goal.returns-in_default
+returns-in_default c = fork_none c.args.view.now c.label_of-label.ensures.seen c.args.goal c.args.definition c.args.call c.requires.place c.requires.sight (λ x e.
+    let l : length c.as_slice.result.now ≤ c.args.definition = c.in_default.ensures.lookup.3 in
+    let m : c.args.definition < length c.args.view.now.table.program.definitions = get_within c.args.view.now.table.program.definitions c.args.definition x e in
+    let n : length c.as_slice.result.now ≡ length c.args.view.now.table.program.definitions = rw (c.as_slice.ensures, c.requires.program) in
+    absurd (omega arith))
+
+pub returns-in_default-names_of : goal.returns-in_default-names_of
+returns-in_default-names_of c =
+    let is = rw (c.as_slice.ensures, c.requires.program) at (get_at c.as_slice.result.now c.args.definition c.in-Some.found.now c.in-Some.ensures.lookup.3.0 c.in-Some.ensures.lookup.1) in
+    let many = rw c.as_slice-2.ensures at c.in_default-names_of.ensures in
+    fork_none c.args.view.now c.label_of-label.ensures.seen c.args.goal c.args.definition c.args.call c.requires.place c.requires.sight
+    (λ x e. subst (λ (y : Definition). 2 ^ 32 ≤ drawn_by y.clauses) (one_value (sym is ∙ e)) many)
+
+pub new-requires : goal.new-requires
+new-requires c =
+    let is = rw (c.as_slice.ensures, c.requires.program) at (get_at c.as_slice.result.now c.args.definition c.in-Some.found.now c.in-Some.ensures.lookup.3.0 c.in-Some.ensures.lookup.1) in
+    let names = rw c.as_slice-2.ensures at c.in-Some-names_of.ensures in
+    let made = rw (c.chain-chain.ensures.nodes, c.chain-chain.ensures.stores, c.worker.ensures, c.next-next.ensures, c.as_slice-3.ensures, c.requires.program) at c.in_ok-alternatives.ensures in
+    rw (c.label_of-label.ensures.label, c.in_ok-reads.ensures, names.0)
+    (fork_right c.args.view.now c.label_of-label.ensures.seen c.args.goal c.args.definition c.args.call c.requires.place c.requires.sight c.in-Some.found.now is
+    (subst (λ (n : ℕ). n < 2 ^ 32) names.0 names.1) c.in_ok-alternatives.alternatives.items made
+    (Step.Fork c.in-Some.found.now.op c.in_ok-alternatives.alternatives) refl)

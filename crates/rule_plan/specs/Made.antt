@@ -1,0 +1,58 @@
+-- What the parts of a new box are made of.
+use Rattle.std.specs.Prelude.{◌≡◌, ℕ, suc, ◌+◌, List, [], ◌∷◌, ◌++◌, map, length, ◌⊎◌, ⊤}
+use Rattle.akl_terms.specs.declared.name.Name.{Name}
+use Rattle.akl_terms.specs.declared.term.Node.{Node}
+use Rattle.akl_terms.specs.declared.term.Term.TheVariants.{Mol}
+use Rattle.akl_terms.specs.declared.term.Equation as code
+use Rattle.akl_terms.specs.declared.program.Code.{Code}
+use Rattle.akl_terms.specs.declared.program.Goal.{Goal}
+use Rattle.akl_terms.specs.declared.program.Clause.{Clause}
+use Rattle.local_store.specs.declared.telling.ToldStore.{ToldStore}
+use Rattle.local_store.specs.Stored.{Stored, nothing, with_frame}
+use Rattle.local_store.specs.Telling.{AnswersTold}
+use Rattle.box_tree.specs.declared.step.NewBox.{NewBox}
+use Rattle.rule_plan.specs.declared.heads.Call.{Call}
+
+-- equations between so many neighbouring nodes under one frame and so many under another, as far as both go
+abbrev pub heads : Name → ℕ → ℕ → Name → ℕ → ℕ → List code.Equation
+heads f i (suc n) g j (suc m) = record { left = Mol i f; right = Mol j g } ∷ heads f (suc i) n g (suc j) m
+heads f i n g j m = []
+
+-- the equations between the arguments of a call and those of a clause's head under a frame
+abbrev pub heads_of : Call → Name → Clause → List code.Equation
+heads_of call frame c = heads call.frame call.first call.count frame c.first c.count
+
+-- atoms under a frame
+abbrev pub goals_under : Name → List Code → List Goal
+goals_under frame codes = map (λ c. record { code = c; frame = frame }) codes
+
+-- these as goals, under names of the frame's worker from a number on
+abbrev pub named_under : Name → ℕ → List Code → List (Name × Goal)
+named_under frame n [] = []
+named_under frame n (c ∷ cs) = (record { worker = frame.worker; number = n }, record { code = c; frame = frame }) ∷ named_under frame (n + 1) cs
+
+-- a store that has a frame alone
+abbrev pub store_with : Name → Stored
+store_with frame = with_frame nothing frame
+
+-- one more where all are known
+abbrev pub MoreKnown : ℕ → ℕ → ℕ → Type 0
+MoreKnown known long more = (more ≡ known) ⊎ ((known ≡ long) × (more ≡ suc known))
+
+-- the frame's store over the stores of a path, to which the equations of a call's arguments with a head's are told
+pub record IsHeadStore (nodes : List Node) (path : List Stored) (call : Call) (frame : Name) (c : Clause) (answer : ToldStore) : Type 0 where
+  pub known : ℕ
+  pub told : AnswersTold nodes (path ++ store_with frame ∷ []) known (heads_of call frame c) answer
+
+-- the box that a clause makes of a call, where a worker draws its names from a number on
+pub record IsMade (nodes : List Node) (path : List Stored) (call : Call) (w n : ℕ) (c : Clause) (b : NewBox) : Type 0 where
+  pub name : b.name ≡ record { worker = w; number = n }
+  pub store : IsHeadStore nodes path call (record { worker = w; number = n + 1 }) c (record { store = b.store; solved = b.solved })
+  pub goals : b.goals.items ≡ named_under (record { worker = w; number = n + 1 }) (n + 2) c.guard
+  pub body : b.body.items ≡ goals_under (record { worker = w; number = n + 1 }) c.body
+
+-- the boxes of these clauses, in their order
+abbrev pub AreMade : List Node → List Stored → Call → ℕ → ℕ → List Clause → List NewBox → Type 0
+AreMade nodes path call w n [] [] = ⊤
+AreMade nodes path call w n (c ∷ cs) (b ∷ bs) = IsMade nodes path call w n c b × AreMade nodes path call w (n + (2 + length c.guard)) cs bs
+AreMade nodes path call w n cs bs = ⊥

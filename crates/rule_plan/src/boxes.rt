@@ -1,0 +1,91 @@
+//! The boxes that a call's clauses make.
+
+ghost use Rattle.std.specs.Prelude.{◌≡◌, ◌+◌, ◌<◌, ◌^◌, length, IfOk};
+ghost use Rattle.akl_model.specs.Instances.{drawn_by};
+ghost use Rattle.rule_plan.specs.Made.{goals_under, named_under, IsMade, AreMade};
+
+use crate::heads::{Call, head_store};
+use akl_terms::{Clause, Code, Goal, Name};
+use box_tree::NewBox;
+use local_store::{Chain, Shared, ToldStore};
+use std::alloc::{AllocError, Global};
+
+// The boxes of these clauses in order, with names from this one on.
+pub(crate) fn new_boxes(
+    alloc: Global,
+    chain: &Chain,
+    call: Call,
+    first: Name,
+    clauses: &[Clause],
+) -> Result<Vec<NewBox>, AllocError>
+    requires { first.number + drawn_by clauses.now < 2 ^ 64 }
+    ensures { IfOk result (λ boxes. AreMade chain.now.nodes chain.now.stores call first.worker first.number clauses.now boxes.items) }
+{
+    let mut boxes = Vec::new(alloc);
+    let mut number = first.number;
+    for clause in clauses {
+        let name = Name {
+            worker: first.worker,
+            number,
+        };
+        boxes.push(new_box(alloc, chain, call, name, clause)?)?;
+        number += 2 + clause.guard.len() as u64;
+    }
+    Ok(boxes)
+}
+
+// The box of a clause: it has this name, its frame the next one, and its goals those after.
+fn new_box(
+    alloc: Global,
+    chain: &Chain,
+    call: Call,
+    name: Name,
+    clause: &Clause,
+) -> Result<NewBox, AllocError>
+    requires { name.number + (2 + length clause.now.guard) < 2 ^ 64 }
+    ensures { IfOk result (IsMade chain.now.nodes chain.now.stores call name.worker name.number clause.now) }
+{
+    let frame = Name {
+        worker: name.worker,
+        number: name.number + 1,
+    };
+    let goals = named_goals(alloc, frame, clause.guard.as_slice())?;
+    let body = goals_of(alloc, frame, clause.body.as_slice())?;
+    let ToldStore { store, solved } = head_store(alloc, chain, call, frame, clause)?;
+    let store = Shared::new(alloc, store)?;
+    Ok(NewBox {
+        name,
+        store,
+        solved,
+        goals,
+        body,
+    })
+}
+
+// Atoms under a frame.
+fn goals_of(alloc: Global, frame: Name, codes: &[Code]) -> Result<Vec<Goal>, AllocError>
+    ensures { IfOk result (λ goals. goals.items ≡ goals_under frame codes.now) }
+{
+    codes
+        .iter()
+        .map(|code| Goal { code: *code, frame })
+        .collect(alloc)
+}
+
+// Atoms under a frame as goals, with the names after the frame's.
+fn named_goals(alloc: Global, frame: Name, codes: &[Code]) -> Result<Vec<(Name, Goal)>, AllocError>
+    requires { frame.number + 1 + length codes.now < 2 ^ 64 }
+    ensures { IfOk result (λ goals. goals.items ≡ named_under frame (frame.number + 1) codes.now) }
+{
+    let mut goals = Vec::new(alloc);
+    let mut number = frame.number;
+    for code in codes {
+        number += 1;
+        let name = Name {
+            worker: frame.worker,
+            number,
+        };
+        goals.push((name, Goal { code: *code, frame }))?;
+    }
+    Ok(goals)
+}

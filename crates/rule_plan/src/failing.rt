@@ -1,0 +1,47 @@
+//! Plans of Fail.
+
+ghost use Rattle.std.specs.Prelude.{◌≡◌, IfOk};
+ghost use Rattle.akl_terms.specs.declared.name.Place.{Place};
+ghost use Rattle.box_tree.specs.declared.view.Sight.{Sight};
+ghost use Rattle.rule_plan.specs.Planned.{IsPlannedBy};
+ghost use Rattle.rule_plan.specs.Failed.{FailsFor};
+
+use crate::labels::{label_of, one_item};
+use akl_model::{Item, Rule};
+use akl_terms::{Name, Program};
+use box_tree::{Plan, Step, View};
+use local_store::{Consistency, consistent};
+use std::alloc::{AllocError, Global};
+
+// The plan by which a box goes, where a goal fails it or what it knows is inconsistent.
+pub(crate) fn fail(
+    alloc: Global,
+    program: &Program,
+    view: &View,
+    name: Name,
+    failing: Option<Name>,
+) -> Result<Option<Plan>, AllocError>
+    requires program { program.now ≡ view.now.table.program }
+    requires place { view.now.place ≡ Place.Box name }
+    requires sight { view.now.sight ≡ Sight.Box failing }
+    ensures { IfOk result (IsPlannedBy view.now) }
+{
+    let _place = view.place();
+    match failing {
+        Some(goal) => fail_by(alloc, view, Item::Goal(goal)),
+        None => match consistent(alloc, &view.chain(&program.templates))? {
+            Consistency::Consistent => Ok(None),
+            Consistency::Clash { .. } => fail_by(alloc, view, Item::Store(name)),
+        },
+    }
+}
+
+// The plan by which the box goes that fails by an item.
+fn fail_by(alloc: Global, view: &View, item: Item) -> Result<Option<Plan>, AllocError>
+    requires { FailsFor view.now item }
+    ensures { IfOk result (IsPlannedBy view.now) }
+{
+    let reads = one_item(alloc, item)?;
+    let label = label_of(view, Rule::Fail);
+    Ok(Some(Plan::new(view, label, reads, 0, Step::Fail)))
+}
