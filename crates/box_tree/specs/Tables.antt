@@ -124,10 +124,12 @@ abbrev pub shown_trees_of : TableValue → List ShownTerm → List ShownTree
 shown_trees_of t terms = map (shown_tree t.program.templates.nodes) terms
 
 -- a step may be made of a table to which a run has come: its place is of the kind that it needs, and the names that it draws stand nowhere,
--- those of a box's goals in increasing order
+-- those of a box's new goals in increasing order
 abbrev pub FitsPlace : Place → laws.Step → Type 0
 FitsPlace (Place.Goal g) (laws.tells new solved) = ⊤
 FitsPlace (Place.Goal g) (laws.forks op news) = ⊤
+FitsPlace (Place.Goal g) laws.cuts = ⊤
+FitsPlace (Place.Goal g) (laws.promotes new solved goals) = ⊤
 FitsPlace (Place.Box n) laws.fails = ⊤
 FitsPlace place step = ⊥
 
@@ -139,6 +141,8 @@ abbrev pub DrawsInOrder : laws.Step → Type 0
 DrawsInOrder (laws.tells new solved) = ⊤
 DrawsInOrder (laws.forks op news) = AreInOrder news
 DrawsInOrder laws.fails = ⊤
+DrawsInOrder laws.cuts = ⊤
+DrawsInOrder (laws.promotes new solved goals) = IsIncreasing (map (λ (x : Name × Atom). x.0) goals)
 
 pub record MayApply (t : TableValue) (l : Label) (step : Step) : Type 0 where
   pub run : Run

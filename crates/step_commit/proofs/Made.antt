@@ -42,6 +42,8 @@ fits_goal place g step e f = subst (λ (x : Place). FitsPlace x step) (sym e) f
 fits : (rules : List Rule) (p : Program) (c : Config) (l : Label) (d : Config) (n : ℕ) (a : Applies rules p c l d) (step : laws.Step) → Makes p l n a.site step → FitsPlace l.place step
 fits rules p c l d n a (laws.tells new solved) m = fits_goal l.place m.1.0 (laws.tells new solved) m.1.1 tt
 fits rules p c l d n a (laws.forks op news) m = fits_goal l.place m.1.0 (laws.forks op news) m.1.1 tt
+fits rules p c l d n a laws.cuts m = fits_goal l.place m.1.0 laws.cuts m.1.2 tt
+fits rules p c l d n a (laws.promotes new solved goals) m = fits_goal l.place m.1.0 (laws.promotes new solved goals) m.1.2 tt
 fits rules p c l d n a laws.fails m = fail_place p a.makes.reading l.worker _ l.rule l.place l.alternative a.site a.change m a.makes.change
 
 -- the number of labels is that of the plan's view, where it is given

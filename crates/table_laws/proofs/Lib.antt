@@ -11,6 +11,7 @@ pub mod Atoms
 pub mod NewRows
 pub mod Forking
 pub mod Forked
+pub mod NewGoals
 pub mod Gone
 pub mod Loses
 pub mod Failed
@@ -18,5 +19,8 @@ pub mod Walks
 pub mod Drops
 pub mod Started
 pub mod Fresh
+pub mod Framed
+pub mod Promoting
+pub mod Promoted
 pub mod Later
 pub mod StepMakes
