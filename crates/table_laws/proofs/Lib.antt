@@ -13,6 +13,9 @@ pub mod Forking
 pub mod Forked
 pub mod Gone
 pub mod Loses
+pub mod Kept
+pub mod Cutting
+pub mod Cut
 pub mod Failed
 pub mod Walks
 pub mod Drops
