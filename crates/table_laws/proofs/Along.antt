@@ -154,7 +154,7 @@ module _ (rules : List Rule) (p : Program) (c : Config) (l : Label) (d : Config)
       omega arith)
 
   -- a box that the box of the place is around before, it is around afterwards
-  under_was : (e : Found) → Stands e c.roots → IsIn m.site.content.name (names_around e) → (rest : List Content) × (e.around ≡ m.site.around ++ m.site.content ∷ rest) × InGoals rest e.content e.goals m.site.goals
+  pub under_was : (e : Found) → Stands e c.roots → IsIn m.site.content.name (names_around e) → (rest : List Content) × (e.around ≡ m.site.around ++ m.site.content ∷ rest) × InGoals rest e.content e.goals m.site.goals
   under_was e x i =
       let o : Over m.site.content.name e c.roots = over m.site.content.name e c.roots x i in
       let q : o.outer ≡ m.site = one_box c.roots s.once o.outer m.site o.stands (site_stands rules p c l d s m) (sym o.named) in

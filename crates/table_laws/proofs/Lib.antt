@@ -14,6 +14,9 @@ pub mod Forked
 pub mod NewGoals
 pub mod Gone
 pub mod Loses
+pub mod Kept
+pub mod Cutting
+pub mod Cut
 pub mod Failed
 pub mod Walks
 pub mod Drops
