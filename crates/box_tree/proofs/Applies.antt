@@ -1,14 +1,9 @@
 -- What a step made is what the label leads to.
-use Rattle.std.proofs.Common.{◌≡◌, ℕ, Bool, List, map, Option, sym, ap, subst}
+use Rattle.std.proofs.Common.{◌≡◌, ℕ, Bool, Option, subst}
 use Rattle.akl_terms.specs.declared.name.Name.{Name}
-use Rattle.akl_terms.specs.declared.name.Place.{Place}
-use Rattle.akl_terms.specs.declared.program.Op.{Op}
-use Rattle.akl_model.specs.declared.label.Label.{Label}
 use Rattle.local_store.specs.Stored.{Stored}
-use Rattle.table_laws.specs.Steps as laws
-use Rattle.table_laws.specs.Writes.{IsTable, solved_when, after_tell, after_fork}
-use Rattle.box_tree.specs.declared.step.NewBox.{NewBox}
-use Rattle.box_tree.specs.Tables.{TableValue, table_of, new_box}
+use Rattle.table_laws.specs.Writes.{IsTable, solved_when, after_tell}
+use Rattle.box_tree.specs.Tables.{TableValue, table_of}
 use Rattle.box_tree.specs.Edits.{Becomes}
 
 module _ (t u : TableValue) where

@@ -1,21 +1,19 @@
 -- A goal becomes a choice of new boxes.
-use Rattle.std.proofs.Common.{◌≡◌, ℕ, ◌+◌, Bool, true, false, List, [], ◌∷◌, ◌++◌, map, slice_index, Option, Some, None, refl, sym, ap, ◌∙◌, subst, ◌⊎◌, inl, inr}
+use Rattle.std.proofs.Common.{◌≡◌, ℕ, ◌+◌, Bool, true, false, List, [], ◌∷◌, map, slice_index, Option, Some, None, refl, sym, ap, ◌∙◌, inl, inr}
 use Rattle.std.specs.Prelude.{if◌then◌else◌, option_map}
 use Rattle.std.specs.Map.{lookup}
 use Rattle.akl_terms.specs.declared.name.Name.{Name}
 use Rattle.akl_terms.specs.declared.term.Node.{Node}
 use Rattle.akl_terms.specs.declared.program.Op.{Op}
 use Rattle.akl_terms.specs.Names.{same_name}
-use Rattle.akl_terms.proofs.SameNames.{same_name-equal, same_name-refl}
+use Rattle.akl_terms.proofs.SameNames.{same_name-equal}
 use Rattle.akl_model.specs.Config.{IsIn, Atom, or_else}
-use Rattle.akl_model.specs.Changes.{of_atom, of_choice}
+use Rattle.akl_model.specs.Changes.{of_atom}
 use Rattle.akl_model.specs.Derivations.{raised}
 use Rattle.table_laws.specs.Rows.{BoxRow, GoalRow, Table}
 use Rattle.table_laws.specs.Steps as laws
 use Rattle.table_laws.specs.Writes.{set, home_in, changed_box, failing_by, forked_row, names_drawn, new_box_of, new_goal_of, atom_among, after_fork, IsFresh}
 use Rattle.box_tree.specs.declared.step.NewBox.{NewBox}
-use Rattle.box_tree.specs.declared.entries.BoxEntry.{BoxEntry}
-use Rattle.box_tree.specs.declared.entries.GoalEntry.{GoalEntry}
 use Rattle.box_tree.specs.Tables.{TableValue, table_of, new_box}
 use Rattle.box_tree.specs.Edits.{SetsBoxes, SetsGoals, SetsRows, Becomes, boxes_with, goals_with, choice_row, failing_row, home_if_empty}
 use Rattle.box_tree.proofs.News.{in_append, in_left}

@@ -1,16 +1,13 @@
 -- New boxes and goals come one after another, the last first.
-use Rattle.std.proofs.Common.{◌≡◌, ℕ, Bool, true, false, List, [], ◌∷◌, ◌++◌, map, Option, Some, None, refl, sym, ap, ◌∙◌, subst, ◌⊎◌, inl, inr, append_assoc, append-nil}
-use Rattle.std.specs.Prelude.{if◌then◌else◌, option_map, ⊤}
+use Rattle.std.proofs.Common.{◌≡◌, ℕ, Bool, true, false, List, [], ◌∷◌, ◌++◌, map, Option, Some, None, refl, sym, ap, ◌∙◌, subst, inl, inr, append_assoc, append-nil}
+use Rattle.std.specs.Prelude.{if◌then◌else◌}
 use Rattle.akl_terms.specs.declared.name.Name.{Name}
 use Rattle.akl_terms.specs.declared.term.Node.{Node}
 use Rattle.akl_terms.specs.declared.program.Goal.{Goal}
-use Rattle.akl_terms.specs.declared.program.ShownTerm.{ShownTerm}
 use Rattle.akl_terms.specs.Names.{same_name}
 use Rattle.akl_model.specs.Config.{IsIn, Atom, or_else}
-use Rattle.akl_model.specs.Changes.{of_atom}
 use Rattle.akl_model.specs.Ordered.{IsIncreasing}
-use Rattle.table_laws.specs.Rows.{BoxRow, GoalRow, Table}
-use Rattle.table_laws.specs.Steps as laws
+use Rattle.table_laws.specs.Rows.{BoxRow, GoalRow}
 use Rattle.table_laws.specs.Writes.{set, solved_when, first_fail, names_drawn, new_row, new_box_of, new_goal_of, atom_among}
 use Rattle.box_tree.specs.declared.entries.Held.{Held}
 use Rattle.box_tree.specs.declared.entries.BoxEntry.{BoxEntry}

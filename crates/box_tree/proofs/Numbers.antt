@@ -1,14 +1,13 @@
 -- The next numbers after a worker has drawn some, and names in order.
-use Rattle.std.proofs.Common.{◌≡◌, ℕ, zero, suc, ◌+◌, ◌<◌, Bool, true, false, List, [], ◌∷◌, ◌++◌, map, length, take, drop, get_or, slice_index, refl, sym, ap, ◌∙◌, subst, eqb, arith, get_or-set_same, get_or-set_other, append_assoc}
+use Rattle.std.proofs.Common.{◌≡◌, ℕ, zero, suc, ◌+◌, ◌<◌, Bool, true, false, List, [], ◌∷◌, ◌++◌, length, take, drop, get_or, slice_index, refl, sym, ap, ◌∙◌, subst, eqb, arith, get_or-set_same, get_or-set_other}
 use Rattle.std.proofs.lemmas.Bool.Decides.{nat_tests}
-use Rattle.std.proofs.lemmas.List.{get_or_read, take_more}
+use Rattle.std.proofs.lemmas.List.{take_more}
 use Rattle.std.proofs.Math.ListN.{set}
-use Rattle.std.specs.Prelude.{if◌then◌else◌, cond, ◌&&◌, ◌==◌, nat_lt}
-use Rattle.std.specs.Ordering.{nat_cmp, ordering_then, match_ordering, is_gt}
+use Rattle.std.specs.Ordering.{match_ordering}
 use Rattle.std.specs.declared.cmp.Ordering.{Ordering}
 use Rattle.std.specs.BTreeSet.{insert_key}
 use Rattle.akl_terms.specs.declared.name.Name.{Name}
-use Rattle.akl_terms.specs.Names.{is_before, name_cmp}
+use Rattle.akl_terms.specs.Names.{is_before}
 use Rattle.akl_terms.specs.contracts.name.NameOrd.TheImpl.{cmp-value}
 use Rattle.akl_model.specs.Ordered.{IsBeforeAll, IsIncreasing}
 use Rattle.akl_model.specs.Derivations.{raised}

@@ -2,7 +2,7 @@
 use Rattle.std.proofs.Common.{◌≡◌, ℕ, zero, suc, ◌+◌, ◌<◌, ◌≤◌, Bool, true, false, List, [], ◌∷◌, ◌++◌, length, reverse, take, get_or, map, max, Option, Some, None, refl, sym, ap, subst, ◌∙◌, ◌⊎◌, inl, inr, arith}
 use Rattle.std.proofs.lemmas.List.{length-append, length-map, reverse-append}
 use Rattle.std.proofs.lemmas.Bool.Decides.{nat_tests}
-use Rattle.std.specs.Prelude.{option_map, option_and_then, if◌then◌else◌, IsSome, not, nat_lt, ⊤, is_some, slice_index}
+use Rattle.std.specs.Prelude.{option_map, option_and_then, if◌then◌else◌, IsSome, not, nat_lt, is_some, slice_index}
 use Rattle.std.specs.Map.{lookup}
 use Rattle.akl_terms.specs.declared.name.Name.{Name}
 use Rattle.akl_terms.specs.declared.name.Place.{Place}
@@ -10,28 +10,25 @@ use Rattle.akl_terms.specs.declared.term.Node.{Node}
 use Rattle.akl_terms.specs.Tree.{Tree}
 use Rattle.akl_terms.specs.Names.{same_name}
 use Rattle.akl_model.specs.declared.label.Label.{Label}
-use Rattle.akl_model.specs.Config.{IsIn, Atom, Content, Boxes, Goals, no_goals, Config, Held, an_atom, a_choice, held_in, Found, box_at, home_of, site_of}
-use Rattle.akl_model.specs.Names.{one_if, times_in}
-use Rattle.akl_model.specs.Changes.{of_atom, of_choice, shape_of}
+use Rattle.akl_model.specs.Config.{IsIn, Atom, Content, Boxes, Config, Held, an_atom, a_choice, held_in, Found, box_at, home_of, site_of}
+use Rattle.akl_model.specs.Names.{times_in}
+use Rattle.akl_model.specs.Changes.{shape_of}
 use Rattle.akl_model.specs.Wakes.{names_around, names_down_to, holder_in}
 use Rattle.akl_model.proofs.Options.{some_value}
-use Rattle.akl_model.proofs.Finds.{times, times_inside, times_in-append}
-use Rattle.akl_model.proofs.NamesKept.{Stand, box-itself, home-box, replay-stands}
+use Rattle.akl_model.proofs.Finds.{times, times_in-append}
+use Rattle.akl_model.proofs.NamesKept.{box-itself, home-box, replay-stands}
 use Rattle.akl_model.proofs.ScopesAlong.{times_path, found_path}
 use Rattle.akl_model.specs.Stable.{only}
 use Rattle.step_laws.specs.Holders.{IsHeldBy}
-use Rattle.step_laws.proofs.Deeper.{names_snoc}
 use Rattle.step_laws.proofs.Holders.{held_or}
-use Rattle.rational_unify.specs.Forms.{IsFormOf}
-use Rattle.rational_unify.specs.Solving.{bindings_in}
 use Rattle.akl_terms.specs.Solved.{IsBound, bound}
 use Rattle.rational_unify.specs.Known.{bound_in}
 use Rattle.rational_unify.proofs.Chains.{nothing-solved}
 use Rattle.local_store.specs.Stored.{Stored}
 use Rattle.local_store.specs.Chained.{IsSolvedChain, IsKnown}
 use Rattle.table_laws.specs.Rows.{BoxRow, GoalRow, Table, store_in, stores_along}
-use Rattle.table_laws.specs.Unfolds.{IsBoxRow, UnchangedSince, Unfolds, Spot, spot_in, spot_of, FailsBy}
-use Rattle.table_laws.specs.Stamped.{Run, IsTableOf}
+use Rattle.table_laws.specs.Unfolds.{IsBoxRow, UnchangedSince, Unfolds, Spot, spot_in, spot_of}
+use Rattle.table_laws.specs.Stamped.{IsTableOf}
 use Rattle.table_laws.specs.Writes.{home_in, holder_in_row}
 use Rattle.table_laws.proofs.Frame.{row_of, found_of}
 use Rattle.table_laws.proofs.Insides.{goal_row}
@@ -42,9 +39,8 @@ use Rattle.box_tree.specs.declared.entries.GoalEntry.{GoalEntry}
 use Rattle.box_tree.specs.declared.view.Sight.{Sight}
 use Rattle.box_tree.specs.Tables as tables
 use Rattle.box_tree.specs.Tables.{rules_in_force, TableValue, table_of, goal_atom, shape_held}
-use Rattle.box_tree.specs.Views.{run_of, Shows, IsViewOf, ViewValue, is_there}
-use Rattle.box_tree.specs.Paths.{home_at, outside_of, Deep, IsPath, HasPath, sight_held, sight_in, is_at_least, solving_in, known_in}
-use Rattle.box_tree.proofs.Looks.{stores_append}
+use Rattle.box_tree.specs.Views.{run_of, Shows, IsViewOf, is_there}
+use Rattle.box_tree.specs.Paths.{home_at, Deep, IsPath, HasPath, sight_held, sight_in, is_at_least, solving_in, known_in}
 
 -- lists
 

@@ -1,6 +1,5 @@
 -- The stamps of what a table has.
-use Rattle.std.proofs.Common.{◌≡◌, List, Option, Some, refl, sym, ap}
-use Rattle.std.specs.Prelude.{option_map}
+use Rattle.std.proofs.Common.{◌≡◌, Some, refl}
 use Rattle.std.specs.Map.{lookup}
 use Rattle.akl_terms.specs.declared.name.Name.{Name}
 use Rattle.akl_terms.specs.Names.{same_name}

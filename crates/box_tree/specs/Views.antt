@@ -4,8 +4,6 @@ use Rattle.akl_terms.specs.declared.name.Name.{Name}
 use Rattle.akl_terms.specs.declared.name.Place.{Place}
 use Rattle.akl_terms.specs.declared.term.Node.{Node}
 use Rattle.akl_terms.specs.declared.program.Op.{Op}
-use Rattle.akl_terms.specs.declared.program.Program.{Program}
-use Rattle.akl_terms.specs.declared.program.Query.{Query}
 use Rattle.akl_model.specs.declared.label.Label.{Label}
 use Rattle.akl_model.specs.Config.{Boxes, an_atom, a_choice, held_in, Found, site_of}
 use Rattle.akl_model.specs.Wakes.{names_down_to, IsOneOf}

@@ -47,8 +47,8 @@ fn first_goals(alloc: Global, query: &Query) -> Result<Vec<(Name, Goal)>, AllocE
     Ok(goals)
 }
 
-// The number after this one. No memory holds as many goals as there are numbers.
-fn after(number: u64) -> Result<u64, AllocError>
+/// The number after this one. An `Err` comes where it would pass its word.
+pub(crate) fn after(number: u64) -> Result<u64, AllocError>
     ensures { IfOk result (λ next. next ≡ 1 + number) }
 {
     number.checked_add(1).ok_or(AllocError)

@@ -8,6 +8,7 @@ ghost use Rattle.box_tree.specs.Tables.{rules_in_force, table_of, MayApply, Appl
 ghost use Rattle.box_tree.specs.Views.{run_of, is_there, IsUnseen, AreAllPlaces};
 
 use crate::entries::{BoxEntry, GoalEntry};
+use crate::starting::after;
 use crate::step::Step;
 use crate::telling::solved_when;
 use crate::view::{LookError, View};
@@ -166,7 +167,8 @@ impl Table {
     }
 
     /// Makes the step of a label that draws so many names. `at` is how many labels there are, where the step was
-    /// planned over this very table. An `Err` leaves the table as it was.
+    /// planned over this very table. An `Err` leaves the table as it was; it comes for want of memory, where a count
+    /// would pass its word, and from a fork of a goal that isn't there.
     pub fn apply(
         &mut self,
         alloc: Global,
@@ -179,9 +181,8 @@ impl Table {
         ensures applied { IfOk result (λ _. Applied self.old label at names step self.new) }
         ensures unchanged { IfErr result (λ _. self.new ≡ self.old) }
     {
-        let Some(number) = self.steps.checked_add(1) else {
-            return Err(AllocError);
-        };
+        let number = after(self.steps)?;
+        let worker = label.worker;
         match step {
             Step::Tell { store, solved } => {
                 let Place::Goal(goal) = label.place else {
@@ -194,16 +195,7 @@ impl Table {
                 let Place::Goal(goal) = label.place else {
                     return Err(AllocError);
                 };
-                self.fork(
-                    alloc,
-                    goal,
-                    op,
-                    alternatives,
-                    at,
-                    number,
-                    label.worker,
-                    names,
-                )?;
+                self.fork(alloc, goal, op, alternatives, at, number, worker, names)?;
                 Ok(())
             }
             Step::Fail => {

@@ -107,6 +107,7 @@ impl View {
         ensures symbols { result.symbols ≡ templates.now.symbols }
         ensures stores { result.stores ≡ self.now.stores }
         ensures known { result.known ≡ self.now.known }
+        ensures seen { IsViewOf self.now }
     {
         Chain::of_solved(templates, self.stores.as_slice(), self.known)
     }

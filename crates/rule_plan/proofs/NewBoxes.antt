@@ -1,10 +1,8 @@
 -- The boxes that are made for a call are the instances of its clauses.
-use Rattle.std.proofs.Common.{◌≡◌, ℕ, zero, suc, ◌+◌, ◌<◌, ◌≤◌, List, [], ◌∷◌, ◌++◌, map, length, take, Bool, true, false, cond, refl, sym, ◌∙◌, ap, subst, ◌⊎◌, inl, inr, append-nil, arith}
+use Rattle.std.proofs.Common.{◌≡◌, ℕ, zero, suc, ◌+◌, ◌<◌, List, [], ◌∷◌, ◌++◌, map, length, Bool, true, false, cond, refl, sym, ◌∙◌, ap, subst, append-nil, arith}
 use Rattle.std.proofs.lemmas.Bool.Decides.{nat_tests}
 use Rattle.akl_terms.specs.declared.name.Name.{Name}
-use Rattle.akl_terms.specs.declared.name.Var.{Var}
 use Rattle.akl_terms.specs.declared.term.Node.{Node}
-use Rattle.akl_terms.specs.declared.term.Term.{Term}
 use Rattle.akl_terms.specs.declared.program.Code.{Code}
 use Rattle.akl_terms.specs.declared.program.Goal.{Goal}
 use Rattle.akl_terms.specs.declared.program.Clause.{Clause}
@@ -17,18 +15,14 @@ use Rattle.akl_model.specs.Instances.{term_at, terms_from, atom_of, atoms_of, wi
 use Rattle.rational_unify.specs.Solving.{bindings_in, equations_in}
 use Rattle.local_store.specs.declared.telling.ToldStore.{ToldStore}
 use Rattle.local_store.specs.Stored.{Stored}
-use Rattle.local_store.specs.Chained.{IsSolvedChain, IsKnown}
-use Rattle.local_store.proofs.Layers.{from-last}
-use Rattle.rational_unify.specs.Forms.{IsFormOf}
-use Rattle.rational_unify.proofs.Taking.{take-all}
-use Rattle.akl_model.proofs.Orders.{lt_or}
+use Rattle.local_store.specs.Chained.{IsSolvedChain}
 use Rattle.table_laws.specs.Rows.{Table, stores_along, told_in, ports_in}
 use Rattle.table_laws.specs.Steps.{AreAtoms, IsNewBox, AreNewBoxes, IsSolvedIf, AreSolvedIf}
 use Rattle.table_laws.proofs.Stores.{told_join}
 use Rattle.box_tree.specs.declared.step.NewBox.{NewBox}
 use Rattle.box_tree.specs.Tables.{goal_atom, new_box}
 use Rattle.rule_plan.specs.declared.heads.Call.{Call}
-use Rattle.rule_plan.specs.Made.{heads, heads_of, goals_under, named_under, store_with, IsHeadStore, IsMade, AreMade, MoreKnown}
+use Rattle.rule_plan.specs.Made.{heads, heads_of, goals_under, named_under, store_with, IsHeadStore, IsMade, AreMade}
 use Rattle.rule_plan.proofs.Storing.{tells_stands, told_over, around_push, innermost_push}
 
 -- equations of arguments with head arguments

@@ -1,19 +1,15 @@
 -- Places at which no rule in force applies.
-use Rattle.std.proofs.Common.{◌≡◌, ℕ, ◌<◌, ◌≤◌, ◌^◌, List, Option, Some, None, refl, sym, ◌∙◌, ap, subst, ◌⊎◌, inl, inr, arith}
-use Rattle.std.specs.Prelude.{slice_get, slice_index}
+use Rattle.std.proofs.Common.{◌≡◌, ℕ, ◌<◌, ◌^◌, Option, Some, None, refl, sym, ◌∙◌, ap, subst, ◌⊎◌, inl, inr}
+use Rattle.std.specs.Prelude.{slice_index}
 use Rattle.akl_terms.specs.declared.name.Name.{Name}
 use Rattle.akl_terms.specs.declared.name.Place.{Place}
-use Rattle.akl_terms.specs.declared.program.Definition.{Definition}
 use Rattle.akl_terms.specs.declared.program.Goal.{Goal}
-use Rattle.akl_terms.specs.declared.program.Op.{Op}
-use Rattle.akl_terms.specs.declared.program.Program.{Program}
-use Rattle.akl_terms.specs.Tree.{Tree}
 use Rattle.akl_terms.specs.Equal.{IsConsistent}
 use Rattle.akl_model.specs.declared.label.Rule.{Rule}
 use Rattle.akl_model.specs.declared.label.Label.{Label}
-use Rattle.akl_model.specs.Config.{Atom, Boxes, Config, Held, an_atom, a_choice, held_in, Found, whole, site_of}
-use Rattle.akl_model.specs.Instances.{start, drawn_by}
-use Rattle.akl_model.specs.Rules.{Reading, Change, change_by, tell, fork_by, fork}
+use Rattle.akl_model.specs.Config.{Config, Held, an_atom, a_choice, held_in, Found, whole, site_of}
+use Rattle.akl_model.specs.Instances.{start}
+use Rattle.akl_model.specs.Rules.{Reading, Change, change_by, tell, fork}
 use Rattle.akl_model.specs.Conditions.{HasFailed, Makes}
 use Rattle.akl_model.specs.Stable.{Allows}
 use Rattle.akl_model.specs.Derivations.{IsInForce, Applies}

@@ -11,13 +11,14 @@ use Rattle.akl_model.specs.Config.{IsIn, Config, Held, held_in, Found, environme
 use Rattle.akl_model.specs.Wakes.{names_around, names_down_to}
 use Rattle.akl_model.proofs.NamesKept.{Stand, replay-stands, site-box}
 use Rattle.akl_model.proofs.Options.{map_some}
+use Rattle.akl_model.proofs.Scoped.{IsIn-either}
 use Rattle.step_laws.proofs.Whereabouts.{found_in}
 use Rattle.step_laws.proofs.Deeper.{Over, over, named_found, home_found}
 use Rattle.local_store.specs.Stored.{Stored}
 use Rattle.table_laws.specs.Rows.{BoxRow, GoalRow, Table, store_in, stores_along, told_in}
 use Rattle.table_laws.specs.Unfolds.{IsBoxRow, Spot, spot_of, Unfolds}
 use Rattle.table_laws.specs.Stamped.{store_stamp, goal_stamp, stamp_in}
-use Rattle.table_laws.proofs.Stores.{told_along, stores_join, in_either}
+use Rattle.table_laws.proofs.Stores.{told_along, stores_join}
 use Rattle.table_laws.proofs.Frame.{row_of, around_stands}
 use Rattle.box_tree.specs.declared.view.Sight.{Sight}
 use Rattle.box_tree.specs.Tables.{rules_in_force, table_of}
@@ -38,7 +39,7 @@ module _ (T : Table) (c : Config) (s : Stand c) (u : Unfolds T c) (f : Found) (e
   box_there m k i = let w : (r : BoxRow) × (T.box_of m ≡ Some r) × IsBoxRow T c.roots k r = row_of T c u m k i in ap (λ (o : Option BoxRow). is_some (store_stamp o)) w.1
 
   pub store_there : (m : Name) → IsIn m (names_down_to f) → IsSome (stamp_in T (Item.Store m))
-  store_there m h = elim (in_either m (names_around f) (f.content.name ∷ []) h) [
+  store_there m h = elim (IsIn-either m (names_around f) (f.content.name ∷ []) h) [
     | inl x ↦ let o : Over m f c.roots = over m f c.roots (found_in f.content.name c.roots f e) x in box_there m o.outer (named_found c.roots s.once m o.outer o.stands o.named)
     | inr x ↦ elim x [ inl q ↦ box_there m f (ap (λ (n : Name). box_at n c.roots) q ∙ e) | inr y ↦ absurd y ]
   ]

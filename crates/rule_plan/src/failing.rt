@@ -3,6 +3,7 @@
 ghost use Rattle.std.specs.Prelude.{◌≡◌, IfOk};
 ghost use Rattle.akl_terms.specs.declared.name.Place.{Place};
 ghost use Rattle.box_tree.specs.declared.view.Sight.{Sight};
+ghost use Rattle.box_tree.specs.Views.{IsViewOf};
 ghost use Rattle.rule_plan.specs.Planned.{IsPlannedBy};
 ghost use Rattle.rule_plan.specs.Failed.{FailsFor};
 
@@ -24,9 +25,9 @@ pub(crate) fn fail(
     requires program { program.now ≡ view.now.table.program }
     requires place { view.now.place ≡ Place.Box name }
     requires sight { view.now.sight ≡ Sight.Box failing }
+    requires seen { IsViewOf view.now }
     ensures { IfOk result (IsPlannedBy view.now) }
 {
-    let _place = view.place();
     match failing {
         Some(goal) => fail_by(alloc, view, Item::Goal(goal)),
         None => match consistent(alloc, &view.chain(&program.templates))? {

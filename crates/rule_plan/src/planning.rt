@@ -3,6 +3,7 @@
 ghost use Rattle.std.specs.Prelude.{◌≡◌, IfOk};
 ghost use Rattle.akl_terms.specs.declared.name.Place.{Place};
 ghost use Rattle.box_tree.specs.declared.view.Sight.{Sight};
+ghost use Rattle.box_tree.specs.Views.{IsViewOf};
 ghost use Rattle.rule_plan.specs.Planned.{IsPlannedBy};
 
 use crate::failing::fail;
@@ -41,9 +42,9 @@ fn plan_atom(
     requires program { program.now ≡ view.now.table.program }
     requires place { view.now.place ≡ Place.Goal goal }
     requires sight { view.now.sight ≡ Sight.Atom atom }
+    requires seen { IsViewOf view.now }
     ensures { IfOk result (IsPlannedBy view.now) }
 {
-    let _place = view.place();
     match atom.code {
         Code::Equal { left, right } => { tell(alloc, program, view, goal, atom.frame, left, right) }
         Code::Call {

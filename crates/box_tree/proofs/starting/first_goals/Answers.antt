@@ -1,4 +1,4 @@
-use Rattle.std.proofs.Common.{◌≡◌, ◌+◌, ◌∷◌, ◌++◌, [], length, take, get_or, sym, ap, subst, ◌∙◌, ℕ, List, arith}
+use Rattle.std.proofs.Common.{◌≡◌, ◌+◌, ◌∷◌, ◌++◌, [], length, take, get_or, sym, ap, ◌∙◌, ℕ, List, arith}
 use Rattle.std.proofs.lemmas.List.{take_more, length-take-le}
 use Rattle.akl_terms.specs.declared.name.Name.{Name}
 use Rattle.akl_terms.specs.declared.program.Code.{Code}

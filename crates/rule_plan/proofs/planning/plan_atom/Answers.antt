@@ -16,5 +16,5 @@ other_code nodes f (Code.Send m p) e c = tt
 other_code nodes f Code.Fail e c = tt
 
 pub returns-in_default : goal.returns-in_default
-returns-in_default c = atom_none c.args.view.now c.place-place.ensures.seen c.args.goal c.args.atom c.requires.place c.requires.sight
+returns-in_default c = atom_none c.args.view.now c.requires.seen c.args.goal c.args.atom c.requires.place c.requires.sight
     (other_code c.args.view.now.table.program.templates.nodes c.args.atom.frame c.args.atom.code c.in_default.not-Equal c.in_default.not-Call)

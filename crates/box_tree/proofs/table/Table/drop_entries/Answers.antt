@@ -1,4 +1,4 @@
-use Rattle.std.proofs.Common.{◌+◌, take, get_or, sym, subst, List}
+use Rattle.std.proofs.Common.{take, get_or, sym, subst}
 use Rattle.std.proofs.lemmas.List.{take_more}
 use Rattle.akl_terms.specs.declared.name.Name.{Name}
 use Rattle.box_tree.specs.Edits.{Clears}

@@ -1,6 +1,4 @@
-use Rattle.std.proofs.Common.{◌++◌, ◌∷◌, ◌+◌, ◌<◌, ◌-◌, ◌≡◌, List, length}
-use Rattle.akl_terms.specs.declared.name.Name.{Name}
-use Rattle.box_tree.specs.Tables.{table_of}
+use Rattle.std.proofs.Common.{◌-◌, length}
 use Rattle.box_tree.proofs.Looks.{Climb}
 use Rattle.box_tree.proofs.table.Table.path_to.Given as goal
 

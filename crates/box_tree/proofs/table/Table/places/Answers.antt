@@ -1,4 +1,4 @@
-use Rattle.std.proofs.Common.{◌≡◌, ◌++◌, ◌∷◌, [], map, sym, ap, ◌∙◌, List}
+use Rattle.std.proofs.Common.{◌++◌, map, ap, ◌∙◌, List}
 use Rattle.akl_terms.specs.declared.name.Name.{Name}
 use Rattle.akl_terms.specs.declared.name.Place.{Place}
 use Rattle.box_tree.specs.declared.entries.BoxEntry.{BoxEntry}

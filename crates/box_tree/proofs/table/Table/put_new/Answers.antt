@@ -1,4 +1,4 @@
-use Rattle.std.proofs.Common.{◌≡◌, List, Some, refl, sym, ap, ◌∙◌}
+use Rattle.std.proofs.Common.{List, Some, refl, ap, ◌∙◌}
 use Rattle.akl_terms.specs.declared.name.Name.{Name}
 use Rattle.akl_terms.specs.declared.program.Goal.{Goal}
 use Rattle.table_laws.specs.Writes.{first_fail}

@@ -1,11 +1,9 @@
-use Rattle.std.proofs.Common.{◌≡◌, refl, sym, ap, ◌∙◌, List, subst}
+use Rattle.std.proofs.Common.{refl, sym, ap, ◌∙◌, List}
 use Rattle.std.specs.Option.{option_copied_mut}
 use Rattle.akl_terms.specs.declared.name.Name.{Name}
-use Rattle.table_laws.specs.Rows.{BoxRow}
-use Rattle.table_laws.specs.Writes.{changed_box, told_row, less_name}
+use Rattle.table_laws.specs.Writes.{told_row}
 use Rattle.box_tree.specs.declared.entries.BoxEntry.{BoxEntry}
-use Rattle.box_tree.specs.Tables.{TableValue, table_of, box_row}
-use Rattle.box_tree.specs.Edits.{SetsBoxes}
+use Rattle.box_tree.specs.Tables.{TableValue, box_row}
 use Rattle.box_tree.proofs.Maps.{is_some_if, removed_is}
 use Rattle.box_tree.proofs.Written.{writes_box, writes_no_box}
 use Rattle.box_tree.proofs.table.Table.tell_box.Goals as goal

@@ -1,0 +1,2 @@
+pub mod RootTexts
+pub mod AllAnswers

@@ -1,0 +1,55 @@
+use Rattle.std.proofs.Common.{◌≡◌, ◌∙◌, sym, ap, subst, true, Err}
+use Rattle.local_store.specs.Asking.{Decides}
+use Rattle.local_store.specs.declared.asking.Consistency.TheVariants.{Consistent, Clash}
+use Rattle.box_tree.specs.Tables.{table_of, goals_in, is_empty}
+use Rattle.answer_text.specs.declared.lines.AnswerError.TheVariants as variants
+use Rattle.root_answers.proofs.RootTexts.{IsRootView, clashes, is_text, is_long}
+use Rattle.root_answers.proofs.root.root_text.Goals as goal
+
+-- src/root.rt:27:1
+pub returns-in-Ok-Clash-clause-text : goal.returns-in-Ok-Clash-clause-text
+returns-in-Ok-Clash-clause-text c =
+    let w : IsRootView c.args.core.now c.args.name c.in-Ok.view c.chain-chain.result = record {
+      seen = c.chain-chain.ensures.seen;
+      table = c.in-Ok.ensures.table;
+      journal = c.in-Ok.ensures.journal;
+      place = c.in-Ok.ensures.place;
+      nodes = c.chain-chain.ensures.nodes ∙ ap (λ p. p.templates.nodes) c.requires;
+      symbols = c.chain-chain.ensures.symbols ∙ ap (λ p. p.templates.symbols) c.requires;
+      stores = c.chain-chain.ensures.stores;
+    } in
+    clashes c.args.core.now c.args.name c.in-Ok.view c.chain-chain.result w c.in-Ok-Clash.field-0-0 c.in-Ok-Clash.field-0-1
+    (subst (Decides c.chain-chain.result.nodes c.chain-chain.result.stores) c.in-Ok-Clash.field-0-is c.in-Ok-Clash.ensures)
+
+-- src/root.rt:27:1
+pub returns-in-Ok-chain_answer-clause-text : goal.returns-in-Ok-chain_answer-clause-text
+returns-in-Ok-chain_answer-clause-text c =
+    let w : IsRootView c.args.core.now c.args.name c.in-Ok.view c.chain-chain.result = record {
+      seen = c.chain-chain.ensures.seen;
+      table = c.in-Ok.ensures.table;
+      journal = c.in-Ok.ensures.journal;
+      place = c.in-Ok.ensures.place;
+      nodes = c.chain-chain.ensures.nodes ∙ ap (λ p. p.templates.nodes) c.requires;
+      symbols = c.chain-chain.ensures.symbols ∙ ap (λ p. p.templates.symbols) c.requires;
+      stores = c.chain-chain.ensures.stores;
+    } in
+    is_text c.args.core.now c.args.name c.in-Ok.view c.chain-chain.result w c.shown_of.result.now c.in-Ok-chain_answer.text.items (sym c.if-not-is_solved.ensures)
+    (subst (Decides c.chain-chain.result.nodes c.chain-chain.result.stores) c.in-Ok-Consistent.field-0-is c.in-Ok-Consistent.ensures)
+    c.shown_of.ensures c.in-Ok-chain_answer.ensures.text c.in-Ok-chain_answer.ensures.short
+
+-- src/root.rt:18:1
+pub returns-clause-long : goal.returns-clause-long
+returns-clause-long c long =
+    let w : IsRootView c.args.core.now c.args.name c.in-Ok.view c.chain-chain.result = record {
+      seen = c.chain-chain.ensures.seen;
+      table = c.in-Ok.ensures.table;
+      journal = c.in-Ok.ensures.journal;
+      place = c.in-Ok.ensures.place;
+      nodes = c.chain-chain.ensures.nodes ∙ ap (λ p. p.templates.nodes) c.requires;
+      symbols = c.chain-chain.ensures.symbols ∙ ap (λ p. p.templates.symbols) c.requires;
+      stores = c.chain-chain.ensures.stores;
+    } in
+    let e : c.in-Err-chain_answer.error ≡ variants.Long = cc in
+    is_long c.args.core.now c.args.name c.in-Ok.view c.chain-chain.result w c.shown_of.result.now (sym c.if-not-is_solved.ensures)
+    (subst (Decides c.chain-chain.result.nodes c.chain-chain.result.stores) c.in-Ok-Consistent.field-0-is c.in-Ok-Consistent.ensures)
+    c.shown_of.ensures (c.chain_answer.ensures.long (c.in-Err-chain_answer.is ∙ ap Err e))

@@ -1,0 +1,57 @@
+-- The answers of a core's configuration.
+use Rattle.std.specs.Prelude.{◌≡◌, ℕ, List, [], length, Option, Some, None, option_map}
+use Rattle.std.proofs.Common.{Vec, Global}
+use Rattle.akl_terms.specs.declared.name.Name.{Name}
+use Rattle.akl_model.specs.Config.{Content, Goals, Found, box_at}
+use Rattle.akl_model.specs.Derivations.{IsAnswer, AreAnswers}
+use Rattle.answer_text.specs.Answers.{AreTooLong}
+use Rattle.table_laws.specs.Stamped.{IsTableOf}
+use Rattle.box_tree.specs.Tables.{rules_in_force, table_of}
+use Rattle.step_commit.specs.Cores.{CoreValue, run_by}
+use Rattle.root_answers.specs.Text.{shown_lines, IsTextOf, AreTexts, HasLongAnswer}
+use Rattle.root_answers.specs.declared.answers.Answered.{Answered}
+
+-- the table of a core, with the configuration to which it unfolds
+abbrev pub TableIn : CoreValue → Type 0
+TableIn c = IsTableOf rules_in_force (run_by c) (table_of c.table)
+
+abbrev pub symbols_of : CoreValue → List (List ℕ)
+symbols_of c = c.table.program.templates.symbols
+
+-- a box without boxes around it
+abbrev pub root_box : Content → Goals → Found
+root_box b gs = record { around = []; content = b; goals = gs }
+
+-- a fact of the root box of a name
+abbrev pub OfRoot : CoreValue → Name → (Content → Goals → Type 0) → Type 0
+OfRoot c name P = (t : TableIn c) (b : Content) (gs : Goals) → box_at name t.config.roots ≡ Some (root_box b gs) → P b gs
+
+-- the root box is an answer of this text, or none
+abbrev pub IsText : CoreValue → Name → Option (List ℕ) → Type 0
+IsText c name None = OfRoot c name (λ b gs. IsAnswer b gs → ⊥)
+IsText c name (Some text) = OfRoot c name (λ b gs. IsAnswer b gs × IsTextOf (symbols_of c) b text)
+
+abbrev pub HasText : CoreValue → Name → Option (Vec ℕ Global) → Type 0
+HasText c name o = IsText c name (option_map (λ (v : Vec ℕ Global). v.items) o)
+
+abbrev pub HasLongText : CoreValue → Name → Type 0
+HasLongText c name = OfRoot c name (λ b gs. IsAnswer b gs × AreTooLong (symbols_of c) b.equations (shown_lines b.shown))
+
+-- these are the texts of all answers
+pub record Answers (c : CoreValue) (t : TableIn c) (count : ℕ) (text : List ℕ) : Type 0 where
+  pub answers : List Content
+  pub are_answers : AreAnswers t.config.roots answers
+  pub counted : count ≡ length answers
+  pub are_texts : AreTexts (symbols_of c) 1 answers text
+
+abbrev pub HasAnswers : CoreValue → Answered → Type 0
+HasAnswers c a = (t : TableIn c) → Answers c t a.count a.text.items
+
+-- some answer is too long
+pub record LongAnswers (c : CoreValue) (t : TableIn c) : Type 0 where
+  pub answers : List Content
+  pub are_answers : AreAnswers t.config.roots answers
+  pub is_long : HasLongAnswer (symbols_of c) answers
+
+abbrev pub HasLongAnswers : CoreValue → Type 0
+HasLongAnswers c = (t : TableIn c) → LongAnswers c t
