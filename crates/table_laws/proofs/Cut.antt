@@ -1,5 +1,5 @@
 -- A cut leads from table to table: alternatives have gone, with all that stood in them.
-use Rattle.std.proofs.Common.{◌≡◌, ℕ, ◌+◌, ◌≤◌, List, [], ◌∷◌, ◌++◌, Bool, true, false, Option, Some, None, refl, sym, ◌∙◌, ap, subst, ◌⊎◌, inl, inr}
+use Rattle.std.proofs.Common.{◌≡◌, ℕ, ◌+◌, ◌≤◌, List, Bool, true, false, Option, Some, None, refl, sym, ◌∙◌, ap, subst, ◌⊎◌, inl, inr}
 use Rattle.std.specs.Prelude.{option_map, option_and_then, slice_index}
 use Rattle.akl_terms.specs.declared.name.Name.{Name}
 use Rattle.akl_terms.specs.declared.name.Place.{Place}
@@ -26,7 +26,7 @@ use Rattle.table_laws.specs.Rows.{BoxRow, GoalRow, Table}
 use Rattle.table_laws.specs.Unfolds.{FailsBy, IsBoxRow, spot_of}
 use Rattle.table_laws.specs.Stamped.{Run, followed_by, IsTableOf}
 use Rattle.table_laws.specs.Steps.{cuts, CutsGoal, Makes}
-use Rattle.table_laws.specs.Writes.{set, names_cut, cut_shape, cut_in, cut_from, cut_row, IsCut, IsGoalCut, Cuts, Leads}
+use Rattle.table_laws.specs.Writes.{names_cut, cut_shape, cut_in, cut_from, cut_row, IsCut, IsGoalCut, Cuts, Leads}
 use Rattle.table_laws.proofs.Sets.{other_by, set_here, set_other}
 use Rattle.table_laws.proofs.Stores.{IsAsTold}
 use Rattle.table_laws.proofs.Along as along

@@ -38,6 +38,7 @@ use Rattle.plan_laws.specs.Right.{Reads, NoneBy, IsRightOn}
 use Rattle.plan_laws.specs.Stamps as stamps
 use Rattle.plan_laws.proofs.Right.{fresh}
 use Rattle.plan_laws.proofs.StampLaws.{stamped, stamped_right}
+use Rattle.table_laws.proofs.Insides.{choice_of}
 use Rattle.table_laws.specs.Steps.{NewBox, Step, tells, forks, fails, cuts, promotes, CutsGoal, numbered, PromotesGoal, TellsGoal, AreNewBoxes, ForksGoal, Makes, ReadsFor}
 
 -- an atom by its shape
@@ -49,8 +50,9 @@ atom_shape a (Some (a_choice o bs)) e = cc
 -- a choice by its shape
 choice_shape : (o : Op) (bs : Boxes) (h : Option Held) → HaveShape (Some (a_choice o bs)) h → (cs : Boxes) × (h ≡ Some (a_choice o cs)) × (box_names bs ≡ box_names cs)
 choice_shape o bs None e = cc
-choice_shape o bs (Some (an_atom a)) e = cc
-choice_shape o bs (Some (a_choice u cs)) e = let r : o ≡ u = cc in let q : box_names bs ≡ box_names cs = cc in (cs, ap (λ (v : Op). Some (a_choice v cs)) (sym r), q)
+choice_shape o bs (Some h) e =
+    let w : (cs : Boxes) × (h ≡ a_choice o cs) × (box_names cs ≡ box_names bs) = choice_of h o (box_names bs) (sym (some_value e)) in
+    (w.0, ap Some w.1, sym w.2)
 
 -- new boxes under more equations around them
 more_around : (nodes : List Node) (E G : Equations) (news : List NewBox) (bs : Boxes) → AreToldIn E G → AreNewBoxes nodes E news bs → AreNewBoxes nodes G news bs

@@ -3,7 +3,6 @@ use Rattle.std.proofs.Common.{◌≡◌, ℕ, ◌+◌, ◌≤◌, ◌<◌, List,
 use Rattle.std.proofs.lemmas.Bool.Decides.{nat_tests}
 use Rattle.std.specs.Prelude.{if◌then◌else◌}
 use Rattle.akl_terms.specs.declared.name.Name.{Name}
-use Rattle.akl_terms.specs.declared.program.Op.{Op}
 use Rattle.akl_terms.specs.Names.{same_name, is_before}
 use Rattle.akl_terms.proofs.SameNames.{same_name-refl, same_name-equal}
 use Rattle.akl_model.specs.Config.{Atom, Content, Goals, no_goals, atom, choice, Held, an_atom, a_choice, held_in, with_goal, with_name, with_names}
@@ -16,7 +15,6 @@ use Rattle.akl_model.proofs.Drawn.{drawn_times, drawn_place}
 use Rattle.akl_model.proofs.Orders.{before_not, before_or, before_all_trans}
 use Rattle.step_laws.specs.Whereabouts.{BoxIn, InGoals}
 use Rattle.step_laws.proofs.GoalEdits.{goal_first, with_atoms_other}
-use Rattle.table_laws.specs.Rows.{GoalRow}
 use Rattle.table_laws.specs.Unfolds.{FailsBy}
 use Rattle.table_laws.specs.Steps.{numbered}
 use Rattle.table_laws.specs.Writes.{fails_first, first_fail, atom_among, or_fails}

@@ -1,9 +1,8 @@
 -- The only alternative of a choice joins the box: what the step makes of a table is a table of the run that goes on.
-use Rattle.std.proofs.Common.{◌≡◌, ℕ, ◌+◌, ◌≤◌, ◌<◌, List, [], ◌∷◌, ◌++◌, length, map, Bool, true, false, Option, Some, None, refl, sym, ◌∙◌, ap, subst, ◌⊎◌, inl, inr, arith, append_assoc}
-use Rattle.std.specs.Prelude.{if◌then◌else◌, slice_index, option_map, option_and_then}
+use Rattle.std.proofs.Common.{◌≡◌, ℕ, ◌+◌, ◌<◌, List, [], ◌∷◌, ◌++◌, length, map, Bool, true, false, Option, Some, None, refl, sym, ◌∙◌, ap, subst, ◌⊎◌, inl, inr, arith, append_assoc}
+use Rattle.std.specs.Prelude.{slice_index, option_map, option_and_then}
 use Rattle.akl_terms.specs.declared.name.Name.{Name}
 use Rattle.akl_terms.specs.declared.name.Place.{Place}
-use Rattle.akl_terms.specs.declared.program.Program.{Program}
 use Rattle.akl_terms.specs.declared.term.Node.{Node}
 use Rattle.akl_terms.specs.Equal.{Equations, IsTold}
 use Rattle.akl_terms.specs.Standing.{StandFor}
@@ -11,11 +10,11 @@ use Rattle.akl_terms.specs.Names.{same_name}
 use Rattle.akl_terms.proofs.SameNames.{same_name-refl, same_name-equal}
 use Rattle.akl_model.specs.declared.label.Rule.{Rule}
 use Rattle.akl_model.specs.declared.label.Label.{Label}
-use Rattle.akl_model.specs.Config.{Atom, Content, Boxes, no_boxes, box, Goals, no_goals, Config, Held, an_atom, a_choice, held_in, without_goal, with_names, Found, or_else, box_at, home_of, environment, whole}
+use Rattle.akl_model.specs.Config.{Atom, Content, no_boxes, box, Goals, no_goals, Config, an_atom, a_choice, held_in, without_goal, with_names, Found, or_else, box_at, home_of, environment, whole}
 use Rattle.akl_model.specs.Instances.{with_atoms}
-use Rattle.akl_model.specs.Rules.{Change, becomes, joining}
+use Rattle.akl_model.specs.Rules.{becomes, joining}
 use Rattle.akl_model.specs.Conditions.{IsFailing}
-use Rattle.akl_model.specs.Derivations.{Applies, raised}
+use Rattle.akl_model.specs.Derivations.{Applies}
 use Rattle.akl_model.specs.Changes.{of_atom, of_choice, shape_of, shape_at, box_names, goal_names}
 use Rattle.akl_model.specs.Wakes.{names_around, names_down_to}
 use Rattle.akl_model.proofs.NamesKept.{Stand, replay-stands}
@@ -229,9 +228,9 @@ module _ (rules : List Rule) (r : Run) (T U : Table) (l : Label) (d : Config) (t
   goal_goes : (i : Name) → GoalGoes T U t.config d i
   goal_goes i = elim (goal_or a.site.content.name (T.steps + 1) l.worker (slice_index t.config.next l.worker) makes.alternative.body (without_goal g a.site.goals) i
       (promoting.not_held rules r.program r.query r.journal t.config l d t.replays s a g place makes.operator makes.alternative makes.held change)) [
-    | inl none ↦ on none (same_name i g) refl
-    | inr w ↦ fresh w.0 w.1 w.2 w.3
-  ]
+        | inl none ↦ on none (same_name i g) refl
+        | inr w ↦ fresh w.0 w.1 w.2 w.3
+      ]
     where
       fresh : (x : Atom) → atom_among a.site.content.name (T.steps + 1) (numbered l.worker (slice_index t.config.next l.worker) makes.alternative.body) i ≡ Some (record { home = a.site.content.name; shape = of_atom x; changed = T.steps + 1 })
           → held_in i (with_atoms l.worker (slice_index t.config.next l.worker) makes.alternative.body (without_goal g a.site.goals)) ≡ Some (an_atom x)

@@ -1,6 +1,6 @@
 -- What stands where the only alternative of a choice, which has no goals, has joined the box of the choice.
 use Rattle.std.proofs.Common.{◌≡◌, ℕ, ◌+◌, ◌≤◌, ◌<◌, List, [], ◌∷◌, ◌++◌, length, Bool, true, false, Option, Some, None, refl, sym, ◌∙◌, ap, subst, ◌⊎◌, inl, inr, arith}
-use Rattle.std.specs.Prelude.{if◌then◌else◌, slice_index, option_map, option_and_then}
+use Rattle.std.specs.Prelude.{if◌then◌else◌, slice_index, option_map}
 use Rattle.akl_terms.specs.declared.name.Name.{Name}
 use Rattle.akl_terms.specs.declared.name.Place.{Place}
 use Rattle.akl_terms.specs.declared.program.Op.{Op}
@@ -11,7 +11,7 @@ use Rattle.akl_terms.proofs.SameNames.{same_name-refl, same_name-equal}
 use Rattle.akl_model.specs.declared.item.Item.{Item}
 use Rattle.akl_model.specs.declared.label.Rule.{Rule}
 use Rattle.akl_model.specs.declared.label.Label.{Label}
-use Rattle.akl_model.specs.Config.{IsIn, Atom, Content, Boxes, no_boxes, box, Goals, no_goals, atom, choice, Config, Held, an_atom, a_choice, held_in, without_goal, with_names, Found, box_at, home_of, site_of}
+use Rattle.akl_model.specs.Config.{IsIn, Atom, Content, no_boxes, box, Goals, no_goals, atom, choice, Config, an_atom, a_choice, held_in, without_goal, with_names, Found, box_at, home_of, site_of}
 use Rattle.akl_model.specs.Instances.{with_atoms}
 use Rattle.akl_model.specs.Rules.{Reading, Change, becomes, joining, promote, change_by}
 use Rattle.akl_model.specs.Derivations.{Applies, Replays}
@@ -34,7 +34,7 @@ use Rattle.step_laws.proofs.Edits.{AfterEdit, outside, replaced}
 use Rattle.step_laws.proofs.GoalEdits.{HasGoal, has_names, held_inside, unsolved, without_in, without_gone, without_other, with_atoms_in, with_atoms_other}
 use Rattle.step_laws.proofs.Holders.{choice_less}
 use Rattle.step_laws.proofs.Becomes.{Becomes, IsBox}
-use Rattle.step_laws.proofs.Steps.{Moved, moved, names_kept, after_edit, made, site_now, site_stands, site_there, found, later_step}
+use Rattle.step_laws.proofs.Steps.{moved, names_kept, after_edit, made, site_now, site_stands, site_there, found, later_step}
 use Rattle.step_laws.proofs.ChangedItems.{frame_names, items}
 use Rattle.step_laws.proofs.Stays.{like_home}
 use Rattle.table_laws.specs.Unfolds.{spot_in}
@@ -44,7 +44,7 @@ use Rattle.table_laws.proofs.Insides.{spot_none}
 use Rattle.table_laws.proofs.Gone.{goals_once}
 use Rattle.table_laws.proofs.Fresh.{drawn_nowhere}
 use Rattle.table_laws.proofs.NewGoals.{NotHeld, keeps_atoms}
-use Rattle.table_laws.proofs.Framed.{HasFrame, framed}
+use Rattle.table_laws.proofs.Framed.{framed}
 
 -- the change of a promotion
 pub promoted_change : (p : Program) (v : Reading) (w next : ℕ) (g n : Name) (rule : Rule) (place : Place) (alternative : Option Name) (f : Found) (c : Change) (op : Op) (alt : Content) → rule ≡ Rule.Promote → place ≡ Place.Goal g
@@ -161,7 +161,7 @@ module _ (rules : List Rule) (p : Program) (q : Query) (journal : List Label) (c
       let x : InGoals o.rest f.content f.goals (with_atoms l.worker (slice_index c.next l.worker) alt.body (without_goal g m.site.goals)) =
       subst (InGoals o.rest f.content f.goals) (ap (λ (k : Found). k.goals) e ∙ goals_now) o.inside in
       inside f.content.name name (among_named (without_goal g m.site.goals) (record { around = o.rest; content = f.content; goals = f.goals })
-          (with_atoms_in l.worker (slice_index c.next l.worker) alt.body o.rest f.content f.goals (without_goal g m.site.goals) x)))
+      (with_atoms_in l.worker (slice_index c.next l.worker) alt.body o.rest f.content f.goals (without_goal g m.site.goals) x)))
     where
       inside : (n : Name) → alt.name ≡ n → 1 ≤ times_inside n (without_goal g m.site.goals) → ⊥
       inside n e h =
