@@ -123,13 +123,15 @@ is_empty (n ∷ ns) = false
 abbrev pub shown_trees_of : TableValue → List ShownTerm → List ShownTree
 shown_trees_of t terms = map (shown_tree t.program.templates.nodes) terms
 
--- a step may be made of a table to which a run has come: its place is of the kind that it needs, and the names that it draws stand nowhere,
--- those of a box's goals in increasing order
-abbrev pub FitsPlace : Place → laws.Step → Type 0
-FitsPlace (Place.Goal g) (laws.tells new solved) = ⊤
-FitsPlace (Place.Goal g) (laws.forks op news) = ⊤
-FitsPlace (Place.Box n) laws.fails = ⊤
-FitsPlace place step = ⊥
+-- a step may be made of a table to which a run has come: its label has a place of the kind that it needs, and an alternative where it needs
+-- one, and the names that it draws stand nowhere, those of a box's new goals in increasing order
+abbrev pub FitsPlace : Place → laws.Step → Option Name → Type 0
+FitsPlace (Place.Goal g) (laws.tells new solved) alternative = ⊤
+FitsPlace (Place.Goal g) (laws.forks op news) alternative = ⊤
+FitsPlace (Place.Goal g) laws.cuts (Some n) = ⊤
+FitsPlace (Place.Goal g) (laws.promotes new solved goals) (Some n) = ⊤
+FitsPlace (Place.Box n) laws.fails alternative = ⊤
+FitsPlace place step alternative = ⊥
 
 abbrev pub AreInOrder : List laws.NewBox → Type 0
 AreInOrder [] = ⊤
@@ -139,11 +141,13 @@ abbrev pub DrawsInOrder : laws.Step → Type 0
 DrawsInOrder (laws.tells new solved) = ⊤
 DrawsInOrder (laws.forks op news) = AreInOrder news
 DrawsInOrder laws.fails = ⊤
+DrawsInOrder laws.cuts = ⊤
+DrawsInOrder (laws.promotes new solved goals) = IsIncreasing (map (λ (x : Name × Atom). x.0) goals)
 
 pub record MayApply (t : TableValue) (l : Label) (step : Step) : Type 0 where
   pub run : Run
   pub table : IsTableOf rules_in_force run (table_of t)
-  pub fits : FitsPlace l.place (step_of t.program.templates.nodes step)
+  pub fits : FitsPlace l.place (step_of t.program.templates.nodes step) l.alternative
   pub fresh : DrawsFresh (table_of t) (step_of t.program.templates.nodes step)
   pub ordered : DrawsInOrder (step_of t.program.templates.nodes step)
 

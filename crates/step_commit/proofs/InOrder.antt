@@ -1,4 +1,4 @@
--- The goals of new boxes have names in increasing order.
+-- The goals that a step draws have names in increasing order, those of each new box and those that come into the box of the place.
 use Rattle.std.proofs.Common.{◌≡◌, ℕ, List, [], ◌∷◌, map, sym, subst}
 use Rattle.akl_terms.specs.declared.name.Name.{Name}
 use Rattle.akl_terms.specs.declared.term.Node.{Node}
@@ -10,8 +10,9 @@ use Rattle.akl_model.specs.Changes.{goal_names}
 use Rattle.akl_model.specs.Instances.{instances}
 use Rattle.akl_model.specs.Ordered.{IsIncreasing, BoxesOrdered, GoalsOrdered}
 use Rattle.akl_model.proofs.OrdersKept.{instances_ordered}
-use Rattle.table_laws.specs.Steps.{NewBox, Step, tells, forks, fails, AreNewBoxes, Makes}
+use Rattle.table_laws.specs.Steps.{NewBox, Step, tells, forks, fails, cuts, promotes, AreNewBoxes, Makes}
 use Rattle.table_laws.proofs.Atoms.{atom_names}
+use Rattle.table_laws.proofs.NewGoals.{numbered_increase}
 use Rattle.box_tree.specs.Tables.{AreInOrder, DrawsInOrder}
 
 names_increase : (gs : Goals) → GoalsOrdered gs → IsIncreasing (goal_names gs)
@@ -33,3 +34,6 @@ makes_ordered p l next f (forks op news) m =
     let k : _ = m.1.2 in
     new_in_order p.templates.nodes _ news (instances p.templates.nodes l.worker next k.arguments k.definition.clauses) k.boxes (instances_ordered p.templates.nodes l.worker next k.arguments k.definition.clauses)
 makes_ordered p l next f fails m = tt
+makes_ordered p l next f cuts m = tt
+makes_ordered p l next f (promotes new solved goals) m =
+    subst (λ (xs : List (Name × Atom)). IsIncreasing (map (λ (x : Name × Atom). x.0) xs)) (sym m.1.4.body) (numbered_increase l.worker next m.1.4.alternative.body)

@@ -32,16 +32,22 @@ some_none : {A : Type 0} {x : A} → None ≡ Some x → ⊥
 some_none e = cc
 
 -- Fail stands at a box
-fail_place : (p : Program) (v : Reading) (w n : ℕ) (r : Rule) (place : Place) (a : Option Name) (f : Found) (c : Change) → r ≡ Rule.Fail → change_by p v w n r place a f ≡ Some c → FitsPlace place laws.fails
+fail_place : (p : Program) (v : Reading) (w n : ℕ) (r : Rule) (place : Place) (a : Option Name) (f : Found) (c : Change) → r ≡ Rule.Fail → change_by p v w n r place a f ≡ Some c → FitsPlace place laws.fails a
 fail_place p v w n r (Place.Box m) a f c e i = tt
 fail_place p v w n r (Place.Goal g) a f c e i = some_none (subst (λ (x : Rule). change_by p v w n x (Place.Goal g) a f ≡ Some c) e i)
 
-fits_goal : (place : Place) (g : Name) (step : laws.Step) → place ≡ Place.Goal g → FitsPlace (Place.Goal g) step → FitsPlace place step
-fits_goal place g step e f = subst (λ (x : Place). FitsPlace x step) (sym e) f
+fits_goal : (place : Place) (alternative : Option Name) (g : Name) (step : laws.Step) → place ≡ Place.Goal g → FitsPlace (Place.Goal g) step alternative → FitsPlace place step alternative
+fits_goal place alternative g step e f = subst (λ (x : Place). FitsPlace x step alternative) (sym e) f
 
-fits : (rules : List Rule) (p : Program) (c : Config) (l : Label) (d : Config) (n : ℕ) (a : Applies rules p c l d) (step : laws.Step) → Makes p l n a.site step → FitsPlace l.place step
-fits rules p c l d n a (laws.tells new solved) m = fits_goal l.place m.1.0 (laws.tells new solved) m.1.1 tt
-fits rules p c l d n a (laws.forks op news) m = fits_goal l.place m.1.0 (laws.forks op news) m.1.1 tt
+-- with its alternative
+fits_alternative : (place : Place) (alternative : Option Name) (g n : Name) (step : laws.Step) → place ≡ Place.Goal g → alternative ≡ Some n → FitsPlace (Place.Goal g) step (Some n) → FitsPlace place step alternative
+fits_alternative place alternative g n step e a f = fits_goal place alternative g step e (subst (FitsPlace (Place.Goal g) step) (sym a) f)
+
+fits : (rules : List Rule) (p : Program) (c : Config) (l : Label) (d : Config) (n : ℕ) (a : Applies rules p c l d) (step : laws.Step) → Makes p l n a.site step → FitsPlace l.place step l.alternative
+fits rules p c l d n a (laws.tells new solved) m = fits_goal l.place l.alternative m.1.0 (laws.tells new solved) m.1.1 tt
+fits rules p c l d n a (laws.forks op news) m = fits_goal l.place l.alternative m.1.0 (laws.forks op news) m.1.1 tt
+fits rules p c l d n a laws.cuts m = fits_alternative l.place l.alternative m.1.0 m.1.1 laws.cuts m.1.2 m.1.3 tt
+fits rules p c l d n a (laws.promotes new solved goals) m = fits_alternative l.place l.alternative m.1.0 m.1.1 (laws.promotes new solved goals) m.1.2 m.1.3 tt
 fits rules p c l d n a laws.fails m = fail_place p a.makes.reading l.worker _ l.rule l.place l.alternative a.site a.change m a.makes.change
 
 -- the number of labels is that of the plan's view, where it is given

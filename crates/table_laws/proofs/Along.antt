@@ -154,7 +154,7 @@ module _ (rules : List Rule) (p : Program) (c : Config) (l : Label) (d : Config)
       omega arith)
 
   -- a box that the box of the place is around before, it is around afterwards
-  under_was : (e : Found) → Stands e c.roots → IsIn m.site.content.name (names_around e) → (rest : List Content) × (e.around ≡ m.site.around ++ m.site.content ∷ rest) × InGoals rest e.content e.goals m.site.goals
+  pub under_was : (e : Found) → Stands e c.roots → IsIn m.site.content.name (names_around e) → (rest : List Content) × (e.around ≡ m.site.around ++ m.site.content ∷ rest) × InGoals rest e.content e.goals m.site.goals
   under_was e x i =
       let o : Over m.site.content.name e c.roots = over m.site.content.name e c.roots x i in
       let q : o.outer ≡ m.site = one_box c.roots s.once o.outer m.site o.stands (site_stands rules p c l d s m) (sym o.named) in
@@ -224,10 +224,10 @@ module _ (rules : List Rule) (p : Program) (c : Config) (l : Label) (d : Config)
           (edit_new m.site.content.name m.change.boxes (b.content ∷ rest) k hs first c.roots m.site.around m.site.content m.site.goals (site_stands rules p c l d s m) (same_name-refl m.site.content.name)
           (not_among m.site.content.name m.change.boxes m.site.around site_apart))
 
-  -- where what stands in the box stays in it, each box stays
-  pub all_stay : (b : Becomes l.worker (slice_index c.next l.worker) m.site m.change) → ((rest : List Content) (k : Content) (hs : Goals) → InGoals rest k hs m.site.goals → InGoals rest k hs b.goals)
-      → (n : Name) (e : Found) → box_at n c.roots ≡ Some e → (f : Found) × (box_at n d.roots ≡ Some f)
-  all_stay b h n e i = on (same_name m.site.content.name n) refl
+  -- a box stays, where it stays in the box of the place if it is in it
+  pub stays_where : (b : Becomes l.worker (slice_index c.next l.worker) m.site m.change) (n : Name) (e : Found) → box_at n c.roots ≡ Some e
+      → ((rest : List Content) → InGoals rest e.content e.goals m.site.goals → InGoals rest e.content e.goals b.goals) → (f : Found) × (box_at n d.roots ≡ Some f)
+  stays_where b n e i h = on (same_name m.site.content.name n) refl
     where
       on : (u : Bool) → same_name m.site.content.name n ≡ u → (f : Found) × (box_at n d.roots ≡ Some f)
       on true q = (site_now b, subst (λ (k : Name). box_at k d.roots ≡ Some (site_now b)) (same_name-equal m.site.content.name n q) (site_there rules p c l d s m b))
@@ -235,8 +235,13 @@ module _ (rules : List Rule) (p : Program) (c : Config) (l : Label) (d : Config)
         | inr none ↦ stays_out n e i q none
         | inl y ↦
             let w : (rest : List Content) × (e.around ≡ m.site.around ++ m.site.content ∷ rest) × InGoals rest e.content e.goals m.site.goals = under_was e (found_in n c.roots e i) y in
-            (record { around = m.site.around ++ b.content ∷ w.0; content = e.content; goals = e.goals }, stays_in b n w.0 e.content e.goals (box-itself n c.roots e i) (h w.0 e.content e.goals w.2))
+            (record { around = m.site.around ++ b.content ∷ w.0; content = e.content; goals = e.goals }, stays_in b n w.0 e.content e.goals (box-itself n c.roots e i) (h w.0 w.2))
       ]
+
+  -- where what stands in the box stays in it, each box stays
+  pub all_stay : (b : Becomes l.worker (slice_index c.next l.worker) m.site m.change) → ((rest : List Content) (k : Content) (hs : Goals) → InGoals rest k hs m.site.goals → InGoals rest k hs b.goals)
+      → (n : Name) (e : Found) → box_at n c.roots ≡ Some e → (f : Found) × (box_at n d.roots ≡ Some f)
+  all_stay b h n e i = stays_where b n e i (λ rest x. h rest e.content e.goals x)
 
   -- a box around one that is there is there, before and afterwards
   pub around_there : (e f : Found) → Stands e c.roots → Stands f d.roots → names_around e ≡ names_around f → (n : Name) → IsIn n (names_around e) → ((x : Found) × (box_at n c.roots ≡ Some x)) × ((y : Found) × (box_at n d.roots ≡ Some y))

@@ -95,7 +95,7 @@ atom_changed home number (x ∷ xs) m row e = on (same_name m x.0) e (λ i. atom
 
 -- the first of them by which the box fails
 
-not_first : (g : Name) (a : Atom) (o : Option Name) → (a ≡ Atom.fail) ⊎ ((fails_first g a o ≡ o) × (IsFailing (an_atom a) → ⊥))
+pub not_first : (g : Name) (a : Atom) (o : Option Name) → (a ≡ Atom.fail) ⊎ ((fails_first g a o ≡ o) × (IsFailing (an_atom a) → ⊥))
 not_first g (Atom.equation s t) o = inr (refl, λ x. x)
 not_first g (Atom.arithmetic test l r) o = inr (refl, λ x. x)
 not_first g (Atom.open_port p s) o = inr (refl, λ x. x)

@@ -49,7 +49,7 @@ use Rattle.table_laws.proofs.Gone.{empty_fails}
 use Rattle.table_laws.proofs.Sets.{turned}
 
 -- next numbers that read the same are raised alike
-raised_same : (w k v : ℕ) (xs ys : List ℕ) → ((i : ℕ) → slice_index xs i ≡ slice_index ys i) → slice_index (raised w k xs) v ≡ slice_index (raised w k ys) v
+pub raised_same : (w k v : ℕ) (xs ys : List ℕ) → ((i : ℕ) → slice_index xs i ≡ slice_index ys i) → slice_index (raised w k xs) v ≡ slice_index (raised w k ys) v
 raised_same zero k zero [] [] h = refl
 raised_same zero k zero [] (y ∷ ys) h = let e : 0 ≡ y = h 0 in omega arith
 raised_same zero k zero (x ∷ xs) [] h = let e : x ≡ 0 = h 0 in omega arith

@@ -80,7 +80,7 @@ pub equations_join : (A B : List Content) → equations_of (A ++ B) ≡ equation
 equations_join [] B = refl
 equations_join (x ∷ A) B = ap (λ (E : Equations). x.equations ++ E) (equations_join A B) ∙ sym (append_assoc x.equations (equations_of A) (equations_of B))
 
-names_split : (f : Found) (A : List Content) (b : Content) (rest : List Content) → f.around ≡ A ++ b ∷ rest
+pub names_split : (f : Found) (A : List Content) (b : Content) (rest : List Content) → f.around ≡ A ++ b ∷ rest
     → names_down_to f ≡ map (λ (k : Content). k.name) A ++ b.name ∷ (map (λ (k : Content). k.name) rest ++ f.content.name ∷ [])
 names_split f A b rest e = ap (λ (r : List Content). map (λ (k : Content). k.name) r ++ f.content.name ∷ []) e ∙ ap (λ (ns : List Name). ns ++ f.content.name ∷ []) (names_join A (b ∷ rest))
     ∙ append_assoc (map (λ (k : Content). k.name) A) (b.name ∷ map (λ (k : Content). k.name) rest) (f.content.name ∷ [])

@@ -1,5 +1,5 @@
--- The names that a fork draws are the next ones of its worker: they stand nowhere in a table, and no two are the same.
-use Rattle.std.proofs.Common.{◌≡◌, ℕ, ◌+◌, ◌≤◌, ◌<◌, List, [], ◌∷◌, ◌++◌, Option, Some, None, refl, ◌∙◌, ap, subst, ◌⊎◌, inl, inr, arith}
+-- The names that a step draws are the next ones of its worker: they stand nowhere in a table, and no two are the same.
+use Rattle.std.proofs.Common.{◌≡◌, ℕ, ◌+◌, ◌≤◌, ◌<◌, List, [], ◌∷◌, ◌++◌, length, map, Option, Some, None, refl, sym, ◌∙◌, ap, subst, ◌⊎◌, inl, inr, arith}
 use Rattle.std.specs.Prelude.{option_map, option_and_then, slice_index}
 use Rattle.akl_terms.specs.declared.name.Name.{Name}
 use Rattle.akl_terms.specs.declared.term.Node.{Node}
@@ -7,7 +7,7 @@ use Rattle.akl_terms.specs.Equal.{Equations}
 use Rattle.akl_terms.specs.Names.{same_name}
 use Rattle.akl_model.specs.declared.label.Rule.{Rule}
 use Rattle.akl_model.specs.declared.label.Label.{Label}
-use Rattle.akl_model.specs.Config.{IsIn, Boxes, no_boxes, box, Goals, no_goals, atom, choice, Config, Held, held_in, Found, whole}
+use Rattle.akl_model.specs.Config.{IsIn, Atom, Boxes, no_boxes, box, Goals, no_goals, atom, choice, Config, Held, held_in, Found, whole}
 use Rattle.akl_model.specs.Instances.{instances, drawn_by}
 use Rattle.akl_model.specs.Derivations.{Applies}
 use Rattle.akl_model.specs.Changes.{goal_names, shape_of}
@@ -21,8 +21,8 @@ use Rattle.step_laws.proofs.Whereabouts.{home_of-none}
 use Rattle.table_laws.specs.Rows.{BoxRow, Table}
 use Rattle.table_laws.specs.Unfolds.{IsBoxRow, AreBoth, spot_of, Unfolds}
 use Rattle.table_laws.specs.Stamped.{Run, IsTableOf}
-use Rattle.table_laws.specs.Steps.{ForksGoal, NewBox, Step, tells, forks, fails, AreNewBoxes, Makes}
-use Rattle.table_laws.specs.Writes.{names_drawn, DrawsFresh}
+use Rattle.table_laws.specs.Steps.{ForksGoal, NewBox, Step, tells, forks, fails, cuts, promotes, numbered, PromotesGoal, AreNewBoxes, Makes}
+use Rattle.table_laws.specs.Writes.{names_drawn, IsFresh, DrawsFresh}
 use Rattle.table_laws.proofs.Atoms.{first_names, atom_names}
 
 goal_names_less : (m : Name) (gs : Goals) → times_in m (goal_names gs) ≤ times_inside m gs
@@ -69,10 +69,33 @@ drawn_nowhere c w k m s h = on (zero_or (times m c.roots))
         let b : slice_index c.next w ≤ m.number = v.1 in
         absurd (omega arith)
 
+-- atoms under the names that are drawn next
+pub numbered_counted : (m : Name) (w n : ℕ) (atoms : List Atom) → times_in m (map (λ (x : Name × Atom). x.0) (numbered w n atoms)) ≡ drawn_times m w n (length atoms)
+numbered_counted m w n [] = refl
+numbered_counted m w n (a ∷ rest) = ap (λ (k : ℕ). one_if (same_name m (record { worker = w; number = n })) + k) (numbered_counted m w (n + 1) rest)
+
+pub numbered_fresh : (T : Table) (c : Config) (u : Unfolds T c) (s : Stand c) (w : ℕ) (atoms : List Atom) → IsFresh T (map (λ (x : Name × Atom). x.0) (numbered w (slice_index c.next w) atoms))
+numbered_fresh T c u s w atoms = record {
+  once = λ m. let o : drawn_times m w (slice_index c.next w) (length atoms) ≤ 1 = drawn_once m w (slice_index c.next w) (length atoms) in let e : times_in m (map (λ (x : Name × Atom). x.0) (numbered w (slice_index c.next w) atoms)) ≡ drawn_times m w (slice_index c.next w) (length atoms) = counted m in omega (arith, o, e);
+  no_box = λ m i. no_row_box T c m u (nowhere m i);
+  no_goal = λ m i. no_row_goal T c m u (nowhere m i);
+}
+  where
+    counted : (m : Name) → times_in m (map (λ (x : Name × Atom). x.0) (numbered w (slice_index c.next w) atoms)) ≡ drawn_times m w (slice_index c.next w) (length atoms)
+    counted m = numbered_counted m w (slice_index c.next w) atoms
+
+    nowhere : (m : Name) → IsIn m (map (λ (x : Name × Atom). x.0) (numbered w (slice_index c.next w) atoms)) → times m c.roots ≡ 0
+    nowhere m i = drawn_nowhere c w (length atoms) m s (subst (λ (k : ℕ). 1 ≤ k) (counted m) (counted_in m (map (λ (x : Name × Atom). x.0) (numbered w (slice_index c.next w) atoms)) i))
+
 pub fresh_step : (rules : List Rule) (r : Run) (T : Table) (l : Label) (d : Config) (t : IsTableOf rules r T) (a : Applies rules r.program t.config l d) (step : Step)
     → Makes r.program l (slice_index t.config.next l.worker) a.site step → DrawsFresh T step
 fresh_step rules r T l d t a (tells new solved) makes = tt
 fresh_step rules r T l d t a fails makes = tt
+fresh_step rules r T l d t a cuts makes = tt
+fresh_step rules r T l d t a (promotes new solved goals) makes =
+    let m : PromotesGoal r.program.templates.nodes l.worker (slice_index t.config.next l.worker) a.site makes.1.0 makes.1.1 new goals = makes.1.4 in
+    subst (λ (xs : List (Name × Atom)). IsFresh T (map (λ (x : Name × Atom). x.0) xs)) (sym m.body)
+    (numbered_fresh T t.config t.unfolds (replay-stands rules r.program r.query r.journal t.config t.replays) l.worker m.alternative.body)
 fresh_step rules r T l d t a (forks op news) makes = record {
   once = λ m. let k : times_in m (names_drawn news) ≤ drawn_times m l.worker next drawn = counted m in let o : drawn_times m l.worker next drawn ≤ 1 = drawn_once m l.worker next drawn in omega arith;
   no_box = λ m i. no_row_box T t.config m t.unfolds (nowhere m i);

@@ -42,7 +42,7 @@ spot_held g roots f h e i =
 pub spot_none : (g : Name) (roots : Boxes) → home_of g roots ≡ None → spot_in g roots ≡ None
 spot_none g roots e = ap (option_and_then (λ (k : Found). option_map (λ (x : Held). record { home = k.content.name; shape = shape_of x }) (held_in g k.goals))) e
 
-choice_of : (h : Held) (o : Op) (ns : List Name) → shape_of h ≡ of_choice o ns → (bs : Boxes) × (h ≡ a_choice o bs) × (box_names bs ≡ ns)
+pub choice_of : (h : Held) (o : Op) (ns : List Name) → shape_of h ≡ of_choice o ns → (bs : Boxes) × (h ≡ a_choice o bs) × (box_names bs ≡ ns)
 choice_of (an_atom a) o ns e = cc
 choice_of (a_choice q bs) o ns e = let r : q ≡ o = cc in (bs, ap (λ (x : Op). a_choice x bs) r, cc)
 

@@ -1,6 +1,6 @@
 -- A step that was made for a prefix of a run is right for the whole of it, where by its stamps what it reads is unchanged.
-use Rattle.std.proofs.Common.{◌≡◌, ℕ, List, [], ◌∷◌, ◌++◌, length, Option, Some, None, sym, ◌∙◌, ap, subst, ◌⊎◌, inl, inr}
-use Rattle.std.specs.Prelude.{slice_index}
+use Rattle.std.proofs.Common.{◌≡◌, ℕ, List, [], ◌∷◌, ◌++◌, length, Bool, true, false, Option, Some, None, refl, sym, ◌∙◌, ap, subst, ◌⊎◌, inl, inr}
+use Rattle.std.specs.Prelude.{if◌then◌else◌, slice_index}
 use Rattle.akl_terms.specs.declared.name.Name.{Name}
 use Rattle.akl_terms.specs.declared.name.Place.{Place}
 use Rattle.akl_terms.specs.declared.term.Node.{Node}
@@ -12,7 +12,11 @@ use Rattle.akl_terms.specs.Standing.{StandFor}
 use Rattle.akl_model.specs.declared.item.Item.{Item}
 use Rattle.akl_model.specs.declared.label.Rule.{Rule}
 use Rattle.akl_model.specs.declared.label.Label.{Label}
-use Rattle.akl_model.specs.Config.{IsIn, Atom, Content, Boxes, no_boxes, box, Config, Held, an_atom, a_choice, held_in, Found, whole, box_at, home_of, site_of}
+use Rattle.akl_terms.specs.Names.{same_name}
+use Rattle.akl_terms.proofs.SameNames.{same_name-refl}
+use Rattle.akl_model.specs.Changes.{box_names}
+use Rattle.akl_model.specs.Rules.{alternative_of}
+use Rattle.akl_model.specs.Config.{IsIn, Atom, Content, Boxes, no_boxes, box, no_goals, with_names, with_ports, equations_of, Config, Held, an_atom, a_choice, held_in, Found, whole, box_at, home_of, site_of}
 use Rattle.akl_model.specs.Instances.{instances}
 use Rattle.akl_model.specs.Derivations.{Applies, Derives, Replays}
 use Rattle.akl_model.specs.Wakes.{names_down_to}
@@ -21,19 +25,34 @@ use Rattle.akl_model.proofs.NamesKept.{Stand, replay-stands, derived-stands, sit
 use Rattle.constraint_laws.specs.StandingGrows.{AreToldIn}
 use Rattle.constraint_laws.proofs.StandsGrow.{same_told_stands, stands_over, stands_within}
 use Rattle.rational_unify.specs.Solving.{bindings_in}
-use Rattle.step_laws.specs.Stays.{GoesOn, Leaves, HaveShape, HaveSameEquations}
+use Rattle.local_store.specs.Stored.{Stored}
+use Rattle.akl_model.proofs.RuleCases.{inner}
+use Rattle.step_laws.specs.Stays.{GoesOn, Leaves, HaveShape, IsSameBox, HaveSameEquations}
+use Rattle.step_laws.specs.Likeness.{IsLike}
+use Rattle.step_laws.proofs.Steps.{Later, later}
+use Rattle.step_laws.proofs.Same.{IsSame}
+use Rattle.step_laws.proofs.Same as untouched
+use Rattle.step_laws.proofs.Stays.{solved_alternative_stays}
 use Rattle.step_laws.proofs.StaysLaws.{goal_stays, goal_place, equations_grow}
 use Rattle.plan_laws.specs.Right.{Reads, NoneBy, IsRightOn}
 use Rattle.plan_laws.specs.Stamps as stamps
 use Rattle.plan_laws.proofs.Right.{fresh}
 use Rattle.plan_laws.proofs.StampLaws.{stamped, stamped_right}
-use Rattle.table_laws.specs.Steps.{NewBox, Step, tells, forks, fails, TellsGoal, AreNewBoxes, ForksGoal, Makes, ReadsFor}
+use Rattle.table_laws.proofs.Insides.{choice_of}
+use Rattle.table_laws.specs.Steps.{NewBox, Step, tells, forks, fails, cuts, promotes, CutsGoal, numbered, PromotesGoal, TellsGoal, AreNewBoxes, ForksGoal, Makes, ReadsFor}
 
 -- an atom by its shape
 atom_shape : (a : Atom) (h : Option Held) → HaveShape (Some (an_atom a)) h → h ≡ Some (an_atom a)
 atom_shape a None e = cc
 atom_shape a (Some (an_atom b)) e = let r : a ≡ b = cc in ap (λ (x : Atom). Some (an_atom x)) (sym r)
 atom_shape a (Some (a_choice o bs)) e = cc
+
+-- a choice by its shape
+choice_shape : (o : Op) (bs : Boxes) (h : Option Held) → HaveShape (Some (a_choice o bs)) h → (cs : Boxes) × (h ≡ Some (a_choice o cs)) × (box_names bs ≡ box_names cs)
+choice_shape o bs None e = cc
+choice_shape o bs (Some h) e =
+    let w : (cs : Boxes) × (h ≡ a_choice o cs) × (box_names cs ≡ box_names bs) = choice_of h o (box_names bs) (sym (some_value e)) in
+    (w.0, ap Some w.1, sym w.2)
 
 -- new boxes under more equations around them
 more_around : (nodes : List Node) (E G : Equations) (news : List NewBox) (bs : Boxes) → AreToldIn E G → AreNewBoxes nodes E news bs → AreNewBoxes nodes G news bs
@@ -51,6 +70,16 @@ more_around nodes E G (n ∷ ns) (box b gs bs) f a = (
   },
   more_around nodes E G ns bs f a.1,
 )
+
+-- a choice of one alternative, by its name and what it has
+only_alternative : (f : Found) (n : Name) (b : Content) (cs : Boxes) (a : Found) → b.name ∷ [] ≡ box_names cs → alternative_of f n cs ≡ Some a → b ≡ a.content → a.goals ≡ no_goals → cs ≡ box b no_goals no_boxes
+only_alternative f n b no_boxes a names found content goals = cc
+only_alternative f n b (box k hs (box i is js)) a names found content goals = cc
+only_alternative f n b (box k hs no_boxes) a names found content goals = on (same_name n k.name) found
+  where
+    on : (t : Bool) → (if t then Some (record { around = f.around ++ f.content ∷ []; content = k; goals = hs }) else None) ≡ Some a → box k hs no_boxes ≡ box b no_goals no_boxes
+    on true e = λ i. box ((ap (λ (x : Found). x.content) (some_value e) ∙ sym content) i) ((ap (λ (x : Found). x.goals) (some_value e) ∙ goals) i) no_boxes
+    on false e = cc
 
 -- what is read of a goal
 goal_read : (U : Item → Type 0) (l : Label) (g : Name) (f : Found) → (l.rule ≡ Rule.Tell) ⊎ (l.rule ≡ Rule.Fork) → l.place ≡ Place.Goal g → Reads U l.rule l.place l.alternative f → U (Item.Goal g)
@@ -122,15 +151,69 @@ module _ (rules : List Rule) (p : Program) (q : Query) (journal further : List L
           (more_around p.templates.nodes (whole a.site) (whole right.applies.site) news (instances p.templates.nodes l.worker (slice_index c.next l.worker) m.arguments m.definition.clauses) told_more m.boxes);
     }
 
+    still_cuts : (g n : Name) → l.place ≡ Place.Goal g → Stamped (Item.Goal g) → CutsGoal a.site g n → CutsGoal right.applies.site g n
+    still_cuts g n i u m =
+        let k : _ = goal_stays rules p c further d w g a.site (was_home g i) (leaves (Item.Goal g) u) in
+        let f : k.0 ≡ right.applies.site = some_value (sym k.1 ∙ at_home g i) in
+        let v : (cs : Boxes) × (held_in g right.applies.site.goals ≡ Some (a_choice m.operator cs)) × (box_names m.alternatives ≡ box_names cs) =
+        choice_shape m.operator m.alternatives (held_in g right.applies.site.goals)
+        (subst (λ (v : Found). HaveShape (Some (a_choice m.operator m.alternatives)) (held_in g v.goals)) f (subst (λ (o : Option Held). HaveShape o (held_in g k.0.goals)) m.held k.3)) in
+        record { operator = m.operator; alternatives = v.0; held = v.1; named = subst (IsIn n) v.2 m.named }
+
+    still_promotes : (g n : Name) (new : Stored) (xs : List (Name × Atom)) → l.place ≡ Place.Goal g → Stamped (Item.Goal g) → ((m : Name) → IsIn m (names_down_to a.site) → Stamped (Item.Store m))
+        → PromotesGoal p.templates.nodes l.worker (slice_index c.next l.worker) a.site g n new xs → PromotesGoal p.templates.nodes l.worker (slice_index d.next l.worker) right.applies.site g n new xs
+    still_promotes g n new xs i u v m = record {
+      operator = m.operator;
+      alternative = m.alternative;
+      held = subst (λ (k : Found). held_in g k.goals ≡ Some (a_choice m.operator (box m.alternative no_goals no_boxes))) f
+          (k.4 ∙ ap (λ (cs : Boxes). Some (a_choice m.operator cs)) (only_alternative k.0 n m.alternative k.2 k.1 k.5 k.6 k.9.content k.10));
+      named = m.named;
+      frames = m.frames ∙ ap (λ (b : Content). with_names m.alternative.frames b.frames) same.content;
+      ports = m.ports ∙ ap (λ (b : Content). with_ports m.alternative.ports b.ports) same.content;
+      stands = λ D h. subst (λ (E : Equations). StandFor (IsTold (D ++ bindings_in p.templates.nodes new.bindings)) (IsTold (E ++ m.alternative.equations)))
+          (λ j. equations_of (same.around j) ++ (same.content j).equations)
+          (m.stands D (subst (λ (E : Equations). StandFor (IsTold D) (IsTold E)) (sym (ap equations_of same.around)) h));
+      body = m.body ∙ ap (λ (k : ℕ). numbered l.worker k m.alternative.body) (sym (fresh rules p c further d w l none).0);
+    }
+      where
+        z : Later c d
+        z = later rules p c d further s derives
+
+        unchanged : (item : Item) → Stamped item → IsSame c d item
+        unchanged item x = untouched.same rules p c further d derives item (leaves item x)
+
+        found : alternative_of a.site n (box m.alternative no_goals no_boxes) ≡ Some (inner a.site m.alternative)
+        found = subst (λ (b : Bool). (if b then Some (inner a.site m.alternative) else None) ≡ Some (inner a.site m.alternative))
+            (sym (subst (λ (b : Name). same_name n b ≡ true) m.named (same_name-refl n))) refl
+
+        k : (f : Found) × (b : Found) × (cs : Boxes) × (home_of g d.roots ≡ Some f) × (held_in g f.goals ≡ Some (a_choice m.operator cs)) × (box_names (box m.alternative no_goals no_boxes) ≡ box_names cs)
+            × (alternative_of f n cs ≡ Some b) × IsLike a.site f × IsSameBox a.site f × IsSameBox (inner a.site m.alternative) b × (b.goals ≡ no_goals)
+        k = solved_alternative_stays c d s t z g n a.site m.operator (box m.alternative no_goals no_boxes) (inner a.site m.alternative) (was_home g i) m.held found refl
+            (unchanged (Item.Goal g) u) (λ b j. unchanged (Item.Store b) (v b j))
+
+        f : k.0 ≡ right.applies.site
+        f = some_value (sym k.3 ∙ at_home g i)
+
+        same : IsSameBox a.site right.applies.site
+        same = subst (IsSameBox a.site) f k.8
+
     made_still : (step : Step) → ReadsFor Stamped l a.site step → Makes p l (slice_index c.next l.worker) a.site step → Makes p l (slice_index d.next l.worker) right.applies.site step
     made_still (tells new solved) u m = (m.0, (m.1.0, m.1.1, still_tells m.1.0 new m.1.1 (goal_read Stamped l m.1.0 a.site (inl m.0) m.1.1 u.0) u.1 m.1.2))
     made_still (forks op news) u m = (m.0, (m.1.0, m.1.1, still_forks m.1.0 op news m.1.1 (goal_read Stamped l m.1.0 a.site (inr m.0) m.1.1 u) m.1.2))
     made_still fails u m = m
+    made_still cuts u m =
+        let r : Reads Stamped Rule.Cut (Place.Goal m.1.0) l.alternative a.site = subst (λ (x : Rule). Reads Stamped x (Place.Goal m.1.0) l.alternative a.site) m.0 (subst (λ (x : Place). Reads Stamped l.rule x l.alternative a.site) m.1.2 u) in
+        (m.0, (m.1.0, m.1.1, m.1.2, m.1.3, still_cuts m.1.0 m.1.1 m.1.2 r.0 m.1.4))
+    made_still (promotes new solved goals) u m =
+        let r : Reads Stamped Rule.Promote (Place.Goal m.1.0) l.alternative a.site = subst (λ (x : Rule). Reads Stamped x (Place.Goal m.1.0) l.alternative a.site) m.0 (subst (λ (x : Place). Reads Stamped l.rule x l.alternative a.site) m.1.2 u) in
+        (m.0, (m.1.0, m.1.1, m.1.2, m.1.3, still_promotes m.1.0 m.1.1 new goals m.1.2 r.0 r.1 m.1.4))
 
   only_reads : (step : Step) → ReadsFor Stamped l a.site step → Reads Stamped l.rule l.place l.alternative a.site
   only_reads (tells new solved) u = u.0
   only_reads (forks op news) u = u
   only_reads fails u = u
+  only_reads cuts u = u
+  only_reads (promotes new solved goals) u = u
 
   still_right : (step : Step) → ReadsFor Stamped l a.site step → Makes p l (slice_index c.next l.worker) a.site step
       → (result : Config) × (now : Applies rules p d l result) × Makes p l (slice_index d.next l.worker) now.site step × (now.site.content.name ≡ a.site.content.name) × (now.change.drawn ≡ a.change.drawn)

@@ -7,11 +7,13 @@ use Rattle.akl_model.specs.Config.{Config}
 use Rattle.akl_model.specs.Derivations.{Applies}
 use Rattle.table_laws.specs.Rows.{Table}
 use Rattle.table_laws.specs.Stamped.{Run, followed_by, IsTableOf}
-use Rattle.table_laws.specs.Steps.{Step, tells, forks, fails, Makes, IsSolvedWhen}
+use Rattle.table_laws.specs.Steps.{Step, tells, forks, fails, cuts, promotes, Makes, IsSolvedWhen}
 use Rattle.table_laws.specs.Writes.{Leads}
 use Rattle.table_laws.proofs.Told.{told_step}
 use Rattle.table_laws.proofs.Forked.{fork_step}
 use Rattle.table_laws.proofs.Failed.{failed_step}
+use Rattle.table_laws.proofs.Cut.{cut_step}
+use Rattle.table_laws.proofs.Promoted.{promoted_step}
 
 pub step_law : (rules : List Rule) (r : Run) (T U : Table) (l : Label) (d : Config) (t : IsTableOf rules r T) (a : Applies rules r.program t.config l d) (step : Step) (at : Option ℕ)
     → Makes r.program l (slice_index t.config.next l.worker) a.site step → IsSolvedWhen at T a.site step → Leads T l at a.change.drawn step U
@@ -19,3 +21,5 @@ pub step_law : (rules : List Rule) (r : Run) (T U : Table) (l : Label) (d : Conf
 step_law rules r T U l d t a (tells new solved) at makes chain leads = told_step rules r T U l d t a at new solved makes chain leads
 step_law rules r T U l d t a (forks op news) at makes chain leads = fork_step rules r T U l d t a op news at makes chain leads
 step_law rules r T U l d t a fails at makes chain leads = failed_step rules r T U l d t a at a.change.drawn makes leads
+step_law rules r T U l d t a cuts at makes chain leads = cut_step rules r T U l d t a at makes leads
+step_law rules r T U l d t a (promotes new solved goals) at makes chain leads = promoted_step rules r T U l d t a at new solved goals makes chain leads

@@ -1,5 +1,5 @@
 -- What a plan makes of the box of its place: a step, right for the box that was found.
-use Rattle.std.specs.Prelude.{◌≡◌, ℕ, Bool, true, false, List, [], ◌∷◌, ◌++◌, Option, Some, None, ⊤, slice_get}
+use Rattle.std.specs.Prelude.{◌≡◌, ℕ, ◌+◌, Bool, true, false, List, [], ◌∷◌, ◌++◌, Option, Some, None, ⊤, slice_get}
 use Rattle.akl_terms.specs.declared.name.Name.{Name}
 use Rattle.akl_terms.specs.declared.name.Place.{Place}
 use Rattle.akl_terms.specs.declared.term.Node.{Node}
@@ -12,8 +12,9 @@ use Rattle.akl_terms.specs.Standing.{StandFor}
 use Rattle.akl_model.specs.declared.item.Item.{Item}
 use Rattle.akl_model.specs.declared.label.Rule.{Rule}
 use Rattle.akl_model.specs.declared.label.Label.{Label}
-use Rattle.akl_model.specs.Config.{IsIn, Atom, Content, Boxes, no_boxes, box, Goals, no_goals, atom, an_atom, held_in, Found, environment, whole}
+use Rattle.akl_model.specs.Config.{IsIn, Atom, Content, Boxes, no_boxes, box, Goals, no_goals, atom, an_atom, a_choice, held_in, with_names, with_ports, Found, environment, whole}
 use Rattle.akl_model.specs.Instances.{instances}
+use Rattle.akl_model.specs.Changes.{box_names}
 use Rattle.akl_model.specs.Wakes.{names_around, names_down_to}
 use Rattle.rational_unify.specs.Solving.{bindings_in}
 use Rattle.local_store.specs.Stored.{Stored}
@@ -29,11 +30,14 @@ pub record NewBox : Type 0 where
   pub goals : List (Name × Atom)
   pub body : List Atom
 
--- a box gets a store, which may be solved over those around it, and the goal goes; the goal becomes a choice of new boxes; or the box goes
+-- a box gets a store, which may be solved over those around it, and the goal goes; the goal becomes a choice of new boxes; the box goes; a
+-- choice loses the alternatives that a solved one leaves no room for; or its only alternative joins the box, which gets a store and new goals
 pub data Step : Type 0 where
   tells : Stored → Bool → Step
   forks : Op → List NewBox → Step
   fails : Step
+  cuts : Step
+  promotes : Stored → Bool → List (Name × Atom) → Step
 
 -- the equation of a goal is told: under all that stands for the equations around the box, the store stands for the box's equations and this one
 pub record TellsGoal (nodes : List Node) (f : Found) (g : Name) (new : Stored) : Type 0 where
@@ -73,11 +77,38 @@ pub record ForksGoal (p : Program) (worker next : ℕ) (f : Found) (g : Name) (o
   pub operator : op ≡ definition.op
   pub boxes : AreNewBoxes p.templates.nodes (whole f) news (instances p.templates.nodes worker next arguments definition.clauses)
 
+-- a solved alternative of a choice cuts others
+pub record CutsGoal (f : Found) (g n : Name) : Type 0 where
+  pub operator : Op
+  pub alternatives : Boxes
+  pub held : held_in g f.goals ≡ Some (a_choice operator alternatives)
+  pub named : IsIn n (box_names alternatives)
+
+-- atoms under a worker's names from a number on
+abbrev pub numbered : ℕ → ℕ → List Atom → List (Name × Atom)
+numbered worker n [] = []
+numbered worker n (a ∷ rest) = (record { worker = worker; number = n }, a) ∷ numbered worker (n + 1) rest
+
+-- the only alternative of a choice joins the box: under all that stands for the equations around it, the store stands for the box's
+-- equations and the alternative's; the goals of its body come
+pub record PromotesGoal (nodes : List Node) (worker next : ℕ) (f : Found) (g n : Name) (new : Stored) (goals : List (Name × Atom)) : Type 0 where
+  pub operator : Op
+  pub alternative : Content
+  pub held : held_in g f.goals ≡ Some (a_choice operator (box alternative no_goals no_boxes))
+  pub named : n ≡ alternative.name
+  pub frames : new.frames ≡ with_names alternative.frames f.content.frames
+  pub ports : ports_in nodes new.ports ≡ with_ports alternative.ports f.content.ports
+  pub stands : (D : Equations) → StandFor (IsTold D) (IsTold (environment f)) → StandFor (IsTold (D ++ bindings_in nodes new.bindings)) (IsTold (whole f ++ alternative.equations))
+  pub body : goals ≡ numbered worker next alternative.body
+
 -- the step is what the label makes of the box of its place, where the names drawn go on from the next number
 abbrev pub Makes : Program → Label → ℕ → Found → Step → Type 0
 Makes p l next f (tells new solved) = (l.rule ≡ Rule.Tell) × ((g : Name) × (l.place ≡ Place.Goal g) × TellsGoal p.templates.nodes f g new)
 Makes p l next f (forks op news) = (l.rule ≡ Rule.Fork) × ((g : Name) × (l.place ≡ Place.Goal g) × ForksGoal p l.worker next f g op news)
 Makes p l next f fails = l.rule ≡ Rule.Fail
+Makes p l next f cuts = (l.rule ≡ Rule.Cut) × ((g : Name) × (n : Name) × (l.place ≡ Place.Goal g) × (l.alternative ≡ Some n) × CutsGoal f g n)
+Makes p l next f (promotes new solved goals) = (l.rule ≡ Rule.Promote)
+    × ((g : Name) × (n : Name) × (l.place ≡ Place.Goal g) × (l.alternative ≡ Some n) × PromotesGoal p.templates.nodes l.worker next f g n new goals)
 
 -- what has to be unchanged for a step to be right still: what its label reads, and for one that gives the box a store, the constraints
 -- down to the box
@@ -99,6 +130,8 @@ abbrev pub IsSolvedIn : Table → Found → Step → Type 0
 IsSolvedIn T f (tells new solved) = IsSolvedIf solved T (names_around f) new
 IsSolvedIn T f (forks op news) = AreSolvedIf T (names_down_to f) news
 IsSolvedIn T f fails = ⊤
+IsSolvedIn T f cuts = ⊤
+IsSolvedIn T f (promotes new solved goals) = IsSolvedIf solved T (names_around f) new
 
 -- as many labels were made when the step was planned, in the very table; or nothing is known of that
 abbrev pub IsSolvedWhen : Option ℕ → Table → Found → Step → Type 0

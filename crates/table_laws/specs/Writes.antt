@@ -5,14 +5,14 @@ use Rattle.akl_terms.specs.declared.name.Place.{Place}
 use Rattle.akl_terms.specs.declared.program.Op.{Op}
 use Rattle.akl_terms.specs.Names.{same_name}
 use Rattle.akl_model.specs.declared.label.Label.{Label}
-use Rattle.akl_model.specs.Config.{IsIn, Atom, or_else}
+use Rattle.akl_model.specs.Config.{IsIn, Atom, or_else, with_names}
 use Rattle.akl_model.specs.Names.{times_in}
 use Rattle.akl_model.specs.Changes.{Shape, of_atom, of_choice}
 use Rattle.akl_model.specs.Derivations.{raised}
 use Rattle.local_store.specs.Stored.{Stored}
 use Rattle.table_laws.specs.Rows.{BoxRow, GoalRow, Table}
 use Rattle.table_laws.specs.Inside.{IsInside, IsGoalInside}
-use Rattle.table_laws.specs.Steps.{NewBox, Step, tells, forks, fails}
+use Rattle.table_laws.specs.Steps.{NewBox, Step, tells, forks, fails, cuts, promotes}
 
 -- the same table
 pub record IsTable (U T : Table) : Type 0 where
@@ -149,6 +149,96 @@ pub record Fails (T U : Table) (n : Name) : Type 0 where
   pub next : (w : ℕ) → slice_index U.next w ≡ slice_index T.next w
   pub steps : U.steps ≡ T.steps + 1
 
+-- a choice loses the alternatives for which a solved one leaves no room
+
+abbrev pub names_up_to : Name → List Name → List Name
+names_up_to n [] = []
+names_up_to n (m ∷ ms) = if same_name n m then m ∷ [] else m ∷ names_up_to n ms
+
+abbrev pub names_after : Name → List Name → List Name
+names_after n [] = []
+names_after n (m ∷ ms) = if same_name n m then ms else names_after n ms
+
+abbrev pub name_alone : Name → List Name → List Name
+name_alone n [] = []
+name_alone n (m ∷ ms) = if same_name n m then m ∷ [] else name_alone n ms
+
+-- the alternatives that are kept, and those that go: with `->` those to the right go, with `|` all others, with `?` none
+abbrev pub names_kept : Op → Name → List Name → List Name
+names_kept Op.Condition n ns = names_up_to n ns
+names_kept Op.Commit n ns = name_alone n ns
+names_kept Op.Choice n ns = ns
+
+abbrev pub names_cut : Op → Name → List Name → List Name
+names_cut Op.Condition n ns = names_after n ns
+names_cut Op.Commit n ns = less_name n ns
+names_cut Op.Choice n ns = []
+
+abbrev pub cut_shape : Name → Shape → Shape
+cut_shape n (of_atom a) = of_atom a
+cut_shape n (of_choice op alternatives) = of_choice op (names_kept op n alternatives)
+
+abbrev pub cut_in : Name → Shape → List Name
+cut_in n (of_atom a) = []
+cut_in n (of_choice op alternatives) = names_cut op n alternatives
+
+abbrev pub cut_from : Name → Option GoalRow → List Name
+cut_from n None = []
+cut_from n (Some row) = cut_in n row.shape
+
+abbrev pub cut_row : Name → ℕ → GoalRow → GoalRow
+cut_row n number r = record r { shape = cut_shape n r.shape; changed = number }
+
+-- a box is one of those that go, or stands inside one
+pub record IsCut (T : Table) (g n m : Name) : Type 0 where
+  pub alternative : Name
+  pub goes : IsIn alternative (cut_from n (T.goal_of g))
+  pub inside : IsInside T alternative m
+
+pub record IsGoalCut (T : Table) (g n m : Name) : Type 0 where
+  pub alternative : Name
+  pub goes : IsIn alternative (cut_from n (T.goal_of g))
+  pub inside : IsGoalInside T alternative m
+
+pub record Cuts (T U : Table) (g n : Name) : Type 0 where
+  pub nodes : U.nodes ≡ T.nodes
+  pub box_goes : (m : Name) → IsCut T g n m → U.box_of m ≡ None
+  pub goal_goes : (m : Name) → IsGoalCut T g n m → U.goal_of m ≡ None
+  pub box_stays : (m : Name) → (IsCut T g n m → ⊥) → U.box_of m ≡ T.box_of m
+  pub goal_stays : (m : Name) → (IsGoalCut T g n m → ⊥) → U.goal_of m ≡ set g (option_map (cut_row n (T.steps + 1)) (T.goal_of g)) T.goal_of m
+  pub roots : U.roots ≡ T.roots
+  pub roots_changed : U.roots_changed ≡ T.roots_changed
+  pub next : (w : ℕ) → slice_index U.next w ≡ slice_index T.next w
+  pub steps : U.steps ≡ T.steps + 1
+
+-- the only alternative of a choice joins the box in which the choice stands
+
+abbrev pub or_fails : Option Name → List (Name × Atom) → Option Name
+or_fails None goals = first_fail goals
+or_fails (Some g) goals = Some g
+
+abbrev pub promoted_row : Name → Stored → Option ℕ → List (Name × Atom) → ℕ → BoxRow → BoxRow
+promoted_row g new solved_at goals number r = record r {
+  store = new;
+  changed = number;
+  solved_at = solved_at;
+  goals = with_names (map (λ (x : Name × Atom). x.0) goals) (less_name g r.goals);
+  goals_changed = number;
+  failing = or_fails r.failing goals;
+}
+
+abbrev pub home_or : Option GoalRow → Name → Name
+home_or None n = n
+home_or (Some r) n = r.home
+
+abbrev pub after_promote : Name → Name → Stored → Option ℕ → List (Name × Atom) → ℕ → ℕ → Table → Table
+after_promote g n new solved_at goals worker drawn T = record T {
+  box_of = set n None (changed_box (home_in (T.goal_of g)) (promoted_row g new solved_at goals (T.steps + 1)) T.box_of);
+  goal_of = λ m. or_else (atom_among (home_or (T.goal_of g) g) (T.steps + 1) goals m) (set g None T.goal_of m);
+  next = raised worker drawn T.next;
+  steps = T.steps + 1;
+}
+
 -- the names that a step draws for boxes and goals stand nowhere in a table, and no two are the same
 
 abbrev pub names_drawn : List NewBox → List Name
@@ -164,6 +254,8 @@ abbrev pub DrawsFresh : Table → Step → Type 0
 DrawsFresh T (tells new solved) = ⊤
 DrawsFresh T (forks op news) = IsFresh T (names_drawn news)
 DrawsFresh T fails = ⊤
+DrawsFresh T cuts = ⊤
+DrawsFresh T (promotes new solved goals) = IsFresh T (map (λ (x : Name × Atom). x.0) goals)
 
 -- the step of a label leads from table to table: `at` is how many labels there were when its stores were solved, where they still are
 abbrev pub Leads : Table → Label → Option ℕ → ℕ → Step → Table → Type 0
@@ -182,3 +274,13 @@ Leads T l at drawn fails U = of_place l.place
     of_place : Place → Type 0
     of_place (Place.Goal g) = ⊥
     of_place (Place.Box n) = Fails T U n
+Leads T l at drawn cuts U = of_place l.place l.alternative
+  where
+    of_place : Place → Option Name → Type 0
+    of_place (Place.Goal g) (Some n) = Cuts T U g n
+    of_place place alternative = ⊥
+Leads T l at drawn (promotes new solved goals) U = of_place l.place l.alternative
+  where
+    of_place : Place → Option Name → Type 0
+    of_place (Place.Goal g) (Some n) = IsTable U (after_promote g n new (solved_when at solved) goals l.worker drawn T)
+    of_place place alternative = ⊥
