@@ -5,33 +5,38 @@ ghost use Rattle.akl.specs.Notices.{notice_of};
 
 /// What a lone `--help` prints.
 pub const HELP: &str = "\
-Usage: ./akl --query TEXT < FILE
+Usage: ./akl --query TEXT [--budget N] < FILE
 
 Runs the query TEXT over the program in FILE, and prints the answers and the outcome. The program is
 read from standard input, to its end: without `< FILE` akl waits for it there.
 
 Options:
-  --query TEXT  the query
+  --query TEXT  the query; one that begins with `-` is written --query=TEXT
+  --budget N    how many steps the run may make: 1 to 4000000, and 100000 where none is given
   --help        as the only word: prints this text
   --version     as the only word: prints the version
 
 Examples:
   ./akl --query 'X = f(Y), Y = a' < /dev/null
-  echo 'p(a).' | ./akl --query 'X = [1,2|T], T = Y'
+  echo 'p(a). p(b).' | ./akl --query 'p(c)'
 
-Programs are read, checked and loaded. So far a query's goals are equations, `true` and `fail`, and
-programs and queries have no choices in brackets.
+So far calls become choices of their clauses, equations are told, and boxes fail. Nothing chooses
+among clauses yet, so a query with a call that doesn't fail is suspended. Choices in brackets,
+arithmetic, `open_port` and `send` aren't built yet, nor are --generate, --trace and more workers.
 
 Exit status:
-   0  done: the query has an answer
-   1  failed: it has none
+   0  done: each root box is an answer
+   1  failed: there is no answer
+   2  suspended: some root box waits
+   3  budget: all steps were made, and there is more to do
+   4  the words are refused
    5  the program is refused
    6  the query is refused
    7  standard input failed, or would block
    8  standard output failed, or would block
    9  out of memory
   10  this part isn't built yet
-With 5 to 10 a line on standard error says why.
+With 4 to 10 a line on standard error says why.
 ";
 
 /// What a lone `--version` prints.

@@ -38,17 +38,27 @@ fn run_words<R: Threads + Wait + Sync>(
     })
 }
 
-// A query over a program, with a source that gives seven bytes at a time and a sink that takes five bytes at a time.
+// Words over a program, with a source that gives seven bytes at a time and a sink that takes five bytes at a time.
+fn command<R: Threads + Wait + Sync>(
+    rt: &R,
+    alloc: Global,
+    program: &str,
+    words: &[&str],
+) -> Result<Reply, AllocError> {
+    let bytes = Vec::from_slice(alloc, program.as_bytes())?;
+    let mut source = MemorySource::new(bytes, 7, Vec::new(alloc));
+    let mut sink = MemorySink::new(alloc, 5, 2_000_000, Vec::new(alloc))?;
+    run_words(rt, alloc, words, &mut source, &mut sink)
+}
+
+// A query over a program.
 fn answer<R: Threads + Wait + Sync>(
     rt: &R,
     alloc: Global,
     program: &str,
     query: &str,
 ) -> Result<Reply, AllocError> {
-    let bytes = Vec::from_slice(alloc, program.as_bytes())?;
-    let mut source = MemorySource::new(bytes, 7, Vec::new(alloc));
-    let mut sink = MemorySink::new(alloc, 5, 2_000_000, Vec::new(alloc))?;
-    run_words(rt, alloc, &["--query", query], &mut source, &mut sink)
+    command(rt, alloc, program, &["--query", query])
 }
 
 // The status, the line and what was written, with ` / ` before each line.
@@ -107,9 +117,14 @@ const COMMANDS: &str = r"
  =>  X = a. Y => 6 / akl: query: syntax at 1
  => X = 9223372036854775808 => 6 / akl: query: integer out of range at 4
  => X is 1 => 10 / akl: not yet: query
+ => open_port(S,X) => 10 / akl: not yet: query
+ => X = a, send(X,b) => 10 / akl: not yet: query
+p :- X < 1. => true => 10 / akl: not yet: program
+p :- open_port(X,Y) ? true. => true => 10 / akl: not yet: program
+p :- send(X,Y), q. => true => 5 / akl: program: undefined q/0
  => (zz ; X = b) => 10 / akl: not yet: query
  => X = f(X), X = f(f(X)) => 10 / akl: not yet: answer
- => -X = a => 10 / akl: not yet: words
+ => -X = a => 4 / akl: words: missing at word 0
 p(a). p(b,c). => true => 0 / answer 1 / done
  % nothing but layout /* => true => 0 / answer 1 / done
 p(a) :- -> true. p(b) :- | true. => true => 5 / akl: program: mixed guards in p/1
@@ -123,11 +138,14 @@ send(a,b,c). => true => 0 / answer 1 / done
 p :- q. => true => 5 / akl: program: undefined q/0
 p :- 'it''s'([]), '[]'. => true => 5 / akl: program: undefined 'it\'s'/1
 p :- '[]'. => true => 5 / akl: program: undefined '[]'/0
-p :- q. q :- p, fail, X = Y, X is Y, send(X,Y). => true => 0 / answer 1 / done
+p :- q. q :- p, fail, X = Y. => true => 0 / answer 1 / done
+p :- q. q :- p, fail, X = Y, X is Y, send(X,Y). => true => 10 / akl: not yet: program
 p :- (q ; r). => true => 10 / akl: not yet: program
 true :- (q ; r). p => true => 5 / akl: program: syntax at 17
 member(X,[X|_]). member(X,[_|T]) :- member(X,T). => member(X) => 6 / akl: query: undefined member/1
-member(X,[X|_]). member(X,[_|T]) :- member(X,T). => member(X,[]) => 10 / akl: not yet: query
+p(a). p(b). => p(c) => 1 / failed
+p(a) :- -> true. => p(X) => 2 / suspended 1
+ => X = a, fail => 1 / failed
 member(X,[X|_]). member(X,[_|T]) => X = => 5 / akl: program: syntax at 17
 {p. *10001} => true => 5 / akl: program: too many clauses, 10001
 {p. *10000} => true => 5 / akl: program: too many clauses of one definition, 10000
@@ -155,6 +173,71 @@ fn commands_are_answered_or_refused(rt: HostRuntime) -> Result<(), Fail> {
         let query = expanded(alloc, query)?;
         let found = shown(alloc, &answer(&rt, alloc, &program, &query)?)?;
         assert_eq!(rt; found, expanded(alloc, reply)?, "{case}");
+    }
+    Ok(())
+}
+
+/// Budgets, programs and queries, with the replies and the journals' lengths.
+const BUDGETS: &str = r"
+2 =>  => A = a, B = b => 0 / answer 1 / A = a / B = b / done => 2
+1 =>  => A = a, B = b => 3 / budget => 1
+4 => p(a). p(b). => p(c) => 1 / failed => 4
+3 => p(a). p(b). => p(c) => 3 / budget => 3
+3 => p :- p ? true. => p => 3 / budget => 3
+10 => p(a) :- -> true. => p(X) => 2 / suspended 1 => 1
+100 => p :- p ? true. => p => 3 / budget => 100
+1000 => p :- p ? true. => p, p, p, p, p, p, p, p, p, p => 3 / budget => 1000
+4 => member(X,[X|_]). member(X,[_|T]) :- member(X,T). => member(X,[]) => 1 / failed => 4
+";
+
+#[test]
+fn a_run_makes_as_many_labels_as_its_budget(rt: HostRuntime) -> Result<(), Fail> {
+    let alloc = rt.alloc();
+    for case in BUDGETS.lines().skip(1) {
+        let (budget, rest) = case.split_once(" => ").ok_or("budget")?;
+        let (program, rest) = rest.split_once(" => ").ok_or("program")?;
+        let (query, rest) = rest.split_once(" => ").ok_or("query")?;
+        let (reply, labels) = rest.split_once(" => ").ok_or("labels")?;
+        let words = ["--query", query, "--budget", budget];
+        let found = command(&rt, alloc, program, &words)?;
+        let labels: usize = labels.parse()?;
+        assert_eq!(rt; found.journal, labels, "{case}");
+        assert_eq!(rt; shown(alloc, &found)?.as_str(), reply, "{case}");
+    }
+    Ok(())
+}
+
+/// Words, parted by commas, and their replies over an empty program.
+const WORDS: &str = r"
+--query,true,--workers,1,--budget=100000 => 0 / answer 1 / done
+--query=true => 0 / answer 1 / done
+--query,true,--workers,17 => 4 / akl: words: bad value at word 3
+--query,true,--budget,0 => 4 / akl: words: bad value at word 3
+--query,true,--quiet => 4 / akl: words: unknown at word 2
+--query,true,--query,true => 4 / akl: words: repeated at word 2
+--query,true,--budget => 4 / akl: words: missing at word 2
+--budget,2 => 4 / akl: words: missing at word 2
+--query,true,--workers,2 => 10 / akl: not yet: words
+--query,true,--trace => 10 / akl: not yet: words
+--generate,1 => 10 / akl: not yet: words
+";
+
+#[test]
+fn words_are_read_or_refused(rt: HostRuntime) -> Result<(), Fail> {
+    let alloc = rt.alloc();
+    let none = command(&rt, alloc, "", &[])?;
+    assert_eq!(rt;
+        shown(alloc, &none)?.as_str(),
+        "4 / akl: words: missing at word 0"
+    );
+    for case in WORDS.lines().skip(1) {
+        let (line, reply) = case.split_once(" => ").ok_or("reply")?;
+        let mut words = Vec::new(alloc);
+        for word in line.split(',') {
+            words.push(word)?;
+        }
+        let found = command(&rt, alloc, "", &words)?;
+        assert_eq!(rt; shown(alloc, &found)?.as_str(), reply, "{case}");
     }
     Ok(())
 }
