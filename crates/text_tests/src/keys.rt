@@ -1,69 +1,43 @@
 //! What is reserved, and the index of what is called.
 
-use akl_terms::{Clause, Code, Definition, Items, Key, Op, Test, Text};
-use clause_keys::{Callees, Reserved, meaning_of};
-use std::alloc::Global;
-use std::test::*;
+ghost use Rattle.std.specs.Prelude.{◌≤◌, length};
 
-/// What a reserved goal means.
-fn named(meaning: Option<Reserved>) -> &'static str {
-    match meaning {
-        Some(Reserved::True) => "true",
-        Some(Reserved::Fail) => "fail",
-        Some(Reserved::Equal) => "equal",
-        Some(Reserved::Arith(Test::Is)) => "is",
-        Some(Reserved::Arith(Test::Less)) => "less",
-        Some(Reserved::Arith(Test::Greater)) => "greater",
-        Some(Reserved::Arith(Test::AtMost)) => "at most",
-        Some(Reserved::Arith(Test::AtLeast)) => "at least",
-        Some(Reserved::Arith(Test::Same)) => "same",
-        Some(Reserved::Arith(Test::Differs)) => "differs",
-        Some(Reserved::OpenPort) => "open port",
-        Some(Reserved::Send) => "send",
-        None => "none",
-    }
+use crate::lines::each_gives;
+use akl_terms::{Clause, Definition, Items, Key, Op, Text};
+use clause_keys::{Callees, Reserved, meaning_of};
+use std::alloc::{AllocError, Global};
+use std::str::from_utf8;
+use std::test::Fail;
+
+/// A symbol or a number, and a number of arguments, with a slash between.
+fn key(text: &str) -> (&str, u32) {
+    let (symbol, arity) = text.rsplit_once('/').unwrap_or((text, ""));
+    (symbol, arity.parse().unwrap_or(100))
 }
 
-#[test]
-fn reserved_goals_have_their_meaning(rt: HostRuntime) -> Result<(), Fail> {
-    let cases = [
-        ("true", 0, "true"),
-        ("fail", 0, "fail"),
-        ("=", 2, "equal"),
-        ("is", 2, "is"),
-        ("<", 2, "less"),
-        (">", 2, "greater"),
-        ("=<", 2, "at most"),
-        (">=", 2, "at least"),
-        ("=:=", 2, "same"),
-        ("=\\=", 2, "differs"),
-        ("open_port", 2, "open port"),
-        ("send", 2, "send"),
-        ("true", 1, "none"),
-        ("fail", 2, "none"),
-        ("send", 0, "none"),
-        ("send", 3, "none"),
-        ("append", 2, "none"),
-    ];
-    for (symbol, arity, meaning) in cases {
-        assert_eq!(rt;
-            named(meaning_of(symbol, arity)),
-            meaning,
-            "{symbol}/{arity}"
-        );
-    }
-    Ok(())
+/// What a reserved goal means.
+fn meaning(alloc: Global, text: &[u8]) -> Result<String, AllocError> {
+    let (symbol, arity) = key(from_utf8(text).unwrap_or(""));
+    let word = match meaning_of(symbol, arity as usize) {
+        Some(Reserved::Arith(test)) => return format!(in alloc; " {test:?}"),
+        Some(Reserved::True) => " true",
+        Some(Reserved::Fail) => " fail",
+        Some(Reserved::Equal) => " equal",
+        Some(Reserved::OpenPort) => " open port",
+        Some(Reserved::Send) => " send",
+        None => " none",
+    };
+    String::from_str(alloc, word)
 }
 
 /// The definition of `p/1`, or of an inline choice in it, with a clause of so many arguments.
-fn definition(alloc: Global, lifted: Option<u32>, count: u32) -> Result<Definition, Fail> {
+fn definition(alloc: Global, lifted: Option<u32>, count: u32) -> Result<Definition, AllocError> {
     let mut clauses = Vec::new(alloc);
-    let codes: Vec<Code> = Vec::new(alloc);
     clauses.push(Clause {
         variables: 0,
         first: 0,
         count,
-        guard: Items::new(codes),
+        guard: Items::new(Vec::new(alloc)),
         body: Items::new(Vec::new(alloc)),
     })?;
     Ok(Definition {
@@ -77,29 +51,94 @@ fn definition(alloc: Global, lifted: Option<u32>, count: u32) -> Result<Definiti
     })
 }
 
-#[test]
-fn what_is_called_has_one_number(rt: HostRuntime) -> Result<(), Fail> {
-    let alloc = rt.alloc();
+/// The number that a symbol, or the definition of an inline choice, has.
+fn found(callees: &Callees, symbol: &str, arity: u32) -> Option<u32> {
+    match symbol.parse::<u32>() {
+        Ok(number) => callees.lifted(number, arity),
+        Err(_) => callees.named(symbol, arity),
+    }
+}
+
+/// The number that it gets.
+fn added(callees: &mut Callees, symbol: &str, arity: u32) -> Result<u32, AllocError>
+    requires { length callees.old ≤ 3 }
+{
+    match symbol.parse::<u32>() {
+        Ok(number) => callees.add_lifted(number, arity),
+        Err(_) => callees.add_named(symbol, arity),
+    }
+}
+
+/// What was asked: `find`, `add`, or the number of a definition.
+fn asked(alloc: Global, callees: &mut Callees, text: &str) -> Result<Option<u32>, AllocError>
+    requires { length callees.old ≤ 3 }
+{
+    let (verb, text) = text.split_once(' ').unwrap_or((text, ""));
+    let (symbol, arity) = key(text);
+    match verb {
+        "find" => Ok(found(callees, symbol, arity)),
+        "add" => Ok(Some(added(callees, symbol, arity)?)),
+        _ => {
+            let definition = definition(alloc, symbol.parse().ok(), arity)?;
+            Ok(Some(callees.add_definition(&definition)?))
+        }
+    }
+}
+
+/// The numbers of `p/1`, `p/2`, and of definition 1 that was made of an inline choice, with four arguments, and what was
+/// asked.
+fn numbers(alloc: Global, text: &[u8]) -> Result<String, AllocError> {
     let mut callees = Callees::new(alloc);
-    assert_eq!(rt; callees.add_named("p", 1)?, 0);
-    assert_eq!(rt; callees.add_named("p", 2)?, 1);
-    assert_eq!(rt; callees.add_lifted(1, 4)?, 2);
-    assert_eq!(rt; callees.add_named("p", 2)?, 1);
-    assert_eq!(rt; callees.named("p", 2), Some(1));
-    assert_eq!(rt; callees.named("p", 0), None);
-    assert_eq!(rt; callees.named("r", 1), None);
-    assert_eq!(rt; callees.lifted(1, 4), Some(2));
-    assert_eq!(rt; callees.lifted(1, 3), None);
-    assert_eq!(rt; callees.lifted(0, 4), None);
-    assert_eq!(rt; callees.add_definition(&definition(alloc, None, 1)?)?, 0);
-    assert_eq!(rt; callees.add_definition(&definition(alloc, Some(1), 4)?)?, 2);
-    assert_eq!(rt; callees.add_definition(&definition(alloc, Some(1), 2)?)?, 3);
-    Ok(())
+    let first = callees.add_named("p", 1)?;
+    let second = callees.add_named("p", 2)?;
+    let third = callees.add_lifted(1, 4)?;
+    let last = asked(alloc, &mut callees, from_utf8(text).unwrap_or(""))?;
+    format!(in alloc; " {first} {second} {third} {last:?}")
+}
+
+/// Goals, and what they mean.
+const RESERVED: &str = r"
+true/0 => true
+fail/0 => fail
+=/2 => equal
+is/2 => Is
+</2 => Less
+>/2 => Greater
+=</2 => AtMost
+>=/2 => AtLeast
+=:=/2 => Same
+=\=/2 => Differs
+open_port/2 => open port
+send/2 => send
+true/1 => none
+fail/2 => none
+send/0 => none
+send/3 => none
+append/2 => none
+";
+
+/// What is asked after three numbers were given.
+const NUMBERS: &str = r"
+add p/2 => 0 1 2 Some(1)
+find p/2 => 0 1 2 Some(1)
+find p/0 => 0 1 2 None
+find r/1 => 0 1 2 None
+find 1/4 => 0 1 2 Some(2)
+find 1/3 => 0 1 2 None
+find 0/4 => 0 1 2 None
+define p/1 => 0 1 2 Some(0)
+define 1/4 => 0 1 2 Some(2)
+define 1/2 => 0 1 2 Some(3)
+";
+
+#[test]
+fn reserved_goals_have_their_meaning(rt: HostRuntime) -> Result<(), Fail> {
+    each_gives(&rt, rt.alloc(), meaning, RESERVED)
 }
 
 #[test]
-fn no_definitions_have_an_index(rt: HostRuntime) -> Result<(), Fail> {
-    let callees = Callees::of_definitions(rt.alloc(), &[])?;
-    assert_eq!(rt; callees.named("p", 0), None);
-    Ok(())
+fn what_is_called_has_one_number(rt: HostRuntime) -> Result<(), Fail> {
+    let none = Callees::of_definitions(rt.alloc(), &[])?;
+    assert_eq!(rt; none.named("p", 0), None);
+    each_gives(&rt, rt.alloc(), numbers, NUMBERS)
 }

@@ -6,6 +6,8 @@ mod checks;
 #[cfg(test)]
 mod keys;
 #[cfg(test)]
+mod lines;
+#[cfg(test)]
 mod store;
 #[cfg(test)]
 mod syntax;

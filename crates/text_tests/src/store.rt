@@ -1,37 +1,72 @@
-//! Each public call once. What texts load as can be tested where their conditions are proved.
+//! What an empty program and a query without goals are loaded as. What texts load as can be tested where their
+//! conditions are proved.
 
+ghost use Rattle.std.specs.Prelude.{◌≤◌, length, IfOk};
+
+use crate::lines::each_gives;
 use akl_syntax::SourceQuery;
-use akl_terms::{Name, Seen, Term, Text};
+use akl_terms::{Name, Query, Term, Text};
 use clause_store::{load, load_query};
-use std::test::*;
+use std::alloc::{AllocError, Global};
+use std::test::Fail;
+
+const FRAME: Name = Name {
+    worker: 0,
+    number: 0,
+};
+
+/// How many definitions and nodes the empty program has, and its cell's first variable.
+fn program(alloc: Global, _text: &[u8]) -> Result<String, AllocError> {
+    let program = load(alloc, Vec::new(alloc))?;
+    let count = program.definitions.len();
+    let nodes = program.templates.len();
+    let node = program.cell;
+    let first = program.templates.look(Term::Mol { node, frame: FRAME });
+    format!(in alloc; " {count} {nodes} {first:?}")
+}
+
+/// The names `_X` and `Y`.
+fn names(alloc: Global) -> Result<Vec<Text>, AllocError>
+    ensures { IfOk result (λ names. length names.items ≤ 2) }
+{
+    let mut names = Vec::new(alloc);
+    names.push(Text::from_str(alloc, "_X")?)?;
+    names.push(Text::from_str(alloc, "Y")?)?;
+    Ok(names)
+}
+
+/// How many variables a query has, and each that is shown, with its number.
+fn variables(alloc: Global, query: &Query) -> Result<String, AllocError> {
+    let mut shown = format!(in alloc; " {}", query.variables)?;
+    for variable in query.shown.as_slice() {
+        let name = variable.name.as_str();
+        write!(shown, " {name} {}", variable.index)?;
+    }
+    Ok(shown)
+}
+
+/// How many nodes the program has with the query, and the query's variables.
+fn query(alloc: Global, _text: &[u8]) -> Result<String, AllocError> {
+    let program = load(alloc, Vec::new(alloc))?;
+    let query = SourceQuery {
+        goals: Vec::new(alloc),
+        names: names(alloc)?,
+    };
+    let (program, query) = load_query(alloc, program, query, Vec::new(alloc))?;
+    let variables = variables(alloc, &query)?;
+    format!(in alloc; " {}{variables}", program.templates.len())
+}
+
+const PROGRAM: &str = "
+ => 0 4 Free(Var { frame: Name { worker: 0, number: 0 }, index: 0 })
+";
+
+const QUERY: &str = "
+ => 6 2 Y 1
+";
 
 #[test]
 fn a_query_is_loaded_over_a_program(rt: HostRuntime) -> Result<(), Fail> {
-    let program = load(rt.alloc(), Vec::new(rt.alloc()))?;
-    assert!(rt; program.definitions.is_empty());
-    assert_eq!(rt; program.templates.len(), 4);
-    let frame = Name {
-        worker: 0,
-        number: 0,
-    };
-    let node = program.cell;
-    let Seen::Free(first) = program.templates.look(Term::Mol { node, frame }) else {
-        return Err("no variable".into());
-    };
-    assert_eq!(rt; first.index, 0);
-
-    let mut names = Vec::new(rt.alloc());
-    names.push(Text::from_str(rt.alloc(), "_X")?)?;
-    names.push(Text::from_str(rt.alloc(), "Y")?)?;
-    let goals = Vec::new(rt.alloc());
-    let query = SourceQuery { goals, names };
-    let (program, query) = load_query(rt.alloc(), program, query, Vec::new(rt.alloc()))?;
-    assert_eq!(rt; program.templates.len(), 6);
-    assert_eq!(rt; query.variables, 2);
-    let [variable] = query.shown.as_slice() else {
-        return Err("not one variable".into());
-    };
-    assert_eq!(rt; variable.name.as_str(), "Y");
-    assert_eq!(rt; variable.index, 1);
-    Ok(())
+    each_gives(&rt, rt.alloc(), program, PROGRAM)?;
+    each_gives(&rt, rt.alloc(), query, QUERY)
 }

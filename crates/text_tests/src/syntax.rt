@@ -1,25 +1,192 @@
 //! Programs and queries, and what they are read as.
 
-mod cases;
-mod limits;
-mod refusals;
-mod shown;
+use crate::lines::{counted, each_gives, put_count, put_integer};
+use akl_syntax::{
+    Head, SourceClause, SourceGoal, SourcePart, SourceTerm, SyntaxError, check_query, read_program,
+    read_query,
+};
+use akl_terms::{Op, Text};
+use std::alloc::{AllocError, Global};
+use std::test::Fail;
 
-use cases::each;
-use shown::{program, query};
-use std::test::*;
+fn put_between(
+    shown: &mut String,
+    before: &str,
+    text: &str,
+    behind: &str,
+) -> Result<(), AllocError> {
+    shown.push_str(before)?;
+    shown.push_str(text)?;
+    shown.push_str(behind)
+}
+
+#[cycle(shown_terms)]
+fn write_terms(shown: &mut String, terms: &[SourceTerm]) -> Result<(), AllocError> {
+    shown.push('(')?;
+    for term in terms {
+        write_term(shown, term)?;
+        shown.push(',')?;
+    }
+    shown.push(')')
+}
+
+#[cycle(shown_terms)]
+fn write_term(shown: &mut String, term: &SourceTerm) -> Result<(), AllocError> {
+    match term {
+        SourceTerm::Var(number) => put_count(shown, "V", *number as usize),
+        SourceTerm::Int(value) => put_integer(shown, *value),
+        SourceTerm::Struct { symbol, arguments } => {
+            shown.push_str(symbol.as_str())?;
+            if arguments.is_empty() {
+                return Ok(());
+            }
+            write_terms(shown, arguments)
+        }
+        SourceTerm::List { items, tail } => {
+            shown.push_str("list")?;
+            write_terms(shown, items)?;
+            let Some(tail) = tail else {
+                return Ok(());
+            };
+            shown.push('|')?;
+            write_term(shown, tail)
+        }
+        SourceTerm::Chain { first, rest } => {
+            shown.push('<')?;
+            write_term(shown, first)?;
+            for step in rest {
+                put_between(shown, " ", step.symbol.as_str(), " ")?;
+                write_term(shown, &step.right)?;
+            }
+            shown.push('>')
+        }
+    }
+}
+
+#[cycle(shown_goals)]
+fn write_goals(shown: &mut String, goals: &[SourceGoal]) -> Result<(), AllocError> {
+    for goal in goals {
+        write_goal(shown, goal)?;
+    }
+    Ok(())
+}
+
+#[cycle(shown_goals)]
+fn write_goal(shown: &mut String, goal: &SourceGoal) -> Result<(), AllocError> {
+    match goal {
+        SourceGoal::Call { symbol, arguments } => {
+            shown.push_str(symbol.as_str())?;
+            write_terms(shown, arguments)
+        }
+        SourceGoal::Choice(parts) => {
+            shown.push('{')?;
+            for part in parts {
+                write_part(shown, part)?;
+                shown.push(';')?;
+            }
+            shown.push('}')
+        }
+        SourceGoal::Lifted { .. } => shown.push_str("lifted"),
+    }
+}
+
+#[cycle(shown_goals)]
+fn write_part(shown: &mut String, part: &SourcePart) -> Result<(), AllocError> {
+    write_goals(shown, &part.guard)?;
+    let op = match part.op {
+        Op::Condition => "->",
+        Op::Commit => "|",
+        Op::Choice => "?",
+    };
+    shown.push_str(op)?;
+    write_goals(shown, &part.body)
+}
+
+fn write_names(shown: &mut String, names: &[Text]) -> Result<(), AllocError> {
+    shown.push_str(" [")?;
+    for name in names {
+        put_between(shown, "", name.as_str(), ",")?;
+    }
+    shown.push(']')
+}
+
+fn write_clause(shown: &mut String, clause: &SourceClause) -> Result<(), AllocError> {
+    let name = match &clause.head {
+        Head::Named(symbol) => symbol.as_str(),
+        Head::Lifted { .. } => "lifted",
+    };
+    put_count(shown, " ", clause.start)?;
+    put_between(shown, ": ", name, "")?;
+    write_terms(shown, &clause.arguments)?;
+    shown.push(' ')?;
+    write_part(shown, &clause.part)?;
+    write_names(shown, &clause.names)?;
+    shown.push('.')
+}
+
+fn clauses(alloc: Global, clauses: &[SourceClause]) -> Result<String, AllocError> {
+    let mut shown = String::new(alloc);
+    for clause in clauses {
+        write_clause(&mut shown, clause)?;
+    }
+    Ok(shown)
+}
+
+/// Why a text is refused.
+fn refusal(alloc: Global, error: SyntaxError) -> Result<String, AllocError> {
+    let (what, at) = match error {
+        SyntaxError::Syntax { at } => (" syntax at ", at),
+        SyntaxError::TooDeep { at } => (" too many open brackets at ", at),
+        SyntaxError::IntRange { at } => (" integer out of range at ", at),
+        SyntaxError::TooLong { count } => (" too long, ", count),
+        SyntaxError::Memory(error) => return Err(error),
+    };
+    counted(alloc, what, at)
+}
+
+/// The clauses of a text, or why it is refused.
+fn program(alloc: Global, text: &[u8]) -> Result<String, AllocError> {
+    match read_program(alloc, text) {
+        Ok(found) => clauses(alloc, found.as_slice()),
+        Err(error) => refusal(alloc, error),
+    }
+}
+
+/// How many clauses a text has.
+fn count(alloc: Global, text: &[u8]) -> Result<String, AllocError> {
+    match read_program(alloc, text) {
+        Ok(found) => counted(alloc, " ", found.len()),
+        Err(error) => refusal(alloc, error),
+    }
+}
+
+/// The goals of a query, or why it is refused.
+fn query(alloc: Global, text: &[u8]) -> Result<String, AllocError> {
+    if let Err(error) = check_query(text) {
+        return refusal(alloc, error);
+    }
+    match read_query(alloc, text) {
+        Ok(found) => {
+            let mut shown = String::from_str(alloc, " ")?;
+            write_goals(&mut shown, &found.goals)?;
+            write_names(&mut shown, &found.names)?;
+            Ok(shown)
+        }
+        Err(error) => refusal(alloc, error),
+    }
+}
 
 /// Programs, and what they are read as.
 const PROGRAMS: &str = r"
 p. => 0: p() ? [].
- 'q r'. ''(a). => 1: q r() ? [].8: (a,) ? [].
+ 'q r'. ''(a). => 1: q r() ? []. 8: (a,) ? [].
 p(X, -1, 'A b', f(g(a),b)). => 0: p(V0,-1,A b,f(g(a,),b,),) ? [X,].
 p([], [a], [a,b|T], [[]|f(X)]). => 0: p([],list(a,),list(a,b,)|V0,list([],)|f(V1,),) ? [T,X,].
 p(1+2-3, 1- -2, 1-2). => 0: p(<1 + 2 - 3>,<1 - -2>,<1 - 2>,) ? [].
 p(4*5//6 mod 7). => 0: p(<4 * 5 // 6 mod 7>,) ? [].
 p(1+2*3-4, (1+2)*3, ((a))). => 0: p(<1 + <2 * 3> - 4>,<<1 + 2> * 3>,a,) ? [].
 p([a+b|c*d], f(1-X)). => 0: p(list(<a + b>,)|<c * d>,f(<1 - V0>,),) ? [X,].
-p(X). q(Y,X). => 0: p(V0,) ? [X,].6: q(V0,V1,) ? [Y,X,].
+p(X). q(Y,X). => 0: p(V0,) ? [X,]. 6: q(V0,V1,) ? [Y,X,].
 p(_X,_X,_,_). => 0: p(V0,V0,V1,V2,) ? [_X,_,_,].
 p(X,Y) :- q(Y,X,_), (r(Z) ; s(_,Z)). => 0: p(V0,V1,) ?q(V1,V0,V2,){?r(V3,);?s(V4,V3,);} [X,Y,_,Z,_,].
 p :- q. => 0: p() ?q() [].
@@ -45,35 +212,18 @@ p :- [a] = X, 1 = 'A'. => 0: p() ?=(list(a,),V0,)=(1,A,) [X,].
 p :- ((f([a],(b))) = X, (c ; d)). => 0: p() ?=(f(list(a,),b,),V0,){?c();?d();} [X,].
 p :- ((((a))) = b). => 0: p() ?=(a,b,) [].
 p :- (((a) ; b) ; c), d. => 0: p() ?{?{?a();?b();};?c();}d() [].
- p. q => syntax at byte 4
-p. q :- . r( => syntax at byte 3
-p. ! q. => syntax at byte 3
+ p. q => syntax at 4
+p. q :- . r( => syntax at 3
+p. ! q. => syntax at 3
 ";
 
-#[test]
-fn a_program_is_read_as_its_clauses(rt: HostRuntime) -> Result<(), Fail> {
-    for case in each(PROGRAMS) {
-        let (text, want) = case.split_once(" => ").ok_or("case")?;
-        let found = program(rt.alloc(), text.as_bytes())?;
-        assert_eq!(rt; found.as_str(), want, "at {text}");
-    }
-    Ok(())
-}
-
-#[test]
-fn layout_stands_between_clauses(rt: HostRuntime) -> Result<(), Fail> {
-    let cases: [(&[u8], &str); 4] = [
-        (b"", ""),
-        (b" % nothing\n/* at all */", ""),
-        (b"/**/p. %\nq.% r.", "4: p() ? [].9: q() ? []."),
-        (b"p.\tq.\n\n", "0: p() ? [].3: q() ? []."),
-    ];
-    for (text, want) in cases {
-        let found = program(rt.alloc(), text)?;
-        assert_eq!(rt; found.as_str(), want);
-    }
-    Ok(())
-}
+/// What stands between clauses is layout.
+const LAYOUT: &str = r"
+ =>
+ % nothing$/* at all */ =>
+/**/p. %$q.% r. => 4: p() ? []. 9: q() ? [].
+p.@9@q.$$ => 0: p() ? []. 3: q() ? [].
+";
 
 /// Queries, and what they are read as.
 const QUERIES: &str = r"
@@ -91,12 +241,204 @@ X = [], Y = [a], Z = [a,b|T] => =(V0,[],)=(V1,list(a,),)=(V2,list(a,b,)|V3,) [X,
 (p, q) => p()q() []
 ";
 
+/// Heads, ends, what stands behind a head, arguments and lists, sums and products, goals, and parts.
+const NO_CLAUSES: &str = r"
+ok.$. => syntax at 4
+ok.$:- p. => syntax at 4
+ok.$X. => syntax at 4
+ok.$1. => syntax at 4
+ok.$[]. => syntax at 4
+ok.$(p). => syntax at 4
+ok.$is. => syntax at 4
+ok.$mod. => syntax at 4
+ok.$is(a). => syntax at 4
+ok.$X(a). => syntax at 4
+ok.$-p. => syntax at 4
+ok.$p => syntax at 4
+ok.$p :- q => syntax at 4
+ok.$p.q => syntax at 4
+ok.$p :- a!b. => syntax at 4
+ok.$'p => syntax at 4
+ok.$p q. => syntax at 4
+ok.$p, q. => syntax at 4
+ok.$p = q. => syntax at 4
+ok.$p -> q. => syntax at 4
+ok.$p ? q. => syntax at 4
+ok.$p | q. => syntax at 4
+ok.$p ; q. => syntax at 4
+ok.$p :- q :- r. => syntax at 4
+ok.$p :- q ; r. => syntax at 4
+ok.$p(X)(Y). => syntax at 4
+ok.$p(). => syntax at 4
+ok.$p(a,). => syntax at 4
+ok.$p(,a). => syntax at 4
+ok.$p(a b). => syntax at 4
+ok.$p(a. => syntax at 4
+ok.$p (a). => syntax at 4
+ok.$p(a]). => syntax at 4
+ok.$p([a). => syntax at 4
+ok.$p([a,]). => syntax at 4
+ok.$p([a|]). => syntax at 4
+ok.$p([|a]). => syntax at 4
+ok.$p([a|b|c]). => syntax at 4
+ok.$p([a|b,c]). => syntax at 4
+ok.$p(a ; b). => syntax at 4
+ok.$p(a -> b). => syntax at 4
+ok.$p(a = b). => syntax at 4
+ok.$p(()). => syntax at 4
+ok.$p(- 6). => syntax at 4
+ok.$p(+1). => syntax at 4
+ok.$p(1+). => syntax at 4
+ok.$p(1**2). => syntax at 4
+ok.$p(1 mod). => syntax at 4
+ok.$p(mod). => syntax at 4
+ok.$p((1,2)). => syntax at 4
+ok.$p :- . => syntax at 4
+ok.$p :- q,. => syntax at 4
+ok.$p :- ,q. => syntax at 4
+ok.$p :- (). => syntax at 4
+ok.$p :- (q. => syntax at 4
+ok.$p :- q). => syntax at 4
+ok.$p :- (q ; ). => syntax at 4
+ok.$p :- ( ; q). => syntax at 4
+ok.$p :- X. => syntax at 4
+ok.$p :- 1. => syntax at 4
+ok.$p :- []. => syntax at 4
+ok.$p :- a + b. => syntax at 4
+ok.$p :- a = . => syntax at 4
+ok.$p :- a = b = c. => syntax at 4
+ok.$p :- (a = b) = c. => syntax at 4
+ok.$p :- f(a) (b). => syntax at 4
+ok.$p :- ->. => syntax at 4
+ok.$p :- q ->. => syntax at 4
+ok.$p :- q -> r -> s. => syntax at 4
+ok.$p :- q | r ? s. => syntax at 4
+ok.$p :- -> q -> r. => syntax at 4
+ok.$p :- (q -> r | s ; t). => syntax at 4
+";
+
+const NO_QUERIES: &str = r"
+  => syntax at 1
+ . => syntax at 1
+ X => syntax at 1
+ 1 => syntax at 1
+ [] => syntax at 1
+ p q => syntax at 1
+ p, => syntax at 1
+ ,p => syntax at 1
+ (p => syntax at 1
+ p) => syntax at 1
+ p :- q => syntax at 1
+ p -> q => syntax at 1
+ p | q => syntax at 1
+ p ? q => syntax at 1
+ p ; q => syntax at 1
+ -> p => syntax at 1
+ p. q => syntax at 1
+ p. ! => syntax at 1
+ p. . => syntax at 1
+ p.. => syntax at 1
+ p. /* => syntax at 1
+ 1 = 2 = 3 => syntax at 1
+ a + b => syntax at 1
+ f (a) => syntax at 1
+ f() => syntax at 1
+ 'p => syntax at 1
+ p ! 9223372036854775808 => syntax at 1
+ p. 9223372036854775808 => syntax at 1
+";
+
+/// Two hundred brackets may be open. Brackets that were closed, and those of another clause, don't count, and one that
+/// closes none counts against one that opens. Too many of them come before an integer out of range, but behind what
+/// begins no token.
+const NESTED_CLAUSES: &str = r"
+p :- @(*200@a@)*200@. => 0: p() ?a() [].
+p :- @(*201@a@)*201@. => too many open brackets at 205
+p :- @(->*200@a@)*200@. => 0: p() ?@{->*200@a()@;}*200@ [].
+p(@[*199@a@]*199@). => 0: p(@list(*199@a@,)*199@,) ? [].
+p(@[*200@a@]*200@). => too many open brackets at 201
+p(@f(*199@a@)*199@). => 0: p(@f(*199@a@,)*199@,) ? [].
+p(@f(*200@a@)*200@). => too many open brackets at 401
+p(@([f(*66@a@)])*66@). => 0: p(@list(f(*66@a@,),)*66@,) ? [].
+p(@([f(*67@a@)])*67@). => too many open brackets at 267
+p :- (b), [] = @(*200@a@)*200@. => 0: p() ?b()=([],a,) [].
+p. p :- @(*201@a@)*201@. => too many open brackets at 208
+p(((. p :- @(*201@a@)*201@. => syntax at 0
+p)) :- @(*202@a@)*202@. => syntax at 0
+p)) :- @(*203@a@)*203@. => too many open brackets at 209
+p(9223372036854775808, @(*200@a@)*200@). => too many open brackets at 222
+p :- @(*201@a@)*201@! . => syntax at 0
+";
+
+const NESTED_QUERIES: &str = r"
+@(*200@a@)*200@ => a() []
+@(*201@a@)*201@ => too many open brackets at 200
+p([@[*198@a@]*198@]). => p(list(@list(*198@a@,)*198@,),) []
+@(*201@a@)*201@. q => too many open brackets at 200
+p. @(*201@a@)*201@ => syntax at 0
+";
+
+/// An integer is a signed number of 64 bits. The first one out of range decides, also in a text that is no clause, but
+/// only behind the tokens.
+const INTEGERS: &str = r"
+p(9223372036854775807). => 0: p(9223372036854775807,) ? [].
+p(9223372036854775808). => integer out of range at 2
+p(-9223372036854775808). => 0: p(-9223372036854775808,) ? [].
+p(-9223372036854775809). => integer out of range at 2
+p(0009223372036854775807, -0, 00). => 0: p(9223372036854775807,0,0,) ? [].
+p(1-9223372036854775808). => integer out of range at 4
+p. q(1, 99999999999999999999) 99999999999999999999. => integer out of range at 8
+p. q(9223372036854775808,  => syntax at 3
+p(9223372036854775808!). => syntax at 0
+";
+
+const QUERY_INTEGERS: &str = r"
+-9223372036854775808 = -0 => =(-9223372036854775808,0,) []
+X = -9223372036854775809 => integer out of range at 4
+p(9223372036854775808 => integer out of range at 2
+p(9223372036854775808). q => integer out of range at 2
+";
+
+const LONG_PROGRAMS: &str = r"
+@ *999998@p. => 999998: p() ? [].
+@ *999999@p. => too long, 1000001
+";
+
+const LONG_QUERIES: &str = r"
+@ *9998@p. => p() []
+@ *9999@p. => too long, 10001
+";
+
+/// A program of a million bytes.
+const MANY_CLAUSES: &str = r"
+@p(a) :- q(X), r.$*58823@@ *8@$ => 58823
+";
+
 #[test]
-fn a_query_is_read_as_its_goals(rt: HostRuntime) -> Result<(), Fail> {
-    for case in each(QUERIES) {
-        let (text, want) = case.split_once(" => ").ok_or("case")?;
-        let found = query(rt.alloc(), text.as_bytes())?;
-        assert_eq!(rt; found.as_str(), want, "at {text}");
+fn a_program_is_read_as_its_clauses_or_refused(rt: HostRuntime) -> Result<(), Fail> {
+    for cases in [
+        PROGRAMS,
+        LAYOUT,
+        NO_CLAUSES,
+        NESTED_CLAUSES,
+        INTEGERS,
+        LONG_PROGRAMS,
+    ] {
+        each_gives(&rt, rt.alloc(), program, cases)?;
+    }
+    each_gives(&rt, rt.alloc(), count, MANY_CLAUSES)
+}
+
+#[test]
+fn a_query_is_read_as_its_goals_or_refused(rt: HostRuntime) -> Result<(), Fail> {
+    for cases in [
+        QUERIES,
+        NO_QUERIES,
+        NESTED_QUERIES,
+        QUERY_INTEGERS,
+        LONG_QUERIES,
+    ] {
+        each_gives(&rt, rt.alloc(), query, cases)?;
     }
     Ok(())
 }
