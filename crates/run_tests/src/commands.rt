@@ -1,7 +1,9 @@
 //! Whole commands over a source and a sink in memory.
 
+use akl_model::{Label, Rule};
 use akl_outside::{MemorySink, MemorySource, NoGate, Source};
 use akl_run::{refusal_line, run_akl};
+use akl_terms::Place;
 use std::alloc::{AllocError, Global};
 use std::fmt::Write;
 use std::str::from_utf8;
@@ -9,13 +11,13 @@ use std::sync::Wait;
 use std::test::Fail;
 use std::thread::Threads;
 
-// What a command answers: its status, its line on standard error, and what was written.
+// What a command answers: its status, its line on standard error, what was written, and its journal.
 #[derive(Drop)]
 struct Reply {
     status: u8,
     line: Vec<u8>,
     written: Vec<u8>,
-    journal: usize,
+    journal: Vec<Label>,
 }
 
 fn run_words<R: Threads + Wait + Sync>(
@@ -34,7 +36,7 @@ fn run_words<R: Threads + Wait + Sync>(
         status: report.status.number(),
         line: refusal_line(alloc, &report)?,
         written: Vec::from_slice(alloc, sink.bytes())?,
-        journal: report.journal.len(),
+        journal: report.journal,
     })
 }
 
@@ -177,17 +179,37 @@ fn commands_are_answered_or_refused(rt: HostRuntime) -> Result<(), Fail> {
     Ok(())
 }
 
-/// Budgets, programs and queries, with the replies and the journals' lengths.
+// The number of a journal's labels, and each with its rule and its place.
+fn shown_journal(alloc: Global, journal: &[Label]) -> Result<String, Fail> {
+    let mut shown = String::new(alloc);
+    write!(shown, "{}:", journal.len())?;
+    for label in journal {
+        let rule = match label.rule {
+            Rule::Tell => "tell",
+            Rule::Fork => "fork",
+            Rule::Fail => "fail",
+            _ => "another rule",
+        };
+        let (kind, name) = match label.place {
+            Place::Goal(name) => ("goal", name),
+            Place::Box(name) => ("box", name),
+        };
+        write!(shown, " {rule} {kind} {}.{}", name.worker, name.number)?;
+    }
+    Ok(shown)
+}
+
+/// Budgets, programs and queries, with the replies, and with the numbers of the journals' labels and the first of them.
 const BUDGETS: &str = r"
-2 =>  => A = a, B = b => 0 / answer 1 / A = a / B = b / done => 2
-1 =>  => A = a, B = b => 3 / budget => 1
-4 => p(a). p(b). => p(c) => 1 / failed => 4
-3 => p(a). p(b). => p(c) => 3 / budget => 3
-3 => p :- p ? true. => p => 3 / budget => 3
-10 => p(a) :- -> true. => p(X) => 2 / suspended 1 => 1
-100 => p :- p ? true. => p => 3 / budget => 100
-1000 => p :- p ? true. => p, p, p, p, p, p, p, p, p, p => 3 / budget => 1000
-4 => member(X,[X|_]). member(X,[_|T]) :- member(X,T). => member(X,[]) => 1 / failed => 4
+2 =>  => A = a, B = b => 0 / answer 1 / A = a / B = b / done => 2: tell goal 0.2 tell goal 0.3
+1 =>  => A = a, B = b => 3 / budget => 1: tell goal 0.2
+4 => p(a). p(b). => p(c) => 1 / failed => 4: fork goal 0.2 fail box 1.0 fail box 1.2 fail box 0.0
+3 => p(a). p(b). => p(c) => 3 / budget => 3: fork goal 0.2 fail box 1.0 fail box 1.2
+3 => p :- p ? true. => p => 3 / budget => 3: fork goal 0.2 fork goal 1.2 fork goal 1.5
+10 => p(a) :- -> true. => p(X) => 2 / suspended 1 => 1: fork goal 0.2
+100 => p :- p ? true. => p => 3 / budget => 100: fork goal 0.2
+1000 => p :- p ? true. => p, p, p, p, p, p, p, p, p, p => 3 / budget => 1000: fork goal 0.2
+4 => member(X,[X|_]). member(X,[_|T]) :- member(X,T). => member(X,[]) => 1 / failed => 4: fork goal 0.2 fail box 1.0 fail box 1.2 fail box 0.0
 ";
 
 #[test]
@@ -200,9 +222,9 @@ fn a_run_makes_as_many_labels_as_its_budget(rt: HostRuntime) -> Result<(), Fail>
         let (reply, labels) = rest.split_once(" => ").ok_or("labels")?;
         let words = ["--query", query, "--budget", budget];
         let found = command(&rt, alloc, program, &words)?;
-        let labels: usize = labels.parse()?;
-        assert_eq!(rt; found.journal, labels, "{case}");
         assert_eq!(rt; shown(alloc, &found)?.as_str(), reply, "{case}");
+        let journal = shown_journal(alloc, &found.journal)?;
+        assert!(rt; journal.as_str().starts_with(labels), "{case}");
     }
     Ok(())
 }
@@ -295,7 +317,7 @@ fn nothing_is_written_after_a_read_fault(rt: HostRuntime) -> Result<(), Fail> {
         let mut sink = MemorySink::new(alloc, 5, 100, Vec::new(alloc))?;
         let fault = run_words(&rt, alloc, &["--query", "X = a"], &mut source, &mut sink)?;
         assert_eq!(rt; shown(alloc, &fault)?.as_str(), "7 / akl: read fault");
-        assert_eq!(rt; fault.journal, 0);
+        assert!(rt; fault.journal.is_empty());
     }
     Ok(())
 }
@@ -310,7 +332,7 @@ fn a_front_of_the_text_stands_before_a_write_fault(rt: HostRuntime) -> Result<()
         let mut sink = MemorySink::new(alloc, 5, 100, fails)?;
         let words = ["--query", "X = f(Y), Y = a"];
         let fault = run_words(&rt, alloc, &words, &mut source, &mut sink)?;
-        assert_eq!(rt; (fault.status, fault.journal), (8, 2));
+        assert_eq!(rt; (fault.status, fault.journal.len()), (8, 2));
         assert_eq!(rt; fault.line.as_slice(), b"akl: write fault\n".as_slice());
         assert_eq!(rt; fault.written.as_slice(), &text[..5 * call as usize]);
     }
