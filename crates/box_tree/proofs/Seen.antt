@@ -7,10 +7,11 @@ use Rattle.std.specs.Map.{lookup}
 use Rattle.akl_terms.specs.declared.name.Name.{Name}
 use Rattle.akl_terms.specs.declared.name.Place.{Place}
 use Rattle.akl_terms.specs.declared.term.Node.{Node}
+use Rattle.akl_terms.specs.declared.program.Op.{Op}
 use Rattle.akl_terms.specs.Tree.{Tree}
 use Rattle.akl_terms.specs.Names.{same_name}
 use Rattle.akl_model.specs.declared.label.Label.{Label}
-use Rattle.akl_model.specs.Config.{IsIn, Atom, Content, Boxes, Config, Held, an_atom, a_choice, held_in, Found, box_at, home_of, site_of}
+use Rattle.akl_model.specs.Config.{IsIn, Atom, Content, Boxes, no_boxes, Config, Held, an_atom, a_choice, held_in, Found, box_at, home_of, site_of}
 use Rattle.akl_model.specs.Names.{times_in}
 use Rattle.akl_model.specs.Changes.{shape_of}
 use Rattle.akl_model.specs.Wakes.{names_around, names_down_to, holder_in}
@@ -39,8 +40,8 @@ use Rattle.box_tree.specs.declared.entries.GoalEntry.{GoalEntry}
 use Rattle.box_tree.specs.declared.view.Sight.{Sight}
 use Rattle.box_tree.specs.Tables as tables
 use Rattle.box_tree.specs.Tables.{rules_in_force, TableValue, table_of, goal_atom, shape_held}
-use Rattle.box_tree.specs.Views.{run_of, Shows, IsViewOf, is_there}
-use Rattle.box_tree.specs.Paths.{home_at, Deep, IsPath, HasPath, sight_held, sight_in, is_at_least, solving_in, known_in}
+use Rattle.box_tree.specs.Views.{run_of, Shows, alternatives_held, alternatives_at, AreSeen, only_body, IsViewOf, is_there}
+use Rattle.box_tree.specs.Paths.{home_at, Deep, IsPath, HasPath, sight_held, is_choice, sight_in, is_at_least, solving_in, known_in}
 
 -- lists
 
@@ -313,7 +314,13 @@ held_shows : (nodes : List Node) (g : Name) (f : Found) (h : Held) (e : Stands) 
 held_shows nodes g f (an_atom a) (Stands.Atom x) i j = let q : a ≡ goal_atom nodes x = cc in i ∙ ap (λ (y : Atom). Some (an_atom y)) q
 held_shows nodes g f (an_atom a) (Stands.Choice op alternatives) i j = cc
 held_shows nodes g f (a_choice o bs) (Stands.Atom x) i j = cc
-held_shows nodes g f (a_choice o bs) (Stands.Choice op alternatives) i j = (o, bs, i)
+held_shows nodes g f (a_choice o bs) (Stands.Choice op alternatives) i j = let q : o ≡ op = cc in (bs, i ∙ ap (λ (y : Op). Some (a_choice y bs)) q)
+
+no_alternatives : (nodes : List Node) (place : Place) (f : Found) (s : Sight) → Shows nodes place f s → is_choice s ≡ false → alternatives_at place f ≡ no_boxes
+no_alternatives nodes (Place.Goal g) f (Sight.Atom a) h e = ap alternatives_held h
+no_alternatives nodes (Place.Goal g) f (Sight.Choice op) h e = cc
+no_alternatives nodes (Place.Goal g) f (Sight.Box o) h e = absurd h
+no_alternatives nodes (Place.Box n) f s h e = refl
 
 module _ (t : TableValue) (c : Config) (u : Unfolds (table_of t) c) (once : (m : Name) → times m c.roots ≤ 1) where
   pub seen : (place : Place) (home : Name) (sight : Sight) → sight_in t place ≡ Some (home, sight) → IsSeen t c place home sight
@@ -377,13 +384,14 @@ module _ (t : TableValue) (journal : List Label) (i : IsTableOf rules_in_force (
       let same : length p.0 ≡ length s.found.around = p.3 in
       (p.0, p.1, omega arith)
 
-  pub view_of : (place : Place) (worker : ℕ) (home : Name) (sight : Sight) (path : List Name) (stores : List Stored) (known next : ℕ) → sight_in t place ≡ Some (home, sight) → IsPath (table_of t) home path
+  pub view_of : (place : Place) (worker : ℕ) (home : Name) (sight : Sight) (path : List Name) (stores : List Stored) (known next : ℕ) → is_choice sight ≡ false → sight_in t place ≡ Some (home, sight) → IsPath (table_of t) home path
       → stores ≡ stores_along (table_of t) path → known ≡ known_in (table_of t) 0 path → next ≡ slice_index t.next worker
-      → IsViewOf (record { table = t; journal = journal; place = place; worker = worker; next = next; path = path; stores = stores; known = known; sight = sight })
-  view_of place worker home sight path stores known next e p ss k n =
+      → IsViewOf (record { table = t; journal = journal; place = place; worker = worker; next = next; path = path; stores = stores; known = known; sight = sight; alternatives = []; body = [] })
+  view_of place worker home sight path stores known next o e p ss k n =
       let s : IsSeen t i.config place home sight = seen t i.config i.unfolds stood place home sight e in
       let x : PathOf (table_of t) i.config i.unfolds stood home s.found = path_found (table_of t) i.config i.unfolds stood (length s.found.around) home s.found refl s.is_box in
       let same : path ≡ names_down_to s.found = p.2 ∙ ap (λ (ms : List Name). reverse (home ∷ ms)) (deep_one (table_of t) home p.0 x.0 p.1 x.1) ∙ sym x.2 in
+      let none : alternatives_at place s.found ≡ no_boxes = no_alternatives t.program.templates.nodes place s.found sight s.shows o in
       let known_here : IsKnown t.program.templates.nodes (stores_along (table_of t) (names_down_to s.found)) (known_in (table_of t) 0 (names_down_to s.found)) = known_is (table_of t) i.config i.unfolds stood home s.found s.is_box in
       record {
         table = i;
@@ -395,4 +403,6 @@ module _ (t : TableValue) (journal : List Label) (i : IsTableOf rules_in_force (
         known = subst (λ (z : List Stored × ℕ). IsKnown t.program.templates.nodes z.0 z.1)
             (λ j. ((sym (ss ∙ ap (stores_along (table_of t)) same)) j, (sym (k ∙ ap (known_in (table_of t) 0) same)) j)) known_here;
         shows = s.shows;
+        alternatives = subst (λ (bs : Boxes). AreSeen (table_of t) stores bs []) (sym none) tt;
+        body = sym (ap only_body none);
       }

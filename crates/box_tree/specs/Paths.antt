@@ -1,5 +1,5 @@
 -- What a look finds by rows.
-use Rattle.std.specs.Prelude.{◌≡◌, ℕ, ◌+◌, ◌<◌, Bool, false, not, nat_lt, max, List, [], ◌∷◌, length, reverse, Option, Some, None, option_map, if◌then◌else◌}
+use Rattle.std.specs.Prelude.{◌≡◌, ℕ, ◌+◌, ◌<◌, Bool, true, false, not, nat_lt, max, List, [], ◌∷◌, length, reverse, Option, Some, None, option_map, if◌then◌else◌}
 use Rattle.std.specs.Map.{lookup}
 use Rattle.akl_terms.specs.declared.name.Name.{Name}
 use Rattle.akl_terms.specs.declared.name.Place.{Place}
@@ -36,7 +36,11 @@ HasPath t n = (ms : List Name) × Deep (table_of t) n ms × (length ms < length 
 -- what stands at a place, and its box
 abbrev pub sight_held : Held → Sight
 sight_held (Held.Atom g) = Sight.Atom g
-sight_held (Held.Choice op alternatives) = Sight.Choice
+sight_held (Held.Choice op alternatives) = Sight.Choice op
+
+abbrev pub is_choice : Sight → Bool
+is_choice (Sight.Choice op) = true
+is_choice sight = false
 
 abbrev pub sight_in : TableValue → Place → Option (Name × Sight)
 sight_in t (Place.Goal g) = option_map (λ (e : GoalEntry). (e.home, sight_held e.held)) (lookup (same_name g) t.goals)

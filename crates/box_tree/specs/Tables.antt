@@ -93,6 +93,8 @@ abbrev pub step_of : List Node → Step → laws.Step
 step_of nodes (Step.Tell store solved) = laws.tells store solved
 step_of nodes (Step.Fork op alternatives) = laws.forks op (map (new_box nodes) alternatives.items)
 step_of nodes Step.Fail = laws.fails
+step_of nodes Step.Cut = laws.cuts
+step_of nodes (Step.Promote store solved goals) = laws.promotes store solved (map (λ (x : Name × Goal). (x.0, goal_atom nodes x.1)) goals.items)
 
 -- each variable of the query has its node
 pub record HasVariables (p : Program) (q : Query) (first_variable : ℕ) : Type 0 where

@@ -17,4 +17,4 @@ pub use entries::{BoxEntry, GoalEntry, Held};
 pub use plan::Plan;
 pub use step::{NewBox, Step};
 pub use table::Table;
-pub use view::{LookError, Sight, View};
+pub use view::{Alternative, LookError, Sight, View};

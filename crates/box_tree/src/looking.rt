@@ -3,7 +3,7 @@
 ghost use Rattle.std.specs.Prelude.{◌≡◌, IfOk, slice_index};
 ghost use Rattle.table_laws.specs.Rows.{store_in, stores_along};
 ghost use Rattle.box_tree.specs.Tables.{table_of};
-ghost use Rattle.box_tree.specs.Paths.{outside_of, IsPath, HasPath, sight_held, sight_in, is_at_least, solving_in, known_in};
+ghost use Rattle.box_tree.specs.Paths.{outside_of, IsPath, HasPath, sight_held, is_choice, sight_in, is_at_least, solving_in, known_in};
 
 use crate::entries::Held;
 use crate::table::Table;
@@ -17,7 +17,16 @@ fn sight_held(held: &Held) -> Sight
 {
     match held {
         Held::Atom(goal) => Sight::Atom(*goal),
-        Held::Choice { .. } => Sight::Choice,
+        Held::Choice { op, .. } => Sight::Choice { op: *op },
+    }
+}
+
+pub(crate) fn is_choice(sight: Sight) -> bool
+    ensures { result ≡ is_choice sight }
+{
+    match sight {
+        Sight::Choice { .. } => true,
+        _ => false,
     }
 }
 

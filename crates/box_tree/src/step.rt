@@ -23,4 +23,13 @@ pub enum Step {
     Fork { op: Op, alternatives: Vec<NewBox> },
     /// The box goes, with all that stands in it.
     Fail,
+    /// The choice loses the alternatives for which a solved one, that of the label, leaves no room.
+    Cut,
+    /// The only alternative of the choice, that of the label, joins the box. This gets a store, which may be solved over
+    /// the stores around it, and new goals, atoms in increasing order of names.
+    Promote {
+        store: Shared<Store>,
+        solved: bool,
+        goals: Vec<(Name, Goal)>,
+    },
 }

@@ -1,17 +1,19 @@
 //! The table.
 
-ghost use Rattle.std.specs.Prelude.{◌≡◌, ◌++◌, map, IfOk, IfErr, OnOk, true, false, is_some, IfSome};
+ghost use Rattle.std.specs.Prelude.{◌≡◌, ◌++◌, map, IfOk, IfErr, OnOk, true, false, is_some, IfSome, Some};
 ghost use Rattle.table_laws.specs.Writes.{IsTable};
 ghost use Rattle.table_laws.specs.Laws.{started};
 ghost use Rattle.table_laws.specs.Stamped.{IsTableOf, stamp_in};
 ghost use Rattle.box_tree.specs.Tables.{rules_in_force, table_of, MayApply, Applied, HasVariables, HasShownVariables, goals_in, is_empty, shown_in, shown_trees_of};
+ghost use Rattle.box_tree.specs.Paths.{sight_in};
 ghost use Rattle.box_tree.specs.Views.{run_of, is_there, IsUnseen, AreAllPlaces};
 
 use crate::entries::{BoxEntry, GoalEntry};
+use crate::looking::is_choice;
 use crate::starting::after;
 use crate::step::Step;
 use crate::telling::solved_when;
-use crate::view::{LookError, View};
+use crate::view::{LookError, Sight, View};
 use akl_model::{Item, Label};
 use akl_terms::{Name, Place, Program, Query, ShownTerm};
 use std::alloc::{AllocError, Global};
@@ -64,14 +66,34 @@ impl Table {
         let Some((home, sight)) = self.sight_of(place) else {
             return Err(LookError::Gone);
         };
-        let path = match self.path_to(alloc, home) {
-            Ok(path) => path,
-            Err(error) => return Err(LookError::Memory(error)),
-        };
-        let stores = match self.stores_of(alloc, path.as_slice()) {
-            Ok(stores) => stores,
-            Err(error) => return Err(LookError::Memory(error)),
-        };
+        match self.view_of(alloc, journal, place, worker, home, sight) {
+            Ok(view) => Ok(view),
+            Err(error) => Err(LookError::Memory(error)),
+        }
+    }
+
+    // What a worker sees of a place, where this stands in this box.
+    fn view_of(
+        &self,
+        alloc: Global,
+        journal: &Vec<Label>,
+        place: Place,
+        worker: u32,
+        home: Name,
+        sight: Sight,
+    ) -> Result<View, AllocError>
+        requires table { IsTableOf rules_in_force (run_of self.now journal.now.items) (table_of self.now) }
+        requires sight { sight_in self.now place ≡ Some (home, sight) }
+        ensures table { IfOk result (λ v. v.table ≡ self.now) }
+        ensures journal { IfOk result (λ v. v.journal ≡ journal.now.items) }
+        ensures place { IfOk result (λ v. v.place ≡ place) }
+        ensures worker { IfOk result (λ v. v.worker ≡ worker) }
+    {
+        if is_choice(sight) {
+            return Err(AllocError);
+        }
+        let path = self.path_to(alloc, home)?;
+        let stores = self.stores_of(alloc, path.as_slice())?;
         let known = self.known_of(path.as_slice());
         Ok(View {
             table: Snapshot::of(self),
@@ -84,6 +106,8 @@ impl Table {
             stores,
             known,
             sight,
+            alternatives: Vec::new(alloc),
+            body: Vec::new(alloc),
         })
     }
 
@@ -206,6 +230,8 @@ impl Table {
                 self.fail(name, &inside, number);
                 Ok(())
             }
+            Step::Cut => Err(AllocError),
+            Step::Promote { .. } => Err(AllocError),
         }
     }
 }

@@ -5,7 +5,7 @@ ghost use Rattle.box_tree.specs.Views.{IsViewOf};
 
 use crate::table::Table;
 use akl_model::Label;
-use akl_terms::{Goal, Name, Place, Program, Query, Templates};
+use akl_terms::{Goal, Name, Op, Place, Program, Query, Templates};
 use local_store::{Chain, Shared, Store};
 use std::alloc::AllocError;
 use std::marker::Model;
@@ -24,9 +24,20 @@ pub enum LookError {
 #[derive(Clone, Copy)]
 pub enum Sight {
     Atom(Goal),
-    Choice,
+    Choice { op: Op },
     /// A box, with a goal by which it fails, where it has one.
     Box { failing: Option<Name> },
+}
+
+/// What is seen of an alternative of a choice.
+#[derive(Drop)]
+pub struct Alternative {
+    pub name: Name,
+    /// Whether it has no goals.
+    pub solved: bool,
+    pub store: Shared<Store>,
+    /// How many of the outermost stores, from the root box down to its own, are known to be solved together.
+    pub known: usize,
 }
 
 /// What is seen of a place: all that a plan for it needs. It remembers in no bytes the table and the journal of which
@@ -43,6 +54,8 @@ pub struct View {
     pub(crate) stores: Vec<Shared<Store>>,
     pub(crate) known: usize,
     pub(crate) sight: Sight,
+    pub(crate) alternatives: Vec<Alternative>,
+    pub(crate) body: Vec<Goal>,
     ghost same_length: { seen ≡ length journal.value.items },
 }
 
@@ -51,9 +64,9 @@ impl Model for View {
 
     ghost Value = { ViewValue };
 
-    ghost view = { λ v. record { table = v.table.value; journal = v.journal.value.items; place = v.place; worker = v.worker; next = v.next; path = v.path.items; stores = v.stores.items; known = v.known; sight = v.sight } };
+    ghost view = { λ v. record { table = v.table.value; journal = v.journal.value.items; place = v.place; worker = v.worker; next = v.next; path = v.path.items; stores = v.stores.items; known = v.known; sight = v.sight; alternatives = v.alternatives.items; body = v.body.items } };
 
-    ghost invariant = { λ v. IsViewOf (record { table = v.table.value; journal = v.journal.value.items; place = v.place; worker = v.worker; next = v.next; path = v.path.items; stores = v.stores.items; known = v.known; sight = v.sight }) };
+    ghost invariant = { λ v. IsViewOf (record { table = v.table.value; journal = v.journal.value.items; place = v.place; worker = v.worker; next = v.next; path = v.path.items; stores = v.stores.items; known = v.known; sight = v.sight; alternatives = v.alternatives.items; body = v.body.items }) };
 }
 
 impl View {
@@ -98,6 +111,35 @@ impl View {
         ensures { result ≡ self.now.sight }
     {
         self.sight
+    }
+
+    /// The alternatives of the choice at the place, in order; none at another place.
+    pub fn alternatives(&self) -> &[Alternative]
+        ensures alternatives { result.now ≡ self.now.alternatives }
+        ensures seen { IsViewOf self.now }
+    {
+        self.alternatives.as_slice()
+    }
+
+    /// The body of the only alternative; no goals where there is none or more than one.
+    pub fn body(&self) -> &[Goal]
+        ensures { result.now ≡ self.now.body }
+    {
+        self.body.as_slice()
+    }
+
+    /// The stores of the boxes from the root box down to the place's box.
+    pub fn stores(&self) -> &[Shared<Store>]
+        ensures { result.now ≡ self.now.stores }
+    {
+        self.stores.as_slice()
+    }
+
+    /// How many of the outermost of these stores are known to be solved together.
+    pub fn known(&self) -> usize
+        ensures { result ≡ self.now.known }
+    {
+        self.known
     }
 
     /// The stores of these boxes, with how many of the outermost are known to be solved together.

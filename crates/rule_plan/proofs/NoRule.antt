@@ -103,7 +103,7 @@ choice_none v i g p other = on v.sight refl (subst (λ (q : Place). Shows v.tabl
   where
     on : (sight : Sight) → v.sight ≡ sight → Shows v.table.program.templates.nodes (Place.Goal g) i.site sight → HasNoRule v
     on (Sight.Atom a) e h = absurd (other a e)
-    on Sight.Choice e h = goal_none v i g (a_choice h.0 h.1) p h.2 (choice_idle v.table.program h.0 h.1)
+    on (Sight.Choice o) e h = goal_none v i g (a_choice o h.0) p h.1 (choice_idle v.table.program o h.0)
     on (Sight.Box o) e h = absurd h
 
 -- an atom that is neither an equation nor a call
