@@ -10,4 +10,5 @@ mod Applies
 mod Begins
 mod Looks
 mod Seen
+mod Viewed
 mod Removed

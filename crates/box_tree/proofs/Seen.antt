@@ -1,4 +1,4 @@
--- A view of a place, by what rows say.
+-- The boxes down to a box and which of their stores are solved, by what rows say.
 use Rattle.std.proofs.Common.{◌≡◌, ℕ, zero, suc, ◌+◌, ◌<◌, ◌≤◌, Bool, true, false, List, [], ◌∷◌, ◌++◌, length, reverse, take, get_or, map, max, Option, Some, None, refl, sym, ap, subst, ◌∙◌, ◌⊎◌, inl, inr, arith}
 use Rattle.std.proofs.lemmas.List.{length-append, length-map, reverse-append}
 use Rattle.std.proofs.lemmas.Bool.Decides.{nat_tests}
@@ -41,7 +41,7 @@ use Rattle.box_tree.specs.declared.view.Sight.{Sight}
 use Rattle.box_tree.specs.Tables as tables
 use Rattle.box_tree.specs.Tables.{rules_in_force, TableValue, table_of, goal_atom, shape_held}
 use Rattle.box_tree.specs.Views.{run_of, Shows, alternatives_held, alternatives_at, AreSeen, only_body, IsViewOf, is_there}
-use Rattle.box_tree.specs.Paths.{home_at, Deep, IsPath, HasPath, sight_held, is_choice, sight_in, is_at_least, solving_in, known_in}
+use Rattle.box_tree.specs.Paths.{home_at, Deep, is_at_least, solving_in, known_in, latest_in, known_with}
 
 -- lists
 
@@ -138,6 +138,21 @@ known_few T latest (n ∷ ns) = on (is_at_least (solving_in (T.box_of n)).0 late
     on true k = omega arith
     on false k = omega arith
 
+-- one box more
+pub known_end : (T : Table) (ns : List Name) (n : Name) (latest : ℕ) → known_in T latest (ns ++ n ∷ []) ≡ known_with T (known_in T latest ns) (latest_in T latest ns) (length ns + 1) n
+known_end T [] n latest = refl
+known_end T (m ∷ ms) n latest = on (is_at_least (solving_in (T.box_of m)).0 latest) (latest_in T (max latest (solving_in (T.box_of m)).1) ms) (known_end T ms n (max latest (solving_in (T.box_of m)).1))
+  where
+    two : (b : Bool) → known_in T (max latest (solving_in (T.box_of m)).1) (ms ++ n ∷ []) ≡ (if b then length ms + 1 else known_in T (max latest (solving_in (T.box_of m)).1) ms) → known_in T (max latest (solving_in (T.box_of m)).1) (ms ++ n ∷ []) + 1 ≡ (if b then suc (length ms) + 1 else known_in T (max latest (solving_in (T.box_of m)).1) ms + 1)
+    two true e = omega arith
+    two false e = omega arith
+
+    on : (b : Bool) (o : Option ℕ) → known_in T (max latest (solving_in (T.box_of m)).1) (ms ++ n ∷ []) ≡ known_with T (known_in T (max latest (solving_in (T.box_of m)).1) ms) o (length ms + 1) n
+        → (if b then known_in T (max latest (solving_in (T.box_of m)).1) (ms ++ n ∷ []) + 1 else 0) ≡ known_with T (if b then known_in T (max latest (solving_in (T.box_of m)).1) ms + 1 else 0) (if b then o else None) (suc (length ms) + 1) n
+    on false o e = refl
+    on true None e = ap (λ (k : ℕ). k + 1) e
+    on true (Some k) e = two (is_at_least (solving_in (T.box_of n)).0 k) e
+
 -- paths
 
 record IsPrefix (roots : Boxes) (path : List Name) (j : ℕ) (d : Name) : Type 0 where
@@ -165,10 +180,10 @@ module _ (T : Table) (c : Config) (u : Unfolds T c) (once : (m : Name) → times
   length_around : (n g : Name) (f : Found) (h : IsHeldBy n g f c.roots) → length f.around ≡ length h.home.around + 1
   length_around n g f h = ap (λ (xs : List Content). length xs) h.around ∙ length-append h.home.around (h.home.content ∷ [])
 
-  abbrev PathOf : Name → Found → Type 0
+  abbrev pub PathOf : Name → Found → Type 0
   PathOf n f = (ms : List Name) × Deep T n ms × (names_down_to f ≡ reverse (n ∷ ms)) × (length ms ≡ length f.around)
 
-  path_found : (k : ℕ) (n : Name) (f : Found) → length f.around ≡ k → box_at n c.roots ≡ Some f → PathOf n f
+  pub path_found : (k : ℕ) (n : Name) (f : Found) → length f.around ≡ k → box_at n c.roots ≡ Some f → PathOf n f
   path_found zero n f l e = elim (held_or c.roots once n f e) [
     | inl r ↦ ([], ap (home_at T) (holder_row n f e ∙ r.1), ap (λ (bs : List Content). map (λ (b : Content). b.name) bs ++ f.content.name ∷ []) r.0 ∙ ap (λ (k : Name). k ∷ []) (sym (box-itself n c.roots f e)), sym l)
     | inr h ↦ let a : length f.around ≡ length h.2.home.around + 1 = length_around n h.0 f h.2 in absurd (omega arith)
@@ -273,7 +288,7 @@ module _ (T : Table) (c : Config) (u : Unfolds T c) (once : (m : Name) → times
       let k : length (names_down_to f) ≤ length es = no_more (names_down_to f) es (path_once n f e) (λ m i. let r : (r : BoxRow) × (T.box_of m ≡ Some r) = path_there n f e m i in keys m r.0 r.1) in
       omega arith
 
-deep_one : (T : Table) (n : Name) (ms ks : List Name) → Deep T n ms → Deep T n ks → ms ≡ ks
+pub deep_one : (T : Table) (n : Name) (ms ks : List Name) → Deep T n ms → Deep T n ks → ms ≡ ks
 deep_one T n [] [] a b = refl
 deep_one T n [] (k ∷ ks) a b = let z : None ≡ Some k = sym a ∙ b.0 in absurd cc
 deep_one T n (m ∷ ms) [] a b = let z : Some m ≡ None = sym a.0 ∙ b in absurd cc
@@ -282,127 +297,3 @@ deep_one T n (m ∷ ms) (k ∷ ks) a b =
     let r : ms ≡ ks = deep_one T m ms ks a.1 (subst (λ (x : Name). Deep T x ks) (sym q) b.1) in
     λ i. q i ∷ r i
 
--- what is there
-
-no_entry : {A B : Type 0} (f : A → B) (o : Option A) (b : B) → option_map f o ≡ Some b → (a : A) × (o ≡ Some a) × (f a ≡ b)
-no_entry f None b e = cc
-no_entry f (Some a) b e = (a, refl, some_value e)
-
-spot_found : (g : Name) (roots : Boxes) (s : Spot) → spot_in g roots ≡ Some s → (f : Found) × (h : Held) × (home_of g roots ≡ Some f) × (held_in g f.goals ≡ Some h) × (f.content.name ≡ s.home) × (shape_of h ≡ s.shape)
-spot_found g roots s e = on (home_of g roots) refl e
-  where
-    held : (f : Found) (o : Option Held) → home_of g roots ≡ Some f → held_in g f.goals ≡ o → option_map (λ (h : Held). record { home = f.content.name; shape = shape_of h }) o ≡ Some s
-        → (f : Found) × (h : Held) × (home_of g roots ≡ Some f) × (held_in g f.goals ≡ Some h) × (f.content.name ≡ s.home) × (shape_of h ≡ s.shape)
-    held f None i j k = cc
-    held f (Some h) i j k = (f, h, i, j, ap (λ (x : Spot). x.home) (some_value k), ap (λ (x : Spot). x.shape) (some_value k))
-
-    on : (o : Option Found) → home_of g roots ≡ o → option_and_then (λ (f : Found). option_map (λ (h : Held). record { home = f.content.name; shape = shape_of h }) (held_in g f.goals)) o ≡ Some s
-        → (f : Found) × (h : Held) × (home_of g roots ≡ Some f) × (held_in g f.goals ≡ Some h) × (f.content.name ≡ s.home) × (shape_of h ≡ s.shape)
-    on None i k = cc
-    on (Some f) i k = held f (held_in g f.goals) i refl k
-
--- what stands at a place
-pub record IsSeen (t : TableValue) (c : Config) (place : Place) (home : Name) (sight : Sight) : Type 0 where
-  pub found : Found
-  pub is_site : site_of place c.roots ≡ Some found
-  pub named : found.content.name ≡ home
-  pub is_box : box_at home c.roots ≡ Some found
-  pub shows : Shows t.program.templates.nodes place found sight
-  pub there : is_there (table_of t) place ≡ true
-
-held_shows : (nodes : List Node) (g : Name) (f : Found) (h : Held) (e : Stands) → held_in g f.goals ≡ Some h → shape_of h ≡ shape_held nodes e → Shows nodes (Place.Goal g) f (sight_held e)
-held_shows nodes g f (an_atom a) (Stands.Atom x) i j = let q : a ≡ goal_atom nodes x = cc in i ∙ ap (λ (y : Atom). Some (an_atom y)) q
-held_shows nodes g f (an_atom a) (Stands.Choice op alternatives) i j = cc
-held_shows nodes g f (a_choice o bs) (Stands.Atom x) i j = cc
-held_shows nodes g f (a_choice o bs) (Stands.Choice op alternatives) i j = let q : o ≡ op = cc in (bs, i ∙ ap (λ (y : Op). Some (a_choice y bs)) q)
-
-no_alternatives : (nodes : List Node) (place : Place) (f : Found) (s : Sight) → Shows nodes place f s → is_choice s ≡ false → alternatives_at place f ≡ no_boxes
-no_alternatives nodes (Place.Goal g) f (Sight.Atom a) h e = ap alternatives_held h
-no_alternatives nodes (Place.Goal g) f (Sight.Choice op) h e = cc
-no_alternatives nodes (Place.Goal g) f (Sight.Box o) h e = absurd h
-no_alternatives nodes (Place.Box n) f s h e = refl
-
-module _ (t : TableValue) (c : Config) (u : Unfolds (table_of t) c) (once : (m : Name) → times m c.roots ≤ 1) where
-  pub seen : (place : Place) (home : Name) (sight : Sight) → sight_in t place ≡ Some (home, sight) → IsSeen t c place home sight
-  seen (Place.Goal g) home sight e =
-      let w : (x : GoalEntry) × (lookup (same_name g) t.goals ≡ Some x) × ((x.home, sight_held x.held) ≡ (home, sight)) = no_entry (λ (x : GoalEntry). (x.home, sight_held x.held)) (lookup (same_name g) t.goals) (home, sight) e in
-      let r : (table_of t).goal_of g ≡ Some (tables.goal_row t.program.templates.nodes w.0) = ap (option_map (tables.goal_row t.program.templates.nodes)) w.1 in
-      let s : spot_in g c.roots ≡ Some (spot_of (tables.goal_row t.program.templates.nodes w.0)) = sym (u.goals g) ∙ ap (option_map spot_of) r in
-      let x : (f : Found) × (h : Held) × (home_of g c.roots ≡ Some f) × (held_in g f.goals ≡ Some h) × (f.content.name ≡ w.0.home) × (shape_of h ≡ shape_held t.program.templates.nodes w.0.held) =
-      spot_found g c.roots (spot_of (tables.goal_row t.program.templates.nodes w.0)) s in
-      let q : x.0.content.name ≡ home = x.4 ∙ ap (λ (p : Name × Sight). p.0) w.2 in
-      record {
-        found = x.0;
-        is_site = x.2;
-        named = q;
-        is_box = subst (λ (n : Name). box_at n c.roots ≡ Some x.0) q (home-box g c.roots x.0 once x.2);
-        shows = subst (Shows t.program.templates.nodes (Place.Goal g) x.0) (ap (λ (p : Name × Sight). p.1) w.2) (held_shows t.program.templates.nodes g x.0 x.1 w.0.held x.3 x.5);
-        there = ap is_some r;
-      }
-  seen (Place.Box n) home sight e =
-      let w : (x : BoxEntry) × (lookup (same_name n) t.boxes ≡ Some x) × ((n, Sight.Box x.failing) ≡ (home, sight)) = no_entry (λ (x : BoxEntry). (n, Sight.Box x.failing)) (lookup (same_name n) t.boxes) (home, sight) e in
-      let r : (table_of t).box_of n ≡ Some (tables.box_row t.program.templates.nodes w.0) = ap (option_map (tables.box_row t.program.templates.nodes)) w.1 in
-      let x : (f : Found) × (box_at n c.roots ≡ Some f) × IsBoxRow (table_of t) c.roots f (tables.box_row t.program.templates.nodes w.0) = found_of (table_of t) c u n (tables.box_row t.program.templates.nodes w.0) r in
-      let q : n ≡ home = ap (λ (p : Name × Sight). p.0) w.2 in
-      record {
-        found = x.0;
-        is_site = x.1;
-        named = sym (box-itself n c.roots x.0 x.1) ∙ q;
-        is_box = subst (λ (m : Name). box_at m c.roots ≡ Some x.0) q x.1;
-        shows = subst (Shows t.program.templates.nodes (Place.Box n) x.0) (ap (λ (p : Name × Sight). p.1) w.2) x.2.failing;
-        there = ap is_some r;
-      }
-
-pub unseen : (t : TableValue) (place : Place) → sight_in t place ≡ None → is_there (table_of t) place ≡ false
-unseen t (Place.Goal g) e = on (lookup (same_name g) t.goals) e
-  where
-    on : (o : Option GoalEntry) → option_map {U = Name × Sight} (λ (x : GoalEntry). (x.home, sight_held x.held)) o ≡ None → is_some (option_map (tables.goal_row t.program.templates.nodes) o) ≡ false
-    on None e = refl
-    on (Some x) e = cc
-unseen t (Place.Box n) e = on (lookup (same_name n) t.boxes) e
-  where
-    on : (o : Option BoxEntry) → option_map {U = Name × Sight} (λ (x : BoxEntry). (n, Sight.Box x.failing)) o ≡ None → is_some (option_map (tables.box_row t.program.templates.nodes) o) ≡ false
-    on None e = refl
-    on (Some x) e = cc
-
-module _ (t : TableValue) (journal : List Label) (i : IsTableOf rules_in_force (run_of t journal) (table_of t)) where
-  stood : (m : Name) → times m i.config.roots ≤ 1
-  stood = (replay-stands rules_in_force t.program t.query journal i.config i.replays).once
-
-  key_there : (m : Name) (r : BoxRow) → (table_of t).box_of m ≡ Some r → IsSome (lookup (same_name m) t.boxes)
-  key_there m r e = on (lookup (same_name m) t.boxes) e
-    where
-      on : (o : Option BoxEntry) → option_map (tables.box_row t.program.templates.nodes) o ≡ Some r → IsSome o
-      on None e = cc
-      on (Some x) e = refl
-
-  pub has_path : (place : Place) (home : Name) (sight : Sight) → sight_in t place ≡ Some (home, sight) → HasPath t home
-  has_path place home sight e =
-      let s : IsSeen t i.config place home sight = seen t i.config i.unfolds stood place home sight e in
-      let p : PathOf (table_of t) i.config i.unfolds stood home s.found = path_found (table_of t) i.config i.unfolds stood (length s.found.around) home s.found refl s.is_box in
-      let few : length s.found.around < length t.boxes = path_few (table_of t) i.config i.unfolds stood t.boxes key_there home s.found s.is_box in
-      let same : length p.0 ≡ length s.found.around = p.3 in
-      (p.0, p.1, omega arith)
-
-  pub view_of : (place : Place) (worker : ℕ) (home : Name) (sight : Sight) (path : List Name) (stores : List Stored) (known next : ℕ) → is_choice sight ≡ false → sight_in t place ≡ Some (home, sight) → IsPath (table_of t) home path
-      → stores ≡ stores_along (table_of t) path → known ≡ known_in (table_of t) 0 path → next ≡ slice_index t.next worker
-      → IsViewOf (record { table = t; journal = journal; place = place; worker = worker; next = next; path = path; stores = stores; known = known; sight = sight; alternatives = []; body = [] })
-  view_of place worker home sight path stores known next o e p ss k n =
-      let s : IsSeen t i.config place home sight = seen t i.config i.unfolds stood place home sight e in
-      let x : PathOf (table_of t) i.config i.unfolds stood home s.found = path_found (table_of t) i.config i.unfolds stood (length s.found.around) home s.found refl s.is_box in
-      let same : path ≡ names_down_to s.found = p.2 ∙ ap (λ (ms : List Name). reverse (home ∷ ms)) (deep_one (table_of t) home p.0 x.0 p.1 x.1) ∙ sym x.2 in
-      let none : alternatives_at place s.found ≡ no_boxes = no_alternatives t.program.templates.nodes place s.found sight s.shows o in
-      let known_here : IsKnown t.program.templates.nodes (stores_along (table_of t) (names_down_to s.found)) (known_in (table_of t) 0 (names_down_to s.found)) = known_is (table_of t) i.config i.unfolds stood home s.found s.is_box in
-      record {
-        table = i;
-        site = s.found;
-        is_site = s.is_site;
-        next = n ∙ i.unfolds.next worker;
-        path = same;
-        stores = ss;
-        known = subst (λ (z : List Stored × ℕ). IsKnown t.program.templates.nodes z.0 z.1)
-            (λ j. ((sym (ss ∙ ap (stores_along (table_of t)) same)) j, (sym (k ∙ ap (known_in (table_of t) 0) same)) j)) known_here;
-        shows = s.shows;
-        alternatives = subst (λ (bs : Boxes). AreSeen (table_of t) stores bs []) (sym none) tt;
-        body = sym (ap only_body none);
-      }

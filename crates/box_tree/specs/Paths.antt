@@ -1,16 +1,19 @@
 -- What a look finds by rows.
-use Rattle.std.specs.Prelude.{◌≡◌, ℕ, ◌+◌, ◌<◌, Bool, true, false, not, nat_lt, max, List, [], ◌∷◌, length, reverse, Option, Some, None, option_map, if◌then◌else◌}
+use Rattle.std.specs.Prelude.{◌≡◌, ℕ, ◌+◌, ◌<◌, Bool, false, not, nat_lt, max, List, [], ◌∷◌, length, reverse, Option, Some, None, option_map, if◌then◌else◌}
 use Rattle.std.specs.Map.{lookup}
 use Rattle.akl_terms.specs.declared.name.Name.{Name}
 use Rattle.akl_terms.specs.declared.name.Place.{Place}
 use Rattle.akl_terms.specs.Names.{same_name}
-use Rattle.table_laws.specs.Rows.{BoxRow, Table}
+use Rattle.akl_model.specs.Config.{Atom}
+use Rattle.table_laws.specs.Rows.{BoxRow, Table, store_in}
 use Rattle.table_laws.specs.Writes.{home_in, holder_in_row}
+use Rattle.table_laws.specs.Walks.{alternatives_of}
 use Rattle.box_tree.specs.declared.entries.Held.{Held}
 use Rattle.box_tree.specs.declared.entries.BoxEntry.{BoxEntry}
 use Rattle.box_tree.specs.declared.entries.GoalEntry.{GoalEntry}
+use Rattle.box_tree.specs.declared.view.Alternative.{Alternative}
 use Rattle.box_tree.specs.declared.view.Sight.{Sight}
-use Rattle.box_tree.specs.Tables.{TableValue, table_of}
+use Rattle.box_tree.specs.Tables.{TableValue, table_of, goals_in, is_empty}
 
 -- the box in which the choice stands that holds a box
 abbrev pub home_at : Table → Option Name → Option Name
@@ -38,10 +41,6 @@ abbrev pub sight_held : Held → Sight
 sight_held (Held.Atom g) = Sight.Atom g
 sight_held (Held.Choice op alternatives) = Sight.Choice op
 
-abbrev pub is_choice : Sight → Bool
-is_choice (Sight.Choice op) = true
-is_choice sight = false
-
 abbrev pub sight_in : TableValue → Place → Option (Name × Sight)
 sight_in t (Place.Goal g) = option_map (λ (e : GoalEntry). (e.home, sight_held e.held)) (lookup (same_name g) t.goals)
 sight_in t (Place.Box n) = option_map (λ (e : BoxEntry). (n, Sight.Box e.failing)) (lookup (same_name n) t.boxes)
@@ -59,3 +58,37 @@ solving_in (Some r) = (r.solved_at, r.changed)
 abbrev pub known_in : Table → ℕ → List Name → ℕ
 known_in T latest [] = 0
 known_in T latest (n ∷ ns) = if is_at_least (solving_in (T.box_of n)).0 latest then known_in T (max latest (solving_in (T.box_of n)).1) ns + 1 else 0
+
+-- the last label that changed one of them, where all were solved so
+abbrev pub latest_in : Table → ℕ → List Name → Option ℕ
+latest_in T latest [] = Some latest
+latest_in T latest (n ∷ ns) = if is_at_least (solving_in (T.box_of n)).0 latest then latest_in T (max latest (solving_in (T.box_of n)).1) ns else None
+
+-- the alternatives of the choice at a place
+abbrev pub names_at : Table → Place → List Name
+names_at T (Place.Goal g) = alternatives_of (T.goal_of g)
+names_at T (Place.Box n) = []
+
+-- how many stores are known to be solved together down to an alternative, whose own is the last of so many, where so many are known of those
+-- around it; where these are all, the last label that changed one of them is given
+abbrev pub known_with : Table → ℕ → Option ℕ → ℕ → Name → ℕ
+known_with T known None whole n = known
+known_with T known (Some latest) whole n = if is_at_least (solving_in (T.box_of n)).0 latest then whole else known
+
+-- what is seen of an alternative
+abbrev pub seen_as : Table → ℕ → Option ℕ → ℕ → Name → Alternative
+seen_as T known latest whole n = record {
+  name = n;
+  solved = is_empty (goals_in (T.box_of n));
+  store = store_in (T.box_of n);
+  known = known_with T known latest whole n;
+}
+
+-- the body of the only one of some boxes
+abbrev pub body_in : Option BoxRow → List Atom
+body_in None = []
+body_in (Some r) = r.body
+
+abbrev pub body_of_only : Table → List Name → List Atom
+body_of_only T (n ∷ []) = body_in (T.box_of n)
+body_of_only T ns = []

@@ -3,7 +3,7 @@
 ghost use Rattle.std.specs.Prelude.{◌≡◌, IfOk, slice_index};
 ghost use Rattle.table_laws.specs.Rows.{store_in, stores_along};
 ghost use Rattle.box_tree.specs.Tables.{table_of};
-ghost use Rattle.box_tree.specs.Paths.{outside_of, IsPath, HasPath, sight_held, is_choice, sight_in, is_at_least, solving_in, known_in};
+ghost use Rattle.box_tree.specs.Paths.{outside_of, IsPath, HasPath, sight_held, sight_in, is_at_least, solving_in, known_in, latest_in};
 
 use crate::entries::Held;
 use crate::table::Table;
@@ -21,17 +21,8 @@ fn sight_held(held: &Held) -> Sight
     }
 }
 
-pub(crate) fn is_choice(sight: Sight) -> bool
-    ensures { result ≡ is_choice sight }
-{
-    match sight {
-        Sight::Choice { .. } => true,
-        _ => false,
-    }
-}
-
 // Whether a store was solved when there were at least so many labels.
-fn is_at_least(solved_at: Option<u64>, latest: u64) -> bool
+pub(crate) fn is_at_least(solved_at: Option<u64>, latest: u64) -> bool
     ensures { result ≡ is_at_least solved_at latest }
 {
     match solved_at {
@@ -91,8 +82,8 @@ impl Table {
         Ok(path)
     }
 
-    // The store of a box; one that isn't there has nothing.
-    fn store_of(&self, alloc: Global, name: Name) -> Result<Shared<Store>, AllocError>
+    /// The store of a box; one that isn't there has nothing.
+    pub(crate) fn store_of(&self, alloc: Global, name: Name) -> Result<Shared<Store>, AllocError>
         ensures { IfOk result (λ store. store ≡ store_in ((table_of self.now).box_of name)) }
     {
         match self.boxes.get(&name) {
@@ -116,26 +107,28 @@ impl Table {
         Ok(stores)
     }
 
-    /// How many of the outermost boxes were solved when no box around them was changed later.
-    pub(crate) fn known_of(&self, path: &[Name]) -> usize
-        ensures { result ≡ known_in (table_of self.now) 0 path.now }
+    /// How many of the outermost boxes were solved when no box around them was changed later; where all were, also the
+    /// number of the last label that changed one of them.
+    pub(crate) fn known_of(&self, path: &[Name]) -> (usize, Option<u64>)
+        ensures known { result.0 ≡ known_in (table_of self.now) 0 path.now }
+        ensures latest { result.1 ≡ latest_in (table_of self.now) 0 path.now }
     {
         let mut known = 0;
         let mut latest = 0;
         for name in path {
             let (solved_at, changed) = self.solving_of(*name);
             if !is_at_least(solved_at, latest) {
-                return known;
+                return (known, None);
             }
             latest = latest.max(changed);
             known += 1;
         }
-        known
+        (known, Some(latest))
     }
 
-    // When a box's store was solved, and the number of the last label that changed it; `None` and 0 of a box that isn't
-    // there.
-    fn solving_of(&self, name: Name) -> (Option<u64>, u64)
+    /// When a box's store was solved, and the number of the last label that changed it; `None` and 0 of a box that isn't
+    /// there.
+    pub(crate) fn solving_of(&self, name: Name) -> (Option<u64>, u64)
         ensures { result ≡ solving_in ((table_of self.now).box_of name) }
     {
         match self.boxes.get(&name) {

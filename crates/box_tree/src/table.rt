@@ -9,7 +9,6 @@ ghost use Rattle.box_tree.specs.Paths.{sight_in};
 ghost use Rattle.box_tree.specs.Views.{run_of, is_there, IsUnseen, AreAllPlaces};
 
 use crate::entries::{BoxEntry, GoalEntry};
-use crate::looking::is_choice;
 use crate::starting::after;
 use crate::step::Step;
 use crate::telling::solved_when;
@@ -89,12 +88,15 @@ impl Table {
         ensures place { IfOk result (λ v. v.place ≡ place) }
         ensures worker { IfOk result (λ v. v.worker ≡ worker) }
     {
-        if is_choice(sight) {
-            return Err(AllocError);
-        }
         let path = self.path_to(alloc, home)?;
         let stores = self.stores_of(alloc, path.as_slice())?;
-        let known = self.known_of(path.as_slice());
+        let (known, latest) = self.known_of(path.as_slice());
+        let Some(whole) = path.len().checked_add(1) else {
+            return Err(AllocError);
+        };
+        let names = self.names_at(place);
+        let alternatives = self.alternatives_seen(alloc, names, known, latest, whole)?;
+        let body = self.body_of_only(alloc, names)?;
         Ok(View {
             table: Snapshot::of(self),
             journal: Snapshot::of(journal),
@@ -106,8 +108,8 @@ impl Table {
             stores,
             known,
             sight,
-            alternatives: Vec::new(alloc),
-            body: Vec::new(alloc),
+            alternatives,
+            body,
         })
     }
 

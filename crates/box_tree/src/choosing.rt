@@ -1,0 +1,108 @@
+//! What is seen of the alternatives of a choice.
+
+ghost use Rattle.std.specs.Prelude.{◌≡◌, List, map, IfOk};
+ghost use Rattle.akl_terms.specs.declared.term.Node.{Node};
+ghost use Rattle.table_laws.specs.Walks.{alternatives_in, alternatives_of};
+ghost use Rattle.box_tree.specs.Tables.{table_of, goal_atom, shape_held};
+ghost use Rattle.box_tree.specs.Paths.{names_at, known_with, seen_as, body_in, body_of_only};
+
+use crate::entries::Held;
+use crate::looking::is_at_least;
+use crate::table::Table;
+use crate::view::Alternative;
+use akl_terms::{Goal, Name, Place};
+use std::alloc::{AllocError, Global};
+
+impl Held {
+    // The alternatives of a choice.
+    fn alternatives(&self) -> &[Name]
+        ensures { (nodes : List Node) → result.now ≡ alternatives_in (shape_held nodes self.now) }
+    {
+        match self {
+            Held::Atom(_) => &[],
+            Held::Choice { alternatives, .. } => alternatives.as_slice(),
+        }
+    }
+}
+
+impl Table {
+    /// The alternatives of a goal, where it is a choice.
+    pub(crate) fn alternatives_of(&self, goal: Name) -> &[Name]
+        ensures { result.now ≡ alternatives_of ((table_of self.now).goal_of goal) }
+    {
+        match self.goals.get(&goal) {
+            Some(entry) => entry.held.alternatives(),
+            None => &[],
+        }
+    }
+
+    /// The alternatives of the choice at a place.
+    pub(crate) fn names_at(&self, place: Place) -> &[Name]
+        ensures { result.now ≡ names_at (table_of self.now) place }
+    {
+        match place {
+            Place::Goal(goal) => self.alternatives_of(goal),
+            Place::Box(_) => &[],
+        }
+    }
+
+    // How many stores are known to be solved together down to an alternative, whose own is the last of so many. So many
+    // are known of those around it; where these are all, the latest change of one of them is given.
+    fn known_with(&self, name: Name, known: usize, latest: Option<u64>, whole: usize) -> usize
+        ensures { result ≡ known_with (table_of self.now) known latest whole name }
+    {
+        let Some(latest) = latest else {
+            return known;
+        };
+        let (solved_at, _) = self.solving_of(name);
+        if is_at_least(solved_at, latest) { whole } else { known }
+    }
+
+    /// What is seen of alternatives, the store of each the last of so many. So many of the stores around them are known to be
+    /// solved together; where these are all, the latest change of one of them is given.
+    pub(crate) fn alternatives_seen(
+        &self,
+        alloc: Global,
+        names: &[Name],
+        known: usize,
+        latest: Option<u64>,
+        whole: usize,
+    ) -> Result<Vec<Alternative>, AllocError>
+        ensures { IfOk result (λ v. v.items ≡ map (seen_as (table_of self.now) known latest whole) names.now) }
+    {
+        let mut seen = Vec::new(alloc);
+        for name in names {
+            let store = self.store_of(alloc, *name)?;
+            seen.push(Alternative {
+                name: *name,
+                solved: self.is_solved(*name),
+                store,
+                known: self.known_with(*name, known, latest, whole),
+            })?;
+        }
+        Ok(seen)
+    }
+
+    // The body of a box; no goals of one that isn't there.
+    fn body_of(&self, alloc: Global, name: Name) -> Result<Vec<Goal>, AllocError>
+        ensures { IfOk result (λ v. map (goal_atom self.now.program.templates.nodes) v.items ≡ body_in ((table_of self.now).box_of name)) }
+    {
+        match self.boxes.get(&name) {
+            Some(entry) => {
+                let body = Vec::from_slice(alloc, entry.body.as_slice())?;
+                Ok(body)
+            }
+            None => Ok(Vec::new(alloc)),
+        }
+    }
+
+    /// The body of the only one of these boxes; no goals where there is none or more than one.
+    pub(crate) fn body_of_only(&self, alloc: Global, names: &[Name]) -> Result<Vec<Goal>, AllocError>
+        ensures { IfOk result (λ v. map (goal_atom self.now.program.templates.nodes) v.items ≡ body_of_only (table_of self.now) names.now) }
+    {
+        match names {
+            [name] => self.body_of(alloc, *name),
+            _ => Ok(Vec::new(alloc)),
+        }
+    }
+}
