@@ -10,9 +10,9 @@ use Rattle.akl_model.proofs.Scoped.{IsIn-left, IsIn-right, IsIn-either}
 use Rattle.constraint_laws.proofs.SameTerms.{Either, name_or}
 use Rattle.step_laws.proofs.Decide.{in_or}
 use Rattle.table_laws.specs.Rows.{BoxRow, GoalRow, Table}
-use Rattle.table_laws.specs.Inside.{IsDirectlyIn}
-use Rattle.table_laws.specs.Writes.{home_in, changed_box, left_row, left_by, none_left, held_without, holder_in_row, Fails}
-use Rattle.table_laws.specs.Walks.{ListsInside, Drops}
+use Rattle.table_laws.specs.Inside.{IsDirectlyIn, IsInside}
+use Rattle.table_laws.specs.Writes.{home_in, changed_box, left_row, left_by, none_left, held_without, holder_in_row, Fails, set, cut_from, cut_row, Cuts}
+use Rattle.table_laws.specs.Walks.{ListsInside, ListsEach, Drops}
 use Rattle.table_laws.proofs.Walks.{goal_listed, listed_goal}
 
 pub drops_none : (T : Table) → Drops T T []
@@ -112,6 +112,44 @@ fails_by_drops T U n names lists drops nodes roots changed next steps = record {
   goal_goes = λ g x. let w : (m : Name) × IsIn m names × IsDirectlyIn T m g = goal_listed T n g names lists x in drops.goal_goes w.0 g w.1 (directly_goals T (held_without n (holder_in_row (T.box_of n)) T) w.0 g (held_goals n (holder_in_row (T.box_of n)) T w.0) w.2);
   box_stays = λ m h. drops.box_stays m (λ i. h (lists.inside m i));
   goal_stays = λ g h. drops.goal_stays g (λ m i d. h (listed_goal T n g m names lists i (directly_goals (held_without n (holder_in_row (T.box_of n)) T) T m g (sym (held_goals n (holder_in_row (T.box_of n)) T m)) d)));
+  roots = roots;
+  roots_changed = changed;
+  next = next;
+  steps = steps;
+}
+
+-- the boxes inside some boxes are listed one box after another
+
+pub each_none : (T : Table) → ListsEach T [] []
+each_none T = record { inside = λ m i. absurd i; each = λ n m i x. absurd i }
+
+pub each_more : (T : Table) (boxes names : List Name) (n : Name) (more : List Name) → ListsEach T boxes names → ListsInside T n more → ListsEach T (boxes ++ n ∷ []) (names ++ more)
+each_more T boxes names n more x y = record {
+  inside = λ m i. elim (IsIn-either m names more i) [
+    | inl j ↦ (let w : (k : Name) × IsIn k boxes × IsInside T k m = x.inside m j in (w.0, IsIn-left w.0 boxes (n ∷ []) w.1, w.2))
+    | inr j ↦ (n, IsIn-right n boxes (n ∷ []) (inl refl), y.inside m j)
+  ];
+  each = λ k m i z. elim (IsIn-either k boxes (n ∷ []) i) [
+    | inl j ↦ IsIn-left m names more (x.each k m j z)
+    | inr j ↦ elim j [ inl e ↦ IsIn-right m names more (y.each m (subst (λ (v : Name). IsInside T v m) e z)) | inr v ↦ absurd v ]
+  ];
+}
+
+-- the choice has the alternatives that are kept
+abbrev pub cut_goal : Name → Name → Table → Table
+cut_goal g n T = record T { goal_of = set g (option_map (cut_row n (T.steps + 1)) (T.goal_of g)) T.goal_of }
+
+-- where a choice has the alternatives that are kept and the rows of the boxes listed inside the others have gone, these have gone with all that stood in them
+pub cuts_by_drops : (T U : Table) (g n : Name) (names : List Name) → ListsEach T (cut_from n (T.goal_of g)) names → Drops (cut_goal g n T) U names → U.nodes ≡ T.nodes → U.roots ≡ T.roots → U.roots_changed ≡ T.roots_changed
+    → ((w : ℕ) → slice_index U.next w ≡ slice_index T.next w) → U.steps ≡ T.steps + 1 → Cuts T U g n
+cuts_by_drops T U g n names lists drops nodes roots changed next steps = record {
+  nodes = nodes;
+  box_goes = λ m x. drops.box_goes m (lists.each x.alternative m x.goes x.inside);
+  goal_goes = λ m x. drops.goal_goes x.inside.box m (lists.each x.alternative x.inside.box x.goes x.inside.inside) (directly_as T (cut_goal g n T) x.inside.box m refl x.inside.goal);
+  box_stays = λ m h. drops.box_stays m (λ i. let w : (k : Name) × IsIn k (cut_from n (T.goal_of g)) × IsInside T k m = lists.inside m i in h (record { alternative = w.0; goes = w.1; inside = w.2 }));
+  goal_stays = λ m h. drops.goal_stays m (λ k i d.
+      let w : (v : Name) × IsIn v (cut_from n (T.goal_of g)) × IsInside T v k = lists.inside k i in
+      h (record { alternative = w.0; goes = w.1; inside = record { box = k; inside = w.2; goal = directly_as (cut_goal g n T) T k m refl d } }));
   roots = roots;
   roots_changed = changed;
   next = next;

@@ -34,6 +34,11 @@ pub record ListsInside (T : Table) (n : Name) (names : List Name) : Type 0 where
   pub inside : (m : Name) → IsIn m names → IsInside T n m
   pub each : (m : Name) → IsInside T n m → IsIn m names
 
+-- the names are those of some boxes and of the boxes inside them
+pub record ListsEach (T : Table) (boxes names : List Name) : Type 0 where
+  pub inside : (m : Name) → IsIn m names → (n : Name) × IsIn n boxes × IsInside T n m
+  pub each : (n m : Name) → IsIn n boxes → IsInside T n m → IsIn m names
+
 -- the rows of these boxes go, with those of the goals directly in them, and no others
 pub record Drops (T U : Table) (names : List Name) : Type 0 where
   pub box_goes : (m : Name) → IsIn m names → U.box_of m ≡ None
