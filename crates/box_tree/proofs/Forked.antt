@@ -19,7 +19,7 @@ use Rattle.box_tree.specs.Edits.{SetsBoxes, SetsGoals, SetsRows, Becomes, boxes_
 use Rattle.box_tree.proofs.News.{in_append, in_left}
 
 -- a name of a new goal is drawn
-among_in : (home : Name) (number : ℕ) (xs : List (Name × Atom)) (m : Name) (r : GoalRow) → atom_among home number xs m ≡ Some r → IsIn m (map (λ (x : Name × Atom). x.0) xs)
+pub among_in : (home : Name) (number : ℕ) (xs : List (Name × Atom)) (m : Name) (r : GoalRow) → atom_among home number xs m ≡ Some r → IsIn m (map (λ (x : Name × Atom). x.0) xs)
 among_in home number [] m r e = cc
 among_in home number (x ∷ xs) m r e = on (same_name m x.0) refl e (λ k. among_in home number xs m r k)
   where

@@ -3,6 +3,10 @@ mod Stamping
 mod Written
 pub mod Dropped
 mod Adding
+mod Parted
+mod Naming
+mod Joined
+mod CutOff
 mod News
 mod Numbers
 mod Forked

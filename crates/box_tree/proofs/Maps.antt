@@ -2,7 +2,7 @@
 use Rattle.std.proofs.Common.{◌≡◌, ℕ, Bool, true, false, List, [], ◌∷◌, Option, Some, None, refl, sym, ap, ◌∙◌, arith}
 use Rattle.std.proofs.lemmas.Bool.Decides.{nat_tests}
 use Rattle.std.specs.Prelude.{if◌then◌else◌, option_map, cond, ◌&&◌, ◌==◌, IsSome}
-use Rattle.std.specs.Map.{lookup}
+use Rattle.std.specs.Map.{lookup, set_value}
 use Rattle.std.specs.Set.{remove_key}
 use Rattle.std.specs.BTreeMap.{BTreeMap, is_at, get}
 use Rattle.std.specs.Ordering.{is_eq, nat_cmp, ordering_then}
@@ -11,6 +11,7 @@ use Rattle.akl_terms.specs.declared.name.Name.{Name}
 use Rattle.akl_terms.specs.contracts.name.NameOrd.TheImpl.{cmp-value}
 use Rattle.akl_terms.specs.Names.{same_name}
 use Rattle.akl_terms.proofs.SameNames.{same_name-equal}
+use Rattle.akl_model.proofs.Options.{some_value}
 use Rattle.table_laws.specs.Writes.{set, less_name}
 
 nat_is : (x y : ℕ) → is_eq (nat_cmp x y) ≡ (x == y)
@@ -98,3 +99,15 @@ found_at n t es e w i = ap (lookup (same_name n)) (sym w) ∙ sym (get_is n t) �
 
 pub missing_at : {X : Type 0} (n : Name) (t : BTreeMap Name X) (es : List (Name × X)) → t.entries ≡ es → None ≡ get cmp-value.it t n → lookup (same_name n) es ≡ None
 missing_at n t es w i = ap (lookup (same_name n)) (sym w) ∙ sym (get_is n t) ∙ sym i
+
+-- a value that is written over itself
+set_kept : {X : Type 0} (test : Name → Bool) (es : List (Name × X)) (w : X) → lookup test es ≡ Some w → set_value test es w ≡ es
+set_kept test [] w e = refl
+set_kept test (x ∷ es) w e = on (test x.0) e (set_kept test es w)
+  where
+    on : (b : Bool) → cond b (Some x.1) (lookup test es) ≡ Some w → (lookup test es ≡ Some w → set_value test es w ≡ es) → cond b ((x.0, w) ∷ es) (x ∷ set_value test es w) ≡ x ∷ es
+    on true e k = ap (λ v. (x.0, v) ∷ es) (sym (some_value e))
+    on false e k = ap (λ (ys : List (Name × _)). x ∷ ys) (k e)
+
+pub set_same : {X : Type 0} (n : Name) (t : BTreeMap Name X) (w : X) → get cmp-value.it t n ≡ Some w → set_value (is_at (cmp-value.it n)) t.entries w ≡ t.entries
+set_same n t w e = set_kept (is_at (cmp-value.it n)) t.entries w e

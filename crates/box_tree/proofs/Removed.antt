@@ -57,7 +57,7 @@ lost t u v g n number home e x h y = record {
 directly_as : (T U : Table) (m g : Name) → U.box_of m ≡ T.box_of m → IsDirectlyIn T m g → IsDirectlyIn U m g
 directly_as T U m g e d = record { row = d.row; there = e ∙ d.there; named = d.named }
 
-drops_as : (S T U : Table) (names : List Name) → ((m : Name) → S.box_of m ≡ T.box_of m) → ((g : Name) → S.goal_of g ≡ T.goal_of g) → Drops S U names → Drops T U names
+pub drops_as : (S T U : Table) (names : List Name) → ((m : Name) → S.box_of m ≡ T.box_of m) → ((g : Name) → S.goal_of g ≡ T.goal_of g) → Drops S U names → Drops T U names
 drops_as S T U names b k x = record {
   box_goes = x.box_goes;
   goal_goes = λ m g i d. x.goal_goes m g i (directly_as T S m g (b m) d);

@@ -1,17 +1,19 @@
 -- How the parts of a step change a table.
-use Rattle.std.specs.Prelude.{◌≡◌, ℕ, Bool, true, false, ◌||◌, if◌then◌else◌, List, [], ◌∷◌, map, Option, Some, None}
+use Rattle.std.specs.Prelude.{◌≡◌, ℕ, ◌≤◌, not, Bool, true, false, ◌||◌, if◌then◌else◌, List, [], ◌∷◌, map, Option, Some, None}
+use Rattle.std.specs.Option.{option_or}
 use Rattle.std.specs.Map.{lookup}
 use Rattle.akl_terms.specs.declared.name.Name.{Name}
 use Rattle.akl_terms.specs.declared.term.Node.{Node}
 use Rattle.akl_terms.specs.declared.program.Goal.{Goal}
 use Rattle.akl_terms.specs.declared.program.Code.{Code}
 use Rattle.akl_terms.specs.Names.{same_name}
-use Rattle.akl_model.specs.Config.{IsIn, Atom, or_else}
+use Rattle.akl_model.specs.Config.{IsIn, Atom, or_else, with_names}
+use Rattle.akl_model.specs.Names.{times_in}
 use Rattle.akl_terms.specs.declared.program.Op.{Op}
 use Rattle.akl_model.specs.Changes.{of_choice}
 use Rattle.table_laws.specs.Rows.{BoxRow, GoalRow, Table}
 use Rattle.table_laws.specs.Steps as laws
-use Rattle.table_laws.specs.Writes.{IsTable, new_box_of, new_goal_of, atom_among}
+use Rattle.table_laws.specs.Writes.{IsTable, less_name, new_box_of, new_goal_of, atom_among}
 use Rattle.box_tree.specs.declared.step.NewBox.{NewBox}
 use Rattle.box_tree.specs.Tables.{TableValue, table_of, goal_atom}
 
@@ -88,3 +90,22 @@ failing_row g r = record r { failing = Some g }
 abbrev pub home_if_empty : Name → List NewBox → Option Name
 home_if_empty home [] = Some home
 home_if_empty home (n ∷ ns) = None
+
+-- whether an alternative is kept, by whether the solved one was passed before it, and whether it is that one
+abbrev pub keeps : Op → Bool → Bool → Bool
+keeps Op.Condition passed here = not passed
+keeps Op.Commit passed here = here
+keeps Op.Choice passed here = true
+
+-- names that stand once each, and not among others
+pub record AreNew (names others : List Name) : Type 0 where
+  pub once : (m : Name) → times_in m names ≤ 1
+  pub apart : (m : Name) → IsIn m names → IsIn m others → ⊥
+
+abbrev pub less_names : List Name → List Name → List Name
+less_names [] ms = ms
+less_names (n ∷ ns) ms = less_names ns (less_name n ms)
+
+-- a box with more goals, which fails by one of them where it did not fail already
+abbrev pub named_row : List Name → Option Name → BoxRow → BoxRow
+named_row names failing r = record r { goals = with_names names r.goals; failing = option_or r.failing failing }

@@ -1,7 +1,7 @@
 //! The boxes inside a box, and their rows that go.
 
 ghost use Rattle.std.specs.Prelude.{◌≡◌, ◌++◌, [], ◌∷◌, OnOk, IfOk};
-ghost use Rattle.table_laws.specs.Walks.{alternatives_of, boxes_directly_in, ListsInside};
+ghost use Rattle.table_laws.specs.Walks.{alternatives_of, boxes_directly_in, ListsInside, ListsEach};
 ghost use Rattle.box_tree.specs.Tables.{table_of};
 ghost use Rattle.box_tree.specs.Drops.{IsOfRun, DropsGoals, DropsBoxes};
 
@@ -50,6 +50,23 @@ impl Table {
             let here = names[at];
             self.push_inside(here, &mut names)?;
             at += 1;
+        }
+        Ok(names)
+    }
+
+    /// Boxes and the boxes inside them.
+    pub(crate) fn inside_each(
+        &self,
+        alloc: Global,
+        boxes: &[Name],
+    ) -> Result<Vec<Name>, AllocError>
+        requires { IsOfRun self.now }
+        ensures { IfOk result (λ v. ListsEach (table_of self.now) boxes.now v.items) }
+    {
+        let mut names = Vec::new(alloc);
+        for name in boxes {
+            let inside = self.inside(alloc, *name)?;
+            names.extend_from_slice(inside.as_slice())?;
         }
         Ok(names)
     }

@@ -27,8 +27,8 @@ fn box_names(alloc: Global, news: &[NewBox]) -> Result<Vec<Name>, AllocError>
     Ok(names)
 }
 
-// The names of goals come to the end of the names.
-fn push_names(goals: &[(Name, Goal)], names: &mut Vec<Name>) -> Result<(), AllocError>
+/// The names of goals come to the end of the names.
+pub(crate) fn push_names(goals: &[(Name, Goal)], names: &mut Vec<Name>) -> Result<(), AllocError>
     ensures { OnOk result (names.new.items ≡ names.old.items ++ map (λ x. x.0) goals.now) }
 {
     for (name, _) in goals {
@@ -101,8 +101,8 @@ fn home_if_empty(home: Name, news: &[NewBox]) -> Option<Name>
 }
 
 impl Table {
-    // The next numbers after a worker has drawn so many names.
-    fn raised(&self, alloc: Global, worker: u32, drawn: u64) -> Result<Vec<u64>, AllocError>
+    /// The next numbers after a worker has drawn so many names.
+    pub(crate) fn raised(&self, alloc: Global, worker: u32, drawn: u64) -> Result<Vec<u64>, AllocError>
         ensures { IfOk result (λ next. (w : ℕ) → slice_index next.items w ≡ slice_index (raised worker drawn self.now.next) w) }
     {
         let mut next = Vec::from_slice(alloc, self.next.as_slice())?;
@@ -222,8 +222,8 @@ impl Table {
         self.goals.remove(&name);
     }
 
-    // The entries of names go.
-    fn drop_entries(&mut self, names: &[Name])
+    /// The entries of names go.
+    pub(crate) fn drop_entries(&mut self, names: &[Name])
         ensures { Clears self.old self.new names.now }
     {
         for name in names {
@@ -231,8 +231,8 @@ impl Table {
         }
     }
 
-    // A goal becomes the choice of these boxes.
-    fn make_choice(&mut self, goal: Name, op: Op, names: Vec<Name>, number: u64)
+    /// A goal becomes the choice of these boxes.
+    pub(crate) fn make_choice(&mut self, goal: Name, op: Op, names: Vec<Name>, number: u64)
         ensures { SetsGoals self.old self.new (set goal (option_map (choice_row op names.items number) ((table_of self.old).goal_of goal)) (table_of self.old).goal_of) }
     {
         if let Some(entry) = self.goals.get_mut(&goal) {

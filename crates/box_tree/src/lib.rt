@@ -2,12 +2,14 @@
 #![tactic(auto)]
 
 mod choosing;
+mod cutting;
 mod dropping;
 mod entries;
 mod failing;
 mod forking;
 mod looking;
 mod plan;
+mod promoting;
 mod starting;
 mod step;
 mod table;

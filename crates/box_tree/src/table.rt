@@ -1,6 +1,7 @@
 //! The table.
 
 ghost use Rattle.std.specs.Prelude.{◌≡◌, ◌++◌, map, IfOk, IfErr, OnOk, true, false, is_some, IfSome, Some};
+ghost use Rattle.akl_terms.specs.declared.name.Place.{Place};
 ghost use Rattle.table_laws.specs.Writes.{IsTable};
 ghost use Rattle.table_laws.specs.Laws.{started};
 ghost use Rattle.table_laws.specs.Stamped.{IsTableOf, stamp_in};
@@ -19,6 +20,19 @@ use std::alloc::{AllocError, Global};
 use std::collections::BTreeMap;
 use std::marker::Model;
 use std::snapshot::Snapshot;
+
+// The goal of a label, and the alternative that it names.
+fn alternative_at(label: Label) -> Result<(Name, Name), AllocError>
+    ensures { IfOk result (λ x. (label.place ≡ Place.Goal x.0) × (label.alternative ≡ Some x.1)) }
+{
+    let Place::Goal(goal) = label.place else {
+        return Err(AllocError);
+    };
+    let Some(name) = label.alternative else {
+        return Err(AllocError);
+    };
+    Ok((goal, name))
+}
 
 /// Boxes and goals by name. It remembers in no bytes the program and the query with which it was started.
 ///
@@ -232,8 +246,19 @@ impl Table {
                 self.fail(name, &inside, number);
                 Ok(())
             }
-            Step::Cut => Err(AllocError),
-            Step::Promote { .. } => Err(AllocError),
+            Step::Cut => {
+                let (goal, name) = alternative_at(label)?;
+                self.cut(alloc, goal, name, number)
+            }
+            Step::Promote {
+                store,
+                solved,
+                goals,
+            } => {
+                let (goal, name) = alternative_at(label)?;
+                let solved_at = solved_when(at, solved);
+                self.promote(alloc, goal, name, store, solved_at, goals, number, worker, names)
+            }
         }
     }
 }

@@ -44,8 +44,8 @@ impl Table {
         }
     }
 
-    // A box gets a store and loses a goal.
-    fn tell_box(
+    /// A box gets a store and loses a goal.
+    pub(crate) fn tell_box(
         &mut self,
         home: Option<Name>,
         goal: Name,

@@ -1,0 +1,160 @@
+-- The only alternative of a choice joins the box in which the choice stands.
+use Rattle.std.proofs.Common.{◌≡◌, ℕ, ◌+◌, ◌≤◌, Bool, true, false, List, [], ◌∷◌, map, slice_index, Option, Some, None, refl, sym, ap, subst, ◌∙◌, inl, inr}
+use Rattle.std.specs.Prelude.{if◌then◌else◌, option_map}
+use Rattle.std.specs.Option.{option_or}
+use Rattle.akl_terms.specs.declared.name.Name.{Name}
+use Rattle.akl_terms.specs.declared.term.Node.{Node}
+use Rattle.akl_terms.specs.declared.program.Goal.{Goal}
+use Rattle.akl_terms.specs.Names.{same_name}
+use Rattle.akl_terms.proofs.SameNames.{same_name-equal, same_name-refl}
+use Rattle.akl_model.specs.Config.{IsIn, Atom, Content, Boxes, no_boxes, box, Goals, no_goals, atom, choice, Config, Held, held_in, Found, box_at, home_of, or_else, with_names}
+use Rattle.akl_model.specs.Changes.{shape_of, goal_names}
+use Rattle.akl_model.specs.Derivations.{raised}
+use Rattle.akl_model.specs.Ordered.{IsIncreasing, BoxesOrdered, GoalsOrdered}
+use Rattle.akl_model.proofs.Finds.{times}
+use Rattle.akl_model.proofs.NamesKept.{replay-stands}
+use Rattle.akl_model.proofs.OrdersKept.{replay_ordered}
+use Rattle.step_laws.specs.Whereabouts.{BoxIn, InGoals}
+use Rattle.step_laws.proofs.Whereabouts.{found_in, in_home}
+use Rattle.local_store.specs.Stored.{Stored}
+use Rattle.table_laws.specs.Rows.{BoxRow, GoalRow, Table}
+use Rattle.table_laws.specs.Unfolds.{IsBoxRow}
+use Rattle.table_laws.specs.Writes.{set, home_in, home_or, less_name, changed_box, told_row, promoted_row, first_fail, or_fails, atom_among, after_promote, IsFresh}
+use Rattle.table_laws.proofs.Frame.{found_of}
+use Rattle.table_laws.proofs.Insides.{goal_row, held_directly}
+use Rattle.box_tree.specs.Tables.{TableValue, table_of, goals_in, rules_in_force}
+use Rattle.box_tree.specs.Edits.{SetsBoxes, SetsGoals, SetsRows, Becomes, AreNew, named_row, named_atoms, atoms_with}
+use Rattle.box_tree.specs.Drops.{IsOfRun}
+use Rattle.box_tree.proofs.News.{firsts, names_atoms}
+use Rattle.box_tree.proofs.Forked.{among_in}
+use Rattle.box_tree.proofs.Naming.{less_with_names}
+
+-- the goals of a box stand in order
+
+names_increase : (gs : Goals) → GoalsOrdered gs → IsIncreasing (goal_names gs)
+names_increase no_goals o = tt
+names_increase (atom g a gs) o = (o.0, names_increase gs o.1)
+names_increase (choice g op bs gs) o = (o.0, names_increase gs o.2)
+
+mutual
+  stood_ordered : (r : List Content) (k : Content) (hs : Goals) (bs : Boxes) → BoxIn r k hs bs → BoxesOrdered bs → GoalsOrdered hs
+  stood_ordered r k hs no_boxes x o = absurd x
+  stood_ordered r k hs (box b gs bs) (inl e) o = subst GoalsOrdered (sym e.2) o.2
+  stood_ordered r k hs (box b gs bs) (inr (inl w)) o = among_ordered w.0 k hs gs w.2 o.2
+  stood_ordered r k hs (box b gs bs) (inr (inr x)) o = stood_ordered r k hs bs x o.3
+
+  among_ordered : (r : List Content) (k : Content) (hs gs : Goals) → InGoals r k hs gs → GoalsOrdered gs → GoalsOrdered hs
+  among_ordered r k hs no_goals x o = absurd x
+  among_ordered r k hs (atom g a gs) x o = among_ordered r k hs gs x o.1
+  among_ordered r k hs (choice g op bs gs) (inl x) o = stood_ordered r k hs bs x o.1
+  among_ordered r k hs (choice g op bs gs) (inr x) o = among_ordered r k hs gs x o.2
+
+module _ (t : TableValue) (run : IsOfRun t) where
+  once : (m : Name) → times m run.1.config.roots ≤ 1
+  once = (replay-stands rules_in_force run.0.program run.0.query run.0.journal run.1.config run.1.replays).once
+
+  pub goals_increase : (home : Name) (r : BoxRow) → (table_of t).box_of home ≡ Some r → IsIncreasing r.goals
+  goals_increase home r e =
+      let w : (f : Found) × (box_at home run.1.config.roots ≡ Some f) × IsBoxRow (table_of t) run.1.config.roots f r = found_of (table_of t) run.1.config run.1.unfolds home r e in
+      let o : BoxesOrdered run.1.config.roots = replay_ordered rules_in_force run.0.program run.0.query run.0.journal run.1.config run.1.replays in
+      subst IsIncreasing (sym w.2.goals) (names_increase w.0.goals (stood_ordered w.0.around w.0.content w.0.goals run.1.config.roots (found_in home run.1.config.roots w.0 w.1) o))
+
+  -- drawn names are no names of goals that are there
+  pub fresh_new : (home : Name) (names : List Name) → IsFresh (table_of t) names → AreNew names (goals_in ((table_of t).box_of home))
+  fresh_new home names f = record { once = f.once; apart = λ m i j. on m i ((table_of t).box_of home) refl j }
+    where
+      on : (m : Name) → IsIn m names → (o : Option BoxRow) → (table_of t).box_of home ≡ o → IsIn m (goals_in o) → ⊥
+      on m i None e j = j
+      on m i (Some r) e j =
+          let w : (f : Found) × (box_at home run.1.config.roots ≡ Some f) × IsBoxRow (table_of t) run.1.config.roots f r = found_of (table_of t) run.1.config run.1.unfolds home r e in
+          let h : (h : Held) × (held_in m w.0.goals ≡ Some h) = held_directly (table_of t) run.1.config run.1.unfolds once home m w.0 w.1 (record { row = r; there = e; named = j }) in
+          let there : home_of m run.1.config.roots ≡ Some w.0 = in_home m h.0 run.1.config.roots w.0 once (found_in home run.1.config.roots w.0 w.1) h.1 in
+          let g : (r : GoalRow) × ((table_of t).goal_of m ≡ Some r) × (r.home ≡ w.0.content.name) × (r.shape ≡ shape_of h.0) = goal_row (table_of t) run.1.config run.1.unfolds once m w.0 h.0 there h.1 in
+          let z : (table_of t).goal_of m ≡ None = f.no_goal m i in
+          let y : (table_of t).goal_of m ≡ Some g.0 = g.1 in
+          absurd cc
+
+-- a row that is changed twice
+changed_twice : (home : Name) (f h p : BoxRow → BoxRow) (at now : Name → Option BoxRow) → ((m : Name) → now m ≡ changed_box (Some home) h at m) → ((r : BoxRow) → at home ≡ Some r → f (h r) ≡ p r) → (m : Name)
+    → changed_box (Some home) f now m ≡ changed_box (Some home) p at m
+changed_twice home f h p at now is row m = on (same_name m home) refl
+  where
+    here : now home ≡ option_map h (at home)
+    here = is home ∙ ap (λ (b : Bool). if b then option_map h (at home) else at home) (same_name-refl home)
+
+    both : (o : Option BoxRow) → at home ≡ o → option_map f (option_map h o) ≡ option_map p o
+    both None e = refl
+    both (Some r) e = ap (λ (k : BoxRow). Some k) (row r e)
+
+    on : (b : Bool) → same_name m home ≡ b → (if b then option_map f (now home) else now m) ≡ (if b then option_map p (at home) else at m)
+    on true q = ap (option_map f) here ∙ both (at home) refl
+    on false q = is m ∙ ap (λ (b : Bool). if b then option_map h (at home) else at m) q
+
+or_first : (o failing : Option Name) (goals : List (Name × Atom)) → failing ≡ first_fail goals → option_or o failing ≡ or_fails o goals
+or_first None failing goals e = e
+or_first (Some g) failing goals e = refl
+
+home_is : (o : Option GoalRow) (home g : Name) → Some home ≡ home_in o → home ≡ home_or o g
+home_is None home g e = cc
+home_is (Some r) home g e = cc
+
+not_among : (T : Table) (home h : Name) (number : ℕ) (goals : List (Name × Atom)) (g : Name) → IsFresh T (map (λ (x : Name × Atom). x.0) goals) → Some h ≡ home_in (T.goal_of g) → atom_among home number goals g ≡ None
+not_among T home h number goals g f e = on (atom_among home number goals g) refl
+  where
+    on : (o : Option GoalRow) → atom_among home number goals g ≡ o → o ≡ None
+    on None q = refl
+    on (Some r) q = let z : T.goal_of g ≡ None = f.no_goal g (among_in home number goals g r q) in let k : Some h ≡ None = e ∙ ap home_in z in cc
+
+goal_rows : (T : Table) (home : Name) (number : ℕ) (goals : List (Name × Atom)) (g m : Name) → atom_among home number goals g ≡ None
+    → (if same_name m g then None else or_else (atom_among home number goals m) (T.goal_of m)) ≡ or_else (atom_among home number goals m) (set g None T.goal_of m)
+goal_rows T home number goals g m none = on (same_name m g) refl
+  where
+    on : (b : Bool) → same_name m g ≡ b → (if b then None else or_else (atom_among home number goals m) (T.goal_of m)) ≡ or_else (atom_among home number goals m) (if b then None else T.goal_of m)
+    on true q = sym (ap (λ (o : Option GoalRow). or_else o None) (ap (atom_among home number goals) (same_name-equal m g q) ∙ none))
+    on false q = refl
+
+module _ (t u v w x : TableValue) (g n home : Name) (store : Stored) (solved_at : Option ℕ) (goals : List (Name × Goal)) (failing : Option Name) (number worker count : ℕ) (names : List Name) (next : List ℕ) where
+  row_joins : IsFresh (table_of t) (map (λ (y : Name × Atom). y.0) (named_atoms t.program.templates.nodes goals)) → Some home ≡ home_in ((table_of t).goal_of g) → names ≡ firsts goals → failing ≡ first_fail (named_atoms t.program.templates.nodes goals)
+      → (r : BoxRow) → IsIncreasing r.goals → told_row g store solved_at number (named_row names failing r) ≡ promoted_row g store solved_at (named_atoms t.program.templates.nodes goals) number r
+  row_joins f h ns fs r o =
+      let same : names ≡ map (λ (y : Name × Atom). y.0) (named_atoms t.program.templates.nodes goals) = ns ∙ sym (names_atoms t.program.templates.nodes goals) in
+      let gs : less_name g (with_names names r.goals) ≡ with_names (map (λ (y : Name × Atom). y.0) (named_atoms t.program.templates.nodes goals)) (less_name g r.goals) =
+      sym (less_with_names g names r.goals (λ m i e. drawn m (subst (IsIn m) same i) e) o) ∙ ap (λ (ms : List Name). with_names ms (less_name g r.goals)) same in
+      let fails : option_or r.failing failing ≡ or_fails r.failing (named_atoms t.program.templates.nodes goals) = or_first r.failing failing (named_atoms t.program.templates.nodes goals) fs in
+      λ i. record r { store = store; changed = number; solved_at = solved_at; goals = gs i; goals_changed = number; failing = fails i }
+    where
+      drawn : (m : Name) → IsIn m (map (λ (y : Name × Atom). y.0) (named_atoms t.program.templates.nodes goals)) → g ≡ m → ⊥
+      drawn m i e = let z : (table_of t).goal_of g ≡ None = ap (table_of t).goal_of e ∙ f.no_goal m i in let k : Some home ≡ None = h ∙ ap home_in z in cc
+
+  pub joined : number ≡ t.steps + 1 → IsFresh (table_of t) (map (λ (y : Name × Atom). y.0) (named_atoms t.program.templates.nodes goals)) → Some home ≡ home_in ((table_of t).goal_of g)
+      → ((r : BoxRow) → (table_of t).box_of home ≡ Some r → IsIncreasing r.goals) → names ≡ firsts goals → failing ≡ first_fail (named_atoms t.program.templates.nodes goals)
+      → ((k : ℕ) → slice_index next k ≡ slice_index (raised worker count t.next) k)
+      → SetsRows t u (changed_box (Some home) (named_row names failing) (table_of t).box_of) (atoms_with home number (named_atoms t.program.templates.nodes goals) (table_of t))
+      → SetsBoxes u v (changed_box (Some home) (told_row g store solved_at number) (table_of u).box_of) → SetsGoals v w (set g None (table_of v).goal_of) → SetsBoxes w x (set n None (table_of w).box_of)
+      → Becomes t (record x { next = next; steps = number }) (after_promote g n store solved_at (named_atoms t.program.templates.nodes goals) worker count (table_of t))
+  joined nb f h o ns fs nx a b d e =
+      let all : List (Name × Atom) = named_atoms t.program.templates.nodes goals in
+      let vu : v ≡ record t { boxes = v.boxes; goals = u.goals } = b.rest ∙ ap (λ (k : TableValue). record k { boxes = v.boxes }) a.rest in
+      let wt : w ≡ record t { boxes = v.boxes; goals = w.goals } = d.rest ∙ ap (λ (k : TableValue). record k { goals = w.goals }) vu in
+      let rest : x ≡ record t { boxes = x.boxes; goals = w.goals } = e.rest ∙ ap (λ (k : TableValue). record k { boxes = x.boxes }) wt in
+      record {
+        program = ap (λ (k : TableValue). k.program) rest;
+        query = ap (λ (k : TableValue). k.query) rest;
+        table = record {
+          nodes = ap (λ (k : TableValue). k.program.templates.nodes) rest;
+          boxes = λ m. e.rows m ∙ ap (λ (r : Option BoxRow). if same_name m n then None else r) (
+              ap (λ (k : TableValue). (table_of k).box_of m) d.rest ∙ b.rows m
+              ∙ changed_twice home (told_row g store solved_at number) (named_row names failing) (promoted_row g store solved_at all number) (table_of t).box_of (table_of u).box_of a.boxes (λ r i. row_joins f h ns fs r (o r i)) m
+              ∙ ap (λ (k : Option Name). changed_box k (promoted_row g store solved_at all number) (table_of t).box_of m) h
+              ∙ ap (λ (k : ℕ). changed_box (home_in ((table_of t).goal_of g)) (promoted_row g store solved_at all k) (table_of t).box_of m) nb);
+          goals = λ m. ap (λ (k : TableValue). (table_of k).goal_of m) e.rest ∙ d.rows m
+              ∙ ap (λ (r : Option GoalRow). if same_name m g then None else r) (ap (λ (k : TableValue). (table_of k).goal_of m) b.rest ∙ a.goals m)
+              ∙ goal_rows (table_of t) home number all g m (not_among (table_of t) home home number all g f h)
+              ∙ ap (λ (k : Name). or_else (atom_among k number all m) (set g None (table_of t).goal_of m)) (home_is ((table_of t).goal_of g) home g h)
+              ∙ ap (λ (k : ℕ). or_else (atom_among (home_or ((table_of t).goal_of g) g) k all m) (set g None (table_of t).goal_of m)) nb;
+          roots = ap (λ (k : TableValue). k.roots) rest;
+          roots_changed = ap (λ (k : TableValue). k.roots_changed) rest;
+          next = nx;
+          steps = nb;
+        };
+      }

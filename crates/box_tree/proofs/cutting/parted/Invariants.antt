@@ -1,0 +1,5 @@
+use Rattle.box_tree.proofs.Parted.{IsParted}
+use Rattle.box_tree.proofs.cutting.parted.Given as goal
+
+abbrev pub invariant-loop-other : goal.invariant-loop-other
+invariant-loop-other l = IsParted l.op l.name l.names l.passed l.other-index l.kept.items l.gone.items

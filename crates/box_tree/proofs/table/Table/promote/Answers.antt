@@ -1,0 +1,38 @@
+use Rattle.std.proofs.Common.{◌≡◌, ℕ, List, Some, map, sym, ap, ◌∙◌, subst}
+use Rattle.akl_terms.specs.declared.name.Name.{Name}
+use Rattle.akl_terms.specs.declared.program.Goal.{Goal}
+use Rattle.akl_model.specs.Config.{Atom}
+use Rattle.table_laws.specs.Writes.{first_fail, after_promote, IsFresh}
+use Rattle.box_tree.specs.Tables.{TableValue, table_of, goals_in}
+use Rattle.box_tree.specs.Edits.{Becomes, AddsOnly, Clears, AreNew, named_atoms}
+use Rattle.box_tree.proofs.Adding.{undone}
+use Rattle.box_tree.proofs.News.{firsts, names_atoms}
+use Rattle.box_tree.proofs.Forked.{fresh_boxes, fresh_goals}
+use Rattle.box_tree.proofs.Joined.{goals_increase, fresh_new, joined}
+use Rattle.box_tree.proofs.table.Table.promote.Goals as goal
+
+pub put_body-requires-clause-new : goal.put_body-requires-clause-new
+put_body-requires-clause-new c =
+    let t : TableValue = c.args.self.now in
+    let names = c.as_slice-3.ensures.value ∙ c.in_ok-names.ensures ∙ ap firsts c.as_slice.ensures.value ∙ sym (names_atoms t.program.templates.nodes c.args.goals.items) in
+    subst (λ (ns : List Name). AreNew ns (goals_in ((table_of t).box_of c.in-Some.home))) (sym names)
+    (fresh_new t c.requires.run c.in-Some.home (map (λ (x : Name × Atom). x.0) (named_atoms t.program.templates.nodes c.args.goals.items)) c.requires.fresh)
+
+pub returns-in_default-put_body-clause-unchanged : goal.returns-in_default-put_body-clause-unchanged
+returns-in_default-put_body-clause-unchanged c =
+    let t : TableValue = c.args.self.now in
+    let own : List Name = c.in_ok-names.names.items in
+    let names = c.in_ok-names.ensures ∙ ap firsts c.as_slice.ensures.value ∙ sym (names_atoms t.program.templates.nodes c.args.goals.items) in
+    let fresh = subst (IsFresh (table_of t)) (sym names) c.requires.fresh in
+    undone t c.put_body.new.self c.drop_entries.new.self own (subst (AddsOnly t c.put_body.new.self) c.as_slice-3.ensures.value c.in_default-put_body.ensures.only)
+    (subst (Clears c.put_body.new.self c.drop_entries.new.self) c.as_slice-in_default-put_body.ensures.value c.drop_entries.ensures) (fresh_boxes t own fresh) (fresh_goals t own fresh)
+
+pub returns-clause-made : goal.returns-clause-made
+returns-clause-made c =
+    let t : TableValue = c.args.self.now in
+    let names = c.as_slice-3.ensures.value ∙ c.in_ok-names.ensures ∙ ap firsts c.as_slice.ensures.value in
+    let failing = c.first_fail-failing.ensures t.program.templates.nodes ∙ ap (λ (xs : List (Name × Goal)). first_fail (named_atoms t.program.templates.nodes xs)) c.as_slice-2.ensures.value in
+    subst (λ (x : TableValue). Becomes t (record x { next = c.in_ok-next.next.items; steps = c.args.number })
+        (after_promote c.args.goal c.args.name c.args.store c.args.solved_at (named_atoms t.program.templates.nodes c.args.goals.items) c.args.worker c.args.count (table_of t))) (sym c.self.view_is)
+    (joined t c.put_body.new.self c.tell_box.new.self c.drop_goal.new.self c.drop_alternative.new.self c.args.goal c.args.name c.in-Some.home c.args.store c.args.solved_at c.args.goals.items c.first_fail-failing.result c.args.number c.args.worker c.args.count
+    c.as_slice-3.result.now c.in_ok-next.next.items c.requires.number c.requires.fresh c.in-Some.ensures (goals_increase t c.requires.run c.in-Some.home) names failing c.in_ok-next.ensures c.in-Ok.ensures.put c.tell_box.ensures c.drop_goal.ensures c.drop_alternative.ensures)

@@ -1,0 +1,138 @@
+//! The only alternative of a choice joins the box in which the choice stands.
+
+ghost use Rattle.std.specs.Prelude.{◌≡◌, ◌+◌, Some, map, IfOk, IfErr, OnOk, OnErr};
+ghost use Rattle.akl_model.specs.Config.{with_names};
+ghost use Rattle.akl_model.specs.Ordered.{IsIncreasing};
+ghost use Rattle.table_laws.specs.Writes.{set, changed_box, IsFresh, after_promote};
+ghost use Rattle.box_tree.specs.Tables.{table_of, goals_in};
+ghost use Rattle.box_tree.specs.Edits.{SetsBoxes, SetsRows, AddsOnly, Becomes, AreNew, less_names, named_row, named_atoms, atoms_with};
+ghost use Rattle.box_tree.specs.Drops.{IsOfRun};
+
+use crate::forking::{first_fail, push_names};
+use crate::table::Table;
+use akl_terms::{Goal, Name};
+use local_store::{Shared, Store};
+use std::alloc::{AllocError, Global};
+use std::collections::BTreeSet;
+
+// The names of goals.
+fn goal_names(alloc: Global, goals: &[(Name, Goal)]) -> Result<Vec<Name>, AllocError>
+    ensures { IfOk result (λ names. names.items ≡ map (λ x. x.0) goals.now) }
+{
+    let mut names = Vec::new(alloc);
+    push_names(goals, &mut names)?;
+    Ok(names)
+}
+
+// Names go from a set. It takes no memory.
+fn drop_names(set: &mut BTreeSet<Name>, names: &[Name])
+    ensures { set.new.keys ≡ less_names names.now set.old.keys }
+{
+    for name in names {
+        set.remove(name);
+    }
+}
+
+// Names come to a set that has none of them. An `Err` leaves it as it was.
+fn add_names(set: &mut BTreeSet<Name>, names: &[Name]) -> Result<(), AllocError>
+    requires { AreNew names.now set.old.keys }
+    ensures added { OnOk result (set.new.keys ≡ with_names names.now set.old.keys) }
+    ensures unchanged { OnErr result (set.new ≡ set.old) }
+{
+    let mut at = names.len();
+    while at > 0 {
+        let Ok(_) = set.insert(names[at - 1]) else {
+            drop_names(set, &names[at..]);
+            return Err(AllocError);
+        };
+        at -= 1;
+    }
+    Ok(())
+}
+
+impl Table {
+    // Goals that a box does not have come to those of the box; where it does not fail, it may fail by one of them. An
+    // `Err` leaves the table as it was.
+    fn name_goals(
+        &mut self,
+        home: Name,
+        names: &[Name],
+        failing: Option<Name>,
+    ) -> Result<(), AllocError>
+        requires { AreNew names.now (goals_in ((table_of self.old).box_of home)) }
+        ensures named { OnOk result (SetsBoxes self.old self.new (changed_box (Some home) (named_row names.now failing) (table_of self.old).box_of)) }
+        ensures unchanged { OnErr result (self.new ≡ self.old) }
+    {
+        let Some(entry) = self.boxes.get_mut(&home) else {
+            return Ok(());
+        };
+        let Ok(()) = add_names(&mut entry.goals, names) else {
+            return Err(AllocError);
+        };
+        entry.failing = entry.failing.or(failing);
+        Ok(())
+    }
+
+    // New goals come to a box.
+    fn put_body(
+        &mut self,
+        home: Name,
+        goals: Vec<(Name, Goal)>,
+        names: &[Name],
+        failing: Option<Name>,
+        number: u64,
+    ) -> Result<(), AllocError>
+        requires new { AreNew names.now (goals_in ((table_of self.old).box_of home)) }
+        requires names { names.now ≡ map (λ x. x.0) goals.items }
+        ensures put { OnOk result (SetsRows self.old self.new (changed_box (Some home) (named_row names.now failing) (table_of self.old).box_of) (atoms_with home number (named_atoms self.old.program.templates.nodes goals.items) (table_of self.old))) }
+        ensures only { OnErr result (AddsOnly self.old self.new names.now) }
+    {
+        self.put_goals(home, goals, number)?;
+        self.name_goals(home, names, failing)
+    }
+
+    // A box's entry goes.
+    fn drop_alternative(&mut self, name: Name)
+        ensures { SetsBoxes self.old self.new (set name None (table_of self.old).box_of) }
+    {
+        self.boxes.remove(&name);
+    }
+
+    /// The only alternative of a choice, which is solved, joins the box in which the choice stands. This gets a store
+    /// and new goals, for which a worker draws so many names. An `Err` leaves the table as it was.
+    pub(crate) fn promote(
+        &mut self,
+        alloc: Global,
+        goal: Name,
+        name: Name,
+        store: Shared<Store>,
+        solved_at: Option<u64>,
+        goals: Vec<(Name, Goal)>,
+        number: u64,
+        worker: u32,
+        count: u64,
+    ) -> Result<(), AllocError>
+        requires number { number ≡ self.old.steps + 1 }
+        requires run { IsOfRun self.old }
+        requires fresh { IsFresh (table_of self.old) (map (λ x. x.0) (named_atoms self.old.program.templates.nodes goals.items)) }
+        ensures made { OnOk result (Becomes self.old self.new (after_promote goal name store solved_at (named_atoms self.old.program.templates.nodes goals.items) worker count (table_of self.old))) }
+        ensures unchanged { IfErr result (λ _. self.new ≡ self.old) }
+    {
+        let Some(home) = self.home_of(goal) else {
+            return Err(AllocError);
+        };
+        let names = goal_names(alloc, goals.as_slice())?;
+        let failing = first_fail(goals.as_slice());
+        let next = self.raised(alloc, worker, count)?;
+        let Ok(()) = self.put_body(home, goals, names.as_slice(), failing, number) else {
+            self.drop_entries(names.as_slice());
+            return Err(AllocError);
+        };
+        self.tell_box(Some(home), goal, store, solved_at, number);
+        self.drop_goal(goal);
+        self.drop_alternative(name);
+        self.next = next;
+        self.steps = number;
+        Ok(())
+    }
+}
