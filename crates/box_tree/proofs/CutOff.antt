@@ -8,9 +8,9 @@ use Rattle.akl_terms.specs.declared.program.Op.{Op}
 use Rattle.akl_terms.specs.Names.{same_name}
 use Rattle.akl_model.specs.Changes.{Shape, of_choice}
 use Rattle.akl_model.proofs.Options.{some_value}
-use Rattle.table_laws.specs.Rows.{GoalRow, Table}
-use Rattle.table_laws.specs.Walks.{alternatives_in, alternatives_of, ListsEach, Drops}
-use Rattle.table_laws.specs.Writes.{set, names_kept, names_cut, cut_in, cut_from, cut_row, Cuts}
+use Rattle.table_laws.specs.Rows.{GoalRow}
+use Rattle.table_laws.specs.Walks.{alternatives_of, ListsEach, Drops}
+use Rattle.table_laws.specs.Writes.{set, names_kept, names_cut, cut_from, cut_row, Cuts}
 use Rattle.table_laws.proofs.Drops.{cut_goal, cuts_by_drops}
 use Rattle.box_tree.specs.declared.entries.Held.{Held}
 use Rattle.box_tree.specs.declared.entries.GoalEntry.{GoalEntry}

@@ -1,20 +1,18 @@
 -- The only alternative of a choice joins the box in which the choice stands.
-use Rattle.std.proofs.Common.{◌≡◌, ℕ, ◌+◌, ◌≤◌, Bool, true, false, List, [], ◌∷◌, map, slice_index, Option, Some, None, refl, sym, ap, subst, ◌∙◌, inl, inr}
+use Rattle.std.proofs.Common.{◌≡◌, ℕ, ◌+◌, ◌≤◌, Bool, true, false, List, map, slice_index, Option, Some, None, refl, sym, ap, subst, ◌∙◌}
 use Rattle.std.specs.Prelude.{if◌then◌else◌, option_map}
 use Rattle.std.specs.Option.{option_or}
 use Rattle.akl_terms.specs.declared.name.Name.{Name}
-use Rattle.akl_terms.specs.declared.term.Node.{Node}
 use Rattle.akl_terms.specs.declared.program.Goal.{Goal}
 use Rattle.akl_terms.specs.Names.{same_name}
 use Rattle.akl_terms.proofs.SameNames.{same_name-equal, same_name-refl}
-use Rattle.akl_model.specs.Config.{IsIn, Atom, Content, Boxes, no_boxes, box, Goals, no_goals, atom, choice, Config, Held, held_in, Found, box_at, home_of, or_else, with_names}
-use Rattle.akl_model.specs.Changes.{shape_of, goal_names}
+use Rattle.akl_model.specs.Config.{IsIn, Atom, Held, held_in, Found, box_at, home_of, or_else, with_names}
+use Rattle.akl_model.specs.Changes.{shape_of}
 use Rattle.akl_model.specs.Derivations.{raised}
-use Rattle.akl_model.specs.Ordered.{IsIncreasing, BoxesOrdered, GoalsOrdered}
+use Rattle.akl_model.specs.Ordered.{IsIncreasing, BoxesOrdered}
 use Rattle.akl_model.proofs.Finds.{times}
 use Rattle.akl_model.proofs.NamesKept.{replay-stands}
 use Rattle.akl_model.proofs.OrdersKept.{replay_ordered}
-use Rattle.step_laws.specs.Whereabouts.{BoxIn, InGoals}
 use Rattle.step_laws.proofs.Whereabouts.{found_in, in_home}
 use Rattle.local_store.specs.Stored.{Stored}
 use Rattle.table_laws.specs.Rows.{BoxRow, GoalRow, Table}
@@ -25,29 +23,10 @@ use Rattle.table_laws.proofs.Insides.{goal_row, held_directly}
 use Rattle.box_tree.specs.Tables.{TableValue, table_of, goals_in, rules_in_force}
 use Rattle.box_tree.specs.Edits.{SetsBoxes, SetsGoals, SetsRows, Becomes, AreNew, named_row, named_atoms, atoms_with}
 use Rattle.box_tree.specs.Drops.{IsOfRun}
+use Rattle.box_tree.proofs.GoalsInOrder.{names_increase, stood_ordered}
 use Rattle.box_tree.proofs.News.{firsts, names_atoms}
 use Rattle.box_tree.proofs.Forked.{among_in}
 use Rattle.box_tree.proofs.Naming.{less_with_names}
-
--- the goals of a box stand in order
-
-names_increase : (gs : Goals) → GoalsOrdered gs → IsIncreasing (goal_names gs)
-names_increase no_goals o = tt
-names_increase (atom g a gs) o = (o.0, names_increase gs o.1)
-names_increase (choice g op bs gs) o = (o.0, names_increase gs o.2)
-
-mutual
-  stood_ordered : (r : List Content) (k : Content) (hs : Goals) (bs : Boxes) → BoxIn r k hs bs → BoxesOrdered bs → GoalsOrdered hs
-  stood_ordered r k hs no_boxes x o = absurd x
-  stood_ordered r k hs (box b gs bs) (inl e) o = subst GoalsOrdered (sym e.2) o.2
-  stood_ordered r k hs (box b gs bs) (inr (inl w)) o = among_ordered w.0 k hs gs w.2 o.2
-  stood_ordered r k hs (box b gs bs) (inr (inr x)) o = stood_ordered r k hs bs x o.3
-
-  among_ordered : (r : List Content) (k : Content) (hs gs : Goals) → InGoals r k hs gs → GoalsOrdered gs → GoalsOrdered hs
-  among_ordered r k hs no_goals x o = absurd x
-  among_ordered r k hs (atom g a gs) x o = among_ordered r k hs gs x o.1
-  among_ordered r k hs (choice g op bs gs) (inl x) o = stood_ordered r k hs bs x o.1
-  among_ordered r k hs (choice g op bs gs) (inr x) o = among_ordered r k hs gs x o.2
 
 module _ (t : TableValue) (run : IsOfRun t) where
   once : (m : Name) → times m run.1.config.roots ≤ 1

@@ -5,12 +5,12 @@ pub mod Dropped
 mod Adding
 mod Parted
 mod Naming
+pub mod GoalsInOrder
 mod Joined
 mod CutOff
 mod News
 mod Numbers
 mod Forked
-mod Applies
 mod Begins
 mod Looks
 mod Seen

@@ -2,22 +2,19 @@
 use Rattle.std.proofs.Common.{◌≡◌, ℕ, zero, suc, ◌+◌, ◌<◌, ◌≤◌, Bool, true, false, List, [], ◌∷◌, ◌++◌, length, reverse, take, get_or, map, max, Option, Some, None, refl, sym, ap, subst, ◌∙◌, ◌⊎◌, inl, inr, arith}
 use Rattle.std.proofs.lemmas.List.{length-append, length-map, reverse-append}
 use Rattle.std.proofs.lemmas.Bool.Decides.{nat_tests}
-use Rattle.std.specs.Prelude.{option_map, option_and_then, if◌then◌else◌, IsSome, not, nat_lt, is_some, slice_index}
+use Rattle.std.specs.Prelude.{if◌then◌else◌, IsSome, not, nat_lt}
 use Rattle.std.specs.Map.{lookup}
 use Rattle.akl_terms.specs.declared.name.Name.{Name}
-use Rattle.akl_terms.specs.declared.name.Place.{Place}
 use Rattle.akl_terms.specs.declared.term.Node.{Node}
-use Rattle.akl_terms.specs.declared.program.Op.{Op}
 use Rattle.akl_terms.specs.Tree.{Tree}
 use Rattle.akl_terms.specs.Names.{same_name}
-use Rattle.akl_model.specs.declared.label.Label.{Label}
-use Rattle.akl_model.specs.Config.{IsIn, Atom, Content, Boxes, no_boxes, Config, Held, an_atom, a_choice, held_in, Found, box_at, home_of, site_of}
+use Rattle.akl_model.specs.Config.{IsIn, Content, Boxes, Config, a_choice, Found, box_at}
 use Rattle.akl_model.specs.Names.{times_in}
 use Rattle.akl_model.specs.Changes.{shape_of}
 use Rattle.akl_model.specs.Wakes.{names_around, names_down_to, holder_in}
 use Rattle.akl_model.proofs.Options.{some_value}
 use Rattle.akl_model.proofs.Finds.{times, times_in-append}
-use Rattle.akl_model.proofs.NamesKept.{box-itself, home-box, replay-stands}
+use Rattle.akl_model.proofs.NamesKept.{box-itself, home-box}
 use Rattle.akl_model.proofs.ScopesAlong.{times_path, found_path}
 use Rattle.akl_model.specs.Stable.{only}
 use Rattle.step_laws.specs.Holders.{IsHeldBy}
@@ -28,19 +25,11 @@ use Rattle.rational_unify.proofs.Chains.{nothing-solved}
 use Rattle.local_store.specs.Stored.{Stored}
 use Rattle.local_store.specs.Chained.{IsSolvedChain, IsKnown}
 use Rattle.table_laws.specs.Rows.{BoxRow, GoalRow, Table, store_in, stores_along}
-use Rattle.table_laws.specs.Unfolds.{IsBoxRow, UnchangedSince, Unfolds, Spot, spot_in, spot_of}
-use Rattle.table_laws.specs.Stamped.{IsTableOf}
+use Rattle.table_laws.specs.Unfolds.{IsBoxRow, UnchangedSince, Unfolds}
 use Rattle.table_laws.specs.Writes.{home_in, holder_in_row}
-use Rattle.table_laws.proofs.Frame.{row_of, found_of}
+use Rattle.table_laws.proofs.Frame.{row_of}
 use Rattle.table_laws.proofs.Insides.{goal_row}
 use Rattle.table_laws.proofs.Walks.{no_more}
-use Rattle.box_tree.specs.declared.entries.Held.{Held as Stands}
-use Rattle.box_tree.specs.declared.entries.BoxEntry.{BoxEntry}
-use Rattle.box_tree.specs.declared.entries.GoalEntry.{GoalEntry}
-use Rattle.box_tree.specs.declared.view.Sight.{Sight}
-use Rattle.box_tree.specs.Tables as tables
-use Rattle.box_tree.specs.Tables.{rules_in_force, TableValue, table_of, goal_atom, shape_held}
-use Rattle.box_tree.specs.Views.{run_of, Shows, alternatives_held, alternatives_at, AreSeen, only_body, IsViewOf, is_there}
 use Rattle.box_tree.specs.Paths.{home_at, Deep, is_at_least, solving_in, known_in, latest_in, known_with}
 
 -- lists
@@ -296,4 +285,3 @@ deep_one T n (m ∷ ms) (k ∷ ks) a b =
     let q : m ≡ k = some_value (sym a.0 ∙ b.0) in
     let r : ms ≡ ks = deep_one T m ms ks a.1 (subst (λ (x : Name). Deep T x ks) (sym q) b.1) in
     λ i. q i ∷ r i
-

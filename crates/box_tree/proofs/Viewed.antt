@@ -1,8 +1,6 @@
 -- A view of a place, by what rows say.
-use Rattle.std.proofs.Common.{◌≡◌, ℕ, zero, suc, ◌+◌, ◌<◌, ◌≤◌, Bool, true, false, List, [], ◌∷◌, ◌++◌, length, reverse, take, get_or, map, max, Option, Some, None, refl, sym, ap, subst, ◌∙◌, ◌⊎◌, inl, inr, arith}
-use Rattle.std.proofs.lemmas.List.{length-append, length-map, reverse-append}
-use Rattle.std.proofs.lemmas.Bool.Decides.{nat_tests}
-use Rattle.std.specs.Prelude.{option_map, option_and_then, if◌then◌else◌, IsSome, not, nat_lt, is_some, slice_index}
+use Rattle.std.proofs.Common.{◌≡◌, ℕ, ◌+◌, ◌<◌, ◌≤◌, true, false, List, [], ◌∷◌, ◌++◌, length, reverse, map, Option, Some, None, refl, sym, ap, subst, ◌∙◌, inl, inr, arith}
+use Rattle.std.specs.Prelude.{option_map, option_and_then, IsSome, is_some, slice_index}
 use Rattle.std.specs.Map.{lookup}
 use Rattle.akl_terms.specs.declared.name.Name.{Name}
 use Rattle.akl_terms.specs.declared.name.Place.{Place}
@@ -18,8 +16,8 @@ use Rattle.akl_model.proofs.Options.{some_value}
 use Rattle.akl_model.proofs.Finds.{times}
 use Rattle.akl_model.proofs.NamesKept.{box-itself, home-box, replay-stands}
 use Rattle.local_store.specs.Stored.{Stored}
-use Rattle.local_store.specs.Chained.{IsSolvedChain, IsKnown}
-use Rattle.table_laws.specs.Rows.{BoxRow, GoalRow, Table, stores_along}
+use Rattle.local_store.specs.Chained.{IsKnown}
+use Rattle.table_laws.specs.Rows.{BoxRow, GoalRow, stores_along}
 use Rattle.table_laws.specs.Unfolds.{IsBoxRow, Unfolds, Spot, spot_in, spot_of}
 use Rattle.table_laws.specs.Stamped.{IsTableOf}
 use Rattle.table_laws.specs.Walks.{alternatives_in, alternatives_of}
@@ -37,7 +35,7 @@ use Rattle.box_tree.specs.declared.view.Sight.{Sight}
 use Rattle.box_tree.specs.Tables as tables
 use Rattle.box_tree.specs.Tables.{rules_in_force, TableValue, table_of, goal_atom, shape_held, goals_in, is_empty}
 use Rattle.box_tree.specs.Views.{run_of, Shows, alternatives_held, alternatives_at, IsSeen, AreSeen, only_body, IsViewOf, is_there}
-use Rattle.box_tree.specs.Paths.{home_at, Deep, IsPath, HasPath, sight_held, sight_in, known_in, latest_in, names_at, seen_as, body_in, body_of_only}
+use Rattle.box_tree.specs.Paths.{IsPath, HasPath, sight_held, sight_in, known_in, latest_in, names_at, seen_as, body_in, body_of_only}
 use Rattle.box_tree.proofs.Looks.{stores_append}
 use Rattle.box_tree.proofs.Seen.{known_end, PathOf, path_found, known_is, path_few, deep_one}
 

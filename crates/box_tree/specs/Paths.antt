@@ -69,8 +69,8 @@ abbrev pub names_at : Table → Place → List Name
 names_at T (Place.Goal g) = alternatives_of (T.goal_of g)
 names_at T (Place.Box n) = []
 
--- how many stores are known to be solved together down to an alternative, whose own is the last of so many, where so many are known of those
--- around it; where these are all, the last label that changed one of them is given
+-- how many of the stores down to an alternative are known to be solved together, where so many are of those around it; where these are all,
+-- the last label that changed one of them is given, and with the alternative's own these are the whole
 abbrev pub known_with : Table → ℕ → Option ℕ → ℕ → Name → ℕ
 known_with T known None whole n = known
 known_with T known (Some latest) whole n = if is_at_least (solving_in (T.box_of n)).0 latest then whole else known

@@ -46,8 +46,8 @@ impl Table {
         }
     }
 
-    // How many stores are known to be solved together down to an alternative, whose own is the last of so many. So many
-    // are known of those around it; where these are all, the latest change of one of them is given.
+    // How many of the stores down to an alternative are known to be solved together. So many are of those around it; where
+    // these are all, the latest change of one of them is given. With its own these are the whole.
     fn known_with(&self, name: Name, known: usize, latest: Option<u64>, whole: usize) -> usize
         ensures { result ≡ known_with (table_of self.now) known latest whole name }
     {
@@ -55,11 +55,15 @@ impl Table {
             return known;
         };
         let (solved_at, _) = self.solving_of(name);
-        if is_at_least(solved_at, latest) { whole } else { known }
+        if is_at_least(solved_at, latest) {
+            whole
+        } else {
+            known
+        }
     }
 
-    /// What is seen of alternatives, the store of each the last of so many. So many of the stores around them are known to be
-    /// solved together; where these are all, the latest change of one of them is given.
+    /// What is seen of alternatives. So many of the stores around them are known to be solved together; where these are all,
+    /// the latest change of one of them is given. The whole is how many stores there are down to each, with its own.
     pub(crate) fn alternatives_seen(
         &self,
         alloc: Global,
@@ -97,7 +101,11 @@ impl Table {
     }
 
     /// The body of the only one of these boxes; no goals where there is none or more than one.
-    pub(crate) fn body_of_only(&self, alloc: Global, names: &[Name]) -> Result<Vec<Goal>, AllocError>
+    pub(crate) fn body_of_only(
+        &self,
+        alloc: Global,
+        names: &[Name],
+    ) -> Result<Vec<Goal>, AllocError>
         ensures { IfOk result (λ v. map (goal_atom self.now.program.templates.nodes) v.items ≡ body_of_only (table_of self.now) names.now) }
     {
         match names {

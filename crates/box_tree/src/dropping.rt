@@ -55,11 +55,7 @@ impl Table {
     }
 
     /// Boxes and the boxes inside them.
-    pub(crate) fn inside_each(
-        &self,
-        alloc: Global,
-        boxes: &[Name],
-    ) -> Result<Vec<Name>, AllocError>
+    pub(crate) fn inside_each(&self, alloc: Global, boxes: &[Name]) -> Result<Vec<Name>, AllocError>
         requires { IsOfRun self.now }
         ensures { IfOk result (λ v. ListsEach (table_of self.now) boxes.now v.items) }
     {

@@ -102,7 +102,12 @@ fn home_if_empty(home: Name, news: &[NewBox]) -> Option<Name>
 
 impl Table {
     /// The next numbers after a worker has drawn so many names.
-    pub(crate) fn raised(&self, alloc: Global, worker: u32, drawn: u64) -> Result<Vec<u64>, AllocError>
+    pub(crate) fn raised(
+        &self,
+        alloc: Global,
+        worker: u32,
+        drawn: u64,
+    ) -> Result<Vec<u64>, AllocError>
         ensures { IfOk result (λ next. (w : ℕ) → slice_index next.items w ≡ slice_index (raised worker drawn self.now.next) w) }
     {
         let mut next = Vec::from_slice(alloc, self.next.as_slice())?;

@@ -18,9 +18,15 @@ pub struct NewBox {
 #[derive(Drop)]
 pub enum Step {
     /// The box gets a store, which may be solved over the stores around it, and the goal goes.
-    Tell { store: Shared<Store>, solved: bool },
+    Tell {
+        store: Shared<Store>,
+        solved: bool,
+    },
     /// The goal becomes the choice of these boxes.
-    Fork { op: Op, alternatives: Vec<NewBox> },
+    Fork {
+        op: Op,
+        alternatives: Vec<NewBox>,
+    },
     /// The box goes, with all that stands in it.
     Fail,
     /// The choice loses the alternatives for which a solved one, that of the label, leaves no room.

@@ -21,17 +21,35 @@ use std::collections::BTreeMap;
 use std::marker::Model;
 use std::snapshot::Snapshot;
 
+// The goal of a place.
+fn goal_at(place: Place) -> Result<Name, AllocError>
+    ensures { IfOk result (λ goal. place ≡ Place.Goal goal) }
+{
+    match place {
+        Place::Goal(goal) => Ok(goal),
+        Place::Box(_) => Err(AllocError),
+    }
+}
+
+// The box of a place.
+fn box_at(place: Place) -> Result<Name, AllocError>
+    ensures { IfOk result (λ name. place ≡ Place.Box name) }
+{
+    match place {
+        Place::Box(name) => Ok(name),
+        Place::Goal(_) => Err(AllocError),
+    }
+}
+
 // The goal of a label, and the alternative that it names.
 fn alternative_at(label: Label) -> Result<(Name, Name), AllocError>
     ensures { IfOk result (λ x. (label.place ≡ Place.Goal x.0) × (label.alternative ≡ Some x.1)) }
 {
-    let Place::Goal(goal) = label.place else {
-        return Err(AllocError);
-    };
-    let Some(name) = label.alternative else {
-        return Err(AllocError);
-    };
-    Ok((goal, name))
+    let goal = goal_at(label.place)?;
+    match label.alternative {
+        Some(name) => Ok((goal, name)),
+        None => Err(AllocError),
+    }
 }
 
 /// Boxes and goals by name. It remembers in no bytes the program and the query with which it was started.
@@ -208,7 +226,7 @@ impl Table {
 
     /// Makes the step of a label that draws so many names. `at` is how many labels there are, where the step was
     /// planned over this very table. An `Err` leaves the table as it was; it comes for want of memory, where a count
-    /// would pass its word, and from a fork of a goal that isn't there.
+    /// would pass its word, and from a fork, a cut or a promotion of a goal that isn't there.
     pub fn apply(
         &mut self,
         alloc: Global,
@@ -225,23 +243,16 @@ impl Table {
         let worker = label.worker;
         match step {
             Step::Tell { store, solved } => {
-                let Place::Goal(goal) = label.place else {
-                    return Err(AllocError);
-                };
+                let goal = goal_at(label.place)?;
                 self.tell(goal, store, solved_when(at, solved), number);
                 Ok(())
             }
             Step::Fork { op, alternatives } => {
-                let Place::Goal(goal) = label.place else {
-                    return Err(AllocError);
-                };
-                self.fork(alloc, goal, op, alternatives, at, number, worker, names)?;
-                Ok(())
+                let goal = goal_at(label.place)?;
+                self.fork(alloc, goal, op, alternatives, at, number, worker, names)
             }
             Step::Fail => {
-                let Place::Box(name) = label.place else {
-                    return Err(AllocError);
-                };
+                let name = box_at(label.place)?;
                 let inside = self.inside(alloc, name)?;
                 self.fail(name, &inside, number);
                 Ok(())
@@ -257,7 +268,9 @@ impl Table {
             } => {
                 let (goal, name) = alternative_at(label)?;
                 let solved_at = solved_when(at, solved);
-                self.promote(alloc, goal, name, store, solved_at, goals, number, worker, names)
+                self.promote(
+                    alloc, goal, name, store, solved_at, goals, number, worker, names,
+                )
             }
         }
     }

@@ -5,20 +5,15 @@ use Rattle.akl_terms.specs.declared.term.Node.{Node}
 use Rattle.akl_terms.specs.declared.program.Program.{Program}
 use Rattle.akl_terms.specs.Equal.{Equations}
 use Rattle.akl_model.specs.declared.label.Label.{Label}
-use Rattle.akl_model.specs.Config.{Atom, Boxes, no_boxes, box, Goals, no_goals, atom, choice, Found}
-use Rattle.akl_model.specs.Changes.{goal_names}
+use Rattle.akl_model.specs.Config.{Atom, Boxes, no_boxes, box, Found}
 use Rattle.akl_model.specs.Instances.{instances}
-use Rattle.akl_model.specs.Ordered.{IsIncreasing, BoxesOrdered, GoalsOrdered}
+use Rattle.akl_model.specs.Ordered.{IsIncreasing, BoxesOrdered}
 use Rattle.akl_model.proofs.OrdersKept.{instances_ordered}
 use Rattle.table_laws.specs.Steps.{NewBox, Step, tells, forks, fails, cuts, promotes, AreNewBoxes, Makes}
 use Rattle.table_laws.proofs.Atoms.{atom_names}
 use Rattle.table_laws.proofs.NewGoals.{numbered_increase}
 use Rattle.box_tree.specs.Tables.{AreInOrder, DrawsInOrder}
-
-names_increase : (gs : Goals) → GoalsOrdered gs → IsIncreasing (goal_names gs)
-names_increase no_goals o = tt
-names_increase (atom g a gs) o = (o.0, names_increase gs o.1)
-names_increase (choice g q bs gs) o = (o.0, names_increase gs o.2)
+use Rattle.box_tree.proofs.GoalsInOrder.{names_increase}
 
 new_in_order : (nodes : List Node) (around : Equations) (news : List NewBox) (bs : Boxes) → AreNewBoxes nodes around news bs → BoxesOrdered bs → AreInOrder news
 new_in_order nodes around [] bs a o = tt

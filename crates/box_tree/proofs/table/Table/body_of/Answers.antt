@@ -1,6 +1,5 @@
-use Rattle.std.proofs.Common.{◌∙◌, sym, ap, map, List, Option}
+use Rattle.std.proofs.Common.{◌∙◌, sym, ap, map, Option}
 use Rattle.std.specs.Prelude.{option_map}
-use Rattle.akl_terms.specs.declared.program.Goal.{Goal}
 use Rattle.box_tree.specs.declared.entries.BoxEntry.{BoxEntry}
 use Rattle.box_tree.specs.Tables.{TableValue, box_row, goal_atom}
 use Rattle.box_tree.specs.Paths.{body_in}
@@ -11,4 +10,4 @@ pub returns-in_ok-body-in-Some : goal.returns-in_ok-body-in-Some
 returns-in_ok-body-in-Some c =
     ap (map (goal_atom c.args.self.now.program.templates.nodes)) (c.in_ok-body-in-Some.ensures.items ∙ c.as_slice.ensures.value)
     ∙ sym (ap (λ (o : Option BoxEntry). body_in (option_map (box_row c.args.self.now.program.templates.nodes) o))
-        (found_at c.args.name c.self.inside.boxes c.args.self.now.boxes c.in-Some.entry.now (ap (λ (v : TableValue). v.boxes) c.self.view_is) c.in-Some.ensures.value))
+    (found_at c.args.name c.self.inside.boxes c.args.self.now.boxes c.in-Some.entry.now (ap (λ (v : TableValue). v.boxes) c.self.view_is) c.in-Some.ensures.value))

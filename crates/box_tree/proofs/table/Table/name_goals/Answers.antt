@@ -1,11 +1,10 @@
-use Rattle.std.proofs.Common.{◌≡◌, ℕ, List, Option, Some, refl, sym, ap, ◌∙◌, subst}
+use Rattle.std.proofs.Common.{◌≡◌, List, Option, Some, refl, sym, ap, ◌∙◌, subst}
 use Rattle.std.specs.Prelude.{option_map}
 use Rattle.std.specs.Option.{option_copied_mut}
-use Rattle.std.specs.Map.{lookup, set_value}
+use Rattle.std.specs.Map.{set_value}
 use Rattle.std.specs.BTreeMap.{is_at, get}
 use Rattle.std.specs.BTreeSet.{BTreeSet}
 use Rattle.akl_terms.specs.declared.name.Name.{Name}
-use Rattle.akl_terms.specs.Names.{same_name}
 use Rattle.akl_terms.specs.contracts.name.NameOrd.TheImpl.{cmp-value}
 use Rattle.table_laws.specs.Writes.{changed_box}
 use Rattle.box_tree.specs.declared.entries.BoxEntry.{BoxEntry}

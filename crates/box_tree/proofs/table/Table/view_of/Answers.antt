@@ -1,4 +1,4 @@
-use Rattle.std.proofs.Common.{◌≡◌, ℕ, ◌+◌, List, length, map, Option, sym, ap, ◌∙◌, arith}
+use Rattle.std.proofs.Common.{◌≡◌, ◌+◌, List, length, map, ap, ◌∙◌, arith}
 use Rattle.akl_terms.specs.declared.name.Name.{Name}
 use Rattle.table_laws.specs.Rows.{stores_along}
 use Rattle.box_tree.specs.Tables.{table_of}
