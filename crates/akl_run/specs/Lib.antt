@@ -1,4 +1,5 @@
 pub mod Words
+pub mod Traces
 pub mod Text
 pub mod Runs
 pub mod Choices
