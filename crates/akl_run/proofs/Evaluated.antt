@@ -4,6 +4,7 @@ use Rattle.std.specs.Prelude.{◌==◌, nat_lt}
 use Rattle.std.proofs.lemmas.Bool.Decides.{nat_tests}
 use Rattle.akl_terms.specs.declared.program.Program.{Program}
 use Rattle.akl_terms.specs.declared.program.Query.{Query}
+use Rattle.akl_model.specs.declared.label.Label.{Label}
 use Rattle.akl_model.specs.declared.label.Receipt.{Receipt}
 use Rattle.akl_model.specs.Config.{Content, Boxes, no_boxes, box}
 use Rattle.akl_model.specs.Changes.{box_names}
@@ -20,6 +21,7 @@ use Rattle.root_answers.specs.Roots.{TableIn, Answers, LongAnswers}
 use Rattle.akl_run.specs.declared.loaded.Loaded.{Loaded}
 use Rattle.akl_run.specs.declared.ending.Ending.{Ending}
 use Rattle.akl_run.specs.Loads.{IsLoadedFrom}
+use Rattle.akl_run.specs.Traces.{trace_text}
 use Rattle.akl_run.specs.Text.{outcome_line}
 use Rattle.akl_run.specs.Endings.{ending_by, status_by, outcome_by}
 use Rattle.akl_run.specs.Runs.{IsRun}
@@ -90,12 +92,14 @@ module _ (c : CoreValue) (i : IsCore c) (first : ℕ) where
       → IsRun (record { program = c.table.program; query = c.table.query; first_variable = first }) c.budget c.journal answers (outcome_by (ending_by end (length c.table.roots) (length answers)))
   own_run answers end a e = record { last = i.table.config; replays = i.table.replays; ends = has_outcome c i.table answers a end e; within = i.within }
 
-  own_evaluated : (receipts : List Receipt) (end : End) (count : ℕ) (text : List ℕ) → AreKept c receipts → EndsAs c end → Answers c i.table count text
-      → IsRunBy (record { program = c.table.program; query = c.table.query; first_variable = first }) c.budget (outcome_by (ending_by end (length c.table.roots) count)) c.journal (receipts ∷ [])
-      (text ++ outcome_line (outcome_by (ending_by end (length c.table.roots) count)))
-  own_evaluated receipts end count text k e x =
-      subst (λ (n : ℕ). IsRunBy (record { program = c.table.program; query = c.table.query; first_variable = first }) c.budget (outcome_by (ending_by end (length c.table.roots) n)) c.journal (receipts ∷ [])
-      (text ++ outcome_line (outcome_by (ending_by end (length c.table.roots) n)))) (sym x.counted) (record {
+  abbrev own_text : Bool → End → ℕ → List ℕ → List ℕ
+  own_text trace end count text = trace_text trace c.journal ++ text ++ outcome_line (outcome_by (ending_by end (length c.table.roots) count))
+
+  own_evaluated : (trace : Bool) (receipts : List Receipt) (end : End) (count : ℕ) (text : List ℕ) → AreKept c receipts → EndsAs c end → Answers c i.table count text
+      → IsRunBy (record { program = c.table.program; query = c.table.query; first_variable = first }) c.budget trace (outcome_by (ending_by end (length c.table.roots) count)) c.journal (receipts ∷ []) (own_text trace end count text)
+  own_evaluated trace receipts end count text k e x =
+      subst (λ (n : ℕ). IsRunBy (record { program = c.table.program; query = c.table.query; first_variable = first }) c.budget trace (outcome_by (ending_by end (length c.table.roots) n)) c.journal (receipts ∷ []) (own_text trace end n text))
+      (sym x.counted) (record {
         answers = x.answers;
         run = own_run x.answers end x.are_answers e;
         one_worker = k.by_one;
@@ -120,11 +124,15 @@ of_query P l p q b budget e f g x =
     (subst (λ (r : Query). P (record { program = l.program; query = r; first_variable = l.first_variable }) b) f
     (subst (λ (r : Program). P (record { program = r; query = q; first_variable = l.first_variable }) b) e x))
 
-pub evaluated : (l : Loaded) (budget : ℕ) (f : Finished) (count : ℕ) (text : List ℕ) → HasFinished l budget f → (i : IsCore f.core) → Answers f.core i.table count text
-    → IsRunBy l budget (outcome_by (ending_by f.end (length f.core.table.roots) count)) f.core.journal (f.receipts.items ∷ []) (text ++ outcome_line (outcome_by (ending_by f.end (length f.core.table.roots) count)))
-evaluated l budget f count text h i x =
-    of_query (λ (k : Loaded) (b : ℕ). IsRunBy k b (outcome_by (ending_by f.end (length f.core.table.roots) count)) f.core.journal (f.receipts.items ∷ []) (text ++ outcome_line (outcome_by (ending_by f.end (length f.core.table.roots) count))))
-    l f.core.table.program f.core.table.query f.core.budget budget h.program h.query h.same_budget (own_evaluated f.core i l.first_variable f.receipts.items f.end count text h.kept h.ends x)
+-- the text of a finished run: its trace, its answers and its last line
+abbrev pub text_of : Bool → Finished → ℕ → List ℕ → List ℕ
+text_of trace f count text = trace_text trace f.core.journal ++ text ++ outcome_line (outcome_by (ending_by f.end (length f.core.table.roots) count))
+
+pub evaluated : (l : Loaded) (budget : ℕ) (trace : Bool) (f : Finished) (count : ℕ) (text : List ℕ) → HasFinished l budget f → (i : IsCore f.core) → Answers f.core i.table count text
+    → IsRunBy l budget trace (outcome_by (ending_by f.end (length f.core.table.roots) count)) f.core.journal (f.receipts.items ∷ []) (text_of trace f count text)
+evaluated l budget trace f count text h i x =
+    of_query (λ (k : Loaded) (b : ℕ). IsRunBy k b trace (outcome_by (ending_by f.end (length f.core.table.roots) count)) f.core.journal (f.receipts.items ∷ []) (text_of trace f count text))
+    l f.core.table.program f.core.table.query f.core.budget budget h.program h.query h.same_budget (own_evaluated f.core i l.first_variable trace f.receipts.items f.end count text h.kept h.ends x)
 
 pub long_run : (l : Loaded) (budget : ℕ) (f : Finished) → HasFinished l budget f → (i : IsCore f.core) → LongAnswers f.core i.table → HasLongRun l budget
 long_run l budget f h i x = of_query HasLongRun l f.core.table.program f.core.table.query f.core.budget budget h.program h.query h.same_budget (own_long f.core i l.first_variable f.end h.ends x)

@@ -18,11 +18,8 @@ use Rattle.akl_run.specs.declared.report.Refusal.{Refusal}
 use Rattle.akl_run.specs.declared.report.Report.{Report}
 use Rattle.akl_run.specs.declared.loaded.Loaded.{Loaded}
 use Rattle.akl_args.specs.declared.options.Options.{Options}
-use Rattle.akl_args.specs.declared.options.Job.{Job}
-use Rattle.akl_args.specs.declared.options.Job.TheVariants as jobs
 use Rattle.akl_args.specs.declared.options.WordsError.{WordsError}
-use Rattle.akl_run.specs.Words.{asking, is_built}
-use Rattle.akl_run.specs.Goals.{are_built_goals, are_built_clauses}
+use Rattle.akl_run.specs.Words.{is_built, query_of, program_of}
 use Rattle.akl_run.specs.Choices.{has_choice, have_choices}
 use Rattle.akl_model.specs.Config.{Content}
 use Rattle.answer_text.specs.Answers.{longest_answer}
@@ -30,8 +27,8 @@ use Rattle.akl_run.specs.declared.evaluate.Evaluated.{Evaluated}
 use Rattle.akl_run.specs.declared.stop.Stop.{Stop}
 use Rattle.root_answers.specs.Text.{AreTexts, no_answers, an_answer, HasLongAnswer, here, there}
 use Rattle.akl_run.specs.Steps.{IsRunAs, IsStopped, whole, part}
-use Rattle.akl_run.specs.Loads.{IsLoadedFrom, IsLoadedProgram, ProgramStops, QueryStops, IsLoadedQuery, by_text, not_built, by_loading, not_built_goal, no_memory}
-use Rattle.akl_run.specs.Commands.{Side, side, Command, HasFaulted, HasWorked, Asks, IsAskedBy, IsRead, Stops, by_words, by_reading, by_program, by_query, by_run, fault, IsFault, WordsEnd, ProgramEnds, QueryEnds, LongAnswersEnd, IsOutcome, IsAnswered, IsComplete}
+use Rattle.akl_run.specs.Loads.{IsLoadedFrom, IsLoadedProgram, ProgramStops, QueryStops, IsLoadedQuery, by_text, not_built, by_loading, no_memory}
+use Rattle.akl_run.specs.Commands.{Side, side, Command, HasFaulted, HasWorked, HasProgram, Asks, IsAskedBy, IsRead, IsGiven, Stops, by_words, by_reading, by_program, by_query, by_run, fault, IsFault, WordsEnd, ProgramEnds, QueryEnds, LongAnswersEnd, IsOutcome, IsAnswered, IsComplete}
 use Rattle.akl_run.specs.Commands as commands
 use Rattle.akl_run.specs.Runs.{IsRun}
 use Rattle.akl_run.specs.Reports as reports
@@ -62,9 +59,10 @@ front_of text n m (Some rest) bytes h = on (or_more (length bytes) 1000000)
 read_front : (before after : Side) (text bytes : List ℕ) → before.bytes ≡ Some text → IsRead before after bytes → bytes ≡ take 1000001 text
 read_front before after text bytes e h = front_of text before.faults after.faults after.bytes bytes (subst (λ (z : Option (List ℕ)). IsRead (side z before.faults) after bytes) e h)
 
--- what a command read is the front of its source
-same_read : (c : Command) {query program bytes : List ℕ} {budget : ℕ} → Asks c query budget program → IsRead c.source c.source_after bytes → bytes ≡ program
-same_read c a b = read_front c.source c.source_after a.text _ a.has b ∙ sym a.front
+-- the program of a command is the one that it was given
+same_given : (made : Option (List ℕ)) (before after : Side) (program bytes : List ℕ) → HasProgram made before program → IsGiven made before after bytes → bytes ≡ program
+same_given None before after program bytes h g = read_front before after h.0 bytes h.1 g ∙ sym h.2
+same_given (Some made) before after program bytes h g = g.1 ∙ sym h
 
 -- ---- a program's text is refused in one way
 refused_same : {A : Type 0} {e d : SyntaxError} → ◌≡◌ {A = Verdict A} (refused e) (refused d) → e ≡ d
@@ -92,26 +90,18 @@ same_program_stop p no_memory n = inl tt
 same_program_stop (by_text r) (by_text q) n = inr (refl, ap Refusal.TextOf (refused_same (program_one q r)))
 same_program_stop (by_text r) (not_built q c) n = absurd (not_both (program_one q r))
 same_program_stop (by_text r) (by_loading q c e) n = absurd (not_both (program_one q r))
-same_program_stop (by_text r) (not_built_goal q c e b) n = absurd (not_both (program_one q r))
 same_program_stop (not_built r c) (by_text q) n = absurd (not_both (program_one r q))
 same_program_stop (not_built r c) (not_built q d) n = inr (refl, refl)
 same_program_stop (not_built r c) (by_loading q d e) n = absurd (true_false c (subst (λ (z : List Clause). have_choices z ≡ false) (clauses_one q r) d))
-same_program_stop (not_built r c) (not_built_goal q d e b) n = inr (refl, refl)
 same_program_stop (by_loading r c e) (by_text q) n = absurd (not_both (program_one r q))
 same_program_stop (by_loading r c e) (not_built q d) n = absurd (true_false d (subst (λ (z : List Clause). have_choices z ≡ false) (clauses_one r q) c))
 same_program_stop (by_loading {e = cause} r c e) (by_loading q d h) n =
     inr (refl, ap Refusal.Loading (some_same (sym h ∙ subst (λ (z : List Clause). refusal_of z ≡ Some cause) (clauses_one r q) e)))
-same_program_stop (by_loading {e = cause} r c e) (not_built_goal q d h b) n = absurd (none_some h (subst (λ (z : List Clause). refusal_of z ≡ Some cause) (clauses_one r q) e))
-same_program_stop (not_built_goal r c e b) (by_text q) n = absurd (not_both (program_one r q))
-same_program_stop (not_built_goal r c e b) (not_built q d) n = inr (refl, refl)
-same_program_stop (not_built_goal r c e b) (by_loading q d h) n = absurd (none_some (subst (λ (z : List Clause). refusal_of z ≡ None) (clauses_one r q) e) h)
-same_program_stop (not_built_goal r c e b) (not_built_goal q d h a) n = inr (refl, refl)
 
 loaded_or_stopped : {text : List ℕ} {p : Program} {s : Status} {f : Refusal} → IsLoadedProgram text p → ProgramStops text s f → IsFault s
 loaded_or_stopped l (by_text r) = absurd (not_both (program_one l.reads r))
 loaded_or_stopped l (not_built r c) = absurd (true_false c (subst (λ (z : List Clause). have_choices z ≡ false) (clauses_one l.reads r) l.plain))
 loaded_or_stopped l (by_loading r c e) = absurd (none_some (subst (λ (z : List Clause). refusal_of z ≡ None) (clauses_one l.reads r) l.allowed) e)
-loaded_or_stopped l (not_built_goal r c e b) = absurd (true_false (subst (λ (z : List Clause). are_built_clauses z ≡ true) (clauses_one l.reads r) l.built) b)
 loaded_or_stopped l no_memory = tt
 
 -- ---- a query's text is refused in one way, over each program that the clauses stand for
@@ -150,25 +140,17 @@ same_query_stop l k a no_memory n = inl tt
 same_query_stop l k (by_text r) (by_text q) n = inr (refl, ap Refusal.TextOf (refused_same (query_verdict_one q r)))
 same_query_stop l k (by_text r) (not_built q c) n = absurd (not_both (query_verdict_one q r))
 same_query_stop l k (by_text r) (by_loading q c e) n = absurd (not_both (query_verdict_one q r))
-same_query_stop l k (by_text r) (not_built_goal q c e b) n = absurd (not_both (query_verdict_one q r))
 same_query_stop l k (not_built r c) (by_text q) n = absurd (not_both (query_verdict_one r q))
 same_query_stop l k (not_built r c) (not_built q d) n = inr (refl, refl)
 same_query_stop l k (not_built r c) (by_loading q d e) n = absurd (true_false c (subst (λ (z : Query). has_choice z.goals ≡ false) (query_one q r) d))
-same_query_stop l k (not_built r c) (not_built_goal q d e b) n = inr (refl, refl)
 same_query_stop l k (by_loading r c e) (by_text q) n = absurd (not_both (query_verdict_one r q))
 same_query_stop l k (by_loading r c e) (not_built q d) n = absurd (true_false d (subst (λ (z : Query). has_choice z.goals ≡ false) (query_one r q) c))
 same_query_stop l k (by_loading {q = x} r c e) (by_loading {q = y} q d h) n = inr (refl, ap Refusal.Loading (some_same (sym h ∙ some_other x y l k (query_one r q) e)))
-same_query_stop l k (by_loading {q = x} r c e) (not_built_goal {q = y} q d h b) n = absurd (none_some h (some_other x y l k (query_one r q) e))
-same_query_stop l k (not_built_goal r c e b) (by_text q) n = absurd (not_both (query_verdict_one r q))
-same_query_stop l k (not_built_goal r c e b) (not_built q d) n = inr (refl, refl)
-same_query_stop l k (not_built_goal {q = x} r c e b) (by_loading {q = y} q d h) n = absurd (none_some (none_other x y l k (query_one r q) e) h)
-same_query_stop l k (not_built_goal r c e b) (not_built_goal q d h a) n = inr (refl, refl)
 
 asked_or_stopped : {program text : List ℕ} {p q : Program} {l : Loaded} {s : Status} {f : Refusal} → IsLoadedProgram program p → IsLoadedProgram program q → IsLoadedQuery p text l → QueryStops q text s f → IsFault s
 asked_or_stopped a b l (by_text r) = absurd (not_both (query_verdict_one l.reads r))
 asked_or_stopped a b l (not_built r c) = absurd (true_false c (subst (λ (z : Query). has_choice z.goals ≡ false) (query_one l.reads r) l.plain))
 asked_or_stopped a b l (by_loading {q = y} r c e) = absurd (none_some (none_other l.asked y a b (query_one l.reads r) l.allowed) e)
-asked_or_stopped a b l (not_built_goal r c e i) = absurd (true_false (subst (λ (z : Query). are_built_goals z.goals ≡ true) (query_one l.reads r) l.built) i)
 asked_or_stopped a b l no_memory = tt
 
 -- ---- words ask for one thing
@@ -182,46 +164,34 @@ err_same p = cc
 ok_or_err : {o : Options} {e : WordsError} → ◌≡◌ {A = Result Options WordsError} (Ok o) (Err e) → ⊥
 ok_or_err p = cc
 
-text_of : Job → List ℕ
-text_of (jobs.Query text) = text
-text_of (jobs.Generate n) = []
-
-same_query : {words : List (List ℕ)} {query other : List ℕ} {b d : ℕ} → IsAskedBy words query b → IsAskedBy words other d → query ≡ other
-unfolding text_of
-same_query x y = ap (λ (o : Options). text_of o.job) (ok_same (sym x.reads ∙ y.reads))
-
-same_budget : {words : List (List ℕ)} {query other : List ℕ} {b d : ℕ} → IsAskedBy words query b → IsAskedBy words other d → b ≡ d
-same_budget x y = ap (λ (o : Options). o.budget) (ok_same (sym x.reads ∙ y.reads))
-
-asking_query : {query other : List ℕ} {b d : ℕ} → asking query b ≡ asking other d → query ≡ other
-unfolding text_of
-asking_query e = ap (λ (o : Options). text_of o.job) e
+same_options : {words : List (List ℕ)} {o k : Options} → IsAskedBy words o → IsAskedBy words k → o ≡ k
+same_options x y = ok_same (sym x.reads ∙ y.reads)
 
 same_words_stop : {words : List (List ℕ)} {s t : Status} {f g : Refusal} → commands.WordsStop words s f → commands.WordsStop words t g → (IsFault s → ⊥) → IsFault t ⊎ ((t ≡ s) × (g ≡ f))
 same_words_stop commands.no_memory q n = absurd (n tt)
 same_words_stop p commands.no_memory n = inl tt
 same_words_stop (commands.refused r) (commands.refused q) n = inr (refl, ap Refusal.Words (err_same (sym q ∙ r)))
 same_words_stop (commands.refused r) (commands.not_built q b) n = absurd (ok_or_err (sym q ∙ r))
-same_words_stop (commands.refused r) (commands.long_query q h) n = absurd (ok_or_err (sym q ∙ r))
+same_words_stop (commands.refused r) (commands.long_query q b h) n = absurd (ok_or_err (sym q ∙ r))
 same_words_stop (commands.not_built r b) (commands.refused q) n = absurd (ok_or_err (sym r ∙ q))
 same_words_stop (commands.not_built r b) (commands.not_built q d) n = inr (refl, refl)
-same_words_stop (commands.not_built r b) (commands.long_query q h) n = absurd (true_false refl (subst (λ (o : Options). is_built o ≡ false) (ok_same (sym r ∙ q)) b))
-same_words_stop (commands.long_query r h) (commands.refused q) n = absurd (ok_or_err (sym r ∙ q))
-same_words_stop (commands.long_query r h) (commands.not_built q b) n = absurd (true_false refl (subst (λ (o : Options). is_built o ≡ false) (ok_same (sym q ∙ r)) b))
-same_words_stop (commands.long_query r h) (commands.long_query q k) n = inr (refl, ap (λ (text : List ℕ). Refusal.TextOf (TooLong (length text))) (asking_query (ok_same (sym q ∙ r))))
+same_words_stop (commands.not_built r b) (commands.long_query q d h) n = absurd (true_false d (subst (λ (o : Options). is_built o ≡ false) (ok_same (sym r ∙ q)) b))
+same_words_stop (commands.long_query r d h) (commands.refused q) n = absurd (ok_or_err (sym r ∙ q))
+same_words_stop (commands.long_query r d h) (commands.not_built q b) n = absurd (true_false d (subst (λ (o : Options). is_built o ≡ false) (ok_same (sym q ∙ r)) b))
+same_words_stop (commands.long_query r d h) (commands.long_query q e k) n = inr (refl, ap (λ (o : Options). Refusal.TextOf (TooLong (length (query_of o)))) (ok_same (sym q ∙ r)))
 
-asked_words : {words : List (List ℕ)} {query : List ℕ} {budget : ℕ} {s : Status} {f : Refusal} → IsAskedBy words query budget → commands.WordsStop words s f → IsFault s
+asked_words : {words : List (List ℕ)} {o : Options} {s : Status} {f : Refusal} → IsAskedBy words o → commands.WordsStop words s f → IsFault s
 asked_words a commands.no_memory = tt
 asked_words a (commands.refused r) = absurd (ok_or_err (sym a.reads ∙ r))
-asked_words a (commands.not_built r b) = absurd (true_false refl (subst (λ (o : Options). is_built o ≡ false) (ok_same (sym r ∙ a.reads)) b))
-asked_words a (commands.long_query r h) = let k = subst (λ (z : List ℕ). length z ≤ 10000) (asking_query (ok_same (sym a.reads ∙ r))) a.short in absurd (omega (arith, k, h))
+asked_words a (commands.not_built r b) = absurd (true_false a.built (subst (λ (k : Options). is_built k ≡ false) (ok_same (sym r ∙ a.reads)) b))
+asked_words a (commands.long_query r d h) = let k = subst (λ (z : Options). length (query_of z) ≤ 10000) (ok_same (sym a.reads ∙ r)) a.short in absurd (omega (arith, k, h))
 
 read_faults : {before after : Side} {s : Status} {f : Refusal} → commands.ReadStops before after s f → IsFault s
 read_faults (fault r b) = tt
 read_faults (commands.no_memory_read b) = tt
 
-query_stop_of : {words : List (List ℕ)} {query other : List ℕ} {b d : ℕ} {p : Program} {s : Status} {f : Refusal} → IsAskedBy words query b → IsAskedBy words other d → QueryStops p other s f → QueryStops p query s f
-query_stop_of {p = p} {s = s} {f = f} a b q = subst (λ (z : List ℕ). QueryStops p z s f) (sym (same_query a b)) q
+query_stop_of : {words : List (List ℕ)} {o k : Options} {p : Program} {s : Status} {f : Refusal} → IsAskedBy words o → IsAskedBy words k → QueryStops p (query_of k) s f → QueryStops p (query_of o) s f
+query_stop_of {p = p} {s = s} {f = f} a b q = subst (λ (z : Options). QueryStops p (query_of z) s f) (sym (same_options a b)) q
 
 -- texts that fit belong to no answer that is too long
 all_fit : {symbols : List (List ℕ)} {k : ℕ} {answers : List Content} {text : List ℕ} → AreTexts symbols k answers text → HasLongAnswer symbols answers → ⊥
@@ -248,43 +218,45 @@ fault_is Status.NotYet f = absurd f
 
 -- what follows of a command that stopped, or whose run was written
 module _ (c : Command) where
-  program_at : {query program bytes : List ℕ} {budget : ℕ} {p : Program} → Asks c query budget program → IsRead c.source c.source_after bytes → IsLoadedProgram bytes p → IsLoadedProgram program p
-  program_at {p = p} a b l = subst (λ (z : List ℕ). IsLoadedProgram z p) (same_read c a b) l
+  same_program : {o k : Options} {program bytes : List ℕ} → Asks c o program → IsAskedBy c.words k → IsGiven (program_of k) c.source c.source_after bytes → bytes ≡ program
+  same_program {o} {k} {program} {bytes} a b g = same_given (program_of o) c.source c.source_after program bytes a.has (subst (λ (z : Options). IsGiven (program_of z) c.source c.source_after bytes) (sym (same_options a.asked b)) g)
 
-  stop_at : {query program bytes : List ℕ} {budget : ℕ} {s : Status} {f : Refusal} → Asks c query budget program → IsRead c.source c.source_after bytes → ProgramStops bytes s f → ProgramStops program s f
-  stop_at {s = s} {f = f} a b q = subst (λ (z : List ℕ). ProgramStops z s f) (same_read c a b) q
+  program_at : {o k : Options} {program bytes : List ℕ} {p : Program} → Asks c o program → IsAskedBy c.words k → IsGiven (program_of k) c.source c.source_after bytes → IsLoadedProgram bytes p → IsLoadedProgram program p
+  program_at {p = p} a b g l = subst (λ (z : List ℕ). IsLoadedProgram z p) (same_program a b g) l
+
+  stop_at : {o k : Options} {program bytes : List ℕ} {s : Status} {f : Refusal} → Asks c o program → IsAskedBy c.words k → IsGiven (program_of k) c.source c.source_after bytes → ProgramStops bytes s f → ProgramStops program s f
+  stop_at {s = s} {f = f} a b g q = subst (λ (z : List ℕ). ProgramStops z s f) (same_program a b g) q
 
   words_stop : {s t : Status} {f g : Refusal} → commands.WordsStop c.words s f → (IsFault s → ⊥) → Stops c.words c.source c.source_after t g → IsFault t ⊎ ((t ≡ s) × (g ≡ f))
   words_stop p n (by_words w l) = same_words_stop p w n
-  words_stop p n (by_reading a r) = absurd (n (asked_words a p))
+  words_stop p n (by_reading a d r) = absurd (n (asked_words a p))
   words_stop p n (by_program a r q) = absurd (n (asked_words a p))
   words_stop p n (by_query a r l q) = absurd (n (asked_words a p))
   words_stop p n (by_run a r l q) = absurd (n (asked_words a p))
 
-  program_stop : {query program : List ℕ} {budget : ℕ} {s t : Status} {f g : Refusal} → Asks c query budget program → ProgramStops program s f → (IsFault s → ⊥) → Stops c.words c.source c.source_after t g
-      → IsFault t ⊎ ((t ≡ s) × (g ≡ f))
+  program_stop : {o : Options} {program : List ℕ} {s t : Status} {f g : Refusal} → Asks c o program → ProgramStops program s f → (IsFault s → ⊥) → Stops c.words c.source c.source_after t g → IsFault t ⊎ ((t ≡ s) × (g ≡ f))
   program_stop a p n (by_words w l) = inl (asked_words a.asked w)
-  program_stop a p n (by_reading b r) = inl (read_faults r)
-  program_stop a p n (by_program b r q) = same_program_stop p (stop_at a r q) n
-  program_stop a p n (by_query b r l q) = absurd (n (loaded_or_stopped (program_at a r l) p))
-  program_stop a p n (by_run b r l q) = absurd (n (loaded_or_stopped (program_at a r l.is_program) p))
+  program_stop a p n (by_reading b d r) = inl (read_faults r)
+  program_stop a p n (by_program b r q) = same_program_stop p (stop_at a b r q) n
+  program_stop a p n (by_query b r l q) = absurd (n (loaded_or_stopped (program_at a b r l) p))
+  program_stop a p n (by_run b r l q) = absurd (n (loaded_or_stopped (program_at a b r l.is_program) p))
 
-  query_stop : {query program : List ℕ} {budget : ℕ} {p : Program} {s t : Status} {f g : Refusal} → Asks c query budget program → IsLoadedProgram program p → QueryStops p query s f → (IsFault s → ⊥)
+  query_stop : {o : Options} {program : List ℕ} {p : Program} {s t : Status} {f g : Refusal} → Asks c o program → IsLoadedProgram program p → QueryStops p (query_of o) s f → (IsFault s → ⊥)
       → Stops c.words c.source c.source_after t g → IsFault t ⊎ ((t ≡ s) × (g ≡ f))
   query_stop a l q n (by_words w m) = inl (asked_words a.asked w)
-  query_stop a l q n (by_reading b r) = inl (read_faults r)
-  query_stop a l q n (by_program b r k) = inl (loaded_or_stopped l (stop_at a r k))
-  query_stop a l q n (by_query b r m k) = same_query_stop l (program_at a r m) q (query_stop_of a.asked b k) n
+  query_stop a l q n (by_reading b d r) = inl (read_faults r)
+  query_stop a l q n (by_program b r k) = inl (loaded_or_stopped l (stop_at a b r k))
+  query_stop a l q n (by_query b r m k) = same_query_stop l (program_at a b r m) q (query_stop_of a.asked b k) n
   query_stop a l q n (by_run {l = loaded} b r m k) =
-      absurd (n (asked_or_stopped (program_at a r m.is_program) l (subst (λ (z : List ℕ). IsLoadedQuery m.base z loaded) (sym (same_query a.asked b)) m.is_query) q))
+      absurd (n (asked_or_stopped (program_at a b r m.is_program) l (subst (λ (z : Options). IsLoadedQuery m.base (query_of z) loaded) (sym (same_options a.asked b)) m.is_query) q))
 
   -- a command whose query is loaded stops for a fault, or since each text of an answer is too long
-  loaded_stop : {query program : List ℕ} {budget : ℕ} {l : Loaded} {t : Status} {g : Refusal} → Asks c query budget program → IsLoadedFrom program query l → Stops c.words c.source c.source_after t g
+  loaded_stop : {o : Options} {program : List ℕ} {l : Loaded} {t : Status} {g : Refusal} → Asks c o program → IsLoadedFrom program (query_of o) l → Stops c.words c.source c.source_after t g
       → IsFault t ⊎ ((t ≡ Status.NotYet) × (g ≡ Refusal.NotYet Part.Answer))
   loaded_stop a m (by_words w l) = inl (asked_words a.asked w)
-  loaded_stop a m (by_reading b r) = inl (read_faults r)
-  loaded_stop a m (by_program b r k) = inl (loaded_or_stopped m.is_program (stop_at a r k))
-  loaded_stop a m (by_query b r l k) = inl (asked_or_stopped m.is_program (program_at a r l) m.is_query (query_stop_of a.asked b k))
+  loaded_stop a m (by_reading b d r) = inl (read_faults r)
+  loaded_stop a m (by_program b r k) = inl (loaded_or_stopped m.is_program (stop_at a b r k))
+  loaded_stop a m (by_query b r l k) = inl (asked_or_stopped m.is_program (program_at a b r l) m.is_query (query_stop_of a.asked b k))
   loaded_stop a m (by_run b r l (reports.long d)) = inr (refl, refl)
   loaded_stop a m (by_run b r l reports.no_memory) = inl tt
 
@@ -293,25 +265,25 @@ module _ (c : Command) where
 
   pub words_end : Ended c → WordsEnd c
   words_end (stopped stop q i w) = λ s f p n. at_report (λ t g. IsFault t ⊎ ((t ≡ s) × (g ≡ f))) stop i (words_stop p n q)
-  words_end (ran run q i) = λ s f p n. absurd (n (asked_words q.ready.asked p))
+  words_end (ran run q i) = λ s f p n. absurd (n (asked_words q.asked p))
 
   pub program_ends : Ended c → ProgramEnds c
-  program_ends (stopped stop q i w) = λ query budget program s f a p n. at_report (λ t g. IsFault t ⊎ ((t ≡ s) × (g ≡ f))) stop i (program_stop a p n q)
-  program_ends (ran run q i) = λ query budget program s f a p n. absurd (n (loaded_or_stopped (program_at a q.ready.read q.ready.loaded.is_program) p))
+  program_ends (stopped stop q i w) = λ o program s f a p n. at_report (λ t g. IsFault t ⊎ ((t ≡ s) × (g ≡ f))) stop i (program_stop a p n q)
+  program_ends (ran run q i) = λ o program s f a p n. absurd (n (loaded_or_stopped (program_at a q.asked q.given q.is_loaded.is_program) p))
+
+  -- the query that was loaded is the one that the command asks for
+  query_at : {o k : Options} {base : Program} {program : List ℕ} {l : Loaded} → Asks c o program → IsAskedBy c.words k → IsLoadedQuery base (query_of k) l → IsLoadedQuery base (query_of o) l
+  query_at {base = base} {l = l} a b q = subst (λ (z : Options). IsLoadedQuery base (query_of z) l) (sym (same_options a.asked b)) q
 
   pub query_ends : Ended c → QueryEnds c
-  query_ends (stopped stop q i w) = λ query budget program p s f a l k n. at_report (λ t g. IsFault t ⊎ ((t ≡ s) × (g ≡ f))) stop i (query_stop a l k n q)
-  query_ends (ran run q i) = λ query budget program p s f a l k n.
-      absurd (n (asked_or_stopped (program_at a q.ready.read q.ready.loaded.is_program) l
-      (subst (λ (z : List ℕ). IsLoadedQuery q.ready.loaded.base z q.loaded) (sym (same_query a.asked q.ready.asked)) q.ready.loaded.is_query) k))
+  query_ends (stopped stop q i w) = λ o program p s f a l k n. at_report (λ t g. IsFault t ⊎ ((t ≡ s) × (g ≡ f))) stop i (query_stop a l k n q)
+  query_ends (ran run q i) = λ o program p s f a l k n. absurd (n (asked_or_stopped (program_at a q.asked q.given q.is_loaded.is_program) l (query_at a q.asked q.is_loaded.is_query) k))
 
   pub long_answers_end : Ended c → LongAnswersEnd c
-  long_answers_end (stopped stop q i w) = λ query budget program l a m long. at_report (λ t g. IsFault t ⊎ ((t ≡ Status.NotYet) × (g ≡ Refusal.NotYet Part.Answer))) stop i (loaded_stop a m q)
-  long_answers_end (ran run q i) = λ query budget program l a m long.
-      let k : IsLoadedFrom program query q.loaded =
-      subst (λ (z : List ℕ). IsLoadedFrom z query q.loaded) (same_read c a q.ready.read)
-      (subst (λ (z : List ℕ). IsLoadedFrom q.ready.program z q.loaded) (sym (same_query a.asked q.ready.asked)) q.ready.loaded) in
-      let r = subst (λ (b : ℕ). IsRun q.loaded b run.journal.items q.run.run.answers q.run.outcome) (sym (same_budget a.asked q.ready.asked)) q.run.run.run in
+  long_answers_end (stopped stop q i w) = λ o program l a m long. at_report (λ t g. IsFault t ⊎ ((t ≡ Status.NotYet) × (g ≡ Refusal.NotYet Part.Answer))) stop i (loaded_stop a m q)
+  long_answers_end (ran run q i) = λ o program l a m long.
+      let k : IsLoadedFrom program (query_of o) q.loaded = record { base = q.is_loaded.base; is_program = program_at a q.asked q.given q.is_loaded.is_program; is_query = query_at a q.asked q.is_loaded.is_query } in
+      let r = subst (λ (z : Options). IsRun q.loaded z.budget run.journal.items q.run.run.answers q.run.outcome) (sym (same_options a.asked q.asked)) q.run.run.run in
       absurd (all_fit q.run.run.is_text.are_texts (long q.loaded k run.journal.items q.run.run.answers q.run.outcome r))
 
   -- the status of a run that was written whole
@@ -329,6 +301,6 @@ module _ (c : Command) where
       on (inr d) = memory (i.status ∙ d)
 
   pub complete : Ended c → IsComplete c
-  complete (stopped stop q i w) = λ query budget program l a m works writes memory. answered_or_fault stop q i works memory (loaded_stop a m q)
-  complete (ran run q (whole i w)) = λ query budget program l a m works writes memory. has_run q (sym (ap (λ (z : Report). z.status) i))
-  complete (ran run q (part i l w f)) = λ query budget program k a m works writes memory. absurd (both c.sink c.sink_after writes f)
+  complete (stopped stop q i w) = λ o program l a m works writes memory. answered_or_fault stop q i works memory (loaded_stop a m q)
+  complete (ran run q (whole i w)) = λ o program l a m works writes memory. has_run q (sym (ap (λ (z : Report). z.status) i))
+  complete (ran run q (part i l w f)) = λ o program k a m works writes memory. absurd (both c.sink c.sink_after writes f)

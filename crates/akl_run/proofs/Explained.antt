@@ -65,19 +65,17 @@ module _ (words : List (List ℕ)) (before after : Side) where
   stopping : {s : Status} {f : Refusal} → Stops words before after s f → Stopping before after s
   stopping (by_words (commands.refused r) l) = other tt (λ d. cc)
   stopping (by_words (commands.not_built r b) l) = other tt (λ d. cc)
-  stopping (by_words (commands.long_query q h) l) = other tt (λ d. cc)
+  stopping (by_words (commands.long_query q b h) l) = other tt (λ d. cc)
   stopping (by_words commands.no_memory l) = other tt (λ d. cc)
-  stopping (by_reading a (commands.fault r b)) = failed_read r
-  stopping (by_reading a (commands.no_memory_read b)) = other tt (λ d. cc)
+  stopping (by_reading a d (commands.fault r b)) = failed_read r
+  stopping (by_reading a d (commands.no_memory_read b)) = other tt (λ d. cc)
   stopping (by_program a b (loads.by_text e)) = other tt (λ d. cc)
   stopping (by_program a b (loads.not_built e c)) = other tt (λ d. cc)
   stopping (by_program a b (loads.by_loading e c g)) = other tt (λ d. cc)
-  stopping (by_program a b (loads.not_built_goal e c g h)) = other tt (λ d. cc)
   stopping (by_program a b loads.no_memory) = other tt (λ d. cc)
   stopping (by_query a b p (loads.by_text e)) = other tt (λ d. cc)
   stopping (by_query a b p (loads.not_built e c)) = other tt (λ d. cc)
   stopping (by_query a b p (loads.by_loading e c g)) = other tt (λ d. cc)
-  stopping (by_query a b p (loads.not_built_goal e c g h)) = other tt (λ d. cc)
   stopping (by_query a b p loads.no_memory) = other tt (λ d. cc)
   stopping (by_run a b l (reports.long e)) = other tt (λ d. cc)
   stopping (by_run a b l reports.no_memory) = other tt (λ d. cc)
@@ -126,15 +124,14 @@ module _ (c : Command) where
   pub wrote_run : Ended c → IsOutcome c.report.status → WroteRun c
   wrote_run (stopped stop q s w) d = absurd (not_both c.report.status (stopped_early stop q s) (late_run c.report.status d))
   wrote_run (ran e q (whole i w)) d = subst (λ (x : Report). WroteRun (record c { report = x })) (sym i) (record {
-    query = q.ready.query;
-    budget = q.budget;
-    program = q.ready.program;
-    asked = q.ready.asked;
-    read = q.ready.read;
+    options = q.options;
+    program = q.program;
+    asked = q.asked;
+    given = q.given;
     outcome = q.run.outcome;
     is_status = q.run.is_status;
     text = e.text.items;
-    run = record { loaded = q.loaded; is_loaded = q.ready.loaded; run = q.run.run };
+    run = record { loaded = q.loaded; is_loaded = q.is_loaded; run = q.run.run };
     wrote = w;
     count = refl;
   })
@@ -149,14 +146,13 @@ module _ (c : Command) where
   wrote_part (ran e q (whole i w)) d = absurd (no_write_fault e q (sym (status_of i) ∙ d))
   wrote_part (ran e q (part i l w f)) d = (
     subst (λ (x : Report). WrotePart (record c { report = x })) (sym i) (record {
-      query = q.ready.query;
-      budget = q.budget;
-      program = q.ready.program;
-      asked = q.ready.asked;
-      read = q.ready.read;
+      options = q.options;
+      program = q.program;
+      asked = q.asked;
+      given = q.given;
       outcome = q.run.outcome;
       text = e.text.items;
-      run = record { loaded = q.loaded; is_loaded = q.ready.loaded; run = q.run.run };
+      run = record { loaded = q.loaded; is_loaded = q.is_loaded; run = q.run.run };
       wrote = w;
       count = l;
     }),

@@ -1,5 +1,5 @@
 -- A command, and what its report says of it.
-use Rattle.std.specs.Prelude.{◌≡◌, ◌⊎◌, ℕ, false, ◌<◌, ◌≤◌, List, [], length, take, map, Option, Some, IfSome, Ok, Err}
+use Rattle.std.specs.Prelude.{◌≡◌, ◌⊎◌, ℕ, true, false, ◌<◌, ◌≤◌, List, [], length, take, map, Option, Some, None, IfSome, Ok, Err}
 use Rattle.std.specs.Io.KnownBytes.{prepend_known, append_known}
 use Rattle.akl_outside.specs.Counts.{Rose, next_count}
 use Rattle.akl_outside.specs.Transfer.{ReadSome}
@@ -14,7 +14,7 @@ use Rattle.akl_run.specs.declared.loaded.Loaded.{Loaded}
 use Rattle.akl_args.specs.declared.options.Options.{Options}
 use Rattle.akl_args.specs.declared.options.WordsError.{WordsError}
 use Rattle.akl_args.specs.Table.{reading}
-use Rattle.akl_run.specs.Words.{asking, is_built}
+use Rattle.akl_run.specs.Words.{is_built, query_of, program_of}
 use Rattle.akl_run.specs.Loads.{IsLoadedProgram, ProgramStops, QueryStops, IsLoadedFrom}
 use Rattle.akl_run.specs.Reports.{IsStatusOf, IsRunOf, RunStops, HasOnlyLongRuns}
 
@@ -46,16 +46,17 @@ pub record Command : Type 0 where
 
 -- ---- the words and the source
 
--- the words are a command with this query, which isn't too long, and this budget
-pub record IsAskedBy (words : List (List ℕ)) (query : List ℕ) (budget : ℕ) : Type 0 where
-  pub reads : reading words ≡ Ok (asking query budget)
-  pub short : length query ≤ 10000
+-- the words are a command that is built, with a query that isn't too long
+pub record IsAskedBy (words : List (List ℕ)) (o : Options) : Type 0 where
+  pub reads : reading words ≡ Ok o
+  pub built : is_built o ≡ true
+  pub short : length (query_of o) ≤ 10000
 
 -- the words are refused, ask for what isn't built, or have a query that is too long; want of memory is free
 pub data WordsStop (words : List (List ℕ)) : Status → Refusal → Type 0 where
   refused : {e : WordsError} → reading words ≡ Err e → WordsStop words Status.Words (Refusal.Words e)
   not_built : {o : Options} → reading words ≡ Ok o → is_built o ≡ false → WordsStop words Status.NotYet (Refusal.NotYet Part.Words)
-  long_query : {query : List ℕ} {budget : ℕ} → reading words ≡ Ok (asking query budget) → 10000 < length query → WordsStop words Status.Query (Refusal.TextOf (TooLong (length query)))
+  long_query : {o : Options} → reading words ≡ Ok o → is_built o ≡ true → 10000 < length (query_of o) → WordsStop words Status.Query (Refusal.TextOf (TooLong (length (query_of o))))
   no_memory : WordsStop words Status.NoMemory Refusal.Nothing
 
 -- these bytes were read of a source: all that it had, unless these are more than a program may have
@@ -70,14 +71,19 @@ pub data ReadStops (before after : Side) : Status → Refusal → Type 0 where
   fault : HasFaulted before after → ReadSome before.bytes after.bytes (λ n. n ≤ 1000000) → ReadStops before after Status.ReadFault Refusal.Nothing
   no_memory_read : ReadSome before.bytes after.bytes (λ n. n ≤ 1000001) → ReadStops before after Status.NoMemory Refusal.Nothing
 
+-- the program's text: what was read of the source, or what is made, and then the source isn't read
+abbrev pub IsGiven : Option (List ℕ) → Side → Side → List ℕ → Type 0
+IsGiven None before after program = IsRead before after program
+IsGiven (Some made) before after program = (after ≡ before) × (program ≡ made)
+
 -- What ends a command before anything is written, in the order of the work: the words, the source, the program, the query, its run.
 pub data Stops (words : List (List ℕ)) (before after : Side) : Status → Refusal → Type 0 where
   by_words : {s : Status} {f : Refusal} → WordsStop words s f → after ≡ before → Stops words before after s f
-  by_reading : {s : Status} {f : Refusal} {query : List ℕ} {budget : ℕ} → IsAskedBy words query budget → ReadStops before after s f → Stops words before after s f
-  by_program : {s : Status} {f : Refusal} {query program : List ℕ} {budget : ℕ} → IsAskedBy words query budget → IsRead before after program → ProgramStops program s f → Stops words before after s f
-  by_query : {s : Status} {f : Refusal} {query program : List ℕ} {budget : ℕ} {p : Program} → IsAskedBy words query budget → IsRead before after program → IsLoadedProgram program p → QueryStops p query s f
+  by_reading : {s : Status} {f : Refusal} {o : Options} → IsAskedBy words o → program_of o ≡ None → ReadStops before after s f → Stops words before after s f
+  by_program : {s : Status} {f : Refusal} {o : Options} {program : List ℕ} → IsAskedBy words o → IsGiven (program_of o) before after program → ProgramStops program s f → Stops words before after s f
+  by_query : {s : Status} {f : Refusal} {o : Options} {program : List ℕ} {p : Program} → IsAskedBy words o → IsGiven (program_of o) before after program → IsLoadedProgram program p → QueryStops p (query_of o) s f
       → Stops words before after s f
-  by_run : {s : Status} {f : Refusal} {query program : List ℕ} {budget : ℕ} {l : Loaded} → IsAskedBy words query budget → IsRead before after program → IsLoadedFrom program query l → RunStops l budget s f
+  by_run : {s : Status} {f : Refusal} {o : Options} {program : List ℕ} {l : Loaded} → IsAskedBy words o → IsGiven (program_of o) before after program → IsLoadedFrom program (query_of o) l → RunStops l o.budget s f
       → Stops words before after s f
 
 -- ---- how a command ends, by its texts
@@ -96,25 +102,27 @@ IsUnlessFault r s f = IsFault r.status ⊎ ((r.status ≡ s) × (r.refusal ≡ f
 abbrev pub WordsEnd : Command → Type 0
 WordsEnd c = (s : Status) (f : Refusal) → WordsStop c.words s f → (IsFault s → ⊥) → IsUnlessFault c.report s f
 
--- the command asks this query with this budget, and this is what the source has, up to one byte more than a program may have
-pub record Asks (c : Command) (query : List ℕ) (budget : ℕ) (program : List ℕ) : Type 0 where
-  pub asked : IsAskedBy c.words query budget
-  pub text : List ℕ
-  pub has : c.source.bytes ≡ Some text
-  pub front : program ≡ take 1000001 text
+-- this is the program's text: the front of what the source has, up to one byte more than a program may have, or what is made
+abbrev pub HasProgram : Option (List ℕ) → Side → List ℕ → Type 0
+HasProgram None source program = (text : List ℕ) × (source.bytes ≡ Some text) × (program ≡ take 1000001 text)
+HasProgram (Some made) source program = program ≡ made
+
+-- the command asks for this, over the program of this text
+pub record Asks (c : Command) (o : Options) (program : List ℕ) : Type 0 where
+  pub asked : IsAskedBy c.words o
+  pub has : HasProgram (program_of o) c.source program
 
 -- where the program's text is refused, or isn't built, the command ends so
 abbrev pub ProgramEnds : Command → Type 0
-ProgramEnds c = (query : List ℕ) (budget : ℕ) (program : List ℕ) (s : Status) (f : Refusal) → Asks c query budget program → ProgramStops program s f → (IsFault s → ⊥) → IsUnlessFault c.report s f
+ProgramEnds c = (o : Options) (program : List ℕ) (s : Status) (f : Refusal) → Asks c o program → ProgramStops program s f → (IsFault s → ⊥) → IsUnlessFault c.report s f
 
 -- where the program is loaded, and the query's text is refused over it, or isn't built, the command ends so
 abbrev pub QueryEnds : Command → Type 0
-QueryEnds c = (query : List ℕ) (budget : ℕ) (program : List ℕ) (p : Program) (s : Status) (f : Refusal) → Asks c query budget program → IsLoadedProgram program p → QueryStops p query s f → (IsFault s → ⊥)
-    → IsUnlessFault c.report s f
+QueryEnds c = (o : Options) (program : List ℕ) (p : Program) (s : Status) (f : Refusal) → Asks c o program → IsLoadedProgram program p → QueryStops p (query_of o) s f → (IsFault s → ⊥) → IsUnlessFault c.report s f
 
 -- where the query is loaded, and each run of it has an answer that is too long, the command says so
 abbrev pub LongAnswersEnd : Command → Type 0
-LongAnswersEnd c = (query : List ℕ) (budget : ℕ) (program : List ℕ) (l : Loaded) → Asks c query budget program → IsLoadedFrom program query l → HasOnlyLongRuns program query budget
+LongAnswersEnd c = (o : Options) (program : List ℕ) (l : Loaded) → Asks c o program → IsLoadedFrom program (query_of o) l → HasOnlyLongRuns program (query_of o) o.budget
     → IsUnlessFault c.report Status.NotYet (Refusal.NotYet Part.Answer)
 
 -- the statuses of outcomes
@@ -131,35 +139,33 @@ IsAnswered r = IsOutcome r.status ⊎ ((r.status ≡ Status.NotYet) × (r.refusa
 
 -- where the query is loaded, the source and the sink work and there is memory, the query is answered
 abbrev pub IsComplete : Command → Type 0
-IsComplete c = (query : List ℕ) (budget : ℕ) (program : List ℕ) (l : Loaded) → Asks c query budget program → IsLoadedFrom program query l → HasWorked c.source c.source_after → HasWorked c.sink c.sink_after
+IsComplete c = (o : Options) (program : List ℕ) (l : Loaded) → Asks c o program → IsLoadedFrom program (query_of o) l → HasWorked c.source c.source_after → HasWorked c.sink c.sink_after
     → (c.report.status ≡ Status.NoMemory → ⊥) → IsAnswered c.report
 
 -- ---- what was written
 
--- the run of the words' query over the source's program was written whole: what was appended is the text of the answered journal
+-- the run of the words' query over its program was written whole: what was appended is the text of the answered journal
 pub record WroteRun (c : Command) : Type 0 where
-  pub query : List ℕ
-  pub budget : ℕ
+  pub options : Options
   pub program : List ℕ
-  pub asked : IsAskedBy c.words query budget
-  pub read : IsRead c.source c.source_after program
+  pub asked : IsAskedBy c.words options
+  pub given : IsGiven (program_of options) c.source c.source_after program
   pub outcome : Outcome
   pub is_status : IsStatusOf c.report.status outcome
   pub text : List ℕ
-  pub run : IsRunOf program query budget outcome c.report.journal.items (map (λ rs. rs.items) c.report.receipts.items) text
+  pub run : IsRunOf program (query_of options) options.budget options.trace outcome c.report.journal.items (map (λ rs. rs.items) c.report.receipts.items) text
   pub wrote : c.sink_after.bytes ≡ append_known c.sink.bytes text
   pub count : c.report.written ≡ length text
 
 -- a front of the text was written
 pub record WrotePart (c : Command) : Type 0 where
-  pub query : List ℕ
-  pub budget : ℕ
+  pub options : Options
   pub program : List ℕ
-  pub asked : IsAskedBy c.words query budget
-  pub read : IsRead c.source c.source_after program
+  pub asked : IsAskedBy c.words options
+  pub given : IsGiven (program_of options) c.source c.source_after program
   pub outcome : Outcome
   pub text : List ℕ
-  pub run : IsRunOf program query budget outcome c.report.journal.items (map (λ rs. rs.items) c.report.receipts.items) text
+  pub run : IsRunOf program (query_of options) options.budget options.trace outcome c.report.journal.items (map (λ rs. rs.items) c.report.receipts.items) text
   pub wrote : c.sink_after.bytes ≡ append_known c.sink.bytes (take c.report.written text)
   pub count : c.report.written < length text
 

@@ -1,5 +1,5 @@
 -- What becomes of a loaded query, of which the clauses of private functions speak.
-use Rattle.std.specs.Prelude.{◌≡◌, ℕ, map}
+use Rattle.std.specs.Prelude.{◌≡◌, ℕ, Bool, map}
 use Rattle.akl_model.specs.Derivations.{Outcome}
 use Rattle.seq_engine.specs.declared.run.Finished.{Finished}
 use Rattle.seq_engine.specs.Runs.{AreKept, EndsAs}
@@ -17,10 +17,10 @@ pub record HasFinished (l : Loaded) (budget : ℕ) (f : Finished) : Type 0 where
   pub ends : EndsAs f.core f.end
 
 -- the query was run, with the status of the outcome
-pub record IsEvaluated (l : Loaded) (budget : ℕ) (e : Evaluated) : Type 0 where
+pub record IsEvaluated (l : Loaded) (budget : ℕ) (trace : Bool) (e : Evaluated) : Type 0 where
   pub outcome : Outcome
   pub is_status : IsStatusOf e.status outcome
-  pub run : IsRunBy l budget outcome e.journal.items (map (λ rs. rs.items) e.receipts.items) e.text.items
+  pub run : IsRunBy l budget trace outcome e.journal.items (map (λ rs. rs.items) e.receipts.items) e.text.items
 
 -- why it has no text
 abbrev pub StopsRun : Loaded → ℕ → Stop → Type 0

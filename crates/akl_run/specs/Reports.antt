@@ -1,5 +1,5 @@
 -- What a report of the top call says.
-use Rattle.std.specs.Prelude.{◌≡◌, ℕ, List, length}
+use Rattle.std.specs.Prelude.{◌≡◌, ℕ, Bool, List, length}
 use Rattle.akl_model.specs.declared.label.Label.{Label}
 use Rattle.akl_model.specs.declared.label.Receipt.{Receipt}
 use Rattle.akl_model.specs.Config.{Content}
@@ -23,20 +23,20 @@ IsStatusOf Status.Budget o = o ≡ out_of_budget
 IsStatusOf s o = ⊥
 
 -- the journal is a derivation from the query's box with an outcome, all labels are by worker 1 and stand once in its receipts,
--- and the text is that of the last configuration's answers and the outcome
-pub record IsRunBy (l : Loaded) (budget : ℕ) (outcome : Outcome) (journal : List Label) (receipts : List (List Receipt)) (text : List ℕ) : Type 0 where
+-- and the text is that of the journal, the last configuration's answers and the outcome
+pub record IsRunBy (l : Loaded) (budget : ℕ) (trace : Bool) (outcome : Outcome) (journal : List Label) (receipts : List (List Receipt)) (text : List ℕ) : Type 0 where
   pub answers : List Content
   pub run : IsRun l budget journal answers outcome
   pub one_worker : AreBy 1 journal
   pub one_list : length receipts ≡ 1
   pub are_receipts : AreReceipts 1 journal receipts
-  pub is_text : IsRunText l.program.templates.symbols answers outcome text
+  pub is_text : IsRunText l.program.templates.symbols trace journal answers outcome text
 
 -- the same of a query that is that of two texts
-pub record IsRunOf (program query : List ℕ) (budget : ℕ) (outcome : Outcome) (journal : List Label) (receipts : List (List Receipt)) (text : List ℕ) : Type 0 where
+pub record IsRunOf (program query : List ℕ) (budget : ℕ) (trace : Bool) (outcome : Outcome) (journal : List Label) (receipts : List (List Receipt)) (text : List ℕ) : Type 0 where
   pub loaded : Loaded
   pub is_loaded : IsLoadedFrom program query loaded
-  pub run : IsRunBy loaded budget outcome journal receipts text
+  pub run : IsRunBy loaded budget trace outcome journal receipts text
 
 -- some run of the query has an answer that is too long
 pub record HasLongRun (l : Loaded) (budget : ℕ) : Type 0 where

@@ -1,21 +1,30 @@
 -- What the words of a command ask for.
-use Rattle.std.specs.Prelude.{ℕ, Bool, true, false, ◌&&◌, ◌==◌, not, List, map, String, string_bytes}
+use Rattle.std.specs.Prelude.{ℕ, Bool, ◌==◌, List, map, Option, Some, None, String, string_bytes}
 use Rattle.akl_args.specs.declared.options.Job.{Job}
 use Rattle.akl_args.specs.declared.options.Job.TheVariants.{Query, Generate}
 use Rattle.akl_args.specs.declared.options.Options.{Options}
+use Rattle.akl_gen.specs.Generated.{lists, query_text}
 
 -- the bytes of each word
 abbrev pub bytes_of : {A : Type 0} → List (String A) → List (List ℕ)
 bytes_of words = map (λ word. string_bytes word) words
 
--- this query, with one worker and this budget, and without a trace
-abbrev pub asking : List ℕ → ℕ → Options
-asking query budget = record { job = Query query; workers = 1; budget = budget; trace = false }
-
-abbrev pub is_query : Job → Bool
-is_query (Query text) = true
-is_query (Generate number) = false
-
--- a query with one worker and without a trace, which are built
+-- one worker, which is built
 abbrev pub is_built : Options → Bool
-is_built o = is_query o.job && (o.workers == 1) && not o.trace
+is_built o = o.workers == 1
+
+-- the query that is run: the one that is given, or the one that is made from the number
+abbrev pub query_in : Job → List ℕ
+query_in (Query text) = text
+query_in (Generate number) = query_text number
+
+abbrev pub query_of : Options → List ℕ
+query_of o = query_in o.job
+
+-- the program that is made, where it isn't read from the source
+abbrev pub program_in : Job → Option (List ℕ)
+program_in (Query text) = None
+program_in (Generate number) = Some lists
+
+abbrev pub program_of : Options → Option (List ℕ)
+program_of o = program_in o.job

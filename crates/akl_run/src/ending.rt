@@ -60,7 +60,7 @@ pub fn push_ending(text: &mut Vec<u8>, ending: Ending) -> Result<(), AllocError>
         Ending::Failed => push_text(text, "failed\n"),
         Ending::Suspended { left } => {
             push_text(text, "suspended ")?;
-            push_number(text, left)?;
+            push_number(text, left as u64)?;
             push_text(text, "\n")
         }
         Ending::Budget => push_text(text, "budget\n"),

@@ -8,6 +8,7 @@ use crate::ending::{ending_of, push_ending, status_of};
 use crate::loaded::Loaded;
 use crate::report::{Part, Status};
 use crate::stop::Stop;
+use crate::trace::trace_text;
 use akl_model::{Label, Receipt};
 use answer_text::AnswerError;
 use root_answers::root_answers;
@@ -38,13 +39,13 @@ fn run_loaded(alloc: Global, loaded: &Loaded, budget: u64) -> Result<Finished, A
     }
 }
 
-/// Runs a loaded query, and writes out its answers and its outcome.
+/// Runs a loaded query, and writes out its labels, where a trace is asked, its answers and its outcome.
 ///
 /// `NotYet(Answer)` comes exactly where an answer has more than a million bytes.
-pub fn evaluate(alloc: Global, loaded: &Loaded, budget: u64) -> Result<Evaluated, Stop>
+pub fn evaluate(alloc: Global, loaded: &Loaded, budget: u64, trace: bool) -> Result<Evaluated, Stop>
     requires variables { HasVariables loaded.now.program loaded.now.query loaded.now.first_variable }
     requires shown { HasShownVariables loaded.now.query }
-    ensures run { IfOk result (IsEvaluated loaded.now budget) }
+    ensures run { IfOk result (IsEvaluated loaded.now budget trace) }
     ensures stop { IfErr result (StopsRun loaded.now budget) }
 {
     let finished = match run_loaded(alloc, loaded, budget) {
@@ -58,13 +59,15 @@ pub fn evaluate(alloc: Global, loaded: &Loaded, budget: u64) -> Result<Evaluated
         Err(AnswerError::Memory(error)) => return Err(Stop::from(error)),
     };
     let ending = ending_of(finished.end, roots, found.count);
-    let mut text = found.text;
+    let journal = finished.core.into_journal();
+    let mut text = trace_text(alloc, trace, &journal)?;
+    text.extend_from_slice(&found.text)?;
     push_ending(&mut text, ending)?;
     let mut lists = Vec::new(alloc);
     lists.push(finished.receipts)?;
     Ok(Evaluated {
         status: status_of(ending),
-        journal: finished.core.into_journal(),
+        journal,
         receipts: lists,
         text,
     })

@@ -11,6 +11,7 @@ mod report;
 mod run;
 mod stop;
 mod text;
+mod trace;
 mod words;
 
 pub use akl_args::WordsError;
@@ -18,3 +19,4 @@ pub use clause_checks::{Limit, LoadError};
 pub use refusal::refusal_line;
 pub use report::{Part, Refusal, Report, Status};
 pub use run::run_akl;
+pub use trace::trace_line;

@@ -1,24 +1,25 @@
 //! From the words and the source to a loaded query.
 
-ghost use Rattle.std.specs.Prelude.{IfOk, IfErr};
+ghost use Rattle.std.specs.Prelude.{◌≡◌, None, IfOk, IfErr, option_map};
 ghost use Rattle.akl_run.specs.Words.{bytes_of};
-ghost use Rattle.akl_run.specs.Commands.{side, IsRead, ReadStops, Stops};
+ghost use Rattle.akl_run.specs.Commands.{side, IsRead, IsGiven, ReadStops, Stops};
 ghost use Rattle.akl_run.specs.Steps.{IsReady};
 
 use crate::loaded::{Loaded, load_asked, load_program};
 use crate::stop::Stop;
-use crate::words::read_asked;
+use crate::words::{Asked, read_asked};
 use akl_outside::{Source, read_up_to};
 use std::alloc::Global;
 
 /// One byte more than a program may have.
 const MOST_READ: usize = 1_000_001;
 
-/// A query that is ready to run, and how many labels its run may make.
+/// A query that is ready to run, how many labels its run may make, and whether it is traced.
 #[derive(Drop)]
 pub struct Prepared {
     pub loaded: Loaded,
     pub budget: u64,
+    pub trace: bool,
 }
 
 // The source's bytes, up to one more than a program may have.
@@ -29,22 +30,44 @@ fn read<S: Source>(alloc: Global, program: &mut S) -> Result<Vec<u8>, Stop>
     Ok(read_up_to(alloc, program, MOST_READ)?)
 }
 
+// The program's text: the one that is made, or the source's bytes.
+fn program_text<S: Source>(
+    alloc: Global,
+    made: Option<Vec<u8>>,
+    program: &mut S,
+) -> Result<Vec<u8>, Stop>
+    ensures ok { IfOk result (λ bytes. IsGiven (option_map (λ text. text.items) made) (side (S.left program.old) (S.faults program.old)) (side (S.left program.new) (S.faults program.new)) bytes.items) }
+    ensures read { IfErr result (λ _. option_map (λ text. text.items) made ≡ None) }
+    ensures stop { IfErr result (λ stop. ReadStops (side (S.left program.old) (S.faults program.old)) (side (S.left program.new) (S.faults program.new)) stop.status stop.refusal) }
+{
+    match made {
+        Some(text) => Ok(text),
+        None => read(alloc, program),
+    }
+}
+
 /// Reads the words and the source, and loads the program and the query.
 pub fn prepare<S: Source>(
     alloc: Global,
     words: &[String],
     program: &mut S,
 ) -> Result<Prepared, Stop>
-    ensures ready { IfOk result (λ p. IsReady (bytes_of words.now) (side (S.left program.old) (S.faults program.old)) (side (S.left program.new) (S.faults program.new)) p.loaded p.budget) }
+    ensures ready { IfOk result (λ p. IsReady (bytes_of words.now) (side (S.left program.old) (S.faults program.old)) (side (S.left program.new) (S.faults program.new)) p.loaded p.budget p.trace) }
     ensures stop { IfErr result (λ stop. Stops (bytes_of words.now) (side (S.left program.old) (S.faults program.old)) (side (S.left program.new) (S.faults program.new)) stop.status stop.refusal) }
 {
-    let wanted = read_asked(alloc, words)?;
-    let bytes = read(alloc, program)?;
+    let Asked {
+        program: made,
+        query,
+        budget,
+        trace,
+    } = read_asked(alloc, words)?;
+    let bytes = program_text(alloc, made, program)?;
     let program = load_program(alloc, &bytes)?;
-    match load_asked(alloc, program, wanted.query.as_str().as_bytes()) {
+    match load_asked(alloc, program, &query) {
         Ok(loaded) => Ok(Prepared {
             loaded,
-            budget: wanted.budget,
+            budget,
+            trace,
         }),
         Err(stop) => Err(stop),
     }

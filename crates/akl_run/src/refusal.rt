@@ -20,7 +20,7 @@ fn push_key(line: &mut Vec<u8>, key: &Key) -> Result<(), AllocError>
     let symbol = symbol_text(alloc, key.symbol.as_str())?;
     line.extend_from_slice(&symbol)?;
     push_text(line, "/")?;
-    push_number(line, key.arity as usize)
+    push_number(line, key.arity as u64)
 }
 
 fn kind_of(limit: Limit) -> &'static str
@@ -45,7 +45,7 @@ fn push_words_cause(line: &mut Vec<u8>, error: &WordsError) -> Result<(), AllocE
         WordsError::Memory(_) => return Ok(()),
     };
     push_text(line, before)?;
-    push_number(line, at)
+    push_number(line, at as u64)
 }
 
 fn push_text_cause(line: &mut Vec<u8>, error: &SyntaxError) -> Result<(), AllocError>
@@ -59,7 +59,7 @@ fn push_text_cause(line: &mut Vec<u8>, error: &SyntaxError) -> Result<(), AllocE
         SyntaxError::Memory(_) => return Ok(()),
     };
     push_text(line, before)?;
-    push_number(line, number)?;
+    push_number(line, number as u64)?;
     push_text(line, after)
 }
 
@@ -83,7 +83,7 @@ fn push_loading_cause(line: &mut Vec<u8>, error: &LoadError) -> Result<(), Alloc
             push_text(line, "too many ")?;
             push_text(line, kind_of(*what))?;
             push_text(line, ", ")?;
-            push_number(line, *count as usize)
+            push_number(line, *count as u64)
         }
         LoadError::Memory(_) => Ok(()),
     }

@@ -13,7 +13,7 @@ pub fn push_text(line: &mut Vec<u8>, text: &str) -> Result<(), AllocError>
 }
 
 /// Adds a number in base ten.
-pub fn push_number(line: &mut Vec<u8>, number: usize) -> Result<(), AllocError>
+pub fn push_number(line: &mut Vec<u8>, number: u64) -> Result<(), AllocError>
     ensures { OnOk result (line.new.items ≡ line.old.items ++ decimal number) }
 {
     let alloc = *line.allocator();

@@ -1,60 +1,66 @@
 //! The words of a command.
 
-ghost use Rattle.std.specs.Prelude.{◌≡◌, IfOk, IfErr, IfSome, IfNone, false};
-ghost use Rattle.akl_run.specs.Words.{bytes_of, asking, is_built};
-ghost use Rattle.akl_run.specs.Commands.{IsAskedBy, WordsStop};
+ghost use Rattle.std.specs.Prelude.{◌≡◌, IfOk, IfErr, true, option_map};
+ghost use Rattle.akl_args.specs.Limits.{IsJobWithinLimits};
+ghost use Rattle.akl_run.specs.Words.{bytes_of, is_built, query_in, program_in};
+ghost use Rattle.akl_run.specs.Commands.{WordsStop};
+ghost use Rattle.akl_run.specs.Steps.{IsAsked};
 
 use crate::report::{Part, Status};
 use crate::stop::Stop;
 use akl_args::{Job, Options, read_words};
+use akl_gen::generate;
 use akl_syntax::check_query;
-use akl_terms::Text;
-use std::alloc::Global;
+use std::alloc::{AllocError, Global};
 
-/// What the words ask for: a query, and how many labels its run may make.
+/// What the words ask for: a query, how many labels its run may make, and whether it is traced.
 #[derive(Drop)]
 pub struct Asked {
-    pub query: Text,
+    /// The program's text, where it is made; else it is read from the source.
+    pub program: Option<Vec<u8>>,
+    pub query: Vec<u8>,
     pub budget: u64,
+    pub trace: bool,
 }
 
-// What is asked for, where it is a query, with one worker and without a trace.
-fn query_of(options: Options) -> Option<Asked>
-    ensures some { IfSome result (λ a. options ≡ asking a.query a.budget) }
-    ensures none { IfNone result (is_built options ≡ false) }
+// The program's text, where it is made, and the query's.
+fn texts_of(alloc: Global, job: &Job) -> Result<(Option<Vec<u8>>, Vec<u8>), AllocError>
+    requires { IsJobWithinLimits job.now }
+    ensures program { IfOk result (λ texts. option_map (λ text. text.items) texts.0 ≡ program_in job.now) }
+    ensures query { IfOk result (λ texts. texts.1.items ≡ query_in job.now) }
 {
-    let Options {
-        job,
-        workers,
-        budget,
-        trace,
-    } = options;
     match job {
-        Job::Query(query) => {
-            if workers == 1 && !trace {
-                Some(Asked { query, budget })
-            } else {
-                None
-            }
+        Job::Query(text) => {
+            let query = Vec::from_slice(alloc, text.as_str().as_bytes())?;
+            Ok((None, query))
         }
-        Job::Generate(_) => None,
+        Job::Generate(number) => {
+            let (program, query) = generate(alloc, *number)?;
+            Ok((Some(program), query))
+        }
     }
 }
 
 /// What the words ask for, where they are a command that is built, with a query that isn't too long.
 pub fn read_asked(alloc: Global, words: &[String]) -> Result<Asked, Stop>
-    ensures ok { IfOk result (λ a. IsAskedBy (bytes_of words.now) a.query a.budget) }
+    ensures ok { IfOk result (IsAsked (bytes_of words.now)) }
     ensures stop { IfErr result (λ stop. WordsStop (bytes_of words.now) stop.status stop.refusal) }
 {
     let options = match read_words(alloc, words) {
         Ok(options) => options,
         Err(error) => return Err(Stop::words(error)),
     };
-    let Some(asked) = query_of(options) else {
+    if options.workers != 1 {
         return Err(Stop::not_yet(Part::Words));
-    };
-    match check_query(asked.query.as_str().as_bytes()) {
-        Ok(()) => Ok(asked),
+    }
+    let (program, query) = texts_of(alloc, &options.job)?;
+    match check_query(&query) {
+        Ok(()) => Ok(Asked {
+            program,
+            query,
+            budget: options.budget,
+            trace: options.trace,
+        }),
         Err(error) => Err(Stop::text(Status::Query, error)),
     }
 }

@@ -1,9 +1,8 @@
 //! Whole commands over a source and a sink in memory.
 
-use akl_model::{Label, Rule};
+use akl_model::Label;
 use akl_outside::{MemorySink, MemorySource, NoGate, Source};
 use akl_run::{refusal_line, run_akl};
-use akl_terms::Place;
 use std::alloc::{AllocError, Global};
 use std::fmt::Write;
 use std::str::from_utf8;
@@ -13,7 +12,7 @@ use std::thread::Threads;
 
 // What a command answers: its status, its line on standard error, what was written, and its journal.
 #[derive(Drop)]
-struct Reply {
+pub struct Reply {
     status: u8,
     line: Vec<u8>,
     written: Vec<u8>,
@@ -41,7 +40,7 @@ fn run_words<R: Threads + Wait + Sync>(
 }
 
 // Words over a program, with a source that gives seven bytes at a time and a sink that takes five bytes at a time.
-fn command<R: Threads + Wait + Sync>(
+pub fn command<R: Threads + Wait + Sync>(
     rt: &R,
     alloc: Global,
     program: &str,
@@ -64,7 +63,7 @@ fn answer<R: Threads + Wait + Sync>(
 }
 
 // The status, the line and what was written, with ` / ` before each line.
-fn shown(alloc: Global, reply: &Reply) -> Result<String, Fail> {
+pub fn shown(alloc: Global, reply: &Reply) -> Result<String, Fail> {
     let mut shown = String::new(alloc);
     write!(shown, "{}", reply.status)?;
     for text in [from_utf8(&reply.line)?, from_utf8(&reply.written)?] {
@@ -76,7 +75,7 @@ fn shown(alloc: Global, reply: &Reply) -> Result<String, Fail> {
 }
 
 // A text in which `{a*3}` stands for `aaa`.
-fn expanded(alloc: Global, text: &str) -> Result<String, Fail> {
+pub fn expanded(alloc: Global, text: &str) -> Result<String, Fail> {
     let mut all = String::new(alloc);
     for piece in text.split('{') {
         let Some((repeated, after)) = piece.split_once('}') else {
@@ -118,11 +117,6 @@ const COMMANDS: &str = r"
  =>   => 6 / akl: query: syntax at 1
  =>  X = a. Y => 6 / akl: query: syntax at 1
  => X = 9223372036854775808 => 6 / akl: query: integer out of range at 4
- => X is 1 => 10 / akl: not yet: query
- => open_port(S,X) => 10 / akl: not yet: query
- => X = a, send(X,b) => 10 / akl: not yet: query
-p :- X < 1. => true => 10 / akl: not yet: program
-p :- open_port(X,Y) ? true. => true => 10 / akl: not yet: program
 p :- send(X,Y), q. => true => 5 / akl: program: undefined q/0
  => (zz ; X = b) => 10 / akl: not yet: query
  => X = f(X), X = f(f(X)) => 10 / akl: not yet: answer
@@ -141,13 +135,10 @@ p :- q. => true => 5 / akl: program: undefined q/0
 p :- 'it''s'([]), '[]'. => true => 5 / akl: program: undefined 'it\'s'/1
 p :- '[]'. => true => 5 / akl: program: undefined '[]'/0
 p :- q. q :- p, fail, X = Y. => true => 0 / answer 1 / done
-p :- q. q :- p, fail, X = Y, X is Y, send(X,Y). => true => 10 / akl: not yet: program
+p :- q. q :- p, fail, X = Y, X is Y, send(X,Y). => true => 0 / answer 1 / done
 p :- (q ; r). => true => 10 / akl: not yet: program
 true :- (q ; r). p => true => 5 / akl: program: syntax at 17
 member(X,[X|_]). member(X,[_|T]) :- member(X,T). => member(X) => 6 / akl: query: undefined member/1
-p(a). p(b). => p(c) => 1 / failed
-p(a) :- -> true. => p(X) => 2 / suspended 1
- => X = a, fail => 1 / failed
 member(X,[X|_]). member(X,[_|T]) => X = => 5 / akl: program: syntax at 17
 {p. *10001} => true => 5 / akl: program: too many clauses, 10001
 {p. *10000} => true => 5 / akl: program: too many clauses of one definition, 10000
@@ -179,56 +170,6 @@ fn commands_are_answered_or_refused(rt: HostRuntime) -> Result<(), Fail> {
     Ok(())
 }
 
-// The number of a journal's labels, and each with its rule and its place.
-fn shown_journal(alloc: Global, journal: &[Label]) -> Result<String, Fail> {
-    let mut shown = String::new(alloc);
-    write!(shown, "{}:", journal.len())?;
-    for label in journal {
-        let rule = match label.rule {
-            Rule::Tell => "tell",
-            Rule::Fork => "fork",
-            Rule::Fail => "fail",
-            _ => "another rule",
-        };
-        let (kind, name) = match label.place {
-            Place::Goal(name) => ("goal", name),
-            Place::Box(name) => ("box", name),
-        };
-        write!(shown, " {rule} {kind} {}.{}", name.worker, name.number)?;
-    }
-    Ok(shown)
-}
-
-/// Budgets, programs and queries, with the replies, and with the numbers of the journals' labels and the first of them.
-const BUDGETS: &str = r"
-2 =>  => A = a, B = b => 0 / answer 1 / A = a / B = b / done => 2: tell goal 0.2 tell goal 0.3
-1 =>  => A = a, B = b => 3 / budget => 1: tell goal 0.2
-4 => p(a). p(b). => p(c) => 1 / failed => 4: fork goal 0.2 fail box 1.0 fail box 1.2 fail box 0.0
-3 => p(a). p(b). => p(c) => 3 / budget => 3: fork goal 0.2 fail box 1.0 fail box 1.2
-3 => p :- p ? true. => p => 3 / budget => 3: fork goal 0.2 fork goal 1.2 fork goal 1.5
-10 => p(a) :- -> true. => p(X) => 2 / suspended 1 => 1: fork goal 0.2
-100 => p :- p ? true. => p => 3 / budget => 100: fork goal 0.2
-1000 => p :- p ? true. => p, p, p, p, p, p, p, p, p, p => 3 / budget => 1000: fork goal 0.2
-4 => member(X,[X|_]). member(X,[_|T]) :- member(X,T). => member(X,[]) => 1 / failed => 4: fork goal 0.2 fail box 1.0 fail box 1.2 fail box 0.0
-";
-
-#[test]
-fn a_run_makes_as_many_labels_as_its_budget(rt: HostRuntime) -> Result<(), Fail> {
-    let alloc = rt.alloc();
-    for case in BUDGETS.lines().skip(1) {
-        let (budget, rest) = case.split_once(" => ").ok_or("budget")?;
-        let (program, rest) = rest.split_once(" => ").ok_or("program")?;
-        let (query, rest) = rest.split_once(" => ").ok_or("query")?;
-        let (reply, labels) = rest.split_once(" => ").ok_or("labels")?;
-        let words = ["--query", query, "--budget", budget];
-        let found = command(&rt, alloc, program, &words)?;
-        assert_eq!(rt; shown(alloc, &found)?.as_str(), reply, "{case}");
-        let journal = shown_journal(alloc, &found.journal)?;
-        assert!(rt; journal.as_str().starts_with(labels), "{case}");
-    }
-    Ok(())
-}
-
 /// Words, parted by commas, and their replies over an empty program.
 const WORDS: &str = r"
 --query,true,--workers,1,--budget=100000 => 0 / answer 1 / done
@@ -240,8 +181,11 @@ const WORDS: &str = r"
 --query,true,--budget => 4 / akl: words: missing at word 2
 --budget,2 => 4 / akl: words: missing at word 2
 --query,true,--workers,2 => 10 / akl: not yet: words
---query,true,--trace => 10 / akl: not yet: words
---generate,1 => 10 / akl: not yet: words
+--query=-1 = X => 0 / answer 1 / X = -1 / done
+--query=X = a,--budget,0 => 4 / akl: words: bad value at word 2
+--trace,--query,true,--trace => 4 / akl: words: repeated at word 3
+--generate,1,--query,true => 4 / akl: words: repeated at word 2
+--generate,4294967296 => 4 / akl: words: bad value at word 1
 ";
 
 #[test]

@@ -1,0 +1,92 @@
+//! The lines of a trace.
+
+ghost use Rattle.std.specs.Prelude.{◌≡◌, ◌++◌, IfOk, OnOk};
+ghost use Rattle.akl_run.specs.Traces.{rule_text, name_text, place_text, alternative_text, trace_line, trace_text};
+
+use crate::text::{push_number, push_text};
+use akl_model::{Label, Rule};
+use akl_terms::{Name, Place};
+use std::alloc::{AllocError, Global};
+
+fn rule_text(rule: Rule) -> &'static str
+    ensures { result.now ≡ rule_text rule }
+{
+    match rule {
+        Rule::Tell => "tell",
+        Rule::Fork => "fork",
+        Rule::Eval => "eval",
+        Rule::Open => "open",
+        Rule::Send => "send",
+        Rule::Fail => "fail",
+        Rule::Cut => "cut",
+        Rule::Promote => "promote",
+        Rule::Split => "split",
+    }
+}
+
+fn push_name(line: &mut Vec<u8>, name: Name) -> Result<(), AllocError>
+    ensures { OnOk result (line.new.items ≡ line.old.items ++ name_text name) }
+{
+    push_number(line, name.worker as u64)?;
+    push_text(line, ".")?;
+    push_number(line, name.number)
+}
+
+fn push_place(line: &mut Vec<u8>, place: Place) -> Result<(), AllocError>
+    ensures { OnOk result (line.new.items ≡ line.old.items ++ place_text place) }
+{
+    match place {
+        Place::Goal(name) => {
+            push_text(line, " goal ")?;
+            push_name(line, name)
+        }
+        Place::Box(name) => {
+            push_text(line, " box ")?;
+            push_name(line, name)
+        }
+    }
+}
+
+fn push_alternative(line: &mut Vec<u8>, alternative: Option<Name>) -> Result<(), AllocError>
+    ensures { OnOk result (line.new.items ≡ line.old.items ++ alternative_text alternative) }
+{
+    if let Some(name) = alternative {
+        push_text(line, " of ")?;
+        push_name(line, name)?;
+    }
+    Ok(())
+}
+
+/// The line of a label that is the one of this number in its journal, counted from 1.
+pub fn trace_line(alloc: Global, at: u64, label: &Label) -> Result<Vec<u8>, AllocError>
+    ensures { IfOk result (λ line. line.items ≡ trace_line at label.now) }
+{
+    let mut line = Vec::new(alloc);
+    push_text(&mut line, "step ")?;
+    push_number(&mut line, at)?;
+    push_text(&mut line, " ")?;
+    push_text(&mut line, rule_text(label.rule))?;
+    push_place(&mut line, label.place)?;
+    push_alternative(&mut line, label.alternative)?;
+    push_text(&mut line, " by ")?;
+    push_number(&mut line, label.worker as u64)?;
+    push_text(&mut line, "\n")?;
+    Ok(line)
+}
+
+/// A line for each label of a journal, where a trace is asked.
+pub fn trace_text(alloc: Global, trace: bool, journal: &[Label]) -> Result<Vec<u8>, AllocError>
+    ensures { IfOk result (λ text. text.items ≡ trace_text trace journal.now) }
+{
+    let mut text = Vec::new(alloc);
+    if !trace {
+        return Ok(text);
+    }
+    let mut at: u64 = 0;
+    for label in journal {
+        at += 1;
+        let line = trace_line(alloc, at, label)?;
+        text.extend_from_slice(&line)?;
+    }
+    Ok(text)
+}

@@ -1,0 +1,112 @@
+//! What each rule does: whole commands with their journals.
+
+use crate::commands::{command, expanded, shown};
+use std::alloc::Global;
+use std::sync::Wait;
+use std::test::Fail;
+use std::thread::Threads;
+
+const LISTS: &str = "append([],Y,Z) :- -> Z = Y. append([X|Xs],Y,Z) :- -> Z = [X|Zs], append(Xs,Y,Zs). nrev([],R) :- -> R = []. nrev([X|Xs],R) :- -> nrev(Xs,S), append(S,[X],R). member(X,[X|_]). member(X,[_|T]) :- member(X,T).";
+
+const MERGE: &str = "merge([X|Xs],Ys,Zs) :- | Zs = [X|Z], merge(Xs,Ys,Z). merge(Xs,[Y|Ys],Zs) :- | Zs = [Y|Z], merge(Xs,Ys,Z). merge([],Ys,Zs) :- | Zs = Ys. merge(Xs,[],Zs) :- | Zs = Xs.";
+
+const COUNT: &str = "count([],N,R) :- -> R = N. count([_|S],N,R) :- -> M is N + 1, count(S,M,R).";
+
+const THERE: &str = "t(a,R) :- -> R = 1. t(_,R) :- -> R = 2.";
+
+/// Words, programs, queries and replies, of programs without arithmetic and ports.
+const RULES: &str = r"
+ => LISTS => append([a,b],[c],Z) => 0 / answer 1 / Z = [a,b,c] / done
+ => LISTS => append([a,b],L,Z), L = [c] => 0 / answer 1 / L = [c] / Z = [a,b,c] / done
+ => LISTS => append(L,[c],Z) => 2 / suspended 1
+ => LISTS => nrev([1,2,3,4,5,6,7,8,9,10,11,12,13,14,15,16,17,18,19,20,21,22,23,24,25,26,27,28,29,30],R) => 0 / answer 1 / R = [30,29,28,27,26,25,24,23,22,21,20,19,18,17,16,15,14,13,12,11,10,9,8,7,6,5,4,3,2,1] / done
+ => p(a) :- -> true. => p(X) => 2 / suspended 1
+ => p(a) :- -> true. => p(X), X = a => 0 / answer 1 / X = a / done
+ => p(a) :- -> true. => p(X), X = b => 1 / failed
+ => THERE => t(X,R) => 2 / suspended 1
+ => THERE => t(a,R) => 0 / answer 1 / R = 1 / done
+ => THERE => t(b,R) => 0 / answer 1 / R = 2 / done
+ => t(a,R) :- | R = 1. t(_,R) :- | R = 2. => t(X,R) => 0 / answer 1 / X = _1 / R = 2 / done
+ => c(X) :- X = a | true. => c(Y) => 2 / suspended 1
+ => c(X) :- X = a | true. => c(Y), Y = a => 0 / answer 1 / Y = a / done
+ => eq(X,X) :- -> true. => eq(A,B) => 2 / suspended 1
+ => eq(X,X) :- -> true. => eq(A,B), A = B => 0 / answer 1 / A = _1 / B = _1 / done
+ => p(a). q(b). => p(X) => 0 / answer 1 / X = a / done
+ => p(a). q(b). => p(X), q(X) => 1 / failed
+ => p(X) :- X = f(Y) ? q(Y). q(a). => p(Z) => 0 / answer 1 / Z = f(a) / done
+ => p :- fail ? true. => p => 1 / failed
+ => p :- true -> fail. => p => 1 / failed
+ => n(X) :- p(X) -> fail. n(X) :- -> true. p(a). => n(b) => 0 / answer 1 / done
+ => n(X) :- p(X) -> fail. n(X) :- -> true. p(a). => n(a) => 1 / failed
+ => n(X) :- p(X) -> fail. n(X) :- -> true. p(a). => n(X) => 2 / suspended 1
+";
+
+/// The same with arithmetic and ports.
+const GOALS: &str = r"
+ =>  => X is 1+2*3 => 0 / answer 1 / X = 7 / done
+ =>  => X is 9223372036854775807 + 1 => 2 / suspended 1
+ =>  => X is -7 // 2, Y is -7 mod 2 => 0 / answer 1 / X = -3 / Y = 1 / done
+ =>  => X is foo + Y => 2 / suspended 1
+ =>  => X is Y + 1, Y is 2 * Z, Z = 4 => 0 / answer 1 / X = 9 / Y = 8 / Z = 4 / done
+ =>  => 1 < 2, 2 >= 2, 3 =\= 4, 1 + 1 =:= 2, 2 > 1, 1 =< 1 => 0 / answer 1 / done
+ =>  => 1 > 2 => 1 / failed
+ =>  => X < 2 => 2 / suspended 1
+ =>  => X < 2, X = 3 => 1 / failed
+ =>  => open_port(P,S), send(a,P), P = Q => 0 / answer 1 / P = port / S = [a|_1] / Q = port / done
+ =>  => open_port(P,S), P = a => 1 / failed
+ =>  => send(a,P) => 2 / suspended 1
+ => u(P) :- send(a,P) ? true. => open_port(P,S), u(P) => 2 / suspended 1
+ => COUNT => open_port(P,S), send(a,P), send(b,P), count(S,0,R) => 2 / suspended 1
+ => COUNT => count([a,b,c],0,R) => 0 / answer 1 / R = 3 / done
+";
+
+/// The same with traces and budgets.
+const TRACES: &str = r"
+--trace =>  => X = a => 0 / step 1 tell goal 0.2 by 1 / answer 1 / X = a / done
+--trace,--budget,3 => p :- -> p. => p => 3 / step 1 fork goal 0.2 by 1 / step 2 promote goal 0.2 of 1.0 by 1 / step 3 fork goal 1.2 by 1 / budget
+--budget,10 => p :- -> p. => p => 3 / budget
+--trace,--budget,2 =>  => A = a, B = b => 0 / step 1 tell goal 0.2 by 1 / step 2 tell goal 0.3 by 1 / answer 1 / A = a / B = b / done
+--trace,--budget,1 =>  => A = a, B = b => 3 / step 1 tell goal 0.2 by 1 / budget
+--trace => p(a). p(b). => p(c) => 1 / step 1 fork goal 0.2 by 1 / step 2 fail box 1.0 by 1 / step 3 fail box 1.2 by 1 / step 4 fail box 0.0 by 1 / failed
+--trace => THERE => t(a,R) => 0 / step 1 fork goal 0.2 by 1 / step 2 cut goal 0.2 of 1.0 by 1 / step 3 promote goal 0.2 of 1.0 by 1 / step 4 tell goal 1.4 by 1 / answer 1 / R = 1 / done
+";
+
+// A program by its name, or as it is written.
+fn named(text: &str) -> &str {
+    match text {
+        "LISTS" => LISTS,
+        "MERGE" => MERGE,
+        "COUNT" => COUNT,
+        "THERE" => THERE,
+        _ => text,
+    }
+}
+
+// Each line of a table has words, a program, a query and the reply.
+fn check<R: Threads + Wait + Sync>(rt: &R, alloc: Global, case: &str) -> Result<(), Fail> {
+    let (options, rest) = case.split_once(" => ").ok_or("words")?;
+    let (program, rest) = rest.split_once(" => ").ok_or("program")?;
+    let (query, reply) = rest.split_once(" => ").ok_or("query")?;
+    let mut words = Vec::new(alloc);
+    words.push("--query")?;
+    words.push(query)?;
+    if !options.is_empty() {
+        for word in options.split(',') {
+            words.push(word)?;
+        }
+    }
+    let found = shown(alloc, &command(rt, alloc, named(program), &words)?)?;
+    assert_eq!(rt; found.as_str(), reply, "{case}");
+    Ok(())
+}
+
+#[test]
+fn each_rule_applies_where_it_may(rt: HostRuntime) -> Result<(), Fail> {
+    let alloc = rt.alloc();
+    for table in [RULES, GOALS, TRACES] {
+        for case in table.lines().skip(1) {
+            check(&rt, alloc, case)?;
+        }
+    }
+    Ok(())
+}
