@@ -5,3 +5,6 @@ pub mod Loading
 pub mod Reading
 pub mod Exact
 pub mod Reported
+pub mod Traced
+pub mod Workers
+pub mod Given

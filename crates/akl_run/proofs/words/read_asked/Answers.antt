@@ -1,25 +1,26 @@
-use Rattle.std.proofs.Common.{◌≡◌, ◌<◌, ◌∙◌, ap, subst, length, Ok}
+use Rattle.std.proofs.Common.{◌≡◌, ◌<◌, ◌∙◌, sym, subst, length}
 use Rattle.akl_lexemes.specs.declared.error.SyntaxError.TheVariants.{TooLong}
-use Rattle.akl_args.specs.Table.{reading}
 use Rattle.akl_run.specs.declared.report.Status.{Status}
 use Rattle.akl_run.specs.declared.report.Refusal.{Refusal}
-use Rattle.akl_run.specs.Words.{bytes_of, asking}
+use Rattle.akl_run.specs.Words.{bytes_of, query_of}
 use Rattle.akl_run.specs.Stops.{IsStop}
-use Rattle.akl_run.specs.Commands.{WordsStop, not_built, long_query}
-use Rattle.akl_run.proofs.Loading.{stops_as, words_stops}
+use Rattle.akl_run.specs.Commands.{WordsStop, not_built, long_query, no_memory}
+use Rattle.akl_run.proofs.Loading.{stops_as, from_error, words_stops}
+use Rattle.akl_run.proofs.Workers.{one_worker, other_workers}
 use Rattle.akl_run.proofs.words.read_asked.Goals as goal
 
 pub returns-in-Err-clause-stop : goal.returns-in-Err-clause-stop
 returns-in-Err-clause-stop c = words_stops (bytes_of c.args.words.now) c.in-Err.error c.words.result c.in-Err.ensures.refusal c.words.ensures
 
-pub returns-in_default-clause-stop : goal.returns-in_default-clause-stop
-returns-in_default-clause-stop c =
-    stops_as (WordsStop (bytes_of c.args.words.now)) _ _ c.not_yet.result c.not_yet.ensures (not_built c.in-Ok.ensures.options c.in_default.ensures.none)
+pub returns-then-options-ne1-clause-stop : goal.returns-then-options-ne1-clause-stop
+returns-then-options-ne1-clause-stop c = stops_as (WordsStop (bytes_of c.args.words.now)) _ _ c.not_yet.result c.not_yet.ensures (not_built c.in-Ok.ensures.options (other_workers c.in-Ok.options c.if-options-ne1.true))
 
-pub returns-in-Err-check_query-clause-stop : goal.returns-in-Err-check_query-clause-stop
-returns-in-Err-check_query-clause-stop c =
-    let i : IsStop Status.Query (Refusal.TextOf (TooLong (length c.as_bytes.result.now))) c.text.result = rw c.in-Err-check_query.ensures.count at c.text.ensures in
-    let bytes : c.as_bytes.result.now ≡ c.in-Some.asked.query = c.as_bytes.ensures.value ∙ c.as_str.ensures in
-    let reads : reading (bytes_of c.args.words.now) ≡ Ok (asking c.in-Some.asked.query c.in-Some.asked.budget) = c.in-Ok.ensures.options ∙ ap Ok c.in-Some.ensures.some in
+pub returns-in_err-program-clause-stop : goal.returns-in_err-program-clause-stop
+returns-in_err-program-clause-stop c = from_error c.from_residual.result c.from_residual.ensures.1 (λ stop p. stops_as (WordsStop (bytes_of c.args.words.now)) _ _ stop p no_memory)
+
+pub returns-clause-stop : goal.returns-clause-stop
+returns-clause-stop c =
+    let bytes : c.deref.result.now ≡ query_of c.in-Ok.options = c.deref.ensures.value ∙ c.in_ok-program.ensures.query in
+    let i : IsStop Status.Query (Refusal.TextOf (TooLong (length c.deref.result.now))) c.text.result = rw c.in-Err-check_query.ensures.count at c.text.ensures in
     stops_as (WordsStop (bytes_of c.args.words.now)) _ _ c.text.result (subst (λ text. IsStop Status.Query (Refusal.TextOf (TooLong (length text))) c.text.result) bytes i)
-    (long_query reads (subst (λ text. 10000 < length text) bytes c.in-Err-check_query.ensures.long))
+    (long_query c.in-Ok.ensures.options (one_worker c.in-Ok.options c.if-options-ne1.false) (subst (λ text. 10000 < length text) bytes c.in-Err-check_query.ensures.long))
