@@ -1,5 +1,5 @@
 -- A view of a place, by what rows say.
-use Rattle.std.proofs.Common.{◌≡◌, ℕ, ◌+◌, ◌<◌, ◌≤◌, true, false, List, [], ◌∷◌, ◌++◌, length, reverse, map, Option, Some, None, refl, sym, ap, subst, ◌∙◌, inl, inr, arith}
+use Rattle.std.proofs.Common.{◌≡◌, ℕ, ◌+◌, ◌<◌, ◌≤◌, true, List, [], ◌∷◌, ◌++◌, length, reverse, map, Option, Some, None, refl, sym, ap, subst, ◌∙◌, inl, inr, arith}
 use Rattle.std.specs.Prelude.{option_map, option_and_then, IsSome, is_some, slice_index}
 use Rattle.std.specs.Map.{lookup}
 use Rattle.akl_terms.specs.declared.name.Name.{Name}
@@ -170,18 +170,6 @@ module _ (t : TableValue) (c : Config) (u : Unfolds (table_of t) c) (once : (m :
   seen_at (Place.Goal g) (Sight.Choice op) f e h = subst (AreSeenFrom (names_down_to f)) (sym (ap alternatives_held h.1)) (seen_all g f op h.0 e h.1 h.0 (λ b gs x. x), only_seen g f op h.0 e h.1 h.0 (λ b gs x. x))
   seen_at (Place.Goal g) (Sight.Box o) f e h = absurd h
   seen_at (Place.Box n) sight f e h = (tt, refl)
-
-pub unseen : (t : TableValue) (place : Place) → sight_in t place ≡ None → is_there (table_of t) place ≡ false
-unseen t (Place.Goal g) e = on (lookup (same_name g) t.goals) e
-  where
-    on : (o : Option GoalEntry) → option_map {U = Name × Sight} (λ (x : GoalEntry). (x.home, sight_held x.held)) o ≡ None → is_some (option_map (tables.goal_row t.program.templates.nodes) o) ≡ false
-    on None e = refl
-    on (Some x) e = cc
-unseen t (Place.Box n) e = on (lookup (same_name n) t.boxes) e
-  where
-    on : (o : Option BoxEntry) → option_map {U = Name × Sight} (λ (x : BoxEntry). (n, Sight.Box x.failing)) o ≡ None → is_some (option_map (tables.box_row t.program.templates.nodes) o) ≡ false
-    on None e = refl
-    on (Some x) e = cc
 
 module _ (t : TableValue) (journal : List Label) (i : IsTableOf rules_in_force (run_of t journal) (table_of t)) where
   stood : (m : Name) → times m i.config.roots ≤ 1

@@ -5,3 +5,4 @@ pub mod Layers
 pub mod Known
 pub mod Replaced
 pub mod Resolved
+pub mod Joining

@@ -3,3 +3,4 @@ pub mod Kept
 pub mod Chained
 pub mod Telling
 pub mod Asking
+pub mod Promoting

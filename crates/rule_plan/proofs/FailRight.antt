@@ -26,10 +26,10 @@ use Rattle.box_tree.specs.Tables.{table_of}
 use Rattle.box_tree.specs.Views.{ViewValue, IsViewOf}
 use Rattle.box_tree.specs.Plans.{IsRead, IsRight}
 use Rattle.rule_plan.specs.Failed.{FailsFor}
-use Rattle.rule_plan.specs.Planned.{HasNoRule}
+use Rattle.guard_plan.specs.Planned.{HasNoRule}
 use Rattle.rule_plan.proofs.NoRule.{box_none}
-use Rattle.rule_plan.proofs.Sites.{goal_there, box_there, stand, found, whole_stands, shows_at}
-use Rattle.rule_plan.proofs.Storing.{told_stands}
+use Rattle.guard_plan.proofs.Sites.{goal_there, box_there, stand, found, whole_stands, shows_at}
+use Rattle.guard_plan.proofs.Chains.{told_stands}
 
 abbrev pub fail_label : ViewValue → Label
 fail_label v = record { rule = Rule.Fail; place = v.place; alternative = None; worker = v.worker }

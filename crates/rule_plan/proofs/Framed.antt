@@ -12,6 +12,7 @@ use Rattle.rational_unify.proofs.Taking.{take-all}
 use Rattle.local_store.specs.Stored.{Stored}
 use Rattle.local_store.specs.Chained.{IsSolvedChain, IsKnown}
 use Rattle.local_store.proofs.Layers.{from-last}
+use Rattle.guard_plan.proofs.Chains.{long_push}
 use Rattle.rule_plan.specs.Made.{store_with, MoreKnown}
 
 -- a store without bindings leaves a chain as known as it was, and one more
@@ -19,10 +20,6 @@ take_front : (k : ℕ) (ss ts : List Stored) → k ≤ length ss → take k (ss 
 take_front zero ss ts h = refl
 take_front (suc k) [] ts h = absurd (omega arith)
 take_front (suc k) (s ∷ ss) ts h = ap (λ (l : List Stored). s ∷ l) (take_front k ss ts (omega arith))
-
-long_push : (ss : List Stored) (s : Stored) → length (ss ++ s ∷ []) ≡ length ss + 1
-long_push [] s = omega arith
-long_push (r ∷ ss) s = let h : length (ss ++ s ∷ []) ≡ length ss + 1 = long_push ss s in omega arith
 
 framed : (nodes : List Node) (path : List Stored) (frame : Name) → IsSolvedChain nodes path → IsSolvedChain nodes (path ++ store_with frame ∷ [])
 framed nodes path frame h = subst (λ (l : List (Var × Term)). IsFormOf nodes l (IsTold (bindings_in nodes l))) (sym (from-last path (store_with frame))) h

@@ -3,10 +3,9 @@ use Rattle.std.proofs.Common.{◌≡◌, ℕ, ◌<◌, ◌≤◌, ◌^◌, List,
 use Rattle.std.specs.Prelude.{slice_get}
 use Rattle.akl_terms.specs.declared.name.Name.{Name}
 use Rattle.akl_terms.specs.declared.program.Definition.{Definition}
-use Rattle.akl_terms.specs.declared.program.Op.{Op}
 use Rattle.akl_terms.specs.declared.program.Program.{Program}
 use Rattle.akl_terms.specs.Tree.{Tree}
-use Rattle.akl_model.specs.Config.{Atom, Boxes, Held, an_atom, a_choice, Found}
+use Rattle.akl_model.specs.Config.{Atom, Held, an_atom, Found}
 use Rattle.akl_model.specs.Instances.{drawn_by}
 use Rattle.akl_model.specs.Rules.{Change, tell, fork_by, fork}
 use Rattle.akl_model.proofs.Options.{some_value}
@@ -19,9 +18,6 @@ none_made : (c : Change) → None ≡ Some c → ⊥
 none_made c e = cc
 
 -- what isn't an equation, and a call that has no definition or draws too many names
-
-pub choice_idle : (p : Program) (o : Op) (bs : Boxes) → IsIdle p (a_choice o bs)
-choice_idle p o bs = record { tells = λ g f. refl; forks = λ w next g f c e few. none_made c e }
 
 -- neither an equation nor a call
 abbrev pub IsOther : Atom → Type 0

@@ -1,4 +1,3 @@
-pub mod Sites
 pub mod Storing
 pub mod Idle
 pub mod NoRule

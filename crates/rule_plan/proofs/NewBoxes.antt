@@ -23,7 +23,8 @@ use Rattle.box_tree.specs.declared.step.NewBox.{NewBox}
 use Rattle.box_tree.specs.Tables.{goal_atom, new_box}
 use Rattle.rule_plan.specs.declared.heads.Call.{Call}
 use Rattle.rule_plan.specs.Made.{heads, heads_of, goals_under, named_under, store_with, IsHeadStore, IsMade, AreMade}
-use Rattle.rule_plan.proofs.Storing.{tells_stands, told_over, around_push, innermost_push}
+use Rattle.guard_plan.proofs.Chains.{around_push, innermost_push}
+use Rattle.rule_plan.proofs.Storing.{tells_stands, told_over}
 
 -- equations of arguments with head arguments
 pub heads_equations : (nodes : List Node) (f : Name) (i n : ℕ) (g : Name) (j m : ℕ) → equations_in nodes (heads f i n g j m) ≡ head_equations (terms_from nodes f i n) (terms_from nodes g j m)

@@ -1,5 +1,5 @@
 -- What a store stands for to which equations were told.
-use Rattle.std.proofs.Common.{◌≡◌, ℕ, List, [], ◌∷◌, ◌++◌, refl, ◌∙◌, ap, subst, inl, inr, append-nil}
+use Rattle.std.proofs.Common.{◌≡◌, ℕ, List, [], ◌∷◌, ◌++◌, ◌∙◌, ap, subst, inl, inr, append-nil}
 use Rattle.akl_terms.specs.declared.term.Node.{Node}
 use Rattle.akl_terms.specs.declared.term.Equation as code
 use Rattle.akl_terms.specs.Tree.{Tree}
@@ -10,30 +10,11 @@ use Rattle.akl_terms.proofs.StandingLaws.{StandFor-follows, StandFor-back, Stand
 use Rattle.constraint_laws.proofs.StandsGrow.{stands_with_more}
 use Rattle.rational_unify.specs.Solving.{bindings_in, equations_in}
 use Rattle.local_store.specs.Stored.{Stored}
-use Rattle.local_store.specs.Chained.{bindings_from, ToldBy, innermost, around, replaced}
+use Rattle.local_store.specs.Chained.{ToldBy, around, replaced}
 use Rattle.local_store.specs.Telling.{ToldAlso, Tells}
-use Rattle.local_store.proofs.Layers.{bindings-either, bindings-left, bindings-right}
 use Rattle.table_laws.specs.Rows.{told_in}
 use Rattle.table_laws.proofs.Stores.{told_join}
-
--- chains list the bindings of inner stores first, tables those of outer ones
-
-from_told : (nodes : List Node) (ss : List Stored) (s t : Tree) → ToldBy nodes ss s t → IsTold (told_in nodes ss) s t
-from_told nodes [] s t h = h
-from_told nodes (x ∷ ss) s t h = elim (bindings-either nodes (bindings_from ss) x.bindings s t h) [
-  | inl y ↦ IsTold-right (bindings_in nodes x.bindings) (told_in nodes ss) s t (from_told nodes ss s t y)
-  | inr y ↦ IsTold-left (bindings_in nodes x.bindings) (told_in nodes ss) s t y
-]
-
-to_told : (nodes : List Node) (ss : List Stored) (s t : Tree) → IsTold (told_in nodes ss) s t → ToldBy nodes ss s t
-to_told nodes [] s t h = h
-to_told nodes (x ∷ ss) s t h = elim (IsTold-either (bindings_in nodes x.bindings) (told_in nodes ss) s t h) [
-  | inl y ↦ bindings-right nodes (bindings_from ss) x.bindings s t y
-  | inr y ↦ bindings-left nodes (bindings_from ss) x.bindings s t (to_told nodes ss s t y)
-]
-
-pub told_stands : (nodes : List Node) (ss : List Stored) → StandFor (ToldBy nodes ss) (IsTold (told_in nodes ss))
-told_stands nodes ss = StandFor-follows (λ s t m. told (from_told nodes ss s t m)) (λ s t m. told (to_told nodes ss s t m))
+use Rattle.guard_plan.proofs.Chains.{from_told, to_told, told_stands}
 
 -- what the stores around and the new store tell, stands for what all stores told and the equations
 pub tells_stands : (nodes : List Node) (ss : List Stored) (known : ℕ) (es : List code.Equation) (new : Stored) → Tells nodes ss known es new
@@ -56,14 +37,3 @@ tells_stands nodes ss known es new t = StandFor-on (StandFor-follows apart toget
 -- over any other form of what is told around
 pub told_over : (D A P W B E : Equations) → StandFor (IsTold D) (IsTold A) → StandFor (IsTold P) (IsTold W) → StandFor (IsTold (P ++ E)) (IsTold (A ++ B)) → StandFor (IsTold (D ++ B)) (IsTold (W ++ E))
 told_over D A P W B E d w t = StandFor-on (stands_with_more D A B d) (StandFor-on (StandFor-back t) (stands_with_more P W E w))
-
--- the innermost store and those around it
-pub around_push : (ss : List Stored) (s : Stored) → around (ss ++ s ∷ []) ≡ ss
-around_push [] s = refl
-around_push (r ∷ []) s = refl
-around_push (r ∷ t ∷ ss) s = ap (λ (l : List Stored). r ∷ l) (around_push (t ∷ ss) s)
-
-pub innermost_push : (ss : List Stored) (s : Stored) → innermost (ss ++ s ∷ []) ≡ s
-innermost_push [] s = refl
-innermost_push (r ∷ []) s = refl
-innermost_push (r ∷ t ∷ ss) s = innermost_push (t ∷ ss) s

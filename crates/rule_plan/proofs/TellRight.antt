@@ -1,6 +1,6 @@
 -- A plan of Tell is right.
-use Rattle.std.proofs.Common.{◌≡◌, ℕ, List, [], ◌∷◌, ◌++◌, map, Some, None, Bool, true, false, refl, sym, ◌∙◌, ap, subst, inl, inr, arith}
-use Rattle.std.specs.Prelude.{IsSome, slice_index}
+use Rattle.std.proofs.Common.{◌≡◌, ℕ, List, [], ◌∷◌, ◌++◌, map, Some, None, Bool, true, false, refl, sym, ◌∙◌, ap, subst, inl, arith}
+use Rattle.std.specs.Prelude.{slice_index}
 use Rattle.akl_terms.specs.declared.name.Name.{Name}
 use Rattle.akl_terms.specs.declared.name.Place.{Place}
 use Rattle.akl_terms.specs.declared.term.Term.TheVariants.{Mol}
@@ -12,7 +12,7 @@ use Rattle.akl_terms.proofs.StandingLaws.{StandFor-back, StandFor-on}
 use Rattle.akl_model.specs.declared.item.Item.{Item}
 use Rattle.akl_model.specs.declared.label.Rule.{Rule}
 use Rattle.akl_model.specs.declared.label.Label.{Label}
-use Rattle.akl_model.specs.Config.{Atom, IsIn, an_atom, held_in, without_goal, environment, whole}
+use Rattle.akl_model.specs.Config.{Atom, an_atom, held_in, without_goal, environment, whole}
 use Rattle.akl_model.specs.Instances.{term_at}
 use Rattle.akl_model.specs.Rules.{nothing, Change, becomes, telling, tell, change_by}
 use Rattle.akl_model.specs.Conditions.{Makes}
@@ -26,27 +26,16 @@ use Rattle.local_store.specs.Chained.{innermost, around, IsSolvedChain}
 use Rattle.local_store.specs.Telling.{AnswersTold}
 use Rattle.plan_laws.specs.Right.{Reads}
 use Rattle.table_laws.specs.Rows.{stores_along, told_in, ports_in}
-use Rattle.table_laws.specs.Stamped.{stamp_in}
 use Rattle.table_laws.specs.Steps.{TellsGoal, IsSolvedIf}
 use Rattle.box_tree.specs.declared.step.Step.{Step}
 use Rattle.box_tree.specs.declared.view.Sight.{Sight}
 use Rattle.box_tree.specs.Tables.{table_of}
 use Rattle.box_tree.specs.Views.{ViewValue, IsViewOf}
 use Rattle.box_tree.specs.Plans.{IsRead, IsRight}
-use Rattle.rule_plan.proofs.Sites.{goal_there, store_there, stand, found, row, environment_stands, whole_stands, stores_split, shows_at}
-use Rattle.rule_plan.proofs.Storing.{tells_stands, told_over, around_push, innermost_push}
-
--- items that are read
-
-read_store : (ns : List Name) (m : Name) → IsIn m ns → IsRead (map Item.Store ns) (Item.Store m)
-read_store [] m h = absurd h
-read_store (n ∷ ns) m (inl e) = inl (ap Item.Store e)
-read_store (n ∷ ns) m (inr h) = inr (read_store ns m h)
-
-stores_read : (ns : List Name) (i : Item) → IsRead (map Item.Store ns) i → (m : Name) × IsIn m ns × (i ≡ Item.Store m)
-stores_read [] i h = absurd h
-stores_read (n ∷ ns) i (inl e) = (n, inl refl, e)
-stores_read (n ∷ ns) i (inr h) = let w : (m : Name) × IsIn m ns × (i ≡ Item.Store m) = stores_read ns i h in (w.0, inr w.1, w.2)
+use Rattle.guard_plan.proofs.Sites.{row, environment_stands, whole_stands, stores_split, shows_at}
+use Rattle.guard_plan.proofs.Chains.{around_push, innermost_push}
+use Rattle.guard_plan.proofs.ReadItems.{goal_reads, items_there}
+use Rattle.rule_plan.proofs.Storing.{tells_stands, told_over}
 
 -- the equation of two nodes under a frame
 abbrev pub node_equation : Name → ℕ → ℕ → code.Equation
@@ -111,15 +100,8 @@ module _ (v : ViewValue) (i : IsViewOf v) (g frame : Name) (l r : ℕ) (p : v.pl
     solved = solved t.solved refl;
     names = refl;
     reads = (
-      subst (λ (q : Place). Reads (IsRead (Item.Goal g ∷ map Item.Store v.path)) Rule.Tell q None i.site) (sym p) (inl refl),
-      λ m h. inr (read_store v.path m (subst (IsIn m) (sym i.path) h)),
+      subst (λ (q : Place). Reads (IsRead (Item.Goal g ∷ map Item.Store v.path)) Rule.Tell q None i.site) (sym p) (goal_reads v i g).0,
+      (goal_reads v i g).1,
     );
-    there = λ j h. elim h [
-      | inl e ↦ subst (λ (k : Item). IsSome (stamp_in (table_of v.table) k)) (sym e)
-          (goal_there (table_of v.table) i.table.config (stand v i) i.table.unfolds i.site (found v i) g (an_atom (Atom.equation (term_at v.table.program.templates.nodes frame l) (term_at v.table.program.templates.nodes frame r))) held)
-      | inr x ↦
-          let w : (m : Name) × IsIn m v.path × (j ≡ Item.Store m) = stores_read v.path j x in
-          subst (λ (k : Item). IsSome (stamp_in (table_of v.table) k)) (sym w.2)
-          (store_there (table_of v.table) i.table.config (stand v i) i.table.unfolds i.site (found v i) w.0 (subst (IsIn w.0) i.path w.1))
-    ];
+    there = items_there v i g (an_atom (Atom.equation (term_at v.table.program.templates.nodes frame l) (term_at v.table.program.templates.nodes frame r))) held;
   }

@@ -4,7 +4,7 @@ ghost use Rattle.std.specs.Prelude.{◌≡◌, IfOk};
 ghost use Rattle.akl_terms.specs.declared.name.Place.{Place};
 ghost use Rattle.box_tree.specs.declared.view.Sight.{Sight};
 ghost use Rattle.box_tree.specs.Views.{IsViewOf};
-ghost use Rattle.rule_plan.specs.Planned.{IsPlannedBy};
+ghost use Rattle.guard_plan.specs.Planned.{IsPlannedBy};
 ghost use Rattle.rule_plan.specs.Failed.{FailsFor};
 
 use crate::labels::{label_of, one_item};

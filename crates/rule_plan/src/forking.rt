@@ -4,7 +4,7 @@ ghost use Rattle.std.specs.Prelude.{◌≡◌, IfOk};
 ghost use Rattle.akl_terms.specs.declared.name.Place.{Place};
 ghost use Rattle.akl_terms.specs.declared.program.Code.{Code};
 ghost use Rattle.box_tree.specs.declared.view.Sight.{Sight};
-ghost use Rattle.rule_plan.specs.Planned.{IsPlannedBy};
+ghost use Rattle.guard_plan.specs.Planned.{IsPlannedBy};
 
 use crate::boxes::new_boxes;
 use crate::heads::Call;

@@ -1,11 +1,9 @@
 //! Labels for the place of a view.
 
-ghost use Rattle.std.specs.Prelude.{◌≡◌, None, IfOk, [], ◌∷◌, map};
-ghost use Rattle.akl_model.specs.declared.item.Item.{Item};
+ghost use Rattle.std.specs.Prelude.{◌≡◌, None, IfOk, [], ◌∷◌};
 ghost use Rattle.box_tree.specs.Views.{IsViewOf};
 
 use akl_model::{Item, Label, Rule};
-use akl_terms::Name;
 use box_tree::View;
 use std::alloc::{AllocError, Global};
 
@@ -20,22 +18,6 @@ pub(crate) fn label_of(view: &View, rule: Rule) -> Label
         alternative: None,
         worker: view.worker(),
     }
-}
-
-// A goal, and the constraints of these boxes.
-pub(crate) fn goal_and_stores(
-    alloc: Global,
-    goal: Name,
-    boxes: &[Name],
-) -> Result<Vec<Item>, AllocError>
-    ensures { IfOk result (λ items. items.items ≡ Item.Goal goal ∷ map Item.Store boxes.now) }
-{
-    let mut items = Vec::new(alloc);
-    items.push(Item::Goal(goal))?;
-    for name in boxes {
-        items.push(Item::Store(*name))?;
-    }
-    Ok(items)
 }
 
 // The one item.

@@ -4,7 +4,7 @@ ghost use Rattle.std.specs.Prelude.{◌≡◌, IfOk};
 ghost use Rattle.akl_terms.specs.declared.name.Place.{Place};
 ghost use Rattle.box_tree.specs.declared.view.Sight.{Sight};
 ghost use Rattle.box_tree.specs.Views.{IsViewOf};
-ghost use Rattle.rule_plan.specs.Planned.{IsPlannedBy};
+ghost use Rattle.guard_plan.specs.Planned.{IsPlannedBy};
 
 use crate::failing::fail;
 use crate::forking::fork;
@@ -12,6 +12,7 @@ use crate::heads::Call;
 use crate::telling::tell;
 use akl_terms::{Code, Goal, Name, Place, Program};
 use box_tree::{Plan, Sight, View};
+use guard_plan::plan_guard;
 use std::alloc::{AllocError, Global};
 
 /// A right plan for the place of a view, by its worker; `None` exactly where no rule in force applies there.
@@ -22,7 +23,8 @@ pub fn plan(alloc: Global, program: &Program, view: &View) -> Result<Option<Plan
     match view.place() {
         Place::Goal(goal) => match view.sight() {
             Sight::Atom(atom) => plan_atom(alloc, program, view, goal, atom),
-            _ => Ok(None),
+            Sight::Choice { op } => plan_guard(alloc, program, view, goal, op),
+            Sight::Box { .. } => Ok(None),
         },
         Place::Box(name) => match view.sight() {
             Sight::Box { failing } => fail(alloc, program, view, name, failing),

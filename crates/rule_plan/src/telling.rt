@@ -4,12 +4,13 @@ ghost use Rattle.std.specs.Prelude.{◌≡◌, IfOk};
 ghost use Rattle.akl_terms.specs.declared.name.Place.{Place};
 ghost use Rattle.akl_terms.specs.declared.program.Code.{Code};
 ghost use Rattle.box_tree.specs.declared.view.Sight.{Sight};
-ghost use Rattle.rule_plan.specs.Planned.{IsPlannedBy};
+ghost use Rattle.guard_plan.specs.Planned.{IsPlannedBy};
 
-use crate::labels::{goal_and_stores, label_of};
+use crate::labels::label_of;
 use akl_model::Rule;
 use akl_terms::{Equation, Name, Program, Term};
 use box_tree::{Plan, Step, View};
+use guard_plan::goal_and_stores;
 use local_store::{Shared, ToldStore, told};
 use std::alloc::{AllocError, Global};
 

@@ -24,7 +24,7 @@ use Rattle.table_laws.proofs.Insides.{spot_held}
 use Rattle.box_tree.specs.Tables.{rules_in_force, TableValue, table_of}
 use Rattle.box_tree.specs.Views.{ViewValue, run_of, is_there}
 use Rattle.box_tree.specs.Plans.{PlanValue, IsRight}
-use Rattle.rule_plan.specs.Planned.{HasNoRule}
+use Rattle.guard_plan.specs.Planned.{HasNoRule}
 use Rattle.step_commit.specs.Cores.{CoreValue, run_by, MayCommit, IsStale, Commits}
 use Rattle.seq_engine.specs.Runs.{HasNoRuleAt, IsSpent, Follows}
 

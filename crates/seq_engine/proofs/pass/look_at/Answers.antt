@@ -1,5 +1,5 @@
 use Rattle.std.proofs.Common.{refl, ◌∙◌, subst}
-use Rattle.rule_plan.specs.Planned.{IsPlanOf, IsPlannedBy}
+use Rattle.guard_plan.specs.Planned.{IsPlanOf, IsPlannedBy}
 use Rattle.step_commit.specs.Cores.{IsRefused}
 use Rattle.seq_engine.proofs.Looks.{no_rule, spent}
 use Rattle.seq_engine.proofs.pass.look_at.Goals as goal

@@ -1,0 +1,12 @@
+pub mod Chains
+pub mod Sites
+pub mod ReadItems
+pub mod Names
+pub mod QuietOver
+pub mod HasNone
+pub mod ChoiceNone
+pub mod Placed
+pub mod CutRight
+pub mod PromoteRight
+pub mod Chosen
+pub mod Tested

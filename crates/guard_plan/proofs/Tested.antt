@@ -1,0 +1,65 @@
+-- What tests of guards answer.
+use Rattle.std.proofs.Common.{◌≡◌, ℕ, zero, suc, ◌+◌, ◌-◌, ◌<◌, inl, inr, List, [], ◌∷◌, ◌++◌, length, take, true, false, refl, sym, subst, arith, slice_index_or}
+use Rattle.std.specs.Prelude.{IsTrue, ◌↔◌}
+use Rattle.std.specs.List.{AllByRecursion}
+use Rattle.std.proofs.lemmas.Bool.{false≢true}
+use Rattle.akl_terms.specs.declared.term.Node.{Node}
+use Rattle.akl_terms.specs.declared.term.Term.{Term}
+use Rattle.akl_terms.specs.Template.{tree}
+use Rattle.akl_terms.specs.Decided.{DifferInHead}
+use Rattle.akl_terms.specs.Equal.{EqualBy, told, IsConsistentBy}
+use Rattle.akl_terms.proofs.EqualLaws.{EqualBy-follows, IsTold-left}
+use Rattle.rational_unify.proofs.Taking.{take-next}
+use Rattle.local_store.specs.Stored.{Stored}
+use Rattle.local_store.specs.Chained.{ToldBy}
+use Rattle.local_store.proofs.Resolved.{around-take}
+use Rattle.entail_test.specs.declared.noise.Quietness.{Quietness}
+use Rattle.entail_test.specs.declared.noise.Quietness.TheVariants.{Quiet, Noisy, Inconsistent}
+use Rattle.entail_test.specs.Asked.{environment_at, own_at, KeepsApartAt, IsQuietAt, Answers}
+use Rattle.box_tree.specs.declared.view.Alternative.{Alternative}
+use Rattle.guard_plan.specs.Guards.{KeepsApartInside, IsQuietInside, HasQuiet}
+
+module _ (nodes : List Node) (ss : List Stored) where
+  -- two terms of different heads that are equal in the environment
+  pub clash_outside : (left right : Term) → EqualBy (ToldBy nodes (take (length ss - 1) ss)) (tree nodes left) (tree nodes right) → DifferInHead (tree nodes left) (tree nodes right)
+      → IsTrue false ↔ IsQuietInside nodes ss
+  clash_outside left right e d = (
+    λ h. absurd (false≢true h),
+    λ q. absurd (d.differ (q.consistent.heads
+        (EqualBy-follows (λ a b m. told (IsTold-left (environment_at nodes ss (length ss - 1)) (own_at nodes ss (length ss - 1)) a b m)) e) d.is_left d.is_right)),
+  )
+
+  kept : KeepsApartInside nodes ss → IsConsistentBy (ToldBy nodes (take (length ss - 1) ss)) → KeepsApartAt nodes ss (length ss - 1)
+  kept h c = h (subst (λ (o : List Stored). IsConsistentBy (ToldBy nodes o)) (around-take ss) c)
+
+  not_quiet : (a : Quietness) → (a ≡ Quiet → ⊥) → Answers nodes ss (length ss - 1) a → IsQuietAt nodes ss (length ss - 1) → ⊥
+  not_quiet Quiet n a q = n refl
+  not_quiet (Noisy on) n a q = a.1 q
+  not_quiet (Inconsistent left right) n a q = a.1.differ (q.consistent.heads a.0 a.1.is_left a.1.is_right)
+
+  pub answered_quiet : KeepsApartInside nodes ss → IsConsistentBy (ToldBy nodes (take (length ss - 1) ss)) → (KeepsApartAt nodes ss (length ss - 1) → IsQuietAt nodes ss (length ss - 1)) → IsTrue true ↔ IsQuietInside nodes ss
+  answered_quiet h c a = (λ _. a (kept h c), λ _. refl)
+
+  pub answered_other : KeepsApartInside nodes ss → IsConsistentBy (ToldBy nodes (take (length ss - 1) ss)) → (a : Quietness) → (a ≡ Quiet → ⊥)
+      → (KeepsApartAt nodes ss (length ss - 1) → Answers nodes ss (length ss - 1) a) → IsTrue false ↔ IsQuietInside nodes ss
+  answered_other h c a n b = (λ e. absurd (false≢true e), λ q. absurd (not_quiet a n (b (kept h c)) q))
+
+-- the alternatives that were passed by
+module _ (nodes : List Node) (path : List Stored) where
+  pub all_next : (P : Alternative → Type 0) (xs : List Alternative) (k : ℕ) (d : Alternative) → k < length xs → AllByRecursion P (take k xs) → P (slice_index_or xs k d) → AllByRecursion P (take (k + 1) xs)
+  all_next P xs k d l h p = subst (AllByRecursion P) (sym (take-next xs k (k + 1) d l (omega arith))) (push (take k xs) h)
+    where
+      push : (ys : List Alternative) → AllByRecursion P ys → AllByRecursion P (ys ++ slice_index_or xs k d ∷ [])
+      push [] h = (p, tt)
+      push (y ∷ ys) h = (h.0, push ys h.1)
+
+  pub has_here : (xs : List Alternative) (k : ℕ) (d : Alternative) → k < length xs → (slice_index_or xs k d).solved ≡ true → IsQuietInside nodes (path ++ (slice_index_or xs k d).store ∷ [])
+      → HasQuiet nodes path xs (slice_index_or xs k d).name
+  has_here [] k d l s q = absurd (omega arith)
+  has_here (x ∷ xs) zero d l s q = inl (refl, s, q)
+  has_here (x ∷ xs) (suc k) d l s q = inr (has_here xs k d (omega arith) s q)
+
+  pub all_index : (P : Alternative → Type 0) (xs : List Alternative) (k : ℕ) (d : Alternative) → k < length xs → AllByRecursion P xs → P (slice_index_or xs k d)
+  all_index P [] k d l h = absurd (omega arith)
+  all_index P (x ∷ xs) zero d l h = h.0
+  all_index P (x ∷ xs) (suc k) d l h = all_index P xs k d (omega arith) h.1

@@ -1,0 +1,17 @@
+use Rattle.guard_plan.proofs.Chosen.{cut_testable, cut_none, cut_planned}
+use Rattle.guard_plan.proofs.cutting.cut.Goals as goal
+
+pub first_quiet-requires : goal.first_quiet-requires
+first_quiet-requires c = rw (c.stores.ensures, c.candidates-candidates.ensures, c.alternatives.ensures.alternatives, c.requires.program)
+    (cut_testable c.args.view.now c.alternatives.ensures.seen c.args.goal c.args.op c.requires.place c.requires.sight)
+
+pub returns-in_default : goal.returns-in_default
+returns-in_default c =
+    let noisy = rw (c.in_default.is, c.stores.ensures, c.candidates-candidates.ensures, c.alternatives.ensures.alternatives, c.requires.program) at c.in_ok-found.ensures in
+    cut_none c.args.view.now c.alternatives.ensures.seen c.args.goal c.args.op c.requires.place c.requires.sight c.requires.not_one noisy
+
+pub new-requires : goal.new-requires
+new-requires c =
+    let found = rw (c.in-Some.is, c.stores.ensures, c.candidates-candidates.ensures, c.alternatives.ensures.alternatives, c.requires.program) at c.in_ok-found.ensures in
+    rw (c.label_for-label.ensures.label, c.in_ok-reads.ensures, c.path.ensures)
+    (cut_planned c.args.view.now c.alternatives.ensures.seen c.args.goal c.args.op c.requires.place c.requires.sight c.requires.not_one c.in-Some.alternative found)

@@ -1,0 +1,49 @@
+use Rattle.std.proofs.Common.{List, length, sym, ◌∙◌, ap, inl, inr, arith}
+use Rattle.std.proofs.lemmas.Bool.{false≢true}
+use Rattle.std.specs.Prelude.{◌^◌, ◌<◌}
+use Rattle.akl_terms.specs.declared.name.Name.{Name}
+use Rattle.akl_terms.specs.declared.program.Goal.{Goal}
+use Rattle.box_tree.specs.declared.step.Step.{Step}
+use Rattle.local_store.specs.Stored.{Stored}
+use Rattle.box_tree.specs.Edits.{named_atoms}
+use Rattle.table_laws.specs.Steps as laws
+use Rattle.guard_plan.proofs.Chosen.{only_testable, only_deep, only_unsolved, only_many, only_unheld, only_planned}
+use Rattle.guard_plan.proofs.promoting.promote.Goals as goal
+
+pub returns-then-not-only : goal.returns-then-not-only
+returns-then-not-only c = elim c.then-not-only.either [
+  | inl e ↦ only_unsolved c.args.view.now c.label_for-label.ensures.seen c.args.goal c.args.op c.requires.place c.requires.sight c.args.only.now c.requires.only e
+  | inr w ↦ only_many c.args.view.now c.label_for-label.ensures.seen c.args.goal c.args.op c.requires.place c.requires.sight c.args.only.now c.requires.only
+      (omega (arith, w.1, ap (λ (l : List Goal). length l) c.body.ensures))
+]
+
+pub of_solved-chain-requires : goal.of_solved-chain-requires
+of_solved-chain-requires c = rw (c.as_slice.ensures.value, c.in_ok-push.ensures.items, c.in_ok-stores.ensures, c.in_ok-share.ensures, c.stores.ensures, c.requires.program)
+    (only_testable c.args.view.now c.label_for-label.ensures.seen c.args.goal c.args.op c.requires.place c.requires.sight c.args.only.now c.requires.only).known
+
+pub guard_holds-requires : goal.guard_holds-requires
+guard_holds-requires c = rw (c.of_solved-chain.ensures, c.as_slice.ensures.value, c.in_ok-push.ensures.items, c.in_ok-stores.ensures, c.in_ok-share.ensures, c.stores.ensures, c.requires.program)
+    (only_testable c.args.view.now c.label_for-label.ensures.seen c.args.goal c.args.op c.requires.place c.requires.sight c.args.only.now c.requires.only).apart
+
+pub returns-then-not-branch : goal.returns-then-not-branch
+returns-then-not-branch c =
+    let says = rw (c.of_solved-chain.ensures, c.as_slice.ensures.value, c.in_ok-push.ensures.items, c.in_ok-stores.ensures, c.in_ok-share.ensures, c.stores.ensures, c.requires.program) at c.in_ok-guard_holds.ensures in
+    only_unheld c.args.view.now c.label_for-label.ensures.seen c.args.goal c.args.op c.requires.place c.requires.sight c.args.only.now c.requires.only
+    (λ h. false≢true (sym c.if-not-branch.true ∙ says.1 h))
+
+pub promoted-requires : goal.promoted-requires
+promoted-requires c = rw (c.of_solved-chain.ensures, c.as_slice.ensures.value, c.in_ok-push.ensures.items, c.in_ok-stores.ensures, c.in_ok-share.ensures, c.stores.ensures)
+    (only_deep c.args.view.now c.label_for-label.ensures.seen c.args.goal c.args.op c.requires.place c.requires.sight c.args.only.now c.requires.only)
+
+pub new-requires-2 : goal.new-requires-2
+new-requires-2 c =
+    let says = rw (c.of_solved-chain.ensures, c.as_slice.ensures.value, c.in_ok-push.ensures.items, c.in_ok-stores.ensures, c.in_ok-share.ensures, c.stores.ensures, c.requires.program) at c.in_ok-guard_holds.ensures in
+    let answer = rw (c.of_solved-chain.ensures, c.as_slice.ensures.value, c.in_ok-push.ensures.items, c.in_ok-stores.ensures, c.in_ok-share.ensures, c.stores.ensures, c.requires.program) at c.in_ok-store.ensures in
+    let goals = rw (c.worker.ensures, c.next-next.ensures, c.body-2.ensures) at c.in_ok-goals.ensures in
+    let few : length c.args.view.now.body < 2 ^ 32 = omega (arith, c.if-names-gt-MOST.false, ap (λ (l : List Goal). length l) c.body.ensures) in
+    rw (c.label_for-label.ensures.label, c.in_ok-reads.ensures, c.path.ensures, c.body.ensures)
+    (only_planned c.args.view.now c.label_for-label.ensures.seen c.args.goal c.args.op c.requires.place c.requires.sight c.args.only.now c.requires.only
+    c.if-not-only.false (says.0 c.if-not-branch.false) few c.in_ok-store.field-0 c.args.only.now.known answer
+    (Step.Promote c.in_ok-store-2.store c.in_ok-store.field-0.solved c.in_ok-goals.goals)
+    (ap (λ (s : Stored). laws.promotes s c.in_ok-store.field-0.solved (named_atoms c.args.view.now.table.program.templates.nodes c.in_ok-goals.goals.items)) c.in_ok-store-2.ensures
+    ∙ ap (λ (l : List (Name × Goal)). laws.promotes c.in_ok-store.field-0.store c.in_ok-store.field-0.solved (named_atoms c.args.view.now.table.program.templates.nodes l)) goals))

@@ -1,0 +1,51 @@
+//! Plans of Cut.
+
+ghost use Rattle.std.specs.Prelude.{◌≡◌, ◌≢◌, IfOk, length};
+ghost use Rattle.akl_terms.specs.declared.name.Place.{Place};
+ghost use Rattle.box_tree.specs.declared.view.Sight.{Sight};
+ghost use Rattle.guard_plan.specs.Planned.{IsPlannedBy};
+ghost use Rattle.guard_plan.specs.Guards.{cutting};
+
+use crate::guards::first_quiet;
+use crate::labels::{goal_and_stores, label_for};
+use akl_model::Rule;
+use akl_terms::{Name, Op, Program};
+use box_tree::{Alternative, Plan, Step, View};
+use std::alloc::{AllocError, Global};
+
+// The plan by which a choice that hasn't one alternative alone loses those for which a solved and quiet one leaves no
+// room.
+pub(crate) fn cut(
+    alloc: Global,
+    program: &Program,
+    view: &View,
+    goal: Name,
+    op: Op,
+) -> Result<Option<Plan>, AllocError>
+    requires program { program.now ≡ view.now.table.program }
+    requires place { view.now.place ≡ Place.Goal goal }
+    requires sight { view.now.sight ≡ Sight.Choice op }
+    requires not_one { length view.now.alternatives ≢ 1 }
+    ensures { IfOk result (IsPlannedBy view.now) }
+{
+    let candidates = candidates(op, view.alternatives());
+    let found = first_quiet(alloc, &program.templates, view.stores(), candidates)?;
+    let Some(alternative) = found else {
+        return Ok(None);
+    };
+    let reads = goal_and_stores(alloc, goal, view.path())?;
+    let label = label_for(view, Rule::Cut, alternative);
+    Ok(Some(Plan::new(view, label, reads, 0, Step::Cut)))
+}
+
+// The alternatives that leave fewer than there are, where others stand beside them: with `->` all but the last, with
+// `|` all, and with `?` none.
+fn candidates(op: Op, alternatives: &[Alternative]) -> &[Alternative]
+    ensures { result.now ≡ cutting op alternatives.now }
+{
+    match op {
+        Op::Condition => &alternatives[..alternatives.len().saturating_sub(1)],
+        Op::Commit => alternatives,
+        Op::Choice => &alternatives[..0],
+    }
+}

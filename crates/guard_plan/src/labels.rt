@@ -1,0 +1,35 @@
+//! What plans at goals read, and the labels of those for an alternative.
+
+ghost use Rattle.std.specs.Prelude.{◌≡◌, Some, IfOk, ◌∷◌, map};
+ghost use Rattle.akl_model.specs.declared.item.Item.{Item};
+ghost use Rattle.box_tree.specs.Views.{IsViewOf};
+
+use akl_model::{Item, Label, Rule};
+use akl_terms::Name;
+use box_tree::View;
+use std::alloc::{AllocError, Global};
+
+/// A goal, and the constraints of these boxes.
+pub fn goal_and_stores(alloc: Global, goal: Name, boxes: &[Name]) -> Result<Vec<Item>, AllocError>
+    ensures { IfOk result (λ items. items.items ≡ Item.Goal goal ∷ map Item.Store boxes.now) }
+{
+    let mut items = Vec::new(alloc);
+    items.push(Item::Goal(goal))?;
+    for name in boxes {
+        items.push(Item::Store(*name))?;
+    }
+    Ok(items)
+}
+
+// The label of a rule for an alternative of the choice at the view's place, by its worker.
+pub(crate) fn label_for(view: &View, rule: Rule, alternative: Name) -> Label
+    ensures label { result ≡ record { rule = rule; place = view.now.place; alternative = Some alternative; worker = view.now.worker } }
+    ensures seen { IsViewOf view.now }
+{
+    Label {
+        rule,
+        place: view.place(),
+        alternative: Some(alternative),
+        worker: view.worker(),
+    }
+}

@@ -1,0 +1,80 @@
+//! Plans of Promote.
+
+ghost use Rattle.std.specs.Prelude.{◌≡◌, ◌+◌, ◌<◌, ◌^◌, ◌∷◌, [], IfOk, length};
+ghost use Rattle.akl_terms.specs.declared.name.Place.{Place};
+ghost use Rattle.box_tree.specs.declared.view.Sight.{Sight};
+ghost use Rattle.guard_plan.specs.Planned.{IsPlannedBy};
+ghost use Rattle.guard_plan.specs.Guards.{numbered_goals};
+
+use crate::guards::{guard_holds, shared};
+use crate::labels::{goal_and_stores, label_for};
+use akl_model::Rule;
+use akl_terms::{Goal, Name, Op, Program};
+use box_tree::{Alternative, Plan, Step, View};
+use local_store::{Chain, Shared, ToldStore, promoted};
+use std::alloc::{AllocError, Global};
+
+// One less than the number of names that are too many for one label.
+const MOST: u64 = 4294967295;
+
+// The plan by which the only alternative of a choice joins the box, where it is solved and its guard holds.
+pub(crate) fn promote(
+    alloc: Global,
+    program: &Program,
+    view: &View,
+    goal: Name,
+    op: Op,
+    only: &Alternative,
+) -> Result<Option<Plan>, AllocError>
+    requires program { program.now ≡ view.now.table.program }
+    requires place { view.now.place ≡ Place.Goal goal }
+    requires sight { view.now.sight ≡ Sight.Choice op }
+    requires only { view.now.alternatives ≡ only.now ∷ [] }
+    ensures { IfOk result (IsPlannedBy view.now) }
+{
+    let label = label_for(view, Rule::Promote, only.name);
+    let names = view.body().len() as u64;
+    if !only.solved || names > MOST {
+        return Ok(None);
+    }
+    let mut stores = shared(alloc, view.stores())?;
+    stores.push(only.store.share()?)?;
+    let chain = Chain::of_solved(&program.templates, stores.as_slice(), only.known);
+    if !guard_holds(alloc, op, &chain)? {
+        return Ok(None);
+    }
+    let ToldStore { store, solved } = promoted(alloc, &chain)?;
+    let store = Shared::new(alloc, store)?;
+    let next = view.next();
+    next.checked_add(names).ok_or(AllocError)?;
+    let first = Name {
+        worker: view.worker(),
+        number: next,
+    };
+    let goals = numbered(alloc, first, view.body())?;
+    let reads = goal_and_stores(alloc, goal, view.path())?;
+    let step = Step::Promote {
+        store,
+        solved,
+        goals,
+    };
+    Ok(Some(Plan::new(view, label, reads, names, step)))
+}
+
+// These goals under names from this one on.
+fn numbered(alloc: Global, first: Name, body: &[Goal]) -> Result<Vec<(Name, Goal)>, AllocError>
+    requires { first.number + length body.now < 2 ^ 64 }
+    ensures { IfOk result (λ goals. goals.items ≡ numbered_goals first.worker first.number body.now) }
+{
+    let mut goals = Vec::new(alloc);
+    let mut number = first.number;
+    for goal in body {
+        let name = Name {
+            worker: first.worker,
+            number,
+        };
+        goals.push((name, *goal))?;
+        number += 1;
+    }
+    Ok(goals)
+}

@@ -1,0 +1,43 @@
+-- The innermost store of a chain joins the one around it.
+use Rattle.std.specs.Prelude.{◌≡◌, ℕ, ◌+◌, ◌≤◌, List, [], ◌∷◌, ◌++◌, length, Bool, true, false, ◌↔◌, IsTrue}
+use Rattle.akl_terms.specs.declared.name.Name.{Name}
+use Rattle.akl_terms.specs.declared.name.Var.{Var}
+use Rattle.akl_terms.specs.declared.term.Node.{Node}
+use Rattle.akl_terms.specs.declared.term.Term.{Term}
+use Rattle.akl_terms.specs.Equal.{IsConsistentBy}
+use Rattle.akl_terms.specs.Standing.{StandFor}
+use Rattle.rational_unify.specs.Forms.{Takes, IsClashOfBindings}
+use Rattle.local_store.specs.declared.telling.ToldStore.{ToldStore}
+use Rattle.local_store.specs.Stored.{Stored, with_frame, with_port, with_bindings}
+use Rattle.local_store.specs.Chained.{ToldBy, IsSolvedChain, innermost, around, replaced}
+
+-- with all of these frames or ports, of which the last is put in first
+abbrev pub with_frames : Stored → List Name → Stored
+with_frames s [] = s
+with_frames s (n ∷ ns) = with_frame (with_frames s ns) n
+
+abbrev pub with_ports : Stored → List (Name × Term) → Stored
+with_ports s [] = s
+with_ports s (p ∷ ps) = with_port (with_ports s ps) p.0 p.1
+
+-- with the frames and ports of another store
+abbrev pub named_too : Stored → Stored → Stored
+named_too s other = with_ports (with_frames s other.frames) other.ports
+
+-- a store that has all that the innermost one and the one around it have: in the place of both of them the chain stands for what it stood for.
+-- Where all stores but the innermost were known to be solved together, and the whole chain is consistent, it is solved
+pub record Promotes (nodes : List Node) (ss : List Stored) (known : ℕ) (new : Stored) : Type 0 where
+  pub frames : new.frames ≡ (named_too (innermost (around ss)) (innermost ss)).frames
+  pub ports : new.ports ≡ (named_too (innermost (around ss)) (innermost ss)).ports
+  pub stands : StandFor (ToldBy nodes ss) (ToldBy nodes (replaced (around ss) new))
+  pub solved : length ss ≤ known + 1 → IsConsistentBy (ToldBy nodes ss) → IsSolvedChain nodes (replaced (around ss) new)
+
+-- such a store, and whether the chain is known to be solved with it
+pub record AnswersPromoted (nodes : List Node) (ss : List Stored) (known : ℕ) (answer : ToldStore) : Type 0 where
+  pub promotes : Promotes nodes ss known answer.store
+  pub is_solved : IsTrue answer.solved ↔ ((length ss ≤ known + 1) × IsConsistentBy (ToldBy nodes ss))
+
+-- what is found for bindings over a solved form, put into a store, or the bindings themselves where they clash with it
+pub data Joins (nodes : List Node) (known bs : List (Var × Term)) (old new : Stored) (consistent : Bool) : Type 0 where
+  found : (more : List (Var × Term)) → Takes nodes known [] more bs → new ≡ with_bindings old more → consistent ≡ true → Joins nodes known bs old new consistent
+  clashing : (left right : Term) → IsClashOfBindings nodes (known ++ []) bs left right → new ≡ with_bindings old bs → consistent ≡ false → Joins nodes known bs old new consistent
