@@ -10,7 +10,6 @@ use Rattle.akl_model.specs.declared.label.Label.{Label}
 use Rattle.akl_model.specs.Config.{IsIn, Atom, Boxes, no_boxes, box, Config, Held, held_in, Found, environment, whole}
 use Rattle.akl_model.specs.Instances.{instances, drawn_by}
 use Rattle.akl_model.specs.Renaming.{sorted_names}
-use Rattle.akl_model.specs.Rules.{others, with_alternatives}
 use Rattle.akl_model.specs.Derivations.{Applies}
 use Rattle.akl_model.specs.Changes.{goal_names, shape_of}
 use Rattle.akl_model.specs.Names.{one_if, times_in}
@@ -24,7 +23,7 @@ use Rattle.step_laws.proofs.Steps.{site_once}
 use Rattle.table_laws.specs.Rows.{BoxRow, Table}
 use Rattle.table_laws.specs.Unfolds.{IsBoxRow, AreBoth, spot_of, Unfolds}
 use Rattle.table_laws.specs.Stamped.{Run, IsTableOf}
-use Rattle.table_laws.specs.Steps.{ForksGoal, NewBox, Step, tells, forks, fails, cuts, promotes, splits, numbered, PromotesGoal, AreNewBoxes, SplitsBox, second_of, Makes}
+use Rattle.table_laws.specs.Steps.{ForksGoal, NewBox, Step, tells, forks, fails, cuts, promotes, splits, numbered, PromotesGoal, AreNewBoxes, SplitsBox, rest_of, second_of, Makes}
 use Rattle.table_laws.specs.Writes.{names_drawn, names_copied, IsFresh, DrawsFresh}
 use Rattle.table_laws.proofs.Insides.{goal_names_less}
 use Rattle.table_laws.proofs.Copies.{copied_once, copied_counted}
@@ -116,7 +115,7 @@ fresh_step rules r T l d t a (splits copy copies) makes = record {
     second = second_of l.worker (slice_index t.config.next l.worker) makes.1.1 a.site made.choice
 
     drawn : ℕ
-    drawn = length (sorted_names (with_alternatives a.site made.choice (others makes.1.1 made.choice.alternatives)))
+    drawn = length (sorted_names (rest_of makes.1.1 a.site made.choice))
 
     few : (m : Name) → times m second ≤ drawn_times m l.worker next drawn
     few m = splitting.second_drawn r.program next l a.site a.change a.makes makes.1.0 makes.1.1 made.choice makes.0 makes.1.2 makes.1.3 made.is_choice (site_once rules r.program t.config l d s a) m

@@ -114,10 +114,10 @@ down_to r k = map (λ (b : Content). b.name) r ++ k.name ∷ []
 abbrev pub IsUnderOne : List Name → List Content → Content → Type 0
 IsUnderOne ns r k = (m : Name) × IsIn m ns × IsIn m (down_to r k)
 
-at_name : (r : List Content) (k b : Content) → k ≡ b → IsIn b.name (down_to r k)
+pub at_name : (r : List Content) (k b : Content) → k ≡ b → IsIn b.name (down_to r k)
 at_name r k b e = IsIn-right b.name (map (λ (c : Content). c.name) r) (k.name ∷ []) (inl (ap (λ (c : Content). c.name) (sym e)))
 
-below_name : (r rest : List Content) (k b : Content) → r ≡ b ∷ rest → IsIn b.name (down_to r k)
+pub below_name : (r rest : List Content) (k b : Content) → r ≡ b ∷ rest → IsIn b.name (down_to r k)
 below_name r rest k b e = subst (λ (q : List Content). IsIn b.name (down_to q k)) (sym e) (inl refl)
 
 under_first : (r : List Content) (k : Content) (hs : Goals) (bs : Boxes) → BoxIn r k hs bs → IsUnderOne (box_names bs) r k

@@ -5,6 +5,10 @@ pub mod Frame
 pub mod Insides
 pub mod Copies
 pub mod Splitting
+pub mod Renamed
+pub mod RenamedBoxes
+pub mod Swapping
+pub mod Sorted
 pub mod Unfailing
 pub mod Onward
 pub mod Marked
@@ -34,3 +38,5 @@ pub mod Promoting
 pub mod Promoted
 pub mod Later
 pub mod StepMakes
+pub mod RestBoxes
+pub mod CopiesMade

@@ -9,9 +9,9 @@ use Rattle.akl_terms.specs.Equal.{IsTold}
 use Rattle.akl_terms.specs.Standing.{StandFor}
 use Rattle.akl_model.specs.declared.label.Rule.{Rule}
 use Rattle.akl_model.specs.declared.label.Label.{Label}
-use Rattle.akl_model.specs.Config.{IsIn, Boxes, no_boxes, box, no_goals, atom, choice, Config, Held, a_choice, held_in, with_content, Found, environment, or_else, box_at, home_of, site_of}
+use Rattle.akl_model.specs.Config.{IsIn, Boxes, box, Config, Held, a_choice, held_in, with_content, Found, environment, or_else, box_at, home_of, site_of}
+use Rattle.akl_model.specs.Renaming.{sorted_names, renaming}
 use Rattle.akl_model.specs.Rules.{alone}
-use Rattle.akl_model.specs.Stable.{first_solved}
 use Rattle.akl_model.specs.Conditions.{HasFailed}
 use Rattle.akl_model.specs.Derivations.{Applies}
 use Rattle.akl_model.specs.Changes.{of_choice, box_names, goal_names}
@@ -31,7 +31,7 @@ use Rattle.step_laws.proofs.Holders.{alternative_at, held_or, root_named}
 use Rattle.table_laws.specs.Rows.{BoxRow, GoalRow, Table, store_in, stores_along}
 use Rattle.table_laws.specs.Unfolds.{FailsBy, StaysSolved, IsBoxRow}
 use Rattle.table_laws.specs.Stamped.{Run, IsTableOf}
-use Rattle.table_laws.specs.Steps.{BoxCopy, splits, copy_among, IsCopy, SplitsBox, second_of, AreAround, IsSolvedWhen}
+use Rattle.table_laws.specs.Steps.{BoxCopy, splits, copy_among, IsCopy, SplitsBox, rest_of, second_of, AreAround, IsSolvedWhen}
 use Rattle.table_laws.specs.Writes.{less_name, solved_when, holder_in_row, others_beside, others_from, others_in, IsInsideOne, IsGoalInsideOne, goal_at, copied_row, Splits}
 use Rattle.table_laws.proofs.Sets.{not_some}
 use Rattle.table_laws.proofs.Stores.{told_along, IsAsTold, same_stores}
@@ -42,17 +42,12 @@ use Rattle.table_laws.proofs.Gone.{goals_once}
 use Rattle.table_laws.proofs.Kept.{kept_fails}
 use Rattle.table_laws.proofs.Unfailing.{copy_unfailed}
 use Rattle.table_laws.proofs.Copies.{found_among, copy_of, no_copy, box_of}
+use Rattle.table_laws.proofs.RestBoxes.{first_named}
 use Rattle.table_laws.proofs.Splitting as splitting
 use Rattle.table_laws.proofs.Cutting as cutting
 use Rattle.table_laws.proofs.CopyRows as rows
 use Rattle.table_laws.proofs.Beside.{after_differs}
 use Rattle.table_laws.proofs.Beside as beside
-
-first_named : (a : Name) (bs : Boxes) → first_solved bs ≡ Some a → IsIn a (box_names bs)
-first_named a no_boxes e = cc
-first_named a (box b no_goals bs) e = inl (sym (some_value e))
-first_named a (box b (atom g x gs) bs) e = inr (first_named a bs e)
-first_named a (box b (choice g o cs gs) bs) e = inr (first_named a bs e)
 
 module _ (rules : List Rule) (r : Run) (T U : Table) (l : Label) (d : Config) (t : IsTableOf rules r T) (a : Applies rules r.program t.config l d) (n al copy : Name) (copies : List BoxCopy) (at : Option ℕ)
     (rule : l.rule ≡ Rule.Split) (place : l.place ≡ Place.Box n) (names : l.alternative ≡ Some al)
@@ -341,7 +336,7 @@ module _ (rules : List Rule) (r : Run) (T U : Table) (l : Label) (d : Config) (t
 
           unfailed : HasFailed h.goals → ⊥
           unfailed = copy_unfailed r.program t.config s site a.site was_there (splitting.allowed r.program (slice_index t.config.next l.worker) l a.site a.change a.makes n al made.choice rule place names made.is_choice).0 g al o bs held (splitting.point r.program (slice_index t.config.next l.worker) l a.site a.change a.makes n al made.choice rule place names made.is_choice).others (splitting.goals_once r.program (slice_index t.config.next l.worker) l a.site a.change a.makes n al made.choice rule place names made.is_choice (site_once rules r.program t.config l d s a))
-              (splitting.new_names r.program (slice_index t.config.next l.worker) l a.site a.change a.makes n al made.choice rule place names made.is_choice) x.rest h.content h.goals x.stands
+              (renaming (sorted_names (rest_of al a.site made.choice)) l.worker (slice_index t.config.next l.worker)) x.rest h.content h.goals x.stands
 
           row : IsBoxRow U d.roots (under (record h { around = x.rest })) (copied_row (holder_in_row (T.box_of n)) copied_when number v.0)
           row = rows.copied_is_row r.program.templates.nodes a.site.around second second_once copies made.copied U same_nodes told_around stored d.roots (holder_in_row (T.box_of n)) copied_when number (record h { around = x.rest }) v.0 there v.1 v.2

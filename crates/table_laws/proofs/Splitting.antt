@@ -7,17 +7,25 @@ use Rattle.akl_terms.specs.declared.program.Program.{Program}
 use Rattle.akl_model.specs.declared.label.Rule.{Rule}
 use Rattle.akl_model.specs.declared.label.Label.{Label}
 use Rattle.akl_model.specs.Config.{box, a_choice, held_in, with_content, Found}
-use Rattle.akl_model.specs.Renaming.{sorted_names, renaming}
-use Rattle.akl_model.specs.Rules.{Change, alone, others, ChoiceIn, choice_with, with_alternatives, split_at, change_by}
+use Rattle.akl_model.specs.Renaming.{sorted_names}
+use Rattle.akl_model.specs.Rules.{Change, alone, others, ChoiceIn, choice_with, split_at, change_by}
 use Rattle.akl_model.specs.Conditions.{Makes}
 use Rattle.akl_model.specs.Stable.{only, IsStable, IsSplitPoint, Allows}
 use Rattle.akl_model.proofs.Options.{some_value, some_and}
 use Rattle.akl_model.proofs.Finds.{times, times_of, times_inside}
 use Rattle.akl_model.proofs.Drawn.{drawn_times, times-renamed}
 use Rattle.akl_model.proofs.RuleCases.{SplitCase}
-use Rattle.akl_model.proofs.NamesKept.{split_held, rest_once}
+use Rattle.akl_model.proofs.NamesKept.{split_held, rest_less, rest_once}
 use Rattle.step_laws.specs.ChangedItems.{goal_of}
-use Rattle.table_laws.specs.Steps.{second_of}
+use Rattle.table_laws.specs.Steps.{rest_of, second_of}
+
+-- the choice of a split
+pub split_choice : (p : Program) (next : ℕ) (l : Label) (f : Found) (c : Change) (m : Makes (Allows p) p next l f c) (n a : Name) → l.rule ≡ Rule.Split → l.place ≡ Place.Box n → l.alternative ≡ Some a
+    → (k : ChoiceIn) × (choice_with a f.goals ≡ Some k) × IsSplitPoint f a k
+split_choice p next l f c m n a rule place names = some_and (IsSplitPoint f a) (choice_with a f.goals) (
+    let x : IsStable p f × IsSomeAnd (choice_with a f.goals) (IsSplitPoint f a) =
+    subst (λ (u : Rule). Allows p m.reading u (Place.Box n) (Some a) f) rule (subst (λ (u : Place). Allows p m.reading l.rule u (Some a) f) place (subst (λ (u : Option Name). Allows p m.reading l.rule l.place u f) names m.allowed)) in
+    x.1)
 
 module _ (p : Program) (next : ℕ) (l : Label) (f : Found) (c : Change) (m : Makes (Allows p) p next l f c) (n a : Name) (k : ChoiceIn) (rule : l.rule ≡ Rule.Split) (place : l.place ≡ Place.Box n)
     (names : l.alternative ≡ Some a) (is_choice : choice_with a f.goals ≡ Some k) where
@@ -41,16 +49,18 @@ module _ (p : Program) (next : ℕ) (l : Label) (f : Found) (c : Change) (m : Ma
   pub at_choice : goal_of l.place l.alternative f ≡ Some k.name
   at_choice = (λ i. goal_of (place i) (names i) f) ∙ ap (option_map (λ (v : ChoiceIn). v.name)) is_choice
 
-  -- the new names of the copy
-  abbrev pub new_names : Name → Name
-  new_names = renaming (sorted_names (with_alternatives f k (others a k.alternatives))) l.worker next
-
   module _ (once : (i : Name) → times i (only f) ≤ 1) where
     pub choice_held : held_in k.name f.goals ≡ Some (a_choice k.op k.alternatives)
     choice_held = split_held p l.worker next f c once the_case
 
-    pub goals_once : (i : Name) → times_inside i (with_content k.name (a_choice k.op (others a k.alternatives)) f.goals) ≤ 1
-    goals_once i = let h : times_of i f.content + (times_inside i (with_content k.name (a_choice k.op (others a k.alternatives)) f.goals) + 0) ≤ 1 = rest_once p l.worker next f c once the_case i in omega arith
+    pub rest_few : (i : Name) → times i (rest_of a f k) ≤ 1
+    rest_few = rest_once p l.worker next f c once the_case
 
-    pub second_drawn : (i : Name) → times i (second_of l.worker next a f k) ≤ drawn_times i l.worker next (length (sorted_names (with_alternatives f k (others a k.alternatives))))
-    second_drawn i = times-renamed l.worker next i (with_alternatives f k (others a k.alternatives)) (rest_once p l.worker next f c once the_case)
+    pub rest_within : (i : Name) → times i (rest_of a f k) ≤ times i (only f)
+    rest_within = rest_less p l.worker next f c once the_case
+
+    pub goals_once : (i : Name) → times_inside i (with_content k.name (a_choice k.op (others a k.alternatives)) f.goals) ≤ 1
+    goals_once i = let h : times_of i f.content + (times_inside i (with_content k.name (a_choice k.op (others a k.alternatives)) f.goals) + 0) ≤ 1 = rest_few i in omega arith
+
+    pub second_drawn : (i : Name) → times i (second_of l.worker next a f k) ≤ drawn_times i l.worker next (length (sorted_names (rest_of a f k)))
+    second_drawn i = times-renamed l.worker next i (rest_of a f k) rest_few

@@ -1,5 +1,5 @@
 -- No box in a stable one has a goal by which it fails, nor has its second copy.
-use Rattle.std.proofs.Common.{◌≡◌, ◌≤◌, ◌<◌, List, [], ◌∷◌, ◌++◌, map, Bool, true, false, Some, None, refl, sym, ◌∙◌, ap, subst, inl, inr, arith}
+use Rattle.std.proofs.Common.{◌≡◌, ◌≤◌, ◌<◌, List, ◌∷◌, ◌++◌, Bool, true, false, Some, None, refl, sym, ◌∙◌, ap, subst, inl, inr, arith}
 use Rattle.std.specs.Prelude.{if◌then◌else◌, option_map}
 use Rattle.akl_terms.specs.declared.name.Name.{Name}
 use Rattle.akl_terms.specs.declared.name.Place.{Place}
@@ -10,7 +10,7 @@ use Rattle.akl_terms.specs.Names.{same_name}
 use Rattle.akl_terms.proofs.SameNames.{same_name-equal}
 use Rattle.akl_model.specs.declared.label.Rule.{Rule}
 use Rattle.akl_model.specs.Config.{IsIn, Atom, Content, Boxes, no_boxes, box, Goals, no_goals, atom, choice, Config, Held, an_atom, a_choice, held_in, with_content, Found, environment, box_at}
-use Rattle.akl_model.specs.Renaming.{renamed_atom, renamed_content, renamed, renamed_goals}
+use Rattle.akl_model.specs.Renaming.{renamed_atom, renamed, renamed_goals}
 use Rattle.akl_model.specs.Rules.{nothing, count_of, others}
 use Rattle.akl_model.specs.Conditions.{HasFailed, IsFailing}
 use Rattle.akl_model.specs.Stable.{only, frames_of, IsStableIn, IsStable}
@@ -24,6 +24,7 @@ use Rattle.step_laws.proofs.Whereabouts.{found_in}
 use Rattle.step_laws.proofs.Deeper.{in_deeper, in_path, named_found}
 use Rattle.step_laws.proofs.GoalEdits.{held_inside, with_content_in, with_content_here, with_content_other}
 use Rattle.step_laws.proofs.Failing.{failing_found, failed_goal}
+use Rattle.table_laws.proofs.RenamedBoxes.{in_renamed}
 
 unfailed : (p : Program) (inner : List Name) (E : Equations) (d : Found) → IsStableIn p inner E d → HasFailed d.goals → ⊥
 unfailed p inner E d s h = s.no_rule (record { rule = Rule.Fail; place = Place.Box d.content.name; alternative = None; worker = 0 }) 0 (record { boxes = no_boxes; drawn = 0 })
@@ -48,26 +49,9 @@ module _ (f : Name → Name) where
   failed_renamed (choice g o (box b hs bs) gs) (inl x) = inl x
   failed_renamed (choice g o bs gs) (inr x) = inr (failed_renamed gs x)
 
-  mutual
-    pub in_renamed : (r : List Content) (k : Content) (hs : Goals) (bs : Boxes) → BoxIn r k hs (renamed f bs)
-        → (q : List Content) × (j : Content) × (is : Goals) × BoxIn q j is bs × (r ≡ map (renamed_content f) q) × (k ≡ renamed_content f j) × (hs ≡ renamed_goals f is)
-    in_renamed r k hs no_boxes x = absurd x
-    in_renamed r k hs (box b gs bs) (inl e) = ([], b, gs, inl (refl, refl, refl), e.0, e.1, e.2)
-    in_renamed r k hs (box b gs bs) (inr (inl (rest, p, x))) =
-        let w : _ = in_renamed_goals rest k hs gs x in
-        (b ∷ w.0, w.1, w.2, inr (inl (w.0, refl, w.3)), p ∙ ap (λ (u : List Content). renamed_content f b ∷ u) w.4, w.5, w.6)
-    in_renamed r k hs (box b gs bs) (inr (inr x)) = let w : _ = in_renamed r k hs bs x in (w.0, w.1, w.2, inr (inr w.3), w.4, w.5, w.6)
-
-    pub in_renamed_goals : (r : List Content) (k : Content) (hs : Goals) (gs : Goals) → InGoals r k hs (renamed_goals f gs)
-        → (q : List Content) × (j : Content) × (is : Goals) × InGoals q j is gs × (r ≡ map (renamed_content f) q) × (k ≡ renamed_content f j) × (hs ≡ renamed_goals f is)
-    in_renamed_goals r k hs no_goals x = absurd x
-    in_renamed_goals r k hs (atom g a gs) x = in_renamed_goals r k hs gs x
-    in_renamed_goals r k hs (choice g o bs gs) (inl x) = let w : _ = in_renamed r k hs bs x in (w.0, w.1, w.2, inl w.3, w.4, w.5, w.6)
-    in_renamed_goals r k hs (choice g o bs gs) (inr x) = let w : _ = in_renamed_goals r k hs gs x in (w.0, w.1, w.2, inr w.3, w.4, w.5, w.6)
-
 -- the alternatives but one
 
-others_in : (a : Name) (r : List Content) (k : Content) (hs : Goals) (bs : Boxes) → BoxIn r k hs (others a bs) → BoxIn r k hs bs
+pub others_in : (a : Name) (r : List Content) (k : Content) (hs : Goals) (bs : Boxes) → BoxIn r k hs (others a bs) → BoxIn r k hs bs
 others_in a r k hs no_boxes x = x
 others_in a r k hs (box b gs bs) x = on (same_name a b.name) x (λ y. others_in a r k hs bs y)
   where

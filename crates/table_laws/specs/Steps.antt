@@ -143,9 +143,12 @@ pub record AreCopies (nodes : List Node) (around : Equations) (bs : Boxes) (copi
   pub each : (n : Name) → AreBoth (IsCopy nodes around bs) (box_at n bs) (copy_among copies n)
   pub once : (n : Name) → times_in n (map (λ (k : BoxCopy). k.name) copies) ≤ 1
 
--- the box without the alternative, under new names throughout
+-- the box without the alternative, and this under new names throughout
+abbrev pub rest_of : Name → Found → ChoiceIn → Boxes
+rest_of a f c = with_alternatives f c (others a c.alternatives)
+
 abbrev pub second_of : ℕ → ℕ → Name → Found → ChoiceIn → Boxes
-second_of worker next a f c = second_copy worker next (with_alternatives f c (others a c.alternatives))
+second_of worker next a f c = second_copy worker next (rest_of a f c)
 
 pub record SplitsBox (nodes : List Node) (worker next : ℕ) (f : Found) (a copy : Name) (copies : List BoxCopy) : Type 0 where
   pub choice : ChoiceIn
