@@ -27,6 +27,7 @@ pub mod Cutting
 pub mod Cut
 pub mod CopyRows
 pub mod Beside
+pub mod CopyOrder
 pub mod SplitRows
 pub mod Split
 pub mod Failed
