@@ -124,11 +124,13 @@ shapes_in no_goals = []
 shapes_in (atom g a gs) = (g, of_atom a) ∷ shapes_in gs
 shapes_in (choice g op bs gs) = (g, of_choice op (box_names bs)) ∷ shapes_in gs
 
+-- the copy of a name
 abbrev pub copy_among : List BoxCopy → Name → Option BoxCopy
 copy_among [] m = None
 copy_among (k ∷ ks) m = if same_name m k.name then Some k else copy_among ks m
 
--- the copy is the box found among these, where these equations are told around them
+-- the copy is the box found among these, where these equations are told around them: under all that stands for the equations around the box,
+-- the store stands for the box's own with them
 pub record IsCopy (nodes : List Node) (around : Equations) (bs : Boxes) (f : Found) (k : BoxCopy) : Type 0 where
   pub holder : k.holder ≡ holder_in f.content.name bs
   pub frames : k.store.frames ≡ f.content.frames
@@ -150,6 +152,7 @@ rest_of a f c = with_alternatives f c (others a c.alternatives)
 abbrev pub second_of : ℕ → ℕ → Name → Found → ChoiceIn → Boxes
 second_of worker next a f c = second_copy worker next (rest_of a f c)
 
+-- a box is split at an alternative: the copies are of what its second copy has, of which this is the name
 pub record SplitsBox (nodes : List Node) (worker next : ℕ) (f : Found) (a copy : Name) (copies : List BoxCopy) : Type 0 where
   pub choice : ChoiceIn
   pub is_choice : choice_with a f.goals ≡ Some choice
