@@ -17,6 +17,7 @@ use Rattle.akl_model.specs.Wakes.{names_down_to}
 use Rattle.akl_model.proofs.Options.{none_or, none_where, some_value}
 use Rattle.akl_model.proofs.Finds.{times_inside}
 use Rattle.akl_model.proofs.NamesKept.{Stand, replay-stands, stands_after}
+use Rattle.step_laws.specs.ChangedItems.{goal_of, IsReplaced}
 use Rattle.step_laws.specs.Holders.{IsAlternativeAt}
 use Rattle.step_laws.proofs.Whereabouts.{found_in}
 use Rattle.step_laws.proofs.Becomes.{Becomes}
@@ -69,49 +70,55 @@ module _ (rules : List Rule) (r : Run) (T U : Table) (l : Label) (d : Config) (t
   none_drawn : a.change.drawn ≡ 0
   none_drawn = ap (λ (k : Change). k.drawn) change_is
 
+  at_goal : goal_of l.place l.alternative a.site ≡ Some g
+  at_goal = ap (λ (x : Place). goal_of x l.alternative a.site) place
+
   -- where boxes stand
 
   abbrev b : Becomes l.worker (slice_index t.config.next l.worker) a.site a.change
-  b = cutting.cuts_to rules r.program r.query r.journal t.config l d t.replays a g n o bs place made.held boxes_are none_drawn
+  b = cutting.cuts_to rules r.program r.query r.journal t.config l d t.replays a g n o o bs no_boxes at_goal made.held boxes_are
 
   was_there : box_at a.site.content.name t.config.roots ≡ Some a.site
   was_there = found rules r.program t.config l d s a
 
   now_there : box_at a.site.content.name d.roots ≡ Some (site_now b)
-  now_there = cutting.now_there rules r.program r.query r.journal t.config l d t.replays a g n o bs place made.held boxes_are none_drawn
+  now_there = cutting.now_there rules r.program r.query r.journal t.config l d t.replays a g n o o bs no_boxes at_goal made.held boxes_are
 
   home_was : home_of g t.config.roots ≡ Some a.site
-  home_was = cutting.home_was rules r.program r.query r.journal t.config l d t.replays a g n o bs place made.held boxes_are none_drawn
+  home_was = cutting.home_was rules r.program r.query r.journal t.config l d t.replays a g n o o bs no_boxes at_goal made.held boxes_are
 
   home_now : home_of g d.roots ≡ Some (site_now b)
-  home_now = cutting.home_now rules r.program r.query r.journal t.config l d t.replays a g n o bs place made.held boxes_are none_drawn
+  home_now = cutting.home_now rules r.program r.query r.journal t.config l d t.replays a g n o o bs no_boxes at_goal made.held boxes_are
 
   content_now : b.content ≡ a.site.content
-  content_now = cutting.content_now rules r.program r.query r.journal t.config l d t.replays a g n o bs place made.held boxes_are none_drawn
+  content_now = cutting.content_now rules r.program r.query r.journal t.config l d t.replays a g n o o bs no_boxes at_goal made.held boxes_are
 
   names_now : goal_names b.goals ≡ goal_names a.site.goals
-  names_now = cutting.names_now rules r.program r.query r.journal t.config l d t.replays a g n o bs place made.held boxes_are none_drawn
+  names_now = cutting.names_now rules r.program r.query r.journal t.config l d t.replays a g n o o bs no_boxes at_goal made.held boxes_are
 
   held_now : held_in g b.goals ≡ Some (a_choice o (kept_by o n bs))
-  held_now = cutting.held_now rules r.program r.query r.journal t.config l d t.replays a g n o bs place made.held boxes_are none_drawn
+  held_now = cutting.held_now rules r.program r.query r.journal t.config l d t.replays a g n o o bs no_boxes at_goal made.held boxes_are
 
   others_now : (i : Name) → same_name i g ≡ false → held_in i b.goals ≡ held_in i a.site.goals
-  others_now = cutting.others_now rules r.program r.query r.journal t.config l d t.replays a g n o bs place made.held boxes_are none_drawn
+  others_now = cutting.others_now rules r.program r.query r.journal t.config l d t.replays a g n o o bs no_boxes at_goal made.held boxes_are
 
   differs : shape_of (a_choice o bs) ≡ shape_of (a_choice o (kept_by o n bs)) → ⊥
-  differs = cutting.differs rules r.program r.query r.journal t.config l d t.replays a g n o bs place made.held boxes_are none_drawn
+  differs = cutting.differs rules r.program r.query r.journal t.config l d t.replays a g n o o bs no_boxes at_goal made.held boxes_are
+
+  not_replaced : IsReplaced a → ⊥
+  not_replaced = cutting.not_replaced rules r.program r.query r.journal t.config l d t.replays a g n o o bs no_boxes at_goal made.held boxes_are refl
 
   same_roots : box_names t.config.roots ≡ box_names d.roots
-  same_roots = along.same_roots rules r.program t.config l d s a (cutting.not_replaced rules r.program r.query r.journal t.config l d t.replays a g n o bs place made.held boxes_are none_drawn)
+  same_roots = along.same_roots rules r.program t.config l d s a not_replaced
 
   abbrev IsUnderCut : Found → Type 0
-  IsUnderCut e = cutting.IsUnderCut rules r.program r.query r.journal t.config l d t.replays a g n o bs place made.held boxes_are none_drawn e
+  IsUnderCut e = cutting.IsUnderCut rules r.program r.query r.journal t.config l d t.replays a g n o o bs no_boxes at_goal made.held boxes_are e
 
   apart : (k : Name) (e h : Found) → box_at k t.config.roots ≡ Some e → box_at k d.roots ≡ Some h → (i : Name) → IsIn i (names_cut o n (box_names bs)) → IsIn i (names_down_to e) → ⊥
-  apart = cutting.apart rules r.program r.query r.journal t.config l d t.replays a g n o bs place made.held boxes_are none_drawn
+  apart = cutting.apart rules r.program r.query r.journal t.config l d t.replays a g n o o bs no_boxes at_goal made.held boxes_are
 
   alternative : (k : Name) → IsIn k (names_cut o n (box_names bs)) → IsAlternativeAt k g a.site t.config.roots
-  alternative = cutting.alternative rules r.program r.query r.journal t.config l d t.replays a g n o bs place made.held boxes_are none_drawn
+  alternative = cutting.alternative rules r.program r.query r.journal t.config l d t.replays a g n o o bs no_boxes at_goal made.held boxes_are
 
   -- the goal's row, and what goes by rows
 
@@ -146,7 +153,7 @@ module _ (rules : List Rule) (r : Run) (T U : Table) (l : Label) (d : Config) (t
       let v : IsIn x.alternative (names_cut o n (box_names bs)) = goes x.alternative x.goes in
       let w : IsAlternativeAt x.alternative g a.site t.config.roots = alternative x.alternative v in
       not_goal_inside T t.config t.unfolds s.once x.alternative i w.found e w.is_found y
-      (cutting.home_apart rules r.program r.query r.journal t.config l d t.replays a g n o bs place made.held boxes_are none_drawn i e h y z x.alternative v) x.inside
+      (cutting.home_apart rules r.program r.query r.journal t.config l d t.replays a g n o o bs no_boxes at_goal made.held boxes_are i e h y z x.alternative v) x.inside
 
   not_goal_cut_none : (i : Name) → home_of i t.config.roots ≡ None → IsGoalCut T g n i → ⊥
   not_goal_cut_none i h x =
@@ -165,7 +172,7 @@ module _ (rules : List Rule) (r : Run) (T U : Table) (l : Label) (d : Config) (t
           row.failing,
           f.box_stays k (not_cut k e h i j) ∙ x,
           fails_as rules r.program r.query r.journal t.config l d t.replays a T U t.unfolds k e h row.failing other i j
-              (λ v y cs replaced z u. cutting.not_replaced rules r.program r.query r.journal t.config l d t.replays a g n o bs place made.held boxes_are none_drawn replaced)
+              (λ v y cs replaced z u. not_replaced replaced)
               (subst (λ (v : BoxRow). FailsBy e.goals v.failing) same w.2.failing),
         );
   }
@@ -181,7 +188,7 @@ module _ (rules : List Rule) (r : Run) (T U : Table) (l : Label) (d : Config) (t
 
   site_row : IsBoxRow U d.roots (site_now b) site_was.0 × IsAsTold T U a.site.content.name
   site_row = site_same rules r.program r.query r.journal t.config l d t.replays a T U t.unfolds keeps b content_now names_now site_was.0 site_was.0.failing site_was.1 site_has
-      (kept_fails g o n bs a.site.goals b.goals site_was.0.failing few made.named made.held held_now others_now site_was.2.failing)
+      (kept_fails g o o n bs a.site.goals b.goals site_was.0.failing few made.named made.held held_now others_now site_was.2.failing)
 
   boxes : KeepsBoxes a T U
   boxes = record {
@@ -194,7 +201,7 @@ module _ (rules : List Rule) (r : Run) (T U : Table) (l : Label) (d : Config) (t
     where
       on : (box_at k t.config.roots ≡ None) ⊎ ((e : Found) × (box_at k t.config.roots ≡ Some e)) → U.box_of k ≡ None
       on (inl i) = f.box_stays k (not_cut_none k i) ∙ neither (IsBoxRow T t.config.roots) (box_at k t.config.roots) (T.box_of k) (t.unfolds.boxes k) i
-      on (inr (e, i)) = elim (cutting.stays_or rules r.program r.query r.journal t.config l d t.replays a g n o bs place made.held boxes_are none_drawn k e i) [
+      on (inr (e, i)) = elim (cutting.stays_or rules r.program r.query r.journal t.config l d t.replays a g n o o bs no_boxes at_goal made.held boxes_are k e i) [
         | inl w ↦ (let z : box_at k d.roots ≡ Some w.0 = w.1 in cc)
         | inr x ↦ f.box_goes k (is_cut k e i x)
       ]
@@ -235,36 +242,36 @@ module _ (rules : List Rule) (r : Run) (T U : Table) (l : Label) (d : Config) (t
   goal_goes i = on (none_or (home_of i t.config.roots))
     where
       absent : home_of i t.config.roots ≡ None → home_of i d.roots ≡ None
-      absent x = none_where (home_of i d.roots) (λ h y.
-          let w : (e : Found) × (home_of i t.config.roots ≡ Some e) = cutting.was_home rules r.program r.query r.journal t.config l d t.replays a g n o bs place made.held boxes_are none_drawn i h y in
-          let z : home_of i t.config.roots ≡ Some w.0 = w.1 in
-          cc)
+      absent x = none_where (home_of i d.roots) (λ h y. elim (cutting.was_home rules r.program r.query r.journal t.config l d t.replays a g n o o bs no_boxes at_goal made.held boxes_are i h y) [
+        | inl w ↦ (let z : home_of i t.config.roots ≡ Some w.0 = w.1 in cc)
+        | inr z ↦ z.stands
+      ])
 
       apart_from : home_of i t.config.roots ≡ None → i ≡ g → ⊥
       apart_from x e = let y : home_of i t.config.roots ≡ Some a.site = ap (λ (k : Name). home_of k t.config.roots) e ∙ home_was in cc
 
       under : (e : Found) → home_of i t.config.roots ≡ Some e → IsUnderCut e → home_of i d.roots ≡ None
-      under e x y = none_where (home_of i d.roots) (λ h z. cutting.home_apart rules r.program r.query r.journal t.config l d t.replays a g n o bs place made.held boxes_are none_drawn i e h x z y.one y.goes y.down)
+      under e x y = none_where (home_of i d.roots) (λ h z. cutting.home_apart rules r.program r.query r.journal t.config l d t.replays a g n o o bs no_boxes at_goal made.held boxes_are i e h x z y.one y.goes y.down)
 
       gone : home_of i d.roots ≡ None → U.goal_of i ≡ None → GoalGoes T U t.config d i
       gone x y = inr (ap (option_map spot_of) y ∙ sym (spot_none i d.roots x), λ row z. absurd cc)
 
       stays : (e h : Found) → home_of i t.config.roots ≡ Some e → home_of i d.roots ≡ Some h → (v : Bool) → same_name i g ≡ v → GoalGoes T U t.config d i
       stays e h x y true z = subst (GoalGoes T U t.config d) (sym (same_name-equal i g z)) itself
-      stays e h x y false z = inl (goal_rows i (not_goal_cut i e h x y) z, cutting.same_shape rules r.program r.query r.journal t.config l d t.replays a g n o bs place made.held boxes_are none_drawn i e h z x y)
+      stays e h x y false z = inl (goal_rows i (not_goal_cut i e h x y) z, cutting.same_shape rules r.program r.query r.journal t.config l d t.replays a g n o o bs no_boxes at_goal made.held boxes_are i e h z (λ k w cs replaced u v j. not_replaced replaced) x y)
 
       on : (home_of i t.config.roots ≡ None) ⊎ ((e : Found) × (home_of i t.config.roots ≡ Some e)) → GoalGoes T U t.config d i
       on (inl x) = inl (goal_rows i (not_goal_cut_none i x) (other_by i g (apart_from x)), no_shape i t.config.roots x ∙ sym (no_shape i d.roots (absent x)))
-      on (inr (e, x)) = elim (cutting.home_or rules r.program r.query r.journal t.config l d t.replays a g n o bs place made.held boxes_are none_drawn i e x) [
+      on (inr (e, x)) = elim (cutting.home_or rules r.program r.query r.journal t.config l d t.replays a g n o o bs no_boxes at_goal made.held boxes_are i e x) [
         | inl w ↦ stays e w.0 x w.1 (same_name i g) refl
         | inr y ↦ gone (under e x y) (f.goal_goes i (is_goal_cut i e x y))
       ]
 
   no_new : (k : Name) (h : Found) → box_at k t.config.roots ≡ None → box_at k d.roots ≡ Some h → ⊥
-  no_new k h i j =
-      let w : (e : Found) × (box_at k t.config.roots ≡ Some e) = cutting.was_there rules r.program r.query r.journal t.config l d t.replays a g n o bs place made.held boxes_are none_drawn k h j in
-      let z : box_at k t.config.roots ≡ Some w.0 = w.1 in
-      cc
+  no_new k h i j = elim (cutting.was_there rules r.program r.query r.journal t.config l d t.replays a g n o o bs no_boxes at_goal made.held boxes_are k h j) [
+    | inl w ↦ (let z : box_at k t.config.roots ≡ Some w.0 = w.1 in cc)
+    | inr z ↦ z.stands
+  ]
 
   pub leads_on : LeadsOn a T U
   leads_on = record {

@@ -7,8 +7,9 @@ use Rattle.akl_terms.specs.Equal.{Equations}
 use Rattle.akl_terms.specs.Names.{same_name}
 use Rattle.akl_model.specs.declared.label.Rule.{Rule}
 use Rattle.akl_model.specs.declared.label.Label.{Label}
-use Rattle.akl_model.specs.Config.{IsIn, Atom, Boxes, no_boxes, box, Goals, no_goals, atom, choice, Config, Held, held_in, Found, whole}
+use Rattle.akl_model.specs.Config.{IsIn, Atom, Boxes, no_boxes, box, Config, Held, held_in, Found, environment, whole}
 use Rattle.akl_model.specs.Instances.{instances, drawn_by}
+use Rattle.akl_model.specs.Renaming.{sorted_names}
 use Rattle.akl_model.specs.Derivations.{Applies}
 use Rattle.akl_model.specs.Changes.{goal_names, shape_of}
 use Rattle.akl_model.specs.Names.{one_if, times_in}
@@ -18,17 +19,16 @@ use Rattle.akl_model.proofs.Drawn.{drawn_times, drawn_place, drawn_once, times-i
 use Rattle.akl_model.proofs.NamesKept.{Stand, replay-stands}
 use Rattle.akl_model.proofs.ScopesAlong.{counted_in}
 use Rattle.step_laws.proofs.Whereabouts.{home_of-none}
+use Rattle.step_laws.proofs.Steps.{site_once}
 use Rattle.table_laws.specs.Rows.{BoxRow, Table}
 use Rattle.table_laws.specs.Unfolds.{IsBoxRow, AreBoth, spot_of, Unfolds}
 use Rattle.table_laws.specs.Stamped.{Run, IsTableOf}
-use Rattle.table_laws.specs.Steps.{ForksGoal, NewBox, Step, tells, forks, fails, cuts, promotes, numbered, PromotesGoal, AreNewBoxes, Makes}
-use Rattle.table_laws.specs.Writes.{names_drawn, IsFresh, DrawsFresh}
+use Rattle.table_laws.specs.Steps.{ForksGoal, NewBox, Step, tells, forks, fails, cuts, promotes, splits, numbered, PromotesGoal, AreNewBoxes, SplitsBox, rest_of, second_of, Makes}
+use Rattle.table_laws.specs.Writes.{names_drawn, names_copied, IsFresh, DrawsFresh}
+use Rattle.table_laws.proofs.Insides.{goal_names_less}
+use Rattle.table_laws.proofs.Copies.{copied_once, copied_counted}
 use Rattle.table_laws.proofs.Atoms.{first_names, atom_names}
-
-goal_names_less : (m : Name) (gs : Goals) → times_in m (goal_names gs) ≤ times_inside m gs
-goal_names_less m no_goals = omega arith
-goal_names_less m (atom g a gs) = let k : times_in m (goal_names gs) ≤ times_inside m gs = goal_names_less m gs in omega arith
-goal_names_less m (choice g o bs gs) = let k : times_in m (goal_names gs) ≤ times_inside m gs = goal_names_less m gs in omega arith
+use Rattle.table_laws.proofs.Splitting as splitting
 
 -- the names of new boxes and of their goals are among all that stand in them
 pub new_counted : (nodes : List Node) (around : Equations) (news : List NewBox) (bs : Boxes) (m : Name) → AreNewBoxes nodes around news bs → times_in m (names_drawn news) ≤ times m bs
@@ -96,6 +96,36 @@ fresh_step rules r T l d t a (promotes new solved goals) makes =
     let m : PromotesGoal r.program.templates.nodes l.worker (slice_index t.config.next l.worker) a.site makes.1.0 makes.1.1 new goals = makes.1.4 in
     subst (λ (xs : List (Name × Atom)). IsFresh T (map (λ (x : Name × Atom). x.0) xs)) (sym m.body)
     (numbered_fresh T t.config t.unfolds (replay-stands rules r.program r.query r.journal t.config t.replays) l.worker m.alternative.body)
+fresh_step rules r T l d t a (splits copy copies) makes = record {
+  once = λ m. copied_once r.program.templates.nodes (environment a.site) second second_once copies made.copied m;
+  no_box = λ m i. no_row_box T t.config m t.unfolds (nowhere m i);
+  no_goal = λ m i. no_row_goal T t.config m t.unfolds (nowhere m i);
+}
+  where
+    next : ℕ
+    next = slice_index t.config.next l.worker
+
+    s : Stand t.config
+    s = replay-stands rules r.program r.query r.journal t.config t.replays
+
+    made : SplitsBox r.program.templates.nodes l.worker (slice_index t.config.next l.worker) a.site makes.1.1 copy copies
+    made = makes.1.4
+
+    second : Boxes
+    second = second_of l.worker (slice_index t.config.next l.worker) makes.1.1 a.site made.choice
+
+    drawn : ℕ
+    drawn = length (sorted_names (rest_of makes.1.1 a.site made.choice))
+
+    few : (m : Name) → times m second ≤ drawn_times m l.worker next drawn
+    few m = splitting.second_drawn r.program next l a.site a.change a.makes makes.1.0 makes.1.1 made.choice makes.0 makes.1.2 makes.1.3 made.is_choice (site_once rules r.program t.config l d s a) m
+
+    second_once : (m : Name) → times m second ≤ 1
+    second_once m = let k : times m second ≤ drawn_times m l.worker next drawn = few m in let o : drawn_times m l.worker next drawn ≤ 1 = drawn_once m l.worker next drawn in omega arith
+
+    nowhere : (m : Name) → IsIn m (names_copied copies) → times m t.config.roots ≡ 0
+    nowhere m i = drawn_nowhere t.config l.worker drawn m s
+        (let h : 1 ≤ times m second = copied_counted r.program.templates.nodes (environment a.site) second second_once copies made.copied m i in let k : times m second ≤ drawn_times m l.worker next drawn = few m in omega arith)
 fresh_step rules r T l d t a (forks op news) makes = record {
   once = λ m. let k : times_in m (names_drawn news) ≤ drawn_times m l.worker next drawn = counted m in let o : drawn_times m l.worker next drawn ≤ 1 = drawn_once m l.worker next drawn in omega arith;
   no_box = λ m i. no_row_box T t.config m t.unfolds (nowhere m i);

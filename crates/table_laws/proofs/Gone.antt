@@ -27,12 +27,12 @@ use Rattle.table_laws.proofs.Sets.{other_by, other_name}
 
 -- names of boxes of which one goes
 
-pub same_names : (n : Name) (bs : Boxes) → (IsIn n (box_names bs) → ⊥) → box_names (edited n no_boxes bs) ≡ box_names bs
-same_names n no_boxes h = refl
-same_names n (box b gs bs) h = on (same_name n b.name) refl (same_names n bs (λ i. h (inr i)))
+pub same_names : (n : Name) (new bs : Boxes) → (IsIn n (box_names bs) → ⊥) → box_names (edited n new bs) ≡ box_names bs
+same_names n new no_boxes h = refl
+same_names n new (box b gs bs) h = on (same_name n b.name) refl (same_names n new bs (λ i. h (inr i)))
   where
-    on : (t : Bool) → same_name n b.name ≡ t → box_names (edited n no_boxes bs) ≡ box_names bs
-        → box_names (if t then joined_boxes no_boxes (edited n no_boxes bs) else box b (edited_inside n no_boxes gs) (edited n no_boxes bs)) ≡ b.name ∷ box_names bs
+    on : (t : Bool) → same_name n b.name ≡ t → box_names (edited n new bs) ≡ box_names bs
+        → box_names (if t then joined_boxes new (edited n new bs) else box b (edited_inside n new gs) (edited n new bs)) ≡ b.name ∷ box_names bs
     on true r e = absurd (h (inl (same_name-equal n b.name r)))
     on false r e = ap (λ (ns : List Name). b.name ∷ ns) e
 
@@ -42,7 +42,7 @@ names_left n (box b gs bs) o = on (same_name n b.name) refl (names_left n bs (om
   where
     on : (t : Bool) → same_name n b.name ≡ t → box_names (edited n no_boxes bs) ≡ less_name n (box_names bs)
         → box_names (if t then joined_boxes no_boxes (edited n no_boxes bs) else box b (edited_inside n no_boxes gs) (edited n no_boxes bs)) ≡ (if t then box_names bs else b.name ∷ less_name n (box_names bs))
-    on true r e = same_names n bs (λ i. let u : one_if (same_name n b.name) ≡ 1 = ap one_if r in let v : 1 ≤ times_in n (box_names bs) = counted_in n (box_names bs) i in omega (arith, u, v, o))
+    on true r e = same_names n no_boxes bs (λ i. let u : one_if (same_name n b.name) ≡ 1 = ap one_if r in let v : 1 ≤ times_in n (box_names bs) = counted_in n (box_names bs) i in omega (arith, u, v, o))
     on false r e = ap (λ (ns : List Name). b.name ∷ ns) e
 
 pub names_gone : (n : Name) (bs : Boxes) → IsIn n (box_names (edited n no_boxes bs)) → ⊥
@@ -58,30 +58,30 @@ names_gone n (box b gs bs) i = on (same_name n b.name) refl i (names_gone n bs)
 -- the goals by which a box fails
 
 -- where a choice has no alternative after the edit, it had none
-abbrev pub KeepsAlternatives : Name → Goals → Type 0
-KeepsAlternatives n gs = (g : Name) (o : Op) (bs : Boxes) → held_in g gs ≡ Some (a_choice o bs) → edited n no_boxes bs ≡ no_boxes → bs ≡ no_boxes
+abbrev pub KeepsAlternatives : Name → Boxes → Goals → Type 0
+KeepsAlternatives n new gs = (g : Name) (o : Op) (bs : Boxes) → held_in g gs ≡ Some (a_choice o bs) → edited n new bs ≡ no_boxes → bs ≡ no_boxes
 
-failing_edited : (n : Name) (h : Held) → IsFailing h → IsFailing (edited_held n no_boxes h)
-failing_edited n (an_atom a) x = x
-failing_edited n (a_choice o no_boxes) x = x
-failing_edited n (a_choice o (box b gs bs)) x = absurd x
+failing_edited : (n : Name) (new : Boxes) (h : Held) → IsFailing h → IsFailing (edited_held n new h)
+failing_edited n new (an_atom a) x = x
+failing_edited n new (a_choice o no_boxes) x = x
+failing_edited n new (a_choice o (box b gs bs)) x = absurd x
 
-failing_was : (n : Name) (h : Held) → ((o : Op) (bs : Boxes) → h ≡ a_choice o bs → edited n no_boxes bs ≡ no_boxes → bs ≡ no_boxes) → IsFailing (edited_held n no_boxes h) → IsFailing h
-failing_was n (an_atom a) k x = x
-failing_was n (a_choice o bs) k x = on (edited n no_boxes bs) refl x
+failing_was : (n : Name) (new : Boxes) (h : Held) → ((o : Op) (bs : Boxes) → h ≡ a_choice o bs → edited n new bs ≡ no_boxes → bs ≡ no_boxes) → IsFailing (edited_held n new h) → IsFailing h
+failing_was n new (an_atom a) k x = x
+failing_was n new (a_choice o bs) k x = on (edited n new bs) refl x
   where
-    on : (cs : Boxes) → edited n no_boxes bs ≡ cs → IsFailing (a_choice o cs) → IsFailing (a_choice o bs)
+    on : (cs : Boxes) → edited n new bs ≡ cs → IsFailing (a_choice o cs) → IsFailing (a_choice o bs)
     on no_boxes e y = subst (λ (cs : Boxes). IsFailing (a_choice o cs)) (sym (k o bs refl e)) y
     on (box b gs cs) e y = absurd y
 
-pub fails_by_kept : (n : Name) (gs : Goals) (o : Option Name) → ((g : Name) → times_inside g (edited_inside n no_boxes gs) ≤ 1) → KeepsAlternatives n gs → FailsBy gs o → FailsBy (edited_inside n no_boxes gs) o
-fails_by_kept n gs None once k x = λ y. on (failed_goal (edited_inside n no_boxes gs) once y)
+pub fails_by_kept : (n : Name) (new : Boxes) (gs : Goals) (o : Option Name) → ((g : Name) → times_inside g (edited_inside n new gs) ≤ 1) → KeepsAlternatives n new gs → FailsBy gs o → FailsBy (edited_inside n new gs) o
+fails_by_kept n new gs None once k x = λ y. on (failed_goal (edited_inside n new gs) once y)
   where
-    on : ((g : Name) × (h : Held) × (held_in g (edited_inside n no_boxes gs) ≡ Some h) × IsFailing h) → ⊥
+    on : ((g : Name) × (h : Held) × (held_in g (edited_inside n new gs) ≡ Some h) × IsFailing h) → ⊥
     on w =
-        let v : (h : Held) × (held_in w.0 gs ≡ Some h) × (edited_held n no_boxes h ≡ w.1) = map_some (edited_held n no_boxes) (held_in w.0 gs) w.1 (sym (held_edited n no_boxes w.0 gs) ∙ w.2) in
-        x (failing_found w.0 gs v.0 v.1 (failing_was n v.0 (λ o bs q e. k w.0 o bs (v.1 ∙ ap Some q) e) (subst IsFailing (sym v.2) w.3)))
-fails_by_kept n gs (Some g) once k x = (edited_held n no_boxes x.0, held_edited n no_boxes g gs ∙ ap (option_map (edited_held n no_boxes)) x.1, failing_edited n x.0 x.2)
+        let v : (h : Held) × (held_in w.0 gs ≡ Some h) × (edited_held n new h ≡ w.1) = map_some (edited_held n new) (held_in w.0 gs) w.1 (sym (held_edited n new w.0 gs) ∙ w.2) in
+        x (failing_found w.0 gs v.0 v.1 (failing_was n new v.0 (λ o bs q e. k w.0 o bs (v.1 ∙ ap Some q) e) (subst IsFailing (sym v.2) w.3)))
+fails_by_kept n new gs (Some g) once k x = (edited_held n new x.0, held_edited n new g gs ∙ ap (option_map (edited_held n new)) x.1, failing_edited n new x.0 x.2)
 
 no_names : (bs : Boxes) → box_names bs ≡ [] → bs ≡ no_boxes
 no_names no_boxes e = refl
@@ -102,7 +102,7 @@ fails_by_empty n g o bs gs e z = (
 
 -- boxes of which none goes
 pub kept_where : (n : Name) (bs : Boxes) → (IsIn n (box_names bs) → ⊥) → edited n no_boxes bs ≡ no_boxes → bs ≡ no_boxes
-kept_where n bs h e = no_names bs (sym (same_names n bs h) ∙ ap box_names e)
+kept_where n bs h e = no_names bs (sym (same_names n no_boxes bs h) ∙ ap box_names e)
 
 pub goals_once : (bs : Boxes) → ((m : Name) → times m bs ≤ 1) → (f : Found) → Stands f bs → (m : Name) → times_inside m f.goals ≤ 1
 goals_once bs once f x m =

@@ -6,12 +6,12 @@ use Rattle.akl_terms.specs.declared.name.Name.{Name}
 use Rattle.akl_terms.specs.declared.program.Op.{Op}
 use Rattle.akl_terms.specs.Names.{same_name}
 use Rattle.akl_terms.proofs.SameNames.{same_name-equal}
-use Rattle.akl_model.specs.Config.{IsIn, Content, Boxes, Config, Held, an_atom, a_choice, held_in, Found, box_at, home_of}
+use Rattle.akl_model.specs.Config.{IsIn, Content, Boxes, Goals, no_goals, atom, choice, Config, Held, an_atom, a_choice, held_in, Found, box_at, home_of}
 use Rattle.akl_model.specs.Names.{one_if, times_in}
 use Rattle.akl_model.specs.Changes.{of_choice, shape_of, box_names, goal_names}
 use Rattle.akl_model.specs.Wakes.{names_around, names_down_to, holder_in}
 use Rattle.akl_model.proofs.Options.{some_value, map_some}
-use Rattle.akl_model.proofs.Finds.{times}
+use Rattle.akl_model.proofs.Finds.{times, times_inside}
 use Rattle.akl_model.proofs.NamesKept.{box-itself, home-box}
 use Rattle.akl_model.proofs.Scoped.{IsIn-left, IsIn-right, IsIn-either}
 use Rattle.akl_model.proofs.ScopesAlong.{counted_in}
@@ -32,6 +32,11 @@ named_counted n (m ∷ ms) l = on (same_name n m) refl l (λ k. named_counted n 
     on : (t : Bool) → same_name n m ≡ t → 0 < one_if t + times_in n ms → (0 < times_in n ms → IsIn n ms) → IsIn n (m ∷ ms)
     on true r k f = inl (same_name-equal n m r)
     on false r k f = inr (f (omega arith))
+
+pub goal_names_less : (m : Name) (gs : Goals) → times_in m (goal_names gs) ≤ times_inside m gs
+goal_names_less m no_goals = omega arith
+goal_names_less m (atom g a gs) = let k : times_in m (goal_names gs) ≤ times_inside m gs = goal_names_less m gs in omega arith
+goal_names_less m (choice g o bs gs) = let k : times_in m (goal_names gs) ≤ times_inside m gs = goal_names_less m gs in omega arith
 
 -- a goal's spot, by the box in which it is held
 pub spot_held : (g : Name) (roots : Boxes) (f : Found) (h : Held) → home_of g roots ≡ Some f → held_in g f.goals ≡ Some h → spot_in g roots ≡ Some (record { home = f.content.name; shape = shape_of h })

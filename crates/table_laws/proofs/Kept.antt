@@ -114,10 +114,10 @@ down_to r k = map (λ (b : Content). b.name) r ++ k.name ∷ []
 abbrev pub IsUnderOne : List Name → List Content → Content → Type 0
 IsUnderOne ns r k = (m : Name) × IsIn m ns × IsIn m (down_to r k)
 
-at_name : (r : List Content) (k b : Content) → k ≡ b → IsIn b.name (down_to r k)
+pub at_name : (r : List Content) (k b : Content) → k ≡ b → IsIn b.name (down_to r k)
 at_name r k b e = IsIn-right b.name (map (λ (c : Content). c.name) r) (k.name ∷ []) (inl (ap (λ (c : Content). c.name) (sym e)))
 
-below_name : (r rest : List Content) (k b : Content) → r ≡ b ∷ rest → IsIn b.name (down_to r k)
+pub below_name : (r rest : List Content) (k b : Content) → r ≡ b ∷ rest → IsIn b.name (down_to r k)
 below_name r rest k b e = subst (λ (q : List Content). IsIn b.name (down_to q k)) (sym e) (inl refl)
 
 under_first : (r : List Content) (k : Content) (hs : Goals) (bs : Boxes) → BoxIn r k hs bs → IsUnderOne (box_names bs) r k
@@ -158,21 +158,21 @@ kept_or Op.Commit n r k hs bs x = alone_or n r k hs bs x
 kept_or Op.Choice n r k hs bs x = inl x
 
 -- what stands in goals does so where a choice keeps some alternatives, or is in one that goes
-pub kept_inside : (g : Name) (o : Op) (n : Name) (bs : Boxes) (r : List Content) (k : Content) (hs gs : Goals) → held_in g gs ≡ Some (a_choice o bs) → InGoals r k hs gs
-    → InGoals r k hs (with_content g (a_choice o (kept_by o n bs)) gs) ⊎ IsUnderOne (names_cut o n (box_names bs)) r k
-kept_inside g o n bs r k hs no_goals e x = absurd x
-kept_inside g o n bs r k hs (atom i a gs) e x = on (same_name g i) e (λ q. kept_inside g o n bs r k hs gs q x)
+pub kept_inside : (g : Name) (v o : Op) (n : Name) (bs : Boxes) (r : List Content) (k : Content) (hs gs : Goals) → held_in g gs ≡ Some (a_choice v bs) → InGoals r k hs gs
+    → InGoals r k hs (with_content g (a_choice v (kept_by o n bs)) gs) ⊎ IsUnderOne (names_cut o n (box_names bs)) r k
+kept_inside g v o n bs r k hs no_goals e x = absurd x
+kept_inside g v o n bs r k hs (atom i a gs) e x = on (same_name g i) e (λ q. kept_inside g v o n bs r k hs gs q x)
   where
-    on : (t : Bool) → (if t then Some (an_atom a) else held_in g gs) ≡ Some (a_choice o bs)
-        → (held_in g gs ≡ Some (a_choice o bs) → InGoals r k hs (with_content g (a_choice o (kept_by o n bs)) gs) ⊎ IsUnderOne (names_cut o n (box_names bs)) r k)
-        → InGoals r k hs (if t then choice g o (kept_by o n bs) gs else atom i a (with_content g (a_choice o (kept_by o n bs)) gs)) ⊎ IsUnderOne (names_cut o n (box_names bs)) r k
+    on : (t : Bool) → (if t then Some (an_atom a) else held_in g gs) ≡ Some (a_choice v bs)
+        → (held_in g gs ≡ Some (a_choice v bs) → InGoals r k hs (with_content g (a_choice v (kept_by o n bs)) gs) ⊎ IsUnderOne (names_cut o n (box_names bs)) r k)
+        → InGoals r k hs (if t then choice g v (kept_by o n bs) gs else atom i a (with_content g (a_choice v (kept_by o n bs)) gs)) ⊎ IsUnderOne (names_cut o n (box_names bs)) r k
     on true q f = cc
     on false q f = f q
-kept_inside g o n bs r k hs (choice i p cs gs) e x = on (same_name g i) e x (λ q y. kept_inside g o n bs r k hs gs q y)
+kept_inside g v o n bs r k hs (choice i p cs gs) e x = on (same_name g i) e x (λ q y. kept_inside g v o n bs r k hs gs q y)
   where
-    on : (t : Bool) → (if t then Some (a_choice p cs) else held_in g gs) ≡ Some (a_choice o bs) → BoxIn r k hs cs ⊎ InGoals r k hs gs
-        → (held_in g gs ≡ Some (a_choice o bs) → InGoals r k hs gs → InGoals r k hs (with_content g (a_choice o (kept_by o n bs)) gs) ⊎ IsUnderOne (names_cut o n (box_names bs)) r k)
-        → InGoals r k hs (if t then choice g o (kept_by o n bs) gs else choice i p cs (with_content g (a_choice o (kept_by o n bs)) gs)) ⊎ IsUnderOne (names_cut o n (box_names bs)) r k
+    on : (t : Bool) → (if t then Some (a_choice p cs) else held_in g gs) ≡ Some (a_choice v bs) → BoxIn r k hs cs ⊎ InGoals r k hs gs
+        → (held_in g gs ≡ Some (a_choice v bs) → InGoals r k hs gs → InGoals r k hs (with_content g (a_choice v (kept_by o n bs)) gs) ⊎ IsUnderOne (names_cut o n (box_names bs)) r k)
+        → InGoals r k hs (if t then choice g v (kept_by o n bs) gs else choice i p cs (with_content g (a_choice v (kept_by o n bs)) gs)) ⊎ IsUnderOne (names_cut o n (box_names bs)) r k
     on true q (inl y) f = let z : cs ≡ bs = cc in elim (kept_or o n r k hs bs (subst (BoxIn r k hs) z y)) [ inl u ↦ inl (inl u) | inr u ↦ inr u ]
     on true q (inr y) f = inl (inr y)
     on false q (inl y) f = inl (inl y)
@@ -184,9 +184,9 @@ not_failing n o no_boxes i x = i
 not_failing n o (box b gs bs) i x = x
 
 -- so what fails the box does so still
-pub kept_fails : (g : Name) (o : Op) (n : Name) (bs : Boxes) (gs hs : Goals) (w : Option Name) → ((i : Name) → times_inside i hs ≤ 1) → IsIn n (box_names bs) → held_in g gs ≡ Some (a_choice o bs)
-    → held_in g hs ≡ Some (a_choice o (kept_by o n bs)) → ((i : Name) → same_name i g ≡ false → held_in i hs ≡ held_in i gs) → FailsBy gs w → FailsBy hs w
-kept_fails g o n bs gs hs w once named was held others fails = by w fails
+pub kept_fails : (g : Name) (v o : Op) (n : Name) (bs : Boxes) (gs hs : Goals) (w : Option Name) → ((i : Name) → times_inside i hs ≤ 1) → IsIn n (box_names bs) → held_in g gs ≡ Some (a_choice v bs)
+    → held_in g hs ≡ Some (a_choice v (kept_by o n bs)) → ((i : Name) → same_name i g ≡ false → held_in i hs ≡ held_in i gs) → FailsBy gs w → FailsBy hs w
+kept_fails g v o n bs gs hs w once named was held others fails = by w fails
   where
     name_is : (i : Name) → (i ≡ g) ⊎ (same_name i g ≡ false)
     name_is i = on (same_name i g) refl
@@ -198,18 +198,18 @@ kept_fails g o n bs gs hs w once named was held others fails = by w fails
     kept : IsIn n (box_names (kept_by o n bs))
     kept = subst (IsIn n) (sym (kept_names o n bs)) (kept_itself o n (box_names bs) named)
 
-    by : (v : Option Name) → FailsBy gs v → FailsBy hs v
+    by : (x : Option Name) → FailsBy gs x → FailsBy hs x
     by None none = λ x.
         let u : (i : Name) × (h : Held) × (held_in i hs ≡ Some h) × IsFailing h = failed_goal hs once x in
         elim (name_is u.0) [
           | inl e ↦
-              let h : u.1 ≡ a_choice o (kept_by o n bs) = some_value (sym u.2 ∙ ap (λ (i : Name). held_in i hs) e ∙ held) in
-              not_failing n o (kept_by o n bs) kept (subst IsFailing h u.3)
+              let h : u.1 ≡ a_choice v (kept_by o n bs) = some_value (sym u.2 ∙ ap (λ (i : Name). held_in i hs) e ∙ held) in
+              not_failing n v (kept_by o n bs) kept (subst IsFailing h u.3)
           | inr e ↦ none (failing_found u.0 gs u.1 (sym (others u.0 e) ∙ u.2) u.3)
         ]
     by (Some i) (h, e, x) = elim (name_is i) [
       | inl q ↦
-          let z : h ≡ a_choice o bs = some_value (sym e ∙ ap (λ (j : Name). held_in j gs) q ∙ was) in
-          absurd (not_failing n o bs named (subst IsFailing z x))
+          let z : h ≡ a_choice v bs = some_value (sym e ∙ ap (λ (j : Name). held_in j gs) q ∙ was) in
+          absurd (not_failing n v bs named (subst IsFailing z x))
       | inr q ↦ (h, others i q ∙ e, x)
     ]

@@ -19,7 +19,8 @@ use Rattle.akl_model.specs.Rules.{alternative_of}
 use Rattle.akl_model.specs.Config.{IsIn, Atom, Content, Boxes, no_boxes, box, no_goals, with_names, with_ports, equations_of, Config, Held, an_atom, a_choice, held_in, Found, whole, box_at, home_of, site_of}
 use Rattle.akl_model.specs.Instances.{instances}
 use Rattle.akl_model.specs.Derivations.{Applies, Derives, Replays}
-use Rattle.akl_model.specs.Wakes.{names_down_to}
+use Rattle.akl_model.specs.Stable.{only}
+use Rattle.akl_model.specs.Wakes.{names_around, names_down_to}
 use Rattle.akl_model.proofs.Options.{some_value}
 use Rattle.akl_model.proofs.NamesKept.{Stand, replay-stands, derived-stands, site-box}
 use Rattle.constraint_laws.specs.StandingGrows.{AreToldIn}
@@ -29,17 +30,20 @@ use Rattle.local_store.specs.Stored.{Stored}
 use Rattle.akl_model.proofs.RuleCases.{inner}
 use Rattle.step_laws.specs.Stays.{GoesOn, Leaves, HaveShape, IsSameBox, HaveSameEquations}
 use Rattle.step_laws.specs.Likeness.{IsLike}
+use Rattle.step_laws.specs.Inside.{EachItem}
+use Rattle.step_laws.proofs.Whereabouts.{found_in}
+use Rattle.step_laws.proofs.Inside.{each_map}
 use Rattle.step_laws.proofs.Steps.{Later, later}
 use Rattle.step_laws.proofs.Same.{IsSame}
 use Rattle.step_laws.proofs.Same as untouched
 use Rattle.step_laws.proofs.Stays.{solved_alternative_stays}
-use Rattle.step_laws.proofs.StaysLaws.{goal_stays, goal_place, equations_grow}
+use Rattle.step_laws.proofs.StaysLaws.{goal_stays, goal_place, around_stays, inside_stays, equations_grow}
 use Rattle.plan_laws.specs.Right.{Reads, NoneBy, IsRightOn}
 use Rattle.plan_laws.specs.Stamps as stamps
 use Rattle.plan_laws.proofs.Right.{fresh}
 use Rattle.plan_laws.proofs.StampLaws.{stamped, stamped_right}
 use Rattle.table_laws.proofs.Insides.{choice_of}
-use Rattle.table_laws.specs.Steps.{NewBox, Step, tells, forks, fails, cuts, promotes, CutsGoal, numbered, PromotesGoal, TellsGoal, AreNewBoxes, ForksGoal, Makes, ReadsFor}
+use Rattle.table_laws.specs.Steps.{NewBox, Step, tells, forks, fails, cuts, promotes, splits, CutsGoal, numbered, PromotesGoal, SplitsBox, TellsGoal, AreNewBoxes, ForksGoal, Makes, ReadsFor}
 
 -- an atom by its shape
 atom_shape : (a : Atom) (h : Option Held) → HaveShape (Some (an_atom a)) h → h ≡ Some (an_atom a)
@@ -197,6 +201,22 @@ module _ (rules : List Rule) (p : Program) (q : Query) (journal further : List L
         same : IsSameBox a.site right.applies.site
         same = subst (IsSameBox a.site) f k.8
 
+    -- a box of which no item inside is changed, under unchanged constraints, is the same
+    same_box : EachItem Stamped (only a.site) → ((m : Name) → IsIn m (names_around a.site) → Stamped (Item.Store m)) → a.site ≡ right.applies.site
+    same_box u v = both (inside_stays rules p c further d w a.site.content.name a.site was (each_map Stamped (Leaves w) leaves (only a.site) u))
+      where
+        was : box_at a.site.content.name c.roots ≡ Some a.site
+        was = site-box l.place c.roots a.site s.once a.is_site
+
+        is : box_at a.site.content.name d.roots ≡ Some right.applies.site
+        is = subst (λ (n : Name). box_at n d.roots ≡ Some right.applies.site) (sym right.same_site) (site-box l.place d.roots right.applies.site t.once right.applies.is_site)
+
+        both : ((f : Found) × (box_at a.site.content.name d.roots ≡ Some f) × IsLike a.site f × (a.site.content ≡ f.content) × (a.site.goals ≡ f.goals)) → a.site ≡ right.applies.site
+        both (f, there, like, content, goals) = (λ i. record { around = around i; content = content i; goals = goals i }) ∙ some_value (sym there ∙ is)
+          where
+            around : a.site.around ≡ f.around
+            around = around_stays rules p c further d w a.site f (found_in a.site.content.name c.roots a.site was) (found_in a.site.content.name d.roots f there) like (λ m i. leaves (Item.Store m) (v m i))
+
     made_still : (step : Step) → ReadsFor Stamped l a.site step → Makes p l (slice_index c.next l.worker) a.site step → Makes p l (slice_index d.next l.worker) right.applies.site step
     made_still (tells new solved) u m = (m.0, (m.1.0, m.1.1, still_tells m.1.0 new m.1.1 (goal_read Stamped l m.1.0 a.site (inl m.0) m.1.1 u.0) u.1 m.1.2))
     made_still (forks op news) u m = (m.0, (m.1.0, m.1.1, still_forks m.1.0 op news m.1.1 (goal_read Stamped l m.1.0 a.site (inr m.0) m.1.1 u) m.1.2))
@@ -207,6 +227,18 @@ module _ (rules : List Rule) (p : Program) (q : Query) (journal further : List L
     made_still (promotes new solved goals) u m =
         let r : Reads Stamped Rule.Promote (Place.Goal m.1.0) l.alternative a.site = subst (λ (x : Rule). Reads Stamped x (Place.Goal m.1.0) l.alternative a.site) m.0 (subst (λ (x : Place). Reads Stamped l.rule x l.alternative a.site) m.1.2 u) in
         (m.0, (m.1.0, m.1.1, m.1.2, m.1.3, still_promotes m.1.0 m.1.1 new goals m.1.2 r.0 r.1 m.1.4))
+    made_still (splits copy copies) u m =
+        let r : Reads Stamped Rule.Split (Place.Box m.1.0) l.alternative a.site = subst (λ (x : Rule). Reads Stamped x (Place.Box m.1.0) l.alternative a.site) m.0 (subst (λ (x : Place). Reads Stamped l.rule x l.alternative a.site) m.1.2 u) in (
+          m.0,
+          (
+            m.1.0,
+            m.1.1,
+            m.1.2,
+            m.1.3,
+            subst (λ (k : ℕ). SplitsBox p.templates.nodes l.worker k right.applies.site m.1.1 copy copies) (sym (fresh rules p c further d w l none).0)
+                (subst (λ (f : Found). SplitsBox p.templates.nodes l.worker (slice_index c.next l.worker) f m.1.1 copy copies) (same_box r.0 r.1) m.1.4),
+          ),
+        )
 
   only_reads : (step : Step) → ReadsFor Stamped l a.site step → Reads Stamped l.rule l.place l.alternative a.site
   only_reads (tells new solved) u = u.0
@@ -214,6 +246,7 @@ module _ (rules : List Rule) (p : Program) (q : Query) (journal further : List L
   only_reads fails u = u
   only_reads cuts u = u
   only_reads (promotes new solved goals) u = u
+  only_reads (splits copy copies) u = u
 
   still_right : (step : Step) → ReadsFor Stamped l a.site step → Makes p l (slice_index c.next l.worker) a.site step
       → (result : Config) × (now : Applies rules p d l result) × Makes p l (slice_index d.next l.worker) now.site step × (now.site.content.name ≡ a.site.content.name) × (now.change.drawn ≡ a.change.drawn)

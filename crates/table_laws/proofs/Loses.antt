@@ -22,7 +22,7 @@ use Rattle.table_laws.specs.Rows.{BoxRow, GoalRow, Table}
 use Rattle.table_laws.specs.Unfolds.{FailsBy, IsBoxRow, spot_of, Unfolds}
 use Rattle.table_laws.specs.Inside.{IsInside, IsGoalInside}
 use Rattle.table_laws.specs.Writes.{less_name, set, home_in as home_of_row, changed_box, less_alternative, left_row, none_left, left_by, held_without, holder_in_row, Fails}
-use Rattle.table_laws.proofs.Sets.{other_by, other_name, set_here, set_other}
+use Rattle.table_laws.proofs.Sets.{not_some, other_by, other_name, set_here, set_other}
 use Rattle.table_laws.proofs.Frame.{neither, row_of}
 use Rattle.table_laws.proofs.Onward.{IsMark}
 use Rattle.table_laws.proofs.Insides.{goal_row, not_inside, not_inside_none, not_goal_inside, not_goal_inside_none}
@@ -47,7 +47,7 @@ pub record IsLeft (T U : Table) (c : Config) (n : Name) : Type 0 where
 -- a shape of which no alternative goes
 same_shape : (n : Name) (h : Held) → ((o : Op) (bs : Boxes) → h ≡ a_choice o bs → IsIn n (box_names bs) → ⊥) → shape_of h ≡ shape_of (edited_held n no_boxes h)
 same_shape n (an_atom a) x = refl
-same_shape n (a_choice o bs) x = ap (of_choice o) (sym (same_names n bs (x o bs refl)))
+same_shape n (a_choice o bs) x = ap (of_choice o) (sym (same_names n no_boxes bs (x o bs refl)))
 
 other_shape : (n : Name) (o : Op) (bs : Boxes) → IsIn n (box_names bs) → shape_of (a_choice o bs) ≡ shape_of (a_choice o (edited n no_boxes bs)) → ⊥
 other_shape n o bs i e = let q : box_names bs ≡ box_names (edited n no_boxes bs) = cc in names_gone n bs (subst (IsIn n) q i)
@@ -57,9 +57,6 @@ left_empty g r row o e = ap (λ (s : Shape). if none_left s then record r { fail
 
 left_some : (g : Name) (r : BoxRow) (row : GoalRow) (o : Op) (m : Name) (ms : List Name) → row.shape ≡ of_choice o (m ∷ ms) → left_by g (Some row) r ≡ r
 left_some g r row o m ms e = ap (λ (s : Shape). if none_left s then record r { failing = Some g } else r) e
-
-not_some : {A : Type 0} {v : A} → None ≡ Some v → ⊥
-not_some e = cc
 
 nothing : (m : Name) (ms : List Name) → [] ≡ m ∷ ms → ⊥
 nothing m ms e = cc
@@ -95,12 +92,12 @@ module _ (T U : Table) (c : Config) (u : Unfolds T c) (once : (m : Name) → tim
   holds g e o bs i h j = (alternative_at c.roots once n g e o bs i h j).holder
 
   -- a row that stays as it was
-  as_it_was : (k : Name) (e : Found) (r : BoxRow) → box_at k c.roots ≡ Some e → (IsIn n (names_down_to e) → ⊥) → FailsBy e.goals r.failing → U.box_of k ≡ Some r → KeepsAlternatives n e.goals
+  as_it_was : (k : Name) (e : Found) (r : BoxRow) → box_at k c.roots ≡ Some e → (IsIn n (names_down_to e) → ⊥) → FailsBy e.goals r.failing → U.box_of k ≡ Some r → KeepsAlternatives n no_boxes e.goals
       → (o : Option Name) × (U.box_of k ≡ Some (record r { failing = o })) × FailsBy (edited_inside n no_boxes e.goals) o
   as_it_was k e r i h x q keeps = (
     r.failing,
     q,
-    fails_by_kept n e.goals r.failing (λ g. goals_once (edited n no_boxes c.roots) still (left n e) (left_stands n c.roots once still e (found_in k c.roots e i) h) g) keeps x,
+    fails_by_kept n no_boxes e.goals r.failing (λ g. goals_once (edited n no_boxes c.roots) still (left n e) (left_stands n c.roots once still e (found_in k c.roots e i) h) g) keeps x,
   )
 
   root_left : holder_in n c.roots ≡ None → IsLeft T U c n
@@ -178,7 +175,7 @@ module _ (T U : Table) (c : Config) (u : Unfolds T c) (once : (m : Name) → tim
         on [] q = (Some g, row ∙ ap Some (left_empty g r now x.op (shape_now ∙ ap (of_choice x.op) q)), fails_by_empty n g x.op x.alternatives e.goals held_here (names_now ∙ q))
         on (m ∷ ms) q = as_it_was k e r i h v (row ∙ ap Some (left_some g r now x.op m ms (shape_now ∙ ap (of_choice x.op) q))) keeps
           where
-            keeps : KeepsAlternatives n e.goals
+            keeps : KeepsAlternatives n no_boxes e.goals
             keeps j o bs z w = elim (in_or n (box_names bs)) [
               | inr apart ↦ kept_where n bs apart w
               | inl among ↦
@@ -239,7 +236,7 @@ module _ (T U : Table) (c : Config) (u : Unfolds T c) (once : (m : Name) → tim
             )
 
         roots_same : box_names (edited n no_boxes c.roots) ≡ box_names c.roots
-        roots_same = same_names n c.roots (λ i. let r : holder_in n c.roots ≡ None = (root_box c.roots once n i).holder in not_some (sym r ∙ held))
+        roots_same = same_names n no_boxes c.roots (λ i. let r : holder_in n c.roots ≡ None = (root_box c.roots once n i).holder in not_some (sym r ∙ held))
 
   pub is_left : IsLeft T U c n
   is_left = elim (held_or c.roots once n site there) [ inl w ↦ root_left w.1 | inr w ↦ held_left w.0 w.1 w.2 ]

@@ -1,6 +1,7 @@
 -- Laws of tables.
 use Rattle.std.specs.Prelude.{◌≡◌, ℕ, ◌+◌, List, [], ◌∷◌, ◌++◌, length, map, Option, Some, None, slice_index}
 use Rattle.akl_terms.specs.declared.name.Name.{Name}
+use Rattle.akl_terms.specs.declared.name.Place.{Place}
 use Rattle.akl_terms.specs.declared.program.Program.{Program}
 use Rattle.akl_terms.specs.declared.program.Query.{Query}
 use Rattle.akl_model.specs.declared.label.Rule.{Rule}
@@ -13,7 +14,8 @@ use Rattle.plan_laws.specs.Right.{NoneBy}
 use Rattle.plan_laws.specs.Stamps as stamps
 use Rattle.table_laws.specs.Rows.{BoxRow, Table}
 use Rattle.table_laws.specs.Stamped.{Run, followed_by, IsTableOf}
-use Rattle.table_laws.specs.Steps.{Step, Makes, ReadsFor, IsSolvedWhen}
+use Rattle.table_laws.specs.Steps.{BoxCopy, Step, splits, Makes, ReadsFor, IsSolvedWhen}
+use Rattle.table_laws.specs.Copying.{AreNamesCopied, swapping, AreMade}
 use Rattle.table_laws.specs.Writes.{IsTable, DrawsFresh, Leads, set, atom_among, first_fail}
 
 -- a table that a label's step leads to, where the label applies, is one of the run that goes on with the label
@@ -34,6 +36,13 @@ LaterLaw = (rules : List Rule) (p : Program) (q : Query) (journal further : List
     → Replays rules p q journal c → Derives rules p c further d → NoneBy l further
     → ReadsFor (stamps.IsStamped rules p q (journal ++ further) (length journal)) l a.site step → Makes p l (slice_index c.next l.worker) a.site step
     → (result : Config) × (now : Applies rules p d l result) × Makes p l (slice_index d.next l.worker) now.site step × (now.site.content.name ≡ a.site.content.name) × (now.change.drawn ≡ a.change.drawn)
+
+-- copies that are made of the rows of the box of a split and of those inside it are what the label makes
+abbrev pub CopiesLaw : Type 0
+CopiesLaw = (rules : List Rule) (r : Run) (T : Table) (l : Label) (d : Config) (t : IsTableOf rules r T) (a : Applies rules r.program t.config l d) (n al : Name) (names : List Name) (copies : List BoxCopy)
+    → l.rule ≡ Rule.Split → l.place ≡ Place.Box n → l.alternative ≡ Some al → AreNamesCopied T n al names
+    → AreMade T n al (swapping names l.worker (slice_index t.config.next l.worker)) copies
+    → Makes r.program l (slice_index t.config.next l.worker) a.site (splits (swapping names l.worker (slice_index t.config.next l.worker) n) copies)
 
 -- the goals of a query by name: worker 0 draws them in order, after its box and its frame
 abbrev pub named_from : ℕ → List Atom → List (Name × Atom)

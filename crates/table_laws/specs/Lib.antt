@@ -2,6 +2,7 @@ pub mod Rows
 pub mod Unfolds
 pub mod Stamped
 pub mod Inside
+pub mod Copying
 pub mod Writes
 pub mod Steps
 pub mod Laws

@@ -1,26 +1,30 @@
 -- What a plan makes of the box of its place: a step, right for the box that was found.
-use Rattle.std.specs.Prelude.{◌≡◌, ℕ, ◌+◌, Bool, true, false, List, [], ◌∷◌, ◌++◌, Option, Some, None, ⊤, slice_get}
+use Rattle.std.specs.Prelude.{◌≡◌, ℕ, ◌+◌, ◌≤◌, Bool, true, false, List, [], ◌∷◌, ◌++◌, map, Option, Some, None, if◌then◌else◌, ⊤, slice_get}
 use Rattle.akl_terms.specs.declared.name.Name.{Name}
 use Rattle.akl_terms.specs.declared.name.Place.{Place}
 use Rattle.akl_terms.specs.declared.term.Node.{Node}
 use Rattle.akl_terms.specs.declared.program.Op.{Op}
 use Rattle.akl_terms.specs.declared.program.Definition.{Definition}
 use Rattle.akl_terms.specs.declared.program.Program.{Program}
+use Rattle.akl_terms.specs.Names.{same_name}
 use Rattle.akl_terms.specs.Tree.{Tree}
 use Rattle.akl_terms.specs.Equal.{Equations, IsTold}
 use Rattle.akl_terms.specs.Standing.{StandFor}
 use Rattle.akl_model.specs.declared.item.Item.{Item}
 use Rattle.akl_model.specs.declared.label.Rule.{Rule}
 use Rattle.akl_model.specs.declared.label.Label.{Label}
-use Rattle.akl_model.specs.Config.{IsIn, Atom, Content, Boxes, no_boxes, box, Goals, no_goals, atom, an_atom, a_choice, held_in, with_names, with_ports, Found, environment, whole}
+use Rattle.akl_model.specs.Config.{IsIn, Atom, ShownTree, Content, Boxes, no_boxes, box, Goals, no_goals, atom, choice, an_atom, a_choice, held_in, with_names, with_ports, Found, environment, whole, box_at}
 use Rattle.akl_model.specs.Instances.{instances}
-use Rattle.akl_model.specs.Changes.{box_names}
-use Rattle.akl_model.specs.Wakes.{names_around, names_down_to}
+use Rattle.akl_model.specs.Rules.{ChoiceIn, choice_with, others, with_alternatives, second_copy}
+use Rattle.akl_model.specs.Names.{times_in}
+use Rattle.akl_model.specs.Changes.{Shape, of_atom, of_choice, box_names}
+use Rattle.akl_model.specs.Wakes.{names_around, names_down_to, holder_in}
 use Rattle.rational_unify.specs.Solving.{bindings_in}
 use Rattle.local_store.specs.Stored.{Stored}
 use Rattle.local_store.specs.Chained.{IsSolvedChain}
 use Rattle.plan_laws.specs.Right.{Reads}
 use Rattle.table_laws.specs.Rows.{Table, stores_along, ports_in}
+use Rattle.table_laws.specs.Unfolds.{AreBoth}
 
 -- a new box: its store, and whether this was solved over the stores around it; its goals, which are atoms; and its body
 pub record NewBox : Type 0 where
@@ -30,14 +34,27 @@ pub record NewBox : Type 0 where
   pub goals : List (Name × Atom)
   pub body : List Atom
 
+-- a copy of a box, or of one inside it: the choice that holds it, none for the copy of the box itself; its store, and whether this was solved
+-- over the stores around it; its goals, each an atom or a choice; its body, and the terms that it shows
+pub record BoxCopy : Type 0 where
+  pub name : Name
+  pub holder : Option Name
+  pub store : Stored
+  pub solved : Bool
+  pub goals : List (Name × Shape)
+  pub body : List Atom
+  pub shown : List ShownTree
+
 -- a box gets a store, which may be solved over those around it, and the goal goes; the goal becomes a choice of new boxes; the box goes; a
--- choice loses the alternatives that a solved one leaves no room for; or its only alternative joins the box, which gets a store and new goals
+-- choice loses the alternatives that a solved one leaves no room for; its only alternative joins the box, which gets a store and new goals; or
+-- the box becomes two, the second of this name: the copies, in any order, of the box and of all boxes inside it
 pub data Step : Type 0 where
   tells : Stored → Bool → Step
   forks : Op → List NewBox → Step
   fails : Step
   cuts : Step
   promotes : Stored → Bool → List (Name × Atom) → Step
+  splits : Name → List BoxCopy → Step
 
 -- the equation of a goal is told: under all that stands for the equations around the box, the store stands for the box's equations and this one
 pub record TellsGoal (nodes : List Node) (f : Found) (g : Name) (new : Stored) : Type 0 where
@@ -101,6 +118,47 @@ pub record PromotesGoal (nodes : List Node) (worker next : ℕ) (f : Found) (g n
   pub stands : (D : Equations) → StandFor (IsTold D) (IsTold (environment f)) → StandFor (IsTold (D ++ bindings_in nodes new.bindings)) (IsTold (whole f ++ alternative.equations))
   pub body : goals ≡ numbered worker next alternative.body
 
+-- the goals of a box, with their shapes
+abbrev pub shapes_in : Goals → List (Name × Shape)
+shapes_in no_goals = []
+shapes_in (atom g a gs) = (g, of_atom a) ∷ shapes_in gs
+shapes_in (choice g op bs gs) = (g, of_choice op (box_names bs)) ∷ shapes_in gs
+
+-- the copy of a name
+abbrev pub copy_among : List BoxCopy → Name → Option BoxCopy
+copy_among [] m = None
+copy_among (k ∷ ks) m = if same_name m k.name then Some k else copy_among ks m
+
+-- the copy is the box found among these, where these equations are told around them: under all that stands for the equations around the box,
+-- the store stands for the box's own with them
+pub record IsCopy (nodes : List Node) (around : Equations) (bs : Boxes) (f : Found) (k : BoxCopy) : Type 0 where
+  pub holder : k.holder ≡ holder_in f.content.name bs
+  pub frames : k.store.frames ≡ f.content.frames
+  pub ports : ports_in nodes k.store.ports ≡ f.content.ports
+  pub stands : (D : Equations) → StandFor (IsTold D) (IsTold (around ++ environment f)) → StandFor (IsTold (D ++ bindings_in nodes k.store.bindings)) (IsTold (around ++ whole f))
+  pub goals : k.goals ≡ shapes_in f.goals
+  pub body : k.body ≡ f.content.body
+  pub shown : k.shown ≡ f.content.shown
+
+-- each box that is found among these has one copy, and there are no other copies
+pub record AreCopies (nodes : List Node) (around : Equations) (bs : Boxes) (copies : List BoxCopy) : Type 0 where
+  pub each : (n : Name) → AreBoth (IsCopy nodes around bs) (box_at n bs) (copy_among copies n)
+  pub once : (n : Name) → times_in n (map (λ (k : BoxCopy). k.name) copies) ≤ 1
+
+-- the box without the alternative, and this under new names throughout
+abbrev pub rest_of : Name → Found → ChoiceIn → Boxes
+rest_of a f c = with_alternatives f c (others a c.alternatives)
+
+abbrev pub second_of : ℕ → ℕ → Name → Found → ChoiceIn → Boxes
+second_of worker next a f c = second_copy worker next (rest_of a f c)
+
+-- a box is split at an alternative: the copies are of what its second copy has, of which this is the name
+pub record SplitsBox (nodes : List Node) (worker next : ℕ) (f : Found) (a copy : Name) (copies : List BoxCopy) : Type 0 where
+  pub choice : ChoiceIn
+  pub is_choice : choice_with a f.goals ≡ Some choice
+  pub named : box_names (second_of worker next a f choice) ≡ copy ∷ []
+  pub copied : AreCopies nodes (environment f) (second_of worker next a f choice) copies
+
 -- the step is what the label makes of the box of its place, where the names drawn go on from the next number
 abbrev pub Makes : Program → Label → ℕ → Found → Step → Type 0
 Makes p l next f (tells new solved) = (l.rule ≡ Rule.Tell) × ((g : Name) × (l.place ≡ Place.Goal g) × TellsGoal p.templates.nodes f g new)
@@ -109,6 +167,8 @@ Makes p l next f fails = l.rule ≡ Rule.Fail
 Makes p l next f cuts = (l.rule ≡ Rule.Cut) × ((g : Name) × (n : Name) × (l.place ≡ Place.Goal g) × (l.alternative ≡ Some n) × CutsGoal f g n)
 Makes p l next f (promotes new solved goals) = (l.rule ≡ Rule.Promote)
     × ((g : Name) × (n : Name) × (l.place ≡ Place.Goal g) × (l.alternative ≡ Some n) × PromotesGoal p.templates.nodes l.worker next f g n new goals)
+Makes p l next f (splits copy copies) = (l.rule ≡ Rule.Split)
+    × ((n : Name) × (a : Name) × (l.place ≡ Place.Box n) × (l.alternative ≡ Some a) × SplitsBox p.templates.nodes l.worker next f a copy copies)
 
 -- what has to be unchanged for a step to be right still: what its label reads, and for one that gives the box a store, the constraints
 -- down to the box
@@ -125,6 +185,12 @@ abbrev pub AreSolvedIf : Table → List Name → List NewBox → Type 0
 AreSolvedIf T around [] = ⊤
 AreSolvedIf T around (n ∷ ns) = IsSolvedIf n.solved T around n.store × AreSolvedIf T around ns
 
+-- the stores of the copies around one, the outermost first, by the choice that holds it
+pub data AreAround (copies : List BoxCopy) : Option Name → List Stored → Type 0 where
+  outermost : AreAround copies None []
+  further : {g : Name} {stores : List Stored} (k : BoxCopy) → copy_among copies k.name ≡ Some k → IsIn g (map (λ (x : Name × Shape). x.0) k.goals) → AreAround copies k.holder stores
+      → AreAround copies (Some g) (stores ++ k.store ∷ [])
+
 -- the new stores of a step are solved in a table, where they say so
 abbrev pub IsSolvedIn : Table → Found → Step → Type 0
 IsSolvedIn T f (tells new solved) = IsSolvedIf solved T (names_around f) new
@@ -132,6 +198,8 @@ IsSolvedIn T f (forks op news) = AreSolvedIf T (names_down_to f) news
 IsSolvedIn T f fails = ⊤
 IsSolvedIn T f cuts = ⊤
 IsSolvedIn T f (promotes new solved goals) = IsSolvedIf solved T (names_around f) new
+IsSolvedIn T f (splits copy copies) = (k : BoxCopy) (stores : List Stored) → copy_among copies k.name ≡ Some k → AreAround copies k.holder stores
+    → k.solved ≡ true → IsSolvedChain T.nodes (stores_along T (names_around f) ++ (stores ++ k.store ∷ []))
 
 -- as many labels were made when the step was planned, in the very table; or nothing is known of that
 abbrev pub IsSolvedWhen : Option ℕ → Table → Found → Step → Type 0

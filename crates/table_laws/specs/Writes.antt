@@ -12,7 +12,7 @@ use Rattle.akl_model.specs.Derivations.{raised}
 use Rattle.local_store.specs.Stored.{Stored}
 use Rattle.table_laws.specs.Rows.{BoxRow, GoalRow, Table}
 use Rattle.table_laws.specs.Inside.{IsInside, IsGoalInside}
-use Rattle.table_laws.specs.Steps.{NewBox, Step, tells, forks, fails, cuts, promotes}
+use Rattle.table_laws.specs.Steps.{NewBox, BoxCopy, copy_among, Step, tells, forks, fails, cuts, promotes, splits}
 
 -- the same table
 pub record IsTable (U T : Table) : Type 0 where
@@ -190,15 +190,21 @@ abbrev pub cut_row : Name → ℕ → GoalRow → GoalRow
 cut_row n number r = record r { shape = cut_shape n r.shape; changed = number }
 
 -- a box is one of those that go, or stands inside one
-pub record IsCut (T : Table) (g n m : Name) : Type 0 where
+pub record IsInsideOne (T : Table) (names : List Name) (m : Name) : Type 0 where
   pub alternative : Name
-  pub goes : IsIn alternative (cut_from n (T.goal_of g))
+  pub goes : IsIn alternative names
   pub inside : IsInside T alternative m
 
-pub record IsGoalCut (T : Table) (g n m : Name) : Type 0 where
+pub record IsGoalInsideOne (T : Table) (names : List Name) (g : Name) : Type 0 where
   pub alternative : Name
-  pub goes : IsIn alternative (cut_from n (T.goal_of g))
-  pub inside : IsGoalInside T alternative m
+  pub goes : IsIn alternative names
+  pub inside : IsGoalInside T alternative g
+
+abbrev pub IsCut : Table → Name → Name → Name → Type 0
+IsCut T g n m = IsInsideOne T (cut_from n (T.goal_of g)) m
+
+abbrev pub IsGoalCut : Table → Name → Name → Name → Type 0
+IsGoalCut T g n m = IsGoalInsideOne T (cut_from n (T.goal_of g)) m
 
 pub record Cuts (T U : Table) (g n : Name) : Type 0 where
   pub nodes : U.nodes ≡ T.nodes
@@ -239,11 +245,100 @@ after_promote g n new solved_at goals worker drawn T = record T {
   steps = T.steps + 1;
 }
 
+-- a box becomes two: in the first a choice keeps an alternative alone, the second is the copy without it, and what holds the box gets the
+-- copy after it, a choice or the list of root boxes
+
+abbrev pub alone_shape : Name → Shape → Shape
+alone_shape a (of_atom b) = of_atom b
+alone_shape a (of_choice op alternatives) = of_choice op (name_alone a alternatives)
+
+abbrev pub alone_row : Name → ℕ → GoalRow → GoalRow
+alone_row a number r = record r { shape = alone_shape a r.shape; changed = number }
+
+abbrev pub others_in : Name → Shape → List Name
+others_in a (of_atom b) = []
+others_in a (of_choice op alternatives) = less_name a alternatives
+
+abbrev pub others_from : Name → Option GoalRow → List Name
+others_from a None = []
+others_from a (Some row) = others_in a row.shape
+
+-- names with another one after one of them
+abbrev pub name_after : Name → Name → List Name → List Name
+name_after n copy [] = []
+name_after n copy (m ∷ ms) = if same_name n m then m ∷ copy ∷ ms else m ∷ name_after n copy ms
+
+abbrev pub beside_shape : Name → Name → Shape → Shape
+beside_shape n copy (of_atom b) = of_atom b
+beside_shape n copy (of_choice op alternatives) = of_choice op (name_after n copy alternatives)
+
+abbrev pub beside_row : Name → Name → ℕ → GoalRow → GoalRow
+beside_row n copy number r = record r { shape = beside_shape n copy r.shape; changed = number }
+
+-- the row of a goal, and a goal with another row, where there is one
+abbrev pub goal_at : Option Name → (Name → Option GoalRow) → Option GoalRow
+goal_at None at = None
+goal_at (Some g) at = at g
+
+abbrev pub changed_goal : Option Name → (GoalRow → GoalRow) → (Name → Option GoalRow) → Name → Option GoalRow
+changed_goal None change at = at
+changed_goal (Some g) change at = set g (option_map change (at g)) at
+
+-- the copy of the box itself is held as the box is
+abbrev pub copied_row : Option Name → Option ℕ → ℕ → BoxCopy → BoxRow
+copied_row holder at number k = record {
+  holder = or_else k.holder holder;
+  store = k.store;
+  changed = number;
+  solved_at = solved_when at k.solved;
+  goals = map (λ (x : Name × Shape). x.0) k.goals;
+  goals_changed = number;
+  failing = None;
+  body = k.body;
+  shown = k.shown;
+}
+
+abbrev pub shape_among : Name → ℕ → List (Name × Shape) → Name → Option GoalRow
+shape_among home number [] m = None
+shape_among home number (x ∷ xs) m = if same_name m x.0 then Some (record { home = home; shape = x.1; changed = number }) else shape_among home number xs m
+
+abbrev pub copied_goal_of : ℕ → List BoxCopy → Name → Option GoalRow
+copied_goal_of number [] m = None
+copied_goal_of number (k ∷ ks) m = or_else (shape_among k.name number k.goals m) (copied_goal_of number ks m)
+
+-- the other alternatives of the choice that holds one
+abbrev pub others_beside : Table → Name → List Name
+others_beside T a = others_from a (goal_at (holder_in_row (T.box_of a)) T.goal_of)
+
+-- what there is for a root box, and else what there was
+abbrev pub if_root : {A : Type 0} → Option Name → A → A → A
+if_root None new old = new
+if_root (Some g) new old = old
+
+-- `at` is how many labels there were when the stores were solved: one fewer than when the copies are made
+pub record Splits (T U : Table) (n a copy : Name) (copies : List BoxCopy) (at : Option ℕ) (worker drawn : ℕ) : Type 0 where
+  pub nodes : U.nodes ≡ T.nodes
+  pub box_goes : (m : Name) → IsInsideOne T (others_beside T a) m → U.box_of m ≡ None
+  pub goal_goes : (m : Name) → IsGoalInsideOne T (others_beside T a) m → U.goal_of m ≡ None
+  pub box_stays : (m : Name) → (IsInsideOne T (others_beside T a) m → ⊥)
+      → U.box_of m ≡ or_else (option_map (copied_row (holder_in_row (T.box_of n)) (option_map (λ (k : ℕ). k + 1) at) (T.steps + 1)) (copy_among copies m)) (T.box_of m)
+  pub goal_stays : (m : Name) → (IsGoalInsideOne T (others_beside T a) m → ⊥)
+      → U.goal_of m ≡ or_else (copied_goal_of (T.steps + 1) copies m)
+      (changed_goal (holder_in_row (T.box_of n)) (beside_row n copy (T.steps + 1)) (changed_goal (holder_in_row (T.box_of a)) (alone_row a (T.steps + 1)) T.goal_of) m)
+  pub roots : U.roots ≡ if_root (holder_in_row (T.box_of n)) (name_after n copy T.roots) T.roots
+  pub roots_changed : U.roots_changed ≡ if_root (holder_in_row (T.box_of n)) (T.steps + 1) T.roots_changed
+  pub next : (w : ℕ) → slice_index U.next w ≡ slice_index (raised worker drawn T.next) w
+  pub steps : U.steps ≡ T.steps + 1
+
 -- the names that a step draws for boxes and goals stand nowhere in a table, and no two are the same
 
 abbrev pub names_drawn : List NewBox → List Name
 names_drawn [] = []
 names_drawn (n ∷ ns) = n.name ∷ (map (λ (x : Name × Atom). x.0) n.goals ++ names_drawn ns)
+
+abbrev pub names_copied : List BoxCopy → List Name
+names_copied [] = []
+names_copied (k ∷ ks) = k.name ∷ (map (λ (x : Name × Shape). x.0) k.goals ++ names_copied ks)
 
 pub record IsFresh (T : Table) (names : List Name) : Type 0 where
   pub once : (m : Name) → times_in m names ≤ 1
@@ -256,6 +351,7 @@ DrawsFresh T (forks op news) = IsFresh T (names_drawn news)
 DrawsFresh T fails = ⊤
 DrawsFresh T cuts = ⊤
 DrawsFresh T (promotes new solved goals) = IsFresh T (map (λ (x : Name × Atom). x.0) goals)
+DrawsFresh T (splits copy copies) = IsFresh T (names_copied copies)
 
 -- the step of a label leads from table to table: `at` is how many labels there were when its stores were solved, where they still are
 abbrev pub Leads : Table → Label → Option ℕ → ℕ → Step → Table → Type 0
@@ -283,4 +379,9 @@ Leads T l at drawn (promotes new solved goals) U = of_place l.place l.alternativ
   where
     of_place : Place → Option Name → Type 0
     of_place (Place.Goal g) (Some n) = IsTable U (after_promote g n new (solved_when at solved) goals l.worker drawn T)
+    of_place place alternative = ⊥
+Leads T l at drawn (splits copy copies) U = of_place l.place l.alternative
+  where
+    of_place : Place → Option Name → Type 0
+    of_place (Place.Box n) (Some a) = Splits T U n a copy copies at l.worker drawn
     of_place place alternative = ⊥

@@ -1,6 +1,6 @@
 //! Laws of tables, each the contract of a function without a body.
 
-ghost use Rattle.table_laws.specs.Laws.{FreshStepLaw, LaterLaw, StartLaw, StepLaw};
+ghost use Rattle.table_laws.specs.Laws.{CopiesLaw, FreshStepLaw, LaterLaw, StartLaw, StepLaw};
 
 /// A table of a query's one box, to which nothing was told, is one of the run without labels.
 pub fn start()
@@ -16,6 +16,12 @@ pub fn steps()
 /// The names that a step draws stand nowhere in the table, and no two of them are the same.
 pub fn drawn_names()
     ensures { FreshStepLaw }
+{}
+
+/// Copies that are made of the rows of the box of a split and of those inside it, with new names, are those
+/// that the label makes.
+pub fn made_copies()
+    ensures { CopiesLaw }
 {}
 
 /// A step that was made for a prefix of a run is right for the whole of it, where no label after the
