@@ -1,98 +1,87 @@
 //! `persist_map`: that calls succeed, that maps which share nodes stay, and use from other threads.
 use persist_map::PMap;
-use std::alloc::{AllocError, Global};
-use std::collections::BTreeMap;
+use std::alloc::AllocError;
+use std::ops::Range;
+use std::process::Abort;
 use std::test::Fail;
 use std::thread::join;
 
-fn pairs<V: Copy + Drop>(alloc: Global, map: &PMap<u32, V>) -> Result<Vec<(u32, V)>, AllocError> {
-    map.walk().map(|(key, value)| (*key, *value)).collect(alloc)
+/// What stands at each key.
+type Values = [Option<u32>; 64];
+
+/// Whether a map has these values and no other, in the order of their keys.
+fn agree(map: &PMap<u32, u32>, values: &Values) -> bool {
+    let mut pairs = map.walk();
+    for (at, value) in values.iter().enumerate() {
+        if map.get(&(at as u32)) != value.as_ref() {
+            return false;
+        }
+        if let Some(value) = value {
+            match pairs.next() {
+                Some((key, found)) if *key as usize == at && found == value => {}
+                _ => return false,
+            }
+        }
+    }
+    pairs.next().is_none()
 }
 
-// A number that looks random, from the one before it.
-fn after(number: u64) -> u64 {
-    number
-        .wrapping_mul(6364136223846793005)
-        .wrapping_add(1442695040888963407)
+/// Takes a key out or sets its value, in place or not, and gives what stands there then.
+fn change(
+    map: &mut PMap<u32, u32>,
+    way: u64,
+    key: u32,
+    value: u32,
+) -> Result<Option<u32>, AllocError> {
+    match way {
+        0 => map.remove(&key)?,
+        1 => *map = map.without(&key)?,
+        2 => *map = map.with(key, value)?,
+        _ => map.insert(key, value)?,
+    }
+    Ok(if way < 2 { None } else { Some(value) })
 }
 
-#[test]
-fn a_change_leaves_the_maps_that_share_nodes(rt: HostRuntime) -> Result<(), Fail> {
-    let first = PMap::new(rt.alloc()).with(1, 'a')?.with(2, 'b')?;
-    let mut last = first.share()?;
-    last.insert(1, 'c')?;
-    last.insert(3, 'd')?;
-    last.remove(&2)?;
-    assert_eq!(rt;
-        pairs(rt.alloc(), &last)?.as_slice(),
-        [(1, 'c'), (3, 'd')].as_slice()
-    );
-    assert_eq!(rt;
-        pairs(rt.alloc(), &first)?.as_slice(),
-        [(1, 'a'), (2, 'b')].as_slice()
-    );
-    assert_eq!(rt; first.without(&1)?.get(&1), None);
-    assert_eq!(rt; first.get(&1), Some(&'a'));
-    assert_eq!(rt; last.height(), 2);
+/// A number that looks random.
+fn mixed(number: u32) -> u64 {
+    let bits = (number as u64).wrapping_mul(0x9e3779b97f4a7c15);
+    (bits ^ bits >> 29).wrapping_mul(0xbf58476d1ce4e5b9)
+}
+
+/// Makes changes of these numbers.
+fn make_changes(
+    rt: &impl Abort,
+    map: &mut PMap<u32, u32>,
+    values: &mut Values,
+    numbers: Range<u32>,
+) -> Result<(), AllocError> {
+    for number in numbers {
+        let bits = mixed(number);
+        let key = (bits >> 40) % 64;
+        values[key as usize] = change(map, (bits >> 50) % 8, key as u32, number)?;
+        assert!(rt; agree(map, values), "at {number}");
+    }
     Ok(())
 }
 
 #[test]
-fn agrees_with_a_map_of_std(rt: HostRuntime) -> Result<(), Fail> {
+fn a_map_has_its_values_and_those_that_share_nodes_stay(rt: HostRuntime) -> Result<(), Fail> {
     let mut map = PMap::new(rt.alloc());
-    let mut other = BTreeMap::new(rt.alloc());
-    let mut middle = map.share()?;
-    let mut seed = 1;
-    for step in 0..600u32 {
-        seed = after(seed);
-        let key = (seed >> 58) as u32;
-        match seed >> 40 & 7 {
-            0 => {
-                map.remove(&key)?;
-                other.remove(&key);
-            }
-            1 => {
-                map = map.without(&key)?;
-                other.remove(&key);
-            }
-            2 => {
-                map = map.with(key, step)?;
-                other.insert(key, step)?;
-            }
-            _ => {
-                map.insert(key, step)?;
-                other.insert(key, step)?;
-            }
-        }
-        if step == 300 {
-            middle = map.share()?;
-        }
-        assert_eq!(rt; map.get(&key), other.get(&key), "at step {step}");
-        let expected: Vec<(u32, u32)> = other
-            .iter()
-            .map(|(key, value)| (*key, *value))
-            .collect(rt.alloc())?;
-        assert_eq!(rt;
-            pairs(rt.alloc(), &map)?.as_slice(),
-            expected.as_slice(),
-            "at step {step}"
-        );
-    }
-    assert!(rt; pairs(rt.alloc(), &middle)?.iter().all(|pair| pair.1 <= 300));
+    let mut values = [None; 64];
+    make_changes(&rt, &mut map, &mut values, 0..300)?;
+    let shared = map.share()?;
+    let then = values;
+    make_changes(&rt, &mut map, &mut values, 300..600)?;
+    assert!(rt; agree(&shared, &then));
+    assert!(rt; 4 < shared.height() && shared.height() < 10);
     Ok(())
 }
 
 #[test]
 fn other_threads_read_and_drop(rt: HostRuntime) -> Result<(), Fail> {
     let map = PMap::new(rt.alloc()).with(1, 'a')?.with(2, 'b')?;
-    let (first, second) = join(&rt, || map.get(&1).copied(), || map.get(&2).copied());
-    assert_eq!(rt; (first, second), (Some('a'), Some('b')));
     let other = map.share()?;
-    let counts = join(
-        &rt,
-        move || map.walk().count(),
-        move || other.walk().count(),
-    );
-    assert_eq!(rt; counts, (2, 2));
+    let found = join(&rt, || map.get(&1).copied(), move || other.get(&2).copied());
+    assert!(rt; found == (Some('a'), Some('b')));
     Ok(())
 }

@@ -1,3 +1,5 @@
+//! Sources and sinks, in memory and over streams.
+
 ghost use Rattle.std.specs.Prelude.{◌≡◌, ◌<◌, IfOk};
 
 use akl_outside::{
@@ -7,128 +9,91 @@ use akl_outside::{
 use std::alloc::{AllocError, Global};
 use std::io;
 use std::io::{ErrorKind, Read, Write};
+use std::str::from_utf8;
 use std::test::Fail;
 
-/// What five reads of up to `size` bytes gave: bytes and a bar, a dot at the end, an exclamation
-/// mark at a failure.
-fn reads<S: Source>(alloc: Global, source: &mut S, size: usize) -> Result<String, AllocError>
-    requires { 0 < size }
-{
-    let mut text = String::new(alloc);
+/// Puts what five reads of up to `most` bytes gave: bytes and a bar, a dot at the end, an exclamation mark at a failure.
+fn put_reads<S: Source>(text: &mut String, source: &mut S, most: usize) -> Result<(), AllocError> {
     let mut buffer = [0u8; 8];
     for _ in 0..5 {
-        let most = size.min(buffer.len());
-        match source.read(&mut buffer[..most]) {
+        match source.read(&mut buffer[..most.clamp(1, 8)]) {
             Ok(0) => text.push('.')?,
             Ok(count) => {
-                for byte in &buffer[..count] {
-                    text.push(char::from(*byte))?;
-                }
+                text.push_str(from_utf8(&buffer[..count]).unwrap_or("no text"))?;
                 text.push('|')?;
             }
             Err(Failed) => text.push('!')?,
         }
     }
-    Ok(text)
+    Ok(())
 }
 
-/// What four writes of `abcdef` took: a number of bytes each, an exclamation mark at a failure.
-fn writes<K: Sink>(alloc: Global, sink: &mut K) -> Result<String, AllocError> {
-    let mut text = String::new(alloc);
+/// Puts what four writes of `abcdef` took: a number of bytes each, an exclamation mark at a failure.
+fn put_writes<K: Sink>(text: &mut String, sink: &mut K) -> Result<(), AllocError> {
     for _ in 0..4 {
         match sink.write(b"abcdef") {
-            Ok(count) => text.push_str(count.to_string(alloc)?.as_str())?,
+            Ok(count) => write!(text, "{count}")?,
             Err(Failed) => text.push('!')?,
         }
     }
-    Ok(text)
-}
-
-#[test]
-fn a_source_in_memory_reads_in_pieces_and_fails_at_chosen_calls(
-    rt: HostRuntime,
-) -> Result<(), Fail> {
-    let cases: [(usize, usize, &[u64], &str); 7] = [
-        (1, 8, &[], "a|b|c|d|e|"),
-        (4, 8, &[], "abcd|ef|..."),
-        (9, 8, &[], "abcdef|...."),
-        (4, 2, &[], "ab|cd|ef|.."),
-        (4, 8, &[1], "abcd|!ef|.."),
-        (9, 8, &[0, 2, 4], "!abcdef|!.!"),
-        (1, 1, &[0, 1, 2, 3, 4], "!!!!!"),
-    ];
-    for (piece, size, fails, want) in cases {
-        let bytes = b"abcdef".to_vec(rt.alloc())?;
-        let mut source = MemorySource::new(bytes, piece, fails.to_vec(rt.alloc())?);
-        let text = reads(rt.alloc(), &mut source, size)?;
-        assert_eq!(rt; text.as_str(), want);
-    }
     Ok(())
 }
 
-#[test]
-fn a_sink_in_memory_takes_pieces_up_to_its_room_and_fails_at_chosen_calls(
-    rt: HostRuntime,
-) -> Result<(), Fail> {
-    let cases: [(usize, usize, &[u64], &str, &str); 6] = [
-        (1, 9, &[], "1111", "aaaa"),
-        (9, 9, &[], "63!!", "abcdefabc"),
-        (4, 9, &[], "441!", "abcdabcda"),
-        (4, 9, &[1], "4!41", "abcdabcda"),
-        (9, 0, &[], "!!!!", ""),
-        (9, 9, &[0, 1, 2, 3], "!!!!", ""),
-    ];
-    for (piece, room, fails, want, bytes) in cases {
-        let mut sink = MemorySink::new(rt.alloc(), piece, room, fails.to_vec(rt.alloc())?)?;
-        let text = writes(rt.alloc(), &mut sink)?;
-        assert_eq!(rt; text.as_str(), want);
-        assert_eq!(rt; sink.bytes(), bytes.as_bytes());
+/// The calls of these digits.
+fn calls(alloc: Global, digits: &str) -> Result<Vec<u64>, AllocError> {
+    let mut calls = Vec::new(alloc);
+    for digit in digits.bytes() {
+        calls.push(digit.wrapping_sub(b'0') as u64)?;
     }
-    Ok(())
+    Ok(calls)
 }
 
-#[test]
-fn reads_to_the_end_or_to_the_limit(rt: HostRuntime) -> Result<(), Fail> {
-    let cases: [(usize, &[u64], usize, &str); 7] = [
-        (1, &[], 9, "abcdef"),
-        (4, &[], 9, "abcdef"),
-        (4, &[], 6, "abcdef"),
-        (4, &[], 5, "abcde"),
-        (4, &[0], 0, ""),
-        (4, &[1], 9, "failed"),
-        (4, &[2], 9, "failed"),
-    ];
-    for (piece, fails, limit, want) in cases {
-        let bytes = b"abcdef".to_vec(rt.alloc())?;
-        let mut source = MemorySource::new(bytes, piece, fails.to_vec(rt.alloc())?);
-        match read_up_to(rt.alloc(), &mut source, limit) {
-            Ok(bytes) => assert_eq!(rt; bytes.as_slice(), want.as_bytes()),
-            Err(ReadError::Failed) => assert_eq!(rt; want, "failed"),
-            Err(ReadError::Memory(error)) => return Err(Fail::from(error)),
+/// Puts bytes between brackets.
+fn put_bytes(text: &mut String, bytes: &[u8]) -> Result<(), AllocError> {
+    text.push('<')?;
+    text.push_str(from_utf8(bytes).unwrap_or("no text"))?;
+    text.push('>')
+}
+
+/// Puts what is read of `abcdef`, which is given in pieces: by five reads, or to the end or a limit.
+fn put_read(
+    text: &mut String,
+    is_whole: bool,
+    piece: usize,
+    most: usize,
+    fails: Vec<u64>,
+) -> Result<(), AllocError> {
+    let alloc = *text.allocator();
+    let bytes = b"abcdef".to_vec(alloc)?;
+    let mut source = MemorySource::new(bytes, piece.max(1), fails);
+    if !is_whole {
+        return put_reads(text, &mut source, most);
+    }
+    match read_up_to(alloc, &mut source, most) {
+        Ok(bytes) => put_bytes(text, bytes.as_slice()),
+        Err(ReadError::Failed) => text.push('!'),
+        Err(ReadError::Memory(error)) => Err(error),
+    }
+}
+
+/// Puts what a sink takes that has room for so many bytes, by four writes or whole, and the bytes.
+fn put_written(
+    text: &mut String,
+    is_whole: bool,
+    piece: usize,
+    room: usize,
+    fails: Vec<u64>,
+) -> Result<(), AllocError> {
+    let mut sink = MemorySink::new(*text.allocator(), piece.max(1), room, fails)?;
+    if is_whole {
+        match write_all(&mut sink, b"abcdef") {
+            Ok(()) => text.push_str("whole")?,
+            Err(ShortWrite { written }) => write!(text, "{written}")?,
         }
+    } else {
+        put_writes(text, &mut sink)?;
     }
-    Ok(())
-}
-
-#[test]
-fn writes_whole_or_says_how_much(rt: HostRuntime) -> Result<(), Fail> {
-    let cases: [(usize, usize, &[u64], usize, &str); 5] = [
-        (1, 6, &[], 6, "abcdef"),
-        (9, 6, &[], 6, "abcdef"),
-        (4, 5, &[], 5, "abcde"),
-        (5, 6, &[1], 5, "abcde"),
-        (4, 6, &[0], 0, ""),
-    ];
-    for (piece, room, fails, want, bytes) in cases {
-        let mut sink = MemorySink::new(rt.alloc(), piece, room, fails.to_vec(rt.alloc())?)?;
-        let written = match write_all(&mut sink, b"abcdef") {
-            Ok(()) => 6,
-            Err(ShortWrite { written }) => written,
-        };
-        assert_eq!(rt; written, want);
-        assert_eq!(rt; sink.bytes(), bytes.as_bytes());
-    }
-    Ok(())
+    put_bytes(text, sink.bytes())
 }
 
 /// Fails at its first call, takes and gives nothing at the second, and so on in turn.
@@ -164,19 +129,83 @@ impl Write for Broken {
     }
 }
 
-#[test]
-fn streams_pass_bytes_on_and_their_errors_are_failures(rt: HostRuntime) -> Result<(), Fail> {
-    let mut source = StreamSource::new(b"abcdef".as_slice());
-    let text = reads(rt.alloc(), &mut source, 4)?;
-    assert_eq!(rt; text.as_str(), "abcd|ef|...");
-    let text = reads(rt.alloc(), &mut StreamSource::new(Broken(false)), 4)?;
-    assert_eq!(rt; text.as_str(), "!.!.!");
+/// Puts what five reads of a stream give, or what four writes to one take, and the bytes.
+fn put_stream(text: &mut String, asked: &str) -> Result<(), AllocError> {
     let mut room = [0u8; 9];
-    let text = writes(rt.alloc(), &mut StreamSink::new(room.as_mut_slice()))?;
-    assert_eq!(rt; text.as_str(), "63!!");
-    assert_eq!(rt; room.as_slice(), b"abcdefabc".as_slice());
-    let text = writes(rt.alloc(), &mut StreamSink::new(Broken(false)))?;
-    assert_eq!(rt; text.as_str(), "!!!!");
+    match asked {
+        "read" => put_reads(text, &mut StreamSource::new(b"abcdef".as_slice()), 4),
+        "read broken" => put_reads(text, &mut StreamSource::new(Broken(false)), 4),
+        "write" => {
+            put_writes(text, &mut StreamSink::new(room.as_mut_slice()))?;
+            put_bytes(text, &room)
+        }
+        _ => put_writes(text, &mut StreamSink::new(Broken(false))),
+    }
+}
+
+/// What is asked for: a verb, the bytes of a piece, those of a buffer or that there is room for, and the calls that
+/// fail; or a stream.
+fn answer(alloc: Global, asked: &str) -> Result<String, AllocError> {
+    let mut text = String::new(alloc);
+    let (verb, numbers) = asked.split_once(' ').unwrap_or((asked, ""));
+    if verb == "stream" {
+        put_stream(&mut text, numbers)?;
+        return Ok(text);
+    }
+    let (piece, rest) = numbers.split_once(' ').unwrap_or(("", ""));
+    let (most, fails) = rest.split_once(' ').unwrap_or((rest, ""));
+    let piece = piece.parse::<usize>().unwrap_or(0);
+    let most = most.parse::<usize>().unwrap_or(0);
+    let fails = calls(alloc, fails)?;
+    match verb {
+        "read" => put_read(&mut text, false, piece, most, fails)?,
+        "limit" => put_read(&mut text, true, piece, most, fails)?,
+        "write" => put_written(&mut text, false, piece, most, fails)?,
+        _ => put_written(&mut text, true, piece, most, fails)?,
+    }
+    Ok(text)
+}
+
+/// What is asked for, and what it gives.
+const CASES: &str = "
+read 1 8 => a|b|c|d|e|
+read 4 8 => abcd|ef|...
+read 9 8 => abcdef|....
+read 4 2 => ab|cd|ef|..
+read 4 8 1 => abcd|!ef|..
+read 9 8 024 => !abcdef|!.!
+read 1 1 01234 => !!!!!
+limit 1 9 => <abcdef>
+limit 4 9 => <abcdef>
+limit 4 6 => <abcdef>
+limit 4 5 => <abcde>
+limit 4 0 0 => <>
+limit 4 9 1 => !
+limit 4 9 2 => !
+write 1 9 => 1111<aaaa>
+write 9 9 => 63!!<abcdefabc>
+write 4 9 => 441!<abcdabcda>
+write 4 9 1 => 4!41<abcdabcda>
+write 9 0 => !!!!<>
+write 9 9 0123 => !!!!<>
+whole 1 6 => whole<abcdef>
+whole 9 6 => whole<abcdef>
+whole 4 5 => 5<abcde>
+whole 5 6 1 => 5<abcde>
+whole 4 6 0 => 0<>
+stream read => abcd|ef|...
+stream read broken => !.!.!
+stream write => 63!!<abcdefabc>
+stream write broken => !!!!
+";
+
+#[test]
+fn sources_and_sinks_give_and_take_what_they_say(rt: HostRuntime) -> Result<(), Fail> {
+    for case in CASES.lines().skip(1) {
+        let (asked, want) = case.split_once(" => ").unwrap_or((case, "no case"));
+        let found = answer(rt.alloc(), asked)?;
+        assert!(rt; found.as_str() == want, "{case}");
+    }
     NoGate.before_plan(1);
     Ok(())
 }

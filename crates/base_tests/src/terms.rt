@@ -20,12 +20,11 @@ fn equal_texts_have_one_symbol(rt: HostRuntime) -> Result<(), Fail> {
     let mut templates = Templates::new(rt.alloc());
     let append = templates.intern("append")?;
     let nil = templates.intern("[]")?;
-    assert_eq!(rt; (append, nil), (0, 1));
-    assert_eq!(rt; templates.intern("append")?, 0);
-    assert_eq!(rt; templates.symbols(), 2);
-    assert_eq!(rt; templates.symbol(1), "[]");
-    assert_eq!(rt; templates.number_of("[]"), Some(1));
-    assert_eq!(rt; templates.number_of("member"), None);
+    let again = templates.intern("append")?;
+    assert!(rt; append == 0 && nil == 1 && again == 0 && templates.symbols() == 2);
+    assert!(rt; templates.symbol(1) == "[]");
+    assert!(rt; templates.number_of("[]") == Some(1));
+    assert!(rt; templates.number_of("member").is_none());
     Ok(())
 }
 
@@ -34,56 +33,51 @@ fn nodes_are_looked_at_under_a_frame(rt: HostRuntime) -> Result<(), Fail> {
     let mut templates = Templates::new(rt.alloc());
     assert!(rt; templates.is_empty());
     let symbol = templates.intern("f")?;
-    let pair = [Node::Var(3), Node::Int(-7)];
-    assert_eq!(rt; templates.push(&pair)?, 0);
+    let pair = templates.push(&[Node::Var(3), Node::Int(-7)])?;
     let whole = Node::Struct {
         symbol,
         first: 0,
         count: 2,
     };
-    assert_eq!(rt; templates.push(&[whole])?, 2);
-    assert_eq!(rt; templates.len(), 3);
-    assert_eq!(rt; templates.node(2), whole);
-    let seen = templates.look(Term::Mol {
-        node: 0,
-        frame: FRAME,
-    });
+    let last = templates.push(&[whole])?;
+    assert!(rt; pair == 0 && last == 2 && templates.len() == 3);
+    assert!(rt; templates.node(2) == whole);
+    assert!(rt; are_seen(&templates, symbol));
+    Ok(())
+}
+
+/// Whether variable 3, the symbol over two nodes, and a port are seen.
+fn are_seen(templates: &Templates, symbol: u32) -> bool {
+    let under = |node: u32| Term::Mol { node, frame: FRAME };
     let variable = Var {
         frame: FRAME,
         index: 3,
     };
-    assert_eq!(rt; seen, Seen::Free(variable));
-    let under = templates.look(Term::Mol {
-        node: 2,
-        frame: FRAME,
-    });
-    let expected = Seen::Struct {
+    let whole = Seen::Struct {
         symbol,
         first: 0,
         count: 2,
         frame: FRAME,
     };
-    assert_eq!(rt; under, expected);
-    assert_eq!(rt; templates.look(Term::Port(FRAME)), Seen::Port(FRAME));
-    Ok(())
+    templates.look(under(0)) == Seen::Free(variable)
+        && templates.look(under(2)) == whole
+        && templates.look(Term::Port(FRAME)) == Seen::Port(FRAME)
 }
 
 #[test]
 fn texts_and_lists_give_back_what_they_are_made_of(rt: HostRuntime) -> Result<(), Fail> {
     let text = Text::from_str(rt.alloc(), "nrev")?;
     let copy = text.duplicate()?;
-    assert_eq!(rt; copy.as_str(), "nrev");
-    assert_eq!(rt; Text::new(text.into_string()).as_str(), "nrev");
+    assert!(rt; copy.as_str() == "nrev" && Text::new(text.into_string()).as_str() == "nrev");
     let goals = Items::new(vec![in rt.alloc(); Code::Fail, Code::OpenPort { port: 0, stream: 1 }]?);
-    assert_eq!(rt; goals.len(), 2);
-    assert!(rt; !goals.is_empty());
-    assert!(rt; matches!(goals.as_slice()[0], Code::Fail));
-    assert_eq!(rt; goals.into_vec().len(), 2);
+    assert!(rt; goals.len() == 2 && !goals.is_empty());
+    assert!(rt; matches!(goals.as_slice(), [Code::Fail, _]));
+    assert!(rt; goals.into_vec().len() == 2);
     Ok(())
 }
 
-#[test]
-fn names_are_ordered_by_worker_and_variables_by_frame(rt: HostRuntime) -> Result<(), Fail> {
+/// Whether names are ordered by worker, variables by frame, and places by kind.
+fn are_ordered() -> bool {
     let early = Name {
         worker: 1,
         number: 9,
@@ -92,7 +86,6 @@ fn names_are_ordered_by_worker_and_variables_by_frame(rt: HostRuntime) -> Result
         worker: 2,
         number: 3,
     };
-    assert!(rt; early < late && FRAME < early);
     let inner = Var {
         frame: late,
         index: 0,
@@ -101,10 +94,11 @@ fn names_are_ordered_by_worker_and_variables_by_frame(rt: HostRuntime) -> Result
         frame: early,
         index: 7,
     };
-    assert!(rt; outer < inner);
-    assert!(rt; Place::Goal(late) < Place::Box(early));
-    assert!(rt; Place::Box(early) < Place::Box(late));
-    Ok(())
+    early < late
+        && FRAME < early
+        && outer < inner
+        && Place::Goal(late) < Place::Box(early)
+        && Place::Box(early) < Place::Box(late)
 }
 
 fn two_steps<L: Ledger>(blank: Blank)
@@ -118,11 +112,11 @@ fn two_steps<L: Ledger>(blank: Blank)
 }
 
 #[test]
-fn steps_take_no_room(rt: HostRuntime) -> Result<(), Fail> {
+fn names_are_ordered_and_steps_take_no_room(rt: HostRuntime) {
+    assert!(rt; are_ordered());
     two_steps::<Brand>(Blank::new(1));
     equality();
     standing();
     order();
-    assert_eq!(rt; std::mem::size_of::<Steps<Brand>>(), 0);
-    Ok(())
+    assert!(rt; std::mem::size_of::<Steps<Brand>>() == 0);
 }
