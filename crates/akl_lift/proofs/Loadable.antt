@@ -1,0 +1,137 @@
+-- What is lifted can be loaded: each goal is reserved or calls what some clause defines, and no clause has too many variables.
+use Rattle.std.proofs.Common.{◌≡◌, ℕ, suc, ◌+◌, ◌≤◌, List, ◌∷◌, ◌++◌, length, map, Option, Some, None, refl, sym, ap, subst, ◌∙◌, arith}
+use Rattle.std.specs.List.{All, Contains}
+use Rattle.std.proofs.lemmas.List.{length-map, map-append}
+use Rattle.std.proofs.lemmas.List.Elements.{All-nil, All-cons, All-append, Contains-append_left, Contains-append_right}
+use Rattle.term_syntax.specs.Tree.{Trees, no_trees, more_trees}
+use Rattle.akl_terms.specs.declared.program.Op.{Op}
+use Rattle.akl_syntax.specs.Goals.{Goal, Goals, Parts, call, choice, lifted, no_goals, more_goals, no_parts, more_parts}
+use Rattle.akl_syntax.specs.Clauses.{Clause}
+use Rattle.akl_syntax.specs.Variables.{goal_variables, goals_variables, parts_variables}
+use Rattle.clause_keys.specs.declared.callee.Callee.{Callee}
+use Rattle.clause_keys.specs.declared.callee.Callee.TheVariants.{Lifted}
+use Rattle.clause_keys.specs.declared.reserved.Reserved.{Reserved}
+use Rattle.clause_keys.specs.Reserved.{reserved_of}
+use Rattle.clause_keys.specs.Keys.{named, defined_by}
+use Rattle.clause_keys.specs.Conditions.{count, MayCall, IsLoadable, IsClauseLoadable, IsLiftable, a_goal, a_choice, AreLiftable, more_liftable, HaveLiftable, a_part}
+use Rattle.akl_lift.specs.Places.{place, placed_variable, placed_trees}
+use Rattle.akl_lift.specs.Lifting.{Origin, choices_in, choices_in_all, without, without_all, name_of, part_clause, part_clauses, part_order, part_shares, made, made_all, made_inside, made_in_part, joined}
+use Rattle.akl_lift.specs.Whole.{HasPart, IsWhole, AreWhole, HaveGoals}
+use Rattle.akl_lift.proofs.Below.{Below, below_front, below_back, Fits, part_fits, part_few}
+use Rattle.akl_lift.proofs.Sized.{joined-append}
+
+count_placed : (order : List ℕ) (ts : Trees) → count (placed_trees order ts) ≡ count ts
+count_placed order no_trees = refl
+count_placed order (more_trees t ts) = ap suc (count_placed order ts)
+
+-- these are among all
+abbrev pub Among : List Callee → List Callee → Type 0
+Among some all = (k : Callee) → Contains some k → Contains all k
+
+may_call : (some all : List Callee) → Among some all → (k : Callee) (r : Option Reserved) → MayCall some k r → MayCall all k r
+may_call some all w k None h = w k h
+may_call some all w k (Some r) h = tt
+
+-- what the clauses of these definitions define
+abbrev defined : List (List Clause) → List Callee
+defined ds = map defined_by (joined ds)
+
+defined-append : (ds es : List (List Clause)) → defined (ds ++ es) ≡ defined ds ++ defined es
+defined-append ds es = ap (map defined_by) (joined-append ds es) ∙ map-append defined_by (joined ds) (joined es)
+
+among_front : (ds es : List (List Clause)) (all : List Callee) → Among (defined (ds ++ es)) all → Among (defined ds) all
+among_front ds es all w = λ k h. w k (subst (λ (ks : List Callee). Contains ks k) (sym (defined-append ds es)) (Contains-append_left (defined ds) (defined es) k h))
+
+among_back : (ds es : List (List Clause)) (all : List Callee) → Among (defined (ds ++ es)) all → Among (defined es) all
+among_back ds es all w = λ k h. w k (subst (λ (ks : List Callee). Contains ks k) (sym (defined-append ds es)) (Contains-append_right (defined ds) (defined es) k h))
+
+-- those of one definition are in front
+among_own : (cs : List Clause) (ds : List (List Clause)) (all : List Callee) → Among (map defined_by (cs ++ joined ds)) all → Among (defined ds) all
+among_own cs ds all w = λ k h. w k (subst (λ (ks : List Callee). Contains ks k) (sym (map-append defined_by cs (joined ds))) (Contains-append_right (map defined_by cs) (defined ds) k h))
+
+first_of : (k : Callee) (ks : List Callee) → Contains (k ∷ ks) k
+first_of k ks = (0, omega arith, refl)
+
+-- a choice with a part calls what its first clause defines
+calls_first : (w : Origin) (number : ℕ) (args : List ℕ) (next : ℕ) (ps : Parts) (more : List Clause) → HasPart ps → Contains (map defined_by (part_clauses w number args next ps ++ more)) (Lifted number (length args))
+unfolding defined_by
+calls_first w number args next no_parts more h = elim h [ ]
+calls_first w number args next (more_parts gs op hs ps) more h =
+    let e : length (map (placed_variable (part_order args gs hs)) args) ≡ length args = length-map args (placed_variable (part_order args gs hs)) in
+    subst (λ (n : ℕ). Contains (map defined_by (part_clauses w number args next (more_parts gs op hs ps) ++ more)) (Lifted number n)) e (first_of _ _)
+
+-- of goals one by one
+module _ (some all : List Callee) (among : Among some all) (n : ℕ) (few : n ≤ 256) where
+  loads : (w : Origin) (order : List ℕ) (shares : Parts → List ℕ) (next : ℕ) (g : Goal) → IsLiftable some g → IsWhole g → Among (defined (made w shares next g)) all → IsLoadable all (without order shares next g)
+  loads w order shares next (call s ts) (a_goal l) h a =
+      subst (λ (k : ℕ). MayCall all (named s k) (reserved_of s k)) (sym (count_placed order ts)) (may_call some all among (named s (count ts)) (reserved_of s (count ts)) l)
+  loads w order shares next (lifted m ns) (a_goal l) h a = subst (λ (k : ℕ). Contains all (Lifted m k)) (sym (length-map ns (place order))) (among (Lifted m (length ns)) l)
+  loads w order shares next (choice ps) (a_goal l) h a = elim l [ ]
+  loads w order shares next (choice ps) (a_choice k l) h a =
+      subst (λ (m : ℕ). Contains all (Lifted next m)) (sym (length-map (shares ps) (place order)))
+      (a (Lifted next (length (shares ps))) (calls_first w next (shares ps) (next + 1) ps (joined (made_inside w (shares ps) (next + 1) ps)) h.0))
+
+  pub all_load : (w : Origin) (order : List ℕ) (shares : Parts → List ℕ) (next : ℕ) (gs : Goals) → AreLiftable some gs → AreWhole gs → Among (defined (made_all w shares next gs)) all
+      → All (IsLoadable all) (without_all order shares next gs)
+  all_load w order shares next no_goals l h a = All-nil (IsLoadable all)
+  all_load w order shares next (more_goals g gs) (more_liftable l m) h a =
+      All-cons (IsLoadable all) (without order shares next g) (without_all order shares (next + choices_in g) gs)
+      (loads w order shares next g l h.0 (among_front (made w shares next g) (made_all w shares (next + choices_in g) gs) all a))
+      (all_load w order shares (next + choices_in g) gs m h.1 (among_back (made w shares next g) (made_all w shares (next + choices_in g) gs) all a))
+
+  part_loads : (w : Origin) (number : ℕ) (args : List ℕ) (next : ℕ) (gs : Goals) (op : Op) (hs : Goals) → AreLiftable some gs → AreLiftable some hs → AreWhole gs → AreWhole hs
+      → Below n args → Below n (goals_variables gs) → Below n (goals_variables hs) → Among (defined (made_in_part w args next gs hs)) all → IsClauseLoadable all (part_clause w number args next gs op hs)
+  part_loads w number args next gs op hs l m h k x y z a = record {
+    guard = all_load w (part_order args gs hs) (part_shares args gs hs) next gs l h (among_front (made_all w (part_shares args gs hs) next gs) (made_all w (part_shares args gs hs) (next + choices_in_all gs) hs) all a);
+    body = all_load w (part_order args gs hs) (part_shares args gs hs) (next + choices_in_all gs) hs m k (among_back (made_all w (part_shares args gs hs) next gs) (made_all w (part_shares args gs hs) (next + choices_in_all gs) hs) all a);
+    few = let e : length (map (name_of w.names) (part_order args gs hs)) ≡ length (part_order args gs hs) = length-map (part_order args gs hs) (name_of w.names) in let f = part_few n args gs hs few x y z in omega (arith, e, f);
+  }
+
+  own_load : (w : Origin) (number : ℕ) (args : List ℕ) (next : ℕ) (op : Op) (ps : Parts) → HaveLiftable some op ps → HaveGoals ps → Below n args → Below n (parts_variables ps) → Among (defined (made_inside w args next ps)) all
+      → All (IsClauseLoadable all) (part_clauses w number args next ps)
+  own_load w number args next op no_parts l h x y a = All-nil (IsClauseLoadable all)
+  own_load w number args next op (more_parts gs o hs ps) (a_part l m r) h x y a =
+      let both : Below n (goals_variables gs ++ goals_variables hs) = below_front n (goals_variables gs ++ goals_variables hs) (parts_variables ps) y in
+      All-cons (IsClauseLoadable all) (part_clause w number args next gs op hs) (part_clauses w number args (next + (choices_in_all gs + choices_in_all hs)) ps)
+      (part_loads w number args next gs op hs l m h.1 h.2 x (below_front n (goals_variables gs) (goals_variables hs) both) (below_back n (goals_variables gs) (goals_variables hs) both)
+      (among_front (made_in_part w args next gs hs) (made_inside w args (next + (choices_in_all gs + choices_in_all hs)) ps) all a))
+      (own_load w number args (next + (choices_in_all gs + choices_in_all hs)) op ps r h.3 x (below_back n (goals_variables gs ++ goals_variables hs) (parts_variables ps) y)
+      (among_back (made_in_part w args next gs hs) (made_inside w args (next + (choices_in_all gs + choices_in_all hs)) ps) all a))
+
+  all_of_both : (ds es : List (List Clause)) → All (IsClauseLoadable all) (joined ds) → All (IsClauseLoadable all) (joined es) → All (IsClauseLoadable all) (joined (ds ++ es))
+  all_of_both ds es x y = subst (λ (cs : List Clause). All (IsClauseLoadable all) cs) (sym (joined-append ds es)) (All-append (IsClauseLoadable all) (joined ds) (joined es) x y)
+
+  mutual
+    goal_definitions : (w : Origin) (shares : Parts → List ℕ) (next : ℕ) (g : Goal) → IsLiftable some g → IsWhole g → Fits n shares → Below n (goal_variables g) → Among (defined (made w shares next g)) all
+        → All (IsClauseLoadable all) (joined (made w shares next g))
+    goal_definitions w shares next (call s ts) l h f b a = All-nil (IsClauseLoadable all)
+    goal_definitions w shares next (lifted m ns) l h f b a = All-nil (IsClauseLoadable all)
+    goal_definitions w shares next (choice ps) (a_goal l) h f b a = elim l [ ]
+    goal_definitions w shares next (choice ps) (a_choice {op = op} k l) h f b a =
+        let inner = among_own (part_clauses w next (shares ps) (next + 1) ps) (made_inside w (shares ps) (next + 1) ps) all a in
+        All-append (IsClauseLoadable all) (part_clauses w next (shares ps) (next + 1) ps) (joined (made_inside w (shares ps) (next + 1) ps))
+        (own_load w next (shares ps) (next + 1) op ps l h.1 (f.below ps) b inner) (inside_definitions w (shares ps) (next + 1) op ps l h.1 (f.below ps) b inner)
+
+    pub goals_definitions : (w : Origin) (shares : Parts → List ℕ) (next : ℕ) (gs : Goals) → AreLiftable some gs → AreWhole gs → Fits n shares → Below n (goals_variables gs) → Among (defined (made_all w shares next gs)) all
+        → All (IsClauseLoadable all) (joined (made_all w shares next gs))
+    goals_definitions w shares next no_goals l h f b a = All-nil (IsClauseLoadable all)
+    goals_definitions w shares next (more_goals g gs) (more_liftable l m) h f b a =
+        all_of_both (made w shares next g) (made_all w shares (next + choices_in g) gs)
+        (goal_definitions w shares next g l h.0 f (below_front n (goal_variables g) (goals_variables gs) b) (among_front (made w shares next g) (made_all w shares (next + choices_in g) gs) all a))
+        (goals_definitions w shares (next + choices_in g) gs m h.1 f (below_back n (goal_variables g) (goals_variables gs) b) (among_back (made w shares next g) (made_all w shares (next + choices_in g) gs) all a))
+
+    inside_definitions : (w : Origin) (args : List ℕ) (next : ℕ) (op : Op) (ps : Parts) → HaveLiftable some op ps → HaveGoals ps → Below n args → Below n (parts_variables ps) → Among (defined (made_inside w args next ps)) all
+        → All (IsClauseLoadable all) (joined (made_inside w args next ps))
+    inside_definitions w args next op no_parts l h x y a = All-nil (IsClauseLoadable all)
+    inside_definitions w args next op (more_parts gs o hs ps) (a_part l m r) h x y a =
+        let both : Below n (goals_variables gs ++ goals_variables hs) = below_front n (goals_variables gs ++ goals_variables hs) (parts_variables ps) y in
+        let guard = below_front n (goals_variables gs) (goals_variables hs) both in
+        let body = below_back n (goals_variables gs) (goals_variables hs) both in
+        let fits = part_fits n args gs hs few x guard body in
+        let here = among_front (made_in_part w args next gs hs) (made_inside w args (next + (choices_in_all gs + choices_in_all hs)) ps) all a in
+        all_of_both (made_in_part w args next gs hs) (made_inside w args (next + (choices_in_all gs + choices_in_all hs)) ps)
+        (all_of_both (made_all w (part_shares args gs hs) next gs) (made_all w (part_shares args gs hs) (next + choices_in_all gs) hs)
+        (goals_definitions w (part_shares args gs hs) next gs l h.1 fits guard (among_front (made_all w (part_shares args gs hs) next gs) (made_all w (part_shares args gs hs) (next + choices_in_all gs) hs) all here))
+        (goals_definitions w (part_shares args gs hs) (next + choices_in_all gs) hs m h.2 fits body (among_back (made_all w (part_shares args gs hs) next gs) (made_all w (part_shares args gs hs) (next + choices_in_all gs) hs) all here)))
+        (inside_definitions w args (next + (choices_in_all gs + choices_in_all hs)) op ps r h.3 x (below_back n (goals_variables gs ++ goals_variables hs) (parts_variables ps) y)
+        (among_back (made_in_part w args next gs hs) (made_inside w args (next + (choices_in_all gs + choices_in_all hs)) ps) all a))

@@ -1,0 +1,106 @@
+-- How many terms and goals there are once inline choices are taken out.
+use Rattle.std.proofs.Common.{◌≡◌, ℕ, suc, ◌+◌, ◌*◌, ◌≤◌, List, [], ◌∷◌, ◌++◌, length, map, refl, ap, ◌∙◌, arith}
+use Rattle.std.proofs.lemmas.List.{length-map}
+use Rattle.std.proofs.lemmas.Grind.{flat_map-append}
+use Rattle.term_syntax.specs.Tree.{Tree, Trees, Tail, Steps, variable, integer, compound, list, chain, no_trees, more_trees, no_tail, tail, no_steps, more_steps, trees}
+use Rattle.term_syntax.specs.Sizes.{tree_size, trees_size, tail_size, steps_size}
+use Rattle.akl_syntax.specs.Goals.{Goal, Goals, Parts, call, choice, lifted, no_goals, more_goals, no_parts, more_parts, goals}
+use Rattle.akl_syntax.specs.Clauses.{Clause}
+use Rattle.akl_syntax.specs.Variables.{goal_variables, goals_variables, parts_variables}
+use Rattle.akl_syntax.specs.Sizes.{goal_size, goals_size, parts_size, clauses_size}
+use Rattle.akl_lift.specs.Places.{place, placed_variable, placed_tree, placed_trees, placed_tail, placed_steps}
+use Rattle.akl_lift.specs.Lifting.{Origin, choices_in, choices_in_all, without, without_all, part_clauses, part_order, part_shares, made, made_all, made_inside, made_in_part, joined}
+use Rattle.akl_lift.specs.Whole.{HasGoal, IsWhole, AreWhole, HaveGoals}
+use Rattle.akl_lift.proofs.Below.{Below, below_front, below_back, Fits, part_fits}
+
+-- ---- terms
+mutual
+  placed_size : (order : List ℕ) (t : Tree) → tree_size (placed_tree order t) ≡ tree_size t
+  placed_size order (variable n) = refl
+  placed_size order (integer z) = refl
+  placed_size order (compound s ts) = ap suc (all_placed_size order ts)
+  placed_size order (list ts e) = omega (arith, all_placed_size order ts, tail_placed_size order e)
+  placed_size order (chain t ss) = omega (arith, placed_size order t, steps_placed_size order ss)
+
+  pub all_placed_size : (order : List ℕ) (ts : Trees) → trees_size (placed_trees order ts) ≡ trees_size ts
+  all_placed_size order no_trees = refl
+  all_placed_size order (more_trees t ts) = omega (arith, placed_size order t, all_placed_size order ts)
+
+  tail_placed_size : (order : List ℕ) (e : Tail) → tail_size (placed_tail order e) ≡ tail_size e
+  tail_placed_size order no_tail = refl
+  tail_placed_size order (tail t) = placed_size order t
+
+  steps_placed_size : (order : List ℕ) (ss : Steps) → steps_size (placed_steps order ss) ≡ steps_size ss
+  steps_placed_size order no_steps = refl
+  steps_placed_size order (more_steps w t ss) = omega (arith, placed_size order t, steps_placed_size order ss)
+
+variables_size : (order vs : List ℕ) → trees_size (trees (map (placed_variable order) vs)) ≡ length vs
+variables_size order [] = refl
+variables_size order (v ∷ vs) = omega (arith, variables_size order vs)
+
+-- ---- clauses
+pub clauses_size-append : (cs ds : List Clause) → clauses_size (cs ++ ds) ≡ clauses_size cs + clauses_size ds
+clauses_size-append [] ds = omega arith
+clauses_size-append (c ∷ cs) ds = omega (arith, clauses_size-append cs ds)
+
+pub joined-append : (ds es : List (List Clause)) → joined (ds ++ es) ≡ joined ds ++ joined es
+joined-append ds es = flat_map-append (λ cs. cs) ds es
+
+joined_size : (ds es : List (List Clause)) → clauses_size (joined (ds ++ es)) ≡ clauses_size (joined ds) + clauses_size (joined es)
+joined_size ds es = ap clauses_size (joined-append ds es) ∙ clauses_size-append (joined ds) (joined es)
+
+-- ---- goals: a definition's clauses are paid for by the goals in its parts
+module _ (n : ℕ) (few : n ≤ 256) where
+  mutual
+    goal_paid : (w : Origin) (order : List ℕ) (shares : Parts → List ℕ) (next : ℕ) (g : Goal) → Fits n shares → Below n (goal_variables g) → IsWhole g
+        → goal_size (without order shares next g) + clauses_size (joined (made w shares next g)) + 257 ≤ 514 * goal_size g
+    goal_paid w order shares next (call s ts) f b h = omega (arith, all_placed_size order ts)
+    goal_paid w order shares next (lifted m ns) f b h = omega (arith, length-map ns (place order))
+    goal_paid w order shares next (choice ps) f b h =
+        omega (
+          arith,
+          length-map (shares ps) (place order),
+          f.few ps,
+          clauses_size-append (part_clauses w next (shares ps) (next + 1) ps) (joined (made_inside w (shares ps) (next + 1) ps)),
+          parts_paid w next (shares ps) (next + 1) ps (f.few ps) (f.below ps) b h.1,
+        )
+
+    pub goals_paid : (w : Origin) (order : List ℕ) (shares : Parts → List ℕ) (next : ℕ) (gs : Goals) → Fits n shares → Below n (goals_variables gs) → AreWhole gs
+        → goals_size (goals (without_all order shares next gs)) + clauses_size (joined (made_all w shares next gs)) ≤ 514 * goals_size gs
+    goals_paid w order shares next no_goals f b h = omega arith
+    goals_paid w order shares next (more_goals g gs) f b h =
+        omega (
+          arith,
+          joined_size (made w shares next g) (made_all w shares (next + choices_in g) gs),
+          goal_paid w order shares next g f (below_front n (goal_variables g) (goals_variables gs) b) h.0,
+          goals_paid w order shares (next + choices_in g) gs f (below_back n (goal_variables g) (goals_variables gs) b) h.1,
+        )
+
+    some_goals_paid : (w : Origin) (order : List ℕ) (shares : Parts → List ℕ) (next : ℕ) (gs : Goals) → HasGoal gs → Fits n shares → Below n (goals_variables gs) → AreWhole gs
+        → goals_size (goals (without_all order shares next gs)) + clauses_size (joined (made_all w shares next gs)) + 257 ≤ 514 * goals_size gs
+    some_goals_paid w order shares next no_goals z f b h = elim z [ ]
+    some_goals_paid w order shares next (more_goals g gs) z f b h =
+        omega (
+          arith,
+          joined_size (made w shares next g) (made_all w shares (next + choices_in g) gs),
+          goal_paid w order shares next g f (below_front n (goal_variables g) (goals_variables gs) b) h.0,
+          goals_paid w order shares (next + choices_in g) gs f (below_back n (goal_variables g) (goals_variables gs) b) h.1,
+        )
+
+    parts_paid : (w : Origin) (number : ℕ) (args : List ℕ) (next : ℕ) (ps : Parts) → length args ≤ 256 → Below n args → Below n (parts_variables ps) → HaveGoals ps
+        → clauses_size (part_clauses w number args next ps) + clauses_size (joined (made_inside w args next ps)) ≤ 514 * parts_size ps
+    parts_paid w number args next no_parts k a b h = omega arith
+    parts_paid w number args next (more_parts gs op hs ps) k a b h =
+        let both : Below n (goals_variables gs ++ goals_variables hs) = below_front n (goals_variables gs ++ goals_variables hs) (parts_variables ps) b in
+        let guard : Below n (goals_variables gs) = below_front n (goals_variables gs) (goals_variables hs) both in
+        let body : Below n (goals_variables hs) = below_back n (goals_variables gs) (goals_variables hs) both in
+        let fits : Fits n (part_shares args gs hs) = part_fits n args gs hs few a guard body in
+        omega (
+          arith,
+          variables_size (part_order args gs hs) args,
+          joined_size (made_in_part w args next gs hs) (made_inside w args (next + (choices_in_all gs + choices_in_all hs)) ps),
+          joined_size (made_all w (part_shares args gs hs) next gs) (made_all w (part_shares args gs hs) (next + choices_in_all gs) hs),
+          goals_paid w (part_order args gs hs) (part_shares args gs hs) next gs fits guard h.1,
+          some_goals_paid w (part_order args gs hs) (part_shares args gs hs) (next + choices_in_all gs) hs h.0 fits body h.2,
+          parts_paid w number args (next + (choices_in_all gs + choices_in_all hs)) ps k a (below_back n (goals_variables gs ++ goals_variables hs) (parts_variables ps) b) h.3,
+        )

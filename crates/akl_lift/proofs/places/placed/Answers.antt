@@ -1,0 +1,12 @@
+use Rattle.std.proofs.Common.{◌<◌, length, arith}
+use Rattle.akl_lift.specs.Places.{place}
+use Rattle.akl_lift.proofs.Slots.{map_turn, map_end}
+use Rattle.akl_lift.proofs.places.placed.Goals as goal
+
+pub loop-number-preserved : goal.loop-number-preserved
+loop-number-preserved c =
+    let within : c.loop-number.number-index < length c.args.numbers.now = omega (arith, c.loop-number-test.true, c.loop-number.auto.number-index-end) in
+    map_turn (place c.args.order.now) c.args.numbers.now 0 c.loop-number.found.items c.push.new.self.items _ c.place.result c.loop-number.number-index within c.in_ok-push.ensures.items c.place.ensures c.loop-number.invariant
+
+pub returns : goal.returns
+returns c = map_end (place c.args.order.now) c.args.numbers.now c.loop-number.found.items _ c.loop-number.number-index (omega (arith, c.loop-number-test.false, c.loop-number.auto.number-index-end)) c.loop-number.invariant

@@ -1,0 +1,5 @@
+pub mod Places
+pub mod Lifting
+pub mod Noting
+pub mod Scopes
+pub mod Whole

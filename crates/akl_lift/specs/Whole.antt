@@ -1,0 +1,38 @@
+-- Inline choices as they are read: each has a part, and each part a goal in its body.
+use Rattle.akl_syntax.specs.declared.source.Head.{Head}
+use Rattle.akl_syntax.specs.declared.source.Head.TheVariants as heads
+use Rattle.akl_syntax.specs.Goals.{Goal, Goals, Parts, call, choice, lifted, no_goals, more_goals, no_parts, more_parts, goals}
+use Rattle.akl_syntax.specs.Clauses.{Clause}
+
+abbrev pub HasGoal : Goals → Type 0
+HasGoal no_goals = ⊥
+HasGoal (more_goals g gs) = Unit {0}
+
+abbrev pub HasPart : Parts → Type 0
+HasPart no_parts = ⊥
+HasPart (more_parts gs op hs ps) = Unit {0}
+
+abbrev mutual
+  pub IsWhole : Goal → Type 0
+  IsWhole (call s ts) = Unit {0}
+  IsWhole (choice ps) = HasPart ps × HaveGoals ps
+  IsWhole (lifted n ns) = Unit {0}
+
+  pub AreWhole : Goals → Type 0
+  AreWhole no_goals = Unit {0}
+  AreWhole (more_goals g gs) = IsWhole g × AreWhole gs
+
+  -- each part has a goal in its body, and its choices are such ones, too
+  pub HaveGoals : Parts → Type 0
+  HaveGoals no_parts = Unit {0}
+  HaveGoals (more_parts gs op hs ps) = HasGoal hs × AreWhole gs × AreWhole hs × HaveGoals ps
+
+abbrev pub IsNamed : Head → Type 0
+IsNamed (heads.Named s) = Unit {0}
+IsNamed (heads.Lifted number inside) = ⊥
+
+-- a clause as it is read
+pub record IsRead (c : Clause) : Type 0 where
+  pub head : IsNamed c.head
+  pub guard : AreWhole (goals c.part.guard)
+  pub body : AreWhole (goals c.part.body)

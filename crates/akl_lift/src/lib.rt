@@ -1,0 +1,14 @@
+//! Lifting: inline choices become calls of definitions.
+#![tactic(auto)]
+
+mod clauses;
+mod lifting;
+mod noting;
+mod places;
+mod query;
+mod scope;
+mod seen;
+mod variables;
+
+pub use clauses::lift;
+pub use query::lift_query;

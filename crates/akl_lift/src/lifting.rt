@@ -1,0 +1,234 @@
+//! Goals without choices, and the definitions that are made of their choices.
+
+ghost use Rattle.std.specs.Prelude.{◌≡◌, ◌≤◌, ◌+◌, ◌++◌, length, map, IfOk, OnOk};
+ghost use Rattle.akl_syntax.specs.Goals.{choice, goals, parts};
+ghost use Rattle.akl_syntax.specs.GoalView.{goal, part};
+ghost use Rattle.akl_syntax.specs.Answers.{clause_view, clauses_view};
+ghost use Rattle.akl_lift.specs.Lifting.{name_of, choices_in, choices_in_all, choices_in_parts, without, without_all, part_clause, part_clauses, made, made_all, made_inside, made_in_part};
+ghost use Rattle.akl_lift.specs.Noting.{outer_all, outer_parts, insides, insides_all, insides_parts, HasNoted};
+ghost use Rattle.akl_lift.specs.Scopes.{IsScope, chosen_of, origin_view, definitions_view};
+
+use crate::noting::Inside;
+use crate::places::{placed, placed_terms, placed_variables};
+use crate::scope::{Scope, chosen, part_scope};
+use akl_syntax::{Head, SourceClause, SourceGoal, SourcePart};
+use akl_terms::{Key, Op, Text};
+use std::alloc::{AllocError, Global};
+
+/// The written clause from which others are made, and what was noted of the choices in it.
+#[derive(Drop)]
+pub struct Origin {
+    pub names: Vec<Text>,
+    pub inside: Key,
+    pub start: usize,
+    pub noted: Vec<Inside>,
+}
+
+/// The next number, and the definitions that were made, one for each choice of the written clause so far.
+#[derive(Drop)]
+pub struct Made {
+    pub next: u32,
+    pub definitions: Vec<Vec<SourceClause>>,
+}
+
+/// The spelling of a variable.
+fn spelling(alloc: Global, names: &[Text], number: u32) -> Result<Text, AllocError>
+    ensures { IfOk result (λ t. t ≡ name_of names.now number) }
+{
+    match names.get(number as usize) {
+        Some(name) => Ok(name.duplicate()?),
+        None => Ok(Text::from_str(alloc, "")?),
+    }
+}
+
+/// The spellings of variables.
+fn spellings(alloc: Global, names: &[Text], order: &[u32]) -> Result<Vec<Text>, AllocError>
+    ensures { IfOk result (λ v. v.items ≡ map (name_of names.now) order.now) }
+{
+    let mut found = Vec::new(alloc);
+    for number in order {
+        let name = spelling(alloc, names, *number)?;
+        found.push(name)?;
+    }
+    Ok(found)
+}
+
+/// The head of a lifted definition of this number.
+fn lifted_head(origin: &Origin, number: u32) -> Result<Head, AllocError>
+    ensures { IfOk result (λ h. h ≡ Head.Lifted number origin.now.inside) }
+{
+    let symbol = origin.inside.symbol.duplicate()?;
+    let arity = origin.inside.arity;
+    Ok(Head::Lifted {
+        number,
+        inside: Key { symbol, arity },
+    })
+}
+
+/// The goal without choices.
+#[cycle(lifting)]
+fn lift_goal(
+    alloc: Global,
+    origin: &Origin,
+    scope: &Scope,
+    out: &mut Made,
+    written: &SourceGoal,
+) -> Result<SourceGoal, AllocError>
+    requires scope { IsScope scope.now }
+    requires room { out.old.next + choices_in (goal written.now) ≤ 4294967295 }
+    requires noted { HasNoted origin.now.noted.items (length (definitions_view out.old)) (insides (goal written.now)) }
+    ensures next { OnOk result (out.new.next ≡ out.old.next + choices_in (goal written.now)) }
+    ensures goal { IfOk result (λ g. goal g ≡ without scope.now.order.items (chosen_of scope.now) out.old.next (goal written.now)) }
+    ensures made { OnOk result (definitions_view out.new ≡ definitions_view out.old ++ made (origin_view origin.now) (chosen_of scope.now) out.old.next (goal written.now)) }
+{
+    match written {
+        SourceGoal::Call { symbol, arguments } => Ok(SourceGoal::Call {
+            symbol: symbol.duplicate()?,
+            arguments: placed_terms(alloc, &scope.order, arguments)?,
+        }),
+        SourceGoal::Choice(parts) => lift_choice(alloc, origin, scope, out, parts),
+        SourceGoal::Lifted { number, arguments } => Ok(SourceGoal::Lifted {
+            number: *number,
+            arguments: placed(alloc, &scope.order, arguments)?,
+        }),
+    }
+}
+
+/// The goals without choices.
+#[cycle(lifting)]
+pub fn lift_goals(
+    alloc: Global,
+    origin: &Origin,
+    scope: &Scope,
+    out: &mut Made,
+    written: &[SourceGoal],
+) -> Result<Vec<SourceGoal>, AllocError>
+    requires scope { IsScope scope.now }
+    requires room { out.old.next + choices_in_all (goals (map goal written.now)) ≤ 4294967295 }
+    requires noted { HasNoted origin.now.noted.items (length (definitions_view out.old)) (insides_all (goals (map goal written.now))) }
+    ensures next { OnOk result (out.new.next ≡ out.old.next + choices_in_all (goals (map goal written.now))) }
+    ensures goals { IfOk result (λ v. map goal v.items ≡ without_all scope.now.order.items (chosen_of scope.now) out.old.next (goals (map goal written.now))) }
+    ensures made { OnOk result (definitions_view out.new ≡ definitions_view out.old ++ made_all (origin_view origin.now) (chosen_of scope.now) out.old.next (goals (map goal written.now))) }
+{
+    let mut found = Vec::new(alloc);
+    for goal in written {
+        let next = lift_goal(alloc, origin, scope, out, goal)?;
+        found.push(next)?;
+    }
+    Ok(found)
+}
+
+/// The call of the definition that is made of a choice.
+#[cycle(lifting)]
+fn lift_choice(
+    alloc: Global,
+    origin: &Origin,
+    scope: &Scope,
+    out: &mut Made,
+    written: &[SourcePart],
+) -> Result<SourceGoal, AllocError>
+    requires scope { IsScope scope.now }
+    requires room { out.old.next + (1 + choices_in_parts (parts (map part written.now))) ≤ 4294967295 }
+    requires noted { HasNoted origin.now.noted.items (length (definitions_view out.old)) (insides (choice (parts (map part written.now)))) }
+    ensures next { OnOk result (out.new.next ≡ out.old.next + (1 + choices_in_parts (parts (map part written.now)))) }
+    ensures goal { IfOk result (λ g. goal g ≡ without scope.now.order.items (chosen_of scope.now) out.old.next (choice (parts (map part written.now)))) }
+    ensures made { OnOk result (definitions_view out.new ≡ definitions_view out.old ++ made (origin_view origin.now) (chosen_of scope.now) out.old.next (choice (parts (map part written.now)))) }
+{
+    let number = out.next;
+    let at = out.definitions.len();
+    let inside = &origin.noted[at];
+    let arguments = chosen(alloc, scope, &inside.variables)?;
+    out.next = number + 1;
+    out.definitions.push(Vec::new(alloc))?;
+    let own = lift_parts(
+        alloc,
+        origin,
+        number,
+        &arguments,
+        &inside.parts,
+        out,
+        written,
+    )?;
+    out.definitions[at] = own;
+    let arguments = placed(alloc, &scope.order, &arguments)?;
+    Ok(SourceGoal::Lifted { number, arguments })
+}
+
+/// The clauses of the definition that is made of a choice with these arguments.
+#[cycle(lifting)]
+fn lift_parts(
+    alloc: Global,
+    origin: &Origin,
+    number: u32,
+    arguments: &[u32],
+    insides: &[Vec<u32>],
+    out: &mut Made,
+    written: &[SourcePart],
+) -> Result<Vec<SourceClause>, AllocError>
+    requires room { out.old.next + choices_in_parts (parts (map part written.now)) ≤ 4294967295 }
+    requires noted { HasNoted origin.now.noted.items (length (definitions_view out.old)) (insides_parts (parts (map part written.now))) }
+    requires insides { map (λ v. v.items) insides.now ≡ outer_parts (parts (map part written.now)) }
+    ensures next { OnOk result (out.new.next ≡ out.old.next + choices_in_parts (parts (map part written.now))) }
+    ensures own { IfOk result (λ v. clauses_view v ≡ part_clauses (origin_view origin.now) number arguments.now out.old.next (parts (map part written.now))) }
+    ensures made { OnOk result (definitions_view out.new ≡ definitions_view out.old ++ made_inside (origin_view origin.now) arguments.now out.old.next (parts (map part written.now))) }
+{
+    let mut own = Vec::new(alloc);
+    for (index, part) in written.iter().enumerate() {
+        let clause = lift_part(alloc, origin, number, arguments, &insides[index], out, part)?;
+        own.push(clause)?;
+    }
+    Ok(own)
+}
+
+/// The goals of a part's body without choices.
+#[cycle(lifting)]
+fn lift_body(
+    alloc: Global,
+    origin: &Origin,
+    scope: &Scope,
+    out: &mut Made,
+    written: &SourcePart,
+) -> Result<Vec<SourceGoal>, AllocError>
+    requires scope { IsScope scope.now }
+    requires room { out.old.next + choices_in_all (goals (map goal written.now.body.items)) ≤ 4294967295 }
+    requires noted { HasNoted origin.now.noted.items (length (definitions_view out.old)) (insides_all (goals (map goal written.now.body.items))) }
+    ensures next { OnOk result (out.new.next ≡ out.old.next + choices_in_all (goals (map goal written.now.body.items))) }
+    ensures goals { IfOk result (λ v. map goal v.items ≡ without_all scope.now.order.items (chosen_of scope.now) out.old.next (goals (map goal written.now.body.items))) }
+    ensures made { OnOk result (definitions_view out.new ≡ definitions_view out.old ++ made_all (origin_view origin.now) (chosen_of scope.now) out.old.next (goals (map goal written.now.body.items))) }
+{
+    lift_goals(alloc, origin, scope, out, &written.body)
+}
+
+/// The clause of a part.
+#[cycle(lifting)]
+fn lift_part(
+    alloc: Global,
+    origin: &Origin,
+    number: u32,
+    arguments: &[u32],
+    inside: &[u32],
+    out: &mut Made,
+    written: &SourcePart,
+) -> Result<SourceClause, AllocError>
+    requires room { out.old.next + (choices_in_all (goals (map goal written.now.guard.items)) + choices_in_all (goals (map goal written.now.body.items))) ≤ 4294967295 }
+    requires noted { HasNoted origin.now.noted.items (length (definitions_view out.old)) (insides_all (goals (map goal written.now.guard.items)) ++ insides_all (goals (map goal written.now.body.items))) }
+    requires inside { inside.now ≡ outer_all (goals (map goal written.now.guard.items)) ++ outer_all (goals (map goal written.now.body.items)) }
+    ensures next { OnOk result (out.new.next ≡ out.old.next + (choices_in_all (goals (map goal written.now.guard.items)) + choices_in_all (goals (map goal written.now.body.items)))) }
+    ensures clause { IfOk result (λ c. clause_view c ≡ part_clause (origin_view origin.now) number arguments.now out.old.next (goals (map goal written.now.guard.items)) written.now.op (goals (map goal written.now.body.items))) }
+    ensures made { OnOk result (definitions_view out.new ≡ definitions_view out.old ++ made_in_part (origin_view origin.now) arguments.now out.old.next (goals (map goal written.now.guard.items)) (goals (map goal written.now.body.items))) }
+{
+    let scope = part_scope(alloc, arguments, inside)?;
+    let head = lifted_head(origin, number)?;
+    let arguments = placed_variables(alloc, &scope.order, arguments)?;
+    let guard = lift_goals(alloc, origin, &scope, out, &written.guard)?;
+    let body = lift_body(alloc, origin, &scope, out, written)?;
+    let names = spellings(alloc, &origin.names, &scope.order)?;
+    let op = written.op;
+    Ok(SourceClause {
+        head,
+        arguments,
+        part: SourcePart { guard, op, body },
+        names,
+        start: origin.start,
+    })
+}

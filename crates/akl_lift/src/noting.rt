@@ -1,0 +1,97 @@
+//! What one walk notes of each inline choice, so that none is walked through again for each choice around it.
+
+ghost use Rattle.std.specs.Prelude.{◌≡◌, ◌++◌, map, IfOk, OnOk};
+ghost use Rattle.akl_syntax.specs.Goals.{choice, goals, parts};
+ghost use Rattle.akl_syntax.specs.GoalView.{goal, part};
+ghost use Rattle.akl_lift.specs.Noting.{outer, outer_all, outer_parts, insides, insides_all, insides_parts, inside_view};
+
+use crate::seen::seen_in_all;
+use crate::variables::{add_all, add_terms};
+use akl_syntax::{SourceGoal, SourcePart};
+use std::alloc::{AllocError, Global};
+
+/// The variables of an inline choice, each once, and those of each of its parts, where a choice in it counts as the
+/// variables that are noted of it.
+#[derive(Drop)]
+pub struct Inside {
+    pub variables: Vec<u32>,
+    pub parts: Vec<Vec<u32>>,
+}
+
+/// Notes the choices in a goal, and adds the goal's variables.
+#[cycle(noting)]
+fn note_goal(
+    alloc: Global,
+    noted: &mut Vec<Inside>,
+    found: &mut Vec<u32>,
+    written: &SourceGoal,
+) -> Result<(), AllocError>
+    ensures found { OnOk result (found.new.items ≡ found.old.items ++ outer (goal written.now)) }
+    ensures noted { OnOk result (map inside_view noted.new.items ≡ map inside_view noted.old.items ++ insides (goal written.now)) }
+{
+    match written {
+        SourceGoal::Call { arguments, .. } => add_terms(found, arguments),
+        SourceGoal::Choice(parts) => note_choice(alloc, noted, found, parts),
+        SourceGoal::Lifted { arguments, .. } => add_all(found, arguments),
+    }
+}
+
+/// Notes the choices in goals, and adds the goals' variables.
+#[cycle(noting)]
+pub fn note_goals(
+    alloc: Global,
+    noted: &mut Vec<Inside>,
+    found: &mut Vec<u32>,
+    written: &[SourceGoal],
+) -> Result<(), AllocError>
+    ensures found { OnOk result (found.new.items ≡ found.old.items ++ outer_all (goals (map goal written.now))) }
+    ensures noted { OnOk result (map inside_view noted.new.items ≡ map inside_view noted.old.items ++ insides_all (goals (map goal written.now))) }
+{
+    for goal in written {
+        note_goal(alloc, noted, found, goal)?;
+    }
+    Ok(())
+}
+
+/// Notes a choice and those in it, and adds its variables.
+#[cycle(noting)]
+fn note_choice(
+    alloc: Global,
+    noted: &mut Vec<Inside>,
+    found: &mut Vec<u32>,
+    written: &[SourcePart],
+) -> Result<(), AllocError>
+    ensures found { OnOk result (found.new.items ≡ found.old.items ++ outer (choice (parts (map part written.now)))) }
+    ensures noted { OnOk result (map inside_view noted.new.items ≡ map inside_view noted.old.items ++ insides (choice (parts (map part written.now)))) }
+{
+    let at = noted.len();
+    noted.push(Inside {
+        variables: Vec::new(alloc),
+        parts: Vec::new(alloc),
+    })?;
+    let parts = note_parts(alloc, noted, written)?;
+    let variables = seen_in_all(alloc, &parts)?;
+    add_all(found, &variables)?;
+    noted[at] = Inside { variables, parts };
+    Ok(())
+}
+
+/// Notes the choices in the parts of a choice, and gives each part's variables.
+#[cycle(noting)]
+fn note_parts(
+    alloc: Global,
+    noted: &mut Vec<Inside>,
+    written: &[SourcePart],
+) -> Result<Vec<Vec<u32>>, AllocError>
+    ensures parts { IfOk result (λ v. map (λ l. l.items) v.items ≡ outer_parts (parts (map part written.now))) }
+    ensures noted { OnOk result (map inside_view noted.new.items ≡ map inside_view noted.old.items ++ insides_parts (parts (map part written.now))) }
+{
+    let mut lists = Vec::new(alloc);
+    for part in written {
+        let mut found = Vec::new(alloc);
+        note_goals(alloc, noted, &mut found, &part.guard)?;
+        note_goals(alloc, noted, &mut found, &part.body)?;
+        lists.push(found)?;
+    }
+    Ok(lists)
+}

@@ -1,0 +1,7 @@
+//! Tests of lifting.
+#![tactic(auto)]
+
+#[cfg(test)]
+mod lifted;
+#[cfg(test)]
+mod shown;
