@@ -2,9 +2,9 @@
 use Rattle.std.proofs.Common.{◌≡◌, ◌<◌, ◌≤◌, ℕ, zero, suc, List, [], ◌∷◌, length, Bool, true, false, refl, sym, ap, subst, Err, arith, Vec, Global}
 use Rattle.std.proofs.lemmas.List.{length-map}
 use Rattle.akl_syntax.specs.declared.source.SourceClause.{SourceClause}
-use Rattle.std.specs.Prelude.{◌||◌, slice_index_or, map, Result, Ok, IfErr}
+use Rattle.std.specs.Prelude.{◌||◌, ◌&&◌, slice_index_or, map, Result, Ok, IfErr}
 use Rattle.std.specs.Result.{IsErrAnd}
-use Rattle.std.specs.List.{All, list_any}
+use Rattle.std.specs.List.{All, list_any, list_all}
 use Rattle.akl_terms.specs.declared.program.Program.{Program}
 use Rattle.akl_lexemes.specs.declared.error.SyntaxError.{SyntaxError}
 use Rattle.akl_lexemes.specs.declared.error.SyntaxError.TheVariants as syntax_errors
@@ -125,3 +125,8 @@ words_stops words (words_errors.Unknown at) stop r i = stops_as (WordsStop words
 words_stops words (words_errors.Value at) stop r i = stops_as (WordsStop words) _ _ stop i (commands.refused r)
 words_stops words (words_errors.Repeated at) stop r i = stops_as (WordsStop words) _ _ stop i (commands.refused r)
 words_stops words (words_errors.Memory e) stop r i = stops_as (WordsStop words) _ _ stop i commands.no_memory
+
+-- whether all of some goals are built, one by one
+pub list_all-map : {X Y : Type 0} (p : Y → Bool) (f : X → Y) (xs : List X) → list_all p (map f xs) ≡ list_all (λ (x : X). p (f x)) xs
+list_all-map p f [] = refl
+list_all-map p f (x ∷ xs) = ap (λ (b : Bool). p (f x) && b) (list_all-map p f xs)

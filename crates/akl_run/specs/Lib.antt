@@ -3,6 +3,7 @@ pub mod Traces
 pub mod Text
 pub mod Runs
 pub mod Choices
+pub mod Goals
 pub mod Loads
 pub mod Stops
 pub mod Statuses

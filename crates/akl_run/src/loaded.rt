@@ -4,7 +4,7 @@ ghost use Rattle.std.specs.Prelude.{◌≤◌, IfOk, IfErr, length};
 ghost use Rattle.box_tree.specs.Tables.{HasVariables};
 ghost use Rattle.akl_run.specs.Loads.{IsLoadedProgram, IsLoadedQuery, IsOpen, ProgramStops, QueryStops};
 
-use crate::choices::{has_choice, have_choices};
+use crate::choices::{are_built_clauses, are_built_goals, has_choice, have_choices};
 use crate::report::{Part, Status};
 use crate::stop::Stop;
 use akl_syntax::{read_program, read_query};
@@ -39,6 +39,9 @@ pub fn load_program(alloc: Global, text: &[u8]) -> Result<Program, Stop>
     if let Err(error) = check_clauses(alloc, &clauses) {
         return Err(Stop::loading(Status::Program, error));
     }
+    if !are_built_clauses(&clauses) {
+        return Err(Stop::not_yet(Part::Program));
+    }
     Ok(load(alloc, clauses)?)
 }
 
@@ -59,6 +62,9 @@ pub fn load_asked(alloc: Global, program: Program, text: &[u8]) -> Result<Loaded
     }
     if let Err(error) = check_goals(alloc, &program, &query) {
         return Err(Stop::loading(Status::Query, error));
+    }
+    if !are_built_goals(&query.goals) {
+        return Err(Stop::not_yet(Part::Query));
     }
     let first_variable = program.templates.len();
     let (program, query) = load_query(alloc, program, query, Vec::new(alloc))?;

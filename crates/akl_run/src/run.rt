@@ -80,13 +80,14 @@ fn write_run<K: Sink>(run: Evaluated, out: &mut K) -> Report
 ///   appended to the sink are the text of its last configuration's answers and this outcome.
 /// - `Words` comes exactly where the words are refused, and `Program` and `Query` exactly where that
 ///   text is, with the cause.
-/// - `NotYet` comes with the part that isn't built: words with other workers than 1; a program, or a query, with an
-///   inline choice; an answer of more than a million bytes.
+/// - `NotYet` comes with the part that isn't built: words with other workers than 1; a program, or a query, with an inline choice, or with arithmetic, `open_port`
+///   or `send`; an answer of more than a million bytes.
 /// - `ReadFault` comes only where the source failed, and `WriteFault` only where the sink failed: a
 ///   front of the text was written then.
 /// - `NoMemory` comes only for want of memory. Nothing was run or written then.
 ///
-/// So a query over a program, both accepted and without inline choices, has one of the four outcomes or too long an answer, unless the source, the sink or memory fails. `IsReported` says all this, a
+/// So a query of built goals over a program of built goals, both accepted, has one of the four outcomes
+/// or too long an answer, unless the source, the sink or memory fails. `IsReported` says all this, a
 /// field for a fact.
 ///
 /// The run takes one worker and never waits; the gate isn't called.

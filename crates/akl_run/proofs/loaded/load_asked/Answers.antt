@@ -1,7 +1,7 @@
 use Rattle.std.proofs.Common.{sym, append-nil, map}
 use Rattle.akl_syntax.specs.Answers.{query_view}
 use Rattle.clause_keys.specs.Keys.{called_by}
-use Rattle.akl_run.specs.Loads.{QueryStops, not_built, no_memory}
+use Rattle.akl_run.specs.Loads.{QueryStops, not_built, not_built_goal, no_memory}
 use Rattle.akl_run.proofs.Loading.{stops_as, from_error, plain_goals, query_text_stops, query_loading_stops}
 use Rattle.akl_run.proofs.loaded.load_asked.Goals as goal
 
@@ -22,3 +22,8 @@ load_query-requires-clause-goals c = rw (c.new.ensures.items, append-nil (map ca
 
 pub returns-in_err-program-clause-stop : goal.returns-in_err-program-clause-stop
 returns-in_err-program-clause-stop c = from_error c.from_residual.result c.from_residual.ensures.1 (λ stop p. stops_as (QueryStops c.args.program c.args.text.now) _ _ stop p no_memory)
+
+pub returns-then-not-are_built_goals-clause-stop : goal.returns-then-not-are_built_goals-clause-stop
+returns-then-not-are_built_goals-clause-stop c =
+    stops_as (QueryStops c.args.program c.args.text.now) _ _ c.not_yet-then-not-are_built_goals.result c.not_yet-then-not-are_built_goals.ensures
+    (not_built_goal c.in-Ok.ensures.reads (rw (← c.deref.ensures.value) (sym c.if-has_choice.ensures)) c.in_default.ensures.checked (rw (← c.deref-2.ensures.value) (sym c.if-not-are_built_goals.ensures)))

@@ -2,7 +2,7 @@ use Rattle.std.proofs.Common.{◌≡◌, None, sym, subst, map, Err, length, ◌
 use Rattle.akl_syntax.specs.Answers.{clause_view, clauses_view}
 use Rattle.clause_checks.specs.Refusals.{refusal_of, Answers}
 use Rattle.akl_syntax.specs.Sizes.{clauses_size}
-use Rattle.akl_run.specs.Loads.{ProgramStops, not_built, no_memory}
+use Rattle.akl_run.specs.Loads.{ProgramStops, not_built, not_built_goal, no_memory}
 use Rattle.akl_run.proofs.Loading.{stops_as, from_error, program_text_stops, program_loading_stops, counted_clauses}
 use Rattle.akl_run.proofs.loaded.load_program.Goals as goal
 
@@ -31,3 +31,10 @@ returns-clause-open c =
       symbols = omega (arith, size, c.in_ok-load.ensures.symbols);
       definitions = omega (arith, size, c.in_ok-load.ensures.definitions, counted);
     }
+
+pub returns-then-not-are_built_clauses-clause-stop : goal.returns-then-not-are_built_clauses-clause-stop
+returns-then-not-are_built_clauses-clause-stop c =
+    stops_as (ProgramStops c.args.text.now) _ _ c.not_yet-then-not-are_built_clauses.result c.not_yet-then-not-are_built_clauses.ensures
+    (not_built_goal c.in-Ok.ensures.reads (rw (← c.deref.ensures.value) (sym c.if-have_choices.ensures))
+    (subst (λ xs. refusal_of (map clause_view xs) ≡ None) c.deref-2.ensures.value c.in_default.ensures.checked)
+    (rw (← c.deref-3.ensures.value) (sym c.if-not-are_built_clauses.ensures)))
