@@ -6,15 +6,15 @@ use std::sync::Wait;
 use std::test::Fail;
 use std::thread::Threads;
 
-const LISTS: &str = "append([],Y,Z) :- -> Z = Y. append([X|Xs],Y,Z) :- -> Z = [X|Zs], append(Xs,Y,Zs). nrev([],R) :- -> R = []. nrev([X|Xs],R) :- -> nrev(Xs,S), append(S,[X],R). member(X,[X|_]). member(X,[_|T]) :- member(X,T).";
+const LISTS: &str =
+    "append([],Y,Z) :- -> Z = Y. append([X|Xs],Y,Z) :- -> Z = [X|Zs], append(Xs,Y,Zs). nrev([],R) :- -> R = []. nrev([X|Xs],R) :- -> nrev(Xs,S), append(S,[X],R). member(X,[X|_]). member(X,[_|T]) :- member(X,T).";
 
-const MERGE: &str = "merge([X|Xs],Ys,Zs) :- | Zs = [X|Z], merge(Xs,Ys,Z). merge(Xs,[Y|Ys],Zs) :- | Zs = [Y|Z], merge(Xs,Ys,Z). merge([],Ys,Zs) :- | Zs = Ys. merge(Xs,[],Zs) :- | Zs = Xs.";
-
-const COUNT: &str = "count([],N,R) :- -> R = N. count([_|S],N,R) :- -> M is N + 1, count(S,M,R).";
+const MERGE: &str =
+    "merge([X|Xs],Ys,Zs) :- | Zs = [X|Z], merge(Xs,Ys,Z). merge(Xs,[Y|Ys],Zs) :- | Zs = [Y|Z], merge(Xs,Ys,Z). merge([],Ys,Zs) :- | Zs = Ys. merge(Xs,[],Zs) :- | Zs = Xs.";
 
 const THERE: &str = "t(a,R) :- -> R = 1. t(_,R) :- -> R = 2.";
 
-/// Words, programs, queries and replies, of programs without arithmetic and ports.
+/// Words, programs, queries and replies.
 const RULES: &str = r"
  => LISTS => append([a,b],[c],Z) => 0 / answer 1 / Z = [a,b,c] / done
  => LISTS => append([a,b],L,Z), L = [c] => 0 / answer 1 / L = [c] / Z = [a,b,c] / done
@@ -41,25 +41,6 @@ const RULES: &str = r"
  => n(X) :- p(X) -> fail. n(X) :- -> true. p(a). => n(X) => 2 / suspended 1
 ";
 
-/// The same with arithmetic and ports.
-const GOALS: &str = r"
- =>  => X is 1+2*3 => 0 / answer 1 / X = 7 / done
- =>  => X is 9223372036854775807 + 1 => 2 / suspended 1
- =>  => X is -7 // 2, Y is -7 mod 2 => 0 / answer 1 / X = -3 / Y = 1 / done
- =>  => X is foo + Y => 2 / suspended 1
- =>  => X is Y + 1, Y is 2 * Z, Z = 4 => 0 / answer 1 / X = 9 / Y = 8 / Z = 4 / done
- =>  => 1 < 2, 2 >= 2, 3 =\= 4, 1 + 1 =:= 2, 2 > 1, 1 =< 1 => 0 / answer 1 / done
- =>  => 1 > 2 => 1 / failed
- =>  => X < 2 => 2 / suspended 1
- =>  => X < 2, X = 3 => 1 / failed
- =>  => open_port(P,S), send(a,P), P = Q => 0 / answer 1 / P = port / S = [a|_1] / Q = port / done
- =>  => open_port(P,S), P = a => 1 / failed
- =>  => send(a,P) => 2 / suspended 1
- => u(P) :- send(a,P) ? true. => open_port(P,S), u(P) => 2 / suspended 1
- => COUNT => open_port(P,S), send(a,P), send(b,P), count(S,0,R) => 2 / suspended 1
- => COUNT => count([a,b,c],0,R) => 0 / answer 1 / R = 3 / done
-";
-
 /// The same with traces and budgets.
 const TRACES: &str = r"
 --trace =>  => X = a => 0 / step 1 tell goal 0.2 by 1 / answer 1 / X = a / done
@@ -68,6 +49,7 @@ const TRACES: &str = r"
 --trace,--budget,2 =>  => A = a, B = b => 0 / step 1 tell goal 0.2 by 1 / step 2 tell goal 0.3 by 1 / answer 1 / A = a / B = b / done
 --trace,--budget,1 =>  => A = a, B = b => 3 / step 1 tell goal 0.2 by 1 / budget
 --trace => p(a). p(b). => p(c) => 1 / step 1 fork goal 0.2 by 1 / step 2 fail box 1.0 by 1 / step 3 fail box 1.2 by 1 / step 4 fail box 0.0 by 1 / failed
+ => MERGE => merge([a],[b],Z) => 0 / answer 1 / Z = [a,b] / done
 --trace => THERE => t(a,R) => 0 / step 1 fork goal 0.2 by 1 / step 2 cut goal 0.2 of 1.0 by 1 / step 3 promote goal 0.2 of 1.0 by 1 / step 4 tell goal 1.4 by 1 / answer 1 / R = 1 / done
 ";
 
@@ -76,7 +58,6 @@ fn named(text: &str) -> &str {
     match text {
         "LISTS" => LISTS,
         "MERGE" => MERGE,
-        "COUNT" => COUNT,
         "THERE" => THERE,
         _ => text,
     }
