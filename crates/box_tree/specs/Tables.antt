@@ -126,18 +126,23 @@ abbrev pub shown_trees_of : TableValue → List ShownTerm → List ShownTree
 shown_trees_of t terms = map (shown_tree t.program.templates.nodes) terms
 
 -- a step may be made of a table to which a run has come: its label has a place of the kind that it needs, and an alternative where it needs
--- one, and the names that it draws stand nowhere, those of a box's new goals in increasing order
+-- one, and the names that it draws stand nowhere, those of a box's new goals and of each copy's in increasing order
 abbrev pub FitsPlace : Place → laws.Step → Option Name → Type 0
 FitsPlace (Place.Goal g) (laws.tells new solved) alternative = ⊤
 FitsPlace (Place.Goal g) (laws.forks op news) alternative = ⊤
 FitsPlace (Place.Goal g) laws.cuts (Some n) = ⊤
 FitsPlace (Place.Goal g) (laws.promotes new solved goals) (Some n) = ⊤
 FitsPlace (Place.Box n) laws.fails alternative = ⊤
+FitsPlace (Place.Box n) (laws.splits copy copies) (Some a) = ⊤
 FitsPlace place step alternative = ⊥
 
 abbrev pub AreInOrder : List laws.NewBox → Type 0
 AreInOrder [] = ⊤
 AreInOrder (n ∷ ns) = IsIncreasing (map (λ (x : Name × Atom). x.0) n.goals) × AreInOrder ns
+
+abbrev pub AreCopiesInOrder : List laws.BoxCopy → Type 0
+AreCopiesInOrder [] = ⊤
+AreCopiesInOrder (k ∷ ks) = IsIncreasing (map (λ (x : Name × Shape). x.0) k.goals) × AreCopiesInOrder ks
 
 abbrev pub DrawsInOrder : laws.Step → Type 0
 DrawsInOrder (laws.tells new solved) = ⊤
@@ -145,6 +150,7 @@ DrawsInOrder (laws.forks op news) = AreInOrder news
 DrawsInOrder laws.fails = ⊤
 DrawsInOrder laws.cuts = ⊤
 DrawsInOrder (laws.promotes new solved goals) = IsIncreasing (map (λ (x : Name × Atom). x.0) goals)
+DrawsInOrder (laws.splits copy copies) = AreCopiesInOrder copies
 
 pub record MayApply (t : TableValue) (l : Label) (step : Step) : Type 0 where
   pub run : Run

@@ -48,6 +48,7 @@ fits rules p c l d n a (laws.tells new solved) m = fits_goal l.place l.alternati
 fits rules p c l d n a (laws.forks op news) m = fits_goal l.place l.alternative m.1.0 (laws.forks op news) m.1.1 tt
 fits rules p c l d n a laws.cuts m = fits_alternative l.place l.alternative m.1.0 m.1.1 laws.cuts m.1.2 m.1.3 tt
 fits rules p c l d n a (laws.promotes new solved goals) m = fits_alternative l.place l.alternative m.1.0 m.1.1 (laws.promotes new solved goals) m.1.2 m.1.3 tt
+fits rules p c l d n a (laws.splits copy copies) m = subst (λ (x : Place). FitsPlace x (laws.splits copy copies) l.alternative) (sym m.1.2) (subst (FitsPlace (Place.Box m.1.0) (laws.splits copy copies)) (sym m.1.3) tt)
 fits rules p c l d n a laws.fails m = fail_place p a.makes.reading l.worker _ l.rule l.place l.alternative a.site a.change m a.makes.change
 
 -- the number of labels is that of the plan's view, where it is given
@@ -73,7 +74,7 @@ module _ (c : CoreValue) (k : IsCore c) (p : PlanValue) (r : IsRight p) (m : May
     table = t;
     fits = fits rules_in_force c.table.program t.config p.label on.result _ on.applies step on.makes;
     fresh = fresh_step rules_in_force (run_of c.table (p.journal ++ m.further)) (table_of c.table) p.label on.result t on.applies step on.makes;
-    ordered = makes_ordered c.table.program p.label _ on.applies.site step on.makes;
+    ordered = makes_ordered rules_in_force (run_of c.table (p.journal ++ m.further)) (table_of c.table) p.label on.result t on.applies step on.makes;
   }
 
   solved : (at : Option ℕ) → IsNow c p at → IsSolvedWhen at (table_of c.table) on.applies.site step
