@@ -5,8 +5,9 @@ use Rattle.std.specs.List.{filter}
 use Rattle.std.proofs.lemmas.Bool.Decides.{nat_tests}
 use Rattle.akl_lexemes.specs.Occurrences.{Occurs}
 use Rattle.akl_syntax.specs.Goals.{Goals, Parts}
-use Rattle.akl_syntax.specs.Variables.{goals_variables, parts_variables}
-use Rattle.akl_lift.specs.Lifting.{times, seen_from, numbers_from, shared, is_shared, occurrences, part_order, part_shares}
+use Rattle.akl_syntax.specs.Clauses.{Clause}
+use Rattle.akl_syntax.specs.Variables.{goals_variables, parts_variables, clause_variables, IsClauseNumbered}
+use Rattle.akl_lift.specs.Lifting.{times, seen_from, numbers_from, shared, is_shared, occurrences, part_order, part_shares, clause_order, clause_shares}
 use Rattle.akl_lift.specs.Noting.{distinct}
 use Rattle.akl_lift.proofs.FirstSeen.{has, added, times-cons, times-distinct}
 
@@ -136,3 +137,10 @@ part_few n args gs hs k a b c = let e : length (distinct (occurrences args gs hs
 pub part_fits : (n : ℕ) (args : List ℕ) (gs hs : Goals) → n ≤ 256 → Below n args → Below n (goals_variables gs) → Below n (goals_variables hs) → Fits n (part_shares args gs hs)
 part_fits n args gs hs k a b c =
     order_fits n (part_order args gs hs) (occurrences args gs hs) (below_seen n [] (occurrences args gs hs) tt (part_below n args gs hs a b c)) (part_few n args gs hs k a b c)
+
+-- ---- written clauses
+pub variables_below : (c : Clause) → IsClauseNumbered c → Below (length c.names) (clause_variables c)
+variables_below c n = below_all (length c.names) (clause_variables c) n.named
+
+pub clause_fits : (c : Clause) → length c.names ≤ 256 → Fits (length c.names) (clause_shares c)
+clause_fits c h = order_fits (length c.names) (clause_order c) (clause_variables c) (below_numbers 0 (length c.names) (length c.names) (omega arith)) (let e : length (numbers_from 0 (length c.names)) ≡ length c.names = length-numbers 0 (length c.names) in omega arith)

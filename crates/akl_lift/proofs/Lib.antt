@@ -16,3 +16,5 @@ pub mod Operators
 pub mod Joined
 pub mod Reading
 pub mod Loadable
+pub mod Unmixed
+pub mod Asked

@@ -1,23 +1,26 @@
 -- What is lifted can be loaded: each goal is reserved or calls what some clause defines, and no clause has too many variables.
-use Rattle.std.proofs.Common.{◌≡◌, ℕ, suc, ◌+◌, ◌≤◌, List, ◌∷◌, ◌++◌, length, map, Option, Some, None, refl, sym, ap, subst, ◌∙◌, arith}
+use Rattle.std.proofs.Common.{◌≡◌, ℕ, suc, ◌+◌, ◌≤◌, List, ◌∷◌, ◌++◌, length, map, Option, Some, None, refl, sym, ap, subst, ◌∙◌, arith, []}
 use Rattle.std.specs.List.{All, Contains}
 use Rattle.std.proofs.lemmas.List.{length-map, map-append}
 use Rattle.std.proofs.lemmas.List.Elements.{All-nil, All-cons, All-append, Contains-append_left, Contains-append_right}
 use Rattle.term_syntax.specs.Tree.{Trees, no_trees, more_trees}
 use Rattle.akl_terms.specs.declared.program.Op.{Op}
-use Rattle.akl_syntax.specs.Goals.{Goal, Goals, Parts, call, choice, lifted, no_goals, more_goals, no_parts, more_parts}
+use Rattle.akl_syntax.specs.Goals.{Goal, Goals, Parts, call, choice, lifted, no_goals, more_goals, no_parts, more_parts, goals}
 use Rattle.akl_syntax.specs.Clauses.{Clause}
-use Rattle.akl_syntax.specs.Variables.{goal_variables, goals_variables, parts_variables}
+use Rattle.term_syntax.specs.Tree.{trees}
+use Rattle.term_syntax.specs.Variables.{trees_variables}
+use Rattle.akl_syntax.specs.Variables.{goal_variables, goals_variables, parts_variables, IsClauseNumbered, AreClausesNumbered}
 use Rattle.clause_keys.specs.declared.callee.Callee.{Callee}
 use Rattle.clause_keys.specs.declared.callee.Callee.TheVariants.{Lifted}
 use Rattle.clause_keys.specs.declared.reserved.Reserved.{Reserved}
 use Rattle.clause_keys.specs.Reserved.{reserved_of}
-use Rattle.clause_keys.specs.Keys.{named, defined_by}
-use Rattle.clause_keys.specs.Conditions.{count, MayCall, IsLoadable, IsClauseLoadable, IsLiftable, a_goal, a_choice, AreLiftable, more_liftable, HaveLiftable, a_part}
+use Rattle.clause_keys.specs.Keys.{named, by_head, defined_by}
+use Rattle.clause_keys.specs.Conditions.{count, MayCall, IsLoadable, IsClauseLoadable, IsLiftable, a_goal, a_choice, AreLiftable, more_liftable, HaveLiftable, a_part, IsClauseLiftable}
 use Rattle.akl_lift.specs.Places.{place, placed_variable, placed_trees}
-use Rattle.akl_lift.specs.Lifting.{Origin, choices_in, choices_in_all, without, without_all, name_of, part_clause, part_clauses, part_order, part_shares, made, made_all, made_inside, made_in_part, joined}
-use Rattle.akl_lift.specs.Whole.{HasPart, IsWhole, AreWhole, HaveGoals}
-use Rattle.akl_lift.proofs.Below.{Below, below_front, below_back, Fits, part_fits, part_few}
+use Rattle.akl_lift.specs.Lifting.{Origin, choices_in, choices_in_all, without, without_all, name_of, part_clause, part_clauses, part_order, part_shares, made, made_all, made_inside, made_in_part, joined, clause_choices, clause_order, clause_shares, clause_origin, clause_without, clauses_without, made_of, made_of_all, lifted_clauses}
+use Rattle.akl_lift.specs.Whole.{HasPart, IsWhole, AreWhole, HaveGoals, IsRead}
+use Rattle.akl_lift.proofs.Reading.{AreRead}
+use Rattle.akl_lift.proofs.Below.{Below, below_front, below_back, Fits, part_fits, part_few, variables_below, clause_fits}
 use Rattle.akl_lift.proofs.Sized.{joined-append}
 
 count_placed : (order : List ℕ) (ts : Trees) → count (placed_trees order ts) ≡ count ts
@@ -135,3 +138,60 @@ module _ (some all : List Callee) (among : Among some all) (n : ℕ) (few : n �
         (goals_definitions w (part_shares args gs hs) (next + choices_in_all gs) hs m h.2 fits body (among_back (made_all w (part_shares args gs hs) next gs) (made_all w (part_shares args gs hs) (next + choices_in_all gs) hs) all here)))
         (inside_definitions w args (next + (choices_in_all gs + choices_in_all hs)) op ps r h.3 x (below_back n (goals_variables gs ++ goals_variables hs) (parts_variables ps) y)
         (among_back (made_in_part w args next gs hs) (made_inside w args (next + (choices_in_all gs + choices_in_all hs)) ps) all a))
+
+-- ---- programs
+defined_without : (next : ℕ) (cs : List Clause) → map defined_by (clauses_without next cs) ≡ map defined_by cs
+unfolding defined_by
+defined_without next [] = refl
+defined_without next (c ∷ cs) = ap (λ (ks : List Callee). by_head c.head (length c.arguments) ∷ ks) (defined_without (next + clause_choices c) cs)
+
+module _ (some all : List Callee) (among : Among some all) where
+  clause_loads : (next : ℕ) (c : Clause) → IsClauseLiftable some c → IsRead c → IsClauseNumbered c → Among (defined (made_of next c)) all → IsClauseLoadable all (clause_without next c)
+  clause_loads next c l r m a =
+      let guard = made_all (clause_origin c) (clause_shares c) next (goals c.part.guard) in
+      let body = made_all (clause_origin c) (clause_shares c) (next + choices_in_all (goals c.part.guard)) (goals c.part.body) in
+      record {
+        guard = all_load some all among (length c.names) l.few (clause_origin c) (clause_order c) (clause_shares c) next (goals c.part.guard) l.guard r.guard (among_front guard body all a);
+        body = all_load some all among (length c.names) l.few (clause_origin c) (clause_order c) (clause_shares c) (next + choices_in_all (goals c.part.guard)) (goals c.part.body) l.body r.body (among_back guard body all a);
+        few = l.few;
+      }
+
+  clause_definitions : (next : ℕ) (c : Clause) → IsClauseLiftable some c → IsRead c → IsClauseNumbered c → Among (defined (made_of next c)) all → All (IsClauseLoadable all) (joined (made_of next c))
+  clause_definitions next c l r m a =
+      let n = length c.names in
+      let guard = made_all (clause_origin c) (clause_shares c) next (goals c.part.guard) in
+      let body = made_all (clause_origin c) (clause_shares c) (next + choices_in_all (goals c.part.guard)) (goals c.part.body) in
+      let inner : Below n (goals_variables (goals c.part.guard) ++ goals_variables (goals c.part.body)) = below_back n (trees_variables (trees c.arguments)) (goals_variables (goals c.part.guard) ++ goals_variables (goals c.part.body)) (variables_below c m) in
+      let fits = clause_fits c l.few in
+      all_of_both some all among n l.few guard body
+      (goals_definitions some all among n l.few (clause_origin c) (clause_shares c) next (goals c.part.guard) l.guard r.guard fits (below_front n (goals_variables (goals c.part.guard)) (goals_variables (goals c.part.body)) inner) (among_front guard body all a))
+      (goals_definitions some all among n l.few (clause_origin c) (clause_shares c) (next + choices_in_all (goals c.part.guard)) (goals c.part.body) l.body r.body fits (below_back n (goals_variables (goals c.part.guard)) (goals_variables (goals c.part.body)) inner) (among_back guard body all a))
+
+  first_among : (cs ds : List Clause) → Among (map defined_by (cs ++ ds)) all → Among (map defined_by cs) all
+  first_among cs ds a = λ k h. a k (subst (λ (ks : List Callee). Contains ks k) (sym (map-append defined_by cs ds)) (Contains-append_left (map defined_by cs) (map defined_by ds) k h))
+
+  rest_among : (cs ds : List Clause) → Among (map defined_by (cs ++ ds)) all → Among (map defined_by ds) all
+  rest_among cs ds a = λ k h. a k (subst (λ (ks : List Callee). Contains ks k) (sym (map-append defined_by cs ds)) (Contains-append_right (map defined_by cs) (map defined_by ds) k h))
+
+  clauses_load : (next : ℕ) (cs : List Clause) → All (IsClauseLiftable some) cs → AreRead cs → AreClausesNumbered cs → Among (map defined_by (made_of_all next cs)) all → All (IsClauseLoadable all) (clauses_without next cs)
+  clauses_load next [] l r m a = All-nil (IsClauseLoadable all)
+  clauses_load next (c ∷ cs) l r m a =
+      All-cons (IsClauseLoadable all) (clause_without next c) (clauses_without (next + clause_choices c) cs)
+      (clause_loads next c (l 0 c (omega arith)) r.0 m.0 (first_among (joined (made_of next c)) (made_of_all (next + clause_choices c) cs) a))
+      (clauses_load (next + clause_choices c) cs (λ k d h. l (suc k) d (omega (arith, h))) r.1 m.1 (rest_among (joined (made_of next c)) (made_of_all (next + clause_choices c) cs) a))
+
+  definitions_load : (next : ℕ) (cs : List Clause) → All (IsClauseLiftable some) cs → AreRead cs → AreClausesNumbered cs → Among (map defined_by (made_of_all next cs)) all → All (IsClauseLoadable all) (made_of_all next cs)
+  definitions_load next [] l r m a = All-nil (IsClauseLoadable all)
+  definitions_load next (c ∷ cs) l r m a =
+      All-append (IsClauseLoadable all) (joined (made_of next c)) (made_of_all (next + clause_choices c) cs)
+      (clause_definitions next c (l 0 c (omega arith)) r.0 m.0 (first_among (joined (made_of next c)) (made_of_all (next + clause_choices c) cs) a))
+      (definitions_load (next + clause_choices c) cs (λ k d h. l (suc k) d (omega (arith, h))) r.1 m.1 (rest_among (joined (made_of next c)) (made_of_all (next + clause_choices c) cs) a))
+
+-- the clauses of a program that passed the tests of loading can be loaded once they are lifted
+pub program_loads : (cs : List Clause) → All (IsClauseLiftable (map defined_by cs)) cs → AreRead cs → AreClausesNumbered cs → All (IsClauseLoadable (map defined_by (lifted_clauses cs))) (lifted_clauses cs)
+program_loads cs l r m =
+    let all = map defined_by (lifted_clauses cs) in
+    let split : all ≡ map defined_by cs ++ map defined_by (made_of_all 0 cs) = map-append defined_by (clauses_without 0 cs) (made_of_all 0 cs) ∙ ap (λ (ks : List Callee). ks ++ map defined_by (made_of_all 0 cs)) (defined_without 0 cs) in
+    let front : Among (map defined_by cs) all = λ k h. subst (λ (ks : List Callee). Contains ks k) (sym split) (Contains-append_left (map defined_by cs) (map defined_by (made_of_all 0 cs)) k h) in
+    let back : Among (map defined_by (made_of_all 0 cs)) all = λ k h. subst (λ (ks : List Callee). Contains ks k) (sym split) (Contains-append_right (map defined_by cs) (map defined_by (made_of_all 0 cs)) k h) in
+    All-append (IsClauseLoadable all) (clauses_without 0 cs) (made_of_all 0 cs) (clauses_load (map defined_by cs) all front 0 cs l r m back) (definitions_load (map defined_by cs) all front 0 cs l r m back)

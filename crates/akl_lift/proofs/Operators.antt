@@ -7,11 +7,11 @@ use Rattle.akl_terms.specs.declared.program.Key.{Key}
 use Rattle.akl_terms.specs.declared.program.Op.{Op}
 use Rattle.akl_terms.specs.declared.program.Op.TheVariants as ops
 use Rattle.akl_syntax.specs.declared.source.Head.TheVariants as heads
-use Rattle.akl_syntax.specs.Goals.{Goal, Goals, Parts, call, choice, lifted, no_goals, more_goals, no_parts, more_parts}
+use Rattle.akl_syntax.specs.Goals.{Goal, Goals, Parts, call, choice, lifted, no_goals, more_goals, no_parts, more_parts, goals}
 use Rattle.akl_syntax.specs.Clauses.{Clause}
 use Rattle.clause_keys.specs.declared.callee.Callee.{Callee}
-use Rattle.clause_keys.specs.Conditions.{IsLiftable, a_goal, a_choice, AreLiftable, more_liftable, HaveLiftable, no_part, a_part}
-use Rattle.akl_lift.specs.Lifting.{Origin, choices_in, choices_in_all, choices_in_parts, part_clause, part_clauses, part_shares, made, made_all, made_inside, made_in_part, joined}
+use Rattle.clause_keys.specs.Conditions.{IsLiftable, a_goal, a_choice, AreLiftable, more_liftable, HaveLiftable, no_part, a_part, IsClauseLiftable}
+use Rattle.akl_lift.specs.Lifting.{Origin, choices_in, choices_in_all, choices_in_parts, part_clause, part_clauses, part_shares, made, made_all, made_inside, made_in_part, joined, clause_choices, choices_of, clause_shares, clause_origin, made_of, made_of_all}
 use Rattle.akl_lift.proofs.Sized.{joined-append}
 
 -- ---- the operator of each choice, in the order of the opening brackets
@@ -127,3 +127,32 @@ module _ (callees : List Callee) where
         (all_joined (operators_all gs) (operators_all hs) next (next + choices_in_all gs) (made_all w (part_shares args gs hs) next gs) (made_all w (part_shares args gs hs) (next + choices_in_all gs) hs) (omega (arith, length-operators_all gs))
         (goals_made w (part_shares args gs hs) next gs a) (goals_made w (part_shares args gs hs) (next + choices_in_all gs) hs b))
         (inside_made w args (next + (choices_in_all gs + choices_in_all hs)) op ps c)
+
+-- ---- programs
+abbrev clause_operators : Clause → List Op
+clause_operators c = operators_all (goals c.part.guard) ++ operators_all (goals c.part.body)
+
+abbrev pub program_operators : List Clause → List Op
+program_operators [] = []
+program_operators (c ∷ cs) = clause_operators c ++ program_operators cs
+
+length-clause_operators : (c : Clause) → length (clause_operators c) ≡ clause_choices c
+length-clause_operators c =
+    omega (arith, length-append (operators_all (goals c.part.guard)) (operators_all (goals c.part.body)), length-operators_all (goals c.part.guard), length-operators_all (goals c.part.body))
+
+pub length-program_operators : (cs : List Clause) → length (program_operators cs) ≡ choices_of cs
+length-program_operators [] = refl
+length-program_operators (c ∷ cs) = omega (arith, length-append (clause_operators c) (program_operators cs), length-clause_operators c, length-program_operators cs)
+
+clause_made : (callees : List Callee) (next : ℕ) (c : Clause) → IsClauseLiftable callees c → All (IsMadeOf (clause_operators c) next) (joined (made_of next c))
+clause_made callees next c l =
+    all_joined (operators_all (goals c.part.guard)) (operators_all (goals c.part.body)) next (next + choices_in_all (goals c.part.guard)) (made_all (clause_origin c) (clause_shares c) next (goals c.part.guard))
+    (made_all (clause_origin c) (clause_shares c) (next + choices_in_all (goals c.part.guard)) (goals c.part.body)) (omega (arith, length-operators_all (goals c.part.guard)))
+    (goals_made callees (clause_origin c) (clause_shares c) next (goals c.part.guard) l.guard) (goals_made callees (clause_origin c) (clause_shares c) (next + choices_in_all (goals c.part.guard)) (goals c.part.body) l.body)
+
+-- each clause of the definitions that are made has the operator and the number of a choice of the program
+pub program_made : (callees : List Callee) (next : ℕ) (cs : List Clause) → All (IsClauseLiftable callees) cs → All (IsMadeOf (program_operators cs) next) (made_of_all next cs)
+program_made callees next [] l = All-nil (IsMadeOf [] next)
+program_made callees next (c ∷ cs) l =
+    all_both (clause_operators c) (program_operators cs) next (next + clause_choices c) (joined (made_of next c)) (made_of_all (next + clause_choices c) cs) (omega (arith, length-clause_operators c))
+    (clause_made callees next c (l 0 c (omega arith))) (program_made callees (next + clause_choices c) cs (λ k d h. l (suc k) d (omega (arith, h))))

@@ -6,12 +6,15 @@ use Rattle.term_syntax.specs.Tree.{Tree, Trees, Tail, Steps, variable, integer, 
 use Rattle.term_syntax.specs.Sizes.{tree_size, trees_size, tail_size, steps_size}
 use Rattle.akl_syntax.specs.Goals.{Goal, Goals, Parts, call, choice, lifted, no_goals, more_goals, no_parts, more_parts, goals}
 use Rattle.akl_syntax.specs.Clauses.{Clause}
-use Rattle.akl_syntax.specs.Variables.{goal_variables, goals_variables, parts_variables}
-use Rattle.akl_syntax.specs.Sizes.{goal_size, goals_size, parts_size, clauses_size}
+use Rattle.std.specs.List.{All}
+use Rattle.term_syntax.specs.Variables.{trees_variables}
+use Rattle.akl_syntax.specs.Variables.{goal_variables, goals_variables, parts_variables, IsClauseNumbered, AreClausesNumbered}
+use Rattle.akl_syntax.specs.Sizes.{goal_size, goals_size, parts_size, clauses_size, clause_size}
 use Rattle.akl_lift.specs.Places.{place, placed_variable, placed_tree, placed_trees, placed_tail, placed_steps}
-use Rattle.akl_lift.specs.Lifting.{Origin, choices_in, choices_in_all, without, without_all, part_clauses, part_order, part_shares, made, made_all, made_inside, made_in_part, joined}
-use Rattle.akl_lift.specs.Whole.{HasGoal, IsWhole, AreWhole, HaveGoals}
-use Rattle.akl_lift.proofs.Below.{Below, below_front, below_back, Fits, part_fits}
+use Rattle.akl_lift.specs.Lifting.{Origin, choices_in, choices_in_all, without, without_all, part_clauses, part_order, part_shares, made, made_all, made_inside, made_in_part, joined, clause_choices, clause_order, clause_shares, clause_origin, clause_without, clauses_without, made_of, made_of_all, lifted_clauses}
+use Rattle.akl_lift.specs.Whole.{HasGoal, IsWhole, AreWhole, HaveGoals, IsRead}
+use Rattle.akl_lift.proofs.Reading.{AreRead}
+use Rattle.akl_lift.proofs.Below.{Below, below_front, below_back, Fits, part_fits, variables_below, clause_fits}
 
 -- ---- terms
 mutual
@@ -104,3 +107,32 @@ module _ (n : ℕ) (few : n ≤ 256) where
           some_goals_paid w (part_order args gs hs) (part_shares args gs hs) (next + choices_in_all gs) hs h.0 fits body h.2,
           parts_paid w number args (next + (choices_in_all gs + choices_in_all hs)) ps k a (below_back n (goals_variables gs ++ goals_variables hs) (parts_variables ps) b) h.3,
         )
+
+-- ---- programs
+clause_paid : (next : ℕ) (c : Clause) → length c.names ≤ 256 → IsRead c → IsClauseNumbered c → clause_size (clause_without next c) + clauses_size (joined (made_of next c)) ≤ 514 * clause_size c
+clause_paid next c h r m =
+    let n = length c.names in
+    let guard = made_all (clause_origin c) (clause_shares c) next (goals c.part.guard) in
+    let body = made_all (clause_origin c) (clause_shares c) (next + choices_in_all (goals c.part.guard)) (goals c.part.body) in
+    let inner : Below n (goals_variables (goals c.part.guard) ++ goals_variables (goals c.part.body)) = below_back n (trees_variables (trees c.arguments)) (goals_variables (goals c.part.guard) ++ goals_variables (goals c.part.body)) (variables_below c m) in
+    let fits = clause_fits c h in
+    omega (
+      arith,
+      joined_size guard body,
+      goals_paid n h (clause_origin c) (clause_order c) (clause_shares c) next (goals c.part.guard) fits (below_front n (goals_variables (goals c.part.guard)) (goals_variables (goals c.part.body)) inner) r.guard,
+      goals_paid n h (clause_origin c) (clause_order c) (clause_shares c) (next + choices_in_all (goals c.part.guard)) (goals c.part.body) fits (below_back n (goals_variables (goals c.part.guard)) (goals_variables (goals c.part.body)) inner) r.body,
+    )
+
+clauses_paid : (next : ℕ) (cs : List Clause) → All (λ c. length c.names ≤ 256) cs → AreRead cs → AreClausesNumbered cs → clauses_size (clauses_without next cs) + clauses_size (made_of_all next cs) ≤ 514 * clauses_size cs
+clauses_paid next [] f r m = omega arith
+clauses_paid next (c ∷ cs) f r m =
+    omega (
+      arith,
+      clauses_size-append (joined (made_of next c)) (made_of_all (next + clause_choices c) cs),
+      clause_paid next c (f 0 c (omega arith)) r.0 m.0,
+      clauses_paid (next + clause_choices c) cs (λ k d h. f (suc k) d (omega (arith, h))) r.1 m.1,
+    )
+
+-- there are at most 514 times as many terms, goals and clauses once choices are taken out
+pub program_paid : (cs : List Clause) → All (λ c. length c.names ≤ 256) cs → AreRead cs → AreClausesNumbered cs → clauses_size (lifted_clauses cs) ≤ 514 * clauses_size cs
+program_paid cs f r m = omega (arith, clauses_size-append (clauses_without 0 cs) (made_of_all 0 cs), clauses_paid 0 cs f r m)

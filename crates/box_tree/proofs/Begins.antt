@@ -157,12 +157,12 @@ pub keys_places : {A : Type 0} (f : Name → Place) (es : List (Name × A)) → 
 keys_places f [] = refl
 keys_places f (e ∷ es) = ap (λ (xs : List Place). f e.0 ∷ xs) (keys_places f es)
 
-in_left : (place : Place) (xs ys : List Place) → IsOneOf place xs → IsOneOf place (xs ++ ys)
+pub in_left : (place : Place) (xs ys : List Place) → IsOneOf place xs → IsOneOf place (xs ++ ys)
 in_left place [] ys i = absurd i
 in_left place (x ∷ xs) ys (inl e) = inl e
 in_left place (x ∷ xs) ys (inr i) = inr (in_left place xs ys i)
 
-in_right : (place : Place) (xs ys : List Place) → IsOneOf place ys → IsOneOf place (xs ++ ys)
+pub in_right : (place : Place) (xs ys : List Place) → IsOneOf place ys → IsOneOf place (xs ++ ys)
 in_right place [] ys i = i
 in_right place (x ∷ xs) ys i = inr (in_right place xs ys i)
 

@@ -12,10 +12,10 @@ use Rattle.akl_model.specs.Changes.{of_atom}
 use Rattle.akl_model.specs.Derivations.{raised}
 use Rattle.table_laws.specs.Rows.{BoxRow, GoalRow, Table}
 use Rattle.table_laws.specs.Steps as laws
-use Rattle.table_laws.specs.Writes.{set, home_in, changed_box, failing_by, forked_row, names_drawn, new_box_of, new_goal_of, atom_among, after_fork, IsFresh}
+use Rattle.table_laws.specs.Writes.{failing_row, set, home_in, changed_box, failing_by, forked_row, names_drawn, new_box_of, new_goal_of, atom_among, after_fork, IsFresh}
 use Rattle.box_tree.specs.declared.step.NewBox.{NewBox}
 use Rattle.box_tree.specs.Tables.{TableValue, table_of, new_box}
-use Rattle.box_tree.specs.Edits.{SetsBoxes, SetsGoals, SetsRows, Becomes, boxes_with, goals_with, choice_row, failing_row, home_if_empty}
+use Rattle.box_tree.specs.Edits.{SetsBoxes, SetsGoals, SetsRows, Becomes, boxes_with, goals_with, choice_row, home_if_empty}
 use Rattle.box_tree.proofs.News.{in_append, in_left}
 
 -- a name of a new goal is drawn

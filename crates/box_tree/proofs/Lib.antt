@@ -15,4 +15,5 @@ mod Begins
 mod Looks
 mod Seen
 mod Viewed
+mod Within
 mod Removed

@@ -7,10 +7,10 @@ use Rattle.akl_terms.proofs.SameNames.{same_name-equal, same_name-refl}
 use Rattle.table_laws.specs.Rows.{BoxRow, GoalRow, Table}
 use Rattle.table_laws.specs.Inside.{IsDirectlyIn}
 use Rattle.table_laws.specs.Walks.{ListsInside, Drops}
-use Rattle.table_laws.specs.Writes.{set, home_in, changed_box, none_left, less_alternative, left_row, left_by, held_without, holder_in_row, Fails}
+use Rattle.table_laws.specs.Writes.{failing_row, set, home_in, changed_box, none_left, less_alternative, left_row, left_by, held_without, holder_in_row, Fails}
 use Rattle.table_laws.proofs.Drops.{fails_by_drops}
 use Rattle.box_tree.specs.Tables.{TableValue, table_of}
-use Rattle.box_tree.specs.Edits.{SetsBoxes, SetsGoals, failing_row}
+use Rattle.box_tree.specs.Edits.{SetsBoxes, SetsGoals}
 use Rattle.box_tree.specs.Drops.{emptied_home, HasRows, DropsBoxes}
 
 -- the home fails by the choice exactly where this has no alternative left

@@ -1,5 +1,5 @@
 -- How the parts of a step change a table.
-use Rattle.std.specs.Prelude.{◌≡◌, ℕ, ◌≤◌, not, Bool, true, false, ◌||◌, if◌then◌else◌, List, [], ◌∷◌, map, Option, Some, None}
+use Rattle.std.specs.Prelude.{◌≡◌, ℕ, ◌≤◌, not, Bool, true, false, ◌||◌, if◌then◌else◌, List, [], ◌∷◌, map, Option, Some, None, slice_index}
 use Rattle.std.specs.Option.{option_or}
 use Rattle.std.specs.Map.{lookup}
 use Rattle.akl_terms.specs.declared.name.Name.{Name}
@@ -11,6 +11,7 @@ use Rattle.akl_model.specs.Config.{IsIn, Atom, or_else, with_names}
 use Rattle.akl_model.specs.Names.{times_in}
 use Rattle.akl_terms.specs.declared.program.Op.{Op}
 use Rattle.akl_model.specs.Changes.{of_choice}
+use Rattle.akl_model.specs.Derivations.{raised}
 use Rattle.table_laws.specs.Rows.{BoxRow, GoalRow, Table}
 use Rattle.table_laws.specs.Steps as laws
 use Rattle.table_laws.specs.Writes.{IsTable, less_name, new_box_of, new_goal_of, atom_among}
@@ -26,6 +27,11 @@ pub record SetsBoxes (t u : TableValue) (new : Name → Option BoxRow) : Type 0 
 pub record SetsGoals (t u : TableValue) (new : Name → Option GoalRow) : Type 0 where
   pub rows : (m : Name) → (table_of u).goal_of m ≡ new m
   pub rest : u ≡ record t { goals = u.goals }
+
+-- the next numbers are those after a worker has drawn so many names, and all else stays
+pub record DrawsNames (t u : TableValue) (worker count : ℕ) : Type 0 where
+  pub next : (w : ℕ) → slice_index u.next w ≡ slice_index (raised worker count t.next) w
+  pub rest : u ≡ record t { next = u.next }
 
 -- the same program and query, and these rows
 pub record Becomes (t u : TableValue) (T : Table) : Type 0 where
@@ -82,9 +88,6 @@ pub record Clears (t u : TableValue) (own : List Name) : Type 0 where
 
 abbrev pub choice_row : Op → List Name → ℕ → GoalRow → GoalRow
 choice_row op names number r = record r { shape = of_choice op names; changed = number }
-
-abbrev pub failing_row : Name → BoxRow → BoxRow
-failing_row g r = record r { failing = Some g }
 
 -- the box that fails by a choice of these boxes: its home, where there are none
 abbrev pub home_if_empty : Name → List NewBox → Option Name

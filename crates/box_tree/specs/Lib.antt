@@ -5,3 +5,5 @@ pub mod Views
 pub mod Paths
 pub mod Plans
 pub mod Drops
+pub mod Insides
+pub mod Places

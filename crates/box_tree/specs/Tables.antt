@@ -25,11 +25,12 @@ use Rattle.box_tree.specs.declared.entries.Held.{Held}
 use Rattle.box_tree.specs.declared.entries.BoxEntry.{BoxEntry}
 use Rattle.box_tree.specs.declared.entries.GoalEntry.{GoalEntry}
 use Rattle.box_tree.specs.declared.step.NewBox.{NewBox}
+use Rattle.box_tree.specs.declared.step.BoxCopy.{BoxCopy}
 use Rattle.box_tree.specs.declared.step.Step.{Step}
 
 -- the rules that are built
 abbrev pub rules_in_force : List Rule
-rules_in_force = Rule.Tell ∷ Rule.Fork ∷ Rule.Fail ∷ Rule.Cut ∷ Rule.Promote ∷ []
+rules_in_force = Rule.Tell ∷ Rule.Fork ∷ Rule.Fail ∷ Rule.Cut ∷ Rule.Promote ∷ Rule.Eval ∷ Rule.Open ∷ []
 
 -- the atom of a goal
 abbrev pub goal_atom : List Node → Goal → Atom
@@ -89,12 +90,25 @@ new_box nodes n = record {
   body = map (goal_atom nodes) n.body.items;
 }
 
+abbrev pub box_copy : List Node → BoxCopy → laws.BoxCopy
+box_copy nodes k = record {
+  name = k.name;
+  holder = k.holder;
+  store = k.store;
+  solved = k.solved;
+  goals = map (λ (x : Name × Held). (x.0, shape_held nodes x.1)) k.goals.items;
+  body = map (goal_atom nodes) k.body.items;
+  shown = map (shown_tree nodes) k.shown.items;
+}
+
 abbrev pub step_of : List Node → Step → laws.Step
 step_of nodes (Step.Tell store solved) = laws.tells store solved
 step_of nodes (Step.Fork op alternatives) = laws.forks op (map (new_box nodes) alternatives.items)
 step_of nodes Step.Fail = laws.fails
 step_of nodes Step.Cut = laws.cuts
 step_of nodes (Step.Promote store solved goals) = laws.promotes store solved (map (λ (x : Name × Goal). (x.0, goal_atom nodes x.1)) goals.items)
+step_of nodes Step.Refute = laws.refutes
+step_of nodes Step.Confirm = laws.confirms
 
 -- each variable of the query has its node
 pub record HasVariables (p : Program) (q : Query) (first_variable : ℕ) : Type 0 where
@@ -132,6 +146,8 @@ FitsPlace (Place.Goal g) (laws.tells new solved) alternative = ⊤
 FitsPlace (Place.Goal g) (laws.forks op news) alternative = ⊤
 FitsPlace (Place.Goal g) laws.cuts (Some n) = ⊤
 FitsPlace (Place.Goal g) (laws.promotes new solved goals) (Some n) = ⊤
+FitsPlace (Place.Goal g) laws.refutes alternative = ⊤
+FitsPlace (Place.Goal g) laws.confirms alternative = ⊤
 FitsPlace (Place.Box n) laws.fails alternative = ⊤
 FitsPlace (Place.Box n) (laws.splits copy copies) (Some a) = ⊤
 FitsPlace place step alternative = ⊥
@@ -150,6 +166,8 @@ DrawsInOrder (laws.forks op news) = AreInOrder news
 DrawsInOrder laws.fails = ⊤
 DrawsInOrder laws.cuts = ⊤
 DrawsInOrder (laws.promotes new solved goals) = IsIncreasing (map (λ (x : Name × Atom). x.0) goals)
+DrawsInOrder laws.refutes = ⊤
+DrawsInOrder laws.confirms = ⊤
 DrawsInOrder (laws.splits copy copies) = AreCopiesInOrder copies
 
 pub record MayApply (t : TableValue) (l : Label) (step : Step) : Type 0 where

@@ -4,9 +4,9 @@ ghost use Rattle.std.specs.Prelude.{◌≡◌, ◌+◌, ◌<◌, ◌∷◌, ◌+
 ghost use Rattle.akl_terms.specs.declared.term.Node.{Node};
 ghost use Rattle.akl_model.specs.Ordered.{IsIncreasing};
 ghost use Rattle.akl_model.specs.Derivations.{raised};
-ghost use Rattle.table_laws.specs.Writes.{set, first_fail, failing_by, forked_row, names_drawn, IsFresh, after_fork, changed_box};
+ghost use Rattle.table_laws.specs.Writes.{set, first_fail, failing_by, forked_row, failing_row, names_drawn, IsFresh, after_fork, changed_box};
 ghost use Rattle.box_tree.specs.Tables.{table_of, box_row, goal_row, new_box, AreInOrder};
-ghost use Rattle.box_tree.specs.Edits.{is_fail, SetsBoxes, SetsGoals, SetsRows, AddsOnly, Becomes, Clears, named_atoms, boxes_with, goals_with, atoms_with, choice_row, failing_row, home_if_empty};
+ghost use Rattle.box_tree.specs.Edits.{is_fail, SetsBoxes, SetsGoals, SetsRows, AddsOnly, Becomes, Clears, named_atoms, boxes_with, goals_with, atoms_with, choice_row, home_if_empty};
 
 use crate::entries::{BoxEntry, GoalEntry, Held};
 use crate::step::NewBox;

@@ -1,12 +1,15 @@
 //! A flat table of boxes and goals that unfolds to a configuration, what is seen of a place in it, and plans that are right.
 #![tactic(auto)]
 
+mod candidates;
 mod choosing;
 mod cutting;
+mod deciding;
 mod dropping;
 mod entries;
 mod failing;
 mod forking;
+mod inside;
 mod looking;
 mod plan;
 mod promoting;
@@ -17,7 +20,8 @@ mod telling;
 mod view;
 
 pub use entries::{BoxEntry, GoalEntry, Held};
+pub use inside::{InnerBox, InnerGoal, Inside};
 pub use plan::Plan;
-pub use step::{NewBox, Step};
+pub use step::{BoxCopy, NewBox, Step};
 pub use table::Table;
 pub use view::{Alternative, LookError, Sight, View};

@@ -1,6 +1,7 @@
 //! What a plan makes of the box of its place.
 
-use akl_terms::{Goal, Name, Op};
+use crate::entries::Held;
+use akl_terms::{Goal, Name, Op, ShownTerm};
 use local_store::{Shared, Store};
 
 /// A box that a plan makes. Its goals are atoms, in increasing order of names.
@@ -14,10 +15,27 @@ pub struct NewBox {
     pub body: Vec<Goal>,
 }
 
+/// The copy of a box that is split, or of a box inside it, under new names.
+#[derive(Drop)]
+pub struct BoxCopy {
+    pub name: Name,
+    /// The choice that holds it, itself one of the copies; `None` for the copy of the box that is split.
+    pub holder: Option<Name>,
+    pub store: Shared<Store>,
+    /// Whether the store is solved over the stores around it.
+    pub solved: bool,
+    /// Its goals, in increasing order of names.
+    pub goals: Vec<(Name, Held)>,
+    pub body: Vec<Goal>,
+    /// What an answer shows of a root box.
+    pub shown: Vec<ShownTerm>,
+}
+
 /// What a plan makes of the box of its place.
 #[derive(Drop)]
 pub enum Step {
-    /// The box gets a store, which may be solved over the stores around it, and the goal goes.
+    /// The box gets a store, in which something more was told and which may be solved over the stores around it, and the
+    /// goal goes.
     Tell {
         store: Shared<Store>,
         solved: bool,
@@ -38,4 +56,8 @@ pub enum Step {
         solved: bool,
         goals: Vec<(Name, Goal)>,
     },
+    /// The goal becomes `fail`, by which its box fails.
+    Refute,
+    /// The goal goes, and the box keeps its store.
+    Confirm,
 }

@@ -7,7 +7,7 @@ ghost use Rattle.table_laws.specs.Laws.{started};
 ghost use Rattle.table_laws.specs.Stamped.{IsTableOf, stamp_in};
 ghost use Rattle.box_tree.specs.Tables.{rules_in_force, table_of, MayApply, Applied, HasVariables, HasShownVariables, goals_in, is_empty, shown_in, shown_trees_of};
 ghost use Rattle.box_tree.specs.Paths.{sight_in};
-ghost use Rattle.box_tree.specs.Views.{run_of, is_there, IsUnseen, AreAllPlaces};
+ghost use Rattle.box_tree.specs.Views.{run_of, is_there, IsUnseen, IsViewOf, AreAllPlaces};
 
 use crate::entries::{BoxEntry, GoalEntry};
 use crate::starting::after;
@@ -103,8 +103,8 @@ impl Table {
         }
     }
 
-    // What a worker sees of a place, where this stands in this box.
-    fn view_of(
+    /// What a worker sees of a place, where this stands in this box.
+    pub(crate) fn view_of(
         &self,
         alloc: Global,
         journal: &Vec<Label>,
@@ -119,6 +119,7 @@ impl Table {
         ensures journal { IfOk result (λ v. v.journal ≡ journal.now.items) }
         ensures place { IfOk result (λ v. v.place ≡ place) }
         ensures worker { IfOk result (λ v. v.worker ≡ worker) }
+        ensures seen { IfOk result IsViewOf }
     {
         let path = self.path_to(alloc, home)?;
         let stores = self.stores_of(alloc, path.as_slice())?;
@@ -244,8 +245,8 @@ impl Table {
         match step {
             Step::Tell { store, solved } => {
                 let goal = goal_at(label.place)?;
-                self.tell(goal, store, solved_when(at, solved), number);
-                Ok(())
+                let solved_at = solved_when(at, solved);
+                self.tell(alloc, goal, store, solved_at, number, worker, names)
             }
             Step::Fork { op, alternatives } => {
                 let goal = goal_at(label.place)?;
@@ -271,6 +272,16 @@ impl Table {
                 self.promote(
                     alloc, goal, name, store, solved_at, goals, number, worker, names,
                 )
+            }
+            Step::Refute => {
+                let goal = goal_at(label.place)?;
+                self.refute(goal, number);
+                Ok(())
+            }
+            Step::Confirm => {
+                let goal = goal_at(label.place)?;
+                self.confirm(goal, number);
+                Ok(())
             }
         }
     }

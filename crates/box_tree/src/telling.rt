@@ -1,13 +1,14 @@
 //! A goal tells its box.
 
-ghost use Rattle.std.specs.Prelude.{◌≡◌, ◌+◌, None};
+ghost use Rattle.std.specs.Prelude.{◌≡◌, ◌+◌, None, IfErr, OnOk};
 ghost use Rattle.table_laws.specs.Writes.{set, home_in, changed_box, told_row, solved_when, after_tell};
 ghost use Rattle.box_tree.specs.Tables.{table_of};
-ghost use Rattle.box_tree.specs.Edits.{SetsBoxes, SetsGoals, Becomes};
+ghost use Rattle.box_tree.specs.Edits.{DrawsNames, SetsBoxes, SetsGoals, Becomes};
 
 use crate::table::Table;
 use akl_terms::Name;
 use local_store::{Shared, Store};
+use std::alloc::{AllocError, Global};
 
 /// When a store was solved, where it says that it is.
 pub(crate) fn solved_when(at: Option<u64>, solved: bool) -> Option<u64>
@@ -17,21 +18,39 @@ pub(crate) fn solved_when(at: Option<u64>, solved: bool) -> Option<u64>
 }
 
 impl Table {
-    /// The goal's box gets a store, and the goal goes. It takes no memory.
+    // A worker draws so many names. An `Err` leaves the table as it was.
+    fn draw(&mut self, alloc: Global, worker: u32, count: u64) -> Result<(), AllocError>
+        ensures drawn { OnOk result (DrawsNames self.old self.new worker count) }
+        ensures unchanged { IfErr result (λ _. self.new ≡ self.old) }
+    {
+        if count > 0 {
+            self.next = self.raised(alloc, worker, count)?;
+        }
+        Ok(())
+    }
+
+    /// The goal's box gets a store, for which a worker draws so many names, and the goal goes. An `Err` leaves the table
+    /// as it was; none comes where no name is drawn.
     pub(crate) fn tell(
         &mut self,
+        alloc: Global,
         goal: Name,
         store: Shared<Store>,
         solved_at: Option<u64>,
         number: u64,
-    )
+        worker: u32,
+        count: u64,
+    ) -> Result<(), AllocError>
         requires { number ≡ self.old.steps + 1 }
-        ensures { Becomes self.old self.new (after_tell goal store solved_at (table_of self.old)) }
+        ensures made { OnOk result (Becomes self.old self.new (after_tell goal store solved_at worker count (table_of self.old))) }
+        ensures unchanged { IfErr result (λ _. self.new ≡ self.old) }
     {
+        self.draw(alloc, worker, count)?;
         let home = self.home_of(goal);
         self.tell_box(home, goal, store, solved_at, number);
         self.drop_goal(goal);
         self.steps = number;
+        Ok(())
     }
 
     /// The box in which a goal stands.

@@ -1,5 +1,5 @@
 -- A choice at which neither Cut nor Promote applies.
-use Rattle.std.proofs.Common.{◌≡◌, ℕ, ◌<◌, ◌^◌, [], ◌∷◌, ◌++◌, Bool, true, false, Option, Some, None, refl, sym, ◌∙◌, ap, subst, inl, inr, length}
+use Rattle.std.proofs.Common.{◌≡◌, ℕ, ◌<◌, ◌^◌, [], ◌∷◌, ◌++◌, Bool, true, false, Option, Some, None, refl, sym, ◌∙◌, ap, subst, length}
 use Rattle.std.specs.Prelude.{slice_index, IsSomeAnd, if◌then◌else◌}
 use Rattle.akl_terms.specs.declared.name.Name.{Name}
 use Rattle.akl_terms.specs.declared.name.Place.{Place}
@@ -8,12 +8,12 @@ use Rattle.akl_terms.specs.Names.{same_name}
 use Rattle.akl_model.specs.declared.label.Rule.{Rule}
 use Rattle.akl_model.specs.Config.{Content, Boxes, no_boxes, box, Goals, no_goals, atom, choice, a_choice, held_in, without_goal, Found}
 use Rattle.akl_model.specs.Instances.{with_atoms}
-use Rattle.akl_model.specs.Rules.{Reading, Change, becomes, joining, change_by, tell, fork, promote, count_of, kept_by, alternative_of}
+use Rattle.akl_terms.specs.declared.program.Program.{Program}
+use Rattle.akl_terms.specs.Arithmetic.{value, truth}
+use Rattle.akl_model.specs.Rules.{Reading, nothing, answer, receiver, Change, becomes, joining, change_by, tell, fork, eval, open_new, send_by, promote, count_of, kept_by, alternative_of}
 use Rattle.akl_model.specs.Conditions.{IsSolved, IsQuietBox, GuardHolds, MayCut, MayPromote}
 use Rattle.akl_model.specs.Stable.{Allows}
-use Rattle.akl_model.specs.Derivations.{IsInForce}
 use Rattle.akl_model.proofs.Options.{some_value}
-use Rattle.box_tree.specs.Tables.{rules_in_force}
 use Rattle.box_tree.specs.Views.{ViewValue, IsViewOf}
 use Rattle.guard_plan.specs.Planned.{HasNoRule}
 use Rattle.guard_plan.proofs.HasNone.{has_none}
@@ -52,40 +52,35 @@ no_promote f o (box b no_goals no_boxes) w next g n c none e few h = on (same_na
     on true q k = none b refl k (subst (λ (j : ℕ). j < 2 ^ 32) (sym (ap (λ (x : Change). x.drawn) (some_value q))) few)
     on false q k = k
 
+none_made : (c : Change) → None ≡ Some c → ⊥
+none_made c e = cc
+
+-- a choice has no value, and no port
+
+no_value : (f : Found) (g : Name) (o : Op) (bs : Boxes) (u : Reading) → eval u g f (Some (a_choice o bs)) ≡ None
+no_value f g o bs nothing = refl
+no_value f g o bs (answer (value z)) = refl
+no_value f g o bs (answer (truth true)) = refl
+no_value f g o bs (answer (truth false)) = refl
+no_value f g o bs (receiver q) = refl
+
+no_port : (p : Program) (w next : ℕ) (f : Found) (g : Name) (o : Op) (bs : Boxes) (u : Reading) → send_by p w next u g f (Some (a_choice o bs)) ≡ None
+no_port p w next f g o bs nothing = refl
+no_port p w next f g o bs (answer b) = refl
+no_port p w next f g o bs (receiver q) = refl
+
 pub choice_none : (v : ViewValue) (i : IsViewOf v) (g : Name) (o : Op) (bs : Boxes) → v.place ≡ Place.Goal g → held_in g i.site.goals ≡ Some (a_choice o bs) → NoneCuts i.site o bs → NonePromotes i.site o bs → HasNoRule v
-choice_none v i g o bs p held cuts promotes = has_none v i (λ l change e r m. by l.rule l.alternative m.reading l.worker (slice_index i.table.config.next l.worker) change r
+choice_none v i g o bs p held cuts promotes = has_none v i (λ l change e r m. by l.rule l.alternative m.reading l.worker (slice_index i.table.config.next l.worker) change
     (subst (λ (q : Place). change_by v.table.program m.reading l.worker (slice_index i.table.config.next l.worker) l.rule q l.alternative i.site ≡ Some change) (e ∙ p) m.change)
     (subst (λ (q : Place). Allows v.table.program m.reading l.rule q l.alternative i.site) (e ∙ p) m.allowed) m.few_names)
   where
-    Makes : Rule → Option Name → Reading → ℕ → ℕ → Change → Type 0
-    Makes rule a reading w next c = change_by v.table.program reading w next rule (Place.Goal g) a i.site ≡ Some c
-
-    told : (a : Option Name) (reading : Reading) (w next : ℕ) (c : Change) → Makes Rule.Tell a reading w next c → ⊥
-    told None reading w next c y = let z : None ≡ Some c = sym (ap (tell g i.site) held) ∙ y in cc
-    told (Some n) reading w next c y = let z : None ≡ Some c = y in cc
-
-    forked : (a : Option Name) (reading : Reading) (w next : ℕ) (c : Change) → Makes Rule.Fork a reading w next c → ⊥
-    forked None reading w next c y = let z : None ≡ Some c = sym (ap (fork v.table.program w next g i.site) held) ∙ y in cc
-    forked (Some n) reading w next c y = let z : None ≡ Some c = y in cc
-
-    failed : (a : Option Name) (reading : Reading) (w next : ℕ) (c : Change) → Makes Rule.Fail a reading w next c → ⊥
-    failed None reading w next c y = let z : None ≡ Some c = y in cc
-    failed (Some n) reading w next c y = let z : None ≡ Some c = y in cc
-
-    cut : (a : Option Name) (reading : Reading) → Allows v.table.program reading Rule.Cut (Place.Goal g) a i.site → ⊥
-    cut None reading k = k
-    cut (Some n) reading k = no_cut i.site o bs n cuts (subst (MayCut n i.site) held k)
-
-    promoted : (a : Option Name) (reading : Reading) (w next : ℕ) (c : Change) → Makes Rule.Promote a reading w next c → c.drawn < 2 ^ 32 → Allows v.table.program reading Rule.Promote (Place.Goal g) a i.site → ⊥
-    promoted None reading w next c y few k = k
-    promoted (Some n) reading w next c y few k = no_promote i.site o bs w next g n c promotes (sym (ap (promote w next g n i.site) held) ∙ y) few (subst (MayPromote n i.site) held k)
-
-    by : (rule : Rule) (a : Option Name) (reading : Reading) (w next : ℕ) (c : Change) → IsInForce rules_in_force rule → Makes rule a reading w next c
+    by : (rule : Rule) (a : Option Name) (reading : Reading) (w next : ℕ) (c : Change) → change_by v.table.program reading w next rule (Place.Goal g) a i.site ≡ Some c
         → Allows v.table.program reading rule (Place.Goal g) a i.site → c.drawn < 2 ^ 32 → ⊥
-    by rule a reading w next c (inl e) x k few = told a reading w next c (subst (λ (r : Rule). Makes r a reading w next c) e x)
-    by rule a reading w next c (inr (inl e)) x k few = forked a reading w next c (subst (λ (r : Rule). Makes r a reading w next c) e x)
-    by rule a reading w next c (inr (inr (inl e))) x k few = failed a reading w next c (subst (λ (r : Rule). Makes r a reading w next c) e x)
-    by rule a reading w next c (inr (inr (inr (inl e)))) x k few = cut a reading (subst (λ (r : Rule). Allows v.table.program reading r (Place.Goal g) a i.site) e k)
-    by rule a reading w next c (inr (inr (inr (inr (inl e))))) x k few = promoted a reading w next c (subst (λ (r : Rule). Makes r a reading w next c) e x) few
-        (subst (λ (r : Rule). Allows v.table.program reading r (Place.Goal g) a i.site) e k)
-    by rule a reading w next c (inr (inr (inr (inr (inr z))))) x k few = z
+    by Rule.Tell None u w next c x k few = none_made c (sym (ap (tell g i.site) held) ∙ x)
+    by Rule.Fork None u w next c x k few = none_made c (sym (ap (fork v.table.program w next g i.site) held) ∙ x)
+    by Rule.Eval None u w next c x k few = none_made c (sym (ap (eval u g i.site) held ∙ no_value i.site g o bs u) ∙ x)
+    by Rule.Open None u w next c x k few = none_made c (sym (ap (open_new w next g i.site) held) ∙ x)
+    by Rule.Send None u w next c x k few = none_made c (sym (ap (send_by v.table.program w next u g i.site) held ∙ no_port v.table.program w next i.site g o bs u) ∙ x)
+    by Rule.Cut (Some n) u w next c x k few = no_cut i.site o bs n cuts (subst (MayCut n i.site) held k)
+    by Rule.Promote (Some n) u w next c x k few = no_promote i.site o bs w next g n c promotes (sym (ap (promote w next g n i.site) held) ∙ x) few (subst (MayPromote n i.site) held k)
+    by r a u w next c x k few = none_made c x

@@ -57,7 +57,7 @@ pub named_frames : (s other : Stored) → (named_too s other).frames ≡ with_na
 named_frames s other = ports_frames (with_frames s other.frames) other.ports ∙ frames_with s other.frames
 
 -- a port of another name
-port_put : (nodes : List Node) (ps : List (Name × Term)) (q : Name) (t : Term) → times_in q (port_names (ports_in nodes ps)) ≡ 0
+pub port_put : (nodes : List Node) (ps : List (Name × Term)) (q : Name) (t : Term) → times_in q (port_names (ports_in nodes ps)) ≡ 0
     → ports_in nodes (insert_entry name_cmp ps q t) ≡ with_port (record { name = q; tail = tree nodes t }) (ports_in nodes ps)
 port_put nodes [] q t h = refl
 port_put nodes (p ∷ ps) q t h = on (name_cmp q p.0) (same_name q p.0) (is_before q p.0) (name-same q p.0) (name_before q p.0)

@@ -80,8 +80,8 @@ fn is_quiet_over(
     Ok(holds)
 }
 
-// The same stores again.
-pub(crate) fn shared(
+/// The same stores again.
+pub fn shared(
     alloc: Global,
     path: &[Shared<Store>],
 ) -> Result<Vec<Shared<Store>>, AllocError>

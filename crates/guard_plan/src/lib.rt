@@ -7,5 +7,6 @@ mod labels;
 mod planning;
 mod promoting;
 
+pub use guards::shared;
 pub use labels::goal_and_stores;
 pub use planning::plan_guard;

@@ -27,6 +27,7 @@ use Rattle.box_tree.specs.Views.{ViewValue, IsViewOf}
 use Rattle.box_tree.specs.Plans.{IsRead, IsRight}
 use Rattle.rule_plan.specs.Failed.{FailsFor}
 use Rattle.guard_plan.specs.Planned.{HasNoRule}
+use Rattle.rule_plan.proofs.InForce.{fail_in_force}
 use Rattle.rule_plan.proofs.NoRule.{box_none}
 use Rattle.guard_plan.proofs.Sites.{goal_there, box_there, stand, found, whole_stands, shows_at}
 use Rattle.guard_plan.proofs.Chains.{told_stands}
@@ -62,7 +63,7 @@ module _ (v : ViewValue) (item : Item) (f : FailsFor v item) where
   fail_right = record {
     table = f.seen.table;
     result = after f.seen.table.config (fail_label v) f.seen.site (record { boxes = no_boxes; drawn = 0 });
-    applies = record { in_force = inr (inr (inl refl)); site = f.seen.site; is_site = f.seen.is_site; change = record { boxes = no_boxes; drawn = 0 }; makes = makes; result = refl };
+    applies = record { in_force = fail_in_force; site = f.seen.site; is_site = f.seen.is_site; change = record { boxes = no_boxes; drawn = 0 }; makes = makes; result = refl };
     makes = refl;
     solved = tt;
     names = refl;

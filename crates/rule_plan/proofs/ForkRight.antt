@@ -29,8 +29,7 @@ use Rattle.box_tree.specs.Plans.{IsRead, IsRight}
 use Rattle.rule_plan.specs.declared.heads.Call.{Call}
 use Rattle.rule_plan.specs.Made.{AreMade}
 use Rattle.guard_plan.specs.Planned.{HasNoRule}
-use Rattle.rule_plan.proofs.NoRule.{goal_none}
-use Rattle.rule_plan.proofs.Idle.{call_idle}
+use Rattle.rule_plan.proofs.AtomNone.{atom_none}
 use Rattle.guard_plan.proofs.Sites.{goal_there, stand, found, whole_stands, stores_path, shows_at}
 use Rattle.rule_plan.proofs.NewBoxes.{all_made, all_solved}
 
@@ -43,8 +42,7 @@ module _ (v : ViewValue) (i : IsViewOf v) (g : Name) (d : ℕ) (call : Call) (p 
 
   -- without a definition, or with too many names
   pub fork_none : ((x : Definition) → slice_get v.table.program.definitions d ≡ Some x → 2 ^ 32 ≤ drawn_by x.clauses) → HasNoRule v
-  fork_none many = goal_none v i g (Atom.call d (terms_from v.table.program.templates.nodes call.frame call.first call.count)) p held
-      (call_idle v.table.program d (terms_from v.table.program.templates.nodes call.frame call.first call.count) many)
+  fork_none many = atom_none v i g (Atom.call d (terms_from v.table.program.templates.nodes call.frame call.first call.count)) p held many
 
   module _ (x : Definition) (is : slice_get v.table.program.definitions d ≡ Some x) (few : drawn_by x.clauses < 2 ^ 32) (news : List NewBox)
       (made : AreMade v.table.program.templates.nodes v.stores call v.worker v.next x.clauses news) (step : Step) (made_step : step_of v.table.program.templates.nodes step ≡ laws.forks x.op (map (new_box v.table.program.templates.nodes) news)) where

@@ -1,7 +1,12 @@
 pub mod Storing
-pub mod Idle
+pub mod InForce
 pub mod NoRule
+pub mod AtomNone
+pub mod GoalRight
+pub mod ToldGoals
 pub mod TellRight
+pub mod EvalRight
+pub mod OpenRight
 pub mod FailRight
 pub mod Framed
 pub mod NewBoxes

@@ -1,2 +1,3 @@
 pub mod Made
 pub mod Failed
+pub mod AtGoals

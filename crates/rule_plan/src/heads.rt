@@ -4,6 +4,7 @@ ghost use Rattle.std.specs.Prelude.{◌≡◌, ◌+◌, ◌≤◌, IfOk, [], ◌
 ghost use Rattle.rule_plan.specs.Made.{heads_of, store_with, IsHeadStore, MoreKnown};
 
 use akl_terms::{Clause, Equation, Name, Term};
+use guard_plan::shared;
 use local_store::{Chain, Shared, Store, ToldStore, told};
 use std::alloc::{AllocError, Global};
 
@@ -84,10 +85,7 @@ fn path_with(
 ) -> Result<Vec<Shared<Store>>, AllocError>
     ensures { IfOk result (λ stores. stores.items ≡ path.now ++ store_with frame ∷ []) }
 {
-    let mut stores = Vec::new(alloc);
-    for store in path {
-        stores.push(store.share()?)?;
-    }
+    let mut stores = shared(alloc, path)?;
     let own = Shared::new(alloc, Store::new(alloc).with_frame(frame)?)?;
     stores.push(own)?;
     Ok(stores)

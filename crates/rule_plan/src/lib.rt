@@ -1,12 +1,15 @@
 //! From what is seen of a place to a plan that is right.
 #![tactic(auto)]
 
+mod at_goals;
 mod boxes;
+mod evaluating;
 mod failing;
 mod forking;
 mod heads;
 mod labels;
 mod names;
+mod opening;
 mod planning;
 mod telling;
 

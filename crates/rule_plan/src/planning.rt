@@ -6,9 +6,11 @@ ghost use Rattle.box_tree.specs.declared.view.Sight.{Sight};
 ghost use Rattle.box_tree.specs.Views.{IsViewOf};
 ghost use Rattle.guard_plan.specs.Planned.{IsPlannedBy};
 
+use crate::evaluating::{Arithmetic, eval};
 use crate::failing::fail;
 use crate::forking::fork;
 use crate::heads::Call;
+use crate::opening::open;
 use crate::telling::tell;
 use akl_terms::{Code, Goal, Name, Place, Program};
 use box_tree::{Plan, Sight, View};
@@ -48,7 +50,19 @@ fn plan_atom(
     ensures { IfOk result (IsPlannedBy view.now) }
 {
     match atom.code {
-        Code::Equal { left, right } => { tell(alloc, program, view, goal, atom.frame, left, right) }
+        Code::Equal { left, right } => tell(alloc, program, view, goal, atom.frame, left, right),
+        Code::Arith { test, left, right } => {
+            let arithmetic = Arithmetic {
+                test,
+                left,
+                right,
+                frame: atom.frame,
+            };
+            eval(alloc, program, view, goal, arithmetic)
+        }
+        Code::OpenPort { port, stream } => open(
+            alloc, program, view, goal, atom.frame, port, stream,
+        ),
         Code::Call {
             definition,
             first,
@@ -61,6 +75,7 @@ fn plan_atom(
             };
             fork(alloc, program, view, goal, definition, call)
         }
-        _ => Ok(None),
+        Code::Send { .. } => Ok(None),
+        Code::Fail => Ok(None),
     }
 }

@@ -6,11 +6,10 @@ ghost use Rattle.akl_terms.specs.declared.program.Code.{Code};
 ghost use Rattle.box_tree.specs.declared.view.Sight.{Sight};
 ghost use Rattle.guard_plan.specs.Planned.{IsPlannedBy};
 
-use crate::labels::label_of;
+use crate::at_goals::goal_plan;
 use akl_model::Rule;
 use akl_terms::{Equation, Name, Program, Term};
 use box_tree::{Plan, Step, View};
-use guard_plan::goal_and_stores;
 use local_store::{Shared, ToldStore, told};
 use std::alloc::{AllocError, Global};
 
@@ -34,10 +33,14 @@ pub(crate) fn tell(
         right: Term::Mol { node: right, frame },
     };
     let chain = view.chain(&program.templates);
-    let reads = goal_and_stores(alloc, goal, view.path())?;
-    let label = label_of(view, Rule::Tell);
     let ToldStore { store, solved } = told(alloc, &chain, &[equation])?;
     let store = Shared::new(alloc, store)?;
-    let step = Step::Tell { store, solved };
-    Ok(Some(Plan::new(view, label, reads, 0, step)))
+    goal_plan(
+        alloc,
+        view,
+        goal,
+        Rule::Tell,
+        0,
+        Step::Tell { store, solved },
+    )
 }

@@ -17,7 +17,7 @@ use Rattle.plan_laws.specs.Stamps as stamps
 use Rattle.plan_laws.proofs.Right.{reads_map}
 use Rattle.table_laws.specs.Rows.{BoxRow, GoalRow, Table}
 use Rattle.table_laws.specs.Stamped.{Run, followed_by, LastChange, IsStamped, IsTableOf, store_stamp, goals_stamp, goal_stamp, stamp_in}
-use Rattle.table_laws.specs.Steps.{Step, tells, forks, fails, cuts, promotes, splits, Makes, ReadsFor, IsSolvedIn, IsSolvedWhen}
+use Rattle.table_laws.specs.Steps.{Step, tells, forks, fails, cuts, promotes, refutes, confirms, splits, Makes, ReadsFor, IsSolvedIn, IsSolvedWhen}
 use Rattle.table_laws.specs.Writes.{IsTable, Leads, DrawsFresh}
 use Rattle.table_laws.proofs.Later.{later_law}
 use Rattle.table_laws.proofs.Fresh.{fresh_step}
@@ -56,9 +56,11 @@ pub reads_for : (U V : Item → Type 0) → ((i : Item) → U i → V i) → (l 
 reads_for U V h l f (tells new solved) r = (reads_map U V h l.rule l.place l.alternative f r.0, λ m i. h (Item.Store m) (r.1 m i))
 reads_for U V h l f (forks op news) r = reads_map U V h l.rule l.place l.alternative f r
 reads_for U V h l f fails r = reads_map U V h l.rule l.place l.alternative f r
+reads_for U V h l f refutes r = reads_map U V h l.rule l.place l.alternative f r
+reads_for U V h l f confirms r = reads_map U V h l.rule l.place l.alternative f r
+reads_for U V h l f (splits copy copies) r = reads_map U V h l.rule l.place l.alternative f r
 reads_for U V h l f cuts r = reads_map U V h l.rule l.place l.alternative f r
 reads_for U V h l f (promotes new solved goals) r = reads_map U V h l.rule l.place l.alternative f r
-reads_for U V h l f (splits copy copies) r = reads_map U V h l.rule l.place l.alternative f r
 
 -- all that a plan's type keeps, over a program and a query
 pub record IsPlanned (p : Program) (q : Query) (journal : List Label) (T : Table) (l : Label) (reads : List Item) (names : ℕ) (step : Step) : Type 0 where

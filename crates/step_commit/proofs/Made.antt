@@ -43,12 +43,18 @@ fits_goal place alternative g step e f = subst (λ (x : Place). FitsPlace x step
 fits_alternative : (place : Place) (alternative : Option Name) (g n : Name) (step : laws.Step) → place ≡ Place.Goal g → alternative ≡ Some n → FitsPlace (Place.Goal g) step (Some n) → FitsPlace place step alternative
 fits_alternative place alternative g n step e a f = fits_goal place alternative g step e (subst (FitsPlace (Place.Goal g) step) (sym a) f)
 
+-- at a box
+fits_box : (place : Place) (alternative : Option Name) (n a : Name) (step : laws.Step) → place ≡ Place.Box n → alternative ≡ Some a → FitsPlace (Place.Box n) step (Some a) → FitsPlace place step alternative
+fits_box place alternative n a step e h f = subst (λ (x : Place). FitsPlace x step alternative) (sym e) (subst (FitsPlace (Place.Box n) step) (sym h) f)
+
 fits : (rules : List Rule) (p : Program) (c : Config) (l : Label) (d : Config) (n : ℕ) (a : Applies rules p c l d) (step : laws.Step) → Makes p l n a.site step → FitsPlace l.place step l.alternative
-fits rules p c l d n a (laws.tells new solved) m = fits_goal l.place l.alternative m.1.0 (laws.tells new solved) m.1.1 tt
+fits rules p c l d n a (laws.tells new solved) m = fits_goal l.place l.alternative m.0 (laws.tells new solved) m.1 tt
 fits rules p c l d n a (laws.forks op news) m = fits_goal l.place l.alternative m.1.0 (laws.forks op news) m.1.1 tt
 fits rules p c l d n a laws.cuts m = fits_alternative l.place l.alternative m.1.0 m.1.1 laws.cuts m.1.2 m.1.3 tt
 fits rules p c l d n a (laws.promotes new solved goals) m = fits_alternative l.place l.alternative m.1.0 m.1.1 (laws.promotes new solved goals) m.1.2 m.1.3 tt
-fits rules p c l d n a (laws.splits copy copies) m = subst (λ (x : Place). FitsPlace x (laws.splits copy copies) l.alternative) (sym m.1.2) (subst (FitsPlace (Place.Box m.1.0) (laws.splits copy copies)) (sym m.1.3) tt)
+fits rules p c l d n a laws.refutes m = fits_goal l.place l.alternative m.1.0 laws.refutes m.1.1 tt
+fits rules p c l d n a laws.confirms m = fits_goal l.place l.alternative m.1.0 laws.confirms m.1.1 tt
+fits rules p c l d n a (laws.splits copy copies) m = fits_box l.place l.alternative m.1.0 m.1.1 (laws.splits copy copies) m.1.2 m.1.3 tt
 fits rules p c l d n a laws.fails m = fail_place p a.makes.reading l.worker _ l.rule l.place l.alternative a.site a.change m a.makes.change
 
 -- the number of labels is that of the plan's view, where it is given

@@ -15,7 +15,7 @@ use Rattle.akl_model.specs.declared.label.Rule.{Rule}
 use Rattle.akl_model.specs.declared.label.Label.{Label}
 use Rattle.akl_model.specs.Config.{IsIn, Content, Boxes, Goals, no_goals, atom, choice, Config, Held, a_choice, held_in, Found, equations_of, environment, whole, box_at, site_of}
 use Rattle.akl_model.specs.Renaming.{port_names, names_of, sorted_names, renaming, renamed_atom, renamed_equation, renamed_port, renamed_shown, renamed, renamed_goals}
-use Rattle.akl_model.specs.Rules.{others, ChoiceIn, choice_with}
+use Rattle.akl_model.specs.Rules.{Change, others, ChoiceIn, choice_with}
 use Rattle.akl_model.specs.Stable.{only, first_solved, IsSplitPoint}
 use Rattle.akl_model.specs.Scopes.{Scope, nowhere, scope_in, EquationsScoped}
 use Rattle.akl_model.specs.Owned.{own_in, ContentOwned, BoxesOwned, GoalsOwned}
@@ -463,3 +463,11 @@ copies_law rules r T l d t a n al names copies rule place alternative named made
             (made_copies rules r T l d t a n al w.0 rule place alternative w.1 copies (subst (λ (ns : List Name). AreMade T n al (swapping ns l.worker (slice_index t.config.next l.worker)) copies) q made)),
       ),
     )
+
+-- and it draws as many names
+pub names_drawn : (rules : List Rule) (r : Run) (T : Table) (l : Label) (d : Config) (t : IsTableOf rules r T) (a : Applies rules r.program t.config l d) (n al : Name) (names : List Name)
+    → l.rule ≡ Rule.Split → l.place ≡ Place.Box n → l.alternative ≡ Some al → AreNamesCopied T n al names → length names ≡ a.change.drawn
+names_drawn rules r T l d t a n al names rule place alternative named =
+    let w : (v : ChoiceIn) × (choice_with al a.site.goals ≡ Some v) × IsSplitPoint a.site al v = split_choice r.program (slice_index t.config.next l.worker) l a.site a.change a.makes n al rule place alternative in
+    ap length (names_are rules r T l d t a n al w.0 rule place alternative w.1 names named)
+    ∙ ap (λ (v : Change). v.drawn) (some_value (splitting.change r.program (slice_index t.config.next l.worker) l a.site a.change a.makes n al w.0 rule place alternative w.1))

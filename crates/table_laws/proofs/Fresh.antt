@@ -23,7 +23,7 @@ use Rattle.step_laws.proofs.Steps.{site_once}
 use Rattle.table_laws.specs.Rows.{BoxRow, Table}
 use Rattle.table_laws.specs.Unfolds.{IsBoxRow, AreBoth, spot_of, Unfolds}
 use Rattle.table_laws.specs.Stamped.{Run, IsTableOf}
-use Rattle.table_laws.specs.Steps.{ForksGoal, NewBox, Step, tells, forks, fails, cuts, promotes, splits, numbered, PromotesGoal, AreNewBoxes, SplitsBox, rest_of, second_of, Makes}
+use Rattle.table_laws.specs.Steps.{ForksGoal, NewBox, Step, tells, forks, fails, cuts, promotes, splits, numbered, PromotesGoal, AreNewBoxes, SplitsBox, rest_of, second_of, Makes, refutes, confirms}
 use Rattle.table_laws.specs.Writes.{names_drawn, names_copied, IsFresh, DrawsFresh}
 use Rattle.table_laws.proofs.Insides.{goal_names_less}
 use Rattle.table_laws.proofs.Copies.{copied_once, copied_counted}
@@ -92,6 +92,8 @@ pub fresh_step : (rules : List Rule) (r : Run) (T : Table) (l : Label) (d : Conf
 fresh_step rules r T l d t a (tells new solved) makes = tt
 fresh_step rules r T l d t a fails makes = tt
 fresh_step rules r T l d t a cuts makes = tt
+fresh_step rules r T l d t a refutes makes = tt
+fresh_step rules r T l d t a confirms makes = tt
 fresh_step rules r T l d t a (promotes new solved goals) makes =
     let m : PromotesGoal r.program.templates.nodes l.worker (slice_index t.config.next l.worker) a.site makes.1.0 makes.1.1 new goals = makes.1.4 in
     subst (λ (xs : List (Name × Atom)). IsFresh T (map (λ (x : Name × Atom). x.0) xs)) (sym m.body)

@@ -1,5 +1,5 @@
 -- A step that was made for a prefix of a run is right for the whole of it, where by its stamps what it reads is unchanged.
-use Rattle.std.proofs.Common.{◌≡◌, ℕ, List, [], ◌∷◌, ◌++◌, length, Bool, true, false, Option, Some, None, refl, sym, ◌∙◌, ap, subst, ◌⊎◌, inl, inr}
+use Rattle.std.proofs.Common.{◌≡◌, ℕ, List, [], ◌∷◌, ◌++◌, length, Bool, true, false, Option, Some, None, refl, sym, ◌∙◌, ap, subst}
 use Rattle.std.specs.Prelude.{if◌then◌else◌, slice_index}
 use Rattle.akl_terms.specs.declared.name.Name.{Name}
 use Rattle.akl_terms.specs.declared.name.Place.{Place}
@@ -42,8 +42,12 @@ use Rattle.plan_laws.specs.Right.{Reads, NoneBy, IsRightOn}
 use Rattle.plan_laws.specs.Stamps as stamps
 use Rattle.plan_laws.proofs.Right.{fresh}
 use Rattle.plan_laws.proofs.StampLaws.{stamped, stamped_right}
+use Rattle.step_laws.proofs.Whereabouts.{home_in}
 use Rattle.table_laws.proofs.Insides.{choice_of}
-use Rattle.table_laws.specs.Steps.{NewBox, Step, tells, forks, fails, cuts, promotes, splits, CutsGoal, numbered, PromotesGoal, SplitsBox, TellsGoal, AreNewBoxes, ForksGoal, Makes, ReadsFor}
+use Rattle.table_laws.specs.Steps.{NewBox, Step, tells, forks, fails, cuts, promotes, splits, CutsGoal, numbered, PromotesGoal, SplitsBox, TellsGoal, AreNewBoxes, ForksGoal, Makes, ReadsFor, refutes, confirms, ReducesAtom}
+use Rattle.table_laws.proofs.Gone.{goals_once}
+use Rattle.table_laws.proofs.Reducing.{reduced}
+use Rattle.table_laws.proofs.SameAtom.{same_atom}
 
 -- an atom by its shape
 atom_shape : (a : Atom) (h : Option Held) → HaveShape (Some (an_atom a)) h → h ≡ Some (an_atom a)
@@ -85,10 +89,17 @@ only_alternative f n b (box k hs no_boxes) a names found content goals = on (sam
     on true e = λ i. box ((ap (λ (x : Found). x.content) (some_value e) ∙ sym content) i) ((ap (λ (x : Found). x.goals) (some_value e) ∙ goals) i) no_boxes
     on false e = cc
 
--- what is read of a goal
-goal_read : (U : Item → Type 0) (l : Label) (g : Name) (f : Found) → (l.rule ≡ Rule.Tell) ⊎ (l.rule ≡ Rule.Fork) → l.place ≡ Place.Goal g → Reads U l.rule l.place l.alternative f → U (Item.Goal g)
-goal_read U l g f (inl e) q r = subst (λ (u : Rule). Reads U u (Place.Goal g) l.alternative f) e (subst (λ (u : Place). Reads U l.rule u l.alternative f) q r)
-goal_read U l g f (inr e) q r = subst (λ (u : Rule). Reads U u (Place.Goal g) l.alternative f) e (subst (λ (u : Place). Reads U l.rule u l.alternative f) q r)
+-- what is read of a goal, by any rule
+goal_read : (U : Item → Type 0) (r : Rule) (alternative : Option Name) (g : Name) (f : Found) → Reads U r (Place.Goal g) alternative f → U (Item.Goal g)
+goal_read U Rule.Tell n g f x = x
+goal_read U Rule.Fork n g f x = x
+goal_read U Rule.Open n g f x = x
+goal_read U Rule.Eval n g f x = x.0
+goal_read U Rule.Send n g f x = x.0
+goal_read U Rule.Cut n g f x = x.0
+goal_read U Rule.Promote n g f x = x.0
+goal_read U Rule.Fail n g f x = absurd x
+goal_read U Rule.Split n g f x = absurd x
 
 module _ (rules : List Rule) (p : Program) (q : Query) (journal further : List Label) (c d : Config) (l : Label) (e : Config) (a : Applies rules p c l e) (replays : Replays rules p q journal c) (derives : Derives rules p c further d)
     (none : NoneBy l further) where
@@ -120,21 +131,43 @@ module _ (rules : List Rule) (p : Program) (q : Query) (journal further : List L
         let f : k.0 ≡ right.applies.site = some_value (sym k.1 ∙ at_home g i) in
         atom_shape x (held_in g right.applies.site.goals) (subst (λ (v : Found). HaveShape (Some (an_atom x)) (held_in g v.goals)) f (subst (λ (o : Option Held). HaveShape o (held_in g k.0.goals)) h k.3))
 
-    still_tells : (g : Name) (new : _) → l.place ≡ Place.Goal g → Stamped (Item.Goal g) → ((m : Name) → IsIn m (names_down_to a.site) → Stamped (Item.Store m)) → TellsGoal p.templates.nodes a.site g new
-        → TellsGoal p.templates.nodes right.applies.site g new
-    still_tells g new i u v m =
+    same_site : (g : Name) → l.place ≡ Place.Goal g → Stamped (Item.Goal g) → ((m : Name) → IsIn m (names_down_to a.site) → Stamped (Item.Store m)) → HaveSameEquations a.site right.applies.site
+    same_site g i u v =
         let k : _ = goal_place rules p c further d w g a.site (was_home g i) (leaves (Item.Goal g) u) (λ n j. leaves (Item.Store n) (v n j)) in
         let f : k.0 ≡ right.applies.site = some_value (sym k.1 ∙ at_home g i) in
-        let same : HaveSameEquations a.site right.applies.site = subst (HaveSameEquations a.site) f k.3 in
-        record {
-          left = m.left;
-          right = m.right;
-          held = still_held g (Atom.equation m.left m.right) i u m.held;
-          frames = m.frames ∙ ap (λ (b : Content). b.frames) same.same.content;
-          ports = m.ports ∙ ap (λ (b : Content). b.ports) same.same.content;
-          stands = λ D h. subst (λ (E : Equations). StandFor (IsTold (D ++ bindings_in p.templates.nodes new.bindings)) (IsTold (E ++ record { left = m.left; right = m.right } ∷ []))) same.whole
-              (m.stands D (subst (λ (E : Equations). StandFor (IsTold D) (IsTold E)) (sym same.environment) h));
-        }
+        subst (HaveSameEquations a.site) f k.3
+
+    -- an atom whose box has the same constraints around it is reduced to the same
+    still_reduces : (g : Name) (b : Content) (o : Option Held) (drawn : ℕ) → l.place ≡ Place.Goal g → Stamped (Item.Goal g) → ((m : Name) → IsIn m (names_down_to a.site) → Stamped (Item.Store m))
+        → ReducesAtom p l (slice_index c.next l.worker) a.site g b (reduced o g a.site.goals) drawn → ReducesAtom p l (slice_index d.next l.worker) right.applies.site g b (reduced o g right.applies.site.goals) drawn
+    still_reduces g b o drawn i u v m = subst (λ (n : ℕ). ReducesAtom p l n right.applies.site g b (reduced o g right.applies.site.goals) drawn) (sym (fresh rules p c further d w l none).0)
+        (same_atom p l (slice_index c.next l.worker) a.site right.applies.site g b o drawn m (same_site g i u v).same (goals_once c.roots s.once a.site (home_in g c.roots a.site (was_home g i)).0) i (still_held g m.goal i u m.held))
+
+    still_decides : (g : Name) (o : Option Held) → l.rule ≡ Rule.Eval → l.place ≡ Place.Goal g → Reads Stamped l.rule l.place l.alternative a.site
+        → ReducesAtom p l (slice_index c.next l.worker) a.site g a.site.content (reduced o g a.site.goals) 0 → ReducesAtom p l (slice_index d.next l.worker) right.applies.site g right.applies.site.content (reduced o g right.applies.site.goals) 0
+    still_decides g o e i u m = subst (λ (b : Content). ReducesAtom p l (slice_index d.next l.worker) right.applies.site g b (reduced o g right.applies.site.goals) 0) (same_site g i reads.0 reads.1).same.content
+        (still_reduces g a.site.content o 0 i reads.0 reads.1 m)
+      where
+        reads : Reads Stamped Rule.Eval (Place.Goal g) l.alternative a.site
+        reads = subst (λ (x : Rule). Reads Stamped x (Place.Goal g) l.alternative a.site) e (subst (λ (x : Place). Reads Stamped l.rule x l.alternative a.site) i u)
+
+    still_tells : (g : Name) (new : Stored) → l.place ≡ Place.Goal g → Stamped (Item.Goal g) → ((m : Name) → IsIn m (names_down_to a.site) → Stamped (Item.Store m)) → TellsGoal p l (slice_index c.next l.worker) a.site g new
+        → TellsGoal p l (slice_index d.next l.worker) right.applies.site g new
+    still_tells g new i u v m = record {
+      content = m.content;
+      drawn = m.drawn;
+      reduces = still_reduces g m.content None m.drawn i u v m.reduces;
+      first = m.first;
+      more = m.more;
+      equations = m.equations ∙ ap (λ (b : Content). b.equations ++ m.first ∷ m.more) same.same.content;
+      frames = m.frames;
+      ports = m.ports;
+      stands = λ D h. subst (λ (E : Equations). StandFor (IsTold (D ++ bindings_in p.templates.nodes new.bindings)) (IsTold (E ++ m.first ∷ m.more))) same.whole
+          (m.stands D (subst (λ (E : Equations). StandFor (IsTold D) (IsTold E)) (sym same.environment) h));
+    }
+      where
+        same : HaveSameEquations a.site right.applies.site
+        same = same_site g i u v
 
     told_more : AreToldIn (whole a.site) (whole right.applies.site)
     told_more = record {
@@ -217,9 +250,12 @@ module _ (rules : List Rule) (p : Program) (q : Query) (journal further : List L
             around : a.site.around ≡ f.around
             around = around_stays rules p c further d w a.site f (found_in a.site.content.name c.roots a.site was) (found_in a.site.content.name d.roots f there) like (λ m i. leaves (Item.Store m) (v m i))
 
+    at_goal : (g : Name) → l.place ≡ Place.Goal g → Reads Stamped l.rule l.place l.alternative a.site → Stamped (Item.Goal g)
+    at_goal g e u = goal_read Stamped l.rule l.alternative g a.site (subst (λ (x : Place). Reads Stamped l.rule x l.alternative a.site) e u)
+
     made_still : (step : Step) → ReadsFor Stamped l a.site step → Makes p l (slice_index c.next l.worker) a.site step → Makes p l (slice_index d.next l.worker) right.applies.site step
-    made_still (tells new solved) u m = (m.0, (m.1.0, m.1.1, still_tells m.1.0 new m.1.1 (goal_read Stamped l m.1.0 a.site (inl m.0) m.1.1 u.0) u.1 m.1.2))
-    made_still (forks op news) u m = (m.0, (m.1.0, m.1.1, still_forks m.1.0 op news m.1.1 (goal_read Stamped l m.1.0 a.site (inr m.0) m.1.1 u) m.1.2))
+    made_still (tells new solved) u m = (m.0, m.1, still_tells m.0 new m.1 (at_goal m.0 m.1 u.0) u.1 m.2)
+    made_still (forks op news) u m = (m.0, (m.1.0, m.1.1, still_forks m.1.0 op news m.1.1 (at_goal m.1.0 m.1.1 u) m.1.2))
     made_still fails u m = m
     made_still cuts u m =
         let r : Reads Stamped Rule.Cut (Place.Goal m.1.0) l.alternative a.site = subst (λ (x : Rule). Reads Stamped x (Place.Goal m.1.0) l.alternative a.site) m.0 (subst (λ (x : Place). Reads Stamped l.rule x l.alternative a.site) m.1.2 u) in
@@ -227,6 +263,8 @@ module _ (rules : List Rule) (p : Program) (q : Query) (journal further : List L
     made_still (promotes new solved goals) u m =
         let r : Reads Stamped Rule.Promote (Place.Goal m.1.0) l.alternative a.site = subst (λ (x : Rule). Reads Stamped x (Place.Goal m.1.0) l.alternative a.site) m.0 (subst (λ (x : Place). Reads Stamped l.rule x l.alternative a.site) m.1.2 u) in
         (m.0, (m.1.0, m.1.1, m.1.2, m.1.3, still_promotes m.1.0 m.1.1 new goals m.1.2 r.0 r.1 m.1.4))
+    made_still refutes u m = (m.0, (m.1.0, m.1.1, still_decides m.1.0 (Some (an_atom Atom.fail)) m.0 m.1.1 u m.1.2))
+    made_still confirms u m = (m.0, (m.1.0, m.1.1, still_decides m.1.0 None m.0 m.1.1 u m.1.2))
     made_still (splits copy copies) u m =
         let r : Reads Stamped Rule.Split (Place.Box m.1.0) l.alternative a.site = subst (λ (x : Rule). Reads Stamped x (Place.Box m.1.0) l.alternative a.site) m.0 (subst (λ (x : Place). Reads Stamped l.rule x l.alternative a.site) m.1.2 u) in (
           m.0,
@@ -246,6 +284,8 @@ module _ (rules : List Rule) (p : Program) (q : Query) (journal further : List L
   only_reads fails u = u
   only_reads cuts u = u
   only_reads (promotes new solved goals) u = u
+  only_reads refutes u = u
+  only_reads confirms u = u
   only_reads (splits copy copies) u = u
 
   still_right : (step : Step) → ReadsFor Stamped l a.site step → Makes p l (slice_index c.next l.worker) a.site step

@@ -13,7 +13,11 @@ pub mod Unfailing
 pub mod Onward
 pub mod Marked
 pub mod Reducing
+pub mod Reduced
 pub mod Told
+pub mod Confirmed
+pub mod Refuted
+pub mod SameAtom
 pub mod Atoms
 pub mod Fresh
 pub mod NewRows

@@ -118,20 +118,20 @@ module _ (rules : List Rule) (p : Program) (q : Query) (journal : List Label) (c
       told = ap (λ (z : Name). told_along U (names_around a.site ++ z ∷ [])) b.keeps.name ∙ told_last U (names_around a.site) a.site.content.name k.store (ap store_in j)
           ∙ (λ z. same_told rules p q journal c l d replays a T U u (names_around a.site) keeps.nodes (site_around rules p q journal c l d replays a T U u keeps b) z ++ bindings_in (keeps.nodes z) k.store.bindings)
 
-  -- the same row but for what fails the box, where the box has the same content, and goals of the same names
-  pub site_same : KeepsRows a T U → (b : Becomes l.worker (slice_index c.next l.worker) a.site a.change) → b.content ≡ a.site.content → goal_names b.goals ≡ goal_names a.site.goals
-      → (r : BoxRow) (o : Option Name) → T.box_of a.site.content.name ≡ Some r → U.box_of a.site.content.name ≡ Some (record r { failing = o }) → FailsBy b.goals o
-      → IsBoxRow U d.roots (site_now b) (record r { failing = o }) × IsAsTold T U a.site.content.name
-  site_same keeps b content goals r o i j fails = (
-    site_row keeps b r (record r { failing = o }) i j refl (was.frames ∙ ap (λ (z : Content). z.frames) (sym content)) (was.ports ∙ ap (λ (z : Content). z.ports) (sym content))
+  -- the same row but for the goals, where the box has the same content
+  pub site_kept : KeepsRows a T U → (b : Becomes l.worker (slice_index c.next l.worker) a.site a.change) → b.content ≡ a.site.content
+      → (r : BoxRow) (goals : List Name) (number : ℕ) (o : Option Name) → T.box_of a.site.content.name ≡ Some r → U.box_of a.site.content.name ≡ Some (record r { goals = goals; goals_changed = number; failing = o })
+      → goals ≡ goal_names b.goals → FailsBy b.goals o → IsBoxRow U d.roots (site_now b) (record r { goals = goals; goals_changed = number; failing = o }) × IsAsTold T U a.site.content.name
+  site_kept keeps b content r goals number o i j names fails = (
+    site_row keeps b r (record r { goals = goals; goals_changed = number; failing = o }) i j refl (was.frames ∙ ap (λ (z : Content). z.frames) (sym content)) (was.ports ∙ ap (λ (z : Content). z.ports) (sym content))
         (subst (λ (z : Content). StandFor (IsTold (told_along T (names_around a.site) ++ bindings_in T.nodes r.store.bindings)) (IsTold (whole (record a.site { content = z })))) (sym content)
         (subst (λ (E : Equations). StandFor (IsTold E) (IsTold (whole a.site))) (told_last T (names_around a.site) a.site.content.name r.store (ap store_in i)) was.stands))
-        (solved_same T U a.site (site_now b) r (record r { failing = o }) keeps.nodes keeps.steps refl (sym b.keeps.name)
+        (solved_same T U a.site (site_now b) r (record r { goals = goals; goals_changed = number; failing = o }) keeps.nodes keeps.steps refl (sym b.keeps.name)
         (λ z h. elim (IsIn-either z (names_around a.site) (a.site.content.name ∷ []) h) [
           | inl v ↦ site_around rules p q journal c l d replays a T U u keeps b z v
           | inr v ↦ elim v [ inl e ↦ subst (IsAsTold T U) (sym e) told | inr e ↦ absurd e ]
         ]) refl was.stays_solved)
-        (was.goals ∙ sym goals) fails refl refl,
+        names fails refl refl,
     told,
   )
     where
@@ -141,7 +141,18 @@ module _ (rules : List Rule) (p : Program) (q : Query) (journal : List Label) (c
           subst (IsBoxRow T c.roots a.site) (some_value (sym v.1 ∙ i)) v.2
 
       told : IsAsTold T U a.site.content.name
-      told = record { store = ap store_in j ∙ sym (ap store_in i); changed = λ k e. (record r { failing = o }, j, ap (λ (z : BoxRow). z.changed) (some_value (sym i ∙ e))) }
+      told = record { store = ap store_in j ∙ sym (ap store_in i); changed = λ v e. (record r { goals = goals; goals_changed = number; failing = o }, j, ap (λ (z : BoxRow). z.changed) (some_value (sym i ∙ e))) }
+
+  -- the same row but for what fails the box, where goals have the same names too
+  pub site_same : KeepsRows a T U → (b : Becomes l.worker (slice_index c.next l.worker) a.site a.change) → b.content ≡ a.site.content → goal_names b.goals ≡ goal_names a.site.goals
+      → (r : BoxRow) (o : Option Name) → T.box_of a.site.content.name ≡ Some r → U.box_of a.site.content.name ≡ Some (record r { failing = o }) → FailsBy b.goals o
+      → IsBoxRow U d.roots (site_now b) (record r { failing = o }) × IsAsTold T U a.site.content.name
+  site_same keeps b content goals r o i j fails = site_kept keeps b content r r.goals r.goals_changed o i j (names ∙ sym goals) fails
+    where
+      names : r.goals ≡ goal_names a.site.goals
+      names =
+          let v : (v : BoxRow) × (T.box_of a.site.content.name ≡ Some v) × IsBoxRow T c.roots a.site v = row_of T c u a.site.content.name a.site (found rules p c l d s a) in
+          ap (λ (z : BoxRow). z.goals) (some_value (sym i ∙ v.1)) ∙ v.2.goals
 
   -- a box other than that of the place fails by the same goal, unless it holds this, and this goes or becomes two
   pub fails_as : (m : Name) (e f : Found) (o : Option Name) → same_name a.site.content.name m ≡ false → box_at m c.roots ≡ Some e → box_at m d.roots ≡ Some f

@@ -7,13 +7,15 @@ use Rattle.akl_model.specs.Config.{Config}
 use Rattle.akl_model.specs.Derivations.{Applies}
 use Rattle.table_laws.specs.Rows.{Table}
 use Rattle.table_laws.specs.Stamped.{Run, followed_by, IsTableOf}
-use Rattle.table_laws.specs.Steps.{Step, tells, forks, fails, cuts, promotes, splits, Makes, IsSolvedWhen}
+use Rattle.table_laws.specs.Steps.{Step, tells, forks, fails, cuts, promotes, splits, Makes, IsSolvedWhen, refutes, confirms}
 use Rattle.table_laws.specs.Writes.{Leads}
 use Rattle.table_laws.proofs.Told.{told_step}
 use Rattle.table_laws.proofs.Forked.{fork_step}
 use Rattle.table_laws.proofs.Failed.{failed_step}
 use Rattle.table_laws.proofs.Cut.{cut_step}
 use Rattle.table_laws.proofs.Promoted.{promoted_step}
+use Rattle.table_laws.proofs.Refuted.{refuted_step}
+use Rattle.table_laws.proofs.Confirmed.{confirmed_step}
 use Rattle.table_laws.proofs.Split.{split_step}
 
 pub step_law : (rules : List Rule) (r : Run) (T U : Table) (l : Label) (d : Config) (t : IsTableOf rules r T) (a : Applies rules r.program t.config l d) (step : Step) (at : Option ℕ)
@@ -24,4 +26,6 @@ step_law rules r T U l d t a (forks op news) at makes chain leads = fork_step ru
 step_law rules r T U l d t a fails at makes chain leads = failed_step rules r T U l d t a at a.change.drawn makes leads
 step_law rules r T U l d t a cuts at makes chain leads = cut_step rules r T U l d t a at makes leads
 step_law rules r T U l d t a (promotes new solved goals) at makes chain leads = promoted_step rules r T U l d t a at new solved goals makes chain leads
+step_law rules r T U l d t a refutes at makes chain leads = refuted_step rules r T U l d t a at makes leads
+step_law rules r T U l d t a confirms at makes chain leads = confirmed_step rules r T U l d t a at makes leads
 step_law rules r T U l d t a (splits copy copies) at makes chain leads = split_step rules r T U l d t a at copy copies makes chain leads

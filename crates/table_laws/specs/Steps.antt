@@ -8,17 +8,19 @@ use Rattle.akl_terms.specs.declared.program.Definition.{Definition}
 use Rattle.akl_terms.specs.declared.program.Program.{Program}
 use Rattle.akl_terms.specs.Names.{same_name}
 use Rattle.akl_terms.specs.Tree.{Tree}
-use Rattle.akl_terms.specs.Equal.{Equations, IsTold}
+use Rattle.akl_terms.specs.Equal.{Equation, Equations, IsTold}
 use Rattle.akl_terms.specs.Standing.{StandFor}
 use Rattle.akl_model.specs.declared.item.Item.{Item}
 use Rattle.akl_model.specs.declared.label.Rule.{Rule}
 use Rattle.akl_model.specs.declared.label.Label.{Label}
-use Rattle.akl_model.specs.Config.{IsIn, Atom, ShownTree, Content, Boxes, no_boxes, box, Goals, no_goals, atom, choice, an_atom, a_choice, held_in, with_names, with_ports, Found, environment, whole, box_at}
+use Rattle.akl_model.specs.Config.{IsIn, Atom, ShownTree, Content, Boxes, no_boxes, box, Goals, no_goals, atom, choice, an_atom, a_choice, held_in, with_names, with_ports, Found, environment, whole, box_at, with_content, without_goal}
 use Rattle.akl_model.specs.Instances.{instances}
-use Rattle.akl_model.specs.Rules.{ChoiceIn, choice_with, others, with_alternatives, second_copy}
+use Rattle.akl_model.specs.Rules.{ChoiceIn, choice_with, others, with_alternatives, second_copy, becomes}
 use Rattle.akl_model.specs.Names.{times_in}
 use Rattle.akl_model.specs.Changes.{Shape, of_atom, of_choice, box_names}
 use Rattle.akl_model.specs.Wakes.{names_around, names_down_to, holder_in}
+use Rattle.akl_model.specs.Conditions as conditions
+use Rattle.akl_model.specs.Stable.{Allows}
 use Rattle.rational_unify.specs.Solving.{bindings_in}
 use Rattle.local_store.specs.Stored.{Stored}
 use Rattle.local_store.specs.Chained.{IsSolvedChain}
@@ -46,24 +48,37 @@ pub record BoxCopy : Type 0 where
   pub shown : List ShownTree
 
 -- a box gets a store, which may be solved over those around it, and the goal goes; the goal becomes a choice of new boxes; the box goes; a
--- choice loses the alternatives that a solved one leaves no room for; its only alternative joins the box, which gets a store and new goals; or
--- the box becomes two, the second of this name: the copies, in any order, of the box and of all boxes inside it
+-- choice loses the alternatives that a solved one leaves no room for; its only alternative joins the box, which gets a store and new goals;
+-- the goal becomes `fail`; it goes, and the box keeps its store; or the box becomes two, the second of this name: the copies, in any order, of
+-- the box and of all boxes inside it
 pub data Step : Type 0 where
   tells : Stored → Bool → Step
   forks : Op → List NewBox → Step
   fails : Step
   cuts : Step
   promotes : Stored → Bool → List (Name × Atom) → Step
+  refutes : Step
+  confirms : Step
   splits : Name → List BoxCopy → Step
 
--- the equation of a goal is told: under all that stands for the equations around the box, the store stands for the box's equations and this one
-pub record TellsGoal (nodes : List Node) (f : Found) (g : Name) (new : Stored) : Type 0 where
-  pub left : Tree
-  pub right : Tree
-  pub held : held_in g f.goals ≡ Some (an_atom (Atom.equation left right))
-  pub frames : new.frames ≡ f.content.frames
-  pub ports : ports_in nodes new.ports ≡ f.content.ports
-  pub stands : (D : Equations) → StandFor (IsTold D) (IsTold (environment f)) → StandFor (IsTold (D ++ bindings_in nodes new.bindings)) (IsTold (whole f ++ record { left = left; right = right } ∷ []))
+-- a goal is an atom, and the label makes of its box one of this content and with these goals, and draws so many names
+pub record ReducesAtom (p : Program) (l : Label) (next : ℕ) (f : Found) (g : Name) (content : Content) (goals : Goals) (drawn : ℕ) : Type 0 where
+  pub goal : Atom
+  pub held : held_in g f.goals ≡ Some (an_atom goal)
+  pub makes : conditions.Makes (Allows p) p next l f (becomes content goals drawn)
+
+-- the goal goes, and its box has this content, in which something was told: under all that stands for the equations around the box, the
+-- store stands for the box's equations and those that were told
+pub record TellsGoal (p : Program) (l : Label) (next : ℕ) (f : Found) (g : Name) (new : Stored) : Type 0 where
+  pub content : Content
+  pub drawn : ℕ
+  pub reduces : ReducesAtom p l next f g content (without_goal g f.goals) drawn
+  pub first : Equation
+  pub more : Equations
+  pub equations : content.equations ≡ f.content.equations ++ first ∷ more
+  pub frames : new.frames ≡ content.frames
+  pub ports : ports_in p.templates.nodes new.ports ≡ content.ports
+  pub stands : (D : Equations) → StandFor (IsTold D) (IsTold (environment f)) → StandFor (IsTold (D ++ bindings_in p.templates.nodes new.bindings)) (IsTold (whole f ++ first ∷ more))
 
 abbrev pub AreAtoms : List (Name × Atom) → Goals → Type 0
 AreAtoms [] no_goals = ⊤
@@ -161,12 +176,14 @@ pub record SplitsBox (nodes : List Node) (worker next : ℕ) (f : Found) (a copy
 
 -- the step is what the label makes of the box of its place, where the names drawn go on from the next number
 abbrev pub Makes : Program → Label → ℕ → Found → Step → Type 0
-Makes p l next f (tells new solved) = (l.rule ≡ Rule.Tell) × ((g : Name) × (l.place ≡ Place.Goal g) × TellsGoal p.templates.nodes f g new)
+Makes p l next f (tells new solved) = (g : Name) × (l.place ≡ Place.Goal g) × TellsGoal p l next f g new
 Makes p l next f (forks op news) = (l.rule ≡ Rule.Fork) × ((g : Name) × (l.place ≡ Place.Goal g) × ForksGoal p l.worker next f g op news)
 Makes p l next f fails = l.rule ≡ Rule.Fail
 Makes p l next f cuts = (l.rule ≡ Rule.Cut) × ((g : Name) × (n : Name) × (l.place ≡ Place.Goal g) × (l.alternative ≡ Some n) × CutsGoal f g n)
 Makes p l next f (promotes new solved goals) = (l.rule ≡ Rule.Promote)
     × ((g : Name) × (n : Name) × (l.place ≡ Place.Goal g) × (l.alternative ≡ Some n) × PromotesGoal p.templates.nodes l.worker next f g n new goals)
+Makes p l next f refutes = (l.rule ≡ Rule.Eval) × ((g : Name) × (l.place ≡ Place.Goal g) × ReducesAtom p l next f g f.content (with_content g (an_atom Atom.fail) f.goals) 0)
+Makes p l next f confirms = (l.rule ≡ Rule.Eval) × ((g : Name) × (l.place ≡ Place.Goal g) × ReducesAtom p l next f g f.content (without_goal g f.goals) 0)
 Makes p l next f (splits copy copies) = (l.rule ≡ Rule.Split)
     × ((n : Name) × (a : Name) × (l.place ≡ Place.Box n) × (l.alternative ≡ Some a) × SplitsBox p.templates.nodes l.worker next f a copy copies)
 
@@ -198,6 +215,8 @@ IsSolvedIn T f (forks op news) = AreSolvedIf T (names_down_to f) news
 IsSolvedIn T f fails = ⊤
 IsSolvedIn T f cuts = ⊤
 IsSolvedIn T f (promotes new solved goals) = IsSolvedIf solved T (names_around f) new
+IsSolvedIn T f refutes = ⊤
+IsSolvedIn T f confirms = ⊤
 IsSolvedIn T f (splits copy copies) = (k : BoxCopy) (stores : List Stored) → copy_among copies k.name ≡ Some k → AreAround copies k.holder stores
     → k.solved ≡ true → IsSolvedChain T.nodes (stores_along T (names_around f) ++ (stores ++ k.store ∷ []))
 

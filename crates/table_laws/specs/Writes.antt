@@ -12,7 +12,7 @@ use Rattle.akl_model.specs.Derivations.{raised}
 use Rattle.local_store.specs.Stored.{Stored}
 use Rattle.table_laws.specs.Rows.{BoxRow, GoalRow, Table}
 use Rattle.table_laws.specs.Inside.{IsInside, IsGoalInside}
-use Rattle.table_laws.specs.Steps.{NewBox, BoxCopy, copy_among, Step, tells, forks, fails, cuts, promotes, splits}
+use Rattle.table_laws.specs.Steps.{NewBox, BoxCopy, copy_among, Step, tells, forks, fails, cuts, promotes, splits, refutes, confirms}
 
 -- the same table
 pub record IsTable (U T : Table) : Type 0 where
@@ -51,10 +51,11 @@ changed_box (Some n) change at = set n (option_map change (at n)) at
 abbrev pub told_row : Name → Stored → Option ℕ → ℕ → BoxRow → BoxRow
 told_row g new solved_at number r = record r { store = new; changed = number; solved_at = solved_at; goals = less_name g r.goals; goals_changed = number }
 
-abbrev pub after_tell : Name → Stored → Option ℕ → Table → Table
-after_tell g new solved_at T = record T {
+abbrev pub after_tell : Name → Stored → Option ℕ → ℕ → ℕ → Table → Table
+after_tell g new solved_at worker drawn T = record T {
   box_of = changed_box (home_in (T.goal_of g)) (told_row g new solved_at (T.steps + 1)) T.box_of;
   goal_of = set g None T.goal_of;
+  next = raised worker drawn T.next;
   steps = T.steps + 1;
 }
 
@@ -245,6 +246,33 @@ after_promote g n new solved_at goals worker drawn T = record T {
   steps = T.steps + 1;
 }
 
+-- a goal becomes `fail`, by which its box fails
+
+abbrev pub refuted_row : ℕ → GoalRow → GoalRow
+refuted_row number r = record r { shape = of_atom Atom.fail; changed = number }
+
+abbrev pub failing_row : Name → BoxRow → BoxRow
+failing_row g r = record r { failing = Some g }
+
+abbrev pub after_refute : Name → Table → Table
+after_refute g T = record T {
+  box_of = changed_box (home_in (T.goal_of g)) (failing_row g) T.box_of;
+  goal_of = set g (option_map (refuted_row (T.steps + 1)) (T.goal_of g)) T.goal_of;
+  steps = T.steps + 1;
+}
+
+-- a goal goes, and its box keeps its store
+
+abbrev pub confirmed_row : Name → ℕ → BoxRow → BoxRow
+confirmed_row g number r = record r { goals = less_name g r.goals; goals_changed = number }
+
+abbrev pub after_confirm : Name → Table → Table
+after_confirm g T = record T {
+  box_of = changed_box (home_in (T.goal_of g)) (confirmed_row g (T.steps + 1)) T.box_of;
+  goal_of = set g None T.goal_of;
+  steps = T.steps + 1;
+}
+
 -- a box becomes two: in the first a choice keeps an alternative alone, the second is the copy without it, and what holds the box gets the
 -- copy after it, a choice or the list of root boxes
 
@@ -351,6 +379,8 @@ DrawsFresh T (forks op news) = IsFresh T (names_drawn news)
 DrawsFresh T fails = ⊤
 DrawsFresh T cuts = ⊤
 DrawsFresh T (promotes new solved goals) = IsFresh T (map (λ (x : Name × Atom). x.0) goals)
+DrawsFresh T refutes = ⊤
+DrawsFresh T confirms = ⊤
 DrawsFresh T (splits copy copies) = IsFresh T (names_copied copies)
 
 -- the step of a label leads from table to table: `at` is how many labels there were when its stores were solved, where they still are
@@ -358,7 +388,7 @@ abbrev pub Leads : Table → Label → Option ℕ → ℕ → Step → Table →
 Leads T l at drawn (tells new solved) U = of_place l.place
   where
     of_place : Place → Type 0
-    of_place (Place.Goal g) = IsTable U (after_tell g new (solved_when at solved) T)
+    of_place (Place.Goal g) = IsTable U (after_tell g new (solved_when at solved) l.worker drawn T)
     of_place (Place.Box n) = ⊥
 Leads T l at drawn (forks op news) U = of_place l.place
   where
@@ -380,6 +410,16 @@ Leads T l at drawn (promotes new solved goals) U = of_place l.place l.alternativ
     of_place : Place → Option Name → Type 0
     of_place (Place.Goal g) (Some n) = IsTable U (after_promote g n new (solved_when at solved) goals l.worker drawn T)
     of_place place alternative = ⊥
+Leads T l at drawn refutes U = of_place l.place
+  where
+    of_place : Place → Type 0
+    of_place (Place.Goal g) = IsTable U (after_refute g T)
+    of_place (Place.Box n) = ⊥
+Leads T l at drawn confirms U = of_place l.place
+  where
+    of_place : Place → Type 0
+    of_place (Place.Goal g) = IsTable U (after_confirm g T)
+    of_place (Place.Box n) = ⊥
 Leads T l at drawn (splits copy copies) U = of_place l.place l.alternative
   where
     of_place : Place → Option Name → Type 0

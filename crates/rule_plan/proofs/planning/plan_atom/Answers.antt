@@ -1,20 +1,21 @@
-use Rattle.std.proofs.Common.{◌≡◌, ℕ, List, refl}
-use Rattle.akl_terms.specs.declared.name.Name.{Name}
-use Rattle.akl_terms.specs.declared.term.Node.{Node}
+use Rattle.std.proofs.Common.{Some, ◌∙◌, ap}
+use Rattle.akl_terms.specs.declared.name.Place.{Place}
 use Rattle.akl_terms.specs.declared.program.Code.{Code}
-use Rattle.akl_model.specs.Instances.{atom_of}
-use Rattle.rule_plan.proofs.Idle.{IsOther}
-use Rattle.rule_plan.proofs.NoRule.{atom_none}
+use Rattle.akl_model.specs.Config.{Atom, an_atom}
+use Rattle.akl_model.specs.Instances.{atom_of, term_at}
+use Rattle.box_tree.specs.declared.view.Sight.{Sight}
+use Rattle.rule_plan.proofs.AtomNone.{atom_none}
+use Rattle.rule_plan.proofs.NoRule.{send_none}
+use Rattle.guard_plan.proofs.Sites.{shows_at}
 use Rattle.rule_plan.proofs.planning.plan_atom.Goals as goal
 
-other_code : (nodes : List Node) (f : Name) (code : Code) → ((l r : ℕ) → code ≡ Code.Equal l r → ⊥) → ((d first n : ℕ) → code ≡ Code.Call d first n → ⊥) → IsOther (atom_of nodes f code)
-other_code nodes f (Code.Equal l r) e c = absurd (e l r refl)
-other_code nodes f (Code.Call d first n) e c = absurd (c d first n refl)
-other_code nodes f (Code.Arith test l r) e c = tt
-other_code nodes f (Code.OpenPort p s) e c = tt
-other_code nodes f (Code.Send m p) e c = tt
-other_code nodes f Code.Fail e c = tt
+pub returns-in-Fail : goal.returns-in-Fail
+returns-in-Fail c = atom_none c.args.view.now c.requires.seen c.args.goal Atom.fail c.requires.place
+    (shows_at c.args.view.now c.requires.seen (Place.Goal c.args.goal) (Sight.Atom c.args.atom) c.requires.place c.requires.sight
+    ∙ ap (λ (k : Code). Some (an_atom (atom_of c.args.view.now.table.program.templates.nodes c.args.atom.frame k))) c.in-Fail.is) tt
 
-pub returns-in_default : goal.returns-in_default
-returns-in_default c = atom_none c.args.view.now c.requires.seen c.args.goal c.args.atom c.requires.place c.requires.sight
-    (other_code c.args.view.now.table.program.templates.nodes c.args.atom.frame c.args.atom.code c.in_default.not-Equal c.in_default.not-Call)
+pub returns-in-Send : goal.returns-in-Send
+returns-in-Send c = send_none c.args.view.now c.requires.seen c.args.goal
+    (term_at c.args.view.now.table.program.templates.nodes c.args.atom.frame c.in-Send.message) (term_at c.args.view.now.table.program.templates.nodes c.args.atom.frame c.in-Send.port) c.requires.place
+    (shows_at c.args.view.now c.requires.seen (Place.Goal c.args.goal) (Sight.Atom c.args.atom) c.requires.place c.requires.sight
+    ∙ ap (λ (k : Code). Some (an_atom (atom_of c.args.view.now.table.program.templates.nodes c.args.atom.frame k))) c.in-Send.is)

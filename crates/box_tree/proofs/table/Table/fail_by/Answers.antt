@@ -2,7 +2,7 @@ use Rattle.std.proofs.Common.{refl, sym, ap, ◌∙◌, Some}
 use Rattle.std.specs.Option.{option_copied_mut}
 use Rattle.box_tree.specs.declared.entries.BoxEntry.{BoxEntry}
 use Rattle.box_tree.specs.Tables.{TableValue}
-use Rattle.box_tree.specs.Edits.{failing_row}
+use Rattle.table_laws.specs.Writes.{failing_row}
 use Rattle.box_tree.proofs.Maps.{is_some_if}
 use Rattle.box_tree.proofs.Written.{writes_box, writes_no_box}
 use Rattle.box_tree.proofs.table.Table.fail_by.Goals as goal

@@ -1,9 +1,9 @@
 use Rattle.std.proofs.Common.{◌≡◌, List, map, sym, ap, ◌∙◌, subst}
 use Rattle.akl_terms.specs.declared.name.Name.{Name}
-use Rattle.table_laws.specs.Writes.{names_drawn, changed_box, after_fork}
+use Rattle.table_laws.specs.Writes.{failing_row, names_drawn, changed_box, after_fork}
 use Rattle.box_tree.specs.declared.step.NewBox.{NewBox}
 use Rattle.box_tree.specs.Tables.{TableValue, table_of, new_box}
-use Rattle.box_tree.specs.Edits.{SetsBoxes, Becomes, Clears, failing_row, home_if_empty}
+use Rattle.box_tree.specs.Edits.{SetsBoxes, Becomes, Clears, home_if_empty}
 use Rattle.box_tree.proofs.Adding.{undone}
 use Rattle.box_tree.proofs.Forked.{forked, fresh_boxes, fresh_goals}
 use Rattle.box_tree.proofs.table.Table.fork.Goals as goal

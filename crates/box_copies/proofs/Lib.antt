@@ -1,0 +1,11 @@
+pub mod Terms
+pub mod Keys
+pub mod Orders
+pub mod Ordered
+pub mod Stored
+pub mod Loops
+pub mod Sets
+pub mod Renamers
+pub mod Lists
+pub mod Making
+pub mod Splits

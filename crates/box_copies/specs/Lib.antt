@@ -1,0 +1,4 @@
+pub mod Swaps
+pub mod Renamer
+pub mod Made
+pub mod Copies

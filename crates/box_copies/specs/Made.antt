@@ -1,0 +1,66 @@
+-- Which names get new ones, and what a copy is made of.
+use Rattle.std.specs.Prelude.{◌≡◌, false, List, [], ◌∷◌, ◌++◌, map, Option, None, option_map, if◌then◌else◌, ◌⊎◌, ⊤}
+use Rattle.akl_terms.specs.declared.name.Name.{Name}
+use Rattle.akl_terms.specs.declared.term.Term.{Term}
+use Rattle.akl_terms.specs.Names.{same_name}
+use Rattle.akl_model.specs.Config.{IsIn}
+use Rattle.box_tree.specs.declared.entries.Held.{Held}
+use Rattle.box_tree.specs.declared.inside.InnerGoal.{InnerGoal}
+use Rattle.box_tree.specs.declared.inside.InnerBox.{InnerBox}
+use Rattle.box_tree.specs.declared.step.BoxCopy.{BoxCopy}
+use Rattle.box_copies.specs.declared.names.NewNames.{NewNames}
+use Rattle.box_copies.specs.Renamer.{swapped_name, goal_by, shown_by, store_by}
+
+-- names that come to others
+pub record Adds (old more new : List Name) : Type 0 where
+  pub stays : (m : Name) → IsIn m old → IsIn m new
+  pub comes : (m : Name) → IsIn m more → IsIn m new
+  pub only : (m : Name) → IsIn m new → IsIn m old ⊎ IsIn m more
+
+-- a box with its frames, ports and goals
+abbrev pub own_names : InnerBox → List Name
+own_names b = b.name ∷ (b.store.frames ++ (map (λ (p : Name × Term). p.0) b.store.ports ++ map (λ (g : InnerGoal). g.name) b.goals.items))
+
+-- boxes but the alternative, and their names
+abbrev pub kept : Name → List InnerBox → List InnerBox
+kept a [] = []
+kept a (b ∷ bs) = if same_name b.name a then kept a bs else b ∷ kept a bs
+
+abbrev pub kept_names : Name → List InnerBox → List Name
+kept_names a [] = []
+kept_names a (b ∷ bs) = if same_name b.name a then kept_names a bs else own_names b ++ kept_names a bs
+
+-- names but one
+abbrev pub without : Name → List Name → List Name
+without a [] = []
+without a (n ∷ ns) = if same_name n a then without a ns else n ∷ without a ns
+
+-- what a goal holds under other names, without the alternative
+abbrev pub IsHeldAs : (Name → Name) → Name → Held → Held → Type 0
+IsHeldAs f a (Held.Atom g) (Held.Atom h) = h ≡ goal_by f g
+IsHeldAs f a (Held.Choice op alternatives) (Held.Choice new others) = (new ≡ op) × (others.items ≡ map f (without a alternatives.items))
+IsHeldAs f a held other = ⊥
+
+abbrev pub AreGoalsAs : (Name → Name) → Name → List InnerGoal → List (Name × Held) → Type 0
+AreGoalsAs f a [] [] = ⊤
+AreGoalsAs f a (g ∷ gs) (x ∷ xs) = (x.0 ≡ f g.name) × IsHeldAs f a g.held x.1 × AreGoalsAs f a gs xs
+AreGoalsAs f a gs xs = ⊥
+
+-- the choice that holds the copy of a box, none for that of the outermost
+abbrev pub holder_by : (Name → Name) → Name → InnerBox → Option Name
+holder_by f top b = if same_name b.name top then None else option_map f b.holder
+
+-- the copy of a box
+pub record IsBoxBy (s : NewNames) (top a : Name) (b : InnerBox) (k : BoxCopy) : Type 0 where
+  pub name : k.name ≡ swapped_name s b.name
+  pub holder : k.holder ≡ holder_by (swapped_name s) top b
+  pub store : k.store ≡ store_by s b.store
+  pub solved : k.solved ≡ false
+  pub goals : AreGoalsAs (swapped_name s) a b.goals.items k.goals.items
+  pub body : k.body.items ≡ map (goal_by (swapped_name s)) b.body.items
+  pub shown : k.shown.items ≡ map (shown_by (swapped_name s)) b.shown.items
+
+abbrev pub AreBoxesBy : NewNames → Name → Name → List InnerBox → List BoxCopy → Type 0
+AreBoxesBy s top a [] [] = ⊤
+AreBoxesBy s top a (b ∷ bs) (k ∷ ks) = IsBoxBy s top a b k × AreBoxesBy s top a bs ks
+AreBoxesBy s top a bs ks = ⊥

@@ -1,0 +1,7 @@
+use Rattle.std.proofs.Common.{◌≡◌, drop}
+use Rattle.box_tree.specs.Tables.{table_of}
+use Rattle.box_tree.specs.Insides.{first_solved_in}
+use Rattle.box_tree.proofs.table.Table.first_solved.Given as goal
+
+abbrev pub invariant-loop-name : goal.invariant-loop-name
+invariant-loop-name l = first_solved_in (table_of l.self) (drop l.name-index l.names) ≡ first_solved_in (table_of l.self) l.names

@@ -1,0 +1,80 @@
+-- All that stands in a box and inside it.
+use Rattle.std.specs.Prelude.{◌≡◌, ℕ, nat_lt, if◌then◌else◌, List, [], ◌∷◌, length, map, Option, Some, None, option_map, ◌⊎◌}
+use Rattle.std.specs.List.{AllByRecursion}
+use Rattle.akl_terms.specs.declared.name.Name.{Name}
+use Rattle.akl_terms.specs.declared.name.Place.{Place}
+use Rattle.akl_terms.specs.declared.program.Op.{Op}
+use Rattle.akl_model.specs.declared.label.Label.{Label}
+use Rattle.akl_model.specs.Config.{or_else}
+use Rattle.akl_model.specs.Changes.{Shape, of_choice}
+use Rattle.table_laws.specs.Rows.{BoxRow, GoalRow, Table}
+use Rattle.table_laws.specs.Inside.{IsInside, IsGoalInside}
+use Rattle.table_laws.specs.Walks.{ListsInside}
+use Rattle.box_tree.specs.declared.inside.InnerGoal.{InnerGoal}
+use Rattle.box_tree.specs.declared.inside.InnerBox.{InnerBox}
+use Rattle.box_tree.specs.declared.inside.Inside.{Inside}
+use Rattle.box_tree.specs.Tables.{TableValue, table_of, shape_held, goal_atom, shown_tree, goals_in, is_empty}
+use Rattle.box_tree.specs.Views.{ViewValue, IsViewOf}
+
+-- a goal has this content
+abbrev pub IsInnerGoal : TableValue → InnerGoal → Type 0
+IsInnerGoal t g = option_map (λ (r : GoalRow). r.shape) ((table_of t).goal_of g.name) ≡ Some (shape_held t.program.templates.nodes g.held)
+
+-- a box has this holder, store, goals, body and shown terms
+pub record IsInnerBox (t : TableValue) (b : InnerBox) : Type 0 where
+  pub row : BoxRow
+  pub there : (table_of t).box_of b.name ≡ Some row
+  pub holder : b.holder ≡ row.holder
+  pub store : b.store ≡ row.store
+  pub goals : map (λ (g : InnerGoal). g.name) b.goals.items ≡ row.goals
+  pub held : AllByRecursion (IsInnerGoal t) b.goals.items
+  pub body : map (goal_atom t.program.templates.nodes) b.body.items ≡ row.body
+  pub shown : map (shown_tree t.program.templates.nodes) b.shown.items ≡ row.shown
+
+-- a place in a box or inside it, or the box itself
+abbrev pub IsPlaceInside : Table → Name → Place → Type 0
+IsPlaceInside T n (Place.Box m) = IsInside T n m
+IsPlaceInside T n (Place.Goal g) = IsGoalInside T n g
+
+-- a view by this worker of such a place
+pub record IsViewInside (t : TableValue) (journal : List Label) (n : Name) (worker : ℕ) (v : ViewValue) : Type 0 where
+  pub table : v.table ≡ t
+  pub labels : v.journal ≡ journal
+  pub seer : v.worker ≡ worker
+  pub inside : IsPlaceInside (table_of t) n v.place
+  pub seen : IsViewOf v
+
+-- one of the views is of this place
+abbrev pub HasView : List ViewValue → Place → Type 0
+HasView [] place = ⊥
+HasView (v ∷ vs) place = (v.place ≡ place) ⊎ HasView vs place
+
+-- the box and all boxes inside it, each once, and a view of each place, and of no others
+pub record IsInsideOf (t : TableValue) (journal : List Label) (n : Name) (worker : ℕ) (i : Inside) : Type 0 where
+  pub listed : ListsInside (table_of t) n (map (λ (b : InnerBox). b.name) i.boxes.items)
+  pub boxes : AllByRecursion (IsInnerBox t) i.boxes.items
+  pub views : AllByRecursion (IsViewInside t journal n worker) i.views.items
+  pub each : (place : Place) → IsPlaceInside (table_of t) n place → HasView i.views.items place
+
+-- the first solved one of these boxes
+abbrev pub first_solved_in : Table → List Name → Option Name
+first_solved_in T [] = None
+first_solved_in T (n ∷ ns) = if is_empty (goals_in (T.box_of n)) then Some n else first_solved_in T ns
+
+-- the alternative at which a box could be split by this choice: the first solved one of a `?` choice that has others
+abbrev pub candidate_of : Table → Shape → Option Name
+candidate_of T (of_choice Op.Choice alternatives) = if nat_lt 1 (length alternatives) then first_solved_in T alternatives else None
+candidate_of T s = None
+
+abbrev pub candidate_at : Table → Option GoalRow → Option Name
+candidate_at T None = None
+candidate_at T (Some r) = candidate_of T r.shape
+
+-- by the first of these goals that is such a choice
+abbrev pub candidate_among : Table → List Name → Option Name
+candidate_among T [] = None
+candidate_among T (g ∷ gs) = or_else (candidate_at T (T.goal_of g)) (candidate_among T gs)
+
+-- and by the goals directly in a box
+abbrev pub candidate_in : Table → Name → Option Name
+candidate_in T n = candidate_among T (goals_in (T.box_of n))

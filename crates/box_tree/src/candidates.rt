@@ -1,0 +1,62 @@
+//! The alternative at which a box could be split.
+
+ghost use Rattle.std.specs.Prelude.{◌≡◌};
+ghost use Rattle.box_tree.specs.Tables.{table_of};
+ghost use Rattle.box_tree.specs.Insides.{first_solved_in, candidate_at, candidate_in};
+
+use crate::entries::Held;
+use crate::table::Table;
+use akl_terms::{Name, Op};
+
+impl Table {
+    // The first solved one of boxes.
+    fn first_solved(&self, names: &[Name]) -> Option<Name>
+        ensures { result ≡ first_solved_in (table_of self.now) names.now }
+    {
+        for name in names {
+            if self.is_solved(*name) {
+                return Some(*name);
+            }
+        }
+        None
+    }
+
+    // The alternative at which the box of a goal could be split by it.
+    fn candidate_at(&self, goal: Name) -> Option<Name>
+        ensures { result ≡ candidate_at (table_of self.now) ((table_of self.now).goal_of goal) }
+    {
+        match self.goals.get(&goal) {
+            Some(entry) => match &entry.held {
+                Held::Atom(_) => None,
+                Held::Choice { op, alternatives } => match op {
+                    Op::Choice => {
+                        if alternatives.len() > 1 {
+                            self.first_solved(alternatives.as_slice())
+                        } else {
+                            None
+                        }
+                    }
+                    Op::Condition | Op::Commit => None,
+                },
+            },
+            None => None,
+        }
+    }
+
+    /// The alternative at which a box could be split: the first solved one of a `?` choice directly in it that has others,
+    /// by the first of the box's goals that is such a choice. `None` where there is none, and of a box that isn't there.
+    /// The box need not be stable. It takes as long as the goals of the box and their alternatives are many.
+    pub fn candidate(&self, name: Name) -> Option<Name>
+        ensures { result ≡ candidate_in (table_of self.now) name }
+    {
+        let Some(entry) = self.boxes.get(&name) else {
+            return None;
+        };
+        for goal in entry.goals.iter() {
+            if let Some(alternative) = self.candidate_at(*goal) {
+                return Some(alternative);
+            }
+        }
+        None
+    }
+}

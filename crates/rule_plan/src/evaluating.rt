@@ -1,0 +1,75 @@
+//! Plans of Eval.
+
+ghost use Rattle.std.specs.Prelude.{◌≡◌, IfOk};
+ghost use Rattle.akl_terms.specs.declared.name.Place.{Place};
+ghost use Rattle.akl_terms.specs.declared.program.Code.{Code};
+ghost use Rattle.box_tree.specs.declared.view.Sight.{Sight};
+ghost use Rattle.box_tree.specs.Views.{IsViewOf};
+ghost use Rattle.guard_plan.specs.Planned.{IsPlannedBy};
+
+use crate::at_goals::goal_plan;
+use akl_model::Rule;
+use akl_terms::{Code, Equation, Goal, Name, Program, Term, Test};
+use arith_goals::{ArithValue, evaluate};
+use box_tree::{Plan, Step, View};
+use local_store::{Consistency, Shared, ToldStore, consistent, told};
+use std::alloc::{AllocError, Global};
+
+/// An arithmetic goal of two nodes under a frame.
+#[derive(Clone, Copy)]
+pub(crate) struct Arithmetic {
+    pub(crate) test: Test,
+    pub(crate) left: u32,
+    pub(crate) right: u32,
+    pub(crate) frame: Name,
+}
+
+// The plan for what an arithmetic goal comes to; `None` where it comes to nothing yet or never, or what is told to its
+// box is inconsistent.
+pub(crate) fn eval(
+    alloc: Global,
+    program: &Program,
+    view: &View,
+    goal: Name,
+    arithmetic: Arithmetic,
+) -> Result<Option<Plan>, AllocError>
+    requires program { program.now ≡ view.now.table.program }
+    requires place { view.now.place ≡ Place.Goal goal }
+    requires sight { view.now.sight ≡ Sight.Atom (record { code = Code.Arith arithmetic.test arithmetic.left arithmetic.right; frame = arithmetic.frame }) }
+    requires seen { IsViewOf view.now }
+    ensures { IfOk result (IsPlannedBy view.now) }
+{
+    let chain = view.chain(&program.templates);
+    let Consistency::Consistent = consistent(alloc, &chain)? else {
+        return Ok(None);
+    };
+    let Arithmetic {
+        test,
+        left,
+        right,
+        frame,
+    } = arithmetic;
+    let code = Code::Arith { test, left, right };
+    match evaluate(alloc, &chain, Goal { code, frame })? {
+        ArithValue::Is(value) => {
+            let equation = Equation {
+                left: Term::Mol { node: left, frame },
+                right: Term::Int(value),
+            };
+            let ToldStore { store, solved } = told(alloc, &chain, &[equation])?;
+            let store = Shared::new(alloc, store)?;
+            goal_plan(
+                alloc,
+                view,
+                goal,
+                Rule::Eval,
+                0,
+                Step::Tell { store, solved },
+            )
+        }
+        ArithValue::Holds => goal_plan(alloc, view, goal, Rule::Eval, 0, Step::Confirm),
+        ArithValue::Fails => goal_plan(alloc, view, goal, Rule::Eval, 0, Step::Refute),
+        ArithValue::Waits { .. } => Ok(None),
+        ArithValue::Never => Ok(None),
+    }
+}

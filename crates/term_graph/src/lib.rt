@@ -1,0 +1,8 @@
+//! The trees that shown terms reach, as the nodes of a finite graph.
+#![tactic(auto)]
+
+mod builder;
+mod graph;
+mod place;
+
+pub use graph::{TermGraph, build_graph};
