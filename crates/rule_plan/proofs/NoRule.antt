@@ -11,14 +11,12 @@ use Rattle.akl_model.specs.Config.{Atom, an_atom, held_in, whole}
 use Rattle.akl_model.specs.Rules.{Reading, nothing, answer, receiver, Change, change_by, tell, fork, eval, open_new}
 use Rattle.akl_model.specs.Conditions.{HasFailed, MayCut, MayPromote}
 use Rattle.akl_model.specs.Stable.{Allows}
-use Rattle.akl_model.specs.Derivations.{IsInForce}
 use Rattle.box_tree.specs.declared.view.Sight.{Sight}
-use Rattle.box_tree.specs.Tables.{rules_in_force}
 use Rattle.box_tree.specs.Views.{ViewValue, IsViewOf}
-use Rattle.guard_plan.specs.Planned.{HasNoRule}
+use Rattle.guard_plan.specs.Planned.{IsPlain, HasNoRule}
 use Rattle.guard_plan.proofs.Sites.{shows_at}
 use Rattle.guard_plan.proofs.HasNone.{has_none}
-use Rattle.rule_plan.proofs.InForce.{no_send, no_split}
+use Rattle.rule_plan.proofs.InForce.{no_send}
 
 none_made : (c : Change) → None ≡ Some c → ⊥
 none_made c e = cc
@@ -29,11 +27,11 @@ box_none v i n p unfailed consistent = has_none v i (λ l change e r m. on l.rul
     (subst (λ (q : Place). change_by v.table.program m.reading l.worker (slice_index i.table.config.next l.worker) l.rule q l.alternative i.site ≡ Some change) (e ∙ p) m.change)
     (subst (λ (q : Place). Allows v.table.program m.reading l.rule q l.alternative i.site) (e ∙ p) m.allowed))
   where
-    on : (r : Rule) (a : Option Name) (reading : Reading) (w next : ℕ) (c : Change) → IsInForce rules_in_force r → change_by v.table.program reading w next r (Place.Box n) a i.site ≡ Some c
+    on : (r : Rule) (a : Option Name) (reading : Reading) (w next : ℕ) (c : Change) → IsPlain r → change_by v.table.program reading w next r (Place.Box n) a i.site ≡ Some c
         → Allows v.table.program reading r (Place.Box n) a i.site → ⊥
     on Rule.Fail a reading w next c f x (inl k) = k consistent
     on Rule.Fail a reading w next c f x (inr k) = unfailed k
-    on Rule.Split a reading w next c f x k = no_split f
+    on Rule.Split a reading w next c f x k = f.1 refl
     on r a reading w next c f x k = none_made c x
 
 -- a send
@@ -49,13 +47,13 @@ send_none v i g m r p held = has_none v i (λ l change e f k. on l.rule l.altern
     no_value (answer (truth false)) = refl
     no_value (receiver q) = refl
 
-    on : (rule : Rule) (a : Option Name) (u : Reading) (w next : ℕ) (c : Change) → IsInForce rules_in_force rule → change_by v.table.program u w next rule (Place.Goal g) a i.site ≡ Some c
+    on : (rule : Rule) (a : Option Name) (u : Reading) (w next : ℕ) (c : Change) → IsPlain rule → change_by v.table.program u w next rule (Place.Goal g) a i.site ≡ Some c
         → Allows v.table.program u rule (Place.Goal g) a i.site → ⊥
     on Rule.Tell None u w next c f x k = none_made c (sym (ap (tell g i.site) held) ∙ x)
     on Rule.Fork None u w next c f x k = none_made c (sym (ap (fork v.table.program w next g i.site) held) ∙ x)
     on Rule.Eval None u w next c f x k = none_made c (sym (ap (eval u g i.site) held ∙ no_value u) ∙ x)
     on Rule.Open None u w next c f x k = none_made c (sym (ap (open_new w next g i.site) held) ∙ x)
-    on Rule.Send a u w next c f x k = no_send f
+    on Rule.Send a u w next c f x k = no_send f.0
     on Rule.Cut (Some n) u w next c f x k = subst (MayCut n i.site) held k
     on Rule.Promote (Some n) u w next c f x k = subst (MayPromote n i.site) held k
     on rule a u w next c f x k = none_made c x

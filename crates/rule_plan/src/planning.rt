@@ -17,7 +17,8 @@ use box_tree::{Plan, Sight, View};
 use guard_plan::plan_guard;
 use std::alloc::{AllocError, Global};
 
-/// A right plan for the place of a view, by its worker; `None` exactly where no rule in force applies there.
+/// A right plan of a rule other than Split for the place of a view, by its worker; `None` exactly where no such rule
+/// that is in force applies there.
 pub fn plan(alloc: Global, program: &Program, view: &View) -> Result<Option<Plan>, AllocError>
     requires { program.now ≡ view.now.table.program }
     ensures { IfOk result (IsPlannedBy view.now) }

@@ -12,7 +12,7 @@ use Rattle.akl_model.specs.declared.label.Receipt.{Receipt}
 use Rattle.akl_model.specs.Config.{Config, Held, Found, held_in, box_at, site_of}
 use Rattle.akl_model.specs.Changes.{by_store, shape_of, ChangedAt, IsLastChange}
 use Rattle.akl_model.specs.Instances.{start}
-use Rattle.akl_model.specs.Derivations.{Applies, IsReady}
+use Rattle.akl_model.specs.Derivations.{IsInForce, Applies, IsReady}
 use Rattle.akl_model.proofs.Results.{Derives-one}
 use Rattle.akl_model.proofs.QuietEnds.{some_place_ready}
 use Rattle.step_laws.proofs.Whereabouts.{home_in}
@@ -25,16 +25,18 @@ use Rattle.box_tree.specs.Tables.{rules_in_force, TableValue, table_of}
 use Rattle.box_tree.specs.Views.{ViewValue, run_of, is_there}
 use Rattle.box_tree.specs.Plans.{PlanValue, IsRight}
 use Rattle.guard_plan.specs.Planned.{HasNoRule}
+use Rattle.rule_plan.proofs.InForce.{no_split}
 use Rattle.step_commit.specs.Cores.{CoreValue, run_by, MayCommit, IsStale, Commits}
 use Rattle.seq_engine.specs.Runs.{HasNoRuleAt, IsSpent, Follows}
 
--- no rule applies at a place
+-- no rule applies at a place, as Split isn't in force
 
 abbrev NoRule : TableValue → List Label → Place → Type 0
 NoRule t j place = (x : IsTableOf rules_in_force (run_of t j) (table_of t)) (l : Label) (d : Config) → Applies rules_in_force t.program x.config l d → l.place ≡ place → ⊥
 
 pub no_rule : (v : ViewValue) (c : CoreValue) (place : Place) → v.table ≡ c.table → v.journal ≡ c.journal → v.place ≡ place → HasNoRule v → HasNoRuleAt c place
-no_rule v c place e f g n = subst (λ (p : Place). NoRule c.table c.journal p) g (subst (λ (j : List Label). NoRule c.table j v.place) f (subst (λ (t : TableValue). NoRule t v.journal v.place) e n.none))
+no_rule v c place e f g n = subst (λ (p : Place). NoRule c.table c.journal p) g (subst (λ (j : List Label). NoRule c.table j v.place) f (subst (λ (t : TableValue). NoRule t v.journal v.place) e
+    (λ t l d a i. n.none t l d a i (λ q. no_split (subst (IsInForce rules_in_force) q a.in_force)))))
 
 mapped : (o : Option GoalRow) (s : Spot) → option_map spot_of o ≡ Some s → is_some o ≡ true
 mapped None s e = cc

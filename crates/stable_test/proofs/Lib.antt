@@ -1,0 +1,15 @@
+pub mod OneBinding
+pub mod EachInside
+pub mod PathStores
+pub mod Further
+pub mod FramesAdded
+pub mod AllFrames
+pub mod FreeEnds
+pub mod AwaitedAtoms
+pub mod Reaches
+pub mod Tested
+pub mod NoPlainRule
+pub mod SiteReaches
+pub mod StableSite
+pub mod StableViews
+pub mod Read

@@ -1,0 +1,157 @@
+-- What is read from a chain with a further store, in which what is waited on is bound.
+use Rattle.std.proofs.Common.{◌≡◌, ℕ, zero, suc, ℤ, ◌≤◌, Option, List, [], ◌∷◌, ◌++◌, length, take, drop, refl, sym, ◌∙◌, ap, subst, inl, inr, arith}
+use Rattle.akl_terms.specs.declared.name.Name.{Name}
+use Rattle.akl_terms.specs.declared.name.Var.{Var}
+use Rattle.akl_terms.specs.declared.term.Node.{Node}
+use Rattle.akl_terms.specs.declared.term.Term.{Term}
+use Rattle.akl_terms.specs.declared.program.Goal.{Goal}
+use Rattle.akl_terms.specs.declared.program.Op.{Op}
+use Rattle.akl_terms.specs.declared.program.Program.{Program}
+use Rattle.akl_terms.specs.Tree.{Tree, variable}
+use Rattle.akl_terms.specs.Equal.{Equations, IsTold, Equal, told, turned, joined, IsConsistent, IsStructured}
+use Rattle.akl_terms.specs.Touching.{Touches}
+use Rattle.akl_terms.proofs.EqualLaws.{EqualBy-follows, IsConsistent-follows}
+use Rattle.akl_model.specs.Config.{Atom}
+use Rattle.akl_model.specs.Stable.{AtomWaitsOn}
+use Rattle.constraint_laws.proofs.WaitsOne.{waits_one_goal}
+use Rattle.rational_unify.specs.Solving.{bindings_in}
+use Rattle.local_store.specs.Stored.{Stored, with_binding}
+use Rattle.local_store.specs.Chained.{bindings_from}
+use Rattle.local_store.proofs.Layers.{told-take}
+use Rattle.entail_test.specs.Asked.{frames_from, environment_at, whole_at, KeepsApart, KeepsApartAt}
+use Rattle.box_tree.specs.declared.view.Sight.{Sight}
+use Rattle.box_tree.specs.Tables.{goal_atom}
+use Rattle.box_tree.specs.Views.{ViewValue}
+use Rattle.stable_test.specs.Reaching.{IsReached, ReachesNone, ReachesNoneAt, IsUntouchedAt, IsTestable}
+use Rattle.stable_test.proofs.OneBinding.{TellsAlso, still_consistent, none_equal, none_touched}
+use Rattle.stable_test.proofs.Further.{take_front, told_whole, whole_told, whole_bound}
+use Rattle.stable_test.proofs.Reaches.{waits_free}
+
+-- an atom waits on one class
+pub atom_one : (p : Program) (W : Equations) (a : Atom) (x y : Var) → IsConsistent W → AtomWaitsOn p W a x → AtomWaitsOn p W a y → Equal W (variable x) (variable y)
+atom_one p W (Atom.arithmetic test l r) x y c u w = waits_one_goal p.templates.symbols W test l r x y c u w
+atom_one p W (Atom.send m r) x y c u w = joined (turned u.0) w.0
+atom_one p W (Atom.equation s t) x y c u w = absurd u
+atom_one p W (Atom.open_port s t) x y c u w = absurd u
+atom_one p W (Atom.call d ts) x y c u w = absurd u
+atom_one p W Atom.fail x y c u w = absurd u
+
+-- what fewer equations touch more do
+pub touches_more : (inner : List Name) (E W V : Equations) → ((a b : Tree) → IsTold W a b → IsTold V a b) → (x : Var) → Touches inner E W x → Touches inner E V x
+touches_more inner E W V more x t = record {
+  unbound = t.unbound;
+  told = elim t.told [
+    | inl k ↦ inl (k.0, k.1, EqualBy-follows (λ a b m. told (more a b m)) k.2, k.3)
+    | inr k ↦ inr (k.0, record { other = k.1.other; equal = EqualBy-follows (λ a b m. told (more a b m)) k.1.equal; apart = k.1.apart })
+  ];
+}
+
+-- a further store changes nothing before it, and has a part in the frames alone
+front_same : (ss : List Stored) (s r : Stored) (k : ℕ) → k ≤ length ss → take k (ss ++ s ∷ []) ≡ take k (ss ++ r ∷ [])
+front_same ss s r k l = take_front ss (s ∷ []) k l ∙ sym (take_front ss (r ∷ []) k l)
+
+frames_same : (ss : List Stored) (s r : Stored) (k : ℕ) → k ≤ length ss → s.frames ≡ r.frames → frames_from (drop k (ss ++ s ∷ [])) ≡ frames_from (drop k (ss ++ r ∷ []))
+frames_same [] s r zero l e = ap (λ (fs : List Name). fs ++ []) e
+frames_same [] s r (suc k) l e = absurd (omega arith)
+frames_same (q ∷ ss) s r zero l e = ap (λ (fs : List Name). q.frames ++ fs) (frames_same ss s r zero (omega arith) e)
+frames_same (q ∷ ss) s r (suc k) l e = frames_same ss s r k (omega arith) e
+
+module _ (p : Program) (depth : ℕ) (frames : Stored) (v : ViewValue) (t : IsTestable p depth frames v) where
+  abbrev nodes : List Node
+  nodes = p.templates.nodes
+
+  abbrev around : Equations
+  around = environment_at p.templates.nodes (v.stores ++ frames ∷ []) depth
+
+  abbrev inner : List Name
+  inner = frames_from (drop depth (v.stores ++ frames ∷ []))
+
+  abbrev down : Equations
+  down = bindings_in p.templates.nodes (bindings_from v.stores)
+
+  plain_more : (a b : Tree) → IsTold down a b → IsTold (whole_at nodes (v.stores ++ frames ∷ []) depth) a b
+  plain_more a b m = whole_told nodes v.stores frames depth a b (inl m)
+
+  plain_less : (a b : Tree) → IsTold (whole_at nodes (v.stores ++ frames ∷ []) depth) a b → IsTold down a b
+  plain_less a b m = elim (told_whole nodes v.stores frames depth a b m) [
+    | inl x ↦ x
+    | inr x ↦ absurd (subst (λ (l : List (Var × Term)). IsTold (bindings_in nodes l) a b) t.unbound x)
+  ]
+
+  around_told : (a b : Tree) → IsTold around a b → IsTold down a b
+  around_told a b m = told-take nodes v.stores depth a b (subst (λ (ss : List Stored). IsTold (bindings_in nodes (bindings_from ss)) a b) (take_front v.stores (frames ∷ []) depth t.deep) m)
+
+  -- where all is consistent, the frames keep apart
+  pub keeps : IsConsistent down → KeepsApartAt nodes (v.stores ++ frames ∷ []) depth
+  keeps c = t.apart (IsConsistent-follows (record { each = λ {s = a} {t = b} m. told (around_told a b m) }) c)
+
+  -- a box, by equations
+  pub plain_consistent : IsConsistent down → IsConsistent (whole_at nodes (v.stores ++ frames ∷ []) depth)
+  plain_consistent c = IsConsistent-follows (record { each = λ {s = a} {t = b} m. told (plain_less a b m) }) c
+
+  pub box_reaches : (failing : Option Name) → v.sight ≡ Sight.Box failing → IsConsistent down → IsUntouchedAt nodes (v.stores ++ frames ∷ []) depth → ReachesNoneAt p depth frames v
+  box_reaches failing s c u = subst (ReachesNone p inner around down) (sym s) (c, λ x k. u x (touches_more inner around down (whole_at nodes (v.stores ++ frames ∷ []) depth) plain_more x k))
+
+  pub reaches_box : (failing : Option Name) → v.sight ≡ Sight.Box failing → ReachesNoneAt p depth frames v → IsUntouchedAt nodes (v.stores ++ frames ∷ []) depth
+  reaches_box failing s r = λ x k. (subst (ReachesNone p inner around down) s r).1 x (touches_more inner around (whole_at nodes (v.stores ++ frames ∷ []) depth) down plain_less x k)
+
+  -- an atom, by the variable on which it waits
+  module _ (a : Goal) (s : v.sight ≡ Sight.Atom a) (c : IsConsistent down) where
+    pub idle_reaches : ((x : Var) → AtomWaitsOn p down (goal_atom nodes a) x → ⊥) → ReachesNoneAt p depth frames v
+    idle_reaches none = subst (ReachesNone p inner around down) (sym s) (c, λ on x w r. none on w)
+
+    module _ (on : Var) (w : AtomWaitsOn p down (goal_atom nodes a) on) (z : ℤ) where
+      abbrev bound : Stored
+      bound = with_binding frames on (Term.Int z)
+
+      abbrev told_bound : Equations
+      told_bound = whole_at p.templates.nodes (v.stores ++ with_binding frames on (Term.Int z) ∷ []) depth
+
+      more : TellsAlso down told_bound on z
+      more = whole_bound nodes v.stores frames depth on z t.unbound
+
+      free : IsStructured down on → ⊥
+      free = waits_free p down (goal_atom nodes a) on w
+
+      pub bound_consistent : IsConsistent told_bound
+      bound_consistent = still_consistent down told_bound on z more free c
+
+      same_around : environment_at nodes (v.stores ++ with_binding frames on (Term.Int z) ∷ []) depth ≡ around
+      same_around = ap (λ (ss : List Stored). bindings_in nodes (bindings_from ss)) (front_same v.stores (with_binding frames on (Term.Int z)) frames depth t.deep)
+
+      same_inner : frames_from (drop depth (v.stores ++ with_binding frames on (Term.Int z) ∷ [])) ≡ inner
+      same_inner = frames_same v.stores (with_binding frames on (Term.Int z)) frames depth t.deep refl
+
+      pub bound_keeps : KeepsApartAt nodes (v.stores ++ with_binding frames on (Term.Int z) ∷ []) depth
+      bound_keeps = subst (λ (fs : List Name). KeepsApart fs (environment_at nodes (v.stores ++ with_binding frames on (Term.Int z) ∷ []) depth)) (sym same_inner)
+          (subst (KeepsApart inner) (sym same_around) (keeps c))
+
+      untouched_now : IsUntouchedAt nodes (v.stores ++ with_binding frames on (Term.Int z) ∷ []) depth → (x : Var) → Touches inner around told_bound x → ⊥
+      untouched_now u x k = u x (subst (λ (fs : List Name). Touches fs (environment_at nodes (v.stores ++ with_binding frames on (Term.Int z) ∷ []) depth) told_bound x) (sym same_inner)
+          (subst (λ (E : Equations). Touches inner E told_bound x) (sym same_around) k))
+
+      now_untouched : ((x : Var) → Touches inner around told_bound x → ⊥) → IsUntouchedAt nodes (v.stores ++ with_binding frames on (Term.Int z) ∷ []) depth
+      now_untouched u x k = u x (subst (λ (E : Equations). Touches inner E told_bound x) same_around
+          (subst (λ (fs : List Name). Touches fs (environment_at nodes (v.stores ++ with_binding frames on (Term.Int z) ∷ []) depth) told_bound x) same_inner k))
+
+      unreached : ((x : Var) → Touches inner around told_bound x → ⊥) → (other x : Var) → AtomWaitsOn p down (goal_atom nodes a) other → IsReached inner around down other x → ⊥
+      unreached u other x k (inl h) = u x (touches_more inner around down told_bound more.keeps x h)
+      unreached u other x k (inr h) = none_equal down told_bound on z more free inner around u x h.0 (joined h.1 (atom_one p down (goal_atom nodes a) other on c k w))
+
+      pub waiting_reaches : IsUntouchedAt nodes (v.stores ++ with_binding frames on (Term.Int z) ∷ []) depth → ReachesNoneAt p depth frames v
+      waiting_reaches u = subst (ReachesNone p inner around down) (sym s) (c, unreached (untouched_now u))
+
+      pub reaches_waiting : ReachesNoneAt p depth frames v → IsUntouchedAt nodes (v.stores ++ with_binding frames on (Term.Int z) ∷ []) depth
+      reaches_waiting r = now_untouched (none_touched down told_bound on z more free inner around (λ x k. q.1 on x w (inl k)) (λ x u e. q.1 on x w (inr (u, e))))
+        where
+          q : ReachesNone p inner around down (Sight.Atom a)
+          q = subst (ReachesNone p inner around down) s r
+
+  -- where all is inconsistent, a box and an atom aren't as they are asked to be
+  pub inconsistent_reaches : (IsConsistent down → ⊥) → ((op : Op) → v.sight ≡ Sight.Choice op → ⊥) → ReachesNoneAt p depth frames v → ⊥
+  inconsistent_reaches clash other r = on v.sight refl r
+    where
+      on : (sight : Sight) → v.sight ≡ sight → ReachesNone p inner around down sight → ⊥
+      on (Sight.Choice op) e k = other op e
+      on (Sight.Box failing) e k = clash k.0
+      on (Sight.Atom a) e k = clash k.0

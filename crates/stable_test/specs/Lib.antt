@@ -1,0 +1,4 @@
+pub mod Frames
+pub mod Reaching
+pub mod Stability
+pub mod Seen

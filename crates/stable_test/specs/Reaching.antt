@@ -1,0 +1,52 @@
+-- What is reached from outside of a box and of all boxes inside it: touched by equations, or equal to a variable that a goal waits on.
+use Rattle.std.specs.Prelude.{◌≡◌, ℕ, ◌≤◌, List, [], ◌∷◌, ◌++◌, length, drop, ◌⊎◌, ⊤}
+use Rattle.akl_terms.specs.declared.name.Name.{Name}
+use Rattle.akl_terms.specs.declared.name.Var.{Var}
+use Rattle.akl_terms.specs.declared.term.Node.{Node}
+use Rattle.akl_terms.specs.declared.program.Program.{Program}
+use Rattle.akl_terms.specs.Tree.{Tree, variable}
+use Rattle.akl_terms.specs.Equal.{Equations, Equal, IsConsistent, IsStructured}
+use Rattle.akl_terms.specs.Touching.{IsUnbound, Touches}
+use Rattle.akl_model.specs.Stable.{AtomWaitsOn}
+use Rattle.rational_unify.specs.Solving.{bindings_in}
+use Rattle.local_store.specs.Stored.{Stored}
+use Rattle.local_store.specs.Chained.{bindings_from, IsKnown}
+use Rattle.entail_test.specs.Asked.{frames_from, environment_at, whole_at, KeepsApartAt}
+use Rattle.box_tree.specs.declared.view.Sight.{Sight}
+use Rattle.box_tree.specs.Tables.{goal_atom}
+use Rattle.box_tree.specs.Views.{ViewValue}
+
+-- a variable from outside is touched, or equal to another one on which a goal waits
+abbrev pub IsReached : List Name → Equations → Equations → Var → Var → Type 0
+IsReached inner environment whole on x = Touches inner environment whole x ⊎ (IsUnbound inner environment x × Equal whole (variable x) (variable on))
+
+-- in a consistent box nothing is touched; of an atom that waits, nothing is touched or equal to what it waits on
+abbrev pub ReachesNone : Program → List Name → Equations → Equations → Sight → Type 0
+ReachesNone p inner environment whole (Sight.Choice op) = ⊤
+ReachesNone p inner environment whole (Sight.Box failing) = IsConsistent whole × ((x : Var) → Touches inner environment whole x → ⊥)
+ReachesNone p inner environment whole (Sight.Atom a) = IsConsistent whole
+    × ((on x : Var) → AtomWaitsOn p whole (goal_atom p.templates.nodes a) on → IsReached inner environment whole on x → ⊥)
+
+-- the same by the stores down to a view's place, with a further one that has the frames of all boxes inside
+abbrev pub ReachesNoneAt : Program → ℕ → Stored → ViewValue → Type 0
+ReachesNoneAt p depth frames v = ReachesNone p (frames_from (drop depth (v.stores ++ frames ∷ []))) (environment_at p.templates.nodes (v.stores ++ frames ∷ []) depth)
+    (bindings_in p.templates.nodes (bindings_from v.stores)) v.sight
+
+-- nothing is touched by the stores from a depth on
+abbrev pub IsUntouchedAt : List Node → List Stored → ℕ → Type 0
+IsUntouchedAt nodes ss depth = (x : Var) → Touches (frames_from (drop depth ss)) (environment_at nodes ss depth) (whole_at nodes ss depth) x → ⊥
+
+-- what is known of a view: its place is in a box with so many boxes around it, or inside it, and a store has the frames of all boxes there
+pub record IsTestable (p : Program) (depth : ℕ) (frames : Stored) (v : ViewValue) : Type 0 where
+  pub program : p ≡ v.table.program
+  pub deep : depth ≤ length v.stores
+  pub known : IsKnown p.templates.nodes v.stores v.known
+  pub unbound : frames.bindings ≡ []
+  pub apart : IsConsistent (environment_at p.templates.nodes (v.stores ++ frames ∷ []) depth) → KeepsApartAt p.templates.nodes (v.stores ++ frames ∷ []) depth
+
+-- a term is equal to a variable that isn't structured, or to none
+abbrev pub IsFree : Equations → Tree → Var → Type 0
+IsFree E t x = Equal E t (variable x) × (IsStructured E x → ⊥)
+
+pub record IsHeaded (E : Equations) (t : Tree) : Type 0 where
+  pub none : (x : Var) → IsFree E t x → ⊥

@@ -1,0 +1,54 @@
+//! Whether a box is stable.
+
+ghost use Rattle.std.specs.Prelude.{◌≡◌, IfOk, IsTrue, ◌↔◌};
+ghost use Rattle.akl_model.specs.Stable.{IsStable};
+ghost use Rattle.box_tree.specs.Tables.{rules_in_force};
+ghost use Rattle.stable_test.specs.Reaching.{IsTestable};
+ghost use Rattle.stable_test.specs.Stability.{AreAllPlain};
+ghost use Rattle.stable_test.specs.Seen.{IsSeenInside, IsStill};
+
+use crate::frames::frames_of;
+use crate::reaching::reaches_none;
+use akl_terms::Program;
+use box_tree::{Inside, View};
+use local_store::Store;
+use rule_plan::plan;
+use std::alloc::{AllocError, Global};
+
+/// Whether a box with so many boxes around it is stable, by all that stands in it and inside it: no rule but Split
+/// applies there, and no variable from outside is touched or waited on. This costs a plan for each place, and a solution
+/// of the stores down to each box and to each goal that waits.
+pub fn is_stable(
+    alloc: Global,
+    program: &Program,
+    depth: usize,
+    inside: &Inside,
+) -> Result<bool, AllocError>
+    requires { IsSeenInside program.now depth inside.now }
+    ensures { IfOk result (λ stable. (s : IsSeenInside program.now depth inside.now) → AreAllPlain rules_in_force → IsTrue stable ↔ IsStable program.now s.site) }
+{
+    let frames = frames_of(alloc, inside.boxes.as_slice())?;
+    for view in &inside.views {
+        if !is_still(alloc, program, depth, &frames, view)? {
+            return Ok(false);
+        }
+    }
+    Ok(true)
+}
+
+// Whether no rule applies at a place, and it reaches no variable from outside.
+fn is_still(
+    alloc: Global,
+    program: &Program,
+    depth: usize,
+    frames: &Store,
+    view: &View,
+) -> Result<bool, AllocError>
+    requires { IsTestable program.now depth frames.now view.now }
+    ensures { IfOk result (λ still. IsTrue still ↔ IsStill program.now depth frames.now view.now) }
+{
+    match plan(alloc, program, view)? {
+        Some(_) => Ok(false),
+        None => reaches_none(alloc, program, depth, frames, view),
+    }
+}
