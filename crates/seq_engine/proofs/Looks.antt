@@ -2,6 +2,7 @@
 use Rattle.std.proofs.Common.{◌≡◌, ℕ, ◌+◌, ◌<◌, ◌≤◌, List, [], ◌∷◌, ◌++◌, length, Bool, true, false, Option, Some, None, refl, sym, ◌∙◌, ap, subst, ◌⊎◌, inl, inr, arith, append-nil}
 use Rattle.std.specs.Prelude.{is_some, option_map}
 use Rattle.std.proofs.lemmas.List.{length-append}
+use Rattle.akl_terms.specs.declared.name.Name.{Name}
 use Rattle.akl_terms.specs.declared.name.Place.{Place}
 use Rattle.akl_terms.specs.declared.program.Program.{Program}
 use Rattle.akl_terms.specs.declared.program.Query.{Query}
@@ -24,19 +25,36 @@ use Rattle.table_laws.proofs.Insides.{spot_held}
 use Rattle.box_tree.specs.Tables.{rules_in_force, TableValue, table_of}
 use Rattle.box_tree.specs.Views.{ViewValue, run_of, is_there}
 use Rattle.box_tree.specs.Plans.{PlanValue, IsRight}
-use Rattle.guard_plan.specs.Planned.{HasNoRule}
+use Rattle.guard_plan.specs.Planned.{IsPlannedBy}
 use Rattle.rule_plan.proofs.InForce.{no_split}
 use Rattle.step_commit.specs.Cores.{CoreValue, run_by, MayCommit, IsStale, Commits}
-use Rattle.seq_engine.specs.Runs.{HasNoRuleAt, IsSpent, Follows}
+use Rattle.split_plan.specs.Split.{IsSplitBy}
+use Rattle.seq_engine.specs.declared.pass.Kind.{Kind}
+use Rattle.seq_engine.specs.Runs.{IsOfKind, HasNoneAt, IsSight, IsPlannedAt, IsSpent, Follows}
 
--- no rule applies at a place, as Split isn't in force
+-- no rule of a kind applies at a place
 
-abbrev NoRule : TableValue → List Label → Place → Type 0
-NoRule t j place = (x : IsTableOf rules_in_force (run_of t j) (table_of t)) (l : Label) (d : Config) → Applies rules_in_force t.program x.config l d → l.place ≡ place → ⊥
+abbrev NoneOf : Kind → TableValue → List Label → Place → Type 0
+NoneOf kind t j place = (x : IsTableOf rules_in_force (run_of t j) (table_of t)) (l : Label) (d : Config) → Applies rules_in_force t.program x.config l d → l.place ≡ place → IsOfKind kind l.rule → ⊥
 
-pub no_rule : (v : ViewValue) (c : CoreValue) (place : Place) → v.table ≡ c.table → v.journal ≡ c.journal → v.place ≡ place → HasNoRule v → HasNoRuleAt c place
-no_rule v c place e f g n = subst (λ (p : Place). NoRule c.table c.journal p) g (subst (λ (j : List Label). NoRule c.table j v.place) f (subst (λ (t : TableValue). NoRule t v.journal v.place) e
-    (λ t l d a i. n.none t l d a i (λ q. no_split (subst (IsInForce rules_in_force) q a.in_force)))))
+none_of : (kind : Kind) (v : ViewValue) (c : CoreValue) (place : Place) → v.table ≡ c.table → v.journal ≡ c.journal → v.place ≡ place → NoneOf kind v.table v.journal v.place → HasNoneAt kind c place
+none_of kind v c place e f g n =
+    subst (λ (p : Place). NoneOf kind c.table c.journal p) g (subst (λ (j : List Label). NoneOf kind c.table j v.place) f (subst (λ (t : TableValue). NoneOf kind t v.journal v.place) e n))
+
+-- what is planned of a look at the place
+module _ (c : CoreValue) (place : Place) (v : ViewValue) (s : IsSight c place v) where
+  pub planned : (o : Option PlanValue) → IsPlannedBy v o → IsPlannedAt Kind.Plain c place o
+  planned None n = none_of Kind.Plain v c place s.table s.journal s.place n.none
+  planned (Some p) x = (x.0.right, x.0.table ∙ s.table, x.0.journal ∙ s.journal, x.0.worker ∙ s.worker)
+
+  pub split : (o : Option PlanValue) → IsSplitBy v o → IsPlannedAt Kind.Split c place o
+  split None n = none_of Kind.Split v c place s.table s.journal s.place n.none
+  split (Some p) x = (x.0.right, x.0.table ∙ s.table, x.0.journal ∙ s.journal, x.0.worker ∙ s.worker)
+
+-- Split is a rule of boxes
+pub no_split_goal : (c : CoreValue) (g : Name) → HasNoneAt Kind.Split c (Place.Goal g)
+no_split_goal c g t l d a i k =
+    subst (λ (q : Place). Allows c.table.program a.makes.reading Rule.Split q l.alternative a.site) i (subst (λ (r : Rule). Allows c.table.program a.makes.reading r l.place l.alternative a.site) k a.makes.allowed)
 
 mapped : (o : Option GoalRow) (s : Spot) → option_map spot_of o ≡ Some s → is_some o ≡ true
 mapped None s e = cc
@@ -57,8 +75,8 @@ applied_there c t l d a = seen_there (table_of c.table) t.config t.unfolds l.pla
 not_both : (b : Bool) → b ≡ false → b ≡ true → ⊥
 not_both b e f = cc
 
-pub gone : (c : CoreValue) (place : Place) → is_there (table_of c.table) place ≡ false → HasNoRuleAt c place
-gone c place e t l d a i = not_both (is_there (table_of c.table) place) e (subst (λ (p : Place). is_there (table_of c.table) p ≡ true) i (applied_there c t l d a))
+pub gone : (kind : Kind) (c : CoreValue) (place : Place) → is_there (table_of c.table) place ≡ false → HasNoneAt kind c place
+gone kind c place e t l d a i k = not_both (is_there (table_of c.table) place) e (subst (λ (p : Place). is_there (table_of c.table) p ≡ true) i (applied_there c t l d a))
 
 -- a plan shows that some place is ready
 

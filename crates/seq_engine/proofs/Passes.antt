@@ -9,10 +9,11 @@ use Rattle.akl_model.specs.declared.label.Receipt.{Receipt}
 use Rattle.akl_model.specs.Derivations.{IsReady}
 use Rattle.akl_model.specs.Wakes.{IsOneOf}
 use Rattle.box_tree.specs.Tables.{rules_in_force, table_of}
-use Rattle.box_tree.specs.Views.{AreAllPlaces}
+use Rattle.box_tree.specs.Views.{is_there, AreAllPlaces}
 use Rattle.step_commit.specs.Cores.{CoreValue, KeepsFixed}
 use Rattle.step_commit.specs.Receipts.{labels_of, AreBy}
-use Rattle.seq_engine.specs.Runs.{HasNoRuleAt, IsSpent, IsQuiet, Follows, HasLooked, AreKept, KeepsOn, HasPassed}
+use Rattle.seq_engine.specs.Runs.{HasNoneAt, IsSpent, IsQuiet, Follows, HasLooked, AreKept, KeepsOn, HasPassed, HasPassedWhole}
+use Rattle.seq_engine.specs.declared.pass.Kind.{Kind}
 use Rattle.seq_engine.specs.declared.pass.Looked.{Looked}
 use Rattle.seq_engine.specs.declared.pass.Pass.{Pass}
 use Rattle.seq_engine.proofs.Looks.{applied_there}
@@ -69,20 +70,20 @@ keeps_more c d e rs ss ts k f =
       omega (arith, one, before),
     )
 
--- the looks of a pass at its first places: where none moved the core, no rule applies at any of them
-pub data Passed (c : CoreValue) (rs : List Receipt) (d : CoreValue) (ss : List Receipt) (looked : List Place) : Bool → Type 0 where
-  moving : KeepsOn c rs d ss → length c.journal < length d.journal → Passed c rs d ss looked true
-  resting : d ≡ c → ss ≡ rs → ((place : Place) → IsOneOf place looked → HasNoRuleAt c place) → Passed c rs d ss looked false
+-- the looks of a pass at its first places: where none moved the core, no rule of the kind applies at any of them
+pub data Passed (kind : Kind) (c : CoreValue) (rs : List Receipt) (d : CoreValue) (ss : List Receipt) (looked : List Place) : Bool → Type 0 where
+  moving : KeepsOn c rs d ss → length c.journal < length d.journal → Passed kind c rs d ss looked true
+  resting : d ≡ c → ss ≡ rs → ((place : Place) → IsOneOf place looked → HasNoneAt kind c place) → Passed kind c rs d ss looked false
 
-pub none_looked : (c : CoreValue) (rs : List Receipt) → Passed c rs c rs [] false
-none_looked c rs = resting refl refl (λ place i. absurd i)
+pub none_looked : (kind : Kind) (c : CoreValue) (rs : List Receipt) → Passed kind c rs c rs [] false
+none_looked kind c rs = resting refl refl (λ place i. absurd i)
 
 keeps_as : (c d : CoreValue) (rs ss : List Receipt) → d ≡ c → ss ≡ rs → KeepsOn c rs d ss
 keeps_as c d rs ss e f = subst (λ (x : CoreValue). KeepsOn c rs x ss) (sym e) (subst (λ (xs : List Receipt). KeepsOn c rs c xs) (sym f) (keeps_none c rs))
 
-pub keeps_so : (c d : CoreValue) (rs ss : List Receipt) (looked : List Place) (moved : Bool) → Passed c rs d ss looked moved → KeepsOn c rs d ss
-keeps_so c d rs ss looked true (moving k h) = k
-keeps_so c d rs ss looked false (resting e f h) = keeps_as c d rs ss e f
+keeps_so : (kind : Kind) (c d : CoreValue) (rs ss : List Receipt) (looked : List Place) (moved : Bool) → Passed kind c rs d ss looked moved → KeepsOn c rs d ss
+keeps_so kind c d rs ss looked true (moving k h) = k
+keeps_so kind c d rs ss looked false (resting e f h) = keeps_as c d rs ss e f
 
 one_more : (place q : Place) (looked : List Place) → IsOneOf place (looked ++ q ∷ []) → IsOneOf place looked ⊎ (place ≡ q)
 one_more place q [] (inl e) = inr e
@@ -94,46 +95,57 @@ one_more place q (p ∷ ps) (inr i) = on (one_more place q ps i)
     on (inl j) = inl (inr j)
     on (inr e) = inr e
 
-pub committed : (c d e : CoreValue) (rs ss ts : List Receipt) (looked more : List Place) (moved : Bool) → Passed c rs d ss looked moved → Follows d ss e ts → Passed c rs e ts more true
-committed c d e rs ss ts looked more moved p f =
-    let k : KeepsOn c rs e ts × (length c.journal < length e.journal) = keeps_more c d e rs ss ts (keeps_so c d rs ss looked moved p) f in
-    moving k.0 k.1
-
-pub idle : (c d e : CoreValue) (rs ss ts : List Receipt) (looked : List Place) (q : Place) (moved : Bool) → Passed c rs d ss looked moved → e ≡ d → ts ≡ ss → HasNoRuleAt d q → Passed c rs e ts (looked ++ q ∷ []) moved
-idle c d e rs ss ts looked q true (moving k h) i j n =
-    subst (λ (x : CoreValue). Passed c rs x ts (looked ++ q ∷ []) true) (sym i) (subst (λ (xs : List Receipt). Passed c rs d xs (looked ++ q ∷ []) true) (sym j) (moving k h))
-idle c d e rs ss ts looked q false (resting x y h) i j n = resting (i ∙ x) (j ∙ y) (λ place o. on place (one_more place q looked o))
+idle : (kind : Kind) (c d e : CoreValue) (rs ss ts : List Receipt) (looked : List Place) (q : Place) (moved : Bool) → Passed kind c rs d ss looked moved → e ≡ d → ts ≡ ss → HasNoneAt kind d q
+    → Passed kind c rs e ts (looked ++ q ∷ []) moved
+idle kind c d e rs ss ts looked q true (moving k h) i j n =
+    subst (λ (x : CoreValue). Passed kind c rs x ts (looked ++ q ∷ []) true) (sym i) (subst (λ (xs : List Receipt). Passed kind c rs d xs (looked ++ q ∷ []) true) (sym j) (moving k h))
+idle kind c d e rs ss ts looked q false (resting x y h) i j n = resting (i ∙ x) (j ∙ y) (λ place o. on place (one_more place q looked o))
   where
-    on : (place : Place) → IsOneOf place looked ⊎ (place ≡ q) → HasNoRuleAt c place
+    on : (place : Place) → IsOneOf place looked ⊎ (place ≡ q) → HasNoneAt kind c place
     on place (inl o) = h place o
-    on place (inr e) = subst (HasNoRuleAt c) (sym e) (subst (λ (z : CoreValue). HasNoRuleAt z q) x n)
+    on place (inr e) = subst (HasNoneAt kind c) (sym e) (subst (λ (z : CoreValue). HasNoneAt kind z q) x n)
 
--- no place is ready where no rule applies at any
-pub quiet : (c : CoreValue) (places : List Place) → AreAllPlaces (table_of c.table) places → ((place : Place) → IsOneOf place places → HasNoRuleAt c place) → IsQuiet c
-quiet c places all none t = record { none = λ place r. ready place r }
-  where
-    ready : (place : Place) → IsReady rules_in_force c.table.program t.config place → ⊥
-    ready place r = none r.label.place (all r.label.place (applied_there c t r.label r.result r.applies)) t r.label r.result r.applies refl
-
-pub rested : (c d : CoreValue) (rs ss : List Receipt) (places : List Place) → AreAllPlaces (table_of c.table) places → Passed c rs d ss places false → KeepsOn c rs d ss × IsQuiet d
-rested c d rs ss places all (resting e f h) = (keeps_as c d rs ss e f, subst IsQuiet (sym e) (quiet c places all h))
+-- no rule of the kind applies at a place that isn't there
+pub rested : (kind : Kind) (c d : CoreValue) (rs ss : List Receipt) (places : List Place) → AreAllPlaces (table_of c.table) places → Passed kind c rs d ss places false → HasPassed kind c rs d ss Pass.Quiet
+rested kind c d rs ss places all (resting e f h) = (e, f, λ place t l x a i k. h place (all place (subst (λ (p : Place). is_there (table_of c.table) p ≡ true) i (applied_there c t l x a))) t l x a i k)
 
 -- what a look makes of a pass, by what it came to
-module _ (c d e : CoreValue) (rs ss ts : List Receipt) (looked : List Place) (q : Place) (moved : Bool) (p : Passed c rs d ss looked moved) where
-  pub on_committed : (more : List Place) → HasLooked d ss q e ts Looked.Committed → Passed c rs e ts more true
-  on_committed more f = committed c d e rs ss ts looked more moved p f
+module _ (kind : Kind) (c d e : CoreValue) (rs ss ts : List Receipt) (looked : List Place) (q : Place) (moved : Bool) (p : Passed kind c rs d ss looked moved) where
+  pub on_committed : (more : List Place) → HasLooked kind d ss q e ts Looked.Committed → Passed kind c rs e ts more true
+  on_committed more f =
+      let k : KeepsOn c rs e ts × (length c.journal < length e.journal) = keeps_more c d e rs ss ts (keeps_so kind c d rs ss looked moved p) f in
+      moving k.0 k.1
 
-  pub on_idle : HasLooked d ss q e ts Looked.Idle → Passed c rs e ts (looked ++ q ∷ []) moved
-  on_idle f = idle c d e rs ss ts looked q moved p f.0 f.1 f.2
+  pub on_idle : HasLooked kind d ss q e ts Looked.Idle → Passed kind c rs e ts (looked ++ q ∷ []) moved
+  on_idle f = idle kind c d e rs ss ts looked q moved p f.0 f.1 f.2
 
-  pub on_spent : HasLooked d ss q e ts Looked.Spent → HasPassed c rs e ts Pass.Spent
+  pub on_spent : HasLooked kind d ss q e ts Looked.Spent → HasPassed kind c rs e ts Pass.Spent
   on_spent f = (
-    subst (λ (x : CoreValue). KeepsOn c rs x ts) (sym f.0) (subst (λ (xs : List Receipt). KeepsOn c rs d xs) (sym f.1) (keeps_so c d rs ss looked moved p)),
+    subst (λ (x : CoreValue). KeepsOn c rs x ts) (sym f.0) (subst (λ (xs : List Receipt). KeepsOn c rs d xs) (sym f.1) (keeps_so kind c d rs ss looked moved p)),
     subst IsSpent (sym f.0) f.2,
   )
 
-pub has_moved : (c d : CoreValue) (rs ss : List Receipt) (looked : List Place) → Passed c rs d ss looked true → HasPassed c rs d ss Pass.Moved
-has_moved c d rs ss looked (moving k h) = (k, h)
+pub has_moved : (kind : Kind) (c d : CoreValue) (rs ss : List Receipt) (looked : List Place) → Passed kind c rs d ss looked true → HasPassed kind c rs d ss Pass.Moved
+has_moved kind c d rs ss looked (moving k h) = (k, h)
+
+-- no place is ready where no rule of either kind applies at any
+quiet : (c : CoreValue) → ((place : Place) → HasNoneAt Kind.Plain c place) → ((place : Place) → HasNoneAt Kind.Split c place) → IsQuiet c
+quiet c plain split t = record { none = λ place r. plain r.label.place t r.label r.result r.applies refl (λ e. split r.label.place t r.label r.result r.applies refl e) }
+
+-- a pass for one kind of rules after a pass for the other, in which nothing moved
+pub whole : (c d e : CoreValue) (rs ss ts : List Receipt) (pass : Pass) → HasPassed Kind.Plain c rs d ss Pass.Quiet → HasPassed Kind.Split d ss e ts pass → HasPassedWhole c rs e ts pass
+whole c d e rs ss ts pass p h = on pass (subst (λ (x : CoreValue). HasPassed Kind.Split x rs e ts pass) p.0 (subst (λ (xs : List Receipt). HasPassed Kind.Split d xs e ts pass) p.1 h))
+  where
+    on : (pass : Pass) → HasPassed Kind.Split c rs e ts pass → HasPassedWhole c rs e ts pass
+    on Pass.Moved k = k
+    on Pass.Spent k = k
+    on Pass.Quiet k = (keeps_as c e rs ts k.0 k.1, subst IsQuiet (sym k.0) (quiet c p.2 k.2))
+
+-- a pass in which something moved, or all labels were made
+pub alone : (c d : CoreValue) (rs ss : List Receipt) (pass : Pass) → (pass ≡ Pass.Quiet → ⊥) → HasPassed Kind.Plain c rs d ss pass → HasPassedWhole c rs d ss pass
+alone c d rs ss Pass.Moved n h = h
+alone c d rs ss Pass.Spent n h = h
+alone c d rs ss Pass.Quiet n h = absurd (n refl)
 
 pub take_whole : {A : Type 0} (xs : List A) (n : ℕ) → length xs ≤ n → take n xs ≡ xs
 take_whole [] zero h = refl

@@ -3,12 +3,14 @@
 ghost use Rattle.std.specs.Prelude.{◌≡◌, IfOk, IfErr, [], length, true};
 ghost use Rattle.box_tree.specs.Tables.{table_of, goals_in, is_empty, shown_in, shown_trees_of, HasVariables, HasShownVariables};
 ghost use Rattle.box_tree.specs.Views.{is_there, IsUnseen, AreAllPlaces};
+ghost use Rattle.box_tree.specs.Insides.{IsInsideOf, candidate_in};
+ghost use Rattle.akl_terms.specs.declared.name.Place.{Place};
 ghost use Rattle.step_commit.specs.Cores.{IsCore, MayCommit, Commits, IsRefused, IsFirstStale, is_within};
 
 use crate::commit::CommitError;
 use akl_model::{Item, Label, Receipt};
 use akl_terms::{Name, Place, Program, Query, ShownTerm};
-use box_tree::{LookError, Plan, Table, View};
+use box_tree::{Inside, LookError, Plan, Table, View};
 use std::alloc::{AllocError, Global};
 use std::marker::Model;
 
@@ -76,6 +78,22 @@ impl Core {
         ensures unseen { IfErr result (IsUnseen (table_of self.now.table) place) }
     {
         self.table.look(alloc, &self.journal, place, worker)
+    }
+
+    /// All that stands in a box and inside it, as a worker sees it.
+    pub fn look_inside(&self, alloc: Global, name: Name, worker: u32) -> Result<Inside, AllocError>
+        requires { is_there (table_of self.now.table) (Place.Box name) ≡ true }
+        ensures { IfOk result (IsInsideOf self.now.table self.now.journal name worker) }
+    {
+        self.table.look_inside(alloc, &self.journal, name, worker)
+    }
+
+    /// The alternative at which a box could be split, were it stable; `None` where there is none, and of a box that
+    /// isn't there.
+    pub fn candidate(&self, name: Name) -> Option<Name>
+        ensures { result ≡ candidate_in (table_of self.now.table) name }
+    {
+        self.table.candidate(name)
     }
 
     /// All boxes and goals: boxes first, each in increasing order of names.
