@@ -46,16 +46,16 @@ names_of : (nodes : List Node) (news : List NewBox) → map (λ (n : NewBox). n.
 names_of nodes [] = refl
 names_of nodes (n ∷ ns) = ap (λ (ns : List Name). n.name ∷ ns) (names_of nodes ns)
 
--- the goal's row
-goal_made : (T : Table) (number : ℕ) (news : List laws.NewBox) (g : Name) (change : GoalRow → GoalRow) (at : Name → Option GoalRow) → new_goal_of number news g ≡ None → ((m : Name) → at m ≡ goals_with number news T m) → (m : Name)
-    → set g (option_map change (at g)) at m ≡ or_else (new_goal_of number news m) (set g (option_map change (T.goal_of g)) T.goal_of m)
-goal_made T number news g change at none is m = on (same_name m g) refl
+-- a row that changes beneath others
+pub set_beneath : (over at now : Name → Option GoalRow) (g : Name) (change : GoalRow → GoalRow) → over g ≡ None → ((m : Name) → now m ≡ or_else (over m) (at m)) → (m : Name)
+    → set g (option_map change (now g)) now m ≡ or_else (over m) (set g (option_map change (at g)) at m)
+set_beneath over at now g change none is m = on (same_name m g) refl
   where
-    here : at g ≡ T.goal_of g
-    here = is g ∙ ap (λ (o : Option GoalRow). or_else o (T.goal_of g)) none
+    here : now g ≡ at g
+    here = is g ∙ ap (λ (o : Option GoalRow). or_else o (at g)) none
 
-    on : (b : Bool) → same_name m g ≡ b → (if b then option_map change (at g) else at m) ≡ or_else (new_goal_of number news m) (if b then option_map change (T.goal_of g) else T.goal_of m)
-    on true q = ap (option_map change) here ∙ sym (ap (λ (o : Option GoalRow). or_else o (option_map change (T.goal_of g))) (ap (new_goal_of number news) (same_name-equal m g q) ∙ none))
+    on : (b : Bool) → same_name m g ≡ b → (if b then option_map change (now g) else now m) ≡ or_else (over m) (if b then option_map change (at g) else at m)
+    on true q = ap (option_map change) here ∙ sym (ap (λ (o : Option GoalRow). or_else o (option_map change (at g))) (ap over (same_name-equal m g q) ∙ none))
     on false q = is m
 
 -- the box of the choice
@@ -98,7 +98,7 @@ module _ (t u v w : TableValue) (g home : Name) (op : Op) (news : List NewBox) (
               ∙ ap (λ (o : Option Name). or_else (new_box_of g at number all m) (changed_box o (failing_by g all) (table_of t).box_of m)) h
               ∙ ap (λ (x : ℕ). or_else (new_box_of g at x all m) (changed_box (home_in ((table_of t).goal_of g)) (failing_by g all) (table_of t).box_of m)) n;
           goals = λ m. ap (λ (x : TableValue). (table_of x).goal_of m) d.rest ∙ b.rows m
-              ∙ goal_made (table_of t) number all g (choice_row op names number) (table_of u).goal_of (not_new (table_of t) number all g home f (sym h)) a.goals m
+              ∙ set_beneath (new_goal_of number all) (table_of t).goal_of (table_of u).goal_of g (choice_row op names number) (not_new (table_of t) number all g home f (sym h)) a.goals m
               ∙ ap (λ (change : GoalRow → GoalRow). or_else (new_goal_of number all m) (set g (option_map change ((table_of t).goal_of g)) (table_of t).goal_of m)) row
               ∙ ap (λ (x : ℕ). or_else (new_goal_of x all m) (set g (option_map (forked_row op all x) ((table_of t).goal_of g)) (table_of t).goal_of m)) n;
           roots = ap (λ (x : TableValue). x.roots) r;

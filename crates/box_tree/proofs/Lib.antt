@@ -17,3 +17,6 @@ mod Seen
 mod Viewed
 mod Within
 mod Removed
+mod Beside
+mod Copied
+mod Halved

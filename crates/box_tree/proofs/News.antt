@@ -7,18 +7,19 @@ use Rattle.akl_terms.specs.declared.program.Goal.{Goal}
 use Rattle.akl_terms.specs.Names.{same_name}
 use Rattle.akl_model.specs.Config.{IsIn, Atom, or_else}
 use Rattle.akl_model.specs.Ordered.{IsIncreasing}
+use Rattle.akl_model.specs.Changes.{of_atom}
 use Rattle.table_laws.specs.Rows.{BoxRow, GoalRow}
-use Rattle.table_laws.specs.Writes.{set, solved_when, first_fail, names_drawn, new_row, new_box_of, new_goal_of, atom_among}
+use Rattle.table_laws.specs.Writes.{set, changed_box, solved_when, first_fail, names_drawn, new_row, new_box_of, new_goal_of, atom_among, shape_among}
 use Rattle.box_tree.specs.declared.entries.Held.{Held}
 use Rattle.box_tree.specs.declared.entries.BoxEntry.{BoxEntry}
 use Rattle.box_tree.specs.declared.entries.GoalEntry.{GoalEntry}
 use Rattle.box_tree.specs.declared.step.NewBox.{NewBox}
 use Rattle.box_tree.specs.Tables.{TableValue, table_of, goal_atom, shown_tree, box_row, goal_row, new_box, AreInOrder}
-use Rattle.box_tree.specs.Edits.{SetsBoxes, SetsGoals, SetsRows, AddsOnly, named_atoms, boxes_with, goals_with, atoms_with}
+use Rattle.box_tree.specs.Edits.{SetsBoxes, SetsGoals, SetsRows, AddsOnly, named_atoms, named_shapes, boxes_with, goals_with, atoms_with, shapes_with}
 use Rattle.box_tree.proofs.Adding.{adds_nothing, adds_then, adds_more}
 
-abbrev pub firsts : List (Name × Goal) → List Name
-firsts xs = map (λ (x : Name × Goal). x.0) xs
+abbrev pub firsts : {A : Type 0} → List (Name × A) → List Name
+firsts {A} xs = map (λ (x : Name × A). x.0) xs
 
 pub names_atoms : (nodes : List Node) (xs : List (Name × Goal)) → map (λ (x : Name × Atom). x.0) (named_atoms nodes xs) ≡ firsts xs
 names_atoms nodes [] = refl
@@ -33,63 +34,78 @@ in_left m [] ys i = absurd i
 in_left m (x ∷ xs) ys (inl e) = inl e
 in_left m (x ∷ xs) ys (inr i) = inr (in_left m xs ys i)
 
-pub firsts_append : (xs ys : List (Name × Goal)) → firsts (xs ++ ys) ≡ firsts xs ++ firsts ys
+pub firsts_append : {A : Type 0} (xs ys : List (Name × A)) → firsts (xs ++ ys) ≡ firsts xs ++ firsts ys
 firsts_append [] ys = refl
 firsts_append (x ∷ xs) ys = ap (λ (ns : List Name). x.0 ∷ ns) (firsts_append xs ys)
 
 -- goals
 
-pub record GoalsCome (t u : TableValue) (home : Name) (number : ℕ) (all left : List (Name × Goal)) : Type 0 where
-  pub done : List (Name × Goal)
+pub record GoalsCome {A : Type 0} (held : A → Held) (t u : TableValue) (home : Name) (number : ℕ) (all left : List (Name × A)) : Type 0 where
+  pub done : List (Name × A)
   pub all_is : all ≡ left ++ done
-  pub put : SetsGoals t u (atoms_with home number (named_atoms t.program.templates.nodes done) (table_of t))
+  pub put : SetsGoals t u (shapes_with home number (named_shapes held t.program.templates.nodes done) (table_of t))
   pub only : AddsOnly t u (firsts all)
 
-pub goals_begin : (t : TableValue) (home : Name) (number : ℕ) (all : List (Name × Goal)) → GoalsCome t t home number all all
-goals_begin t home number all = record { done = []; all_is = sym (append-nil all); put = record { rows = λ m. refl; rest = refl }; only = adds_nothing t (firsts all) }
+pub goals_begin : {A : Type 0} (held : A → Held) (t : TableValue) (home : Name) (number : ℕ) (all : List (Name × A)) → GoalsCome held t t home number all all
+goals_begin held t home number all = record { done = []; all_is = sym (append-nil all); put = record { rows = λ m. refl; rest = refl }; only = adds_nothing t (firsts all) }
 
-or_if : {A : Type 0} (b : Bool) (a : A) (y z : Option A) → (if b then Some a else or_else y z) ≡ or_else (if b then Some a else y) z
+pub or_if : {A : Type 0} (b : Bool) (a : A) (y z : Option A) → (if b then Some a else or_else y z) ≡ or_else (if b then Some a else y) z
 or_if true a y z = refl
 or_if false a y z = refl
 
-module _ (t u v : TableValue) (home : Name) (number : ℕ) (all old new : List (Name × Goal)) (x : Name × Goal) where
-  named : all ≡ old → IsIn x.0 (firsts old) → IsIn x.0 (firsts all)
-  named e i = subst (λ (xs : List (Name × Goal)). IsIn x.0 (firsts xs)) (sym e) i
+module _ {A : Type 0} (held : A → Held) (t u v : TableValue) (home : Name) (number : ℕ) (all old new : List (Name × A)) (x : Name × A) (g : GoalsCome held t u home number all old) (pops : old ≡ new ++ x ∷ []) where
+  all_goals : all ≡ new ++ x ∷ g.done
+  all_goals = g.all_is ∙ ap (λ (xs : List (Name × A)). xs ++ g.done) pops ∙ append_assoc new (x ∷ []) g.done
 
-  module _ (g : GoalsCome t u home number all old) (pops : old ≡ new ++ x ∷ []) where
-    own : IsIn x.0 (firsts all)
-    own = subst (IsIn x.0) (sym (ap firsts (g.all_is ∙ ap (λ (xs : List (Name × Goal)). xs ++ g.done) pops) ∙ firsts_append (new ++ x ∷ []) g.done))
-        (in_left x.0 (firsts (new ++ x ∷ [])) (firsts g.done) (subst (IsIn x.0) (sym (firsts_append new (x ∷ []))) (in_append x.0 (firsts new) (x.0 ∷ []) (inl refl))))
+  own : IsIn x.0 (firsts all)
+  own = subst (IsIn x.0) (sym (ap firsts all_goals ∙ firsts_append new (x ∷ g.done))) (in_append x.0 (firsts new) (firsts (x ∷ g.done)) (inl refl))
 
-    pub goals_only : AddsOnly u v (x.0 ∷ []) → AddsOnly t v (firsts all)
-    goals_only a = adds_then t u v (firsts all) (x.0 ∷ []) g.only a sub
-      where
-        sub : (m : Name) → IsIn m (x.0 ∷ []) → IsIn m (firsts all)
-        sub m (inl e) = subst (λ (k : Name). IsIn k (firsts all)) (sym e) own
-        sub m (inr i) = absurd i
+  pub goals_only : AddsOnly u v (x.0 ∷ []) → AddsOnly t v (firsts all)
+  goals_only a = adds_then t u v (firsts all) (x.0 ∷ []) g.only a sub
+    where
+      sub : (m : Name) → IsIn m (x.0 ∷ []) → IsIn m (firsts all)
+      sub m (inl e) = subst (λ (k : Name). IsIn k (firsts all)) (sym e) own
+      sub m (inr i) = absurd i
 
-    pub goals_step : SetsGoals u v (set x.0 (Some (goal_row u.program.templates.nodes (record { home = home; held = Held.Atom x.1; changed = number }))) (table_of u).goal_of)
-        → AddsOnly u v (x.0 ∷ []) → GoalsCome t v home number all new
-    goals_step s a = record {
-      done = x ∷ g.done;
-      all_is = g.all_is ∙ ap (λ (xs : List (Name × Goal)). xs ++ g.done) pops ∙ append_assoc new (x ∷ []) g.done;
-      put = record {
-        rows = λ m. s.rows m ∙ ap (λ (nodes : List Node). if same_name m x.0 then Some (goal_row nodes (record { home = home; held = Held.Atom x.1; changed = number })) else (table_of u).goal_of m) (ap (λ (k : TableValue). k.program.templates.nodes) g.put.rest)
-            ∙ ap (λ (o : Option GoalRow). if same_name m x.0 then Some (goal_row t.program.templates.nodes (record { home = home; held = Held.Atom x.1; changed = number })) else o) (g.put.rows m)
-            ∙ or_if (same_name m x.0) (goal_row t.program.templates.nodes (record { home = home; held = Held.Atom x.1; changed = number })) (atom_among home number (named_atoms t.program.templates.nodes g.done) m) ((table_of t).goal_of m);
-        rest = s.rest ∙ ap (λ (k : TableValue). record k { goals = v.goals }) g.put.rest;
-      };
-      only = goals_only a;
-    }
+  pub goals_step : SetsGoals u v (set x.0 (Some (goal_row u.program.templates.nodes (record { home = home; held = held x.1; changed = number }))) (table_of u).goal_of) → AddsOnly u v (x.0 ∷ []) → GoalsCome held t v home number all new
+  goals_step s a = record {
+    done = x ∷ g.done;
+    all_is = all_goals;
+    put = record {
+      rows = λ m. s.rows m ∙ ap (λ (nodes : List Node). if same_name m x.0 then Some (goal_row nodes (record { home = home; held = held x.1; changed = number })) else (table_of u).goal_of m) (ap (λ (k : TableValue). k.program.templates.nodes) g.put.rest)
+          ∙ ap (λ (o : Option GoalRow). if same_name m x.0 then Some (goal_row t.program.templates.nodes (record { home = home; held = held x.1; changed = number })) else o) (g.put.rows m)
+          ∙ or_if (same_name m x.0) (goal_row t.program.templates.nodes (record { home = home; held = held x.1; changed = number })) (shape_among home number (named_shapes held t.program.templates.nodes g.done) m) ((table_of t).goal_of m);
+      rest = s.rest ∙ ap (λ (k : TableValue). record k { goals = v.goals }) g.put.rest;
+    };
+    only = goals_only a;
+  }
 
-pub goals_end : (t u : TableValue) (home : Name) (number : ℕ) (all left : List (Name × Goal)) → GoalsCome t u home number all left → left ≡ []
-    → SetsGoals t u (atoms_with home number (named_atoms t.program.templates.nodes all) (table_of t))
-goals_end t u home number all left g e =
-    subst (λ (xs : List (Name × Goal)). SetsGoals t u (atoms_with home number (named_atoms t.program.templates.nodes xs) (table_of t))) (sym (g.all_is ∙ ap (λ (xs : List (Name × Goal)). xs ++ g.done) e)) g.put
+pub goals_end : {A : Type 0} (held : A → Held) (t u : TableValue) (home : Name) (number : ℕ) (all left : List (Name × A)) → GoalsCome held t u home number all left → left ≡ []
+    → SetsGoals t u (shapes_with home number (named_shapes held t.program.templates.nodes all) (table_of t))
+goals_end {A} held t u home number all left g e =
+    subst (λ (xs : List (Name × A)). SetsGoals t u (shapes_with home number (named_shapes held t.program.templates.nodes xs) (table_of t))) (sym (g.all_is ∙ ap (λ (xs : List (Name × A)). xs ++ g.done) e)) g.put
+
+-- atoms
+
+atom_shapes : (home : Name) (number : ℕ) (nodes : List Node) (xs : List (Name × Goal)) (m : Name) → shape_among home number (named_shapes Held.Atom nodes xs) m ≡ atom_among home number (named_atoms nodes xs) m
+atom_shapes home number nodes [] m = refl
+atom_shapes home number nodes (x ∷ xs) m = ap (λ (o : Option GoalRow). if same_name m x.0 then Some (record { home = home; shape = of_atom (goal_atom nodes x.1); changed = number }) else o) (atom_shapes home number nodes xs m)
+
+pub atoms_put : (t u : TableValue) (home : Name) (number : ℕ) (xs : List (Name × Goal)) → SetsGoals t u (shapes_with home number (named_shapes Held.Atom t.program.templates.nodes xs) (table_of t))
+    → SetsGoals t u (atoms_with home number (named_atoms t.program.templates.nodes xs) (table_of t))
+atoms_put t u home number xs s = record { rows = λ m. s.rows m ∙ ap (λ (o : Option GoalRow). or_else o ((table_of t).goal_of m)) (atom_shapes home number t.program.templates.nodes xs m); rest = s.rest }
+
+-- goals come, and then a box changes
+pub rows_set : (t u v : TableValue) (home : Option Name) (change : BoxRow → BoxRow) (goals : Name → Option GoalRow) → SetsGoals t u goals → SetsBoxes u v (changed_box home change (table_of u).box_of) → SetsRows t v (changed_box home change (table_of t).box_of) goals
+rows_set t u v home change goals a b = record {
+  boxes = λ m. b.rows m ∙ ap (λ (k : TableValue). changed_box home change (table_of k).box_of m) a.rest;
+  goals = λ m. ap (λ (k : TableValue). (table_of k).goal_of m) b.rest ∙ a.rows m;
+  rest = b.rest ∙ ap (λ (k : TableValue). record k { boxes = v.boxes }) a.rest ∙ ap (λ (gs : List (Name × GoalEntry)). record t { boxes = v.boxes; goals = gs }) (sym (ap (λ (k : TableValue). k.goals) b.rest));
+}
 
 -- one new box
 
-or_one : {A : Type 0} (o y : Option A) → or_else o y ≡ or_else (or_else o None) y
+pub or_one : {A : Type 0} (o y : Option A) → or_else o y ≡ or_else (or_else o None) y
 or_one None y = refl
 or_one (Some a) y = refl
 
@@ -145,7 +161,7 @@ pub record NewsCome (t u : TableValue) (holder : Name) (at : Option ℕ) (number
 pub news_begin : (t : TableValue) (holder : Name) (at : Option ℕ) (number : ℕ) (all : List NewBox) → AreInOrder (map (new_box t.program.templates.nodes) all) → NewsCome t t holder at number all all
 news_begin t holder at number all o = record { done = []; all_is = sym (append-nil all); ordered = o; put = record { boxes = λ m. refl; goals = λ m. refl; rest = refl }; only = adds_nothing t (names_drawn (map (new_box t.program.templates.nodes) all)) }
 
-or_or : {A : Type 0} (a b z : Option A) → or_else (or_else a None) (or_else b z) ≡ or_else (or_else a b) z
+pub or_or : {A : Type 0} (a b z : Option A) → or_else (or_else a None) (or_else b z) ≡ or_else (or_else a b) z
 or_or None b z = refl
 or_or (Some x) b z = refl
 

@@ -11,7 +11,6 @@ use Rattle.akl_terms.specs.Names.{is_before}
 use Rattle.akl_terms.specs.contracts.name.NameOrd.TheImpl.{cmp-value}
 use Rattle.akl_model.specs.Ordered.{IsBeforeAll, IsIncreasing}
 use Rattle.akl_model.specs.Derivations.{raised}
-use Rattle.akl_terms.specs.declared.program.Goal.{Goal}
 use Rattle.box_tree.proofs.News.{firsts, firsts_append}
 
 raised-own : (w k : ℕ) (ms : List ℕ) → slice_index (raised w k ms) w ≡ slice_index ms w + k
@@ -77,10 +76,10 @@ split_at [] i d l = absurd (omega arith)
 split_at (x ∷ xs) zero d l = refl
 split_at (x ∷ xs) (suc i) d l = ap (λ (ys : List _). x ∷ ys) (split_at xs i d (omega arith))
 
-pub keys_more : (goals : List (Name × Goal)) (i : ℕ) (d : Name × Goal) (old new : List Name) → new ≡ insert_key cmp-value.it old (get_or goals i d).0 → old ≡ firsts (take i goals) → i < length goals → IsIncreasing (firsts goals)
+pub keys_more : {A : Type 0} (goals : List (Name × A)) (i : ℕ) (x : Name × A) (old new : List Name) → x ≡ get_or goals i x → new ≡ insert_key cmp-value.it old x.0 → old ≡ firsts (take i goals) → i < length goals → IsIncreasing (firsts goals)
     → new ≡ firsts (take (i + 1) goals)
-keys_more goals i d old new e q l o =
-    let parts : firsts goals ≡ firsts (take i goals) ++ (get_or goals i d).0 ∷ firsts (drop (suc i) goals) = ap firsts (split_at goals i d l) ∙ firsts_append (take i goals) (get_or goals i d ∷ drop (suc i) goals) in
-    e ∙ ap (λ (ks : List Name). insert_key cmp-value.it ks (get_or goals i d).0) q
-    ∙ key_last (firsts (take i goals)) (firsts (drop (suc i) goals)) (get_or goals i d).0 (subst IsIncreasing parts o)
-    ∙ sym (ap firsts (take_more goals i d l) ∙ firsts_append (take i goals) (get_or goals i d ∷ []))
+keys_more {A} goals i x old new is e q l o =
+    let parts : firsts goals ≡ firsts (take i goals) ++ x.0 ∷ firsts (drop (suc i) goals) = ap firsts (split_at goals i x l) ∙ firsts_append (take i goals) (get_or goals i x ∷ drop (suc i) goals) ∙ ap (λ (y : Name × A). firsts (take i goals) ++ y.0 ∷ firsts (drop (suc i) goals)) (sym is) in
+    e ∙ ap (λ (ks : List Name). insert_key cmp-value.it ks x.0) q
+    ∙ key_last (firsts (take i goals)) (firsts (drop (suc i) goals)) x.0 (subst IsIncreasing parts o)
+    ∙ sym (ap firsts (take_more goals i x l) ∙ firsts_append (take i goals) (get_or goals i x ∷ []) ∙ ap (λ (y : Name × A). firsts (take i goals) ++ y.0 ∷ []) (sym is))

@@ -45,7 +45,7 @@ no_entry : {A B : Type 0} (f : A → B) (o : Option A) (b : B) → option_map f 
 no_entry f None b e = cc
 no_entry f (Some a) b e = (a, refl, some_value e)
 
-spot_found : (g : Name) (roots : Boxes) (s : Spot) → spot_in g roots ≡ Some s → (f : Found) × (h : Held) × (home_of g roots ≡ Some f) × (held_in g f.goals ≡ Some h) × (f.content.name ≡ s.home) × (shape_of h ≡ s.shape)
+pub spot_found : (g : Name) (roots : Boxes) (s : Spot) → spot_in g roots ≡ Some s → (f : Found) × (h : Held) × (home_of g roots ≡ Some f) × (held_in g f.goals ≡ Some h) × (f.content.name ≡ s.home) × (shape_of h ≡ s.shape)
 spot_found g roots s e = on (home_of g roots) refl e
   where
     held : (f : Found) (o : Option Held) → home_of g roots ≡ Some f → held_in g f.goals ≡ o → option_map (λ (h : Held). record { home = f.content.name; shape = shape_of h }) o ≡ Some s

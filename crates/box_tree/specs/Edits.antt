@@ -10,13 +10,14 @@ use Rattle.akl_terms.specs.Names.{same_name}
 use Rattle.akl_model.specs.Config.{IsIn, Atom, or_else, with_names}
 use Rattle.akl_model.specs.Names.{times_in}
 use Rattle.akl_terms.specs.declared.program.Op.{Op}
-use Rattle.akl_model.specs.Changes.{of_choice}
+use Rattle.akl_model.specs.Changes.{Shape, of_choice}
 use Rattle.akl_model.specs.Derivations.{raised}
 use Rattle.table_laws.specs.Rows.{BoxRow, GoalRow, Table}
 use Rattle.table_laws.specs.Steps as laws
-use Rattle.table_laws.specs.Writes.{IsTable, less_name, new_box_of, new_goal_of, atom_among}
+use Rattle.table_laws.specs.Writes.{IsTable, less_name, new_box_of, new_goal_of, atom_among, shape_among}
+use Rattle.box_tree.specs.declared.entries.Held.{Held}
 use Rattle.box_tree.specs.declared.step.NewBox.{NewBox}
-use Rattle.box_tree.specs.Tables.{TableValue, table_of, goal_atom}
+use Rattle.box_tree.specs.Tables.{TableValue, table_of, goal_atom, shape_held}
 
 -- boxes get these rows, and all else stays
 pub record SetsBoxes (t u : TableValue) (new : Name → Option BoxRow) : Type 0 where
@@ -64,6 +65,10 @@ pub record SetsRows (t u : TableValue) (new_boxes : Name → Option BoxRow) (new
 abbrev pub named_atoms : List Node → List (Name × Goal) → List (Name × Atom)
 named_atoms nodes goals = map (λ (x : Name × Goal). (x.0, goal_atom nodes x.1)) goals
 
+-- and as shapes, by what becomes of each
+abbrev pub named_shapes : {A : Type 0} → (A → Held) → List Node → List (Name × A) → List (Name × Shape)
+named_shapes {A} held nodes goals = map (λ (x : Name × A). (x.0, shape_held nodes (held x.1))) goals
+
 -- boxes with their goals come before what is there
 abbrev pub boxes_with : Name → Option ℕ → ℕ → List laws.NewBox → Table → Name → Option BoxRow
 boxes_with g at number news T m = or_else (new_box_of g at number news m) (T.box_of m)
@@ -73,6 +78,9 @@ goals_with number news T m = or_else (new_goal_of number news m) (T.goal_of m)
 
 abbrev pub atoms_with : Name → ℕ → List (Name × Atom) → Table → Name → Option GoalRow
 atoms_with home number atoms T m = or_else (atom_among home number atoms m) (T.goal_of m)
+
+abbrev pub shapes_with : Name → ℕ → List (Name × Shape) → Table → Name → Option GoalRow
+shapes_with home number shapes T m = or_else (shape_among home number shapes m) (T.goal_of m)
 
 abbrev pub is_fail : Code → Bool
 is_fail Code.Fail = true

@@ -7,3 +7,4 @@ pub mod Plans
 pub mod Drops
 pub mod Insides
 pub mod Places
+pub mod Splits

@@ -109,6 +109,7 @@ step_of nodes Step.Cut = laws.cuts
 step_of nodes (Step.Promote store solved goals) = laws.promotes store solved (map (λ (x : Name × Goal). (x.0, goal_atom nodes x.1)) goals.items)
 step_of nodes Step.Refute = laws.refutes
 step_of nodes Step.Confirm = laws.confirms
+step_of nodes (Step.Split copy copies) = laws.splits copy (map (box_copy nodes) copies.items)
 
 -- each variable of the query has its node
 pub record HasVariables (p : Program) (q : Query) (first_variable : ℕ) : Type 0 where

@@ -22,8 +22,8 @@ fn keeps(op: Op, passed: bool, here: bool) -> bool
     }
 }
 
-// The alternatives that are kept, and those that go.
-fn parted(
+/// The alternatives that are kept, and those that go.
+pub(crate) fn parted(
     alloc: Global,
     op: Op,
     name: Name,

@@ -6,15 +6,15 @@ ghost use Rattle.akl_model.specs.Ordered.{IsIncreasing};
 ghost use Rattle.akl_model.specs.Derivations.{raised};
 ghost use Rattle.table_laws.specs.Writes.{set, first_fail, failing_by, forked_row, failing_row, names_drawn, IsFresh, after_fork, changed_box};
 ghost use Rattle.box_tree.specs.Tables.{table_of, box_row, goal_row, new_box, AreInOrder};
-ghost use Rattle.box_tree.specs.Edits.{is_fail, SetsBoxes, SetsGoals, SetsRows, AddsOnly, Becomes, Clears, named_atoms, boxes_with, goals_with, atoms_with, choice_row, home_if_empty};
+ghost use Rattle.box_tree.specs.Edits.{is_fail, SetsBoxes, SetsGoals, SetsRows, AddsOnly, Becomes, Clears, named_atoms, named_shapes, boxes_with, goals_with, shapes_with, choice_row, home_if_empty};
 
 use crate::entries::{BoxEntry, GoalEntry, Held};
+use crate::named::{IntoHeld, goal_set, push_names};
 use crate::step::NewBox;
 use crate::table::Table;
 use crate::telling::solved_when;
 use akl_terms::{Code, Goal, Name, Op};
 use std::alloc::{AllocError, Global};
-use std::collections::BTreeSet;
 
 // The names of boxes.
 fn box_names(alloc: Global, news: &[NewBox]) -> Result<Vec<Name>, AllocError>
@@ -25,16 +25,6 @@ fn box_names(alloc: Global, news: &[NewBox]) -> Result<Vec<Name>, AllocError>
         names.push(new.name)?;
     }
     Ok(names)
-}
-
-/// The names of goals come to the end of the names.
-pub(crate) fn push_names(goals: &[(Name, Goal)], names: &mut Vec<Name>) -> Result<(), AllocError>
-    ensures { OnOk result (names.new.items ≡ names.old.items ++ map (λ x. x.0) goals.now) }
-{
-    for (name, _) in goals {
-        names.push(*name)?;
-    }
-    Ok(())
 }
 
 // The names of boxes and of their goals.
@@ -68,18 +58,6 @@ pub(crate) fn first_fail(goals: &[(Name, Goal)]) -> Option<Name>
         }
     }
     None
-}
-
-// The names of goals as a set.
-pub(crate) fn goal_set(alloc: Global, goals: &[(Name, Goal)]) -> Result<BTreeSet<Name>, AllocError>
-    requires { IsIncreasing (map (λ x. x.0) goals.now) }
-    ensures { IfOk result (λ names. names.keys ≡ map (λ x. x.0) goals.now) }
-{
-    let mut names = BTreeSet::new(alloc);
-    for (name, _) in goals {
-        names.insert(*name)?;
-    }
-    Ok(names)
 }
 
 // Numbers with zeros behind them, up to a worker's own.
@@ -120,8 +98,8 @@ impl Table {
         Ok(next)
     }
 
-    // A goal's entry comes.
-    fn put_goal(&mut self, name: Name, entry: GoalEntry) -> Result<(), AllocError>
+    /// A goal's entry comes.
+    pub(crate) fn put_goal(&mut self, name: Name, entry: GoalEntry) -> Result<(), AllocError>
         ensures put { OnOk result (SetsGoals self.old self.new (set name (Some (goal_row self.old.program.templates.nodes entry)) (table_of self.old).goal_of)) }
         ensures only { AddsOnly self.old self.new (name ∷ []) }
     {
@@ -129,7 +107,7 @@ impl Table {
         Ok(())
     }
 
-    // A box's entry comes.
+    /// A box's entry comes.
     pub(crate) fn put_box(&mut self, name: Name, entry: BoxEntry) -> Result<(), AllocError>
         ensures put { OnOk result (SetsBoxes self.old self.new (set name (Some (box_row self.old.program.templates.nodes entry)) (table_of self.old).box_of)) }
         ensures only { AddsOnly self.old self.new (name ∷ []) }
@@ -138,22 +116,21 @@ impl Table {
         Ok(())
     }
 
-    // The goals of a new box come.
-    pub(crate) fn put_goals(
+    /// The goals of a new box come.
+    pub(crate) fn put_goals<T: IntoHeld>(
         &mut self,
         home: Name,
-        goals: Vec<(Name, Goal)>,
+        goals: Vec<(Name, T)>,
         number: u64,
     ) -> Result<(), AllocError>
-        ensures put { OnOk result (SetsGoals self.old self.new (atoms_with home number (named_atoms self.old.program.templates.nodes goals.items) (table_of self.old))) }
+        ensures put { OnOk result (SetsGoals self.old self.new (shapes_with home number (named_shapes T.held self.old.program.templates.nodes goals.items) (table_of self.old))) }
         ensures only { AddsOnly self.old self.new (map (λ x. x.0) goals.items) }
     {
         let mut left = goals;
         while let Some((name, goal)) = left.pop() {
-            let held = Held::Atom(goal);
             let entry = GoalEntry {
                 home,
-                held,
+                held: goal.into_held(),
                 changed: number,
             };
             self.put_goal(name, entry)?;

@@ -8,7 +8,8 @@ ghost use Rattle.box_tree.specs.Tables.{table_of, goals_in};
 ghost use Rattle.box_tree.specs.Edits.{SetsBoxes, SetsRows, AddsOnly, Becomes, AreNew, less_names, named_row, named_atoms, atoms_with};
 ghost use Rattle.box_tree.specs.Drops.{IsOfRun};
 
-use crate::forking::{first_fail, push_names};
+use crate::forking::first_fail;
+use crate::named::push_names;
 use crate::table::Table;
 use akl_terms::{Goal, Name};
 use local_store::{Shared, Store};

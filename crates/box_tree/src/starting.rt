@@ -9,7 +9,8 @@ ghost use Rattle.box_tree.specs.Tables.{table_of, shown_tree, HasVariables, HasS
 ghost use Rattle.box_tree.specs.Starts.{query_frame, goals_from, IsFirstEntry, IsEmpty};
 
 use crate::entries::BoxEntry;
-use crate::forking::{first_fail, goal_set};
+use crate::forking::first_fail;
+use crate::named::goal_set;
 use crate::table::Table;
 use akl_terms::{Goal, Name, Program, Query, ShownTerm, Term};
 use local_store::{Shared, Store};

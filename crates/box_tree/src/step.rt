@@ -60,4 +60,10 @@ pub enum Step {
     Refute,
     /// The goal goes, and the box keeps its store.
     Confirm,
+    /// The box becomes two: the choice of the label's alternative keeps this alone, and the copies come, in any order, of
+    /// the box and of the boxes inside it but the alternative. What holds the box gets the box's own copy after it.
+    Split {
+        copy: Name,
+        copies: Vec<BoxCopy>,
+    },
 }

@@ -52,6 +52,17 @@ fn alternative_at(label: Label) -> Result<(Name, Name), AllocError>
     }
 }
 
+// The box of a label, and the alternative that it names.
+fn split_at(label: Label) -> Result<(Name, Name), AllocError>
+    ensures { IfOk result (λ x. (label.place ≡ Place.Box x.0) × (label.alternative ≡ Some x.1)) }
+{
+    let name = box_at(label.place)?;
+    match label.alternative {
+        Some(alternative) => Ok((name, alternative)),
+        None => Err(AllocError),
+    }
+}
+
 /// Boxes and goals by name. It remembers in no bytes the program and the query with which it was started.
 ///
 /// An entry goes when its box or its goal goes.
@@ -227,7 +238,8 @@ impl Table {
 
     /// Makes the step of a label that draws so many names. `at` is how many labels there are, where the step was
     /// planned over this very table. An `Err` leaves the table as it was; it comes for want of memory, where a count
-    /// would pass its word, and from a fork, a cut or a promotion of a goal that isn't there.
+    /// would pass its word, from a fork, a cut or a promotion of a goal that isn't there, and from a split where no choice
+    /// holds the alternative or the same one holds the box.
     pub fn apply(
         &mut self,
         alloc: Global,
@@ -282,6 +294,12 @@ impl Table {
                 let goal = goal_at(label.place)?;
                 self.confirm(goal, number);
                 Ok(())
+            }
+            Step::Split { copy, copies } => {
+                let (name, other) = split_at(label)?;
+                self.split(
+                    alloc, name, other, copy, copies, at, number, worker, names,
+                )
             }
         }
     }

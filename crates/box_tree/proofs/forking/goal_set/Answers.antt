@@ -1,5 +1,0 @@
-use Rattle.box_tree.proofs.Numbers.{keys_more}
-use Rattle.box_tree.proofs.forking.goal_set.Goals as goal
-
-pub loop-name-preserved : goal.loop-name-preserved
-loop-name-preserved c = keys_more c.args.goals.now c.loop-name.name-index _ c.loop-name.names.keys c.insert.new.self.keys c.in_ok-insert.ensures.keys c.loop-name.invariant c.loop-name-test.true c.requires

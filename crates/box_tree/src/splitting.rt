@@ -1,0 +1,243 @@
+//! A box becomes two: in the first a choice keeps an alternative alone, and the second is the copy of the box without it.
+
+ghost use Rattle.std.specs.Prelude.{◌≡◌, ◌+◌, ◌∷◌, ◌++◌, List, [], map, Option, option_map, IfOk, IfErr, OnOk};
+ghost use Rattle.akl_terms.specs.declared.term.Node.{Node};
+ghost use Rattle.akl_model.specs.Config.{or_else};
+ghost use Rattle.akl_model.specs.Ordered.{IsIncreasing};
+ghost use Rattle.table_laws.specs.Writes.{name_after, names_copied, IsFresh, Splits};
+ghost use Rattle.box_tree.specs.Tables.{table_of, box_copy, AreCopiesInOrder};
+ghost use Rattle.box_tree.specs.Edits.{SetsRows, AddsOnly};
+ghost use Rattle.box_tree.specs.Drops.{IsOfRun};
+ghost use Rattle.box_tree.specs.Splits.{copies_with, copied_goals_with, IsHolderOf, Holds, is_choice};
+
+use crate::cutting::parted;
+use crate::entries::BoxEntry;
+use crate::named::{goal_set, push_names};
+use crate::starting::after;
+use crate::step::BoxCopy;
+use crate::table::Table;
+use crate::telling::solved_when;
+use crate::view::Sight;
+use akl_terms::{Name, Op, Place};
+use std::alloc::{AllocError, Global};
+
+/// What holds a box, with the names that it has once a copy stands after the box.
+#[derive(Drop)]
+pub(crate) enum Holder {
+    Roots(Vec<Name>),
+    Choice {
+        goal: Name,
+        op: Op,
+        names: Vec<Name>,
+    },
+}
+
+impl Holder {
+    // Whether it is this choice.
+    fn is_choice(&self, choice: Name) -> bool
+        ensures { result ≡ is_choice self.now choice }
+    {
+        match self {
+            Holder::Roots(_) => false,
+            Holder::Choice { goal, .. } => *goal == choice,
+        }
+    }
+}
+
+// Names with a copy's name after that of its box.
+fn name_after(
+    alloc: Global,
+    names: &[Name],
+    name: Name,
+    copy: Name,
+) -> Result<Vec<Name>, AllocError>
+    ensures { IfOk result (λ v. v.items ≡ name_after name copy names.now) }
+{
+    let mut all = Vec::new(alloc);
+    let mut passed = false;
+    for other in names {
+        let here = !passed && name == *other;
+        all.push(*other)?;
+        if here {
+            all.push(copy)?;
+        }
+        passed = passed || here;
+    }
+    Ok(all)
+}
+
+// What holds a copy: the choice that does, and else what holds the box that is split.
+fn holder_or(own: Option<Name>, holder: Option<Name>) -> Option<Name>
+    ensures { result ≡ or_else own holder }
+{
+    match own {
+        Some(goal) => Some(goal),
+        None => holder,
+    }
+}
+
+// How many labels there are once a copy is made of a store that was solved when there were so many.
+fn one_later(at: Option<u64>) -> Result<Option<u64>, AllocError>
+    ensures { IfOk result (λ later. later ≡ option_map (λ k. k + 1) at) }
+{
+    match at {
+        Some(labels) => {
+            let later = after(labels)?;
+            Ok(Some(later))
+        }
+        None => Ok(None),
+    }
+}
+
+// The names of copies and of their goals.
+fn copied_names(alloc: Global, copies: &[BoxCopy]) -> Result<Vec<Name>, AllocError>
+    ensures { IfOk result (λ names. (nodes : List Node) → names.items ≡ names_copied (map (box_copy nodes) copies.now)) }
+{
+    let mut names = Vec::new(alloc);
+    for copy in copies {
+        names.push(copy.name)?;
+        push_names(copy.goals.as_slice(), &mut names)?;
+    }
+    Ok(names)
+}
+
+impl Table {
+    // A copy comes, with its goals.
+    fn put_copy(
+        &mut self,
+        alloc: Global,
+        holder: Option<Name>,
+        copy: BoxCopy,
+        at: Option<u64>,
+        number: u64,
+    ) -> Result<(), AllocError>
+        requires { IsIncreasing (map (λ x. x.0) copy.goals.items) }
+        ensures put { OnOk result (SetsRows self.old self.new (copies_with holder at number (box_copy self.old.program.templates.nodes copy ∷ []) (table_of self.old)) (copied_goals_with number (box_copy self.old.program.templates.nodes copy ∷ []) (table_of self.old))) }
+        ensures only { AddsOnly self.old self.new (copy.name ∷ map (λ x. x.0) copy.goals.items) }
+    {
+        let BoxCopy {
+            name,
+            holder: own,
+            store,
+            solved,
+            goals,
+            body,
+            shown,
+        } = copy;
+        let names = goal_set(alloc, goals.as_slice())?;
+        self.put_goals(name, goals, number)?;
+        let entry = BoxEntry {
+            holder: holder_or(own, holder),
+            store,
+            changed: number,
+            solved_at: solved_when(at, solved),
+            goals: names,
+            goals_changed: number,
+            failing: None,
+            body,
+            shown,
+        };
+        self.put_box(name, entry)?;
+        Ok(())
+    }
+
+    // Copies come, with their goals.
+    fn put_copies(
+        &mut self,
+        alloc: Global,
+        holder: Option<Name>,
+        copies: Vec<BoxCopy>,
+        at: Option<u64>,
+        number: u64,
+    ) -> Result<(), AllocError>
+        requires { AreCopiesInOrder (map (box_copy self.old.program.templates.nodes) copies.items) }
+        ensures put { OnOk result (SetsRows self.old self.new (copies_with holder at number (map (box_copy self.old.program.templates.nodes) copies.items) (table_of self.old)) (copied_goals_with number (map (box_copy self.old.program.templates.nodes) copies.items) (table_of self.old))) }
+        ensures only { AddsOnly self.old self.new (names_copied (map (box_copy self.old.program.templates.nodes) copies.items)) }
+    {
+        let mut left = copies;
+        while let Some(copy) = left.pop() {
+            self.put_copy(alloc, holder, copy, at, number)?;
+        }
+        Ok(())
+    }
+
+    // What holds a box, with the names that it has once a copy stands after the box.
+    fn held_beside(&self, alloc: Global, name: Name, copy: Name) -> Result<Holder, AllocError>
+        ensures { IfOk result (IsHolderOf self.now name copy) }
+    {
+        let Some(goal) = self.holder_of(name) else {
+            let names = name_after(alloc, self.roots(), name, copy)?;
+            return Ok(Holder::Roots(names));
+        };
+        let Some((_, Sight::Choice { op })) = self.sight_of(Place::Goal(goal)) else {
+            return Err(AllocError);
+        };
+        let names = name_after(alloc, self.alternatives_of(goal), name, copy)?;
+        Ok(Holder::Choice { goal, op, names })
+    }
+
+    // What holds a box gets these names. It takes no memory.
+    fn hold(&mut self, holder: Holder, number: u64)
+        ensures { Holds self.old self.new number holder }
+    {
+        match holder {
+            Holder::Roots(names) => {
+                self.roots = names;
+                self.roots_changed = number;
+            }
+            Holder::Choice { goal, op, names } => self.make_choice(goal, op, names, number),
+        }
+    }
+
+    /// A box becomes two at an alternative: the choice that holds this keeps it alone, and the copies come, for which a
+    /// worker draws so many names. An `Err` leaves the table as it was; it comes for want of memory, where a count would
+    /// pass its word, and where no choice holds the alternative or the same one holds the box.
+    pub(crate) fn split(
+        &mut self,
+        alloc: Global,
+        name: Name,
+        alternative: Name,
+        copy: Name,
+        copies: Vec<BoxCopy>,
+        at: Option<u64>,
+        number: u64,
+        worker: u32,
+        count: u64,
+    ) -> Result<(), AllocError>
+        requires number { number ≡ self.old.steps + 1 }
+        requires run { IsOfRun self.old }
+        requires fresh { IsFresh (table_of self.old) (names_copied (map (box_copy self.old.program.templates.nodes) copies.items)) }
+        requires ordered { AreCopiesInOrder (map (box_copy self.old.program.templates.nodes) copies.items) }
+        ensures program { OnOk result (self.new.program ≡ self.old.program) }
+        ensures query { OnOk result (self.new.query ≡ self.old.query) }
+        ensures splits { OnOk result (Splits (table_of self.old) (table_of self.new) name alternative copy (map (box_copy self.old.program.templates.nodes) copies.items) at worker count) }
+        ensures unchanged { IfErr result (λ _. self.new ≡ self.old) }
+    {
+        let Some(choice) = self.holder_of(alternative) else {
+            return Err(AllocError);
+        };
+        let Some((_, Sight::Choice { op })) = self.sight_of(Place::Goal(choice)) else {
+            return Err(AllocError);
+        };
+        let held = self.held_beside(alloc, name, copy)?;
+        if held.is_choice(choice) {
+            return Err(AllocError);
+        }
+        let (alone, others) = parted(alloc, Op::Commit, alternative, self.alternatives_of(choice))?;
+        let inside = self.inside_each(alloc, others.as_slice())?;
+        let drawn = copied_names(alloc, copies.as_slice())?;
+        let next = self.raised(alloc, worker, count)?;
+        let later = one_later(at)?;
+        let holder = self.holder_of(name);
+        let Ok(()) = self.put_copies(alloc, holder, copies, later, number) else {
+            self.drop_entries(drawn.as_slice());
+            return Err(AllocError);
+        };
+        self.make_choice(choice, op, alone, number);
+        self.hold(held, number);
+        self.drop_boxes(&inside);
+        self.next = next;
+        self.steps = number;
+        Ok(())
+    }
+}
