@@ -1,12 +1,11 @@
 -- A box becomes two.
-use Rattle.std.proofs.Common.{◌≡◌, ℕ, ◌+◌, ◌≤◌, Bool, true, false, List, [], ◌∷◌, ◌++◌, map, slice_index, Option, Some, None, refl, sym, ap, subst, ◌∙◌, inl, inr}
+use Rattle.std.proofs.Common.{◌≡◌, ℕ, ◌+◌, ◌≤◌, Bool, true, false, List, [], ◌∷◌, map, slice_index, Option, Some, None, refl, sym, ap, subst, ◌∙◌, inl, inr}
 use Rattle.std.specs.Prelude.{if◌then◌else◌, option_map}
 use Rattle.std.specs.Map.{lookup}
 use Rattle.akl_terms.specs.declared.name.Name.{Name}
 use Rattle.akl_terms.specs.declared.name.Place.{Place}
 use Rattle.akl_terms.specs.declared.program.Op.{Op}
 use Rattle.akl_terms.specs.declared.program.Program.{Program}
-use Rattle.akl_terms.specs.declared.program.Query.{Query}
 use Rattle.akl_terms.specs.Names.{same_name}
 use Rattle.akl_terms.proofs.SameNames.{same_name-equal}
 use Rattle.akl_model.specs.Config.{IsIn, Boxes, Config, Held as Held_in, a_choice, held_in, Found, or_else, home_of}
@@ -19,11 +18,11 @@ use Rattle.akl_model.proofs.Scoped.{IsIn-left, IsIn-right}
 use Rattle.step_laws.specs.Holders.{IsAlternativeAt}
 use Rattle.step_laws.proofs.Holders.{alternative_at}
 use Rattle.table_laws.specs.Rows.{BoxRow, GoalRow, Table}
-use Rattle.table_laws.specs.Unfolds.{Unfolds, IsBoxRow, Spot, spot_in, spot_of}
+use Rattle.table_laws.specs.Unfolds.{IsBoxRow, spot_in, spot_of}
 use Rattle.table_laws.specs.Inside.{IsDirectlyIn, IsAlternativeOf, IsInside, itself, further}
 use Rattle.table_laws.specs.Walks.{alternatives_in, alternatives_of, ListsEach}
 use Rattle.table_laws.specs.Steps as laws
-use Rattle.table_laws.specs.Writes.{set, less_name, name_alone, name_after, names_copied, copied_row, copied_goal_of, shape_among, alone_shape, alone_row, beside_shape, beside_row, others_in, others_from, others_beside, changed_goal, goal_at, holder_in_row, if_root, IsFresh, IsInsideOne, IsGoalInsideOne, Splits}
+use Rattle.table_laws.specs.Writes.{set, less_name, name_alone, name_after, names_copied, copied_row, copied_goal_of, shape_among, alone_shape, alone_row, beside_shape, beside_row, others_in, others_from, others_beside, changed_goal, goal_at, holder_in_row, if_root, IsFresh, Splits}
 use Rattle.table_laws.proofs.Frame.{row_of}
 use Rattle.table_laws.proofs.Insides.{choice_of}
 use Rattle.table_laws.proofs.RestBoxes.{less_among}

@@ -116,7 +116,7 @@ impl Table {
         Ok(())
     }
 
-    /// The goals of a new box come.
+    /// The goals of a box come.
     pub(crate) fn put_goals<T: IntoHeld>(
         &mut self,
         home: Name,

@@ -297,9 +297,7 @@ impl Table {
             }
             Step::Split { copy, copies } => {
                 let (name, other) = split_at(label)?;
-                self.split(
-                    alloc, name, other, copy, copies, at, number, worker, names,
-                )
+                self.split(alloc, name, other, copy, copies, at, number, worker, names)
             }
         }
     }

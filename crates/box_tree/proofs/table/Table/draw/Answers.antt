@@ -1,4 +1,4 @@
-use Rattle.std.proofs.Common.{◌≡◌, ℕ, refl, sym, subst, arith}
+use Rattle.std.proofs.Common.{◌≡◌, ℕ, refl, subst, arith}
 use Rattle.std.specs.Prelude.{slice_index}
 use Rattle.akl_model.specs.Derivations.{raised}
 use Rattle.box_tree.proofs.Numbers.{raised_none}
