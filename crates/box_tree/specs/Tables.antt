@@ -28,9 +28,9 @@ use Rattle.box_tree.specs.declared.step.NewBox.{NewBox}
 use Rattle.box_tree.specs.declared.step.BoxCopy.{BoxCopy}
 use Rattle.box_tree.specs.declared.step.Step.{Step}
 
--- the rules that are built
+-- all rules of the language
 abbrev pub rules_in_force : List Rule
-rules_in_force = Rule.Tell ∷ Rule.Fork ∷ Rule.Fail ∷ Rule.Cut ∷ Rule.Promote ∷ Rule.Eval ∷ Rule.Open ∷ []
+rules_in_force = Rule.Tell ∷ Rule.Fork ∷ Rule.Fail ∷ Rule.Cut ∷ Rule.Promote ∷ Rule.Eval ∷ Rule.Open ∷ Rule.Send ∷ Rule.Split ∷ []
 
 -- the atom of a goal
 abbrev pub goal_atom : List Node → Goal → Atom

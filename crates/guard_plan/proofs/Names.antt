@@ -23,10 +23,10 @@ use Rattle.local_store.specs.Promoting.{with_frames, with_ports, named_too}
 use Rattle.local_store.proofs.Orders.{name-same}
 use Rattle.table_laws.specs.Rows.{ports_in}
 
-name_before : (a b : Name) → is_lt (name_cmp a b) ≡ is_before a b
+pub name_before : (a b : Name) → is_lt (name_cmp a b) ≡ is_before a b
 name_before a b = grind (arith, nat_tests)
 
-named_with : (ms : List Name) (n : Name) → named ms n ≡ with_name n ms
+pub named_with : (ms : List Name) (n : Name) → named ms n ≡ with_name n ms
 named_with [] n = refl
 named_with (m ∷ ms) n = on (name_cmp n m) (same_name n m) (is_before n m) (name-same n m) (name_before n m) (named_with ms n)
   where

@@ -1,4 +1,4 @@
--- The rules that are planned are in force, and Send and Split aren't.
+-- The rules that are planned are in force, and Split isn't.
 use Rattle.std.proofs.Common.{refl, inl, inr}
 use Rattle.akl_model.specs.declared.label.Rule.{Rule}
 use Rattle.akl_model.specs.Derivations.{IsInForce}
@@ -16,22 +16,5 @@ eval_in_force = inr (inr (inr (inr (inr (inl refl)))))
 pub open_in_force : IsInForce rules_in_force Rule.Open
 open_in_force = inr (inr (inr (inr (inr (inr (inl refl))))))
 
-pub no_send : IsInForce rules_in_force Rule.Send → ⊥
-no_send (inl e) = cc
-no_send (inr (inl e)) = cc
-no_send (inr (inr (inl e))) = cc
-no_send (inr (inr (inr (inl e)))) = cc
-no_send (inr (inr (inr (inr (inl e))))) = cc
-no_send (inr (inr (inr (inr (inr (inl e)))))) = cc
-no_send (inr (inr (inr (inr (inr (inr (inl e))))))) = cc
-no_send (inr (inr (inr (inr (inr (inr (inr z))))))) = z
-
-pub no_split : IsInForce rules_in_force Rule.Split → ⊥
-no_split (inl e) = cc
-no_split (inr (inl e)) = cc
-no_split (inr (inr (inl e))) = cc
-no_split (inr (inr (inr (inl e)))) = cc
-no_split (inr (inr (inr (inr (inl e))))) = cc
-no_split (inr (inr (inr (inr (inr (inl e)))))) = cc
-no_split (inr (inr (inr (inr (inr (inr (inl e))))))) = cc
-no_split (inr (inr (inr (inr (inr (inr (inr z))))))) = z
+pub send_in_force : IsInForce rules_in_force Rule.Send
+send_in_force = inr (inr (inr (inr (inr (inr (inr (inl refl)))))))

@@ -7,7 +7,10 @@ pub mod ToldGoals
 pub mod TellRight
 pub mod EvalRight
 pub mod OpenRight
+pub mod SendRight
 pub mod FailRight
 pub mod Framed
 pub mod NewBoxes
 pub mod ForkRight
+pub mod FramesAndPorts
+pub mod Solving

@@ -1,3 +1,4 @@
 pub mod Made
 pub mod Failed
 pub mod AtGoals
+pub mod Solving

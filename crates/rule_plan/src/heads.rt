@@ -41,7 +41,7 @@ pub(crate) fn head_equations(
 }
 
 // The node so many after the first. No program has as many nodes as there are numbers.
-fn node_after(first: u32, index: u32) -> Result<u32, AllocError>
+pub(crate) fn node_after(first: u32, index: u32) -> Result<u32, AllocError>
     ensures { IfOk result (λ node. node ≡ first + index) }
 {
     first.checked_add(index).ok_or(AllocError)

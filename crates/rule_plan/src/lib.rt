@@ -11,6 +11,8 @@ mod labels;
 mod names;
 mod opening;
 mod planning;
+mod sending;
+mod stores;
 mod telling;
 
 pub use planning::plan;

@@ -11,6 +11,7 @@ use crate::failing::fail;
 use crate::forking::fork;
 use crate::heads::Call;
 use crate::opening::open;
+use crate::sending::{Message, send};
 use crate::telling::tell;
 use akl_terms::{Code, Goal, Name, Place, Program};
 use box_tree::{Plan, Sight, View};
@@ -76,7 +77,14 @@ fn plan_atom(
             };
             fork(alloc, program, view, goal, definition, call)
         }
-        Code::Send { .. } => Ok(None),
+        Code::Send { message, port } => {
+            let message = Message {
+                message,
+                port,
+                frame: atom.frame,
+            };
+            send(alloc, program, view, goal, message)
+        }
         Code::Fail => Ok(None),
     }
 }
