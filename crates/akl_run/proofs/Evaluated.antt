@@ -12,7 +12,7 @@ use Rattle.akl_model.specs.Rules.{count_of}
 use Rattle.akl_model.specs.Derivations.{IsQuietEnd, AreAnswers, Outcome, done, failed, suspended, out_of_budget, HasOutcome, is_out_of_budget, is_suspended, is_failed, is_done}
 use Rattle.akl_model.specs.Derivations as derivations
 use Rattle.clause_store.specs.Loaded.{IsQueryOf}
-use Rattle.box_tree.specs.Tables.{rules_in_force, HasShownVariables, AreBelow}
+use Rattle.box_tree.specs.Tables.{all_rules, HasShownVariables, AreBelow}
 use Rattle.step_commit.specs.Cores.{CoreValue, IsCore}
 use Rattle.seq_engine.specs.declared.run.End.{End}
 use Rattle.seq_engine.specs.declared.run.Finished.{Finished}
@@ -52,22 +52,22 @@ few_answers (derivations.one_more a x) = let h = few_answers x in omega (arith, 
 few_answers (derivations.another n x) = let h = few_answers x in omega (arith, h)
 
 module _ (c : CoreValue) (t : TableIn c) (answers : List Content) (a : AreAnswers t.config.roots answers) where
-  quiet_outcome : (roots : ℕ) → count_of t.config.roots ≡ roots → length answers ≤ roots → IsQuietEnd rules_in_force c.table.program t.config → HasOutcome rules_in_force c.table.program c.budget (length c.journal) t.config answers (outcome_by (ending_by End.Quiet roots (length answers)))
+  quiet_outcome : (roots : ℕ) → count_of t.config.roots ≡ roots → length answers ≤ roots → IsQuietEnd all_rules c.table.program t.config → HasOutcome all_rules c.table.program c.budget (length c.journal) t.config answers (outcome_by (ending_by End.Quiet roots (length answers)))
   quiet_outcome roots e few q = on (nat_lt (length answers) roots) refl
     where
-      left : (k : ℕ) → roots - length answers ≡ k → length answers < roots → HasOutcome rules_in_force c.table.program c.budget (length c.journal) t.config answers (suspended k)
+      left : (k : ℕ) → roots - length answers ≡ k → length answers < roots → HasOutcome all_rules c.table.program c.budget (length c.journal) t.config answers (suspended k)
       left zero i h = absurd (omega (arith, i, h))
       left (suc k) i h = is_suspended q a (let g : count_of t.config.roots ≡ length answers + suc k = omega (arith, e, i, h) in g)
 
-      whole : (n : ℕ) → roots ≡ n → length answers ≡ n → HasOutcome rules_in_force c.table.program c.budget (length c.journal) t.config answers (outcome_by (cond (n == 0) Ending.Failed Ending.Done))
+      whole : (n : ℕ) → roots ≡ n → length answers ≡ n → HasOutcome all_rules c.table.program c.budget (length c.journal) t.config answers (outcome_by (cond (n == 0) Ending.Failed Ending.Done))
       whole zero i j = is_failed q a (e ∙ i)
-      whole (suc n) i j = subst (λ (b : Bool). HasOutcome rules_in_force c.table.program c.budget (length c.journal) t.config answers (outcome_by (cond b Ending.Failed Ending.Done))) (sym (not_zero n)) (is_done {k = n} q a (e ∙ i) j)
+      whole (suc n) i j = subst (λ (b : Bool). HasOutcome all_rules c.table.program c.budget (length c.journal) t.config answers (outcome_by (cond b Ending.Failed Ending.Done))) (sym (not_zero n)) (is_done {k = n} q a (e ∙ i) j)
         where
           not_zero : (n : ℕ) → (suc n == 0) ≡ false
           not_zero n = grind (arith, nat_tests)
 
       on : (b : Bool) → nat_lt (length answers) roots ≡ b
-          → HasOutcome rules_in_force c.table.program c.budget (length c.journal) t.config answers (outcome_by (cond b (Ending.Suspended (roots - length answers)) (cond (roots == 0) Ending.Failed Ending.Done)))
+          → HasOutcome all_rules c.table.program c.budget (length c.journal) t.config answers (outcome_by (cond b (Ending.Suspended (roots - length answers)) (cond (roots == 0) Ending.Failed Ending.Done)))
       on true i = left (roots - length answers) refl (below i)
         where
           below : nat_lt (length answers) roots ≡ true → length answers < roots
@@ -77,7 +77,7 @@ module _ (c : CoreValue) (t : TableIn c) (answers : List Content) (a : AreAnswer
           not_below : nat_lt (length answers) roots ≡ false → roots ≤ length answers
           not_below i = grind (arith, nat_tests)
 
-  pub has_outcome : (end : End) → EndsAs c end → HasOutcome rules_in_force c.table.program c.budget (length c.journal) t.config answers (outcome_by (ending_by end (length c.table.roots) (length answers)))
+  pub has_outcome : (end : End) → EndsAs c end → HasOutcome all_rules c.table.program c.budget (length c.journal) t.config answers (outcome_by (ending_by end (length c.table.roots) (length answers)))
   has_outcome End.Spent s = let w = s.1 t in is_out_of_budget w.0 s.0 a w.1
   has_outcome End.Quiet s =
       let roots : count_of t.config.roots ≡ length c.table.roots = sym (ap length t.unfolds.roots ∙ count_names t.config.roots) in

@@ -35,7 +35,7 @@ use Rattle.box_tree.specs.declared.inside.InnerGoal.{InnerGoal}
 use Rattle.box_tree.specs.declared.inside.InnerBox.{InnerBox}
 use Rattle.box_tree.specs.declared.inside.Inside.{Inside}
 use Rattle.box_tree.specs.declared.step.BoxCopy.{BoxCopy}
-use Rattle.box_tree.specs.Tables.{rules_in_force, table_of, goal_atom, shown_tree, box_copy}
+use Rattle.box_tree.specs.Tables.{all_rules, table_of, goal_atom, shown_tree, box_copy}
 use Rattle.box_tree.specs.Views.{ViewValue, IsViewOf, run_of}
 use Rattle.box_tree.specs.Insides.{IsInnerBox, IsInsideOf}
 use Rattle.box_copies.specs.declared.names.NewNames.{NewNames}
@@ -79,7 +79,7 @@ module _ (v : ViewValue) (seen : IsViewOf v) (i : Inside) (n a : Name) (inside :
   some = kept a boxes
 
   stand : Stand seen.table.config
-  stand = replay-stands rules_in_force v.table.program v.table.query v.journal seen.table.config seen.table.replays
+  stand = replay-stands all_rules v.table.program v.table.query v.journal seen.table.config seen.table.replays
 
   abbrev is_inner : (b : InnerBox) → Among b some → IsInnerBox v.table b
   is_inner b j = all_among (IsInnerBox v.table) boxes b inside.boxes (among_kept a b boxes j).0
@@ -208,7 +208,7 @@ module _ (v : ViewValue) (seen : IsViewOf v) (i : Inside) (n a : Name) (inside :
 
       ordered : IsIncreasing e.0.content.frames × IsIncreasing (port_names e.0.content.ports)
       ordered = found_ordered e.0.around e.0.content e.0.goals seen.table.config.roots (found_in b.name seen.table.config.roots e.0 e.1)
-          (replay_ordered rules_in_force v.table.program v.table.query v.journal seen.table.config seen.table.replays)
+          (replay_ordered all_rules v.table.program v.table.query v.journal seen.table.config seen.table.replays)
 
       frames_in_order : IsIncreasing b.store.frames
       frames_in_order = subst IsIncreasing (sym (ap (λ (t : Stored). t.frames) x.store ∙ e.2.frames)) ordered.0
@@ -243,7 +243,7 @@ module _ (v : ViewValue) (seen : IsViewOf v) (i : Inside) (n a : Name) (inside :
 
       alternatives_once : times_in a (alternatives_among T (map (λ (g : InnerGoal). g.name) b.goals.items)) ≤ 1
       alternatives_once = subst (λ (l : List Name). times_in a l ≤ 1) (ap (boxes_in_row T) x.there ∙ ap (alternatives_among T) (sym x.goals))
-          ((nested rules_in_force (run_of v.table v.journal) T seen.table n).boxes_once b.name (is_copied b j).inside a)
+          ((nested all_rules (run_of v.table v.journal) T seen.table n).boxes_once b.name (is_copied b j).inside a)
 
       pub made_of : IsMadeOf T n a swap b.name x.row (box_copy nodes k)
       made_of = record {

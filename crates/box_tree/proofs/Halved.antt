@@ -31,7 +31,7 @@ use Rattle.box_tree.specs.declared.entries.Held.{Held}
 use Rattle.box_tree.specs.declared.entries.GoalEntry.{GoalEntry}
 use Rattle.box_tree.specs.declared.splitting.Holder.{Holder}
 use Rattle.box_tree.specs.declared.view.Sight.{Sight}
-use Rattle.box_tree.specs.Tables.{rules_in_force, TableValue, table_of, goal_row, shape_held}
+use Rattle.box_tree.specs.Tables.{all_rules, TableValue, table_of, goal_row, shape_held}
 use Rattle.box_tree.specs.Edits.{SetsGoals, SetsRows, choice_row}
 use Rattle.box_tree.specs.Drops.{IsOfRun, DropsBoxes}
 use Rattle.box_tree.specs.Paths.{sight_held, sight_in}
@@ -44,7 +44,7 @@ module _ (t : TableValue) (run : IsOfRun t) where
   alternative_there : (g m : Name) → IsAlternativeOf (table_of t) g m → (r : BoxRow) × ((table_of t).box_of m ≡ Some r)
   alternative_there g m x =
       let c : Config = run.1.config in
-      let once : (k : Name) → times k c.roots ≤ 1 = (replay-stands rules_in_force run.0.program run.0.query run.0.journal c run.1.replays).once in
+      let once : (k : Name) → times k c.roots ≤ 1 = (replay-stands all_rules run.0.program run.0.query run.0.journal c run.1.replays).once in
       let s : spot_in g c.roots ≡ Some (spot_of x.row) = sym (run.1.unfolds.goals g) ∙ ap (option_map spot_of) x.there in
       let w : (f : Found) × (h : Held_in) × (home_of g c.roots ≡ Some f) × (held_in g f.goals ≡ Some h) × (f.content.name ≡ x.row.home) × (shape_of h ≡ x.row.shape) = spot_found g c.roots (spot_of x.row) s in
       let b : (bs : Boxes) × (w.1 ≡ a_choice x.op bs) × (box_names bs ≡ x.alternatives) = choice_of w.1 x.op x.alternatives (w.5 ∙ x.choice) in

@@ -20,7 +20,7 @@ use Rattle.table_laws.specs.Unfolds.{IsBoxRow}
 use Rattle.table_laws.specs.Writes.{set, home_in, home_or, less_name, changed_box, told_row, promoted_row, first_fail, or_fails, atom_among, after_promote, IsFresh}
 use Rattle.table_laws.proofs.Frame.{found_of}
 use Rattle.table_laws.proofs.Insides.{goal_row, held_directly}
-use Rattle.box_tree.specs.Tables.{TableValue, table_of, goals_in, rules_in_force}
+use Rattle.box_tree.specs.Tables.{TableValue, table_of, goals_in, all_rules}
 use Rattle.box_tree.specs.Edits.{SetsBoxes, SetsGoals, SetsRows, Becomes, AreNew, named_row, named_atoms, atoms_with}
 use Rattle.box_tree.specs.Drops.{IsOfRun}
 use Rattle.box_tree.proofs.GoalsInOrder.{names_increase, stood_ordered}
@@ -30,12 +30,12 @@ use Rattle.box_tree.proofs.Naming.{less_with_names}
 
 module _ (t : TableValue) (run : IsOfRun t) where
   once : (m : Name) → times m run.1.config.roots ≤ 1
-  once = (replay-stands rules_in_force run.0.program run.0.query run.0.journal run.1.config run.1.replays).once
+  once = (replay-stands all_rules run.0.program run.0.query run.0.journal run.1.config run.1.replays).once
 
   pub goals_increase : (home : Name) (r : BoxRow) → (table_of t).box_of home ≡ Some r → IsIncreasing r.goals
   goals_increase home r e =
       let w : (f : Found) × (box_at home run.1.config.roots ≡ Some f) × IsBoxRow (table_of t) run.1.config.roots f r = found_of (table_of t) run.1.config run.1.unfolds home r e in
-      let o : BoxesOrdered run.1.config.roots = replay_ordered rules_in_force run.0.program run.0.query run.0.journal run.1.config run.1.replays in
+      let o : BoxesOrdered run.1.config.roots = replay_ordered all_rules run.0.program run.0.query run.0.journal run.1.config run.1.replays in
       subst IsIncreasing (sym w.2.goals) (names_increase w.0.goals (stood_ordered w.0.around w.0.content w.0.goals run.1.config.roots (found_in home run.1.config.roots w.0 w.1) o))
 
   -- drawn names are no names of goals that are there

@@ -33,7 +33,7 @@ use Rattle.box_tree.specs.declared.entries.GoalEntry.{GoalEntry}
 use Rattle.box_tree.specs.declared.view.Alternative.{Alternative}
 use Rattle.box_tree.specs.declared.view.Sight.{Sight}
 use Rattle.box_tree.specs.Tables as tables
-use Rattle.box_tree.specs.Tables.{rules_in_force, TableValue, table_of, goal_atom, shape_held, goals_in, is_empty}
+use Rattle.box_tree.specs.Tables.{all_rules, TableValue, table_of, goal_atom, shape_held, goals_in, is_empty}
 use Rattle.box_tree.specs.Views.{run_of, Shows, alternatives_held, alternatives_at, IsSeen, AreSeen, only_body, IsViewOf, is_there}
 use Rattle.box_tree.specs.Paths.{IsPath, HasPath, sight_held, sight_in, known_in, latest_in, names_at, seen_as, body_in, body_of_only}
 use Rattle.box_tree.proofs.Looks.{stores_append}
@@ -171,9 +171,9 @@ module _ (t : TableValue) (c : Config) (u : Unfolds (table_of t) c) (once : (m :
   seen_at (Place.Goal g) (Sight.Box o) f e h = absurd h
   seen_at (Place.Box n) sight f e h = (tt, refl)
 
-module _ (t : TableValue) (journal : List Label) (i : IsTableOf rules_in_force (run_of t journal) (table_of t)) where
+module _ (t : TableValue) (journal : List Label) (i : IsTableOf all_rules (run_of t journal) (table_of t)) where
   stood : (m : Name) → times m i.config.roots ≤ 1
-  stood = (replay-stands rules_in_force t.program t.query journal i.config i.replays).once
+  stood = (replay-stands all_rules t.program t.query journal i.config i.replays).once
 
   key_there : (m : Name) (r : BoxRow) → (table_of t).box_of m ≡ Some r → IsSome (lookup (same_name m) t.boxes)
   key_there m r e = on (lookup (same_name m) t.boxes) e

@@ -6,11 +6,11 @@ use Rattle.table_laws.specs.Rows.{GoalRow, Table}
 use Rattle.table_laws.specs.Stamped.{Run, IsTableOf}
 use Rattle.table_laws.specs.Writes.{none_left}
 use Rattle.table_laws.specs.Walks.{Drops}
-use Rattle.box_tree.specs.Tables.{TableValue, table_of, rules_in_force}
+use Rattle.box_tree.specs.Tables.{TableValue, table_of, all_rules}
 
 -- a run has come to the table
 abbrev pub IsOfRun : TableValue → Type 0
-IsOfRun t = (run : Run) × IsTableOf rules_in_force run (table_of t)
+IsOfRun t = (run : Run) × IsTableOf all_rules run (table_of t)
 
 -- the rows of these goals go, and all else stays
 pub record DropsGoals (t u : TableValue) (goals : List Name) : Type 0 where

@@ -7,7 +7,7 @@ use Rattle.akl_model.specs.Derivations.{Applies}
 use Rattle.table_laws.specs.Stamped.{IsTableOf, stamp_in}
 use Rattle.table_laws.specs.Steps.{Makes, ReadsFor, IsSolvedIn}
 use Rattle.box_tree.specs.declared.step.Step.{Step}
-use Rattle.box_tree.specs.Tables.{rules_in_force, TableValue, table_of, step_of}
+use Rattle.box_tree.specs.Tables.{all_rules, TableValue, table_of, step_of}
 use Rattle.box_tree.specs.Views.{run_of}
 
 -- the table and the journal of the view that a plan was made of; its label, the items that it read, how many names it draws, and its step
@@ -25,9 +25,9 @@ IsRead (j ∷ js) i = (i ≡ j) ⊎ IsRead js i
 
 -- the label applies in the configuration to which the table unfolded, the step is what it makes there, and the plan has read what it must
 pub record IsRight (v : PlanValue) : Type 0 where
-  pub table : IsTableOf rules_in_force (run_of v.table v.journal) (table_of v.table)
+  pub table : IsTableOf all_rules (run_of v.table v.journal) (table_of v.table)
   pub result : Config
-  pub applies : Applies rules_in_force v.table.program table.config v.label result
+  pub applies : Applies all_rules v.table.program table.config v.label result
   pub makes : Makes v.table.program v.label (slice_index table.config.next v.label.worker) applies.site (step_of v.table.program.templates.nodes v.step)
   pub solved : IsSolvedIn (table_of v.table) applies.site (step_of v.table.program.templates.nodes v.step)
   pub names : v.names ≡ applies.change.drawn

@@ -29,8 +29,8 @@ use Rattle.box_tree.specs.declared.step.BoxCopy.{BoxCopy}
 use Rattle.box_tree.specs.declared.step.Step.{Step}
 
 -- all rules of the language
-abbrev pub rules_in_force : List Rule
-rules_in_force = Rule.Tell ∷ Rule.Fork ∷ Rule.Fail ∷ Rule.Cut ∷ Rule.Promote ∷ Rule.Eval ∷ Rule.Open ∷ Rule.Send ∷ Rule.Split ∷ []
+abbrev pub all_rules : List Rule
+all_rules = Rule.Tell ∷ Rule.Fork ∷ Rule.Fail ∷ Rule.Cut ∷ Rule.Promote ∷ Rule.Eval ∷ Rule.Open ∷ Rule.Send ∷ Rule.Split ∷ []
 
 -- the atom of a goal
 abbrev pub goal_atom : List Node → Goal → Atom
@@ -173,7 +173,7 @@ DrawsInOrder (laws.splits copy copies) = AreCopiesInOrder copies
 
 pub record MayApply (t : TableValue) (l : Label) (step : Step) : Type 0 where
   pub run : Run
-  pub table : IsTableOf rules_in_force run (table_of t)
+  pub table : IsTableOf all_rules run (table_of t)
   pub fits : FitsPlace l.place (step_of t.program.templates.nodes step) l.alternative
   pub fresh : DrawsFresh (table_of t) (step_of t.program.templates.nodes step)
   pub ordered : DrawsInOrder (step_of t.program.templates.nodes step)

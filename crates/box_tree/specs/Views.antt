@@ -16,7 +16,7 @@ use Rattle.table_laws.specs.Stamped.{Run, IsTableOf}
 use Rattle.box_tree.specs.declared.view.Alternative.{Alternative}
 use Rattle.box_tree.specs.declared.view.Sight.{Sight}
 use Rattle.box_tree.specs.declared.view.LookError.{LookError}
-use Rattle.box_tree.specs.Tables.{rules_in_force, goal_atom, is_empty, TableValue, table_of}
+use Rattle.box_tree.specs.Tables.{all_rules, goal_atom, is_empty, TableValue, table_of}
 
 -- what a view was taken of, the place and the worker; the worker's next number; the boxes down to the place's box, with their stores, and
 -- how many of the outermost are known to be solved together; and what stands at the place, of a choice with its alternatives and the body of
@@ -74,7 +74,7 @@ only_body (box b gs no_boxes) = b.body
 only_body bs = []
 
 pub record IsViewOf (v : ViewValue) : Type 0 where
-  pub table : IsTableOf rules_in_force (run_of v.table v.journal) (table_of v.table)
+  pub table : IsTableOf all_rules (run_of v.table v.journal) (table_of v.table)
   pub site : Found
   pub is_site : site_of v.place table.config.roots ≡ Some site
   pub next : v.next ≡ slice_index table.config.next v.worker

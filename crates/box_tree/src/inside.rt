@@ -5,7 +5,7 @@ ghost use Rattle.std.specs.List.{AllByRecursion};
 ghost use Rattle.akl_terms.specs.declared.name.Place.{Place};
 ghost use Rattle.akl_terms.specs.declared.term.Node.{Node};
 ghost use Rattle.table_laws.specs.Stamped.{IsTableOf};
-ghost use Rattle.box_tree.specs.Tables.{rules_in_force, table_of, shape_held};
+ghost use Rattle.box_tree.specs.Tables.{all_rules, table_of, shape_held};
 ghost use Rattle.box_tree.specs.Views.{run_of, is_there};
 ghost use Rattle.box_tree.specs.Insides.{IsInnerGoal, IsInnerBox, IsInsideOf};
 ghost use Rattle.box_tree.specs.Places.{goal_places, places_in, IsSeenBy};
@@ -177,7 +177,7 @@ impl Table {
         place: Place,
         worker: u32,
     ) -> Result<View, AllocError>
-        requires { IsTableOf rules_in_force (run_of self.now journal.now.items) (table_of self.now) }
+        requires { IsTableOf all_rules (run_of self.now journal.now.items) (table_of self.now) }
         ensures place { IfOk result (λ v. v.place ≡ place) }
         ensures seen { IfOk result (IsSeenBy self.now journal.now.items worker) }
     {
@@ -196,7 +196,7 @@ impl Table {
         places: &[Place],
         worker: u32,
     ) -> Result<Vec<View>, AllocError>
-        requires { IsTableOf rules_in_force (run_of self.now journal.now.items) (table_of self.now) }
+        requires { IsTableOf all_rules (run_of self.now journal.now.items) (table_of self.now) }
         ensures places { IfOk result (λ v. map (λ w. w.place) v.items ≡ places.now) }
         ensures seen { IfOk result (λ v. AllByRecursion (IsSeenBy self.now journal.now.items worker) v.items) }
     {
@@ -216,7 +216,7 @@ impl Table {
         name: Name,
         worker: u32,
     ) -> Result<Inside, AllocError>
-        requires table { IsTableOf rules_in_force (run_of self.now journal.now.items) (table_of self.now) }
+        requires table { IsTableOf all_rules (run_of self.now journal.now.items) (table_of self.now) }
         requires there { is_there (table_of self.now) (Place.Box name) ≡ true }
         ensures { IfOk result (IsInsideOf self.now journal.now.items name worker) }
     {

@@ -5,7 +5,7 @@ ghost use Rattle.akl_terms.specs.declared.name.Place.{Place};
 ghost use Rattle.table_laws.specs.Writes.{IsTable};
 ghost use Rattle.table_laws.specs.Laws.{started};
 ghost use Rattle.table_laws.specs.Stamped.{IsTableOf, stamp_in};
-ghost use Rattle.box_tree.specs.Tables.{rules_in_force, table_of, MayApply, Applied, HasVariables, HasShownVariables, goals_in, is_empty, shown_in, shown_trees_of};
+ghost use Rattle.box_tree.specs.Tables.{all_rules, table_of, MayApply, Applied, HasVariables, HasShownVariables, goals_in, is_empty, shown_in, shown_trees_of};
 ghost use Rattle.box_tree.specs.Paths.{sight_in};
 ghost use Rattle.box_tree.specs.Views.{run_of, is_there, IsUnseen, IsViewOf, AreAllPlaces};
 
@@ -97,7 +97,7 @@ impl Table {
         place: Place,
         worker: u32,
     ) -> Result<View, LookError>
-        requires { IsTableOf rules_in_force (run_of self.now journal.now.items) (table_of self.now) }
+        requires { IsTableOf all_rules (run_of self.now journal.now.items) (table_of self.now) }
         ensures table { IfOk result (λ v. v.table ≡ self.now) }
         ensures journal { IfOk result (λ v. v.journal ≡ journal.now.items) }
         ensures place { IfOk result (λ v. v.place ≡ place) }
@@ -124,7 +124,7 @@ impl Table {
         home: Name,
         sight: Sight,
     ) -> Result<View, AllocError>
-        requires table { IsTableOf rules_in_force (run_of self.now journal.now.items) (table_of self.now) }
+        requires table { IsTableOf all_rules (run_of self.now journal.now.items) (table_of self.now) }
         requires sight { sight_in self.now place ≡ Some (home, sight) }
         ensures table { IfOk result (λ v. v.table ≡ self.now) }
         ensures journal { IfOk result (λ v. v.journal ≡ journal.now.items) }

@@ -24,7 +24,7 @@ use Rattle.table_laws.specs.Unfolds.{IsBoxRow}
 use Rattle.table_laws.proofs.Stores.{stores_join}
 use Rattle.table_laws.proofs.Frame.{row_of}
 use Rattle.box_tree.specs.declared.view.Alternative.{Alternative}
-use Rattle.box_tree.specs.Tables.{rules_in_force, table_of}
+use Rattle.box_tree.specs.Tables.{all_rules, table_of}
 use Rattle.box_tree.specs.Views.{ViewValue, IsViewOf, IsSeen, AreSeen}
 use Rattle.guard_plan.specs.Guards.{IsTestable, IsQuietInside, HoldsInside}
 use Rattle.guard_plan.proofs.ChoiceNone.{inside_of}
@@ -98,7 +98,7 @@ module _ (v : ViewValue) (i : IsViewOf v) where
     local y l = IsLocal-left b.frames (frames_inside gs ++ frames_of no_boxes) y (subst (λ (fs : List Name). IsLocal fs y) frames_are l)
 
     outside : TellsOver (IsOutside (frames_of (only (inside_of i.site b gs)))) (environment (inside_of i.site b gs))
-    outside = around_outside rules_in_force v.table.program v.table.query v.journal i.table.config b.name (inside_of i.site b gs) i.table.replays h.there
+    outside = around_outside all_rules v.table.program v.table.query v.journal i.table.config b.name (inside_of i.site b gs) i.table.replays h.there
 
     pub testable : IsTestable v.table.program.templates.nodes v.stores a
     testable = record {

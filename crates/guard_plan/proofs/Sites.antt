@@ -21,7 +21,7 @@ use Rattle.table_laws.specs.Stamped.{store_stamp, goal_stamp, stamp_in}
 use Rattle.table_laws.proofs.Stores.{told_along, stores_join}
 use Rattle.table_laws.proofs.Frame.{row_of, around_stands}
 use Rattle.box_tree.specs.declared.view.Sight.{Sight}
-use Rattle.box_tree.specs.Tables.{rules_in_force, table_of}
+use Rattle.box_tree.specs.Tables.{all_rules, table_of}
 use Rattle.box_tree.specs.Views.{ViewValue, IsViewOf, Shows}
 
 -- the items of a box that is found have rows
@@ -46,7 +46,7 @@ module _ (T : Table) (c : Config) (s : Stand c) (u : Unfolds T c) (f : Found) (e
 
 module _ (v : ViewValue) (i : IsViewOf v) where
   pub stand : Stand i.table.config
-  stand = replay-stands rules_in_force v.table.program v.table.query v.journal i.table.config i.table.replays
+  stand = replay-stands all_rules v.table.program v.table.query v.journal i.table.config i.table.replays
 
   pub found : box_at i.site.content.name i.table.config.roots ≡ Some i.site
   found = site-box v.place i.table.config.roots i.site stand.once i.is_site

@@ -5,7 +5,7 @@ use Rattle.akl_model.specs.declared.label.Label.{Label}
 use Rattle.akl_model.specs.Config.{Config}
 use Rattle.akl_model.specs.Derivations.{IsInForce, Applies}
 use Rattle.table_laws.specs.Stamped.{IsTableOf}
-use Rattle.box_tree.specs.Tables.{rules_in_force, table_of}
+use Rattle.box_tree.specs.Tables.{all_rules, table_of}
 use Rattle.box_tree.specs.Views.{ViewValue, run_of}
 use Rattle.box_tree.specs.Plans.{PlanValue, IsRight}
 
@@ -19,12 +19,12 @@ pub record IsPlanOf (v : ViewValue) (p : PlanValue) : Type 0 where
 
 -- a rule in force other than Split, which is planned by all that stands in a box and inside it
 abbrev pub IsPlain : Rule → Type 0
-IsPlain r = IsInForce rules_in_force r × (r ≡ Rule.Split → ⊥)
+IsPlain r = IsInForce all_rules r × (r ≡ Rule.Split → ⊥)
 
 -- no rule in force other than Split applies at the place of a view, for any worker
 pub record HasNoRule (v : ViewValue) : Type 0 where
-  pub none : (t : IsTableOf rules_in_force (run_of v.table v.journal) (table_of v.table)) (l : Label) (d : Config)
-      → Applies rules_in_force v.table.program t.config l d → l.place ≡ v.place → (l.rule ≡ Rule.Split → ⊥) → ⊥
+  pub none : (t : IsTableOf all_rules (run_of v.table v.journal) (table_of v.table)) (l : Label) (d : Config)
+      → Applies all_rules v.table.program t.config l d → l.place ≡ v.place → (l.rule ≡ Rule.Split → ⊥) → ⊥
 
 -- a right plan of a rule other than Split, or none where no such rule applies
 abbrev pub IsPlannedBy : ViewValue → Option PlanValue → Type 0

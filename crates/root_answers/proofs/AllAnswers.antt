@@ -16,7 +16,7 @@ use Rattle.akl_model.proofs.QuietEnds.{clash_not}
 use Rattle.step_laws.specs.Whereabouts.{BoxIn}
 use Rattle.step_laws.proofs.Whereabouts.{in_found}
 use Rattle.answer_text.specs.Answers.{AreTooLong}
-use Rattle.box_tree.specs.Tables.{rules_in_force, table_of}
+use Rattle.box_tree.specs.Tables.{all_rules, table_of}
 use Rattle.step_commit.specs.Cores.{CoreValue}
 use Rattle.root_answers.specs.Text.{shown_lines, IsTextOf, AreTexts, no_answers, an_answer, HasLongAnswer, here, there}
 use Rattle.root_answers.specs.Roots.{TableIn, symbols_of, root_box, IsText, HasLongText, Answers, LongAnswers}
@@ -108,7 +108,7 @@ module _ (c : CoreValue) (n : ℕ) (d : Name) (h : n < length c.table.roots) whe
 
   found_at : (t : TableIn c) (w : At t.config.roots n (get_or c.table.roots n d)) → box_at (get_or c.table.roots n d) t.config.roots ≡ Some (root_box w.content w.goals)
   found_at t w =
-      let s : Stand t.config = replay-stands rules_in_force c.table.program c.table.query c.journal t.config t.replays in
+      let s : Stand t.config = replay-stands all_rules c.table.program c.table.query c.journal t.config t.replays in
       subst (λ (m : Name). box_at m t.config.roots ≡ Some (root_box w.content w.goals)) w.is_name (in_found t.config.roots (root_box w.content w.goals) s.once w.stands)
 
   pub found_same : (count : ℕ) (text : List ℕ) → HaveFound c n count text → IsText c (get_or c.table.roots n d) None → HaveFound c (n + 1) count text

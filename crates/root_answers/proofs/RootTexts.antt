@@ -30,7 +30,7 @@ use Rattle.table_laws.specs.Rows.{BoxRow, Table, store_in, stores_along, told_in
 use Rattle.table_laws.specs.Unfolds.{IsBoxRow}
 use Rattle.table_laws.specs.Stamped.{IsTableOf}
 use Rattle.table_laws.proofs.Frame.{both_there}
-use Rattle.box_tree.specs.Tables.{rules_in_force, TableValue, table_of, goals_in, is_empty, shown_in, shown_tree, shown_trees_of}
+use Rattle.box_tree.specs.Tables.{all_rules, TableValue, table_of, goals_in, is_empty, shown_in, shown_tree, shown_trees_of}
 use Rattle.box_tree.specs.Views.{ViewValue, IsViewOf, run_of, is_there}
 use Rattle.step_commit.specs.Cores.{CoreValue}
 use Rattle.root_answers.specs.Text.{shown_lines, IsTextOf}
@@ -72,12 +72,12 @@ unsolved c name e t b gs f a =
 -- what a view's stores stand for
 
 abbrev Sees : TableValue → List Label → Place → List Stored → Type 0
-Sees u journal place stores = (t : IsTableOf rules_in_force (run_of u journal) (table_of u)) (f : Found) → site_of place t.config.roots ≡ Some f → stores ≡ stores_along (table_of u) (names_down_to f)
+Sees u journal place stores = (t : IsTableOf all_rules (run_of u journal) (table_of u)) (f : Found) → site_of place t.config.roots ≡ Some f → stores ≡ stores_along (table_of u) (names_down_to f)
 
 sees : (v : ViewValue) → IsViewOf v → Sees v.table v.journal v.place v.stores
 sees v w t f e =
     let same : w.table.config ≡ t.config =
-    Derives-one rules_in_force v.table.program (start v.table.program v.table.query) w.table.config t.config v.journal w.table.replays.derives t.replays.derives in
+    Derives-one all_rules v.table.program (start v.table.program v.table.query) w.table.config t.config v.journal w.table.replays.derives t.replays.derives in
     let site : w.site ≡ f = some_value (sym w.is_site ∙ ap (λ (x : Config). site_of v.place x.roots) same ∙ e) in
     w.stores ∙ ap (λ ns. stores_along (table_of v.table) ns) (w.path ∙ ap names_down_to site)
 

@@ -6,14 +6,14 @@ use Rattle.akl_model.specs.Config.{Content, Goals, Found, box_at}
 use Rattle.akl_model.specs.Derivations.{IsAnswer, AreAnswers}
 use Rattle.answer_text.specs.Answers.{AreTooLong}
 use Rattle.table_laws.specs.Stamped.{IsTableOf}
-use Rattle.box_tree.specs.Tables.{rules_in_force, table_of}
+use Rattle.box_tree.specs.Tables.{all_rules, table_of}
 use Rattle.step_commit.specs.Cores.{CoreValue, run_by}
 use Rattle.root_answers.specs.Text.{shown_lines, IsTextOf, AreTexts, HasLongAnswer}
 use Rattle.root_answers.specs.declared.answers.Answered.{Answered}
 
 -- the table of a core, with the configuration to which it unfolds
 abbrev pub TableIn : CoreValue → Type 0
-TableIn c = IsTableOf rules_in_force (run_by c) (table_of c.table)
+TableIn c = IsTableOf all_rules (run_by c) (table_of c.table)
 
 abbrev pub symbols_of : CoreValue → List (List ℕ)
 symbols_of c = c.table.program.templates.symbols

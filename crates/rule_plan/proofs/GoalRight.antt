@@ -13,14 +13,14 @@ use Rattle.akl_model.specs.Stable.{Allows}
 use Rattle.akl_model.specs.Derivations.{IsInForce, after}
 use Rattle.table_laws.specs.Steps.{Makes, ReadsFor, IsSolvedIn}
 use Rattle.box_tree.specs.declared.step.Step.{Step}
-use Rattle.box_tree.specs.Tables.{rules_in_force, table_of, step_of}
+use Rattle.box_tree.specs.Tables.{all_rules, table_of, step_of}
 use Rattle.box_tree.specs.Views.{ViewValue, IsViewOf}
 use Rattle.box_tree.specs.Plans.{IsRead, IsRight}
 use Rattle.rule_plan.specs.AtGoals.{label_at, plan_at}
 use Rattle.guard_plan.proofs.ReadItems.{items_there}
 
 module _ (v : ViewValue) (i : IsViewOf v) (g : Name) where
-  pub goal_right : (rule : Rule) (h : Held) → held_in g i.site.goals ≡ Some h → IsInForce rules_in_force rule → (change : Change)
+  pub goal_right : (rule : Rule) (h : Held) → held_in g i.site.goals ≡ Some h → IsInForce all_rules rule → (change : Change)
       → conditions.Makes (Allows v.table.program) v.table.program (slice_index i.table.config.next v.worker) (label_at v rule) i.site change → (step : Step)
       → Makes v.table.program (label_at v rule) (slice_index i.table.config.next v.worker) i.site (step_of v.table.program.templates.nodes step)
       → IsSolvedIn (table_of v.table) i.site (step_of v.table.program.templates.nodes step)

@@ -2,19 +2,19 @@
 use Rattle.std.proofs.Common.{refl, inl, inr}
 use Rattle.akl_model.specs.declared.label.Rule.{Rule}
 use Rattle.akl_model.specs.Derivations.{IsInForce}
-use Rattle.box_tree.specs.Tables.{rules_in_force}
+use Rattle.box_tree.specs.Tables.{all_rules}
 
-pub tell_in_force : IsInForce rules_in_force Rule.Tell
+pub tell_in_force : IsInForce all_rules Rule.Tell
 tell_in_force = inl refl
 
-pub fail_in_force : IsInForce rules_in_force Rule.Fail
+pub fail_in_force : IsInForce all_rules Rule.Fail
 fail_in_force = inr (inr (inl refl))
 
-pub eval_in_force : IsInForce rules_in_force Rule.Eval
+pub eval_in_force : IsInForce all_rules Rule.Eval
 eval_in_force = inr (inr (inr (inr (inr (inl refl)))))
 
-pub open_in_force : IsInForce rules_in_force Rule.Open
+pub open_in_force : IsInForce all_rules Rule.Open
 open_in_force = inr (inr (inr (inr (inr (inr (inl refl))))))
 
-pub send_in_force : IsInForce rules_in_force Rule.Send
+pub send_in_force : IsInForce all_rules Rule.Send
 send_in_force = inr (inr (inr (inr (inr (inr (inr (inl refl)))))))

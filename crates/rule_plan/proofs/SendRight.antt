@@ -41,7 +41,7 @@ use Rattle.port_goals.specs.Sends.{IsNoPort}
 use Rattle.table_laws.specs.Rows.{ports_in}
 use Rattle.box_tree.specs.declared.step.Step.{Step}
 use Rattle.box_tree.specs.declared.view.Sight.{Sight}
-use Rattle.box_tree.specs.Tables.{rules_in_force}
+use Rattle.box_tree.specs.Tables.{all_rules}
 use Rattle.box_tree.specs.Views.{ViewValue, IsViewOf}
 use Rattle.box_tree.specs.Plans.{IsRead, IsRight}
 use Rattle.rule_plan.specs.AtGoals.{label_at, plan_at}
@@ -166,7 +166,7 @@ module _ (v : ViewValue) (g frame : Name) (m r : ℕ) (q : Name) (goes : GoesToP
 
   increasing : IsIncreasing (port_names i.site.content.ports)
   increasing = ports_ordered i.site.around i.site.content i.site.goals i.table.config.roots (found_in i.site.content.name i.table.config.roots i.site (found v i))
-      (replay_ordered rules_in_force v.table.program v.table.query v.journal i.table.config i.table.replays)
+      (replay_ordered all_rules v.table.program v.table.query v.journal i.table.config i.table.replays)
 
   old : ports_in v.table.program.templates.nodes t.store.ports ≡ i.site.content.ports
   old = same_ports v i (sent_equations v frame m tail) t a

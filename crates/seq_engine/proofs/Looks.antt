@@ -22,7 +22,7 @@ use Rattle.table_laws.specs.Unfolds.{IsBoxRow, Spot, spot_of, Unfolds}
 use Rattle.table_laws.specs.Stamped.{IsTableOf}
 use Rattle.table_laws.proofs.Frame.{both_there}
 use Rattle.table_laws.proofs.Insides.{spot_held}
-use Rattle.box_tree.specs.Tables.{rules_in_force, TableValue, table_of}
+use Rattle.box_tree.specs.Tables.{all_rules, TableValue, table_of}
 use Rattle.box_tree.specs.Views.{ViewValue, run_of, is_there}
 use Rattle.box_tree.specs.Plans.{PlanValue, IsRight}
 use Rattle.guard_plan.specs.Planned.{IsPlannedBy}
@@ -35,7 +35,7 @@ use Rattle.seq_engine.specs.Runs.{IsOfKind, HasNoneAt, IsSight, IsPlannedAt, IsS
 -- no rule of a kind applies at a place
 
 abbrev NoneOf : Kind → TableValue → List Label → Place → Type 0
-NoneOf kind t j place = (x : IsTableOf rules_in_force (run_of t j) (table_of t)) (l : Label) (d : Config) → Applies rules_in_force t.program x.config l d → l.place ≡ place → IsOfKind kind l.rule → ⊥
+NoneOf kind t j place = (x : IsTableOf all_rules (run_of t j) (table_of t)) (l : Label) (d : Config) → Applies all_rules t.program x.config l d → l.place ≡ place → IsOfKind kind l.rule → ⊥
 
 none_of : (kind : Kind) (v : ViewValue) (c : CoreValue) (place : Place) → v.table ≡ c.table → v.journal ≡ c.journal → v.place ≡ place → NoneOf kind v.table v.journal v.place → HasNoneAt kind c place
 none_of kind v c place e f g n =
@@ -69,7 +69,7 @@ seen_there T c u (Place.Goal g) f e =
     let h : (h : Held) × (held_in g f.goals ≡ Some h) = (home_in g c.roots f e).1 in
     mapped (T.goal_of g) (record { home = f.content.name; shape = shape_of h.0 }) (u.goals g ∙ spot_held g c.roots f h.0 e h.1)
 
-pub applied_there : (c : CoreValue) (t : IsTableOf rules_in_force (run_by c) (table_of c.table)) (l : Label) (d : Config) → Applies rules_in_force c.table.program t.config l d → is_there (table_of c.table) l.place ≡ true
+pub applied_there : (c : CoreValue) (t : IsTableOf all_rules (run_by c) (table_of c.table)) (l : Label) (d : Config) → Applies all_rules c.table.program t.config l d → is_there (table_of c.table) l.place ≡ true
 applied_there c t l d a = seen_there (table_of c.table) t.config t.unfolds l.place a.site a.is_site
 
 not_both : (b : Bool) → b ≡ false → b ≡ true → ⊥
@@ -81,12 +81,12 @@ gone kind c place e t l d a i k = not_both (is_there (table_of c.table) place) e
 -- a plan shows that some place is ready
 
 abbrev HasReady : TableValue → List Label → Type 0
-HasReady t j = (x : IsTableOf rules_in_force (run_of t j) (table_of t)) → (place : Place) × IsReady rules_in_force t.program x.config place
+HasReady t j = (x : IsTableOf all_rules (run_of t j) (table_of t)) → (place : Place) × IsReady all_rules t.program x.config place
 
 planned_ready : (p : PlanValue) → IsRight p → HasReady p.table p.journal
 planned_ready p r x =
-    let same : r.table.config ≡ x.config = Derives-one rules_in_force p.table.program (start p.table.program p.table.query) r.table.config x.config p.journal r.table.replays.derives x.replays.derives in
-    some_place_ready rules_in_force p.table.program p.table.query p.journal x.config x.replays p.label r.result (subst (λ (k : Config). Applies rules_in_force p.table.program k p.label r.result) same r.applies)
+    let same : r.table.config ≡ x.config = Derives-one all_rules p.table.program (start p.table.program p.table.query) r.table.config x.config p.journal r.table.replays.derives x.replays.derives in
+    some_place_ready all_rules p.table.program p.table.query p.journal x.config x.replays p.label r.result (subst (λ (k : Config). Applies all_rules p.table.program k p.label r.result) same r.applies)
 
 pub spent : (c : CoreValue) (p : PlanValue) → IsRight p → p.table ≡ c.table → p.journal ≡ c.journal → length c.journal ≡ c.budget → IsSpent c
 spent c p r e f b = (b, subst (λ (j : List Label). HasReady c.table j) f (subst (λ (t : TableValue). HasReady t p.journal) e (planned_ready p r)))
@@ -115,7 +115,7 @@ last_within rules p q journal i k x = on x.changed
 
 pub not_stale : (c : CoreValue) (p : PlanValue) (i : Item) (o : Option ℕ) → p.journal ≡ c.journal → IsStale c p i o → ⊥
 not_stale c p i o e x =
-    let within : x.number ≤ length c.journal = last_within rules_in_force c.table.program c.table.query c.journal i x.number x.last in
+    let within : x.number ≤ length c.journal = last_within all_rules c.table.program c.table.query c.journal i x.number x.last in
     let unseen : length p.journal < x.number = x.unseen in
     let same : length p.journal ≡ length c.journal = ap length e in
     absurd (omega (arith, within, unseen, same))

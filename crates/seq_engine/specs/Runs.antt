@@ -7,7 +7,7 @@ use Rattle.akl_model.specs.declared.label.Receipt.{Receipt}
 use Rattle.akl_model.specs.Config.{Config}
 use Rattle.akl_model.specs.Derivations.{Applies, IsReady, IsQuietEnd}
 use Rattle.table_laws.specs.Stamped.{IsTableOf}
-use Rattle.box_tree.specs.Tables.{rules_in_force, table_of}
+use Rattle.box_tree.specs.Tables.{all_rules, table_of}
 use Rattle.step_commit.specs.Cores.{CoreValue, run_by, KeepsFixed}
 use Rattle.step_commit.specs.Receipts.{AreReceipts, AreBy}
 use Rattle.box_tree.specs.Views.{ViewValue, is_there}
@@ -20,7 +20,7 @@ use Rattle.seq_engine.specs.declared.run.Finished.{Finished}
 
 -- the table of a core, with the configuration to which it unfolds
 abbrev pub TableIn : CoreValue → Type 0
-TableIn c = IsTableOf rules_in_force (run_by c) (table_of c.table)
+TableIn c = IsTableOf all_rules (run_by c) (table_of c.table)
 
 -- a rule is of a kind
 abbrev pub IsOfKind : Kind → Rule → Type 0
@@ -29,7 +29,7 @@ IsOfKind Kind.Split r = r ≡ Rule.Split
 
 -- no rule in force of a kind applies at a place
 abbrev pub HasNoneAt : Kind → CoreValue → Place → Type 0
-HasNoneAt kind c place = (t : TableIn c) (l : Label) (d : Config) → Applies rules_in_force c.table.program t.config l d → l.place ≡ place → IsOfKind kind l.rule → ⊥
+HasNoneAt kind c place = (t : TableIn c) (l : Label) (d : Config) → Applies all_rules c.table.program t.config l d → l.place ≡ place → IsOfKind kind l.rule → ⊥
 
 -- worker 1 has looked at a place, or the place isn't there
 pub record IsSight (c : CoreValue) (place : Place) (v : ViewValue) : Type 0 where
@@ -50,11 +50,11 @@ IsPlannedAt kind c place (Some p) = IsRight p × (p.table ≡ c.table) × (p.jou
 
 -- all labels of the budget are made, and some place is ready
 abbrev pub IsSpent : CoreValue → Type 0
-IsSpent c = (length c.journal ≡ c.budget) × ((t : TableIn c) → (place : Place) × IsReady rules_in_force c.table.program t.config place)
+IsSpent c = (length c.journal ≡ c.budget) × ((t : TableIn c) → (place : Place) × IsReady all_rules c.table.program t.config place)
 
 -- no place is ready
 abbrev pub IsQuiet : CoreValue → Type 0
-IsQuiet c = (t : TableIn c) → IsQuietEnd rules_in_force c.table.program t.config
+IsQuiet c = (t : TableIn c) → IsQuietEnd all_rules c.table.program t.config
 
 -- a label of worker 1, with the receipt of it
 pub record Follows (c : CoreValue) (before : List Receipt) (d : CoreValue) (afterwards : List Receipt) : Type 0 where

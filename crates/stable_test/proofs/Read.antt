@@ -13,7 +13,7 @@ use Rattle.local_store.specs.Stored.{Stored, nothing}
 use Rattle.table_laws.specs.Stamped.{IsTableOf}
 use Rattle.box_tree.specs.declared.inside.Inside.{Inside}
 use Rattle.box_tree.specs.declared.view.Sight.{Sight}
-use Rattle.box_tree.specs.Tables.{TableValue, rules_in_force, table_of}
+use Rattle.box_tree.specs.Tables.{TableValue, all_rules, table_of}
 use Rattle.box_tree.specs.Views.{ViewValue, run_of}
 use Rattle.box_tree.specs.Plans.{PlanValue}
 use Rattle.guard_plan.specs.Planned.{IsPlanOf, HasNoRule, IsPlannedBy}
@@ -26,9 +26,9 @@ use Rattle.stable_test.proofs.StableViews.{all_testable, all_still}
 pub planned : (v : ViewValue) (q : PlanValue) → IsPlanOf v q → (q.label.rule ≡ Rule.Split → ⊥) → HasNoRule v → ⊥
 planned v q w n h = h.none there.0 q.label there.1 there.2 w.place n
   where
-    there : (k : IsTableOf rules_in_force (run_of v.table v.journal) (table_of v.table)) × (d : Config) × Applies rules_in_force v.table.program k.config q.label d
-    there = subst (λ (t : TableValue). (k : IsTableOf rules_in_force (run_of t v.journal) (table_of t)) × (d : Config) × Applies rules_in_force t.program k.config q.label d) w.table
-        (subst (λ (j : List Label). (k : IsTableOf rules_in_force (run_of q.table j) (table_of q.table)) × (d : Config) × Applies rules_in_force q.table.program k.config q.label d) w.journal
+    there : (k : IsTableOf all_rules (run_of v.table v.journal) (table_of v.table)) × (d : Config) × Applies all_rules v.table.program k.config q.label d
+    there = subst (λ (t : TableValue). (k : IsTableOf all_rules (run_of t v.journal) (table_of t)) × (d : Config) × Applies all_rules t.program k.config q.label d) w.table
+        (subst (λ (j : List Label). (k : IsTableOf all_rules (run_of q.table j) (table_of q.table)) × (d : Config) × Applies all_rules q.table.program k.config q.label d) w.journal
         (w.right.table, w.right.result, w.right.applies))
 
 pub not_still : (p : Program) (depth : ℕ) (frames : Stored) (v : ViewValue) (q : PlanValue) → IsPlannedBy v (Some q) → IsTrue false ↔ IsStill p depth frames v

@@ -20,7 +20,7 @@ use Rattle.entail_test.specs.Asked.{frames_from, environment_at, KeepsApartAt}
 use Rattle.table_laws.specs.Rows.{Table, stores_along}
 use Rattle.table_laws.proofs.Stores.{stores_join}
 use Rattle.table_laws.proofs.Frame.{around_stands, equations_join}
-use Rattle.box_tree.specs.Tables.{rules_in_force, table_of}
+use Rattle.box_tree.specs.Tables.{all_rules, table_of}
 use Rattle.box_tree.specs.Views.{ViewValue, IsViewOf}
 use Rattle.guard_plan.proofs.Chains.{told_stands}
 use Rattle.guard_plan.proofs.QuietOver.{keeps_apart}
@@ -113,4 +113,4 @@ module _ (v : ViewValue) (i : IsViewOf v) (n : Name) (f : Found) (e : box_at n i
 
   pub apart : IsConsistent (environment_at nodes (v.stores ++ further ∷ []) (length f.around)) → KeepsApartAt nodes (v.stores ++ further ∷ []) (length f.around)
   apart c = keeps_apart (environment_at nodes (v.stores ++ further ∷ []) (length f.around)) (environment f) (frames_from (drop (length f.around) (v.stores ++ further ∷ []))) (frames_of (only f)) frame_to
-      (around_outside rules_in_force v.table.program v.table.query v.journal i.table.config n f i.table.replays e) around c
+      (around_outside all_rules v.table.program v.table.query v.journal i.table.config n f i.table.replays e) around c

@@ -20,7 +20,7 @@ use Rattle.local_store.specs.Stored.{Stored, nothing}
 use Rattle.local_store.specs.Chained.{IsKnown}
 use Rattle.entail_test.specs.Asked.{environment_at, KeepsApartAt}
 use Rattle.box_tree.specs.declared.inside.Inside.{Inside}
-use Rattle.box_tree.specs.Tables.{TableValue, rules_in_force, table_of}
+use Rattle.box_tree.specs.Tables.{TableValue, all_rules, table_of}
 use Rattle.box_tree.specs.Views.{ViewValue}
 use Rattle.box_tree.specs.Insides.{IsPlaceInside, IsViewInside, HasView}
 use Rattle.guard_plan.specs.Planned.{HasNoRule}
@@ -52,7 +52,7 @@ module _ (p : Program) (depth : ℕ) (i : Inside) (s : IsSeenInside p depth i) w
   config = s.run.config
 
   stands : Stand s.run.config
-  stands = replay-stands rules_in_force s.table.program s.table.query s.journal s.run.config s.run.replays
+  stands = replay-stands all_rules s.table.program s.table.query s.journal s.run.config s.run.replays
 
   abbrev further : Stored
   further = with_all_frames nothing i.boxes.items
@@ -73,9 +73,9 @@ module _ (p : Program) (depth : ℕ) (i : Inside) (s : IsSeenInside p depth i) w
   -- one view
   module _ (v : ViewValue) (w : IsViewInside s.table s.journal s.name s.worker v) where
     same_config : w.seen.table.config ≡ s.run.config
-    same_config = Derives-one rules_in_force s.table.program (start s.table.program s.table.query) w.seen.table.config s.run.config s.journal
-        (subst (λ (t : TableValue). Derives rules_in_force t.program (start t.program t.query) s.journal w.seen.table.config) w.table
-        (subst (λ (j : List Label). Derives rules_in_force v.table.program (start v.table.program v.table.query) j w.seen.table.config) w.labels w.seen.table.replays.derives))
+    same_config = Derives-one all_rules s.table.program (start s.table.program s.table.query) w.seen.table.config s.run.config s.journal
+        (subst (λ (t : TableValue). Derives all_rules t.program (start t.program t.query) s.journal w.seen.table.config) w.table
+        (subst (λ (j : List Label). Derives all_rules v.table.program (start v.table.program v.table.query) j w.seen.table.config) w.labels w.seen.table.replays.derives))
         s.run.replays.derives
 
     there : box_at s.name w.seen.table.config.roots ≡ Some s.site
@@ -117,15 +117,15 @@ module _ (p : Program) (depth : ℕ) (i : Inside) (s : IsSeenInside p depth i) w
     reaches r = reaches_site v w.seen s.name s.site there down further frame_to frame_from
         (subst (λ (k : ℕ). ReachesNoneAt v.table.program k further v) (sym s.deep) (subst (λ (q : Program). ReachesNoneAt q depth further v) (sym same_program) r))
 
-    none_applies : HasNoRule v → (place : Place) → v.place ≡ place → NoneAppliesAt rules_in_force p s.run.config place
+    none_applies : HasNoRule v → (place : Place) → v.place ≡ place → NoneAppliesAt all_rules p s.run.config place
     none_applies h place e l d a q n = h.none w.seen.table l d
-        (subst (λ (c : Config). Applies rules_in_force v.table.program c l d) (sym same_config) (subst (λ (k : Program). Applies rules_in_force k s.run.config l d) (sym same_program) a)) (q ∙ sym e) n
+        (subst (λ (c : Config). Applies all_rules v.table.program c l d) (sym same_config) (subst (λ (k : Program). Applies all_rules k s.run.config l d) (sym same_program) a)) (q ∙ sym e) n
 
     same_site : (d : Found) (place : Place) → v.place ≡ place → site_of place s.run.config.roots ≡ Some d → w.seen.site ≡ d
     same_site d place e k = some_value (sym (subst (λ (c : Config). site_of v.place c.roots ≡ Some w.seen.site) same_config w.seen.is_site) ∙ ap (λ (q : Place). site_of q s.run.config.roots) e ∙ k)
 
     box_still : (d : Found) → IsDown s.run.config stands s.name s.site s.is_site d → v.place ≡ Place.Box d.content.name → IsStill p depth (with_all_frames nothing i.boxes.items) v
-        → IsStillBox rules_in_force p s.run.config stands s.name s.site s.is_site d
+        → IsStillBox all_rules p s.run.config stands s.name s.site s.is_site d
     box_still d h e t = record {
       none = none_applies t.0 (Place.Box d.content.name) e;
       untouched = subst (λ (k : Found). (x : Var) → Touches (frames_of (only s.site)) (environment s.site) (whole k) x → ⊥) (same_site d (Place.Box d.content.name) e h.there)
@@ -133,7 +133,7 @@ module _ (p : Program) (depth : ℕ) (i : Inside) (s : IsSeenInside p depth i) w
     }
 
     goal_still : (d : Found) (g : Name) (k : Held) → IsDown s.run.config stands s.name s.site s.is_site d → held_in g d.goals ≡ Some k → v.place ≡ Place.Goal g
-        → IsStill p depth (with_all_frames nothing i.boxes.items) v → IsStillGoal rules_in_force p s.run.config stands s.name s.site s.is_site d g k
+        → IsStill p depth (with_all_frames nothing i.boxes.items) v → IsStillGoal all_rules p s.run.config stands s.name s.site s.is_site d g k
     goal_still d g k h held e t = record {
       none = none_applies t.0 (Place.Goal g) e;
       unreached = λ a q. subst (λ (b : Found). (on x : Var) → AtomWaitsOn p (whole b) a on → IsReached (frames_of (only s.site)) (environment s.site) (whole b) on x → ⊥) same
@@ -151,18 +151,18 @@ module _ (p : Program) (depth : ℕ) (i : Inside) (s : IsSeenInside p depth i) w
   pub all_still : IsStable p s.site → AllByRecursion (IsStill p depth (with_all_frames nothing i.boxes.items)) i.views.items
   all_still stable = every (IsViewInside s.table s.journal s.name s.worker) (IsStill p depth (with_all_frames nothing i.boxes.items)) (λ v w. still v w stable) i.views.items s.inside.views
 
-  pub all_stable : AreAllPlain rules_in_force → AllByRecursion (IsStill p depth (with_all_frames nothing i.boxes.items)) i.views.items → IsStable p s.site
-  all_stable all t = still_stable rules_in_force p s.run.config stands s.name s.site s.is_site all boxes goals
+  pub all_stable : AreAllPlain all_rules → AllByRecursion (IsStill p depth (with_all_frames nothing i.boxes.items)) i.views.items → IsStable p s.site
+  all_stable all t = still_stable all_rules p s.run.config stands s.name s.site s.is_site all boxes goals
     where
       seen : (place : Place) → IsPlaceInside (table_of s.table) s.name place
           → (v : ViewValue) × (v.place ≡ place) × IsViewInside s.table s.journal s.name s.worker v × IsStill p depth (with_all_frames nothing i.boxes.items) v
       seen place k = look (IsViewInside s.table s.journal s.name s.worker) (IsStill p depth (with_all_frames nothing i.boxes.items)) i.views.items place (s.inside.each place k) s.inside.views t
 
-      boxes : (d : Found) → IsDown s.run.config stands s.name s.site s.is_site d → IsStillBox rules_in_force p s.run.config stands s.name s.site s.is_site d
+      boxes : (d : Found) → IsDown s.run.config stands s.name s.site s.is_site d → IsStillBox all_rules p s.run.config stands s.name s.site s.is_site d
       boxes d h = let w : _ = seen (Place.Box d.content.name) (is_inside (table_of s.table) s.run.config stands s.run.unfolds s.name s.site s.is_site d h) in box_still w.0 w.2 d h w.1 w.3
 
       goals : (d : Found) → IsDown s.run.config stands s.name s.site s.is_site d → (g : Name) (k : Held) → held_in g d.goals ≡ Some k
-          → IsStillGoal rules_in_force p s.run.config stands s.name s.site s.is_site d g k
+          → IsStillGoal all_rules p s.run.config stands s.name s.site s.is_site d g k
       goals d h g k held =
           let w : _ = seen (Place.Goal g) (goal_inside_down (table_of s.table) s.run.config stands s.run.unfolds s.name s.site s.is_site d g k h held) in
           goal_still w.0 w.2 d g k h held w.1 w.3

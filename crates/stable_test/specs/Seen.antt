@@ -7,7 +7,7 @@ use Rattle.akl_model.specs.Config.{Found, box_at}
 use Rattle.local_store.specs.Stored.{Stored}
 use Rattle.table_laws.specs.Stamped.{IsTableOf}
 use Rattle.box_tree.specs.declared.inside.Inside.{Inside}
-use Rattle.box_tree.specs.Tables.{TableValue, rules_in_force, table_of}
+use Rattle.box_tree.specs.Tables.{TableValue, all_rules, table_of}
 use Rattle.box_tree.specs.Views.{ViewValue, run_of}
 use Rattle.box_tree.specs.Insides.{IsInsideOf}
 use Rattle.guard_plan.specs.Planned.{HasNoRule}
@@ -18,7 +18,7 @@ pub record IsSeenInside (p : Program) (depth : ℕ) (i : Inside) : Type 0 where
   pub table : TableValue
   pub of_program : table.program ≡ p
   pub journal : List Label
-  pub run : IsTableOf rules_in_force (run_of table journal) (table_of table)
+  pub run : IsTableOf all_rules (run_of table journal) (table_of table)
   pub name : Name
   pub worker : ℕ
   pub inside : IsInsideOf table journal name worker i

@@ -23,7 +23,7 @@ use Rattle.table_laws.proofs.Later.{later_law}
 use Rattle.table_laws.proofs.Fresh.{fresh_step}
 use Rattle.table_laws.specs.Laws.{started}
 use Rattle.table_laws.proofs.Started.{start_law}
-use Rattle.box_tree.specs.Tables.{rules_in_force, TableValue, table_of, step_of}
+use Rattle.box_tree.specs.Tables.{all_rules, TableValue, table_of, step_of}
 use Rattle.box_tree.specs.Plans.{PlanValue, IsRead, IsRight}
 use Rattle.step_commit.specs.Cores.{CoreValue, IsCore, MayCommit, is_within, AllWithin}
 
@@ -64,9 +64,9 @@ reads_for U V h l f (promotes new solved goals) r = reads_map U V h l.rule l.pla
 
 -- all that a plan's type keeps, over a program and a query
 pub record IsPlanned (p : Program) (q : Query) (journal : List Label) (T : Table) (l : Label) (reads : List Item) (names : ℕ) (step : Step) : Type 0 where
-  pub table : IsTableOf rules_in_force (record { program = p; query = q; journal = journal }) T
+  pub table : IsTableOf all_rules (record { program = p; query = q; journal = journal }) T
   pub result : Config
-  pub applies : Applies rules_in_force p table.config l result
+  pub applies : Applies all_rules p table.config l result
   pub makes : Makes p l (slice_index table.config.next l.worker) applies.site step
   pub solved : IsSolvedIn T applies.site step
   pub drawn : names ≡ applies.change.drawn
@@ -81,36 +81,36 @@ planned c p r m = subst (λ (x : Program). IsPlanned x c.table.query p.journal (
     (subst (λ (y : Query). IsPlanned p.table.program y p.journal (table_of p.table) p.label p.reads p.names (step_of p.table.program.templates.nodes p.step)) m.query (of_plan p r))
 
 -- the label applies after further labels, and the step is what it makes there
-pub record LeadsOn (p : Program) (q : Query) (journal : List Label) (T : Table) (t : IsTableOf rules_in_force (record { program = p; query = q; journal = journal }) T) (l : Label) (names : ℕ) (step : Step) : Type 0 where
+pub record LeadsOn (p : Program) (q : Query) (journal : List Label) (T : Table) (t : IsTableOf all_rules (record { program = p; query = q; journal = journal }) T) (l : Label) (names : ℕ) (step : Step) : Type 0 where
   pub result : Config
-  pub applies : Applies rules_in_force p t.config l result
+  pub applies : Applies all_rules p t.config l result
   pub makes : Makes p l (slice_index t.config.next l.worker) applies.site step
   pub drawn : names ≡ applies.change.drawn
 
 module _ (p : Program) (q : Query) (journal further : List Label) (S T : Table) (l : Label) (reads : List Item) (names : ℕ) (step : Step) (x : IsPlanned p q journal S l reads names step)
-    (t : IsTableOf rules_in_force (record { program = p; query = q; journal = journal ++ further }) T) where
-  pub goes : Derives rules_in_force p x.table.config further t.config
+    (t : IsTableOf all_rules (record { program = p; query = q; journal = journal ++ further }) T) where
+  pub goes : Derives all_rules p x.table.config further t.config
   goes =
-      let d : (m : Config) × Derives rules_in_force p (start p q) journal m × Derives rules_in_force p m further t.config = Derives-prefix rules_in_force p (start p q) t.config journal further t.replays.derives in
-      subst (λ (m : Config). Derives rules_in_force p m further t.config) (Derives-one rules_in_force p (start p q) d.0 x.table.config journal d.1 x.table.replays.derives) d.2
+      let d : (m : Config) × Derives all_rules p (start p q) journal m × Derives all_rules p m further t.config = Derives-prefix all_rules p (start p q) t.config journal further t.replays.derives in
+      subst (λ (m : Config). Derives all_rules p m further t.config) (Derives-one all_rules p (start p q) d.0 x.table.config journal d.1 x.table.replays.derives) d.2
 
 module _ (p : Program) (q : Query) (journal further : List Label) (S T : Table) (l : Label) (reads : List Item) (names : ℕ) (step : Step) (x : IsPlanned p q journal S l reads names step)
-    (t : IsTableOf rules_in_force (record { program = p; query = q; journal = journal ++ further }) T) (none : NoneBy l further) (within : AllWithin T reads (length journal)) where
-  unseen : (o : Option ℕ) (i : Item) → stamp_in T i ≡ o → is_within o (length journal) ≡ true → stamps.IsStamped rules_in_force p q (journal ++ further) (length journal) i
+    (t : IsTableOf all_rules (record { program = p; query = q; journal = journal ++ further }) T) (none : NoneBy l further) (within : AllWithin T reads (length journal)) where
+  unseen : (o : Option ℕ) (i : Item) → stamp_in T i ≡ o → is_within o (length journal) ≡ true → stamps.IsStamped all_rules p q (journal ++ further) (length journal) i
   unseen None i e w = absurd cc
-  unseen (Some k) i e w = record { number = k; last = stamp_last rules_in_force (record { program = p; query = q; journal = journal ++ further }) T t.stamped i k e; early = within_is k w }
+  unseen (Some k) i e w = record { number = k; last = stamp_last all_rules (record { program = p; query = q; journal = journal ++ further }) T t.stamped i k e; early = within_is k w }
     where
       within_is : (k : ℕ) → nat_le k (length journal) ≡ true → k ≤ length journal
       within_is k w = grind (arith, nat_tests)
 
-  stamped : (i : Item) → IsRead reads i → stamps.IsStamped rules_in_force p q (journal ++ further) (length journal) i
+  stamped : (i : Item) → IsRead reads i → stamps.IsStamped all_rules p q (journal ++ further) (length journal) i
   stamped i r = unseen (stamp_in T i) i refl (within i r)
 
   pub leads_on : LeadsOn p q (journal ++ further) T t l names step
   leads_on =
-      let w : (result : Config) × (now : Applies rules_in_force p t.config l result) × Makes p l (slice_index t.config.next l.worker) now.site step × (now.site.content.name ≡ x.applies.site.content.name) × (now.change.drawn ≡ x.applies.change.drawn) =
-      later_law rules_in_force p q journal further x.table.config t.config l x.result x.applies step x.table.replays (goes p q journal further S T l reads names step x t) none
-      (reads_for (IsRead reads) (stamps.IsStamped rules_in_force p q (journal ++ further) (length journal)) stamped l x.applies.site step x.reads_all) x.makes in
+      let w : (result : Config) × (now : Applies all_rules p t.config l result) × Makes p l (slice_index t.config.next l.worker) now.site step × (now.site.content.name ≡ x.applies.site.content.name) × (now.change.drawn ≡ x.applies.change.drawn) =
+      later_law all_rules p q journal further x.table.config t.config l x.result x.applies step x.table.replays (goes p q journal further S T l reads names step x t) none
+      (reads_for (IsRead reads) (stamps.IsStamped all_rules p q (journal ++ further) (length journal)) stamped l x.applies.site step x.reads_all) x.makes in
       record { result = w.0; applies = w.1; makes = w.2; drawn = x.drawn ∙ sym w.4 }
 
   -- where the plan has seen the whole run, and this very table, its stores are solved there
@@ -127,7 +127,7 @@ module _ (p : Program) (q : Query) (journal further : List Label) (S T : Table) 
       empty = none_left further n
 
       config : x.table.config ≡ t.config
-      config = Derives-one rules_in_force p x.table.config x.table.config t.config [] refl (subst (λ (ls : List Label). Derives rules_in_force p x.table.config ls t.config) empty (goes p q journal further S T l reads names step x t))
+      config = Derives-one all_rules p x.table.config x.table.config t.config [] refl (subst (λ (ls : List Label). Derives all_rules p x.table.config ls t.config) empty (goes p q journal further S T l reads names step x t))
 
       site : x.applies.site ≡ w.applies.site
       site = some_of (sym x.applies.is_site ∙ ap (λ (c : Config). site_of l.place c.roots) config ∙ w.applies.is_site)
@@ -139,6 +139,6 @@ module _ (p : Program) (q : Query) (journal further : List Label) (S T : Table) 
 pub new_core : (t : TableValue) (p : Program) (q : Query) (workers budget : ℕ) (journal : List Label) → t.program ≡ p → t.query ≡ q → IsTable (table_of t) (started p q) → journal ≡ []
     → IsCore (record { table = t; journal = journal; workers = workers; budget = budget })
 new_core t p q workers budget journal e f s n = subst (λ (j : List Label). IsCore (record { table = t; journal = j; workers = workers; budget = budget })) (sym n) (record {
-  table = start_law rules_in_force t.program t.query (table_of t) (subst (λ (x : Program). IsTable (table_of t) (started x t.query)) (sym e) (subst (λ (x : Query). IsTable (table_of t) (started p x)) (sym f) s));
+  table = start_law all_rules t.program t.query (table_of t) (subst (λ (x : Program). IsTable (table_of t) (started x t.query)) (sym e) (subst (λ (x : Query). IsTable (table_of t) (started p x)) (sym f) s));
   within = omega arith;
 })

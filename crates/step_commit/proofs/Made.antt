@@ -20,7 +20,7 @@ use Rattle.table_laws.specs.Writes.{Leads}
 use Rattle.table_laws.proofs.Fresh.{fresh_step}
 use Rattle.table_laws.proofs.StepMakes.{step_law}
 use Rattle.box_tree.specs.declared.step.Step.{Step}
-use Rattle.box_tree.specs.Tables.{rules_in_force, TableValue, table_of, step_of, FitsPlace, MayApply, Applied}
+use Rattle.box_tree.specs.Tables.{all_rules, TableValue, table_of, step_of, FitsPlace, MayApply, Applied}
 use Rattle.box_tree.specs.Views.{run_of}
 use Rattle.box_tree.specs.Plans.{PlanValue, IsRead, IsRight}
 use Rattle.step_commit.specs.Cores.{CoreValue, IsCore, run_by, KeepsFixed, MayCommit, Commits, AllWithin, IsFirstUnseen}
@@ -68,8 +68,8 @@ module _ (c : CoreValue) (k : IsCore c) (p : PlanValue) (r : IsRight p) (m : May
   x : IsPlanned c.table.program c.table.query p.journal (table_of p.table) p.label p.reads p.names step
   x = planned c p r m
 
-  t : IsTableOf rules_in_force (run_of c.table (p.journal ++ m.further)) (table_of c.table)
-  t = subst (λ (j : List Label). IsTableOf rules_in_force (run_of c.table j) (table_of c.table)) m.front k.table
+  t : IsTableOf all_rules (run_of c.table (p.journal ++ m.further)) (table_of c.table)
+  t = subst (λ (j : List Label). IsTableOf all_rules (run_of c.table j) (table_of c.table)) m.front k.table
 
   on : LeadsOn c.table.program c.table.query (p.journal ++ m.further) (table_of c.table) t p.label p.names step
   on = leads_on c.table.program c.table.query p.journal m.further (table_of p.table) (table_of c.table) p.label p.reads p.names step x t m.none_by within
@@ -78,9 +78,9 @@ module _ (c : CoreValue) (k : IsCore c) (p : PlanValue) (r : IsRight p) (m : May
   may_apply = record {
     run = run_of c.table (p.journal ++ m.further);
     table = t;
-    fits = fits rules_in_force c.table.program t.config p.label on.result _ on.applies step on.makes;
-    fresh = fresh_step rules_in_force (run_of c.table (p.journal ++ m.further)) (table_of c.table) p.label on.result t on.applies step on.makes;
-    ordered = makes_ordered rules_in_force (run_of c.table (p.journal ++ m.further)) (table_of c.table) p.label on.result t on.applies step on.makes;
+    fits = fits all_rules c.table.program t.config p.label on.result _ on.applies step on.makes;
+    fresh = fresh_step all_rules (run_of c.table (p.journal ++ m.further)) (table_of c.table) p.label on.result t on.applies step on.makes;
+    ordered = makes_ordered all_rules (run_of c.table (p.journal ++ m.further)) (table_of c.table) p.label on.result t on.applies step on.makes;
   }
 
   solved : (at : Option ℕ) → IsNow c p at → IsSolvedWhen at (table_of c.table) on.applies.site step
@@ -88,14 +88,14 @@ module _ (c : CoreValue) (k : IsCore c) (p : PlanValue) (r : IsRight p) (m : May
       (λ e. ap table_of (m.same_table e)) on at (elim h [ inl e ↦ inl e | inr (e, n) ↦ inr (e, n ∙ ap length m.front) ])
 
   module _ (at : Option ℕ) (u : TableValue) (h : IsNow c p at) (a : Applied c.table p.label at p.names p.step u) where
-    next : IsTableOf rules_in_force (run_of c.table ((p.journal ++ m.further) ++ p.label ∷ [])) (table_of u)
-    next = (step_law rules_in_force (run_of c.table (p.journal ++ m.further)) (table_of c.table) (table_of u) p.label on.result t on.applies step at on.makes (solved at h)
+    next : IsTableOf all_rules (run_of c.table ((p.journal ++ m.further) ++ p.label ∷ [])) (table_of u)
+    next = (step_law all_rules (run_of c.table (p.journal ++ m.further)) (table_of c.table) (table_of u) p.label on.result t on.applies step at on.makes (solved at h)
         (subst (λ (n : ℕ). Leads (table_of c.table) p.label at n step (table_of u)) on.drawn a.leads)).0
 
     pub core_on : (journal : List Label) → journal ≡ c.journal ++ p.label ∷ [] → length c.journal < c.budget → IsCore (record { table = u; journal = journal; workers = c.workers; budget = c.budget })
     core_on journal e less = subst (λ (j : List Label). IsCore (record { table = u; journal = j; workers = c.workers; budget = c.budget })) (sym (e ∙ ap (λ (j : List Label). j ++ p.label ∷ []) m.front)) (record {
-      table = subst (λ (q : Query). IsTableOf rules_in_force (record { program = u.program; query = q; journal = (p.journal ++ m.further) ++ p.label ∷ [] }) (table_of u)) (sym a.query)
-          (subst (λ (y : Program). IsTableOf rules_in_force (record { program = y; query = c.table.query; journal = (p.journal ++ m.further) ++ p.label ∷ [] }) (table_of u)) (sym a.program) next);
+      table = subst (λ (q : Query). IsTableOf all_rules (record { program = u.program; query = q; journal = (p.journal ++ m.further) ++ p.label ∷ [] }) (table_of u)) (sym a.query)
+          (subst (λ (y : Program). IsTableOf all_rules (record { program = y; query = c.table.query; journal = (p.journal ++ m.further) ++ p.label ∷ [] }) (table_of u)) (sym a.program) next);
       within =
           let i : length ((p.journal ++ m.further) ++ p.label ∷ []) ≡ length (p.journal ++ m.further) + length (p.label ∷ []) = length-append (p.journal ++ m.further) (p.label ∷ []) in
           let j : length c.journal ≡ length (p.journal ++ m.further) = ap length m.front in
@@ -110,7 +110,7 @@ module _ (c : CoreValue) (k : IsCore c) (p : PlanValue) (r : IsRight p) (m : May
       receipt = f;
       unspent = less;
       fresh = λ i j n y. unchanged c.table.program c.table.query p.journal m.further (table_of p.table) (table_of c.table) p.label p.reads p.names step x t i (stamp_in (table_of c.table) i) refl (within i j) n
-          (subst (λ (j : List Label). LastChange rules_in_force (run_of c.table j) i n) m.front y);
+          (subst (λ (j : List Label). LastChange all_rules (run_of c.table j) i n) m.front y);
     }
 
 -- the same over equal tables, items and numbers

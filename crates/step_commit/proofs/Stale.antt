@@ -23,7 +23,7 @@ use Rattle.table_laws.specs.Stamped.{Run, LastChange, IsTableOf, store_stamp, go
 use Rattle.table_laws.specs.Steps.{Step}
 use Rattle.table_laws.proofs.Frame.{row_of, found_of}
 use Rattle.table_laws.proofs.Insides.{spot_held}
-use Rattle.box_tree.specs.Tables.{rules_in_force, table_of, step_of}
+use Rattle.box_tree.specs.Tables.{all_rules, table_of, step_of}
 use Rattle.box_tree.specs.Views.{run_of}
 use Rattle.box_tree.specs.Plans.{PlanValue, IsRead, IsRight}
 use Rattle.step_commit.specs.Cores.{CoreValue, IsCore, MayCommit, IsStale, is_within, IsFirstUnseen}
@@ -121,11 +121,11 @@ same_held g e f h i s None j = let a : option_map shape_of (held_in g e.goals) �
 same_held g e f h i s (Some k) j = (k, j)
 
 module _ (p : Program) (q : Query) (journal further : List Label) (S T : Table) (l : Label) (reads : List Item) (names : ℕ) (step : Step) (x : IsPlanned p q journal S l reads names step)
-    (t : IsTableOf rules_in_force (record { program = p; query = q; journal = journal ++ further }) T) where
+    (t : IsTableOf all_rules (record { program = p; query = q; journal = journal ++ further }) T) where
   abbrev run : Run
   run = record { program = p; query = q; journal = journal ++ further }
 
-  on : GoesOn rules_in_force p x.table.config further t.config
+  on : GoesOn all_rules p x.table.config further t.config
   on = record { query = q; journal = journal; replays = x.table.replays; derives = goes p q journal further S T l reads names step x t }
 
   -- an item that was read has its stamp still, where no later label changed it
@@ -134,17 +134,17 @@ module _ (p : Program) (q : Query) (journal further : List Label) (S T : Table) 
   there_still (Item.Store m) s u n =
       let r : _ = box_there m (S.box_of m) s in
       let f : _ = found_of S x.table.config x.table.unfolds m r.0 r.1 in
-      let g : _ = box_stays rules_in_force p x.table.config further t.config on m f.0 f.1 u in
+      let g : _ = box_stays all_rules p x.table.config further t.config on m f.0 f.1 u in
       some_store T t.config t.unfolds m g.0 g.1 n
   there_still (Item.Goals m) s u n =
       let r : _ = goals_there m (S.box_of m) s in
       let f : _ = found_of S x.table.config x.table.unfolds m r.0 r.1 in
-      let g : _ = goals_stay rules_in_force p x.table.config further t.config on m f.0 f.1 u in
+      let g : _ = goals_stay all_rules p x.table.config further t.config on m f.0 f.1 u in
       some_goals T t.config t.unfolds m g.0 g.1 n
   there_still (Item.Goal m) s u n =
       let r : _ = goal_there m (S.goal_of m) s in
       let f : _ = goal_held S x.table.config x.table.unfolds m r.0 r.1 in
-      let g : _ = goal_stays rules_in_force p x.table.config further t.config on m f.0 f.2 u in
+      let g : _ = goal_stays all_rules p x.table.config further t.config on m f.0 f.2 u in
       let h : (k : Held) × (held_in m g.0.goals ≡ Some k) = same_held m f.0 g.0 f.1 f.3 g.3 (held_in m g.0.goals) refl in
       some_goal T t.config t.unfolds m g.0 h.0 g.1 h.1 n
   there_still (Item.Binding v) s u n = absurd cc
@@ -152,7 +152,7 @@ module _ (p : Program) (q : Query) (journal further : List Label) (S T : Table) 
   -- the number of its last change
   pub record Changed (i : Item) (stamp : Option ℕ) : Type 0 where
     pub number : ℕ
-    pub last : LastChange rules_in_force run i number
+    pub last : LastChange all_rules run i number
     pub unseen : length journal < number
     pub as_kept : (k : ℕ) → stamp ≡ Some k → k ≡ number
 
@@ -160,20 +160,20 @@ module _ (p : Program) (q : Query) (journal further : List Label) (S T : Table) 
   over k n e = grind (arith, nat_tests)
 
   pub changed : (i : Item) → IsSome (stamp_in S i) → (o : Option ℕ) → stamp_in T i ≡ o → is_within o (length journal) ≡ false → Changed i o
-  changed i s (Some k) e w = record { number = k; last = stamp_last rules_in_force run T t.stamped i k e; unseen = over k (length journal) w; as_kept = λ m j. sym (some_of j) }
-  changed i s None e w = of_last (last_change rules_in_force p q i (stamped_part S i s) (journal ++ further) t.config t.replays)
+  changed i s (Some k) e w = record { number = k; last = stamp_last all_rules run T t.stamped i k e; unseen = over k (length journal) w; as_kept = λ m j. sym (some_of j) }
+  changed i s None e w = of_last (last_change all_rules p q i (stamped_part S i s) (journal ++ further) t.config t.replays)
     where
-      of_last : (m : ℕ) × LastChange rules_in_force (record { program = p; query = q; journal = journal ++ further }) i m → Changed i None
+      of_last : (m : ℕ) × LastChange all_rules (record { program = p; query = q; journal = journal ++ further }) i m → Changed i None
       of_last z = elim (lt_or (length journal) z.0) [
         | inl h ↦ record { number = z.0; last = z.1; unseen = h; as_kept = λ m j. absurd cc }
-        | inr h ↦ absurd (there_still i s (stamped rules_in_force p q journal further x.table.config t.config i x.table.replays on.derives (record { number = z.0; last = z.1; early = elim h [ inl a ↦ omega arith | inr b ↦ omega arith ] })) e)
+        | inr h ↦ absurd (there_still i s (stamped all_rules p q journal further x.table.config t.config i x.table.replays on.derives (record { number = z.0; last = z.1; early = elim h [ inl a ↦ omega arith | inr b ↦ omega arith ] })) e)
       ]
 
   -- one that has a stamp which was seen was changed by no later label
-  pub unchanged : (i : Item) → (o : Option ℕ) → stamp_in T i ≡ o → is_within o (length journal) ≡ true → (k : ℕ) → LastChange rules_in_force run i k → k ≤ length journal
+  pub unchanged : (i : Item) → (o : Option ℕ) → stamp_in T i ≡ o → is_within o (length journal) ≡ true → (k : ℕ) → LastChange all_rules run i k → k ≤ length journal
   unchanged i None e w k v = absurd cc
   unchanged i (Some m) e w k v =
-      let a : m ≡ k = one_stamp by_store rules_in_force p q (journal ++ further) i m k (stamp_last rules_in_force run T t.stamped i m e) v in
+      let a : m ≡ k = one_stamp by_store all_rules p q (journal ++ further) i m k (stamp_last all_rules run T t.stamped i m e) v in
       let b : m ≤ length journal = under m (length journal) w in
       omega arith
     where
@@ -184,14 +184,14 @@ module _ (p : Program) (q : Query) (journal further : List Label) (S T : Table) 
 pub stale : (c : CoreValue) (k : IsCore c) (p : PlanValue) (r : IsRight p) (m : MayCommit c p) (item : Item) (stamp : Option ℕ) → IsFirstUnseen (table_of c.table) p.reads (length p.journal) item stamp → IsStale c p item stamp
 stale c k p r m item stamp f = of_journal c.journal m.front k.table
   where
-    of_journal : (journal : List Label) → journal ≡ p.journal ++ m.further → IsTableOf rules_in_force (run_of c.table journal) (table_of c.table) → IsStale (record c { journal = journal }) p item stamp
+    of_journal : (journal : List Label) → journal ≡ p.journal ++ m.further → IsTableOf all_rules (run_of c.table journal) (table_of c.table) → IsStale (record c { journal = journal }) p item stamp
     of_journal journal e t = subst (λ (j : List Label). IsStale (record c { journal = j }) p item stamp) (sym e) made
       where
         x : IsPlanned c.table.program c.table.query p.journal (table_of p.table) p.label p.reads p.names (step_of c.table.program.templates.nodes p.step)
         x = planned c p r m
 
-        u : IsTableOf rules_in_force (run_of c.table (p.journal ++ m.further)) (table_of c.table)
-        u = subst (λ (j : List Label). IsTableOf rules_in_force (run_of c.table j) (table_of c.table)) e t
+        u : IsTableOf all_rules (run_of c.table (p.journal ++ m.further)) (table_of c.table)
+        u = subst (λ (j : List Label). IsTableOf all_rules (run_of c.table j) (table_of c.table)) e t
 
         there : IsSome (stamp_in (table_of p.table) item)
         there = r.there item (subst (λ (is : List Item). IsRead is item) (sym f.is_read) (in_front f.earlier f.later item))

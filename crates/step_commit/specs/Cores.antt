@@ -6,7 +6,7 @@ use Rattle.akl_model.specs.declared.label.Receipt.{Receipt}
 use Rattle.plan_laws.specs.Right.{NoneBy}
 use Rattle.table_laws.specs.Rows.{Table}
 use Rattle.table_laws.specs.Stamped.{Run, IsTableOf, LastChange, stamp_in}
-use Rattle.box_tree.specs.Tables.{rules_in_force, TableValue, table_of}
+use Rattle.box_tree.specs.Tables.{all_rules, TableValue, table_of}
 use Rattle.box_tree.specs.Views.{run_of}
 use Rattle.box_tree.specs.Plans.{PlanValue, IsRead}
 use Rattle.step_commit.specs.declared.commit.CommitError.{CommitError}
@@ -23,7 +23,7 @@ run_by c = run_of c.table c.journal
 -- the table unfolds to the replay of the journal, which has at most as many labels as the budget, and keeps the number of the last change of
 -- each item
 pub record IsCore (c : CoreValue) : Type 0 where
-  pub table : IsTableOf rules_in_force (run_by c) (table_of c.table)
+  pub table : IsTableOf all_rules (run_by c) (table_of c.table)
   pub within : length c.journal ≤ c.budget
 
 -- what no call changes
@@ -44,7 +44,7 @@ pub record MayCommit (c : CoreValue) (p : PlanValue) : Type 0 where
 
 -- no label that the plan didn't see changed the item
 abbrev pub IsUnchanged : CoreValue → PlanValue → Item → Type 0
-IsUnchanged c p i = (k : ℕ) → LastChange rules_in_force (run_by c) i k → k ≤ length p.journal
+IsUnchanged c p i = (k : ℕ) → LastChange all_rules (run_by c) i k → k ≤ length p.journal
 
 -- one did, and the item is the first such of those that it read
 pub record IsStale (c : CoreValue) (p : PlanValue) (item : Item) (stamp : Option ℕ) : Type 0 where
@@ -53,7 +53,7 @@ pub record IsStale (c : CoreValue) (p : PlanValue) (item : Item) (stamp : Option
   pub is_read : p.reads ≡ earlier ++ item ∷ later
   pub first : (i : Item) → IsRead earlier i → IsUnchanged c p i
   pub number : ℕ
-  pub last : LastChange rules_in_force (run_by c) item number
+  pub last : LastChange all_rules (run_by c) item number
   pub unseen : length p.journal < number
   pub is_stamp : stamp ≡ stamp_in (table_of c.table) item
   pub as_kept : (k : ℕ) → stamp ≡ Some k → k ≡ number

@@ -7,7 +7,7 @@ use Rattle.akl_model.proofs.Options.{map_some}
 use Rattle.table_laws.specs.Rows.{BoxRow}
 use Rattle.table_laws.proofs.Walks.{Walk, first_walk, next_walk, last_walk, few_gathered, nested}
 use Rattle.box_tree.specs.declared.entries.BoxEntry.{BoxEntry}
-use Rattle.box_tree.specs.Tables.{TableValue, table_of, box_row, rules_in_force}
+use Rattle.box_tree.specs.Tables.{TableValue, table_of, box_row, all_rules}
 use Rattle.box_tree.proofs.Maps.{is_some_if}
 use Rattle.box_tree.proofs.table.Table.inside.Goals as goal
 
@@ -21,7 +21,7 @@ loop-at-init c = subst (λ (ns : List Name). Walk (table_of c.args.self.now) c.a
 
 pub loop-at-smaller : goal.loop-at-smaller
 loop-at-smaller c =
-    let few = few_gathered (table_of c.args.self.now) c.args.name c.args.self.now.boxes c.loop-at.names.items c.loop-at.at (nested rules_in_force c.requires.0 (table_of c.args.self.now) c.requires.1 c.args.name) (keyed c.args.self.now) c.loop-at.invariant in
+    let few = few_gathered (table_of c.args.self.now) c.args.name c.args.self.now.boxes c.loop-at.names.items c.loop-at.at (nested all_rules c.requires.0 (table_of c.args.self.now) c.requires.1 c.args.name) (keyed c.args.self.now) c.loop-at.invariant in
     let t = c.loop-at-test.true in let l = c.len.ensures in let ok = c.loop-at.names.ok.0 in
     omega (arith, few, t, l, ok)
 
@@ -29,7 +29,7 @@ pub loop-at-preserved : goal.loop-at-preserved
 loop-at-preserved c =
     let t = c.loop-at-test.true in let l = c.len.ensures in let ok = c.loop-at.names.ok.0 in
     subst (λ (ns : List Name). Walk (table_of c.args.self.now) c.args.name ns (c.loop-at.at + 1)) (sym c.in_ok-push_inside.ensures)
-    (next_walk (table_of c.args.self.now) c.args.name (nested rules_in_force c.requires.0 (table_of c.args.self.now) c.requires.1 c.args.name) c.loop-at.names.items c.loop-at.at c.index-here.result.now c.index-here.ensures (omega (arith, t, l, ok)) c.loop-at.invariant)
+    (next_walk (table_of c.args.self.now) c.args.name (nested all_rules c.requires.0 (table_of c.args.self.now) c.requires.1 c.args.name) c.loop-at.names.items c.loop-at.at c.index-here.result.now c.index-here.ensures (omega (arith, t, l, ok)) c.loop-at.invariant)
 
 pub returns : goal.returns
 returns c = let t = c.loop-at-test.false in let l = c.len.ensures in let ok = c.loop-at.names.ok.0 in last_walk (table_of c.args.self.now) c.args.name c.loop-at.names.items c.loop-at.at (omega (arith, t, l, ok)) c.loop-at.invariant
