@@ -1,5 +1,5 @@
 -- Atoms of which no rule makes anything.
-use Rattle.std.proofs.Common.{◌≡◌, ℕ, ◌<◌, ◌≤◌, ◌^◌, Some, None, refl, sym, ◌∙◌, ap, subst, inl, inr, arith}
+use Rattle.std.proofs.Common.{◌≡◌, ℕ, ◌<◌, ◌≤◌, ◌^◌, Some, sym, ◌∙◌, ap, subst, inl, inr, arith}
 use Rattle.std.specs.Prelude.{slice_get, slice_index, ⊤}
 use Rattle.akl_terms.specs.declared.name.Name.{Name}
 use Rattle.akl_terms.specs.declared.name.Place.{Place}
@@ -9,7 +9,7 @@ use Rattle.akl_terms.specs.declared.program.Program.{Program}
 use Rattle.akl_terms.specs.Arithmetic.{Answer, Evaluates}
 use Rattle.akl_terms.specs.Equal.{Equal, IsConsistent}
 use Rattle.akl_terms.specs.Tree.{port}
-use Rattle.akl_model.specs.Config.{Atom, Boxes, no_boxes, box, no_goals, Held, an_atom, a_choice, held_in, Port, port_in, Found, whole}
+use Rattle.akl_model.specs.Config.{Atom, Boxes, no_boxes, box, no_goals, an_atom, a_choice, held_in, Port, port_in, Found, whole}
 use Rattle.akl_model.specs.Instances.{drawn_by}
 use Rattle.akl_model.specs.Rules.{Change}
 use Rattle.akl_model.proofs.Options.{some_value}

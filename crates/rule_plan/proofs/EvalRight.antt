@@ -1,5 +1,5 @@
 -- A plan of Eval is right.
-use Rattle.std.proofs.Common.{◌≡◌, ℕ, ℤ, List, [], ◌∷◌, ◌++◌, Bool, true, false, Some, None, refl, sym, ◌∙◌, ap, subst, arith}
+use Rattle.std.proofs.Common.{◌≡◌, ℕ, ℤ, List, [], ◌∷◌, true, false, Some, None, refl, sym, ◌∙◌, ap, subst, arith}
 use Rattle.std.specs.Prelude.{slice_index}
 use Rattle.akl_terms.specs.declared.name.Name.{Name}
 use Rattle.akl_terms.specs.declared.name.Place.{Place}
@@ -7,7 +7,6 @@ use Rattle.akl_terms.specs.declared.term.Term.{Term}
 use Rattle.akl_terms.specs.declared.term.Term.TheVariants.{Mol}
 use Rattle.akl_terms.specs.declared.term.Equation as code
 use Rattle.akl_terms.specs.declared.program.Code.{Code}
-use Rattle.akl_terms.specs.declared.program.Goal.{Goal}
 use Rattle.akl_terms.specs.declared.program.Test.{Test}
 use Rattle.akl_terms.specs.Arithmetic.{Answer, value, truth, Evaluates, GoalWaitsOn, gives, compared, right_of_is, left_side, right_side}
 use Rattle.akl_terms.specs.Equal.{Equations, IsTold, IsConsistent, IsConsistentBy, same}
@@ -21,7 +20,7 @@ use Rattle.constraint_laws.proofs.WaitsOne.{value_waits}
 use Rattle.akl_model.specs.declared.label.Rule.{Rule}
 use Rattle.akl_model.specs.Config.{Atom, an_atom, held_in, with_content, without_goal, whole}
 use Rattle.akl_model.specs.Instances.{term_at}
-use Rattle.akl_model.specs.Rules.{Reading, answer, Change, becomes, telling, eval, change_by}
+use Rattle.akl_model.specs.Rules.{answer, Change, becomes, telling, eval, change_by}
 use Rattle.akl_model.specs.Conditions as conditions
 use Rattle.akl_model.specs.Conditions.{ComesTo}
 use Rattle.akl_model.specs.Stable.{Allows}
@@ -30,8 +29,6 @@ use Rattle.local_store.specs.declared.telling.ToldStore.{ToldStore}
 use Rattle.local_store.specs.Chained.{bindings_from, ToldBy}
 use Rattle.local_store.specs.Telling.{AnswersTold}
 use Rattle.plan_laws.specs.Right.{Reads}
-use Rattle.arith_goals.specs.declared.goals.ArithValue.{ArithValue}
-use Rattle.arith_goals.specs.declared.goals.ArithValue.TheVariants as answers
 use Rattle.arith_goals.specs.Answers as arithmetic
 use Rattle.box_tree.specs.declared.step.Step.{Step}
 use Rattle.box_tree.specs.declared.view.Sight.{Sight}

@@ -1,6 +1,5 @@
 -- Ports of a store and those of its box.
-use Rattle.std.proofs.Common.{◌≡◌, ℕ, ◌+◌, List, [], ◌∷◌, Bool, true, false, Some, None, refl, sym, ap, ◌∙◌, subst, inl, inr, arith}
-use Rattle.std.proofs.lemmas.Bool.Decides.{nat_tests}
+use Rattle.std.proofs.Common.{◌≡◌, List, [], ◌∷◌, Bool, true, false, Some, refl, sym, ap, ◌∙◌, subst, inl, inr}
 use Rattle.std.specs.Prelude.{if◌then◌else◌, cond, is_some}
 use Rattle.std.specs.Map.{lookup}
 use Rattle.std.specs.BTreeMap.{insert_entry}
@@ -13,12 +12,11 @@ use Rattle.akl_terms.specs.declared.term.Term.{Term}
 use Rattle.akl_terms.specs.Names.{same_name, is_before, name_cmp}
 use Rattle.akl_terms.specs.Template.{tree}
 use Rattle.akl_terms.proofs.SameNames.{same_name-equal}
-use Rattle.akl_model.specs.Config.{Content, Boxes, no_boxes, box, Goals, no_goals, atom, choice, Port, with_name, with_port, with_tail, port_in}
+use Rattle.akl_model.specs.Config.{Content, Boxes, no_boxes, box, Goals, no_goals, atom, choice, Port, with_tail, port_in}
 use Rattle.akl_model.specs.Ordered.{IsBeforeAll, IsIncreasing, BoxesOrdered, GoalsOrdered}
-use Rattle.akl_model.specs.Names.{one_if, times_in}
 use Rattle.akl_model.specs.Renaming.{port_names}
 use Rattle.akl_model.proofs.Options.{some_value}
-use Rattle.akl_model.proofs.Orders.{not_same, before_not}
+use Rattle.akl_model.proofs.Orders.{before_not}
 use Rattle.step_laws.specs.Whereabouts.{BoxIn, InGoals}
 use Rattle.local_store.proofs.Orders.{name-same}
 use Rattle.table_laws.specs.Rows.{ports_in}

@@ -1,4 +1,4 @@
--- The rules that are planned are in force, and Split isn't.
+-- The rules that are planned at goals and boxes are in force.
 use Rattle.std.proofs.Common.{refl, inl, inr}
 use Rattle.akl_model.specs.declared.label.Rule.{Rule}
 use Rattle.akl_model.specs.Derivations.{IsInForce}

@@ -1,5 +1,5 @@
 -- A plan of Open is right.
-use Rattle.std.proofs.Common.{◌≡◌, ℕ, ◌+◌, ◌≤◌, [], ◌∷◌, ◌++◌, List, Some, None, refl, sym, ◌∙◌, ap, subst, arith}
+use Rattle.std.proofs.Common.{◌≡◌, ℕ, ◌+◌, ◌≤◌, [], ◌∷◌, List, Some, None, refl, sym, ◌∙◌, ap, subst, arith}
 use Rattle.std.specs.Prelude.{slice_index}
 use Rattle.akl_terms.specs.declared.name.Name.{Name}
 use Rattle.akl_terms.specs.declared.name.Place.{Place}
@@ -19,7 +19,7 @@ use Rattle.akl_model.specs.Rules.{nothing, Change, becomes, telling, open_new, c
 use Rattle.akl_model.specs.Conditions as conditions
 use Rattle.akl_model.specs.Stable.{Allows}
 use Rattle.akl_model.proofs.Drawn.{drawn_times}
-use Rattle.akl_model.proofs.Finds.{times, times_of, times_inside}
+use Rattle.akl_model.proofs.Finds.{times}
 use Rattle.akl_model.proofs.ScopesAlong.{times_path}
 use Rattle.step_laws.proofs.Whereabouts.{found_in, in_counted}
 use Rattle.plan_laws.specs.Right.{Reads}

@@ -1,21 +1,20 @@
 -- A plan of Send is right.
-use Rattle.std.proofs.Common.{◌≡◌, ℕ, ◌+◌, List, [], ◌∷◌, ◌++◌, true, false, Some, None, refl, sym, ◌∙◌, ap, subst, arith, append_assoc}
+use Rattle.std.proofs.Common.{◌≡◌, ℕ, ◌+◌, List, [], ◌∷◌, true, false, Some, None, refl, sym, ◌∙◌, ap, subst, arith, append_assoc}
 use Rattle.std.specs.Prelude.{slice_index, is_some}
 use Rattle.std.specs.Map.{lookup}
 use Rattle.akl_terms.specs.declared.name.Name.{Name}
 use Rattle.akl_terms.specs.declared.name.Place.{Place}
-use Rattle.akl_terms.specs.declared.name.Var.{Var}
 use Rattle.akl_terms.specs.declared.term.Node.{Node}
 use Rattle.akl_terms.specs.declared.term.Term.{Term}
 use Rattle.akl_terms.specs.declared.term.Term.TheVariants.{Mol}
 use Rattle.akl_terms.specs.declared.term.Equation as code
 use Rattle.akl_terms.specs.declared.program.Code.{Code}
-use Rattle.akl_terms.specs.Equal.{Equations, IsTold, Equal, EqualBy, IsConsistent, IsConsistentBy}
+use Rattle.akl_terms.specs.Equal.{Equations, IsTold, EqualBy, IsConsistentBy}
 use Rattle.akl_terms.specs.Names.{same_name}
 use Rattle.akl_terms.specs.Solved.{IsUnstructured}
 use Rattle.akl_terms.specs.Standing.{StandFor}
 use Rattle.akl_terms.specs.Template.{tree}
-use Rattle.akl_terms.specs.Tree.{Tree, variable, port, port_head}
+use Rattle.akl_terms.specs.Tree.{Tree, port, port_head}
 use Rattle.akl_terms.proofs.StandingLaws.{StandFor-back, StandFor-on}
 use Rattle.constraint_laws.specs.Standing.{StandsForConsistent}
 use Rattle.constraint_laws.proofs.Stands.{port_stands}
@@ -25,7 +24,7 @@ use Rattle.akl_model.specs.Config.{Atom, Content, Port, an_atom, held_in, withou
 use Rattle.akl_model.specs.Instances.{term_at}
 use Rattle.akl_model.specs.Ordered.{IsIncreasing}
 use Rattle.akl_model.specs.Renaming.{port_names}
-use Rattle.akl_model.specs.Rules.{Reading, receiver, Change, becomes, telling, send_to, send_by, change_by}
+use Rattle.akl_model.specs.Rules.{receiver, Change, becomes, telling, send_to, send_by, change_by}
 use Rattle.akl_model.specs.Conditions as conditions
 use Rattle.akl_model.specs.Conditions.{GoesTo}
 use Rattle.akl_model.specs.Stable.{Allows}
@@ -180,12 +179,15 @@ module _ (v : ViewValue) (g frame : Name) (m r : ℕ) (q : Name) (goes : GoesToP
   pub send_right : (new : Stored) → new ≡ sent_store v t.store q → IsRight (plan_at v Rule.Send g 1 (Step.Tell new t.solved))
   send_right new is = subst (λ (k : Stored). IsRight (plan_at v Rule.Send g 1 (Step.Tell k t.solved))) (sym is)
       (goal_right v i g Rule.Send (an_atom (Atom.send (term_at v.table.program.templates.nodes frame m) (term_at v.table.program.templates.nodes frame r))) (held v i g frame m r p s) send_in_force change makes
-      (Step.Tell (sent_store v t.store q) t.solved)
-      (g, p, tells_goal v i (sent_equations v frame m tail) t a (sent_store v t.store q) refl Rule.Send (slice_index i.table.config.next v.worker) g content 1
-      (record { goal = Atom.send (term_at v.table.program.templates.nodes frame m) (term_at v.table.program.templates.nodes frame r); held = held v i g frame m r p s; makes = makes })
-      (record { left = tree v.table.program.templates.nodes tail; right = cell (v.table.program.cell + 2) })
-      (record { left = cell v.table.program.cell; right = term_at v.table.program.templates.nodes frame m } ∷ []) refl
-      (append_assoc i.site.content.equations (record { left = tree v.table.program.templates.nodes tail; right = cell (v.table.program.cell + 2) } ∷ [])
-      (record { left = cell v.table.program.cell; right = term_at v.table.program.templates.nodes frame m } ∷ [])) frames ports)
+      (Step.Tell (sent_store v t.store q) t.solved) (
+        g,
+        p,
+        tells_goal v i (sent_equations v frame m tail) t a (sent_store v t.store q) refl Rule.Send (slice_index i.table.config.next v.worker) g content 1
+            (record { goal = Atom.send (term_at v.table.program.templates.nodes frame m) (term_at v.table.program.templates.nodes frame r); held = held v i g frame m r p s; makes = makes })
+            (record { left = tree v.table.program.templates.nodes tail; right = cell (v.table.program.cell + 2) })
+            (record { left = cell v.table.program.cell; right = term_at v.table.program.templates.nodes frame m } ∷ []) refl
+            (append_assoc i.site.content.equations (record { left = tree v.table.program.templates.nodes tail; right = cell (v.table.program.cell + 2) } ∷ [])
+            (record { left = cell v.table.program.cell; right = term_at v.table.program.templates.nodes frame m } ∷ [])) frames ports,
+      )
       (solved_if v i (sent_equations v frame m tail) t a (sent_store v t.store q) refl t.solved refl)
       (subst (λ (u : Place). Reads (IsRead (plan_at v Rule.Send g 1 Step.Fail).reads) Rule.Send u None i.site) (sym p) (goal_reads v i g), (goal_reads v i g).1))

@@ -3,7 +3,6 @@ use Rattle.std.proofs.Common.{◌≡◌, ℕ, zero, suc, ◌+◌, ◌<◌, ◌�
 use Rattle.std.specs.Prelude.{IsSome}
 use Rattle.std.specs.Option.{option_to_list}
 use Rattle.akl_terms.specs.declared.term.Node.{Node}
-use Rattle.akl_terms.specs.Tree.{Tree}
 use Rattle.akl_terms.specs.Equal.{Equations, IsTold, told, Follows, IsConsistentBy}
 use Rattle.akl_terms.proofs.EqualLaws.{IsConsistent-follows, IsTold-left}
 use Rattle.akl_terms.specs.Standing.{StandFor}

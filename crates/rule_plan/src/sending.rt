@@ -118,5 +118,12 @@ fn send_to(
     };
     let store = store.with_frame(frame)?.with_port(port, new_tail)?;
     let store = Shared::new(alloc, store)?;
-    goal_plan(alloc, view, goal, Rule::Send, 1, Step::Tell { store, solved })
+    goal_plan(
+        alloc,
+        view,
+        goal,
+        Rule::Send,
+        1,
+        Step::Tell { store, solved },
+    )
 }

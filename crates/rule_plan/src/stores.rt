@@ -10,10 +10,7 @@ use local_store::{Chain, Shared, Store, solved_store};
 use std::alloc::{AllocError, Global};
 
 // Stores with which a chain is solved throughout, and stands for the same.
-pub(crate) fn solved_stores(
-    alloc: Global,
-    chain: &Chain,
-) -> Result<Vec<Shared<Store>>, AllocError>
+pub(crate) fn solved_stores(alloc: Global, chain: &Chain) -> Result<Vec<Shared<Store>>, AllocError>
     requires { IsConsistentBy (ToldBy chain.now.nodes chain.now.stores) }
     ensures { IfOk result (λ stores. ResolvesAll chain.now.nodes chain.now.stores stores.items) }
 {

@@ -1,4 +1,4 @@
-use Rattle.std.proofs.Common.{◌++◌, drop}
+use Rattle.std.proofs.Common.{drop}
 use Rattle.rule_plan.proofs.Solving.{IsSolving}
 use Rattle.rule_plan.proofs.stores.solved_stores.Given as goal
 
