@@ -1,5 +1,5 @@
 -- Places at which no rule in force applies.
-use Rattle.std.proofs.Common.{◌≡◌, ℕ, Option, Some, None, ◌∙◌, subst, inl, inr}
+use Rattle.std.proofs.Common.{◌≡◌, ℕ, Option, Some, None, refl, ◌∙◌, subst, inl, inr}
 use Rattle.std.specs.Prelude.{slice_index}
 use Rattle.akl_terms.specs.declared.name.Name.{Name}
 use Rattle.akl_terms.specs.declared.name.Place.{Place}
