@@ -17,4 +17,5 @@ pub mod Joined
 pub mod Reading
 pub mod Loadable
 pub mod Unmixed
+pub mod Numbers
 pub mod Asked

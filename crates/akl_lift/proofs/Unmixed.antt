@@ -39,11 +39,11 @@ was_written next (x ∷ cs) c r (suc k, h, e) = further x cs c (was_written (nex
 pub among_all : (P : Clause → Type 0) (cs : List Clause) (c : Clause) → All P cs → Contains cs c → P c
 among_all P cs c a (k, h, e) = subst P e (a k c h)
 
-made_callee : (os : List Op) (first : ℕ) (c : Clause) (m : IsMadeOf os first c) → defined_by c ≡ Lifted (first + m.at) (length c.arguments)
+pub made_callee : (os : List Op) (first : ℕ) (c : Clause) (m : IsMadeOf os first c) → defined_by c ≡ Lifted (first + m.at) (length c.arguments)
 unfolding defined_by
 made_callee os first c m = ap (λ (h : Head). by_head h (length c.arguments)) m.head_is
 
-apart_if : (h : Head) (n number k : ℕ) → IsNamed h → by_head h n ≡ Lifted number k → ⊥
+pub apart_if : (h : Head) (n number k : ℕ) → IsNamed h → by_head h n ≡ Lifted number k → ⊥
 apart_if (heads.Named s) n number k i e = cc
 apart_if (heads.Lifted m inside) n number k i e = i
 

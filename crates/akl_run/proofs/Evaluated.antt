@@ -12,6 +12,7 @@ use Rattle.akl_model.specs.Rules.{count_of}
 use Rattle.akl_model.specs.Derivations.{IsQuietEnd, AreAnswers, Outcome, done, failed, suspended, out_of_budget, HasOutcome, is_out_of_budget, is_suspended, is_failed, is_done}
 use Rattle.akl_model.specs.Derivations as derivations
 use Rattle.clause_store.specs.Loaded.{IsQueryOf}
+use Rattle.akl_lift.specs.Lifting.{query_without, made_of_query}
 use Rattle.box_tree.specs.Tables.{all_rules, HasShownVariables, AreBelow}
 use Rattle.step_commit.specs.Cores.{CoreValue, IsCore}
 use Rattle.seq_engine.specs.declared.run.End.{End}
@@ -20,7 +21,7 @@ use Rattle.seq_engine.specs.Runs.{AreKept, EndsAs}
 use Rattle.root_answers.specs.Roots.{TableIn, Answers, LongAnswers}
 use Rattle.akl_run.specs.declared.loaded.Loaded.{Loaded}
 use Rattle.akl_run.specs.declared.ending.Ending.{Ending}
-use Rattle.akl_run.specs.Loads.{IsLoadedFrom}
+use Rattle.akl_run.specs.Loads.{first_asked, IsLoadedFrom}
 use Rattle.akl_run.specs.Traces.{trace_text}
 use Rattle.akl_run.specs.Text.{outcome_line}
 use Rattle.akl_run.specs.Endings.{ending_by, status_by, outcome_by}
@@ -31,8 +32,9 @@ use Rattle.akl_run.proofs.ShownTerms.{shown-below}
 
 pub loaded_shown : (program query : List ℕ) (l : Loaded) → IsLoadedFrom program query l → HasShownVariables l.query
 loaded_shown program query l is =
-    let stands : IsQueryOf is.base [] is.is_query.asked l.program l.query = is.is_query.stands in
-    subst (AreBelow l.query.variables) (sym stands.shown) (shown-below 0 is.is_query.asked.names l.query.variables (omega (arith, stands.variables)))
+    let stands : IsQueryOf is.base (made_of_query first_asked is.is_query.asked) (query_without first_asked is.is_query.asked) l.program l.query = is.is_query.stands in
+    let count : l.query.variables ≡ length is.is_query.asked.names = stands.variables in
+    subst (AreBelow l.query.variables) (sym stands.shown) (shown-below 0 is.is_query.asked.names l.query.variables (omega (arith, count)))
 
 pub status_of : (e : Ending) → IsStatusOf (status_by e) (outcome_by e)
 status_of Ending.Done = refl

@@ -12,6 +12,7 @@ use Rattle.clause_keys.specs.declared.callee.Callee.{Callee}
 use Rattle.clause_keys.specs.Keys.{called_by, Adds, known, next, Collects}
 use Rattle.clause_keys.specs.Keys as keys
 use Rattle.clause_checks.specs.Refusals.{refusal_of, query_refusal_of}
+use Rattle.akl_lift.specs.Lifting.{lifted_clauses}
 use Rattle.akl_run.specs.declared.report.Part.{Part}
 use Rattle.akl_run.specs.declared.report.Status.{Status}
 use Rattle.akl_run.specs.declared.report.Refusal.{Refusal}
@@ -20,15 +21,13 @@ use Rattle.akl_run.specs.declared.loaded.Loaded.{Loaded}
 use Rattle.akl_args.specs.declared.options.Options.{Options}
 use Rattle.akl_args.specs.declared.options.WordsError.{WordsError}
 use Rattle.akl_run.specs.Words.{is_built, query_of, program_of}
-use Rattle.akl_run.specs.Goals.{are_built_goals, are_built_clauses}
-use Rattle.akl_run.specs.Choices.{has_choice, have_choices}
 use Rattle.akl_model.specs.Config.{Content}
 use Rattle.answer_text.specs.Answers.{longest_answer}
 use Rattle.akl_run.specs.declared.evaluate.Evaluated.{Evaluated}
 use Rattle.akl_run.specs.declared.stop.Stop.{Stop}
 use Rattle.root_answers.specs.Text.{AreTexts, no_answers, an_answer, HasLongAnswer, here, there}
 use Rattle.akl_run.specs.Steps.{IsRunAs, IsStopped, whole, part}
-use Rattle.akl_run.specs.Loads.{IsLoadedFrom, IsLoadedProgram, ProgramStops, QueryStops, IsLoadedQuery, by_text, not_built, by_loading, not_built_goal, no_memory}
+use Rattle.akl_run.specs.Loads.{IsLoadedFrom, IsLoadedProgram, ProgramStops, QueryStops, IsLoadedQuery, by_text, by_loading, no_memory}
 use Rattle.akl_run.specs.Commands.{Side, side, Command, HasFaulted, HasWorked, HasProgram, Asks, IsAskedBy, IsRead, IsGiven, Stops, by_words, by_reading, by_program, by_query, by_run, fault, IsFault, WordsEnd, ProgramEnds, QueryEnds, LongAnswersEnd, IsOutcome, IsAnswered, IsComplete}
 use Rattle.akl_run.specs.Commands as commands
 use Rattle.akl_run.specs.Runs.{IsRun}
@@ -89,28 +88,13 @@ same_program_stop : {text : List ℕ} {s t : Status} {f g : Refusal} → Program
 same_program_stop no_memory q n = absurd (n tt)
 same_program_stop p no_memory n = inl tt
 same_program_stop (by_text r) (by_text q) n = inr (refl, ap Refusal.TextOf (refused_same (program_one q r)))
-same_program_stop (by_text r) (not_built q c) n = absurd (not_both (program_one q r))
-same_program_stop (by_text r) (by_loading q c e) n = absurd (not_both (program_one q r))
-same_program_stop (by_text r) (not_built_goal q c e b) n = absurd (not_both (program_one q r))
-same_program_stop (not_built r c) (by_text q) n = absurd (not_both (program_one r q))
-same_program_stop (not_built r c) (not_built q d) n = inr (refl, refl)
-same_program_stop (not_built r c) (by_loading q d e) n = absurd (true_false c (subst (λ (z : List Clause). have_choices z ≡ false) (clauses_one q r) d))
-same_program_stop (not_built r c) (not_built_goal q d e b) n = inr (refl, refl)
-same_program_stop (by_loading r c e) (by_text q) n = absurd (not_both (program_one r q))
-same_program_stop (by_loading r c e) (not_built q d) n = absurd (true_false d (subst (λ (z : List Clause). have_choices z ≡ false) (clauses_one r q) c))
-same_program_stop (by_loading {e = cause} r c e) (by_loading q d h) n =
-    inr (refl, ap Refusal.Loading (some_same (sym h ∙ subst (λ (z : List Clause). refusal_of z ≡ Some cause) (clauses_one r q) e)))
-same_program_stop (by_loading {e = cause} r c e) (not_built_goal q d h b) n = absurd (none_some h (subst (λ (z : List Clause). refusal_of z ≡ Some cause) (clauses_one r q) e))
-same_program_stop (not_built_goal r c e b) (by_text q) n = absurd (not_both (program_one r q))
-same_program_stop (not_built_goal r c e b) (not_built q d) n = inr (refl, refl)
-same_program_stop (not_built_goal r c e b) (by_loading q d h) n = absurd (none_some (subst (λ (z : List Clause). refusal_of z ≡ None) (clauses_one r q) e) h)
-same_program_stop (not_built_goal r c e b) (not_built_goal q d h a) n = inr (refl, refl)
+same_program_stop (by_text r) (by_loading q e) n = absurd (not_both (program_one q r))
+same_program_stop (by_loading r e) (by_text q) n = absurd (not_both (program_one r q))
+same_program_stop (by_loading {e = cause} r e) (by_loading q h) n = inr (refl, ap Refusal.Loading (some_same (sym h ∙ subst (λ (z : List Clause). refusal_of z ≡ Some cause) (clauses_one r q) e)))
 
 loaded_or_stopped : {text : List ℕ} {p : Program} {s : Status} {f : Refusal} → IsLoadedProgram text p → ProgramStops text s f → IsFault s
 loaded_or_stopped l (by_text r) = absurd (not_both (program_one l.reads r))
-loaded_or_stopped l (not_built r c) = absurd (true_false c (subst (λ (z : List Clause). have_choices z ≡ false) (clauses_one l.reads r) l.plain))
-loaded_or_stopped l (by_loading r c e) = absurd (none_some (subst (λ (z : List Clause). refusal_of z ≡ None) (clauses_one l.reads r) l.allowed) e)
-loaded_or_stopped l (not_built_goal r c e b) = absurd (true_false (subst (λ (z : List Clause). are_built_clauses z ≡ true) (clauses_one l.reads r) l.built) b)
+loaded_or_stopped l (by_loading r e) = absurd (none_some (subst (λ (z : List Clause). refusal_of z ≡ None) (clauses_one l.reads r) l.allowed) e)
 loaded_or_stopped l no_memory = tt
 
 -- ---- a query's text is refused in one way, over each program that the clauses stand for
@@ -126,7 +110,7 @@ collects_one {other = other} (keys.next {cs = more} a p) (keys.next b q) = colle
 
 same_callees : {text : List ℕ} {p q : Program} → IsLoadedProgram text p → IsLoadedProgram text q → map called_by p.definitions ≡ map called_by q.definitions
 same_callees {text} {p} {q} l k =
-    collects_one l.stands.collected (subst (λ (z : List Clause). Collects [] z (map called_by q.definitions)) (accepted_same (program_one k.reads l.reads)) k.stands.collected)
+    collects_one l.stands.collected (subst (λ (z : List Clause). Collects [] (lifted_clauses z) (map called_by q.definitions)) (accepted_same (program_one k.reads l.reads)) k.stands.collected)
 
 same_refusal : (p q : Program) (asked : Query) → map called_by p.definitions ≡ map called_by q.definitions → query_refusal_of p asked ≡ query_refusal_of q asked
 unfolding query_refusal_of
@@ -147,27 +131,13 @@ same_query_stop : {program text : List ℕ} {p q : Program} {s t : Status} {f g 
 same_query_stop l k no_memory b n = absurd (n tt)
 same_query_stop l k a no_memory n = inl tt
 same_query_stop l k (by_text r) (by_text q) n = inr (refl, ap Refusal.TextOf (refused_same (query_verdict_one q r)))
-same_query_stop l k (by_text r) (not_built q c) n = absurd (not_both (query_verdict_one q r))
-same_query_stop l k (by_text r) (by_loading q c e) n = absurd (not_both (query_verdict_one q r))
-same_query_stop l k (by_text r) (not_built_goal q c e b) n = absurd (not_both (query_verdict_one q r))
-same_query_stop l k (not_built r c) (by_text q) n = absurd (not_both (query_verdict_one r q))
-same_query_stop l k (not_built r c) (not_built q d) n = inr (refl, refl)
-same_query_stop l k (not_built r c) (by_loading q d e) n = absurd (true_false c (subst (λ (z : Query). has_choice z.goals ≡ false) (query_one q r) d))
-same_query_stop l k (not_built r c) (not_built_goal q d e b) n = inr (refl, refl)
-same_query_stop l k (by_loading r c e) (by_text q) n = absurd (not_both (query_verdict_one r q))
-same_query_stop l k (by_loading r c e) (not_built q d) n = absurd (true_false d (subst (λ (z : Query). has_choice z.goals ≡ false) (query_one r q) c))
-same_query_stop l k (by_loading {q = x} r c e) (by_loading {q = y} q d h) n = inr (refl, ap Refusal.Loading (some_same (sym h ∙ some_other x y l k (query_one r q) e)))
-same_query_stop l k (by_loading {q = x} r c e) (not_built_goal {q = y} q d h b) n = absurd (none_some h (some_other x y l k (query_one r q) e))
-same_query_stop l k (not_built_goal r c e b) (by_text q) n = absurd (not_both (query_verdict_one r q))
-same_query_stop l k (not_built_goal r c e b) (not_built q d) n = inr (refl, refl)
-same_query_stop l k (not_built_goal {q = x} r c e b) (by_loading {q = y} q d h) n = absurd (none_some (none_other x y l k (query_one r q) e) h)
-same_query_stop l k (not_built_goal r c e b) (not_built_goal q d h a) n = inr (refl, refl)
+same_query_stop l k (by_text r) (by_loading q e) n = absurd (not_both (query_verdict_one q r))
+same_query_stop l k (by_loading r e) (by_text q) n = absurd (not_both (query_verdict_one r q))
+same_query_stop l k (by_loading {q = x} r e) (by_loading {q = y} q h) n = inr (refl, ap Refusal.Loading (some_same (sym h ∙ some_other x y l k (query_one r q) e)))
 
 asked_or_stopped : {program text : List ℕ} {p q : Program} {l : Loaded} {s : Status} {f : Refusal} → IsLoadedProgram program p → IsLoadedProgram program q → IsLoadedQuery p text l → QueryStops q text s f → IsFault s
 asked_or_stopped a b l (by_text r) = absurd (not_both (query_verdict_one l.reads r))
-asked_or_stopped a b l (not_built r c) = absurd (true_false c (subst (λ (z : Query). has_choice z.goals ≡ false) (query_one l.reads r) l.plain))
-asked_or_stopped a b l (by_loading {q = y} r c e) = absurd (none_some (none_other l.asked y a b (query_one l.reads r) l.allowed) e)
-asked_or_stopped a b l (not_built_goal r c e i) = absurd (true_false (subst (λ (z : Query). are_built_goals z.goals ≡ true) (query_one l.reads r) l.built) i)
+asked_or_stopped a b l (by_loading {q = y} r e) = absurd (none_some (none_other l.asked y a b (query_one l.reads r) l.allowed) e)
 asked_or_stopped a b l no_memory = tt
 
 -- ---- words ask for one thing

@@ -2,6 +2,7 @@ pub mod ShownTerms
 pub mod Evaluated
 pub mod Explained
 pub mod Loading
+pub mod Lifted
 pub mod Reading
 pub mod Exact
 pub mod Reported

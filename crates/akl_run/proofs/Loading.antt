@@ -1,21 +1,17 @@
--- From what the tests of loading found to what loading asks, and to why there is no program or query.
+-- From what the tests of loading found to why there is no program or query.
 use Rattle.std.proofs.Common.{◌≡◌, ◌<◌, ◌≤◌, ℕ, zero, suc, List, [], ◌∷◌, length, Bool, true, false, refl, sym, ap, subst, Err, arith, Vec, Global}
 use Rattle.std.proofs.lemmas.List.{length-map}
 use Rattle.akl_syntax.specs.declared.source.SourceClause.{SourceClause}
-use Rattle.std.specs.Prelude.{◌||◌, ◌&&◌, slice_index_or, map, Result, Ok, IfErr}
+use Rattle.std.specs.Prelude.{Result, Ok, IfErr}
 use Rattle.std.specs.Result.{IsErrAnd}
-use Rattle.std.specs.List.{All, list_any, list_all}
 use Rattle.akl_terms.specs.declared.program.Program.{Program}
 use Rattle.akl_lexemes.specs.declared.error.SyntaxError.{SyntaxError}
 use Rattle.akl_lexemes.specs.declared.error.SyntaxError.TheVariants as syntax_errors
-use Rattle.akl_syntax.specs.Goals.{Goal, call, choice, lifted}
 use Rattle.akl_syntax.specs.Clauses.{Clause, Query}
 use Rattle.akl_syntax.specs.Verdicts.{Verdict, accepted, ReadsProgram, ReadsQuery, too_long, clauses}
 use Rattle.akl_syntax.specs.Answers.{clause_view, clauses_view, query_view}
 use Rattle.akl_syntax.specs.Answers as readers
 use Rattle.akl_syntax.specs.Sizes.{clauses_size}
-use Rattle.clause_keys.specs.declared.callee.Callee.{Callee}
-use Rattle.clause_keys.specs.Conditions.{IsChoice, HasNoChoice, IsClauseLoadable}
 use Rattle.clause_checks.specs.declared.error.LoadError.{LoadError}
 use Rattle.clause_checks.specs.declared.error.LoadError.TheVariants as load_errors
 use Rattle.clause_checks.specs.Refusals.{refusal_of, query_refusal_of}
@@ -23,7 +19,6 @@ use Rattle.clause_checks.specs.Refusals as checks
 use Rattle.akl_run.specs.declared.report.Status.{Status}
 use Rattle.akl_run.specs.declared.report.Refusal.{Refusal}
 use Rattle.akl_run.specs.declared.stop.Stop.{Stop}
-use Rattle.akl_run.specs.Choices.{is_choice, has_choice, is_chosen, have_choices}
 use Rattle.akl_args.specs.declared.options.WordsError.{WordsError}
 use Rattle.akl_args.specs.declared.options.WordsError.TheVariants as words_errors
 use Rattle.akl_args.specs.Table.{reading, IsRefusalOf}
@@ -31,35 +26,6 @@ use Rattle.akl_run.specs.Commands.{WordsStop}
 use Rattle.akl_run.specs.Commands as commands
 use Rattle.akl_run.specs.Stops.{IsStop, IsWordsStop, IsTextStop, IsLoadingStop}
 use Rattle.akl_run.specs.Loads.{ProgramStops, QueryStops, by_text, by_loading, no_memory}
-
--- ---- no inline choice
-or_false : (a b : Bool) → (a || b) ≡ false → (a ≡ false) × (b ≡ false)
-or_false true b e = absurd cc
-or_false false b e = (refl, e)
-
-false_at : {X : Type 0} (p : X → Bool) (xs : List X) → list_any p xs ≡ false → (k : ℕ) (d : X) → k < length xs → p (slice_index_or xs k d) ≡ false
-false_at p [] e k d h = absurd (omega (arith, h))
-false_at p (x ∷ xs) e zero d h = (or_false (p x) (list_any p xs) e).0
-false_at p (x ∷ xs) e (suc k) d h = false_at p xs (or_false (p x) (list_any p xs) e).1 k d (omega (arith, h))
-
-no_choice : (g : Goal) → is_choice g ≡ false → IsChoice g → ⊥
-no_choice (choice ps) e i = cc
-no_choice (call s ts) e i = i
-no_choice (lifted n ns) e i = i
-
-pub plain_goals : (gs : List Goal) → has_choice gs ≡ false → HasNoChoice gs
-plain_goals gs e = λ k d h. no_choice (slice_index_or gs k d) (false_at is_choice gs e k d h)
-
-pub plain_clauses : (callees : List Callee) (cs : List Clause) → have_choices cs ≡ false
-    → All (λ c. HasNoChoice c.part.guard → HasNoChoice c.part.body → IsClauseLoadable callees c) cs → All (IsClauseLoadable callees) cs
-plain_clauses callees cs e a = λ k d h. (
-    let c : Clause = slice_index_or cs k d in
-    let f : (has_choice c.part.guard ≡ false) × (has_choice c.part.body ≡ false) = or_false (has_choice c.part.guard) (has_choice c.part.body) (false_at is_chosen cs e k d h) in
-    a k d h (plain_goals c.part.guard f.0) (plain_goals c.part.body f.1))
-
-pub list_any-map : {X Y : Type 0} (p : Y → Bool) (f : X → Y) (xs : List X) → list_any p (map f xs) ≡ list_any (λ (x : X). p (f x)) xs
-list_any-map p f [] = refl
-list_any-map p f (x ∷ xs) = ap (λ (b : Bool). p (f x) || b) (list_any-map p f xs)
 
 -- ---- an accepted program is short, and has no more clauses than terms, goals and clauses
 short_of : (bytes : List ℕ) (v : Verdict (List Clause)) (cs : List Clause) → ReadsProgram bytes v → v ≡ accepted cs → length bytes ≤ 1000000
@@ -103,21 +69,21 @@ query_text_stops p bytes (syntax_errors.IntRange at) stop r i = stops_as (QueryS
 query_text_stops p bytes (syntax_errors.TooLong count) stop r i = stops_as (QueryStops p bytes) _ _ stop i (by_text r)
 query_text_stops p bytes (syntax_errors.Memory e) stop r i = stops_as (QueryStops p bytes) _ _ stop i no_memory
 
-pub program_loading_stops : (bytes : List ℕ) (cs : List Clause) (e : LoadError) (stop : Stop) → ReadsProgram bytes (accepted cs) → have_choices cs ≡ false → checks.Answers (refusal_of cs) (Err e)
+pub program_loading_stops : (bytes : List ℕ) (cs : List Clause) (e : LoadError) (stop : Stop) → ReadsProgram bytes (accepted cs) → checks.Answers (refusal_of cs) (Err e)
     → IsLoadingStop Status.Program e stop → ProgramStops bytes stop.status stop.refusal
-program_loading_stops bytes cs (load_errors.MixedGuards key) stop r n a i = stops_as (ProgramStops bytes) _ _ stop i (by_loading r n a)
-program_loading_stops bytes cs (load_errors.Undefined key) stop r n a i = stops_as (ProgramStops bytes) _ _ stop i (by_loading r n a)
-program_loading_stops bytes cs (load_errors.Reserved key) stop r n a i = stops_as (ProgramStops bytes) _ _ stop i (by_loading r n a)
-program_loading_stops bytes cs (load_errors.TooMany what count) stop r n a i = stops_as (ProgramStops bytes) _ _ stop i (by_loading r n a)
-program_loading_stops bytes cs (load_errors.Memory e) stop r n a i = stops_as (ProgramStops bytes) _ _ stop i no_memory
+program_loading_stops bytes cs (load_errors.MixedGuards key) stop r a i = stops_as (ProgramStops bytes) _ _ stop i (by_loading r a)
+program_loading_stops bytes cs (load_errors.Undefined key) stop r a i = stops_as (ProgramStops bytes) _ _ stop i (by_loading r a)
+program_loading_stops bytes cs (load_errors.Reserved key) stop r a i = stops_as (ProgramStops bytes) _ _ stop i (by_loading r a)
+program_loading_stops bytes cs (load_errors.TooMany what count) stop r a i = stops_as (ProgramStops bytes) _ _ stop i (by_loading r a)
+program_loading_stops bytes cs (load_errors.Memory e) stop r a i = stops_as (ProgramStops bytes) _ _ stop i no_memory
 
-pub query_loading_stops : (p : Program) (bytes : List ℕ) (q : Query) (e : LoadError) (stop : Stop) → ReadsQuery bytes (accepted q) → has_choice q.goals ≡ false → checks.Answers (query_refusal_of p q) (Err e)
+pub query_loading_stops : (p : Program) (bytes : List ℕ) (q : Query) (e : LoadError) (stop : Stop) → ReadsQuery bytes (accepted q) → checks.Answers (query_refusal_of p q) (Err e)
     → IsLoadingStop Status.Query e stop → QueryStops p bytes stop.status stop.refusal
-query_loading_stops p bytes q (load_errors.MixedGuards key) stop r n a i = stops_as (QueryStops p bytes) _ _ stop i (by_loading r n a)
-query_loading_stops p bytes q (load_errors.Undefined key) stop r n a i = stops_as (QueryStops p bytes) _ _ stop i (by_loading r n a)
-query_loading_stops p bytes q (load_errors.Reserved key) stop r n a i = stops_as (QueryStops p bytes) _ _ stop i (by_loading r n a)
-query_loading_stops p bytes q (load_errors.TooMany what count) stop r n a i = stops_as (QueryStops p bytes) _ _ stop i (by_loading r n a)
-query_loading_stops p bytes q (load_errors.Memory e) stop r n a i = stops_as (QueryStops p bytes) _ _ stop i no_memory
+query_loading_stops p bytes q (load_errors.MixedGuards key) stop r a i = stops_as (QueryStops p bytes) _ _ stop i (by_loading r a)
+query_loading_stops p bytes q (load_errors.Undefined key) stop r a i = stops_as (QueryStops p bytes) _ _ stop i (by_loading r a)
+query_loading_stops p bytes q (load_errors.Reserved key) stop r a i = stops_as (QueryStops p bytes) _ _ stop i (by_loading r a)
+query_loading_stops p bytes q (load_errors.TooMany what count) stop r a i = stops_as (QueryStops p bytes) _ _ stop i (by_loading r a)
+query_loading_stops p bytes q (load_errors.Memory e) stop r a i = stops_as (QueryStops p bytes) _ _ stop i no_memory
 
 pub words_stops : (words : List (List ℕ)) (e : WordsError) (stop : Stop) → IsRefusalOf (reading words) e → IsWordsStop e stop → WordsStop words stop.status stop.refusal
 words_stops words (words_errors.Missing at) stop r i = stops_as (WordsStop words) _ _ stop i (commands.refused r)
@@ -125,8 +91,3 @@ words_stops words (words_errors.Unknown at) stop r i = stops_as (WordsStop words
 words_stops words (words_errors.Value at) stop r i = stops_as (WordsStop words) _ _ stop i (commands.refused r)
 words_stops words (words_errors.Repeated at) stop r i = stops_as (WordsStop words) _ _ stop i (commands.refused r)
 words_stops words (words_errors.Memory e) stop r i = stops_as (WordsStop words) _ _ stop i commands.no_memory
-
--- whether all of some goals are built, one by one
-pub list_all-map : {X Y : Type 0} (p : Y → Bool) (f : X → Y) (xs : List X) → list_all p (map f xs) ≡ list_all (λ (x : X). p (f x)) xs
-list_all-map p f [] = refl
-list_all-map p f (x ∷ xs) = ap (λ (b : Bool). p (f x) && b) (list_all-map p f xs)

@@ -112,11 +112,11 @@ pub record Asks (c : Command) (o : Options) (program : List ℕ) : Type 0 where
   pub asked : IsAskedBy c.words o
   pub has : HasProgram (program_of o) c.source program
 
--- where the program's text is refused, or isn't built, the command ends so
+-- where the program's text is refused, the command ends so
 abbrev pub ProgramEnds : Command → Type 0
 ProgramEnds c = (o : Options) (program : List ℕ) (s : Status) (f : Refusal) → Asks c o program → ProgramStops program s f → (IsFault s → ⊥) → IsUnlessFault c.report s f
 
--- where the program is loaded, and the query's text is refused over it, or isn't built, the command ends so
+-- where the program is loaded, and the query's text is refused over it, the command ends so
 abbrev pub QueryEnds : Command → Type 0
 QueryEnds c = (o : Options) (program : List ℕ) (p : Program) (s : Status) (f : Refusal) → Asks c o program → IsLoadedProgram program p → QueryStops p (query_of o) s f → (IsFault s → ⊥) → IsUnlessFault c.report s f
 

@@ -2,8 +2,6 @@ pub mod Words
 pub mod Traces
 pub mod Text
 pub mod Runs
-pub mod Choices
-pub mod Goals
 pub mod Loads
 pub mod Stops
 pub mod Statuses

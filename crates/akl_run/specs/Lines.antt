@@ -60,8 +60,6 @@ refused_line side f = codes "akl: " ++ side ++ codes ": " ++ cause_of f ++ codes
 -- the part that isn't built
 abbrev pub part_line : Refusal → List ℕ
 part_line (Refusal.NotYet Part.Words) = codes "akl: not yet: words\n"
-part_line (Refusal.NotYet Part.Program) = codes "akl: not yet: program\n"
-part_line (Refusal.NotYet Part.Query) = codes "akl: not yet: query\n"
 part_line (Refusal.NotYet Part.Answer) = codes "akl: not yet: answer\n"
 part_line f = []
 

@@ -1,7 +1,6 @@
 //! The top call: from the words of a command line and the bytes of a program to the bytes written.
 #![tactic(auto)]
 
-mod choices;
 mod ending;
 mod evaluate;
 mod loaded;

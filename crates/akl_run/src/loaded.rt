@@ -4,14 +4,17 @@ ghost use Rattle.std.specs.Prelude.{◌≤◌, IfOk, IfErr, length};
 ghost use Rattle.box_tree.specs.Tables.{HasVariables};
 ghost use Rattle.akl_run.specs.Loads.{IsLoadedProgram, IsLoadedQuery, IsOpen, ProgramStops, QueryStops};
 
-use crate::choices::{are_built_clauses, are_built_goals, has_choice, have_choices};
-use crate::report::{Part, Status};
+use crate::report::Status;
 use crate::stop::Stop;
+use akl_lift::{lift, lift_query};
 use akl_syntax::{read_program, read_query};
 use akl_terms::{Program, Query};
 use clause_checks::{check_clauses, check_goals};
 use clause_store::{load, load_query};
 use std::alloc::Global;
+
+/// The number of a query's first inline choice, which is above those of all programs.
+const FIRST_ASKED: u32 = 1_000_000;
 
 /// A query over a program that has the terms of both.
 #[derive(Drop)]
@@ -22,7 +25,7 @@ pub struct Loaded {
     pub first_variable: u32,
 }
 
-/// The program that a text is.
+/// The program that a text is. Its inline choices are definitions.
 pub fn load_program(alloc: Global, text: &[u8]) -> Result<Program, Stop>
     requires { length text.now ≤ 1000001 }
     ensures program { IfOk result (IsLoadedProgram text.now) }
@@ -33,16 +36,11 @@ pub fn load_program(alloc: Global, text: &[u8]) -> Result<Program, Stop>
         Ok(clauses) => clauses,
         Err(error) => return Err(Stop::text(Status::Program, error)),
     };
-    if have_choices(&clauses) {
-        return Err(Stop::not_yet(Part::Program));
-    }
     if let Err(error) = check_clauses(alloc, &clauses) {
         return Err(Stop::loading(Status::Program, error));
     }
-    if !are_built_clauses(&clauses) {
-        return Err(Stop::not_yet(Part::Program));
-    }
-    Ok(load(alloc, clauses)?)
+    let lifted = lift(alloc, clauses)?;
+    Ok(load(alloc, lifted)?)
 }
 
 /// The query that a text is, over a program.
@@ -57,17 +55,12 @@ pub fn load_asked(alloc: Global, program: Program, text: &[u8]) -> Result<Loaded
         Ok(query) => query,
         Err(error) => return Err(Stop::text(Status::Query, error)),
     };
-    if has_choice(&query.goals) {
-        return Err(Stop::not_yet(Part::Query));
-    }
     if let Err(error) = check_goals(alloc, &program, &query) {
         return Err(Stop::loading(Status::Query, error));
     }
-    if !are_built_goals(&query.goals) {
-        return Err(Stop::not_yet(Part::Query));
-    }
     let first_variable = program.templates.len();
-    let (program, query) = load_query(alloc, program, query, Vec::new(alloc))?;
+    let (query, lifted) = lift_query(alloc, query, FIRST_ASKED)?;
+    let (program, query) = load_query(alloc, program, query, lifted)?;
     Ok(Loaded {
         program,
         query,

@@ -122,8 +122,6 @@ fn fixed_line(status: Status, refusal: &Refusal) -> &'static str
         Status::NoMemory => "akl: out of memory\n",
         Status::NotYet => match refusal {
             Refusal::NotYet(Part::Words) => "akl: not yet: words\n",
-            Refusal::NotYet(Part::Program) => "akl: not yet: program\n",
-            Refusal::NotYet(Part::Query) => "akl: not yet: query\n",
             Refusal::NotYet(Part::Answer) => "akl: not yet: answer\n",
             _ => "",
         },

@@ -60,8 +60,6 @@ impl Status {
 #[derive(Clone, Copy)]
 pub enum Part {
     Words,
-    Program,
-    Query,
     Answer,
 }
 

@@ -71,7 +71,8 @@ fn write_run<K: Sink>(run: Evaluated, out: &mut K) -> Report
 ///
 /// The words are read by `akl_args::read_words`, and the source has the program's text. The work is done
 /// in this order, and the first refusal ends it: the words; the query's length; the source, to its end or
-/// until it gave one byte more than a program may have; the program, which is read, checked and loaded;
+/// until it gave one byte more than a program may have; the program, which is read, checked and loaded, its inline
+/// choices as definitions;
 /// the query, likewise; the run, until no rule applies or as many labels as the budget are made; the
 /// answers' texts; the writing. With `--generate` the program and the query are made by `akl_gen::generate`, and the
 /// source isn't read.
@@ -80,15 +81,14 @@ fn write_run<K: Sink>(run: Evaluated, out: &mut K) -> Report
 ///   appended to the sink are the text of its last configuration's answers and this outcome.
 /// - `Words` comes exactly where the words are refused, and `Program` and `Query` exactly where that
 ///   text is, with the cause.
-/// - `NotYet` comes with the part that isn't built: words with other workers than 1; a program, or a query, with an inline choice, or with arithmetic, `open_port`
-///   or `send`; an answer of more than a million bytes.
+/// - `NotYet` comes with the part that isn't built: words with other workers than 1; an answer of more than a million
+///   bytes.
 /// - `ReadFault` comes only where the source failed, and `WriteFault` only where the sink failed: a
 ///   front of the text was written then.
 /// - `NoMemory` comes only for want of memory. Nothing was run or written then.
 ///
-/// So a query of built goals over a program of built goals, both accepted, has one of the four outcomes
-/// or too long an answer, unless the source, the sink or memory fails. `IsReported` says all this, a
-/// field for a fact.
+/// So an accepted query over an accepted program has one of the four outcomes or too long an answer, unless the source,
+/// the sink or memory fails. `IsReported` says all this, a field for a fact.
 ///
 /// The run takes one worker and never waits; the gate isn't called.
 pub fn run_akl<R: Threads + Wait + Sync, S: Source, K: Sink, G: Gate>(

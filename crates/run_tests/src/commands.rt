@@ -118,12 +118,9 @@ const COMMANDS: &str = r"
  =>  X = a. Y => 6 / akl: query: syntax at 1
  => X = 9223372036854775808 => 6 / akl: query: integer out of range at 4
 p :- send(X,Y), q. => true => 5 / akl: program: undefined q/0
- => X is 1 => 10 / akl: not yet: query
- => open_port(S,X) => 10 / akl: not yet: query
- => X = a, send(X,b) => 10 / akl: not yet: query
-p :- X < 1. => true => 10 / akl: not yet: program
-p :- open_port(X,Y) ? true. => true => 10 / akl: not yet: program
- => (zz ; X = b) => 10 / akl: not yet: query
+ => (zz ; X = b) => 6 / akl: query: undefined zz/0
+ => (X = a -> true ; true) => 6 / akl: query: mixed guards in ''/0
+ => (true{ ; true*256}) => 6 / akl: query: too many clauses of one definition, 257
  => X = f(X), X = f(f(X)) => 10 / akl: not yet: answer
  => -X = a => 4 / akl: words: missing at word 0
 p(a). p(b,c). => true => 0 / answer 1 / done
@@ -140,8 +137,14 @@ p :- q. => true => 5 / akl: program: undefined q/0
 p :- 'it''s'([]), '[]'. => true => 5 / akl: program: undefined 'it\'s'/1
 p :- '[]'. => true => 5 / akl: program: undefined '[]'/0
 p :- q. q :- p, fail, X = Y. => true => 0 / answer 1 / done
-p :- q. q :- p, fail, X = Y, X is Y, send(X,Y). => true => 10 / akl: not yet: program
-p :- (q ; r). => true => 10 / akl: not yet: program
+p :- q. q :- p, fail, X = Y, X is Y, X < Y, open_port(X,Y), send(X,Y). => true => 0 / answer 1 / done
+p :- (q ; r). q. => true => 5 / akl: program: undefined r/0
+p(X) :- (X = a -> true ; true). => true => 5 / akl: program: mixed guards in p/1
+p(X) :- (X = a -> (X = a | true ; X = a -> true)). => true => 5 / akl: program: mixed guards in p/1
+p :- (true{ ; true*255}). => true => 0 / answer 1 / done
+p :- (true{ ; true*256}). => true => 5 / akl: program: too many clauses of one definition, 257
+p :- {(true -> *199}true{)*199}. => p => 0 / answer 1 / done
+p(X) :- {(true -> *199}X = 1{, X = 1*99}{)*199}. => true => 0 / answer 1 / done
 true :- (q ; r). p => true => 5 / akl: program: syntax at 17
 member(X,[X|_]). member(X,[_|T]) :- member(X,T). => member(X) => 6 / akl: query: undefined member/1
 member(X,[X|_]). member(X,[_|T]) => X = => 5 / akl: program: syntax at 17

@@ -14,6 +14,12 @@ const MERGE: &str =
 
 const THERE: &str = "t(a,R) :- -> R = 1. t(_,R) :- -> R = 2.";
 
+const COUNT: &str =
+    "count([],N,R) :- -> R = N. count([_|S],N,R) :- -> M is N + 1, count(S,M,R).";
+
+const ABC: &str =
+    "p(X,R) :- (X = a -> R = 1 ; true -> (X = b -> R = 2 ; true -> R = 3)).";
+
 /// Words, programs, queries and replies.
 const RULES: &str = r"
  => LISTS => append([a,b],[c],Z) => 0 / answer 1 / Z = [a,b,c] / done
@@ -41,6 +47,62 @@ const RULES: &str = r"
  => n(X) :- p(X) -> fail. n(X) :- -> true. p(a). => n(X) => 2 / suspended 1
 ";
 
+/// Arithmetic and ports.
+const VALUES: &str = r"
+ =>  => X is 1+2*3 => 0 / answer 1 / X = 7 / done
+ =>  => X is 9223372036854775807 + 1 => 2 / suspended 1
+ =>  => X is -7 // 2, Y is -7 mod 2 => 0 / answer 1 / X = -3 / Y = 1 / done
+ =>  => X is 1 // 0 => 2 / suspended 1
+ =>  => X is foo + Y => 2 / suspended 1
+ =>  => X is Y + 1, Y is 2 * Z, Z = 4 => 0 / answer 1 / X = 9 / Y = 8 / Z = 4 / done
+ =>  => 3 is 1 + 2 => 0 / answer 1 / done
+ =>  => 4 is 1 + 2 => 1 / failed
+ =>  => 1 < 2, 2 >= 2, 3 =\= 4, 1 + 1 =:= 2, 2 > 1, 1 =< 1 => 0 / answer 1 / done
+ =>  => 1 > 2 => 1 / failed
+ =>  => X < 2 => 2 / suspended 1
+ =>  => X < 2, X = 3 => 1 / failed
+ => m(X,Y,Z) :- X < Y -> Z = Y. m(X,Y,Z) :- -> Z = X. => m(2,3,Z), m(5,A,B), A = 4 => 0 / answer 1 / Z = 3 / A = 4 / B = 5 / done
+ => COUNT => count([a,b,c],0,R) => 0 / answer 1 / R = 3 / done
+ => COUNT => count([a,b|T],0,R) => 2 / suspended 1
+ =>  => open_port(P,S) => 0 / answer 1 / P = port / S = _1 / done
+ =>  => open_port(P,S), P = a => 1 / failed
+ =>  => open_port(P,S), open_port(P,T) => 1 / failed
+--trace =>  => X is 1+2, open_port(P,S) => 0 / step 1 eval goal 0.2 by 1 / step 2 open goal 0.3 by 1 / answer 1 / X = 3 / P = port / S = _1 / done
+";
+
+// To be added to the table once Send is in force:
+//  =>  => open_port(P,S), send(a,P), P = Q => 0 / answer 1 / P = port / S = [a|_1] / Q = port / done
+//  =>  => send(a,P) => 2 / suspended 1
+//  => u(P) :- send(a,P) ? true. => open_port(P,S), u(P) => 2 / suspended 1
+
+/// Choices in brackets.
+const CHOICES: &str = r"
+ =>  => (X = a -> R = 1 ; true -> R = 2), X = b => 0 / answer 1 / X = b / R = 2 / done
+ =>  => (X = a -> R = 1 ; true -> R = 2), X = a => 0 / answer 1 / X = a / R = 1 / done
+ =>  => (X = a -> R = 1 ; true -> R = 2) => 2 / suspended 1
+ =>  => (_X = a -> R = 1 ; true -> R = 2) => 0 / answer 1 / R = 1 / done
+ =>  => (_X = a -> R = 1 ; true -> R = 2), _X = b => 0 / answer 1 / R = 2 / done
+ =>  => (_X = a -> R = 1), (_X = b -> S = 2) => 2 / suspended 1
+ =>  => (X = a | R = 1 ; true | R = 2) => 0 / answer 1 / X = _1 / R = 2 / done
+ =>  => (fail ? R = 1 ; X = b ? R = 2) => 0 / answer 1 / R = 2 / X = b / done
+ =>  => (1 < 2 -> (2 < 1 -> R = a ; 1 < 3 -> R = b) ; true -> R = c) => 0 / answer 1 / R = b / done
+ =>  => (true -> R = f(X)), X = R => 10 / akl: not yet: answer
+ => ABC => p(a,R) => 0 / answer 1 / R = 1 / done
+ => ABC => p(b,R) => 0 / answer 1 / R = 2 / done
+ => ABC => p(c,R) => 0 / answer 1 / R = 3 / done
+ => ABC => p(X,R) => 2 / suspended 1
+ => ABC => p(b,R), (R = 2 -> S = yes ; true -> S = no) => 0 / answer 1 / R = 2 / S = yes / done
+ => p(X,R) :- ((X = a -> true ; X = b -> true) -> R = 1 ; true -> R = 2). => p(b,R), p(c,S) => 0 / answer 1 / R = 1 / S = 2 / done
+ => p(R) :- (Z = f(W), W = a -> R = Z ; true -> R = b). => p(R) => 0 / answer 1 / R = f(a) / done
+ => p(R) :- (Z = 1 -> R = a ; Z = 2 -> R = b). => p(R) => 0 / answer 1 / R = a / done
+ => p(R) :- (Z = 1 -> R = a ; Z = 2 -> R = b), Z = 2. => p(R) => 0 / answer 1 / R = b / done
+ => p(R) :- (Z = 1 -> R = Z), (Z = 2 -> true). => p(R) => 2 / suspended 1
+ => p(X,Y) :- (true -> (true -> X = f(V), Y = g(V))). => p(X,Y) => 0 / answer 1 / X = f(_1) / Y = g(_1) / done
+ => p(X) :- (q(X) -> r(X)). q(X) :- (X = 1 -> true ; X = 2 -> true). r(2). => p(2), (p(1) -> true ; true -> X = b) => 0 / answer 1 / X = b / done
+--trace =>  => (true -> X = a) => 0 / step 1 fork goal 0.2 by 1 / step 2 promote goal 0.2 of 1.0 by 1 / step 3 tell goal 1.2 by 1 / answer 1 / X = a / done
+--trace => p(X) :- (X = a ? true). => p(X) => 0 / step 1 fork goal 0.2 by 1 / step 2 promote goal 0.2 of 1.0 by 1 / step 3 fork goal 1.2 by 1 / step 4 tell goal 1.5 by 1 / step 5 promote goal 1.2 of 1.3 by 1 / answer 1 / X = a / done
+";
+
 /// The same with traces and budgets.
 const TRACES: &str = r"
 --trace =>  => X = a => 0 / step 1 tell goal 0.2 by 1 / answer 1 / X = a / done
@@ -59,6 +121,8 @@ fn named(text: &str) -> &str {
         "LISTS" => LISTS,
         "MERGE" => MERGE,
         "THERE" => THERE,
+        "COUNT" => COUNT,
+        "ABC" => ABC,
         _ => text,
     }
 }
@@ -85,7 +149,7 @@ fn replies<'a, R: Threads + Wait + Sync>(
 #[test]
 fn each_rule_applies_where_it_may(rt: HostRuntime) -> Result<(), Fail> {
     let alloc = rt.alloc();
-    for table in [RULES, TRACES] {
+    for table in [RULES, VALUES, CHOICES, TRACES] {
         for case in table.lines().skip(1) {
             let (found, wanted) = replies(&rt, alloc, case)?;
             assert_eq!(rt; found.as_str(), wanted, "{case}");

@@ -1,29 +1,59 @@
-use Rattle.std.proofs.Common.{sym, append-nil, map}
-use Rattle.akl_syntax.specs.Answers.{query_view}
+use Rattle.std.proofs.Common.{◌≡◌, ◌+◌, ◌*◌, ◌≤◌, List, ℕ, length, map, sym, ap, subst, arith}
+use Rattle.akl_syntax.specs.Answers.{query_view, clauses_view}
+use Rattle.akl_syntax.specs.Clauses.{Query}
+use Rattle.akl_syntax.specs.Sizes.{clauses_size, query_size}
 use Rattle.clause_keys.specs.Keys.{called_by}
-use Rattle.akl_run.specs.Loads.{QueryStops, not_built, not_built_goal, no_memory}
-use Rattle.akl_run.proofs.Loading.{stops_as, from_error, plain_goals, query_text_stops, query_loading_stops}
+use Rattle.clause_store.specs.Loaded.{IsQueryOf}
+use Rattle.akl_lift.specs.Lifting.{query_without, made_of_query}
+use Rattle.akl_lift.proofs.Asked.{query_paid, query_unmixed}
+use Rattle.akl_lift.proofs.Reading.{query_text_whole}
+use Rattle.akl_run.specs.Loads.{first_asked, QueryStops, no_memory}
+use Rattle.akl_run.proofs.Loading.{stops_as, from_error, query_text_stops, query_loading_stops}
+use Rattle.akl_run.proofs.Lifted.{asked_loads, asked_new}
 use Rattle.akl_run.proofs.loaded.load_asked.Goals as goal
 
 pub returns-in-Err-clause-stop : goal.returns-in-Err-clause-stop
 returns-in-Err-clause-stop c = query_text_stops c.args.program c.args.text.now c.in-Err.error c.text.result c.in-Err.ensures.reads c.text.ensures
 
-pub returns-then-has_choice-clause-stop : goal.returns-then-has_choice-clause-stop
-returns-then-has_choice-clause-stop c =
-    stops_as (QueryStops c.args.program c.args.text.now) _ _ c.not_yet.result c.not_yet.ensures (not_built c.in-Ok.ensures.reads (rw (← c.deref.ensures.value) (sym c.if-has_choice.ensures)))
-
 pub returns-in-Err-check_goals-clause-stop : goal.returns-in-Err-check_goals-clause-stop
 returns-in-Err-check_goals-clause-stop c =
-    query_loading_stops c.args.program c.args.text.now (query_view c.in-Ok.query) c.in-Err-check_goals.error c.loading.result c.in-Ok.ensures.reads (rw (← c.deref.ensures.value) (sym c.if-has_choice.ensures))
-    c.in-Err-check_goals.ensures.checked c.loading.ensures
+    query_loading_stops c.args.program c.args.text.now (query_view c.in-Ok.query) c.in-Err-check_goals.error c.loading.result c.in-Ok.ensures.reads c.in-Err-check_goals.ensures.checked c.loading.ensures
+
+pub returns-in_err-lift_query-clause-stop : goal.returns-in_err-lift_query-clause-stop
+returns-in_err-lift_query-clause-stop c = from_error c.from_residual.result c.from_residual.ensures.1 (λ stop p. stops_as (QueryStops c.args.program c.args.text.now) _ _ stop p no_memory)
 
 pub load_query-requires-clause-goals : goal.load_query-requires-clause-goals
-load_query-requires-clause-goals c = rw (c.new.ensures.items, append-nil (map called_by c.args.program.definitions)) (c.in_default.ensures.loadable (plain_goals (query_view c.in-Ok.query).goals (rw (← c.deref.ensures.value) (sym c.if-has_choice.ensures))))
+load_query-requires-clause-goals c =
+    rw (c.in_ok.ensures.query, c.in_ok.ensures.clauses) (asked_loads c.args.text.now (query_view c.in-Ok.query) c.in-Ok.ensures.reads (map called_by c.args.program.definitions) c.in_default.ensures.accepted c.in-Ok.ensures.variables).goals
 
-pub returns-in_err-program-clause-stop : goal.returns-in_err-program-clause-stop
-returns-in_err-program-clause-stop c = from_error c.from_residual.result c.from_residual.ensures.1 (λ stop p. stops_as (QueryStops c.args.program c.args.text.now) _ _ stop p no_memory)
+pub load_query-requires-clause-names : goal.load_query-requires-clause-names
+load_query-requires-clause-names c =
+    subst (λ (names : List (List ℕ)). length names ≤ 256) (sym (ap (λ (q : Query). q.names) c.in_ok.ensures.query)) c.in_default.ensures.few
 
-pub returns-then-not-are_built_goals-clause-stop : goal.returns-then-not-are_built_goals-clause-stop
-returns-then-not-are_built_goals-clause-stop c =
-    stops_as (QueryStops c.args.program c.args.text.now) _ _ c.not_yet-then-not-are_built_goals.result c.not_yet-then-not-are_built_goals.ensures
-    (not_built_goal c.in-Ok.ensures.reads (rw (← c.deref.ensures.value) (sym c.if-has_choice.ensures)) c.in_default.ensures.checked (rw (← c.deref-2.ensures.value) (sym c.if-not-are_built_goals.ensures)))
+pub load_query-requires-clause-loadable : goal.load_query-requires-clause-loadable
+load_query-requires-clause-loadable c =
+    rw c.in_ok.ensures.clauses (asked_loads c.args.text.now (query_view c.in-Ok.query) c.in-Ok.ensures.reads (map called_by c.args.program.definitions) c.in_default.ensures.accepted c.in-Ok.ensures.variables).clauses
+
+pub load_query-requires-clause-unmixed : goal.load_query-requires-clause-unmixed
+load_query-requires-clause-unmixed c = rw c.in_ok.ensures.clauses (query_unmixed (map called_by c.args.program.definitions) first_asked (query_view c.in-Ok.query) c.in_default.ensures.accepted.liftable)
+
+pub load_query-requires-clause-lifted : goal.load_query-requires-clause-lifted
+load_query-requires-clause-lifted c = rw c.in_ok.ensures.clauses (asked_new (map called_by c.args.program.definitions) c.args.program.definitions (query_view c.in-Ok.query) c.in_default.ensures.accepted c.requires.open.numbers)
+
+pub load_query-requires-clause-small : goal.load_query-requires-clause-small
+load_query-requires-clause-small c =
+    let q = query_view c.in-Ok.query in
+    let paid : query_size (query_without first_asked q) + clauses_size (made_of_query first_asked q) ≤ 514 * query_size q = query_paid first_asked q c.in_default.ensures.few (query_text_whole c.in-Ok.ensures.reads) c.in-Ok.ensures.variables in
+    rw (c.in_ok.ensures.query, c.in_ok.ensures.clauses) (omega (arith, paid, c.in-Ok.ensures.size, c.requires.short))
+
+pub returns-in_err-load_query-clause-stop : goal.returns-in_err-load_query-clause-stop
+returns-in_err-load_query-clause-stop c = from_error c.from_residual.result c.from_residual.ensures.1 (λ stop p. stops_as (QueryStops c.args.program c.args.text.now) _ _ stop p no_memory)
+
+pub returns-clause-loaded : goal.returns-clause-loaded
+returns-clause-loaded c = record {
+  asked = query_view c.in-Ok.query;
+  reads = c.in-Ok.ensures.reads;
+  allowed = c.in_default.ensures.checked;
+  stands = subst (λ (q : Query). IsQueryOf c.args.program (made_of_query first_asked (query_view c.in-Ok.query)) q c.in_ok-load_query.program c.in_ok-load_query.query) c.in_ok.ensures.query
+      (subst (λ cs. IsQueryOf c.args.program cs (query_view c.in_ok.query) c.in_ok-load_query.program c.in_ok-load_query.query) c.in_ok.ensures.clauses c.in_ok-load_query.ensures.query);
+}
