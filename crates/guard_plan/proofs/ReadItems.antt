@@ -11,12 +11,12 @@ use Rattle.box_tree.specs.Views.{ViewValue, IsViewOf}
 use Rattle.box_tree.specs.Plans.{IsRead}
 use Rattle.guard_plan.proofs.Sites.{goal_there, store_there, stand, found}
 
-read_store : (ns : List Name) (m : Name) → IsIn m ns → IsRead (map Item.Store ns) (Item.Store m)
+pub read_store : (ns : List Name) (m : Name) → IsIn m ns → IsRead (map Item.Store ns) (Item.Store m)
 read_store [] m h = absurd h
 read_store (n ∷ ns) m (inl e) = inl (ap Item.Store e)
 read_store (n ∷ ns) m (inr h) = inr (read_store ns m h)
 
-stores_read : (ns : List Name) (i : Item) → IsRead (map Item.Store ns) i → (m : Name) × IsIn m ns × (i ≡ Item.Store m)
+pub stores_read : (ns : List Name) (i : Item) → IsRead (map Item.Store ns) i → (m : Name) × IsIn m ns × (i ≡ Item.Store m)
 stores_read [] i h = absurd h
 stores_read (n ∷ ns) i (inl e) = (n, inl refl, e)
 stores_read (n ∷ ns) i (inr h) = let w : (m : Name) × IsIn m ns × (i ≡ Item.Store m) = stores_read ns i h in (w.0, inr w.1, w.2)

@@ -1,4 +1,4 @@
-//! What plans at goals read, and the labels of those for an alternative.
+//! What plans at goals read, and labels for an alternative.
 
 ghost use Rattle.std.specs.Prelude.{◌≡◌, Some, IfOk, ◌∷◌, map};
 ghost use Rattle.akl_model.specs.declared.item.Item.{Item};
@@ -21,8 +21,8 @@ pub fn goal_and_stores(alloc: Global, goal: Name, boxes: &[Name]) -> Result<Vec<
     Ok(items)
 }
 
-// The label of a rule for an alternative of the choice at the view's place, by its worker.
-pub(crate) fn label_for(view: &View, rule: Rule, alternative: Name) -> Label
+/// The label of a rule for an alternative, at the view's place and by its worker.
+pub fn label_for(view: &View, rule: Rule, alternative: Name) -> Label
     ensures label { result ≡ record { rule = rule; place = view.now.place; alternative = Some alternative; worker = view.now.worker } }
     ensures seen { IsViewOf view.now }
 {

@@ -8,5 +8,5 @@ mod planning;
 mod promoting;
 
 pub use guards::shared;
-pub use labels::goal_and_stores;
+pub use labels::{goal_and_stores, label_for};
 pub use planning::plan_guard;

@@ -1,13 +1,12 @@
 -- A plan at a goal is right that read the goal and the constraints down to its box.
-use Rattle.std.proofs.Common.{◌≡◌, ℕ, ◌∷◌, map, Some, None, refl, subst}
+use Rattle.std.proofs.Common.{◌≡◌, ◌∷◌, map, Some, refl}
 use Rattle.std.specs.Prelude.{slice_index}
 use Rattle.akl_terms.specs.declared.name.Name.{Name}
 use Rattle.akl_terms.specs.declared.name.Place.{Place}
-use Rattle.akl_terms.specs.declared.program.Program.{Program}
 use Rattle.akl_model.specs.declared.item.Item.{Item}
 use Rattle.akl_model.specs.declared.label.Rule.{Rule}
-use Rattle.akl_model.specs.Config.{Held, held_in, Found}
-use Rattle.akl_model.specs.Rules.{Reading, Change}
+use Rattle.akl_model.specs.Config.{Held, held_in}
+use Rattle.akl_model.specs.Rules.{Change}
 use Rattle.akl_model.specs.Conditions as conditions
 use Rattle.akl_model.specs.Stable.{Allows}
 use Rattle.akl_model.specs.Derivations.{IsInForce, after}
@@ -35,12 +34,3 @@ module _ (v : ViewValue) (i : IsViewOf v) (g : Name) where
     reads = reads;
     there = items_there v i g h held;
   }
-
--- Split isn't used without an alternative
-unsplit : (p : Program) (u : Reading) (place : Place) (f : Found) → Allows p u Rule.Split place None f → ⊥
-unsplit p u (Place.Goal g) f x = x
-unsplit p u (Place.Box n) f x = x
-
-pub goal_plain : (v : ViewValue) (rule : Rule) (g : Name) (names : ℕ) (step : Step) → IsRight (plan_at v rule g names step) → rule ≡ Rule.Split → ⊥
-goal_plain v rule g names step r e = unsplit v.table.program r.applies.makes.reading v.place r.applies.site
-    (subst (λ (q : Rule). Allows v.table.program r.applies.makes.reading q v.place None r.applies.site) e r.applies.makes.allowed)

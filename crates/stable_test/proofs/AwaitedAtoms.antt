@@ -1,12 +1,15 @@
 -- What an atom waits on, by what its goal comes to.
-use Rattle.std.proofs.Common.{◌≡◌, ℕ, List, refl}
+use Rattle.std.proofs.Common.{◌≡◌, ℕ, List, Option, Some, None, refl, sym, subst}
+use Rattle.std.specs.Prelude.{MatchOption}
 use Rattle.akl_terms.specs.declared.name.Name.{Name}
 use Rattle.akl_terms.specs.declared.name.Var.{Var}
 use Rattle.akl_terms.specs.declared.term.Node.{Node}
+use Rattle.akl_terms.specs.declared.term.Term.TheVariants.{Mol}
 use Rattle.akl_terms.specs.declared.program.Code.{Code}
 use Rattle.akl_terms.specs.declared.program.Test.{Test}
 use Rattle.akl_terms.specs.declared.program.Program.{Program}
 use Rattle.akl_terms.specs.Tree.{Tree}
+use Rattle.akl_terms.specs.Template.{tree}
 use Rattle.akl_terms.specs.Equal.{Equations, IsConsistent, same}
 use Rattle.akl_terms.specs.Arithmetic.{Answer, Evaluates, gives, compared, GoalWaitsOn, right_of_is, left_side, right_side}
 use Rattle.akl_model.specs.Instances.{atom_of}
@@ -15,6 +18,7 @@ use Rattle.constraint_laws.proofs.WaitsOne.{value_waits}
 use Rattle.arith_goals.specs.declared.goals.ArithValue.{ArithValue}
 use Rattle.arith_goals.specs.declared.goals.ArithValue.TheVariants.{Is, Holds, Fails, Waits, Never}
 use Rattle.arith_goals.specs.Answers.{ComesTo}
+use Rattle.stable_test.specs.Reaching.{IsFree, IsHeaded}
 
 module _ (symbols : List (List ℕ)) (E : Equations) (c : IsConsistent E) where
   -- a goal that comes to an answer waits on nothing
@@ -42,3 +46,10 @@ other_idle p E nodes f (Code.Equal l r) a s x w = w
 other_idle p E nodes f (Code.OpenPort l r) a s x w = w
 other_idle p E nodes f (Code.Call d first n) a s x w = w
 other_idle p E nodes f Code.Fail a s x w = w
+
+-- a send waits on the end of its port, where that is a variable
+pub send_waits : (p : Program) (E : Equations) (nodes : List Node) (f : Name) (code : Code) (m q : ℕ) → code ≡ Code.Send m q → (o : Option Var)
+    → MatchOption o (IsHeaded E (tree nodes (Mol q f))) (λ x. IsFree E (tree nodes (Mol q f)) x)
+    → MatchOption o ((x : Var) → AtomWaitsOn p E (atom_of nodes f code) x → ⊥) (λ x. AtomWaitsOn p E (atom_of nodes f code) x)
+send_waits p E nodes f code m q e None h = λ x w. h.none x (subst (λ (k : Code). AtomWaitsOn p E (atom_of nodes f k) x) e w)
+send_waits p E nodes f code m q e (Some x) h = subst (λ (k : Code). AtomWaitsOn p E (atom_of nodes f k) x) (sym e) h

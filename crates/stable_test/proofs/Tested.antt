@@ -1,5 +1,6 @@
 -- What is read from a chain with a further store, in which what is waited on is bound.
-use Rattle.std.proofs.Common.{◌≡◌, ℕ, zero, suc, ℤ, ◌≤◌, Option, List, [], ◌∷◌, ◌++◌, length, take, drop, refl, sym, ◌∙◌, ap, subst, inl, inr, arith}
+use Rattle.std.proofs.Common.{◌≡◌, ℕ, zero, suc, ℤ, ◌≤◌, Bool, false, Option, List, [], ◌∷◌, ◌++◌, length, take, drop, refl, sym, ◌∙◌, ap, subst, inl, inr, arith}
+use Rattle.std.specs.Prelude.{◌==◌, IsTrue, ◌↔◌}
 use Rattle.akl_terms.specs.declared.name.Name.{Name}
 use Rattle.akl_terms.specs.declared.name.Var.{Var}
 use Rattle.akl_terms.specs.declared.term.Node.{Node}
@@ -8,7 +9,7 @@ use Rattle.akl_terms.specs.declared.program.Goal.{Goal}
 use Rattle.akl_terms.specs.declared.program.Op.{Op}
 use Rattle.akl_terms.specs.declared.program.Program.{Program}
 use Rattle.akl_terms.specs.Tree.{Tree, variable}
-use Rattle.akl_terms.specs.Equal.{Equations, IsTold, Equal, told, turned, joined, IsConsistent, IsStructured}
+use Rattle.akl_terms.specs.Equal.{Equations, IsTold, Equal, told, turned, joined, IsConsistent, IsConsistentBy, IsStructured}
 use Rattle.akl_terms.specs.Touching.{Touches}
 use Rattle.akl_terms.proofs.EqualLaws.{EqualBy-follows, IsConsistent-follows}
 use Rattle.akl_model.specs.Config.{Atom}
@@ -16,9 +17,13 @@ use Rattle.akl_model.specs.Stable.{AtomWaitsOn}
 use Rattle.constraint_laws.proofs.WaitsOne.{waits_one_goal}
 use Rattle.rational_unify.specs.Solving.{bindings_in}
 use Rattle.local_store.specs.Stored.{Stored, with_binding}
-use Rattle.local_store.specs.Chained.{bindings_from}
+use Rattle.local_store.specs.Chained.{bindings_from, ToldBy}
+use Rattle.local_store.specs.declared.asking.Consistency.{Consistency}
+use Rattle.local_store.specs.declared.asking.Consistency.TheVariants.{Consistent, Clash}
+use Rattle.local_store.specs.Asking.{Decides}
 use Rattle.local_store.proofs.Layers.{told-take}
 use Rattle.entail_test.specs.Asked.{frames_from, environment_at, whole_at, KeepsApart, KeepsApartAt}
+use Rattle.entail_test.specs.Touched.{AreTouched}
 use Rattle.box_tree.specs.declared.view.Sight.{Sight}
 use Rattle.box_tree.specs.Tables.{goal_atom}
 use Rattle.box_tree.specs.Views.{ViewValue}
@@ -95,6 +100,12 @@ module _ (p : Program) (depth : ℕ) (frames : Stored) (v : ViewValue) (t : IsTe
   pub reaches_box : (failing : Option Name) → v.sight ≡ Sight.Box failing → ReachesNoneAt p depth frames v → IsUntouchedAt nodes (v.stores ++ frames ∷ []) depth
   reaches_box failing s r = λ x k. (subst (ReachesNone p inner around down) s r).1 x (touches_more inner around (whole_at nodes (v.stores ++ frames ∷ []) depth) down plain_less x k)
 
+  -- so a test of the stores is one of the box
+  pub box_answer : (failing : Option Name) → v.sight ≡ Sight.Box failing → IsConsistent down → (none : Bool)
+      → (KeepsApartAt nodes (v.stores ++ frames ∷ []) depth → IsConsistent (whole_at nodes (v.stores ++ frames ∷ []) depth) → IsTrue none ↔ IsUntouchedAt nodes (v.stores ++ frames ∷ []) depth)
+      → IsTrue none ↔ ReachesNoneAt p depth frames v
+  box_answer failing s c none h = (λ x. box_reaches failing s c ((h (keeps c) (plain_consistent c)).0 x), λ r. (h (keeps c) (plain_consistent c)).1 (reaches_box failing s r))
+
   -- an atom, by the variable on which it waits
   module _ (a : Goal) (s : v.sight ≡ Sight.Atom a) (c : IsConsistent down) where
     pub idle_reaches : ((x : Var) → AtomWaitsOn p down (goal_atom nodes a) x → ⊥) → ReachesNoneAt p depth frames v
@@ -147,6 +158,10 @@ module _ (p : Program) (depth : ℕ) (frames : Stored) (v : ViewValue) (t : IsTe
           q : ReachesNone p inner around down (Sight.Atom a)
           q = subst (ReachesNone p inner around down) s r
 
+      pub waiting_answer : (none : Bool) → (KeepsApartAt nodes (v.stores ++ with_binding frames on (Term.Int z) ∷ []) depth → IsConsistent (whole_at nodes (v.stores ++ with_binding frames on (Term.Int z) ∷ []) depth)
+          → IsTrue none ↔ IsUntouchedAt nodes (v.stores ++ with_binding frames on (Term.Int z) ∷ []) depth) → IsTrue none ↔ ReachesNoneAt p depth frames v
+      waiting_answer none h = (λ x. waiting_reaches ((h bound_keeps bound_consistent).0 x), λ r. (h bound_keeps bound_consistent).1 (reaches_waiting r))
+
   -- where all is inconsistent, a box and an atom aren't as they are asked to be
   pub inconsistent_reaches : (IsConsistent down → ⊥) → ((op : Op) → v.sight ≡ Sight.Choice op → ⊥) → ReachesNoneAt p depth frames v → ⊥
   inconsistent_reaches clash other r = on v.sight refl r
@@ -155,3 +170,13 @@ module _ (p : Program) (depth : ℕ) (frames : Stored) (v : ViewValue) (t : IsTe
       on (Sight.Choice op) e k = other op e
       on (Sight.Box failing) e k = clash k.0
       on (Sight.Atom a) e k = clash k.0
+
+-- nothing is touched exactly where no variable was found
+pub none_touched_by : (inner : List Name) (E W : Equations) (on : List Var) → AreTouched inner E W on → (n : ℕ) → n ≡ length on → (b : Bool) → b ≡ (n == 0) → IsTrue b ↔ ((x : Var) → Touches inner E W x → ⊥)
+none_touched_by inner E W [] t n e b q = (λ h x k. (t.every x k).1.0, λ h. q ∙ ap (λ (m : ℕ). m == 0) e)
+none_touched_by inner E W (y ∷ ys) t n e b q = (λ h. let z : b ≡ false = q ∙ ap (λ (m : ℕ). m == 0) e in cc, λ h. absurd (h y (t.each y (inl refl))))
+
+-- what isn't a clash is consistent
+pub no_clash : (nodes : List Node) (ss : List Stored) (a : Consistency) → Decides nodes ss a → ((left right : Term) → a ≡ Clash left right → ⊥) → IsConsistentBy (ToldBy nodes ss)
+no_clash nodes ss Consistent d n = d
+no_clash nodes ss (Clash left right) d n = absurd (n left right refl)

@@ -1,6 +1,7 @@
 //! Whether a box is stable.
 
 ghost use Rattle.std.specs.Prelude.{◌≡◌, IfOk, IsTrue, ◌↔◌};
+ghost use Rattle.std.specs.List.{AllByRecursion};
 ghost use Rattle.akl_model.specs.Stable.{IsStable};
 ghost use Rattle.box_tree.specs.Tables.{all_rules};
 ghost use Rattle.stable_test.specs.Reaching.{IsTestable};
@@ -28,15 +29,29 @@ pub fn is_stable(
     ensures { IfOk result (λ stable. (s : IsSeenInside program.now depth inside.now) → AreAllPlain all_rules → IsTrue stable ↔ IsStable program.now s.site) }
 {
     let frames = frames_of(alloc, inside.boxes.as_slice())?;
-    for view in &inside.views {
-        if !is_still(alloc, program, depth, &frames, view)? {
+    all_still(alloc, program, depth, &frames, inside.views.as_slice())
+}
+
+// Whether at no place of these views a rule applies, and none of them reaches a variable from outside.
+fn all_still(
+    alloc: Global,
+    program: &Program,
+    depth: usize,
+    frames: &Store,
+    views: &[View],
+) -> Result<bool, AllocError>
+    requires { AllByRecursion (IsTestable program.now depth frames.now) views.now }
+    ensures { IfOk result (λ still. IsTrue still ↔ AllByRecursion (IsStill program.now depth frames.now) views.now) }
+{
+    for view in views {
+        if !is_still(alloc, program, depth, frames, view)? {
             return Ok(false);
         }
     }
     Ok(true)
 }
 
-// Whether no rule applies at a place, and it reaches no variable from outside.
+// Whether no rule other than Split applies at a place, and it reaches no variable from outside.
 fn is_still(
     alloc: Global,
     program: &Program,
@@ -47,8 +62,8 @@ fn is_still(
     requires { IsTestable program.now depth frames.now view.now }
     ensures { IfOk result (λ still. IsTrue still ↔ IsStill program.now depth frames.now view.now) }
 {
-    match plan(alloc, program, view)? {
-        Some(_) => Ok(false),
-        None => reaches_none(alloc, program, depth, frames, view),
+    if plan(alloc, program, view)?.is_some() {
+        return Ok(false);
     }
+    reaches_none(alloc, program, depth, frames, view)
 }

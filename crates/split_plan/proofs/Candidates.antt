@@ -1,0 +1,169 @@
+-- The alternative that rows show as a candidate is the one at which a stable box may be split, and where there is none the box may not.
+use Rattle.std.proofs.Common.{◌≡◌, ℕ, ◌+◌, ◌≤◌, ◌<◌, List, [], ◌∷◌, length, Bool, true, false, Option, Some, None, refl, sym, ◌∙◌, ap, subst, ◌⊎◌, inl, inr, arith}
+use Rattle.std.proofs.lemmas.Bool.{lt-ltb, ltb-true}
+use Rattle.std.specs.Prelude.{if◌then◌else◌, nat_lt, ⊤}
+use Rattle.akl_terms.specs.declared.name.Name.{Name}
+use Rattle.akl_terms.specs.declared.program.Op.{Op}
+use Rattle.akl_terms.specs.Names.{same_name}
+use Rattle.akl_terms.proofs.SameNames.{same_name-equal}
+use Rattle.akl_model.specs.Config.{IsIn, or_else, Atom, Boxes, no_boxes, box, Goals, no_goals, atom, choice, Held, an_atom, a_choice}
+use Rattle.akl_model.specs.Rules.{count_of, has_box, ChoiceIn, choice_with}
+use Rattle.akl_model.specs.Stable.{first_solved}
+use Rattle.akl_model.specs.Names.{one_if, times_in}
+use Rattle.akl_model.specs.Changes.{Shape, of_choice, shape_of, box_names, goal_names}
+use Rattle.akl_model.proofs.Options.{some_value, or_none, or_some}
+use Rattle.akl_model.proofs.Finds.{times, times_inside}
+use Rattle.akl_model.proofs.ScopesAlong.{counted_in}
+use Rattle.step_laws.proofs.Holders.{names_less}
+use Rattle.table_laws.specs.Rows.{GoalRow, Table}
+use Rattle.table_laws.proofs.Sets.{other_name, not_some}
+use Rattle.table_laws.proofs.RestBoxes.{first_named, EachGoal}
+use Rattle.box_tree.specs.Tables.{goals_in, is_empty}
+use Rattle.box_tree.specs.Insides.{first_solved_in, candidate_of, candidate_at, candidate_among}
+
+-- by rows, boxes have the goals that they have
+abbrev pub HaveRows : Table → Boxes → Type 0
+HaveRows T no_boxes = ⊤
+HaveRows T (box b gs bs) = (goals_in (T.box_of b.name) ≡ goal_names gs) × HaveRows T bs
+
+-- so the same one is the first solved one
+pub first_alike : (T : Table) (bs : Boxes) → HaveRows T bs → first_solved_in T (box_names bs) ≡ first_solved bs
+first_alike T no_boxes r = refl
+first_alike T (box b no_goals bs) r = ap (λ (ns : List Name). if is_empty ns then Some b.name else first_solved_in T (box_names bs)) r.0
+first_alike T (box b (atom g x gs) bs) r = ap (λ (ns : List Name). if is_empty ns then Some b.name else first_solved_in T (box_names bs)) r.0 ∙ first_alike T bs r.1
+first_alike T (box b (choice g o cs gs) bs) r = ap (λ (ns : List Name). if is_empty ns then Some b.name else first_solved_in T (box_names bs)) r.0 ∙ first_alike T bs r.1
+
+-- a goal has its row, and a choice's alternatives theirs
+abbrev pub HaveHeldRows : Table → Held → Type 0
+HaveHeldRows T (an_atom a) = ⊤
+HaveHeldRows T (a_choice o bs) = HaveRows T bs
+
+abbrev pub IsShown : Table → Name → Held → Type 0
+IsShown T g h = (row : GoalRow) × (T.goal_of g ≡ Some row) × (row.shape ≡ shape_of h) × HaveHeldRows T h
+
+candidate_is : (T : Table) (g : Name) (h : Held) → IsShown T g h → candidate_at T (T.goal_of g) ≡ candidate_of T (shape_of h)
+candidate_is T g h r = ap (candidate_at T) r.1 ∙ ap (candidate_of T) r.2
+
+-- names of alternatives
+
+named_has : (a : Name) (bs : Boxes) → IsIn a (box_names bs) → has_box a bs ≡ true
+named_has a no_boxes i = absurd i
+named_has a (box b gs bs) i = on (same_name a b.name) refl i (named_has a bs)
+  where
+    on : (t : Bool) → same_name a b.name ≡ t → IsIn a (b.name ∷ box_names bs) → (IsIn a (box_names bs) → has_box a bs ≡ true) → (if t then true else has_box a bs) ≡ true
+    on true q j f = refl
+    on false q (inl e) f = absurd (other_name a b.name q e)
+    on false q (inr j) f = f j
+
+has_named : (a : Name) (bs : Boxes) → has_box a bs ≡ true → IsIn a (box_names bs)
+has_named a no_boxes e = cc
+has_named a (box b gs bs) e = on (same_name a b.name) refl e (has_named a bs)
+  where
+    on : (t : Bool) → same_name a b.name ≡ t → (if t then true else has_box a bs) ≡ true → (has_box a bs ≡ true → IsIn a (box_names bs)) → IsIn a (b.name ∷ box_names bs)
+    on true q j f = inl (same_name-equal a b.name q)
+    on false q j f = inr (f j)
+
+named_times : (a : Name) (bs : Boxes) → IsIn a (box_names bs) → 1 ≤ times a bs
+named_times a bs i = let x : 0 < times_in a (box_names bs) = counted_in a (box_names bs) i in let y : times_in a (box_names bs) ≤ times a bs = names_less a bs in omega (arith, x, y)
+
+counted : (bs : Boxes) → length (box_names bs) ≡ count_of bs
+counted no_boxes = refl
+counted (box b gs bs) = let e : length (box_names bs) ≡ count_of bs = counted bs in omega arith
+
+-- at this alternative a box of these goals could be split
+pub record IsPoint (a : Name) (gs : Goals) : Type 0 where
+  pub among : ChoiceIn
+  pub is_choice : choice_with a gs ≡ Some among
+  pub op : among.op ≡ Op.Choice
+  pub first : first_solved among.alternatives ≡ Some a
+  pub others : 1 < count_of among.alternatives
+
+module _ (T : Table) (a : Name) where
+  record IsPointIn (gs : Goals) : Type 0 where
+    pub point : IsPoint a gs
+    pub stands : 1 ≤ times_inside a gs
+
+  -- a choice that is a candidate
+  here : (o : Op) (bs : Boxes) → HaveRows T bs → candidate_of T (of_choice o (box_names bs)) ≡ Some a → (o ≡ Op.Choice) × (first_solved bs ≡ Some a) × (1 < count_of bs)
+  here Op.Condition bs r e = cc
+  here Op.Commit bs r e = cc
+  here Op.Choice bs r e = on (nat_lt 1 (length (box_names bs))) refl e
+    where
+      on : (t : Bool) → nat_lt 1 (length (box_names bs)) ≡ t → (if t then first_solved_in T (box_names bs) else None) ≡ Some a → (Op.Choice ≡ Op.Choice) × (first_solved bs ≡ Some a) × (1 < count_of bs)
+      on true q x = (refl, sym (first_alike T bs r) ∙ x, subst (λ (n : ℕ). 1 < n) (counted bs) (ltb-true 1 (length (box_names bs)) q))
+      on false q x = cc
+
+  past_atom : (g : Name) (gs : Goals) → (x : Atom) → IsPointIn gs → IsPointIn (atom g x gs)
+  past_atom g gs x p = record {
+    point = record { among = p.point.among; is_choice = p.point.is_choice; op = p.point.op; first = p.point.first; others = p.point.others };
+    stands = let k : 1 ≤ times_inside a gs = p.stands in omega arith;
+  }
+
+  at_choice : (g : Name) (o : Op) (bs : Boxes) (gs : Goals) → o ≡ Op.Choice → first_solved bs ≡ Some a → 1 < count_of bs → IsPointIn (choice g o bs gs)
+  at_choice g o bs gs p q l = record {
+    point = record {
+      among = record { name = g; op = o; alternatives = bs };
+      is_choice = ap (λ (t : Bool). if t then Some (record { name = g; op = o; alternatives = bs }) else choice_with a gs) (named_has a bs (first_named a bs q));
+      op = p;
+      first = q;
+      others = l;
+    };
+    stands = let k : 1 ≤ times a bs = named_times a bs (first_named a bs q) in omega arith;
+  }
+
+  past_choice : (g : Name) (o : Op) (bs : Boxes) (gs : Goals) → times_inside a (choice g o bs gs) ≤ 1 → IsPointIn gs → IsPointIn (choice g o bs gs)
+  past_choice g o bs gs once p = record {
+    point = record {
+      among = p.point.among;
+      is_choice = ap (λ (t : Bool). if t then Some (record { name = g; op = o; alternatives = bs }) else choice_with a gs) (no_box (has_box a bs) refl) ∙ p.point.is_choice;
+      op = p.point.op;
+      first = p.point.first;
+      others = p.point.others;
+    };
+    stands = let k : 1 ≤ times_inside a gs = p.stands in omega arith;
+  }
+    where
+      no_box : (t : Bool) → has_box a bs ≡ t → has_box a bs ≡ false
+      no_box false e = e
+      no_box true e =
+          let x : 1 ≤ times a bs = named_times a bs (has_named a bs e) in
+          let y : 1 ≤ times_inside a gs = p.stands in
+          let z : one_if (same_name a g) + (times a bs + times_inside a gs) ≤ 1 = once in
+          absurd (omega (arith, x, y, z))
+
+  point_in : (gs : Goals) → EachGoal (IsShown T) gs → times_inside a gs ≤ 1 → candidate_among T (goal_names gs) ≡ Some a → IsPointIn gs
+  point_in no_goals rows once e = cc
+  point_in (atom g x gs) rows once e = past_atom g gs x (point_in gs rows.1 (omega arith) (subst (λ (o : Option Name). or_else o (candidate_among T (goal_names gs)) ≡ Some a) (candidate_is T g (an_atom x) rows.0) e))
+  point_in (choice g o bs gs) rows once e = elim (or_some (candidate_of T (of_choice o (box_names bs))) (candidate_among T (goal_names gs)) a
+      (subst (λ (x : Option Name). or_else x (candidate_among T (goal_names gs)) ≡ Some a) (candidate_is T g (a_choice o bs) rows.0) e)) [
+    | inl x ↦ let w : (o ≡ Op.Choice) × (first_solved bs ≡ Some a) × (1 < count_of bs) = here o bs rows.0.3 x in at_choice g o bs gs w.0 w.1 w.2
+    | inr x ↦ past_choice g o bs gs once (point_in gs rows.1 (let z : one_if (same_name a g) + (times a bs + times_inside a gs) ≤ 1 = once in omega arith) x.1)
+  ]
+
+  pub is_point : (gs : Goals) → EachGoal (IsShown T) gs → times_inside a gs ≤ 1 → candidate_among T (goal_names gs) ≡ Some a → IsPoint a gs
+  is_point gs rows once e = (point_in gs rows once e).point
+
+  -- where there is a point, rows show a candidate
+  pub no_point : (gs : Goals) → EachGoal (IsShown T) gs → candidate_among T (goal_names gs) ≡ None → IsPoint a gs → ⊥
+  no_point no_goals rows e p = let k : None ≡ Some p.among = p.is_choice in cc
+  no_point (atom g x gs) rows e p = no_point gs rows.1 (or_none (candidate_at T (T.goal_of g)) (candidate_among T (goal_names gs)) e).1
+      (record { among = p.among; is_choice = p.is_choice; op = p.op; first = p.first; others = p.others })
+  no_point (choice g o bs gs) rows e p = on (has_box a bs) p.is_choice (λ k. no_point gs rows.1 none.1 (record { among = p.among; is_choice = k; op = p.op; first = p.first; others = p.others }))
+    where
+      none : (candidate_at T (T.goal_of g) ≡ None) × (candidate_among T (goal_names gs) ≡ None)
+      none = or_none (candidate_at T (T.goal_of g)) (candidate_among T (goal_names gs)) e
+
+      at : (r : Op) → r ≡ Op.Choice → candidate_of T (of_choice r (box_names bs)) ≡ None → first_solved bs ≡ Some a → 1 < count_of bs → ⊥
+      at Op.Condition q x f l = cc
+      at Op.Commit q x f l = cc
+      at Op.Choice q x f l =
+          let t : nat_lt 1 (length (box_names bs)) ≡ true = lt-ltb 1 (length (box_names bs)) (subst (λ (n : ℕ). 1 < n) (sym (counted bs)) l) in
+          let y : first_solved_in T (box_names bs) ≡ None = subst (λ (b : Bool). (if b then first_solved_in T (box_names bs) else None) ≡ None) t x in
+          not_some (sym y ∙ first_alike T bs rows.0.3 ∙ f)
+
+      on : (t : Bool) → (if t then Some (record { name = g; op = o; alternatives = bs }) else choice_with a gs) ≡ Some p.among → (choice_with a gs ≡ Some p.among → ⊥) → ⊥
+      on true k f =
+          let q : record { name = g; op = o; alternatives = bs } ≡ p.among = some_value k in
+          at o (ap (λ (u : ChoiceIn). u.op) q ∙ p.op) (sym (candidate_is T g (a_choice o bs) rows.0) ∙ none.0) (ap (λ (u : ChoiceIn). first_solved u.alternatives) q ∙ p.first)
+          (subst (λ (m : ℕ). 1 < m) (sym (ap (λ (u : ChoiceIn). count_of u.alternatives) q)) p.others)
+      on false k f = f k

@@ -1,0 +1,6 @@
+pub mod Candidates
+pub mod CandidateRows
+pub mod Points
+pub mod ReadInside
+pub mod SeenSplit
+pub mod SplitRight

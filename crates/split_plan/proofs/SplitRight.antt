@@ -1,0 +1,78 @@
+-- A plan of Split is right, and where none is made, Split doesn't apply.
+use Rattle.std.proofs.Common.{◌≡◌, ℕ, ◌<◌, ◌^◌, List, [], ◌∷◌, ◌++◌, length, map, take, Some, refl, sym, ◌∙◌, ap, subst}
+use Rattle.std.specs.Prelude.{slice_index}
+use Rattle.akl_terms.specs.declared.name.Name.{Name}
+use Rattle.akl_terms.specs.declared.name.Place.{Place}
+use Rattle.akl_model.specs.declared.item.Item.{Item}
+use Rattle.akl_model.specs.declared.label.Rule.{Rule}
+use Rattle.akl_model.specs.declared.label.Label.{Label}
+use Rattle.akl_model.specs.Config.{IsIn, Found, box_at}
+use Rattle.akl_model.specs.Rules.{nothing, alone, with_alternatives, second_copy, first_of, Change, ChoiceIn, choice_with, split_at, change_by}
+use Rattle.akl_model.specs.Renaming.{sorted_names}
+use Rattle.akl_model.specs.Conditions as conditions
+use Rattle.akl_model.specs.Stable.{IsStable, IsSplitPoint, Allows}
+use Rattle.akl_model.specs.Derivations.{IsInForce, Applies, after}
+use Rattle.akl_model.specs.Wakes.{names_around}
+use Rattle.akl_model.proofs.Options.{and_some}
+use Rattle.plan_laws.specs.Right.{Reads}
+use Rattle.table_laws.specs.Steps.{rest_of}
+use Rattle.table_laws.proofs.CopiesMade.{names_are}
+use Rattle.box_tree.specs.declared.step.Step.{Step}
+use Rattle.box_tree.specs.declared.inside.Inside.{Inside}
+use Rattle.box_tree.specs.Tables.{all_rules, table_of, step_of}
+use Rattle.box_tree.specs.Views.{ViewValue, IsViewOf, run_of}
+use Rattle.box_tree.specs.Insides.{IsInsideOf}
+use Rattle.box_tree.specs.Plans.{IsRead, IsRight}
+use Rattle.box_copies.specs.declared.copying.Copied.{Copied}
+use Rattle.box_copies.specs.Copies.{IsSplitInto}
+use Rattle.box_copies.proofs.Splits.{split_made, split_draws, split_solved}
+use Rattle.split_plan.specs.Read.{items_in}
+use Rattle.split_plan.proofs.Candidates.{IsPoint}
+use Rattle.split_plan.proofs.CandidateRows.{there, itself}
+use Rattle.split_plan.proofs.Points.{split_point}
+use Rattle.split_plan.proofs.ReadInside.{all_read, reads_there}
+
+split_in_force : IsInForce all_rules Rule.Split
+split_in_force = ?
+
+abbrev pub split_label : ViewValue → Name → Label
+split_label v a = record { rule = Rule.Split; place = v.place; alternative = Some a; worker = v.worker }
+
+module _ (v : ViewValue) (i : IsViewOf v) (n a : Name) (p : v.place ≡ Place.Box n) (q : IsPoint a i.site.goals) (stable : IsStable v.table.program i.site) (c : Copied) (x : IsSplitInto v a c) (few : c.names < 2 ^ 32) where
+  point : IsSplitPoint i.site a q.among
+  point = split_point v i a q stable
+
+  abbrev change : Change
+  change = record {
+    boxes = first_of (with_alternatives i.site q.among (alone a q.among.alternatives)) (second_copy v.worker (slice_index i.table.config.next v.worker) (rest_of a i.site q.among));
+    drawn = length (sorted_names (rest_of a i.site q.among));
+  }
+
+  drawn : c.names ≡ length (sorted_names (rest_of a i.site q.among))
+  drawn = x.names ∙ ap (λ (ns : List Name). length ns)
+      (names_are all_rules (run_of v.table v.journal) (table_of v.table) i.table v.worker x.name a i.site q.among (there v i x.name x.place) stable q.is_choice point x.old x.are_old)
+
+  makes : conditions.Makes (Allows v.table.program) v.table.program (slice_index i.table.config.next v.worker) (split_label v a) i.site change
+  makes = record {
+    reading = nothing;
+    change = subst (λ (z : Place). change_by v.table.program nothing v.worker (slice_index i.table.config.next v.worker) Rule.Split z (Some a) i.site ≡ Some change) (sym p)
+        (ap (split_at v.worker (slice_index i.table.config.next v.worker) a i.site) q.is_choice);
+    allowed = subst (λ (z : Place). Allows v.table.program nothing Rule.Split z (Some a) i.site) (sym p) (stable, and_some (IsSplitPoint i.site a) (choice_with a i.site.goals) q.among q.is_choice point);
+    few_names = subst (λ (k : ℕ). k < 2 ^ 32) drawn few;
+  }
+
+  applies : Applies all_rules v.table.program i.table.config (split_label v a) (after i.table.config (split_label v a) i.site change)
+  applies = record { in_force = split_in_force; site = i.site; is_site = i.is_site; change = change; makes = makes; result = refl }
+
+  pub split_right : (inside : Inside) → IsInsideOf v.table v.journal n v.worker inside → (around : List Name) → around ≡ names_around i.site
+      → IsRight (record { table = v.table; journal = v.journal; label = split_label v a; reads = map Item.Store around ++ items_in inside.boxes.items; names = c.names; step = Step.Split c.copy c.copies })
+  split_right inside h around is_around = record {
+    table = i.table;
+    result = after i.table.config (split_label v a) i.site change;
+    applies = applies;
+    makes = split_made v i a c x (split_label v a) (after i.table.config (split_label v a) i.site change) applies refl refl refl refl;
+    solved = split_solved v i a c x (split_label v a) (after i.table.config (split_label v a) i.site change) applies refl refl refl refl;
+    names = split_draws v i a c x (split_label v a) (after i.table.config (split_label v a) i.site change) applies refl refl refl refl;
+    reads = subst (λ (z : Place). Reads (IsRead (map Item.Store around ++ items_in inside.boxes.items)) Rule.Split z (Some a) i.site) (sym p) (all_read v i n (itself v i n p) inside h around is_around);
+    there = reads_there v i n (itself v i n p) inside h around is_around;
+  }

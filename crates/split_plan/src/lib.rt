@@ -1,0 +1,7 @@
+//! Plans of Split, by all that is seen of a box and inside it.
+#![tactic(auto)]
+
+mod planning;
+mod reading;
+
+pub use planning::plan_split;

@@ -1,0 +1,51 @@
+//! Plans of Split.
+
+ghost use Rattle.std.specs.Prelude.{◌≡◌, IfOk};
+ghost use Rattle.box_copies.specs.Copies.{IsInsideOfBox};
+ghost use Rattle.split_plan.specs.Split.{IsCandidate, IsSplitBy};
+
+use crate::reading::split_reads;
+use akl_model::Rule;
+use akl_terms::{Name, Program};
+use box_copies::{Copied, copies_of};
+use box_tree::{Inside, Plan, Step, View};
+use guard_plan::label_for;
+use stable_test::is_stable;
+use std::alloc::{AllocError, Global};
+
+// One less than the number of names that are too many for one label.
+const MOST: u64 = 4294967295;
+
+/// A right plan of Split for the box that was looked at, by its worker, at the alternative at which it could be split;
+/// `None` exactly where Split doesn't apply there, as the box isn't stable. An `Err` is want of memory, or of names:
+/// the copies would draw 4,294,967,296 or more.
+pub fn plan_split(
+    alloc: Global,
+    program: &Program,
+    view: &View,
+    inside: &Inside,
+    alternative: Name,
+) -> Result<Option<Plan>, AllocError>
+    requires program { program.now ≡ view.now.table.program }
+    requires inside { IsInsideOfBox view.now inside.now }
+    requires candidate { IsCandidate view.now alternative }
+    ensures { IfOk result (IsSplitBy view.now) }
+{
+    let label = label_for(view, Rule::Split, alternative);
+    let path = view.path();
+    let depth = path.len().saturating_sub(1);
+    if !is_stable(alloc, program, depth, inside)? {
+        return Ok(None);
+    }
+    let Copied {
+        copy,
+        copies,
+        names,
+    } = copies_of(alloc, view, inside, alternative)?;
+    if names > MOST {
+        return Err(AllocError);
+    }
+    let reads = split_reads(alloc, &path[..depth], inside.boxes.as_slice())?;
+    let step = Step::Split { copy, copies };
+    Ok(Some(Plan::new(view, label, reads, names, step)))
+}
