@@ -81,10 +81,7 @@ fn is_quiet_over(
 }
 
 /// The same stores again.
-pub fn shared(
-    alloc: Global,
-    path: &[Shared<Store>],
-) -> Result<Vec<Shared<Store>>, AllocError>
+pub fn shared(alloc: Global, path: &[Shared<Store>]) -> Result<Vec<Shared<Store>>, AllocError>
     ensures { IfOk result (λ stores. stores.items ≡ path.now) }
 {
     let mut stores = Vec::new(alloc);

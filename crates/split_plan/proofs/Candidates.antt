@@ -136,9 +136,9 @@ module _ (T : Table) (a : Name) where
   point_in (atom g x gs) rows once e = past_atom g gs x (point_in gs rows.1 (omega arith) (subst (λ (o : Option Name). or_else o (candidate_among T (goal_names gs)) ≡ Some a) (candidate_is T g (an_atom x) rows.0) e))
   point_in (choice g o bs gs) rows once e = elim (or_some (candidate_of T (of_choice o (box_names bs))) (candidate_among T (goal_names gs)) a
       (subst (λ (x : Option Name). or_else x (candidate_among T (goal_names gs)) ≡ Some a) (candidate_is T g (a_choice o bs) rows.0) e)) [
-    | inl x ↦ let w : (o ≡ Op.Choice) × (first_solved bs ≡ Some a) × (1 < count_of bs) = here o bs rows.0.3 x in at_choice g o bs gs w.0 w.1 w.2
-    | inr x ↦ past_choice g o bs gs once (point_in gs rows.1 (let z : one_if (same_name a g) + (times a bs + times_inside a gs) ≤ 1 = once in omega arith) x.1)
-  ]
+        | inl x ↦ let w : (o ≡ Op.Choice) × (first_solved bs ≡ Some a) × (1 < count_of bs) = here o bs rows.0.3 x in at_choice g o bs gs w.0 w.1 w.2
+        | inr x ↦ past_choice g o bs gs once (point_in gs rows.1 (let z : one_if (same_name a g) + (times a bs + times_inside a gs) ≤ 1 = once in omega arith) x.1)
+      ]
 
   pub is_point : (gs : Goals) → EachGoal (IsShown T) gs → times_inside a gs ≤ 1 → candidate_among T (goal_names gs) ≡ Some a → IsPoint a gs
   is_point gs rows once e = (point_in gs rows once e).point

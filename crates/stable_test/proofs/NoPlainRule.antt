@@ -56,39 +56,43 @@ case_goal p w next f c g (sends _ m r q k i x y z e) = (_, i)
 case_goal p w next f c g (cuts _ n o bs i x e) = (_, i)
 case_goal p w next f c g (promotes _ n o a i x y e) = (_, i)
 
-
 module _ (rules : List Rule) (all : AreAllPlain rules) (p : Program) (c : Config) (s : Stand c) (f : Found) (there : box_at f.content.name c.roots ≡ Some f) where
   -- at a goal, by the configuration's own next numbers
   goal_applies : (g : Name) (h : Held) (l : Label) (next : ℕ) (ch : Change) → held_in g f.goals ≡ Some h → Makes (AllowsPlain p) p next l f ch → l.place ≡ Place.Goal g → (d : Config) × Applies rules p c l d
   goal_applies g h l next ch i m e =
       let w : (x : Change) × (change_by p m.reading l.worker (slice_index c.next l.worker) l.rule l.place l.alternative f ≡ Some x) × (x.drawn ≡ ch.drawn) =
-      other_next p m.reading l.worker next (slice_index c.next l.worker) l.rule l.place l.alternative f ch m.change in
-      (after c l f w.0, record {
-        in_force = all l.rule (not_plain p m.reading l.rule l.place l.alternative f m.allowed);
-        site = f;
-        is_site = subst (λ (place : Place). site_of place c.roots ≡ Some f) (sym e) (home_found c.roots s.once g f.content.name f h there i);
-        change = w.0;
-        makes = record {
-          reading = m.reading;
-          change = w.1;
-          allowed = allowed_of p m.reading l.rule l.place l.alternative f m.allowed;
-          few_names = subst (λ (k : ℕ). k < 2 ^ 32) (sym w.2) m.few_names;
-        };
-        result = refl;
-      })
+      other_next p m.reading l.worker next (slice_index c.next l.worker) l.rule l.place l.alternative f ch m.change in (
+        after c l f w.0,
+        record {
+          in_force = all l.rule (not_plain p m.reading l.rule l.place l.alternative f m.allowed);
+          site = f;
+          is_site = subst (λ (place : Place). site_of place c.roots ≡ Some f) (sym e) (home_found c.roots s.once g f.content.name f h there i);
+          change = w.0;
+          makes = record {
+            reading = m.reading;
+            change = w.1;
+            allowed = allowed_of p m.reading l.rule l.place l.alternative f m.allowed;
+            few_names = subst (λ (k : ℕ). k < 2 ^ 32) (sym w.2) m.few_names;
+          };
+          result = refl;
+        },
+      )
 
   abbrev failing : Label
   failing = record { rule = Rule.Fail; place = Place.Box f.content.name; alternative = None; worker = 0 }
 
   fail_applies : AllowsPlain p nothing Rule.Fail (Place.Box f.content.name) None f → (d : Config) × Applies rules p c (record { rule = Rule.Fail; place = Place.Box f.content.name; alternative = None; worker = 0 }) d
-  fail_applies x = (after c failing f (record { boxes = no_boxes; drawn = 0 }), record {
-    in_force = all Rule.Fail (λ e. cc);
-    site = f;
-    is_site = there;
-    change = record { boxes = no_boxes; drawn = 0 };
-    makes = record { reading = nothing; change = refl; allowed = x; few_names = omega arith };
-    result = refl;
-  })
+  fail_applies x = (
+    after c failing f (record { boxes = no_boxes; drawn = 0 }),
+    record {
+      in_force = all Rule.Fail (λ e. cc);
+      site = f;
+      is_site = there;
+      change = record { boxes = no_boxes; drawn = 0 };
+      makes = record { reading = nothing; change = refl; allowed = x; few_names = omega arith };
+      result = refl;
+    },
+  )
 
   pub no_plain_rule : NoneAppliesAt rules p c (Place.Box f.content.name) → ((g : Name) (h : Held) → held_in g f.goals ≡ Some h → NoneAppliesAt rules p c (Place.Goal g))
       → (l : Label) (next : ℕ) (ch : Change) → Makes (AllowsPlain p) p next l f ch → ⊥

@@ -86,10 +86,10 @@ module _ (T : Table) (c : Config) (s : Stand c) (u : Unfolds T c) (n : Name) (f 
   pub goes_down : (d : Found) → IsDown c s n f e d → GoesDown d
   goes_down d h = elim (below c s n f e d h) [
     | inl q ↦ record {
-        more = d.content.name ∷ [];
-        split = ap (λ (k : Found). names_around k ++ d.content.name ∷ []) (sym q);
-        inside = λ m i. elim i [ inl r ↦ subst (IsInside T n) (sym r) (is_inside d h) | inr z ↦ absurd z ];
-      }
+      more = d.content.name ∷ [];
+      split = ap (λ (k : Found). names_around k ++ d.content.name ∷ []) (sym q);
+      inside = λ m i. elim i [ inl r ↦ subst (IsInside T n) (sym r) (is_inside d h) | inr z ↦ absurd z ];
+    }
     | inr b ↦ goes_below d h b
   ]
 

@@ -69,10 +69,13 @@ module _ (v : ViewValue) (i : IsViewOf v) (n : Name) (f : Found) (e : box_at n i
       on place (Sight.Choice op) k = tt
       on place (Sight.Box failing) k = (nothing_touched.consistent, nothing_touched.untouched)
       on (Place.Box m) (Sight.Atom a) k = absurd k
-      on (Place.Goal g) (Sight.Atom a) k = (nothing_touched.consistent, λ on x w r. elim r [
-        | inl t ↦ nothing_touched.untouched x t
-        | inr t ↦ stable_in.untouched x (by_waiting t.0 (record { goal = g; atom = goal_atom v.table.program.templates.nodes a; is_goal = k; on = on; waits = w; equal = t.1 }))
-      ])
+      on (Place.Goal g) (Sight.Atom a) k = (
+        nothing_touched.consistent,
+        λ on x w r. elim r [
+          | inl t ↦ nothing_touched.untouched x t
+          | inr t ↦ stable_in.untouched x (by_waiting t.0 (record { goal = g; atom = goal_atom v.table.program.templates.nodes a; is_goal = k; on = on; waits = w; equal = t.1 }))
+        ],
+      )
 
 -- what the place of a view reaches nothing from outside by
 module _ (v : ViewValue) (i : IsViewOf v) (f : Found) where
