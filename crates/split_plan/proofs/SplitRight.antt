@@ -11,7 +11,7 @@ use Rattle.akl_model.specs.Rules.{nothing, alone, with_alternatives, second_copy
 use Rattle.akl_model.specs.Renaming.{sorted_names}
 use Rattle.akl_model.specs.Conditions as conditions
 use Rattle.akl_model.specs.Stable.{IsStable, IsSplitPoint, Allows}
-use Rattle.akl_model.specs.Derivations.{IsInForce, Applies, after}
+use Rattle.akl_model.specs.Derivations.{Applies, after}
 use Rattle.akl_model.specs.Wakes.{names_around}
 use Rattle.akl_model.proofs.Options.{and_some}
 use Rattle.plan_laws.specs.Right.{Reads}
@@ -26,14 +26,12 @@ use Rattle.box_tree.specs.Plans.{IsRead, IsRight}
 use Rattle.box_copies.specs.declared.copying.Copied.{Copied}
 use Rattle.box_copies.specs.Copies.{IsSplitInto}
 use Rattle.box_copies.proofs.Splits.{split_made, split_draws, split_solved}
+use Rattle.stable_test.proofs.NoPlainRule.{each_in_force}
 use Rattle.split_plan.specs.Read.{items_in}
 use Rattle.split_plan.proofs.Candidates.{IsPoint}
 use Rattle.split_plan.proofs.CandidateRows.{there, itself}
 use Rattle.split_plan.proofs.Points.{split_point}
 use Rattle.split_plan.proofs.ReadInside.{all_read, reads_there}
-
-split_in_force : IsInForce all_rules Rule.Split
-split_in_force = ?
 
 abbrev pub split_label : ViewValue → Name → Label
 split_label v a = record { rule = Rule.Split; place = v.place; alternative = Some a; worker = v.worker }
@@ -62,7 +60,7 @@ module _ (v : ViewValue) (i : IsViewOf v) (n a : Name) (p : v.place ≡ Place.Bo
   }
 
   applies : Applies all_rules v.table.program i.table.config (split_label v a) (after i.table.config (split_label v a) i.site change)
-  applies = record { in_force = split_in_force; site = i.site; is_site = i.is_site; change = change; makes = makes; result = refl }
+  applies = record { in_force = each_in_force Rule.Split; site = i.site; is_site = i.is_site; change = change; makes = makes; result = refl }
 
   pub split_right : (inside : Inside) → IsInsideOf v.table v.journal n v.worker inside → (around : List Name) → around ≡ names_around i.site
       → IsRight (record { table = v.table; journal = v.journal; label = split_label v a; reads = map Item.Store around ++ items_in inside.boxes.items; names = c.names; step = Step.Split c.copy c.copies })

@@ -6,6 +6,7 @@ use Rattle.akl_terms.specs.declared.name.Var.{Var}
 use Rattle.akl_terms.specs.declared.term.Node.{Node}
 use Rattle.akl_terms.specs.declared.term.Term.TheVariants.{Mol}
 use Rattle.akl_terms.specs.declared.program.Code.{Code}
+use Rattle.akl_terms.specs.declared.program.Goal.{Goal}
 use Rattle.akl_terms.specs.declared.program.Test.{Test}
 use Rattle.akl_terms.specs.declared.program.Program.{Program}
 use Rattle.akl_terms.specs.Tree.{Tree}
@@ -17,7 +18,11 @@ use Rattle.akl_model.specs.Stable.{AtomWaitsOn}
 use Rattle.constraint_laws.proofs.WaitsOne.{value_waits}
 use Rattle.arith_goals.specs.declared.goals.ArithValue.{ArithValue}
 use Rattle.arith_goals.specs.declared.goals.ArithValue.TheVariants.{Is, Holds, Fails, Waits, Never}
-use Rattle.arith_goals.specs.Answers.{ComesTo}
+use Rattle.arith_goals.specs.Answers.{ComesTo, Answers, AnswersIn}
+use Rattle.rational_unify.specs.Solving.{bindings_in}
+use Rattle.local_store.specs.Stored.{Stored}
+use Rattle.local_store.specs.Chained.{Chained, bindings_from}
+use Rattle.box_tree.specs.Tables.{goal_atom}
 use Rattle.stable_test.specs.Reaching.{IsFree, IsHeaded}
 
 module _ (symbols : List (List ℕ)) (E : Equations) (c : IsConsistent E) where
@@ -53,3 +58,15 @@ pub send_waits : (p : Program) (E : Equations) (nodes : List Node) (f : Name) (c
     → MatchOption o ((x : Var) → AtomWaitsOn p E (atom_of nodes f code) x → ⊥) (λ x. AtomWaitsOn p E (atom_of nodes f code) x)
 send_waits p E nodes f code m q e None h = λ x w. h.none x (subst (λ (k : Code). AtomWaitsOn p E (atom_of nodes f k) x) e w)
 send_waits p E nodes f code m q e (Some x) h = subst (λ (k : Code). AtomWaitsOn p E (atom_of nodes f k) x) (sym e) h
+
+-- an arithmetic goal that comes to something, or never does, waits on nothing
+pub arith_idle : (p : Program) (ss : List Stored) (chain : Chained) → chain.nodes ≡ p.templates.nodes → chain.symbols ≡ p.templates.symbols → chain.stores ≡ ss
+    → IsConsistent (bindings_in p.templates.nodes (bindings_from ss)) → (goal : Goal) (test : Test) (l r : ℕ) → goal.code ≡ Code.Arith test l r → (v : ArithValue) → AnswersIn chain goal v
+    → ((on : Var) → v ≡ Waits on → ⊥) → (x : Var) → AtomWaitsOn p (bindings_in p.templates.nodes (bindings_from ss)) (goal_atom p.templates.nodes goal) x → ⊥
+arith_idle p ss chain en es et c goal test l r e v h n x w = value_idle p.templates.symbols (bindings_in p.templates.nodes (bindings_from ss)) c test (tree p.templates.nodes (Mol l goal.frame)) (tree p.templates.nodes (Mol r goal.frame)) v
+    (subst (λ (k : Code). Answers (record { nodes = p.templates.nodes; symbols = p.templates.symbols }) (bindings_in p.templates.nodes (bindings_from ss)) (record { code = k; frame = goal.frame }) v) e
+    (subst (λ (z : Chained). AnswersIn z goal v) same h)) n x
+    (subst (λ (k : Code). AtomWaitsOn p (bindings_in p.templates.nodes (bindings_from ss)) (atom_of p.templates.nodes goal.frame k) x) e w)
+  where
+    same : chain ≡ record { nodes = p.templates.nodes; symbols = p.templates.symbols; stores = ss; known = chain.known }
+    same = λ i. record { nodes = en i; symbols = es i; stores = et i; known = chain.known }

@@ -1,5 +1,5 @@
 -- A rule other than Split may be used at a box, or at a goal directly in it, only where a label applies.
-use Rattle.std.proofs.Common.{◌≡◌, ℕ, ◌<◌, ◌^◌, List, Option, Some, None, refl, sym, subst, arith}
+use Rattle.std.proofs.Common.{◌≡◌, ℕ, ◌<◌, ◌^◌, List, Option, Some, None, refl, sym, subst, inl, inr, arith}
 use Rattle.std.specs.Prelude.{slice_index}
 use Rattle.akl_terms.specs.declared.name.Name.{Name}
 use Rattle.akl_terms.specs.declared.name.Place.{Place}
@@ -10,12 +10,24 @@ use Rattle.akl_model.specs.Config.{no_boxes, Config, Held, held_in, Found, box_a
 use Rattle.akl_model.specs.Rules.{Reading, nothing, Change, change_by}
 use Rattle.akl_model.specs.Conditions.{AllowsPlain, Makes}
 use Rattle.akl_model.specs.Stable.{Allows}
-use Rattle.akl_model.specs.Derivations.{Applies, after}
+use Rattle.akl_model.specs.Derivations.{IsInForce, Applies, after}
 use Rattle.akl_model.proofs.NamesKept.{Stand}
 use Rattle.akl_model.proofs.RuleCases.{PlainCase, tells, forks, evaluates, opens, sends, fails, cuts, promotes, Makes-plain}
 use Rattle.step_laws.proofs.AgainIn.{other_next}
 use Rattle.step_laws.proofs.Deeper.{home_found}
-use Rattle.stable_test.specs.Stability.{AreAllPlain}
+use Rattle.box_tree.specs.Tables.{all_rules}
+
+-- each rule is in force
+pub each_in_force : (r : Rule) → IsInForce all_rules r
+each_in_force Rule.Tell = inl refl
+each_in_force Rule.Fork = inr (inl refl)
+each_in_force Rule.Fail = inr (inr (inl refl))
+each_in_force Rule.Cut = inr (inr (inr (inl refl)))
+each_in_force Rule.Promote = inr (inr (inr (inr (inl refl))))
+each_in_force Rule.Eval = inr (inr (inr (inr (inr (inl refl)))))
+each_in_force Rule.Open = inr (inr (inr (inr (inr (inr (inl refl))))))
+each_in_force Rule.Send = inr (inr (inr (inr (inr (inr (inr (inl refl)))))))
+each_in_force Rule.Split = inr (inr (inr (inr (inr (inr (inr (inr (inl refl))))))))
 
 -- no rule in force other than Split applies at a place of a configuration
 abbrev pub NoneAppliesAt : List Rule → Program → Config → Place → Type 0
@@ -56,7 +68,7 @@ case_goal p w next f c g (sends _ m r q k i x y z e) = (_, i)
 case_goal p w next f c g (cuts _ n o bs i x e) = (_, i)
 case_goal p w next f c g (promotes _ n o a i x y e) = (_, i)
 
-module _ (rules : List Rule) (all : AreAllPlain rules) (p : Program) (c : Config) (s : Stand c) (f : Found) (there : box_at f.content.name c.roots ≡ Some f) where
+module _ (rules : List Rule) (all : (r : Rule) → IsInForce rules r) (p : Program) (c : Config) (s : Stand c) (f : Found) (there : box_at f.content.name c.roots ≡ Some f) where
   -- at a goal, by the configuration's own next numbers
   goal_applies : (g : Name) (h : Held) (l : Label) (next : ℕ) (ch : Change) → held_in g f.goals ≡ Some h → Makes (AllowsPlain p) p next l f ch → l.place ≡ Place.Goal g → (d : Config) × Applies rules p c l d
   goal_applies g h l next ch i m e =
@@ -64,7 +76,7 @@ module _ (rules : List Rule) (all : AreAllPlain rules) (p : Program) (c : Config
       other_next p m.reading l.worker next (slice_index c.next l.worker) l.rule l.place l.alternative f ch m.change in (
         after c l f w.0,
         record {
-          in_force = all l.rule (not_plain p m.reading l.rule l.place l.alternative f m.allowed);
+          in_force = all l.rule;
           site = f;
           is_site = subst (λ (place : Place). site_of place c.roots ≡ Some f) (sym e) (home_found c.roots s.once g f.content.name f h there i);
           change = w.0;
@@ -85,7 +97,7 @@ module _ (rules : List Rule) (all : AreAllPlain rules) (p : Program) (c : Config
   fail_applies x = (
     after c failing f (record { boxes = no_boxes; drawn = 0 }),
     record {
-      in_force = all Rule.Fail (λ e. cc);
+      in_force = all Rule.Fail;
       site = f;
       is_site = there;
       change = record { boxes = no_boxes; drawn = 0 };

@@ -9,6 +9,7 @@ use Rattle.akl_terms.specs.Touching.{Touches}
 use Rattle.akl_model.specs.declared.label.Rule.{Rule}
 use Rattle.akl_model.specs.Config.{Atom, Config, Held, an_atom, a_choice, held_in, Found, environment, whole, box_at}
 use Rattle.akl_model.specs.Stable.{only, frames_of, AtomWaitsOn, TouchesFrom, by_equations, by_waiting, IsStableIn, IsStable}
+use Rattle.akl_model.specs.Derivations.{IsInForce}
 use Rattle.akl_model.proofs.NamesKept.{Stand}
 use Rattle.akl_model.proofs.StableGrows.{untouched_box}
 use Rattle.constraint_laws.specs.Growth.{TouchesNothing}
@@ -19,7 +20,6 @@ use Rattle.guard_plan.specs.Planned.{HasNoRule}
 use Rattle.guard_plan.proofs.HasNone.{has_none}
 use Rattle.guard_plan.proofs.Sites.{stand}
 use Rattle.stable_test.specs.Reaching.{IsReached, ReachesNone}
-use Rattle.stable_test.specs.Stability.{AreAllPlain}
 use Rattle.stable_test.proofs.EachInside.{IsDown, each_down, holds_down}
 use Rattle.stable_test.proofs.NoPlainRule.{NoneAppliesAt, plain_of, no_plain_rule}
 
@@ -33,7 +33,7 @@ module _ (rules : List Rule) (p : Program) (c : Config) (s : Stand c) (n : Name)
     pub none : NoneAppliesAt rules p c (Place.Goal g)
     pub unreached : (a : Atom) → h ≡ an_atom a → (on x : Var) → AtomWaitsOn p (whole d) a on → IsReached (frames_of (only f)) (environment f) (whole d) on x → ⊥
 
-  pub still_stable : AreAllPlain rules → ((d : Found) → IsDown c s n f e d → IsStillBox d) → ((d : Found) → IsDown c s n f e d → (g : Name) (h : Held) → held_in g d.goals ≡ Some h → IsStillGoal d g h)
+  pub still_stable : ((r : Rule) → IsInForce rules r) → ((d : Found) → IsDown c s n f e d → IsStillBox d) → ((d : Found) → IsDown c s n f e d → (g : Name) (h : Held) → held_in g d.goals ≡ Some h → IsStillGoal d g h)
       → IsStable p f
   still_stable all boxes goals = record {
     each = each_down c s n f e (IsStableIn p (frames_of (only f)) (environment f)) (λ d h. record {

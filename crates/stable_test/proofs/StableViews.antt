@@ -27,12 +27,11 @@ use Rattle.guard_plan.specs.Planned.{HasNoRule}
 use Rattle.guard_plan.proofs.Sites.{stand}
 use Rattle.stable_test.specs.Frames.{with_all_frames}
 use Rattle.stable_test.specs.Reaching.{IsReached, ReachesNone, ReachesNoneAt, IsTestable}
-use Rattle.stable_test.specs.Stability.{AreAllPlain}
 use Rattle.stable_test.specs.Seen.{IsSeenInside, IsStill}
 use Rattle.stable_test.proofs.EachInside.{IsDown}
 use Rattle.stable_test.proofs.PathStores.{HasFrame, frame_has, has_frame, is_inside, box_down, goal_down, goal_inside_down}
 use Rattle.stable_test.proofs.SiteReaches.{deep_stores, apart, reaches_site, site_reaches}
-use Rattle.stable_test.proofs.NoPlainRule.{NoneAppliesAt}
+use Rattle.stable_test.proofs.NoPlainRule.{each_in_force, NoneAppliesAt}
 use Rattle.stable_test.proofs.StableSite.{IsStillBox, IsStillGoal, still_stable, stable_none, stable_reaches, view_box, view_goal}
 use Rattle.stable_test.proofs.AllFrames.{all_local, local_all, all_unbound, box_frame, frame_box}
 
@@ -151,8 +150,8 @@ module _ (p : Program) (depth : ℕ) (i : Inside) (s : IsSeenInside p depth i) w
   pub all_still : IsStable p s.site → AllByRecursion (IsStill p depth (with_all_frames nothing i.boxes.items)) i.views.items
   all_still stable = every (IsViewInside s.table s.journal s.name s.worker) (IsStill p depth (with_all_frames nothing i.boxes.items)) (λ v w. still v w stable) i.views.items s.inside.views
 
-  pub all_stable : AreAllPlain all_rules → AllByRecursion (IsStill p depth (with_all_frames nothing i.boxes.items)) i.views.items → IsStable p s.site
-  all_stable all t = still_stable all_rules p s.run.config stands s.name s.site s.is_site all boxes goals
+  pub all_stable : AllByRecursion (IsStill p depth (with_all_frames nothing i.boxes.items)) i.views.items → IsStable p s.site
+  all_stable t = still_stable all_rules p s.run.config stands s.name s.site s.is_site each_in_force boxes goals
     where
       seen : (place : Place) → IsPlaceInside (table_of s.table) s.name place
           → (v : ViewValue) × (v.place ≡ place) × IsViewInside s.table s.journal s.name s.worker v × IsStill p depth (with_all_frames nothing i.boxes.items) v

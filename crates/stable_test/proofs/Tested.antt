@@ -1,5 +1,6 @@
 -- What is read from a chain with a further store, in which what is waited on is bound.
 use Rattle.std.proofs.Common.{◌≡◌, ℕ, zero, suc, ℤ, ◌≤◌, Bool, false, Option, List, [], ◌∷◌, ◌++◌, length, take, drop, refl, sym, ◌∙◌, ap, subst, inl, inr, arith}
+use Rattle.std.proofs.lemmas.Bool.{eqb-true}
 use Rattle.std.specs.Prelude.{◌==◌, IsTrue, ◌↔◌}
 use Rattle.akl_terms.specs.declared.name.Name.{Name}
 use Rattle.akl_terms.specs.declared.name.Var.{Var}
@@ -172,11 +173,14 @@ module _ (p : Program) (depth : ℕ) (frames : Stored) (v : ViewValue) (t : IsTe
       on (Sight.Atom a) e k = clash k.0
 
 -- nothing is touched exactly where no variable was found
-pub none_touched_by : (inner : List Name) (E W : Equations) (on : List Var) → AreTouched inner E W on → (n : ℕ) → n ≡ length on → (b : Bool) → b ≡ (n == 0) → IsTrue b ↔ ((x : Var) → Touches inner E W x → ⊥)
-none_touched_by inner E W [] t n e b q = (λ h x k. (t.every x k).1.0, λ h. q ∙ ap (λ (m : ℕ). m == 0) e)
-none_touched_by inner E W (y ∷ ys) t n e b q = (λ h. let z : b ≡ false = q ∙ ap (λ (m : ℕ). m == 0) e in cc, λ h. absurd (h y (t.each y (inl refl))))
+pub none_touched_by : (own : List Name) (E W : Equations) (on : List Var) → AreTouched own E W on → (n : ℕ) → n ≡ length on → (b : Bool) → b ≡ (n == 0) → IsTrue b ↔ ((x : Var) → Touches own E W x → ⊥)
+none_touched_by own E W [] t n e b q = (λ h x k. (t.every x k).1, λ h. q ∙ ap (λ (m : ℕ). m == 0) e)
+none_touched_by own E W (y ∷ ys) t n e b q = (λ h. absurd (full (eqb-true n 0 (sym q ∙ h))), λ h. absurd (h y (t.each y (inl refl))))
+  where
+    full : n ≡ 0 → ⊥
+    full z = omega (arith, e, z)
 
 -- what isn't a clash is consistent
-pub no_clash : (nodes : List Node) (ss : List Stored) (a : Consistency) → Decides nodes ss a → ((left right : Term) → a ≡ Clash left right → ⊥) → IsConsistentBy (ToldBy nodes ss)
-no_clash nodes ss Consistent d n = d
-no_clash nodes ss (Clash left right) d n = absurd (n left right refl)
+pub no_clash : (ns : List Node) (ss : List Stored) (a : Consistency) → Decides ns ss a → ((left right : Term) → a ≡ Clash left right → ⊥) → IsConsistentBy (ToldBy ns ss)
+no_clash ns ss Consistent d n = d
+no_clash ns ss (Clash left right) d n = absurd (n left right refl)

@@ -1,4 +1,3 @@
 pub mod Frames
 pub mod Reaching
-pub mod Stability
 pub mod Seen

@@ -3,9 +3,7 @@
 ghost use Rattle.std.specs.Prelude.{◌≡◌, IfOk, IsTrue, ◌↔◌};
 ghost use Rattle.std.specs.List.{AllByRecursion};
 ghost use Rattle.akl_model.specs.Stable.{IsStable};
-ghost use Rattle.box_tree.specs.Tables.{all_rules};
 ghost use Rattle.stable_test.specs.Reaching.{IsTestable};
-ghost use Rattle.stable_test.specs.Stability.{AreAllPlain};
 ghost use Rattle.stable_test.specs.Seen.{IsSeenInside, IsStill};
 
 use crate::frames::frames_of;
@@ -26,7 +24,7 @@ pub fn is_stable(
     inside: &Inside,
 ) -> Result<bool, AllocError>
     requires { IsSeenInside program.now depth inside.now }
-    ensures { IfOk result (λ stable. (s : IsSeenInside program.now depth inside.now) → AreAllPlain all_rules → IsTrue stable ↔ IsStable program.now s.site) }
+    ensures { IfOk result (λ stable. (s : IsSeenInside program.now depth inside.now) → IsTrue stable ↔ IsStable program.now s.site) }
 {
     let frames = frames_of(alloc, inside.boxes.as_slice())?;
     all_still(alloc, program, depth, &frames, inside.views.as_slice())

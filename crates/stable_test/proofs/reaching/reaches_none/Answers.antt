@@ -27,6 +27,6 @@ returns-in_ok-bound-in-Some-2 c =
     elim c.match-sight.branch [
       | in-Box w ↦ (let z = sym w.atom-is ∙ c.in-Some.is in cc)
       | in-Atom w ↦
-          let e : w.in-Atom.field-0 ≡ c.in-Some.atom = some_value (sym w.atom-is ∙ c.in-Some.is) in
+          let e : w.in-Atom.atom ≡ c.in-Some.atom = some_value (sym w.atom-is ∙ c.in-Some.is) in
           IfOk-weaker c.touches_none-in-Some-2.result _ _ (λ none k. waiting_answer c.args.program.now c.args.depth c.args.frames.now c.args.view.now c.requires c.in-Some.atom (sym c.sight.ensures ∙ w.in-Atom.is ∙ ap Sight.Atom e) s c.in-Some-2.on on _ none k) h
     ]
