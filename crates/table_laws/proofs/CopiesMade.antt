@@ -15,8 +15,8 @@ use Rattle.akl_model.specs.declared.label.Rule.{Rule}
 use Rattle.akl_model.specs.declared.label.Label.{Label}
 use Rattle.akl_model.specs.Config.{IsIn, Content, Boxes, Goals, no_goals, atom, choice, Config, Held, a_choice, held_in, Found, equations_of, environment, whole, box_at, site_of}
 use Rattle.akl_model.specs.Renaming.{port_names, names_of, sorted_names, renaming, renamed_atom, renamed_equation, renamed_port, renamed_shown, renamed, renamed_goals}
-use Rattle.akl_model.specs.Rules.{Change, others, ChoiceIn, choice_with}
-use Rattle.akl_model.specs.Stable.{only, first_solved, IsSplitPoint}
+use Rattle.akl_model.specs.Rules.{Change, alone, others, ChoiceIn, choice_with, with_alternatives, second_copy, first_of}
+use Rattle.akl_model.specs.Stable.{only, first_solved, IsStable, IsSplitPoint}
 use Rattle.akl_model.specs.Scopes.{Scope, nowhere, scope_in, EquationsScoped}
 use Rattle.akl_model.specs.Owned.{own_in, ContentOwned, BoxesOwned, GoalsOwned}
 use Rattle.akl_model.specs.Derivations.{Applies}
@@ -25,11 +25,12 @@ use Rattle.akl_model.specs.Changes.{of_atom, of_choice, shape_of, box_names, goa
 use Rattle.akl_model.specs.Wakes.{names_around, names_down_to, holder_in}
 use Rattle.akl_model.proofs.Options.{none_or, none_where, some_value}
 use Rattle.akl_model.proofs.Finds.{times, times_inside, times-names, box_at-some}
-use Rattle.akl_model.proofs.Drawn.{drawn_times, drawn_once, times-with_names}
-use Rattle.akl_model.proofs.NamesKept.{Stand, replay-stands, box-itself}
+use Rattle.akl_model.proofs.Drawn.{drawn_times, drawn_once, times-with_names, times-renamed}
+use Rattle.akl_model.proofs.RuleCases.{SplitCase}
+use Rattle.akl_model.proofs.NamesKept.{split_held, rest_less, rest_once, Stand, replay-stands, box-itself}
 use Rattle.akl_model.proofs.Scoped.{IsIn-either, Within}
 use Rattle.akl_model.proofs.ScopesKept.{replay_owned}
-use Rattle.akl_model.proofs.ScopesAlong.{scope_along, own_along, times_path, found_path, found_owned, around_within, counted_in, frame_apart, port_apart, environment_scoped}
+use Rattle.akl_model.proofs.ScopesAlong.{only_once, scope_along, own_along, times_path, found_path, found_owned, around_within, counted_in, frame_apart, port_apart, environment_scoped}
 use Rattle.constraint_laws.specs.StandingGrows.{AreToldIn}
 use Rattle.constraint_laws.proofs.StandsGrow.{same_told_stands, stands_with_more}
 use Rattle.rational_unify.specs.Solving.{bindings_in}
@@ -38,7 +39,6 @@ use Rattle.step_laws.specs.Holders.{IsHeldBy}
 use Rattle.step_laws.proofs.Whereabouts.{found_in, home_in}
 use Rattle.step_laws.proofs.Deeper.{named_found, home_found}
 use Rattle.step_laws.proofs.Holders.{held_around, names_less}
-use Rattle.step_laws.proofs.Steps.{site_once, found}
 use Rattle.table_laws.specs.Rows.{BoxRow, GoalRow, Table, store_in, ports_in}
 use Rattle.table_laws.specs.Unfolds.{IsBoxRow, AreBoth}
 use Rattle.table_laws.specs.Stamped.{Run, IsTableOf}
@@ -101,22 +101,23 @@ goals_alike f h s frames ports al (choice g o bs gs) owned same =
     omega arith)) ∙ sym (names_renamed h (others al bs)) in
     λ i. (e i, of_choice o (names i)) ∷ goals_alike f h s frames ports al gs owned.1 (λ n k. same n (omega arith)) i
 
-module _ (rules : List Rule) (r : Run) (T : Table) (l : Label) (d : Config) (t : IsTableOf rules r T) (a : Applies rules r.program t.config l d) (n al : Name) (choice : ChoiceIn)
-    (rule : l.rule ≡ Rule.Split) (place : l.place ≡ Place.Box n) (names : l.alternative ≡ Some al) (is_choice : choice_with al a.site.goals ≡ Some choice) where
+-- a stable box that may be split at an alternative of a choice, however many names that would draw
+module _ (rules : List Rule) (r : Run) (T : Table) (t : IsTableOf rules r T) (worker : ℕ) (n al : Name) (site : Found) (choice : ChoiceIn) (is_site : box_at n t.config.roots ≡ Some site)
+    (stable : IsStable r.program site) (is_choice : choice_with al site.goals ≡ Some choice) (point : IsSplitPoint site al choice) where
   abbrev next : ℕ
-  next = slice_index t.config.next l.worker
+  next = slice_index t.config.next worker
 
   abbrev rest : Boxes
-  rest = rest_of al a.site choice
+  rest = rest_of al site choice
 
   abbrev ns : List Name
   ns = sorted_names rest
 
   abbrev to : Name → Name
-  to = renaming ns l.worker (slice_index t.config.next l.worker)
+  to = renaming ns worker (slice_index t.config.next worker)
 
   abbrev swap : Name → Name
-  swap = swapping ns l.worker (slice_index t.config.next l.worker)
+  swap = swapping ns worker (slice_index t.config.next worker)
 
   s : Stand t.config
   s = replay-stands rules r.program r.query r.journal t.config t.replays
@@ -124,22 +125,31 @@ module _ (rules : List Rule) (r : Run) (T : Table) (l : Label) (d : Config) (t :
   owned : BoxesOwned nowhere t.config.roots
   owned = replay_owned rules r.program r.query r.journal t.config t.replays
 
-  once : (i : Name) → times i (only a.site) ≤ 1
-  once = site_once rules r.program t.config l d s a
+  once : (i : Name) → times i (only site) ≤ 1
+  once = only_once t.config.roots s.once n site is_site
 
-  there : box_at a.site.content.name t.config.roots ≡ Some a.site
-  there = found rules r.program t.config l d s a
+  site_name : n ≡ site.content.name
+  site_name = box-itself n t.config.roots site is_site
 
-  site_name : n ≡ a.site.content.name
-  site_name = box-itself n t.config.roots a.site (subst (λ (x : Place). site_of x t.config.roots ≡ Some a.site) place a.is_site)
+  there : box_at site.content.name t.config.roots ≡ Some site
+  there = ap (λ (m : Name). box_at m t.config.roots) (sym site_name) ∙ is_site
+
+  abbrev change : Change
+  change = record { boxes = first_of (with_alternatives site choice (alone al choice.alternatives)) (second_copy worker next rest); drawn = length (sorted_names rest) }
+
+  abbrev the_case : SplitCase r.program worker next site change (Place.Box n) (Some al)
+  the_case = record { name = n; is_place = refl; at_alternative = al; is_alternative = refl; choice_in = choice; stable = stable; is_choice = is_choice; point = point; change = refl }
 
   few : (i : Name) → times i rest ≤ 1
-  few = splitting.rest_few r.program next l a.site a.change a.makes n al choice rule place names is_choice once
+  few = rest_once r.program worker next site change once the_case
+
+  rest_within : (i : Name) → times i rest ≤ times i (only site)
+  rest_within = rest_less r.program worker next site change once the_case
 
   still : (i : Name) → times i (renamed to rest) ≤ 1
   still i =
-      let x : times i (renamed to rest) ≤ drawn_times i l.worker next (length ns) = splitting.second_drawn r.program next l a.site a.change a.makes n al choice rule place names is_choice once i in
-      let o : drawn_times i l.worker next (length ns) ≤ 1 = drawn_once i l.worker next (length ns) in
+      let x : times i (renamed to rest) ≤ drawn_times i worker next (length ns) = times-renamed worker next i rest few in
+      let o : drawn_times i worker next (length ns) ≤ 1 = drawn_once i worker next (length ns) in
       omega (arith, x, o)
 
   -- the names that are swapped
@@ -147,46 +157,46 @@ module _ (rules : List Rule) (r : Run) (T : Table) (l : Label) (d : Config) (t :
   within : (i : Name) → times_in i ns ≤ times i rest
   within i = let x : times_in i ns ≤ times_in i (names_of rest) + 0 = times-with_names i (names_of rest) [] in let e : times_in i (names_of rest) ≡ times i rest = times-names i rest in omega (arith, x, e)
 
-  below : (i : Name) → 0 < times i t.config.roots → IsBelow l.worker next i
+  below : (i : Name) → 0 < times i t.config.roots → IsBelow worker next i
   below i h e = let x : i.number < slice_index t.config.next i.worker = s.below i h in let y : slice_index t.config.next i.worker ≡ next = ap (slice_index t.config.next) e in omega (arith, x, y)
 
   twice : (i : Name) → swap (swap i) ≡ i
-  twice = swap_twice ns l.worker next inner (λ i. let x : times_in i ns ≤ times i rest = within i in let o : times i rest ≤ 1 = few i in omega (arith, x, o))
+  twice = swap_twice ns worker next inner (λ i. let x : times_in i ns ≤ times i rest = within i in let o : times i rest ≤ 1 = few i in omega (arith, x, o))
     where
-      inner : (i : Name) → 0 < times_in i ns → IsBelow l.worker next i
+      inner : (i : Name) → 0 < times_in i ns → IsBelow worker next i
       inner i h = below i (
           let x : times_in i ns ≤ times i rest = within i in
-          let y : times i rest ≤ times i (only a.site) = splitting.rest_within r.program next l a.site a.change a.makes n al choice rule place names is_choice once i in
-          let z : times i (only a.site) + times_path i a.site.around ≤ times i t.config.roots = found_path i a.site.content.name t.config.roots a.site there in
+          let y : times i rest ≤ times i (only site) = rest_within i in
+          let z : times i (only site) + times_path i site.around ≤ times i t.config.roots = found_path i site.content.name t.config.roots site there in
           omega (arith, h, x, y, z))
 
   -- a name that stands is renamed as it is swapped
   alike : (i : Name) → 0 < times i t.config.roots → to i ≡ swap i
-  alike i h = swap_renames ns l.worker next i (below i h)
+  alike i h = swap_renames ns worker next i (below i h)
 
   on_path : (k : Name) (e : Found) → box_at k t.config.roots ≡ Some e → (i : Name) → 0 < times_path i e.around → 0 < times i t.config.roots
   on_path k e i j h = let z : times j (only e) + times_path j e.around ≤ times j t.config.roots = found_path j k t.config.roots e i in omega (arith, h, z)
 
   -- the equations around the box stay
-  outside : map (renamed_equation swap) (environment a.site) ≡ environment a.site
-  outside = equations_alike swap (λ i. i) (scope_along nowhere a.site.around) (λ i h. stays i (frames_stand i a.site.around h) (frame_apart t.config.roots s.once a.site.content.name a.site there i h))
-      (λ i h. stays i (ports_stand i a.site.around h) (port_apart t.config.roots s.once a.site.content.name a.site there i h)) (environment a.site)
-      (environment_scoped t.config owned a.site.content.name a.site there) ∙ equations_itself (environment a.site)
+  outside : map (renamed_equation swap) (environment site) ≡ environment site
+  outside = equations_alike swap (λ i. i) (scope_along nowhere site.around) (λ i h. stays i (frames_stand i site.around h) (frame_apart t.config.roots s.once site.content.name site there i h))
+      (λ i h. stays i (ports_stand i site.around h) (port_apart t.config.roots s.once site.content.name site there i h)) (environment site)
+      (environment_scoped t.config owned site.content.name site there) ∙ equations_itself (environment site)
     where
-      stays : (i : Name) → 0 < times_path i a.site.around → times i (only a.site) ≡ 0 → swap i ≡ i
-      stays i h z = swap_other ns l.worker next i (below i (on_path a.site.content.name a.site there i h))
-          (let x : times_in i ns ≤ times i rest = within i in let y : times i rest ≤ times i (only a.site) = splitting.rest_within r.program next l a.site a.change a.makes n al choice rule place names is_choice once i in omega (arith, x, y, z))
+      stays : (i : Name) → 0 < times_path i site.around → times i (only site) ≡ 0 → swap i ≡ i
+      stays i h z = swap_other ns worker next i (below i (on_path site.content.name site there i h))
+          (let x : times_in i ns ≤ times i rest = within i in let y : times i rest ≤ times i (only site) = rest_within i in omega (arith, x, y, z))
 
   -- a box of those that are copied, in the configuration
 
-  held : held_in choice.name a.site.goals ≡ Some (a_choice choice.op choice.alternatives)
-  held = splitting.choice_held r.program next l a.site a.change a.makes n al choice rule place names is_choice once
+  held : held_in choice.name site.goals ≡ Some (a_choice choice.op choice.alternatives)
+  held = split_held r.program worker next site change once the_case
 
   first : first_solved choice.alternatives ≡ Some al
-  first = (splitting.point r.program next l a.site a.change a.makes n al choice rule place names is_choice).first
+  first = point.first
 
   abbrev IsWithin : Found → Type 0
-  IsWithin e = rests.IsWithin t.config s a.site there choice.name al choice.op choice.alternatives held first few e
+  IsWithin e = rests.IsWithin t.config s site there choice.name al choice.op choice.alternatives held first few e
 
   module _ (e : Found) (x : IsWithin e) where
     path_alike : (i : Name) → 0 < times_path i x.whole_box.around → to i ≡ swap i
@@ -195,12 +205,12 @@ module _ (rules : List Rule) (r : Run) (T : Table) (l : Label) (d : Config) (t :
     own_alike : (i : Name) → 0 < times i (only x.whole_box) → to i ≡ swap i
     own_alike i h = alike i (let z : times i (only x.whole_box) + times_path i x.whole_box.around ≤ times i t.config.roots = found_path i e.content.name t.config.roots x.whole_box x.is_found in omega (arith, h, z))
 
-    environment_is : environment x.whole_box ≡ environment a.site ++ environment e
-    environment_is = ap equations_of x.path ∙ equations_join a.site.around e.around
+    environment_is : environment x.whole_box ≡ environment site ++ environment e
+    environment_is = ap equations_of x.path ∙ equations_join site.around e.around
 
     around_same : map (renamed_equation to) (environment e) ≡ map (renamed_equation swap) (environment e)
     around_same = equations_alike to swap (scope_along nowhere x.whole_box.around) (λ i h. path_alike i (frames_stand i x.whole_box.around h)) (λ i h. path_alike i (ports_stand i x.whole_box.around h)) (environment e)
-        (scoped_right (scope_along nowhere x.whole_box.around) (environment a.site) (environment e)
+        (scoped_right (scope_along nowhere x.whole_box.around) (environment site) (environment e)
         (subst (EquationsScoped (scope_along nowhere x.whole_box.around)) environment_is (environment_scoped t.config owned e.content.name x.whole_box x.is_found)))
 
     -- what the box may use by itself
@@ -241,14 +251,14 @@ module _ (rules : List Rule) (r : Run) (T : Table) (l : Label) (d : Config) (t :
 
     -- what is told down to the copy is what is told down to the box, with names swapped
 
-    environment_swapped : map (renamed_equation swap) (environment x.whole_box) ≡ environment a.site ++ environment (renamed_found to e)
-    environment_swapped = ap (map (renamed_equation swap)) environment_is ∙ equations_append swap (environment a.site) (environment e)
+    environment_swapped : map (renamed_equation swap) (environment x.whole_box) ≡ environment site ++ environment (renamed_found to e)
+    environment_swapped = ap (map (renamed_equation swap)) environment_is ∙ equations_append swap (environment site) (environment e)
         ∙ (λ i. outside i ++ (sym around_same ∙ sym (environment_renamed to e)) i)
 
-    whole_swapped : map (renamed_equation swap) (whole x.whole_box) ≡ environment a.site ++ whole (renamed_found to e)
+    whole_swapped : map (renamed_equation swap) (whole x.whole_box) ≡ environment site ++ whole (renamed_found to e)
     whole_swapped = equations_append swap (environment x.whole_box) x.whole_box.content.equations
         ∙ (λ i. environment_swapped i ++ (ap (λ (b : Content). map (renamed_equation swap) b.equations) x.content ∙ sym own_same) i)
-        ∙ append_assoc (environment a.site) (environment (renamed_found to e)) (map (renamed_equation to) e.content.equations)
+        ∙ append_assoc (environment site) (environment (renamed_found to e)) (map (renamed_equation to) e.content.equations)
 
     is_row : (row : BoxRow) → T.box_of e.content.name ≡ Some row → IsBoxRow T t.config.roots x.whole_box row
     is_row row i =
@@ -257,8 +267,8 @@ module _ (rules : List Rule) (r : Run) (T : Table) (l : Label) (d : Config) (t :
 
     -- so the copy's store stands for the copy's equations
     copy_stands : (row : BoxRow) (v : BoxCopy) → T.box_of e.content.name ≡ Some row → IsMadeOf T n al swap e.content.name row v → (D : Equations)
-        → StandFor (IsTold D) (IsTold (environment a.site ++ environment (renamed_found to e)))
-        → StandFor (IsTold (D ++ bindings_in T.nodes v.store.bindings)) (IsTold (environment a.site ++ whole (renamed_found to e)))
+        → StandFor (IsTold D) (IsTold (environment site ++ environment (renamed_found to e)))
+        → StandFor (IsTold (D ++ bindings_in T.nodes v.store.bindings)) (IsTold (environment site ++ whole (renamed_found to e)))
     copy_stands row v i made D h = StandFor-on
         (same_told_stands (D ++ bindings_in T.nodes v.store.bindings) (D ++ map (renamed_equation swap) (bindings_in T.nodes row.store.bindings))
         (more_told D (bindings_in T.nodes v.store.bindings) (map (renamed_equation swap) (bindings_in T.nodes row.store.bindings)) made.told)
@@ -278,7 +288,7 @@ module _ (rules : List Rule) (r : Run) (T : Table) (l : Label) (d : Config) (t :
         -- the equations around the box, by those around the copy
         around : StandFor (IsTold (map (renamed_equation swap) D)) (IsTold (environment x.whole_box))
         around = subst (λ (E : Equations). StandFor (IsTold (map (renamed_equation swap) D)) (IsTold E)) (ap (map (renamed_equation swap)) (sym environment_swapped) ∙ equations_twice swap twice (environment x.whole_box))
-            (stands_renamed swap twice D (environment a.site ++ environment (renamed_found to e)) h)
+            (stands_renamed swap twice D (environment site ++ environment (renamed_found to e)) h)
 
         by_box : StandFor (IsTold (map (renamed_equation swap) D ++ bindings_in T.nodes row.store.bindings)) (IsTold (whole x.whole_box))
         by_box = StandFor-on
@@ -290,7 +300,7 @@ module _ (rules : List Rule) (r : Run) (T : Table) (l : Label) (d : Config) (t :
     -- goals, with their shapes
     goals_made : (row : BoxRow) → T.box_of e.content.name ≡ Some row → copied_goals T al swap row.goals ≡ shapes_in (renamed_goals to e.goals)
     goals_made row i = ap (copied_goals T al swap) (is_row row i).goals ∙ goals_of_rows T al swap x.whole_box.goals rows ∙ sym (goals_alike to swap own_scope own_frames own_ports al x.whole_box.goals own_goals inner)
-        ∙ ap (λ (gs : Goals). shapes_in (renamed_goals to gs)) (sym (rests.rest_goals t.config s a.site there choice.name al choice.op choice.alternatives held first few e x))
+        ∙ ap (λ (gs : Goals). shapes_in (renamed_goals to gs)) (sym (rests.rest_goals t.config s site there choice.name al choice.op choice.alternatives held first few e x))
       where
         rows : EachGoal (HasRow T) x.whole_box.goals
         rows = each_goal (HasRow T) x.whole_box.goals (goals_once t.config.roots s.once x.whole_box (found_in e.content.name t.config.roots x.whole_box x.is_found)) (λ g h j.
@@ -303,7 +313,7 @@ module _ (rules : List Rule) (r : Run) (T : Table) (l : Label) (d : Config) (t :
 
     holder_made : (row : BoxRow) → box_at e.content.name rest ≡ Some e → T.box_of e.content.name ≡ Some row
         → (if same_name e.content.name n then None else option_map swap row.holder) ≡ holder_in (to e.content.name) (renamed to rest)
-    holder_made row i j = on (same_name e.content.name a.site.content.name) (holder_in e.content.name t.config.roots) refl ∙ sym (ap (option_map to) (rests.rest_holder t.config s a.site there choice.name al choice.op choice.alternatives held first few e i)) ∙ sym (holder_renamed to rest few still e.content.name e i)
+    holder_made row i j = on (same_name e.content.name site.content.name) (holder_in e.content.name t.config.roots) refl ∙ sym (ap (option_map to) (rests.rest_holder t.config s site there choice.name al choice.op choice.alternatives held first few e i)) ∙ sym (holder_renamed to rest few still e.content.name e i)
       where
         is_holder : row.holder ≡ holder_in e.content.name t.config.roots
         is_holder = (is_row row j).holder ∙ ap (λ (b : Content). holder_in b.name t.config.roots) x.content
@@ -315,15 +325,15 @@ module _ (rules : List Rule) (r : Run) (T : Table) (l : Label) (d : Config) (t :
             ap Some (sym (alike g (home_counted g (a_choice h.op h.alternatives) h.home.around h.home.content h.home.goals t.config.roots (home_in g t.config.roots h.home h.is_home).0 h.held)))
 
         on : (v : Bool) (h : Option Name) → holder_in e.content.name t.config.roots ≡ h
-            → (if same_name e.content.name n then None else option_map swap row.holder) ≡ option_map to (if same_name e.content.name a.site.content.name then None else holder_in e.content.name t.config.roots)
-        on v h q = ap (λ (m : Name). if same_name e.content.name m then None else option_map swap row.holder) site_name ∙ pick (same_name e.content.name a.site.content.name)
+            → (if same_name e.content.name n then None else option_map swap row.holder) ≡ option_map to (if same_name e.content.name site.content.name then None else holder_in e.content.name t.config.roots)
+        on v h q = ap (λ (m : Name). if same_name e.content.name m then None else option_map swap row.holder) site_name ∙ pick (same_name e.content.name site.content.name)
           where
             pick : (z : Bool) → (if z then None else option_map swap row.holder) ≡ option_map to (if z then None else holder_in e.content.name t.config.roots)
             pick true = refl
             pick false = ap (option_map swap) is_holder ∙ alike_holder (holder_in e.content.name t.config.roots) refl
 
     is_copy : (row : BoxRow) (v : BoxCopy) → box_at e.content.name rest ≡ Some e → T.box_of e.content.name ≡ Some row → IsMadeOf T n al swap e.content.name row v
-        → IsCopy T.nodes (environment a.site) (renamed to rest) (renamed_found to e) v
+        → IsCopy T.nodes (environment site) (renamed to rest) (renamed_found to e) v
     is_copy row v i j made = record {
       holder = made.holder ∙ holder_made row i j;
       frames = made.frames ∙ ap (map swap) (is_row row j).frames ∙ sym (names_alike to swap x.whole_box.content.frames own_frames) ∙ ap (λ (b : Content). map to b.frames) x.content;
@@ -341,7 +351,7 @@ module _ (rules : List Rule) (r : Run) (T : Table) (l : Label) (d : Config) (t :
     is_copied : box_at e.content.name rest ≡ Some e → IsCopied T n al e.content.name
     is_copied i = record {
       inside = inside T t.config t.unfolds s.once n e.content.name x.whole_box x.is_found (subst (λ (m : Name). IsIn m (names_down_to x.whole_box)) (sym site_name) x.down);
-      other = λ q. not_some (sym (rests.no_alternative t.config s a.site there choice.name al choice.op choice.alternatives held first few) ∙ ap (λ (m : Name). box_at m rest) (sym q) ∙ i);
+      other = λ q. not_some (sym (rests.no_alternative t.config s site there choice.name al choice.op choice.alternatives held first few) ∙ ap (λ (m : Name). box_at m rest) (sym q) ∙ i);
     }
 
     -- its own names are those of its row
@@ -372,19 +382,19 @@ module _ (rules : List Rule) (r : Run) (T : Table) (l : Label) (d : Config) (t :
         ports = sym (port_names_in T.nodes row.store.ports) ∙ ap port_names ((is_row row i).ports ∙ ap (λ (b : Content). b.ports) x.content)
 
         goals : row.goals ≡ goal_names e.goals
-        goals = (is_row row i).goals ∙ sym (less_goal_names al x.whole_box.goals) ∙ ap goal_names (sym (rests.rest_goals t.config s a.site there choice.name al choice.op choice.alternatives held first few e x))
+        goals = (is_row row i).goals ∙ sym (less_goal_names al x.whole_box.goals) ∙ ap goal_names (sym (rests.rest_goals t.config s site there choice.name al choice.op choice.alternatives held first few e x))
 
   -- a box that the split copies by rows is found there
   copied_there : (m : Name) → IsCopied T n al m → (e : Found) × (box_at m rest ≡ Some e)
   copied_there m k =
-      let w : IsUnder T t.config t.unfolds s.once n m = insides.under T t.config t.unfolds s.once n m a.site (ap (λ (i : Name). box_at i t.config.roots) site_name ∙ there) k.inside in
-      rests.found_there t.config s a.site there choice.name al choice.op choice.alternatives held first few m w.found w.is_found (subst (λ (i : Name). IsIn i (names_down_to w.found)) site_name w.named) k.other
+      let w : IsUnder T t.config t.unfolds s.once n m = insides.under T t.config t.unfolds s.once n m site (ap (λ (i : Name). box_at i t.config.roots) site_name ∙ there) k.inside in
+      rests.found_there t.config s site there choice.name al choice.op choice.alternatives held first few m w.found w.is_found (subst (λ (i : Name). IsIn i (names_down_to w.found)) site_name w.named) k.other
 
   itself_there : (m : Name) (e : Found) → box_at m rest ≡ Some e → box_at e.content.name rest ≡ Some e
   itself_there m e i = ap (λ (k : Name). box_at k rest) (sym (box-itself m rest e i)) ∙ i
 
   -- names in order that are those by rows
-  names_are : (given : List Name) → AreNamesCopied T n al given → given ≡ ns
+  pub names_are : (given : List Name) → AreNamesCopied T n al given → given ≡ ns
   names_are given x = sorted_by rest given x.increasing each only
     where
       each : (q : List Content) (k : Content) (hs : Goals) → BoxIn q k hs rest → (m : Name) → IsOwn m k hs → IsIn m given
@@ -397,7 +407,7 @@ module _ (rules : List Rule) (r : Run) (T : Table) (l : Label) (d : Config) (t :
           i = named_found rest few k.name (record { around = q; content = k; goals = hs }) y refl
 
           v : IsWithin (record { around = q; content = k; goals = hs })
-          v = rests.stands_within t.config s a.site there choice.name al choice.op choice.alternatives held first few (record { around = q; content = k; goals = hs }) i
+          v = rests.stands_within t.config s site there choice.name al choice.op choice.alternatives held first few (record { around = q; content = k; goals = hs }) i
 
           w : (w : BoxRow) × (T.box_of k.name ≡ Some w) × IsBoxRow T t.config.roots v.whole_box w
           w = row_of T t.config t.unfolds k.name v.whole_box v.is_found
@@ -406,7 +416,7 @@ module _ (rules : List Rule) (r : Run) (T : Table) (l : Label) (d : Config) (t :
       only m i = by (x.only m i)
         where
           by : IsNameCopied T n al m → (q : List Content) × (k : Content) × (hs : Goals) × BoxIn q k hs rest × IsOwn m k hs
-          by y = (e.0.around, e.0.content, e.0.goals, found_in y.box rest e.0 e.1, (own_names e.0 (rests.stands_within t.config s a.site there choice.name al choice.op choice.alternatives held first few e.0 (itself_there y.box e.0 e.1)) y.row row m).0 own)
+          by y = (e.0.around, e.0.content, e.0.goals, found_in y.box rest e.0 e.1, (own_names e.0 (rests.stands_within t.config s site there choice.name al choice.op choice.alternatives held first few e.0 (itself_there y.box e.0 e.1)) y.row row m).0 own)
             where
               e : (e : Found) × (box_at y.box rest ≡ Some e)
               e = copied_there y.box y.copied
@@ -421,14 +431,14 @@ module _ (rules : List Rule) (r : Run) (T : Table) (l : Label) (d : Config) (t :
               own = elim y.named [ inl q ↦ inl (q ∙ its_name) | inr q ↦ inr q ]
 
   module _ (copies : List BoxCopy) (made : AreMade T n al swap copies) where
-    each : (m : Name) → AreBoth (IsCopy T.nodes (environment a.site) (renamed to rest)) (box_at m (renamed to rest)) (copy_among copies m)
+    each : (m : Name) → AreBoth (IsCopy T.nodes (environment site) (renamed to rest)) (box_at m (renamed to rest)) (copy_among copies m)
     each m = on (none_or (box_at m (renamed to rest)))
       where
         found_alike : (e : Found) → box_at e.content.name rest ≡ Some e → to e.content.name ≡ swap e.content.name
-        found_alike e i = let x : IsWithin e = rests.stands_within t.config s a.site there choice.name al choice.op choice.alternatives held first few e i in alike e.content.name (box_at-some e.content.name t.config.roots x.whole_box x.is_found)
+        found_alike e i = let x : IsWithin e = rests.stands_within t.config s site there choice.name al choice.op choice.alternatives held first few e i in alike e.content.name (box_at-some e.content.name t.config.roots x.whole_box x.is_found)
 
-        on : (box_at m (renamed to rest) ≡ None) ⊎ ((k : Found) × (box_at m (renamed to rest) ≡ Some k)) → AreBoth (IsCopy T.nodes (environment a.site) (renamed to rest)) (box_at m (renamed to rest)) (copy_among copies m)
-        on (inl z) = are_neither (IsCopy T.nodes (environment a.site) (renamed to rest)) (box_at m (renamed to rest)) (copy_among copies m) z (none_where (copy_among copies m) (λ v i.
+        on : (box_at m (renamed to rest) ≡ None) ⊎ ((k : Found) × (box_at m (renamed to rest) ≡ Some k)) → AreBoth (IsCopy T.nodes (environment site) (renamed to rest)) (box_at m (renamed to rest)) (copy_among copies m)
+        on (inl z) = are_neither (IsCopy T.nodes (environment site) (renamed to rest)) (box_at m (renamed to rest)) (copy_among copies m) z (none_where (copy_among copies m) (λ v i.
             let w : (k : Name) × IsCopied T n al k × (m ≡ swap k) = made.only m v i in
             let e : (e : Found) × (box_at w.0 rest ≡ Some e) = copied_there w.0 w.1 in
             let q : w.0 ≡ e.0.content.name = box-itself w.0 rest e.0 e.1 in
@@ -436,23 +446,25 @@ module _ (rules : List Rule) (r : Run) (T : Table) (l : Label) (d : Config) (t :
             not_some (sym z ∙ ap (λ (k : Name). box_at k (renamed to rest)) p ∙ found_renamed to rest few still e.0.content.name e.0 (itself_there w.0 e.0 e.1))))
         on (inr (k, i)) =
             let w : (e : Found) × (box_at e.content.name rest ≡ Some e) × (k ≡ renamed_found to e) × (m ≡ to e.content.name) = found_was to rest few still m k i in
-            let x : IsWithin w.0 = rests.stands_within t.config s a.site there choice.name al choice.op choice.alternatives held first few w.0 w.1 in
+            let x : IsWithin w.0 = rests.stands_within t.config s site there choice.name al choice.op choice.alternatives held first few w.0 w.1 in
             let v : (row : BoxRow) × (v : BoxCopy) × (T.box_of w.0.content.name ≡ Some row) × (copy_among copies (swap w.0.content.name) ≡ Some v) × IsMadeOf T n al swap w.0.content.name row v = made.each w.0.content.name (is_copied w.0 x w.1) in
-            are_both (IsCopy T.nodes (environment a.site) (renamed to rest)) (box_at m (renamed to rest)) (copy_among copies m) k v.1 i (ap (copy_among copies) (w.3 ∙ found_alike w.0 w.1) ∙ v.3)
-            (subst (λ (z : Found). IsCopy T.nodes (environment a.site) (renamed to rest) z v.1) (sym w.2) (is_copy w.0 x v.0 v.1 w.1 v.2 v.4))
+            are_both (IsCopy T.nodes (environment site) (renamed to rest)) (box_at m (renamed to rest)) (copy_among copies m) k v.1 i (ap (copy_among copies) (w.3 ∙ found_alike w.0 w.1) ∙ v.3)
+            (subst (λ (z : Found). IsCopy T.nodes (environment site) (renamed to rest) z v.1) (sym w.2) (is_copy w.0 x v.0 v.1 w.1 v.2 v.4))
 
-    pub made_copies : SplitsBox r.program.templates.nodes l.worker (slice_index t.config.next l.worker) a.site al (swap n) copies
-    made_copies = subst (λ (nodes : List Node). SplitsBox nodes l.worker (slice_index t.config.next l.worker) a.site al (swap n) copies) t.nodes (record {
+    pub made_copies : SplitsBox r.program.templates.nodes worker (slice_index t.config.next worker) site al (swap n) copies
+    made_copies = subst (λ (nodes : List Node). SplitsBox nodes worker (slice_index t.config.next worker) site al (swap n) copies) t.nodes (record {
       choice = choice;
       is_choice = is_choice;
-      named = ap (λ (m : Name). m ∷ []) (alike a.site.content.name (box_at-some a.site.content.name t.config.roots a.site there) ∙ ap swap (sym site_name));
+      named = ap (λ (m : Name). m ∷ []) (alike site.content.name (box_at-some site.content.name t.config.roots site there) ∙ ap swap (sym site_name));
       copied = record { each = each; once = made.once };
     })
 
 pub copies_law : CopiesLaw
 copies_law rules r T l d t a n al names copies rule place alternative named made =
     let w : (v : ChoiceIn) × (choice_with al a.site.goals ≡ Some v) × IsSplitPoint a.site al v = split_choice r.program (slice_index t.config.next l.worker) l a.site a.change a.makes n al rule place alternative in
-    let q : names ≡ sorted_names (rest_of al a.site w.0) = names_are rules r T l d t a n al w.0 rule place alternative w.1 names named in (
+    let x : IsStable r.program a.site = (splitting.allowed r.program (slice_index t.config.next l.worker) l a.site a.change a.makes n al w.0 rule place alternative w.1).0 in
+    let there : box_at n t.config.roots ≡ Some a.site = subst (λ (z : Place). site_of z t.config.roots ≡ Some a.site) place a.is_site in
+    let q : names ≡ sorted_names (rest_of al a.site w.0) = names_are rules r T t l.worker n al a.site w.0 there x w.1 w.2 names named in (
       rule,
       (
         n,
@@ -460,7 +472,7 @@ copies_law rules r T l d t a n al names copies rule place alternative named made
         place,
         alternative,
         subst (λ (ns : List Name). SplitsBox r.program.templates.nodes l.worker (slice_index t.config.next l.worker) a.site al (swapping ns l.worker (slice_index t.config.next l.worker) n) copies) (sym q)
-            (made_copies rules r T l d t a n al w.0 rule place alternative w.1 copies (subst (λ (ns : List Name). AreMade T n al (swapping ns l.worker (slice_index t.config.next l.worker)) copies) q made)),
+            (made_copies rules r T t l.worker n al a.site w.0 there x w.1 w.2 copies (subst (λ (ns : List Name). AreMade T n al (swapping ns l.worker (slice_index t.config.next l.worker)) copies) q made)),
       ),
     )
 
@@ -469,5 +481,7 @@ pub names_drawn : (rules : List Rule) (r : Run) (T : Table) (l : Label) (d : Con
     → l.rule ≡ Rule.Split → l.place ≡ Place.Box n → l.alternative ≡ Some al → AreNamesCopied T n al names → length names ≡ a.change.drawn
 names_drawn rules r T l d t a n al names rule place alternative named =
     let w : (v : ChoiceIn) × (choice_with al a.site.goals ≡ Some v) × IsSplitPoint a.site al v = split_choice r.program (slice_index t.config.next l.worker) l a.site a.change a.makes n al rule place alternative in
-    ap length (names_are rules r T l d t a n al w.0 rule place alternative w.1 names named)
+    let x : IsStable r.program a.site = (splitting.allowed r.program (slice_index t.config.next l.worker) l a.site a.change a.makes n al w.0 rule place alternative w.1).0 in
+    let there : box_at n t.config.roots ≡ Some a.site = subst (λ (z : Place). site_of z t.config.roots ≡ Some a.site) place a.is_site in
+    ap length (names_are rules r T t l.worker n al a.site w.0 there x w.1 w.2 names named)
     ∙ ap (λ (v : Change). v.drawn) (some_value (splitting.change r.program (slice_index t.config.next l.worker) l a.site a.change a.makes n al w.0 rule place alternative w.1))
