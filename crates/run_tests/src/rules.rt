@@ -14,11 +14,9 @@ const MERGE: &str =
 
 const THERE: &str = "t(a,R) :- -> R = 1. t(_,R) :- -> R = 2.";
 
-const COUNT: &str =
-    "count([],N,R) :- -> R = N. count([_|S],N,R) :- -> M is N + 1, count(S,M,R).";
+const COUNT: &str = "count([],N,R) :- -> R = N. count([_|S],N,R) :- -> M is N + 1, count(S,M,R).";
 
-const ABC: &str =
-    "p(X,R) :- (X = a -> R = 1 ; true -> (X = b -> R = 2 ; true -> R = 3)).";
+const ABC: &str = "p(X,R) :- (X = a -> R = 1 ; true -> (X = b -> R = 2 ; true -> R = 3)).";
 
 /// Words, programs, queries and replies.
 const RULES: &str = r"

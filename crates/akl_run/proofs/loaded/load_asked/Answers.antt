@@ -54,6 +54,6 @@ returns-clause-loaded c = record {
   asked = query_view c.in-Ok.query;
   reads = c.in-Ok.ensures.reads;
   allowed = c.in_default.ensures.checked;
-  stands = subst (λ (q : Query). IsQueryOf c.args.program (made_of_query first_asked (query_view c.in-Ok.query)) q _ _) c.in_ok-query.ensures.query
-      (subst (λ cs. IsQueryOf c.args.program cs _ _ _) c.in_ok-query.ensures.clauses c.in_ok-program.ensures.query);
+  stands = subst (λ (q : Query). IsQueryOf c.args.program (made_of_query first_asked (query_view c.in-Ok.query)) q c.in_ok-program.program c.in_ok-program.query) c.in_ok-query.ensures.query
+      (subst (λ cs. IsQueryOf c.args.program cs (query_view c.in_ok-query.query) c.in_ok-program.program c.in_ok-program.query) c.in_ok-query.ensures.clauses c.in_ok-program.ensures.query);
 }
