@@ -2,9 +2,8 @@
 use Rattle.std.proofs.Common.{◌≡◌, ℕ, ◌+◌, ◌*◌, ◌<◌, ◌≤◌, List, ◌∷◌, length, map, Some, sym, ap, subst, ◌∙◌, arith}
 use Rattle.std.specs.List.{All, Contains}
 use Rattle.akl_terms.specs.declared.program.Definition.{Definition}
+use Rattle.akl_terms.specs.declared.program.Op.{Op}
 use Rattle.akl_terms.specs.declared.program.Program.{Program}
-use Rattle.akl_syntax.specs.declared.source.Head.{Head}
-use Rattle.akl_syntax.specs.declared.source.Head.TheVariants as heads
 use Rattle.akl_syntax.specs.Goals.{goals}
 use Rattle.akl_syntax.specs.Clauses.{Clause, Query}
 use Rattle.akl_syntax.specs.Verdicts.{accepted, ReadsProgram, ReadsQuery}
@@ -65,7 +64,7 @@ module _ (text : List ℕ) (q : Query) (reads : ReadsQuery text (accepted q)) wh
   pub asked_loads : (some : List Callee) → IsAccepted some q → IsQueryNumbered q → LoadsOver some first_asked q
   asked_loads some a n = query_loads some first_asked q a.few a.liftable (query_text_whole reads) n
 
-new_head : (ds : List Definition) (os : List _) (c : Clause) → ((d : Definition) (n : ℕ) → Contains ds d → d.lifted ≡ Some n → n < first_asked) → IsMadeOf os first_asked c → IsNewLifted ds c.head
+new_head : (ds : List Definition) (os : List Op) (c : Clause) → ((d : Definition) (n : ℕ) → Contains ds d → d.lifted ≡ Some n → n < first_asked) → IsMadeOf os first_asked c → IsNewLifted ds c.head
 new_head ds os c numbers m =
     subst (IsNewLifted ds) (sym m.head_is) (λ d h e. let below : first_asked + m.at < first_asked = numbers d (first_asked + m.at) h e in absurd (omega (arith, below)))
 

@@ -19,41 +19,41 @@ pub returns-in-Err-check_goals-clause-stop : goal.returns-in-Err-check_goals-cla
 returns-in-Err-check_goals-clause-stop c =
     query_loading_stops c.args.program c.args.text.now (query_view c.in-Ok.query) c.in-Err-check_goals.error c.loading.result c.in-Ok.ensures.reads c.in-Err-check_goals.ensures.checked c.loading.ensures
 
-pub returns-in_err-lift_query-clause-stop : goal.returns-in_err-lift_query-clause-stop
-returns-in_err-lift_query-clause-stop c = from_error c.from_residual.result c.from_residual.ensures.1 (λ stop p. stops_as (QueryStops c.args.program c.args.text.now) _ _ stop p no_memory)
+pub returns-in_err-query-clause-stop : goal.returns-in_err-query-clause-stop
+returns-in_err-query-clause-stop c = from_error c.from_residual.result c.from_residual.ensures.1 (λ stop p. stops_as (QueryStops c.args.program c.args.text.now) _ _ stop p no_memory)
 
 pub load_query-requires-clause-goals : goal.load_query-requires-clause-goals
 load_query-requires-clause-goals c =
-    rw (c.in_ok.ensures.query, c.in_ok.ensures.clauses) (asked_loads c.args.text.now (query_view c.in-Ok.query) c.in-Ok.ensures.reads (map called_by c.args.program.definitions) c.in_default.ensures.accepted c.in-Ok.ensures.variables).goals
+    rw (c.in_ok-query.ensures.query, c.in_ok-query.ensures.clauses) (asked_loads c.args.text.now (query_view c.in-Ok.query) c.in-Ok.ensures.reads (map called_by c.args.program.definitions) c.in_default.ensures.accepted c.in-Ok.ensures.variables).goals
 
 pub load_query-requires-clause-names : goal.load_query-requires-clause-names
 load_query-requires-clause-names c =
-    subst (λ (names : List (List ℕ)). length names ≤ 256) (sym (ap (λ (q : Query). q.names) c.in_ok.ensures.query)) c.in_default.ensures.few
+    subst (λ (names : List (List ℕ)). length names ≤ 256) (sym (ap (λ (q : Query). q.names) c.in_ok-query.ensures.query)) c.in_default.ensures.few
 
 pub load_query-requires-clause-loadable : goal.load_query-requires-clause-loadable
 load_query-requires-clause-loadable c =
-    rw c.in_ok.ensures.clauses (asked_loads c.args.text.now (query_view c.in-Ok.query) c.in-Ok.ensures.reads (map called_by c.args.program.definitions) c.in_default.ensures.accepted c.in-Ok.ensures.variables).clauses
+    rw c.in_ok-query.ensures.clauses (asked_loads c.args.text.now (query_view c.in-Ok.query) c.in-Ok.ensures.reads (map called_by c.args.program.definitions) c.in_default.ensures.accepted c.in-Ok.ensures.variables).clauses
 
 pub load_query-requires-clause-unmixed : goal.load_query-requires-clause-unmixed
-load_query-requires-clause-unmixed c = rw c.in_ok.ensures.clauses (query_unmixed (map called_by c.args.program.definitions) first_asked (query_view c.in-Ok.query) c.in_default.ensures.accepted.liftable)
+load_query-requires-clause-unmixed c = rw c.in_ok-query.ensures.clauses (query_unmixed (map called_by c.args.program.definitions) first_asked (query_view c.in-Ok.query) c.in_default.ensures.accepted.liftable)
 
 pub load_query-requires-clause-lifted : goal.load_query-requires-clause-lifted
-load_query-requires-clause-lifted c = rw c.in_ok.ensures.clauses (asked_new (map called_by c.args.program.definitions) c.args.program.definitions (query_view c.in-Ok.query) c.in_default.ensures.accepted c.requires.open.numbers)
+load_query-requires-clause-lifted c = rw c.in_ok-query.ensures.clauses (asked_new (map called_by c.args.program.definitions) c.args.program.definitions (query_view c.in-Ok.query) c.in_default.ensures.accepted c.requires.open.numbers)
 
 pub load_query-requires-clause-small : goal.load_query-requires-clause-small
 load_query-requires-clause-small c =
     let q = query_view c.in-Ok.query in
     let paid : query_size (query_without first_asked q) + clauses_size (made_of_query first_asked q) ≤ 514 * query_size q = query_paid first_asked q c.in_default.ensures.few (query_text_whole c.in-Ok.ensures.reads) c.in-Ok.ensures.variables in
-    rw (c.in_ok.ensures.query, c.in_ok.ensures.clauses) (omega (arith, paid, c.in-Ok.ensures.size, c.requires.short))
+    rw (c.in_ok-query.ensures.query, c.in_ok-query.ensures.clauses) (omega (arith, paid, c.in-Ok.ensures.size, c.requires.short))
 
-pub returns-in_err-load_query-clause-stop : goal.returns-in_err-load_query-clause-stop
-returns-in_err-load_query-clause-stop c = from_error c.from_residual.result c.from_residual.ensures.1 (λ stop p. stops_as (QueryStops c.args.program c.args.text.now) _ _ stop p no_memory)
+pub returns-in_err-program-clause-stop : goal.returns-in_err-program-clause-stop
+returns-in_err-program-clause-stop c = from_error c.from_residual-in_err-program.result c.from_residual-in_err-program.ensures.1 (λ stop p. stops_as (QueryStops c.args.program c.args.text.now) _ _ stop p no_memory)
 
 pub returns-clause-loaded : goal.returns-clause-loaded
 returns-clause-loaded c = record {
   asked = query_view c.in-Ok.query;
   reads = c.in-Ok.ensures.reads;
   allowed = c.in_default.ensures.checked;
-  stands = subst (λ (q : Query). IsQueryOf c.args.program (made_of_query first_asked (query_view c.in-Ok.query)) q c.in_ok-load_query.program c.in_ok-load_query.query) c.in_ok.ensures.query
-      (subst (λ cs. IsQueryOf c.args.program cs (query_view c.in_ok.query) c.in_ok-load_query.program c.in_ok-load_query.query) c.in_ok.ensures.clauses c.in_ok-load_query.ensures.query);
+  stands = subst (λ (q : Query). IsQueryOf c.args.program (made_of_query first_asked (query_view c.in-Ok.query)) q c.in_ok-program.program c.in_ok-program.query) c.in_ok-query.ensures.query
+      (subst (λ cs. IsQueryOf c.args.program cs (query_view c.in_ok-query.query) c.in_ok-program.program c.in_ok-program.query) c.in_ok-query.ensures.clauses c.in_ok-program.ensures.query);
 }

@@ -43,14 +43,14 @@ load-requires-clause-small c =
     rw c.in_ok-lifted.ensures (omega (arith, small))
 
 pub returns-in_err-load-clause-stop : goal.returns-in_err-load-clause-stop
-returns-in_err-load-clause-stop c = from_error c.from_residual.result c.from_residual.ensures.1 (λ stop p. stops_as (ProgramStops c.args.text.now) _ _ stop p no_memory)
+returns-in_err-load-clause-stop c = from_error c.from_residual-in_err-load.result c.from_residual-in_err-load.ensures.1 (λ stop p. stops_as (ProgramStops c.args.text.now) _ _ stop p no_memory)
 
 pub returns-clause-program : goal.returns-clause-program
 returns-clause-program c = record {
   clauses = clauses_view c.in-Ok.clauses;
   reads = c.in-Ok.ensures.reads;
   allowed = subst (λ xs. refusal_of (map clause_view xs) ≡ None) c.deref.ensures.value c.in_default.ensures.checked;
-  stands = subst (λ xs. IsProgramOf xs c.in_ok-load.load) c.in_ok-lifted.ensures c.in_ok-load.ensures.program;
+  stands = subst (λ xs. IsProgramOf xs c.in_ok-load.field-0) c.in_ok-lifted.ensures c.in_ok-load.ensures.program;
 }
 
 pub returns-clause-open : goal.returns-clause-open
@@ -60,11 +60,11 @@ returns-clause-open c =
     let small : clauses_size (lifted_clauses cs) ≤ 514000000 = lifted_small c.args.text.now cs c.in-Ok.ensures.reads accepted in
     let size : clauses_size (clauses_view c.in_ok-lifted.lifted) ≤ 514000000 = rw c.in_ok-lifted.ensures small in
     let counted : length c.in_ok-lifted.lifted.items ≤ clauses_size (clauses_view c.in_ok-lifted.lifted) = counted_clauses c.in_ok-lifted.lifted in
-    let stands : IsProgramOf (lifted_clauses cs) c.in_ok-load.load = subst (λ xs. IsProgramOf xs c.in_ok-load.load) c.in_ok-lifted.ensures c.in_ok-load.ensures.program in
+    let stands : IsProgramOf (lifted_clauses cs) c.in_ok-load.field-0 = subst (λ xs. IsProgramOf xs c.in_ok-load.field-0) c.in_ok-lifted.ensures c.in_ok-load.ensures.program in
     record {
       unique = c.in_ok-load.ensures.unique;
       nodes = omega (arith, size, c.in_ok-load.ensures.nodes);
       symbols = omega (arith, size, c.in_ok-load.ensures.symbols);
       definitions = omega (arith, size, c.in_ok-load.ensures.definitions, counted);
-      numbers = program_numbers c.args.text.now cs c.in-Ok.ensures.reads accepted c.in_ok-load.load stands;
+      numbers = program_numbers c.args.text.now cs c.in-Ok.ensures.reads accepted c.in_ok-load.field-0 stands;
     }
