@@ -1,8 +1,10 @@
-use Rattle.std.proofs.Common.{◌≡◌, ◌+◌, ◌*◌, ◌≤◌, List, ℕ, length, map, sym, ap, subst, arith}
+use Rattle.std.specs.List.{All}
+use Rattle.std.proofs.Common.{◌≡◌, ◌+◌, ◌++◌, ◌*◌, ◌≤◌, List, ℕ, length, map, sym, ap, subst, arith}
 use Rattle.akl_syntax.specs.Answers.{query_view, clauses_view}
 use Rattle.akl_syntax.specs.Clauses.{Query}
 use Rattle.akl_syntax.specs.Sizes.{clauses_size, query_size}
-use Rattle.clause_keys.specs.Keys.{called_by}
+use Rattle.clause_keys.specs.Keys.{called_by, defined_by}
+use Rattle.clause_keys.specs.Conditions.{IsLoadable}
 use Rattle.clause_store.specs.Loaded.{IsQueryOf}
 use Rattle.akl_lift.specs.Lifting.{query_without, made_of_query}
 use Rattle.akl_lift.proofs.Asked.{query_paid, query_unmixed}
@@ -24,7 +26,11 @@ returns-in_err-query-clause-stop c = from_error c.from_residual.result c.from_re
 
 pub load_query-requires-clause-goals : goal.load_query-requires-clause-goals
 load_query-requires-clause-goals c =
-    rw (c.in_ok-query.ensures.query, c.in_ok-query.ensures.clauses) (asked_loads c.args.text.now (query_view c.in-Ok.query) c.in-Ok.ensures.reads (map called_by c.args.program.definitions) c.in_default.ensures.accepted c.in-Ok.ensures.variables).goals
+    let callees = map called_by c.args.program.definitions in
+    let asked = query_without first_asked (query_view c.in-Ok.query) in
+    subst (λ (q : Query). All (IsLoadable (callees ++ map defined_by (clauses_view c.in_ok-query.lifted))) q.goals) (sym c.in_ok-query.ensures.query)
+    (subst (λ cs. All (IsLoadable (callees ++ map defined_by cs)) asked.goals) (sym c.in_ok-query.ensures.clauses)
+    (asked_loads c.args.text.now (query_view c.in-Ok.query) c.in-Ok.ensures.reads callees c.in_default.ensures.accepted c.in-Ok.ensures.variables).goals)
 
 pub load_query-requires-clause-names : goal.load_query-requires-clause-names
 load_query-requires-clause-names c =
@@ -44,7 +50,8 @@ pub load_query-requires-clause-small : goal.load_query-requires-clause-small
 load_query-requires-clause-small c =
     let q = query_view c.in-Ok.query in
     let paid : query_size (query_without first_asked q) + clauses_size (made_of_query first_asked q) ≤ 514 * query_size q = query_paid first_asked q c.in_default.ensures.few (query_text_whole c.in-Ok.ensures.reads) c.in-Ok.ensures.variables in
-    rw (c.in_ok-query.ensures.query, c.in_ok-query.ensures.clauses) (omega (arith, paid, c.in-Ok.ensures.size, c.requires.short))
+    subst (λ (asked : Query). query_size asked + clauses_size (clauses_view c.in_ok-query.lifted) ≤ 7000000) (sym c.in_ok-query.ensures.query)
+    (subst (λ cs. query_size (query_without first_asked q) + clauses_size cs ≤ 7000000) (sym c.in_ok-query.ensures.clauses) (omega (arith, paid, c.in-Ok.ensures.size, c.requires.short)))
 
 pub returns-in_err-program-clause-stop : goal.returns-in_err-program-clause-stop
 returns-in_err-program-clause-stop c = from_error c.from_residual-in_err-program.result c.from_residual-in_err-program.ensures.1 (λ stop p. stops_as (QueryStops c.args.program c.args.text.now) _ _ stop p no_memory)
