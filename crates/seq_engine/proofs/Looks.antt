@@ -13,6 +13,7 @@ use Rattle.akl_model.specs.declared.label.Receipt.{Receipt}
 use Rattle.akl_model.specs.Config.{Config, Held, Found, held_in, box_at, site_of}
 use Rattle.akl_model.specs.Changes.{by_store, shape_of, ChangedAt, IsLastChange}
 use Rattle.akl_model.specs.Instances.{start}
+use Rattle.akl_model.specs.Stable.{Allows}
 use Rattle.akl_model.specs.Derivations.{IsInForce, Applies, IsReady}
 use Rattle.akl_model.proofs.Results.{Derives-one}
 use Rattle.akl_model.proofs.QuietEnds.{some_place_ready}
@@ -26,7 +27,6 @@ use Rattle.box_tree.specs.Tables.{all_rules, TableValue, table_of}
 use Rattle.box_tree.specs.Views.{ViewValue, run_of, is_there}
 use Rattle.box_tree.specs.Plans.{PlanValue, IsRight}
 use Rattle.guard_plan.specs.Planned.{IsPlannedBy}
-use Rattle.rule_plan.proofs.InForce.{no_split}
 use Rattle.step_commit.specs.Cores.{CoreValue, run_by, MayCommit, IsStale, Commits}
 use Rattle.split_plan.specs.Split.{IsSplitBy}
 use Rattle.seq_engine.specs.declared.pass.Kind.{Kind}
@@ -44,11 +44,11 @@ none_of kind v c place e f g n =
 -- what is planned of a look at the place
 module _ (c : CoreValue) (place : Place) (v : ViewValue) (s : IsSight c place v) where
   pub planned : (o : Option PlanValue) → IsPlannedBy v o → IsPlannedAt Kind.Plain c place o
-  planned None n = none_of Kind.Plain v c place s.table s.journal s.place n.none
+  planned None n = none_of Kind.Plain v c place s.table s.journal s.is_place n.none
   planned (Some p) x = (x.0.right, x.0.table ∙ s.table, x.0.journal ∙ s.journal, x.0.worker ∙ s.worker)
 
   pub split : (o : Option PlanValue) → IsSplitBy v o → IsPlannedAt Kind.Split c place o
-  split None n = none_of Kind.Split v c place s.table s.journal s.place n.none
+  split None n = none_of Kind.Split v c place s.table s.journal s.is_place n.none
   split (Some p) x = (x.0.right, x.0.table ∙ s.table, x.0.journal ∙ s.journal, x.0.worker ∙ s.worker)
 
 -- Split is a rule of boxes

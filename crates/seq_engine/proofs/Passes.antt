@@ -133,8 +133,8 @@ quiet : (c : CoreValue) → ((place : Place) → HasNoneAt Kind.Plain c place) �
 quiet c plain split t = record { none = λ place r. plain r.label.place t r.label r.result r.applies refl (λ e. split r.label.place t r.label r.result r.applies refl e) }
 
 -- a pass for one kind of rules after a pass for the other, in which nothing moved
-pub whole : (c d e : CoreValue) (rs ss ts : List Receipt) (pass : Pass) → HasPassed Kind.Plain c rs d ss Pass.Quiet → HasPassed Kind.Split d ss e ts pass → HasPassedWhole c rs e ts pass
-whole c d e rs ss ts pass p h = on pass (subst (λ (x : CoreValue). HasPassed Kind.Split x rs e ts pass) p.0 (subst (λ (xs : List Receipt). HasPassed Kind.Split d xs e ts pass) p.1 h))
+pub whole : (c d e : CoreValue) (rs ss ts : List Receipt) → HasPassed Kind.Plain c rs d ss Pass.Quiet → (pass : Pass) → HasPassed Kind.Split d ss e ts pass → HasPassedWhole c rs e ts pass
+whole c d e rs ss ts p pass h = on pass (subst (λ (x : CoreValue). HasPassed Kind.Split x rs e ts pass) p.0 (subst (λ (xs : List Receipt). HasPassed Kind.Split d xs e ts pass) p.1 h))
   where
     on : (pass : Pass) → HasPassed Kind.Split c rs e ts pass → HasPassedWhole c rs e ts pass
     on Pass.Moved k = k

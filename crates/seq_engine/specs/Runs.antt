@@ -35,7 +35,7 @@ HasNoneAt kind c place = (t : TableIn c) (l : Label) (d : Config) → Applies al
 pub record IsSight (c : CoreValue) (place : Place) (v : ViewValue) : Type 0 where
   pub table : v.table ≡ c.table
   pub journal : v.journal ≡ c.journal
-  pub place : v.place ≡ place
+  pub is_place : v.place ≡ place
   pub worker : v.worker ≡ 1
   pub there : is_there (table_of c.table) place ≡ true
 
