@@ -10,7 +10,7 @@ use Rattle.akl_model.specs.Stable.{EachBox, EachInside, only}
 use Rattle.akl_model.specs.Wakes.{names_around}
 use Rattle.akl_model.proofs.Scoped.{IsIn-left}
 use Rattle.step_laws.specs.Inside.{EachItem, EachItemAmong}
-use Rattle.table_laws.specs.Rows.{BoxRow, GoalRow, Table}
+use Rattle.table_laws.specs.Rows.{BoxRow, GoalRow}
 use Rattle.table_laws.specs.Unfolds.{IsBoxRow}
 use Rattle.table_laws.specs.Inside.{IsInside}
 use Rattle.table_laws.specs.Stamped.{store_stamp, goals_stamp, goal_stamp, stamp_in}

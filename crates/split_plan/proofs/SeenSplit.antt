@@ -1,5 +1,5 @@
 -- What is seen of a box that may be split is enough to decide whether it is stable.
-use Rattle.std.proofs.Common.{◌≡◌, ℕ, ◌-◌, ◌+◌, Bool, true, false, List, [], ◌∷◌, ◌++◌, length, map, take, refl, sym, ◌∙◌, ap, subst, arith, length-append}
+use Rattle.std.proofs.Common.{◌≡◌, ℕ, ◌-◌, ◌+◌, Bool, true, false, List, [], ◌∷◌, ◌++◌, length, take, refl, sym, ◌∙◌, ap, subst, arith, length-append}
 use Rattle.std.proofs.lemmas.List.{length-map}
 use Rattle.std.specs.Prelude.{IsTrue, ◌↔◌}
 use Rattle.akl_terms.specs.declared.name.Name.{Name}
@@ -7,7 +7,7 @@ use Rattle.akl_terms.specs.declared.name.Place.{Place}
 use Rattle.akl_terms.specs.declared.program.Program.{Program}
 use Rattle.akl_model.specs.Config.{Content}
 use Rattle.akl_model.specs.Stable.{IsStable}
-use Rattle.akl_model.specs.Wakes.{names_around, names_down_to}
+use Rattle.akl_model.specs.Wakes.{names_around}
 use Rattle.box_tree.specs.declared.inside.Inside.{Inside}
 use Rattle.box_tree.specs.Views.{ViewValue, IsViewOf}
 use Rattle.box_tree.specs.Insides.{IsInsideOf}

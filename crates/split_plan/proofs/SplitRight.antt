@@ -1,13 +1,12 @@
 -- A plan of Split is right, and where none is made, Split doesn't apply.
-use Rattle.std.proofs.Common.{◌≡◌, ℕ, ◌<◌, ◌^◌, List, [], ◌∷◌, ◌++◌, length, map, take, Some, refl, sym, ◌∙◌, ap, subst}
+use Rattle.std.proofs.Common.{◌≡◌, ℕ, ◌<◌, ◌^◌, List, ◌++◌, length, map, Some, refl, sym, ◌∙◌, ap, subst}
 use Rattle.std.specs.Prelude.{slice_index}
 use Rattle.akl_terms.specs.declared.name.Name.{Name}
 use Rattle.akl_terms.specs.declared.name.Place.{Place}
 use Rattle.akl_model.specs.declared.item.Item.{Item}
 use Rattle.akl_model.specs.declared.label.Rule.{Rule}
 use Rattle.akl_model.specs.declared.label.Label.{Label}
-use Rattle.akl_model.specs.Config.{IsIn, Found, box_at}
-use Rattle.akl_model.specs.Rules.{nothing, alone, with_alternatives, second_copy, first_of, Change, ChoiceIn, choice_with, split_at, change_by}
+use Rattle.akl_model.specs.Rules.{nothing, alone, with_alternatives, second_copy, first_of, Change, choice_with, split_at, change_by}
 use Rattle.akl_model.specs.Renaming.{sorted_names}
 use Rattle.akl_model.specs.Conditions as conditions
 use Rattle.akl_model.specs.Stable.{IsStable, IsSplitPoint, Allows}
@@ -19,7 +18,7 @@ use Rattle.table_laws.specs.Steps.{rest_of}
 use Rattle.table_laws.proofs.CopiesMade.{names_are}
 use Rattle.box_tree.specs.declared.step.Step.{Step}
 use Rattle.box_tree.specs.declared.inside.Inside.{Inside}
-use Rattle.box_tree.specs.Tables.{all_rules, table_of, step_of}
+use Rattle.box_tree.specs.Tables.{all_rules, table_of}
 use Rattle.box_tree.specs.Views.{ViewValue, IsViewOf, run_of}
 use Rattle.box_tree.specs.Insides.{IsInsideOf, candidate_in}
 use Rattle.box_tree.specs.Plans.{IsRead, IsRight}

@@ -1,4 +1,4 @@
-use Rattle.std.proofs.Common.{◌≡◌, ℕ, ◌-◌, ◌<◌, List, length, take, refl, sym, ◌∙◌, ap, arith}
+use Rattle.std.proofs.Common.{◌-◌, ◌<◌, List, length, take, ◌∙◌, ap, arith}
 use Rattle.std.specs.Prelude.{◌^◌}
 use Rattle.akl_terms.specs.declared.name.Name.{Name}
 use Rattle.split_plan.proofs.SeenSplit.{around_is, seen_inside, unstable, stable_site}
