@@ -1,5 +1,5 @@
 -- The alternative that rows show as a candidate is the one at which a stable box may be split, and where there is none the box may not.
-use Rattle.std.proofs.Common.{◌≡◌, ℕ, ◌+◌, ◌≤◌, ◌<◌, List, [], ◌∷◌, length, Bool, true, false, Option, Some, None, refl, sym, ◌∙◌, ap, subst, ◌⊎◌, inl, inr, arith}
+use Rattle.std.proofs.Common.{◌≡◌, ℕ, ◌+◌, ◌≤◌, ◌<◌, List, ◌∷◌, length, Bool, true, false, Option, Some, None, refl, sym, ◌∙◌, ap, subst, inl, inr, arith}
 use Rattle.std.proofs.lemmas.Bool.{lt-ltb, ltb-true}
 use Rattle.std.specs.Prelude.{if◌then◌else◌, nat_lt, ⊤}
 use Rattle.akl_terms.specs.declared.name.Name.{Name}
@@ -10,7 +10,7 @@ use Rattle.akl_model.specs.Config.{IsIn, or_else, Atom, Boxes, no_boxes, box, Go
 use Rattle.akl_model.specs.Rules.{count_of, has_box, ChoiceIn, choice_with}
 use Rattle.akl_model.specs.Stable.{first_solved}
 use Rattle.akl_model.specs.Names.{one_if, times_in}
-use Rattle.akl_model.specs.Changes.{Shape, of_choice, shape_of, box_names, goal_names}
+use Rattle.akl_model.specs.Changes.{of_choice, shape_of, box_names, goal_names}
 use Rattle.akl_model.proofs.Options.{some_value, or_none, or_some}
 use Rattle.akl_model.proofs.Finds.{times, times_inside}
 use Rattle.akl_model.proofs.ScopesAlong.{counted_in}

@@ -1,5 +1,5 @@
 -- Where a stable box may be split: the alternatives inside it are consistent.
-use Rattle.std.proofs.Common.{◌≡◌, ◌≤◌, [], ◌∷◌, ◌++◌, Bool, true, false, Option, Some, refl, sym, ◌∙◌, subst, inl, inr}
+use Rattle.std.proofs.Common.{◌≡◌, [], ◌∷◌, Bool, true, false, Some, refl, inl, inr}
 use Rattle.std.specs.Prelude.{if◌then◌else◌, IsSomeAnd}
 use Rattle.akl_terms.specs.declared.name.Name.{Name}
 use Rattle.akl_terms.specs.Names.{same_name}

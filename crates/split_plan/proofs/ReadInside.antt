@@ -10,7 +10,7 @@ use Rattle.akl_model.specs.Stable.{EachBox, EachInside, only}
 use Rattle.akl_model.specs.Wakes.{names_around}
 use Rattle.akl_model.proofs.Scoped.{IsIn-left}
 use Rattle.step_laws.specs.Inside.{EachItem, EachItemAmong}
-use Rattle.table_laws.specs.Rows.{BoxRow, GoalRow, Table}
+use Rattle.table_laws.specs.Rows.{BoxRow, GoalRow}
 use Rattle.table_laws.specs.Unfolds.{IsBoxRow}
 use Rattle.table_laws.specs.Inside.{IsInside}
 use Rattle.table_laws.specs.Stamped.{store_stamp, goals_stamp, goal_stamp, stamp_in}
@@ -54,6 +54,13 @@ read_goal [] g i = absurd i
 read_goal (x ∷ gs) g (inl e) = inl (ap Item.Goal e)
 read_goal (x ∷ gs) g (inr i) = inr (read_goal gs g i)
 
+-- of more boxes the same is read
+read_past : (b : InnerBox) (bs : List InnerBox) (m : Name) (goals : List Name) → OwnItems (IsRead (items_in bs)) m goals → OwnItems (IsRead (items_in (b ∷ bs))) m goals
+read_past b bs m goals w = (past (Item.Store m) w.0, past (Item.Goals m) w.1, λ g j. past (Item.Goal g) (w.2 g j))
+  where
+    past : (j : Item) → IsRead (items_in bs) j → IsRead (items_in (b ∷ bs)) j
+    past j r = inr (inr (read_right (goal_items b.goals.items) (items_in bs) j r))
+
 module _ (t : TableValue) where
   read_box : (bs : List InnerBox) → AllByRecursion (IsInnerBox t) bs → (m : Name) → IsIn m (map (λ (b : InnerBox). b.name) bs) → (row : BoxRow) → (table_of t).box_of m ≡ Some row → OwnItems (IsRead (items_in bs)) m row.goals
   read_box [] all m i row e = absurd i
@@ -65,13 +72,7 @@ module _ (t : TableValue) where
     where
       same : all.0.row.goals ≡ row.goals
       same = ap goals_in (sym all.0.there ∙ ap (table_of t).box_of (sym q) ∙ e)
-  read_box (b ∷ bs) all m (inr i) row e = (past (Item.Store m) w.0, past (Item.Goals m) w.1, λ g j. past (Item.Goal g) (w.2 g j))
-    where
-      w : OwnItems (IsRead (items_in bs)) m row.goals
-      w = read_box bs all.1 m i row e
-
-      past : (j : Item) → IsRead (items_in bs) j → IsRead (items_in (b ∷ bs)) j
-      past j r = inr (inr (read_right (goal_items b.goals.items) (items_in bs) j r))
+  read_box (b ∷ bs) all m (inr i) row e = read_past b bs m row.goals (read_box bs all.1 m i row e)
 
   -- all that is read has a row
   goal_there : (o : Option GoalRow) (s : Shape) → option_map (λ (r : GoalRow). r.shape) o ≡ Some s → IsSome (goal_stamp o)

@@ -1,23 +1,27 @@
 -- What is seen of a box that may be split is enough to decide whether it is stable.
-use Rattle.std.proofs.Common.{◌≡◌, ℕ, ◌-◌, ◌+◌, List, [], ◌∷◌, ◌++◌, length, map, take, refl, sym, ◌∙◌, ap, subst, arith, length-append}
+use Rattle.std.proofs.Common.{◌≡◌, ℕ, ◌-◌, ◌+◌, Bool, true, false, List, [], ◌∷◌, ◌++◌, length, take, refl, sym, ◌∙◌, ap, subst, arith, length-append}
 use Rattle.std.proofs.lemmas.List.{length-map}
+use Rattle.std.specs.Prelude.{IsTrue, ◌↔◌}
 use Rattle.akl_terms.specs.declared.name.Name.{Name}
 use Rattle.akl_terms.specs.declared.name.Place.{Place}
 use Rattle.akl_terms.specs.declared.program.Program.{Program}
 use Rattle.akl_model.specs.Config.{Content}
-use Rattle.akl_model.specs.Wakes.{names_around, names_down_to}
+use Rattle.akl_model.specs.Stable.{IsStable}
+use Rattle.akl_model.specs.Wakes.{names_around}
 use Rattle.box_tree.specs.declared.inside.Inside.{Inside}
 use Rattle.box_tree.specs.Views.{ViewValue, IsViewOf}
 use Rattle.box_tree.specs.Insides.{IsInsideOf}
 use Rattle.stable_test.specs.Seen.{IsSeenInside}
-use Rattle.split_plan.proofs.CandidateRows.{there}
+use Rattle.box_copies.specs.Copies.{IsInsideOfBox}
+use Rattle.split_plan.specs.Split.{HasNoSplit}
+use Rattle.split_plan.proofs.CandidateRows.{there, no_split}
 
 front_taken : (ns : List Name) (n : Name) → take (length ns) (ns ++ n ∷ []) ≡ ns
 front_taken [] n = refl
 front_taken (m ∷ ns) n = ap (λ (l : List Name). m ∷ l) (front_taken ns n)
 
 module _ (v : ViewValue) (i : IsViewOf v) where
-  long : length v.path - 1 ≡ length (names_around i.site)
+  pub long : length v.path - 1 ≡ length (names_around i.site)
   long =
       let e : length v.path ≡ length (names_around i.site) + 1 = ap (λ (ns : List Name). length ns) i.path ∙ length-append (names_around i.site) (i.site.content.name ∷ []) in
       omega (arith, e)
@@ -25,7 +29,7 @@ module _ (v : ViewValue) (i : IsViewOf v) where
   pub around_is : take (length v.path - 1) v.path ≡ names_around i.site
   around_is = (λ j. take (long j) (i.path j)) ∙ front_taken (names_around i.site) i.site.content.name
 
-  pub seen_inside : (n : Name) → v.place ≡ Place.Box n → (inside : Inside) → IsInsideOf v.table v.journal n v.worker inside → (p : Program) → p ≡ v.table.program → (depth : ℕ) → depth ≡ length v.path - 1 → IsSeenInside p depth inside
+  abbrev pub seen_inside : (n : Name) → v.place ≡ Place.Box n → (inside : Inside) → IsInsideOf v.table v.journal n v.worker inside → (p : Program) → p ≡ v.table.program → (depth : ℕ) → depth ≡ length v.path - 1 → IsSeenInside p depth inside
   seen_inside n e inside x p same depth d = record {
     table = v.table;
     of_program = sym same;
@@ -38,3 +42,14 @@ module _ (v : ViewValue) (i : IsViewOf v) where
     is_site = there v i n e;
     deep = sym (length-map i.site.around (λ (b : Content). b.name)) ∙ sym long ∙ sym d;
   }
+
+  -- a box that isn't stable isn't split
+  pub unstable : (inside : Inside) → IsInsideOfBox v inside → (p : Program) → p ≡ v.table.program → (depth : ℕ) → depth ≡ length v.path - 1 → (stable : Bool)
+      → ((s : IsSeenInside p depth inside) → IsTrue stable ↔ IsStable p s.site) → stable ≡ false → HasNoSplit v
+  unstable inside x p same depth d stable h e = no_split v i x.name x.place (λ a s k.
+      let t : stable ≡ true = (h (seen_inside x.name x.place inside x.inside p same depth d)).1 (subst (λ (q : Program). IsStable q i.site) (sym same) s) in
+      let z : false ≡ true = sym e ∙ t in cc)
+
+  pub stable_site : (inside : Inside) → IsInsideOfBox v inside → (p : Program) → p ≡ v.table.program → (depth : ℕ) → depth ≡ length v.path - 1 → (stable : Bool)
+      → ((s : IsSeenInside p depth inside) → IsTrue stable ↔ IsStable p s.site) → stable ≡ true → IsStable v.table.program i.site
+  stable_site inside x p same depth d stable h e = subst (λ (q : Program). IsStable q i.site) same ((h (seen_inside x.name x.place inside x.inside p same depth d)).0 e)

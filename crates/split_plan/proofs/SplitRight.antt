@@ -1,13 +1,12 @@
 -- A plan of Split is right, and where none is made, Split doesn't apply.
-use Rattle.std.proofs.Common.{◌≡◌, ℕ, ◌<◌, ◌^◌, List, [], ◌∷◌, ◌++◌, length, map, take, Some, refl, sym, ◌∙◌, ap, subst}
+use Rattle.std.proofs.Common.{◌≡◌, ℕ, ◌<◌, ◌^◌, List, ◌++◌, length, map, Some, refl, sym, ◌∙◌, ap, subst}
 use Rattle.std.specs.Prelude.{slice_index}
 use Rattle.akl_terms.specs.declared.name.Name.{Name}
 use Rattle.akl_terms.specs.declared.name.Place.{Place}
 use Rattle.akl_model.specs.declared.item.Item.{Item}
 use Rattle.akl_model.specs.declared.label.Rule.{Rule}
 use Rattle.akl_model.specs.declared.label.Label.{Label}
-use Rattle.akl_model.specs.Config.{IsIn, Found, box_at}
-use Rattle.akl_model.specs.Rules.{nothing, alone, with_alternatives, second_copy, first_of, Change, ChoiceIn, choice_with, split_at, change_by}
+use Rattle.akl_model.specs.Rules.{nothing, alone, with_alternatives, second_copy, first_of, Change, choice_with, split_at, change_by}
 use Rattle.akl_model.specs.Renaming.{sorted_names}
 use Rattle.akl_model.specs.Conditions as conditions
 use Rattle.akl_model.specs.Stable.{IsStable, IsSplitPoint, Allows}
@@ -19,17 +18,18 @@ use Rattle.table_laws.specs.Steps.{rest_of}
 use Rattle.table_laws.proofs.CopiesMade.{names_are}
 use Rattle.box_tree.specs.declared.step.Step.{Step}
 use Rattle.box_tree.specs.declared.inside.Inside.{Inside}
-use Rattle.box_tree.specs.Tables.{all_rules, table_of, step_of}
+use Rattle.box_tree.specs.Tables.{all_rules, table_of}
 use Rattle.box_tree.specs.Views.{ViewValue, IsViewOf, run_of}
-use Rattle.box_tree.specs.Insides.{IsInsideOf}
+use Rattle.box_tree.specs.Insides.{IsInsideOf, candidate_in}
 use Rattle.box_tree.specs.Plans.{IsRead, IsRight}
 use Rattle.box_copies.specs.declared.copying.Copied.{Copied}
-use Rattle.box_copies.specs.Copies.{IsSplitInto}
+use Rattle.box_copies.specs.Copies.{IsInsideOfBox, IsSplitInto}
 use Rattle.box_copies.proofs.Splits.{split_made, split_draws, split_solved}
 use Rattle.stable_test.proofs.NoPlainRule.{each_in_force}
+use Rattle.split_plan.specs.Split.{IsCandidate}
 use Rattle.split_plan.specs.Read.{items_in}
 use Rattle.split_plan.proofs.Candidates.{IsPoint}
-use Rattle.split_plan.proofs.CandidateRows.{there, itself}
+use Rattle.split_plan.proofs.CandidateRows.{there, itself, candidate_point}
 use Rattle.split_plan.proofs.Points.{split_point}
 use Rattle.split_plan.proofs.ReadInside.{all_read, reads_there}
 
@@ -59,7 +59,7 @@ module _ (v : ViewValue) (i : IsViewOf v) (n a : Name) (p : v.place ≡ Place.Bo
     few_names = subst (λ (k : ℕ). k < 2 ^ 32) drawn few;
   }
 
-  applies : Applies all_rules v.table.program i.table.config (split_label v a) (after i.table.config (split_label v a) i.site change)
+  abbrev applies : Applies all_rules v.table.program i.table.config (split_label v a) (after i.table.config (split_label v a) i.site change)
   applies = record { in_force = each_in_force Rule.Split; site = i.site; is_site = i.is_site; change = change; makes = makes; result = refl }
 
   pub split_right : (inside : Inside) → IsInsideOf v.table v.journal n v.worker inside → (around : List Name) → around ≡ names_around i.site
@@ -74,3 +74,13 @@ module _ (v : ViewValue) (i : IsViewOf v) (n a : Name) (p : v.place ≡ Place.Bo
     reads = subst (λ (z : Place). Reads (IsRead (map Item.Store around ++ items_in inside.boxes.items)) Rule.Split z (Some a) i.site) (sym p) (all_read v i n (itself v i n p) inside h around is_around);
     there = reads_there v i n (itself v i n p) inside h around is_around;
   }
+
+-- by what is asked of a call
+pub split_planned : (v : ViewValue) (i : IsViewOf v) (a : Name) (k : IsCandidate v a) (inside : Inside) (h : IsInsideOfBox v inside) → IsStable v.table.program i.site → (c : Copied) → IsSplitInto v a c → c.names < 2 ^ 32
+    → (around : List Name) → around ≡ names_around i.site
+    → IsRight (record { table = v.table; journal = v.journal; label = split_label v a; reads = map Item.Store around ++ items_in inside.boxes.items; names = c.names; step = Step.Split c.copy c.copies })
+split_planned v i a k inside h stable c x few around is_around =
+    split_right v i h.name a h.place (candidate_point v i h.name h.place a (subst (λ (m : Name). candidate_in (table_of v.table) m ≡ Some a) same k.candidate)) stable c x few inside h.inside around is_around
+  where
+    same : k.name ≡ h.name
+    same = let e : Place.Box k.name ≡ Place.Box h.name = sym k.place ∙ h.place in cc

@@ -1,0 +1,23 @@
+use Rattle.std.proofs.Common.{◌-◌, ◌<◌, List, length, take, ◌∙◌, ap, arith}
+use Rattle.std.specs.Prelude.{◌^◌}
+use Rattle.akl_terms.specs.declared.name.Name.{Name}
+use Rattle.split_plan.proofs.SeenSplit.{around_is, seen_inside, unstable, stable_site}
+use Rattle.split_plan.proofs.SplitRight.{split_planned}
+use Rattle.split_plan.proofs.planning.plan_split.Goals as goal
+
+pub is_stable-requires : goal.is_stable-requires
+is_stable-requires c = seen_inside c.args.view.now c.label_for-label.ensures.seen c.requires.inside.name c.requires.inside.place c.args.inside.now c.requires.inside.inside c.args.program.now c.requires.program
+    c.saturating_sub-depth.result (c.saturating_sub-depth.ensures ∙ ap (λ (ns : List Name). length ns - 1) c.path-path.ensures)
+
+pub returns-then-not-branch : goal.returns-then-not-branch
+returns-then-not-branch c = unstable c.args.view.now c.label_for-label.ensures.seen c.args.inside.now c.requires.inside c.args.program.now c.requires.program
+    c.saturating_sub-depth.result (c.saturating_sub-depth.ensures ∙ ap (λ (ns : List Name). length ns - 1) c.path-path.ensures) _ c.in_ok-is_stable.ensures c.if-not-branch.true
+
+pub new-requires : goal.new-requires
+new-requires c =
+    let d = c.saturating_sub-depth.ensures ∙ ap (λ (ns : List Name). length ns - 1) c.path-path.ensures in
+    let stable = stable_site c.args.view.now c.label_for-label.ensures.seen c.args.inside.now c.requires.inside c.args.program.now c.requires.program c.saturating_sub-depth.result d _ c.in_ok-is_stable.ensures c.if-not-branch.false in
+    let few : c.in_ok-copy.field-0.names < 2 ^ 32 = omega (arith, c.if-names-gt-MOST.false, c.in_ok-copy.names-is) in
+    rw (c.label_for-label.ensures.label, c.in_ok-reads.ensures, c.as_slice.ensures.value, d, c.path-path.ensures)
+    (split_planned c.args.view.now c.label_for-label.ensures.seen c.args.alternative c.requires.candidate c.args.inside.now c.requires.inside stable c.in_ok-copy.field-0 c.in_ok-copy.ensures few
+    (take (length c.args.view.now.path - 1) c.args.view.now.path) (around_is c.args.view.now c.label_for-label.ensures.seen))
