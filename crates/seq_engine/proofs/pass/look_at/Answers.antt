@@ -1,5 +1,4 @@
-use Rattle.std.proofs.Common.{◌×◌, ◌≡◌, Some, refl, subst}
-use Rattle.box_tree.specs.Plans.{IsRight}
+use Rattle.std.proofs.Common.{Some, refl, subst}
 use Rattle.step_commit.specs.Cores.{IsRefused}
 use Rattle.seq_engine.specs.Runs.{IsPlannedAt}
 use Rattle.seq_engine.proofs.Looks.{spent}
