@@ -1,4 +1,4 @@
-use Rattle.std.proofs.Common.{List, ◌++◌, take, sym, ◌∙◌, refl, arith}
+use Rattle.std.proofs.Common.{◌++◌, take, sym, ◌∙◌, arith}
 use Rattle.local_store.specs.Chained.{bindings_from}
 use Rattle.rational_unify.specs.Solving.{bindings_in}
 use Rattle.local_store.proofs.Resolved.{further-clash}

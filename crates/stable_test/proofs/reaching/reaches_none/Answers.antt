@@ -1,7 +1,5 @@
-use Rattle.std.proofs.Common.{◌≡◌, Some, sym, ◌∙◌, ap, subst}
-use Rattle.std.specs.Prelude.{MatchOption}
+use Rattle.std.proofs.Common.{◌≡◌, sym, ◌∙◌, ap}
 use Rattle.std.proofs.lemmas.Result.{IfOk-weaker}
-use Rattle.akl_terms.specs.declared.program.Goal.{Goal}
 use Rattle.box_tree.specs.declared.view.Sight.{Sight}
 use Rattle.akl_model.proofs.Options.{some_value}
 use Rattle.stable_test.proofs.Tested.{no_clash, box_answer, waiting_answer}

@@ -1,4 +1,4 @@
-use Rattle.std.proofs.Common.{◌≡◌, ◌++◌, ◌∷◌, [], length, arith}
+use Rattle.std.proofs.Common.{◌++◌, ◌∷◌, [], arith}
 use Rattle.std.specs.Vec.{vec_len}
 use Rattle.entail_test.specs.Asked.{frames_from, environment_at, whole_at}
 use Rattle.std.specs.Prelude.{drop}
