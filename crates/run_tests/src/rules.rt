@@ -65,13 +65,30 @@ const VALUES: &str = r"
  =>  => open_port(P,S) => 0 / answer 1 / P = port / S = _1 / done
  =>  => open_port(P,S), P = a => 1 / failed
  =>  => open_port(P,S), open_port(P,T) => 1 / failed
+ =>  => open_port(P,S), send(a,P), P = Q => 0 / answer 1 / P = port / S = [a|_1] / Q = port / done
+ =>  => send(a,P), open_port(P,S) => 0 / answer 1 / P = port / S = [a|_1] / done
+ =>  => send(a,P) => 2 / suspended 1
+ =>  => send(a,P), P = b => 2 / suspended 1
+ => u(P) :- send(a,P) ? true. => open_port(P,S), u(P) => 2 / suspended 1
+ => COUNT => open_port(P,S), send(a,P), send(b,P), count(S,0,R) => 2 / suspended 1
 --trace =>  => X is 1+2, open_port(P,S) => 0 / step 1 eval goal 0.2 by 1 / step 2 open goal 0.3 by 1 / answer 1 / X = 3 / P = port / S = _1 / done
 ";
 
-// To be added to the table once Send is in force:
-//  =>  => open_port(P,S), send(a,P), P = Q => 0 / answer 1 / P = port / S = [a|_1] / Q = port / done
-//  =>  => send(a,P) => 2 / suspended 1
-//  => u(P) :- send(a,P) ? true. => open_port(P,S), u(P) => 2 / suspended 1
+/// Splits.
+const SPLITS: &str = r"
+ => LISTS => member(X,[a,b]) => 0 / answer 1 / X = a / answer 2 / X = b / done
+ => LISTS => member(X,[1,2,3]), member(Y,[1,2,3]), X + Y =:= 4, X < Y => 0 / answer 1 / X = 1 / Y = 3 / done
+ => m(a). m(b). => m(X), m(Y) => 0 / answer 1 / X = a / Y = a / answer 2 / X = a / Y = b / answer 3 / X = b / Y = a / answer 4 / X = b / Y = b / done
+ => m(a). m(b). d(X) :- m(Y) ? X = Y. => d(X) => 0 / answer 1 / X = a / answer 2 / X = b / done
+ => m(a). m(b). d(X) :- m(X) ? true. => d(X) => 2 / suspended 1
+ => m(a). m(b). d(X) :- m(X) ? true. => d(X), X = b => 0 / answer 1 / X = b / done
+ => m(1). m(2). d(X) :- m(Y), Y < X ? true. => d(X) => 2 / suspended 1
+ => m(1). m(2). d(X) :- m(Y), Y < X ? true. => d(X), X = 2 => 0 / answer 1 / X = 2 / done
+ => m(a). m(b). => m(X), X = c => 1 / failed
+--trace => m(a). m(b). => m(X) => 0 / step 1 fork goal 0.2 by 1 / step 2 split box 0.0 of 1.0 by 1 / step 3 promote goal 0.2 of 1.0 by 1 / step 4 promote goal 1.6 of 1.7 by 1 / answer 1 / X = a / answer 2 / X = b / done
+--budget,2 => m(a). m(b). => m(X) => 3 / budget
+--trace,--budget,1 => m(a). m(b). => m(X) => 3 / step 1 fork goal 0.2 by 1 / budget
+";
 
 /// Choices in brackets.
 const CHOICES: &str = r"
@@ -147,11 +164,22 @@ fn replies<'a, R: Threads + Wait + Sync>(
 #[test]
 fn each_rule_applies_where_it_may(rt: HostRuntime) -> Result<(), Fail> {
     let alloc = rt.alloc();
-    for table in [RULES, VALUES, CHOICES, TRACES] {
+    for table in [RULES, VALUES, SPLITS, CHOICES, TRACES] {
         for case in table.lines().skip(1) {
             let (found, wanted) = replies(&rt, alloc, case)?;
             assert_eq!(rt; found.as_str(), wanted, "{case}");
         }
     }
+    Ok(())
+}
+
+#[test]
+fn generated_programs_are_run(rt: HostRuntime) -> Result<(), Fail> {
+    let alloc = rt.alloc();
+    let reply = command(&rt, alloc, "", &["--generate", "0"])?;
+    assert_eq!(rt;
+        shown(alloc, &reply)?.as_str(),
+        "0 / answer 1 / R = [775,606,345] / X = 345 / answer 2 / R = [775,606,345] / X = 606 / answer 3 / R = [775,606,345] / X = 775 / done",
+    );
     Ok(())
 }
