@@ -1,0 +1,113 @@
+-- Waits by their variables and by their places.
+use Rattle.std.proofs.Common.{◌≡◌, Bool, true, false, List, Option, Some, None, refl, sym, ap, ◌∙◌}
+use Rattle.std.specs.Prelude.{cond, ◌||◌, ◌&&◌, not}
+use Rattle.std.specs.Map.{lookup}
+use Rattle.std.specs.BTreeMap.{BTreeMap, is_at}
+use Rattle.std.specs.BTreeMap as map
+use Rattle.std.specs.Global.{Vec}
+use Rattle.akl_terms.specs.declared.name.Var.{Var}
+use Rattle.akl_terms.specs.declared.name.Place.{Place}
+use Rattle.akl_terms.specs.contracts.name.PlaceOrd.TheImpl as places
+use Rattle.akl_terms.proofs.SameNames.{same_name-equal}
+use Rattle.wake_lists.specs.Waits.{same_place, waits_on, is_variable_in, lists, AreBoth}
+use Rattle.wake_lists.proofs.Keys.{place_is}
+use Rattle.wake_lists.proofs.WaitsKept.{place_back, JoinedBy, PartedBy}
+
+pub same_place-equal : (p q : Place) → same_place p q ≡ true → p ≡ q
+same_place-equal (Place.Goal m) (Place.Goal n) e = ap Place.Goal (same_name-equal m n e)
+same_place-equal (Place.Goal m) (Place.Box n) e = absurd (cc)
+same_place-equal (Place.Box m) (Place.Goal n) e = absurd (cc)
+same_place-equal (Place.Box m) (Place.Box n) e = ap Place.Box (same_name-equal m n e)
+
+pub found_is : {X : Type 0} (p : Place) (t : BTreeMap Place X) → map.get places.cmp-value.it t p ≡ lookup (same_place p) t.entries
+found_is p t = λ i. lookup (λ k. place_is p k i) t.entries
+
+-- under one place something else is kept
+found_now : {X : Type 0} (place : Place) (t u : BTreeMap Place X) (w : Option X) → ((q : Place) → map.get places.cmp-value.it u q ≡ cond (is_at (places.cmp-value.it place) q) w (map.get places.cmp-value.it t q))
+    → (p : Place) → lookup (same_place p) u.entries ≡ cond (same_place p place) w (lookup (same_place p) t.entries)
+found_now place t u w puts p = sym (found_is p u) ∙ puts p ∙ (λ i. cond ((place_is place p ∙ place_back place p) i) w (found_is p t i))
+
+module _ (place : Place) (on : List Var) (old : List (Var × List Place)) (t : BTreeMap Place (Vec Var)) (both : AreBoth old t.entries) where
+  pub kept_both : ((x : Var) → waits_on old place x ≡ false) → (ws : List (Var × List Place)) → JoinedBy place on old ws on → (u : BTreeMap Place (Vec Var)) (v : Vec Var) → v.items ≡ on
+      → ((q : Place) → map.get places.cmp-value.it u q ≡ cond (is_at (places.cmp-value.it place) q) (Some v) (map.get places.cmp-value.it t q)) → AreBoth ws u.entries
+  kept_both none ws joined u v items puts p x = joined p x ∙ by (same_place p place) refl ∙ ap (lists x) (sym (found_now place t u (Some v) puts p))
+    where
+      by : (s : Bool) → same_place p place ≡ s → (waits_on old p x || (s && is_variable_in x on)) ≡ lists x (cond s (Some v) (lookup (same_place p) t.entries))
+      by true e =
+          let nothing : waits_on old p x ≡ false = ap (λ q. waits_on old q x) (same_place-equal p place e) ∙ none x in
+          ap (λ (b : Bool). b || is_variable_in x on) nothing ∙ ap (is_variable_in x) (sym items)
+      by false e = less (waits_on old p x) ∙ both p x
+        where
+          less : (b : Bool) → (b || false) ≡ b
+          less true = refl
+          less false = refl
+
+  -- what was joined and then parted is as it was
+  pub undone : ((x : Var) → waits_on old place x ≡ false) → (ws new : List (Var × List Place)) → ((p : Place) (x : Var) → (same_place p place && is_variable_in x on) ≡ false → waits_on ws p x ≡ waits_on old p x)
+      → PartedBy place on ws new on → (p : Place) (x : Var) → waits_on new p x ≡ waits_on old p x
+  undone none ws new others parted p x = parted p x ∙ by (same_place p place) refl (is_variable_in x on) refl
+    where
+      less : (b : Bool) → (b && true) ≡ b
+      less true = refl
+      less false = refl
+
+      gone : (b : Bool) → (b && false) ≡ false
+      gone true = refl
+      gone false = refl
+
+      by : (s : Bool) → same_place p place ≡ s → (m : Bool) → is_variable_in x on ≡ m → (waits_on ws p x && not (s && m)) ≡ waits_on old p x
+      by true e true f = gone (waits_on ws p x) ∙ sym (ap (λ q. waits_on old q x) (same_place-equal p place e) ∙ none x)
+      by true e false f = less (waits_on ws p x) ∙ others p x ((λ i. e i && f i))
+      by false e m f = less (waits_on ws p x) ∙ others p x ((λ i. e i && f i))
+
+  pub others_of : (ws : List (Var × List Place)) → JoinedBy place on old ws on → (p : Place) (x : Var) → (same_place p place && is_variable_in x on) ≡ false → waits_on ws p x ≡ waits_on old p x
+  others_of ws joined p x e = joined p x ∙ ap (λ (b : Bool). waits_on old p x || b) e ∙ less (waits_on old p x)
+    where
+      less : (b : Bool) → (b || false) ≡ b
+      less true = refl
+      less false = refl
+
+  -- the waits of a place go
+  module _ (new : List (Var × List Place)) (u : BTreeMap Place (Vec Var)) (v : Vec Var) (is : map.get places.cmp-value.it t place ≡ Some v) (parted : PartedBy place v.items old new v.items)
+      (puts : (q : Place) → map.get places.cmp-value.it u q ≡ cond (is_at (places.cmp-value.it place) q) None (map.get places.cmp-value.it t q)) where
+    pub dropped : (p : Place) (x : Var) → waits_on new p x ≡ (waits_on old p x && not (same_place p place))
+    dropped p x = parted p x ∙ by (same_place p place) refl
+      where
+        none : (b : Bool) → (b && not b) ≡ (b && false)
+        none true = refl
+        none false = refl
+
+        by : (s : Bool) → same_place p place ≡ s → (waits_on old p x && not (s && is_variable_in x v.items)) ≡ (waits_on old p x && not s)
+        by true e =
+            let listed_so : waits_on old p x ≡ is_variable_in x v.items = both p x ∙ ap (lists x) (sym (found_is p t) ∙ ap (map.get places.cmp-value.it t) (same_place-equal p place e) ∙ is) in
+            ap (λ (b : Bool). waits_on old p x && not b) (sym listed_so) ∙ none (waits_on old p x)
+        by false e = refl
+
+    pub dropped_both : AreBoth new u.entries
+    dropped_both p x = dropped p x ∙ by (same_place p place) ∙ ap (lists x) (sym (found_now place t u None puts p))
+      where
+        gone : (b : Bool) → (b && false) ≡ false
+        gone true = refl
+        gone false = refl
+
+        less : (b : Bool) → (b && true) ≡ b
+        less true = refl
+        less false = refl
+
+        by : (s : Bool) → (waits_on old p x && not s) ≡ lists x (cond s None (lookup (same_place p) t.entries))
+        by true = gone (waits_on old p x)
+        by false = less (waits_on old p x) ∙ both p x
+
+  -- where none are kept of a place, it has none
+  pub none_kept : map.get places.cmp-value.it t place ≡ None → (p : Place) (x : Var) → waits_on old p x ≡ (waits_on old p x && not (same_place p place))
+  none_kept is p x = by (same_place p place) refl
+    where
+      less : (b : Bool) → b ≡ (b && true)
+      less true = refl
+      less false = refl
+
+      by : (s : Bool) → same_place p place ≡ s → waits_on old p x ≡ (waits_on old p x && not s)
+      by true e =
+          let nothing : waits_on old p x ≡ false = both p x ∙ ap (lists x) (sym (found_is p t) ∙ ap (map.get places.cmp-value.it t) (same_place-equal p place e) ∙ is) in
+          nothing ∙ ap (λ (b : Bool). b && false) (sym nothing)
+      by false e = less (waits_on old p x)
