@@ -14,7 +14,7 @@ use Rattle.akl_model.specs.Config.{Config, Held, Found, held_in, box_at, site_of
 use Rattle.akl_model.specs.Changes.{by_store, shape_of, ChangedAt, IsLastChange}
 use Rattle.akl_model.specs.Instances.{start}
 use Rattle.akl_model.specs.Stable.{Allows}
-use Rattle.akl_model.specs.Derivations.{IsInForce, Applies, IsReady}
+use Rattle.akl_model.specs.Derivations.{Applies, IsReady}
 use Rattle.akl_model.proofs.Results.{Derives-one}
 use Rattle.akl_model.proofs.QuietEnds.{some_place_ready}
 use Rattle.step_laws.proofs.Whereabouts.{home_in}

@@ -6,9 +6,8 @@ use Rattle.std.proofs.lemmas.Bool.Decides.{nat_tests}
 use Rattle.akl_terms.specs.declared.name.Place.{Place}
 use Rattle.akl_model.specs.declared.label.Label.{Label}
 use Rattle.akl_model.specs.declared.label.Receipt.{Receipt}
-use Rattle.akl_model.specs.Derivations.{IsReady}
 use Rattle.akl_model.specs.Wakes.{IsOneOf}
-use Rattle.box_tree.specs.Tables.{all_rules, table_of}
+use Rattle.box_tree.specs.Tables.{table_of}
 use Rattle.box_tree.specs.Views.{is_there, AreAllPlaces}
 use Rattle.step_commit.specs.Cores.{CoreValue, KeepsFixed}
 use Rattle.step_commit.specs.Receipts.{labels_of, AreBy}

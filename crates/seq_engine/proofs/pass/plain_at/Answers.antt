@@ -1,4 +1,4 @@
-use Rattle.std.proofs.Common.{Some, subst}
+use Rattle.std.proofs.Common.{subst}
 use Rattle.std.proofs.lemmas.Result.{IfOk-weaker}
 use Rattle.guard_plan.specs.Planned.{IsPlannedBy}
 use Rattle.seq_engine.specs.declared.pass.Kind.{Kind}

@@ -1,4 +1,4 @@
-use Rattle.std.proofs.Common.{◌≡◌, Some, None, sym, ◌∙◌, ap, subst}
+use Rattle.std.proofs.Common.{◌≡◌, None, sym, ◌∙◌, ap, subst}
 use Rattle.std.proofs.lemmas.Result.{IfOk-weaker}
 use Rattle.akl_terms.specs.declared.name.Place.{Place}
 use Rattle.box_tree.specs.Tables.{TableValue, table_of}
@@ -16,7 +16,7 @@ returns-in_default-candidate c =
     let s : IsSight c.args.core.now (Place.Box c.args.name) c.in-Some.view = subst (IsSeenAt c.args.core.now (Place.Box c.args.name)) c.in-Some.is c.in_ok-view.ensures in
     let none : candidate_in (table_of c.args.core.now.table) c.args.name ≡ None = sym c.candidate.ensures ∙ c.in_default-candidate.is in
     split c.args.core.now (Place.Box c.args.name) c.in-Some.view s None
-        (no_candidate c.in-Some.view (subst IsViewOf c.view.view_is c.view.invariant) c.args.name s.is_place (ap (λ (t : TableValue). candidate_in (table_of t) c.args.name) s.table ∙ none))
+    (no_candidate c.in-Some.view (subst IsViewOf c.view.view_is c.view.invariant) c.args.name s.is_place (ap (λ (t : TableValue). candidate_in (table_of t) c.args.name) s.table ∙ none))
 
 pub returns : goal.returns
 returns c =

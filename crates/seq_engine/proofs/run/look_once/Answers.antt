@@ -11,7 +11,7 @@ returns-in-Quiet c =
     let plain : HasPassed Kind.Plain c.args.core.now c.args.receipts.now.items c.look_at_all.new.core c.look_at_all.new.receipts.items Pass.Quiet =
     subst (HasPassed Kind.Plain c.args.core.now c.args.receipts.now.items c.look_at_all.new.core c.look_at_all.new.receipts.items) c.in-Quiet.is c.in_ok-pass.ensures in
     IfOk-weaker c.look_at_all-in-Quiet.result
-        (HasPassed Kind.Split c.look_at_all.new.core c.look_at_all.new.receipts.items c.look_at_all-in-Quiet.new.core c.look_at_all-in-Quiet.new.receipts.items)
-        (HasPassedWhole c.args.core.now c.args.receipts.now.items c.look_at_all-in-Quiet.new.core c.look_at_all-in-Quiet.new.receipts.items)
-        (whole c.args.core.now c.look_at_all.new.core c.look_at_all-in-Quiet.new.core c.args.receipts.now.items c.look_at_all.new.receipts.items c.look_at_all-in-Quiet.new.receipts.items plain)
-        c.look_at_all-in-Quiet.ensures
+    (HasPassed Kind.Split c.look_at_all.new.core c.look_at_all.new.receipts.items c.look_at_all-in-Quiet.new.core c.look_at_all-in-Quiet.new.receipts.items)
+    (HasPassedWhole c.args.core.now c.args.receipts.now.items c.look_at_all-in-Quiet.new.core c.look_at_all-in-Quiet.new.receipts.items)
+    (whole c.args.core.now c.look_at_all.new.core c.look_at_all-in-Quiet.new.core c.args.receipts.now.items c.look_at_all.new.receipts.items c.look_at_all-in-Quiet.new.receipts.items plain)
+    c.look_at_all-in-Quiet.ensures
