@@ -18,7 +18,7 @@ use Rattle.step_commit.specs.Cores.{CoreValue, IsCore}
 use Rattle.seq_engine.specs.declared.run.End.{End}
 use Rattle.seq_engine.specs.declared.run.Finished.{Finished}
 use Rattle.seq_engine.specs.Runs.{AreKept, EndsAs}
-use Rattle.root_answers.specs.Roots.{TableIn, Answers, LongAnswers}
+use Rattle.root_answers.specs.Roots.{TableIn, Answers}
 use Rattle.akl_run.specs.declared.loaded.Loaded.{Loaded}
 use Rattle.akl_run.specs.declared.ending.Ending.{Ending}
 use Rattle.akl_run.specs.Loads.{first_asked, IsLoadedFrom}
@@ -27,7 +27,7 @@ use Rattle.akl_run.specs.Text.{outcome_line}
 use Rattle.akl_run.specs.Endings.{ending_by, status_by, outcome_by}
 use Rattle.akl_run.specs.Runs.{IsRun}
 use Rattle.akl_run.specs.Evaluations.{HasFinished}
-use Rattle.akl_run.specs.Reports.{IsStatusOf, IsRunBy, HasLongRun}
+use Rattle.akl_run.specs.Reports.{IsStatusOf, IsRunBy}
 use Rattle.akl_run.proofs.ShownTerms.{shown-below}
 
 pub loaded_shown : (program query : List ℕ) (l : Loaded) → IsLoadedFrom program query l → HasShownVariables l.query
@@ -110,15 +110,6 @@ module _ (c : CoreValue) (i : IsCore c) (first : ℕ) where
         is_text = record { answered = text; are_texts = x.are_texts; whole = refl };
       })
 
-  own_long : (end : End) → EndsAs c end → LongAnswers c i.table → HasLongRun (record { program = c.table.program; query = c.table.query; first_variable = first }) c.budget
-  own_long end e x = record {
-    journal = c.journal;
-    answers = x.answers;
-    outcome = outcome_by (ending_by end (length c.table.roots) (length x.answers));
-    run = own_run x.answers end x.are_answers e;
-    is_long = x.is_long;
-  }
-
 -- what holds of the core's own query and budget holds of those that it was made for
 of_query : (P : Loaded → ℕ → Type 0) (l : Loaded) (p : Program) (q : Query) (b budget : ℕ) → p ≡ l.program → q ≡ l.query → b ≡ budget → P (record { program = p; query = q; first_variable = l.first_variable }) b → P l budget
 of_query P l p q b budget e f g x =
@@ -135,6 +126,3 @@ pub evaluated : (l : Loaded) (budget : ℕ) (trace : Bool) (f : Finished) (count
 evaluated l budget trace f count text h i x =
     of_query (λ (k : Loaded) (b : ℕ). IsRunBy k b trace (outcome_by (ending_by f.end (length f.core.table.roots) count)) f.core.journal (f.receipts.items ∷ []) (text_of trace f count text))
     l f.core.table.program f.core.table.query f.core.budget budget h.program h.query h.same_budget (own_evaluated f.core i l.first_variable trace f.receipts.items f.end count text h.kept h.ends x)
-
-pub long_run : (l : Loaded) (budget : ℕ) (f : Finished) → HasFinished l budget f → (i : IsCore f.core) → LongAnswers f.core i.table → HasLongRun l budget
-long_run l budget f h i x = of_query HasLongRun l f.core.table.program f.core.table.query f.core.budget budget h.program h.query h.same_budget (own_long f.core i l.first_variable f.end h.ends x)

@@ -13,7 +13,6 @@ use Rattle.clause_keys.specs.Keys.{called_by, Adds, known, next, Collects}
 use Rattle.clause_keys.specs.Keys as keys
 use Rattle.clause_checks.specs.Refusals.{refusal_of, query_refusal_of}
 use Rattle.akl_lift.specs.Lifting.{lifted_clauses}
-use Rattle.akl_run.specs.declared.report.Part.{Part}
 use Rattle.akl_run.specs.declared.report.Status.{Status}
 use Rattle.akl_run.specs.declared.report.Refusal.{Refusal}
 use Rattle.akl_run.specs.declared.report.Report.{Report}
@@ -21,16 +20,12 @@ use Rattle.akl_run.specs.declared.loaded.Loaded.{Loaded}
 use Rattle.akl_args.specs.declared.options.Options.{Options}
 use Rattle.akl_args.specs.declared.options.WordsError.{WordsError}
 use Rattle.akl_run.specs.Words.{is_built, query_of, program_of}
-use Rattle.akl_model.specs.Config.{Content}
-use Rattle.answer_text.specs.Answers.{longest_answer}
 use Rattle.akl_run.specs.declared.evaluate.Evaluated.{Evaluated}
 use Rattle.akl_run.specs.declared.stop.Stop.{Stop}
-use Rattle.root_answers.specs.Text.{AreTexts, no_answers, an_answer, HasLongAnswer, here, there}
 use Rattle.akl_run.specs.Steps.{IsRunAs, IsStopped, whole, part}
 use Rattle.akl_run.specs.Loads.{IsLoadedFrom, IsLoadedProgram, ProgramStops, QueryStops, IsLoadedQuery, by_text, by_loading, no_memory}
-use Rattle.akl_run.specs.Commands.{Side, side, Command, HasFaulted, HasWorked, HasProgram, Asks, IsAskedBy, IsRead, IsGiven, Stops, by_words, by_reading, by_program, by_query, by_run, fault, IsFault, WordsEnd, ProgramEnds, QueryEnds, LongAnswersEnd, IsOutcome, IsAnswered, IsComplete}
+use Rattle.akl_run.specs.Commands.{Side, side, Command, HasFaulted, HasWorked, HasProgram, Asks, IsAskedBy, IsRead, IsGiven, Stops, by_words, by_reading, by_program, by_query, by_run, fault, IsFault, WordsEnd, ProgramEnds, QueryEnds, IsOutcome, IsComplete}
 use Rattle.akl_run.specs.Commands as commands
-use Rattle.akl_run.specs.Runs.{IsRun}
 use Rattle.akl_run.specs.Reports as reports
 use Rattle.akl_run.proofs.Explained.{Ended, stopped, ran, status_runs, rose}
 
@@ -180,12 +175,6 @@ read_faults (commands.no_memory_read b) = tt
 query_stop_of : {words : List (List ℕ)} {o k : Options} {p : Program} {s : Status} {f : Refusal} → IsAskedBy words o → IsAskedBy words k → QueryStops p (query_of k) s f → QueryStops p (query_of o) s f
 query_stop_of {p = p} {s = s} {f = f} a b q = subst (λ (z : Options). QueryStops p (query_of z) s f) (sym (same_options a b)) q
 
--- texts that fit belong to no answer that is too long
-all_fit : {symbols : List (List ℕ)} {k : ℕ} {answers : List Content} {text : List ℕ} → AreTexts symbols k answers text → HasLongAnswer symbols answers → ⊥
-all_fit no_answers h = elim h [ ]
-all_fit (an_answer {text = text} t rest) (here long) = let l : longest_answer < length text = long text t.prints in let f : length text ≤ longest_answer = t.fits in omega (arith, l, f)
-all_fit (an_answer t rest) (there more) = all_fit rest more
-
 -- no call failed, or one did
 both : (before after : Side) → HasWorked before after → HasFaulted before after → ⊥
 both before after w f = omega (arith, w, f)
@@ -237,15 +226,13 @@ module _ (c : Command) where
   query_stop a l q n (by_run {l = loaded} b r m k) =
       absurd (n (asked_or_stopped (program_at a b r m.is_program) l (subst (λ (z : Options). IsLoadedQuery m.base (query_of z) loaded) (sym (same_options a.asked b)) m.is_query) q))
 
-  -- a command whose query is loaded stops for a fault, or since each text of an answer is too long
-  loaded_stop : {o : Options} {program : List ℕ} {l : Loaded} {t : Status} {g : Refusal} → Asks c o program → IsLoadedFrom program (query_of o) l → Stops c.words c.source c.source_after t g
-      → IsFault t ⊎ ((t ≡ Status.NotYet) × (g ≡ Refusal.NotYet Part.Answer))
-  loaded_stop a m (by_words w l) = inl (asked_words a.asked w)
-  loaded_stop a m (by_reading b d r) = inl (read_faults r)
-  loaded_stop a m (by_program b r k) = inl (loaded_or_stopped m.is_program (stop_at a b r k))
-  loaded_stop a m (by_query b r l k) = inl (asked_or_stopped m.is_program (program_at a b r l) m.is_query (query_stop_of a.asked b k))
-  loaded_stop a m (by_run b r l (reports.long d)) = inr (refl, refl)
-  loaded_stop a m (by_run b r l reports.no_memory) = inl tt
+  -- a command whose query is loaded stops for a fault
+  loaded_stop : {o : Options} {program : List ℕ} {l : Loaded} {t : Status} {g : Refusal} → Asks c o program → IsLoadedFrom program (query_of o) l → Stops c.words c.source c.source_after t g → IsFault t
+  loaded_stop a m (by_words w l) = asked_words a.asked w
+  loaded_stop a m (by_reading b d r) = read_faults r
+  loaded_stop a m (by_program b r k) = loaded_or_stopped m.is_program (stop_at a b r k)
+  loaded_stop a m (by_query b r l k) = asked_or_stopped m.is_program (program_at a b r l) m.is_query (query_stop_of a.asked b k)
+  loaded_stop a m (by_run b r l reports.no_memory) = tt
 
   at_report : (P : Status → Refusal → Type 0) (stop : Stop) → IsStopped stop c.report → P stop.status stop.refusal → P c.report.status c.report.refusal
   at_report P stop i p = subst (λ (z : Status). P z c.report.refusal) (sym i.status) (subst (λ (z : Refusal). P stop.status z) (sym i.refusal) p)
@@ -266,28 +253,19 @@ module _ (c : Command) where
   query_ends (stopped stop q i w) = λ o program p s f a l k n. at_report (λ t g. IsFault t ⊎ ((t ≡ s) × (g ≡ f))) stop i (query_stop a l k n q)
   query_ends (ran run q i) = λ o program p s f a l k n. absurd (n (asked_or_stopped (program_at a q.asked q.given q.is_loaded.is_program) l (query_at a q.asked q.is_loaded.is_query) k))
 
-  pub long_answers_end : Ended c → LongAnswersEnd c
-  long_answers_end (stopped stop q i w) = λ o program l a m long. at_report (λ t g. IsFault t ⊎ ((t ≡ Status.NotYet) × (g ≡ Refusal.NotYet Part.Answer))) stop i (loaded_stop a m q)
-  long_answers_end (ran run q i) = λ o program l a m long.
-      let k : IsLoadedFrom program (query_of o) q.loaded = record { base = q.is_loaded.base; is_program = program_at a q.asked q.given q.is_loaded.is_program; is_query = query_at a q.asked q.is_loaded.is_query } in
-      let r = subst (λ (z : Options). IsRun q.loaded z.budget run.journal.items q.run.run.answers q.run.outcome) (sym (same_options a.asked q.asked)) q.run.run.run in
-      absurd (all_fit q.run.run.is_text.are_texts (long q.loaded k run.journal.items q.run.run.answers q.run.outcome r))
-
   -- the status of a run that was written whole
-  has_run : {e : Evaluated} → IsRunAs c.words c.source c.source_after e → e.status ≡ c.report.status → IsAnswered c.report
-  has_run {e} q i = inl (subst IsOutcome i (status_runs e.status q.run.outcome q.run.is_status))
+  has_run : {e : Evaluated} → IsRunAs c.words c.source c.source_after e → e.status ≡ c.report.status → IsOutcome c.report.status
+  has_run {e} q i = subst IsOutcome i (status_runs e.status q.run.outcome q.run.is_status)
 
   -- a fault that isn't want of memory is one of the source
-  answered_or_fault : (stop : Stop) → Stops c.words c.source c.source_after stop.status stop.refusal → IsStopped stop c.report → HasWorked c.source c.source_after → (c.report.status ≡ Status.NoMemory → ⊥)
-      → IsFault stop.status ⊎ ((stop.status ≡ Status.NotYet) × (stop.refusal ≡ Refusal.NotYet Part.Answer)) → IsAnswered c.report
-  answered_or_fault stop q i works memory (inr x) = inr (i.status ∙ x.0, i.refusal ∙ x.1)
-  answered_or_fault stop q i works memory (inl f) = absurd (on (fault_is stop.status f))
+  no_fault : (stop : Stop) → Stops c.words c.source c.source_after stop.status stop.refusal → IsStopped stop c.report → HasWorked c.source c.source_after → (c.report.status ≡ Status.NoMemory → ⊥) → IsFault stop.status → ⊥
+  no_fault stop q i works memory f = on (fault_is stop.status f)
     where
       on : (stop.status ≡ Status.ReadFault) ⊎ (stop.status ≡ Status.NoMemory) → ⊥
       on (inl d) = both c.source c.source_after works (rose c.words c.source c.source_after q d)
       on (inr d) = memory (i.status ∙ d)
 
   pub complete : Ended c → IsComplete c
-  complete (stopped stop q i w) = λ o program l a m works writes memory. answered_or_fault stop q i works memory (loaded_stop a m q)
+  complete (stopped stop q i w) = λ o program l a m works writes memory. absurd (no_fault stop q i works memory (loaded_stop a m q))
   complete (ran run q (whole i w)) = λ o program l a m works writes memory. has_run q (sym (ap (λ (z : Report). z.status) i))
   complete (ran run q (part i l w f)) = λ o program k a m works writes memory. absurd (both c.sink c.sink_after writes f)

@@ -75,7 +75,6 @@ module _ (words : List (List ℕ)) (before after : Side) where
   stopping (by_query a b p (loads.by_text e)) = other tt (λ d. cc)
   stopping (by_query a b p (loads.by_loading e g)) = other tt (λ d. cc)
   stopping (by_query a b p loads.no_memory) = other tt (λ d. cc)
-  stopping (by_run a b l (reports.long e)) = other tt (λ d. cc)
   stopping (by_run a b l reports.no_memory) = other tt (λ d. cc)
 
   -- a command that stops has an early status

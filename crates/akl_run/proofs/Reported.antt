@@ -1,7 +1,7 @@
 -- All that a report says of its command.
 use Rattle.akl_run.specs.Commands.{Command, IsReported}
 use Rattle.akl_run.proofs.Explained.{Ended, stops, nothing_written, wrote_run, wrote_part, read_fault, unrefused}
-use Rattle.akl_run.proofs.Exact.{words_end, program_ends, query_ends, long_answers_end, complete}
+use Rattle.akl_run.proofs.Exact.{words_end, program_ends, query_ends, complete}
 
 pub reported : (c : Command) → Ended c → IsReported c
 reported c k = record {
@@ -14,7 +14,6 @@ reported c k = record {
   words = words_end c k;
   program = program_ends c k;
   query = query_ends c k;
-  long = long_answers_end c k;
   complete = complete c k;
   refusal = unrefused c k;
 }

@@ -16,7 +16,7 @@ use Rattle.akl_args.specs.declared.options.WordsError.{WordsError}
 use Rattle.akl_args.specs.Table.{reading}
 use Rattle.akl_run.specs.Words.{is_built, query_of, program_of}
 use Rattle.akl_run.specs.Loads.{IsLoadedProgram, ProgramStops, QueryStops, IsLoadedFrom}
-use Rattle.akl_run.specs.Reports.{IsStatusOf, IsRunOf, RunStops, HasOnlyLongRuns}
+use Rattle.akl_run.specs.Reports.{IsStatusOf, IsRunOf, RunStops}
 
 -- What is seen of a source or of a sink: the bytes still to come, or taken so far, where they are known, and how many
 -- of its calls failed.
@@ -83,7 +83,7 @@ pub data Stops (words : List (List ℕ)) (before after : Side) : Status → Refu
   by_program : {s : Status} {f : Refusal} {o : Options} {program : List ℕ} → IsAskedBy words o → IsGiven (program_of o) before after program → ProgramStops program s f → Stops words before after s f
   by_query : {s : Status} {f : Refusal} {o : Options} {program : List ℕ} {p : Program} → IsAskedBy words o → IsGiven (program_of o) before after program → IsLoadedProgram program p → QueryStops p (query_of o) s f
       → Stops words before after s f
-  by_run : {s : Status} {f : Refusal} {o : Options} {program : List ℕ} {l : Loaded} → IsAskedBy words o → IsGiven (program_of o) before after program → IsLoadedFrom program (query_of o) l → RunStops l o.budget s f
+  by_run : {s : Status} {f : Refusal} {o : Options} {program : List ℕ} {l : Loaded} → IsAskedBy words o → IsGiven (program_of o) before after program → IsLoadedFrom program (query_of o) l → RunStops s f
       → Stops words before after s f
 
 -- ---- how a command ends, by its texts
@@ -120,11 +120,6 @@ ProgramEnds c = (o : Options) (program : List ℕ) (s : Status) (f : Refusal) �
 abbrev pub QueryEnds : Command → Type 0
 QueryEnds c = (o : Options) (program : List ℕ) (p : Program) (s : Status) (f : Refusal) → Asks c o program → IsLoadedProgram program p → QueryStops p (query_of o) s f → (IsFault s → ⊥) → IsUnlessFault c.report s f
 
--- where the query is loaded, and each run of it has an answer that is too long, the command says so
-abbrev pub LongAnswersEnd : Command → Type 0
-LongAnswersEnd c = (o : Options) (program : List ℕ) (l : Loaded) → Asks c o program → IsLoadedFrom program (query_of o) l → HasOnlyLongRuns program (query_of o) o.budget
-    → IsUnlessFault c.report Status.NotYet (Refusal.NotYet Part.Answer)
-
 -- the statuses of outcomes
 abbrev pub IsOutcome : Status → Type 0
 IsOutcome Status.Done = Unit {0}
@@ -133,14 +128,10 @@ IsOutcome Status.Suspended = Unit {0}
 IsOutcome Status.Budget = Unit {0}
 IsOutcome s = ⊥
 
--- it has an outcome, or an answer is too long
-abbrev pub IsAnswered : Report → Type 0
-IsAnswered r = IsOutcome r.status ⊎ ((r.status ≡ Status.NotYet) × (r.refusal ≡ Refusal.NotYet Part.Answer))
-
--- where the query is loaded, the source and the sink work and there is memory, the query is answered
+-- where the query is loaded, the source and the sink work and there is memory, the query has an outcome
 abbrev pub IsComplete : Command → Type 0
 IsComplete c = (o : Options) (program : List ℕ) (l : Loaded) → Asks c o program → IsLoadedFrom program (query_of o) l → HasWorked c.source c.source_after → HasWorked c.sink c.sink_after
-    → (c.report.status ≡ Status.NoMemory → ⊥) → IsAnswered c.report
+    → (c.report.status ≡ Status.NoMemory → ⊥) → IsOutcome c.report.status
 
 -- ---- what was written
 
@@ -206,12 +197,11 @@ pub record IsReported (c : Command) : Type 0 where
   pub nothing : IsEarly c.report.status → WroteNothing c
   pub stops : IsEarly c.report.status → Stops c.words c.source c.source_after c.report.status c.report.refusal
   pub read_fault : c.report.status ≡ Status.ReadFault → HasFaulted c.source c.source_after
-  -- What is refused, isn't built or is too long ends the command so, unless a fault comes before.
+  -- What is refused or isn't built ends the command so, unless a fault comes before.
   pub words : WordsEnd c
   pub program : ProgramEnds c
   pub query : QueryEnds c
-  pub long : LongAnswersEnd c
-  -- All else is answered.
+  -- All else has an outcome.
   pub complete : IsComplete c
   -- A run that was written has no refusal.
   pub refusal : IsLate c.report.status → c.report.refusal ≡ Refusal.Nothing

@@ -23,5 +23,5 @@ pub record IsEvaluated (l : Loaded) (budget : ℕ) (trace : Bool) (e : Evaluated
   pub run : IsRunBy l budget trace outcome e.journal.items (map (λ rs. rs.items) e.receipts.items) e.text.items
 
 -- why it has no text
-abbrev pub StopsRun : Loaded → ℕ → Stop → Type 0
-StopsRun l budget stop = RunStops l budget stop.status stop.refusal
+abbrev pub StopsRun : Stop → Type 0
+StopsRun stop = RunStops stop.status stop.refusal

@@ -60,7 +60,6 @@ refused_line side f = codes "akl: " ++ side ++ codes ": " ++ cause_of f ++ codes
 -- the part that isn't built
 abbrev pub part_line : Refusal → List ℕ
 part_line (Refusal.NotYet Part.Words) = codes "akl: not yet: words\n"
-part_line (Refusal.NotYet Part.Answer) = codes "akl: not yet: answer\n"
 part_line f = []
 
 -- the line of a status that says all itself; the outcomes of a run have none

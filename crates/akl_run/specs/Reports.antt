@@ -5,10 +5,8 @@ use Rattle.akl_model.specs.declared.label.Receipt.{Receipt}
 use Rattle.akl_model.specs.Config.{Content}
 use Rattle.akl_model.specs.Derivations.{Outcome, done, failed, suspended, out_of_budget}
 use Rattle.step_commit.specs.Receipts.{AreReceipts, AreBy}
-use Rattle.root_answers.specs.Text.{HasLongAnswer}
 use Rattle.akl_run.specs.declared.loaded.Loaded.{Loaded}
 use Rattle.akl_run.specs.Loads.{IsLoadedFrom}
-use Rattle.akl_run.specs.declared.report.Part.{Part}
 use Rattle.akl_run.specs.declared.report.Status.{Status}
 use Rattle.akl_run.specs.declared.report.Refusal.{Refusal}
 use Rattle.akl_run.specs.Runs.{IsRun}
@@ -38,20 +36,6 @@ pub record IsRunOf (program query : List ℕ) (budget : ℕ) (trace : Bool) (out
   pub is_loaded : IsLoadedFrom program query loaded
   pub run : IsRunBy loaded budget trace outcome journal receipts text
 
--- some run of the query has an answer that is too long
-pub record HasLongRun (l : Loaded) (budget : ℕ) : Type 0 where
-  pub journal : List Label
-  pub answers : List Content
-  pub outcome : Outcome
-  pub run : IsRun l budget journal answers outcome
-  pub is_long : HasLongAnswer l.program.templates.symbols answers
-
--- however two texts are loaded, each run of the query within the budget has an answer that is too long
-abbrev pub HasOnlyLongRuns : List ℕ → List ℕ → ℕ → Type 0
-HasOnlyLongRuns program query budget = (l : Loaded) → IsLoadedFrom program query l → (journal : List Label) (answers : List Content) (outcome : Outcome) → IsRun l budget journal answers outcome
-    → HasLongAnswer l.program.templates.symbols answers
-
--- why the text of a loaded query's run isn't written; want of memory is free
-pub data RunStops (l : Loaded) (budget : ℕ) : Status → Refusal → Type 0 where
-  long : HasLongRun l budget → RunStops l budget Status.NotYet (Refusal.NotYet Part.Answer)
-  no_memory : RunStops l budget Status.NoMemory Refusal.Nothing
+-- why the text of a loaded query's run isn't written: want of memory, which is free
+pub data RunStops : Status → Refusal → Type 0 where
+  no_memory : RunStops Status.NoMemory Refusal.Nothing

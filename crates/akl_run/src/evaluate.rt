@@ -6,11 +6,10 @@ ghost use Rattle.akl_run.specs.Evaluations.{HasFinished, IsEvaluated, StopsRun};
 
 use crate::ending::{ending_of, push_ending, status_of};
 use crate::loaded::Loaded;
-use crate::report::{Part, Status};
+use crate::report::Status;
 use crate::stop::Stop;
 use crate::trace::trace_text;
 use akl_model::{Label, Receipt};
-use answer_text::AnswerError;
 use root_answers::root_answers;
 use seq_engine::{Finished, run_one};
 use std::alloc::{AllocError, Global};
@@ -40,13 +39,11 @@ fn run_loaded(alloc: Global, loaded: &Loaded, budget: u64) -> Result<Finished, A
 }
 
 /// Runs a loaded query, and writes out its labels, where a trace is asked, its answers and its outcome.
-///
-/// `NotYet(Answer)` comes exactly where an answer has more than a million bytes.
 pub fn evaluate(alloc: Global, loaded: &Loaded, budget: u64, trace: bool) -> Result<Evaluated, Stop>
     requires variables { HasVariables loaded.now.program loaded.now.query loaded.now.first_variable }
     requires shown { HasShownVariables loaded.now.query }
     ensures run { IfOk result (IsEvaluated loaded.now budget trace) }
-    ensures stop { IfErr result (StopsRun loaded.now budget) }
+    ensures stop { IfErr result StopsRun }
 {
     let finished = match run_loaded(alloc, loaded, budget) {
         Ok(finished) => finished,
@@ -55,8 +52,7 @@ pub fn evaluate(alloc: Global, loaded: &Loaded, budget: u64, trace: bool) -> Res
     let roots = finished.core.roots().len();
     let found = match root_answers(alloc, &loaded.program, &finished.core) {
         Ok(found) => found,
-        Err(AnswerError::Long) => return Err(Stop::not_yet(Part::Answer)),
-        Err(AnswerError::Memory(error)) => return Err(Stop::from(error)),
+        Err(error) => return Err(Stop::from(error)),
     };
     let ending = ending_of(finished.end, roots, found.count);
     let journal = finished.core.into_journal();

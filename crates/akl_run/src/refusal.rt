@@ -122,7 +122,6 @@ fn fixed_line(status: Status, refusal: &Refusal) -> &'static str
         Status::NoMemory => "akl: out of memory\n",
         Status::NotYet => match refusal {
             Refusal::NotYet(Part::Words) => "akl: not yet: words\n",
-            Refusal::NotYet(Part::Answer) => "akl: not yet: answer\n",
             _ => "",
         },
         _ => "",

@@ -60,7 +60,6 @@ impl Status {
 #[derive(Clone, Copy)]
 pub enum Part {
     Words,
-    Answer,
 }
 
 /// Why a command is refused.

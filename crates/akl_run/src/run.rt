@@ -78,17 +78,17 @@ fn write_run<K: Sink>(run: Evaluated, out: &mut K) -> Report
 /// source isn't read.
 ///
 /// - `Done`, `Failed`, `Suspended` and `Budget` are the outcome of the answered journal, and the bytes
-///   appended to the sink are the text of its last configuration's answers and this outcome.
+///   appended to the sink are the text of its last configuration's answers and this outcome. An answer
+///   whose lines have more than a million bytes has one line in their place.
 /// - `Words` comes exactly where the words are refused, and `Program` and `Query` exactly where that
 ///   text is, with the cause.
-/// - `NotYet` comes with the part that isn't built: words with other workers than 1; an answer of more than a million
-///   bytes.
+/// - `NotYet` comes with the part that isn't built: words with other workers than 1.
 /// - `ReadFault` comes only where the source failed, and `WriteFault` only where the sink failed: a
 ///   front of the text was written then.
 /// - `NoMemory` comes only for want of memory. Nothing was run or written then.
 ///
-/// So an accepted query over an accepted program has one of the four outcomes or too long an answer, unless the source,
-/// the sink or memory fails. `IsReported` says all this, a field for a fact.
+/// So an accepted query over an accepted program has one of the four outcomes, unless the source, the sink or memory
+/// fails. `IsReported` says all this, a field for a fact.
 ///
 /// The run takes one worker and never waits; the gate isn't called.
 pub fn run_akl<R: Threads + Wait + Sync, S: Source, K: Sink, G: Gate>(

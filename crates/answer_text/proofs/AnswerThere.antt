@@ -26,7 +26,7 @@ walk-down g block rank cyclic w (on {i = i} {j = j} {m = m} k x r) = let a : ran
 walk-strict : (g : Graph) (block rank : ℕ → ℕ) (cyclic : ℕ → Bool) → IsRanked g block rank cyclic → {ks : List ℕ} {k i j : ℕ} → cyclic i ≡ false → Walks g (k ∷ ks) i j → rank j < rank i
 walk-strict g block rank cyclic w {i = i} f (on {j = j} {m = m} k x r) = let a : rank m ≤ rank j = walk-down g block rank cyclic w r in let b : rank j < rank i = w.strict i k j f x in omega (arith, a, b)
 
-ranked-cyclic : (E : Equations) (g : Graph) (block rank : ℕ → ℕ) (cyclic : ℕ → Bool) → IsConsistent E → IsGraphOf E g → IsStable E g block → IsFair E g block → IsRanked g block rank cyclic
+pub ranked-cyclic : (E : Equations) (g : Graph) (block rank : ℕ → ℕ) (cyclic : ℕ → Bool) → IsConsistent E → IsGraphOf E g → IsStable E g block → IsFair E g block → IsRanked g block rank cyclic
     → (i : ℕ) (t : Tree) → Stands g i t → (cyclic i ≡ true → IsCyclic E t) × (cyclic i ≡ false → IsCyclic E t → ⊥)
 ranked-cyclic E g block rank cyclic c r b f w i t p = (λ e. back-cyclic E c g block r b i t p (w.back i t p e), never)
   where
@@ -82,7 +82,7 @@ module _ (E : Equations) (c : IsConsistent E) where
     writes-equal e (compound p i b q) = compound (joined e p) i b q
     writes-equal e (cell p i q r) = cell (joined e p) i q r
 
-    prints-equal : {n m : Numbers} {s t : Tree} {text : List ℕ} → Equal E t s → PrintsTree symbols E n s text m → PrintsTree symbols E n t text m
+    pub prints-equal : {n m : Numbers} {s t : Tree} {text : List ℕ} → Equal E t s → PrintsTree symbols E n s text m → PrintsTree symbols E n t text m
     prints-equal {s = s} {t = t} e (class f k) = class (free-alike E s t (turned e) f) (numbered-equal (Equal E) (λ x y z p q. joined p q) e k)
     prints-equal e (cycle y k) = cycle (cyclic-equal e y) (numbered-equal (SameTree E) (λ x y z p q. Same-equal E c p q) e k)
     prints-equal e (plain y w) = plain (λ x. y (cyclic-equal (turned e) x)) (writes-equal e w)
@@ -91,7 +91,7 @@ module _ (E : Equations) (c : IsConsistent E) where
     last-equal {s = s} {t = t} e (inl o) = inl (other-alike symbols E s t (turned e) o)
     last-equal e (inr y) = inr (cyclic-equal e y)
 
-    tail-equal : {n m : Numbers} {s t : Tree} {text : List ℕ} → Equal E t s → PrintsListTail symbols E n s text m → PrintsListTail symbols E n t text m
+    pub tail-equal : {n m : Numbers} {s t : Tree} {text : List ℕ} → Equal E t s → PrintsListTail symbols E n s text m → PrintsListTail symbols E n t text m
     tail-equal e (ends p i) = ends (joined e p) i
     tail-equal e (element y p i q r) = element (λ x. y (cyclic-equal (turned e) x)) (joined e p) i q r
     tail-equal e (partial o p) = partial (last-equal e o) (prints-equal e p)
@@ -252,10 +252,10 @@ module _ (symbols : List (List ℕ)) (E : Equations) (g : Graph) (block rank : �
           pick (inr y) = others z.0 z.1 y
 
   -- terms that are no part of a list
-  other-integer : (z : ℤ) → IsOtherTail symbols E (integer z)
+  pub other-integer : (z : ℤ) → IsOtherTail symbols E (integer z)
   other-integer z = record { other = λ q ts m o. let x : integer_head z ≡ symbol_head q (length (list_of ts)) = c.heads m refl refl in absurd cc }
 
-  other-port : (z : Name) → IsOtherTail symbols E (port z)
+  pub other-port : (z : Name) → IsOtherTail symbols E (port z)
   other-port z = record { other = λ q ts m o. let x : port_head z ≡ symbol_head q (length (list_of ts)) = c.heads m refl refl in absurd cc }
 
   moved : (us ts : Trees) (q q' : ℕ) → symbol_head q (length (list_of us)) ≡ symbol_head q' (length (list_of ts)) → GoesOn symbols q' ts → GoesOn symbols q us
@@ -268,10 +268,10 @@ module _ (symbols : List (List ℕ)) (E : Equations) (g : Graph) (block rank : �
   moved (more a (more b (more d ds))) (more t (more u none)) q q' x o = absurd (let l : Is (suc (suc (suc (length (list_of ds))))) 2 = cc in omega (arith, l))
   moved us (more t (more u (more v vs))) q q' x o = absurd o
 
-  other-symbol : (q : ℕ) (us : Trees) → (GoesOn symbols q us → ⊥) → IsOtherTail symbols E (symbol q us)
+  pub other-symbol : (q : ℕ) (us : Trees) → (GoesOn symbols q us → ⊥) → IsOtherTail symbols E (symbol q us)
   other-symbol q us d = record { other = λ q' ts m o. d (moved us ts q q' (c.heads m refl refl) o) }
 
-  other-name : (q : ℕ) (name : List ℕ) (wanted : List ℕ) → bytes_eq wanted wanted ≡ true → slice_get symbols q ≡ Some name → bytes_eq name wanted ≡ false → slice_get symbols q ≡ Some wanted → ⊥
+  pub other-name : (q : ℕ) (name : List ℕ) (wanted : List ℕ) → bytes_eq wanted wanted ≡ true → slice_get symbols q ≡ Some name → bytes_eq name wanted ≡ false → slice_get symbols q ≡ Some wanted → ⊥
   other-name q name wanted t e d o =
       let m : name ≡ wanted = same_value e o in
       let x : bytes_eq wanted wanted ≡ false = subst (λ (z : List ℕ). bytes_eq z wanted ≡ false) m d in
@@ -336,7 +336,7 @@ module _ (symbols : List (List ℕ)) (E : Equations) (g : Graph) (block rank : �
   plain-there : (t : Tree) → (IsCyclic E t → ⊥) → Written t → Printed t
   plain-there t y q n g' = let z : (text : List ℕ) × (m : Numbers) × WritesTree symbols E n t text m × Good m = q n g' in (z.0, z.1, plain y z.2, z.3)
 
-  other-free : (t : Tree) → IsFree E t → IsOtherTail symbols E t
+  pub other-free : (t : Tree) → IsFree E t → IsOtherTail symbols E t
   other-free t free = record { other = λ q ts m o. free.free (symbol q ts) (symbol_head q (length (list_of ts))) m refl }
 
   -- a node whose children are there is there

@@ -48,7 +48,7 @@ walks-leads E g r ks i m s s' p e (on {j = j} k x w) =
     (z.0, z.1, goes k e a.1 z.2, z.3, z.4)
 
 -- what leads through the terms walks through the graph
-leads-walks : (E : Equations) → IsConsistent E → (g : Graph) → IsGraphOf E g → {ks : List ℕ} {s' t : Tree} (i : ℕ) (s : Tree) → Stands g i s → Equal E s' s → LeadsTo E ks s' t
+pub leads-walks : (E : Equations) → IsConsistent E → (g : Graph) → IsGraphOf E g → {ks : List ℕ} {s' t : Tree} (i : ℕ) (s : Tree) → Stands g i s → Equal E s' s → LeadsTo E ks s' t
     → (m : ℕ) × (u : Tree) × Walks g ks i m × Stands g m u × Equal E t u
 leads-walks E c g r i s p e stays = (i, s, at, p, e)
 leads-walks E c g r {t = t} i s p e (goes {u = u} {a = a} {ks = ks} k q x l) = from (r.ends i s p) (λ j w y z. leads-walks E c g r {ks = ks} {s' = a} {t = t} j w y z l)
@@ -79,7 +79,7 @@ back-cyclic E c g block r b i t p w =
     record { at = w.position; below = w.below; met = z.0; leads = z.2; again = Same-equal' E c z.4 (stable-same E c g block r b i w.to t z.1 p z.3 w.again) }
 
 -- blocks that aren't different are one
-fair-same : (E : Equations) (g : Graph) (block : ℕ → ℕ) → IsFair E g block → (i j : ℕ) (s t : Tree) → Stands g i s → Stands g j t → SameTree E s t → (block i ≡ block j) ⊎ (block i ≢ block j) → block i ≡ block j
+pub fair-same : (E : Equations) (g : Graph) (block : ℕ → ℕ) → IsFair E g block → (i j : ℕ) (s t : Tree) → Stands g i s → Stands g j t → SameTree E s t → (block i ≡ block j) ⊎ (block i ≢ block j) → block i ≡ block j
 fair-same E g block f i j s t p q m (inl e) = e
 fair-same E g block f i j s t p q m (inr d) = absurd (f.differ i j s t p q d m)
 

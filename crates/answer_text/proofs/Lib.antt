@@ -18,3 +18,4 @@ pub mod CycleExamples
 pub mod LoopGraph
 pub mod TextsStand
 pub mod FormEnds
+pub mod LinesThere

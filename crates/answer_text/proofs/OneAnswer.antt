@@ -28,7 +28,7 @@ AreSameTrees E ts us = (length (list_of ts) ≡ length (list_of us)) × ((k : �
 AreSameTrees-rest : (E : Equations) (t u : Tree) (ts us : Trees) → AreSameTrees E (more t ts) (more u us) → AreSameTrees E ts us
 AreSameTrees-rest E t u ts us a = (omega (arith, a.0), λ k x y p q. a.1 (suc k) x y p q)
 
-Alike-length : (R : Tree → Tree → Type 0) (xs ys : List Tree) → Alike R xs ys → length xs ≡ length ys
+pub Alike-length : (R : Tree → Tree → Type 0) (xs ys : List Tree) → Alike R xs ys → length xs ≡ length ys
 Alike-length R [] [] a = refl
 Alike-length R [] (y ∷ ys) a = absurd a
 Alike-length R (x ∷ xs) [] a = absurd a
@@ -42,12 +42,12 @@ Alike-at R (x ∷ xs) (y ∷ ys) zero a b l p q =
     let ey : y ≡ b = cc in subst (λ (z : Tree). R z b) ex (subst (λ (z : Tree). R x z) ey l.0)
 Alike-at R (x ∷ xs) (y ∷ ys) (suc k) a b l p q = Alike-at R xs ys k a b l.1 p q
 
-no-place : (xs : List Tree) (a : Tree) → slice_get xs (length xs) ≡ Some a → ⊥
+pub no-place : (xs : List Tree) (a : Tree) → slice_get xs (length xs) ≡ Some a → ⊥
 no-place [] a e = cc
 no-place (x ∷ xs) a e = no-place xs a e
 
 -- the symbol of a term written with arguments is no list cell where its name says so
-not-cell : (symbols : List (List ℕ)) (f g : ℕ) (name : List ℕ) (t : Tree) (ts : Trees) → is_cell name (more t ts) ≡ false → slice_get symbols f ≡ Some name → slice_get symbols g ≡ Some (codes ".")
+pub not-cell : (symbols : List (List ℕ)) (f g : ℕ) (name : List ℕ) (t : Tree) (ts : Trees) → is_cell name (more t ts) ≡ false → slice_get symbols f ≡ Some name → slice_get symbols g ≡ Some (codes ".")
     → symbol_head f (length (list_of (more t ts))) ≡ symbol_head g 2 → ⊥
 not-cell symbols f g name t none n i j h = absurd (let l : Is (1) (2) = cc in omega (arith, l))
 not-cell symbols f g name t (more u none) n i j h =
@@ -82,34 +82,34 @@ module _ (symbols : List (List ℕ)) (E : Equations) (c : IsConsistent E) where
       let w : (b : Tree) × (slice_get [] k ≡ Some b) = partner u (symbol f none) h.0 k a h.1 (ap Some (sym hh)) i in
       absurd (let z : None ≡ Some w.0 = w.1 in cc)
 
-  end-cyclic : {s : Tree} {f : ℕ} → IsCyclic E s → Equal E s (symbol f none) → ⊥
+  pub end-cyclic : {s : Tree} {f : ℕ} → IsCyclic E s → Equal E s (symbol f none) → ⊥
   end-cyclic y e = end-leads y.leads e
 
   -- heads of what two same trees are equal to
   heads : {s s' : Tree} (u v : Tree) {g h : Head} → SameTree E s s' → Equal E s u → Equal E s' v → head_of u ≡ Some g → head_of v ≡ Some h → g ≡ h
   heads u v m p q x y = Same-heads E c {u = u} {v = v} m p q x y
 
-  alike-arguments : {s s' : Tree} {f g : ℕ} (ts us : Trees) → SameTree E s s' → Equal E s (symbol f ts) → Equal E s' (symbol g us) → AreSameTrees E ts us
+  pub alike-arguments : {s s' : Tree} {f g : ℕ} (ts us : Trees) → SameTree E s s' → Equal E s (symbol f ts) → Equal E s' (symbol g us) → AreSameTrees E ts us
   alike-arguments {f = f} {g = g} ts us m p q =
       let h : symbol_head f (length (list_of ts)) ≡ symbol_head g (length (list_of us)) = heads (symbol f ts) (symbol g us) m p q refl refl in
       (cc, λ k a b i j. Same-arguments E c {u = symbol f ts} {v = symbol g us} k m p q refl refl i j)
 
   -- a tree that is written out is no unstructured class
-  writes-structured : {n m : Numbers} {s : Tree} {text : List ℕ} → WritesTree symbols E n s text m → IsFree E s → ⊥
+  pub writes-structured : {n m : Numbers} {s : Tree} {text : List ℕ} → WritesTree symbols E n s text m → IsFree E s → ⊥
   writes-structured (number {z = z} e) f = f.free (integer z) (integer_head z) e refl
   writes-structured (a_port {p = p} e) f = f.free (port p) (port_head p) e refl
   writes-structured (constant {f = g} e i) f = f.free (symbol g none) (symbol_head g 0) e refl
   writes-structured (compound {t = t} {ts = ts} {f = g} e i b p) f = f.free (symbol g (more t ts)) (symbol_head g (length (list_of (more t ts)))) e refl
   writes-structured (cell {t = t} {u = u} {f = g} e i p q) f = f.free (symbol g (more t (more u none))) (symbol_head g 2) e refl
 
-  end-other : {s s' : Tree} {f : ℕ} → SameTree E s s' → Equal E s (symbol f none) → slice_get symbols f ≡ Some (codes "[]") → IsLastTail symbols E s' → ⊥
+  pub end-other : {s s' : Tree} {f : ℕ} → SameTree E s s' → Equal E s (symbol f none) → slice_get symbols f ≡ Some (codes "[]") → IsLastTail symbols E s' → ⊥
   end-other {s} {s'} m e i (inr y) = end-cyclic (cyclic-same E c (Same-turned E c m) y) e
   end-other {s} {s'} {f} m e i (inl o) =
       let d : Down E c _ _ (symbol f none) (symbol_head f 0) = Same-down E c m e refl in
       let w : (g : ℕ) × (d.other ≡ symbol g none) × (g ≡ f) = no_arguments d.other f d.head in
       o.other w.0 none (subst (λ (x : Tree). Equal E s' x) w.1 d.equal) (ap (slice_get symbols) w.2 ∙ i)
 
-  last-other : {s s' t u : Tree} {f : ℕ} → SameTree E s s' → (IsCyclic E s → ⊥) → Equal E s (symbol f (more t (more u none))) → slice_get symbols f ≡ Some (codes ".") → IsLastTail symbols E s' → ⊥
+  pub last-other : {s s' t u : Tree} {f : ℕ} → SameTree E s s' → (IsCyclic E s → ⊥) → Equal E s (symbol f (more t (more u none))) → slice_get symbols f ≡ Some (codes ".") → IsLastTail symbols E s' → ⊥
   last-other {s} {s'} m n e i (inr y) = n (cyclic-same E c (Same-turned E c m) y)
   last-other {s} {s'} {t} {u} {f} m n e i (inl o) =
       let d : Down E c _ _ (symbol f (more t (more u none))) (symbol_head f 2) = Same-down E c m e refl in
@@ -122,7 +122,7 @@ module _ (symbols : List (List ℕ)) (E : Equations) (c : IsConsistent E) where
   pair-self p q (suc (suc k)) a i = cc
 
   mutual
-    prints-one : {n n' m m' : Numbers} {s s' : Tree} {text text' : List ℕ} → PrintsTree symbols E n s text m → PrintsTree symbols E n' s' text' m' → AlikeNumbers E n n' → SameTree E s s'
+    pub prints-one : {n n' m m' : Numbers} {s s' : Tree} {text text' : List ℕ} → PrintsTree symbols E n s text m → PrintsTree symbols E n' s' text' m' → AlikeNumbers E n n' → SameTree E s s'
         → (text ≡ text') × AlikeNumbers E m m'
     prints-one (class f k) (class f' k') a q =
         let r : (_ ≡ _) × Alike (Equal E) _ _ = numbered-one (Equal E) (λ x y e. turned e) (λ x y z e g. joined e g) k k' a.classes (Same-free E c q f) in (ap class_text r.0, record { classes = r.1; cycles = a.cycles })
@@ -136,7 +136,7 @@ module _ (symbols : List (List ℕ)) (E : Equations) (c : IsConsistent E) where
     prints-one (plain y w) (cycle y' k) a q = absurd (y (cyclic-same E c (Same-turned E c q) y'))
     prints-one (plain y w) (plain y' w') a q = writes-one w w' a q
 
-    writes-one : {n n' m m' : Numbers} {s s' : Tree} {text text' : List ℕ} → WritesTree symbols E n s text m → WritesTree symbols E n' s' text' m' → AlikeNumbers E n n' → SameTree E s s'
+    pub writes-one : {n n' m m' : Numbers} {s s' : Tree} {text text' : List ℕ} → WritesTree symbols E n s text m → WritesTree symbols E n' s' text' m' → AlikeNumbers E n n' → SameTree E s s'
         → (text ≡ text') × AlikeNumbers E m m'
     writes-one (number {z = z} e) (number {z = y} e') a q = let h : integer_head z ≡ integer_head y = heads (integer z) (integer y) q e e' refl refl in (ap signed_decimal cc, a)
     writes-one (number {z = z} e) (a_port {p = p} e') a q = let h : integer_head z ≡ port_head p = heads (integer z) (port p) q e e' refl refl in absurd cc
@@ -186,7 +186,7 @@ module _ (symbols : List (List ℕ)) (E : Equations) (c : IsConsistent E) where
         let d : (y ≡ y') × AlikeNumbers E _ _ = all-one ps ps' b.1 (AreSameTrees-rest E t t' (more u ts) (more u' ts') q) in
         (λ o. b.0 o ++ 44 ∷ d.0 o, d.1)
 
-    tail-one : {n n' m m' : Numbers} {s s' : Tree} {text text' : List ℕ} → PrintsListTail symbols E n s text m → PrintsListTail symbols E n' s' text' m' → AlikeNumbers E n n' → SameTree E s s'
+    pub tail-one : {n n' m m' : Numbers} {s s' : Tree} {text text' : List ℕ} → PrintsListTail symbols E n s text m → PrintsListTail symbols E n' s' text' m' → AlikeNumbers E n n' → SameTree E s s'
         → (text ≡ text') × AlikeNumbers E m m'
     tail-one (ends e i) (ends e' i') a q = (refl, a)
     tail-one (ends {f = f} e i) (element {t = t} {u = u} {f = g} y e' i' p r) a q = let h : symbol_head f 0 ≡ symbol_head g 2 = heads (symbol f none) (symbol g (more t (more u none))) q e e' refl refl in absurd (let l : Is (0) (2) = cc in omega (arith, l))

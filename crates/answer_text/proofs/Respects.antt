@@ -129,19 +129,19 @@ symbol_by F R t f ts (symbol g us) e i r =
     let lengths : length (list_of ts) ≡ length (list_of us) = cc in
     record { arguments = us; equal = subst (λ (k : ℕ). Equal F t (symbol k us)) numbers e; alike = AlikeTrees-each R ts us lengths r }
 
-no_others : (R : Tree → Tree → Type 0) (us : Trees) → AlikeTrees R none us → us ≡ none
+pub no_others : (R : Tree → Tree → Type 0) (us : Trees) → AlikeTrees R none us → us ≡ none
 no_others R none a = refl
 no_others R (more u us) a = absurd a
 
 -- two arguments and those related to them
-record IsPair (R : Tree → Tree → Type 0) (t u : Tree) (us : Trees) : Type 0 where
+pub record IsPair (R : Tree → Tree → Type 0) (t u : Tree) (us : Trees) : Type 0 where
   pub one : Tree
   pub other : Tree
   pub are : us ≡ more one (more other none)
   pub first : R t one
   pub second : R u other
 
-pair_by : (R : Tree → Tree → Type 0) (t u : Tree) (us : Trees) → AlikeTrees R (more t (more u none)) us → IsPair R t u us
+pub pair_by : (R : Tree → Tree → Type 0) (t u : Tree) (us : Trees) → AlikeTrees R (more t (more u none)) us → IsPair R t u us
 pair_by R t u none a = absurd a
 pair_by R t u (more v none) a = absurd a.1
 pair_by R t u (more v (more w none)) a = record { one = v; other = w; are = refl; first = a.0; second = a.1.0 }
@@ -149,12 +149,12 @@ pair_by R t u (more v (more w (more x xs))) a = absurd a.1.1
 
 -- what is printed of a term is printed of one that corresponds, behind alike classes
 module _ (symbols : List (List ℕ)) (E F : Equations) (R : Tree → Tree → Type 0) (m : Corresponds symbols E F R) where
-  symbol-there : (s t : Tree) (f : ℕ) (ts : Trees) → R s t → Equal E s (symbol f ts) → IsSymbol F R t f ts
+  pub symbol-there : (s t : Tree) (f : ℕ) (ts : Trees) → R s t → Equal E s (symbol f ts) → IsSymbol F R t f ts
   symbol-there s t f ts q e =
       let w : Counterpart F R (symbol f ts) t (symbol_head f (length (list_of ts))) = m.headed s t (symbol f ts) (symbol_head f (length (list_of ts))) q e refl in
       symbol_by F R t f ts w.other w.equal w.head w.each
 
-  numbered-there : (seen new seen' : List Tree) (s t : Tree) (k : ℕ) → IsFree E s → IsNumbered (Equal E) seen s k new → Alike R seen seen' → R s t
+  pub numbered-there : (seen new seen' : List Tree) (s t : Tree) (k : ℕ) → IsFree E s → IsNumbered (Equal E) seen s k new → Alike R seen seen' → R s t
       → (new' : List Tree) × IsNumbered (Equal F) seen' t k new' × Alike R new new'
   numbered-there [] new [] s t k f (first {x = x} e) a q = (t ∷ [], first same, (m.from s t x q e, tt))
   numbered-there [] new (y ∷ ys) s t k f (first e) a q = absurd a

@@ -31,7 +31,7 @@ module _ (symbols : List (List ℕ)) (E F : Equations) (w : StandFor (IsTold E) 
   equal-here : (s t : Tree) → Equal F s t → SameTree F s t
   equal-here s t e n = equal_same F n s t e
 
-  headed-there : (s t u : Tree) (h : Head) → SameTree F s t → Equal E s u → head_of u ≡ Some h → Counterpart F (SameTree F) u t h
+  pub headed-there : (s t u : Tree) (h : Head) → SameTree F s t → Equal E s u → head_of u ≡ Some h → Counterpart F (SameTree F) u t h
   headed-there s t u h m e i =
       let d : Down F (w.to c) u t u h = Same-down F (w.to c) (Same-joined F (w.to c) (Same-turned F (w.to c) (equal-there s u e)) m) same i in
       record { other = d.other; equal = d.equal; head = d.head; each = d.each }
@@ -53,7 +53,7 @@ module _ (symbols : List (List ℕ)) (E F : Equations) (w : StandFor (IsTold E) 
         o.other f p.arguments p.equal (goes_on-alike symbols (SameTree E) f ts p.arguments p.alike g);
   }
 
-  stands-correspond : Corresponds symbols E F (SameTree F)
+  pub stands-correspond : Corresponds symbols E F (SameTree F)
   stands-correspond = record {
     itself = λ t. equal-here t t same;
     headed = headed-there;

@@ -1,13 +1,13 @@
 -- A graph that is worked out in code is decided under each equations that its terms represent.
-use Rattle.std.proofs.Common.{◌≡◌, ℕ, List, [], ◌∷◌, refl, sym, ◌∙◌, ap, subst, inl, inr, Some}
+use Rattle.std.proofs.Common.{◌≡◌, ℕ, Bool, List, [], ◌∷◌, refl, sym, ◌∙◌, ap, subst, inl, inr, Some}
 use Rattle.std.specs.Prelude.{slice_get, ◌⊎◌}
 use Rattle.akl_terms.specs.Tree.{Tree, variable, integer, port, symbol, Head, integer_head, port_head, symbol_head, head_of, arguments}
 use Rattle.akl_terms.specs.Equal.{Equations, Equal, same, joined}
 use Rattle.akl_terms.specs.declared.name.Var.{Var}
 use Rattle.answer_text.specs.Classes.{Represents}
 use Rattle.answer_text.specs.Printed.{IsFree}
-use Rattle.answer_text.specs.Graph.{Graph, Stands, IsChild, IsGraphOf, IsStable, IsFair, AreThere}
-use Rattle.answer_text.specs.BuiltGraph.{at_node, BeginAlike, IsBuilt, AreBuilt}
+use Rattle.answer_text.specs.Graph.{Graph, Stands, IsChild, IsGraphOf, IsStable, IsFair, IsDecided, AreThere}
+use Rattle.answer_text.specs.BuiltGraph.{at_node, BeginAlike, IsBuilt, AreBuilt, IsWorkedOut}
 use Rattle.answer_text.specs.Laws.{RepresentedTextLaw}
 use Rattle.answer_text.proofs.Coarsest.{AreTops, coarsest, passes}
 use Rattle.answer_text.proofs.AnswerThere.{text_there}
@@ -34,7 +34,7 @@ module _ (go : Tree → Tree) (g : Graph) (tops : List ℕ) (b : IsBuilt go g to
       let z : (s : Tree) × (t ≡ go s) = b.end i t p in
       ap go e ∙ r.stays z.0 x (sym z.1 ∙ e)
 
-  graph : IsGraphOf E g
+  pub graph : IsGraphOf E g
   graph = record {
     ends = λ i t p. from i t p (open_or_headed t);
     argument = λ i k t a p q. let z : (j : ℕ) × IsChild g i k j × Stands g j (go a) = b.argument i k t a p q in (z.0, z.1, go a, z.2, r.equal a);
@@ -67,11 +67,13 @@ module _ (go : Tree → Tree) (g : Graph) (tops : List ℕ) (b : IsBuilt go g to
   are-there [] a = tt
   are-there ((name, t) ∷ shown) a = ((a.0.0, go t, a.0.1, r.equal t), are-there shown a.1)
 
-pub represented_text : RepresentedTextLaw
-represented_text symbols go g tops blocks rank marked shown o a E r =
+-- the graph is decided
+pub decided : (symbols : List (List ℕ)) (go : Tree → Tree) (g : Graph) (tops blocks : List ℕ) (rank : ℕ → ℕ) (marked : ℕ → Bool) → IsWorkedOut symbols go g tops blocks rank marked → (E : Equations) → Represents E go
+    → IsDecided symbols E g (at_node blocks) (λ i. rank (at_node blocks i)) (λ i. marked (at_node blocks i))
+decided symbols go g tops blocks rank marked o E r =
     let y : IsGraphOf E g × AreTops E g tops = (graph go g tops o.built E r, are-tops go g tops o.built E r) in
     let z : IsStable E g (at_node blocks) × IsFair E g (at_node blocks) = coarsest E g tops blocks r.consistent y.0 y.1 o.coarsest in
-    text_there symbols E g (at_node blocks) (λ i. rank (at_node blocks i)) (λ i. marked (at_node blocks i)) shown r.consistent (record {
+    record {
       graph = y.0;
       stable = z.0;
       fair = z.1;
@@ -82,4 +84,8 @@ represented_text symbols go g tops blocks rank marked shown o a E r =
         back = λ i t p e. passes E g (at_node blocks) r.consistent y.0 z.0 i t p (o.certified.back i t p e);
       };
       names = o.names;
-    }) (are-there go g tops o.built E r shown a)
+    }
+
+pub represented_text : RepresentedTextLaw
+represented_text symbols go g tops blocks rank marked shown o a E r =
+    text_there symbols E g (at_node blocks) (λ i. rank (at_node blocks i)) (λ i. marked (at_node blocks i)) shown r.consistent (decided symbols go g tops blocks rank marked o E r) (are-there go g tops o.built E r shown a)

@@ -15,6 +15,11 @@ abbrev pub OneTextLaw : Type 0
 OneTextLaw = (symbols : List (List ℕ)) (E : Equations) (shown : List (List ℕ × Tree)) (text other : List ℕ) → IsConsistent E
     → AreAnswerLines symbols E shown text → AreAnswerLines symbols E shown other → text ≡ other
 
+-- equations that stand for others give the lines that these give
+abbrev pub LinesStandLaw : Type 0
+LinesStandLaw = (symbols : List (List ℕ)) (E F : Equations) → StandFor (IsTold E) (IsTold F) → IsConsistent E → (shown : List (List ℕ × Tree)) (text : List ℕ)
+    → AreAnswerLines symbols E shown text → AreAnswerLines symbols F shown text
+
 -- where every tree can be written out, the lines with all trees written out are the text
 abbrev pub WrittenOutLaw : Type 0
 WrittenOutLaw = (symbols : List (List ℕ)) (E : Equations) (shown : List (List ℕ × Tree)) (text : List ℕ) → IsConsistent E

@@ -1,7 +1,7 @@
 //! Laws of all texts of answers, each the contract of a function without a body.
 
 ghost use Rattle.answer_text.specs.Examples.{CyclicListLaw, LoopGraphLaw, TwoCyclesLaw};
-ghost use Rattle.answer_text.specs.Laws.{LongTextsStandLaw, OneTextLaw, RepresentedTextLaw, TextLaw, TextsStandLaw, WrittenOutLaw};
+ghost use Rattle.answer_text.specs.Laws.{LinesStandLaw, LongTextsStandLaw, OneTextLaw, RepresentedTextLaw, TextLaw, TextsStandLaw, WrittenOutLaw};
 
 /// Consistent equations have at most one text of an answer.
 pub fn one_text()
@@ -24,6 +24,7 @@ pub fn written_out()
 pub fn texts_stand()
     ensures texts { TextsStandLaw }
     ensures long { LongTextsStandLaw }
+    ensures lines { LinesStandLaw }
 {}
 
 /// Small cyclic trees, their texts, and a graph that is worked out.

@@ -10,4 +10,4 @@ mod symbol;
 
 pub use laws::{cyclic_texts, one_text, text_exists, texts_stand, written_out};
 pub use lines::{AnswerError, answer};
-pub use symbol::symbol_text;
+pub use symbol::{push_constant, push_symbol, symbol_text};

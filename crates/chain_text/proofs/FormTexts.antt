@@ -13,10 +13,11 @@ use Rattle.local_store.specs.Chained.{Chained, bindings_from, ToldBy, IsSolvedCh
 use Rattle.local_store.proofs.Known.{drop-whole}
 use Rattle.local_store.proofs.Layers.{chain-form}
 use Rattle.local_store.proofs.Resolved.{further-clash}
-use Rattle.answer_text.specs.Answers.{IsAnswerText, IsTooLong}
+use Rattle.answer_lines.specs.Lines.{AreLinesOf, HasLongLines}
 use Rattle.answer_text.specs.Classes.{Represents}
 use Rattle.answer_text.proofs.FormEnds.{form_represents}
-use Rattle.answer_text.proofs.TextsStand.{texts_stand, long_texts_stand}
+use Rattle.akl_terms.proofs.StandingLaws.{StandFor-back}
+use Rattle.answer_text.proofs.LinesThere.{lines_stand}
 use Rattle.answer_text.specs.Answers.{shown_trees}
 use Rattle.chain_text.specs.ChainTexts.{template_of, IsChainText, IsTooLongText}
 
@@ -27,11 +28,11 @@ module _ (c : Chained) (bs : List (Var × Term)) (h : IsFormOf c.nodes bs (ToldB
   represents : Represents told_by (end_of c.nodes bs)
   represents = form_represents c.nodes bs told_by h
 
-  pub form_text : (text : List ℕ) → IsAnswerText (template_of c) (end_of c.nodes bs) shown text → IsChainText c shown text
-  form_text text a E w = texts_stand c.symbols told_by E w represents.consistent (shown_trees (template_of c) shown) text (a told_by represents)
+  pub form_text : (text : List ℕ) → AreLinesOf (template_of c) (end_of c.nodes bs) shown text → IsChainText c shown text
+  form_text text a E w = lines_stand c.symbols told_by E w represents.consistent (shown_trees (template_of c) shown) text (a told_by represents)
 
-  pub form_too_long : IsTooLong (template_of c) (end_of c.nodes bs) shown → IsTooLongText c shown
-  form_too_long a E w = long_texts_stand c.symbols told_by E w represents.consistent (shown_trees (template_of c) shown) (a told_by represents)
+  pub form_too_long : HasLongLines (template_of c) (end_of c.nodes bs) shown → IsTooLongText c shown
+  form_too_long a E w text p = a told_by represents text (lines_stand c.symbols E told_by (StandFor-back w) (w.to represents.consistent) (shown_trees (template_of c) shown) text p)
 
 -- the stores that are known to be solved, with the others taken in
 module _ (nodes : List Node) (ss : List Stored) (k : ℕ) (f : IsSolvedChain nodes (take k ss)) where

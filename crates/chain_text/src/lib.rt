@@ -9,16 +9,17 @@ ghost use Rattle.answer_text.specs.declared.lines.AnswerError.TheVariants as var
 ghost use Rattle.chain_text.specs.ChainTexts.{IsChainText, IsTooLongText};
 
 use akl_terms::ShownTerm;
-use answer_text::{AnswerError, answer};
+use answer_lines::answer_lines;
+use answer_text::AnswerError;
 use local_store::{Chain, take_stores};
 use rational_unify::{AddedBindings, Form};
 use std::alloc::Global;
 
 /// The lines of an answer under the equations of a chain's stores: for each shown term its name,
-/// ` = `, and its tree written out.
+/// ` = ` and its text, then the cyclic trees that were named.
 ///
-/// A class of equal variables is `_` and a number, by order of first printing. `Long` comes exactly
-/// where the lines have more than a million bytes; a tree without an end has no such lines. What is
+/// A class of equal variables is `_` and a number, a cyclic tree `R` and a number, each by order of
+/// first printing. `Long` comes exactly where the lines have more than a million bytes. What is
 /// known to be solved of the chain is read as it stands, and the other stores are taken in first.
 pub fn chain_answer(
     alloc: Global,
@@ -40,6 +41,6 @@ pub fn chain_answer(
     match take_stores(alloc, templates, &mut form, &chain.stores()[known..])? {
         // Not where the chain is consistent.
         Some(_) => unreachable!(),
-        None => answer(alloc, templates, &form, shown),
+        None => answer_lines(alloc, templates, &form, shown),
     }
 }

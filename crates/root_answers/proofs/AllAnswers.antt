@@ -15,11 +15,10 @@ use Rattle.constraint_laws.proofs.Decided.{consistent_or}
 use Rattle.akl_model.proofs.QuietEnds.{clash_not}
 use Rattle.step_laws.specs.Whereabouts.{BoxIn}
 use Rattle.step_laws.proofs.Whereabouts.{in_found}
-use Rattle.answer_text.specs.Answers.{AreTooLong}
 use Rattle.box_tree.specs.Tables.{all_rules, table_of}
 use Rattle.step_commit.specs.Cores.{CoreValue}
-use Rattle.root_answers.specs.Text.{shown_lines, IsTextOf, AreTexts, no_answers, an_answer, HasLongAnswer, here, there}
-use Rattle.root_answers.specs.Roots.{TableIn, symbols_of, root_box, IsText, HasLongText, Answers, LongAnswers}
+use Rattle.root_answers.specs.Text.{IsTextOf, AreTexts, no_answers, an_answer}
+use Rattle.root_answers.specs.Roots.{TableIn, symbols_of, root_box, IsText, Answers}
 
 -- the first of some boxes
 abbrev pub take_boxes : ℕ → Boxes → Boxes
@@ -139,33 +138,6 @@ module _ (c : CoreValue) (n : ℕ) (d : Name) (h : n < length c.table.roots) whe
         counted = omega (arith, counted, long);
         are_texts = subst (λ (m : ℕ). AreTexts (symbols_of c) 1 (y.answers ++ w.content ∷ []) (text ++ (codes "answer " ++ decimal m ++ 10 ∷ lines))) number (texts_more w.content lines y.are_texts a.1);
       })
-
-  -- an answer that is too long
-  pub long_there : HasLongText c (get_or c.table.roots n d) → (t : TableIn c) → LongAnswers c t
-  long_there x t =
-      let w : At t.config.roots n (get_or c.table.roots n d) = here_at t in
-      let l : IsAnswer w.content w.goals × AreTooLong (symbols_of c) w.content.equations (shown_lines w.content.shown) = x t w.content w.goals (found_at t w) in
-      let every : (answers : List Content) × AreAnswers t.config.roots answers = answers_of t.config.roots in
-      record { answers = every.0; are_answers = every.1; is_long = long_among w.content w.goals t.config.roots every.0 w.stands l.0 l.1 every.1 }
-    where
-      solved_or : (b : Content) (gs : Goals) → IsAnswer b gs ⊎ (IsAnswer b gs → ⊥)
-      solved_or b no_goals = elim (consistent_or b.equations) [ inl k ↦ inl (record { solved = tt; consistent = k }) | inr k ↦ inr (λ a. clash_not b.equations k a.consistent) ]
-      solved_or b (atom g a gs) = inr (λ x. x.solved)
-      solved_or b (choice g o bs gs) = inr (λ x. x.solved)
-
-      answers_of : (bs : Boxes) → (answers : List Content) × AreAnswers bs answers
-      answers_of no_boxes = ([], derivations.none)
-      answers_of (box b gs bs) =
-          let w : (answers : List Content) × AreAnswers bs answers = answers_of bs in
-          elim (solved_or b gs) [ inl a ↦ (b ∷ w.0, derivations.one_more a w.1) | inr m ↦ (w.0, derivations.another m w.1) ]
-
-      long_among : (k : Content) (hs : Goals) (bs : Boxes) (answers : List Content) → BoxIn [] k hs bs → IsAnswer k hs → AreTooLong (symbols_of c) k.equations (shown_lines k.shown) → AreAnswers bs answers → HasLongAnswer (symbols_of c) answers
-      long_among k hs no_boxes answers i a l x = absurd i
-      long_among k hs (box b gs bs) answers (inl e) a l (derivations.one_more {answers = more} y x) = here (subst (λ (z : Content). AreTooLong (symbols_of c) z.equations (shown_lines z.shown)) e.1 l)
-      long_among k hs (box b gs bs) answers (inl e) a l (derivations.another m x) = absurd (m (subst (λ (z : Content). IsAnswer z gs) e.1 (subst (IsAnswer k) e.2 a)))
-      long_among k hs (box b gs bs) answers (inr (inl e)) a l x = let q : [] ≡ b ∷ e.0 = e.1 in absurd cc
-      long_among k hs (box b gs bs) answers (inr (inr i)) a l (derivations.one_more {answers = more} y x) = there (long_among k hs bs more i a l x)
-      long_among k hs (box b gs bs) answers (inr (inr i)) a l (derivations.another m x) = long_among k hs bs answers i a l x
 
 pub found_every : (c : CoreValue) (n count : ℕ) (text : List ℕ) → length c.table.roots ≤ n → HaveFound c n count text → (t : TableIn c) → Answers c t count text
 found_every c n count text h x t =

@@ -23,8 +23,9 @@ use Rattle.akl_model.proofs.Options.{some_value}
 use Rattle.rational_unify.specs.Solving.{bindings_in}
 use Rattle.local_store.specs.Stored.{Stored}
 use Rattle.local_store.specs.Chained.{Chained, ToldBy}
-use Rattle.answer_text.specs.Printed.{PrintsLines}
-use Rattle.answer_text.specs.Answers.{longest_answer, AreTooLong, shown_trees}
+use Rattle.answer_text.specs.Answers.{longest_answer, shown_trees}
+use Rattle.answer_text.specs.AnswerLines.{AreAnswerLines}
+use Rattle.answer_lines.specs.Lines.{AreLongLines}
 use Rattle.chain_text.specs.ChainTexts.{IsChainText, IsTooLongText}
 use Rattle.table_laws.specs.Rows.{BoxRow, Table, store_in, stores_along, told_in}
 use Rattle.table_laws.specs.Unfolds.{IsBoxRow}
@@ -33,8 +34,8 @@ use Rattle.table_laws.proofs.Frame.{both_there}
 use Rattle.box_tree.specs.Tables.{all_rules, TableValue, table_of, goals_in, is_empty, shown_in, shown_tree, shown_trees_of}
 use Rattle.box_tree.specs.Views.{ViewValue, IsViewOf, run_of, is_there}
 use Rattle.step_commit.specs.Cores.{CoreValue}
-use Rattle.root_answers.specs.Text.{shown_lines, IsTextOf}
-use Rattle.root_answers.specs.Roots.{TableIn, symbols_of, root_box, OfRoot, IsText, HasLongText}
+use Rattle.root_answers.specs.Text.{shown_lines, long_line, IsTextOf, fits, is_long}
+use Rattle.root_answers.specs.Roots.{TableIn, symbols_of, root_box, OfRoot, IsText}
 
 -- the row of a root box
 abbrev RowOf : (c : CoreValue) (t : TableIn c) (name : Name) (f : Found) → Type 0
@@ -132,17 +133,14 @@ module _ (c : CoreValue) (name : Name) (v : ViewValue) (k : Chained) (w : IsRoot
       → shown_trees_of c.table terms ≡ shown_in ((table_of c.table).box_of name) → IsChainText k terms text → length text ≤ longest_answer → IsText c name (Some text)
   is_text terms text s h shown x l t b gs e = (
     answers_so s h t b gs e,
-    record {
-      prints = subst (λ (ss : List (List ℕ)). PrintsLines ss b.equations [] (shown_lines b.shown) text) w.symbols
-          (subst (λ (lines : List (List ℕ × Tree)). PrintsLines k.symbols b.equations [] lines text) (shown_so terms shown t b gs e) (x b.equations (chain_stands t b gs e)));
-      fits = l;
-    },
+    fits (subst (λ (ss : List (List ℕ)). AreAnswerLines ss b.equations (shown_lines b.shown) text) w.symbols
+        (subst (λ (lines : List (List ℕ × Tree)). AreAnswerLines k.symbols b.equations lines text) (shown_so terms shown t b gs e) (x b.equations (chain_stands t b gs e)))) l,
   )
 
-  pub is_long : (terms : List ShownTerm) → is_empty (goals_in ((table_of c.table).box_of name)) ≡ true → IsConsistentBy (ToldBy k.nodes k.stores)
-      → shown_trees_of c.table terms ≡ shown_in ((table_of c.table).box_of name) → IsTooLongText k terms → HasLongText c name
-  is_long terms s h shown x t b gs e = (
+  pub long_text : (terms : List ShownTerm) → is_empty (goals_in ((table_of c.table).box_of name)) ≡ true → IsConsistentBy (ToldBy k.nodes k.stores)
+      → shown_trees_of c.table terms ≡ shown_in ((table_of c.table).box_of name) → IsTooLongText k terms → IsText c name (Some long_line)
+  long_text terms s h shown x t b gs e = (
     answers_so s h t b gs e,
-    subst (λ (ss : List (List ℕ)). AreTooLong ss b.equations (shown_lines b.shown)) w.symbols
-        (subst (λ (lines : List (List ℕ × Tree)). AreTooLong k.symbols b.equations lines) (shown_so terms shown t b gs e) (x b.equations (chain_stands t b gs e))),
+    is_long (subst (λ (ss : List (List ℕ)). AreLongLines ss b.equations (shown_lines b.shown)) w.symbols
+        (subst (λ (lines : List (List ℕ × Tree)). AreLongLines k.symbols b.equations lines) (shown_so terms shown t b gs e) (x b.equations (chain_stands t b gs e)))),
   )

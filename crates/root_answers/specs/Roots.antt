@@ -4,11 +4,10 @@ use Rattle.std.proofs.Common.{Vec, Global}
 use Rattle.akl_terms.specs.declared.name.Name.{Name}
 use Rattle.akl_model.specs.Config.{Content, Goals, Found, box_at}
 use Rattle.akl_model.specs.Derivations.{IsAnswer, AreAnswers}
-use Rattle.answer_text.specs.Answers.{AreTooLong}
 use Rattle.table_laws.specs.Stamped.{IsTableOf}
 use Rattle.box_tree.specs.Tables.{all_rules, table_of}
 use Rattle.step_commit.specs.Cores.{CoreValue, run_by}
-use Rattle.root_answers.specs.Text.{shown_lines, IsTextOf, AreTexts, HasLongAnswer}
+use Rattle.root_answers.specs.Text.{IsTextOf, AreTexts}
 use Rattle.root_answers.specs.declared.answers.Answered.{Answered}
 
 -- the table of a core, with the configuration to which it unfolds
@@ -34,9 +33,6 @@ IsText c name (Some text) = OfRoot c name (λ b gs. IsAnswer b gs × IsTextOf (s
 abbrev pub HasText : CoreValue → Name → Option (Vec ℕ Global) → Type 0
 HasText c name o = IsText c name (option_map (λ (v : Vec ℕ Global). v.items) o)
 
-abbrev pub HasLongText : CoreValue → Name → Type 0
-HasLongText c name = OfRoot c name (λ b gs. IsAnswer b gs × AreTooLong (symbols_of c) b.equations (shown_lines b.shown))
-
 -- these are the texts of all answers
 pub record Answers (c : CoreValue) (t : TableIn c) (count : ℕ) (text : List ℕ) : Type 0 where
   pub answers : List Content
@@ -46,12 +42,3 @@ pub record Answers (c : CoreValue) (t : TableIn c) (count : ℕ) (text : List �
 
 abbrev pub HasAnswers : CoreValue → Answered → Type 0
 HasAnswers c a = (t : TableIn c) → Answers c t a.count a.text.items
-
--- some answer is too long
-pub record LongAnswers (c : CoreValue) (t : TableIn c) : Type 0 where
-  pub answers : List Content
-  pub are_answers : AreAnswers t.config.roots answers
-  pub is_long : HasLongAnswer (symbols_of c) answers
-
-abbrev pub HasLongAnswers : CoreValue → Type 0
-HasLongAnswers c = (t : TableIn c) → LongAnswers c t

@@ -1,13 +1,11 @@
 //! The texts of all answers.
 
-ghost use Rattle.std.specs.Prelude.{◌≡◌, ◌++◌, ◌∷◌, codes, IfOk, OnOk, Err};
+ghost use Rattle.std.specs.Prelude.{◌≡◌, ◌++◌, ◌∷◌, codes, IfOk, OnOk};
 ghost use Rattle.std.specs.Fmt.{decimal};
-ghost use Rattle.answer_text.specs.declared.lines.AnswerError.TheVariants as variants;
-ghost use Rattle.root_answers.specs.Roots.{HasAnswers, HasLongAnswers};
+ghost use Rattle.root_answers.specs.Roots.{HasAnswers};
 
 use crate::root::root_text;
 use akl_terms::Program;
-use answer_text::AnswerError;
 use std::alloc::{AllocError, Global};
 use step_commit::Core;
 
@@ -16,7 +14,7 @@ use step_commit::Core;
 pub struct Answered {
     /// How many there are.
     pub count: usize,
-    /// For each, in order, a line `answer` with its number, from 1 on, and its lines.
+    /// For each, in order, a line `answer` with its number, from 1 on, and its lines or the one in their place.
     pub text: Vec<u8>,
 }
 
@@ -33,13 +31,11 @@ fn push_answer(text: &mut Vec<u8>, number: usize, lines: &[u8]) -> Result<(), Al
     Ok(())
 }
 
-/// The answers among the root boxes of a core.
-///
-/// `Long` comes exactly where the lines of one have more than a million bytes.
-pub fn root_answers(alloc: Global, program: &Program, core: &Core) -> Result<Answered, AnswerError>
+/// The answers among the root boxes of a core; one whose lines have more than a million bytes has
+/// a line that says so in their place.
+pub fn root_answers(alloc: Global, program: &Program, core: &Core) -> Result<Answered, AllocError>
     requires { program.now ≡ core.now.table.program }
-    ensures answers { IfOk result (HasAnswers core.now) }
-    ensures long { result ≡ Err variants.Long → HasLongAnswers core.now }
+    ensures { IfOk result (HasAnswers core.now) }
 {
     let mut count = 0;
     let mut text = Vec::new(alloc);

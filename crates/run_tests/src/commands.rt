@@ -121,7 +121,13 @@ p :- send(X,Y), q. => true => 5 / akl: program: undefined q/0
  => (zz ; X = b) => 6 / akl: query: undefined zz/0
  => (X = a -> true ; true) => 6 / akl: query: mixed guards in ''/0
  => (true{ ; true*256}) => 6 / akl: query: too many clauses of one definition, 257
- => X = f(X), X = f(f(X)) => 10 / akl: not yet: answer
+ => X = f(X), X = f(f(X)) => 0 / answer 1 / X = R1 / R1 = f(R1) / done
+ => X = f(g(X)), Y = f(Z), Z = g(Y) => 0 / answer 1 / X = R1 / Y = R1 / Z = R2 / R1 = f(R2) / R2 = g(R1) / done
+ => X = [a,b|X] => 0 / answer 1 / X = R1 / R1 = [a|R2] / R2 = [b|R1] / done
+ => X = [a|X], Y = [c|X] => 0 / answer 1 / X = R1 / Y = [c|R1] / R1 = [a|R1] / done
+ => X = [a,a|X], Y = [a,a,a|Y] => 0 / answer 1 / X = R1 / Y = R1 / R1 = [a|R1] / done
+ => X = f(X,Z,Y), Y = g(Z,W), Z = T => 0 / answer 1 / X = R1 / Z = _1 / Y = g(_1,_2) / W = _2 / T = _1 / R1 = f(R1,_1,g(_1,_2)) / done
+ => _X = [1,'is',f(_X)|_X], Y = h(_X,[]) => 0 / answer 1 / Y = h(R1,[]) / R1 = [1|R2] / R2 = ['is'|R3] / R3 = [R4|R1] / R4 = f(R1) / done
  => -X = a => 4 / akl: words: missing at word 0
 p(a). p(b,c). => true => 0 / answer 1 / done
  % nothing but layout /* => true => 0 / answer 1 / done
@@ -229,7 +235,34 @@ fn an_answer_has_at_most_a_million_bytes(rt: HostRuntime) -> Result<(), Fail> {
     assert_eq!(rt; (longest.status, longest.written.len()), (0, 1_000_014));
     let query = format!(in alloc; "{LONG}{})", expanded(alloc, "{a*1605}")?)?;
     let long = answer(&rt, alloc, "", &query)?;
-    assert_eq!(rt; shown(alloc, &long)?.as_str(), "10 / akl: not yet: answer");
+    assert_eq!(rt;
+        shown(alloc, &long)?.as_str(),
+        "0 / answer 1 / (longer than 1000000 bytes) / done"
+    );
+    // Others stand beside it.
+    let program = format!(in alloc;
+        "p(Y) :- {LONG}{}), X = Y. p(b).",
+        expanded(alloc, "{a*1605}")?
+    )?;
+    let both = answer(&rt, alloc, &program, "p(Z)")?;
+    let lines = "0 / answer 1 / (longer than 1000000 bytes) / answer 2 / Z = b / done";
+    assert_eq!(rt; shown(alloc, &both)?.as_str(), lines);
+    Ok(())
+}
+
+#[test]
+fn a_term_that_is_doubled_is_too_long(rt: HostRuntime) -> Result<(), Fail> {
+    let alloc = rt.alloc();
+    let mut query = String::from_str(alloc, "X40 = a")?;
+    for k in 0..40 {
+        let next = k + 1;
+        write!(query, ", X{k} = f(X{next},X{next})")?;
+    }
+    let long = answer(&rt, alloc, "", &query)?;
+    assert_eq!(rt;
+        shown(alloc, &long)?.as_str(),
+        "0 / answer 1 / (longer than 1000000 bytes) / done"
+    );
     Ok(())
 }
 

@@ -85,6 +85,7 @@ const SPLITS: &str = r"
  => m(1). m(2). d(X) :- m(Y), Y < X ? true. => d(X) => 2 / suspended 1
  => m(1). m(2). d(X) :- m(Y), Y < X ? true. => d(X), X = 2 => 0 / answer 1 / X = 2 / done
  => m(a). m(b). => m(X), X = c => 1 / failed
+ => m(X) :- X = f(X). m(b). => m(Z) => 0 / answer 1 / Z = R1 / R1 = f(R1) / answer 2 / Z = b / done
 --trace => m(a). m(b). => m(X) => 0 / step 1 fork goal 0.2 by 1 / step 2 split box 0.0 of 1.0 by 1 / step 3 promote goal 0.2 of 1.0 by 1 / step 4 promote goal 1.6 of 1.7 by 1 / answer 1 / X = a / answer 2 / X = b / done
 --budget,2 => m(a). m(b). => m(X) => 3 / budget
 --trace,--budget,1 => m(a). m(b). => m(X) => 3 / step 1 fork goal 0.2 by 1 / budget
@@ -101,7 +102,7 @@ const CHOICES: &str = r"
  =>  => (X = a | R = 1 ; true | R = 2) => 0 / answer 1 / X = _1 / R = 2 / done
  =>  => (fail ? R = 1 ; X = b ? R = 2) => 0 / answer 1 / R = 2 / X = b / done
  =>  => (1 < 2 -> (2 < 1 -> R = a ; 1 < 3 -> R = b) ; true -> R = c) => 0 / answer 1 / R = b / done
- =>  => (true -> R = f(X)), X = R => 10 / akl: not yet: answer
+ =>  => (true -> R = f(X)), X = R => 0 / answer 1 / R = R1 / X = R1 / R1 = f(R1) / done
  => ABC => p(a,R) => 0 / answer 1 / R = 1 / done
  => ABC => p(b,R) => 0 / answer 1 / R = 2 / done
  => ABC => p(c,R) => 0 / answer 1 / R = 3 / done

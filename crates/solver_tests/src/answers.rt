@@ -131,11 +131,14 @@ fn stores_of(alloc: Global, text: &str) -> Result<Vec<Shared<Store>>, Fail> {
     Ok(stores)
 }
 
-/// The lines of what X and Y are, or a word.
+/// The lines of what X and Y are, with that of a cyclic tree where there is one, or a word.
 fn wanted(alloc: Global, want: &str) -> Result<String, AllocError> {
-    match want.split_once(' ') {
-        Some((x, y)) => format!(in alloc; "X = {x}\nY = {y}\n"),
-        None => String::from_str(alloc, want),
+    let Some((x, rest)) = want.split_once(' ') else {
+        return String::from_str(alloc, want);
+    };
+    match rest.split_once(' ') {
+        Some((y, cycle)) => format!(in alloc; "X = {x}\nY = {y}\nR1 = {cycle}\n"),
+        None => format!(in alloc; "X = {x}\nY = {rest}\n"),
     }
 }
 
@@ -169,7 +172,9 @@ Y=[X] / X=-7 => -7 [-7]
 X=Y X=3 => 3 3
 Y=[X] / Y=[X|Y] => clash
 X=1 / X=Y / Y=2 => clash
-X=-9223372036854775808 / Y=[X|Y] => long
+X=-9223372036854775808 / Y=[X|Y] => -9223372036854775808 R1 [-9223372036854775808|R1]
+X=[X] => R1 _1 [R1]
+X=[X|Y] / Y=[X|Y] => R1 R1 [R1|R1]
 ";
 
 #[test]

@@ -25,16 +25,15 @@ impl Model for TreeClasses {
 }
 
 impl TreeClasses {
-    ghost use Rattle.std.specs.Prelude.{◌≡◌, ◌<◌, length};
+    ghost use Rattle.std.specs.Prelude.{◌≡◌};
     ghost use Rattle.tree_parts.specs.Firsts.{at_node};
     ghost use Rattle.cycle_marks.specs.Components.{is_cyclic};
 
-    /// The first node that is the same tree as this one.
+    /// The first node that is the same tree as this one; 0 for a node that isn't there.
     pub fn first(&self, node: usize) -> usize
-        requires { node < length self.now.blocks }
         ensures { result ≡ at_node self.now.blocks node }
     {
-        self.blocks[node]
+        self.blocks.get(node).copied().unwrap_or(0)
     }
 
     /// Whether a class is cyclic, by its first node.

@@ -14,8 +14,8 @@ returns-clause-text c =
     let part = c.known-known.ensures.solved.each c.known-known.result (omega arith) in
     let t = rw (c.in-None.is, c.new.ensures, c.templates-templates.ensures.nodes, c.outer-base.ensures.stores, c.stores.ensures) at c.in_ok-take_stores.ensures.taken in
     let form = further-form c.args.chain.now.nodes c.args.chain.now.stores c.known-known.result part c.take_stores.new.form.added t in
-    IfOk-weaker c.answer.result _ _ (λ text a. form_text c.args.chain.now _ form c.args.shown.now text.items a)
-    (rw (c.templates-templates.ensures.nodes, c.templates-templates.ensures.symbols, c.in_ok-take_stores.ensures.known, c.outer-base.ensures.stores) at c.answer.ensures.text)
+    IfOk-weaker c.answer_lines.result _ _ (λ text a. form_text c.args.chain.now _ form c.args.shown.now text.items a)
+    (rw (c.templates-templates.ensures.nodes, c.templates-templates.ensures.symbols, c.in_ok-take_stores.ensures.known, c.outer-base.ensures.stores) at c.answer_lines.ensures.text)
 
 pub returns-clause-long : goal.returns-clause-long
 returns-clause-long c e =
@@ -23,4 +23,4 @@ returns-clause-long c e =
     let t = rw (c.in-None.is, c.new.ensures, c.templates-templates.ensures.nodes, c.outer-base.ensures.stores, c.stores.ensures) at c.in_ok-take_stores.ensures.taken in
     let form = further-form c.args.chain.now.nodes c.args.chain.now.stores c.known-known.result part c.take_stores.new.form.added t in
     form_too_long c.args.chain.now _ form c.args.shown.now
-    (rw (c.templates-templates.ensures.nodes, c.templates-templates.ensures.symbols, c.in_ok-take_stores.ensures.known, c.outer-base.ensures.stores) at c.answer.ensures.long e)
+    (rw (c.templates-templates.ensures.nodes, c.templates-templates.ensures.symbols, c.in_ok-take_stores.ensures.known, c.outer-base.ensures.stores) at c.answer_lines.ensures.long e)

@@ -1,39 +1,33 @@
-use Rattle.std.proofs.Common.{◌≡◌, ◌++◌, ◌∷◌, [], map, sym, ◌∙◌, ap, subst, Err, length}
+use Rattle.std.proofs.Common.{◌≡◌, ◌++◌, ◌∷◌, [], map, sym, ◌∙◌, ap, subst, length}
 use Rattle.akl_run.specs.Traces.{trace_text}
 use Rattle.akl_run.specs.Text.{outcome_line}
 use Rattle.akl_run.specs.Endings.{ending_by, status_by, outcome_by}
 use Rattle.akl_run.specs.declared.ending.Ending.{Ending}
-use Rattle.akl_run.specs.Reports.{IsStatusOf, IsRunBy, RunStops, long, no_memory}
+use Rattle.akl_run.specs.Reports.{IsStatusOf, IsRunBy, RunStops, no_memory}
 use Rattle.akl_run.proofs.Loading.{stops_as, from_error}
-use Rattle.akl_run.proofs.Evaluated.{status_of, text_of, evaluated, long_run}
+use Rattle.akl_run.proofs.Evaluated.{status_of, text_of, evaluated}
 use Rattle.akl_run.proofs.evaluate.evaluate.Goals as goal
 
 pub returns-in-Err-clause-stop : goal.returns-in-Err-clause-stop
-returns-in-Err-clause-stop c = stops_as (RunStops c.args.loaded.now c.args.budget) _ _ c.from.result c.from.ensures no_memory
+returns-in-Err-clause-stop c = stops_as RunStops _ _ c.from.result c.from.ensures no_memory
 
-pub returns-in-Err-Long-clause-stop : goal.returns-in-Err-Long-clause-stop
-returns-in-Err-Long-clause-stop c =
-    stops_as (RunStops c.args.loaded.now c.args.budget) _ _ c.not_yet.result c.not_yet.ensures
-    (long (long_run c.args.loaded.now c.args.budget c.in-Ok.finished c.in-Ok.ensures c.roots-roots.ensures.core
-    (c.root_answers.ensures.long (c.in-Err-Long.is ∙ ap Err c.in-Err-Long.field-0-is) c.roots-roots.ensures.core.table)))
-
-pub returns-in-Err-Memory-clause-stop : goal.returns-in-Err-Memory-clause-stop
-returns-in-Err-Memory-clause-stop c = stops_as (RunStops c.args.loaded.now c.args.budget) _ _ c.from-in-Err-Memory.result c.from-in-Err-Memory.ensures no_memory
+pub returns-in-Err-root_answers-clause-stop : goal.returns-in-Err-root_answers-clause-stop
+returns-in-Err-root_answers-clause-stop c = stops_as RunStops _ _ c.from-in-Err-root_answers.result c.from-in-Err-root_answers.ensures no_memory
 
 pub returns-in_err-text-clause-stop : goal.returns-in_err-text-clause-stop
-returns-in_err-text-clause-stop c = from_error c.from_residual.result c.from_residual.ensures.1 (λ stop p. stops_as (RunStops c.args.loaded.now c.args.budget) _ _ stop p no_memory)
+returns-in_err-text-clause-stop c = from_error c.from_residual.result c.from_residual.ensures.1 (λ stop p. stops_as RunStops _ _ stop p no_memory)
 
 pub returns-in_err-extend_from_slice-clause-stop : goal.returns-in_err-extend_from_slice-clause-stop
 returns-in_err-extend_from_slice-clause-stop c =
-    from_error c.from_residual-in_err-extend_from_slice.result c.from_residual-in_err-extend_from_slice.ensures.1 (λ stop p. stops_as (RunStops c.args.loaded.now c.args.budget) _ _ stop p no_memory)
+    from_error c.from_residual-in_err-extend_from_slice.result c.from_residual-in_err-extend_from_slice.ensures.1 (λ stop p. stops_as RunStops _ _ stop p no_memory)
 
 pub returns-in_err-push_ending-clause-stop : goal.returns-in_err-push_ending-clause-stop
 returns-in_err-push_ending-clause-stop c =
-    from_error c.from_residual-in_err-push_ending.result c.from_residual-in_err-push_ending.ensures.1 (λ stop p. stops_as (RunStops c.args.loaded.now c.args.budget) _ _ stop p no_memory)
+    from_error c.from_residual-in_err-push_ending.result c.from_residual-in_err-push_ending.ensures.1 (λ stop p. stops_as RunStops _ _ stop p no_memory)
 
 pub returns-in_err-push-clause-stop : goal.returns-in_err-push-clause-stop
 returns-in_err-push-clause-stop c =
-    from_error c.from_residual-in_err-push.result c.from_residual-in_err-push.ensures.1 (λ stop p. stops_as (RunStops c.args.loaded.now c.args.budget) _ _ stop p no_memory)
+    from_error c.from_residual-in_err-push.result c.from_residual-in_err-push.ensures.1 (λ stop p. stops_as RunStops _ _ stop p no_memory)
 
 pub returns-clause-run : goal.returns-clause-run
 returns-clause-run c =
@@ -56,5 +50,5 @@ returns-clause-run c =
           (subst (λ rs. IsRunBy c.args.loaded.now c.args.budget c.args.trace (outcome_by e) c.into_journal-journal.result.items rs (text_of c.args.trace c.in-Ok.finished c.in-Ok-root_answers.found.count c.in-Ok-root_answers.found.text.items)) (sym lists)
           (subst (λ j. IsRunBy c.args.loaded.now c.args.budget c.args.trace (outcome_by e) j (c.in-Ok.finished.receipts.items ∷ []) (text_of c.args.trace c.in-Ok.finished c.in-Ok-root_answers.found.count c.in-Ok-root_answers.found.text.items)) (sym c.into_journal-journal.ensures)
           (evaluated c.args.loaded.now c.args.budget c.args.trace c.in-Ok.finished c.in-Ok-root_answers.found.count c.in-Ok-root_answers.found.text.items c.in-Ok.ensures c.roots-roots.ensures.core
-          (c.in-Ok-root_answers.ensures.answers c.roots-roots.ensures.core.table))));
+          (c.in-Ok-root_answers.ensures c.roots-roots.ensures.core.table))));
     }

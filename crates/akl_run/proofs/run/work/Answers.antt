@@ -1,7 +1,5 @@
-use Rattle.std.proofs.Common.{◌≡◌, ℕ, Bool, sym, subst}
 use Rattle.akl_run.specs.Commands.{by_run}
 use Rattle.akl_run.specs.Evaluations.{IsEvaluated}
-use Rattle.akl_run.specs.Reports.{RunStops}
 use Rattle.akl_run.specs.Words.{query_of}
 use Rattle.akl_run.proofs.Loading.{if_error}
 use Rattle.akl_run.proofs.Evaluated.{loaded_shown}
@@ -12,5 +10,4 @@ evaluate-requires-clause-shown g c = loaded_shown c.in_ok-prepared.ensures.ready
 
 pub returns-clause-stop : goal.returns-clause-stop
 returns-clause-stop g c =
-    if_error c.evaluate.result c.evaluate.ensures.stop (λ stop p. by_run c.in_ok-prepared.ensures.ready.asked c.in_ok-prepared.ensures.ready.given c.in_ok-prepared.ensures.ready.loaded
-    (subst (λ (b : ℕ). RunStops c.in_ok-prepared.prepared.loaded b stop.status stop.refusal) c.in_ok-prepared.ensures.ready.same_budget p))
+    if_error c.evaluate.result c.evaluate.ensures.stop (λ stop p. by_run c.in_ok-prepared.ensures.ready.asked c.in_ok-prepared.ensures.ready.given c.in_ok-prepared.ensures.ready.loaded p)

@@ -1,34 +1,22 @@
-use Rattle.std.proofs.Common.{◌≡◌, ◌∙◌, ◌<◌, ◌≤◌, ◌+◌, ◌++◌, ◌∷◌, length, get_or, sym, ap, subst, Err, arith}
+use Rattle.std.proofs.Common.{◌≡◌, ◌∙◌, ◌<◌, ◌≤◌, ◌+◌, ◌++◌, ◌∷◌, length, get_or, sym, ap, subst, arith}
 use Rattle.std.specs.Prelude.{codes}
 use Rattle.std.specs.Fmt.{decimal}
 use Rattle.akl_terms.specs.declared.name.Name.{Name}
-use Rattle.answer_text.specs.declared.lines.AnswerError.TheVariants as variants
-use Rattle.root_answers.specs.Roots.{HasText, HasLongText}
-use Rattle.root_answers.proofs.AllAnswers.{HaveFound, found_none, found_same, found_more, found_every, long_there}
+use Rattle.root_answers.specs.Roots.{HasText}
+use Rattle.root_answers.proofs.AllAnswers.{HaveFound, found_none, found_same, found_more, found_every}
 use Rattle.root_answers.proofs.answers.root_answers.Goals.{in-Some+in_ok-push_answer, in_default}
 use Rattle.root_answers.proofs.answers.root_answers.Goals as goal
 
--- src/answers.rt:50:5
 pub loop-name-init : goal.loop-name-init
 loop-name-init c = record { found = subst (HaveFound c.args.core.now 0 0) (sym c.new-text.ensures.items) (found_none c.args.core.now); few = omega arith }
 
--- src/answers.rt:52:27
-pub returns-in-Err-clause-long : goal.returns-in-Err-clause-long
-returns-in-Err-clause-long c long =
-    let e : c.in-Err.error ≡ variants.Long = cc in
-    let h : c.loop-name.name-index < length c.args.core.now.table.roots = subst (λ ns. c.loop-name.name-index < length ns) c.roots-name-items.ensures.roots c.loop-name-test.true in
-    let l : HasLongText c.args.core.now (get_or c.roots-name-items.result.now c.loop-name.name-index (record { worker = 0; number = 0 })) = c.root_text.ensures.long (c.in-Err.is ∙ ap Err e) in
-    long_there c.args.core.now c.loop-name.name-index (record { worker = 0; number = 0 }) h
-    (subst (λ ns. HasLongText c.args.core.now (get_or ns c.loop-name.name-index (record { worker = 0; number = 0 }))) c.roots-name-items.ensures.roots l)
-
--- src/answers.rt:50:5
 pub loop-name-preserved : goal.loop-name-preserved
 loop-name-preserved c =
     let d : Name = record { worker = 0; number = 0 } in
     let h : c.loop-name.name-index < length c.args.core.now.table.roots = subst (λ ns. c.loop-name.name-index < length ns) c.roots-name-items.ensures.roots c.loop-name-test.true in
     let few : c.loop-name.count ≤ c.loop-name.name-index = c.loop-name.invariant.few in
     let text : HasText c.args.core.now (get_or c.args.core.now.table.roots c.loop-name.name-index d) c.in-Ok.found =
-    subst (λ ns. HasText c.args.core.now (get_or ns c.loop-name.name-index d) c.in-Ok.found) c.roots-name-items.ensures.roots c.in-Ok.ensures.text in
+    subst (λ ns. HasText c.args.core.now (get_or ns c.loop-name.name-index d) c.in-Ok.found) c.roots-name-items.ensures.roots c.in-Ok.ensures in
     elim c.match-found.branch [
       | in-Some+in_ok-push_answer w ↦
           let lines : w.deref.result.now ≡ w.in-Some.lines.items = w.deref.ensures.value in
@@ -54,8 +42,7 @@ loop-name-preserved c =
           }
     ]
 
--- src/answers.rt:39:1
-pub returns-clause-answers : goal.returns-clause-answers
-returns-clause-answers c =
+pub returns : goal.returns
+returns c =
     let h : length c.args.core.now.table.roots ≤ c.loop-name.name-index = subst (λ ns. length ns ≤ c.loop-name.name-index) c.roots-name-items.ensures.roots c.loop-name-test.false in
     found_every c.args.core.now c.loop-name.name-index c.loop-name.count c.loop-name.text.items h c.loop-name.invariant.found

@@ -1,14 +1,13 @@
-use Rattle.std.proofs.Common.{◌≡◌, ◌∙◌, sym, ap, subst, true, Err}
+use Rattle.std.proofs.Common.{◌≡◌, ◌∙◌, Some, sym, ap, subst, true, Err}
 use Rattle.local_store.specs.Asking.{Decides}
 use Rattle.local_store.specs.declared.asking.Consistency.TheVariants.{Consistent, Clash}
 use Rattle.box_tree.specs.Tables.{table_of, goals_in, is_empty}
-use Rattle.answer_text.specs.declared.lines.AnswerError.TheVariants as variants
-use Rattle.root_answers.proofs.RootTexts.{IsRootView, clashes, is_text, is_long}
+use Rattle.root_answers.specs.Roots.{IsText}
+use Rattle.root_answers.proofs.RootTexts.{IsRootView, clashes, is_text, long_text}
 use Rattle.root_answers.proofs.root.root_text.Goals as goal
 
--- src/root.rt:27:1
-pub returns-in-Ok-Clash-clause-text : goal.returns-in-Ok-Clash-clause-text
-returns-in-Ok-Clash-clause-text c =
+pub returns-in-Ok-Clash : goal.returns-in-Ok-Clash
+returns-in-Ok-Clash c =
     let w : IsRootView c.args.core.now c.args.name c.in-Ok.view c.chain-chain.result = record {
       seen = c.chain-chain.ensures.seen;
       table = c.in-Ok.ensures.table;
@@ -21,9 +20,8 @@ returns-in-Ok-Clash-clause-text c =
     clashes c.args.core.now c.args.name c.in-Ok.view c.chain-chain.result w c.in-Ok-Clash.field-0-0 c.in-Ok-Clash.field-0-1
     (subst (Decides c.chain-chain.result.nodes c.chain-chain.result.stores) c.in-Ok-Clash.field-0-is c.in-Ok-Clash.ensures)
 
--- src/root.rt:27:1
-pub returns-in-Ok-chain_answer-clause-text : goal.returns-in-Ok-chain_answer-clause-text
-returns-in-Ok-chain_answer-clause-text c =
+pub returns-in-Ok-chain_answer : goal.returns-in-Ok-chain_answer
+returns-in-Ok-chain_answer c =
     let w : IsRootView c.args.core.now c.args.name c.in-Ok.view c.chain-chain.result = record {
       seen = c.chain-chain.ensures.seen;
       table = c.in-Ok.ensures.table;
@@ -37,9 +35,8 @@ returns-in-Ok-chain_answer-clause-text c =
     (subst (Decides c.chain-chain.result.nodes c.chain-chain.result.stores) c.in-Ok-Consistent.field-0-is c.in-Ok-Consistent.ensures)
     c.shown_of.ensures c.in-Ok-chain_answer.ensures.text c.in-Ok-chain_answer.ensures.short
 
--- src/root.rt:18:1
-pub returns-clause-long : goal.returns-clause-long
-returns-clause-long c long =
+pub returns-in-Err-Long : goal.returns-in-Err-Long
+returns-in-Err-Long c =
     let w : IsRootView c.args.core.now c.args.name c.in-Ok.view c.chain-chain.result = record {
       seen = c.chain-chain.ensures.seen;
       table = c.in-Ok.ensures.table;
@@ -49,7 +46,7 @@ returns-clause-long c long =
       symbols = c.chain-chain.ensures.symbols ∙ ap (λ p. p.templates.symbols) c.requires;
       stores = c.chain-chain.ensures.stores;
     } in
-    let e : c.in-Err-chain_answer.error ≡ variants.Long = cc in
-    is_long c.args.core.now c.args.name c.in-Ok.view c.chain-chain.result w c.shown_of.result.now (sym c.if-not-is_solved.ensures)
+    subst (λ line. IsText c.args.core.now c.args.name (Some line)) (sym c.in_ok-long_line-in-Err-Long.ensures)
+    (long_text c.args.core.now c.args.name c.in-Ok.view c.chain-chain.result w c.shown_of.result.now (sym c.if-not-is_solved.ensures)
     (subst (Decides c.chain-chain.result.nodes c.chain-chain.result.stores) c.in-Ok-Consistent.field-0-is c.in-Ok-Consistent.ensures)
-    c.shown_of.ensures (c.chain_answer.ensures.long (c.in-Err-chain_answer.is ∙ ap Err e))
+    c.shown_of.ensures (c.chain_answer.ensures.long (c.in-Err-Long.is ∙ ap Err c.in-Err-Long.field-0-is)))
