@@ -8,8 +8,10 @@ use Rattle.std.specs.Global.{Vec}
 use Rattle.akl_terms.specs.declared.name.Var.{Var}
 use Rattle.akl_terms.specs.declared.name.Place.{Place}
 use Rattle.akl_terms.specs.contracts.name.PlaceOrd.TheImpl as places
+use Rattle.akl_terms.specs.Names.{same_var}
 use Rattle.akl_terms.proofs.SameNames.{same_name-equal}
 use Rattle.wake_lists.specs.Waits.{same_place, waits_on, is_variable_in, lists, AreBoth}
+use Rattle.wake_lists.proofs.Growing as growing
 use Rattle.wake_lists.proofs.Keys.{place_is}
 use Rattle.wake_lists.proofs.WaitsKept.{place_back, JoinedBy, PartedBy}
 
@@ -45,20 +47,8 @@ module _ (place : Place) (on : List Var) (old : List (Var × List Place)) (t : B
   -- what was joined and then parted is as it was
   pub undone : ((x : Var) → waits_on old place x ≡ false) → (ws new : List (Var × List Place)) → ((p : Place) (x : Var) → (same_place p place && is_variable_in x on) ≡ false → waits_on ws p x ≡ waits_on old p x)
       → PartedBy place on ws new on → (p : Place) (x : Var) → waits_on new p x ≡ waits_on old p x
-  undone none ws new others parted p x = parted p x ∙ by (same_place p place) refl (is_variable_in x on) refl
-    where
-      less : (b : Bool) → (b && true) ≡ b
-      less true = refl
-      less false = refl
-
-      gone : (b : Bool) → (b && false) ≡ false
-      gone true = refl
-      gone false = refl
-
-      by : (s : Bool) → same_place p place ≡ s → (m : Bool) → is_variable_in x on ≡ m → (waits_on ws p x && not (s && m)) ≡ waits_on old p x
-      by true e true f = gone (waits_on ws p x) ∙ sym (ap (λ q. waits_on old q x) (same_place-equal p place e) ∙ none x)
-      by true e false f = less (waits_on ws p x) ∙ others p x ((λ i. e i && f i))
-      by false e m f = less (waits_on ws p x) ∙ others p x ((λ i. e i && f i))
+  undone none ws new others parted =
+      growing.undone (λ p. same_place p place) same_var on (waits_on old) (waits_on ws) (waits_on new) (λ p x e. ap (λ q. waits_on old q x) (same_place-equal p place e) ∙ none x) others parted
 
   pub others_of : (ws : List (Var × List Place)) → JoinedBy place on old ws on → (p : Place) (x : Var) → (same_place p place && is_variable_in x on) ≡ false → waits_on ws p x ≡ waits_on old p x
   others_of ws joined p x e = joined p x ∙ ap (λ (b : Bool). waits_on old p x || b) e ∙ less (waits_on old p x)

@@ -1,8 +1,9 @@
--- Variables and places as keys of maps and sets.
-use Rattle.std.proofs.Common.{◌≡◌, ℕ, refl, ◌∙◌, arith}
+-- Variables, places, turns and tokens as keys of maps and sets.
+use Rattle.std.proofs.Common.{Bool, true, Option, sym, ap, ◌≡◌, ℕ, refl, ◌∙◌, arith}
 use Rattle.std.proofs.lemmas.Bool.Decides.{nat_tests}
-use Rattle.std.specs.Prelude.{◌&&◌, ◌==◌}
-use Rattle.std.specs.BTreeMap.{is_at}
+use Rattle.std.specs.Prelude.{◌&&◌, ◌==◌, cond, if◌then◌else◌}
+use Rattle.std.specs.Map.{lookup}
+use Rattle.std.specs.BTreeMap.{BTreeMap, is_at, get}
 use Rattle.std.specs.Ordering.{is_eq, nat_cmp, ordering_then}
 use Rattle.std.specs.declared.cmp.Ordering.{Ordering}
 use Rattle.akl_terms.specs.declared.name.Name.{Name}
@@ -10,8 +11,16 @@ use Rattle.akl_terms.specs.declared.name.Var.{Var}
 use Rattle.akl_terms.specs.declared.name.Place.{Place}
 use Rattle.akl_terms.specs.contracts.name.VarOrd.TheImpl as variables
 use Rattle.akl_terms.specs.contracts.name.PlaceOrd.TheImpl as places
+use Rattle.wake_lists.specs.contracts.inside.StandOrd.TheImpl as in_boxes
+use Rattle.wake_lists.specs.contracts.turn.TurnOrd.TheImpl as turns
+use Rattle.wake_lists.specs.declared.inside.Stand.{Stand}
+use Rattle.wake_lists.specs.declared.turn.Urgency.{Urgency}
+use Rattle.wake_lists.specs.declared.turn.Turn.{Turn}
 use Rattle.akl_terms.specs.Names.{same_name, same_var, name_cmp, var_cmp}
 use Rattle.wake_lists.specs.Waits.{same_place}
+use Rattle.wake_lists.specs.Standing.{is_stand}
+use Rattle.wake_lists.specs.Queue.{same_turn, same_urgency}
+use lib.Dec.{eqb}
 
 nat_is : (x y : ℕ) → is_eq (nat_cmp x y) ≡ (x == y)
 nat_is x y = grind (arith, nat_tests)
@@ -35,3 +44,58 @@ place_is (Place.Goal m) (Place.Goal n) = name_is m n
 place_is (Place.Goal m) (Place.Box n) = refl
 place_is (Place.Box m) (Place.Goal n) = refl
 place_is (Place.Box m) (Place.Box n) = name_is m n
+
+pub token_is : (s t : ℕ) → is_at (nat_cmp s) t ≡ eqb s t
+token_is s t = grind (arith, nat_tests)
+
+pub stand_is : (t : ℕ) (n : Name) (s : Stand) → is_at (in_boxes.cmp-value.it (record { name = n; token = t })) s ≡ is_stand t n s
+stand_is t n s = then_is (name_cmp n s.name) (nat_cmp t s.token) ∙ (λ i. name_is n s.name i && nat_is t s.token i)
+
+abbrev pub timed : Urgency → ℕ → Turn
+timed a n = record { urgency = a; number = n }
+
+pub turn_is : (u v : Turn) → is_at (turns.cmp-value.it u) v ≡ same_turn u v
+turn_is u v = on u.urgency v.urgency
+  where
+    on : (a b : Urgency) → is_at (turns.cmp-value.it (timed a u.number)) (timed b v.number) ≡ same_turn (timed a u.number) (timed b v.number)
+    on Urgency.Urgent Urgency.Urgent = nat_is u.number v.number
+    on Urgency.Urgent Urgency.Ordinary = refl
+    on Urgency.Ordinary Urgency.Urgent = refl
+    on Urgency.Ordinary Urgency.Ordinary = nat_is u.number v.number
+
+pub name_back : (m n : Name) → same_name m n ≡ same_name n m
+name_back m n = grind (arith, nat_tests)
+
+pub token_equal : (s t : ℕ) → eqb s t ≡ true → s ≡ t
+token_equal s t e = grind (arith, nat_tests)
+
+pub token_here : (t : ℕ) → eqb t t ≡ true
+token_here t = grind (arith, nat_tests)
+
+pub turn_equal : (u v : Turn) → same_turn u v ≡ true → u ≡ v
+turn_equal u v = on u.urgency v.urgency
+  where
+    numbers : (a : Urgency) → (u.number == v.number) ≡ true → timed a u.number ≡ timed a v.number
+    numbers a e = let same : u.number ≡ v.number = grind (arith, nat_tests) in ap (timed a) same
+
+    on : (a b : Urgency) → (same_urgency a b && (u.number == v.number)) ≡ true → timed a u.number ≡ timed b v.number
+    on Urgency.Urgent Urgency.Urgent e = numbers Urgency.Urgent e
+    on Urgency.Urgent Urgency.Ordinary e = absurd (cc)
+    on Urgency.Ordinary Urgency.Urgent e = absurd (cc)
+    on Urgency.Ordinary Urgency.Ordinary e = numbers Urgency.Ordinary e
+
+pub turn_here : (u : Turn) → same_turn u u ≡ true
+turn_here u = on u.urgency
+  where
+    on : (a : Urgency) → (same_urgency a a && (u.number == u.number)) ≡ true
+    on Urgency.Urgent = token_here u.number
+    on Urgency.Ordinary = token_here u.number
+
+-- a map whose keys are told apart by a test
+module _ {K X : Type 0} (cmp : K → K → Ordering) (same : K → K → Bool) (is : (k l : K) → is_at (cmp k) l ≡ same k l) where
+  pub found : (m : BTreeMap K X) (k : K) → get cmp m k ≡ lookup (same k) m.entries
+  found m k = λ i. lookup (λ l. is k l i) m.entries
+
+  -- what it has once a key was set or taken out
+  pub puts : (k : K) (m n : BTreeMap K X) (w : Option X) → ((q : K) → get cmp n q ≡ cond (is_at (cmp k) q) w (get cmp m q)) → (l : K) → lookup (same l) n.entries ≡ (if same k l then w else lookup (same l) m.entries)
+  puts k m n w h l = sym (found n l) ∙ h l ∙ (λ i. cond (is k l i) w (found m l i))

@@ -1,3 +1,12 @@
 pub mod Both
+pub mod BoxesKept
+pub mod Growing
+pub mod InBoxes
 pub mod Keys
+pub mod Leading
+pub mod OpeningsKept
+pub mod OpenKept
+pub mod Queueing
+pub mod QueueKept
+pub mod Taking
 pub mod WaitsKept

@@ -1,9 +1,7 @@
 -- The places that wait on variables, when those of one variable change.
-use Rattle.std.proofs.Common.{◌≡◌, ℕ, zero, suc, ◌+◌, ◌<◌, ◌≤◌, length, take, get_or, Bool, true, false, List, [], ◌∷◌, Option, Some, None, refl, sym, ap, ◌∙◌, subst, arith}
+use Rattle.std.proofs.Common.{◌≡◌, length, Bool, true, false, List, [], ◌∷◌, Option, Some, None, refl, sym, ap, ◌∙◌, arith}
 use Rattle.std.proofs.lemmas.Bool.Decides.{nat_tests}
 use Rattle.std.specs.Prelude.{cond, if◌then◌else◌, ◌||◌, ◌&&◌, not, option_map, IsSome}
-use Rattle.std.proofs.lemmas.List.{take_more, take_all}
-use Rattle.std.proofs.lemmas.List.Folds.{list_any-append}
 use Rattle.std.specs.Result.{OnErr, OnOk, is_err}
 use Rattle.std.specs.declared.result.Result.{Result}
 use Rattle.std.specs.declared.result.Result.TheVariants.{Ok, Err}
@@ -18,8 +16,9 @@ use Rattle.akl_terms.specs.contracts.name.VarOrd.TheImpl as variables
 use Rattle.akl_terms.specs.contracts.name.PlaceOrd.TheImpl as places
 use Rattle.akl_terms.specs.Names.{same_var}
 use Rattle.akl_terms.proofs.SameNames.{same_var-equal}
-use Rattle.wake_lists.specs.Waits.{same_place, listed, waits_on, places_at, waits_of, is_variable_in}
+use Rattle.wake_lists.specs.Waits.{same_place, listed, waits_on, places_at, waits_of}
 use Rattle.wake_lists.proofs.Keys.{variable_is, place_is}
+use Rattle.wake_lists.proofs.Growing as growing
 
 pub variable_back : (x y : Var) → same_var x y ≡ same_var y x
 variable_back x y = grind (arith, nat_tests)
@@ -193,90 +192,9 @@ pub but_is : (a b : Bool) → cond a false b ≡ (not a && b)
 but_is true b = refl
 but_is false b = refl
 
--- over a list of variables
-variable_next : (x : Var) (xs : List Var) (i : ℕ) (d : Var) → i < length xs → is_variable_in x (take (i + 1) xs) ≡ (is_variable_in x (take i xs) || (same_var x (get_or xs i d) || false))
-variable_next x xs i d h = ap (is_variable_in x) (take_more xs i d h) ∙ list_any-append (same_var x) (take i xs) (get_or xs i d ∷ [])
-
-variable_before : (x : Var) (xs : List Var) (i : ℕ) → is_variable_in x xs ≡ false → is_variable_in x (take i xs) ≡ false
-variable_before x xs zero e = refl
-variable_before x [] (suc i) e = refl
-variable_before x (y ∷ xs) (suc i) e = on (same_var x y) e (variable_before x xs i)
-  where
-    on : (s : Bool) → (s || is_variable_in x xs) ≡ false → (is_variable_in x xs ≡ false → is_variable_in x (take i xs) ≡ false) → (s || is_variable_in x (take i xs)) ≡ false
-    on true e r = absurd (cc)
-    on false e r = r e
-
 module _ (place : Place) (xs : List Var) (old : List (Var × List Place)) where
   abbrev pub JoinedBy : List (Var × List Place) → List Var → Type 0
-  JoinedBy ws ys = (p : Place) (x : Var) → waits_on ws p x ≡ (waits_on old p x || (same_place p place && is_variable_in x ys))
+  JoinedBy ws ys = growing.JoinedBy (λ p. same_place p place) same_var xs (waits_on old) (waits_on ws) ys
 
   abbrev pub PartedBy : List (Var × List Place) → List Var → Type 0
-  PartedBy ws ys = (p : Place) (x : Var) → waits_on ws p x ≡ (waits_on old p x && not (same_place p place && is_variable_in x ys))
-
-  pub joined_none : JoinedBy old []
-  joined_none p x = on (waits_on old p x) (same_place p place)
-    where
-      on : (b a : Bool) → b ≡ (b || (a && false))
-      on true a = refl
-      on false true = refl
-      on false false = refl
-
-  pub parted_start : PartedBy old []
-  parted_start p x = on (waits_on old p x) (same_place p place)
-    where
-      on : (b a : Bool) → b ≡ (b && not (a && false))
-      on true true = refl
-      on true false = refl
-      on false a = refl
-
-  pub joined_next : (ws new : List (Var × List Place)) (i : ℕ) (d : Var) → i < length xs → JoinedBy ws (take i xs)
-      → ((p : Place) (x : Var) → waits_on new p x ≡ (waits_on ws p x || (same_place p place && same_var x (get_or xs i d)))) → JoinedBy new (take (i + 1) xs)
-  joined_next ws new i d h k e p x =
-      e p x ∙ ap (λ (b : Bool). b || (same_place p place && same_var x (get_or xs i d))) (k p x)
-      ∙ on (waits_on old p x) (same_place p place) (is_variable_in x (take i xs)) (same_var x (get_or xs i d))
-      ∙ ap (λ (b : Bool). waits_on old p x || (same_place p place && b)) (sym (variable_next x xs i d h))
-    where
-      or_false : (m s : Bool) → (m || s) ≡ (m || (s || false))
-      or_false true s = refl
-      or_false false true = refl
-      or_false false false = refl
-
-      on : (w a m s : Bool) → ((w || (a && m)) || (a && s)) ≡ (w || (a && (m || (s || false))))
-      on true a m s = refl
-      on false true m s = or_false m s
-      on false false m s = refl
-
-  pub parted_next : (ws new : List (Var × List Place)) (i : ℕ) (d : Var) → i < length xs → PartedBy ws (take i xs)
-      → ((p : Place) (x : Var) → waits_on new p x ≡ (waits_on ws p x && not (same_place p place && same_var x (get_or xs i d)))) → PartedBy new (take (i + 1) xs)
-  parted_next ws new i d h k e p x =
-      e p x ∙ ap (λ (b : Bool). b && not (same_place p place && same_var x (get_or xs i d))) (k p x)
-      ∙ on (waits_on old p x) (same_place p place) (is_variable_in x (take i xs)) (same_var x (get_or xs i d))
-      ∙ ap (λ (b : Bool). waits_on old p x && not (same_place p place && b)) (sym (variable_next x xs i d h))
-    where
-      both : (m s : Bool) → (not m && not s) ≡ not (m || (s || false))
-      both true s = refl
-      both false true = refl
-      both false false = refl
-
-      on : (w a m s : Bool) → ((w && not (a && m)) && not (a && s)) ≡ (w && not (a && (m || (s || false))))
-      on true true m s = both m s
-      on true false m s = refl
-      on false a m s = refl
-
-  pub joined_all : (ws : List (Var × List Place)) (i : ℕ) → length xs ≤ i → JoinedBy ws (take i xs) → JoinedBy ws xs
-  joined_all ws i h k = subst (JoinedBy ws) (take_all i xs h) k
-
-  pub parted_all : (ws : List (Var × List Place)) (i : ℕ) → length xs ≤ i → PartedBy ws (take i xs) → PartedBy ws xs
-  parted_all ws i h k = subst (PartedBy ws) (take_all i xs h) k
-
-  -- for what isn't joined at all it is as it was after some
-  pub joined_others : (ws : List (Var × List Place)) (i : ℕ) → JoinedBy ws (take i xs) → (p : Place) (x : Var) → (same_place p place && is_variable_in x xs) ≡ false → waits_on ws p x ≡ waits_on old p x
-  joined_others ws i k p x e = k p x ∙ on (waits_on old p x) (same_place p place) e
-    where
-      nothing : (w : Bool) (m : Bool) → m ≡ false → (w || m) ≡ w
-      nothing true m e = refl
-      nothing false m e = e
-
-      on : (w a : Bool) → (a && is_variable_in x xs) ≡ false → (w || (a && is_variable_in x (take i xs))) ≡ w
-      on w true e = nothing w (is_variable_in x (take i xs)) (variable_before x xs i e)
-      on w false e = nothing w false refl
+  PartedBy ws ys = growing.PartedBy (λ p. same_place p place) same_var xs (waits_on old) (waits_on ws) ys

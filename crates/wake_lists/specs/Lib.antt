@@ -1,1 +1,6 @@
+pub mod Open
+pub mod Opened
+pub mod Queue
+pub mod Standing
+pub mod Tokens
 pub mod Waits

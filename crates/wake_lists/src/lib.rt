@@ -1,7 +1,15 @@
-//! Which places wait on which variables.
+//! Which places are open, in the order in which they come, and which places wait on which variables.
 #![tactic(auto)]
 
+mod inside;
+mod open;
+mod queue;
+mod standing;
+mod tokens;
+mod turn;
 mod waiting;
 mod waits;
 
+pub use open::Open;
+pub use turn::{Turn, Urgency};
 pub use waits::{Waits, Woken};

@@ -1,0 +1,105 @@
+-- Open places, when one is opened, becomes urgent or is closed.
+use Rattle.std.proofs.Common.{◌≡◌, ℕ, ◌<◌, Bool, true, false, List, [], Option, Some, None, refl, sym, ap, ◌∙◌, arith, ◌⊎◌}
+use Rattle.std.proofs.lemmas.Bool.Decides.{nat_tests}
+use Rattle.std.specs.Prelude.{if◌then◌else◌, ◌==◌, is_some, IsSome}
+use Rattle.std.specs.Map.{lookup}
+use Rattle.std.specs.BTreeMap.{insert_entry}
+use Rattle.std.specs.Ordering.{nat_cmp}
+use Rattle.akl_terms.specs.declared.name.Name.{Name}
+use Rattle.akl_terms.specs.declared.name.Place.{Place}
+use Rattle.wake_lists.specs.declared.turn.Urgency.{Urgency}
+use Rattle.wake_lists.specs.declared.turn.Turn.{Turn}
+use Rattle.wake_lists.specs.declared.queue.Opened.{Opened}
+use Rattle.wake_lists.specs.Waits.{same_place}
+use Rattle.wake_lists.specs.Tokens.{Numbers, IsLeastFree}
+use Rattle.wake_lists.specs.Standing.{boxes_at}
+use Rattle.wake_lists.specs.Queue.{Places, IsPut, IsTakenOut, HasNone, is_place}
+use Rattle.wake_lists.specs.Open.{Opening, opening_at, IsOpen, IsLast, IsLeastToken, IsOpened, closed}
+use Rattle.wake_lists.specs.Opened.{opening, openings, AreOpen}
+use Rattle.wake_lists.proofs.Keys.{token_here}
+use Rattle.wake_lists.proofs.Both.{same_place-equal}
+use Rattle.wake_lists.proofs.Leading.{none_some}
+use Rattle.wake_lists.proofs.OpeningsKept.{Boxes, opened, not_opened, kept_as, openings_apart, openings_put, openings_out}
+use lib.Dec.{eqb}
+
+module _ (os : Places) (bs : Boxes) where
+  pub not_there : (t : ℕ) → lookup (eqb t) os ≡ None → {X : Type 0} (place : Place) → IsOpen (openings bs os) place (Some t) → X
+  not_there t none place known = let b = known.back t refl in none_some b.0 (sym (not_opened bs os t none) ∙ b.1)
+
+  -- a place that isn't open has no token
+  pub is_closed : (place : Place) → IsOpen (openings bs os) place None → HasNone (is_place place) os
+  is_closed place known t o e = on (same_place place o.place) refl
+    where
+      on : (b : Bool) → same_place place o.place ≡ b → b ≡ false
+      on false f = refl
+      on true f = none_some t (known.there t (opening (boxes_at t bs) o) (opened bs os t o e) (sym (same_place-equal place o.place f)))
+
+  module _ (t : ℕ) (o : Opened) (is : lookup (eqb t) os ≡ Some o) (place : Place) (known : IsOpen (openings bs os) place (Some t)) where
+    -- the place that has a token
+    pub place_of : o.place ≡ place
+    place_of = on (known.back t refl)
+      where
+        one : (x y : Opening) → Some x ≡ Some y → x ≡ y
+        one x y f = cc
+
+        on : (q : Opening) × (opening_at t (openings bs os) ≡ Some q) × (q.place ≡ place) → o.place ≡ place
+        on b = ap (λ (q : Opening). q.place) (one (opening (boxes_at t bs) o) b.0 (sym (opened bs os t o is) ∙ b.1)) ∙ b.2
+
+    -- it comes no later as it is
+    pub stays_so : (around : List Name) (kind : Urgency) → (kind ≡ Urgency.Ordinary) ⊎ (o.turn.urgency ≡ Urgency.Urgent) → IsOpened (openings bs os) (openings bs os) place around kind t
+    stays_so around kind how = IsOpened.stays (opening (boxes_at t bs) o) (opened bs os t o is) place_of how refl
+
+  -- a place is closed
+  pub is_out : (t : ℕ) (new : Places) → IsTakenOut os new t → (cs : Boxes) → ((s : ℕ) → boxes_at s cs ≡ (if s == t then [] else boxes_at s bs)) → openings cs new ≡ closed t (openings bs os)
+  is_out t new out cs left = openings_apart bs cs t [] new gone left ∙ ap (openings bs) out.entries ∙ openings_out bs os t
+    where
+      gone : lookup (eqb t) new ≡ None
+      gone = out.finds t ∙ (λ i. if token_here t i then None else lookup (eqb t) os)
+
+module _ (os : Places) (bs : Boxes) (numbers : Numbers) (next : ℕ) (a : AreOpen os bs numbers next) where
+  -- a turn with the next number comes after all others as urgent
+  comes_last : (u : Turn) → u.number ≡ next → IsLast (openings bs os) u
+  comes_last u e s q f =
+      let k = kept_as bs os s q f in
+      let below : k.0.turn.number < next = a.earlier s k.0 k.1 in
+      let same : q.turn.number ≡ k.0.turn.number = ap (λ (o : Opening). o.turn.number) k.2 in
+      omega arith
+
+  -- an open place gets it
+  pub hurried : (t : ℕ) (o : Opened) → lookup (eqb t) os ≡ Some o → (u : Turn) → u.number ≡ next → (new : Places) → IsPut os new t (record o { turn = u }) → (place : Place) (around : List Name)
+      → IsOpen (openings bs os) place (Some t) → u.urgency ≡ Urgency.Urgent → o.turn.urgency ≡ Urgency.Ordinary → IsOpened (openings bs os) (openings bs new) place around u.urgency t
+  hurried t o is u number new p place around known f g =
+      IsOpened.hurries (opening (boxes_at t bs) o) u (opened bs os t o is) (place_of os bs t o is place known) f g f (comes_last u number)
+      (ap (openings bs) p.entries ∙ openings_put bs os t (record o { turn = u }))
+
+  -- the least free number is that of no open place
+  module _ (t : ℕ) (least : IsLeastFree numbers t) where
+    is_free : lookup (eqb t) os ≡ None
+    is_free = on (lookup (eqb t) os) refl
+      where
+        on : (w : Option Opened) → lookup (eqb t) os ≡ w → w ≡ None
+        on None e = refl
+        on (Some o) e = let no : true ≡ false = sym (a.taken t ∙ ap is_some e) ∙ least.free in absurd (cc)
+
+    is_least : IsLeastToken (openings bs os) t
+    is_least = record {
+      free = not_opened bs os t is_free;
+      least = λ s below. some s (lookup (eqb s) os) refl (sym (a.taken s) ∙ least.least s below);
+    }
+      where
+        some : (s : ℕ) (w : Option Opened) → lookup (eqb s) os ≡ w → is_some (lookup (eqb s) os) ≡ true → IsSome (opening_at s (openings bs os))
+        some s None e f = let no : false ≡ true = sym (ap is_some e) ∙ f in absurd (cc)
+        some s (Some o) e f = ap is_some (opened bs os s o e)
+
+    -- a place is opened under it
+    pub is_opened : (place : Place) (around : List Name) (u : Turn) → u.number ≡ next → (new : Places) → IsPut os new t (record { place = place; turn = u })
+        → (cs : Boxes) → ((s : ℕ) → boxes_at s cs ≡ (if s == t then around else boxes_at s bs)) → IsOpen (openings bs os) place None → IsOpened (openings bs os) (openings cs new) place around u.urgency t
+    is_opened place around u number new p cs entered known = IsOpened.is_new u known is_least refl (comes_last u number)
+        (ap (openings cs) p.entries ∙ openings_put cs os t (record { place = place; turn = u })
+        ∙ (λ i. insert_entry nat_cmp (openings_apart bs cs t around os is_free entered i) t (record { place = place; turn = u; boxes = its i })))
+      where
+        same : (t == t) ≡ true
+        same = grind (arith, nat_tests)
+
+        its : boxes_at t cs ≡ around
+        its = entered t ∙ (λ i. if same i then around else boxes_at t bs)

@@ -1,0 +1,76 @@
+-- Open places by their tokens, and in the order of their turns.
+use Rattle.std.specs.Prelude.{◌≡◌, ℕ, List, [], Option, None, Some, Bool, true, false, ◌&&◌, ◌==◌, if◌then◌else◌, nat_lt, ◌⊎◌}
+use Rattle.std.specs.Map.{lookup, remove_entry, keys_of}
+use Rattle.std.specs.BTreeMap.{insert_entry}
+use Rattle.std.specs.List.Sorted.{IsStrictlySortedBy}
+use Rattle.std.specs.Ordering.{nat_cmp}
+use Rattle.akl_terms.specs.declared.name.Place.{Place}
+use Rattle.wake_lists.specs.declared.turn.Urgency.{Urgency}
+use Rattle.wake_lists.specs.declared.turn.Turn.{Turn}
+use Rattle.wake_lists.specs.declared.queue.Opened.{Opened}
+use Rattle.wake_lists.specs.Waits.{same_place}
+use lib.Dec.{eqb}
+
+-- a turn comes before another one: an urgent one before one that isn't, else the one with the lower number
+abbrev pub earlier : Urgency → ℕ → Urgency → ℕ → Bool
+earlier Urgency.Urgent m Urgency.Urgent n = nat_lt m n
+earlier Urgency.Urgent m Urgency.Ordinary n = true
+earlier Urgency.Ordinary m Urgency.Urgent n = false
+earlier Urgency.Ordinary m Urgency.Ordinary n = nat_lt m n
+
+abbrev pub is_earlier : Turn → Turn → Bool
+is_earlier s t = earlier s.urgency s.number t.urgency t.number
+
+abbrev pub same_urgency : Urgency → Urgency → Bool
+same_urgency Urgency.Urgent Urgency.Urgent = true
+same_urgency Urgency.Urgent Urgency.Ordinary = false
+same_urgency Urgency.Ordinary Urgency.Urgent = false
+same_urgency Urgency.Ordinary Urgency.Ordinary = true
+
+abbrev pub same_turn : Turn → Turn → Bool
+same_turn s t = same_urgency s.urgency t.urgency && (s.number == t.number)
+
+abbrev pub Places : Type 0
+Places = List (ℕ × Opened)
+
+-- one token leads to something else, or to nothing
+abbrev pub Finds : Places → Places → ℕ → Option Opened → Type 0
+Finds old new t w = (s : ℕ) → lookup (eqb s) new ≡ (if eqb t s then w else lookup (eqb s) old)
+
+pub record IsPut (old new : Places) (t : ℕ) (o : Opened) : Type 0 where
+  pub entries : new ≡ insert_entry nat_cmp old t o
+  pub finds : Finds old new t (Some o)
+
+pub record IsTakenOut (old new : Places) (t : ℕ) : Type 0 where
+  pub entries : new ≡ remove_entry (eqb t) old
+  pub finds : Finds old new t None
+
+abbrev pub is_place : Place → Opened → Bool
+is_place p o = same_place p o.place
+
+abbrev pub is_turn : Turn → Opened → Bool
+is_turn u o = same_turn u o.turn
+
+-- no open place is so
+abbrev pub HasNone : (Opened → Bool) → Places → Type 0
+HasNone test os = (t : ℕ) (o : Opened) → lookup (eqb t) os ≡ Some o → test o ≡ false
+
+-- the token of a place, where it is open
+pub record IsTokenOf (os : Places) (place : Place) (result : Option ℕ) : Type 0 where
+  pub there : (t : ℕ) (o : Opened) → lookup (eqb t) os ≡ Some o → o.place ≡ place → result ≡ Some t
+  pub back : (t : ℕ) → result ≡ Some t → (o : Opened) × (lookup (eqb t) os ≡ Some o) × (o.place ≡ place)
+
+-- the token of the place that comes before all others
+abbrev pub IsNext : Places → Option ℕ → Type 0
+IsNext os None = os ≡ []
+IsNext os (Some t) = (o : Opened) × (lookup (eqb t) os ≡ Some o) × ((s : ℕ) (q : Opened) → lookup (eqb s) os ≡ Some q → (s ≡ t) ⊎ (is_earlier o.turn q.turn ≡ true))
+
+-- a key leads to the token of the open place that has it
+pub record Leads {K : Type 0} (key : Opened → K) (index : K → Option ℕ) (find : ℕ → Option Opened) : Type 0 where
+  pub there : (t : ℕ) (o : Opened) → find t ≡ Some o → index (key o) ≡ Some t
+  pub back : (k : K) (t : ℕ) → index k ≡ Some t → (o : Opened) × (find t ≡ Some o) × (key o ≡ k)
+
+pub record AreQueued (es : Places) (tokens : List (Place × ℕ)) (turns : List (Turn × ℕ)) : Type 0 where
+  pub by_place : Leads (λ o. o.place) (λ k. lookup (same_place k) tokens) (λ t. lookup (eqb t) es)
+  pub by_turn : Leads (λ o. o.turn) (λ k. lookup (same_turn k) turns) (λ t. lookup (eqb t) es)
+  pub ordered : IsStrictlySortedBy nat_cmp (keys_of es)

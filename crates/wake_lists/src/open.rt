@@ -1,0 +1,195 @@
+//! The open places, in the order in which they come.
+
+ghost use Rattle.std.specs.Prelude.{◌≡◌, [], None, Some, length, option_map, IfOk, IfErr};
+ghost use Rattle.wake_lists.specs.Open.{opening_at, IsFirst, IsOpen, IsOpened, closed, after_one, after_leave, is_busy};
+
+use crate::queue::{Opened, Queue};
+use crate::standing::Standing;
+use crate::tokens::Tokens;
+use crate::turn::{Turn, Urgency};
+use akl_terms::{Name, Place};
+use std::alloc::{AllocError, Global};
+use std::marker::Model;
+
+/// The open places. Contracts see it as these by their tokens, each with its turn and the boxes in which it stands.
+///
+/// A call takes time in the order of the logarithm of what is held, for each box in which its place stands. `leave`
+/// takes so much for each place that stands in the boxes, and none of these stands in a box afterwards.
+#[derive(Drop)]
+pub struct Open {
+    queue: Queue,
+    standing: Standing,
+    numbers: Tokens,
+    // The number of the next turn.
+    next: u64,
+}
+
+impl Model for Open {
+    ghost use Rattle.std.specs.Prelude.{List, ℕ};
+    ghost use Rattle.wake_lists.specs.Open.{Opening};
+    ghost use Rattle.wake_lists.specs.Opened.{openings, AreOpen};
+
+    ghost Value = { List (ℕ × Opening) };
+
+    ghost view = { λ o. openings o.standing o.queue };
+
+    ghost invariant = { λ o. AreOpen o.queue o.standing o.numbers o.next };
+}
+
+impl Open {
+    /// No place is open.
+    pub fn new(alloc: Global) -> Open
+        ensures { result ≡ [] }
+    {
+        Open {
+            queue: Queue::new(alloc),
+            standing: Standing::new(alloc),
+            numbers: Tokens::new(alloc),
+            next: 0,
+        }
+    }
+
+    /// Opens a place, and gives its token: the one that it has, where it is open already, or else the least that no
+    /// open place has. It stands in each of the boxes around it, and comes after all others that are as urgent; one
+    /// that is open already stands where it did, and comes no later. An `Err`, for want of memory, leaves all as it
+    /// was.
+    pub fn open(
+        &mut self,
+        place: Place,
+        around: &[Name],
+        urgency: Urgency,
+    ) -> Result<u64, AllocError>
+        ensures opened { IfOk result (IsOpened self.old self.new place around.now urgency) }
+        ensures unchanged { IfErr result (λ _. self.new ≡ self.old) }
+    {
+        match self.queue.token_of(place) {
+            Some(token) => self.hurry(token, urgency),
+            None => self.open_new(place, around, urgency),
+        }
+    }
+
+    /// Closes the place with this token, where there is one.
+    pub fn close(&mut self, token: u64)
+        ensures { self.new ≡ closed token self.old }
+    {
+        if self.queue.remove(token).is_some() {
+            self.standing.exit(token);
+            self.numbers.give_back(token);
+        }
+    }
+
+    /// These boxes leave: the places that they are, and those that stand in them, stay open, and stand in no box from
+    /// then on.
+    pub fn leave(&mut self, boxes: &[Name])
+        ensures { self.new ≡ after_leave boxes.now self.old }
+    {
+        for name in boxes {
+            self.leave_one(*name);
+        }
+    }
+
+    /// How many places are open.
+    pub fn count(&self) -> usize
+        ensures { result ≡ length self.now }
+    {
+        self.queue.count()
+    }
+
+    /// The open place with this token; `None` exactly where there is none.
+    pub fn place_of(&self, token: u64) -> Option<Place>
+        ensures { result ≡ option_map (λ o. o.place) (opening_at token self.now) }
+    {
+        match self.queue.get(token) {
+            Some(opened) => Some(opened.place),
+            None => None,
+        }
+    }
+
+    /// The token of the place; `None` exactly where it isn't open.
+    pub fn token_of(&self, place: Place) -> Option<u64>
+        ensures { IsOpen self.now place result }
+    {
+        self.queue.token_of(place)
+    }
+
+    /// The token of the place that comes first: the one that has been urgent longest, or else the one that has been open
+    /// longest. `None` exactly where no place is open.
+    pub fn first(&self) -> Option<u64>
+        ensures { IsFirst self.now result }
+    {
+        self.queue.first()
+    }
+
+    /// Whether some open place stands in the box.
+    pub fn busy(&self, name: Name) -> bool
+        ensures { result ≡ is_busy name self.now }
+    {
+        self.standing.first(name).is_some()
+    }
+
+    // Puts an open place before those that aren't urgent, where it is to be urgent and isn't yet: its token.
+    fn hurry(&mut self, token: u64, urgency: Urgency) -> Result<u64, AllocError>
+        ensures opened { (place : _) (around : _) → IsOpen self.old place (Some token) → IfOk result (IsOpened self.old self.new place around urgency) }
+        ensures unchanged { IfErr result (λ _. self.new ≡ self.old) }
+    {
+        let Some(opened) = self.queue.get(token) else {
+            return Ok(token);
+        };
+        match urgency {
+            Urgency::Ordinary => return Ok(token),
+            Urgency::Urgent => {}
+        }
+        match opened.turn.urgency {
+            Urgency::Urgent => return Ok(token),
+            Urgency::Ordinary => {}
+        }
+        let next = self.next.checked_add(1).ok_or(AllocError)?;
+        let turn = Turn {
+            urgency,
+            number: self.next,
+        };
+        self.queue.retime(token, opened, turn)?;
+        self.next = next;
+        Ok(token)
+    }
+
+    // Opens a place that isn't open: its token.
+    fn open_new(
+        &mut self,
+        place: Place,
+        around: &[Name],
+        urgency: Urgency,
+    ) -> Result<u64, AllocError>
+        requires { IsOpen self.old place None }
+        ensures opened { IfOk result (IsOpened self.old self.new place around.now urgency) }
+        ensures unchanged { IfErr result (λ _. self.new ≡ self.old) }
+    {
+        let next = self.next.checked_add(1).ok_or(AllocError)?;
+        let turn = Turn {
+            urgency,
+            number: self.next,
+        };
+        let token = self.numbers.take()?;
+        if self.standing.enter(token, around).is_err() {
+            self.numbers.give_back(token);
+            return Err(AllocError);
+        }
+        if self.queue.insert(token, Opened { place, turn }).is_err() {
+            self.standing.exit(token);
+            self.numbers.give_back(token);
+            return Err(AllocError);
+        }
+        self.next = next;
+        Ok(token)
+    }
+
+    // A box leaves.
+    fn leave_one(&mut self, name: Name)
+        ensures { self.new ≡ after_one name self.old }
+    {
+        self.standing.leave(name);
+        if let Some(token) = self.queue.token_of(Place::Box(name)) {
+            self.standing.exit(token);
+        }
+    }
+}

@@ -1,0 +1,89 @@
+//! The boxes in which each open place stands.
+
+ghost use Rattle.std.specs.Prelude.{◌≡◌, ◌+◌, [], true, false, ◌==◌, if◌then◌else◌, length, is_some, OnOk, OnErr, IfSome, IfNone};
+ghost use Rattle.std.specs.Map.{lookup};
+ghost use Rattle.wake_lists.specs.Standing.{boxes_at, is_in};
+ghost use lib.Dec.{eqb};
+
+use crate::inside::Inside;
+use akl_terms::Name;
+use std::alloc::{AllocError, Global};
+use std::collections::BTreeMap;
+use std::marker::Model;
+
+/// The boxes in which each token stands. Contracts see it as the boxes of each token that was entered.
+#[derive(Drop)]
+pub(crate) struct Standing {
+    alloc: Global,
+    inside: Inside,
+    boxes: BTreeMap<u64, Vec<Name>>,
+}
+
+impl Model for Standing {
+    ghost use Rattle.std.specs.Prelude.{List, ℕ};
+    ghost use Rattle.akl_terms.specs.declared.name.Name.{Name};
+    ghost use Rattle.wake_lists.specs.Standing.{boxes_of, AreStanding};
+
+    ghost Value = { List (ℕ × List Name) };
+
+    ghost view = { λ s. boxes_of s.boxes.entries };
+
+    ghost invariant = { λ s. AreStanding s.inside s.boxes.entries };
+}
+
+impl Standing {
+    pub(crate) fn new(alloc: Global) -> Standing
+        ensures { result ≡ [] }
+    {
+        Standing {
+            alloc,
+            inside: Inside::new(alloc),
+            boxes: BTreeMap::new(alloc),
+        }
+    }
+
+    /// Has a token that stands in no box stand in these. An `Err`, for want of memory, leaves all as it was.
+    pub(crate) fn enter(&mut self, token: u64, around: &[Name]) -> Result<(), AllocError>
+        requires { boxes_at token self.old ≡ [] }
+        ensures entered { OnOk result ((t : _) → boxes_at t self.new ≡ (if t == token then around.now else boxes_at t self.old)) }
+        ensures unchanged { OnErr result ((t : _) → boxes_at t self.new ≡ boxes_at t self.old) }
+    {
+        let boxes = Vec::from_slice(self.alloc, around)?;
+        if let Err(refused) = self.inside.add_all(token, around) {
+            self.inside.remove_all(token, around);
+            return Err(refused);
+        }
+        if self.boxes.insert(token, boxes).is_err() {
+            self.inside.remove_all(token, around);
+            return Err(AllocError);
+        }
+        Ok(())
+    }
+
+    /// Has a token stand in no box.
+    pub(crate) fn exit(&mut self, token: u64)
+        ensures boxes { (t : _) → boxes_at t self.new ≡ (if t == token then [] else boxes_at t self.old) }
+        ensures count { length self.new + (if is_some (lookup (eqb token) self.old) then 1 else 0) ≡ length self.old }
+    {
+        if let Some(boxes) = self.boxes.remove(&token) {
+            self.inside.remove_all(token, boxes.as_slice());
+        }
+    }
+
+    /// Has the tokens that stand in the box stand in none.
+    pub(crate) fn leave(&mut self, name: Name)
+        ensures { (t : _) → boxes_at t self.new ≡ (if is_in name (boxes_at t self.old) then [] else boxes_at t self.old) }
+    {
+        while let Some(token) = self.first(name) {
+            self.exit(token);
+        }
+    }
+
+    /// The least token that stands in the box.
+    pub(crate) fn first(&self, name: Name) -> Option<u64>
+        ensures there { IfSome result (λ t. is_in name (boxes_at t self.now) ≡ true) }
+        ensures empty { IfNone result ((t : _) → is_in name (boxes_at t self.now) ≡ false) }
+    {
+        self.inside.first(name)
+    }
+}
