@@ -1,0 +1,3 @@
+pub mod Gathered
+pub mod BoundKeys
+pub mod Enough
