@@ -92,7 +92,7 @@ module _ (c : Config) (s : Stand c) (n : Name) (f : Found) (e : box_at n c.roots
         (subst (λ (m : Name). IsIn m (names_around (record { around = f.around ++ f.content ∷ rest; content = k; goals = hs }))) (sym is_name) (in_path f.around f.content rest));
   }
 
-  down : (r : List Content) (k : Content) (hs : Goals) → BoxIn r k hs (only f) → IsDown (record { around = f.around ++ r; content = k; goals = hs })
+  pub down : (r : List Content) (k : Content) (hs : Goals) → BoxIn r k hs (only f) → IsDown (record { around = f.around ++ r; content = k; goals = hs })
   down r k hs (inl x) = subst IsDown (λ i. record { around = (sym (append-nil f.around) ∙ ap (λ (a : List Content). f.around ++ a) (sym x.0)) i; content = sym x.1 i; goals = sym x.2 i }) itself
   down r k hs (inr (inl (rest, p, i))) = subst (λ (a : List Content). IsDown (record { around = f.around ++ a; content = k; goals = hs })) (sym p) (deeper rest k hs i)
   down r k hs (inr (inr z)) = absurd z

@@ -1,5 +1,6 @@
 pub mod OneBinding
 pub mod EachInside
+pub mod SomeInside
 pub mod PathStores
 pub mod Further
 pub mod FramesAdded
@@ -10,6 +11,10 @@ pub mod Reaches
 pub mod Tested
 pub mod NoPlainRule
 pub mod SiteReaches
+pub mod TouchedAt
 pub mod StableSite
 pub mod StableViews
 pub mod Read
+pub mod InnerViews
+pub mod InsideTouched
+pub mod ViewByView

@@ -57,20 +57,30 @@ module _ (W B : Equations) (on : Var) (z : ℤ) (more : TellsAlso W B on z) (fre
   still_consistent c = record { heads = λ {s} {t} {g} {h} e p q. c.heads (both_headed s t g h p q (equal_before e)) p q }
 
   module _ (inner : List Name) (E : Equations) where
-    -- where nothing from outside is touched now, nothing from outside is equal to the variable
-    pub none_equal : ((x : Var) → Touches inner E B x → ⊥) → (x : Var) → IsUnbound inner E x → Equal W (variable x) (variable on) → ⊥
-    none_equal none x u e = none x (record { unbound = u; told = inl (integer z, integer_head z, joined (equal_now e) (told more.binds), refl) })
+    -- what is from outside and equal to the variable is touched now
+    pub equal_touched : (x : Var) → IsUnbound inner E x → Equal W (variable x) (variable on) → Touches inner E B x
+    equal_touched x u e = record { unbound = u; told = inl (integer z, integer_head z, joined (equal_now e) (told more.binds), refl) }
 
-    -- where nothing was touched, and nothing from outside is equal to the variable, nothing is touched now
-    pub none_touched : ((x : Var) → Touches inner E W x → ⊥) → ((x : Var) → IsUnbound inner E x → Equal W (variable x) (variable on) → ⊥) → (x : Var) → Touches inner E B x → ⊥
-    none_touched before away x t = elim t.told [
-      | inl k ↦ elim (equal_before k.2) [ inl e ↦ before x (record { unbound = t.unbound; told = inl (k.0, k.1, e, k.3) }) | inr r ↦ unreached r.0 ]
+    -- what was touched is touched now
+    pub touched_now : (x : Var) → Touches inner E W x → Touches inner E B x
+    touched_now x t = record {
+      unbound = t.unbound;
+      told = elim t.told [
+        | inl k ↦ inl (k.0, k.1, equal_now k.2, k.3)
+        | inr k ↦ inr (k.0, record { other = k.1.other; equal = equal_now k.1.equal; apart = k.1.apart })
+      ];
+    }
+
+    -- what is touched now was touched, or is equal to the variable
+    pub touched_before : (x : Var) → Touches inner E B x → Touches inner E W x ⊎ (IsUnbound inner E x × Equal W (variable x) (variable on))
+    touched_before x t = elim t.told [
+      | inl k ↦ elim (equal_before k.2) [ inl e ↦ inl (record { unbound = t.unbound; told = inl (k.0, k.1, e, k.3) }) | inr r ↦ reached r.0 ]
       | inr k ↦ elim (equal_before k.1.equal) [
-        | inl e ↦ before x (record { unbound = t.unbound; told = inr (k.0, record { other = k.1.other; equal = e; apart = k.1.apart }) })
-        | inr r ↦ unreached r.0
+        | inl e ↦ inl (record { unbound = t.unbound; told = inr (k.0, record { other = k.1.other; equal = e; apart = k.1.apart }) })
+        | inr r ↦ reached r.0
       ]
     ]
       where
-        unreached : IsReached (variable x) → ⊥
-        unreached (inl e) = away x t.unbound e
-        unreached (inr e) = before x (record { unbound = t.unbound; told = inl (integer z, integer_head z, e, refl) })
+        reached : IsReached (variable x) → Touches inner E W x ⊎ (IsUnbound inner E x × Equal W (variable x) (variable on))
+        reached (inl e) = inr (t.unbound, e)
+        reached (inr e) = inl (record { unbound = t.unbound; told = inl (integer z, integer_head z, e, refl) })

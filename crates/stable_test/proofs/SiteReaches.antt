@@ -25,11 +25,11 @@ use Rattle.box_tree.specs.Views.{ViewValue, IsViewOf}
 use Rattle.guard_plan.proofs.Chains.{told_stands}
 use Rattle.guard_plan.proofs.QuietOver.{keeps_apart}
 use Rattle.guard_plan.proofs.Sites.{stand, stores_path, whole_stands}
-use Rattle.stable_test.specs.Reaching.{ReachesNone}
+use Rattle.stable_test.specs.Reaching.{IsConsistentAt, ReachesNone, AreReached}
 use Rattle.stable_test.proofs.EachInside.{IsDown, below}
 use Rattle.stable_test.proofs.PathStores.{GoesDown, goes_down, path_frame}
 use Rattle.stable_test.proofs.Further.{taken, further_frame, last_frame}
-use Rattle.stable_test.proofs.Reaches.{reaches_none_stands}
+use Rattle.stable_test.proofs.Reaches.{consistent_at, reaches_back, reached_stands, reaches_none_stands}
 
 long_stores : (T : Table) (bs : List Content) → length (stores_along T (map (λ (b : Content). b.name) bs)) ≡ length bs
 long_stores T [] = refl
@@ -100,6 +100,21 @@ module _ (v : ViewValue) (i : IsViewOf v) (n : Name) (f : Found) (e : box_at n i
 
   pub less : IsConsistent (whole i.site) → IsConsistent (environment f)
   less c = IsConsistent-follows (record { each = λ {s = a} {t = b} m. told (told_inside a b m) }) c
+
+  pub consistent_site : IsConsistentAt (bindings_in nodes (bindings_from v.stores)) v.sight → IsConsistentAt (whole i.site) v.sight
+  consistent_site = consistent_at (bindings_in nodes (bindings_from v.stores)) (whole i.site) all_told.to v.sight
+
+  pub site_consistent : IsConsistentAt (whole i.site) v.sight → IsConsistentAt (bindings_in nodes (bindings_from v.stores)) v.sight
+  site_consistent = consistent_at (whole i.site) (bindings_in nodes (bindings_from v.stores)) all_told.back v.sight
+
+  -- a list of what the stores reach is one of what the equations of the box reach
+  pub reached_site : (list : List Var) → IsConsistentAt (bindings_in nodes (bindings_from v.stores)) v.sight
+      → AreReached v.table.program (frames_from (drop (length f.around) (v.stores ++ further ∷ []))) (environment_at nodes (v.stores ++ further ∷ []) (length f.around)) (bindings_in nodes (bindings_from v.stores)) v.sight list
+      → AreReached v.table.program (frames_of (only f)) (environment f) (whole i.site) v.sight list
+  reached_site list c = reached_stands v.table.program (frames_from (drop (length f.around) (v.stores ++ further ∷ []))) (frames_of (only f)) (environment_at nodes (v.stores ++ further ∷ []) (length f.around)) (environment f)
+      (bindings_in nodes (bindings_from v.stores)) (whole i.site) around all_told frame_to less v.sight list (consistent_site c)
+      (λ k. reaches_back v.table.program (frames_of (only f)) (frames_from (drop (length f.around) (v.stores ++ further ∷ []))) (environment f) (environment_at nodes (v.stores ++ further ∷ []) (length f.around))
+      (whole i.site) (bindings_in nodes (bindings_from v.stores)) (StandFor-back around) (StandFor-back all_told) frame_from (λ d. around.back (less (all_told.to d))) (all_told.back k) v.sight)
 
   pub reaches_site : ReachesNone v.table.program (frames_from (drop (length f.around) (v.stores ++ further ∷ []))) (environment_at nodes (v.stores ++ further ∷ []) (length f.around)) (bindings_in nodes (bindings_from v.stores)) v.sight
       → ReachesNone v.table.program (frames_of (only f)) (environment f) (whole i.site) v.sight

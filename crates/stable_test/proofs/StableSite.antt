@@ -66,14 +66,14 @@ module _ (v : ViewValue) (i : IsViewOf v) (n : Name) (f : Found) (e : box_at n i
   stable_reaches = on v.place v.sight i.shows
     where
       on : (place : Place) (sight : Sight) → Shows v.table.program.templates.nodes place i.site sight → ReachesNone v.table.program (frames_of (only f)) (environment f) (whole i.site) sight
-      on place (Sight.Choice op) k = tt
+      on place (Sight.Choice op) k = (tt, λ x r. r)
       on place (Sight.Box failing) k = (nothing_touched.consistent, nothing_touched.untouched)
       on (Place.Box m) (Sight.Atom a) k = absurd k
       on (Place.Goal g) (Sight.Atom a) k = (
         nothing_touched.consistent,
-        λ on x w r. elim r [
+        λ x r. elim r.2 [
           | inl t ↦ nothing_touched.untouched x t
-          | inr t ↦ stable_in.untouched x (by_waiting t.0 (record { goal = g; atom = goal_atom v.table.program.templates.nodes a; is_goal = k; on = on; waits = w; equal = t.1 }))
+          | inr t ↦ stable_in.untouched x (by_waiting t.0 (record { goal = g; atom = goal_atom v.table.program.templates.nodes a; is_goal = k; on = r.0; waits = r.1; equal = t.1 }))
         ],
       )
 
@@ -101,4 +101,4 @@ module _ (v : ViewValue) (i : IsViewOf v) (f : Found) where
           → (on x : Var) → AtomWaitsOn v.table.program (whole i.site) a on → IsReached (frames_of (only f)) (environment f) (whole i.site) on x → ⊥
       by (Sight.Box failing) k r = absurd k
       by (Sight.Choice op) k r = let z : Some (a_choice op k.0) ≡ Some (an_atom a) = sym k.1 ∙ held in cc
-      by (Sight.Atom b) k r = λ on x w. r.1 on x (subst (λ (y : Atom). AtomWaitsOn v.table.program (whole i.site) y on) (same_atom a (goal_atom v.table.program.templates.nodes b) (sym held ∙ k)) w)
+      by (Sight.Atom b) k r = λ on x w t. r.1 x (on, subst (λ (y : Atom). AtomWaitsOn v.table.program (whole i.site) y on) (same_atom a (goal_atom v.table.program.templates.nodes b) (sym held ∙ k)) w, t)

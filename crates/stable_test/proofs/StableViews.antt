@@ -26,11 +26,13 @@ use Rattle.box_tree.specs.Insides.{IsPlaceInside, IsViewInside, HasView}
 use Rattle.guard_plan.specs.Planned.{HasNoRule}
 use Rattle.guard_plan.proofs.Sites.{stand}
 use Rattle.stable_test.specs.Frames.{with_all_frames}
-use Rattle.stable_test.specs.Reaching.{IsReached, ReachesNone, ReachesNoneAt, IsTestable}
+use Rattle.stable_test.specs.Reaching.{IsReached, ReachesNone, ReachesNoneAt, IsConsistentDown, AreReachedAt, IsTestable}
+use Rattle.stable_test.specs.Inner.{AreTouchedByPlace}
 use Rattle.stable_test.specs.Seen.{IsSeenInside, IsStill}
 use Rattle.stable_test.proofs.EachInside.{IsDown}
 use Rattle.stable_test.proofs.PathStores.{HasFrame, frame_has, has_frame, is_inside, box_down, goal_down, goal_inside_down}
-use Rattle.stable_test.proofs.SiteReaches.{deep_stores, apart, reaches_site, site_reaches}
+use Rattle.stable_test.proofs.SiteReaches.{deep_stores, apart, consistent_site, site_consistent, reached_site, reaches_site, site_reaches}
+use Rattle.stable_test.proofs.TouchedAt.{touched_listed, none_listed}
 use Rattle.stable_test.proofs.NoPlainRule.{each_in_force, NoneAppliesAt}
 use Rattle.stable_test.proofs.StableSite.{IsStillBox, IsStillGoal, still_stable, stable_none, stable_reaches, view_box, view_goal}
 use Rattle.stable_test.proofs.AllFrames.{all_local, local_all, all_unbound, box_frame, frame_box}
@@ -77,13 +79,13 @@ module _ (p : Program) (depth : ℕ) (i : Inside) (s : IsSeenInside p depth i) w
         (subst (λ (j : List Label). Derives all_rules v.table.program (start v.table.program v.table.query) j w.seen.table.config) w.labels w.seen.table.replays.derives))
         s.run.replays.derives
 
-    there : box_at s.name w.seen.table.config.roots ≡ Some s.site
+    pub there : box_at s.name w.seen.table.config.roots ≡ Some s.site
     there = subst (λ (c : Config). box_at s.name c.roots ≡ Some s.site) (sym same_config) s.is_site
 
     same_program : v.table.program ≡ p
     same_program = ap (λ (t : TableValue). t.program) w.table ∙ s.of_program
 
-    down : IsDown w.seen.table.config (stand v w.seen) s.name s.site there w.seen.site
+    pub down : IsDown w.seen.table.config (stand v w.seen) s.name s.site there w.seen.site
     down = on v.place w.seen.is_site (subst (λ (t : TableValue). IsPlaceInside (table_of t) s.name v.place) (sym w.table) w.inside)
       where
         on : (place : Place) → site_of place w.seen.table.config.roots ≡ Some w.seen.site → IsPlaceInside (table_of v.table) s.name place → IsDown w.seen.table.config (stand v w.seen) s.name s.site there w.seen.site
@@ -93,7 +95,7 @@ module _ (p : Program) (depth : ℕ) (i : Inside) (s : IsSeenInside p depth i) w
     abbrev KeepsAt : Program → ℕ → Type 0
     KeepsAt q k = IsConsistent (environment_at q.templates.nodes (v.stores ++ with_all_frames nothing i.boxes.items ∷ []) k) → KeepsApartAt q.templates.nodes (v.stores ++ with_all_frames nothing i.boxes.items ∷ []) k
 
-    testable : IsTestable p depth (with_all_frames nothing i.boxes.items) v
+    pub testable : IsTestable p depth (with_all_frames nothing i.boxes.items) v
     testable = record {
       program = sym same_program;
       deep = subst (λ (k : ℕ). k ≤ length v.stores) s.deep (deep_stores v w.seen s.name s.site there down further frame_to frame_from);
@@ -116,11 +118,26 @@ module _ (p : Program) (depth : ℕ) (i : Inside) (s : IsSeenInside p depth i) w
     reaches r = reaches_site v w.seen s.name s.site there down further frame_to frame_from
         (subst (λ (k : ℕ). ReachesNoneAt v.table.program k further v) (sym s.deep) (subst (λ (q : Program). ReachesNoneAt q depth further v) (sym same_program) r))
 
+    -- what the stores reach from outside of the box
+    pub lists_touched : (list : List Var) → IsConsistentDown p v → AreReachedAt p depth (with_all_frames nothing i.boxes.items) v list
+        → AreTouchedByPlace p (frames_of (only s.site)) (environment s.site) w.seen.site v.place list
+    lists_touched list c r = subst (λ (q : Program). AreTouchedByPlace q (frames_of (only s.site)) (environment s.site) w.seen.site v.place list) same_program
+        (touched_listed v.table.program (frames_of (only s.site)) (environment s.site) w.seen.site v.place v.sight w.seen.shows list (consistent_site v w.seen s.name s.site there down further frame_to frame_from c_seen)
+        (reached_site v w.seen s.name s.site there down further frame_to frame_from list c_seen
+        (subst (λ (k : ℕ). AreReachedAt v.table.program k further v list) (sym s.deep) (subst (λ (q : Program). AreReachedAt q depth further v list) (sym same_program) r))))
+      where
+        c_seen : IsConsistentDown v.table.program v
+        c_seen = subst (λ (q : Program). IsConsistentDown q v) (sym same_program) c
+
+    pub lists_none : (IsConsistentDown p v → ⊥) → AreTouchedByPlace p (frames_of (only s.site)) (environment s.site) w.seen.site v.place []
+    lists_none n = none_listed p (frames_of (only s.site)) (environment s.site) w.seen.site v.place v.sight
+        (λ c. n (subst (λ (q : Program). IsConsistentDown q v) same_program (site_consistent v w.seen s.name s.site there down further frame_to frame_from c)))
+
     none_applies : HasNoRule v → (place : Place) → v.place ≡ place → NoneAppliesAt all_rules p s.run.config place
     none_applies h place e l d a q n = h.none w.seen.table l d
         (subst (λ (c : Config). Applies all_rules v.table.program c l d) (sym same_config) (subst (λ (k : Program). Applies all_rules k s.run.config l d) (sym same_program) a)) (q ∙ sym e) n
 
-    same_site : (d : Found) (place : Place) → v.place ≡ place → site_of place s.run.config.roots ≡ Some d → w.seen.site ≡ d
+    pub same_site : (d : Found) (place : Place) → v.place ≡ place → site_of place s.run.config.roots ≡ Some d → w.seen.site ≡ d
     same_site d place e k = some_value (sym (subst (λ (c : Config). site_of v.place c.roots ≡ Some w.seen.site) same_config w.seen.is_site) ∙ ap (λ (q : Place). site_of q s.run.config.roots) e ∙ k)
 
     box_still : (d : Found) → IsDown s.run.config stands s.name s.site s.is_site d → v.place ≡ Place.Box d.content.name → IsStill p depth (with_all_frames nothing i.boxes.items) v

@@ -1,5 +1,5 @@
 -- What is read from a chain with a further store, in which what is waited on is bound.
-use Rattle.std.proofs.Common.{◌≡◌, ℕ, zero, suc, ℤ, ◌≤◌, Bool, Option, List, [], ◌∷◌, ◌++◌, length, take, drop, refl, sym, ◌∙◌, ap, subst, inl, inr, arith}
+use Rattle.std.proofs.Common.{◌≡◌, ℕ, zero, suc, ℤ, ◌≤◌, Bool, false, Option, List, [], ◌∷◌, ◌++◌, length, take, drop, refl, sym, ◌∙◌, ap, subst, inl, inr, arith}
 use Rattle.std.proofs.lemmas.Bool.{eqb-true}
 use Rattle.std.specs.Prelude.{◌==◌, IsTrue, ◌↔◌}
 use Rattle.akl_terms.specs.declared.name.Name.{Name}
@@ -23,13 +23,13 @@ use Rattle.local_store.specs.declared.asking.Consistency.{Consistency}
 use Rattle.local_store.specs.declared.asking.Consistency.TheVariants.{Consistent, Clash}
 use Rattle.local_store.specs.Asking.{Decides}
 use Rattle.local_store.proofs.Layers.{told-take}
-use Rattle.entail_test.specs.Asked.{frames_from, environment_at, whole_at, KeepsApart, KeepsApartAt}
+use Rattle.entail_test.specs.Asked.{frames_from, environment_at, whole_at, KeepsApart, KeepsApartAt, AreTouchedAt}
 use Rattle.entail_test.specs.Touched.{AreTouched}
 use Rattle.box_tree.specs.declared.view.Sight.{Sight}
 use Rattle.box_tree.specs.Tables.{goal_atom}
 use Rattle.box_tree.specs.Views.{ViewValue}
-use Rattle.stable_test.specs.Reaching.{IsReached, ReachesNone, ReachesNoneAt, IsUntouchedAt, IsTestable}
-use Rattle.stable_test.proofs.OneBinding.{TellsAlso, still_consistent, none_equal, none_touched}
+use Rattle.stable_test.specs.Reaching.{IsConsistentAt, AreReached, IsConsistentDown, ReachesNoneAt, AreReachedAt, IsTestable}
+use Rattle.stable_test.proofs.OneBinding.{TellsAlso, still_consistent, equal_touched, touched_now, touched_before}
 use Rattle.stable_test.proofs.Further.{take_front, told_whole, whole_told, whole_bound}
 use Rattle.stable_test.proofs.Reaches.{waits_free}
 
@@ -88,34 +88,38 @@ module _ (p : Program) (depth : ℕ) (frames : Stored) (v : ViewValue) (t : IsTe
   around_told a b m = told-take nodes v.stores depth a b (subst (λ (ss : List Stored). IsTold (bindings_in nodes (bindings_from ss)) a b) (take_front v.stores (frames ∷ []) depth t.deep) m)
 
   -- where all is consistent, the frames keep apart
-  pub keeps : IsConsistent down → KeepsApartAt nodes (v.stores ++ frames ∷ []) depth
+  keeps : IsConsistent down → KeepsApartAt nodes (v.stores ++ frames ∷ []) depth
   keeps c = t.apart (IsConsistent-follows (record { each = λ {s = a} {t = b} m. told (around_told a b m) }) c)
 
-  -- a box, by equations
-  pub plain_consistent : IsConsistent down → IsConsistent (whole_at nodes (v.stores ++ frames ∷ []) depth)
+  -- a further store without bindings tells nothing more
+  plain_consistent : IsConsistent down → IsConsistent (whole_at nodes (v.stores ++ frames ∷ []) depth)
   plain_consistent c = IsConsistent-follows (record { each = λ {s = a} {t = b} m. told (plain_less a b m) }) c
 
-  pub box_reaches : (failing : Option Name) → v.sight ≡ Sight.Box failing → IsConsistent down → IsUntouchedAt nodes (v.stores ++ frames ∷ []) depth → ReachesNoneAt p depth frames v
-  box_reaches failing s c u = subst (ReachesNone p inner around down) (sym s) (c, λ x k. u x (touches_more inner around down (whole_at nodes (v.stores ++ frames ∷ []) depth) plain_more x k))
+  -- so what the stores touch is what a box reaches
+  pub box_reached : (failing : Option Name) → v.sight ≡ Sight.Box failing → IsConsistent down → (on : List Var)
+      → (KeepsApartAt nodes (v.stores ++ frames ∷ []) depth → IsConsistent (whole_at nodes (v.stores ++ frames ∷ []) depth) → AreTouchedAt nodes (v.stores ++ frames ∷ []) depth on)
+      → IsConsistentDown p v × AreReachedAt p depth frames v on
+  box_reached failing s c on h = subst (λ (q : Sight). IsConsistentAt down q × AreReached p inner around down q on) (sym s) (
+    c,
+    record {
+      each = λ x m. touches_more inner around (whole_at nodes (v.stores ++ frames ∷ []) depth) down plain_less x (u.each x m);
+      every = λ x k. u.every x (touches_more inner around down (whole_at nodes (v.stores ++ frames ∷ []) depth) plain_more x k);
+    },
+  )
+    where
+      u : AreTouchedAt nodes (v.stores ++ frames ∷ []) depth on
+      u = h (keeps c) (plain_consistent c)
 
-  pub reaches_box : (failing : Option Name) → v.sight ≡ Sight.Box failing → ReachesNoneAt p depth frames v → IsUntouchedAt nodes (v.stores ++ frames ∷ []) depth
-  reaches_box failing s r = λ x k. (subst (ReachesNone p inner around down) s r).1 x (touches_more inner around (whole_at nodes (v.stores ++ frames ∷ []) depth) down plain_less x k)
-
-  -- so a test of the stores is one of the box
-  pub box_answer : (failing : Option Name) → v.sight ≡ Sight.Box failing → IsConsistent down → (none : Bool)
-      → (KeepsApartAt nodes (v.stores ++ frames ∷ []) depth → IsConsistent (whole_at nodes (v.stores ++ frames ∷ []) depth) → IsTrue none ↔ IsUntouchedAt nodes (v.stores ++ frames ∷ []) depth)
-      → IsTrue none ↔ ReachesNoneAt p depth frames v
-  box_answer failing s c none h = (λ x. box_reaches failing s c ((h (keeps c) (plain_consistent c)).0 x), λ r. (h (keeps c) (plain_consistent c)).1 (reaches_box failing s r))
+  -- a choice reaches nothing
+  pub choice_reached : (op : Op) → v.sight ≡ Sight.Choice op → IsConsistentDown p v × AreReachedAt p depth frames v []
+  choice_reached op s = subst (λ (q : Sight). IsConsistentAt down q × AreReached p inner around down q []) (sym s) (tt, record { each = λ x m. absurd m; every = λ x r. absurd r })
 
   -- an atom, by the variable on which it waits
   module _ (a : Goal) (s : v.sight ≡ Sight.Atom a) (c : IsConsistent down) where
-    pub idle_reaches : ((x : Var) → AtomWaitsOn p down (goal_atom nodes a) x → ⊥) → ReachesNoneAt p depth frames v
-    idle_reaches none = subst (ReachesNone p inner around down) (sym s) (c, λ on x w r. none on w)
+    pub idle_reached : ((x : Var) → AtomWaitsOn p down (goal_atom nodes a) x → ⊥) → IsConsistentDown p v × AreReachedAt p depth frames v []
+    idle_reached none = subst (λ (q : Sight). IsConsistentAt down q × AreReached p inner around down q []) (sym s) (c, record { each = λ x m. absurd m; every = λ x r. absurd (none r.0 r.1) })
 
     module _ (on : Var) (w : AtomWaitsOn p down (goal_atom nodes a) on) (z : ℤ) where
-      abbrev bound : Stored
-      bound = with_binding frames on (Term.Int z)
-
       abbrev told_bound : Equations
       told_bound = whole_at p.templates.nodes (v.stores ++ with_binding frames on (Term.Int z) ∷ []) depth
 
@@ -125,7 +129,7 @@ module _ (p : Program) (depth : ℕ) (frames : Stored) (v : ViewValue) (t : IsTe
       free : IsStructured down on → ⊥
       free = waits_free p down (goal_atom nodes a) on w
 
-      pub bound_consistent : IsConsistent told_bound
+      bound_consistent : IsConsistent told_bound
       bound_consistent = still_consistent down told_bound on z more free c
 
       same_around : environment_at nodes (v.stores ++ with_binding frames on (Term.Int z) ∷ []) depth ≡ around
@@ -134,51 +138,49 @@ module _ (p : Program) (depth : ℕ) (frames : Stored) (v : ViewValue) (t : IsTe
       same_inner : frames_from (drop depth (v.stores ++ with_binding frames on (Term.Int z) ∷ [])) ≡ inner
       same_inner = frames_same v.stores (with_binding frames on (Term.Int z)) frames depth t.deep refl
 
-      pub bound_keeps : KeepsApartAt nodes (v.stores ++ with_binding frames on (Term.Int z) ∷ []) depth
+      bound_keeps : KeepsApartAt nodes (v.stores ++ with_binding frames on (Term.Int z) ∷ []) depth
       bound_keeps = subst (λ (fs : List Name). KeepsApart fs (environment_at nodes (v.stores ++ with_binding frames on (Term.Int z) ∷ []) depth)) (sym same_inner)
           (subst (KeepsApart inner) (sym same_around) (keeps c))
 
-      untouched_now : IsUntouchedAt nodes (v.stores ++ with_binding frames on (Term.Int z) ∷ []) depth → (x : Var) → Touches inner around told_bound x → ⊥
-      untouched_now u x k = u x (subst (λ (fs : List Name). Touches fs (environment_at nodes (v.stores ++ with_binding frames on (Term.Int z) ∷ []) depth) told_bound x) (sym same_inner)
-          (subst (λ (E : Equations). Touches inner E told_bound x) (sym same_around) k))
-
-      now_untouched : ((x : Var) → Touches inner around told_bound x → ⊥) → IsUntouchedAt nodes (v.stores ++ with_binding frames on (Term.Int z) ∷ []) depth
-      now_untouched u x k = u x (subst (λ (E : Equations). Touches inner E told_bound x) same_around
-          (subst (λ (fs : List Name). Touches fs (environment_at nodes (v.stores ++ with_binding frames on (Term.Int z) ∷ []) depth) told_bound x) same_inner k))
-
-      unreached : ((x : Var) → Touches inner around told_bound x → ⊥) → (other x : Var) → AtomWaitsOn p down (goal_atom nodes a) other → IsReached inner around down other x → ⊥
-      unreached u other x k (inl h) = u x (touches_more inner around down told_bound more.keeps x h)
-      unreached u other x k (inr h) = none_equal down told_bound on z more free inner around u x h.0 (joined h.1 (atom_one p down (goal_atom nodes a) other on c k w))
-
-      pub waiting_reaches : IsUntouchedAt nodes (v.stores ++ with_binding frames on (Term.Int z) ∷ []) depth → ReachesNoneAt p depth frames v
-      waiting_reaches u = subst (ReachesNone p inner around down) (sym s) (c, unreached (untouched_now u))
-
-      pub reaches_waiting : ReachesNoneAt p depth frames v → IsUntouchedAt nodes (v.stores ++ with_binding frames on (Term.Int z) ∷ []) depth
-      reaches_waiting r = now_untouched (none_touched down told_bound on z more free inner around (λ x k. q.1 on x w (inl k)) (λ x u e. q.1 on x w (inr (u, e))))
+      -- what is touched where it is bound is what the atom reaches
+      pub waiting_reached : (list : List Var)
+          → (KeepsApartAt nodes (v.stores ++ with_binding frames on (Term.Int z) ∷ []) depth → IsConsistent (whole_at nodes (v.stores ++ with_binding frames on (Term.Int z) ∷ []) depth)
+          → AreTouchedAt nodes (v.stores ++ with_binding frames on (Term.Int z) ∷ []) depth list)
+          → IsConsistentDown p v × AreReachedAt p depth frames v list
+      waiting_reached list h = subst (λ (q : Sight). IsConsistentAt down q × AreReached p inner around down q list) (sym s) (
+        c,
+        record {
+          each = λ x m. (on, w, touched_before down told_bound on z more free inner around x (u.each x m));
+          every = λ x r. u.every x (elim r.2 [
+            | inl k ↦ touched_now down told_bound on z more free inner around x k
+            | inr k ↦ equal_touched down told_bound on z more free inner around x k.0 (joined k.1 (atom_one p down (goal_atom nodes a) r.0 on c r.1 w))
+          ]);
+        },
+      )
         where
-          q : ReachesNone p inner around down (Sight.Atom a)
-          q = subst (ReachesNone p inner around down) s r
+          u : AreTouched inner around told_bound list
+          u = subst (λ (fs : List Name). AreTouched fs around told_bound list) same_inner
+              (subst (λ (E : Equations). AreTouched (frames_from (drop depth (v.stores ++ with_binding frames on (Term.Int z) ∷ []))) E told_bound list) same_around (h bound_keeps bound_consistent))
 
-      pub waiting_answer : (none : Bool) → (KeepsApartAt nodes (v.stores ++ with_binding frames on (Term.Int z) ∷ []) depth → IsConsistent (whole_at nodes (v.stores ++ with_binding frames on (Term.Int z) ∷ []) depth)
-          → IsTrue none ↔ IsUntouchedAt nodes (v.stores ++ with_binding frames on (Term.Int z) ∷ []) depth) → IsTrue none ↔ ReachesNoneAt p depth frames v
-      waiting_answer none h = (λ x. waiting_reaches ((h bound_keeps bound_consistent).0 x), λ r. (h bound_keeps bound_consistent).1 (reaches_waiting r))
-
-  -- where all is inconsistent, a box and an atom aren't as they are asked to be
-  pub inconsistent_reaches : (IsConsistent down → ⊥) → ((op : Op) → v.sight ≡ Sight.Choice op → ⊥) → ReachesNoneAt p depth frames v → ⊥
-  inconsistent_reaches clash other r = on v.sight refl r
+  -- where all is inconsistent, no box and no atom is as they are asked to be
+  pub inconsistent_down : (IsConsistent down → ⊥) → ((op : Op) → v.sight ≡ Sight.Choice op → ⊥) → IsConsistentDown p v → ⊥
+  inconsistent_down clash other c = on v.sight refl c
     where
-      on : (sight : Sight) → v.sight ≡ sight → ReachesNone p inner around down sight → ⊥
+      on : (sight : Sight) → v.sight ≡ sight → IsConsistentAt down sight → ⊥
       on (Sight.Choice op) e k = other op e
-      on (Sight.Box failing) e k = clash k.0
-      on (Sight.Atom a) e k = clash k.0
+      on (Sight.Box failing) e k = clash k
+      on (Sight.Atom a) e k = clash k
 
--- nothing is touched exactly where no variable was found
-pub none_touched_by : (own : List Name) (E W : Equations) (on : List Var) → AreTouched own E W on → (n : ℕ) → n ≡ length on → (b : Bool) → b ≡ (n == 0) → IsTrue b ↔ ((x : Var) → Touches own E W x → ⊥)
-none_touched_by own E W [] t n e b q = (λ h x k. (t.every x k).1, λ h. q ∙ ap (λ (m : ℕ). m == 0) e)
-none_touched_by own E W (y ∷ ys) t n e b q = (λ h. absurd (full (eqb-true n 0 (sym q ∙ h))), λ h. absurd (h y (t.each y (inl refl))))
-  where
-    full : n ≡ 0 → ⊥
-    full z = omega (arith, e, z)
+  -- nothing is reached exactly where nothing was found
+  pub none_reached : (list : List Var) → IsConsistentDown p v × AreReachedAt p depth frames v list → (n : ℕ) → n ≡ length list → (b : Bool) → b ≡ (n == 0) → IsTrue b ↔ ReachesNoneAt p depth frames v
+  none_reached [] r n e b q = (λ h. (r.0, λ x k. (r.1.every x k).1), λ h. q ∙ ap (λ (m : ℕ). m == 0) e)
+  none_reached (y ∷ ys) r n e b q = (λ h. absurd (full (eqb-true n 0 (sym q ∙ h))), λ h. absurd (h.1 y (r.1.each y (inl refl))))
+    where
+      full : n ≡ 0 → ⊥
+      full z = omega (arith, e, z)
+
+  pub none_asked : (IsConsistentDown p v → ⊥) → IsTrue false ↔ ReachesNoneAt p depth frames v
+  none_asked n = (λ h. cc, λ h. absurd (n h.0))
 
 -- what isn't a clash is consistent
 pub no_clash : (ns : List Node) (ss : List Stored) (a : Consistency) → Decides ns ss a → ((left right : Term) → a ≡ Clash left right → ⊥) → IsConsistentBy (ToldBy ns ss)

@@ -1,3 +1,4 @@
 pub mod Frames
 pub mod Reaching
 pub mod Seen
+pub mod Inner

@@ -16,9 +16,9 @@ use local_store::{Chain, take_stores};
 use rational_unify::{AddedBindings, Form, chain_end};
 use std::alloc::{AllocError, Global};
 
-// A variable on which an atom waits in the box of a view, whose equations are consistent; `None` exactly where it
-// waits on none.
-pub(crate) fn awaited(
+/// A variable on which an atom waits in the box of a view, whose equations are consistent; `None` exactly where it waits
+/// on none. This costs a solution of the stores down to the box that aren't known to be solved.
+pub fn awaited(
     alloc: Global,
     program: &Program,
     view: &View,

@@ -10,8 +10,8 @@ use box_tree::InnerBox;
 use local_store::Store;
 use std::alloc::{AllocError, Global};
 
-// A store that has the frames of these boxes, and nothing else.
-pub(crate) fn frames_of(alloc: Global, boxes: &[InnerBox]) -> Result<Store, AllocError>
+/// A store that has the frames of these boxes, and nothing else.
+pub fn frames_of(alloc: Global, boxes: &[InnerBox]) -> Result<Store, AllocError>
     ensures { IfOk result (λ s. s ≡ with_all_frames nothing boxes.now) }
 {
     let mut frames = Store::new(alloc);
