@@ -1,0 +1,166 @@
+-- What a box and the boxes inside it touch suffices for the box.
+use Rattle.std.proofs.Common.{◌≡◌, ℕ, zero, suc, ◌+◌, ◌≤◌, ◌<◌, List, [], ◌∷◌, ◌++◌, length, take, Some, refl, sym, ◌∙◌, ap, subst, ◌⊎◌, inl, inr, arith, append_assoc, append-nil}
+use Rattle.std.specs.List.{AllByRecursion}
+use Rattle.akl_terms.specs.declared.name.Name.{Name}
+use Rattle.akl_terms.specs.declared.name.Var.{Var}
+use Rattle.akl_terms.specs.declared.name.Place.{Place}
+use Rattle.akl_terms.specs.declared.term.Node.{Node}
+use Rattle.akl_terms.specs.declared.program.Program.{Program}
+use Rattle.akl_terms.specs.Tree.{Tree, variable}
+use Rattle.akl_terms.specs.Equal.{Equations, IsTold, Equal, turned, joined, IsConsistent, IsStructured}
+use Rattle.akl_terms.specs.Standing.{StandFor}
+use Rattle.akl_terms.specs.Touching.{IsOutside, IsUnbound, Touches}
+use Rattle.akl_terms.proofs.EqualLaws.{IsTold-left, Equal-follows, IsConsistent-follows}
+use Rattle.akl_terms.proofs.StandingLaws.{StandFor-back, StandFor-on}
+use Rattle.akl_model.specs.Config.{IsIn, Content, Boxes, no_boxes, box, Goals, no_goals, atom, choice, an_atom, Config, Found, equations_of, environment, whole, box_at, site_of}
+use Rattle.akl_model.specs.declared.label.Label.{Label}
+use Rattle.akl_model.specs.Derivations.{Derives}
+use Rattle.akl_model.specs.Instances.{start}
+use Rattle.akl_model.specs.Stable.{EachBox, EachInside, only, frames_of, IsAwaited, TouchesFrom, by_equations, by_waiting}
+use Rattle.akl_model.specs.Wakes.{SomeBox, SomeInside, names_around, Concerns, by_box}
+use Rattle.akl_model.proofs.Options.{some_value}
+use Rattle.akl_model.proofs.Results.{Derives-one}
+use Rattle.akl_model.proofs.ScopesKept.{around_outside}
+use Rattle.constraint_laws.specs.Growth.{IsOver, TellsOver}
+use Rattle.constraint_laws.specs.Standing.{StandsForConsistent}
+use Rattle.constraint_laws.specs.Touched.{IsAmong}
+use Rattle.constraint_laws.proofs.Beside.{follows_told}
+use Rattle.constraint_laws.proofs.Decided.{kept_by}
+use Rattle.constraint_laws.proofs.Grown.{over_kept}
+use Rattle.constraint_laws.proofs.NoEquations.{nothing_told}
+use Rattle.constraint_laws.proofs.Stands.{structured_stands, variable_stands}
+use Rattle.constraint_laws.proofs.TouchedLists.{touches_class}
+use Rattle.sleep_laws.specs.Sleeps.{IsAliasAt}
+use Rattle.step_laws.specs.Whereabouts.{InGoals, BoxIn}
+use Rattle.step_laws.proofs.Deeper.{home_found}
+use Rattle.table_laws.proofs.Frame.{equations_join}
+use Rattle.local_store.specs.Stored.{Stored, nothing}
+use Rattle.class_members.specs.Members as members
+use Rattle.box_tree.specs.declared.inside.Inside.{Inside}
+use Rattle.box_tree.specs.Tables.{TableValue, all_rules, table_of}
+use Rattle.box_tree.specs.Views.{ViewValue, IsViewOf}
+use Rattle.box_tree.specs.Insides.{IsPlaceInside, IsViewInside, IsInsideOf, HasView}
+use Rattle.table_laws.specs.Rows.{stores_along}
+use Rattle.guard_plan.proofs.Chains.{told_stands}
+use Rattle.guard_plan.proofs.Sites.{stand, found, environment_stands, stores_split}
+use Rattle.stable_test.specs.Frames.{with_all_frames}
+use Rattle.stable_test.specs.Inner.{IsTouchedInside, AreTouchedInside}
+use Rattle.stable_test.specs.Seen.{IsSeenInside}
+use Rattle.stable_test.proofs.EachInside.{IsDown, IsBelow, below}
+use Rattle.stable_test.proofs.SomeInside.{down_some, some_down}
+use Rattle.stable_test.proofs.PathStores.{is_inside, box_down, goal_down, goal_inside_down}
+use Rattle.idle_plan.specs.Waits.{AreReachedInside}
+use Rattle.idle_plan.proofs.Needed.{NeedsInside, NeedsOwn, Suffices}
+use Rattle.idle_plan.proofs.Outermost.{alias_by, same_alias}
+use Rattle.idle_plan.proofs.Paths.{long_stores}
+
+front : (A : List Stored) (s : Stored) → take (length A) (A ++ s ∷ []) ≡ A
+front [] s = refl
+front (x ∷ A) s = ap (λ (l : List Stored). x ∷ l) (front A s)
+
+first_of : (k : ℕ) (ss : List Stored) → 1 ≤ k → take 1 (take k ss) ≡ take 1 ss
+first_of zero ss l = absurd (omega arith)
+first_of (suc k) [] l = refl
+first_of (suc k) (s ∷ ss) l = refl
+
+module _ (v : ViewValue) (i : IsViewOf v) (n : Name) (at : v.place ≡ Place.Box n) (list : List Var) (h : AreReachedInside v.table.program i.site (length i.site.around) v.stores list) where
+  abbrev p : Program
+  p = v.table.program
+
+  abbrev nodes : List Node
+  nodes = v.table.program.templates.nodes
+
+  abbrev c : Config
+  c = i.table.config
+
+  abbrev E : Equations
+  E = environment i.site
+
+  abbrev F : Equations
+  F = members.equations_of v.table.program.templates.nodes (take (length i.site.around) v.stores)
+
+  is_box : box_at n i.table.config.roots ≡ Some i.site
+  is_box = subst (λ (q : Place). site_of q i.table.config.roots ≡ Some i.site) at i.is_site
+
+  over : TellsOver (IsOutside (frames_of (only i.site))) (environment i.site)
+  over = around_outside all_rules v.table.program v.table.query v.journal i.table.config n i.site i.table.replays is_box
+
+  -- the stores around the box
+  around : take (length i.site.around) v.stores ≡ stores_along (table_of v.table) (names_around i.site)
+  around = (λ j. take (sym (long_stores (table_of v.table) i.site.around) j) (stores_split v i j)) ∙ front (stores_along (table_of v.table) (names_around i.site)) _
+
+  stands : StandFor (IsTold (members.equations_of v.table.program.templates.nodes (take (length i.site.around) v.stores))) (IsTold (environment i.site))
+  stands = subst (λ (A : List Stored). StandFor (IsTold (members.equations_of nodes A)) (IsTold (environment i.site))) (sym around)
+      (StandFor-on (told_stands nodes (stores_along (table_of v.table) (names_around i.site))) (environment_stands v i))
+
+  -- what is told around the box is told in it
+  told_down : (d : Found) → IsDown i.table.config (stand v i) n i.site is_box d → (a b : Tree) → IsTold (environment i.site) a b → IsTold (whole d) a b
+  told_down d k a b m = elim (below i.table.config (stand v i) n i.site is_box d k) [
+    | inl q ↦ subst (λ (u : Found). IsTold (whole u) a b) q (IsTold-left (environment i.site) i.site.content.equations a b m)
+    | inr u ↦ IsTold-left (environment d) d.content.equations a b
+        (subst (λ (bs : List Content). IsTold (equations_of bs) a b) (sym u.around)
+        (subst (λ (G : Equations). IsTold G a b) (sym (equations_join i.site.around (i.site.content ∷ u.rest))) (IsTold-left (environment i.site) (equations_of (i.site.content ∷ u.rest)) a b m)))
+  ]
+
+  -- a class that is touched from outside is
+  class_outside : (y z : Var) → Equal (environment i.site) (variable z) (variable y) → IsOutside (frames_of (only i.site)) z → IsOutside (frames_of (only i.site)) y
+  class_outside y z e o = elim (kept_by (over_kept (IsOutside (frames_of (only i.site))) (environment i.site) over) e) [ inl r ↦ subst (IsOver (IsOutside (frames_of (only i.site)))) r o | inr r ↦ r.1 ]
+
+  class_touched : (d : Found) → IsDown i.table.config (stand v i) n i.site is_box d → (z y : Var) → Equal (environment i.site) (variable z) (variable y)
+      → TouchesFrom v.table.program (frames_of (only i.site)) (environment i.site) d z → TouchesFrom v.table.program (frames_of (only i.site)) (environment i.site) d y
+  class_touched d k z y e (by_equations t) = by_equations (touches_class (frames_of (only i.site)) (environment i.site) (whole d) (told_down d k) over z y e t)
+  class_touched d k z y e (by_waiting u a) = by_waiting
+      (record { outside = class_outside y z e u.outside; unstructured = λ s. u.unstructured (s.0, s.1, joined e s.2, s.3) })
+      (record { goal = a.goal; atom = a.atom; is_goal = a.is_goal; on = a.on; waits = a.waits; equal = joined (turned (Equal-follows (follows_told (environment i.site) (whole d) (told_down d k)) e)) a.equal })
+
+  forth : IsConsistent F → StandsForConsistent F E
+  forth still = record { stands = stands; consistent = still }
+
+  concern : (y : Var) → IsAmong y list → Concerns v.table.program i.table.config y (Place.Box n)
+  concern y m =
+      let k : members.IsMember F h.reached y = h.members.each y m in
+      let w : (d : Found) × IsDown i.table.config (stand v i) n i.site is_box d × (IsConsistent (whole d) × TouchesFrom p (frames_of (only i.site)) E d k.variable_of) =
+      some_down i.table.config (stand v i) n i.site is_box (λ (d : Found). IsConsistent (whole d) × TouchesFrom p (frames_of (only i.site)) E d k.variable_of) (h.touched.each k.variable_of k.among) in
+      let q : Equal E (variable k.variable_of) (variable y) =
+      variable_stands F E (forth (h.members.consistent y m)) (variable k.variable_of) y (λ z. k.unstructured (z.0, z.1, joined k.equal z.2, z.3)) k.equal in
+      by_box is_box (down_some i.table.config (stand v i) n i.site is_box (λ (d : Found). TouchesFrom p (frames_of (only i.site)) E d y) w.0 w.1 (class_touched w.0 w.1 k.variable_of y q w.2.1))
+
+  touched_unbound : (d : Found) (z : Var) → TouchesFrom v.table.program (frames_of (only i.site)) (environment i.site) d z → IsStructured (environment i.site) z → ⊥
+  touched_unbound d z (by_equations t) s = t.unbound.unstructured s
+  touched_unbound d z (by_waiting u a) s = u.unstructured s
+
+  -- what is touched inside is a variable that the consistent environment leaves unstructured
+  inside_unbound : (z : Var) → IsTouchedInside v.table.program i.site z → IsConsistent (environment i.site) × (IsStructured (environment i.site) z → ⊥)
+  inside_unbound z t =
+      let w : (d : Found) × IsDown i.table.config (stand v i) n i.site is_box d × (IsConsistent (whole d) × TouchesFrom p (frames_of (only i.site)) E d z) =
+      some_down i.table.config (stand v i) n i.site is_box (λ (d : Found). IsConsistent (whole d) × TouchesFrom p (frames_of (only i.site)) E d z) t in
+      (IsConsistent-follows (follows_told E (whole w.0) (told_down w.0 w.1)) w.2.0, touched_unbound w.0 z w.2.1)
+
+  alias : (depth : ℕ) → depth ≡ length i.site.around → IsConsistent F → (z y : Var) → (IsStructured F y → ⊥)
+      → Equal (members.outermost_of v.table.program.templates.nodes (take (length i.site.around) v.stores)) (variable z) (variable y) → IsAliasAt i.table.config v.place z y
+  alias zero q f z y n e = subst (λ (u : Var). IsAliasAt i.table.config v.place u y)
+      (sym (same_var z y (nothing_told (variable z) (variable y) (subst (λ (d : ℕ). Equal (members.outermost_of nodes (take d v.stores)) (variable z) (variable y)) (sym q) e)))) (same_alias v i y)
+    where
+      same_var : (a b : Var) → variable a ≡ variable b → a ≡ b
+      same_var a b e = cc
+  alias (suc d) q f z y n e = alias_by v i (take (length i.site.around) v.stores) (first_of (length i.site.around) v.stores (omega (arith, q))) f z y n e
+
+  enough_inside : (y : Var) → IsTouchedInside v.table.program i.site y → (z : Var) × IsAmong z list × IsAliasAt i.table.config v.place z y
+  enough_inside y t =
+      let o : (z : Var) × IsAmong z h.reached × Equal E (variable y) (variable z) = h.touched.every y t in
+      let u : IsConsistent E × (IsStructured E y → ⊥) = inside_unbound y t in
+      let free : (IsStructured E o.0 → ⊥) = (inside_unbound o.0 (h.touched.each o.0 o.1)).1 in
+      let f : IsConsistent F = stands.back u.0 in
+      let q : Equal F (variable y) (variable o.0) = variable_stands E F (record { stands = StandFor-back stands; consistent = u.0 }) (variable y) o.0 free o.2 in
+      let r : (z : Var) × IsAmong z list × Equal (members.outermost_of nodes (take (length i.site.around) v.stores)) (variable z) (variable y) =
+      h.members.every f y (record { variable_of = o.0; among = o.1; unstructured = λ z. free (structured_stands F E (forth f) o.0 z); equal = turned q }) in
+      (r.0, r.1, alias (length i.site.around) refl f r.0 y (λ z. u.1 (structured_stands F E (forth f) y z)) r.2)
+
+  enough : (y : Var) → NeedsInside v.table.program i.table.config n y → (z : Var) × IsAmong z list × IsAliasAt i.table.config v.place z y
+  enough y b = enough_inside y (subst (λ (f : Found). IsTouchedInside v.table.program f y) (some_value (sym b.is_box ∙ is_box)) b.touches)
+
+  pub inside_suffices : Suffices v.table.program i.table.config v.place (NeedsOwn v.table.program i.table.config v.place) list
+  inside_suffices = record {
+    concern = λ y m. subst (λ (q : Place). Concerns v.table.program i.table.config y q) (sym at) (concern y m);
+    enough = λ y b. enough y (subst (λ (q : Place). NeedsOwn v.table.program i.table.config q y) at b);
+  }

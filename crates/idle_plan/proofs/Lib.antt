@@ -1,0 +1,17 @@
+pub mod Wholes
+pub mod Gathering
+pub mod Outward
+pub mod Listed
+pub mod Paths
+pub mod Needed
+pub mod Outermost
+pub mod BoxesAround
+pub mod Awaiting
+pub mod ChoiceWaits
+pub mod InsideWaits
+pub mod ReadItems
+pub mod Joined
+pub mod Answered
+pub mod Steps
+pub mod Unready
+pub mod RootInside

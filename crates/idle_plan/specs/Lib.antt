@@ -1,0 +1,4 @@
+pub mod Idling
+pub mod Read
+pub mod Told
+pub mod Waits

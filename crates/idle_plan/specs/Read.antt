@@ -1,0 +1,10 @@
+-- What an idle box reads of itself and of the boxes inside it.
+use Rattle.std.specs.Prelude.{List, [], ◌∷◌, ◌++◌}
+use Rattle.akl_model.specs.declared.item.Item.{Item}
+use Rattle.box_tree.specs.declared.inside.InnerBox.{InnerBox}
+use Rattle.split_plan.specs.Read.{goal_items}
+
+-- the set of goals of each of these boxes, and the goals
+abbrev pub sets_in : List InnerBox → List Item
+sets_in [] = []
+sets_in (b ∷ bs) = Item.Goals b.name ∷ (goal_items b.goals.items ++ sets_in bs)
