@@ -7,16 +7,15 @@ use Rattle.akl_args.specs.declared.options.Job.TheVariants as jobs
 use Rattle.akl_args.specs.declared.options.Options.{Options}
 use Rattle.akl_args.specs.declared.options.WordsError.{WordsError}
 use Rattle.akl_args.specs.declared.options.WordsError.TheVariants.{Missing, Value, Repeated}
-use Rattle.akl_args.specs.declared.reader.Pending.{Pending}
-use Rattle.akl_args.specs.declared.reader.Reader.{Reader}
+use Rattle.akl_args.specs.declared.seen.Pending.{Pending}
 use Rattle.akl_args.specs.declared.setting.Setting.{Setting}
 use Rattle.akl_args.specs.declared.setting.Setting.TheVariants.{Query, Generate, Workers, Budget}
 use Rattle.akl_args.specs.Limits.{IsWithinLimits, IsJobWithinLimits}
 use Rattle.akl_args.specs.Numbers.{value_of, within, number_in}
-use Rattle.akl_args.specs.Table.{nothing_said, new_setting, is_equals, after_set, after_joined, after_trace, after_alone, after_expected, after_word, completed_behind, job_of, options_of, and_then, reading_from, reading}
+use Rattle.akl_args.specs.Table.{Said, nothing_said, new_setting, is_equals, after_set, after_joined, after_trace, after_alone, after_expected, after_word, completed_behind, job_of, options_of, and_then, reading_from, reading}
 
 -- what was said so far is within the limits
-record SaysWithin (r : Reader) : Type 0 where
+record SaysWithin (r : Said) : Type 0 where
   query : IfSome r.query (λ text. 0 < length text)
   generate : IfSome r.generate (λ n. n ≤ 4294967295)
   workers : IfSome r.workers (λ n. (1 ≤ n) × (n ≤ 16))
@@ -45,7 +44,7 @@ number_between : (low high : ℕ) (o : Option ℕ) → IfSome (option_and_then (
 number_between low high None = tt
 number_between low high (Some n) = if_so (λ m. (low ≤ m) × (m ≤ high)) _ n (between low high n)
 
-set_within : (setting : Setting) (at : ℕ) (text : List ℕ) (r : Reader) → SaysWithin r → IfOk (after_set setting at text r) SaysWithin
+set_within : (setting : Setting) (at : ℕ) (text : List ℕ) (r : Said) → SaysWithin r → IfOk (after_set setting at text r) SaysWithin
 set_within Query at [] r h = tt
 set_within Query at (b ∷ bs) r h = record { query = omega arith; generate = h.generate; workers = h.workers; budget = h.budget }
 set_within Generate at text r h =
@@ -58,26 +57,26 @@ set_within Budget at text r h =
     picked SaysWithin _ (Value at) (mapped _ SaysWithin _ (number_in 1 4000000 text) (number_between 1 4000000 (value_of text))
     (λ n k. record { query = h.query; generate = h.generate; workers = h.workers; budget = k }))
 
-always : {A : Type 0} (x : Result A WordsError) (go : A → Result Reader WordsError) → ((a : A) → IfOk (go a) SaysWithin) → IfOk (and_then x go) SaysWithin
+always : {A : Type 0} (x : Result A WordsError) (go : A → Result Said WordsError) → ((a : A) → IfOk (go a) SaysWithin) → IfOk (and_then x go) SaysWithin
 always (Ok a) go h = h a
 always (Err e) go h = tt
 
 -- fields that no limit speaks of may change
-same_limits : (r s : Reader) → r.query ≡ s.query → r.generate ≡ s.generate → r.workers ≡ s.workers → r.budget ≡ s.budget → SaysWithin r → SaysWithin s
+same_limits : (r s : Said) → r.query ≡ s.query → r.generate ≡ s.generate → r.workers ≡ s.workers → r.budget ≡ s.budget → SaysWithin r → SaysWithin s
 same_limits r s q g w b h = record { query = rw (← q) h.query; generate = rw (← g) h.generate; workers = rw (← w) h.workers; budget = rw (← b) h.budget }
 
-trace_within : (at : ℕ) (r : Reader) → SaysWithin r → IfOk (after_trace at r) SaysWithin
+trace_within : (at : ℕ) (r : Said) → SaysWithin r → IfOk (after_trace at r) SaysWithin
 trace_within at r h = chosen SaysWithin r.trace (Err (Repeated at)) (Ok (record r { trace = true })) tt (same_limits r _ refl refl refl refl h)
 
-joined_within : (at : ℕ) (name value : List ℕ) (r : Reader) → SaysWithin r → IfOk (after_joined at name value r) SaysWithin
+joined_within : (at : ℕ) (name value : List ℕ) (r : Said) → SaysWithin r → IfOk (after_joined at name value r) SaysWithin
 joined_within at name value r h = always (new_setting at name r) (λ setting. after_set setting at value r) (λ setting. set_within setting at value r h)
 
-alone_within : (at : ℕ) (name : List ℕ) (r : Reader) → SaysWithin r → IfOk (after_alone at name r) SaysWithin
+alone_within : (at : ℕ) (name : List ℕ) (r : Said) → SaysWithin r → IfOk (after_alone at name r) SaysWithin
 alone_within at name r h =
     chosen SaysWithin (bytes_eq name (codes "--trace")) (after_trace at r) _ (trace_within at r h)
     (always (new_setting at name r) _ (λ setting. same_limits r _ refl refl refl refl h))
 
-word_within : (o : Option Pending) (at : ℕ) (word : List ℕ) (r : Reader) → SaysWithin r → IfOk (after_expected o at word r) SaysWithin
+word_within : (o : Option Pending) (at : ℕ) (word : List ℕ) (r : Said) → SaysWithin r → IfOk (after_expected o at word r) SaysWithin
 word_within None at word r h =
     chosen SaysWithin (nat_lt (position_or_len is_equals word) (length word)) (after_joined at (before_first is_equals word) (after_first is_equals word) r) (after_alone at word r)
     (joined_within at (before_first is_equals word) (after_first is_equals word) r h) (alone_within at word r h)
@@ -94,7 +93,7 @@ default_within : (o : Option ℕ) (default most : ℕ) → 1 ≤ default → def
 default_within None default most low high h = (low, high)
 default_within (Some n) default most low high h = h
 
-completed_within : (o : Option Pending) (count : ℕ) (r : Reader) → SaysWithin r → IfOk (completed_behind o count r) IsWithinLimits
+completed_within : (o : Option Pending) (count : ℕ) (r : Said) → SaysWithin r → IfOk (completed_behind o count r) IsWithinLimits
 completed_within (Some p) count r h = tt
 completed_within None count r h =
     let workers = default_within r.workers 1 16 (omega arith) (omega arith) h.workers in
@@ -102,12 +101,12 @@ completed_within None count r h =
     picked IsWithinLimits _ (Missing count) (mapped IsJobWithinLimits IsWithinLimits (options_of r) (job_of r.query r.generate) (job_within r.query r.generate h.query h.generate)
     (λ job k. record { job = k; some_worker = workers.0; workers = workers.1; some_budget = budget.0; budget = budget.1 }))
 
-after_within : (x : Result Reader WordsError) (go : Reader → Result Options WordsError) → IfOk x SaysWithin
-    → ((s : Reader) → SaysWithin s → IfOk (go s) IsWithinLimits) → IfOk (and_then x go) IsWithinLimits
+after_within : (x : Result Said WordsError) (go : Said → Result Options WordsError) → IfOk x SaysWithin
+    → ((s : Said) → SaysWithin s → IfOk (go s) IsWithinLimits) → IfOk (and_then x go) IsWithinLimits
 after_within (Ok s) go h k = k s h
 after_within (Err e) go h k = tt
 
-rest_within : (at : ℕ) (words : List (List ℕ)) (r : Reader) → SaysWithin r → IfOk (reading_from at words r) IsWithinLimits
+rest_within : (at : ℕ) (words : List (List ℕ)) (r : Said) → SaysWithin r → IfOk (reading_from at words r) IsWithinLimits
 rest_within at [] r h = completed_within r.pending at r h
 rest_within at (word ∷ words) r h =
     after_within (after_word at word r) _ (word_within r.pending at word r h) (λ s k. rest_within (suc at) words s k)

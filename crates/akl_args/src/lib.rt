@@ -1,9 +1,11 @@
 //! The words of a command line.
 #![tactic(auto)]
 
+mod asked;
+mod command;
 mod number;
 mod options;
-mod reader;
+mod seen;
 mod setting;
 mod words;
 

@@ -4,8 +4,10 @@ ghost use Rattle.std.specs.Prelude.{◌≡◌, Ok, IfOk, IfErr, map, string_byte
 ghost use Rattle.akl_args.specs.Limits.{IsWithinLimits};
 ghost use Rattle.akl_args.specs.Table.{reading, IsRefusalOf};
 
+use crate::asked::options_of;
+use crate::command::split;
 use crate::options::{Options, WordsError};
-use crate::reader::Reader;
+use crate::seen::test_words;
 use std::alloc::{AllocError, Global};
 
 /// What the words of a command line ask for, without the program's name.
@@ -18,9 +20,10 @@ pub fn read_words(alloc: Global, words: &[String]) -> Result<Options, WordsError
     ensures limits { IfOk result IsWithinLimits }
     ensures refusal { IfErr result (IsRefusalOf (reading (map string_bytes words.now))) }
 {
-    let mut reader = Reader::new();
-    for (at, word) in words.iter().enumerate() {
-        reader.take(alloc, at, word.as_str())?;
+    test_words(words)?;
+    match split(alloc, words) {
+        Ok(matches) => options_of(alloc, &matches, words.len()),
+        // Words that passed the test are split, unless memory is wanting.
+        Err(_) => Err(WordsError::Memory(AllocError)),
     }
-    reader.complete(words.len())
 }
