@@ -1,6 +1,6 @@
--- From a loaded query to its evaluation.
-use Rattle.std.proofs.Common.{◌≡◌, ℕ, zero, suc, ◌+◌, ◌-◌, ◌≤◌, ◌<◌, List, [], ◌∷◌, ◌++◌, length, Bool, true, false, cond, refl, sym, ◌∙◌, ap, subst, arith}
-use Rattle.std.specs.Prelude.{◌==◌, nat_lt}
+-- From a loaded query to what is written of its run.
+use Rattle.std.proofs.Common.{◌≡◌, ℕ, zero, suc, ◌+◌, ◌-◌, ◌≤◌, ◌<◌, List, [], ◌∷◌, ◌++◌, length, map, Bool, true, false, cond, refl, sym, ◌∙◌, ap, subst, append_assoc, append-nil, arith}
+use Rattle.std.specs.Prelude.{◌==◌, nat_lt, Result, Ok, Err, IfOk, IfErr}
 use Rattle.std.proofs.lemmas.Bool.Decides.{nat_tests}
 use Rattle.akl_terms.specs.declared.program.Program.{Program}
 use Rattle.akl_terms.specs.declared.program.Query.{Query}
@@ -15,20 +15,28 @@ use Rattle.clause_store.specs.Loaded.{IsQueryOf}
 use Rattle.akl_lift.specs.Lifting.{query_without, made_of_query}
 use Rattle.box_tree.specs.Tables.{all_rules, HasShownVariables, AreBelow}
 use Rattle.step_commit.specs.Cores.{CoreValue, IsCore}
+use Rattle.step_commit.specs.Receipts.{AreReceipts, AreBy}
 use Rattle.seq_engine.specs.declared.run.End.{End}
-use Rattle.seq_engine.specs.declared.run.Finished.{Finished}
-use Rattle.seq_engine.specs.Runs.{AreKept, EndsAs}
-use Rattle.root_answers.specs.Roots.{TableIn, Answers}
+use Rattle.seq_engine.specs.Runs.{EndsAs}
+use Rattle.root_answers.specs.Roots.{TableIn}
 use Rattle.akl_run.specs.declared.loaded.Loaded.{Loaded}
+use Rattle.akl_run.specs.declared.evaluate.Evaluated.{Evaluated}
 use Rattle.akl_run.specs.declared.ending.Ending.{Ending}
+use Rattle.akl_run.specs.declared.output.Unwritten.{Unwritten}
+use Rattle.akl_run.specs.declared.report.Status.{Status}
 use Rattle.akl_run.specs.Loads.{first_asked, IsLoadedFrom}
 use Rattle.akl_run.specs.Traces.{trace_text}
-use Rattle.akl_run.specs.Text.{outcome_line}
+use Rattle.akl_run.specs.Text.{outcome_line, IsRunText, of_first, of_all}
 use Rattle.akl_run.specs.Endings.{ending_by, status_by, outcome_by}
 use Rattle.akl_run.specs.Runs.{IsRun}
-use Rattle.akl_run.specs.Evaluations.{HasFinished}
+use Rattle.akl_run.specs.Evaluations.{HasEnded, IsEvaluated}
+use Rattle.akl_run.specs.Outputs.{Outlet, HasAppended, IsCause, HasBrokenOff, PartsOf, ShortOf}
+use Rattle.akl_run.specs.Written.{AreAllTexts, AreFirstTexts, HasWrittenAnswers, ArePartsOfAnswers, IsRunIn, HasWritten, BreaksOff}
+use Rattle.akl_run.specs.Steps.{EndsWriting, whole, fault, memory, status_by_writing}
 use Rattle.akl_run.specs.Reports.{IsStatusOf, IsRunBy}
 use Rattle.akl_run.proofs.ShownTerms.{shown-below}
+use Rattle.akl_run.proofs.Appended.{appended_both, cause_later}
+use Rattle.akl_run.proofs.AllAnswers.{found_none, found_first}
 
 pub loaded_shown : (program query : List ℕ) (l : Loaded) → IsLoadedFrom program query l → HasShownVariables l.query
 loaded_shown program query l is =
@@ -61,9 +69,9 @@ module _ (c : CoreValue) (t : TableIn c) (answers : List Content) (a : AreAnswer
       left zero i h = absurd (omega (arith, i, h))
       left (suc k) i h = is_suspended q a (let g : count_of t.config.roots ≡ length answers + suc k = omega (arith, e, i, h) in g)
 
-      whole : (n : ℕ) → roots ≡ n → length answers ≡ n → HasOutcome all_rules c.table.program c.budget (length c.journal) t.config answers (outcome_by (cond (n == 0) Ending.Failed Ending.Done))
-      whole zero i j = is_failed q a (e ∙ i)
-      whole (suc n) i j = subst (λ (b : Bool). HasOutcome all_rules c.table.program c.budget (length c.journal) t.config answers (outcome_by (cond b Ending.Failed Ending.Done))) (sym (not_zero n)) (is_done {k = n} q a (e ∙ i) j)
+      each : (n : ℕ) → roots ≡ n → length answers ≡ n → HasOutcome all_rules c.table.program c.budget (length c.journal) t.config answers (outcome_by (cond (n == 0) Ending.Failed Ending.Done))
+      each zero i j = is_failed q a (e ∙ i)
+      each (suc n) i j = subst (λ (b : Bool). HasOutcome all_rules c.table.program c.budget (length c.journal) t.config answers (outcome_by (cond b Ending.Failed Ending.Done))) (sym (not_zero n)) (is_done {k = n} q a (e ∙ i) j)
         where
           not_zero : (n : ℕ) → (suc n == 0) ≡ false
           not_zero n = grind (arith, nat_tests)
@@ -74,7 +82,7 @@ module _ (c : CoreValue) (t : TableIn c) (answers : List Content) (a : AreAnswer
         where
           below : nat_lt (length answers) roots ≡ true → length answers < roots
           below i = grind (arith, nat_tests)
-      on false i = whole roots refl (let h : roots ≤ length answers = not_below i in omega (arith, h, few))
+      on false i = each roots refl (let h : roots ≤ length answers = not_below i in omega (arith, h, few))
         where
           not_below : nat_lt (length answers) roots ≡ false → roots ≤ length answers
           not_below i = grind (arith, nat_tests)
@@ -86,43 +94,136 @@ module _ (c : CoreValue) (t : TableIn c) (answers : List Content) (a : AreAnswer
       let few : length answers ≤ count_of t.config.roots = few_answers a in
       quiet_outcome (length c.table.roots) roots (omega (arith, roots, few)) (s t)
 
--- ---- a run with its text
+-- ---- what was written of a run
 
--- a run of a core's own query
-module _ (c : CoreValue) (i : IsCore c) (first : ℕ) where
-  own_run : (answers : List Content) (end : End) → AreAnswers i.table.config.roots answers → EndsAs c end
-      → IsRun (record { program = c.table.program; query = c.table.query; first_variable = first }) c.budget c.journal answers (outcome_by (ending_by end (length c.table.roots) (length answers)))
-  own_run answers end a e = record { last = i.table.config; replays = i.table.replays; ends = has_outcome c i.table answers a end e; within = i.within }
+-- the run of a core, with all answers of its configuration
+abbrev RunOf : CoreValue → End → List Content → Type 0
+RunOf c end answers = IsRun c.table.program c.table.query c.budget c.journal answers (outcome_by (ending_by end (length c.table.roots) (length answers)))
 
-  abbrev own_text : Bool → End → ℕ → List ℕ → List ℕ
-  own_text trace end count text = trace_text trace c.journal ++ text ++ outcome_line (outcome_by (ending_by end (length c.table.roots) count))
+own_run : (c : CoreValue) (i : IsCore c) (answers : List Content) (end : End) → AreAnswers i.table.config.roots answers → EndsAs c end → RunOf c end answers
+own_run c i answers end a e = record { last = i.table.config; replays = i.table.replays; ends = has_outcome c i.table answers a end e; within = i.within }
 
-  own_evaluated : (trace : Bool) (receipts : List Receipt) (end : End) (count : ℕ) (text : List ℕ) → AreKept c receipts → EndsAs c end → Answers c i.table count text
-      → IsRunBy (record { program = c.table.program; query = c.table.query; first_variable = first }) c.budget trace (outcome_by (ending_by end (length c.table.roots) count)) c.journal (receipts ∷ []) (own_text trace end count text)
-  own_evaluated trace receipts end count text k e x =
-      subst (λ (n : ℕ). IsRunBy (record { program = c.table.program; query = c.table.query; first_variable = first }) c.budget trace (outcome_by (ending_by end (length c.table.roots) n)) c.journal (receipts ∷ []) (own_text trace end n text))
-      (sym x.counted) (record {
-        answers = x.answers;
-        run = own_run x.answers end x.are_answers e;
-        one_worker = k.by_one;
-        one_list = refl;
-        are_receipts = k.receipts;
-        is_text = record { answered = text; are_texts = x.are_texts; whole = refl };
+module _ (e : Evaluated) (h : HasEnded e) (i : IsCore e.core) where
+  abbrev symbols : List (List ℕ)
+  symbols = e.core.table.program.templates.symbols
+
+  abbrev traced : List ℕ
+  traced = trace_text e.trace e.core.journal
+
+  abbrev outcome_with : List Content → Outcome
+  outcome_with answers = outcome_by (ending_by e.end (length e.core.table.roots) (length answers))
+
+  -- a front of the trace and of the texts of the first answers was written
+  broke_in_answers : {before after : Outlet} {cause : Unwritten} (front rest answered : List ℕ) → AreFirstTexts e.core answered i.table → front ++ rest ≡ traced ++ answered → HasAppended before after front
+      → IsCause before after cause → BreaksOff e before after cause
+  broke_in_answers front rest answered f p x k = record {
+    answers = f.first ++ f.left;
+    outcome = outcome_with (f.first ++ f.left);
+    run = own_run e.core i (f.first ++ f.left) e.end f.are_answers h.ends;
+    front = front;
+    is_front = of_first f.first f.left answered rest refl f.are_texts p;
+    appended = x;
+    is_cause = k;
+  }
+
+  pub trace_broke : {before after : Outlet} {cause : Unwritten} (journal : List Label) → journal ≡ e.core.journal → HasBrokenOff (PartsOf (trace_text e.trace journal)) before after cause → BreaksOff e before after cause
+  trace_broke journal j b = broke_in_answers b.front b.rest [] (found_first e.core 0 0 [] (found_none e.core) i.table) (b.are_parts ∙ ap (trace_text e.trace) j ∙ sym (append-nil traced)) b.appended b.is_cause
+
+  as_traced : {before after : Outlet} (journal : List Label) → journal ≡ e.core.journal → HasAppended before after (trace_text e.trace journal) → HasAppended before after traced
+  as_traced {before} {after} journal j x = subst (λ (ls : List Label). HasAppended before after (trace_text e.trace ls)) j x
+
+  pub answers_broke : {before middle after : Outlet} {cause : Unwritten} (journal : List Label) → journal ≡ e.core.journal → HasAppended before middle (trace_text e.trace journal)
+      → HasBrokenOff (ArePartsOfAnswers e.core) middle after cause → BreaksOff e before after cause
+  answers_broke {before} {middle} {after} {cause} journal j y b =
+      let x : HasAppended before middle traced = as_traced journal j y in
+      broke_in_answers (traced ++ b.front) b.rest (b.front ++ b.rest) (b.are_parts.are_texts i.table) (append_assoc traced b.front b.rest) (appended_both traced b.front x b.appended) (cause_later before middle after cause x.faults b.is_cause)
+
+  -- the text of the run, with its last line
+  abbrev ended_by : ℕ → Ending
+  ended_by count = ending_by e.end (length e.core.table.roots) count
+
+  abbrev last_line : ℕ → List ℕ
+  last_line count = outcome_line (outcome_by (ended_by count))
+
+  whole_text : (count : ℕ) (answered : List ℕ) (w : AreAllTexts e.core count answered i.table) → IsRunText symbols e.trace e.core.journal w.answers (outcome_with w.answers) (traced ++ answered ++ last_line count)
+  whole_text count answered w =
+      subst (λ (n : ℕ). IsRunText symbols e.trace e.core.journal w.answers (outcome_with w.answers) (traced ++ answered ++ last_line n)) (sym w.counted)
+      (record { answered = answered; are_texts = w.are_texts; whole = refl })
+
+  pub ending_broke : {before middle further after : Outlet} {cause : Unwritten} (journal : List Label) → journal ≡ e.core.journal → (count : ℕ) (ending : Ending) → ending ≡ ended_by count
+      → HasAppended before middle (trace_text e.trace journal) → HasWrittenAnswers e.core middle further count → HasBrokenOff (ShortOf (outcome_line (outcome_by ending))) further after cause → BreaksOff e before after cause
+  ending_broke {before} {middle} {further} {after} {cause} journal j count ending k z w u =
+      let x : HasAppended before middle traced = as_traced journal j z in
+      let b : HasBrokenOff (ShortOf (last_line count)) further after cause = subst (λ (n : Ending). HasBrokenOff (ShortOf (outcome_line (outcome_by n))) further after cause) k u in
+      let all : AreAllTexts e.core count w.text i.table = w.are_texts i.table in
+      let y : HasAppended before further (traced ++ w.text) = appended_both traced w.text x w.appended in
+      record {
+        answers = all.answers;
+        outcome = outcome_with all.answers;
+        run = own_run e.core i all.answers e.end all.are_answers h.ends;
+        front = (traced ++ w.text) ++ b.front;
+        is_front = of_all ((traced ++ w.text) ++ last_line count) b.rest (whole_text count w.text all)
+            (append_assoc (traced ++ w.text) b.front b.rest ∙ ap (λ (xs : List ℕ). (traced ++ w.text) ++ xs) b.are_parts.whole) b.are_parts.more;
+        appended = appended_both (traced ++ w.text) b.front y b.appended;
+        is_cause = cause_later before further after cause y.faults b.is_cause;
+      }
+
+  pub wrote_whole : {before middle further after : Outlet} (journal : List Label) → journal ≡ e.core.journal → (count : ℕ) (ending : Ending) → ending ≡ ended_by count
+      → HasAppended before middle (trace_text e.trace journal) → HasWrittenAnswers e.core middle further count → HasAppended further after (outcome_line (outcome_by ending)) → HasWritten e before after (status_by ending)
+  wrote_whole {before} {middle} {further} {after} journal j count ending k y w u =
+      let x : HasAppended before middle traced = as_traced journal j y in
+      let z : HasAppended further after (last_line count) = subst (λ (n : Ending). HasAppended further after (outcome_line (outcome_by n))) k u in
+      let all : AreAllTexts e.core count w.text i.table = w.are_texts i.table in
+      subst (λ (n : Ending). HasWritten e before after (status_by n)) (sym k) (record {
+        answers = all.answers;
+        outcome = outcome_with all.answers;
+        is_status = subst (λ (n : ℕ). IsStatusOf (status_by (ended_by count)) (outcome_by (ended_by n))) all.counted (status_of (ended_by count));
+        run = own_run e.core i all.answers e.end all.are_answers h.ends;
+        text = traced ++ w.text ++ last_line count;
+        is_text = whole_text count w.text all;
+        appended = appended_both (traced ++ w.text) (last_line count) (appended_both traced w.text x w.appended) z;
       })
 
--- what holds of the core's own query and budget holds of those that it was made for
-of_query : (P : Loaded → ℕ → Type 0) (l : Loaded) (p : Program) (q : Query) (b budget : ℕ) → p ≡ l.program → q ≡ l.query → b ≡ budget → P (record { program = p; query = q; first_variable = l.first_variable }) b → P l budget
-of_query P l p q b budget e f g x =
-    subst (P l) g
-    (subst (λ (r : Query). P (record { program = l.program; query = r; first_variable = l.first_variable }) b) f
-    (subst (λ (r : Program). P (record { program = r; query = q; first_variable = l.first_variable }) b) e x))
+-- the last line isn't empty
+pub some_line : (e : Ending) → 0 < length (outcome_line (outcome_by e))
+some_line Ending.Done = omega arith
+some_line Ending.Failed = omega arith
+some_line (Ending.Suspended left) = omega arith
+some_line Ending.Budget = omega arith
 
--- the text of a finished run: its trace, its answers and its last line
-abbrev pub text_of : Bool → Finished → ℕ → List ℕ → List ℕ
-text_of trace f count text = trace_text trace f.core.journal ++ text ++ outcome_line (outcome_by (ending_by f.end (length f.core.table.roots) count))
+-- ---- a run of a loaded query
+module _ (l : Loaded) (budget : ℕ) (trace : Bool) (e : Evaluated) (i : IsEvaluated l budget trace e) where
+  pub run_by : (answers : List Content) (outcome : Outcome) (journal : List Label) (receipts : List (List Receipt)) → IsRunIn e answers outcome → journal ≡ e.core.journal → receipts ≡ map (λ rs. rs.items) e.receipts.items
+      → IsRunBy l budget answers outcome journal receipts
+  run_by answers outcome journal receipts run j r = record {
+    run = subst (λ (ls : List Label). IsRun l.program l.query budget ls answers outcome) (sym j)
+        (subst (λ (b : ℕ). IsRun l.program l.query b e.core.journal answers outcome) i.same_budget
+        (subst (λ (q : Query). IsRun l.program q e.core.budget e.core.journal answers outcome) i.query
+        (subst (λ (p : Program). IsRun p e.core.table.query e.core.budget e.core.journal answers outcome) i.program run)));
+    one_worker = subst (AreBy 1) (sym j) i.ended.kept.by_one;
+    one_list = ap length (r ∙ i.ended.one_list);
+    are_receipts = subst (AreReceipts 1 journal) (sym (r ∙ i.ended.one_list)) (subst (λ (ls : List Label). AreReceipts 1 ls (i.ended.receipts ∷ [])) (sym j) i.ended.kept.receipts);
+  }
 
-pub evaluated : (l : Loaded) (budget : ℕ) (trace : Bool) (f : Finished) (count : ℕ) (text : List ℕ) → HasFinished l budget f → (i : IsCore f.core) → Answers f.core i.table count text
-    → IsRunBy l budget trace (outcome_by (ending_by f.end (length f.core.table.roots) count)) f.core.journal (f.receipts.items ∷ []) (text_of trace f count text)
-evaluated l budget trace f count text h i x =
-    of_query (λ (k : Loaded) (b : ℕ). IsRunBy k b trace (outcome_by (ending_by f.end (length f.core.table.roots) count)) f.core.journal (f.receipts.items ∷ []) (text_of trace f count text))
-    l f.core.table.program f.core.table.query f.core.budget budget h.program h.query h.same_budget (own_evaluated f.core i l.first_variable trace f.receipts.items f.end count text h.kept h.ends x)
+  -- what holds of the symbols, the trace and the journal of the run holds of those of the query
+  pub of_loaded : (P : List (List ℕ) → Bool → List Label → Type 0) (journal : List Label) → journal ≡ e.core.journal → P e.core.table.program.templates.symbols e.trace e.core.journal → P l.program.templates.symbols trace journal
+  of_loaded P journal j x =
+      subst (λ (ls : List Label). P l.program.templates.symbols trace ls) (sym j)
+      (subst (λ (b : Bool). P l.program.templates.symbols b e.core.journal) i.same_trace
+      (subst (λ (p : Program). P p.templates.symbols e.trace e.core.journal) i.program x))
+
+-- how the writing ended, by its result
+pub writing_ended : (e : Evaluated) (before after : Outlet) (r : Result Status Unwritten) → IfOk r (HasWritten e before after) → IfErr r (BreaksOff e before after) → EndsWriting e before after (status_by_writing r)
+writing_ended e before after (Ok s) w b = whole w
+writing_ended e before after (Err Unwritten.Fault) w b = fault b
+writing_ended e before after (Err Unwritten.Memory) w b = memory b
+
+-- and by what is known of the output before and after it, and of its sink
+pub report_written : {K : Type 0} (seen : K → Outlet) (e : Evaluated) (before begun : Outlet) (left last : K) → last ≡ left → (written : ℕ) (r : Result Status Unwritten) (s : Status) (n : ℕ) → s ≡ status_by_writing r
+    → begun ≡ before → n ≡ written → IfOk r (HasWritten e begun (record (seen left) { written = written })) → IfErr r (BreaksOff e begun (record (seen left) { written = written }))
+    → EndsWriting e before (record (seen last) { written = n }) s
+report_written seen e before begun left last l written r s n i j k w b =
+    subst (λ (x : _). EndsWriting e before (record (seen x) { written = n }) s) (sym l)
+    (subst (λ (x : ℕ). EndsWriting e before (record (seen left) { written = x }) s) (sym k)
+    (subst (λ (x : Outlet). EndsWriting e x (record (seen left) { written = written }) s) j
+    (subst (EndsWriting e begun (record (seen left) { written = written })) (sym i) (writing_ended e begun (record (seen left) { written = written }) r w b))))

@@ -15,14 +15,14 @@ use Rattle.clause_checks.specs.Refusals.{refusal_of, query_refusal_of}
 use Rattle.akl_lift.specs.Lifting.{lifted_clauses}
 use Rattle.akl_run.specs.declared.report.Status.{Status}
 use Rattle.akl_run.specs.declared.report.Refusal.{Refusal}
-use Rattle.akl_run.specs.declared.report.Report.{Report}
 use Rattle.akl_run.specs.declared.loaded.Loaded.{Loaded}
 use Rattle.akl_args.specs.declared.options.Options.{Options}
 use Rattle.akl_args.specs.declared.options.WordsError.{WordsError}
 use Rattle.akl_run.specs.Words.{is_built, query_of, program_of}
 use Rattle.akl_run.specs.declared.evaluate.Evaluated.{Evaluated}
 use Rattle.akl_run.specs.declared.stop.Stop.{Stop}
-use Rattle.akl_run.specs.Steps.{IsRunAs, IsStopped, whole, part}
+use Rattle.akl_run.specs.Steps.{IsStopped, IsWritten, EndsWriting}
+use Rattle.akl_run.specs.Steps as steps
 use Rattle.akl_run.specs.Loads.{IsLoadedFrom, IsLoadedProgram, ProgramStops, QueryStops, IsLoadedQuery, by_text, by_loading, no_memory}
 use Rattle.akl_run.specs.Commands.{Side, side, Command, HasFaulted, HasWorked, HasProgram, Asks, IsAskedBy, IsRead, IsGiven, Stops, by_words, by_reading, by_program, by_query, by_run, fault, IsFault, WordsEnd, ProgramEnds, QueryEnds, IsOutcome, IsComplete}
 use Rattle.akl_run.specs.Commands as commands
@@ -253,10 +253,6 @@ module _ (c : Command) where
   query_ends (stopped stop q i w) = λ o program p s f a l k n. at_report (λ t g. IsFault t ⊎ ((t ≡ s) × (g ≡ f))) stop i (query_stop a l k n q)
   query_ends (ran run q i) = λ o program p s f a l k n. absurd (n (asked_or_stopped (program_at a q.asked q.given q.is_loaded.is_program) l (query_at a q.asked q.is_loaded.is_query) k))
 
-  -- the status of a run that was written whole
-  has_run : {e : Evaluated} → IsRunAs c.words c.source c.source_after e → e.status ≡ c.report.status → IsOutcome c.report.status
-  has_run {e} q i = subst IsOutcome i (status_runs e.status q.run.outcome q.run.is_status)
-
   -- a fault that isn't want of memory is one of the source
   no_fault : (stop : Stop) → Stops c.words c.source c.source_after stop.status stop.refusal → IsStopped stop c.report → HasWorked c.source c.source_after → (c.report.status ≡ Status.NoMemory → ⊥) → IsFault stop.status → ⊥
   no_fault stop q i works memory f = on (fault_is stop.status f)
@@ -265,7 +261,15 @@ module _ (c : Command) where
       on (inl d) = both c.source c.source_after works (rose c.words c.source c.source_after q d)
       on (inr d) = memory (i.status ∙ d)
 
+  -- a run whose writing ended without a fault or want of memory was written whole
+  has_outcome : (e : Evaluated) → IsWritten e c.sink c.sink_after c.report → HasWorked c.sink c.sink_after → (c.report.status ≡ Status.NoMemory → ⊥) → IsOutcome c.report.status
+  has_outcome e w works memory = on w.writing memory
+    where
+      on : {s : Status} → EndsWriting e (record { sink = c.sink; written = 0 }) (record { sink = c.sink_after; written = c.report.written }) s → (s ≡ Status.NoMemory → ⊥) → IsOutcome s
+      on {s} (steps.whole h) m = status_runs s h.outcome h.is_status
+      on (steps.fault b) m = absurd (both c.sink c.sink_after works b.is_cause)
+      on (steps.memory b) m = absurd (m refl)
+
   pub complete : Ended c → IsComplete c
   complete (stopped stop q i w) = λ o program l a m works writes memory. absurd (no_fault stop q i works memory (loaded_stop a m q))
-  complete (ran run q (whole i w)) = λ o program l a m works writes memory. has_run q (sym (ap (λ (z : Report). z.status) i))
-  complete (ran run q (part i l w f)) = λ o program k a m works writes memory. absurd (both c.sink c.sink_after writes f)
+  complete (ran e q w) = λ o program l a m works writes memory. has_outcome e w writes memory

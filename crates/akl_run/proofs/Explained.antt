@@ -1,16 +1,24 @@
 -- What a report says follows from how its command ended.
-use Rattle.std.proofs.Common.{◌≡◌, ℕ, List, refl, sym, ◌∙◌, ap, subst}
+use Rattle.std.proofs.Common.{◌≡◌, ℕ, ◌+◌, List, length, map, Bool, refl, sym, ◌∙◌, ap, subst, ◌⊎◌, inl, inr, Vec, Global, arith}
+use Rattle.akl_model.specs.declared.label.Label.{Label}
+use Rattle.akl_model.specs.declared.label.Receipt.{Receipt}
+use Rattle.akl_model.specs.Config.{Content}
+use Rattle.akl_model.specs.Derivations.{Outcome}
 use Rattle.akl_run.specs.declared.report.Status.{Status}
 use Rattle.akl_run.specs.declared.report.Refusal.{Refusal}
-use Rattle.akl_run.specs.declared.report.Report.{Report}
 use Rattle.akl_run.specs.declared.evaluate.Evaluated.{Evaluated}
+use Rattle.akl_run.specs.declared.output.Unwritten.{Unwritten}
 use Rattle.akl_run.specs.declared.stop.Stop.{Stop}
 use Rattle.akl_run.specs.Loads as loads
-use Rattle.akl_run.specs.Reports.{IsStatusOf}
+use Rattle.akl_run.specs.Text.{IsRunText, IsRunFront}
+use Rattle.akl_run.specs.Reports.{IsStatusOf, IsRunBy}
 use Rattle.akl_run.specs.Reports as reports
-use Rattle.akl_run.specs.Commands.{Side, HasFaulted, Command, Stops, by_words, by_reading, by_program, by_query, by_run, WroteRun, WrotePart, WroteNothing, IsEarly, IsLate, IsOutcome}
+use Rattle.akl_run.specs.Commands.{Side, HasFaulted, Command, Stops, by_words, by_reading, by_program, by_query, by_run, WroteRun, WrotePart, WroteNothing, RanOut, before_writing, in_writing, IsEarly, IsLate, IsOutcome}
 use Rattle.akl_run.specs.Commands as commands
-use Rattle.akl_run.specs.Steps.{IsRunAs, IsStopped, IsWritten, whole, part}
+use Rattle.akl_run.specs.Outputs.{Outlet}
+use Rattle.akl_run.specs.Written.{IsRunIn, HasWritten, BreaksOff}
+use Rattle.akl_run.specs.Steps.{IsRunAs, IsStopped, IsWritten, EndsWriting, whole, fault, memory}
+use Rattle.akl_run.proofs.Evaluated.{run_by, of_loaded}
 
 -- how a command ended: it stopped early, or its run was written, or a front of it
 pub data Ended (c : Command) : Type 0 where
@@ -53,113 +61,177 @@ not_both Status.Program e l = l
 not_both Status.Query e l = l
 not_both Status.ReadFault e l = l
 not_both Status.WriteFault e l = e
-not_both Status.NoMemory e l = l
+not_both Status.NoMemory e l = e
 not_both Status.NotYet e l = l
 
--- what a stop is: a call of the source failed, or another early end
-data Stopping (before after : Side) : Status → Type 0 where
-  failed_read : HasFaulted before after → Stopping before after Status.ReadFault
-  other : {s : Status} → IsEarly s → (s ≡ Status.ReadFault → ⊥) → Stopping before after s
+-- what a stop is: a call of the source failed, memory was wanting, or another early end
+data Stopping (before after : Side) : Status → Refusal → Type 0 where
+  failed_read : {f : Refusal} → HasFaulted before after → Stopping before after Status.ReadFault f
+  out_of_memory : Stopping before after Status.NoMemory Refusal.Nothing
+  other : {s : Status} {f : Refusal} → IsEarly s → (s ≡ Status.ReadFault → ⊥) → Stopping before after s f
 
 module _ (words : List (List ℕ)) (before after : Side) where
-  stopping : {s : Status} {f : Refusal} → Stops words before after s f → Stopping before after s
+  stopping : {s : Status} {f : Refusal} → Stops words before after s f → Stopping before after s f
   stopping (by_words (commands.refused r) l) = other tt (λ d. cc)
   stopping (by_words (commands.not_built r b) l) = other tt (λ d. cc)
   stopping (by_words (commands.long_query q b h) l) = other tt (λ d. cc)
-  stopping (by_words commands.no_memory l) = other tt (λ d. cc)
+  stopping (by_words commands.no_memory l) = out_of_memory
   stopping (by_reading a d (commands.fault r b)) = failed_read r
-  stopping (by_reading a d (commands.no_memory_read b)) = other tt (λ d. cc)
+  stopping (by_reading a d (commands.no_memory_read b)) = out_of_memory
   stopping (by_program a b (loads.by_text e)) = other tt (λ d. cc)
   stopping (by_program a b (loads.by_loading e g)) = other tt (λ d. cc)
-  stopping (by_program a b loads.no_memory) = other tt (λ d. cc)
+  stopping (by_program a b loads.no_memory) = out_of_memory
   stopping (by_query a b p (loads.by_text e)) = other tt (λ d. cc)
   stopping (by_query a b p (loads.by_loading e g)) = other tt (λ d. cc)
-  stopping (by_query a b p loads.no_memory) = other tt (λ d. cc)
-  stopping (by_run a b l reports.no_memory) = other tt (λ d. cc)
+  stopping (by_query a b p loads.no_memory) = out_of_memory
+  stopping (by_run a b l reports.no_memory) = out_of_memory
 
-  -- a command that stops has an early status
-  is_early : {s : Status} → Stopping before after s → IsEarly s
-  is_early (failed_read r) = tt
-  is_early (other e r) = e
+  -- a command that stops has an early status, or memory was wanting
+  early_or : {s : Status} {f : Refusal} → Stopping before after s f → IsEarly s ⊎ ((s ≡ Status.NoMemory) × (f ≡ Refusal.Nothing))
+  early_or (failed_read r) = inl tt
+  early_or out_of_memory = inr (refl, refl)
+  early_or (other e r) = inl e
 
   -- the cause of a read fault
-  read_failed : {s : Status} → Stopping before after s → s ≡ Status.ReadFault → HasFaulted before after
+  read_failed : {s : Status} {f : Refusal} → Stopping before after s f → s ≡ Status.ReadFault → HasFaulted before after
   read_failed (failed_read r) d = r
+  read_failed out_of_memory d = absurd cc
   read_failed (other e r) d = absurd (r d)
 
-  early : {s : Status} {f : Refusal} → Stops words before after s f → IsEarly s
-  early q = is_early (stopping q)
+  pub early_stop : {s : Status} {f : Refusal} → Stops words before after s f → IsEarly s ⊎ ((s ≡ Status.NoMemory) × (f ≡ Refusal.Nothing))
+  early_stop q = early_or (stopping q)
 
   pub rose : {s : Status} {f : Refusal} → Stops words before after s f → s ≡ Status.ReadFault → HasFaulted before after
   rose q = read_failed (stopping q)
 
+-- how a run's writing ended
+module _ (e : Evaluated) (before after : Outlet) where
+  writing_late : {s : Status} → EndsWriting e before after s → IsLate s
+  writing_late {s} (whole w) = late_run s (status_runs s w.outcome w.is_status)
+  writing_late (fault b) = tt
+  writing_late (memory b) = tt
+
+  written_whole : {s : Status} → EndsWriting e before after s → IsOutcome s → HasWritten e before after s
+  written_whole (whole w) d = w
+  written_whole (fault b) d = absurd d
+  written_whole (memory b) d = absurd d
+
+  not_outcome : {s : Status} → HasWritten e before after s → (IsOutcome s → ⊥) → ⊥
+  not_outcome {s} w n = n (status_runs s w.outcome w.is_status)
+
+  at_fault : {s : Status} → EndsWriting e before after s → s ≡ Status.WriteFault → BreaksOff e before after Unwritten.Fault
+  at_fault (whole w) d = absurd (not_outcome w (λ o. subst IsOutcome d o))
+  at_fault (fault b) d = b
+  at_fault (memory b) d = absurd cc
+
+  at_no_memory : {s : Status} → EndsWriting e before after s → s ≡ Status.NoMemory → BreaksOff e before after Unwritten.Memory
+  at_no_memory (whole w) d = absurd (not_outcome w (λ o. subst IsOutcome d o))
+  at_no_memory (fault b) d = absurd cc
+  at_no_memory (memory b) d = b
+
 module _ (c : Command) where
-  stopped_early : (stop : Stop) → Stops c.words c.source c.source_after stop.status stop.refusal → IsStopped stop c.report → IsEarly c.report.status
-  stopped_early stop q s = subst IsEarly (sym s.status) (early c.words c.source c.source_after q)
+  abbrev start : Outlet
+  start = record { sink = c.sink; written = 0 }
 
-  whole_late : (e : Evaluated) → IsRunAs c.words c.source c.source_after e → e.status ≡ c.report.status → IsLate c.report.status
-  whole_late e q i = subst IsLate i (late_run e.status (status_runs e.status q.run.outcome q.run.is_status))
+  abbrev end : Outlet
+  end = record { sink = c.sink_after; written = c.report.written }
 
-  status_of : {x y : Report} → x ≡ y → x.status ≡ y.status
-  status_of e = ap (λ (z : Report). z.status) e
+  stopped_so : (stop : Stop) → Stops c.words c.source c.source_after stop.status stop.refusal → IsStopped stop c.report → Stops c.words c.source c.source_after c.report.status c.report.refusal
+  stopped_so stop q s =
+      subst (λ (z : Status). Stops c.words c.source c.source_after z c.report.refusal) (sym s.status) (subst (λ (z : Refusal). Stops c.words c.source c.source_after stop.status z) (sym s.refusal) q)
 
-  write_fault_late : c.report.status ≡ Status.WriteFault → IsLate c.report.status
-  write_fault_late d = subst IsLate (sym d) tt
+  -- a command that stopped has none of the statuses of a run, but want of memory
+  not_stopped : (stop : Stop) → Stops c.words c.source c.source_after stop.status stop.refusal → IsStopped stop c.report → IsLate c.report.status → (c.report.status ≡ Status.NoMemory → ⊥) → ⊥
+  not_stopped stop q s d n = on (early_stop c.words c.source c.source_after (stopped_so stop q s))
+    where
+      on : IsEarly c.report.status ⊎ ((c.report.status ≡ Status.NoMemory) × (c.report.refusal ≡ Refusal.Nothing)) → ⊥
+      on (inl e) = not_both c.report.status e d
+      on (inr m) = n m.0
+
+  unwritten : (stop : Stop) → IsStopped stop c.report → c.sink_after.bytes ≡ c.sink.bytes → WroteNothing c
+  unwritten stop s w = record { journal = s.journal; receipts = s.receipts; count = s.written; same = w }
+
+  late_written : (e : Evaluated) → IsWritten e c.sink c.sink_after c.report → IsLate c.report.status
+  late_written e w = writing_late e start end w.writing
 
   -- the report of an early status
   pub stops : Ended c → IsEarly c.report.status → Stops c.words c.source c.source_after c.report.status c.report.refusal
-  stops (stopped stop q s w) d = subst (λ (z : Status). Stops c.words c.source c.source_after z c.report.refusal) (sym s.status) (subst (λ (z : Refusal). Stops c.words c.source c.source_after stop.status z) (sym s.refusal) q)
-  stops (ran e q (whole i w)) d = absurd (not_both c.report.status d (whole_late e q (sym (status_of i))))
-  stops (ran e q (part i l w f)) d = absurd (not_both c.report.status d (write_fault_late (status_of i)))
+  stops (stopped stop q s w) d = stopped_so stop q s
+  stops (ran e q w) d = absurd (not_both c.report.status d (late_written e w))
 
   pub nothing_written : Ended c → IsEarly c.report.status → WroteNothing c
-  nothing_written (stopped stop q s w) d = record { journal = s.journal; receipts = s.receipts; count = s.written; same = w }
-  nothing_written (ran e q (whole i w)) d = absurd (not_both c.report.status d (whole_late e q (sym (status_of i))))
-  nothing_written (ran e q (part i l w f)) d = absurd (not_both c.report.status d (write_fault_late (status_of i)))
+  nothing_written (stopped stop q s w) d = unwritten stop s w
+  nothing_written (ran e q w) d = absurd (not_both c.report.status d (late_written e w))
 
   -- a whole text
-  pub wrote_run : Ended c → IsOutcome c.report.status → WroteRun c
-  wrote_run (stopped stop q s w) d = absurd (not_both c.report.status (stopped_early stop q s) (late_run c.report.status d))
-  wrote_run (ran e q (whole i w)) d = subst (λ (x : Report). WroteRun (record c { report = x })) (sym i) (record {
+  counted : (n : ℕ) → c.report.written ≡ 0 + n → c.report.written ≡ n
+  counted n h = omega (arith, h)
+
+  run_of : (e : Evaluated) (q : IsRunAs c.words c.source c.source_after e) → IsWritten e c.sink c.sink_after c.report → (answers : List Content) (outcome : Outcome) → IsRunIn e answers outcome
+      → IsRunBy q.loaded q.options.budget answers outcome c.report.journal.items (map (λ rs. rs.items) c.report.receipts.items)
+  run_of e q w answers outcome r =
+      run_by q.loaded q.options.budget q.options.trace e q.run answers outcome c.report.journal.items (map (λ rs. rs.items) c.report.receipts.items) r w.journal (ap (λ (v : Vec (Vec Receipt Global) Global). map (λ (rs : Vec Receipt Global). rs.items) v.items) w.receipts)
+
+  whole_run : (e : Evaluated) → IsRunAs c.words c.source c.source_after e → IsWritten e c.sink c.sink_after c.report → HasWritten e start end c.report.status → WroteRun c
+  whole_run e q w h = record {
     options = q.options;
     program = q.program;
     asked = q.asked;
     given = q.given;
-    outcome = q.run.outcome;
-    is_status = q.run.is_status;
-    text = e.text.items;
-    run = record { loaded = q.loaded; is_loaded = q.is_loaded; run = q.run.run };
-    wrote = w;
-    count = refl;
-  })
-  wrote_run (ran e q (part i l w f)) d = absurd (subst IsOutcome (status_of i) d)
+    outcome = h.outcome;
+    is_status = h.is_status;
+    text = h.text;
+    run = record {
+      loaded = q.loaded;
+      is_loaded = q.is_loaded;
+      answers = h.answers;
+      run = run_of e q w h.answers h.outcome h.run;
+      is_text = of_loaded q.loaded q.options.budget q.options.trace e q.run (λ (symbols : List (List ℕ)) (trace : Bool) (journal : List Label). IsRunText symbols trace journal h.answers h.outcome h.text) c.report.journal.items w.journal h.is_text;
+    };
+    wrote = h.appended.bytes;
+    count = counted (length h.text) h.appended.counted;
+  }
 
-  no_write_fault : (e : Evaluated) → IsRunAs c.words c.source c.source_after e → e.status ≡ Status.WriteFault → ⊥
-  no_write_fault e q d = subst IsOutcome d (status_runs e.status q.run.outcome q.run.is_status)
+  pub wrote_run : Ended c → IsOutcome c.report.status → WroteRun c
+  wrote_run (stopped stop q s w) d = absurd (not_stopped stop q s (late_run c.report.status d) (λ m. subst IsOutcome m d))
+  wrote_run (ran e q w) d = whole_run e q w (written_whole e start end w.writing d)
 
   -- a front of a text
+  part_run : (e : Evaluated) → IsRunAs c.words c.source c.source_after e → IsWritten e c.sink c.sink_after c.report → (cause : Unwritten) → BreaksOff e start end cause → WrotePart c
+  part_run e q w cause b = record {
+    options = q.options;
+    program = q.program;
+    asked = q.asked;
+    given = q.given;
+    outcome = b.outcome;
+    front = b.front;
+    run = record {
+      loaded = q.loaded;
+      is_loaded = q.is_loaded;
+      answers = b.answers;
+      run = run_of e q w b.answers b.outcome b.run;
+      is_front = of_loaded q.loaded q.options.budget q.options.trace e q.run (λ (symbols : List (List ℕ)) (trace : Bool) (journal : List Label). IsRunFront symbols trace journal b.answers b.outcome b.front) c.report.journal.items w.journal b.is_front;
+    };
+    wrote = b.appended.bytes;
+    count = counted (length b.front) b.appended.counted;
+  }
+
   pub wrote_part : Ended c → c.report.status ≡ Status.WriteFault → WrotePart c × HasFaulted c.sink c.sink_after
-  wrote_part (stopped stop q s w) d = absurd (not_both c.report.status (stopped_early stop q s) (write_fault_late d))
-  wrote_part (ran e q (whole i w)) d = absurd (no_write_fault e q (sym (status_of i) ∙ d))
-  wrote_part (ran e q (part i l w f)) d = (
-    subst (λ (x : Report). WrotePart (record c { report = x })) (sym i) (record {
-      options = q.options;
-      program = q.program;
-      asked = q.asked;
-      given = q.given;
-      outcome = q.run.outcome;
-      text = e.text.items;
-      run = record { loaded = q.loaded; is_loaded = q.is_loaded; run = q.run.run };
-      wrote = w;
-      count = l;
-    }),
-    f,
-  )
+  wrote_part (stopped stop q s w) d = absurd (not_stopped stop q s (subst IsLate (sym d) tt) (λ m. let e : Status.WriteFault ≡ Status.NoMemory = sym d ∙ m in cc))
+  wrote_part (ran e q w) d = let b = at_fault e start end w.writing d in (part_run e q w Unwritten.Fault b, b.is_cause)
+
+  -- want of memory
+  pub ran_out : Ended c → c.report.status ≡ Status.NoMemory → RanOut c
+  ran_out (stopped stop q s w) d = before_writing (unwritten stop s w) (stopped_so stop q s)
+  ran_out (ran e q w) d = in_writing (part_run e q w Unwritten.Memory (at_no_memory e start end w.writing d))
 
   pub read_fault : Ended c → c.report.status ≡ Status.ReadFault → HasFaulted c.source c.source_after
   read_fault k d = rose c.words c.source c.source_after (stops k (subst IsEarly (sym d) tt)) d
 
   pub unrefused : Ended c → IsLate c.report.status → c.report.refusal ≡ Refusal.Nothing
-  unrefused (stopped stop q s w) d = absurd (not_both c.report.status (stopped_early stop q s) d)
-  unrefused (ran e q (whole i w)) d = ap (λ (z : Report). z.refusal) i
-  unrefused (ran e q (part i l w f)) d = ap (λ (z : Report). z.refusal) i
+  unrefused (stopped stop q s w) d = on (early_stop c.words c.source c.source_after (stopped_so stop q s))
+    where
+      on : IsEarly c.report.status ⊎ ((c.report.status ≡ Status.NoMemory) × (c.report.refusal ≡ Refusal.Nothing)) → c.report.refusal ≡ Refusal.Nothing
+      on (inl e) = absurd (not_both c.report.status e d)
+      on (inr m) = m.1
+  unrefused (ran e q w) d = w.refusal

@@ -1,4 +1,6 @@
 pub mod ShownTerms
+pub mod Appended
+pub mod AllAnswers
 pub mod Evaluated
 pub mod Explained
 pub mod Loading

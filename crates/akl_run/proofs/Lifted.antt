@@ -1,5 +1,5 @@
 -- What is read and passes the tests of loading can be loaded once its inline choices are taken out.
-use Rattle.std.proofs.Common.{◌≡◌, ℕ, ◌+◌, ◌*◌, ◌<◌, ◌≤◌, List, ◌∷◌, length, map, Some, sym, ap, subst, ◌∙◌, arith}
+use Rattle.std.proofs.Common.{◌≡◌, ℕ, ◌+◌, ◌*◌, ◌<◌, ◌≤◌, List, length, map, Some, sym, ap, subst, ◌∙◌, arith}
 use Rattle.std.specs.List.{All, Contains}
 use Rattle.akl_terms.specs.declared.program.Definition.{Definition}
 use Rattle.akl_terms.specs.declared.program.Op.{Op}
@@ -7,9 +7,9 @@ use Rattle.akl_terms.specs.declared.program.Program.{Program}
 use Rattle.akl_syntax.specs.Goals.{goals}
 use Rattle.akl_syntax.specs.Clauses.{Clause, Query}
 use Rattle.akl_syntax.specs.Verdicts.{accepted, ReadsProgram, ReadsQuery}
-use Rattle.akl_syntax.specs.Sizes.{clauses_size, query_size}
+use Rattle.akl_syntax.specs.Sizes.{clauses_size}
 use Rattle.akl_syntax.specs.Variables.{IsQueryNumbered}
-use Rattle.akl_syntax.proofs.SizeLaws.{program_size, query_text_size}
+use Rattle.akl_syntax.proofs.SizeLaws.{program_size}
 use Rattle.akl_syntax.proofs.VariableLaws.{program_numbered}
 use Rattle.clause_keys.specs.declared.callee.Callee.{Callee}
 use Rattle.clause_keys.specs.declared.callee.Callee.TheVariants as callees

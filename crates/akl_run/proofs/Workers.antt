@@ -1,7 +1,6 @@
 -- The number of workers that is built.
-use Rattle.std.proofs.Common.{◌≡◌, Bool, true, false, arith}
+use Rattle.std.proofs.Common.{◌≡◌, true, false, arith}
 use Rattle.std.proofs.lemmas.Bool.Decides.{nat_tests}
-use Rattle.std.specs.Prelude.{◌==◌}
 use Rattle.akl_args.specs.declared.options.Options.{Options}
 use Rattle.akl_run.specs.Words.{is_built}
 

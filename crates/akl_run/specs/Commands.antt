@@ -16,7 +16,7 @@ use Rattle.akl_args.specs.declared.options.WordsError.{WordsError}
 use Rattle.akl_args.specs.Table.{reading}
 use Rattle.akl_run.specs.Words.{is_built, query_of, program_of}
 use Rattle.akl_run.specs.Loads.{IsLoadedProgram, ProgramStops, QueryStops, IsLoadedFrom}
-use Rattle.akl_run.specs.Reports.{IsStatusOf, IsRunOf, RunStops}
+use Rattle.akl_run.specs.Reports.{IsStatusOf, IsRunOf, BeginsRunOf, RunStops}
 
 -- What is seen of a source or of a sink: the bytes still to come, or taken so far, where they are known, and how many
 -- of its calls failed.
@@ -148,42 +148,49 @@ pub record WroteRun (c : Command) : Type 0 where
   pub wrote : c.sink_after.bytes ≡ append_known c.sink.bytes text
   pub count : c.report.written ≡ length text
 
--- a front of the text was written
+-- a front of the text was written, of as much of it as was made
 pub record WrotePart (c : Command) : Type 0 where
   pub options : Options
   pub program : List ℕ
   pub asked : IsAskedBy c.words options
   pub given : IsGiven (program_of options) c.source c.source_after program
   pub outcome : Outcome
-  pub text : List ℕ
-  pub run : IsRunOf program (query_of options) options.budget options.trace outcome c.report.journal.items (map (λ rs. rs.items) c.report.receipts.items) text
-  pub wrote : c.sink_after.bytes ≡ append_known c.sink.bytes (take c.report.written text)
-  pub count : c.report.written < length text
+  pub front : List ℕ
+  pub run : BeginsRunOf program (query_of options) options.budget options.trace outcome c.report.journal.items (map (λ rs. rs.items) c.report.receipts.items) front
+  pub wrote : c.sink_after.bytes ≡ append_known c.sink.bytes front
+  pub count : c.report.written ≡ length front
 
--- nothing was run and nothing was written
+-- no run is answered, and nothing was written
 pub record WroteNothing (c : Command) : Type 0 where
   pub journal : c.report.journal.items ≡ []
   pub receipts : c.report.receipts.items ≡ []
   pub count : c.report.written ≡ 0
   pub same : c.sink_after.bytes ≡ c.sink.bytes
 
--- the statuses with which nothing is run
+-- what was done before memory was wanting
+pub data RanOut (c : Command) : Type 0 where
+  -- No run is answered, nothing was written, and memory was wanting at one of the steps.
+  before_writing : WroteNothing c → Stops c.words c.source c.source_after c.report.status c.report.refusal → RanOut c
+  -- The run had ended: the journal is the run's, and a front of its text was written.
+  in_writing : WrotePart c → RanOut c
+
+-- the statuses with which no run is answered
 abbrev pub IsEarly : Status → Type 0
 IsEarly Status.Words = Unit {0}
 IsEarly Status.Program = Unit {0}
 IsEarly Status.Query = Unit {0}
 IsEarly Status.ReadFault = Unit {0}
-IsEarly Status.NoMemory = Unit {0}
 IsEarly Status.NotYet = Unit {0}
 IsEarly s = ⊥
 
--- the statuses with which a run is written, or a front of it
+-- the statuses with which a run may have been written, or a front of it
 abbrev pub IsLate : Status → Type 0
 IsLate Status.Done = Unit {0}
 IsLate Status.Failed = Unit {0}
 IsLate Status.Suspended = Unit {0}
 IsLate Status.Budget = Unit {0}
 IsLate Status.WriteFault = Unit {0}
+IsLate Status.NoMemory = Unit {0}
 IsLate s = ⊥
 
 -- ---- all that a report says of its command
@@ -193,7 +200,9 @@ pub record IsReported (c : Command) : Type 0 where
   -- A front of the text was written before the sink failed.
   pub write_fault : c.report.status ≡ Status.WriteFault → HasFaulted c.sink c.sink_after
   pub written_part : c.report.status ≡ Status.WriteFault → WrotePart c
-  -- Before another status nothing was run or written, and each comes with its refusal from one cause, in the order of the work.
+  -- Memory was wanting before anything was written, or behind a front of the text.
+  pub no_memory : c.report.status ≡ Status.NoMemory → RanOut c
+  -- Before another status no run is answered and nothing was written, and each comes with its refusal from one cause, in the order of the work.
   pub nothing : IsEarly c.report.status → WroteNothing c
   pub stops : IsEarly c.report.status → Stops c.words c.source c.source_after c.report.status c.report.refusal
   pub read_fault : c.report.status ≡ Status.ReadFault → HasFaulted c.source c.source_after
@@ -203,5 +212,5 @@ pub record IsReported (c : Command) : Type 0 where
   pub query : QueryEnds c
   -- All else has an outcome.
   pub complete : IsComplete c
-  -- A run that was written has no refusal.
+  -- A run that was written has no refusal, and want of memory has none.
   pub refusal : IsLate c.report.status → c.report.refusal ≡ Refusal.Nothing

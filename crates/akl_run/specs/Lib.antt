@@ -9,5 +9,7 @@ pub mod Reports
 pub mod Endings
 pub mod Evaluations
 pub mod Commands
+pub mod Outputs
+pub mod Written
 pub mod Steps
 pub mod Lines

@@ -10,7 +10,7 @@ use Rattle.akl_run.specs.Loads.{IsLoadedFrom}
 use Rattle.akl_run.specs.declared.report.Status.{Status}
 use Rattle.akl_run.specs.declared.report.Refusal.{Refusal}
 use Rattle.akl_run.specs.Runs.{IsRun}
-use Rattle.akl_run.specs.Text.{IsRunText}
+use Rattle.akl_run.specs.Text.{IsRunText, IsRunFront}
 
 -- the outcome that a status stands for
 abbrev pub IsStatusOf : Status → Outcome → Type 0
@@ -20,22 +20,31 @@ IsStatusOf Status.Suspended o = (k : ℕ) × (o ≡ suspended k)
 IsStatusOf Status.Budget o = o ≡ out_of_budget
 IsStatusOf s o = ⊥
 
--- the journal is a derivation from the query's box with an outcome, all labels are by worker 1 and stand once in its receipts,
--- and the text is that of the journal, the last configuration's answers and the outcome
-pub record IsRunBy (l : Loaded) (budget : ℕ) (trace : Bool) (outcome : Outcome) (journal : List Label) (receipts : List (List Receipt)) (text : List ℕ) : Type 0 where
-  pub answers : List Content
-  pub run : IsRun l budget journal answers outcome
+-- the journal is a derivation from the loaded query's box, with these answers and this outcome, and all labels are by worker 1 and
+-- stand once in its receipts
+pub record IsRunBy (l : Loaded) (budget : ℕ) (answers : List Content) (outcome : Outcome) (journal : List Label) (receipts : List (List Receipt)) : Type 0 where
+  pub run : IsRun l.program l.query budget journal answers outcome
   pub one_worker : AreBy 1 journal
   pub one_list : length receipts ≡ 1
   pub are_receipts : AreReceipts 1 journal receipts
-  pub is_text : IsRunText l.program.templates.symbols trace journal answers outcome text
 
--- the same of a query that is that of two texts
+-- it is so of the query that is that of two texts, and the run's text is this: that of the journal, the last configuration's answers and
+-- the outcome
 pub record IsRunOf (program query : List ℕ) (budget : ℕ) (trace : Bool) (outcome : Outcome) (journal : List Label) (receipts : List (List Receipt)) (text : List ℕ) : Type 0 where
   pub loaded : Loaded
   pub is_loaded : IsLoadedFrom program query loaded
-  pub run : IsRunBy loaded budget trace outcome journal receipts text
+  pub answers : List Content
+  pub run : IsRunBy loaded budget answers outcome journal receipts
+  pub is_text : IsRunText loaded.program.templates.symbols trace journal answers outcome text
 
--- why the text of a loaded query's run isn't written: want of memory, which is free
+-- the same, where this is a front of the run's text
+pub record BeginsRunOf (program query : List ℕ) (budget : ℕ) (trace : Bool) (outcome : Outcome) (journal : List Label) (receipts : List (List Receipt)) (front : List ℕ) : Type 0 where
+  pub loaded : Loaded
+  pub is_loaded : IsLoadedFrom program query loaded
+  pub answers : List Content
+  pub run : IsRunBy loaded budget answers outcome journal receipts
+  pub is_front : IsRunFront loaded.program.templates.symbols trace journal answers outcome front
+
+-- why a loaded query's run doesn't end: want of memory, which is free
 pub data RunStops : Status → Refusal → Type 0 where
   no_memory : RunStops Status.NoMemory Refusal.Nothing

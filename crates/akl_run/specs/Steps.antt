@@ -1,19 +1,21 @@
 -- The steps of a command, of which the clauses of private functions speak.
-use Rattle.std.specs.Prelude.{◌≡◌, ◌<◌, ℕ, Bool, List, [], length, take, option_map}
-use Rattle.std.specs.Io.KnownBytes.{append_known}
+use Rattle.std.specs.Prelude.{◌≡◌, ℕ, Bool, List, [], option_map, Result, Ok, Err}
 use Rattle.akl_run.specs.declared.report.Status.{Status}
 use Rattle.akl_run.specs.declared.report.Refusal.{Refusal}
 use Rattle.akl_run.specs.declared.report.Report.{Report}
 use Rattle.akl_run.specs.declared.loaded.Loaded.{Loaded}
 use Rattle.akl_run.specs.declared.evaluate.Evaluated.{Evaluated}
+use Rattle.akl_run.specs.declared.output.Unwritten.{Unwritten}
 use Rattle.akl_run.specs.declared.stop.Stop.{Stop}
 use Rattle.akl_run.specs.Loads.{IsLoadedFrom}
 use Rattle.box_tree.specs.Tables.{HasVariables}
 use Rattle.akl_run.specs.Evaluations.{IsEvaluated}
+use Rattle.akl_run.specs.Outputs.{Outlet}
+use Rattle.akl_run.specs.Written.{HasWritten, BreaksOff}
 use Rattle.akl_args.specs.declared.options.Options.{Options}
 use Rattle.akl_run.specs.declared.words.Asked.{Asked}
 use Rattle.akl_run.specs.Words.{query_of, program_of}
-use Rattle.akl_run.specs.Commands.{Side, HasFaulted, IsAskedBy, IsGiven}
+use Rattle.akl_run.specs.Commands.{Side, IsAskedBy, IsGiven}
 
 -- the words ask for this, and these are the program where it is made, the query, the budget, and whether a trace is asked
 pub record IsAsked (words : List (List ℕ)) (a : Asked) : Type 0 where
@@ -45,7 +47,7 @@ pub record IsRunAs (words : List (List ℕ)) (before after : Side) (e : Evaluate
   pub is_loaded : IsLoadedFrom program (query_of options) loaded
   pub run : IsEvaluated loaded options.budget options.trace e
 
--- the report of a command that stopped: nothing was run
+-- the report of a command that stopped: no run is answered
 pub record IsStopped (stop : Stop) (r : Report) : Type 0 where
   pub status : r.status ≡ stop.status
   pub refusal : r.refusal ≡ stop.refusal
@@ -53,9 +55,21 @@ pub record IsStopped (stop : Stop) (r : Report) : Type 0 where
   pub receipts : r.receipts.items ≡ []
   pub written : r.written ≡ 0
 
--- the report of a run whose text was written whole, or up to a fault
-pub data IsWritten (e : Evaluated) (before after : Side) (r : Report) : Type 0 where
-  whole : r ≡ record { status = e.status; refusal = Refusal.Nothing; journal = e.journal; receipts = e.receipts; written = length e.text.items }
-      → after.bytes ≡ append_known before.bytes e.text.items → IsWritten e before after r
-  part : {n : ℕ} → r ≡ record { status = Status.WriteFault; refusal = Refusal.Nothing; journal = e.journal; receipts = e.receipts; written = n }
-      → n < length e.text.items → after.bytes ≡ append_known before.bytes (take n e.text.items) → HasFaulted before after → IsWritten e before after r
+-- how the writing of a run's text ended, with a status: the text was written whole, or up to a fault, or memory was wanting
+pub data EndsWriting (e : Evaluated) (before after : Outlet) : Status → Type 0 where
+  whole : {s : Status} → HasWritten e before after s → EndsWriting e before after s
+  fault : BreaksOff e before after Unwritten.Fault → EndsWriting e before after Status.WriteFault
+  memory : BreaksOff e before after Unwritten.Memory → EndsWriting e before after Status.NoMemory
+
+-- the report of a run that has ended
+pub record IsWritten (e : Evaluated) (before after : Side) (r : Report) : Type 0 where
+  pub refusal : r.refusal ≡ Refusal.Nothing
+  pub journal : r.journal.items ≡ e.core.journal
+  pub receipts : r.receipts ≡ e.receipts
+  pub writing : EndsWriting e (record { sink = before; written = 0 }) (record { sink = after; written = r.written }) r.status
+
+-- the status with which the writing ended
+abbrev pub status_by_writing : Result Status Unwritten → Status
+status_by_writing (Ok s) = s
+status_by_writing (Err Unwritten.Fault) = Status.WriteFault
+status_by_writing (Err Unwritten.Memory) = Status.NoMemory

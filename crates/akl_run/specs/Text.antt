@@ -1,5 +1,5 @@
 -- The text of a run.
-use Rattle.std.specs.Prelude.{◌≡◌, ℕ, Bool, List, [], ◌∷◌, ◌++◌, codes}
+use Rattle.std.specs.Prelude.{◌≡◌, ◌<◌, ℕ, Bool, List, [], ◌∷◌, ◌++◌, length, codes}
 use Rattle.std.specs.Fmt.{decimal}
 use Rattle.akl_model.specs.declared.label.Label.{Label}
 use Rattle.akl_model.specs.Config.{Content}
@@ -19,3 +19,10 @@ pub record IsRunText (symbols : List (List ℕ)) (trace : Bool) (journal : List 
   pub answered : List ℕ
   pub are_texts : AreTexts symbols 1 answers answered
   pub whole : text ≡ trace_text trace journal ++ answered ++ outcome_line outcome
+
+-- a front of the text of such a run, as far as the text was made: of its trace and the texts of its first answers, or of all of it, and
+-- then not the whole
+pub data IsRunFront (symbols : List (List ℕ)) (trace : Bool) (journal : List Label) (answers : List Content) (outcome : Outcome) (front : List ℕ) : Type 0 where
+  of_first : (first left : List Content) (answered rest : List ℕ) → answers ≡ first ++ left → AreTexts symbols 1 first answered → front ++ rest ≡ trace_text trace journal ++ answered
+      → IsRunFront symbols trace journal answers outcome front
+  of_all : (text rest : List ℕ) → IsRunText symbols trace journal answers outcome text → front ++ rest ≡ text → 0 < length rest → IsRunFront symbols trace journal answers outcome front

@@ -4,6 +4,7 @@
 mod ending;
 mod evaluate;
 mod loaded;
+mod output;
 mod prepare;
 mod refusal;
 mod report;
@@ -12,10 +13,13 @@ mod stop;
 mod text;
 mod trace;
 mod words;
+mod writing;
 
 pub use akl_args::WordsError;
 pub use clause_checks::{Limit, LoadError};
+pub use loaded::{Loaded, load_asked, load_program};
 pub use refusal::refusal_line;
 pub use report::{Part, Refusal, Report, Status};
 pub use run::run_akl;
+pub use stop::Stop;
 pub use trace::trace_line;

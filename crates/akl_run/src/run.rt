@@ -1,15 +1,18 @@
 //! The top call.
 
-ghost use Rattle.std.specs.Prelude.{IfOk, IfErr};
+ghost use Rattle.std.specs.Prelude.{◌≡◌, IfOk, IfErr};
 ghost use Rattle.akl_run.specs.Words.{bytes_of};
 ghost use Rattle.akl_run.specs.Commands.{side, Stops, IsReported};
-ghost use Rattle.akl_run.specs.Steps.{IsRunAs, IsStopped, IsWritten};
+ghost use Rattle.akl_run.specs.Evaluations.{HasEnded};
+ghost use Rattle.akl_run.specs.Steps.{IsRunAs, IsStopped, IsWritten, status_by_writing};
 
 use crate::evaluate::{Evaluated, evaluate};
+use crate::output::{Output, Unwritten};
 use crate::prepare::prepare;
 use crate::report::{Refusal, Report, Status};
 use crate::stop::Stop;
-use akl_outside::{Gate, Sink, Source, write_all};
+use crate::writing::write_run;
+use akl_outside::{Gate, Sink, Source};
 use std::alloc::Global;
 use std::sync::Wait;
 use std::thread::Threads;
@@ -20,10 +23,10 @@ fn work<S: Source>(alloc: Global, words: &[String], program: &mut S) -> Result<E
     ensures stop { IfErr result (λ stop. Stops (bytes_of words.now) (side (S.left program.old) (S.faults program.old)) (side (S.left program.new) (S.faults program.new)) stop.status stop.refusal) }
 {
     let prepared = prepare(alloc, words, program)?;
-    evaluate(alloc, &prepared.loaded, prepared.budget, prepared.trace)
+    evaluate(alloc, prepared)
 }
 
-// The report of a command that ended before anything was written.
+// The report of a command that ended before there was anything to write.
 fn stopped(alloc: Global, stop: Stop) -> Report
     ensures { IsStopped stop result }
 {
@@ -37,32 +40,29 @@ fn stopped(alloc: Global, stop: Stop) -> Report
     }
 }
 
-// Writes the text of a run.
-fn write_run<K: Sink>(run: Evaluated, out: &mut K) -> Report
-    ensures { IsWritten run (side (K.written out.old) (K.faults out.old)) (side (K.written out.new) (K.faults out.new)) result }
+fn status_of(ended: Result<Status, Unwritten>) -> Status
+    ensures { result ≡ status_by_writing ended }
 {
-    let Evaluated {
-        status,
-        journal,
-        receipts,
-        text,
-    } = run;
-    let refusal = Refusal::Nothing;
-    match write_all(out, &text) {
-        Ok(()) => Report {
-            status,
-            refusal,
-            journal,
-            receipts,
-            written: text.len() as u64,
-        },
-        Err(short) => Report {
-            status: Status::WriteFault,
-            refusal,
-            journal,
-            receipts,
-            written: short.written as u64,
-        },
+    match ended {
+        Ok(status) => status,
+        Err(Unwritten::Fault) => Status::WriteFault,
+        Err(Unwritten::Memory) => Status::NoMemory,
+    }
+}
+
+// Writes the text of a run that has ended, and reports it.
+fn report_of<K: Sink>(alloc: Global, run: Evaluated, sink: &mut K) -> Report
+    requires { HasEnded run }
+    ensures { IsWritten run (side (K.written sink.old) (K.faults sink.old)) (side (K.written sink.new) (K.faults sink.new)) result }
+{
+    let mut out = Output::new(sink);
+    let ended = write_run(alloc, &run, &mut out);
+    Report {
+        status: status_of(ended),
+        refusal: Refusal::Nothing,
+        written: out.written(),
+        journal: run.core.into_journal(),
+        receipts: run.receipts,
     }
 }
 
@@ -73,8 +73,9 @@ fn write_run<K: Sink>(run: Evaluated, out: &mut K) -> Report
 /// in this order, and the first refusal ends it: the words; the query's length; the source, to its end or
 /// until it gave one byte more than a program may have; the program, which is read, checked and loaded, its inline
 /// choices as definitions;
-/// the query, likewise; the run, until no rule applies or as many labels as the budget are made; the
-/// answers' texts; the writing. With `--generate` the program and the query are made by `akl_gen::generate`, and the
+/// the query, likewise; the run, until no rule applies or as many labels as the budget are made; the writing.
+/// The text is written as it is made, a line of the trace at a time, each answer, and the outcome, so that only one
+/// answer's text is held. With `--generate` the program and the query are made by `akl_gen::generate`, and the
 /// source isn't read.
 ///
 /// - `Done`, `Failed`, `Suspended` and `Budget` are the outcome of the answered journal, and the bytes
@@ -83,9 +84,11 @@ fn write_run<K: Sink>(run: Evaluated, out: &mut K) -> Report
 /// - `Words` comes exactly where the words are refused, and `Program` and `Query` exactly where that
 ///   text is, with the cause.
 /// - `NotYet` comes with the part that isn't built: words with other workers than 1.
-/// - `ReadFault` comes only where the source failed, and `WriteFault` only where the sink failed: a
-///   front of the text was written then.
-/// - `NoMemory` comes only for want of memory. Nothing was run or written then.
+/// - `ReadFault` comes only where the source failed, and `WriteFault` only where the sink failed: the journal
+///   is the run's then, and a front of its text was written.
+/// - `NoMemory` comes only for want of memory. Either nothing is answered and nothing was written, or the run
+///   had ended: then the journal is the run's, and a front of its text was written, without the outcome's line.
+///   Where no more bytes can be counted it comes too.
 ///
 /// So an accepted query over an accepted program has one of the four outcomes, unless the source, the sink or memory
 /// fails. `IsReported` says all this, a field for a fact.
@@ -112,6 +115,6 @@ pub fn run_akl<R: Threads + Wait + Sync, S: Source, K: Sink, G: Gate>(
     let _ = gate;
     match work(alloc, words, program) {
         Err(stop) => stopped(alloc, stop),
-        Ok(evaluated) => write_run(evaluated, out),
+        Ok(evaluated) => report_of(alloc, evaluated, out),
     }
 }

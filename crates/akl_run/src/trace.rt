@@ -1,7 +1,7 @@
 //! The lines of a trace.
 
 ghost use Rattle.std.specs.Prelude.{◌≡◌, ◌++◌, IfOk, OnOk};
-ghost use Rattle.akl_run.specs.Traces.{rule_text, name_text, place_text, alternative_text, trace_line, trace_text};
+ghost use Rattle.akl_run.specs.Traces.{rule_text, name_text, place_text, alternative_text, trace_line};
 
 use crate::text::{push_number, push_text};
 use akl_model::{Label, Rule};
@@ -72,21 +72,4 @@ pub fn trace_line(alloc: Global, at: u64, label: &Label) -> Result<Vec<u8>, Allo
     push_number(&mut line, label.worker as u64)?;
     push_text(&mut line, "\n")?;
     Ok(line)
-}
-
-/// A line for each label of a journal, where a trace is asked.
-pub fn trace_text(alloc: Global, trace: bool, journal: &[Label]) -> Result<Vec<u8>, AllocError>
-    ensures { IfOk result (λ text. text.items ≡ trace_text trace journal.now) }
-{
-    let mut text = Vec::new(alloc);
-    if !trace {
-        return Ok(text);
-    }
-    let mut at: u64 = 0;
-    for label in journal {
-        at += 1;
-        let line = trace_line(alloc, at, label)?;
-        text.extend_from_slice(&line)?;
-    }
-    Ok(text)
 }

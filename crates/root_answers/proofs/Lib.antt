@@ -1,2 +1,1 @@
 pub mod RootTexts
-pub mod AllAnswers

@@ -1,18 +1,18 @@
 -- The text of one root box.
-use Rattle.std.proofs.Common.{◌≡◌, ℕ, List, [], ◌∷◌, ◌++◌, length, map, Bool, true, false, Option, Some, None, refl, sym, ◌∙◌, ap, subst, append-nil, ◌≤◌}
+use Rattle.std.proofs.Common.{◌≡◌, ℕ, List, [], ◌∷◌, ◌++◌, length, map, Bool, true, false, Some, None, refl, sym, ◌∙◌, ap, subst, append-nil, ◌≤◌}
 use Rattle.std.specs.Prelude.{is_some}
 use Rattle.akl_terms.specs.declared.name.Name.{Name}
 use Rattle.akl_terms.specs.declared.name.Place.{Place}
 use Rattle.akl_terms.specs.declared.term.Node.{Node}
 use Rattle.akl_terms.specs.declared.term.Term.{Term}
 use Rattle.akl_terms.specs.declared.program.ShownTerm.{ShownTerm}
-use Rattle.akl_terms.specs.Tree.{Tree, Head}
+use Rattle.akl_terms.specs.Tree.{Tree}
 use Rattle.akl_terms.specs.Template.{tree}
-use Rattle.akl_terms.specs.Equal.{Equations, IsTold, EqualBy, IsConsistent, IsConsistentBy}
+use Rattle.akl_terms.specs.Equal.{Equations, IsTold, EqualBy, IsConsistentBy}
 use Rattle.akl_terms.specs.Decided.{DifferInHead}
 use Rattle.akl_terms.specs.Standing.{StandFor}
 use Rattle.akl_model.specs.declared.label.Label.{Label}
-use Rattle.akl_model.specs.Config.{Content, Goals, no_goals, atom, choice, Config, Found, ShownTree, box_at, site_of}
+use Rattle.akl_model.specs.Config.{Content, Goals, no_goals, atom, choice, Config, Found, box_at, site_of}
 use Rattle.akl_model.specs.Conditions.{IsSolved}
 use Rattle.akl_model.specs.Changes.{goal_names}
 use Rattle.akl_model.specs.Wakes.{names_down_to}
@@ -27,15 +27,15 @@ use Rattle.answer_text.specs.Answers.{longest_answer, shown_trees}
 use Rattle.answer_text.specs.AnswerLines.{AreAnswerLines}
 use Rattle.answer_lines.specs.Lines.{AreLongLines}
 use Rattle.chain_text.specs.ChainTexts.{IsChainText, IsTooLongText}
-use Rattle.table_laws.specs.Rows.{BoxRow, Table, store_in, stores_along, told_in}
+use Rattle.table_laws.specs.Rows.{BoxRow, store_in, stores_along}
 use Rattle.table_laws.specs.Unfolds.{IsBoxRow}
 use Rattle.table_laws.specs.Stamped.{IsTableOf}
 use Rattle.table_laws.proofs.Frame.{both_there}
 use Rattle.box_tree.specs.Tables.{all_rules, TableValue, table_of, goals_in, is_empty, shown_in, shown_tree, shown_trees_of}
 use Rattle.box_tree.specs.Views.{ViewValue, IsViewOf, run_of, is_there}
 use Rattle.step_commit.specs.Cores.{CoreValue}
-use Rattle.root_answers.specs.Text.{shown_lines, long_line, IsTextOf, fits, is_long}
-use Rattle.root_answers.specs.Roots.{TableIn, symbols_of, root_box, OfRoot, IsText}
+use Rattle.root_answers.specs.Text.{shown_lines, long_line, fits, is_long}
+use Rattle.root_answers.specs.Roots.{TableIn, symbols_of, root_box, IsText}
 
 -- the row of a root box
 abbrev RowOf : (c : CoreValue) (t : TableIn c) (name : Name) (f : Found) → Type 0

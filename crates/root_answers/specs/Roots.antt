@@ -1,14 +1,13 @@
--- The answers of a core's configuration.
-use Rattle.std.specs.Prelude.{◌≡◌, ℕ, List, [], length, Option, Some, None, option_map}
+-- The root boxes of a core's configuration, and whether they are answers.
+use Rattle.std.specs.Prelude.{◌≡◌, ℕ, List, [], Option, Some, None, option_map}
 use Rattle.std.proofs.Common.{Vec, Global}
 use Rattle.akl_terms.specs.declared.name.Name.{Name}
 use Rattle.akl_model.specs.Config.{Content, Goals, Found, box_at}
-use Rattle.akl_model.specs.Derivations.{IsAnswer, AreAnswers}
+use Rattle.akl_model.specs.Derivations.{IsAnswer}
 use Rattle.table_laws.specs.Stamped.{IsTableOf}
 use Rattle.box_tree.specs.Tables.{all_rules, table_of}
 use Rattle.step_commit.specs.Cores.{CoreValue, run_by}
-use Rattle.root_answers.specs.Text.{IsTextOf, AreTexts}
-use Rattle.root_answers.specs.declared.answers.Answered.{Answered}
+use Rattle.root_answers.specs.Text.{IsTextOf}
 
 -- the table of a core, with the configuration to which it unfolds
 abbrev pub TableIn : CoreValue → Type 0
@@ -32,13 +31,3 @@ IsText c name (Some text) = OfRoot c name (λ b gs. IsAnswer b gs × IsTextOf (s
 
 abbrev pub HasText : CoreValue → Name → Option (Vec ℕ Global) → Type 0
 HasText c name o = IsText c name (option_map (λ (v : Vec ℕ Global). v.items) o)
-
--- these are the texts of all answers
-pub record Answers (c : CoreValue) (t : TableIn c) (count : ℕ) (text : List ℕ) : Type 0 where
-  pub answers : List Content
-  pub are_answers : AreAnswers t.config.roots answers
-  pub counted : count ≡ length answers
-  pub are_texts : AreTexts (symbols_of c) 1 answers text
-
-abbrev pub HasAnswers : CoreValue → Answered → Type 0
-HasAnswers c a = (t : TableIn c) → Answers c t a.count a.text.items

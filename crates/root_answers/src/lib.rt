@@ -1,7 +1,6 @@
-//! The answers among the root boxes of a core, and their texts.
+//! The text of a root box, where it is an answer.
 #![tactic(auto)]
 
-mod answers;
 mod root;
 
-pub use answers::{Answered, root_answers};
+pub use root::root_text;

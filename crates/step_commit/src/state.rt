@@ -68,6 +68,13 @@ impl Core {
         self.journal.len() as u64
     }
 
+    /// The labels that were committed, in order.
+    pub fn journal(&self) -> &[Label]
+        ensures { result.now ≡ self.now.journal }
+    {
+        &self.journal
+    }
+
     /// What a worker sees of a place. `Gone` comes exactly where the place isn't in the configuration.
     pub fn look(&self, alloc: Global, place: Place, worker: u32) -> Result<View, LookError>
         ensures table { IfOk result (λ v. v.table ≡ self.now.table) }

@@ -1,5 +1,5 @@
 use Rattle.std.specs.List.{All}
-use Rattle.std.proofs.Common.{◌≡◌, ◌+◌, ◌++◌, ◌*◌, ◌≤◌, List, ℕ, length, map, sym, ap, subst, arith}
+use Rattle.std.proofs.Common.{◌+◌, ◌++◌, ◌*◌, ◌≤◌, List, ℕ, length, map, sym, ap, subst, arith}
 use Rattle.akl_syntax.specs.Answers.{query_view, clauses_view}
 use Rattle.akl_syntax.specs.Clauses.{Query}
 use Rattle.akl_syntax.specs.Sizes.{clauses_size, query_size}

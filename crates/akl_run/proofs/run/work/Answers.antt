@@ -1,5 +1,4 @@
 use Rattle.akl_run.specs.Commands.{by_run}
-use Rattle.akl_run.specs.Evaluations.{IsEvaluated}
 use Rattle.akl_run.specs.Words.{query_of}
 use Rattle.akl_run.proofs.Loading.{if_error}
 use Rattle.akl_run.proofs.Evaluated.{loaded_shown}

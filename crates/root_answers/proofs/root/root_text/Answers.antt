@@ -1,7 +1,5 @@
-use Rattle.std.proofs.Common.{◌≡◌, ◌∙◌, Some, sym, ap, subst, true, Err}
+use Rattle.std.proofs.Common.{◌∙◌, Some, sym, ap, subst, Err}
 use Rattle.local_store.specs.Asking.{Decides}
-use Rattle.local_store.specs.declared.asking.Consistency.TheVariants.{Consistent, Clash}
-use Rattle.box_tree.specs.Tables.{table_of, goals_in, is_empty}
 use Rattle.root_answers.specs.Roots.{IsText}
 use Rattle.root_answers.proofs.RootTexts.{IsRootView, clashes, is_text, long_text}
 use Rattle.root_answers.proofs.root.root_text.Goals as goal

@@ -1,5 +1,5 @@
 -- The answers of root boxes, one after another.
-use Rattle.std.proofs.Common.{◌≡◌, ℕ, zero, suc, ◌+◌, ◌<◌, ◌≤◌, List, [], ◌∷◌, ◌++◌, length, get_or, Option, Some, None, refl, sym, ◌∙◌, ap, subst, append_assoc, append-nil, ◌⊎◌, inl, inr, arith}
+use Rattle.std.proofs.Common.{◌≡◌, ℕ, zero, suc, ◌+◌, ◌<◌, ◌≤◌, List, [], ◌∷◌, ◌++◌, length, get_or, Some, None, refl, sym, ◌∙◌, ap, subst, append_assoc, append-nil, ◌⊎◌, inl, inr, arith}
 use Rattle.std.specs.Prelude.{codes}
 use Rattle.std.specs.Fmt.{decimal}
 use Rattle.std.proofs.lemmas.List.{length-append}
@@ -8,6 +8,7 @@ use Rattle.akl_terms.specs.Equal.{IsConsistent}
 use Rattle.akl_terms.specs.Decided.{Contradicts}
 use Rattle.akl_model.specs.Config.{Content, Boxes, no_boxes, box, Goals, no_goals, atom, choice, box_at}
 use Rattle.akl_model.specs.Changes.{box_names}
+use Rattle.akl_model.specs.Conditions.{IsSolved}
 use Rattle.akl_model.specs.Derivations.{IsAnswer, AreAnswers}
 use Rattle.akl_model.specs.Derivations as derivations
 use Rattle.akl_model.proofs.NamesKept.{Stand, replay-stands}
@@ -15,10 +16,14 @@ use Rattle.constraint_laws.proofs.Decided.{consistent_or}
 use Rattle.akl_model.proofs.QuietEnds.{clash_not}
 use Rattle.step_laws.specs.Whereabouts.{BoxIn}
 use Rattle.step_laws.proofs.Whereabouts.{in_found}
-use Rattle.box_tree.specs.Tables.{all_rules, table_of}
+use Rattle.box_tree.specs.Tables.{all_rules}
 use Rattle.step_commit.specs.Cores.{CoreValue}
 use Rattle.root_answers.specs.Text.{IsTextOf, AreTexts, no_answers, an_answer}
-use Rattle.root_answers.specs.Roots.{TableIn, symbols_of, root_box, IsText, Answers}
+use Rattle.root_answers.specs.Roots.{TableIn, symbols_of, root_box, IsText}
+use Rattle.akl_run.specs.declared.output.Unwritten.{Unwritten}
+use Rattle.akl_run.specs.Outputs.{Outlet, HasAppended, HasBrokenOff, PartsOf}
+use Rattle.akl_run.specs.Written.{AreAllTexts, AreFirstTexts, HasWrittenAnswers, ArePartsOfAnswers}
+use Rattle.akl_run.proofs.Appended.{nothing_appended, appended_both, broke_later, no_memory_behind}
 
 -- the first of some boxes
 abbrev pub take_boxes : ℕ → Boxes → Boxes
@@ -139,8 +144,98 @@ module _ (c : CoreValue) (n : ℕ) (d : Name) (h : n < length c.table.roots) whe
         are_texts = subst (λ (m : ℕ). AreTexts (symbols_of c) 1 (y.answers ++ w.content ∷ []) (text ++ (codes "answer " ++ decimal m ++ 10 ∷ lines))) number (texts_more w.content lines y.are_texts a.1);
       })
 
-pub found_every : (c : CoreValue) (n count : ℕ) (text : List ℕ) → length c.table.roots ≤ n → HaveFound c n count text → (t : TableIn c) → Answers c t count text
+pub found_every : (c : CoreValue) (n count : ℕ) (text : List ℕ) → length c.table.roots ≤ n → HaveFound c n count text → (t : TableIn c) → AreAllTexts c count text t
 found_every c n count text h x t =
     let y : Found c t n count text = x t in
     let l : length (box_names t.config.roots) ≤ n = subst (λ (ns : List Name). length ns ≤ n) t.unfolds.roots h in
     record { answers = y.answers; are_answers = subst (λ (bs : Boxes). AreAnswers bs y.answers) (take_every t.config.roots n l) y.are_answers; counted = y.counted; are_texts = y.are_texts }
+
+-- ---- each list of boxes has its answers, and those of the first boxes stand before the others
+
+is_solved_or : (gs : Goals) → IsSolved gs ⊎ (IsSolved gs → ⊥)
+is_solved_or no_goals = inl tt
+is_solved_or (atom g a gs) = inr (λ s. s)
+is_solved_or (choice g o bs gs) = inr (λ s. s)
+
+is_answer_or : (b : Content) (gs : Goals) → IsAnswer b gs ⊎ (IsAnswer b gs → ⊥)
+is_answer_or b gs = on (is_solved_or gs) (consistent_or b.equations)
+  where
+    on : IsSolved gs ⊎ (IsSolved gs → ⊥) → IsConsistent b.equations ⊎ Contradicts b.equations → IsAnswer b gs ⊎ (IsAnswer b gs → ⊥)
+    on (inl s) (inl k) = inl (record { solved = s; consistent = k })
+    on (inr n) k = inr (λ a. n a.solved)
+    on (inl s) (inr d) = inr (λ a. clash_not b.equations d a.consistent)
+
+-- the answers that stand behind some
+abbrev MoreAnswers : Boxes → List Content → Type 0
+MoreAnswers bs first = (left : List Content) × AreAnswers bs (first ++ left)
+
+all_answers : (bs : Boxes) → MoreAnswers bs []
+all_answers no_boxes = ([], derivations.none)
+all_answers (box b gs bs) = on (is_answer_or b gs) (all_answers bs)
+  where
+    on : IsAnswer b gs ⊎ (IsAnswer b gs → ⊥) → MoreAnswers bs [] → MoreAnswers (box b gs bs) []
+    on (inl a) (left, x) = (b ∷ left, derivations.one_more a x)
+    on (inr n) (left, x) = (left, derivations.another n x)
+
+first_answers : (bs : Boxes) (n : ℕ) (first : List Content) → AreAnswers (take_boxes n bs) first → MoreAnswers bs first
+first_answers bs zero [] x = all_answers bs
+first_answers bs zero (_ ∷ _) x = elim x [ ]
+first_answers no_boxes (suc n) [] x = ([], derivations.none)
+first_answers no_boxes (suc n) (_ ∷ _) x = elim x [ ]
+first_answers (box b gs bs) (suc n) _ (derivations.one_more {answers = more} a x) = on (first_answers bs n more x)
+  where
+    on : MoreAnswers bs more → MoreAnswers (box b gs bs) (b ∷ more)
+    on (left, y) = (left, derivations.one_more a y)
+first_answers (box b gs bs) (suc n) first (derivations.another m x) = on (first_answers bs n first x)
+  where
+    on : MoreAnswers bs first → MoreAnswers (box b gs bs) first
+    on (left, y) = (left, derivations.another m y)
+
+pub found_first : (c : CoreValue) (n count : ℕ) (text : List ℕ) → HaveFound c n count text → (t : TableIn c) → AreFirstTexts c text t
+found_first c n count text x t =
+    let y : Found c t n count text = x t in
+    let more : MoreAnswers t.config.roots y.answers = first_answers t.config.roots n y.answers y.are_answers in
+    record { first = y.answers; left = more.0; are_answers = more.1; are_texts = y.are_texts }
+
+-- ---- what was written of them
+
+-- the texts of the answers among the first root boxes were written
+pub record HaveWritten (c : CoreValue) (n count : ℕ) (before after : Outlet) : Type 0 where
+  pub text : List ℕ
+  pub appended : HasAppended before after text
+  pub found : HaveFound c n count text
+
+pub wrote_none : (c : CoreValue) (before : Outlet) → HaveWritten c 0 0 before before
+wrote_none c before = record { text = []; appended = nothing_appended before; found = found_none c }
+
+-- the text of one more answer, with the line of its number
+abbrev numbered : ℕ → List ℕ → List ℕ
+numbered count lines = codes "answer " ++ decimal count ++ 10 ∷ lines
+
+pub wrote_same : {c : CoreValue} {count : ℕ} {before after : Outlet} (n : ℕ) (d : Name) (h : n < length c.table.roots) → HaveWritten c n count before after → IsText c (get_or c.table.roots n d) None
+    → HaveWritten c (n + 1) count before after
+wrote_same {c} {count} n d h w t = record { text = w.text; appended = w.appended; found = found_same c n d h count w.text w.found t }
+
+pub wrote_more : {c : CoreValue} {count : ℕ} {before middle after : Outlet} (n : ℕ) (d : Name) (h : n < length c.table.roots) (lines : List ℕ) → HaveWritten c n count before middle
+    → IsText c (get_or c.table.roots n d) (Some lines) → HasAppended middle after (numbered (count + 1) lines) → HaveWritten c (n + 1) (count + 1) before after
+wrote_more {c} {count} n d h lines w t x = record {
+  text = w.text ++ numbered (count + 1) lines;
+  appended = appended_both w.text (numbered (count + 1) lines) w.appended x;
+  found = found_more c n d h count w.text lines w.found t;
+}
+
+pub wrote_every : {c : CoreValue} {n count : ℕ} {before after : Outlet} → length c.table.roots ≤ n → HaveWritten c n count before after → HasWrittenAnswers c before after count
+wrote_every {c} {n} {count} h w = record { text = w.text; appended = w.appended; are_texts = found_every c n count w.text h w.found }
+
+pub no_memory_there : {c : CoreValue} {n count : ℕ} {before after : Outlet} → HaveWritten c n count before after → HasBrokenOff (ArePartsOfAnswers c) before after Unwritten.Memory
+no_memory_there {c} {n} {count} w =
+    no_memory_behind w.text [] w.appended (record { are_texts = found_first c n count (w.text ++ []) (subst (HaveFound c n count) (sym (append-nil w.text)) w.found) })
+
+pub broke_there : {c : CoreValue} {count : ℕ} {before middle after : Outlet} {cause : Unwritten} (n : ℕ) (d : Name) (h : n < length c.table.roots) (lines : List ℕ) → HaveWritten c n count before middle
+    → IsText c (get_or c.table.roots n d) (Some lines) → HasBrokenOff (PartsOf (numbered (count + 1) lines)) middle after cause → HasBrokenOff (ArePartsOfAnswers c) before after cause
+broke_there {c} {count} n d h lines w t b =
+    let found : HaveFound c (n + 1) (count + 1) (w.text ++ numbered (count + 1) lines) = found_more c n d h count w.text lines w.found t in
+    broke_later w.text w.appended (λ (front rest : List ℕ) p. record {
+      are_texts = found_first c (n + 1) (count + 1) ((w.text ++ front) ++ rest)
+          (subst (HaveFound c (n + 1) (count + 1)) (ap (λ (xs : List ℕ). w.text ++ xs) (sym p) ∙ sym (append_assoc w.text front rest)) found);
+    }) b
