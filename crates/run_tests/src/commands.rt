@@ -10,12 +10,14 @@ use std::sync::Wait;
 use std::test::Fail;
 use std::thread::Threads;
 
-// What a command answers: its status, its line on standard error, what was written, and its journal.
+// What a command answers: its status, its line on standard error, what was written, how many bytes it says that was, and
+// its journal.
 #[derive(Drop)]
 pub struct Reply {
     status: u8,
     line: Vec<u8>,
     written: Vec<u8>,
+    count: u64,
     journal: Vec<Label>,
 }
 
@@ -35,6 +37,7 @@ fn run_words<R: Threads + Wait + Sync>(
         status: report.status.number(),
         line: refusal_line(alloc, &report)?,
         written: Vec::from_slice(alloc, sink.bytes())?,
+        count: report.written,
         journal: report.journal,
     })
 }
@@ -99,6 +102,9 @@ const COMMANDS: &str = r"
  => X = Y => 0 / answer 1 / X = _1 / Y = _1 / done
  => _3 = _4, _2 = _3, _1 = _2, _0 = _1, X = _0, Y = _4, Z = f(X,Y,_,X) => 0 / answer 1 / X = _1 / Y = _1 / Z = f(_1,_1,_2,_1) / done
  => true => 0 / answer 1 / done
+ => X = f(_A,_B,_A) => 0 / answer 1 / X = f(_1,_2,_1) / done
+ => _A = _B, X = g(_C,_A), Y = h(_B,_C,_) => 0 / answer 1 / X = g(_1,_2) / Y = h(_2,_1,_3) / done
+ => _X = f(_X,_A), Y = g(_B,_X), Z = [_A|T] => 0 / answer 1 / Y = g(_1,R1) / Z = [_2|_3] / T = _3 / R1 = f(R1,_2) / done
  => X = f(X), X = a => 1 / failed
  => f(_A,B) = f(b,_A) => 0 / answer 1 / B = b / done
  => X = 'hello world', Y = 'abc', Z = 'it''s' => 0 / answer 1 / X = 'hello world' / Y = abc / Z = 'it\'s' / done
@@ -121,11 +127,16 @@ p :- send(X,Y), q. => true => 5 / akl: program: undefined q/0
  => (zz ; X = b) => 6 / akl: query: undefined zz/0
  => (X = a -> true ; true) => 6 / akl: query: mixed guards in ''/0
  => (true{ ; true*256}) => 6 / akl: query: too many clauses of one definition, 257
+ => X = f(X) => 0 / answer 1 / X = R1 / R1 = f(R1) / done
  => X = f(X), X = f(f(X)) => 0 / answer 1 / X = R1 / R1 = f(R1) / done
+ => X = f(X,X), Y = f(Y,X) => 0 / answer 1 / X = R1 / Y = R1 / R1 = f(R1,R1) / done
+ => X = f(a,X), Y = f(b,Y), X = Y => 1 / failed
  => X = f(g(X)), Y = f(Z), Z = g(Y) => 0 / answer 1 / X = R1 / Y = R1 / Z = R2 / R1 = f(R2) / R2 = g(R1) / done
  => X = [a,b|X] => 0 / answer 1 / X = R1 / R1 = [a|R2] / R2 = [b|R1] / done
  => X = [a|X], Y = [c|X] => 0 / answer 1 / X = R1 / Y = [c|R1] / R1 = [a|R1] / done
+ => X = [a|X], Y = [a,a|Y] => 0 / answer 1 / X = R1 / Y = R1 / R1 = [a|R1] / done
  => X = [a,a|X], Y = [a,a,a|Y] => 0 / answer 1 / X = R1 / Y = R1 / R1 = [a|R1] / done
+ => X = f([a|X]) => 0 / answer 1 / X = R1 / R1 = f(R2) / R2 = [a|R1] / done
  => X = f(X,Z,Y), Y = g(Z,W), Z = T => 0 / answer 1 / X = R1 / Z = _1 / Y = g(_1,_2) / W = _2 / T = _1 / R1 = f(R1,_1,g(_1,_2)) / done
  => _X = [1,'is',f(_X)|_X], Y = h(_X,[]) => 0 / answer 1 / Y = h(R1,[]) / R1 = [1|R2] / R2 = ['is'|R3] / R3 = [R4|R1] / R4 = f(R1) / done
  => -X = a => 4 / akl: words: missing at word 0
@@ -307,19 +318,57 @@ fn nothing_is_written_after_a_read_fault(rt: HostRuntime) -> Result<(), Fail> {
     Ok(())
 }
 
+// Words over a program, with a sink that takes one byte at a time and fails after so many.
+fn faulty<R: Threads + Wait + Sync>(
+    rt: &R,
+    alloc: Global,
+    program: &str,
+    words: &[&str],
+    count: u64,
+) -> Result<Reply, AllocError> {
+    let bytes = Vec::from_slice(alloc, program.as_bytes())?;
+    let mut source = MemorySource::new(bytes, 7, Vec::new(alloc));
+    let fails = Vec::from_slice(alloc, &[count])?;
+    let mut sink = MemorySink::new(alloc, 1, 1000, fails)?;
+    run_words(rt, alloc, words, &mut source, &mut sink)
+}
+
+/// Options, programs and queries, how many bytes are written before a fault, and replies.
+const FAULTS: &str = r"
+--workers=1 =>  => X = f(Y), Y = a => 0 => 8 / akl: write fault
+--workers=1 =>  => X = f(Y), Y = a => 6 => 8 / akl: write fault / answer
+--workers=1 =>  => X = f(Y), Y = a => 9 => 8 / akl: write fault / answer 1
+--workers=1 =>  => X = f(Y), Y = a => 24 => 8 / akl: write fault / answer 1 / X = f(a) / Y = a
+--workers=1 =>  => X = f(Y), Y = a => 28 => 8 / akl: write fault / answer 1 / X = f(a) / Y = a / done
+--workers=1 =>  => X = a, X = b => 3 => 8 / akl: write fault / fai
+--workers=1 => m(a). m(b). => m(X) => 15 => 8 / akl: write fault / answer 1 / X = a
+--workers=1 => m(a). m(b). => m(X) => 21 => 8 / akl: write fault / answer 1 / X = a / answer
+--workers=1 => m(a). m(b). => m(X) => 27 => 8 / akl: write fault / answer 1 / X = a / answer 2 / X =
+--workers=1 => m(a). m(b). => m(X) => 31 => 8 / akl: write fault / answer 1 / X = a / answer 2 / X = b / d
+--trace =>  => A = a, B = b => 0 => 8 / akl: write fault
+--trace =>  => A = a, B = b => 11 => 8 / akl: write fault / step 1 tell
+--trace =>  => A = a, B = b => 26 => 8 / akl: write fault / step 1 tell goal 0.2 by 1
+--trace =>  => A = a, B = b => 37 => 8 / akl: write fault / step 1 tell goal 0.2 by 1 / step 2 tell
+--trace =>  => A = a, B = b => 58 => 8 / akl: write fault / step 1 tell goal 0.2 by 1 / step 2 tell goal 0.3 by 1 / answer
+";
+
 #[test]
 fn a_front_of_the_text_stands_before_a_write_fault(rt: HostRuntime) -> Result<(), Fail> {
     let alloc = rt.alloc();
-    let text = b"answer 1\nX = f(a)\nY = a\ndone\n".as_slice();
-    for call in 0..6 {
-        let mut source = MemorySource::new(Vec::new(alloc), 1, Vec::new(alloc));
-        let fails = Vec::from_slice(alloc, &[call])?;
-        let mut sink = MemorySink::new(alloc, 5, 100, fails)?;
-        let words = ["--query", "X = f(Y), Y = a"];
-        let fault = run_words(&rt, alloc, &words, &mut source, &mut sink)?;
-        assert_eq!(rt; (fault.status, fault.journal.len()), (8, 2));
-        assert_eq!(rt; fault.line.as_slice(), b"akl: write fault\n".as_slice());
-        assert_eq!(rt; fault.written.as_slice(), &text[..5 * call as usize]);
+    for case in FAULTS.lines().skip(1) {
+        let (option, rest) = case.split_once(" => ").ok_or("option")?;
+        let (program, rest) = rest.split_once(" => ").ok_or("program")?;
+        let (query, rest) = rest.split_once(" => ").ok_or("query")?;
+        let (count, reply) = rest.split_once(" => ").ok_or("count")?;
+        let count: u64 = count.parse()?;
+        let words = [option, "--query", query];
+        let whole = command(&rt, alloc, program, &words)?;
+        let fault = faulty(&rt, alloc, program, &words, count)?;
+        assert_eq!(rt; shown(alloc, &fault)?.as_str(), reply, "{case}");
+        assert_eq!(rt;
+            (fault.count, fault.journal.len()),
+            (count, whole.journal.len())
+        );
     }
     Ok(())
 }

@@ -126,6 +126,12 @@ const TRACES: &str = r"
 --budget,10 => p :- -> p. => p => 3 / budget
 --trace,--budget,2 =>  => A = a, B = b => 0 / step 1 tell goal 0.2 by 1 / step 2 tell goal 0.3 by 1 / answer 1 / A = a / B = b / done
 --trace,--budget,1 =>  => A = a, B = b => 3 / step 1 tell goal 0.2 by 1 / budget
+--trace =>  => X = a, X = b => 1 / step 1 tell goal 0.2 by 1 / step 2 tell goal 0.3 by 1 / step 3 fail box 0.0 by 1 / failed
+--budget,4 => p(a). p(b). => p(c) => 1 / failed
+--budget,3 => p(a). p(b). => p(c) => 3 / budget
+--budget,4 => m(a). m(b). => m(X) => 0 / answer 1 / X = a / answer 2 / X = b / done
+--budget,3 => m(a). m(b). => m(X) => 3 / answer 1 / X = a / budget
+--budget,1 => p(a) :- -> true. => p(X) => 2 / suspended 1
 --trace => p(a). p(b). => p(c) => 1 / step 1 fork goal 0.2 by 1 / step 2 fail box 1.0 by 1 / step 3 fail box 1.2 by 1 / step 4 fail box 0.0 by 1 / failed
  => MERGE => merge([a],[b],Z) => 0 / answer 1 / Z = [a,b] / done
 --trace => THERE => t(a,R) => 0 / step 1 fork goal 0.2 by 1 / step 2 cut goal 0.2 of 1.0 by 1 / step 3 promote goal 0.2 of 1.0 by 1 / step 4 tell goal 1.4 by 1 / answer 1 / R = 1 / done

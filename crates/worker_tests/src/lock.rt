@@ -155,7 +155,7 @@ fn turns_in_order(log: &Log, worker: u64) -> Option<u64> {
 
 #[test]
 fn workers_find_their_entries_in_order(rt: HostRuntime) -> Result<(), Fail> {
-    for (count, turns) in [(1u8, 20u64), (2, 1000), (16, 5_000)] {
+    for (count, turns) in [(1u8, 20u64), (2, 1000), (16, 500)] {
         let log = Log {
             title: 7,
             entries: Vec::new(rt.alloc()),

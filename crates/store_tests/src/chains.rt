@@ -1,0 +1,127 @@
+//! Chains of boxes from the root inwards, written as words, and how they are made.
+
+ghost use Rattle.std.specs.Prelude.{IfOk, IfSome, length};
+ghost use Rattle.local_store.specs.Chained.{IsKnown, IsSolvedChain, around, replaced};
+
+use crate::stores::store_of;
+use crate::words::{frame, pair};
+use akl_terms::{Equation, Templates, Term};
+use local_store::{
+    Chain, Consistency, Shared, Store, Valued, consistent, promoted, solved_store, told, value,
+};
+use std::alloc::{AllocError, Global};
+
+/// The store of the words, with the frame of this number.
+fn box_of(alloc: Global, number: usize, words: &str) -> Result<Shared<Store>, AllocError> {
+    let mut store = store_of(alloc, words)?;
+    store.add_frame(frame(number as u64))?;
+    Shared::new(alloc, store)
+}
+
+/// The stores of boxes, which have a frame each: of those around the innermost one, between which `/` stands, and of
+/// that.
+pub fn stores_of(
+    alloc: Global,
+    outer: &str,
+    inner: &str,
+) -> Result<Vec<Shared<Store>>, AllocError> {
+    let mut stores = Vec::new(alloc);
+    for words in outer.split('/') {
+        if !words.is_empty() {
+            stores.push(box_of(alloc, stores.len(), words)?)?;
+        }
+    }
+    stores.push(box_of(alloc, stores.len(), inner)?)?;
+    Ok(stores)
+}
+
+/// The pairs of the words, as equations.
+fn equations_of(alloc: Global, text: &str) -> Result<Vec<Equation>, AllocError> {
+    let mut equations = Vec::new(alloc);
+    for word in text.split_whitespace() {
+        if let Some((left, right)) = pair(word) {
+            equations.push(Equation { left, right })?;
+        }
+    }
+    Ok(equations)
+}
+
+/// The outermost stores of a chain, this many, and another one.
+fn with_last(
+    alloc: Global,
+    chain: &Chain,
+    count: usize,
+    last: Store,
+) -> Result<Vec<Shared<Store>>, AllocError> {
+    let mut stores = Vec::new(alloc);
+    for store in chain.stores().iter().take(count) {
+        stores.push(store.share()?)?;
+    }
+    stores.push(Shared::new(alloc, last)?)?;
+    Ok(stores)
+}
+
+/// The stores of a chain, with what the words say told to the innermost one.
+pub fn told_to(alloc: Global, chain: &Chain, text: &str) -> Result<Vec<Shared<Store>>, AllocError> {
+    let equations = equations_of(alloc, text)?;
+    let innermost = told(alloc, chain, equations.as_slice())?;
+    let count = chain.stores().len().saturating_sub(1);
+    with_last(alloc, chain, count, innermost.store)
+}
+
+/// The stores of a chain, of which the innermost one joins the one around it, if it has one.
+pub fn joined(alloc: Global, chain: &Chain) -> Result<Vec<Shared<Store>>, AllocError> {
+    let count = chain.stores().len();
+    if count < 2 {
+        return Ok(Vec::new(alloc));
+    }
+    let innermost = promoted(alloc, chain)?;
+    with_last(alloc, chain, count - 2, innermost.store)
+}
+
+/// The innermost store made solved; `None` where the chain is inconsistent.
+fn last_solved(
+    alloc: Global,
+    templates: &Templates,
+    stores: &[Shared<Store>],
+) -> Result<Option<Shared<Store>>, AllocError>
+    requires { IsSolvedChain templates.now.nodes (around stores.now) }
+    ensures { IfOk result (λ found. IfSome found (λ s. IsSolvedChain templates.now.nodes (replaced stores.now s))) }
+{
+    let chain = Chain::new(templates, stores);
+    match consistent(alloc, &chain)? {
+        Consistency::Consistent => Ok(Some(solved_store(alloc, &chain)?)),
+        Consistency::Clash { left: _, right: _ } => Ok(None),
+    }
+}
+
+/// The stores made solved, one after another inwards; `None` where they are inconsistent.
+pub fn solved(
+    alloc: Global,
+    templates: &Templates,
+    stores: &[Shared<Store>],
+) -> Result<Option<Vec<Shared<Store>>>, AllocError>
+    ensures { IfOk result (λ found. IfSome found (λ list. IsKnown templates.now.nodes list.items (length list.items))) }
+{
+    let mut list = Vec::new(alloc);
+    for store in stores {
+        let last = store.share()?;
+        list.push(last)?;
+        let Some(last) = last_solved(alloc, templates, list.as_slice())? else {
+            return Ok(None);
+        };
+        let _ = list.pop();
+        list.push(last)?;
+    }
+    Ok(Some(list))
+}
+
+/// What stands for a term; `None` where not all stores are known to be solved.
+pub fn known_value(chain: &Chain, term: Term) -> Option<Valued> {
+    let stores = chain.stores();
+    let known = chain.known();
+    if known == stores.len() {
+        return Some(value(chain, term));
+    }
+    None
+}

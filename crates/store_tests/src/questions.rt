@@ -1,0 +1,313 @@
+//! What boxes answer that were told something.
+
+use crate::chains::{joined, known_value, solved, stores_of, told_to};
+use crate::words::{cut, four_variables, is_said, term, term_of};
+use akl_terms::{Templates, Var};
+use entail_test::{Quietness, quiet, touches};
+use local_store::{Chain, Consistency, Shared, Store, Valued, consistent};
+use std::alloc::{AllocError, Global};
+use std::test::Fail;
+
+/// Whether the words are these variables.
+fn are(found: &[Var], text: &str) -> bool {
+    let mut words = text.split_whitespace();
+    for variable in found {
+        let Some(word) = words.next() else {
+            return false;
+        };
+        if term(word) != Some(term_of(*variable)) {
+            return false;
+        }
+    }
+    words.next().is_none()
+}
+
+/// Whether an answer of a word and variables, in their order, is one of those that are lawful.
+fn is_lawful(word: &str, mut found: Vec<Var>, want: &str) -> Result<bool, AllocError> {
+    found.sort()?;
+    for text in want.split(" or ") {
+        if let Some(rest) = text.strip_prefix(word) {
+            if are(found.as_slice(), rest) {
+                return Ok(true);
+            }
+        }
+    }
+    Ok(false)
+}
+
+fn is_consistency(alloc: Global, chain: &Chain, want: &str) -> Result<bool, AllocError> {
+    Ok(match consistent(alloc, chain)? {
+        Consistency::Consistent => want == "consistent",
+        Consistency::Clash { left: _, right: _ } => want == "clash",
+    })
+}
+
+fn is_quietness(alloc: Global, chain: &Chain, want: &str) -> Result<bool, AllocError> {
+    match quiet(alloc, chain)? {
+        Quietness::Quiet => Ok(want == "quiet"),
+        Quietness::Noisy { on } => is_lawful("noisy", on, want),
+        Quietness::Inconsistent { left: _, right: _ } => Ok(want == "clash"),
+    }
+}
+
+fn is_touched(alloc: Global, chain: &Chain, depth: usize, want: &str) -> Result<bool, AllocError> {
+    if depth >= chain.stores().len() {
+        return Ok(false);
+    }
+    is_lawful("on", touches(alloc, chain, depth)?, want)
+}
+
+/// Whether a value is one of those that are lawful.
+fn is_one_of(found: Option<Valued>, want: &str) -> bool {
+    let found = match found {
+        Some(Valued::Free(variable)) => Some(term_of(variable)),
+        Some(Valued::Bound(term)) => Some(term),
+        None => None,
+    };
+    for word in want.split(" or ") {
+        if found.is_some() && found == term(word) {
+            return true;
+        }
+    }
+    false
+}
+
+/// Whether this stands for a term once the chain is made solved.
+fn is_value(alloc: Global, chain: &Chain, word: &str, want: &str) -> Result<bool, AllocError> {
+    let templates = chain.templates();
+    let Some(term) = term(word) else {
+        return Ok(false);
+    };
+    let Some(stores) = solved(alloc, templates, chain.stores())? else {
+        return Ok(want == "clash");
+    };
+    let chain = Chain::of_solved(templates, stores.as_slice(), stores.len());
+    Ok(is_one_of(known_value(&chain, term), want))
+}
+
+fn answers(alloc: Global, chain: &Chain, question: &str, want: &str) -> Result<bool, AllocError> {
+    match question {
+        "consistent" => is_consistency(alloc, chain, want),
+        "quiet" => is_quietness(alloc, chain, want),
+        "touches 0" => is_touched(alloc, chain, 0, want),
+        "touches 1" => is_touched(alloc, chain, 1, want),
+        "touches 2" => is_touched(alloc, chain, 2, want),
+        word => is_value(alloc, chain, word, want),
+    }
+}
+
+/// Whether the chain answers so, or once its innermost store has joined the one around it.
+fn holds_of(alloc: Global, chain: &Chain, question: &str, want: &str) -> Result<bool, AllocError> {
+    match question.strip_prefix("joined ") {
+        Some(question) => {
+            let stores = joined(alloc, chain)?;
+            let chain = Chain::new(chain.templates(), stores.as_slice());
+            answers(alloc, &chain, question, want)
+        }
+        None => answers(alloc, chain, question, want),
+    }
+}
+
+/// The same, with what the words say told to the innermost one.
+fn holds_told(
+    alloc: Global,
+    chain: &Chain,
+    words: &str,
+    question: &str,
+    want: &str,
+) -> Result<bool, AllocError> {
+    let stores = told_to(alloc, chain, words)?;
+    let chain = Chain::new(chain.templates(), stores.as_slice());
+    holds_of(alloc, &chain, question, want)
+}
+
+/// Whether these stores answer so once they are made solved.
+fn holds_solved(
+    alloc: Global,
+    templates: &Templates,
+    stores: &[Shared<Store>],
+    question: &str,
+    want: &str,
+) -> Result<bool, AllocError> {
+    let Some(stores) = solved(alloc, templates, stores)? else {
+        return Ok(want == "clash");
+    };
+    let chain = Chain::of_solved(templates, stores.as_slice(), stores.len());
+    holds_of(alloc, &chain, question, want)
+}
+
+/// The same, where they are made solved before the words are told, and again after that.
+fn holds_told_to_solved(
+    alloc: Global,
+    templates: &Templates,
+    stores: &[Shared<Store>],
+    words: &str,
+    question: &str,
+    want: &str,
+) -> Result<bool, AllocError> {
+    let Some(stores) = solved(alloc, templates, stores)? else {
+        return Ok(want == "clash");
+    };
+    let chain = Chain::of_solved(templates, stores.as_slice(), stores.len());
+    let stores = told_to(alloc, &chain, words)?;
+    holds_solved(alloc, templates, stores.as_slice(), question, want)
+}
+
+/// A question to boxes, and each lawful answer: whether they are consistent, whether the innermost one is quiet, what
+/// those from a depth on touch, or what stands for a term. Behind `joined`, the innermost one has first joined the one
+/// around it.
+const CHAINS: &str = "
+quiet |  /  | quiet
+quiet |  / A=K | quiet
+quiet |  / K=A | quiet
+quiet |  / A=K K=A | quiet
+quiet |  / K=1 L=fK | quiet
+quiet |  / K=fA | quiet
+quiet |  / A=K A=L K=L | quiet
+quiet |  / A=K B=L K=L | noisy A B
+quiet |  / K=A L=B K=L | noisy A B
+quiet |  / K=A K=B | noisy A B
+quiet |  / A=K K=L L=M M=B | noisy A B
+quiet |  / K=fA K=fB | noisy A B
+quiet |  / A=B A=C | noisy A B C
+quiet |  / A=B C=D | noisy A B C D
+quiet |  / A=K K=1 | noisy A
+quiet |  / A=fK | noisy A
+quiet |  / A=fA | noisy A
+quiet |  / K=1 K=2 | clash
+quiet | A=B / A=K B=K | quiet
+quiet | A=B / B=A | quiet
+quiet | A=B / A=1 | noisy A or noisy B
+quiet | A=B / B=1 | noisy A or noisy B
+quiet | A=B B=C / D=C | noisy A D or noisy B D or noisy C D
+quiet | A=B C=D / B=C | noisy A C or noisy A D or noisy B C or noisy B D
+quiet | A=1 / A=1 | quiet
+quiet | A=1 / A=K | quiet
+quiet | A=1 B=1 / A=B | quiet
+quiet | A=1 / A=K B=K | noisy B
+quiet | A=1 / A=2 | clash
+quiet | A=1 / K=2 K=A | clash
+quiet | A=1 A=2 /  | clash
+quiet | A=a / A=K K=b | clash
+quiet | A=a / A=fB | clash
+quiet | A=fB / A=fK | quiet
+quiet | A=fB A=fC / B=C | quiet
+quiet | A=fB / A=fC | noisy B C
+quiet | A=fB / A=fK K=1 | noisy B
+quiet | A=fB / A=ffK | noisy B
+quiet | A=fA / A=fA | quiet
+quiet | A=fA / A=ffA | quiet
+quiet | A=fA / K=fK K=A | quiet
+quiet | A=fA B=fB / A=B | quiet
+quiet | A=fA B=ffB / A=B | quiet
+quiet | A=fA / B=fB A=B | noisy B
+quiet | A=fA B=fC / A=B | noisy C
+quiet | A=fA / A=a | clash
+quiet | A=p / A=p | quiet
+quiet | A=p B=p / A=B | quiet
+quiet | A=p / K=p B=K | noisy B
+quiet |  / A=p | noisy A
+quiet | A=p / A=q | clash
+quiet | A=p / A=1 | clash
+quiet | A=1 B=A | quiet
+quiet | A=W | quiet
+quiet | W=1 | noisy W
+quiet | W=X | noisy W X
+quiet | A=1 A=2 | clash
+quiet |  / A=K / P=K | quiet
+quiet |  / A=K / B=K | noisy A B or noisy B K
+quiet |  / K=1 / A=K P=K | noisy A
+quiet |  / K=L / P=K P=L | quiet
+quiet |  /  / P=K P=L | noisy K L
+quiet | A=B /  / A=P B=P | quiet
+quiet | A=1 / K=A / K=2 | clash
+quiet | A=1 A=2 /  /  | clash
+touches 0 | A=1 / A=K /  | on
+touches 0 |  / K=A / P=1 P=K | on
+touches 0 | A=W / K=X A=K /  | on W X
+touches 0 | W=1 /  | on W
+touches 1 |  / A=fK / P=1 | on A
+touches 1 |  / A=K / B=K | on A B
+touches 1 |  / K=A / P=1 P=K | on A
+touches 1 | A=1 / K=A / K=P | on
+touches 1 | A=B /  / P=A P=1 | on A or on B
+touches 1 | A=B C=D /  / P=B P=D | on A C or on A D or on B C or on B D
+touches 2 |  / A=K / B=K | on A B or on B K
+touches 2 |  / K=A / P=1 P=K | on A or on K
+touches 2 | A=1 / K=A / K=P | on
+touches 2 | A=B / K=B / P=A P=1 | on A or on B or on K
+consistent |  | consistent
+consistent | A=1 A=1 | consistent
+consistent | A=1 A=2 | clash
+consistent | A=1 / K=A / P=K | consistent
+consistent | A=1 / K=A / P=K P=2 | clash
+consistent | A=fA / K=ffK / K=A | consistent
+consistent | A=fA / K=fL L=a / K=A | clash
+consistent | A=p / K=p / K=A | consistent
+consistent | A=p / K=q / K=A | clash
+A | A=1 | 1
+B | A=1 /  | B
+K | A=B / K=A | A or B or K
+K | A=fB / K=A | fB
+P | A=a / K=A / P=K | a
+A |  / A=fA | fA
+A | A=fA B=fB / A=B | fA or fB
+C | A=fB A=fC / B=1 | 1
+A | A=K / K=p | p
+fA | A=1 /  | fA
+2 |  | 2
+A | A=1 / A=2 | clash
+joined consistent | A=1 / K=A | consistent
+joined consistent | A=1 / K=A K=2 | clash
+joined A | A=K / K=p | p
+joined K |  / K=fA / P=K A=1 | fA
+joined A | A=1 / A=2 | clash
+joined quiet |  / K=1 / P=K | quiet
+joined quiet |  / A=K / P=K | quiet
+joined quiet |  /  / K=P A=P | quiet
+joined quiet |  / A=K / K=1 | noisy A
+joined quiet | A=1 /  / K=A K=2 | clash
+joined touches 1 |  / A=K / P=K B=P | on A B
+";
+
+/// The boxes of a case, those around the innermost one, and what that one says.
+fn boxes(text: &str) -> (&str, &str) {
+    text.rsplit_once('/').unwrap_or(("", text))
+}
+
+/// Whether the boxes of a case answer as they should where the stores have what was said.
+fn holds(alloc: Global, templates: &Templates, case: &str) -> Result<bool, AllocError> {
+    let (question, rest) = cut(case);
+    let (text, want) = cut(rest);
+    let (outer, inner) = boxes(text);
+    let stores = stores_of(alloc, outer, inner)?;
+    let chain = Chain::new(templates, stores.as_slice());
+    Ok(is_said(text) && holds_of(alloc, &chain, question, want)?)
+}
+
+/// The same, where what the innermost one says is told to it: as the stores stand, and where they are made solved before
+/// that and after it.
+fn holds_where_told(alloc: Global, templates: &Templates, case: &str) -> Result<bool, AllocError> {
+    let (question, rest) = cut(case);
+    let (text, want) = cut(rest);
+    let (outer, inner) = boxes(text);
+    let stores = stores_of(alloc, outer, "")?;
+    let chain = Chain::new(templates, stores.as_slice());
+    Ok(
+        holds_told(alloc, &chain, inner, question, want)?
+            && holds_told_to_solved(alloc, templates, stores.as_slice(), inner, question, want)?,
+    )
+}
+
+#[test]
+fn boxes_answer_what_they_were_told_in_each_way(rt: HostRuntime) -> Result<(), Fail> {
+    let templates = four_variables(rt.alloc())?;
+    for case in CHAINS.lines().skip(1) {
+        assert!(rt; holds(rt.alloc(), &templates, case)?, "{case}");
+        assert!(rt;
+            holds_where_told(rt.alloc(), &templates, case)?,
+            "{case}, told"
+        );
+    }
+    Ok(())
+}
