@@ -1,5 +1,5 @@
 -- What is listed of what a chain answers.
-use Rattle.std.proofs.Common.{◌≡◌, ◌-◌, List, [], length, take, drop, inl, inr}
+use Rattle.std.proofs.Common.{◌-◌, List, [], length, take, drop, inl, inr}
 use Rattle.akl_terms.specs.declared.name.Var.{Var}
 use Rattle.akl_terms.specs.declared.term.Node.{Node}
 use Rattle.akl_terms.specs.declared.term.Term.{Term}
@@ -8,8 +8,6 @@ use Rattle.akl_terms.specs.Touching.{Touches}
 use Rattle.local_store.specs.declared.asking.Consistency.{Consistency}
 use Rattle.local_store.specs.Asking.{Decides}
 use Rattle.local_store.specs.Stored.{Stored}
-use Rattle.entail_test.specs.declared.noise.Quietness.{Quietness}
-use Rattle.entail_test.specs.declared.noise.Quietness.TheVariants.{Quiet, Noisy, Inconsistent}
 use Rattle.entail_test.specs.Asked.{frames_from, environment_at, whole_at, IsQuietAt, IsClashAt, AreTouchedAt}
 use Rattle.class_members.specs.Members.{equations_of, AreMembers}
 use Rattle.idle_plan.specs.Told.{ListsTold}

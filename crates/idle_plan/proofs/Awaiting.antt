@@ -1,5 +1,5 @@
 -- The class on which an atom waits suffices for it.
-use Rattle.std.proofs.Common.{◌≡◌, List, [], ◌∷◌, take, Some, refl, sym, ◌∙◌, ap, subst, inl, inr}
+use Rattle.std.proofs.Common.{◌≡◌, List, [], ◌∷◌, Some, refl, sym, ◌∙◌, subst, inl, inr}
 use Rattle.akl_terms.specs.declared.name.Name.{Name}
 use Rattle.akl_terms.specs.declared.name.Var.{Var}
 use Rattle.akl_terms.specs.declared.name.Place.{Place}
@@ -9,7 +9,7 @@ use Rattle.akl_terms.specs.Tree.{variable}
 use Rattle.akl_terms.specs.Equal.{Equations, IsTold, Equal, turned, joined, IsConsistent, IsStructured}
 use Rattle.akl_terms.specs.Standing.{StandFor}
 use Rattle.akl_terms.proofs.StandingLaws.{StandFor-back, StandFor-on}
-use Rattle.akl_model.specs.Config.{Atom, Held, an_atom, a_choice, held_in, Found, whole, site_of, home_of}
+use Rattle.akl_model.specs.Config.{Atom, an_atom, a_choice, held_in, Found, whole, site_of, home_of}
 use Rattle.akl_model.specs.Stable.{AtomWaitsOn}
 use Rattle.akl_model.specs.Wakes.{Concerns, awaited}
 use Rattle.akl_model.proofs.Options.{some_value}
@@ -27,17 +27,11 @@ use Rattle.guard_plan.proofs.Chains.{told_stands}
 use Rattle.guard_plan.proofs.Sites.{shows_at, whole_stands}
 use Rattle.stable_test.proofs.Reaches.{waits_free, atom_waits_stand}
 use Rattle.idle_plan.specs.Waits.{AreAwaited}
-use Rattle.idle_plan.proofs.Needed.{NeedsAwaited, NeedsAlternative, NeedsOwn, Suffices}
+use Rattle.idle_plan.proofs.Needed.{NeedsOwn, Suffices}
 use Rattle.idle_plan.proofs.Outermost.{alias_by}
 
 -- by what is found on a chain
 module _ (p : Program) (ss : List Stored) (atom : Goal) where
-  pub inconsistent_awaited : (IsConsistent (equations_of p.templates.nodes ss) → ⊥) → AreAwaited p ss atom []
-  inconsistent_awaited n = record { consistent = λ y m. absurd m; each = λ y m. absurd m; every = λ c x z w e. absurd (n c) }
-
-  pub none_awaited : ((x : Var) → AtomWaitsOn p (equations_of p.templates.nodes ss) (goal_atom p.templates.nodes atom) x → ⊥) → AreAwaited p ss atom []
-  none_awaited n = record { consistent = λ y m. absurd m; each = λ y m. absurd m; every = λ c x z w e. absurd (n x w) }
-
   pub members_awaited : (on : Var) (list : List Var) → AtomWaitsOn p (equations_of p.templates.nodes ss) (goal_atom p.templates.nodes atom) on → AreMembers p.templates.nodes ss (on ∷ []) list → AreAwaited p ss atom list
   members_awaited on list w h = record {
     consistent = h.consistent;

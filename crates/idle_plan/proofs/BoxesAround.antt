@@ -1,5 +1,5 @@
 -- What is listed of the boxes around a place suffices for what they make it need.
-use Rattle.std.proofs.Common.{◌≡◌, ℕ, zero, suc, ◌+◌, ◌-◌, ◌≤◌, ◌<◌, List, [], ◌∷◌, ◌++◌, length, take, refl, sym, ◌∙◌, ap, subst, inl, inr, arith}
+use Rattle.std.proofs.Common.{◌≡◌, ℕ, suc, ◌+◌, ◌-◌, ◌≤◌, ◌<◌, List, [], ◌∷◌, length, take, refl, ap, arith}
 use Rattle.akl_terms.specs.declared.name.Var.{Var}
 use Rattle.akl_terms.specs.declared.name.Place.{Place}
 use Rattle.akl_terms.specs.declared.term.Node.{Node}
@@ -9,7 +9,6 @@ use Rattle.akl_model.specs.Config.{Content, Found}
 use Rattle.akl_model.specs.Wakes.{TellsOutside, Concerns, by_box_around}
 use Rattle.constraint_laws.specs.Touched.{IsAmong}
 use Rattle.sleep_laws.specs.Sleeps.{IsAliasAt}
-use Rattle.local_store.specs.Stored.{Stored}
 use Rattle.class_members.specs.Members.{equations_of, outermost_of}
 use Rattle.box_tree.specs.Views.{ViewValue, IsViewOf}
 use Rattle.guard_plan.proofs.Sites.{found}

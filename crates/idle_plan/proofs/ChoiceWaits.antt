@@ -7,7 +7,6 @@ use Rattle.akl_terms.specs.declared.name.Var.{Var}
 use Rattle.akl_terms.specs.declared.name.Place.{Place}
 use Rattle.akl_terms.specs.declared.term.Node.{Node}
 use Rattle.akl_terms.specs.declared.program.Op.{Op}
-use Rattle.akl_terms.specs.declared.program.Program.{Program}
 use Rattle.akl_terms.specs.Names.{same_name}
 use Rattle.akl_terms.specs.Tree.{variable}
 use Rattle.akl_terms.specs.Equal.{Equations, IsTold, Equal, IsConsistent}
@@ -42,7 +41,7 @@ use Rattle.guard_plan.proofs.Sites.{shows_at, whole_stands}
 use Rattle.idle_plan.specs.Told.{ListsTold, IsOne}
 use Rattle.idle_plan.specs.Waits.{AreToldBy}
 use Rattle.idle_plan.proofs.Listed.{AreStoresOf, around_consistent, touched_unstructured, listed_touches, touched_listed}
-use Rattle.idle_plan.proofs.Needed.{NeedsAwaited, NeedsAlternative, NeedsOwn, Suffices}
+use Rattle.idle_plan.proofs.Needed.{NeedsOwn, Suffices}
 use Rattle.idle_plan.proofs.Outermost.{alias_by}
 use Rattle.idle_plan.proofs.Outward.{outward}
 use Rattle.idle_plan.proofs.Paths.{good}

@@ -1,6 +1,5 @@
 -- What a box and the boxes inside it touch suffices for the box.
-use Rattle.std.proofs.Common.{◌≡◌, ℕ, zero, suc, ◌+◌, ◌≤◌, ◌<◌, List, [], ◌∷◌, ◌++◌, length, take, Some, refl, sym, ◌∙◌, ap, subst, ◌⊎◌, inl, inr, arith, append_assoc, append-nil}
-use Rattle.std.specs.List.{AllByRecursion}
+use Rattle.std.proofs.Common.{◌≡◌, ℕ, zero, suc, ◌≤◌, List, [], ◌∷◌, ◌++◌, length, take, Some, refl, sym, ◌∙◌, ap, subst, inl, inr, arith}
 use Rattle.akl_terms.specs.declared.name.Name.{Name}
 use Rattle.akl_terms.specs.declared.name.Var.{Var}
 use Rattle.akl_terms.specs.declared.name.Place.{Place}
@@ -9,17 +8,13 @@ use Rattle.akl_terms.specs.declared.program.Program.{Program}
 use Rattle.akl_terms.specs.Tree.{Tree, variable}
 use Rattle.akl_terms.specs.Equal.{Equations, IsTold, Equal, turned, joined, IsConsistent, IsStructured}
 use Rattle.akl_terms.specs.Standing.{StandFor}
-use Rattle.akl_terms.specs.Touching.{IsOutside, IsUnbound, Touches}
+use Rattle.akl_terms.specs.Touching.{IsOutside}
 use Rattle.akl_terms.proofs.EqualLaws.{IsTold-left, Equal-follows, IsConsistent-follows}
 use Rattle.akl_terms.proofs.StandingLaws.{StandFor-back, StandFor-on}
-use Rattle.akl_model.specs.Config.{IsIn, Content, Boxes, no_boxes, box, Goals, no_goals, atom, choice, an_atom, Config, Found, equations_of, environment, whole, box_at, site_of}
-use Rattle.akl_model.specs.declared.label.Label.{Label}
-use Rattle.akl_model.specs.Derivations.{Derives}
-use Rattle.akl_model.specs.Instances.{start}
-use Rattle.akl_model.specs.Stable.{EachBox, EachInside, only, frames_of, IsAwaited, TouchesFrom, by_equations, by_waiting}
-use Rattle.akl_model.specs.Wakes.{SomeBox, SomeInside, names_around, Concerns, by_box}
+use Rattle.akl_model.specs.Config.{Content, Config, Found, equations_of, environment, whole, box_at, site_of}
+use Rattle.akl_model.specs.Stable.{only, frames_of, TouchesFrom, by_equations, by_waiting}
+use Rattle.akl_model.specs.Wakes.{names_around, Concerns, by_box}
 use Rattle.akl_model.proofs.Options.{some_value}
-use Rattle.akl_model.proofs.Results.{Derives-one}
 use Rattle.akl_model.proofs.ScopesKept.{around_outside}
 use Rattle.constraint_laws.specs.Growth.{IsOver, TellsOver}
 use Rattle.constraint_laws.specs.Standing.{StandsForConsistent}
@@ -31,24 +26,17 @@ use Rattle.constraint_laws.proofs.NoEquations.{nothing_told}
 use Rattle.constraint_laws.proofs.Stands.{structured_stands, variable_stands}
 use Rattle.constraint_laws.proofs.TouchedLists.{touches_class}
 use Rattle.sleep_laws.specs.Sleeps.{IsAliasAt}
-use Rattle.step_laws.specs.Whereabouts.{InGoals, BoxIn}
-use Rattle.step_laws.proofs.Deeper.{home_found}
 use Rattle.table_laws.proofs.Frame.{equations_join}
-use Rattle.local_store.specs.Stored.{Stored, nothing}
+use Rattle.local_store.specs.Stored.{Stored}
 use Rattle.class_members.specs.Members as members
-use Rattle.box_tree.specs.declared.inside.Inside.{Inside}
-use Rattle.box_tree.specs.Tables.{TableValue, all_rules, table_of}
+use Rattle.box_tree.specs.Tables.{all_rules, table_of}
 use Rattle.box_tree.specs.Views.{ViewValue, IsViewOf}
-use Rattle.box_tree.specs.Insides.{IsPlaceInside, IsViewInside, IsInsideOf, HasView}
 use Rattle.table_laws.specs.Rows.{stores_along}
 use Rattle.guard_plan.proofs.Chains.{told_stands}
-use Rattle.guard_plan.proofs.Sites.{stand, found, environment_stands, stores_split}
-use Rattle.stable_test.specs.Frames.{with_all_frames}
-use Rattle.stable_test.specs.Inner.{IsTouchedInside, AreTouchedInside}
-use Rattle.stable_test.specs.Seen.{IsSeenInside}
-use Rattle.stable_test.proofs.EachInside.{IsDown, IsBelow, below}
+use Rattle.guard_plan.proofs.Sites.{stand, environment_stands, stores_split}
+use Rattle.stable_test.specs.Inner.{IsTouchedInside}
+use Rattle.stable_test.proofs.EachInside.{IsDown, below}
 use Rattle.stable_test.proofs.SomeInside.{down_some, some_down}
-use Rattle.stable_test.proofs.PathStores.{is_inside, box_down, goal_down, goal_inside_down}
 use Rattle.idle_plan.specs.Waits.{AreReachedInside}
 use Rattle.idle_plan.proofs.Needed.{NeedsInside, NeedsOwn, Suffices}
 use Rattle.idle_plan.proofs.Outermost.{alias_by, same_alias}

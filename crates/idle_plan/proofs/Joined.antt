@@ -7,7 +7,7 @@ use Rattle.akl_terms.specs.declared.name.Place.{Place}
 use Rattle.akl_terms.specs.declared.program.Op.{Op}
 use Rattle.akl_terms.specs.declared.program.Program.{Program}
 use Rattle.akl_model.specs.declared.item.Item.{Item}
-use Rattle.akl_model.specs.Config.{Content, Held, an_atom, a_choice, held_in, Found}
+use Rattle.akl_model.specs.Config.{Content, Held, an_atom, a_choice, held_in}
 use Rattle.akl_model.specs.Wakes.{names_around}
 use Rattle.box_tree.specs.declared.inside.Inside.{Inside}
 use Rattle.box_tree.specs.declared.view.Sight.{Sight}

@@ -1,13 +1,12 @@
 -- A variable that is equal to another one by the outermost store is an alias of it.
-use Rattle.std.proofs.Common.{◌≡◌, ℕ, ◌≤◌, ◌<◌, List, [], ◌∷◌, ◌++◌, length, take, map, refl, sym, ◌∙◌, ap, subst, arith}
-use Rattle.akl_terms.specs.declared.name.Name.{Name}
+use Rattle.std.proofs.Common.{◌≡◌, List, [], ◌∷◌, length, take, map, refl, ◌∙◌, ap, subst, arith}
 use Rattle.akl_terms.specs.declared.name.Var.{Var}
 use Rattle.akl_terms.specs.declared.term.Node.{Node}
 use Rattle.akl_terms.specs.Tree.{variable}
 use Rattle.akl_terms.specs.Equal.{Equal, same, IsConsistent, IsStructured}
 use Rattle.akl_terms.proofs.EqualLaws.{Equal-follows}
 use Rattle.akl_model.specs.Config.{IsIn, Content, Found, whole}
-use Rattle.akl_model.specs.Wakes.{names_down_to, IsAt}
+use Rattle.akl_model.specs.Wakes.{IsAt}
 use Rattle.constraint_laws.proofs.Stands.{variable_stands}
 use Rattle.step_laws.proofs.Deeper.{names_snoc, in_path}
 use Rattle.sleep_laws.specs.Sleeps.{IsAliasAt}
@@ -20,7 +19,7 @@ use Rattle.idle_plan.proofs.Listed.{AreStoresOf}
 use Rattle.idle_plan.proofs.Paths.{IsDeep, box_deep, good, stores_of}
 use Rattle.idle_plan.proofs.Wholes.{before_follows, before_consistent}
 
-no_more : (bs : List Content) → length bs ≡ 0 → bs ≡ []
+pub no_more : (bs : List Content) → length bs ≡ 0 → bs ≡ []
 no_more [] e = refl
 no_more (b ∷ bs) e = absurd (omega (arith, e))
 

@@ -1,8 +1,8 @@
 -- A box touches nothing of the boxes inside it, and a root box touches nothing.
-use Rattle.std.proofs.Common.{◌≡◌, ◌<◌, List, [], ◌∷◌, ◌++◌, Some, sym, subst, ◌⊎◌, inl, inr, arith}
+use Rattle.std.proofs.Common.{◌≡◌, ◌<◌, List, [], ◌++◌, Some, subst, inl, inr, arith}
 use Rattle.akl_terms.specs.declared.name.Name.{Name}
 use Rattle.akl_terms.specs.declared.name.Var.{Var}
-use Rattle.akl_terms.specs.Touching.{IsLocal, IsOutside, IsTied, Touches}
+use Rattle.akl_terms.specs.Touching.{IsOutside, IsTied, Touches}
 use Rattle.akl_model.specs.Config.{IsIn, Content, Config, Found, environment, whole, box_at}
 use Rattle.akl_model.specs.Scopes.{nowhere}
 use Rattle.akl_model.specs.Stable.{only, frames_of, frames_inside}

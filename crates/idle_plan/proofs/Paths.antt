@@ -1,10 +1,10 @@
 -- The boxes around a place by their depth, and the stores down to each.
-use Rattle.std.proofs.Common.{◌≡◌, ℕ, zero, suc, ◌+◌, ◌-◌, ◌≤◌, ◌<◌, List, [], ◌∷◌, ◌++◌, length, take, drop, map, Option, Some, None, refl, sym, ◌∙◌, ap, subst, ◌⊎◌, inl, inr, arith, append_assoc, append-nil, length-append}
-use Rattle.std.specs.Prelude.{option_map, IsSomeAnd}
+use Rattle.std.proofs.Common.{◌≡◌, ℕ, zero, suc, ◌+◌, ◌-◌, ◌≤◌, ◌<◌, List, [], ◌∷◌, ◌++◌, length, take, map, Option, Some, refl, sym, ◌∙◌, ap, subst, ◌⊎◌, inl, inr, arith, append_assoc, append-nil, length-append}
+use Rattle.std.specs.Prelude.{option_map}
 use Rattle.akl_terms.specs.declared.name.Name.{Name}
 use Rattle.akl_terms.specs.declared.name.Place.{Place}
 use Rattle.akl_terms.specs.declared.term.Node.{Node}
-use Rattle.akl_terms.specs.Equal.{Equations, IsTold}
+use Rattle.akl_terms.specs.Equal.{IsTold}
 use Rattle.akl_terms.specs.Standing.{StandFor}
 use Rattle.akl_terms.proofs.StandingLaws.{StandFor-on}
 use Rattle.akl_model.specs.Config.{IsIn, Content, Goals, Config, Found, environment, whole, box_at, site_of, home_of}
@@ -18,7 +18,7 @@ use Rattle.sleep_laws.proofs.InScope.{Good}
 use Rattle.sleep_laws.proofs.Replayed.{good_replay}
 use Rattle.sleep_laws.proofs.DownTo.{stands_down, stands_around, path_to, begins_path}
 use Rattle.local_store.specs.Stored.{Stored}
-use Rattle.entail_test.specs.Asked.{frames_from, environment_at}
+use Rattle.entail_test.specs.Asked.{frames_from}
 use Rattle.table_laws.specs.Rows.{BoxRow, Table, store_in, stores_along, told_in}
 use Rattle.table_laws.specs.Unfolds.{IsBoxRow}
 use Rattle.table_laws.proofs.Stores.{stores_join}
@@ -26,7 +26,7 @@ use Rattle.table_laws.proofs.Frame.{row_of, names_join, around_stands}
 use Rattle.box_tree.specs.Tables.{all_rules, table_of}
 use Rattle.box_tree.specs.Views.{ViewValue, IsViewOf}
 use Rattle.guard_plan.proofs.Chains.{told_stands, take_push, drop_push}
-use Rattle.guard_plan.proofs.Sites.{stand, found, stores_path}
+use Rattle.guard_plan.proofs.Sites.{stand, stores_path}
 use Rattle.class_members.specs.Members.{equations_of}
 use Rattle.idle_plan.proofs.Listed.{AreStoresOf}
 use Rattle.idle_plan.proofs.Outward.{outward}

@@ -1,18 +1,16 @@
 -- What an idle place reads is what such a place watches, by sets of goals, and all of it is there.
 use Rattle.std.proofs.Common.{◌≡◌, List, [], ◌∷◌, ◌++◌, map, Option, Some, None, refl, sym, ◌∙◌, ap, subst, ◌⊎◌, inl, inr}
-use Rattle.std.specs.Prelude.{is_some, IsSome}
+use Rattle.std.specs.Prelude.{IsSome}
 use Rattle.akl_terms.specs.declared.name.Name.{Name}
 use Rattle.akl_terms.specs.declared.name.Place.{Place}
-use Rattle.akl_terms.specs.declared.program.Op.{Op}
 use Rattle.akl_model.specs.declared.item.Item.{Item}
-use Rattle.akl_model.specs.Config.{IsIn, Content, Boxes, no_boxes, box, Goals, no_goals, atom, choice, Held, an_atom, a_choice, held_in, Found, box_at}
+use Rattle.akl_model.specs.Config.{IsIn, Boxes, no_boxes, box, Goals, no_goals, atom, choice, Held, an_atom, a_choice, held_in, box_at}
 use Rattle.akl_model.specs.Stable.{only}
-use Rattle.akl_model.specs.Wakes.{names_around, names_down_to}
+use Rattle.akl_model.specs.Wakes.{names_around}
 use Rattle.akl_model.proofs.Scoped.{IsIn-left}
 use Rattle.step_laws.specs.Inside.{EachItem, EachItemAmong}
 use Rattle.plan_laws.specs.Idle.{EachGoals, OfAlternatives, Watches}
 use Rattle.plan_laws.specs.ByGoals.{by_goals}
-use Rattle.local_store.specs.Stored.{Stored}
 use Rattle.table_laws.specs.Rows.{BoxRow, Table}
 use Rattle.table_laws.specs.Stamped.{store_stamp, goals_stamp, stamp_in}
 use Rattle.box_tree.specs.declared.inside.InnerGoal.{InnerGoal}
@@ -23,7 +21,7 @@ use Rattle.box_tree.specs.Tables.{table_of}
 use Rattle.box_tree.specs.Views.{ViewValue, IsViewOf, AreSeen, alternatives_held, alternatives_at}
 use Rattle.box_tree.specs.Insides.{IsInsideOf}
 use Rattle.box_tree.specs.Plans.{IsRead}
-use Rattle.guard_plan.proofs.Placed.{IsPlaced, ArePlaced, all_placed}
+use Rattle.guard_plan.proofs.Placed.{ArePlaced, all_placed}
 use Rattle.guard_plan.proofs.Sites.{goal_there, store_there, box_there, stand, found}
 use Rattle.split_plan.specs.Read.{goal_items, items_in}
 use Rattle.split_plan.proofs.CandidateRows.{itself}

@@ -1,25 +1,24 @@
 -- Nothing in a root box, or inside it, touches a variable from outside: there is none in scope.
-use Rattle.std.proofs.Common.{◌≡◌, ℕ, List, [], ◌∷◌, ◌++◌, length, map, take, Some, refl, sym, ◌∙◌, ap, subst, ◌⊎◌, inl, inr, arith}
+use Rattle.std.proofs.Common.{◌≡◌, ℕ, List, [], ◌∷◌, ◌++◌, map, Some, refl, sym, ◌∙◌, ap, subst, ◌⊎◌, inl, inr}
 use Rattle.akl_terms.specs.declared.name.Name.{Name}
 use Rattle.akl_terms.specs.declared.name.Var.{Var}
 use Rattle.akl_terms.specs.declared.program.Program.{Program}
 use Rattle.akl_terms.specs.declared.program.Test.{Test}
 use Rattle.akl_terms.specs.Tree.{Tree, Trees, variable, integer, port, symbol, none, more}
-use Rattle.akl_terms.specs.Equal.{Equations, Equal, IsConsistent}
+use Rattle.akl_terms.specs.Equal.{Equations, IsConsistent}
 use Rattle.akl_terms.specs.Touching.{IsLocal}
 use Rattle.akl_terms.specs.Arithmetic.{WaitsOn, here, in_left, in_right, GoalWaitsOn, right_of_is, left_side, right_side}
 use Rattle.akl_model.specs.Config.{IsIn, Atom, Content, Goals, Config, Found, environment, whole, box_at}
 use Rattle.akl_model.specs.Scopes.{Scope, nowhere, scope_in, IsScoped, AreScoped, AtomScoped}
-use Rattle.akl_model.specs.Stable.{only, frames_of, AtomWaitsOn, IsAwaited, TouchesFrom, by_equations, by_waiting}
-use Rattle.akl_model.specs.Wakes.{names_around, names_down_to}
+use Rattle.akl_model.specs.Stable.{only, frames_of, AtomWaitsOn, TouchesFrom, by_equations, by_waiting}
 use Rattle.akl_model.proofs.NamesKept.{box-itself}
-use Rattle.akl_model.proofs.Scoped.{IsIn-left, IsIn-right, IsIn-either}
+use Rattle.akl_model.proofs.Scoped.{IsIn-either}
 use Rattle.akl_model.proofs.ScopesAlong.{scope_along, in_local}
 use Rattle.constraint_laws.specs.Growth.{IsOver, AreOver, TellsOver}
 use Rattle.constraint_laws.proofs.Decided.{kept_by}
 use Rattle.constraint_laws.proofs.Grown.{over_kept}
 use Rattle.step_laws.proofs.Whereabouts.{found_in}
-use Rattle.step_laws.proofs.Deeper.{in_path, chain_at}
+use Rattle.step_laws.proofs.Deeper.{chain_at}
 use Rattle.sleep_laws.proofs.InScope.{Good, InScope, around, whole_over, atom_in_scope, touched_scoped}
 use Rattle.sleep_laws.proofs.Replayed.{good_replay}
 use Rattle.local_store.specs.Stored.{Stored}
@@ -30,6 +29,7 @@ use Rattle.stable_test.specs.Seen.{IsSeenInside}
 use Rattle.stable_test.proofs.EachInside.{IsDown, IsBelow, below, down_frame}
 use Rattle.stable_test.proofs.SomeInside.{some_down}
 use Rattle.idle_plan.specs.Waits.{AreReachedInside}
+use Rattle.idle_plan.proofs.Outermost.{no_more}
 
 -- what is waited on stands in the goal or in the equations
 module _ (P : Var → Type 0) (E : Equations) (over : TellsOver P E) where
@@ -126,10 +126,6 @@ module _ (c : Config) (w : Good c) (n : Name) (f : Found) (e : box_at n c.roots 
       let u : (d : Found) × IsDown c w.stand n f e d × (IsConsistent (whole d) × TouchesFrom p (frames_of (only f)) (environment f) d x) =
       some_down c w.stand n f e (λ (d : Found). IsConsistent (whole d) × TouchesFrom p (frames_of (only f)) (environment f) d x) t in
       untouched u.0 u.1 p x u.2.1
-
-no_more : (bs : List Content) → length bs ≡ 0 → bs ≡ []
-no_more [] e = refl
-no_more (b ∷ bs) e = absurd (omega (arith, e))
 
 -- so nothing is to be listed of it
 pub root_reached : (p : Program) (depth : ℕ) (i : Inside) (s : IsSeenInside p depth i) (ss : List Stored) → depth ≡ 0 → AreReachedInside p s.site depth ss []

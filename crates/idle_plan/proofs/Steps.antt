@@ -1,5 +1,5 @@
 -- The steps by which lists are gathered: box by box, alternative by alternative, view by view.
-use Rattle.std.proofs.Common.{◌≡◌, ℕ, zero, suc, ◌+◌, ◌-◌, ◌≤◌, ◌<◌, List, [], ◌∷◌, ◌++◌, length, take, true, false, refl, sym, ◌∙◌, ap, subst, ◌⊎◌, inl, inr, slice_index_or, arith}
+use Rattle.std.proofs.Common.{◌≡◌, ℕ, zero, suc, ◌+◌, ◌-◌, ◌≤◌, ◌<◌, List, [], ◌∷◌, ◌++◌, length, take, true, refl, sym, ◌∙◌, ap, subst, ◌⊎◌, inl, inr, slice_index_or, arith}
 use Rattle.std.proofs.lemmas.List.{length-take-le}
 use Rattle.akl_terms.specs.declared.name.Var.{Var}
 use Rattle.akl_terms.specs.declared.term.Node.{Node}
@@ -13,7 +13,7 @@ use Rattle.box_tree.specs.Views.{ViewValue, IsViewOf}
 use Rattle.guard_plan.specs.Guards.{IsTestable}
 use Rattle.guard_plan.proofs.Chains.{take_push, around_push}
 use Rattle.guard_plan.proofs.Sites.{found}
-use Rattle.idle_plan.specs.Told.{ListsTold, AreGathered, IsOne}
+use Rattle.idle_plan.specs.Told.{ListsTold, IsOne}
 use Rattle.idle_plan.specs.Waits.{AddsTold, AreToldAround, AreToldBy}
 use Rattle.idle_plan.proofs.Gathering.{still_one, also_one, one_or_last, gathered_none, gathered_more, gathered_past}
 use Rattle.idle_plan.proofs.Listed.{keeps_apart_at}
@@ -44,17 +44,7 @@ module _ (nodes : List Node) (ss : List Stored) where
   abbrev Before : ℕ → ℕ → Type 0
   Before count d = (1 ≤ d) × (d < count)
 
-  abbrev Asked : ℕ → Type 0
-  Asked d = IsConsistent (equations_of nodes (take (d + 1) ss))
-
-  abbrev Lists : ℕ → List Var → Type 0
-  Lists d = ListsTold nodes (take (d + 1) ss)
-
   -- box by box
-
-  pub around_few : (count : ℕ) → count ≤ 1 → AreToldAround nodes ss count []
-  around_few count l = gathered_none ℕ (λ (d : ℕ). IsConsistent (equations_of nodes (take (d + 1) ss))) (λ (d : ℕ). ListsTold nodes (take (d + 1) ss)) (Before count)
-      (λ d h a. let x : 1 ≤ d = h.0 in let y : d < count = h.1 in omega arith)
 
   pub around_clash : (count : ℕ) → (IsConsistent (equations_of nodes (take 1 ss)) → ⊥) → AreToldAround nodes ss count []
   around_clash count n = gathered_none ℕ (λ (d : ℕ). IsConsistent (equations_of nodes (take (d + 1) ss))) (λ (d : ℕ). ListsTold nodes (take (d + 1) ss)) (Before count)
@@ -71,17 +61,8 @@ module _ (nodes : List Node) (ss : List Stored) where
 
   -- alternative by alternative
 
-  abbrev AskedOf : Alternative → Type 0
-  AskedOf a = IsConsistent (equations_of nodes (ss ++ a.store ∷ []))
-
-  abbrev ListsOf : Alternative → List Var → Type 0
-  ListsOf a = ListsTold nodes (ss ++ a.store ∷ [])
-
   abbrev SolvedIn : List Alternative → Alternative → Type 0
   SolvedIn seen a = IsOne Alternative a seen × (a.solved ≡ true)
-
-  pub by_none : AreToldBy nodes ss [] []
-  by_none = gathered_none Alternative (λ (a : Alternative). IsConsistent (equations_of nodes (ss ++ a.store ∷ []))) (λ (a : Alternative). ListsTold nodes (ss ++ a.store ∷ [])) (SolvedIn []) (λ a h c. h.0)
 
   pub by_clash : (seen : List Alternative) → (IsConsistent (equations_of nodes ss) → ⊥) → AreToldBy nodes ss seen []
   by_clash seen n = gathered_none Alternative (λ (a : Alternative). IsConsistent (equations_of nodes (ss ++ a.store ∷ []))) (λ (a : Alternative). ListsTold nodes (ss ++ a.store ∷ [])) (SolvedIn seen)

@@ -1,12 +1,10 @@
 -- Where no rule applies at a place it isn't ready: what a caller has of planners that answer nothing.
-use Rattle.std.proofs.Common.{◌≡◌, Some, refl, sym, ◌∙◌, subst, ◌⊎◌, inl, inr}
+use Rattle.std.proofs.Common.{◌≡◌, refl, ◌∙◌, subst, ◌⊎◌, inl, inr}
 use Rattle.akl_terms.specs.declared.name.Name.{Name}
 use Rattle.akl_terms.specs.declared.name.Place.{Place}
 use Rattle.akl_model.specs.declared.label.Rule.{Rule}
 use Rattle.akl_model.specs.Stable.{Allows}
-use Rattle.akl_model.specs.Derivations.{IsReady}
-use Rattle.box_tree.specs.Tables.{all_rules}
-use Rattle.box_tree.specs.Views.{ViewValue, IsViewOf}
+use Rattle.box_tree.specs.Views.{ViewValue}
 use Rattle.guard_plan.specs.Planned.{HasNoRule}
 use Rattle.split_plan.specs.Split.{HasNoSplit}
 use Rattle.idle_plan.specs.Idling.{IsUnready}

@@ -15,7 +15,7 @@ use akl_terms::{Name, Op, Program, Var};
 use box_tree::{Inside, Sight, View};
 use std::alloc::{AllocError, Global};
 
-/// What a goal that isn't ready waits on, by a view of it.
+/// What a goal that isn't ready waits on, by a view of it. An `Err` is want of memory.
 ///
 /// This costs a solution of the stores down to it, and to each of its solved alternatives, as far as they aren't known
 /// to be solved.
@@ -39,7 +39,8 @@ pub fn idle_goal(
     Ok(Idle::new(view, reads, on))
 }
 
-/// What a box that isn't ready, by Split neither, waits on, by a view of it and all that stands inside it.
+/// What a box that isn't ready, by Split neither, waits on, by a view of it and all that stands inside it. An `Err` is
+/// want of memory.
 ///
 /// This costs a solution of the stores down to each box inside it, and to each goal there that waits, as far as they
 /// aren't known to be solved.

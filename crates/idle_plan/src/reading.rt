@@ -1,6 +1,6 @@
 //! What an idle place reads: goals, and sets of goals.
 
-ghost use Rattle.std.specs.Prelude.{◌≡◌, ◌++◌, ◌∷◌, [], map, IfOk, OnOk};
+ghost use Rattle.std.specs.Prelude.{◌≡◌, ◌++◌, ◌∷◌, map, IfOk, OnOk};
 ghost use Rattle.akl_model.specs.declared.item.Item.{Item};
 ghost use Rattle.box_tree.specs.declared.view.Alternative.{Alternative};
 ghost use Rattle.split_plan.specs.Read.{goal_items};

@@ -1,6 +1,6 @@
 //! What the innermost store of a chain tells the variables from outside of it.
 
-ghost use Rattle.std.specs.Prelude.{◌≡◌, ◌-◌, length, IfOk, MatchOption};
+ghost use Rattle.std.specs.Prelude.{◌-◌, length, IfOk, MatchOption};
 ghost use Rattle.akl_terms.specs.Equal.{IsConsistent};
 ghost use Rattle.entail_test.specs.Asked.{KeepsApartAt};
 ghost use Rattle.class_members.specs.Members.{equations_of};

@@ -1,4 +1,4 @@
-use Rattle.std.proofs.Common.{◌≡◌, ◌+◌, ◌≤◌, ◌<◌, ℕ, subst, take, arith}
+use Rattle.std.proofs.Common.{◌≡◌, ◌+◌, ℕ, subst, take, arith}
 use Rattle.idle_plan.specs.Told.{ListsTold}
 use Rattle.idle_plan.specs.Waits.{AreToldAround}
 use Rattle.idle_plan.proofs.Steps.{around_stop, around_more, keeps_around}
