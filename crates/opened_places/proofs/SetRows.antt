@@ -1,0 +1,49 @@
+-- Rows that are set under a name.
+use Rattle.std.proofs.Common.{◌≡◌, Bool, true, false, Option, Some, None, refl, sym, ◌∙◌, ap, ◌⊎◌, inl, inr}
+use Rattle.std.specs.Prelude.{option_map, if◌then◌else◌}
+use Rattle.akl_terms.specs.declared.name.Name.{Name}
+use Rattle.akl_terms.specs.Names.{same_name}
+use Rattle.akl_terms.proofs.SameNames.{same_name-refl, same_name-equal}
+use Rattle.akl_model.proofs.Options.{some_value, map_some}
+use Rattle.table_laws.specs.Rows.{BoxRow}
+use Rattle.table_laws.specs.Writes.{set, changed_box}
+
+pub some_none : {A : Type 0} {o : Option A} {v : A} → o ≡ None → o ≡ Some v → ⊥
+some_none e i = cc
+
+pub set_itself : {A : Type 0} (n : Name) (r : Option A) (at : Name → Option A) → set n r at n ≡ r
+set_itself n r at = ap (λ (b : Bool). if b then r else at n) (same_name-refl n)
+
+pub set_or : {A : Type 0} (n : Name) (r : Option A) (at : Name → Option A) (m : Name) → ((m ≡ n) × (set n r at m ≡ r)) ⊎ (set n r at m ≡ at m)
+set_or n r at m = on (same_name m n) refl
+  where
+    on : (b : Bool) → same_name m n ≡ b → ((m ≡ n) × ((if b then r else at m) ≡ r)) ⊎ ((if b then r else at m) ≡ at m)
+    on true e = inl (same_name-equal m n e, refl)
+    on false e = inr refl
+
+-- under a name that has nothing, nothing comes
+
+pub emptied_none : {A : Type 0} (n : Name) (at : Name → Option A) (m : Name) → at m ≡ None → set n None at m ≡ None
+emptied_none n at m e = elim (set_or n None at m) [ inl w ↦ w.1 | inr w ↦ w ∙ e ]
+
+pub replaced_none : {A : Type 0} (n : Name) (change : A → A) (at : Name → Option A) (m : Name) → at m ≡ None → set n (option_map change (at n)) at m ≡ None
+replaced_none n change at m e = elim (set_or n (option_map change (at n)) at m) [
+  | inl w ↦ w.1 ∙ ap (option_map change) (ap at (sym w.0) ∙ e)
+  | inr w ↦ w ∙ e
+]
+
+pub changed_none : (o : Option Name) (change : BoxRow → BoxRow) (at : Name → Option BoxRow) (m : Name) → at m ≡ None → changed_box o change at m ≡ None
+changed_none None change at m e = e
+changed_none (Some n) change at m e = replaced_none n change at m e
+
+-- a box has the goals that it had, where the change keeps these
+pub kept_goals : (o : Option Name) (change : BoxRow → BoxRow) (at : Name → Option BoxRow) (m : Name) (w v : BoxRow) → ((r : BoxRow) → (change r).goals ≡ r.goals) → at m ≡ Some w
+    → changed_box o change at m ≡ Some v → v.goals ≡ w.goals
+kept_goals None change at m w v keeps i j = ap (λ (r : BoxRow). r.goals) (some_value (sym j ∙ i))
+kept_goals (Some n) change at m w v keeps i j = elim (set_or n (option_map change (at n)) at m) [
+  | inl y ↦
+      let z : (u : BoxRow) × (at n ≡ Some u) × (change u ≡ v) = map_some change (at n) v (sym y.1 ∙ j) in
+      let q : z.0 ≡ w = some_value (sym z.1 ∙ ap at (sym y.0) ∙ i) in
+      ap (λ (r : BoxRow). r.goals) (sym z.2) ∙ keeps z.0 ∙ ap (λ (r : BoxRow). r.goals) q
+  | inr y ↦ ap (λ (r : BoxRow). r.goals) (some_value (sym j ∙ y ∙ i))
+]

@@ -1,0 +1,44 @@
+-- What is listed is what changes.
+use Rattle.std.specs.Prelude.{◌≡◌, List, Option, Some, option_map, slice_index}
+use Rattle.akl_terms.specs.declared.name.Name.{Name}
+use Rattle.akl_terms.specs.declared.name.Place.{Place}
+use Rattle.akl_model.specs.declared.label.Label.{Label}
+use Rattle.akl_model.specs.Config.{Config}
+use Rattle.akl_model.specs.Derivations.{Applies}
+use Rattle.akl_model.specs.Wakes.{IsOneOf}
+use Rattle.table_laws.specs.Rows.{Table}
+use Rattle.table_laws.specs.Stamped.{IsTableOf}
+use Rattle.table_laws.specs.Steps.{Makes}
+use Rattle.table_laws.specs.Writes.{home_in, holder_in_row}
+use Rattle.box_tree.specs.declared.step.Step.{Step}
+use Rattle.box_tree.specs.Tables.{all_rules, TableValue, table_of, step_of}
+use Rattle.box_tree.specs.Views.{run_of}
+use Rattle.opened_places.specs.declared.around.Holder.{Holder}
+use Rattle.opened_places.specs.declared.around.Around.{Around}
+use Rattle.opened_places.specs.Changed.{IsChanged}
+
+-- the box of a place, by a table's rows
+abbrev pub site_in : Table → Place → Option Name
+site_in T (Place.Goal g) = home_in (T.goal_of g)
+site_in T (Place.Box n) = Some n
+
+-- what stands about a label's place, by a table's rows
+pub record IsAround (T : Table) (l : Label) (x : Around) : Type 0 where
+  pub home : site_in T l.place ≡ Some x.home
+  pub holder : option_map (λ (h : Holder). h.goal) x.holder ≡ holder_in_row (T.box_of x.home)
+  pub holder_home : (h : Holder) → x.holder ≡ Some h → home_in (T.goal_of h.goal) ≡ Some h.home
+  pub choice : (n : Name) → l.alternative ≡ Some n → x.choice ≡ holder_in_row (T.box_of n)
+
+-- the places are exactly those that change
+pub record AreExactly (c d : Config) (places : List Place) : Type 0 where
+  pub listed : (place : Place) → IsChanged c d place → IsOneOf place places
+  pub changed : (place : Place) → IsOneOf place places → IsChanged c d place
+
+-- so they are wherever the label applies to the configuration of the table, and makes the step there
+abbrev pub AreChanged : TableValue → Label → Step → List Place → Type 0
+AreChanged v l step places = (journal : List Label) (t : IsTableOf all_rules (run_of v journal) (table_of v)) (d : Config) (a : Applies all_rules v.program t.config l d)
+    → Makes v.program l (slice_index t.config.next l.worker) a.site (step_of v.program.templates.nodes step) → AreExactly t.config d places
+
+-- of each table in which this stands about the label's place
+abbrev pub AreChangedWhere : Label → Step → Around → List Place → Type 0
+AreChangedWhere l step x places = (v : TableValue) → IsAround (table_of v) l x → AreChanged v l step places
