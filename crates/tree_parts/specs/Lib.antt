@@ -1,2 +1,4 @@
 pub mod Firsts
 pub mod Parts
+pub mod Lists
+pub mod Splits

@@ -3,13 +3,14 @@
 ghost use Rattle.std.specs.Prelude.{◌≡◌, ◌<◌, ℕ, List, All, length, map, get_or, [], IfOk};
 ghost use Rattle.tree_parts.specs.Parts.{AreWithin, AreEven, AreNamed, AreKeysBefore, IsRefined, block_key};
 
+use crate::early::split_early;
 use crate::firsts::first_places;
 use std::alloc::{AllocError, Global};
 
 /// The coarsest partition that refines a start and whose blocks agree in the blocks of their rows:
 /// for each node the first one of its block.
 ///
-/// A round takes time in proportion to the rows, and each but the last splits a block.
+/// It takes time in proportion to the rows, but for the square of the logarithm of the nodes.
 pub fn refine(
     alloc: Global,
     rows: &[Vec<usize>],
@@ -21,7 +22,7 @@ pub fn refine(
     requires named { AreNamed start.items }
     ensures { IfOk result (λ v. IsRefined (map (λ v. v.items) rows.now) start.items v.items) }
 {
-    let mut blocks = start;
+    let mut blocks = split_early(alloc, rows, &start)?;
     loop {
         let keys = block_keys(alloc, rows, &blocks)?;
         let next = first_places(alloc, &keys)?;
