@@ -1,5 +1,5 @@
 -- Places by numbers, and groups of places.
-use Rattle.std.proofs.Common.{◌≡◌, ◌≢◌, ℕ, zero, suc, ◌+◌, ◌<◌, List, [], ◌∷◌, ◌++◌, length, map, refl, sym, ◌∙◌, ap, subst, inl, inr, arith}
+use Rattle.std.proofs.Common.{◌≡◌, ◌≢◌, ℕ, ◌+◌, ◌<◌, List, [], ◌∷◌, ◌++◌, length, map, sym, ◌∙◌, ap, subst, inl, inr, arith}
 use Rattle.std.specs.Prelude.{◌⊎◌, get_or}
 use Rattle.std.specs.Global.{Vec}
 use Rattle.std.proofs.Math.ListN.{set}
@@ -51,9 +51,6 @@ places-more numbers ls ms n c is same others a = record {
     there t (inr o) e =
         let z : at_node numbers t ≡ c = ap (at_node numbers) o ∙ is in
         subst (λ (xs : List ℕ). Has xs t) (sym (ap (list_at ms) z ∙ same)) (subst (λ (k : ℕ). Has (list_at ls c ++ n ∷ []) k) (sym o) (has-last (list_at ls c) n))
-
-pub no-places : (numbers : List ℕ) (ls : List (List ℕ)) → ((g : ℕ) → list_at ls g ≡ []) → ArePlaces numbers ls 0
-no-places numbers ls e = record { of = λ g t h. absurd (subst (λ (xs : List ℕ). Has xs t) (e g) h); there = λ t h. absurd (omega (arith, h)) }
 
 pub are-groups : (keys firsts : List ℕ) (groups : List (List ℕ)) → AreFirsts (map (λ (k : ℕ). k ∷ []) keys) firsts → ArePlaces firsts groups (length firsts) → AreGroups keys groups
 are-groups keys firsts groups f p = record {

@@ -1,19 +1,11 @@
 -- The entries of rows, numbered one after another.
-use Rattle.std.proofs.Common.{◌≡◌, ◌≢◌, ℕ, zero, suc, ◌+◌, ◌<◌, List, [], ◌∷◌, ◌++◌, length, Some, refl, sym, ◌∙◌, ap, subst, inl, inr, arith}
-use Rattle.std.specs.Prelude.{◌⊎◌, slice_get, get_or}
+use Rattle.std.proofs.Common.{◌≡◌, ℕ, ◌+◌, ◌<◌, List, [], ◌∷◌, ◌++◌, length, Some, refl, sym, ◌∙◌, ap, subst, inl, inr, arith}
+use Rattle.std.specs.Prelude.{◌⊎◌, slice_get}
 use Rattle.std.proofs.lemmas.Option.{slice_get_within}
 use Rattle.tree_parts.specs.Firsts.{at_node}
 use Rattle.tree_parts.specs.Lists.{IsNumber, AreEntries}
 use Rattle.tree_parts.specs.Parts.{IsEntry}
 use Rattle.tree_parts.proofs.Having.{at-old, at-new, one-longer, less-cases}
-
-pub no-entries : (rows : List (List ℕ)) → AreEntries rows [] [] [] 0 0
-no-entries rows = record {
-  places_size = refl;
-  nexts_size = refl;
-  listed = λ i k p x o. elim o [ inl l ↦ absurd (omega (arith, l)) | inr r ↦ (let l : k < 0 = r.1 in absurd (omega (arith, l))) ];
-  are = λ e h. absurd (omega (arith, h));
-}
 
 one-entry : (rows : List (List ℕ)) (i k p q : ℕ) → IsEntry rows i k p → IsEntry rows i k q → p ≡ q
 one-entry rows i k p q x y =

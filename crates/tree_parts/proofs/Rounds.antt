@@ -4,7 +4,7 @@ use Rattle.std.specs.Prelude.{◌⊎◌, ◌==◌, slice_get, get_or}
 use Rattle.std.proofs.lemmas.Bool.{eqb-true, eqb-false}
 use Rattle.std.proofs.lemmas.Option.{slice_get_within, slice_get-get_or, get_or_from_slice_get}
 use Rattle.tree_parts.specs.Firsts.{at_node, AreFirsts}
-use Rattle.tree_parts.specs.Parts.{IsEntry, AreWithin, AreEven, AreNamed, Differ, by_start, by_entry, IsPartition, IsRefined, block_key, AreKeysBefore}
+use Rattle.tree_parts.specs.Parts.{IsEntry, AreWithin, AreEven, Differ, by_start, by_entry, IsPartition, IsRefined, block_key, AreKeysBefore}
 
 pub either_nat : (a b : ℕ) → (a ≡ b) ⊎ (a ≢ b)
 either_nat a b = test (a == b) refl
@@ -143,7 +143,3 @@ module _ (rows : List (List ℕ)) (start blocks next : List ℕ) (keys : List (L
         let s : block_key blocks i (row i) ≡ block_key blocks j (row j) = same-keys i j h g n in
         same-at (at_node blocks) (row i) (row j) place x y (let m : map (at_node blocks) (row i) ≡ map (at_node blocks) (row j) = cc in m) (row-is i place x a) (row-is j place y b);
   }
-
--- a start is a partition
-pub start-partition : (rows : List (List ℕ)) (start : List ℕ) → length start ≡ length rows → AreNamed start → IsPartition rows start start
-start-partition rows start l n = record { size = l; named = n; finer = λ i j h g e. e; differ = λ i j h g d. by_start d }

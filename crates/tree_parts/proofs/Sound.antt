@@ -1,16 +1,12 @@
 -- Nodes of different names differ, and a partition by start and name joins nothing that differs.
-use Rattle.std.proofs.Common.{◌≡◌, ◌≢◌, ℕ, zero, suc, ◌+◌, ◌<◌, ◌≤◌, List, [], ◌∷◌, ◌++◌, length, Option, Some, None, refl, sym, ◌∙◌, ap, subst, inl, inr, arith}
+use Rattle.std.proofs.Common.{◌≡◌, ◌≢◌, ℕ, ◌<◌, ◌≤◌, List, [], ◌∷◌, length, Some, sym, ◌∙◌, ap, subst, inl, inr, arith}
 use Rattle.std.specs.Prelude.{◌⊎◌, slice_get, get_or}
-use Rattle.std.proofs.Math.ListN.{get_or-append}
-use Rattle.std.proofs.Math.Seq.{get_or-append_seam}
-use Rattle.std.proofs.Common.{length-append}
 use Rattle.std.proofs.lemmas.Option.{slice_get_within, slice_get-get_or}
 use Rattle.tree_parts.specs.Firsts.{at_node, AreFirsts}
-use Rattle.tree_parts.specs.Lists.{Has, list_at, ArePlaces, IsNumber, AreEntries}
-use Rattle.tree_parts.specs.Parts.{IsEntry, AreWithin, AreEven, AreNamed, Differ, by_start, by_entry, IsPartition}
+use Rattle.tree_parts.specs.Lists.{ArePlaces, IsNumber, AreEntries}
+use Rattle.tree_parts.specs.Parts.{IsEntry, AreWithin, AreEven, Differ, by_start, by_entry, IsPartition}
 use Rattle.tree_parts.specs.Splits.{AreListed, ArePairs, IsToldByBlock, AreSplitByBlock}
 use Rattle.tree_parts.proofs.Rounds.{either_nat, differ-turned}
-use Rattle.tree_parts.proofs.Having.{less-cases}
 
 -- nodes of different names differ, and each name lists at least the nodes that have it
 pub record AreSound (rows : List (List ℕ)) (start names : List ℕ) (members : List (List ℕ)) : Type 0 where
@@ -20,14 +16,6 @@ pub record AreSound (rows : List (List ℕ)) (start names : List ℕ) (members :
 
 pub start-sound : (rows : List (List ℕ)) (start : List ℕ) (members : List (List ℕ)) → length start ≡ length rows → ArePlaces start members (length start) → AreSound rows start start members
 start-sound rows start members l p = record { size = l; differ = λ i j h g d. by_start d; listed = p.there }
-
--- the start is below the number of nodes
-pub start-below : (rows : List (List ℕ)) (start : List ℕ) → length start ≡ length rows → AreNamed start → (i : ℕ) → i < length start → at_node start i < length rows
-start-below rows start l n i h = let b : at_node start i ≤ i = n.before i h in omega (arith, l, h, b)
-
--- entries lead to nodes
-pub nexts-below : (rows : List (List ℕ)) (nodes places nexts : List ℕ) (n m : ℕ) → AreWithin rows → AreEntries rows nodes places nexts n m → (e : ℕ) → e < length nexts → at_node nexts e < length rows
-nexts-below rows nodes places nexts n m w a e h = let s : length nexts ≡ length nodes = a.nexts_size in w (at_node nodes e) (at_node places e) (at_node nexts e) (a.are e (omega (arith, h, s)))
 
 module _ (rows : List (List ℕ)) (start nodes places nexts names : List ℕ) (name : ℕ) (within : AreWithin rows) (even : AreEven rows start) (entries : AreEntries rows nodes places nexts (length rows) 0) (size : length names ≡ length rows)
     (differ : (i j : ℕ) → i < length rows → j < length rows → at_node names i ≢ at_node names j → Differ rows start i j) where
@@ -73,22 +61,6 @@ block-sound rows start nodes places nexts names new members more name w e a s b 
   differ = block-differ rows start nodes places nexts names name w e a s.size s.differ new b;
   listed = l;
 }
-
-pub no-pairs : (start names : List ℕ) → ArePairs start names [] 0
-no-pairs start names = record { size = refl; key = λ i h. absurd (omega (arith, h)) }
-
-pub pairs-more : (start names : List ℕ) (keys : List (List ℕ)) (n : ℕ) → ArePairs start names keys n → ArePairs start names (keys ++ (at_node start n ∷ at_node names n ∷ []) ∷ []) (n + 1)
-pairs-more start names keys n a = record {
-  size = length-append keys ((at_node start n ∷ at_node names n ∷ []) ∷ []) ∙ ap (λ (m : ℕ). m + 1) a.size;
-  key = λ i h. key i (less-cases i n h);
-}
-  where
-    last : List ℕ
-    last = at_node start n ∷ at_node names n ∷ []
-
-    key : (i : ℕ) → (i < n) ⊎ (i ≡ n) → get_or (keys ++ last ∷ []) i [] ≡ at_node start i ∷ at_node names i ∷ []
-    key i (inl l) = get_or-append keys (last ∷ []) [] i (let s : length keys ≡ n = a.size in omega (arith, l, s)) ∙ a.key i l
-    key i (inr e) = ap (λ (m : ℕ). get_or (keys ++ last ∷ []) m []) (e ∙ sym a.size) ∙ get_or-append_seam keys last [] [] ∙ ap (λ (m : ℕ). at_node start m ∷ at_node names m ∷ []) (sym e)
 
 -- what has one first place starts alike and has one name
 pub pairs-partition : (rows : List (List ℕ)) (start names firsts : List ℕ) (members keys : List (List ℕ)) → length start ≡ length rows → AreSound rows start names members → ArePairs start names keys (length start) → AreFirsts keys firsts → IsPartition rows start firsts

@@ -1,15 +1,13 @@
 -- How names are split, and that what is split differs.
-use Rattle.std.proofs.Common.{◌≡◌, ◌≢◌, ℕ, zero, suc, ◌+◌, ◌<◌, ◌≤◌, List, [], ◌∷◌, ◌++◌, length, map, Option, Some, None, refl, sym, ◌∙◌, ap, subst, inl, inr, arith}
-use Rattle.std.specs.Prelude.{◌⊎◌, slice_get, get_or}
+use Rattle.std.proofs.Common.{◌≡◌, ◌≢◌, ℕ, zero, suc, ◌<◌, List, [], ◌∷◌, ◌++◌, length, map, refl, sym, ◌∙◌, ap, subst, inl, inr, arith}
+use Rattle.std.specs.Prelude.{◌⊎◌}
 use Rattle.std.specs.Global.{Vec}
 use Rattle.std.proofs.Math.ListN.{set}
 use Rattle.std.proofs.lemmas.List.{length-map, length-set, get_or-map, get_or-set_same, get_or-set_other}
-use Rattle.std.proofs.lemmas.Option.{slice_get_within, slice_get-get_or}
-use Rattle.tree_parts.specs.Firsts.{at_node, AreFirsts}
-use Rattle.tree_parts.specs.Lists.{Has, list_at, ArePlaces, AreGroups, IsNumber, AreEntries}
-use Rattle.tree_parts.specs.Parts.{IsEntry, AreWithin, AreEven, AreNamed, Differ, by_start, by_entry, IsPartition}
-use Rattle.tree_parts.specs.Splits.{IsOneIn, AreSplit, AreRenamed, AreListed, AreHits, ArePairs, IsToldByBlock, AreSplitByBlock}
-use Rattle.tree_parts.proofs.Rounds.{either_nat, differ-turned}
+use Rattle.tree_parts.specs.Firsts.{at_node}
+use Rattle.tree_parts.specs.Lists.{Has, list_at, AreGroups}
+use Rattle.tree_parts.specs.Splits.{IsOneIn, AreSplit, AreRenamed, AreListed}
+use Rattle.tree_parts.proofs.Rounds.{either_nat}
 use Rattle.tree_parts.proofs.Having.{either-has, has-left, has-right, has-either, has-at, has-place, has-map, map-has}
 use Rattle.tree_parts.proofs.Grouping.{items_of}
 
@@ -22,9 +20,6 @@ renamed-split old new nodes name r = record { size = r.size; apart = λ i j h g 
     apart i j h g d (inl u) (inr v) = inr (inl (u, v))
     apart i j h g d (inr u) (inl v) = inr (inr (u, v))
     apart i j h g d (inr u) (inr v) = inl (λ e. d (r.others i u ∙ e ∙ sym (r.others j v)))
-
-pub same-split : (names nodes : List ℕ) → AreSplit names names nodes
-same-split names nodes = record { size = refl; apart = λ i j h g d. inl d }
 
 -- what a name lists: as before, and behind these the nodes that got a name
 pub renamed-listed : (old new nodes : List ℕ) (members more : List (List ℕ)) (name : ℕ) → AreRenamed old new nodes name → AreListed old members
@@ -85,9 +80,6 @@ split-more old now new nodes part p a b = record {
     long : (i : ℕ) → i < length old → i < length now
     long i h = let s : length now ≡ length old = a.size in omega (arith, h, s)
 
-pub none-renamed : (names : List ℕ) (name : ℕ) → AreRenamed names names [] name
-none-renamed names name = record { size = refl; listed = λ i h u. absurd u; others = λ i u. refl }
-
 -- one node more has the name
 pub renamed-more : (old now nodes : List ℕ) (node name : ℕ) → node < length now → AreRenamed old now nodes name → AreRenamed old (set now node name) (nodes ++ node ∷ []) name
 renamed-more old now nodes node name l r = record {
@@ -121,9 +113,3 @@ pushed-kept (l ∷ ls) part (suc g) i h = pushed-kept ls part g i h
 pub pushed-last : (lists : List (Vec ℕ)) (part : Vec ℕ) → list_at (items_of (lists ++ part ∷ [])) (length lists) ≡ part.items
 pushed-last [] part = refl
 pushed-last (l ∷ ls) part = pushed-last ls part
-
-pub pushed-empty : (lists : List (Vec ℕ)) (part : Vec ℕ) → part.items ≡ [] → ((g : ℕ) → list_at (items_of lists) g ≡ []) → (g : ℕ) → list_at (items_of (lists ++ part ∷ [])) g ≡ []
-pushed-empty [] part e h zero = e
-pushed-empty [] part e h (suc g) = refl
-pushed-empty (l ∷ ls) part e h zero = h 0
-pushed-empty (l ∷ ls) part e h (suc g) = pushed-empty ls part e (λ k. h (suc k)) g

@@ -1,14 +1,10 @@
 -- What a block tells apart, place by place.
-use Rattle.std.proofs.Common.{◌≡◌, ◌≢◌, ℕ, zero, suc, ◌+◌, ◌<◌, List, [], ◌∷◌, ◌++◌, length, map, refl, sym, ◌∙◌, ap, subst, inl, inr, arith}
-use Rattle.std.specs.Prelude.{◌⊎◌, get_or}
+use Rattle.std.proofs.Common.{◌≡◌, ℕ, ◌<◌, List, [], ◌∷◌, ◌++◌, length, map, sym, ◌∙◌, ap, subst, inl, inr, arith}
 use Rattle.std.proofs.lemmas.List.{length-map, get_or-map}
 use Rattle.tree_parts.specs.Firsts.{at_node}
 use Rattle.tree_parts.specs.Lists.{Has, list_at, ArePlaces, AreGroups, IsNumber}
-use Rattle.tree_parts.specs.Splits.{IsOneIn, AreSplit, AreListed, AreHits, IsToldByBlock, AreSplitByBlock}
+use Rattle.tree_parts.specs.Splits.{AreSplit, AreListed, AreHits, IsToldByBlock, AreSplitByBlock}
 use Rattle.tree_parts.proofs.Having.{has-left, has-right, has-either, has-at, has-place, has-map, map-has}
-
-pub no-hits : (names : List ℕ) (into : List (List ℕ)) (name : ℕ) → AreHits names into name [] []
-no-hits names into name = record { are = λ e h. absurd h; whole = λ p e h l n m. absurd h }
 
 -- a node more that has the name
 pub hits-more : (names : List ℕ) (into : List (List ℕ)) (name : ℕ) (nodes hits : List ℕ) (node : ℕ) → node < length names → at_node names node ≡ name → AreHits names into name nodes hits → AreHits names into name (nodes ++ node ∷ []) (hits ++ list_at into node)
@@ -89,6 +85,3 @@ module _ (nodes places nexts names : List ℕ) (into members parts : List (List 
     where
       long : (i : ℕ) → i < length names → i < length now
       long i h = let e : length now ≡ length names = b.size in omega (arith, h, e)
-
-pub same-block : (nodes places nexts names : List ℕ) (name : ℕ) → AreSplitByBlock nodes places nexts name names names
-same-block nodes places nexts names name = record { size = refl; apart = λ i j h g d. inl d }

@@ -1,8 +1,7 @@
 //! Blocks split by single blocks, the smaller part of each first.
 
-ghost use Rattle.std.specs.Prelude.{◌≡◌, ◌≢◌, ◌<◌, ℕ, length, map, IfOk, OnOk};
-ghost use Rattle.tree_parts.specs.Firsts.{at_node};
-ghost use Rattle.tree_parts.specs.Lists.{AreEntries, ArePlaces};
+ghost use Rattle.std.specs.Prelude.{◌≡◌, length, map, IfOk, OnOk};
+ghost use Rattle.tree_parts.specs.Lists.{ArePlaces};
 ghost use Rattle.tree_parts.specs.Splits.{AreListed, ArePairs, AreSplitByBlock};
 ghost use Rattle.tree_parts.specs.Parts.{AreWithin, AreEven, AreNamed, IsPartition};
 
@@ -13,11 +12,13 @@ use crate::naming::{Naming, hits, split_by};
 use crate::queue::Queue;
 use std::alloc::{AllocError, Global};
 
-// A partition that refines a start and joins nothing that differs. Where memory doesn't end it, no block
-// tells the rows of another block's nodes apart; but no clause says so.
+// A partition that refines a start and keeps nothing apart that doesn't differ. It agrees with the
+// rows too, so it is the coarsest; but no clause says so, as `refine` finds it out by a round.
 //
-// A node is among those that split others at most as often as its block can be halved: the time is in
-// proportion to the entries, but for the square of the logarithm of the nodes.
+// A node splits others at most as often as its block can be halved. So the time is in proportion to
+// the entries times the square of the logarithm of the nodes, and less where few blocks are split.
+// A turn takes one block that waits. In all, no more wait than there are blocks in the end, so a
+// turn for each node is enough.
 pub(crate) fn split_early(
     alloc: Global,
     rows: &[Vec<usize>],

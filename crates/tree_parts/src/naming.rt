@@ -1,7 +1,6 @@
 //! Blocks of nodes by names, and how they are split.
 
-ghost use Rattle.std.specs.Prelude.{◌≡◌, ◌<◌, All, length, map, IfOk, OnOk};
-ghost use Rattle.tree_parts.specs.Lists.{list_at};
+ghost use Rattle.std.specs.Prelude.{◌≡◌, length, map, IfOk, OnOk};
 ghost use Rattle.tree_parts.specs.Splits.{AreSplit, AreRenamed, AreListed, AreHits};
 
 use crate::groups::{groups, picked};

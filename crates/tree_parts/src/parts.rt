@@ -10,7 +10,7 @@ use std::alloc::{AllocError, Global};
 /// The coarsest partition that refines a start and whose blocks agree in the blocks of their rows:
 /// for each node the first one of its block.
 ///
-/// It takes time in proportion to the rows, but for the square of the logarithm of the nodes.
+/// The time is in proportion to the entries of the rows times the square of the logarithm of the nodes.
 pub fn refine(
     alloc: Global,
     rows: &[Vec<usize>],

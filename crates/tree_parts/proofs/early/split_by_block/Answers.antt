@@ -1,4 +1,4 @@
-use Rattle.std.proofs.Common.{rules, ◌≡◌, ◌<◌, ℕ, List, length, map, get_or, subst, sym, ap, ◌∙◌}
+use Rattle.std.proofs.Common.{rules, ◌≡◌, ◌<◌, ℕ, List, length, map, get_or, subst, ap, ◌∙◌}
 use Rattle.std.specs.Global.{Vec}
 use Rattle.tree_parts.specs.Firsts.{at_node}
 use Rattle.tree_parts.specs.Lists.{list_at, AreGroups}

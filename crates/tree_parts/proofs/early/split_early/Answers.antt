@@ -1,4 +1,4 @@
-use Rattle.std.proofs.Common.{◌≡◌, ℕ, List, length, map, subst, sym, ap, ◌∙◌}
+use Rattle.std.proofs.Common.{ℕ, List, length, subst, sym, ap, ◌∙◌}
 use Rattle.std.proofs.lemmas.List.{length-map}
 use Rattle.tree_parts.specs.Firsts.{AreFirsts}
 use Rattle.tree_parts.specs.Lists.{AreEntries}

@@ -1,4 +1,4 @@
-use Rattle.std.proofs.Common.{ℕ, List, [], ◌∷◌, length, map, subst, ap, ◌∙◌}
+use Rattle.std.proofs.Common.{ℕ, List, length, subst, ap, ◌∙◌}
 use Rattle.tree_parts.specs.Firsts.{AreFirsts}
 use Rattle.tree_parts.specs.Lists.{ArePlaces}
 use Rattle.tree_parts.proofs.Grouping.{items_of, are-groups}

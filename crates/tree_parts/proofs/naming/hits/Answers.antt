@@ -1,8 +1,7 @@
-use Rattle.std.proofs.Common.{rules, ◌≡◌, ◌<◌, ℕ, List, [], ◌∷◌, ◌++◌, length, map, take, sym, ap, subst, ◌∙◌, arith}
+use Rattle.std.proofs.Common.{◌≡◌, ◌<◌, ℕ, List, ◌++◌, length, take, ap, ◌∙◌, arith}
 use Rattle.std.proofs.lemmas.List.{take_more}
 use Rattle.tree_parts.specs.Firsts.{at_node}
 use Rattle.tree_parts.specs.Lists.{list_at}
-use Rattle.tree_parts.specs.Splits.{AreHits}
 use Rattle.tree_parts.proofs.Grouping.{items_of, list-read}
 use Rattle.tree_parts.proofs.Telling.{hits-more, hits-same}
 use Rattle.tree_parts.proofs.naming.hits.Goals as goal
