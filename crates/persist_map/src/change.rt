@@ -79,7 +79,7 @@ impl<K: Ord + Clone + Drop, V: Clone + Drop> Tree<K, V> {
             return Ok(());
         };
         let Some(fork) = Arc::get_mut(shared) else {
-            *self = self.with(alloc, key, value)?;
+            *self = self.with(alloc, &key, &value)?;
             return Ok(());
         };
         match key.cmp(&fork.key) {
@@ -98,7 +98,7 @@ impl<K: Ord + Clone + Drop, V: Clone + Drop> Tree<K, V> {
                 Ok(())
             }
             _ => {
-                *self = self.with(alloc, key, value)?;
+                *self = self.with(alloc, &key, &value)?;
                 Ok(())
             }
         }

@@ -87,7 +87,7 @@ impl<K: Ord + Clone + Drop, V: Clone + Drop> PMap<K, V> {
     {
         Ok(PMap {
             alloc: self.alloc,
-            tree: self.tree.with(self.alloc, key, value)?,
+            tree: self.tree.with(self.alloc, &key, &value)?,
         })
     }
 

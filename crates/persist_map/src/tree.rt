@@ -6,7 +6,6 @@ ghost use Rattle.persist_map.specs.Entries.{IsOrdered, value_at, ClonesAreEqual}
 ghost use Rattle.persist_map.specs.Contents.{entries_of, height_of, DifferByAtMost, IsBalanced, IsBalancedFork, IsSearchTree};
 ghost use Rattle.persist_map.specs.Changes.{IsSameTree, IsJoined, IsSet, IsTakenOut, IsSplit, IsTogether};
 
-use crate::balance::balanced;
 use std::alloc::{AllocError, Global};
 use std::cmp::Ordering;
 use std::sync::Arc;
@@ -53,6 +52,7 @@ impl<K, V> Tree<K, V> {
     }
 
     /// The entry between two sides. A height above 2 ^ 32 - 1, which no memory holds, counts as want of memory.
+    #[inline(always)]
     pub fn fork(
         alloc: Global,
         left: Tree<K, V>,
@@ -101,14 +101,15 @@ impl<K: Ord, V> Tree<K, V> {
 }
 
 impl<K: Ord + Clone + Drop, V: Clone + Drop> Tree<K, V> {
-    pub fn with(&self, alloc: Global, key: K, value: V) -> Result<Tree<K, V>, AllocError>
+    // The pair is lent, so that it isn't moved at each fork on the way.
+    pub fn with(&self, alloc: Global, key: &K, value: &V) -> Result<Tree<K, V>, AllocError>
         requires keys { ClonesAreEqual K.is_clone }
         requires values { ClonesAreEqual V.is_clone }
         requires tree { IsSearchTree K.cmp self.now }
-        ensures { IfOk result (λ t. IsSet K.cmp self.now key value t) }
+        ensures { IfOk result (λ t. IsSet K.cmp self.now key.now value.now t) }
     {
         match self {
-            Tree::Leaf => Tree::fork(alloc, Tree::Leaf, key, value, Tree::Leaf),
+            Tree::Leaf => Tree::fork(alloc, Tree::Leaf, key.clone()?, value.clone()?, Tree::Leaf),
             Tree::Fork(fork) => {
                 let fork: &Fork<K, V> = fork;
                 match key.cmp(&fork.key) {
@@ -120,7 +121,7 @@ impl<K: Ord + Clone + Drop, V: Clone + Drop> Tree<K, V> {
                         alloc,
                         fork.left.share()?,
                         fork.key.clone()?,
-                        value,
+                        value.clone()?,
                         fork.right.share()?,
                     ),
                     Ordering::Greater => {
@@ -159,35 +160,15 @@ impl<K: Ord + Clone + Drop, V: Clone + Drop> Tree<K, V> {
 }
 
 impl<K: Clone + Drop, V: Clone + Drop> Fork<K, V> {
-    // The same entry between two other sides, whose heights may differ by two.
-    fn between(
-        &self,
-        alloc: Global,
-        left: Tree<K, V>,
-        right: Tree<K, V>,
-    ) -> Result<Tree<K, V>, AllocError>
-        requires keys { ClonesAreEqual K.is_clone }
-        requires values { ClonesAreEqual V.is_clone }
-        requires left { IsBalanced left }
-        requires right { IsBalanced right }
-        requires heights { DifferByAtMost 2 (height_of left) (height_of right) }
-        ensures { IfOk result (λ t. IsJoined left self.now.key self.now.value right t) }
-    {
-        balanced(alloc, left, self.key.clone()?, self.value.clone()?, right)
-    }
-
-    // The first entry, and a tree of the others.
-    fn split_first(&self, alloc: Global) -> Result<((K, V), Tree<K, V>), AllocError>
+    // The fork of the first entry, and a tree of the other entries.
+    fn split_first(&self, alloc: Global) -> Result<(&Fork<K, V>, Tree<K, V>), AllocError>
         requires keys { ClonesAreEqual K.is_clone }
         requires values { ClonesAreEqual V.is_clone }
         requires fork { IsBalancedFork self.now }
-        ensures { IfOk result (λ p. IsSplit self.now p.0 p.1) }
+        ensures { IfOk result (λ p. IsSplit self.now (p.0.now.key, p.0.now.value) p.1) }
     {
         match &self.left {
-            Tree::Leaf => Ok((
-                (self.key.clone()?, self.value.clone()?),
-                self.right.share()?,
-            )),
+            Tree::Leaf => Ok((self, self.right.share()?)),
             Tree::Fork(left) => {
                 let left: &Fork<K, V> = left;
                 let (first, others) = left.split_first(alloc)?;
@@ -214,6 +195,6 @@ fn joined<K: Clone + Drop, V: Clone + Drop>(
         return left.share();
     };
     let right: &Fork<K, V> = right;
-    let ((key, value), others) = right.split_first(alloc)?;
-    balanced(alloc, left.share()?, key, value, others)
+    let (first, others) = right.split_first(alloc)?;
+    first.between(alloc, left.share()?, others)
 }

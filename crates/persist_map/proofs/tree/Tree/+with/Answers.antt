@@ -29,8 +29,9 @@ returns-in_ok-share-in-Equal-2 g t c =
     let top = has_top g.K.Ord.cmp c.args.self.now c.in-Fork.fork c.deref-fork.result.now c.in-Fork.is c.deref-fork.ensures c.requires.tree.ordered in
     let high = has_balanced_top g.K.Ord.cmp c.args.self.now c.in-Fork.fork c.deref-fork.result.now c.in-Fork.is c.deref-fork.ensures c.requires.tree.balanced in
     let key = c.requires.keys c.deref-fork.result.now.key c.in_ok-clone-in-Equal.field-0 c.in_ok-clone-in-Equal.ensures.cases in
+    let value = c.requires.values c.args.value.now c.in_ok-clone-in-Equal-2.field-0 c.in_ok-clone-in-Equal-2.ensures.cases in
     IfOk-weaker c.fork-in-Equal.result _ _
-    (λ z j. set_here g.K.Ord.cmp _ _ top high _ _ g.met.K.Ord.total (sym c.in-Equal.ensures) _ _ z c.in_ok-share-in-Equal.ensures c.in_ok-share-in-Equal-2.ensures (rw key at j))
+    (λ z j. set_here g.K.Ord.cmp _ _ top high _ _ g.met.K.Ord.total (sym c.in-Equal.ensures) _ _ z c.in_ok-share-in-Equal.ensures c.in_ok-share-in-Equal-2.ensures (rw (key, value) at j))
     c.fork-in-Equal.ensures
 
 pub returns-in_ok-share-in-Greater : goal.returns-in_ok-share-in-Greater
