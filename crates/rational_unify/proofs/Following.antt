@@ -10,6 +10,7 @@ use Rattle.akl_terms.specs.Tree.{Tree, variable}
 use Rattle.akl_terms.specs.Template.{tree, seen_of}
 use Rattle.rational_unify.specs.declared.solver.Work.{Work}
 use Rattle.rational_unify.specs.Known.{found_in, bound_in, next_seen, IsSolved, end_of}
+use Rattle.rational_unify.specs.Older.{KeepsOlder}
 use Rattle.rational_unify.specs.Shortened.{Rebinds, KeepsEnds}
 use Rattle.rational_unify.specs.Followed.{AgreeOn, LeadsAlong, start, on, IsPath, headed, free, ReboundAll, unchanged, rebound, Follows, Settles}
 use Rattle.rational_unify.specs.Solving.{bindings_in, BindNew}
@@ -19,6 +20,7 @@ use Rattle.rational_unify.specs.Meeting.{LeadsTo, Clashes, Advances}
 use Rattle.rational_unify.proofs.Walks.{walk-again, walk-bound}
 use Rattle.rational_unify.proofs.Chains.{found-first, found-second, next_walks, no_next_stays, BindNew-bound}
 use Rattle.rational_unify.proofs.Ends.{free-tree}
+use Rattle.rational_unify.proofs.OlderEnds.{rebound-older}
 use Rattle.rational_unify.proofs.Shortening.{rebound-keeps, KeepsEnds-refl, KeepsEnds-on, KeepsEnds-new}
 
 pub AgreeOn-refl : (xs : List Var) (bs : List (Var × Term)) → AgreeOn xs bs bs
@@ -102,6 +104,14 @@ ReboundAll-keeps nodes known old t u xs new h e w (rebound {xs = ys} {cur = cur}
     let k : KeepsEnds nodes known old cur = ReboundAll-keeps nodes known old t u ys cur h e b.0 all in
     KeepsEnds-on nodes known old cur new k (rebound-keeps nodes known cur new x u k.solved r (e ∙ sym b.1 ∙ sym (k.ends (variable x))))
 
+ReboundAll-older : (nodes : List Node) (known old : List (Var × Term)) (t : Tree) (u : Term) (xs : List Var) (new : List (Var × Term)) → IsSolved nodes (known ++ old)
+    → tree nodes u ≡ end_of nodes (known ++ old) t → EndWith nodes (known ++ old) t xs → ReboundAll u old xs new → KeepsOlder nodes (known ++ old) (known ++ new)
+ReboundAll-older nodes known old t u xs new h e w unchanged o = o
+ReboundAll-older nodes known old t u xs new h e w (rebound {xs = ys} {cur = cur} {x = x} all r) o =
+    let b : EndWith nodes (known ++ old) t ys × (end_of nodes (known ++ old) (variable x) ≡ end_of nodes (known ++ old) t) = EndWith-but_last nodes (known ++ old) t ys x w in
+    let k : KeepsEnds nodes known old cur = ReboundAll-keeps nodes known old t u ys cur h e b.0 all in
+    rebound-older nodes known cur new x u k.solved r (e ∙ sym b.1 ∙ sym (k.ends (variable x))) (ReboundAll-older nodes known old t u ys cur h e b.0 all o)
+
 -- what was followed over known bindings holds over others that give the same on the path
 module _ (nodes : List Node) (known other : List (Var × Term)) (t : Term) (old new : List (Var × Term)) (followed followed' : List Var) (end : Term)
     (f : Follows nodes known t old new followed followed' end) (h : IsSolved nodes (other ++ old)) (a : AgreeOn f.path known other) where
@@ -113,6 +123,9 @@ module _ (nodes : List Node) (known other : List (Var × Term)) (t : Term) (old 
 
   pub follows-end : tree nodes end ≡ end_of nodes (other ++ old) (tree nodes t)
   follows-end = ends_there.0
+
+  pub follows-older : KeepsOlder nodes (other ++ old) (other ++ new)
+  follows-older = ReboundAll-older nodes other old (tree nodes t) end f.path new h ends_there.0 ends_there.1 f.rebound_by
 
 -- a term at the end of two chains stands for both
 pub LeadsTo-end : (nodes : List Node) (bs cs : List (Var × Term)) (pairs : List code.Equation) (s t u : Term) → IsSolved nodes bs
@@ -170,6 +183,30 @@ module _ (nodes : List Node) (known : List (Var × Term)) (pair : code.Equation)
         at_right = follows-end nodes known other pair.right cur new f' f'' right r k.solved w.1.1 ∙ sym (m.ends (tree nodes pair.right));
       }
 
+  pub sides-older : (other : List (Var × Term)) → IsSolved nodes (other ++ old) → AgreeOn f'' known other → KeepsOlder nodes (other ++ old) (other ++ new)
+  sides-older other h a o =
+      let w : AgreeOn f known other × (AgreeOn l.path known other × AgreeOn r.path known other) = sides-agree other a in
+      let k : KeepsEnds nodes other old cur = follows-keeps nodes known other pair.left old cur f f' left l h w.1.0 in
+      follows-older nodes known other pair.right cur new f' f'' right r k.solved w.1.1 (follows-older nodes known other pair.left old cur f f' left l h w.1.0 o)
+
+-- the chain of an added binding's term was followed
+module _ (nodes : List Node) (known other cur mid new : List (Var × Term)) (f f' : List Var) (x : Var) (t end : Term) (l : Follows nodes known t cur mid f f' end) (r : Rebinds mid new x end)
+    (m : IsTold (bindings_in nodes cur) (variable x) (tree nodes t)) (h : IsSolved nodes (other ++ cur)) (n : BindNew other cur) (a : AgreeOn l.path known other) where
+  followed : KeepsEnds nodes other cur mid
+  followed = follows-keeps nodes known other t cur mid f f' end l h a
+
+  binding-end : tree nodes end ≡ end_of nodes (other ++ mid) (variable x)
+  binding-end = follows-end nodes known other t cur mid f f' end l h a ∙ sym (bound-end (BindNew-bound nodes other cur (variable x) (tree nodes t) n m)) ∙ sym (followed.ends (variable x))
+    where
+      bound-end : {b c : Tree} → IsBound (bound_in nodes (other ++ cur)) b c → end_of nodes (other ++ cur) b ≡ end_of nodes (other ++ cur) c
+      bound-end (bound {x = y} {t = u} e) = walk-bound (bound_in nodes (other ++ cur)) (length (other ++ cur)) y u h.ends e
+
+  settled-keeps : KeepsEnds nodes other cur new
+  settled-keeps = KeepsEnds-on nodes other cur mid new followed (rebound-keeps nodes other mid new x end followed.solved r binding-end)
+
+  pub settled-older : KeepsOlder nodes (other ++ cur) (other ++ new)
+  settled-older o = rebound-older nodes other mid new x end followed.solved r binding-end (follows-older nodes known other t cur mid f f' end l h a o)
+
 -- one more binding leads to the end of its chain
 pub Settles-on : (nodes : List Node) (known old cur mid new : List (Var × Term)) (f f' f'' : List Var) (x : Var) (t end : Term) → Settles nodes known old cur f f'
     → IsTold (bindings_in nodes cur) (variable x) (tree nodes t) → Follows nodes known t cur mid f' f'' end → Rebinds mid new x end → Settles nodes known old new f f''
@@ -179,15 +216,8 @@ Settles-on nodes known old cur mid new f f' f'' x t end s m l r = record {
   keeps = keeps;
 }
   where
-    bound-end : (bs : List (Var × Term)) → IsSolved nodes bs → {a b : Tree} → IsBound (bound_in nodes bs) a b → end_of nodes bs a ≡ end_of nodes bs b
-    bound-end bs h (bound {x = y} {t = u} e) = walk-bound (bound_in nodes bs) (length bs) y u h.ends e
-
     keeps : (other : List (Var × Term)) → IsSolved nodes (other ++ old) → BindNew other old → AgreeOn (s.path ++ l.path) known other → KeepsEnds nodes other old new
     keeps other h n a =
         let k : KeepsEnds nodes other old cur = s.keeps other h n (AgreeOn-left s.path l.path known other a) in
-        let b : AgreeOn l.path known other = AgreeOn-right s.path l.path known other a in
-        let j : KeepsEnds nodes other cur mid = follows-keeps nodes known other t cur mid f' f'' end l k.solved b in
-        let e : end_of nodes (other ++ cur) (variable x) ≡ end_of nodes (other ++ cur) (tree nodes t) =
-        bound-end (other ++ cur) k.solved (BindNew-bound nodes other cur (variable x) (tree nodes t) (KeepsEnds-new nodes other old cur k n) m) in
-        KeepsEnds-on nodes other old cur new k (KeepsEnds-on nodes other cur mid new j
-        (rebound-keeps nodes other mid new x end j.solved r (follows-end nodes known other t cur mid f' f'' end l k.solved b ∙ sym e ∙ sym (j.ends (variable x)))))
+        KeepsEnds-on nodes other old cur new k
+        (settled-keeps nodes known other cur mid new f' f'' x t end l r m k.solved (KeepsEnds-new nodes other old cur k n) (AgreeOn-right s.path l.path known other a))

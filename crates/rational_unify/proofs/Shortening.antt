@@ -22,7 +22,7 @@ pub record Shortens (n : ℕ) (old new : Bindings) : Type 0 where
   pub ends : (x : Var) (t : Tree) → new x ≡ Some t → walk (suc n) old t ≡ walk (suc n) old (variable x)
   pub nearer : (x : Var) (t : Tree) → new x ≡ Some t → steps (suc n) old t < steps (suc n) old (variable x)
 
-free-walk : (look : Bindings) (n : ℕ) (t : Tree) → IsFree look t → walk n look t ≡ t
+pub free-walk : (look : Bindings) (n : ℕ) (t : Tree) → IsFree look t → walk n look t ≡ t
 free-walk look zero t h = refl
 free-walk look (suc n) (variable x) h = ap (follow (walk n look) (variable x)) h
 free-walk look (suc n) (integer z) h = refl
@@ -94,7 +94,7 @@ module _ (nodes : List Node) (known old new : List (Var × Term)) (x : Var) (u :
   n = length (known ++ old)
 
   -- a binding stays, or is the new one
-  changed : (y : Var) → (after y ≡ before y) ⊎ ((y ≡ x) × (after y ≡ Some (tree nodes u)) × ((v : Tree) × (before y ≡ Some v)))
+  pub changed : (y : Var) → (after y ≡ before y) ⊎ ((y ≡ x) × (after y ≡ Some (tree nodes u)) × ((v : Tree) × (before y ≡ Some v)))
   changed y = on (found_in known y) refl
     where
       both : (o : Option Term) → found_in old y ≡ o → found_in known y ≡ None

@@ -1,4 +1,5 @@
 pub mod Known
+pub mod Older
 pub mod Solving
 pub mod Indexes
 pub mod Forms

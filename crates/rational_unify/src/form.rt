@@ -1,8 +1,9 @@
 //! Solved forms that grow.
 
-ghost use Rattle.std.specs.Prelude.{◌≡◌, ◌++◌, IfOk, MatchOption};
+ghost use Rattle.std.specs.Prelude.{◌≡◌, ◌++◌, IfOk, IfNone, MatchOption};
 ghost use Rattle.rational_unify.specs.Known.{IsSolved};
 ghost use Rattle.rational_unify.specs.Solving.{BindNew};
+ghost use Rattle.rational_unify.specs.Older.{LeadOlder, KeepsOlder, IsToOlder, EachOlder};
 ghost use Rattle.rational_unify.specs.Forms.{Takes, IsClashOfBindings, OneTaken};
 
 use crate::added::AddedBindings;
@@ -35,7 +36,8 @@ impl<'a, K: Lookup> Lookup for Form<'a, K> {
 
 impl<'a, K: Lookup> Form<'a, K> {
     /// Takes all bindings of a list in, where a variable may have several. `Some` gives two terms
-    /// of different heads that they make equal.
+    /// of different heads that they make equal. Where what was there and each binding of the list
+    /// lead from younger variables to older ones, so does all together.
     pub fn take(
         &mut self,
         alloc: Global,
@@ -47,6 +49,9 @@ impl<'a, K: Lookup> Form<'a, K> {
         ensures taken { IfOk result (λ found. MatchOption found
             (Takes templates.now.nodes (K.bindings self.old.known.now) self.old.added self.new.added bindings.now)
             (λ clash. IsClashOfBindings templates.now.nodes (K.bindings self.old.known.now ++ self.old.added) bindings.now clash.left clash.right)) }
+        ensures older { IfOk result (λ found. IfNone found
+            (LeadOlder templates.now.nodes (K.bindings self.old.known.now ++ self.old.added) → EachOlder templates.now.nodes bindings.now
+            → LeadOlder templates.now.nodes (K.bindings self.old.known.now ++ self.new.added))) }
     {
         let mut pending = Vec::new(alloc);
         for binding in bindings {
@@ -78,6 +83,8 @@ impl<'a, K: Lookup> Form<'a, K> {
         ensures known { self.new.known ≡ self.old.known }
         ensures taken { IfOk result (λ _. OneTaken templates.now.nodes (K.bindings self.old.known.now ++ self.old.added) self.old.added self.new.added
             pending.old.items pending.new.items variable term) }
+        ensures older { IfOk result (λ _. IsToOlder templates.now.nodes (variable, term)
+            → KeepsOlder templates.now.nodes (K.bindings self.old.known.now ++ self.old.added) (K.bindings self.old.known.now ++ self.new.added)) }
     {
         if let Some(other) = self.get(variable) {
             pending.push(Equation {

@@ -7,10 +7,12 @@ mod compared;
 mod form;
 mod known;
 mod meet;
+mod older;
 mod solver;
 
 pub use added::AddedBindings;
 pub use chain::{chain_end, variable_end};
 pub use form::Form;
 pub use known::{Lookup, Nothing, found};
+pub use older::leads_older;
 pub use solver::{Solution, Solved, solve};

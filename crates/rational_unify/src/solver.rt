@@ -3,6 +3,7 @@
 ghost use Rattle.std.specs.Prelude.{◌≡◌, ◌<◌, ◌^◌, ◌++◌, IfOk, MatchOption, length};
 ghost use Rattle.akl_terms.specs.Template.{IsArranged};
 ghost use Rattle.rational_unify.specs.Known.{IsSolved};
+ghost use Rattle.rational_unify.specs.Older.{KeepsOlder, AddsOlder};
 ghost use Rattle.rational_unify.specs.Meeting.{Advances, AgreeInHead, Clashes};
 ghost use Rattle.rational_unify.specs.Solving.{BindNew, Solves};
 ghost use Rattle.rational_unify.specs.Followed.{Settles, SolvesAlso};
@@ -38,7 +39,8 @@ pub struct Solution {
 /// The known bindings must be a solved form: no chain of bindings from variable to variable
 /// returns to its start. `Clash` comes exactly where they and the equations together are
 /// inconsistent. The answer holds too over any other solved form that gives each followed variable
-/// what the known bindings give it.
+/// what the known bindings give it. Where the known bindings lead from younger variables to older
+/// ones, so do all together.
 ///
 /// Of the terms that are found to be equal one stands for all (after G. Huet's thesis of 1976), so
 /// no more terms are compared than there are symbols in them.
@@ -51,6 +53,7 @@ pub fn solve<K: Lookup>(
     requires known { IsSolved templates.now.nodes (K.bindings known.now) }
     ensures solves { IfOk result (λ s. Solves templates.now.nodes (K.bindings known.now) equations.now s.solved) }
     ensures followed { IfOk result (λ s. SolvesAlso templates.now.nodes (K.bindings known.now) equations.now s) }
+    ensures older { IfOk result (λ s. AddsOlder templates.now.nodes (K.bindings known.now) s.solved) }
 {
     let mut work = Work {
         added: AddedBindings::new(alloc),
@@ -97,6 +100,7 @@ fn advance<K: Lookup>(
     ensures turn { IfOk result (λ found. MatchOption found
         (Advances templates.now.nodes (K.bindings known.now) pair work.old work.new)
         (λ clash. Clashes templates.now.nodes (K.bindings known.now) pair work.old clash)) }
+    ensures older { IfOk result (λ _. KeepsOlder templates.now.nodes (K.bindings known.now ++ work.old.added) (K.bindings known.now ++ work.new.added)) }
 {
     let together = Together {
         known,
@@ -133,7 +137,8 @@ fn settle<K: Lookup>(
 ) -> Result<(), AllocError>
     requires solved { IsSolved templates.now.nodes (K.bindings known.now ++ added.old) }
     requires fresh { BindNew (K.bindings known.now) added.old }
-    ensures { IfOk result (λ _. Settles templates.now.nodes (K.bindings known.now) added.old added.new followed.old.items followed.new.items) }
+    ensures settles { IfOk result (λ _. Settles templates.now.nodes (K.bindings known.now) added.old added.new followed.old.items followed.new.items) }
+    ensures older { IfOk result (λ _. KeepsOlder templates.now.nodes (K.bindings known.now ++ added.old) (K.bindings known.now ++ added.new)) }
 {
     for place in 0..added.as_slice().len() {
         let Some(binding) = added.as_slice().get(place) else {

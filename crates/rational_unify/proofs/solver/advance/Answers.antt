@@ -2,6 +2,7 @@ use Rattle.std.proofs.Common.{refl, arith, ◌<◌, ◌+◌, ◌++◌, length}
 use Rattle.rational_unify.specs.Meeting.{same, bind, agree}
 use Rattle.rational_unify.proofs.Heads.{struct-within}
 use Rattle.rational_unify.proofs.Chains.{found-none}
+use Rattle.rational_unify.proofs.OlderEnds.{one_more-older}
 use Rattle.rational_unify.proofs.Turns.{bind-free}
 use Rattle.rational_unify.proofs.solver.advance.Goals as goal
 
@@ -50,3 +51,7 @@ returns-in_ok-push_to-in-Agree-clause-turn g c = record {
   is_right = record { last = c.chain_end-2.result; ends = c.chain_end-2.ensures; linked = c.last_of-right.ensures };
   meet = agree c.in-Agree.ensures.meets c.in_ok-push-in-Agree.ensures.list c.in_ok-push-in-Agree.ensures.small c.in_ok-push_to-in-Agree.ensures refl;
 }
+
+pub returns-in_ok-push-in-Bind-clause-older : goal.returns-in_ok-push-in-Bind-clause-older
+returns-in_ok-push-in-Bind-clause-older g c = one_more-older c.args.templates.now.nodes (g.K.Lookup.bindings c.args.known.now) c.args.work.now.added _ c.in-Bind.variable c.in-Bind.term
+    c.in_ok-push-in-Bind.ensures.list c.in-Bind.ensures.younger

@@ -1,37 +1,43 @@
-use Rattle.std.proofs.Common.{refl, arith, ◌≡◌, ◌++◌, ◌∷◌, [], List, length, subst}
+use Rattle.std.proofs.Common.{refl, arith, ◌≡◌, ◌++◌, ◌∷◌, [], List, length, subst, append-nil}
 use Rattle.akl_terms.specs.declared.name.Var.{Var}
+use Rattle.akl_terms.specs.declared.term.Node.{Node}
+use Rattle.akl_terms.specs.declared.term.Term.{Term}
+use Rattle.rational_unify.specs.Known.{IsSolved}
 use Rattle.rational_unify.specs.Followed.{AgreeOn}
 use Rattle.rational_unify.proofs.Shortening.{KeepsEnds-new, length-variables}
-use Rattle.rational_unify.proofs.Following.{AgreeOn-refl, AgreeOn-left, AgreeOn-right, sides-agree, sides-end, follows-keeps, EndsOf, Advances-end, Clashes-end}
+use Rattle.rational_unify.proofs.Following.{AgreeOn-refl, AgreeOn-left, AgreeOn-right, sides-agree, sides-end, follows-keeps, sides-older, EndsOf, Advances-end, Clashes-end}
 use Rattle.rational_unify.proofs.Turns.{turn-falls, length-push, turn-shorter, turn-starts, turn-goes, turn-ends, clash-follows, work-heads, work-solved}
 use Rattle.rational_unify.proofs.solver.solve.Goals as goal
 
 pub loop-pair-init : goal.loop-pair-init
-loop-pair-init g c = λ other h a. record {
-  kept = rw (c.new.ensures, c.new-3.ensures, c.in_ok-extend_from_slice.ensures.items, c.new-2.ensures.items) (turn-starts _ _ _ h);
-  fresh = rw c.new.ensures tt;
-}
+loop-pair-init g c = (
+  λ other h a. record {
+    kept = rw (c.new.ensures, c.new-3.ensures, c.in_ok-extend_from_slice.ensures.items, c.new-2.ensures.items) (turn-starts _ _ _ h);
+    fresh = rw c.new.ensures tt;
+  },
+  λ o. rw (c.new.ensures, append-nil (g.K.Lookup.bindings c.args.known.now)) o,
+)
 
 pub follow-requires : goal.follow-requires
-follow-requires g c = work-solved _ _ _ _ _ _ (c.loop-pair.invariant (g.K.Lookup.bindings c.args.known.now) c.requires.known (AgreeOn-refl _ _)).kept
+follow-requires g c = work-solved _ _ _ _ _ _ (c.loop-pair.invariant.0 (g.K.Lookup.bindings c.args.known.now) c.requires.known (AgreeOn-refl _ _)).kept
 
 pub follow-requires-in-Some : goal.follow-requires-in-Some
 follow-requires-in-Some g c = (follows-keeps _ _ _ _ _ _ _ _ _ c.in_ok-left.ensures
-    (work-solved _ _ _ _ _ _ (c.loop-pair.invariant (g.K.Lookup.bindings c.args.known.now) c.requires.known (AgreeOn-refl _ _)).kept) (AgreeOn-refl _ _)).solved
+    (work-solved _ _ _ _ _ _ (c.loop-pair.invariant.0 (g.K.Lookup.bindings c.args.known.now) c.requires.known (AgreeOn-refl _ _)).kept) (AgreeOn-refl _ _)).solved
 
 pub advance-requires-clause-solved : goal.advance-requires-clause-solved
 advance-requires-clause-solved g c = (sides-end _ _ c.in-Some.pair _ _ _ _ _ _ _ _ c.in_ok-left.ensures c.in_ok-right.ensures (g.K.Lookup.bindings c.args.known.now)
-    (work-solved _ _ _ _ _ _ (c.loop-pair.invariant (g.K.Lookup.bindings c.args.known.now) c.requires.known (AgreeOn-refl _ _)).kept) (AgreeOn-refl _ _)).keeps.solved
+    (work-solved _ _ _ _ _ _ (c.loop-pair.invariant.0 (g.K.Lookup.bindings c.args.known.now) c.requires.known (AgreeOn-refl _ _)).kept) (AgreeOn-refl _ _)).keeps.solved
 
 pub advance-requires-clause-compared : goal.advance-requires-clause-compared
-advance-requires-clause-compared g c = work-heads _ _ _ _ _ _ (c.loop-pair.invariant (g.K.Lookup.bindings c.args.known.now) c.requires.known (AgreeOn-refl _ _)).kept
+advance-requires-clause-compared g c = work-heads _ _ _ _ _ _ (c.loop-pair.invariant.0 (g.K.Lookup.bindings c.args.known.now) c.requires.known (AgreeOn-refl _ _)).kept
 
 pub returns-in-Some-2-clause-followed : goal.returns-in-Some-2-clause-followed
 returns-in-Some-2-clause-followed g c = λ other h a.
     let nodes = c.args.templates.now.nodes in
     let known = g.K.Lookup.bindings c.args.known.now in
-    let before = c.loop-pair.invariant other h (sides-agree _ _ c.in-Some.pair _ _ _ _ _ _ _ _ c.in_ok-left.ensures c.in_ok-right.ensures other a).0 in
-    let was = c.loop-pair.invariant known c.requires.known (AgreeOn-refl _ _) in
+    let before = c.loop-pair.invariant.0 other h (sides-agree _ _ c.in-Some.pair _ _ _ _ _ _ _ _ c.in_ok-left.ensures c.in_ok-right.ensures other a).0 in
+    let was = c.loop-pair.invariant.0 known c.requires.known (AgreeOn-refl _ _) in
     let e : EndsOf nodes other c.loop-pair.work.added c.follow-in-Some.new.added c.in-Some.pair c.in_ok-left.left c.in_ok-right.right =
     sides-end _ _ c.in-Some.pair _ _ _ _ _ _ _ _ c.in_ok-left.ensures c.in_ok-right.ensures other (work-solved _ _ _ _ _ _ before.kept) a in
     let k : EndsOf nodes known c.loop-pair.work.added c.follow-in-Some.new.added c.in-Some.pair c.in_ok-left.left c.in_ok-right.right =
@@ -45,20 +51,30 @@ pub returns-in-Some-2-clause-solves : goal.returns-in-Some-2-clause-solves
 returns-in-Some-2-clause-solves g c = returns-in-Some-2-clause-followed g c (g.K.Lookup.bindings c.args.known.now) c.requires.known (AgreeOn-refl _ _)
 
 pub loop-pair-preserved : goal.loop-pair-preserved
-loop-pair-preserved g c = λ other h a.
-    let nodes = c.args.templates.now.nodes in
-    let known = g.K.Lookup.bindings c.args.known.now in
-    let before = c.loop-pair.invariant other h (sides-agree _ _ c.in-Some.pair _ _ _ _ _ _ _ _ c.in_ok-left.ensures c.in_ok-right.ensures other a).0 in
-    let was = c.loop-pair.invariant known c.requires.known (AgreeOn-refl _ _) in
-    let e : EndsOf nodes other c.loop-pair.work.added c.follow-in-Some.new.added c.in-Some.pair c.in_ok-left.left c.in_ok-right.right =
-    sides-end _ _ c.in-Some.pair _ _ _ _ _ _ _ _ c.in_ok-left.ensures c.in_ok-right.ensures other (work-solved _ _ _ _ _ _ before.kept) a in
-    let k : EndsOf nodes known c.loop-pair.work.added c.follow-in-Some.new.added c.in-Some.pair c.in_ok-left.left c.in_ok-right.right =
-    sides-end _ _ c.in-Some.pair _ _ _ _ _ _ _ _ c.in_ok-left.ensures c.in_ok-right.ensures known (work-solved _ _ _ _ _ _ was.kept) (AgreeOn-refl _ _) in
-    turn-goes nodes other c.args.equations.now
-    (record { added = c.follow-in-Some.new.added; pending = c.pop.new.self; compared = c.loop-pair.work.compared }) c.in-Some.pair
-    (turn-shorter _ _ _ _ _ _ _ e.keeps (rw c.in-Some.ensures.items at before.kept)) c.in_ok-clash.ensures.arranged c.advance.new.work
-    (KeepsEnds-new _ _ _ _ e.keeps before.fresh)
-    (Advances-end nodes known other c.in-Some.pair c.in_ok-left.left c.in_ok-right.right _ _ _ _ k.keeps.solved k.at_left k.at_right e.at_left e.at_right (rw c.in_default-2.is at c.in_ok-clash.ensures.turn))
+loop-pair-preserved g c = (
+  λ other h a.
+      let before = c.loop-pair.invariant.0 other h (sides-agree _ _ c.in-Some.pair _ _ _ _ _ _ _ _ c.in_ok-left.ensures c.in_ok-right.ensures other a).0 in
+      let e : EndsOf nodes other c.loop-pair.work.added c.follow-in-Some.new.added c.in-Some.pair c.in_ok-left.left c.in_ok-right.right =
+      sides-end _ _ c.in-Some.pair _ _ _ _ _ _ _ _ c.in_ok-left.ensures c.in_ok-right.ensures other (work-solved _ _ _ _ _ _ before.kept) a in
+      turn-goes nodes other c.args.equations.now
+      (record { added = c.follow-in-Some.new.added; pending = c.pop.new.self; compared = c.loop-pair.work.compared }) c.in-Some.pair
+      (turn-shorter _ _ _ _ _ _ _ e.keeps (rw c.in-Some.ensures.items at before.kept)) c.in_ok-clash.ensures.arranged c.advance.new.work
+      (KeepsEnds-new _ _ _ _ e.keeps before.fresh)
+      (Advances-end nodes known other c.in-Some.pair c.in_ok-left.left c.in_ok-right.right _ _ _ _ k.keeps.solved k.at_left k.at_right e.at_left e.at_right (rw c.in_default-2.is at c.in_ok-clash.ensures.turn)),
+  λ o. c.in_ok-clash.ensures.older (sides-older _ _ c.in-Some.pair _ _ _ _ _ _ _ _ c.in_ok-left.ensures c.in_ok-right.ensures known solved (AgreeOn-refl _ _) (c.loop-pair.invariant.1 o)),
+)
+  where
+    nodes : List Node
+    nodes = c.args.templates.now.nodes
+
+    known : List (Var × Term)
+    known = g.K.Lookup.bindings c.args.known.now
+
+    solved : IsSolved nodes (known ++ c.loop-pair.work.added)
+    solved = work-solved _ _ _ _ _ _ (c.loop-pair.invariant.0 known c.requires.known (AgreeOn-refl _ _)).kept
+
+    k : EndsOf nodes known c.loop-pair.work.added c.follow-in-Some.new.added c.in-Some.pair c.in_ok-left.left c.in_ok-right.right
+    k = sides-end _ _ c.in-Some.pair _ _ _ _ _ _ _ _ c.in_ok-left.ensures c.in_ok-right.ensures known solved (AgreeOn-refl _ _)
 
 nothing : {X : Type 0} (xs : List X) → length xs ≡ 0 → xs ≡ []
 nothing [] e = refl
@@ -66,7 +82,7 @@ nothing (x ∷ xs) e = absurd (omega arith)
 
 pub loop-pair-smaller : goal.loop-pair-smaller
 loop-pair-smaller g c =
-    let was = c.loop-pair.invariant (g.K.Lookup.bindings c.args.known.now) c.requires.known (AgreeOn-refl _ _) in
+    let was = c.loop-pair.invariant.0 (g.K.Lookup.bindings c.args.known.now) c.requires.known (AgreeOn-refl _ _) in
     let k : EndsOf c.args.templates.now.nodes (g.K.Lookup.bindings c.args.known.now) c.loop-pair.work.added c.follow-in-Some.new.added c.in-Some.pair c.in_ok-left.left c.in_ok-right.right =
     sides-end _ _ c.in-Some.pair _ _ _ _ _ _ _ _ c.in_ok-left.ensures c.in_ok-right.ensures (g.K.Lookup.bindings c.args.known.now) (work-solved _ _ _ _ _ _ was.kept) (AgreeOn-refl _ _) in
     let a = turn-falls c.args.templates.now.nodes (g.K.Lookup.bindings c.args.known.now) (record { left = c.in_ok-left.left; right = c.in_ok-right.right })
@@ -75,17 +91,17 @@ loop-pair-smaller g c =
     rw (c.in-Some.ensures.items, length-push c.pop.new.self.items c.in-Some.pair, ← length-variables c.follow-in-Some.new.added c.loop-pair.work.added k.keeps.variables) a
 
 pub settle-requires-clause-solved : goal.settle-requires-clause-solved
-settle-requires-clause-solved g c = work-solved _ _ _ _ _ _ (c.loop-pair.invariant (g.K.Lookup.bindings c.args.known.now) c.requires.known (AgreeOn-refl _ _)).kept
+settle-requires-clause-solved g c = work-solved _ _ _ _ _ _ (c.loop-pair.invariant.0 (g.K.Lookup.bindings c.args.known.now) c.requires.known (AgreeOn-refl _ _)).kept
 
 pub settle-requires-clause-fresh : goal.settle-requires-clause-fresh
-settle-requires-clause-fresh g c = (c.loop-pair.invariant (g.K.Lookup.bindings c.args.known.now) c.requires.known (AgreeOn-refl _ _)).fresh
+settle-requires-clause-fresh g c = (c.loop-pair.invariant.0 (g.K.Lookup.bindings c.args.known.now) c.requires.known (AgreeOn-refl _ _)).fresh
 
 pub returns-clause-followed : goal.returns-clause-followed
 returns-clause-followed g c = λ other h a.
     let known = g.K.Lookup.bindings c.args.known.now in
-    let s = c.in_ok-settle.ensures in
+    let s = c.in_ok-settle.ensures.settles in
     let b : AgreeOn (c.loop-pair.followed.items ++ s.path) known other = subst (λ (xs : List Var). AgreeOn xs known other) s.followed_by a in
-    let before = c.loop-pair.invariant other h (AgreeOn-left c.loop-pair.followed.items s.path known other b) in
+    let before = c.loop-pair.invariant.0 other h (AgreeOn-left c.loop-pair.followed.items s.path known other b) in
     let k = s.keeps other (work-solved _ _ _ _ _ _ before.kept) before.fresh (AgreeOn-right c.loop-pair.followed.items s.path known other b) in
     let l : length c.loop-pair.work.pending.items ≡ 0 = omega (arith, c.in_default.ensures.cases.0, c.loop-pair.work.pending.ok) in
     rw c.into_vec.ensures (turn-ends _ _ _ _ c.loop-pair.work.compared
@@ -93,3 +109,6 @@ returns-clause-followed g c = λ other h a.
 
 pub returns-clause-solves : goal.returns-clause-solves
 returns-clause-solves g c = returns-clause-followed g c (g.K.Lookup.bindings c.args.known.now) c.requires.known (AgreeOn-refl _ _)
+
+pub returns-clause-older : goal.returns-clause-older
+returns-clause-older g c = λ o. rw c.into_vec.ensures (c.in_ok-settle.ensures.older (c.loop-pair.invariant.1 o))

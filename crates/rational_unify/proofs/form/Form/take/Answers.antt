@@ -1,10 +1,11 @@
 use Rattle.std.proofs.Common.{◌≡◌, refl, ◌∙◌, take, arith, ◌+◌}
 use Rattle.rational_unify.proofs.FormLaws.{half-starts, half-goes, half-clashes, half-ends, bound-told}
+use Rattle.rational_unify.proofs.OlderEnds.{EachOlder-at}
 use Rattle.rational_unify.proofs.Taking.{take-next, take-all, get-index, past}
 use Rattle.rational_unify.proofs.form.Form.take.Goals as goal
 
 pub loop-binding-init : goal.loop-binding-init
-loop-binding-init g c = (refl, rw c.new-pending.ensures.items (half-starts _ _ _ _ c.requires))
+loop-binding-init g c = (refl, rw c.new-pending.ensures.items (half-starts _ _ _ _ c.requires), λ e o. o)
 
 pub loop-binding-preserved : goal.loop-binding-preserved
 loop-binding-preserved g c = (
@@ -14,6 +15,9 @@ loop-binding-preserved g c = (
       c.loop-binding.pending.items c.take_one.new.pending.items c.args.bindings.now (take c.loop-binding.binding-index c.args.bindings.now) _ _ c.loop-binding.invariant.1
       (bound-told c.args.templates.now.nodes c.args.bindings.now c.loop-binding.binding-index _ (get-index c.args.bindings.now c.loop-binding.binding-index past c.loop-binding-test.true))
       (rw c.loop-binding.invariant.0 at c.in_ok-take_one.ensures.taken)),
+  λ e o. rw c.loop-binding.invariant.0 at c.in_ok-take_one.ensures.older
+      (EachOlder-at c.args.templates.now.nodes c.args.bindings.now c.loop-binding.binding-index _ e (get-index c.args.bindings.now c.loop-binding.binding-index past c.loop-binding-test.true))
+      (c.loop-binding.invariant.2 e o),
 )
 
 pub returns-in-Clash-clause-taken : goal.returns-in-Clash-clause-taken
