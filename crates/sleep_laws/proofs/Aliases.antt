@@ -17,15 +17,16 @@ use Rattle.akl_model.specs.Wakes.{IsAt, Opens, names_around, names_down_to}
 use Rattle.akl_model.proofs.NamesKept.{box-itself, site-box}
 use Rattle.constraint_laws.specs.Touched.{IsAmong}
 use Rattle.constraint_laws.proofs.Beside.{follows_told}
+use Rattle.step_laws.specs.Bound.{first_equations}
 use Rattle.step_laws.proofs.Whereabouts.{found_in}
 use Rattle.step_laws.proofs.Steps.{later_step}
 use Rattle.step_laws.proofs.Stays.{equations_grow}
-use Rattle.sleep_laws.specs.Sleeps.{Needs, of_box_around, of_atom, of_alternative, of_box, IsAliasAt, IsEnough, PassesBy}
+use Rattle.sleep_laws.specs.Sleeps.{Needs, of_box_around, of_atom, of_alternative, of_box, IsOutermostAt, IsAliasAt, IsEnough, PassesBy}
 use Rattle.sleep_laws.proofs.InScope.{Good}
 use Rattle.sleep_laws.proofs.Around.{chain_down}
 use Rattle.sleep_laws.proofs.Replayed.{good_replay, replay_further}
-use Rattle.sleep_laws.proofs.DownTo.{is_down, down_to, path_to, begins_path, outermost, there_before}
-use Rattle.sleep_laws.proofs.AliasLists.{newly_bound_with, HasAlias, AreAliases, alias_list}
+use Rattle.sleep_laws.proofs.DownTo.{is_down, down_to, path_to, begins_path, outermost, begins_outermost, outermost_whole, there_before}
+use Rattle.constraint_laws.proofs.AliasLists.{newly_bound_with, HasAlias, AreAliases, alias_list}
 
 -- in each box down to a place two variables are equal
 pub record AreEqualDown (c : Config) (place : Place) (y x : Var) : Type 0 where
@@ -39,12 +40,7 @@ pub record HaveAliases (c : Config) (place : Place) (Kept : Var → Type 0) (xs 
 pub kept_further : (c : Config) (place : Place) (Kept Kept_now : Var → Type 0) (xs : List Var) → ((y : Var) → Kept y → Kept_now y) → HaveAliases c place Kept xs → HaveAliases c place Kept_now xs
 kept_further c place Kept Kept_now xs f h = record { each = λ x i. let y : (y : Var) × Kept y × AreEqualDown c place y x = h.each x i in (y.0, f y.0 y.1, y.2) }
 
--- the equations of the first box of a path
-abbrev first_equations : List Content → Equations
-first_equations [] = []
-first_equations (b ∷ bs) = b.equations
-
--- they are among those down to each of its boxes
+-- the equations of the first box of a path are among those down to each of its boxes
 first_told : (A : List Content) (b : Content) (B L : List Content) → A ++ b ∷ B ≡ L → (s t : Tree) → IsTold (first_equations L) s t → IsTold (equations_of A ++ b.equations) s t
 first_told A b B L q s t m = on A (subst (λ (L : List Content). IsTold (first_equations L) s t) (sym q) m)
   where
@@ -77,10 +73,7 @@ completed p c kept place w enough = record {
         follows_told E (whole m) (first_told m.around m.content b.0 (path_to (site_of place c.roots)) b.1)
 
     of_outermost : (y x : Var) (a : IsAliasAt c place y x) → whole a.outermost ≡ E
-    of_outermost y x a =
-        let b : (rest : List Content) × (a.outermost.around ++ a.outermost.content ∷ rest ≡ path_to (site_of place c.roots)) = begins_path c w place a.outermost.content.name a.outermost a.is_at a.is_found in
-        ap (λ (A : List Content). equations_of A ++ a.outermost.content.equations) a.is_root
-        ∙ ap (λ (A : List Content). first_equations (A ++ a.outermost.content ∷ b.0)) (sym a.is_root) ∙ ap first_equations b.1
+    of_outermost y x a = outermost_whole a.outermost a.is_outermost.is_root ∙ ap first_equations (begins_outermost c w place a.outermost a.is_outermost).1
 
 -- a place that needs a variable is there
 needs_there : (p : Program) (c : Config) (place : Place) (x : Var) → Needs p c place x → (f : Found) × (site_of place c.roots ≡ Some f)
@@ -96,8 +89,8 @@ all_needed rules p q journal c kept place r needed = record { each = λ x n. (x,
   where
     itself : (x : Var) → (f : Found) × (site_of place c.roots ≡ Some f) → IsAliasAt c place x x
     itself x (f, e) =
-        let o : (o : Found) × (box_at o.content.name c.roots ≡ Some o) × (o.around ≡ []) × IsAt o.content.name c.roots place = outermost c (good_replay rules p q journal c r) place f e in
-        record { outermost = o.0; is_found = o.1; is_root = o.2; is_at = o.3; equal = same }
+        let o : (o : Found) × IsOutermostAt c place o = outermost c (good_replay rules p q journal c r) place f e in
+        record { outermost = o.0; is_outermost = o.1; equal = same }
 
 -- what is bound or made equal in a box is so with what is equal to it there
 binds_with : (c d : Config) (n : Name) (x y : Var) (b : Binds c d n x) → Follows (whole b.adds.before) (whole b.adds.afterwards) → Equal (whole b.adds.before) (variable y) (variable x) → Binds c d n y
@@ -105,7 +98,7 @@ binds_with c d n x y b f e = record { adds = b.adds; consistent = b.consistent; 
 
 -- over a label that doesn't open the place by what it changes
 module _ (rules : List Rule) (p : Program) (c : Config) (l : Label) (d : Config) (w : Good c) (v : Good d) (a : Applies rules p c l d) where
-  grown : (n : Name) (e f : Found) → box_at n c.roots ≡ Some e → box_at n d.roots ≡ Some f → Follows (whole e) (whole f)
+  pub grown : (n : Name) (e f : Found) → box_at n c.roots ≡ Some e → box_at n d.roots ≡ Some f → Follows (whole e) (whole f)
   grown n e f i j = follows_told (whole e) (whole f)
       (equations_grow c d w.stand v.stand (later_step rules p c l d w.stand a) e f (found_in n c.roots e i) (found_in n d.roots f j) (sym (box-itself n c.roots e i) ∙ box-itself n d.roots f j))
 

@@ -6,7 +6,7 @@ use Rattle.akl_terms.specs.declared.name.Place.{Place}
 use Rattle.akl_terms.specs.declared.program.Program.{Program}
 use Rattle.akl_model.specs.declared.label.Rule.{Rule}
 use Rattle.akl_model.specs.declared.label.Label.{Label}
-use Rattle.akl_model.specs.Config.{IsIn, Content, Boxes, Goals, Config, Found, box_at, home_of, site_of}
+use Rattle.akl_model.specs.Config.{IsIn, Content, Boxes, Goals, Config, Found, equations_of, whole, box_at, home_of, site_of}
 use Rattle.akl_model.specs.Derivations.{Applies}
 use Rattle.akl_model.specs.Wakes.{StandsIn, IsAt, Opens, new_goal, new_box, names_around, names_down_to}
 use Rattle.akl_model.proofs.Options.{some_value, map_some, none_or, some_and}
@@ -17,6 +17,7 @@ use Rattle.step_laws.proofs.Whereabouts.{found_in}
 use Rattle.step_laws.proofs.Deeper.{Over, over, named_found, chain_at}
 use Rattle.step_laws.proofs.Steps.{later_step}
 use Rattle.step_laws.proofs.Stays.{like_box, like_home}
+use Rattle.sleep_laws.specs.Sleeps.{IsOutermostAt}
 use Rattle.sleep_laws.proofs.InScope.{Good}
 
 pub stands_down : (g : Name) (bs : Boxes) (f : Found) (n : Name) → home_of g bs ≡ Some f → IsIn n (names_down_to f) → StandsIn n bs (Place.Goal g)
@@ -89,18 +90,27 @@ begins_path c w place n m h e = on (down_to n c.roots place h)
 
 -- the first of them is the outermost
 pub outermost : (c : Config) → Good c → (place : Place) (f : Found) → site_of place c.roots ≡ Some f
-    → (o : Found) × (box_at o.content.name c.roots ≡ Some o) × (o.around ≡ []) × IsAt o.content.name c.roots place
+    → (o : Found) × IsOutermostAt c place o
 outermost c w place f e = on f.around refl
   where
     found : box_at f.content.name c.roots ≡ Some f
     found = site-box place c.roots f w.stand.once e
 
-    on : (path : List Content) → f.around ≡ path → (o : Found) × (box_at o.content.name c.roots ≡ Some o) × (o.around ≡ []) × IsAt o.content.name c.roots place
-    on [] q = (f, found, q, is_down f.content.name c.roots place f e (IsIn-right f.content.name (names_around f) (f.content.name ∷ []) (inl refl)))
+    on : (path : List Content) → f.around ≡ path → (o : Found) × IsOutermostAt c place o
+    on [] q = (f, record { is_found = found; is_root = q; is_at = is_down f.content.name c.roots place f e (IsIn-right f.content.name (names_around f) (f.content.name ∷ []) (inl refl)) })
     on (b ∷ path) q =
         let k : (k : Goals) × (box_at b.name c.roots ≡ Some (record { around = []; content = b; goals = k })) = chain_at c.roots w.stand.once f [] b path (found_in f.content.name c.roots f found) q in
         let first : IsIn b.name (names_around f) = subst (λ (L : List Content). IsIn b.name (map (λ (a : Content). a.name) L)) (sym q) (inl refl) in
-        (record { around = []; content = b; goals = k.0 }, k.1, refl, is_down b.name c.roots place f e (IsIn-left b.name (names_around f) (f.content.name ∷ []) first))
+        (record { around = []; content = b; goals = k.0 }, record { is_found = k.1; is_root = refl; is_at = is_down b.name c.roots place f e (IsIn-left b.name (names_around f) (f.content.name ∷ []) first) })
+
+-- and it is that one alone
+pub begins_outermost : (c : Config) → Good c → (place : Place) (o : Found) → IsOutermostAt c place o → (rest : List Content) × (o.content ∷ rest ≡ path_to (site_of place c.roots))
+begins_outermost c w place o h =
+    let b : (rest : List Content) × (o.around ++ o.content ∷ rest ≡ path_to (site_of place c.roots)) = begins_path c w place o.content.name o h.is_at h.is_found in
+    (b.0, subst (λ (A : List Content). A ++ o.content ∷ b.0 ≡ path_to (site_of place c.roots)) h.is_root b.1)
+
+pub outermost_whole : (o : Found) → o.around ≡ [] → whole o ≡ o.content.equations
+outermost_whole o q = ap (λ (A : List Content). equations_of A ++ o.content.equations) q
 
 -- a place that a label doesn't open was there, down from the same boxes
 module _ (rules : List Rule) (p : Program) (c : Config) (l : Label) (d : Config) (w : Good c) (v : Good d) (a : Applies rules p c l d) where
