@@ -26,5 +26,5 @@ answers-chain chain k new bs t goal a f p e n s h = subst (λ (u : Template). An
     same = λ i. record { nodes = n i; symbols = s i }
 
     form : IsFormOf chain.nodes (bindings_from (take k chain.stores) ++ new) (IsTold (bindings_in chain.nodes (bindings_from chain.stores)))
-    form = chain-form chain.nodes chain.stores k (bindings_from (take k chain.stores)) new f
+    form = chain-form chain.nodes chain.stores k (bindings_from (take k chain.stores)) new f.form
         (subst (λ (l : List Stored). Takes chain.nodes (bindings_from (take k chain.stores)) [] new (bindings_from l)) (drop-whole chain.stores k) p)

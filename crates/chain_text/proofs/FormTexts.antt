@@ -37,7 +37,7 @@ module _ (c : Chained) (bs : List (Var × Term)) (h : IsFormOf c.nodes bs (ToldB
 -- the stores that are known to be solved, with the others taken in
 module _ (nodes : List Node) (ss : List Stored) (k : ℕ) (f : IsSolvedChain nodes (take k ss)) where
   pub further-form : (new : List (Var × Term)) → Takes nodes (bindings_from (take k ss)) [] new (bindings_from (take (length ss - k) (drop k ss))) → IsFormOf nodes (bindings_from (take k ss) ++ new) (ToldBy nodes ss)
-  further-form new t = chain-form nodes ss k (bindings_from (take k ss)) new f (subst (λ (l : List Stored). Takes nodes (bindings_from (take k ss)) [] new (bindings_from l)) (drop-whole ss k) t)
+  further-form new t = chain-form nodes ss k (bindings_from (take k ss)) new f.form (subst (λ (l : List Stored). Takes nodes (bindings_from (take k ss)) [] new (bindings_from l)) (drop-whole ss k) t)
 
   pub no-clash : (left right : Term) → IsConsistentBy (ToldBy nodes ss) → IsClashOfBindings nodes (bindings_from (take k ss) ++ []) (bindings_from (take (length ss - k) (drop k ss))) left right → ⊥
   no-clash left right c x = let d : _ = further-clash nodes ss k f left right x in d.1.differ (c.heads d.0 d.1.is_left d.1.is_right)

@@ -24,7 +24,8 @@ use Rattle.entail_test.specs.declared.outside.Outside.{Outside}
 use Rattle.entail_test.specs.declared.outside.Outside.TheVariants.{Touched, Clash}
 use Rattle.entail_test.specs.Asked.{frames_from, environment_at, own_at, KeepsApart, Reads, AnswersOver}
 use Rattle.entail_test.specs.Touched.{AreTouched}
-use Rattle.entail_test.proofs.Ends.{are_touched, has_head, unheaded, structured, unstructured, one_class, one_end}
+use Rattle.local_store.proofs.FormEnds.{has_head, unheaded, structured, unstructured, one_class, one_end}
+use Rattle.entail_test.proofs.Ends.{are_touched}
 use Rattle.entail_test.proofs.Enough.{ends-outside, enough}
 
 -- where nothing is touched all is quiet
@@ -109,14 +110,14 @@ module _ (nodes : List Node) (ss : List Stored) (depth : ℕ) (known : List (Var
 module _ (nodes : List Node) (ss : List Stored) (depth k : ℕ) (f : IsSolvedChain nodes (take k (take depth ss))) where
   pub environment-form : (new : List (Var × Term)) → Takes nodes (bindings_from (take k (take depth ss))) [] new (bindings_from (take (length (take depth ss) - k) (drop k (take depth ss))))
       → IsFormOf nodes (bindings_from (take k (take depth ss)) ++ new) (IsTold (environment_at nodes ss depth))
-  environment-form new t = chain-form nodes (take depth ss) k (bindings_from (take k (take depth ss))) new f
+  environment-form new t = chain-form nodes (take depth ss) k (bindings_from (take k (take depth ss))) new f.form
       (subst (λ (l : List Stored). Takes nodes (bindings_from (take k (take depth ss))) [] new (bindings_from l)) (drop-whole (take depth ss) k) t)
 
   pub environment-clash : (left right : Term) → IsClashOfBindings nodes (bindings_from (take k (take depth ss)) ++ []) (bindings_from (take (length (take depth ss) - k) (drop k (take depth ss)))) left right
       → Reads nodes ss depth (Clash left right)
   environment-clash left right c = (
     EqualBy-follows (λ a b m. told (IsTold-left (environment_at nodes ss depth) (own_at nodes ss depth) a b m))
-        (chain-clash nodes (take depth ss) k (bindings_from (take k (take depth ss))) left right f (subst (λ (l : List Stored). IsClashOfBindings nodes (bindings_from (take k (take depth ss)) ++ []) (bindings_from l) left right) (drop-whole (take depth ss) k) c)),
+        (chain-clash nodes (take depth ss) k (bindings_from (take k (take depth ss))) left right f.form (subst (λ (l : List Stored). IsClashOfBindings nodes (bindings_from (take k (take depth ss)) ++ []) (bindings_from l) left right) (drop-whole (take depth ss) k) c)),
     c.differ,
   )
 

@@ -13,6 +13,7 @@ use Rattle.akl_terms.proofs.SameNames.{same_var-equal, same_var-refl}
 use Rattle.entail_test.specs.declared.reading.Class.{Class}
 use Rattle.constraint_laws.specs.Touched.{IsAmong}
 use Rattle.entail_test.specs.Classes.{IsClassIn, has_root, AreDistinct, AreClasses, AreEnds, AreRoots, ends_in, same_end}
+use Rattle.local_store.proofs.Among.{among-either, among-left, among-right}
 use Rattle.std.specs.Option.{is_some, unwrap_or}
 use Rattle.std.specs.Map.{lookup}
 
@@ -33,20 +34,6 @@ class-any p (d ∷ cs) c (inr m) e = on (p d) (class-any p cs c m e)
     on : (k : Bool) → list_any p cs ≡ true → (k || list_any p cs) ≡ true
     on true h = refl
     on false h = h
-
-pub among-either : (xs ys : List Var) (x : Var) → IsAmong x (xs ++ ys) → IsAmong x xs ⊎ IsAmong x ys
-among-either [] ys x m = inr m
-among-either (y ∷ xs) ys x (inl e) = inl (inl e)
-among-either (y ∷ xs) ys x (inr m) = elim (among-either xs ys x m) [ inl a ↦ inl (inr a) | inr b ↦ inr b ]
-
-pub among-left : (xs ys : List Var) (x : Var) → IsAmong x xs → IsAmong x (xs ++ ys)
-among-left [] ys x m = absurd m
-among-left (y ∷ xs) ys x (inl e) = inl e
-among-left (y ∷ xs) ys x (inr m) = inr (among-left xs ys x m)
-
-pub among-right : (xs ys : List Var) (x : Var) → IsAmong x ys → IsAmong x (xs ++ ys)
-among-right [] ys x m = m
-among-right (y ∷ xs) ys x m = inr (among-right xs ys x m)
 
 class-either : (cs ds : List Class) (c : Class) → IsClassIn c (cs ++ ds) → IsClassIn c cs ⊎ IsClassIn c ds
 class-either [] ds c m = inr m

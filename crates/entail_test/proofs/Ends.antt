@@ -19,44 +19,8 @@ use Rattle.entail_test.specs.declared.reading.Class.{Class}
 use Rattle.entail_test.specs.Touched.{AreApart, AreTouched}
 use Rattle.constraint_laws.specs.Touched.{IsAmong}
 use Rattle.entail_test.specs.Classes.{IsClassIn, AreDistinct, AreClasses, noisy_end, is_noisy, IsNoisyEnd, Suffices}
+use Rattle.local_store.proofs.FormEnds.{unheaded, has_head, no_head, unstructured, structured, structured-has, one_class, one_end, roots_apart}
 use Rattle.entail_test.proofs.Classes.{again-other, other-again}
-
-pub end-free : (nodes : List Node) (bs : List (Var × Term)) (x : Var) → found_in bs x ≡ None → end_of nodes bs (variable x) ≡ variable x
-end-free nodes bs x e = ap (follow (walk (length bs) (bound_in nodes bs)) (variable x)) (ap (option_map (tree nodes)) e)
-
-pub unheaded : (t : Tree) → head_of t ≡ None → (y : Var) × (t ≡ variable y)
-unheaded (variable y) e = (y, refl)
-unheaded (integer z) e = cc
-unheaded (port p) e = cc
-unheaded (symbol f ts) e = cc
-
-pub has_head : (t : Tree) → HasHead t ⊎ (head_of t ≡ None)
-has_head (variable x) = inr refl
-has_head (integer z) = inl (integer_head z, refl)
-has_head (port p) = inl (port_head p, refl)
-has_head (symbol f ts) = inl (symbol_head f (length (list_of ts)), refl)
-
-pub no_head : (t : Tree) (y : Var) → t ≡ variable y → HasHead t → ⊥
-no_head t y e h = let z : None ≡ Some h.0 = sym (ap head_of e) ∙ h.1 in cc
-
--- one solved form
-module _ (nodes : List Node) (bs : List (Var × Term)) (E : Equations) (f : IsFormOf nodes bs (IsTold E)) where
-  pub unstructured : (x r : Var) → end_of nodes bs (variable x) ≡ variable r → IsStructured E x → ⊥
-  unstructured x r e s = no_head (end_of nodes bs (variable x)) r e
-      (structured-end (IsTold E) (end_of nodes bs) (form-stays nodes bs (IsTold E) f) (form-holds nodes bs (IsTold E) f) (form-follows nodes bs (IsTold E) f) (variable x) s.0 s.1 s.2 s.3)
-
-  pub structured : (x : Var) → HasHead (end_of nodes bs (variable x)) → IsStructured E x
-  structured x h = (end_of nodes bs (variable x), h.0, form-follows nodes bs (IsTold E) f (variable x), h.1)
-
-  pub structured-has : (x : Var) → IsStructured E x → HasHead (end_of nodes bs (variable x))
-  structured-has x s = structured-end (IsTold E) (end_of nodes bs) (form-stays nodes bs (IsTold E) f) (form-holds nodes bs (IsTold E) f) (form-follows nodes bs (IsTold E) f) (variable x) s.0 s.1 s.2 s.3
-
-  pub one_class : (x y : Var) → end_of nodes bs (variable x) ≡ end_of nodes bs (variable y) → Equal E (variable x) (variable y)
-  one_class x y e = equal-end (IsTold E) (end_of nodes bs) (form-stays nodes bs (IsTold E) f) (form-holds nodes bs (IsTold E) f) (form-follows nodes bs (IsTold E) f) (variable x) (variable y) e
-
-  pub one_end : (x y r : Var) → end_of nodes bs (variable x) ≡ variable r → Equal E (variable x) (variable y) → end_of nodes bs (variable x) ≡ end_of nodes bs (variable y)
-  one_end x y r e q = unstructured-end (IsTold E) (end_of nodes bs) (form-stays nodes bs (IsTold E) f) (form-holds nodes bs (IsTold E) f) (form-follows nodes bs (IsTold E) f) (variable x) (variable y)
-      (λ u h d p. unstructured x r e (u, h, d, p)) q
 
 module _ (nodes : List Node) (known whole : List (Var × Term)) (E W : Equations) (inner : List Name) (fE : IsFormOf nodes known (IsTold E)) (fW : IsFormOf nodes whole (IsTold W))
     (extends : (t : Tree) → end_of nodes whole t ≡ end_of nodes whole (end_of nodes known t))
@@ -90,11 +54,6 @@ module _ (nodes : List Node) (known whole : List (Var × Term)) (E W : Equations
   is_unbound : (x r : Var) → IsOutside inner x → end_of nodes known (variable x) ≡ variable r → IsUnbound inner E x
   is_unbound x r o e = record { outside = o; unstructured = unstructured nodes known E fE x r e }
 
-  roots_apart : (x y r s : Var) → end_of nodes known (variable x) ≡ variable r → end_of nodes known (variable y) ≡ variable s → r ≢ s → Equal E (variable x) (variable y) → ⊥
-  roots_apart x y r s e d n q =
-      let p : variable r ≡ variable s = sym e ∙ one_end nodes known E fE x y r e q ∙ d in
-      n (cc)
-
   -- a noisy class is touched
   touched_class : (c : Class) → IsClassIn c cs → is_noisy cs c ≡ true → Touches inner E W c.member
   touched_class c m e = record { unbound = is_unbound c.member c.root (suffices.outside c.member (k.member c m)) (k.root c m); told = on c.end (k.end c m) refl e }
@@ -106,7 +65,7 @@ module _ (nodes : List Node) (known whole : List (Var × Term)) (E W : Equations
         record {
           other = is_unbound w.0.member w.0.root (suffices.outside w.0.member (k.member w.0 w.1)) (k.root w.0 w.1);
           equal = one_class nodes whole W fW c.member w.0.member (h ∙ sym (subst (λ (o : Option Var). IsEndOf nodes whole w.0.member o) w.3 (k.end w.0 w.1)));
-          apart = λ p. roots_apart c.member w.0.member c.root w.0.root (k.root c m) (k.root w.0 w.1) w.2 p;
+          apart = λ p. roots_apart nodes known E fE c.member w.0.member c.root w.0.root (k.root c m) (k.root w.0 w.1) w.2 p;
         },
       )
         where
@@ -197,7 +156,7 @@ module _ (nodes : List Node) (known whole : List (Var × Term)) (E W : Equations
       on true h = (
         λ y m q.
             let w : (e : Class) × IsClassIn e ds × (y ≡ e.member) × (is_noisy cs e ≡ true) = member-in ds y m in
-            roots_apart c.member w.0.member c.root w.0.root (k.root c (f c (inl refl))) (k.root w.0 (f w.0 (inr w.1))) (d.0 w.0 w.1) (subst (λ (z : Var). Equal E (variable c.member) (variable z)) w.2 q),
+            roots_apart nodes known E fE c.member w.0.member c.root w.0.root (k.root c (f c (inl refl))) (k.root w.0 (f w.0 (inr w.1))) (d.0 w.0 w.1) (subst (λ (z : Var). Equal E (variable c.member) (variable z)) w.2 q),
         h,
       )
       on false h = h

@@ -19,14 +19,13 @@ use Rattle.rational_unify.proofs.Walks.{IsFree, walk-free}
 use Rattle.akl_terms.proofs.SameNames.{same_var-equal}
 use Rattle.rational_unify.proofs.Chains.{found-second, free_found}
 use Rattle.rational_unify.proofs.FormLaws.{form-follows}
-use Rattle.entail_test.proofs.Ends.{end-free}
 use Rattle.local_store.specs.Stored.{Stored, is_named}
 use Rattle.constraint_laws.specs.Touched.{IsAmong}
 use Rattle.entail_test.specs.Classes.{IsNoisyEnd, Suffices}
 use Rattle.entail_test.specs.Asked.{KeepsApart, AreCandidates, frames_from, named_in}
 use Rattle.constraint_laws.specs.Growth.{IsOver}
-use Rattle.entail_test.proofs.Classes.{among-either, among-left, among-right}
-use Rattle.entail_test.proofs.Ends.{no_head, unstructured}
+use Rattle.local_store.proofs.Among.{among-either, among-left, among-right}
+use Rattle.local_store.proofs.FormEnds.{end-free, no_head, unstructured}
 use Rattle.constraint_laws.specs.Growth.{TellsOver}
 use Rattle.constraint_laws.proofs.Grown.{over_kept}
 use Rattle.constraint_laws.proofs.Decided.{kept_by}

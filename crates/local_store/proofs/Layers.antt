@@ -13,6 +13,7 @@ use Rattle.akl_terms.proofs.EqualLaws.{EqualBy-follows}
 use Rattle.akl_terms.specs.Names.{same_var}
 use Rattle.rational_unify.specs.Known.{found_in, bound_in, IsSolved, end_of}
 use Rattle.rational_unify.specs.Solving.{bindings_in, equations_in, Tells, BindNew, IsSolution}
+use Rattle.rational_unify.specs.Older.{LeadOlder}
 use Rattle.rational_unify.specs.Forms.{IsFormOf, TellsBindings, Takes, IsClashOfBindings}
 use Rattle.local_store.specs.Stored.{Stored, var_before, joined, joins}
 use Rattle.akl_terms.specs.Standing.{StandFor}
@@ -143,6 +144,10 @@ form-reorder nodes bs cs R same l f = record { solved = record { ends = w.0 }; f
 
     w : FormBy R (length cs) (bound_in nodes cs)
     w = subst (λ (n : ℕ). FormBy R n (bound_in nodes cs)) l (subst (λ (k : Bindings). FormBy R (length bs) k) looks (f.solved.ends, f.follow, f.hold))
+
+-- they lead to older variables where the others do
+pub older-reorder : (nodes : List Node) (bs cs : List (Var × Term)) → ((y : Var) → found_in bs y ≡ found_in cs y) → LeadOlder nodes bs → LeadOlder nodes cs
+older-reorder nodes bs cs same h = record { each = λ x y t e v. h.each x y t (same x ∙ e) v }
 
 -- a binding in its place
 joined-length : (b : List (Var × Term)) (x : Var) (t : Term) → length (joined b x t) ≡ suc (length b)

@@ -1,8 +1,12 @@
+pub mod Answered
 pub mod Orders
 pub mod Bindings
 pub mod Ports
 pub mod Layers
 pub mod Known
+pub mod Among
+pub mod FormEnds
+pub mod NewlyBound
 pub mod Replaced
 pub mod Resolved
 pub mod Joining

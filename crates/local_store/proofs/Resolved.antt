@@ -21,7 +21,7 @@ use Rattle.rational_unify.proofs.Chains.{BindNew-bound}
 use Rattle.rational_unify.proofs.FormLaws.{bound-either, form-holds, form-follows, form-stays, form-consistent}
 use Rattle.rational_unify.proofs.Ends.{free-tree, headed-tree}
 use Rattle.local_store.specs.Stored.{Stored, joins, unbound, with_bindings}
-use Rattle.local_store.specs.Chained.{bindings_from, innermost, around, replaced, ToldBy, IsSolvedChain}
+use Rattle.local_store.specs.Chained.{bindings_from, innermost, around, replaced, ToldBy, IsFormChain, IsSolvedChain}
 use Rattle.local_store.specs.Asking.{Resolves}
 use Rattle.local_store.proofs.Known.{drop-whole}
 use Rattle.local_store.proofs.Layers.{same-grows, form-as, form-join, form-reorder, forms-stand, joins-found, joins-length, joins-told, told-joins, from-last, from-innermost, bindings-either, bindings-left, bindings-right, chain-form, chain-clash}
@@ -47,7 +47,23 @@ around-take (s ∷ t ∷ ss) = next (length (s ∷ t ∷ ss) - 1) (omega arith) 
     next : (n : ℕ) → n ≡ suc (length (t ∷ ss) - 1) → take (length (t ∷ ss) - 1) (t ∷ ss) ≡ around (t ∷ ss) → take n (s ∷ t ∷ ss) ≡ s ∷ around (t ∷ ss)
     next n e h = subst (λ (k : ℕ). take k (s ∷ t ∷ ss) ≡ s ∷ around (t ∷ ss)) (sym e) (ap (λ (l : List Stored). s ∷ l) h)
 
-module _ (nodes : List Node) (ss : List Stored) (f : IsSolvedChain nodes (around ss)) where
+-- bindings taken in over a solved form of others
+module _ (nodes : List Node) (bs all own : List (Var × Term)) (f : IsFormOf nodes bs (IsTold (bindings_in nodes all))) where
+  pub joined-form : (added : List (Var × Term)) → Takes nodes bs [] added own → IsFormOf nodes (bs ++ added) (IsTold (bindings_in nodes (own ++ all)))
+  joined-form added t = form-as nodes (bs ++ added) (λ a b. IsTold (bindings_in nodes all) a b ⊎ IsTold (bindings_in nodes own) a b) (IsTold (bindings_in nodes (own ++ all)))
+      (form-join nodes bs added (IsTold (bindings_in nodes all)) (TellsBindings nodes (bs ++ []) own) (IsTold (bindings_in nodes own)) f t.form
+      (λ a b m. elim m [ inl x ↦ inl (subst (λ (l : List (Var × Term)). IsBound (bound_in nodes l) a b) (append-nil bs) x) | inr x ↦ inr x ]) (λ a b m. inr m))
+      (λ a b m. elim m [ inl x ↦ bindings-right nodes own all a b x | inr x ↦ bindings-left nodes own all a b x ])
+      (λ a b m. elim (bindings-either nodes own all a b m) [ inl x ↦ inr x | inr x ↦ inl x ])
+
+  -- they don't clash where all is consistent
+  pub no-clash : (left right : Term) → IsConsistentBy (IsTold (bindings_in nodes (own ++ all))) → IsClashOfBindings nodes (bs ++ []) own left right → ⊥
+  no-clash left right c k = k.differ.differ (c.heads (EqualBy-follows (λ a b m. elim m [
+    | inl x ↦ EqualBy-follows (λ u v y. told (bindings-right nodes own all u v y)) (f.follow a b (subst (λ (l : List (Var × Term)). IsBound (bound_in nodes l) a b) (append-nil bs) x))
+    | inr x ↦ told (bindings-left nodes own all a b x)
+  ]) k.equal) k.differ.is_left k.differ.is_right)
+
+module _ (nodes : List Node) (ss : List Stored) (f : IsFormChain nodes (around ss)) where
   abbrev outer : List (Var × Term)
   outer = bindings_from (around ss)
 
@@ -58,7 +74,7 @@ module _ (nodes : List Node) (ss : List Stored) (f : IsSolvedChain nodes (around
   resolves added new t e = record {
     frames = ap (λ (r : Stored). r.frames) e;
     ports = ap (λ (r : Stored). r.ports) e;
-    solved = subst (λ (l : List (Var × Term)). IsFormOf nodes l (ToldBy nodes (replaced ss new))) (sym list)
+    form = subst (λ (l : List (Var × Term)). IsFormOf nodes l (ToldBy nodes (replaced ss new))) (sym list)
         (form-reorder nodes (outer ++ added) (joins [] added ++ outer) (ToldBy nodes (replaced ss new)) (λ y. sym (joins-found [] outer added fresh y)) long after);
     stands = forms-stand nodes (outer ++ added) (ToldBy nodes ss) (ToldBy nodes (replaced ss new)) before after;
   }
@@ -80,11 +96,7 @@ module _ (nodes : List Node) (ss : List Stored) (f : IsSolvedChain nodes (around
           omega arith
 
       before : IsFormOf nodes (outer ++ added) (ToldBy nodes ss)
-      before = form-as nodes (outer ++ added) (λ a b. ToldBy nodes (around ss) a b ⊎ IsTold (bindings_in nodes inner) a b) (ToldBy nodes ss)
-          (form-join nodes outer added (ToldBy nodes (around ss)) (TellsBindings nodes (outer ++ []) inner) (IsTold (bindings_in nodes inner)) f t.form
-          (λ a b m. elim m [ inl x ↦ inl (subst (λ (l : List (Var × Term)). IsBound (bound_in nodes l) a b) (append-nil outer) x) | inr x ↦ inr x ]) (λ a b m. inr m))
-          (λ a b m. subst (λ (l : List (Var × Term)). IsTold (bindings_in nodes l) a b) (sym (from-innermost ss)) (elim m [ inl x ↦ bindings-right nodes inner outer a b x | inr x ↦ bindings-left nodes inner outer a b x ]))
-          (λ a b m. elim (bindings-either nodes inner outer a b (subst (λ (l : List (Var × Term)). IsTold (bindings_in nodes l) a b) (from-innermost ss) m)) [ inl x ↦ inr x | inr x ↦ inl x ])
+      before = subst (λ (l : List (Var × Term)). IsFormOf nodes (outer ++ added) (IsTold (bindings_in nodes l))) (sym (from-innermost ss)) (joined-form nodes outer outer inner f added t)
 
       after : IsFormOf nodes (outer ++ added) (ToldBy nodes (replaced ss new))
       after = form-as nodes (outer ++ added) (λ a b. ToldBy nodes (around ss) a b ⊎ IsTold (bindings_in nodes added) a b) (ToldBy nodes (replaced ss new))
@@ -96,15 +108,11 @@ module _ (nodes : List Node) (ss : List Stored) (f : IsSolvedChain nodes (around
             | inr x ↦ inl x
           ])
 
-  -- no clash in a consistent chain
-  pub no-clash : (left right : Term) → IsConsistentBy (ToldBy nodes ss) → IsClashOfBindings nodes (outer ++ []) inner left right → ⊥
-  no-clash left right c k = k.differ.differ (c.heads (EqualBy-follows (λ a b m. elim m [
-    | inl x ↦ EqualBy-follows (λ u v y. told (subst (λ (l : List (Var × Term)). IsTold (bindings_in nodes l) u v) (sym (from-innermost ss)) (bindings-right nodes inner outer u v y)))
-        (f.follow a b (subst (λ (l : List (Var × Term)). IsBound (bound_in nodes l) a b) (append-nil outer) x))
-    | inr x ↦ told (subst (λ (l : List (Var × Term)). IsTold (bindings_in nodes l) a b) (sym (from-innermost ss)) (bindings-left nodes inner outer a b x))
-  ]) k.equal) k.differ.is_left k.differ.is_right)
+  -- the innermost store doesn't clash with those around where the chain is consistent
+  pub inner-no-clash : (left right : Term) → IsConsistentBy (ToldBy nodes ss) → IsClashOfBindings nodes (outer ++ []) inner left right → ⊥
+  inner-no-clash left right c k = no-clash nodes outer outer inner f left right (subst (λ (l : List (Var × Term)). IsConsistentBy (IsTold (bindings_in nodes l))) (from-innermost ss) c) k
 
-module _ (nodes : List Node) (ss : List Stored) (f : IsSolvedChain nodes ss) (t last : Term) (e : tree nodes last ≡ end_of nodes (bindings_from ss) (tree nodes t)) where
+module _ (nodes : List Node) (ss : List Stored) (f : IsFormChain nodes ss) (t last : Term) (e : tree nodes last ≡ end_of nodes (bindings_from ss) (tree nodes t)) where
   to_last : EqualBy (ToldBy nodes ss) (tree nodes t) (tree nodes last)
   to_last = subst (λ (k : Tree). EqualBy (ToldBy nodes ss) (tree nodes t) k) (sym e) (form-follows nodes (bindings_from ss) (ToldBy nodes ss) f (tree nodes t))
 
@@ -125,12 +133,12 @@ module _ (nodes : List Node) (ss : List Stored) (f : IsSolvedChain nodes ss) (t 
 module _ (nodes : List Node) (ss : List Stored) (k : ℕ) (f : IsSolvedChain nodes (take k ss)) where
   pub further-consistent : (new : List (Var × Term)) → Takes nodes (bindings_from (take k ss)) [] new (bindings_from (take (length ss - k) (drop k ss))) → IsConsistentBy (ToldBy nodes ss)
   further-consistent new t = form-consistent nodes (bindings_from (take k ss) ++ new) (ToldBy nodes ss)
-      (chain-form nodes ss k (bindings_from (take k ss)) new f (subst (λ (l : List Stored). Takes nodes (bindings_from (take k ss)) [] new (bindings_from l)) (drop-whole ss k) t))
+      (chain-form nodes ss k (bindings_from (take k ss)) new f.form (subst (λ (l : List Stored). Takes nodes (bindings_from (take k ss)) [] new (bindings_from l)) (drop-whole ss k) t))
 
   pub further-clash : (left right : Term) → IsClashOfBindings nodes (bindings_from (take k ss) ++ []) (bindings_from (take (length ss - k) (drop k ss))) left right
       → EqualBy (ToldBy nodes ss) (tree nodes left) (tree nodes right) × DifferInHead (tree nodes left) (tree nodes right)
   further-clash left right c = (
-    chain-clash nodes ss k (bindings_from (take k ss)) left right f
+    chain-clash nodes ss k (bindings_from (take k ss)) left right f.form
         (subst (λ (l : List Stored). IsClashOfBindings nodes (bindings_from (take k ss) ++ []) (bindings_from l) left right) (drop-whole ss k) c),
     c.differ,
   )

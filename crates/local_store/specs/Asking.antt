@@ -1,5 +1,6 @@
 -- What a chain says, and how it is made solved.
-use Rattle.std.specs.Prelude.{◌≡◌, List, Some}
+use Rattle.std.specs.Prelude.{◌≡◌, List, [], Some}
+use Rattle.akl_terms.specs.declared.name.Var.{Var}
 use Rattle.akl_terms.specs.declared.term.Node.{Node}
 use Rattle.akl_terms.specs.declared.term.Term.{Term}
 use Rattle.akl_terms.specs.Tree.{variable, Head, head_of}
@@ -7,13 +8,14 @@ use Rattle.akl_terms.specs.Equal.{EqualBy, IsConsistentBy}
 use Rattle.akl_terms.specs.Decided.{DifferInHead}
 use Rattle.akl_terms.specs.Solved.{IsUnstructured}
 use Rattle.akl_terms.specs.Template.{tree}
+use Rattle.rational_unify.specs.Forms.{Takes}
 use Rattle.local_store.specs.declared.asking.Consistency.{Consistency}
 use Rattle.local_store.specs.declared.asking.Consistency.TheVariants.{Consistent, Clash}
 use Rattle.local_store.specs.declared.asking.Valued.{Valued}
 use Rattle.local_store.specs.declared.asking.Valued.TheVariants.{Free, Bound}
-use Rattle.local_store.specs.Stored.{Stored}
+use Rattle.local_store.specs.Stored.{Stored, unbound, with_bindings}
 use Rattle.akl_terms.specs.Standing.{StandFor}
-use Rattle.local_store.specs.Chained.{ToldBy, IsSolvedChain, innermost, replaced}
+use Rattle.local_store.specs.Chained.{ToldBy, IsFormChain, innermost, replaced}
 
 abbrev pub Decides : List Node → List Stored → Consistency → Type 0
 Decides nodes ss Consistent = IsConsistentBy (ToldBy nodes ss)
@@ -24,9 +26,15 @@ abbrev pub Values : List Node → List Stored → Term → Valued → Type 0
 Values nodes ss t (Free x) = EqualBy (ToldBy nodes ss) (tree nodes t) (variable x) × IsUnstructured (ToldBy nodes ss) (tree nodes t)
 Values nodes ss t (Bound u) = EqualBy (ToldBy nodes ss) (tree nodes t) (tree nodes u) × ((h : Head) × (head_of (tree nodes u) ≡ Some h))
 
--- a store with the innermost store's frames and ports, with which the chain is solved and stands for the same
+-- a store with the same frames and ports, and with what is found for its bindings over a solved form
+pub record ResolvesOver (nodes : List Node) (known : List (Var × Term)) (old new : Stored) : Type 0 where
+  pub more : List (Var × Term)
+  pub takes : Takes nodes known [] more old.bindings
+  pub is : new ≡ with_bindings (unbound old) more
+
+-- a store with the innermost store's frames and ports, with which what is found is a solved form, and the chain stands for the same
 pub record Resolves (nodes : List Node) (ss : List Stored) (new : Stored) : Type 0 where
   pub frames : new.frames ≡ (innermost ss).frames
   pub ports : new.ports ≡ (innermost ss).ports
-  pub solved : IsSolvedChain nodes (replaced ss new)
+  pub form : IsFormChain nodes (replaced ss new)
   pub stands : StandFor (ToldBy nodes ss) (ToldBy nodes (replaced ss new))

@@ -4,8 +4,9 @@ use Rattle.akl_terms.specs.declared.name.Var.{Var}
 use Rattle.akl_terms.specs.declared.term.Node.{Node}
 use Rattle.akl_terms.specs.declared.term.Term.{Term}
 use Rattle.akl_terms.specs.Tree.{Tree}
-use Rattle.akl_terms.specs.Equal.{IsTold}
+use Rattle.akl_terms.specs.Equal.{Equations, IsTold}
 use Rattle.rational_unify.specs.Solving.{bindings_in}
+use Rattle.rational_unify.specs.Older.{LeadOlder}
 use Rattle.rational_unify.specs.Forms.{IsFormOf}
 use Rattle.local_store.specs.Stored.{Stored, nothing}
 
@@ -21,13 +22,22 @@ abbrev pub bindings_from : List Stored → List (Var × Term)
 bindings_from [] = []
 bindings_from (s ∷ ss) = bindings_from ss ++ s.bindings
 
+-- all bindings of stores as equations
+abbrev pub equations_of : List Node → List Stored → Equations
+equations_of nodes ss = bindings_in nodes (bindings_from ss)
+
 -- the equations that stores stand for: all of their bindings
 abbrev pub ToldBy : List Node → List Stored → Tree → Tree → Type 0
-ToldBy nodes ss = IsTold (bindings_in nodes (bindings_from ss))
+ToldBy nodes ss = IsTold (equations_of nodes ss)
 
 -- what is found is a solved form of all that the stores stand for
-abbrev pub IsSolvedChain : List Node → List Stored → Type 0
-IsSolvedChain nodes ss = IsFormOf nodes (bindings_from ss) (ToldBy nodes ss)
+abbrev pub IsFormChain : List Node → List Stored → Type 0
+IsFormChain nodes ss = IsFormOf nodes (bindings_from ss) (ToldBy nodes ss)
+
+-- and it leads from younger variables to older ones
+pub record IsSolvedChain (nodes : List Node) (ss : List Stored) : Type 0 where
+  pub form : IsFormChain nodes ss
+  pub older : LeadOlder nodes (bindings_from ss)
 
 -- as far as is known each chain of the outermost stores is solved
 pub record IsKnown (nodes : List Node) (ss : List Stored) (known : ℕ) : Type 0 where

@@ -1,6 +1,7 @@
 pub mod Stored
 pub mod Kept
 pub mod Chained
+pub mod Bound
 pub mod Telling
 pub mod Asking
 pub mod Promoting

@@ -1,15 +1,17 @@
 //! What a chain says, and how it is made solved.
-ghost use Rattle.std.specs.Prelude.{◌≡◌, IfOk};
+ghost use Rattle.std.specs.Prelude.{◌≡◌, ◌++◌, [], IfOk};
 ghost use Rattle.akl_terms.specs.Equal.{IsConsistentBy};
-ghost use Rattle.local_store.specs.Chained.{ToldBy, IsSolvedChain, around};
-ghost use Rattle.local_store.specs.Asking.{Decides, Values, Resolves};
+ghost use Rattle.rational_unify.specs.Known.{IsSolved};
+ghost use Rattle.rational_unify.specs.Forms.{IsClashOfBindings};
+ghost use Rattle.local_store.specs.Chained.{ToldBy, IsFormChain, around};
+ghost use Rattle.local_store.specs.Asking.{Decides, Values, ResolvesOver, Resolves};
 
 use crate::chain::Chain;
 use crate::shared::Shared;
 use crate::store::Store;
-use crate::telling::{innermost, take_stores};
-use akl_terms::{Seen, Term, Var};
-use rational_unify::{AddedBindings, Form, chain_end};
+use crate::telling::{innermost, take_store, take_stores};
+use akl_terms::{Seen, Templates, Term, Var};
+use rational_unify::{AddedBindings, Form, Lookup, chain_end};
 use std::alloc::{AllocError, Global};
 
 /// What `consistent` answers.
@@ -53,7 +55,7 @@ pub fn consistent(alloc: Global, chain: &Chain) -> Result<Consistency, AllocErro
 
 /// What stands for a term's class.
 pub fn value(chain: &Chain, term: Term) -> Valued
-    requires { IsSolvedChain chain.now.nodes chain.now.stores }
+    requires { IsFormChain chain.now.nodes chain.now.stores }
     ensures { Values chain.now.nodes chain.now.stores term result }
 {
     let templates = chain.templates();
@@ -64,26 +66,34 @@ pub fn value(chain: &Chain, term: Term) -> Valued
     }
 }
 
-/// A store with which the chain is solved and stands for the same equations.
+/// A store with which what is found in the chain is a solved form and stands for the same equations.
 pub fn solved_store(alloc: Global, chain: &Chain) -> Result<Shared<Store>, AllocError>
     requires consistent { IsConsistentBy (ToldBy chain.now.nodes chain.now.stores) }
-    requires around { IsSolvedChain chain.now.nodes (around chain.now.stores) }
+    requires around { IsFormChain chain.now.nodes (around chain.now.stores) }
     ensures { IfOk result (λ s. Resolves chain.now.nodes chain.now.stores s) }
 {
     let stores = chain.stores();
     let outer = chain.outer(stores.len().saturating_sub(1));
+    let store = innermost(alloc, stores)?;
+    resolved(alloc, chain.templates(), &outer, &store)
+}
+
+// A store with what is found for its bindings over a solved form, in their place.
+fn resolved<K: Lookup>(
+    alloc: Global,
+    templates: &Templates,
+    known: &K,
+    store: &Store,
+) -> Result<Shared<Store>, AllocError>
+    requires solved { IsSolved templates.now.nodes (K.bindings known.now) }
+    requires consistent { (left right : Term) → IsClashOfBindings templates.now.nodes (K.bindings known.now ++ []) store.now.bindings left right → ⊥ }
+    ensures { IfOk result (λ s. ResolvesOver templates.now.nodes (K.bindings known.now) store.now s) }
+{
     let mut form = Form {
-        known: &outer,
+        known,
         added: AddedBindings::new(alloc),
     };
-    let store = innermost(alloc, stores)?;
-    let bindings = store.bindings()?;
-    match form.take(alloc, chain.templates(), bindings.as_slice())? {
-        // Not where the chain is consistent.
-        Some(_) => Shared::new(alloc, store),
-        None => Shared::new(
-            alloc,
-            store.without_bindings()?.with_all(form.added.as_slice())?,
-        ),
-    }
+    // There is no clash.
+    take_store(alloc, templates, &mut form, store)?;
+    Shared::new(alloc, store.with_only(form.added.as_slice())?)
 }

@@ -129,14 +129,31 @@ impl Store {
         ensures { IfOk result (λ s. s ≡ with_bindings self.now bindings.now) }
     {
         let mut store = self.share()?;
-        for binding in bindings {
-            store.add_binding(binding.0, binding.1)?;
-        }
+        store.add_all(bindings)?;
         Ok(store)
     }
 
-    /// The frames and ports alone.
-    pub(crate) fn without_bindings(&self) -> Result<Store, AllocError>
+    /// The frames and ports with these bindings alone, added one after another.
+    pub(crate) fn with_only(&self, bindings: &[(Var, Term)]) -> Result<Store, AllocError>
+        ensures { IfOk result (λ s. s ≡ with_bindings (unbound self.now) bindings.now) }
+    {
+        let mut store = self.without_bindings()?;
+        store.add_all(bindings)?;
+        Ok(store)
+    }
+
+    // Also has these bindings, added one after another. After an `Err` it may have some of them.
+    fn add_all(&mut self, bindings: &[(Var, Term)]) -> Result<(), AllocError>
+        ensures { IfOk result (λ _. self.new ≡ with_bindings self.old bindings.now) }
+    {
+        for binding in bindings {
+            self.add_binding(binding.0, binding.1)?;
+        }
+        Ok(())
+    }
+
+    // The frames and ports alone.
+    fn without_bindings(&self) -> Result<Store, AllocError>
         ensures { IfOk result (λ s. s ≡ unbound self.now) }
     {
         Ok(Store {

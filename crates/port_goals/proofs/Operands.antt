@@ -14,7 +14,7 @@ use Rattle.rational_unify.proofs.Chains.{tree_of_seen}
 use Rattle.rational_unify.proofs.Heads.{head_of_seen, head_seen}
 use Rattle.rational_unify.proofs.FormLaws.{form-consistent}
 use Rattle.local_store.specs.Stored.{Stored}
-use Rattle.local_store.specs.Chained.{bindings_from, ToldBy, IsSolvedChain}
+use Rattle.local_store.specs.Chained.{bindings_from, ToldBy, IsFormChain}
 use Rattle.local_store.proofs.Resolved.{value-bound}
 use Rattle.port_goals.specs.Sends.{IsNoPort}
 
@@ -25,7 +25,7 @@ other-head (Seen.Int z) p n e = cc
 other-head (Seen.Port q) p n e = n q refl
 other-head (Seen.Struct s i k f) p n e = cc
 
-module _ (nodes : List Node) (ss : List Stored) (f : IsSolvedChain nodes ss) (t last : Term) (e : tree nodes last ≡ end_of nodes (bindings_from ss) (tree nodes t)) where
+module _ (nodes : List Node) (ss : List Stored) (f : IsFormChain nodes ss) (t last : Term) (e : tree nodes last ≡ end_of nodes (bindings_from ss) (tree nodes t)) where
   pub is-port : (p : Name) → Seen.Port p ≡ seen_of nodes last → EqualBy (ToldBy nodes ss) (tree nodes t) (port p)
   is-port p s = subst (λ k. EqualBy (ToldBy nodes ss) (tree nodes t) k) ((tree_of_seen nodes last).1 ∙ ap (tree_seen (tree_of_seen nodes last).0) (sym s))
       (value-bound nodes ss f t last e (Seen.Port p) s (λ x q. cc)).0

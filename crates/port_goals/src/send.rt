@@ -3,7 +3,7 @@
 ghost use Rattle.std.specs.Prelude.{◌≡◌, is_some};
 ghost use Rattle.std.specs.Map.{lookup};
 ghost use Rattle.akl_terms.specs.Names.{same_name};
-ghost use Rattle.local_store.specs.Chained.{IsSolvedChain, innermost};
+ghost use Rattle.local_store.specs.Chained.{IsFormChain, innermost};
 ghost use Rattle.port_goals.specs.Sends.{IsSend, IsStateOf};
 
 use akl_terms::{Code, Goal, Name, Seen, Term, Var};
@@ -26,7 +26,7 @@ pub enum SendState {
 /// What the port operand of a send is under the equations that a chain's stores tell. It takes no
 /// memory.
 pub fn sendable(chain: &Chain, goal: Goal) -> SendState
-    requires solved { IsSolvedChain chain.now.nodes chain.now.stores }
+    requires solved { IsFormChain chain.now.nodes chain.now.stores }
     requires send { IsSend goal.code }
     ensures { IsStateOf chain.now.nodes chain.now.stores goal result }
 {

@@ -2,10 +2,7 @@ use Rattle.std.proofs.Common.{◌≡◌, [], sym, ◌∙◌, ap, arith}
 use Rattle.local_store.specs.Stored.{Stored}
 use Rattle.local_store.specs.Promoting.{with_ports}
 use Rattle.local_store.proofs.Joining.{ports-push, drained}
-use Rattle.local_store.proofs.promoting.with_ports.Goals as goal
-
-pub loop-port-init : goal.loop-port-init
-loop-port-init c = ap (λ (s : Stored). with_ports s c.args.ports.items) c.in_ok-store.ensures
+use Rattle.local_store.proofs.promoting.add_ports.Goals as goal
 
 pub loop-port-preserved : goal.loop-port-preserved
 loop-port-preserved c = ap (λ (s : Stored). with_ports s c.pop.new.self.items) c.in_ok-set_port.ensures.set

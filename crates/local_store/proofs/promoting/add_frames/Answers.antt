@@ -2,10 +2,7 @@ use Rattle.std.proofs.Common.{◌≡◌, [], sym, ◌∙◌, ap, arith}
 use Rattle.local_store.specs.Stored.{Stored}
 use Rattle.local_store.specs.Promoting.{with_frames}
 use Rattle.local_store.proofs.Joining.{frames-push, drained}
-use Rattle.local_store.proofs.promoting.with_frames.Goals as goal
-
-pub loop-frame-init : goal.loop-frame-init
-loop-frame-init c = ap (λ (s : Stored). with_frames s c.args.frames.items) c.in_ok-store.ensures
+use Rattle.local_store.proofs.promoting.add_frames.Goals as goal
 
 pub loop-frame-preserved : goal.loop-frame-preserved
 loop-frame-preserved c = ap (λ (s : Stored). with_frames s c.pop.new.self.items) c.in_ok-add_frame.ensures.added
