@@ -9,16 +9,14 @@ use Rattle.akl_terms.specs.Names.{same_name}
 use Rattle.akl_terms.proofs.SameNames.{same_name-equal, same_name-refl}
 use Rattle.akl_model.specs.declared.label.Rule.{Rule}
 use Rattle.akl_model.specs.declared.label.Label.{Label}
-use Rattle.akl_model.specs.Config.{IsIn, Content, Boxes, no_boxes, box, Config, Held, a_choice, held_in, with_content, Found, box_at, home_of}
+use Rattle.akl_model.specs.Config.{Content, Boxes, no_boxes, box, Config, Held, a_choice, held_in, with_content, Found, box_at, home_of}
 use Rattle.akl_model.specs.Rules.{Reading, Change, becomes, kept_by, cut, change_by}
 use Rattle.akl_model.specs.Derivations.{Applies}
 use Rattle.akl_model.specs.Changes.{of_choice, shape_of, shape_at, box_names, goal_names, constraint_of}
-use Rattle.akl_model.specs.Wakes.{names_down_to}
 use Rattle.akl_model.proofs.Options.{none_or, none_where, some_value}
 use Rattle.akl_model.proofs.Finds.{times_inside}
 use Rattle.akl_model.proofs.NamesKept.{Stand, replay-stands, stands_after}
 use Rattle.step_laws.specs.ChangedItems.{goal_of, IsReplaced}
-use Rattle.step_laws.specs.Holders.{IsAlternativeAt}
 use Rattle.step_laws.proofs.Whereabouts.{found_in}
 use Rattle.step_laws.proofs.Becomes.{Becomes}
 use Rattle.step_laws.proofs.Steps.{site_now, found}
@@ -34,10 +32,12 @@ use Rattle.table_laws.proofs.Along as along
 use Rattle.table_laws.proofs.Frame.{row_of, neither, KeepsRows, KeepsBoxes}
 use Rattle.table_laws.proofs.Onward.{GoalGoes, LeadsOn, site_same, fails_as}
 use Rattle.table_laws.proofs.Marked.{led}
-use Rattle.table_laws.proofs.Insides.{spot_held, spot_none, goal_row, inside, not_inside, not_inside_none, goal_inside, not_goal_inside, not_goal_inside_none}
+use Rattle.table_laws.proofs.Insides.{spot_held, spot_none, goal_row}
 use Rattle.table_laws.proofs.Gone.{goals_once}
 use Rattle.table_laws.proofs.Kept.{kept_names, kept_fails}
 use Rattle.table_laws.proofs.Cutting as cutting
+use Rattle.table_laws.proofs.Going.{AreGoing}
+use Rattle.table_laws.proofs.CutAway as away
 
 -- the change of a cut
 cut_change : (p : Program) (v : Reading) (w next : ℕ) (r : Rule) (place : Place) (alternative : Option Name) (g n : Name) (f : Found) (c : Change) (o : Op) (bs : Boxes) → r ≡ Rule.Cut → place ≡ Place.Goal g
@@ -47,8 +47,8 @@ cut_change p v w next r place alternative g n f c o bs q e x h held = sym (some_
     made : cut g n f (held_in g f.goals) ≡ Some c
     made = sym (λ i. change_by p v w next (q i) (e i) (x i) f) ∙ h
 
-module _ (rules : List Rule) (r : Run) (T U : Table) (l : Label) (d : Config) (t : IsTableOf rules r T) (a : Applies rules r.program t.config l d) (g n : Name) (rule : l.rule ≡ Rule.Cut) (place : l.place ≡ Place.Goal g)
-    (names : l.alternative ≡ Some n) (made : CutsGoal a.site g n) (f : Cuts T U g n) where
+module _ (rules : List Rule) (r : Run) (T : Table) (l : Label) (d : Config) (t : IsTableOf rules r T) (a : Applies rules r.program t.config l d) (g n : Name) (rule : l.rule ≡ Rule.Cut) (place : l.place ≡ Place.Goal g)
+    (names : l.alternative ≡ Some n) (made : CutsGoal a.site g n) where
   abbrev o : Op
   o = made.operator
 
@@ -114,12 +114,6 @@ module _ (rules : List Rule) (r : Run) (T U : Table) (l : Label) (d : Config) (t
   abbrev IsUnderCut : Found → Type 0
   IsUnderCut e = cutting.IsUnderCut rules r.program r.query r.journal t.config l d t.replays a g n o o bs no_boxes at_goal made.held boxes_are e
 
-  apart : (k : Name) (e h : Found) → box_at k t.config.roots ≡ Some e → box_at k d.roots ≡ Some h → (i : Name) → IsIn i (names_cut o n (box_names bs)) → IsIn i (names_down_to e) → ⊥
-  apart = cutting.apart rules r.program r.query r.journal t.config l d t.replays a g n o o bs no_boxes at_goal made.held boxes_are
-
-  alternative : (k : Name) → IsIn k (names_cut o n (box_names bs)) → IsAlternativeAt k g a.site t.config.roots
-  alternative = cutting.alternative rules r.program r.query r.journal t.config l d t.replays a g n o o bs no_boxes at_goal made.held boxes_are
-
   -- the goal's row, and what goes by rows
 
   its_row : (row : GoalRow) × (T.goal_of g ≡ Some row) × (row.home ≡ a.site.content.name) × (row.shape ≡ of_choice o (box_names bs))
@@ -128,178 +122,169 @@ module _ (rules : List Rule) (r : Run) (T U : Table) (l : Label) (d : Config) (t
   cut_names : cut_from n (T.goal_of g) ≡ names_cut o n (box_names bs)
   cut_names = ap (cut_from n) its_row.1 ∙ ap (cut_in n) its_row.3
 
-  goes : (k : Name) → IsIn k (cut_from n (T.goal_of g)) → IsIn k (names_cut o n (box_names bs))
-  goes k i = subst (IsIn k) cut_names i
-
   is_cut : (k : Name) (e : Found) → box_at k t.config.roots ≡ Some e → IsUnderCut e → IsCut T g n k
-  is_cut k e i x = record { alternative = x.one; goes = subst (IsIn x.one) (sym cut_names) x.goes; inside = inside T t.config t.unfolds s.once x.one k e i x.down }
+  is_cut = away.is_cut rules r.program r.query r.journal t.config l d t.replays a g n o o bs no_boxes at_goal made.held boxes_are T t.unfolds (cut_from n (T.goal_of g)) cut_names
 
   not_cut : (k : Name) (e h : Found) → box_at k t.config.roots ≡ Some e → box_at k d.roots ≡ Some h → IsCut T g n k → ⊥
-  not_cut k e h i j x =
-      let z : IsIn x.alternative (names_cut o n (box_names bs)) = goes x.alternative x.goes in
-      let w : IsAlternativeAt x.alternative g a.site t.config.roots = alternative x.alternative z in
-      not_inside T t.config t.unfolds s.once x.alternative k w.found e w.is_found i (apart k e h i j x.alternative z) x.inside
+  not_cut = away.not_cut rules r.program r.query r.journal t.config l d t.replays a g n o o bs no_boxes at_goal made.held boxes_are T t.unfolds (cut_from n (T.goal_of g)) cut_names
 
   not_cut_none : (k : Name) → box_at k t.config.roots ≡ None → IsCut T g n k → ⊥
-  not_cut_none k i x =
-      let w : IsAlternativeAt x.alternative g a.site t.config.roots = alternative x.alternative (goes x.alternative x.goes) in
-      not_inside_none T t.config t.unfolds s.once x.alternative k w.found w.is_found i x.inside
+  not_cut_none = away.not_cut_none rules r.program r.query r.journal t.config l d t.replays a g n o o bs no_boxes at_goal made.held boxes_are T t.unfolds (cut_from n (T.goal_of g)) cut_names
 
   is_goal_cut : (i : Name) (e : Found) → home_of i t.config.roots ≡ Some e → IsUnderCut e → IsGoalCut T g n i
-  is_goal_cut i e h x = record { alternative = x.one; goes = subst (IsIn x.one) (sym cut_names) x.goes; inside = goal_inside T t.config t.unfolds s.once x.one i e h x.down }
+  is_goal_cut = away.is_goal_cut rules r.program r.query r.journal t.config l d t.replays a g n o o bs no_boxes at_goal made.held boxes_are T t.unfolds (cut_from n (T.goal_of g)) cut_names
 
   not_goal_cut : (i : Name) (e h : Found) → home_of i t.config.roots ≡ Some e → home_of i d.roots ≡ Some h → IsGoalCut T g n i → ⊥
-  not_goal_cut i e h y z x =
-      let v : IsIn x.alternative (names_cut o n (box_names bs)) = goes x.alternative x.goes in
-      let w : IsAlternativeAt x.alternative g a.site t.config.roots = alternative x.alternative v in
-      not_goal_inside T t.config t.unfolds s.once x.alternative i w.found e w.is_found y
-      (cutting.home_apart rules r.program r.query r.journal t.config l d t.replays a g n o o bs no_boxes at_goal made.held boxes_are i e h y z x.alternative v) x.inside
+  not_goal_cut = away.not_goal_cut rules r.program r.query r.journal t.config l d t.replays a g n o o bs no_boxes at_goal made.held boxes_are T t.unfolds (cut_from n (T.goal_of g)) cut_names
 
   not_goal_cut_none : (i : Name) → home_of i t.config.roots ≡ None → IsGoalCut T g n i → ⊥
-  not_goal_cut_none i h x =
-      let w : IsAlternativeAt x.alternative g a.site t.config.roots = alternative x.alternative (goes x.alternative x.goes) in
-      not_goal_inside_none T t.config t.unfolds s.once x.alternative i w.found w.is_found h x.inside
+  not_goal_cut_none = away.not_goal_cut_none rules r.program r.query r.journal t.config l d t.replays a g n o o bs no_boxes at_goal made.held boxes_are T t.unfolds (cut_from n (T.goal_of g)) cut_names
 
-  -- rows of boxes
+  -- the alternatives that are cut go with all inside them, and nothing else
+  pub cut_going : (Own : Name → Type 0) → ((i : Name) → Own i → ⊥) → AreGoing T t.config d (cut_from n (T.goal_of g)) Own
+  cut_going = away.cut_away rules r.program r.query r.journal t.config l d t.replays a g n o o bs no_boxes at_goal made.held boxes_are T t.unfolds (cut_from n (T.goal_of g)) cut_names
 
-  keeps : KeepsRows a T U
-  keeps = record {
-    nodes = f.nodes;
-    steps = f.steps;
-    rows = λ k e h row other i j x.
-        let w : (v : BoxRow) × (T.box_of k ≡ Some v) × IsBoxRow T t.config.roots e v = row_of T t.config t.unfolds k e i in
-        let same : w.0 ≡ row = some_value (sym w.1 ∙ x) in (
-          row.failing,
-          f.box_stays k (not_cut k e h i j) ∙ x,
-          fails_as rules r.program r.query r.journal t.config l d t.replays a T U t.unfolds k e h row.failing other i j
-              (λ v y cs replaced z u. not_replaced replaced)
-              (subst (λ (v : BoxRow). FailsBy e.goals v.failing) same w.2.failing),
-        );
-  }
+  module _ (U : Table) (f : Cuts T U g n) where
+    -- rows of boxes
 
-  site_was : (v : BoxRow) × (T.box_of a.site.content.name ≡ Some v) × IsBoxRow T t.config.roots a.site v
-  site_was = row_of T t.config t.unfolds a.site.content.name a.site was_there
+    keeps : KeepsRows a T U
+    keeps = record {
+      nodes = f.nodes;
+      steps = f.steps;
+      rows = λ k e h row other i j x.
+          let w : (v : BoxRow) × (T.box_of k ≡ Some v) × IsBoxRow T t.config.roots e v = row_of T t.config t.unfolds k e i in
+          let same : w.0 ≡ row = some_value (sym w.1 ∙ x) in (
+            row.failing,
+            f.box_stays k (not_cut k e h i j) ∙ x,
+            fails_as rules r.program r.query r.journal t.config l d t.replays a T U t.unfolds k e h row.failing other i j
+                (λ v y cs replaced z u. not_replaced replaced)
+                (subst (λ (v : BoxRow). FailsBy e.goals v.failing) same w.2.failing),
+          );
+    }
 
-  site_has : U.box_of a.site.content.name ≡ Some site_was.0
-  site_has = f.box_stays a.site.content.name (not_cut a.site.content.name a.site (site_now b) was_there now_there) ∙ site_was.1
+    site_was : (v : BoxRow) × (T.box_of a.site.content.name ≡ Some v) × IsBoxRow T t.config.roots a.site v
+    site_was = row_of T t.config t.unfolds a.site.content.name a.site was_there
 
-  few : (i : Name) → times_inside i b.goals ≤ 1
-  few i = goals_once d.roots later.once (site_now b) (found_in a.site.content.name d.roots (site_now b) now_there) i
+    site_has : U.box_of a.site.content.name ≡ Some site_was.0
+    site_has = f.box_stays a.site.content.name (not_cut a.site.content.name a.site (site_now b) was_there now_there) ∙ site_was.1
 
-  site_row : IsBoxRow U d.roots (site_now b) site_was.0 × IsAsTold T U a.site.content.name
-  site_row = site_same rules r.program r.query r.journal t.config l d t.replays a T U t.unfolds keeps b content_now names_now site_was.0 site_was.0.failing site_was.1 site_has
-      (kept_fails g o o n bs a.site.goals b.goals site_was.0.failing few made.named made.held held_now others_now site_was.2.failing)
+    few : (i : Name) → times_inside i b.goals ≤ 1
+    few i = goals_once d.roots later.once (site_now b) (found_in a.site.content.name d.roots (site_now b) now_there) i
 
-  boxes : KeepsBoxes a T U
-  boxes = record {
-    keeps = keeps;
-    site = λ h j. (site_was.0, site_has, subst (λ (k : Found). IsBoxRow U d.roots k site_was.0) (some_value (sym now_there ∙ j)) site_row.0, inl site_row.1);
-  }
+    site_row : IsBoxRow U d.roots (site_now b) site_was.0 × IsAsTold T U a.site.content.name
+    site_row = site_same rules r.program r.query r.journal t.config l d t.replays a T U t.unfolds keeps b content_now names_now site_was.0 site_was.0.failing site_was.1 site_has
+        (kept_fails g o o n bs a.site.goals b.goals site_was.0.failing few made.named made.held held_now others_now site_was.2.failing)
 
-  gone_box : (k : Name) → box_at k d.roots ≡ None → U.box_of k ≡ None
-  gone_box k j = on (none_or (box_at k t.config.roots))
-    where
-      on : (box_at k t.config.roots ≡ None) ⊎ ((e : Found) × (box_at k t.config.roots ≡ Some e)) → U.box_of k ≡ None
-      on (inl i) = f.box_stays k (not_cut_none k i) ∙ neither (IsBoxRow T t.config.roots) (box_at k t.config.roots) (T.box_of k) (t.unfolds.boxes k) i
-      on (inr (e, i)) = elim (cutting.stays_or rules r.program r.query r.journal t.config l d t.replays a g n o o bs no_boxes at_goal made.held boxes_are k e i) [
-        | inl w ↦ (let z : box_at k d.roots ≡ Some w.0 = w.1 in cc)
-        | inr x ↦ f.box_goes k (is_cut k e i x)
-      ]
+    boxes : KeepsBoxes a T U
+    boxes = record {
+      keeps = keeps;
+      site = λ h j. (site_was.0, site_has, subst (λ (k : Found). IsBoxRow U d.roots k site_was.0) (some_value (sym now_there ∙ j)) site_row.0, inl site_row.1);
+    }
 
-  -- rows of goals
+    gone_box : (k : Name) → box_at k d.roots ≡ None → U.box_of k ≡ None
+    gone_box k j = on (none_or (box_at k t.config.roots))
+      where
+        on : (box_at k t.config.roots ≡ None) ⊎ ((e : Found) × (box_at k t.config.roots ≡ Some e)) → U.box_of k ≡ None
+        on (inl i) = f.box_stays k (not_cut_none k i) ∙ neither (IsBoxRow T t.config.roots) (box_at k t.config.roots) (T.box_of k) (t.unfolds.boxes k) i
+        on (inr (e, i)) = elim (cutting.stays_or rules r.program r.query r.journal t.config l d t.replays a g n o o bs no_boxes at_goal made.held boxes_are k e i) [
+          | inl w ↦ (let z : box_at k d.roots ≡ Some w.0 = w.1 in cc)
+          | inr x ↦ f.box_goes k (is_cut k e i x)
+        ]
 
-  abbrev number : ℕ
-  number = T.steps + 1
+    -- rows of goals
 
-  goal_rows : (i : Name) → (IsGoalCut T g n i → ⊥) → same_name i g ≡ false → U.goal_of i ≡ T.goal_of i
-  goal_rows i h e = f.goal_stays i h ∙ set_other g i (option_map (cut_row n number) (T.goal_of g)) T.goal_of e
+    abbrev number : ℕ
+    number = T.steps + 1
 
-  no_shape : (i : Name) (cs : Boxes) → home_of i cs ≡ None → shape_at i cs ≡ None
-  no_shape i cs e = ap (option_and_then (λ (x : Found). option_map shape_of (held_in i x.goals))) e
+    goal_rows : (i : Name) → (IsGoalCut T g n i → ⊥) → same_name i g ≡ false → U.goal_of i ≡ T.goal_of i
+    goal_rows i h e = f.goal_stays i h ∙ set_other g i (option_map (cut_row n number) (T.goal_of g)) T.goal_of e
 
-  itself : GoalGoes T U t.config d g
-  itself = inr (
-    ap (option_map spot_of) row_is ∙ (λ k. Some (record { home = home k; shape = shape k })) ∙ sym (spot_held g d.roots (site_now b) (a_choice o (kept_by o n bs)) home_now held_now),
-    λ row e. (ap (λ (w : GoalRow). w.changed) (some_value (sym e ∙ row_is)), λ q. differs (some_value (sym before ∙ q ∙ afterwards))),
-  )
-    where
-      row_is : U.goal_of g ≡ Some (cut_row n number its_row.0)
-      row_is = f.goal_stays g (not_goal_cut g a.site (site_now b) home_was home_now) ∙ set_here g g (option_map (cut_row n number) (T.goal_of g)) T.goal_of (same_name-refl g) ∙ ap (option_map (cut_row n number)) its_row.1
+    no_shape : (i : Name) (cs : Boxes) → home_of i cs ≡ None → shape_at i cs ≡ None
+    no_shape i cs e = ap (option_and_then (λ (x : Found). option_map shape_of (held_in i x.goals))) e
 
-      home : its_row.0.home ≡ b.content.name
-      home = its_row.2 ∙ ap (λ (k : Content). k.name) (sym content_now)
+    itself : GoalGoes T U t.config d g
+    itself = inr (
+      ap (option_map spot_of) row_is ∙ (λ k. Some (record { home = home k; shape = shape k })) ∙ sym (spot_held g d.roots (site_now b) (a_choice o (kept_by o n bs)) home_now held_now),
+      λ row e. (ap (λ (w : GoalRow). w.changed) (some_value (sym e ∙ row_is)), λ q. differs (some_value (sym before ∙ q ∙ afterwards))),
+    )
+      where
+        row_is : U.goal_of g ≡ Some (cut_row n number its_row.0)
+        row_is = f.goal_stays g (not_goal_cut g a.site (site_now b) home_was home_now) ∙ set_here g g (option_map (cut_row n number) (T.goal_of g)) T.goal_of (same_name-refl g) ∙ ap (option_map (cut_row n number)) its_row.1
 
-      shape : cut_shape n its_row.0.shape ≡ of_choice o (box_names (kept_by o n bs))
-      shape = ap (cut_shape n) its_row.3 ∙ ap (of_choice o) (sym (kept_names o n bs))
+        home : its_row.0.home ≡ b.content.name
+        home = its_row.2 ∙ ap (λ (k : Content). k.name) (sym content_now)
 
-      before : shape_at g t.config.roots ≡ Some (shape_of (a_choice o bs))
-      before = shape_held g t.config.roots a.site (a_choice o bs) home_was made.held
+        shape : cut_shape n its_row.0.shape ≡ of_choice o (box_names (kept_by o n bs))
+        shape = ap (cut_shape n) its_row.3 ∙ ap (of_choice o) (sym (kept_names o n bs))
 
-      afterwards : shape_at g d.roots ≡ Some (shape_of (a_choice o (kept_by o n bs)))
-      afterwards = shape_held g d.roots (site_now b) (a_choice o (kept_by o n bs)) home_now held_now
+        before : shape_at g t.config.roots ≡ Some (shape_of (a_choice o bs))
+        before = shape_held g t.config.roots a.site (a_choice o bs) home_was made.held
 
-  goal_goes : (i : Name) → GoalGoes T U t.config d i
-  goal_goes i = on (none_or (home_of i t.config.roots))
-    where
-      absent : home_of i t.config.roots ≡ None → home_of i d.roots ≡ None
-      absent x = none_where (home_of i d.roots) (λ h y. elim (cutting.was_home rules r.program r.query r.journal t.config l d t.replays a g n o o bs no_boxes at_goal made.held boxes_are i h y) [
-        | inl w ↦ (let z : home_of i t.config.roots ≡ Some w.0 = w.1 in cc)
-        | inr z ↦ z.stands
-      ])
+        afterwards : shape_at g d.roots ≡ Some (shape_of (a_choice o (kept_by o n bs)))
+        afterwards = shape_held g d.roots (site_now b) (a_choice o (kept_by o n bs)) home_now held_now
 
-      apart_from : home_of i t.config.roots ≡ None → i ≡ g → ⊥
-      apart_from x e = let y : home_of i t.config.roots ≡ Some a.site = ap (λ (k : Name). home_of k t.config.roots) e ∙ home_was in cc
+    goal_goes : (i : Name) → GoalGoes T U t.config d i
+    goal_goes i = on (none_or (home_of i t.config.roots))
+      where
+        absent : home_of i t.config.roots ≡ None → home_of i d.roots ≡ None
+        absent x = none_where (home_of i d.roots) (λ h y. elim (cutting.was_home rules r.program r.query r.journal t.config l d t.replays a g n o o bs no_boxes at_goal made.held boxes_are i h y) [
+          | inl w ↦ (let z : home_of i t.config.roots ≡ Some w.0 = w.1 in cc)
+          | inr z ↦ z.stands
+        ])
 
-      under : (e : Found) → home_of i t.config.roots ≡ Some e → IsUnderCut e → home_of i d.roots ≡ None
-      under e x y = none_where (home_of i d.roots) (λ h z. cutting.home_apart rules r.program r.query r.journal t.config l d t.replays a g n o o bs no_boxes at_goal made.held boxes_are i e h x z y.one y.goes y.down)
+        apart_from : home_of i t.config.roots ≡ None → i ≡ g → ⊥
+        apart_from x e = let y : home_of i t.config.roots ≡ Some a.site = ap (λ (k : Name). home_of k t.config.roots) e ∙ home_was in cc
 
-      gone : home_of i d.roots ≡ None → U.goal_of i ≡ None → GoalGoes T U t.config d i
-      gone x y = inr (ap (option_map spot_of) y ∙ sym (spot_none i d.roots x), λ row z. absurd cc)
+        under : (e : Found) → home_of i t.config.roots ≡ Some e → IsUnderCut e → home_of i d.roots ≡ None
+        under e x y = none_where (home_of i d.roots) (λ h z. cutting.home_apart rules r.program r.query r.journal t.config l d t.replays a g n o o bs no_boxes at_goal made.held boxes_are i e h x z y.one y.goes y.down)
 
-      stays : (e h : Found) → home_of i t.config.roots ≡ Some e → home_of i d.roots ≡ Some h → (v : Bool) → same_name i g ≡ v → GoalGoes T U t.config d i
-      stays e h x y true z = subst (GoalGoes T U t.config d) (sym (same_name-equal i g z)) itself
-      stays e h x y false z = inl (goal_rows i (not_goal_cut i e h x y) z, cutting.same_shape rules r.program r.query r.journal t.config l d t.replays a g n o o bs no_boxes at_goal made.held boxes_are i e h z (λ k w cs replaced u v j. not_replaced replaced) x y)
+        gone : home_of i d.roots ≡ None → U.goal_of i ≡ None → GoalGoes T U t.config d i
+        gone x y = inr (ap (option_map spot_of) y ∙ sym (spot_none i d.roots x), λ row z. absurd cc)
 
-      on : (home_of i t.config.roots ≡ None) ⊎ ((e : Found) × (home_of i t.config.roots ≡ Some e)) → GoalGoes T U t.config d i
-      on (inl x) = inl (goal_rows i (not_goal_cut_none i x) (other_by i g (apart_from x)), no_shape i t.config.roots x ∙ sym (no_shape i d.roots (absent x)))
-      on (inr (e, x)) = elim (cutting.home_or rules r.program r.query r.journal t.config l d t.replays a g n o o bs no_boxes at_goal made.held boxes_are i e x) [
-        | inl w ↦ stays e w.0 x w.1 (same_name i g) refl
-        | inr y ↦ gone (under e x y) (f.goal_goes i (is_goal_cut i e x y))
-      ]
+        stays : (e h : Found) → home_of i t.config.roots ≡ Some e → home_of i d.roots ≡ Some h → (v : Bool) → same_name i g ≡ v → GoalGoes T U t.config d i
+        stays e h x y true z = subst (GoalGoes T U t.config d) (sym (same_name-equal i g z)) itself
+        stays e h x y false z = inl (goal_rows i (not_goal_cut i e h x y) z, cutting.same_shape rules r.program r.query r.journal t.config l d t.replays a g n o o bs no_boxes at_goal made.held boxes_are i e h z (λ k w cs replaced u v j. not_replaced replaced) x y)
 
-  no_new : (k : Name) (h : Found) → box_at k t.config.roots ≡ None → box_at k d.roots ≡ Some h → ⊥
-  no_new k h i j = elim (cutting.was_there rules r.program r.query r.journal t.config l d t.replays a g n o o bs no_boxes at_goal made.held boxes_are k h j) [
-    | inl w ↦ (let z : box_at k t.config.roots ≡ Some w.0 = w.1 in cc)
-    | inr z ↦ z.stands
-  ]
+        on : (home_of i t.config.roots ≡ None) ⊎ ((e : Found) × (home_of i t.config.roots ≡ Some e)) → GoalGoes T U t.config d i
+        on (inl x) = inl (goal_rows i (not_goal_cut_none i x) (other_by i g (apart_from x)), no_shape i t.config.roots x ∙ sym (no_shape i d.roots (absent x)))
+        on (inr (e, x)) = elim (cutting.home_or rules r.program r.query r.journal t.config l d t.replays a g n o o bs no_boxes at_goal made.held boxes_are i e x) [
+          | inl w ↦ stays e w.0 x w.1 (same_name i g) refl
+          | inr y ↦ gone (under e x y) (f.goal_goes i (is_goal_cut i e x y))
+        ]
 
-  pub leads_on : LeadsOn a T U
-  leads_on = record {
-    boxes = boxes;
-    site_marks = λ v k i j.
-        let x : v ≡ site_was.0 = some_value (sym i ∙ site_was.1) in
-        let y : k ≡ site_was.0 = some_value (sym j ∙ site_has) in (
-          inl (
-            ap (λ (w : BoxRow). w.changed) (y ∙ sym x),
-            λ h. h (ap (option_map constraint_of) was_there ∙ ap (λ (w : Content). Some (record { frames = w.frames; equations = w.equations; ports = w.ports })) (sym content_now)
-                ∙ sym (ap (option_map constraint_of) now_there)),
-          ),
-          inl (
-            ap (λ (w : BoxRow). w.goals_changed) (y ∙ sym x),
-            λ h. h (ap (option_map (λ (e : Found). goal_names e.goals)) was_there ∙ ap Some (sym names_now) ∙ sym (ap (option_map (λ (e : Found). goal_names e.goals)) now_there)),
-          ),
-        );
-    new_boxes = λ k h i j. absurd (no_new k h i j);
-    gone_boxes = gone_box;
-    goals = goal_goes;
-    roots = f.roots ∙ t.unfolds.roots ∙ same_roots;
-    root_mark = inl (f.roots_changed, λ h. h same_roots);
-    next = λ w. f.next w ∙ t.unfolds.next w ∙ along.same_next rules r.program t.config l d s a none_drawn w;
-  }
+    no_new : (k : Name) (h : Found) → box_at k t.config.roots ≡ None → box_at k d.roots ≡ Some h → ⊥
+    no_new k h i j = elim (cutting.was_there rules r.program r.query r.journal t.config l d t.replays a g n o o bs no_boxes at_goal made.held boxes_are k h j) [
+      | inl w ↦ (let z : box_at k t.config.roots ≡ Some w.0 = w.1 in cc)
+      | inr z ↦ z.stands
+    ]
+
+    pub leads_on : LeadsOn a T U
+    leads_on = record {
+      boxes = boxes;
+      site_marks = λ v k i j.
+          let x : v ≡ site_was.0 = some_value (sym i ∙ site_was.1) in
+          let y : k ≡ site_was.0 = some_value (sym j ∙ site_has) in (
+            inl (
+              ap (λ (w : BoxRow). w.changed) (y ∙ sym x),
+              λ h. h (ap (option_map constraint_of) was_there ∙ ap (λ (w : Content). Some (record { frames = w.frames; equations = w.equations; ports = w.ports })) (sym content_now)
+                  ∙ sym (ap (option_map constraint_of) now_there)),
+            ),
+            inl (
+              ap (λ (w : BoxRow). w.goals_changed) (y ∙ sym x),
+              λ h. h (ap (option_map (λ (e : Found). goal_names e.goals)) was_there ∙ ap Some (sym names_now) ∙ sym (ap (option_map (λ (e : Found). goal_names e.goals)) now_there)),
+            ),
+          );
+      new_boxes = λ k h i j. absurd (no_new k h i j);
+      gone_boxes = gone_box;
+      goals = goal_goes;
+      roots = f.roots ∙ t.unfolds.roots ∙ same_roots;
+      root_mark = inl (f.roots_changed, λ h. h same_roots);
+      next = λ w. f.next w ∙ t.unfolds.next w ∙ along.same_next rules r.program t.config l d s a none_drawn w;
+    }
 
 -- the step of a cut leads to a table of the run that goes on with the label
 pub cut_step : (rules : List Rule) (r : Run) (T U : Table) (l : Label) (d : Config) (t : IsTableOf rules r T) (a : Applies rules r.program t.config l d) (at : Option ℕ)
     → Makes r.program l (slice_index t.config.next l.worker) a.site cuts → Leads T l at a.change.drawn cuts U → (u : IsTableOf rules (followed_by r l) U) × (u.config ≡ d)
-cut_step rules r T U l d t a at makes leads = led rules r T U l d t a (leads_on rules r T U l d t a makes.1.0 makes.1.1 makes.0 makes.1.2 makes.1.3 makes.1.4
+cut_step rules r T U l d t a at makes leads = led rules r T U l d t a (leads_on rules r T l d t a makes.1.0 makes.1.1 makes.0 makes.1.2 makes.1.3 makes.1.4 U
     (subst (λ (x : Option Name). Leads T (record l { place = Place.Goal makes.1.0; alternative = x }) at a.change.drawn cuts U) makes.1.3
     (subst (λ (u : Place). Leads T (record l { place = u }) at a.change.drawn cuts U) makes.1.2 leads)))

@@ -45,3 +45,7 @@ pub mod Later
 pub mod StepMakes
 pub mod RestBoxes
 pub mod CopiesMade
+pub mod Going
+pub mod CutAway
+pub mod GoingRows
+pub mod GoneSteps

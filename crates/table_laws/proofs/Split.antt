@@ -73,46 +73,46 @@ module _ (rules : List Rule) (r : Run) (T U : Table) (l : Label) (d : Config) (t
   -- what the label makes, and where boxes stand
 
   abbrev held : held_in g a.site.goals ≡ Some (a_choice o bs)
-  held = split.held rules r T U l d t a n al copy copies at rule place names made solved f
+  held = split.held rules r T l d t a n al copy copies rule place names made
 
   abbrev at_goal : goal_of l.place l.alternative a.site ≡ Some g
-  at_goal = split.at_goal rules r T U l d t a n al copy copies at rule place names made solved f
+  at_goal = split.at_goal rules r T l d t a n al copy copies rule place names made
 
   abbrev boxes_are : a.change.boxes ≡ box a.site.content (with_content g (a_choice o (alone al bs)) a.site.goals) second
-  boxes_are = split.boxes_are rules r T U l d t a n al copy copies at rule place names made solved f
+  boxes_are = split.boxes_are rules r T l d t a n al copy copies rule place names made
 
   abbrev two : box_names a.change.boxes ≡ site ∷ copy ∷ []
-  two = split.two rules r T U l d t a n al copy copies at rule place names made solved f
+  two = split.two rules r T l d t a n al copy copies rule place names made
 
   abbrev second_once : (m : Name) → times m second ≤ 1
-  second_once = split.second_once rules r T U l d t a n al copy copies at rule place names made solved f
+  second_once = split.second_once rules r T l d t a n al copy copies rule place names made
 
   name : n ≡ site
-  name = split.name rules r T U l d t a n al copy copies at rule place names made solved f
+  name = split.name rules r T l d t a n al copy copies rule place names made
 
   abbrev b : Becomes l.worker (slice_index t.config.next l.worker) a.site a.change
   b = cutting.cuts_to rules r.program r.query r.journal t.config l d t.replays a g al o Op.Commit bs second at_goal held boxes_are
 
   was_there : box_at site t.config.roots ≡ Some a.site
-  was_there = split.was_there rules r T U l d t a n al copy copies at rule place names made solved f
+  was_there = split.was_there rules r T l d t a n al copy copies rule place names made
 
   now_there : box_at site d.roots ≡ Some (site_now b)
-  now_there = split.now_there rules r T U l d t a n al copy copies at rule place names made solved f
+  now_there = split.now_there rules r T l d t a n al copy copies rule place names made
 
   home_was : home_of g t.config.roots ≡ Some a.site
-  home_was = split.home_was rules r T U l d t a n al copy copies at rule place names made solved f
+  home_was = split.home_was rules r T l d t a n al copy copies rule place names made
 
   home_now : home_of g d.roots ≡ Some (site_now b)
-  home_now = split.home_now rules r T U l d t a n al copy copies at rule place names made solved f
+  home_now = split.home_now rules r T l d t a n al copy copies rule place names made
 
   content_now : b.content ≡ a.site.content
-  content_now = split.content_now rules r T U l d t a n al copy copies at rule place names made solved f
+  content_now = split.content_now rules r T l d t a n al copy copies rule place names made
 
   names_now : goal_names b.goals ≡ goal_names a.site.goals
-  names_now = split.names_now rules r T U l d t a n al copy copies at rule place names made solved f
+  names_now = split.names_now rules r T l d t a n al copy copies rule place names made
 
   held_now : held_in g b.goals ≡ Some (a_choice o (alone al bs))
-  held_now = split.held_now rules r T U l d t a n al copy copies at rule place names made solved f
+  held_now = split.held_now rules r T l d t a n al copy copies rule place names made
 
   abbrev IsUnderCut : Found → Type 0
   IsUnderCut e = cutting.IsUnderCut rules r.program r.query r.journal t.config l d t.replays a g al o Op.Commit bs second at_goal held boxes_are e
@@ -121,22 +121,22 @@ module _ (rules : List Rule) (r : Run) (T U : Table) (l : Label) (d : Config) (t
   under e = record e { around = a.site.around ++ e.around }
 
   copied_home : (k : Name) (e : Found) (h : Held) → home_of k second ≡ Some e → held_in k e.goals ≡ Some h → home_of k d.roots ≡ Some (under e)
-  copied_home = split.copied_home rules r T U l d t a n al copy copies at rule place names made solved f
+  copied_home = split.copied_home rules r T l d t a n al copy copies rule place names made
 
   its_row : (row : GoalRow) × (T.goal_of g ≡ Some row) × (row.home ≡ site) × (row.shape ≡ of_choice o (box_names bs))
-  its_row = split.its_row rules r T U l d t a n al copy copies at rule place names made solved f
+  its_row = split.its_row rules r T l d t a n al copy copies rule place names made
 
   al_holder : holder_in_row (T.box_of al) ≡ Some g
-  al_holder = split.al_holder rules r T U l d t a n al copy copies at rule place names made solved f
+  al_holder = split.al_holder rules r T l d t a n al copy copies rule place names made
 
   site_holder : holder_in_row (T.box_of n) ≡ holder_in site t.config.roots
-  site_holder = split.site_holder rules r T U l d t a n al copy copies at rule place names made solved f
+  site_holder = split.site_holder rules r T l d t a n al copy copies rule place names made
 
   not_goal_cut : (i : Name) (e h : Found) → home_of i t.config.roots ≡ Some e → home_of i d.roots ≡ Some h → IsGoalInsideOne T (others_beside T al) i → ⊥
-  not_goal_cut = split.not_goal_cut rules r T U l d t a n al copy copies at rule place names made solved f
+  not_goal_cut = split.not_goal_cut rules r T l d t a n al copy copies rule place names made
 
   not_goal_cut_none : (i : Name) → home_of i t.config.roots ≡ None → IsGoalInsideOne T (others_beside T al) i → ⊥
-  not_goal_cut_none = split.not_goal_cut_none rules r T U l d t a n al copy copies at rule place names made solved f
+  not_goal_cut_none = split.not_goal_cut_none rules r T l d t a n al copy copies rule place names made
 
   -- rows of goals
 
@@ -257,7 +257,7 @@ module _ (rules : List Rule) (r : Run) (T U : Table) (l : Label) (d : Config) (t
           none = none_where (home_of i d.roots) (λ h z. cutting.home_apart rules r.program r.query r.journal t.config l d t.replays a g al o Op.Commit bs second at_goal held boxes_are i e h x z y.one y.goes y.down)
 
           gone : U.goal_of i ≡ None
-          gone = f.goal_goes i (split.is_goal_cut rules r T U l d t a n al copy copies at rule place names made solved f i e x y)
+          gone = f.goal_goes i (split.is_goal_cut rules r T l d t a n al copy copies rule place names made i e x y)
 
       stays : copied_goal_of number copies i ≡ None → (e h : Found) → home_of i t.config.roots ≡ Some e → home_of i d.roots ≡ Some h → (v : Bool) → same_name i g ≡ v → GoalGoes T U t.config d i
       stays none e h x y true z = let q : i ≡ g = same_name-equal i g z in subst (GoalGoes T U t.config d) (sym q) (itself (subst (λ (k : Name). copied_goal_of number copies k ≡ None) q none))
@@ -310,14 +310,14 @@ module _ (rules : List Rule) (r : Run) (T U : Table) (l : Label) (d : Config) (t
           ((by (Some h) x).0 ∙ t.unfolds.roots ∙ sym same, inl ((by (Some h) x).1, λ q. q (sym same)))
 
   abbrev site_was : (v : BoxRow) × (T.box_of site ≡ Some v) × IsBoxRow T t.config.roots a.site v
-  site_was = split.site_was rules r T U l d t a n al copy copies at rule place names made solved f
+  site_was = split.site_was rules r T l d t a n al copy copies rule place names made U at solved f
 
   site_has : U.box_of site ≡ Some site_was.0
-  site_has = split.site_has rules r T U l d t a n al copy copies at rule place names made solved f
+  site_has = split.site_has rules r T l d t a n al copy copies rule place names made U at solved f
 
   pub leads_on : LeadsOn a T U
   leads_on = record {
-    boxes = split.boxes rules r T U l d t a n al copy copies at rule place names made solved f;
+    boxes = split.boxes rules r T l d t a n al copy copies rule place names made U at solved f;
     site_marks = λ v k i j.
         let x : v ≡ site_was.0 = some_value (sym i ∙ site_was.1) in
         let y : k ≡ site_was.0 = some_value (sym j ∙ site_has) in (
@@ -331,8 +331,8 @@ module _ (rules : List Rule) (r : Run) (T U : Table) (l : Label) (d : Config) (t
             λ h. h (ap (option_map (λ (e : Found). goal_names e.goals)) was_there ∙ ap Some (sym names_now) ∙ sym (ap (option_map (λ (e : Found). goal_names e.goals)) now_there)),
           ),
         );
-    new_boxes = split.new_box rules r T U l d t a n al copy copies at rule place names made solved f;
-    gone_boxes = split.gone_box rules r T U l d t a n al copy copies at rule place names made solved f;
+    new_boxes = split.new_box rules r T l d t a n al copy copies rule place names made U at solved f;
+    gone_boxes = split.gone_box rules r T l d t a n al copy copies rule place names made U at solved f;
     goals = goal_goes;
     roots = roots_now.0;
     root_mark = roots_now.1;

@@ -38,7 +38,10 @@ nothing_bound : (nodes : List Node) (s t : Tree) → IsBound (bound_in nodes [])
 nothing_bound nodes s t (bound e) = cc
 
 unbound_chain : (nodes : List Node) (n : Name) → IsSolvedChain nodes (with_frame nothing n ∷ [])
-unbound_chain nodes n = record { solved = nothing-solved nodes; follow = λ s t b. absurd (nothing_bound nodes s t b); hold = λ s t o n. absurd o }
+unbound_chain nodes n = record {
+  form = record { solved = nothing-solved nodes; follow = λ s t b. absurd (nothing_bound nodes s t b); hold = λ s t o n. absurd o };
+  older = record { each = λ x y t e v. cc };
+}
 
 -- the goals of one box of atoms
 one_box_spots : (b : Content) (gs : Goals) (xs : List (Name × Atom)) (g : Name) → AreAtoms xs gs

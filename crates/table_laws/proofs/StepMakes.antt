@@ -1,5 +1,5 @@
 -- What a step makes of a table is a table of the run that goes on, case by case.
-use Rattle.std.proofs.Common.{◌≡◌, ℕ, List, Option}
+use Rattle.std.proofs.Common.{◌≡◌, ℕ, List, Option, refl}
 use Rattle.std.specs.Prelude.{slice_index}
 use Rattle.akl_model.specs.declared.label.Rule.{Rule}
 use Rattle.akl_model.specs.declared.label.Label.{Label}
@@ -8,7 +8,7 @@ use Rattle.akl_model.specs.Derivations.{Applies}
 use Rattle.table_laws.specs.Rows.{Table}
 use Rattle.table_laws.specs.Stamped.{Run, followed_by, IsTableOf}
 use Rattle.table_laws.specs.Steps.{Step, tells, forks, fails, cuts, promotes, splits, Makes, IsSolvedWhen, refutes, confirms}
-use Rattle.table_laws.specs.Writes.{Leads}
+use Rattle.table_laws.specs.Writes.{IsTable, Leads}
 use Rattle.table_laws.proofs.Told.{told_step}
 use Rattle.table_laws.proofs.Forked.{fork_step}
 use Rattle.table_laws.proofs.Failed.{failed_step}
@@ -17,6 +17,9 @@ use Rattle.table_laws.proofs.Promoted.{promoted_step}
 use Rattle.table_laws.proofs.Refuted.{refuted_step}
 use Rattle.table_laws.proofs.Confirmed.{confirmed_step}
 use Rattle.table_laws.proofs.Split.{split_step}
+
+pub same_table : (T : Table) → IsTable T T
+same_table T = record { nodes = refl; boxes = λ n. refl; goals = λ g. refl; roots = refl; roots_changed = refl; next = λ w. refl; steps = refl }
 
 pub step_law : (rules : List Rule) (r : Run) (T U : Table) (l : Label) (d : Config) (t : IsTableOf rules r T) (a : Applies rules r.program t.config l d) (step : Step) (at : Option ℕ)
     → Makes r.program l (slice_index t.config.next l.worker) a.site step → IsSolvedWhen at T a.site step → Leads T l at a.change.drawn step U

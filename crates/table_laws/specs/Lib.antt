@@ -7,3 +7,4 @@ pub mod Writes
 pub mod Steps
 pub mod Laws
 pub mod Walks
+pub mod Going

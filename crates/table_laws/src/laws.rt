@@ -1,5 +1,6 @@
 //! Laws of tables, each the contract of a function without a body.
 
+ghost use Rattle.table_laws.specs.Going.{GoneLaw, GoneListedLaw};
 ghost use Rattle.table_laws.specs.Laws.{CopiesLaw, FreshStepLaw, LaterLaw, StartLaw, StepLaw};
 
 /// A table of a query's one box, to which nothing was told, is one of the run without labels.
@@ -28,4 +29,11 @@ pub fn made_copies()
 /// prefix changed what it reads, by its stamps, and its worker has made no label since.
 pub fn later_steps()
     ensures { LaterLaw }
+{}
+
+/// The places that go with a label, by its step and a table's rows: the goal of its place, and boxes with
+/// all that stands inside them. A list of these boxes and of those inside them lists them all.
+pub fn gone_places()
+    ensures by_rows { GoneLaw }
+    ensures listed { GoneListedLaw }
 {}
