@@ -11,7 +11,7 @@ use Rattle.rational_unify.specs.Solving.{BindNew}
 use Rattle.rational_unify.proofs.Chains.{found-second, found-none}
 use Rattle.local_store.specs.Stored.{Stored}
 use Rattle.local_store.specs.Chained.{bindings_from}
-use Rattle.entail_test.proofs.Classes.{among-either, among-left, among-right}
+use Rattle.local_store.proofs.Among.{among-either, among-left, among-right}
 use Rattle.class_members.specs.Listed.{unbound_keys, unbound_inside, inner_keys, candidates_of}
 
 -- a variable that is found is one that is bound

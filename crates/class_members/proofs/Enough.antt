@@ -1,5 +1,5 @@
 -- What is listed over a solved form of all stores of a chain is enough members.
-use Rattle.std.proofs.Common.{◌≡◌, ℕ, zero, suc, ◌≤◌, List, [], ◌∷◌, ◌++◌, length, Option, Some, None, refl, sym, subst, ◌∙◌, ◌⊎◌, inl, inr, take, drop, append-nil, arith}
+use Rattle.std.proofs.Common.{◌≡◌, ℕ, zero, suc, ◌≤◌, List, [], ◌∷◌, ◌++◌, Option, Some, None, refl, sym, subst, ◌∙◌, ◌⊎◌, inl, inr, take, drop, append-nil, arith}
 use Rattle.akl_terms.specs.declared.name.Var.{Var}
 use Rattle.akl_terms.specs.declared.term.Node.{Node}
 use Rattle.akl_terms.specs.declared.term.Term.{Term}
@@ -7,25 +7,22 @@ use Rattle.akl_terms.specs.Tree.{Tree, variable, head_of}
 use Rattle.akl_terms.specs.Equal.{Equations, IsTold, Equal, told, same, turned, IsStructured}
 use Rattle.akl_terms.specs.Decided.{DifferInHead}
 use Rattle.akl_terms.proofs.EqualLaws.{EqualBy-follows}
+use Rattle.constraint_laws.specs.Oldest.{IsOldest, HasOldest}
 use Rattle.constraint_laws.specs.Touched.{IsAmong}
-use Rattle.rational_unify.specs.Known.{found_in, bound_in, end_of}
+use Rattle.constraint_laws.proofs.LeastVariables.{one_oldest}
+use Rattle.rational_unify.specs.Known.{found_in, end_of}
 use Rattle.rational_unify.specs.Solving.{BindNew}
 use Rattle.rational_unify.specs.Forms.{IsFormOf, Takes}
-use Rattle.rational_unify.proofs.Chains.{found-none, free_found}
+use Rattle.rational_unify.proofs.Chains.{found-none}
 use Rattle.rational_unify.proofs.FormLaws.{form-follows, form-consistent}
 use Rattle.rational_unify.proofs.Stands.{HasHead}
-use Rattle.rational_unify.proofs.Walks.{IsFree, walk-free}
 use Rattle.local_store.specs.Stored.{Stored}
-use Rattle.local_store.specs.Chained.{bindings_from, IsKnown}
+use Rattle.local_store.specs.Chained.{bindings_from, equations_of, IsSolvedChain, IsKnown}
 use Rattle.local_store.proofs.Layers.{chain-form, told-take}
-use Rattle.entail_test.proofs.Ends.{end-free, unheaded, has_head, unstructured, structured, one_class, one_end}
-use Rattle.class_members.specs.Members.{equations_of, outermost_of, IsMember, AreMembers}
+use Rattle.local_store.proofs.FormEnds.{end-free, end_unbound, unheaded, has_head, unstructured, structured, one_class, one_end, unbound_oldest}
+use Rattle.class_members.specs.Members.{outermost_of, IsMember, AreMembers}
 use Rattle.class_members.specs.Listed.{IsEndOfOne, AreListed, candidates_of}
 use Rattle.class_members.proofs.BoundKeys.{first_unbound, candidate, candidate_unbound}
-
--- the end of a chain isn't bound
-end_unbound : (nodes : List Node) (bs : List (Var × Term)) (R : Tree → Tree → Type 0) → IsFormOf nodes bs R → (x r : Var) → end_of nodes bs (variable x) ≡ variable r → found_in bs r ≡ None
-end_unbound nodes bs R f x r e = free_found nodes bs r (subst (IsFree (bound_in nodes bs)) e (walk-free (bound_in nodes bs) (length bs) (variable x) (f.solved.ends (variable x))))
 
 -- the outermost of some outer stores is the outermost of all
 outermost_same : (ss : List Stored) (known : ℕ) → 1 ≤ known → take 1 (take known ss) ≡ take 1 ss
@@ -35,7 +32,7 @@ outermost_same (s ∷ ss) (suc n) l = refl
 
 -- nothing is listed where two terms of different heads are equal
 pub none_listed : (nodes : List Node) (ss : List Stored) (of : List Var) (s t : Tree) → Equal (equations_of nodes ss) s t → DifferInHead s t → AreMembers nodes ss of []
-none_listed nodes ss of s t e d = record { consistent = λ y m. absurd m; each = λ y m. absurd m; every = λ c z m. absurd (d.differ (c.heads e d.is_left d.is_right)) }
+none_listed nodes ss of s t e d = record { consistent = λ y m. absurd m; each = λ y m. absurd m; every = λ c z m. absurd (d.differ (c.heads e d.is_left d.is_right)); oldest = λ x w m. absurd m }
 
 module _ (nodes : List Node) (ss : List Stored) (known : ℕ) (h : IsKnown nodes ss known) (added : List (Var × Term)) (t : Takes nodes (bindings_from (take known ss)) [] added (bindings_from (drop known ss)))
     (of list : List Var) (l : AreListed nodes (bindings_from (take known ss) ++ added) of (candidates_of (take known ss) added) list) where
@@ -46,7 +43,7 @@ module _ (nodes : List Node) (ss : List Stored) (known : ℕ) (h : IsKnown nodes
   W = equations_of nodes ss
 
   f : IsFormOf nodes (bindings_from (take known ss) ++ added) (IsTold (equations_of nodes ss))
-  f = chain-form nodes ss known (bindings_from (take known ss)) added (h.each known (omega arith)) t
+  f = chain-form nodes ss known (bindings_from (take known ss)) added (h.each known (omega arith)).form t
 
   fresh : BindNew (bindings_from (take known ss)) added
   fresh = subst (BindNew (bindings_from (take known ss))) (sym t.added) (subst (λ (bs : List (Var × Term)). BindNew bs t.more) (append-nil (bindings_from (take known ss))) t.fresh)
@@ -88,7 +85,7 @@ module _ (nodes : List Node) (ss : List Stored) (known : ℕ) (h : IsKnown nodes
           some = omega (arith, q)
 
           outer : IsFormOf nodes (bindings_from (take 1 ss)) (IsTold (outermost_of nodes ss))
-          outer = h.each 1 some
+          outer = (h.each 1 some).form
 
           by : HasHead (end_of nodes (bindings_from (take 1 ss)) (variable z)) ⊎ (head_of (end_of nodes (bindings_from (take 1 ss)) (variable z)) ≡ None) → OuterEnd z r
           by (inl g) =
@@ -109,15 +106,19 @@ module _ (nodes : List Node) (ss : List Stored) (known : ℕ) (h : IsKnown nodes
   abbrev Covered : Var → Type 0
   Covered z = (y : Var) × IsAmong y list × Equal (outermost_of nodes ss) (variable y) (variable z)
 
-  listed_end : (z r : Var) → IsEndOfOne nodes (bindings_from (take known ss) ++ added) of r → OuterEnd z r → Covered z
-  listed_end z r e o = on (found_in (bindings_from (take known ss) ++ added) o.last) refl
+  -- with the end of its chain each variable is listed that the outermost store doesn't bind, where that is known to be solved, and else each one
+  unbound_listed : (y r : Var) → IsEndOfOne nodes all of r → end_of nodes all (variable y) ≡ variable r → found_in (bindings_from (take 1 (take known ss))) y ≡ None → IsAmong y list
+  unbound_listed y r e q n = on (found_in all y) refl
     where
-      on : (u : Option Term) → found_in (bindings_from (take known ss) ++ added) o.last ≡ u → Covered z
+      on : (u : Option Term) → found_in all y ≡ u → IsAmong y list
       on None p =
-          let q : variable r ≡ variable o.last = sym o.ends ∙ end-free nodes (bindings_from (take known ss) ++ added) o.last p in
-          let s : r ≡ o.last = cc in
-          (o.last, subst (λ (x : Var). IsAmong x list) s (l.ends r e), o.equal)
-      on (Some u) p = (o.last, l.others o.last r (candidate (take known ss) added o.last u p o.unbound) e o.ends, o.equal)
+          let z : variable r ≡ variable y = sym q ∙ end-free nodes all y p in
+          let s : r ≡ y = cc in
+          subst (λ (x : Var). IsAmong x list) s (l.ends r e)
+      on (Some u) p = l.others y r (candidate (take known ss) added y u p n) e q
+
+  listed_end : (z r : Var) → IsEndOfOne nodes all of r → OuterEnd z r → Covered z
+  listed_end z r e o = (o.last, unbound_listed o.last r e o.ends o.unbound, o.equal)
 
   covered : (z : Var) → IsMember W of z → Covered z
   covered z m = on (has_head (end_of nodes (bindings_from (take known ss) ++ added) (variable m.variable_of)))
@@ -128,12 +129,35 @@ module _ (nodes : List Node) (ss : List Stored) (known : ℕ) (h : IsKnown nodes
           let w : (r : Var) × (end_of nodes (bindings_from (take known ss) ++ added) (variable m.variable_of) ≡ variable r) = unheaded (end_of nodes (bindings_from (take known ss) ++ added) (variable m.variable_of)) n in
           listed_end z w.0 (record { start = m.variable_of; among = m.among; ends = w.1 }) (outer_end z w.0 (sym (one_end nodes all W f m.variable_of z w.0 w.1 m.equal) ∙ w.1))
 
-  pub are_members : AreMembers nodes ss of list
-  are_members = record { consistent = λ y m. form-consistent nodes all (IsTold W) f; each = member; every = λ c z m. covered z m }
-
   -- none is bound by the outermost of the stores that are known to be solved
   pub members_unbound : 1 ≤ known → (y : Var) → IsAmong y list → found_in (bindings_from (take 1 ss)) y ≡ None
   members_unbound some y m = subst (λ (rs : List Stored). found_in (bindings_from rs) y ≡ None) (outermost_same ss known some) (elim (l.each y m) [
     | inl e ↦ first_unbound (take known ss) y (found-none (bindings_from (take known ss)) added y (end_unbound nodes all (IsTold W) f e.start y e.ends)).0
     | inr w ↦ candidate_unbound (take known ss) added y fresh w.0
   ])
+
+  end_of_listed : (x : Var) → IsAmong x list → (r : Var) × IsEndOfOne nodes all of r × (end_of nodes all (variable x) ≡ variable r)
+  end_of_listed x m = elim (l.each x m) [ inl e ↦ (x, e, end-free nodes all x (end_unbound nodes all (IsTold W) f e.start x e.ends)) | inr w ↦ w.1 ]
+
+  -- where the outermost store isn't known to be solved, the whole class of each listed variable is listed
+  class_listed : known ≡ 0 → (x y : Var) → IsAmong x list → Equal (outermost_of nodes ss) (variable x) (variable y) → IsAmong y list
+  class_listed q x y m e =
+      let r : (r : Var) × IsEndOfOne nodes all of r × (end_of nodes all (variable x) ≡ variable r) = end_of_listed x m in
+      unbound_listed y r.0 r.1 (sym (one_end nodes all W f x y r.0 r.2 (outer_equal (variable x) (variable y) e)) ∙ r.2)
+      (subst (λ (k : ℕ). found_in (bindings_from (take 1 (take k ss))) y ≡ None) (sym q) refl)
+
+  -- where it is, it leads to older variables and binds no listed one, so each of these is the oldest of its class
+  itself_oldest : 1 ≤ known → (x : Var) → IsAmong x list → IsOldest (outermost_of nodes ss) x x
+  itself_oldest some x m =
+      let outer : IsSolvedChain nodes (take 1 ss) = h.each 1 some in
+      unbound_oldest nodes (bindings_from (take 1 ss)) (outermost_of nodes ss) outer.form outer.older x (members_unbound some x m)
+
+  oldest_listed : HasOldest (outermost_of nodes ss) list
+  oldest_listed x w m o = on known refl
+    where
+      on : (n : ℕ) → known ≡ n → IsAmong w list
+      on zero q = class_listed q x w m o.equal
+      on (suc n) q = subst (λ (y : Var). IsAmong y list) (one_oldest (outermost_of nodes ss) x x w (itself_oldest (omega (arith, q)) x m) o) m
+
+  pub are_members : AreMembers nodes ss of list
+  are_members = record { consistent = λ y m. form-consistent nodes all (IsTold W) f; each = member; every = λ c z m. covered z m; oldest = oldest_listed }

@@ -10,7 +10,7 @@ use Rattle.akl_terms.proofs.SameNames.{same_var-equal, same_var-refl}
 use Rattle.constraint_laws.specs.Touched.{IsAmong}
 use Rattle.rational_unify.specs.Known.{end_of}
 use Rattle.rational_unify.specs.Shortened.{IsEndOf}
-use Rattle.entail_test.proofs.Classes.{among-either, among-left, among-right}
+use Rattle.local_store.proofs.Among.{among-either, among-left, among-right}
 use Rattle.class_members.specs.Listed.{IsEndOfOne, has, AreEnds, EndsAmong, AreListed}
 
 -- what wasn't new was there

@@ -1,3 +1,4 @@
 pub mod Gathered
 pub mod BoundKeys
 pub mod Enough
+pub mod BoundMembers

@@ -15,8 +15,8 @@ use rational_unify::{AddedBindings, Form, Lookup};
 use std::alloc::{AllocError, Global};
 
 /// Members of the classes of these variables, enough of them that each other member is equal to one by the outermost
-/// store alone. A structured variable has none, and where all is inconsistent nothing is listed. A member may be
-/// listed more than once.
+/// store alone, and with each the oldest that is equal to it by that store. A structured variable has none, and where
+/// all is inconsistent nothing is listed. A member may be listed more than once.
 ///
 /// Where the outermost store is known to be solved, it binds no listed member, and it is only asked about single
 /// variables: the cost is that of the stores inside it.
