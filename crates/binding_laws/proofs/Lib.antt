@@ -1,0 +1,3 @@
+pub mod BindsLater
+pub mod ListedOutside
+pub mod StepOutside

@@ -1,0 +1,14 @@
+pub mod Frames
+pub mod FramesGrow
+pub mod Sites
+pub mod Scopes
+pub mod Woken
+pub mod KeptByCommit
+pub mod KeptBySettle
+pub mod Concerned
+pub mod SameSites
+pub mod Still
+pub mod WaitingAtoms
+pub mod StillConcerns
+pub mod Roots
+pub mod RunsOn

@@ -1,0 +1,5 @@
+pub mod Waits
+pub mod Woken
+pub mod Kept
+pub mod Still
+pub mod RunsOn
