@@ -22,12 +22,12 @@ use Rattle.box_tree.specs.Paths.{sight_held, sight_in}
 use Rattle.box_tree.proofs.Removed.{drops_as}
 
 -- the row of a choice that is seen
-record IsChoiceRow (n : Name) (op : Op) (number : ℕ) (kept : List Name) (o : Option GoalRow) : Type 0 where
-  cut : kept ≡ names_kept op n (alternatives_of o) → option_map (choice_row op kept number) o ≡ option_map (cut_row n number) o
-  gone : names_cut op n (alternatives_of o) ≡ cut_from n o
+pub record IsChoiceRow (n : Name) (op : Op) (number : ℕ) (kept : List Name) (o : Option GoalRow) : Type 0 where
+  pub cut : kept ≡ names_kept op n (alternatives_of o) → option_map (choice_row op kept number) o ≡ option_map (cut_row n number) o
+  pub gone : names_cut op n (alternatives_of o) ≡ cut_from n o
 
 module _ (t : TableValue) (g n home : Name) (op : Op) (number : ℕ) (kept : List Name) where
-  choice_seen : sight_in t (Place.Goal g) ≡ Some (home, Sight.Choice op) → IsChoiceRow n op number kept ((table_of t).goal_of g)
+  pub choice_seen : sight_in t (Place.Goal g) ≡ Some (home, Sight.Choice op) → IsChoiceRow n op number kept ((table_of t).goal_of g)
   choice_seen e = on (lookup (same_name g) t.goals) e
     where
       of_shape : (e : GoalEntry) (names : List Name) → shape_held t.program.templates.nodes e.held ≡ of_choice op names → IsChoiceRow n op number kept (Some (goal_row t.program.templates.nodes e))

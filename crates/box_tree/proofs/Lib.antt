@@ -3,20 +3,22 @@ mod Stamping
 mod Written
 pub mod Dropped
 mod Adding
-mod Parted
+mod KeptAndCut
 mod Naming
 pub mod GoalsInOrder
 mod Joined
-mod CutOff
+pub mod CutOff
 mod News
 mod Numbers
 mod Forked
 mod Begins
-mod Looks
-mod Seen
-mod Viewed
+pub mod Looks
+pub mod Seen
+pub mod Viewed
+pub mod ShownChoices
 mod Within
 mod Removed
 mod Beside
 mod Copied
 mod Halved
+pub mod BoundHere

@@ -74,7 +74,10 @@ length_stores T (n ∷ ns) = ap suc (length_stores T ns)
 -- solved chains
 
 no_chain : (nodes : List Node) → IsSolvedChain nodes []
-no_chain nodes = record { solved = nothing-solved nodes; follow = λ s t b. absurd (unbound s t b); hold = λ s t o n. absurd o }
+no_chain nodes = record {
+  form = record { solved = nothing-solved nodes; follow = λ s t b. absurd (unbound s t b); hold = λ s t o n. absurd o };
+  older = record { each = λ x y t e v. cc };
+}
   where
     unbound : (s t : Tree) → IsBound (bound_in nodes []) s t → ⊥
     unbound s t (bound e) = cc

@@ -130,7 +130,7 @@ module _ (t : TableValue) (c : Config) (u : Unfolds (table_of t) c) (once : (m :
     found : (b : Content) (gs : Goals) → BoxIn [] b gs bs → box_at b.name c.roots ≡ Some (inner b gs)
     found b gs x = named_found c.roots once b.name (inner b gs) (in_deeper f.around f.content f.goals [] b gs c.roots (home_in g c.roots f e).0 (held_inside g op bs [] b gs f.goals h x)) refl
 
-    row : (b : Content) (gs : Goals) → BoxIn [] b gs bs → (r : BoxRow) × ((table_of t).box_of b.name ≡ Some r) × IsBoxRow (table_of t) c.roots (inner b gs) r
+    pub row : (b : Content) (gs : Goals) → BoxIn [] b gs bs → (r : BoxRow) × ((table_of t).box_of b.name ≡ Some r) × IsBoxRow (table_of t) c.roots (inner b gs) r
     row b gs x = row_of (table_of t) c u b.name (inner b gs) (found b gs x)
 
     abbrev path : List Name
@@ -175,7 +175,7 @@ module _ (t : TableValue) (journal : List Label) (i : IsTableOf all_rules (run_o
   stood : (m : Name) → times m i.config.roots ≤ 1
   stood = (replay-stands all_rules t.program t.query journal i.config i.replays).once
 
-  key_there : (m : Name) (r : BoxRow) → (table_of t).box_of m ≡ Some r → IsSome (lookup (same_name m) t.boxes)
+  pub key_there : (m : Name) (r : BoxRow) → (table_of t).box_of m ≡ Some r → IsSome (lookup (same_name m) t.boxes)
   key_there m r e = on (lookup (same_name m) t.boxes) e
     where
       on : (o : Option BoxEntry) → option_map (tables.box_row t.program.templates.nodes) o ≡ Some r → IsSome o

@@ -26,8 +26,8 @@ impl Held {
 }
 
 impl Table {
-    /// The alternatives of a goal, where it is a choice.
-    pub(crate) fn alternatives_of(&self, goal: Name) -> &[Name]
+    /// The alternatives of a goal in order, where it is a choice; none of another, and where it isn't there.
+    pub fn alternatives_of(&self, goal: Name) -> &[Name]
         ensures { result.now ≡ alternatives_of ((table_of self.now).goal_of goal) }
     {
         match self.goals.get(&goal) {

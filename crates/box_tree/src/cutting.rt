@@ -22,8 +22,9 @@ fn keeps(op: Op, passed: bool, here: bool) -> bool
     }
 }
 
-/// The alternatives that are kept, and those that go.
-pub(crate) fn parted(
+/// The alternatives of a choice that are kept where it is cut at one of them, and those that go. An `Err` comes for want
+/// of memory.
+pub fn parted(
     alloc: Global,
     op: Op,
     name: Name,

@@ -38,8 +38,9 @@ impl Table {
         Ok(())
     }
 
-    /// A box and the boxes inside it, each once.
-    pub(crate) fn inside(&self, alloc: Global, name: Name) -> Result<Vec<Name>, AllocError>
+    /// A box and the boxes inside it, each once. It takes as long as they and their goals are many. An `Err` comes for want
+    /// of memory.
+    pub fn inside(&self, alloc: Global, name: Name) -> Result<Vec<Name>, AllocError>
         requires { IsOfRun self.now }
         ensures { IfOk result (λ v. ListsInside (table_of self.now) name v.items) }
     {
@@ -54,8 +55,8 @@ impl Table {
         Ok(names)
     }
 
-    /// Boxes and the boxes inside them.
-    pub(crate) fn inside_each(&self, alloc: Global, boxes: &[Name]) -> Result<Vec<Name>, AllocError>
+    /// Boxes and the boxes inside them, those of each box after one another. An `Err` comes for want of memory.
+    pub fn inside_each(&self, alloc: Global, boxes: &[Name]) -> Result<Vec<Name>, AllocError>
         requires { IsOfRun self.now }
         ensures { IfOk result (λ v. ListsEach (table_of self.now) boxes.now v.items) }
     {

@@ -48,8 +48,8 @@ impl Held {
 }
 
 impl Table {
-    /// The choice that holds a box.
-    pub(crate) fn holder_of(&self, name: Name) -> Option<Name>
+    /// The choice that holds a box; `None` of a root box, and where it isn't there.
+    pub fn holder_of(&self, name: Name) -> Option<Name>
         ensures { result ≡ holder_in_row ((table_of self.now).box_of name) }
     {
         match self.boxes.get(&name) {

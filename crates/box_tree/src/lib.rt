@@ -21,6 +21,7 @@ mod table;
 mod telling;
 mod view;
 
+pub use cutting::parted;
 pub use entries::{BoxEntry, GoalEntry, Held};
 pub use inside::{InnerBox, InnerGoal, Inside};
 pub use plan::Plan;

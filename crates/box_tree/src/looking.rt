@@ -2,7 +2,7 @@
 
 ghost use Rattle.std.specs.Prelude.{◌≡◌, IfOk, slice_index};
 ghost use Rattle.table_laws.specs.Rows.{store_in, stores_along};
-ghost use Rattle.box_tree.specs.Tables.{table_of};
+ghost use Rattle.box_tree.specs.Tables.{table_of, goals_in};
 ghost use Rattle.box_tree.specs.Paths.{outside_of, IsPath, HasPath, sight_held, sight_in, is_at_least, solving_in, known_in, latest_in};
 
 use crate::entries::Held;
@@ -32,8 +32,8 @@ pub(crate) fn is_at_least(solved_at: Option<u64>, latest: u64) -> bool
 }
 
 impl Table {
-    /// What stands at a place, and its box.
-    pub(crate) fn sight_of(&self, place: Place) -> Option<(Name, Sight)>
+    /// What stands at a place, and its box; `None` where it isn't there.
+    pub fn sight_of(&self, place: Place) -> Option<(Name, Sight)>
         ensures { result ≡ sight_in self.now place }
     {
         match place {
@@ -53,8 +53,8 @@ impl Table {
         }
     }
 
-    // The box in which the choice stands that holds a box.
-    fn outside(&self, name: Name) -> Option<Name>
+    /// The box in which the choice stands that holds a box; `None` of a root box, and where it isn't there.
+    pub fn outside(&self, name: Name) -> Option<Name>
         ensures { result ≡ outside_of (table_of self.now) name }
     {
         match self.boxes.get(&name) {
@@ -66,8 +66,8 @@ impl Table {
         }
     }
 
-    /// The boxes down to a box, outermost first.
-    pub(crate) fn path_to(&self, alloc: Global, name: Name) -> Result<Vec<Name>, AllocError>
+    /// The boxes down to a box, outermost first. It takes as long as they are many. An `Err` comes for want of memory.
+    pub fn path_to(&self, alloc: Global, name: Name) -> Result<Vec<Name>, AllocError>
         requires { HasPath self.now name }
         ensures { IfOk result (λ path. IsPath (table_of self.now) name path.items) }
     {
@@ -80,6 +80,19 @@ impl Table {
         }
         path.reverse();
         Ok(path)
+    }
+
+    /// The goals of a box, in increasing order of names; none where it isn't there. An `Err` comes for want of memory.
+    pub fn goals_of(&self, alloc: Global, name: Name) -> Result<Vec<Name>, AllocError>
+        ensures { IfOk result (λ goals. goals.items ≡ goals_in ((table_of self.now).box_of name)) }
+    {
+        let mut goals = Vec::new(alloc);
+        if let Some(entry) = self.boxes.get(&name) {
+            for goal in entry.goals.iter() {
+                goals.push(*goal)?;
+            }
+        }
+        Ok(goals)
     }
 
     /// The store of a box; one that isn't there has nothing.

@@ -6,6 +6,7 @@ ghost use Rattle.box_tree.specs.Plans.{PlanValue, IsRight};
 use crate::step::Step;
 use crate::view::View;
 use akl_model::{Item, Label};
+use akl_terms::Var;
 use std::marker::Model;
 use std::snapshot::Snapshot;
 
@@ -19,6 +20,7 @@ pub struct Plan {
     reads: Vec<Item>,
     names: u64,
     step: Step,
+    binds: Vec<Var>,
     ghost same_length: { seen ≡ length view.value.journal },
 }
 
@@ -27,16 +29,23 @@ impl Model for Plan {
 
     ghost Value = { PlanValue };
 
-    ghost view = { λ p. record { table = p.view.value.table; journal = p.view.value.journal; label = p.label; reads = p.reads.items; names = p.names; step = p.step } };
+    ghost view = { λ p. record { table = p.view.value.table; journal = p.view.value.journal; label = p.label; reads = p.reads.items; names = p.names; step = p.step; binds = p.binds.items } };
 
-    ghost invariant = { λ p. IsRight (record { table = p.view.value.table; journal = p.view.value.journal; label = p.label; reads = p.reads.items; names = p.names; step = p.step }) };
+    ghost invariant = { λ p. IsRight (record { table = p.view.value.table; journal = p.view.value.journal; label = p.label; reads = p.reads.items; names = p.names; step = p.step; binds = p.binds.items }) };
 }
 
 impl Plan {
     /// A plan of what is right for its view.
-    pub fn new(view: &View, label: Label, reads: Vec<Item>, names: u64, step: Step) -> Plan
-        requires { IsRight (record { table = view.now.table; journal = view.now.journal; label = label; reads = reads.items; names = names; step = step }) }
-        ensures { result ≡ record { table = view.now.table; journal = view.now.journal; label = label; reads = reads.items; names = names; step = step } }
+    pub fn new(
+        view: &View,
+        label: Label,
+        reads: Vec<Item>,
+        names: u64,
+        step: Step,
+        binds: Vec<Var>,
+    ) -> Plan
+        requires { IsRight (record { table = view.now.table; journal = view.now.journal; label = label; reads = reads.items; names = names; step = step; binds = binds.items }) }
+        ensures { result ≡ record { table = view.now.table; journal = view.now.journal; label = label; reads = reads.items; names = names; step = step; binds = binds.items } }
     {
         Plan {
             view: Snapshot::of(view),
@@ -45,6 +54,7 @@ impl Plan {
             reads,
             names,
             step,
+            binds,
         }
     }
 
@@ -64,7 +74,8 @@ impl Plan {
 
     /// The items that were read.
     pub fn reads(&self) -> &[Item]
-        ensures { result.now ≡ self.now.reads }
+        ensures reads { result.now ≡ self.now.reads }
+        ensures right { IsRight self.now }
     {
         self.reads.as_slice()
     }
@@ -74,6 +85,21 @@ impl Plan {
         ensures { result ≡ self.now.names }
     {
         self.names
+    }
+
+    /// Variables that the label binds or makes equal in the box of its place, enough of them: to each such variable one
+    /// of them is equal by the equations of the outermost box around. One may be listed more than once.
+    pub fn binds(&self) -> &[Var]
+        ensures { result.now ≡ self.now.binds }
+    {
+        self.binds.as_slice()
+    }
+
+    /// What the plan makes.
+    pub fn step(&self) -> &Step
+        ensures { result.now ≡ self.now.step }
+    {
+        &self.step
     }
 
     /// What the plan makes.

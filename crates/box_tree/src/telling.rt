@@ -53,8 +53,8 @@ impl Table {
         Ok(())
     }
 
-    /// The box in which a goal stands.
-    pub(crate) fn home_of(&self, goal: Name) -> Option<Name>
+    /// The box in which a goal stands; `None` where it isn't there.
+    pub fn home_of(&self, goal: Name) -> Option<Name>
         ensures { result ≡ home_in ((table_of self.now).goal_of goal) }
     {
         match self.goals.get(&goal) {

@@ -2,6 +2,7 @@
 use Rattle.std.proofs.Common.{◌≡◌, ◌≢◌, ℕ, ◌+◌, ◌≤◌, ◌<◌, ◌^◌, List, [], ◌∷◌, ◌++◌, length, map, true, false, Some, refl, sym, ◌∙◌, ap, subst, arith}
 use Rattle.std.specs.List.{AllByRecursion}
 use Rattle.akl_terms.specs.declared.name.Name.{Name}
+use Rattle.akl_terms.specs.declared.name.Var.{Var}
 use Rattle.akl_terms.specs.declared.name.Place.{Place}
 use Rattle.akl_terms.specs.declared.program.Op.{Op}
 use Rattle.akl_model.specs.declared.item.Item.{Item}
@@ -12,6 +13,7 @@ use Rattle.akl_model.specs.Wakes.{names_around}
 use Rattle.local_store.specs.declared.telling.ToldStore.{ToldStore}
 use Rattle.local_store.specs.Stored.{Stored}
 use Rattle.local_store.specs.Promoting.{AnswersPromoted}
+use Rattle.class_members.specs.Members.{AreMembers}
 use Rattle.table_laws.specs.Rows.{stores_along}
 use Rattle.table_laws.specs.Steps as laws
 use Rattle.box_tree.specs.declared.step.Step.{Step}
@@ -52,7 +54,7 @@ module _ (v : ViewValue) (i : IsViewOf v) (g : Name) (o : Op) (p : v.place ≡ P
       one b e = many (sym (counted v i shown.0 v.alternatives are_placed) ∙ ap count_of e)
 
   pub cut_planned : length v.alternatives ≢ 1 → (n : Name) → HasQuiet v.table.program.templates.nodes v.stores (cutting o v.alternatives) n
-      → IsRight (record { table = v.table; journal = v.journal; label = record { rule = Rule.Cut; place = v.place; alternative = Some n; worker = v.worker }; reads = Item.Goal g ∷ map Item.Store v.path; names = 0; step = Step.Cut })
+      → IsRight (record { table = v.table; journal = v.journal; label = record { rule = Rule.Cut; place = v.place; alternative = Some n; worker = v.worker }; reads = Item.Goal g ∷ map Item.Store v.path; names = 0; step = Step.Cut; binds = [] })
   cut_planned many n q = cut_right v i g o shown.0 p shown.1 are_placed many n q
 
   -- where there is
@@ -96,7 +98,8 @@ module _ (v : ViewValue) (i : IsViewOf v) (g : Name) (o : Op) (p : v.place ≡ P
     only_unheld n = unheld_none v i g o only.0 only.1 p held a only.3 body n
 
     pub only_planned : a.solved ≡ true → HoldsInside o v.table.program.templates.nodes (v.stores ++ a.store ∷ []) → length v.body < 2 ^ 32 → (t : ToldStore) (known : ℕ)
-        → AnswersPromoted v.table.program.templates.nodes (v.stores ++ a.store ∷ []) known t → (step : Step)
+        → AnswersPromoted v.table.program.templates.nodes (v.stores ++ a.store ∷ []) known t
+        → (binds : List Var) → AreMembers v.table.program.templates.nodes v.stores t.bound.items binds → (step : Step)
         → step_of v.table.program.templates.nodes step ≡ laws.promotes t.store t.solved (named_atoms v.table.program.templates.nodes (numbered_goals v.worker v.next v.body))
-        → IsRight (record { table = v.table; journal = v.journal; label = record { rule = Rule.Promote; place = v.place; alternative = Some a.name; worker = v.worker }; reads = Item.Goal g ∷ map Item.Store v.path; names = length v.body; step = step })
-    only_planned solved holds few t known answer step q = promote_right v i g o only.0 only.1 p held a only.3 body (solved_empty only.1 (sym only.3.seen.solved ∙ solved)) holds few t known answer step q
+        → IsRight (record { table = v.table; journal = v.journal; label = record { rule = Rule.Promote; place = v.place; alternative = Some a.name; worker = v.worker }; reads = Item.Goal g ∷ map Item.Store v.path; names = length v.body; step = step; binds = binds })
+    only_planned solved holds few t known answer binds m step q = promote_right v i g o only.0 only.1 p held a only.3 body (solved_empty only.1 (sym only.3.seen.solved ∙ solved)) holds few t known answer binds m step q

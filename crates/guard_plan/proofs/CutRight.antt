@@ -15,7 +15,7 @@ use Rattle.akl_model.specs.Rules.{nothing, Change, becomes, change_by, cut, coun
 use Rattle.akl_model.specs.Conditions.{IsSolved, IsQuietBox, Makes, MayCut}
 use Rattle.akl_model.specs.Stable.{Allows}
 use Rattle.akl_model.specs.Changes.{box_names, goal_names}
-use Rattle.akl_model.specs.Derivations.{after}
+use Rattle.akl_model.specs.Derivations.{Applies, after}
 use Rattle.akl_model.proofs.Options.{some_value}
 use Rattle.step_laws.specs.Whereabouts.{BoxIn}
 use Rattle.step_laws.proofs.GoalEdits.{count_alone}
@@ -24,9 +24,11 @@ use Rattle.plan_laws.specs.Right.{Reads}
 use Rattle.table_laws.specs.Steps.{CutsGoal}
 use Rattle.box_tree.specs.declared.step.Step.{Step}
 use Rattle.box_tree.specs.declared.view.Alternative.{Alternative}
-use Rattle.box_tree.specs.Tables.{is_empty}
+use Rattle.box_tree.specs.Tables.{all_rules, is_empty}
 use Rattle.box_tree.specs.Views.{ViewValue, IsViewOf}
 use Rattle.box_tree.specs.Plans.{IsRead, IsRight}
+use Rattle.box_tree.proofs.BoundHere.{kept_bound}
+use Rattle.guard_plan.proofs.Sites.{stand}
 use Rattle.guard_plan.specs.Guards.{IsNoisyOver, HasQuiet, cutting}
 use Rattle.guard_plan.proofs.ChoiceNone.{inside_of, NoneCuts}
 use Rattle.guard_plan.proofs.Placed.{ArePlaced, placed, is_quiet, was_quiet}
@@ -204,14 +206,19 @@ module _ (v : ViewValue) (i : IsViewOf v) where
         named_in b gs (box c hs cs) (inr (inl h)) e = let z : [] ≡ c ∷ h.0 = h.1 in cc
         named_in b gs (box c hs cs) (inr (inr h)) e = inr (named_in b gs cs h e)
 
-    pub cut_right : IsRight (record { table = v.table; journal = v.journal; label = label; reads = Item.Goal g ∷ map Item.Store v.path; names = 0; step = Step.Cut })
+    abbrev applies : Applies all_rules v.table.program i.table.config label (after i.table.config label i.site change)
+    applies = record { in_force = inr (inr (inr (inl refl))); site = i.site; is_site = i.is_site; change = change; makes = makes; result = refl }
+
+    pub cut_right : IsRight (record { table = v.table; journal = v.journal; label = label; reads = Item.Goal g ∷ map Item.Store v.path; names = 0; step = Step.Cut; binds = [] })
     cut_right = record {
       table = i.table;
       result = after i.table.config label i.site change;
-      applies = record { in_force = inr (inr (inr (inl refl))); site = i.site; is_site = i.is_site; change = change; makes = makes; result = refl };
+      applies = applies;
       makes = (refl, (g, n, p, refl, cuts_goal));
       solved = tt;
       names = refl;
       reads = subst (λ (x : Place). Reads (IsRead (Item.Goal g ∷ map Item.Store v.path)) Rule.Cut x (Some n) i.site) (sym p) (goal_reads v i g);
+      binds = kept_bound all_rules v.table.program i.table.config label (after i.table.config label i.site change) (stand v i) applies i.site.content
+          (with_content g (a_choice o (kept_by o n bs)) i.site.goals) no_boxes refl refl;
       there = items_there v i g (a_choice o bs) held;
     }

@@ -1,5 +1,6 @@
 pub mod Chains
 pub mod Sites
+pub mod BoundAt
 pub mod ReadItems
 pub mod Names
 pub mod QuietOver

@@ -1,8 +1,9 @@
 -- A plan of Promote is right, and where none is made of the only alternative, no rule applies.
-use Rattle.std.proofs.Common.{◌≡◌, ℕ, ◌+◌, ◌≤◌, ◌<◌, ◌^◌, List, [], ◌∷◌, ◌++◌, length, map, Bool, true, false, Some, None, refl, sym, ◌∙◌, ap, subst, inl, inr, arith, append-nil}
+use Rattle.std.proofs.Common.{◌≡◌, ℕ, ◌+◌, ◌≤◌, ◌<◌, ◌^◌, List, [], ◌∷◌, ◌++◌, length, map, Bool, true, false, Some, None, refl, sym, ◌∙◌, ap, subst, inl, inr, arith, append-nil, append_assoc}
 use Rattle.std.specs.Prelude.{slice_index, IsSomeAnd, if◌then◌else◌}
 use Rattle.std.proofs.lemmas.List.{length-map}
 use Rattle.akl_terms.specs.declared.name.Name.{Name}
+use Rattle.akl_terms.specs.declared.name.Var.{Var}
 use Rattle.akl_terms.specs.declared.name.Place.{Place}
 use Rattle.akl_terms.specs.declared.term.Node.{Node}
 use Rattle.akl_terms.specs.declared.program.Op.{Op}
@@ -16,14 +17,14 @@ use Rattle.constraint_laws.proofs.StandsGrow.{stands_with_more}
 use Rattle.akl_model.specs.declared.item.Item.{Item}
 use Rattle.akl_model.specs.declared.label.Rule.{Rule}
 use Rattle.akl_model.specs.declared.label.Label.{Label}
-use Rattle.akl_model.specs.Config.{Atom, Content, no_boxes, box, Goals, no_goals, a_choice, held_in, without_goal, with_names, Port, with_ports, whole}
+use Rattle.akl_model.specs.Config.{Atom, Content, no_boxes, box, Goals, no_goals, a_choice, held_in, without_goal, with_names, Port, with_ports, environment, whole}
 use Rattle.akl_model.specs.Instances.{with_atoms}
 use Rattle.akl_model.specs.Renaming.{port_names}
 use Rattle.akl_model.specs.Names.{times_in}
 use Rattle.akl_model.specs.Rules.{nothing, Change, becomes, joining, change_by, promote, count_of, up_to, kept_by}
 use Rattle.akl_model.specs.Conditions.{IsSolved, GuardHolds, Makes, MayPromote}
 use Rattle.akl_model.specs.Stable.{Allows, only}
-use Rattle.akl_model.specs.Derivations.{after}
+use Rattle.akl_model.specs.Derivations.{Applies, after}
 use Rattle.akl_model.specs.Wakes.{names_around}
 use Rattle.akl_model.proofs.Finds.{times, times_of}
 use Rattle.akl_model.proofs.ScopesAlong.{times_path, found_path}
@@ -33,6 +34,7 @@ use Rattle.local_store.specs.declared.telling.ToldStore.{ToldStore}
 use Rattle.local_store.specs.Stored.{Stored}
 use Rattle.local_store.specs.Chained.{ToldBy, innermost, around, replaced, IsSolvedChain}
 use Rattle.local_store.specs.Promoting.{named_too, AnswersPromoted}
+use Rattle.class_members.specs.Members.{AreMembers}
 use Rattle.plan_laws.specs.Right.{Reads}
 use Rattle.table_laws.specs.Rows.{stores_along, told_in, ports_in}
 use Rattle.table_laws.specs.Steps as laws
@@ -40,10 +42,12 @@ use Rattle.table_laws.specs.Steps.{PromotesGoal, ReadsFor, numbered, IsSolvedIf,
 use Rattle.table_laws.proofs.Stores.{told_join}
 use Rattle.box_tree.specs.declared.step.Step.{Step}
 use Rattle.box_tree.specs.declared.view.Alternative.{Alternative}
-use Rattle.box_tree.specs.Tables.{goal_atom, table_of, step_of}
+use Rattle.box_tree.specs.Tables.{all_rules, goal_atom, table_of, step_of}
 use Rattle.box_tree.specs.Views.{ViewValue, IsViewOf}
 use Rattle.box_tree.specs.Edits.{named_atoms}
 use Rattle.box_tree.specs.Plans.{IsRead, IsRight}
+use Rattle.step_laws.specs.Bound.{AreBoundIn}
+use Rattle.box_tree.proofs.BoundHere.{told_bound}
 use Rattle.guard_plan.specs.Guards.{HoldsInside, numbered_goals}
 use Rattle.guard_plan.specs.Planned.{HasNoRule}
 use Rattle.guard_plan.proofs.Chains.{told_stands, around_push, innermost_push}
@@ -51,6 +55,7 @@ use Rattle.guard_plan.proofs.Names.{named_frames, named_ports}
 use Rattle.guard_plan.proofs.ChoiceNone.{inside_of, NoneCuts, choice_none}
 use Rattle.guard_plan.proofs.Placed.{IsPlaced, environment_is, all_stand, frames_are, ports_are, guard_is, guard_was}
 use Rattle.guard_plan.proofs.ReadItems.{goal_reads, items_there}
+use Rattle.guard_plan.proofs.BoundAt.{oldest_at, joined_at}
 use Rattle.guard_plan.proofs.Sites.{stand, row, environment_stands, stores_split}
 
 -- goals under names are the atoms under them
@@ -175,7 +180,7 @@ module _ (v : ViewValue) (i : IsViewOf v) (g : Name) (o : Op) (b : Content) (gs 
 
     solved_if : (s : Bool) → t.solved ≡ s → IsSolvedIf s (table_of v.table) (names_around i.site) t.store
     solved_if false e = tt
-    solved_if true e = let w : _ = answer.is_solved.0 e in subst (IsSolvedChain v.table.program.templates.nodes) replaced_is (answer.promotes.solved w.0 w.1)
+    solved_if true e = let w : _ = answer.is_solved.0 e in subst (IsSolvedChain v.table.program.templates.nodes) replaced_is (answer.promotes.solved w.0 w.1 w.2)
 
     abbrev pub label : Label
     label = record { rule = Rule.Promote; place = v.place; alternative = Some a.name; worker = v.worker }
@@ -200,16 +205,29 @@ module _ (v : ViewValue) (i : IsViewOf v) (g : Name) (o : Op) (b : Content) (gs 
       few_names = let l : length v.body ≡ length b.body = as_long in omega arith;
     }
 
-    pub promote_right : (step : Step) → step_of v.table.program.templates.nodes step ≡ laws.promotes t.store t.solved (named_atoms v.table.program.templates.nodes (numbered_goals v.worker v.next v.body))
-        → IsRight (record { table = v.table; journal = v.journal; label = label; reads = Item.Goal g ∷ map Item.Store v.path; names = length v.body; step = step })
-    promote_right step e = record {
+    abbrev applies : Applies all_rules v.table.program i.table.config label (after i.table.config label i.site change)
+    applies = record { in_force = inr (inr (inr (inr (inl refl)))); site = i.site; is_site = i.is_site; change = change; makes = makes; result = refl }
+
+    -- what the alternative binds
+    bound : (binds : List Var) → AreMembers v.table.program.templates.nodes v.stores t.bound.items binds → AreBoundIn i.table.config (after i.table.config label i.site change) i.site binds
+    bound binds m = told_bound all_rules v.table.program i.table.config label (after i.table.config label i.site change) (stand v i) applies (joining b i.site.content)
+        (with_atoms v.worker (slice_index i.table.config.next v.worker) b.body (without_goal g i.site.goals)) no_boxes refl binds
+        (joined_at v i a.store known t answer binds m b.equations
+        (subst (λ (E : Equations). StandFor (IsTold (told_in v.table.program.templates.nodes (v.stores ++ a.store ∷ []))) (IsTold E))
+        (ap (λ (E : Equations). E ++ b.equations) (environment_is v i b gs a h) ∙ append_assoc (environment i.site) i.site.content.equations b.equations) (all_stand v i b gs a h)))
+        (oldest_at v i t.bound.items binds m)
+
+    pub promote_right : (binds : List Var) → AreMembers v.table.program.templates.nodes v.stores t.bound.items binds → (step : Step) → step_of v.table.program.templates.nodes step ≡ laws.promotes t.store t.solved (named_atoms v.table.program.templates.nodes (numbered_goals v.worker v.next v.body))
+        → IsRight (record { table = v.table; journal = v.journal; label = label; reads = Item.Goal g ∷ map Item.Store v.path; names = length v.body; step = step; binds = binds })
+    promote_right binds m step e = record {
       table = i.table;
       result = after i.table.config label i.site change;
-      applies = record { in_force = inr (inr (inr (inr (inl refl)))); site = i.site; is_site = i.is_site; change = change; makes = makes; result = refl };
+      applies = applies;
       makes = subst (laws.Makes v.table.program label (slice_index i.table.config.next v.worker) i.site) (sym e) (refl, (g, a.name, p, refl, promotes_goal));
       solved = subst (IsSolvedIn (table_of v.table) i.site) (sym e) (solved_if t.solved refl);
       names = as_long;
       reads = subst (ReadsFor (IsRead (Item.Goal g ∷ map Item.Store v.path)) label i.site) (sym e)
           (subst (λ (x : Place). Reads (IsRead (Item.Goal g ∷ map Item.Store v.path)) Rule.Promote x (Some a.name) i.site) (sym p) (goal_reads v i g));
+      binds = bound binds m;
       there = items_there v i g (a_choice o (box b gs no_boxes)) held;
     }

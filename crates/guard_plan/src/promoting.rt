@@ -11,6 +11,7 @@ use crate::labels::{goal_and_stores, label_for};
 use akl_model::Rule;
 use akl_terms::{Goal, Name, Op, Program};
 use box_tree::{Alternative, Plan, Step, View};
+use class_members::members;
 use local_store::{Chain, Shared, ToldStore, promoted};
 use std::alloc::{AllocError, Global};
 
@@ -43,7 +44,12 @@ pub(crate) fn promote(
     if !guard_holds(alloc, op, &chain)? {
         return Ok(None);
     }
-    let ToldStore { store, solved } = promoted(alloc, &chain)?;
+    let ToldStore {
+        store,
+        solved,
+        bound,
+    } = promoted(alloc, &chain)?;
+    let binds = members(alloc, &view.chain(&program.templates), bound.as_slice())?;
     let store = Shared::new(alloc, store)?;
     let next = view.next();
     next.checked_add(names).ok_or(AllocError)?;
@@ -58,7 +64,7 @@ pub(crate) fn promote(
         solved,
         goals,
     };
-    Ok(Some(Plan::new(view, label, reads, names, step)))
+    Ok(Some(Plan::new(view, label, reads, names, step, binds)))
 }
 
 // These goals under names from this one on.

@@ -30,6 +30,7 @@ use Rattle.local_store.specs.Chained.{bindings_from, ToldBy}
 use Rattle.local_store.specs.Telling.{AnswersTold}
 use Rattle.plan_laws.specs.Right.{Reads}
 use Rattle.arith_goals.specs.Answers as arithmetic
+use Rattle.class_members.specs.Members.{AreMembers}
 use Rattle.box_tree.specs.declared.step.Step.{Step}
 use Rattle.box_tree.specs.declared.view.Sight.{Sight}
 use Rattle.box_tree.specs.Views.{ViewValue, IsViewOf}
@@ -41,7 +42,7 @@ use Rattle.guard_plan.proofs.Chains.{told_stands}
 use Rattle.rule_plan.proofs.InForce.{eval_in_force}
 use Rattle.rule_plan.proofs.AtomNone.{atom_none}
 use Rattle.guard_plan.proofs.ReadItems.{goal_reads}
-use Rattle.rule_plan.proofs.GoalRight.{goal_right}
+use Rattle.rule_plan.proofs.GoalRight.{goal_right, keeps_bound, tells_bound}
 use Rattle.rule_plan.proofs.ToldGoals.{same_frames, same_ports, solved_if, tells_goal}
 
 -- a goal that has an answer doesn't wait
@@ -103,30 +104,33 @@ module _ (v : ViewValue) (i : IsViewOf v) (g frame : Name) (test : Test) (l r : 
       few_names = omega (arith, none);
     }
 
-    reads : Reads (IsRead (plan_at v Rule.Eval g 0 Step.Fail).reads) Rule.Eval v.place None i.site
-    reads = subst (λ (q : Place). Reads (IsRead (plan_at v Rule.Eval g 0 Step.Fail).reads) Rule.Eval q None i.site) (sym p) (goal_reads v i g)
+    reads : Reads (IsRead (plan_at v Rule.Eval g 0 Step.Fail []).reads) Rule.Eval v.place None i.site
+    reads = subst (λ (q : Place). Reads (IsRead (plan_at v Rule.Eval g 0 Step.Fail []).reads) Rule.Eval q None i.site) (sym p) (goal_reads v i g)
 
     -- a comparison that holds
-    pub holds_right : Evaluates v.table.program.templates.symbols stored test left right (truth true) → IsRight (plan_at v Rule.Eval g 0 Step.Confirm)
+    pub holds_right : Evaluates v.table.program.templates.symbols stored test left right (truth true) → IsRight (plan_at v Rule.Eval g 0 Step.Confirm [])
     holds_right e =
         let m : conditions.Makes (Allows v.table.program) v.table.program (slice_index i.table.config.next v.worker) (label_at v Rule.Eval) i.site (becomes i.site.content (without_goal g i.site.goals) 0) =
         makes (truth true) (becomes i.site.content (without_goal g i.site.goals) 0) e refl refl in
-        goal_right v i g Rule.Eval (an_atom was) held eval_in_force (becomes i.site.content (without_goal g i.site.goals) 0) m Step.Confirm (refl, (g, p, record { goal = was; held = held; makes = m })) tt reads
+        goal_right v i g Rule.Eval eval_in_force (becomes i.site.content (without_goal g i.site.goals) 0) m (an_atom was) held Step.Confirm (refl, (g, p, record { goal = was; held = held; makes = m })) tt reads
+        [] (keeps_bound v i g Rule.Eval eval_in_force (becomes i.site.content (without_goal g i.site.goals) 0) m i.site.content (without_goal g i.site.goals) refl refl)
 
     -- one that fails
-    pub fails_right : Evaluates v.table.program.templates.symbols stored test left right (truth false) → IsRight (plan_at v Rule.Eval g 0 Step.Refute)
+    pub fails_right : Evaluates v.table.program.templates.symbols stored test left right (truth false) → IsRight (plan_at v Rule.Eval g 0 Step.Refute [])
     fails_right e =
         let m : conditions.Makes (Allows v.table.program) v.table.program (slice_index i.table.config.next v.worker) (label_at v Rule.Eval) i.site (becomes i.site.content (with_content g (an_atom Atom.fail) i.site.goals) 0) =
         makes (truth false) (becomes i.site.content (with_content g (an_atom Atom.fail) i.site.goals) 0) e refl refl in
-        goal_right v i g Rule.Eval (an_atom was) held eval_in_force (becomes i.site.content (with_content g (an_atom Atom.fail) i.site.goals) 0) m Step.Refute (refl, (g, p, record { goal = was; held = held; makes = m })) tt reads
+        goal_right v i g Rule.Eval eval_in_force (becomes i.site.content (with_content g (an_atom Atom.fail) i.site.goals) 0) m (an_atom was) held Step.Refute (refl, (g, p, record { goal = was; held = held; makes = m })) tt reads
+        [] (keeps_bound v i g Rule.Eval eval_in_force (becomes i.site.content (with_content g (an_atom Atom.fail) i.site.goals) 0) m i.site.content (with_content g (an_atom Atom.fail) i.site.goals) refl refl)
 
     -- a value is told
     pub value_right : (z : ℤ) → Evaluates v.table.program.templates.symbols stored test left right (value z) → (t : ToldStore)
-        → AnswersTold v.table.program.templates.nodes v.stores v.known (value_equation frame l z ∷ []) t → IsRight (plan_at v Rule.Eval g 0 (Step.Tell t.store t.solved))
-    value_right z e t a =
+        → AnswersTold v.table.program.templates.nodes v.stores v.known (value_equation frame l z ∷ []) t
+        → (binds : List Var) → AreMembers v.table.program.templates.nodes v.stores t.bound.items binds → IsRight (plan_at v Rule.Eval g 0 (Step.Tell t.store t.solved) binds)
+    value_right z e t a binds b =
         let m : conditions.Makes (Allows v.table.program) v.table.program (slice_index i.table.config.next v.worker) (label_at v Rule.Eval) i.site (becomes (telling left (integer z) i.site.content) (without_goal g i.site.goals) 0) =
         makes (value z) (becomes (telling left (integer z) i.site.content) (without_goal g i.site.goals) 0) e refl refl in
-        goal_right v i g Rule.Eval (an_atom was) held eval_in_force (becomes (telling left (integer z) i.site.content) (without_goal g i.site.goals) 0) m (Step.Tell t.store t.solved) (
+        goal_right v i g Rule.Eval eval_in_force (becomes (telling left (integer z) i.site.content) (without_goal g i.site.goals) 0) m (an_atom was) held (Step.Tell t.store t.solved) (
           g,
           p,
           tells_goal v i (value_equation frame l z ∷ []) t a t.store refl Rule.Eval (slice_index i.table.config.next v.worker) g (telling left (integer z) i.site.content) 0
@@ -134,6 +138,8 @@ module _ (v : ViewValue) (i : IsViewOf v) (g frame : Name) (test : Test) (l r : 
               (same_frames v i (value_equation frame l z ∷ []) t a) (same_ports v i (value_equation frame l z ∷ []) t a),
         )
         (solved_if v i (value_equation frame l z ∷ []) t a t.store refl t.solved refl) (reads, (goal_reads v i g).1)
+        binds (tells_bound v i g Rule.Eval eval_in_force (becomes (telling left (integer z) i.site.content) (without_goal g i.site.goals) 0) m (telling left (integer z) i.site.content) (without_goal g i.site.goals) refl
+        (value_equation frame l z ∷ []) t a refl binds b)
 
     -- a goal that waits, or never has an answer
 

@@ -14,7 +14,7 @@ use Rattle.akl_model.specs.Config.{no_boxes, whole, site_of}
 use Rattle.akl_model.specs.Rules.{nothing, change_by}
 use Rattle.akl_model.specs.Conditions.{HasFailed, Makes}
 use Rattle.akl_model.specs.Stable.{Allows}
-use Rattle.akl_model.specs.Derivations.{after}
+use Rattle.akl_model.specs.Derivations.{Applies, after}
 use Rattle.step_laws.proofs.Failing.{failing_found}
 use Rattle.local_store.specs.Chained.{ToldBy}
 use Rattle.plan_laws.specs.Right.{Reads}
@@ -22,9 +22,10 @@ use Rattle.table_laws.specs.Unfolds.{FailsBy}
 use Rattle.table_laws.specs.Stamped.{stamp_in}
 use Rattle.box_tree.specs.declared.step.Step.{Step}
 use Rattle.box_tree.specs.declared.view.Sight.{Sight}
-use Rattle.box_tree.specs.Tables.{table_of}
+use Rattle.box_tree.specs.Tables.{all_rules, table_of}
 use Rattle.box_tree.specs.Views.{ViewValue, IsViewOf}
 use Rattle.box_tree.specs.Plans.{IsRead, IsRight}
+use Rattle.box_tree.proofs.BoundHere.{gone_bound}
 use Rattle.rule_plan.specs.Failed.{FailsFor}
 use Rattle.guard_plan.specs.Planned.{HasNoRule}
 use Rattle.rule_plan.proofs.InForce.{fail_in_force}
@@ -59,15 +60,19 @@ module _ (v : ViewValue) (item : Item) (f : FailsFor v item) where
   there (inr x) = subst (λ (k : Item). IsSome (stamp_in (table_of v.table) k)) x.4
       (goal_there (table_of v.table) f.seen.table.config (stand v f.seen) f.seen.table.unfolds f.seen.site (found v f.seen) x.0 x.1 x.2)
 
-  pub fail_right : IsRight (record { table = v.table; journal = v.journal; label = fail_label v; reads = item ∷ []; names = 0; step = Step.Fail })
+  abbrev applies : Applies all_rules v.table.program f.seen.table.config (fail_label v) (after f.seen.table.config (fail_label v) f.seen.site (record { boxes = no_boxes; drawn = 0 }))
+  applies = record { in_force = fail_in_force; site = f.seen.site; is_site = f.seen.is_site; change = record { boxes = no_boxes; drawn = 0 }; makes = makes; result = refl }
+
+  pub fail_right : IsRight (record { table = v.table; journal = v.journal; label = fail_label v; reads = item ∷ []; names = 0; step = Step.Fail; binds = [] })
   fail_right = record {
     table = f.seen.table;
     result = after f.seen.table.config (fail_label v) f.seen.site (record { boxes = no_boxes; drawn = 0 });
-    applies = record { in_force = fail_in_force; site = f.seen.site; is_site = f.seen.is_site; change = record { boxes = no_boxes; drawn = 0 }; makes = makes; result = refl };
+    applies = applies;
     makes = refl;
     solved = tt;
     names = refl;
     reads = subst (λ (q : Place). Reads (IsRead (item ∷ [])) Rule.Fail q None f.seen.site) (sym f.is_place) (read f.reads);
+    binds = gone_bound all_rules v.table.program f.seen.table.config (fail_label v) (after f.seen.table.config (fail_label v) f.seen.site (record { boxes = no_boxes; drawn = 0 })) (stand v f.seen) applies refl;
     there = λ j h. elim h [ inl e ↦ subst (λ (k : Item). IsSome (stamp_in (table_of v.table) k)) (sym e) (there f.reads) | inr z ↦ absurd z ];
   }
 

@@ -8,12 +8,12 @@ use Rattle.akl_terms.specs.declared.program.Definition.{Definition}
 use Rattle.akl_model.specs.declared.item.Item.{Item}
 use Rattle.akl_model.specs.declared.label.Rule.{Rule}
 use Rattle.akl_model.specs.declared.label.Label.{Label}
-use Rattle.akl_model.specs.Config.{Atom, an_atom, a_choice, held_in, with_content, whole}
+use Rattle.akl_model.specs.Config.{Atom, no_boxes, an_atom, a_choice, held_in, with_content, whole}
 use Rattle.akl_model.specs.Instances.{terms_from, instances, drawn_by}
 use Rattle.akl_model.specs.Rules.{nothing, Change, becomes, fork, fork_by, change_by}
 use Rattle.akl_model.specs.Conditions.{Makes}
 use Rattle.akl_model.specs.Stable.{Allows}
-use Rattle.akl_model.specs.Derivations.{after}
+use Rattle.akl_model.specs.Derivations.{Applies, after}
 use Rattle.akl_model.specs.Wakes.{names_down_to}
 use Rattle.local_store.specs.Stored.{Stored}
 use Rattle.plan_laws.specs.Right.{Reads}
@@ -23,9 +23,10 @@ use Rattle.table_laws.specs.Steps.{ForksGoal, ReadsFor, IsSolvedIn, AreNewBoxes,
 use Rattle.box_tree.specs.declared.step.NewBox.{NewBox}
 use Rattle.box_tree.specs.declared.step.Step.{Step}
 use Rattle.box_tree.specs.declared.view.Sight.{Sight}
-use Rattle.box_tree.specs.Tables.{table_of, new_box, step_of}
+use Rattle.box_tree.specs.Tables.{all_rules, table_of, new_box, step_of}
 use Rattle.box_tree.specs.Views.{ViewValue, IsViewOf}
 use Rattle.box_tree.specs.Plans.{IsRead, IsRight}
+use Rattle.box_tree.proofs.BoundHere.{kept_bound}
 use Rattle.rule_plan.specs.declared.heads.Call.{Call}
 use Rattle.rule_plan.specs.Made.{AreMade}
 use Rattle.guard_plan.specs.Planned.{HasNoRule}
@@ -84,16 +85,22 @@ module _ (v : ViewValue) (i : IsViewOf v) (g : Name) (d : ℕ) (call : Call) (p 
       boxes = boxes;
     }
 
-    pub fork_right : IsRight (record { table = v.table; journal = v.journal; label = fork_label v; reads = Item.Goal g ∷ []; names = drawn_by x.clauses; step = step })
+    abbrev applies : Applies all_rules v.table.program i.table.config (fork_label v) (after i.table.config (fork_label v) i.site change)
+    applies = record { in_force = inr (inl refl); site = i.site; is_site = i.is_site; change = change; makes = makes; result = refl }
+
+    pub fork_right : IsRight (record { table = v.table; journal = v.journal; label = fork_label v; reads = Item.Goal g ∷ []; names = drawn_by x.clauses; step = step; binds = [] })
     fork_right = record {
       table = i.table;
       result = after i.table.config (fork_label v) i.site change;
-      applies = record { in_force = inr (inl refl); site = i.site; is_site = i.is_site; change = change; makes = makes; result = refl };
+      applies = applies;
       makes = subst (laws.Makes v.table.program (fork_label v) (slice_index i.table.config.next v.worker) i.site) (sym made_step) (refl, (g, p, forks_goal));
       solved = subst (IsSolvedIn (table_of v.table) i.site) (sym made_step) solved;
       names = refl;
       reads = subst (ReadsFor (IsRead (Item.Goal g ∷ [])) (fork_label v) i.site) (sym made_step)
           (subst (λ (q : Place). Reads (IsRead (Item.Goal g ∷ [])) Rule.Fork q None i.site) (sym p) (inl refl));
+      binds = kept_bound all_rules v.table.program i.table.config (fork_label v) (after i.table.config (fork_label v) i.site change) (stand v i) applies i.site.content
+          (with_content g (a_choice x.op (instances v.table.program.templates.nodes v.worker (slice_index i.table.config.next v.worker) (terms_from v.table.program.templates.nodes call.frame call.first call.count) x.clauses)) i.site.goals)
+          no_boxes refl refl;
       there = λ j h. elim h [
         | inl e ↦ subst (λ (k : Item). IsSome (stamp_in (table_of v.table) k)) (sym e)
             (goal_there (table_of v.table) i.table.config (stand v i) i.table.unfolds i.site (found v i) g (an_atom (Atom.call d (terms_from v.table.program.templates.nodes call.frame call.first call.count))) held)

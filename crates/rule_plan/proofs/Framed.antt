@@ -8,6 +8,7 @@ use Rattle.akl_terms.specs.Equal.{IsTold}
 use Rattle.akl_model.proofs.Orders.{lt_or}
 use Rattle.rational_unify.specs.Solving.{bindings_in}
 use Rattle.rational_unify.specs.Forms.{IsFormOf}
+use Rattle.rational_unify.specs.Older.{LeadOlder}
 use Rattle.rational_unify.proofs.Taking.{take-all}
 use Rattle.local_store.specs.Stored.{Stored}
 use Rattle.local_store.specs.Chained.{IsSolvedChain, IsKnown}
@@ -22,7 +23,10 @@ take_front (suc k) [] ts h = absurd (omega arith)
 take_front (suc k) (s ∷ ss) ts h = ap (λ (l : List Stored). s ∷ l) (take_front k ss ts (omega arith))
 
 framed : (nodes : List Node) (path : List Stored) (frame : Name) → IsSolvedChain nodes path → IsSolvedChain nodes (path ++ store_with frame ∷ [])
-framed nodes path frame h = subst (λ (l : List (Var × Term)). IsFormOf nodes l (IsTold (bindings_in nodes l))) (sym (from-last path (store_with frame))) h
+framed nodes path frame h = record {
+  form = subst (λ (l : List (Var × Term)). IsFormOf nodes l (IsTold (bindings_in nodes l))) (sym (from-last path (store_with frame))) h.form;
+  older = subst (LeadOlder nodes) (sym (from-last path (store_with frame))) h.older;
+}
 
 pub more_known : (nodes : List Node) (path : List Stored) (frame : Name) (known more : ℕ) → IsKnown nodes path known → MoreKnown known (length path) more → IsKnown nodes (path ++ store_with frame ∷ []) more
 more_known nodes path frame known more h (inl e) = record {

@@ -1,36 +1,64 @@
 -- A plan at a goal is right that read the goal and the constraints down to its box.
-use Rattle.std.proofs.Common.{◌≡◌, ◌∷◌, map, Some, refl}
+use Rattle.std.proofs.Common.{◌≡◌, List, [], ◌∷◌, ◌++◌, map, Some, refl}
 use Rattle.std.specs.Prelude.{slice_index}
 use Rattle.akl_terms.specs.declared.name.Name.{Name}
-use Rattle.akl_terms.specs.declared.name.Place.{Place}
+use Rattle.akl_terms.specs.declared.name.Var.{Var}
+use Rattle.akl_terms.specs.declared.term.Equation as code
 use Rattle.akl_model.specs.declared.item.Item.{Item}
 use Rattle.akl_model.specs.declared.label.Rule.{Rule}
-use Rattle.akl_model.specs.Config.{Held, held_in}
+use Rattle.akl_model.specs.Config.{Content, no_boxes, box, Goals, Held, held_in}
 use Rattle.akl_model.specs.Rules.{Change}
 use Rattle.akl_model.specs.Conditions as conditions
 use Rattle.akl_model.specs.Stable.{Allows}
-use Rattle.akl_model.specs.Derivations.{IsInForce, after}
+use Rattle.akl_model.specs.Derivations.{IsInForce, Applies, after}
+use Rattle.rational_unify.specs.Solving.{equations_in}
+use Rattle.local_store.specs.declared.telling.ToldStore.{ToldStore}
+use Rattle.local_store.specs.Telling.{AnswersTold}
+use Rattle.class_members.specs.Members.{AreMembers}
 use Rattle.table_laws.specs.Steps.{Makes, ReadsFor, IsSolvedIn}
 use Rattle.box_tree.specs.declared.step.Step.{Step}
 use Rattle.box_tree.specs.Tables.{all_rules, table_of, step_of}
 use Rattle.box_tree.specs.Views.{ViewValue, IsViewOf}
 use Rattle.box_tree.specs.Plans.{IsRead, IsRight}
+use Rattle.step_laws.specs.Bound.{AreBoundIn}
+use Rattle.box_tree.proofs.BoundHere.{kept_bound, told_bound}
 use Rattle.rule_plan.specs.AtGoals.{label_at, plan_at}
+use Rattle.guard_plan.proofs.BoundAt.{oldest_at, told_at}
+use Rattle.guard_plan.proofs.Sites.{stand}
 use Rattle.guard_plan.proofs.ReadItems.{items_there}
 
-module _ (v : ViewValue) (i : IsViewOf v) (g : Name) where
-  pub goal_right : (rule : Rule) (h : Held) → held_in g i.site.goals ≡ Some h → IsInForce all_rules rule → (change : Change)
-      → conditions.Makes (Allows v.table.program) v.table.program (slice_index i.table.config.next v.worker) (label_at v rule) i.site change → (step : Step)
+module _ (v : ViewValue) (i : IsViewOf v) (g : Name) (rule : Rule) (force : IsInForce all_rules rule) (change : Change)
+    (makes : conditions.Makes (Allows v.table.program) v.table.program (slice_index i.table.config.next v.worker) (label_at v rule) i.site change) where
+  abbrev applies : Applies all_rules v.table.program i.table.config (label_at v rule) (after i.table.config (label_at v rule) i.site change)
+  applies = record { in_force = force; site = i.site; is_site = i.is_site; change = change; makes = makes; result = refl }
+
+  -- what it binds
+  abbrev pub Binding : List Var → Type 0
+  Binding binds = AreBoundIn i.table.config (after i.table.config (label_at v rule) i.site change) i.site binds
+
+  -- nothing, where the box keeps its equations
+  pub keeps_bound : (b : Content) (gs : Goals) → change.boxes ≡ box b gs no_boxes → b.equations ≡ i.site.content.equations → Binding []
+  keeps_bound b gs e q = kept_bound all_rules v.table.program i.table.config (label_at v rule) (after i.table.config (label_at v rule) i.site change) (stand v i) applies b gs no_boxes e q
+
+  -- members of what the stores say, where equations were told
+  pub tells_bound : (b : Content) (gs : Goals) → change.boxes ≡ box b gs no_boxes → (es : List code.Equation) (t : ToldStore) → AnswersTold v.table.program.templates.nodes v.stores v.known es t
+      → b.equations ≡ i.site.content.equations ++ equations_in v.table.program.templates.nodes es → (binds : List Var) → AreMembers v.table.program.templates.nodes v.stores t.bound.items binds → Binding binds
+  tells_bound b gs e es t a q binds m = told_bound all_rules v.table.program i.table.config (label_at v rule) (after i.table.config (label_at v rule) i.site change) (stand v i) applies b gs no_boxes e binds
+      (told_at v i es t a binds m b.equations q) (oldest_at v i t.bound.items binds m)
+
+  pub goal_right : (h : Held) → held_in g i.site.goals ≡ Some h → (step : Step)
       → Makes v.table.program (label_at v rule) (slice_index i.table.config.next v.worker) i.site (step_of v.table.program.templates.nodes step)
       → IsSolvedIn (table_of v.table) i.site (step_of v.table.program.templates.nodes step)
-      → ReadsFor (IsRead (Item.Goal g ∷ map Item.Store v.path)) (label_at v rule) i.site (step_of v.table.program.templates.nodes step) → IsRight (plan_at v rule g change.drawn step)
-  goal_right rule h held force change makes step made solved reads = record {
+      → ReadsFor (IsRead (Item.Goal g ∷ map Item.Store v.path)) (label_at v rule) i.site (step_of v.table.program.templates.nodes step)
+      → (binds : List Var) → AreBoundIn i.table.config (after i.table.config (label_at v rule) i.site change) i.site binds → IsRight (plan_at v rule g change.drawn step binds)
+  goal_right h held step made solved reads binds bound = record {
     table = i.table;
     result = after i.table.config (label_at v rule) i.site change;
-    applies = record { in_force = force; site = i.site; is_site = i.is_site; change = change; makes = makes; result = refl };
+    applies = applies;
     makes = made;
     solved = solved;
     names = refl;
     reads = reads;
+    binds = bound;
     there = items_there v i g h held;
   }

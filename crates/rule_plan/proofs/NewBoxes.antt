@@ -13,7 +13,6 @@ use Rattle.akl_terms.proofs.StandingLaws.{StandFor-back, StandFor-on}
 use Rattle.akl_model.specs.Config.{Atom, Boxes, Goals, no_goals, atom, an_atom, with_goal}
 use Rattle.akl_model.specs.Instances.{term_at, terms_from, atom_of, atoms_of, with_atoms, head_equations, instances}
 use Rattle.rational_unify.specs.Solving.{bindings_in, equations_in}
-use Rattle.local_store.specs.declared.telling.ToldStore.{ToldStore}
 use Rattle.local_store.specs.Stored.{Stored}
 use Rattle.local_store.specs.Chained.{IsSolvedChain}
 use Rattle.table_laws.specs.Rows.{Table, stores_along, told_in, ports_in}
@@ -72,17 +71,17 @@ told_frame : (nodes : List Node) (path : List Stored) (frame : Name) → told_in
 told_frame nodes path frame = told_join nodes path (store_with frame ∷ []) ∙ append-nil (told_in nodes path)
 
 module _ (nodes : List Node) (path : List Stored) (W : Equations) (stands : StandFor (IsTold (told_in nodes path)) (IsTold W)) (call : Call) (w : ℕ) where
-  head_stands : (frame : Name) (c : Clause) (answer : ToldStore) → IsHeadStore nodes path call frame c answer
+  head_stands : (frame : Name) (c : Clause) (store : Stored) (solved : Bool) → IsHeadStore nodes path call frame c store solved
       → (D : Equations) → StandFor (IsTold D) (IsTold W)
-      → StandFor (IsTold (D ++ bindings_in nodes answer.store.bindings)) (IsTold (W ++ head_equations (terms_from nodes call.frame call.first call.count) (terms_from nodes frame c.first c.count)))
-  head_stands frame c answer h D d = subst (λ (E : Equations). StandFor (IsTold (D ++ bindings_in nodes answer.store.bindings)) (IsTold (W ++ E)))
+      → StandFor (IsTold (D ++ bindings_in nodes store.bindings)) (IsTold (W ++ head_equations (terms_from nodes call.frame call.first call.count) (terms_from nodes frame c.first c.count)))
+  head_stands frame c store solved h D d = subst (λ (E : Equations). StandFor (IsTold (D ++ bindings_in nodes store.bindings)) (IsTold (W ++ E)))
       (heads_equations nodes call.frame call.first call.count frame c.first c.count)
-      (told_over D (told_in nodes path) (told_in nodes path) W (bindings_in nodes answer.store.bindings) (equations_in nodes (heads_of call frame c)) (StandFor-on d (StandFor-back stands)) stands tells)
+      (told_over D (told_in nodes path) (told_in nodes path) W (bindings_in nodes store.bindings) (equations_in nodes (heads_of call frame c)) (StandFor-on d (StandFor-back stands)) stands tells)
     where
-      tells : StandFor (IsTold (told_in nodes path ++ equations_in nodes (heads_of call frame c))) (IsTold (told_in nodes path ++ bindings_in nodes answer.store.bindings))
-      tells = subst (λ (E : Equations). StandFor (IsTold (E ++ equations_in nodes (heads_of call frame c))) (IsTold (told_in nodes path ++ bindings_in nodes answer.store.bindings))) (told_frame nodes path frame)
-          (subst (λ (ss : List Stored). StandFor (IsTold (told_in nodes (path ++ store_with frame ∷ []) ++ equations_in nodes (heads_of call frame c))) (IsTold (told_in nodes ss ++ bindings_in nodes answer.store.bindings)))
-          (around_push path (store_with frame)) (tells_stands nodes (path ++ store_with frame ∷ []) h.known (heads_of call frame c) answer.store h.told.tells))
+      tells : StandFor (IsTold (told_in nodes path ++ equations_in nodes (heads_of call frame c))) (IsTold (told_in nodes path ++ bindings_in nodes store.bindings))
+      tells = subst (λ (E : Equations). StandFor (IsTold (E ++ equations_in nodes (heads_of call frame c))) (IsTold (told_in nodes path ++ bindings_in nodes store.bindings))) (told_frame nodes path frame)
+          (subst (λ (ss : List Stored). StandFor (IsTold (told_in nodes (path ++ store_with frame ∷ []) ++ equations_in nodes (heads_of call frame c))) (IsTold (told_in nodes ss ++ bindings_in nodes store.bindings)))
+          (around_push path (store_with frame)) (tells_stands nodes (path ++ store_with frame ∷ []) h.known (heads_of call frame c) store h.tells))
 
   one_made : (n : ℕ) (c : Clause) (b : NewBox) → IsMade nodes path call w n c b → (rest : Boxes)
       → IsNewBox nodes W (new_box nodes b) (record {
@@ -95,9 +94,9 @@ module _ (nodes : List Node) (path : List Stored) (W : Equations) (stands : Stan
       }) (with_atoms w (n + 2) (atoms_of nodes (record { worker = w; number = n + 1 }) c.guard) no_goals)
   one_made n c b m rest = record {
     name = m.name;
-    frames = m.store.told.tells.frames ∙ ap (λ (k : Stored). k.frames) (innermost_push path (store_with (record { worker = w; number = n + 1 })));
-    ports = ap (ports_in nodes) (m.store.told.tells.ports ∙ ap (λ (k : Stored). k.ports) (innermost_push path (store_with (record { worker = w; number = n + 1 }))));
-    stands = head_stands (record { worker = w; number = n + 1 }) c (record { store = b.store; solved = b.solved }) m.store;
+    frames = m.store.tells.frames ∙ ap (λ (k : Stored). k.frames) (innermost_push path (store_with (record { worker = w; number = n + 1 })));
+    ports = ap (ports_in nodes) (m.store.tells.ports ∙ ap (λ (k : Stored). k.ports) (innermost_push path (store_with (record { worker = w; number = n + 1 }))));
+    stands = head_stands (record { worker = w; number = n + 1 }) c b.store b.solved m.store;
     goals = subst (λ (l : List (Name × Goal)). AreAtoms (map (λ (x : Name × Goal). (x.0, goal_atom nodes x.1)) l) (with_atoms w (n + 2) (atoms_of nodes (record { worker = w; number = n + 1 }) c.guard) no_goals))
         (sym m.goals) (named_atoms nodes (record { worker = w; number = n + 1 }) (n + 2) c.guard);
     body = ap (map (goal_atom nodes)) m.body ∙ body_atoms nodes (record { worker = w; number = n + 1 }) c.body;
@@ -112,11 +111,11 @@ module _ (nodes : List Node) (path : List Stored) (W : Equations) (stands : Stan
       (one_made n c b m.0 (instances nodes w (n + (2 + length c.guard)) (terms_from nodes call.frame call.first call.count) cs), all_made (n + (2 + length c.guard)) cs bs m.1)
 
 -- solved, where a box says so
-one_solved : (nodes : List Node) (path : List Stored) (call : Call) (frame : Name) (c : Clause) (store : Stored) (t : Bool) → IsHeadStore nodes path call frame c (record { store = store; solved = t })
+one_solved : (nodes : List Node) (path : List Stored) (call : Call) (frame : Name) (c : Clause) (store : Stored) (t : Bool) → IsHeadStore nodes path call frame c store t
     → t ≡ true → IsSolvedChain nodes (path ++ store ∷ [])
 one_solved nodes path call frame c store t h e =
-    let k : _ = h.told.is_solved.0 e in
-    subst (λ (ss : List Stored). IsSolvedChain nodes (ss ++ store ∷ [])) (around_push path (store_with frame)) (h.told.tells.solved k.0 k.1)
+    let k : _ = h.is_solved.0 e in
+    subst (λ (ss : List Stored). IsSolvedChain nodes (ss ++ store ∷ [])) (around_push path (store_with frame)) (h.tells.solved k.0 k.1)
 
 pub all_solved : (T : Table) (ns : List Name) (call : Call) (w n : ℕ) (cs : List Clause) (bs : List NewBox) → AreMade T.nodes (stores_along T ns) call w n cs bs → AreSolvedIf T ns (map (new_box T.nodes) bs)
 all_solved T ns call w n [] [] m = tt

@@ -2,6 +2,7 @@
 use Rattle.std.proofs.Common.{◌≡◌, ℕ, ◌+◌, ◌≤◌, [], ◌∷◌, List, Some, None, refl, sym, ◌∙◌, ap, subst, arith}
 use Rattle.std.specs.Prelude.{slice_index}
 use Rattle.akl_terms.specs.declared.name.Name.{Name}
+use Rattle.akl_terms.specs.declared.name.Var.{Var}
 use Rattle.akl_terms.specs.declared.name.Place.{Place}
 use Rattle.akl_terms.specs.declared.term.Term.{Term}
 use Rattle.akl_terms.specs.declared.term.Term.TheVariants.{Mol}
@@ -28,6 +29,7 @@ use Rattle.local_store.specs.Stored as stored
 use Rattle.local_store.specs.Telling.{AnswersTold}
 use Rattle.table_laws.specs.Rows.{ports_in}
 use Rattle.table_laws.proofs.Fresh.{drawn_nowhere}
+use Rattle.class_members.specs.Members.{AreMembers}
 use Rattle.box_tree.specs.declared.step.Step.{Step}
 use Rattle.box_tree.specs.declared.view.Sight.{Sight}
 use Rattle.box_tree.specs.Views.{ViewValue, IsViewOf}
@@ -37,7 +39,7 @@ use Rattle.guard_plan.proofs.Sites.{stand, found, shows_at}
 use Rattle.rule_plan.proofs.InForce.{open_in_force}
 use Rattle.guard_plan.proofs.Names.{port_put}
 use Rattle.guard_plan.proofs.ReadItems.{goal_reads}
-use Rattle.rule_plan.proofs.GoalRight.{goal_right}
+use Rattle.rule_plan.proofs.GoalRight.{goal_right, tells_bound}
 use Rattle.rule_plan.proofs.ToldGoals.{same_frames, same_ports, solved_if, tells_goal}
 
 -- the name that a view's worker draws next
@@ -88,9 +90,10 @@ module _ (v : ViewValue) (i : IsViewOf v) (g frame : Name) (l r : ℕ) (p : v.pl
     few_names = omega arith;
   }
 
-  pub open_right : (new : stored.Stored) → new ≡ stored.with_port t.store (next_name v) (Mol r frame) → IsRight (plan_at v Rule.Open g 1 (Step.Tell new t.solved))
-  open_right new is = subst (λ (k : stored.Stored). IsRight (plan_at v Rule.Open g 1 (Step.Tell k t.solved))) (sym is)
-      (goal_right v i g Rule.Open (an_atom (Atom.open_port left stream)) held open_in_force change makes (Step.Tell (stored.with_port t.store (next_name v) (Mol r frame)) t.solved) (
+  pub open_right : (new : stored.Stored) → new ≡ stored.with_port t.store (next_name v) (Mol r frame)
+      → (binds : List Var) → AreMembers v.table.program.templates.nodes v.stores t.bound.items binds → IsRight (plan_at v Rule.Open g 1 (Step.Tell new t.solved) binds)
+  open_right new is binds m = subst (λ (k : stored.Stored). IsRight (plan_at v Rule.Open g 1 (Step.Tell k t.solved) binds)) (sym is)
+      (goal_right v i g Rule.Open open_in_force change makes (an_atom (Atom.open_port left stream)) held (Step.Tell (stored.with_port t.store (next_name v) (Mol r frame)) t.solved) (
         g,
         p,
         tells_goal v i (port_equation frame l (next_name v) ∷ []) t a (stored.with_port t.store (next_name v) (Mol r frame)) refl Rule.Open (slice_index i.table.config.next v.worker) g content 1
@@ -98,7 +101,8 @@ module _ (v : ViewValue) (i : IsViewOf v) (g frame : Name) (l r : ℕ) (p : v.pl
             (same_frames v i (port_equation frame l (next_name v) ∷ []) t a) ports,
       )
       (solved_if v i (port_equation frame l (next_name v) ∷ []) t a (stored.with_port t.store (next_name v) (Mol r frame)) refl t.solved refl)
-      (subst (λ (q : Place). Reads (IsRead (plan_at v Rule.Open g 1 Step.Fail).reads) Rule.Open q None i.site) (sym p) (goal_reads v i g).0, (goal_reads v i g).1))
+      (subst (λ (q : Place). Reads (IsRead (plan_at v Rule.Open g 1 Step.Fail []).reads) Rule.Open q None i.site) (sym p) (goal_reads v i g).0, (goal_reads v i g).1)
+      binds (tells_bound v i g Rule.Open open_in_force change makes content (without_goal g i.site.goals) refl (port_equation frame l (next_name v) ∷ []) t a refl binds m))
     where
       old : ports_in v.table.program.templates.nodes t.store.ports ≡ i.site.content.ports
       old = same_ports v i (port_equation frame l (next_name v) ∷ []) t a

@@ -3,6 +3,7 @@ use Rattle.std.proofs.Common.{◌≡◌, ℕ, ◌+◌, List, [], ◌∷◌, true
 use Rattle.std.specs.Prelude.{slice_index, is_some}
 use Rattle.std.specs.Map.{lookup}
 use Rattle.akl_terms.specs.declared.name.Name.{Name}
+use Rattle.akl_terms.specs.declared.name.Var.{Var}
 use Rattle.akl_terms.specs.declared.name.Place.{Place}
 use Rattle.akl_terms.specs.declared.term.Node.{Node}
 use Rattle.akl_terms.specs.declared.term.Term.{Term}
@@ -38,6 +39,7 @@ use Rattle.local_store.specs.Telling.{AnswersTold}
 use Rattle.plan_laws.specs.Right.{Reads}
 use Rattle.port_goals.specs.Sends.{IsNoPort}
 use Rattle.table_laws.specs.Rows.{ports_in}
+use Rattle.class_members.specs.Members.{AreMembers}
 use Rattle.box_tree.specs.declared.step.Step.{Step}
 use Rattle.box_tree.specs.declared.view.Sight.{Sight}
 use Rattle.box_tree.specs.Tables.{all_rules}
@@ -53,7 +55,7 @@ use Rattle.rule_plan.proofs.AtomNone.{atom_none}
 use Rattle.guard_plan.proofs.Names.{named_with}
 use Rattle.rule_plan.proofs.FramesAndPorts.{found_port, has_port, port_set, ports_ordered}
 use Rattle.guard_plan.proofs.ReadItems.{goal_reads}
-use Rattle.rule_plan.proofs.GoalRight.{goal_right}
+use Rattle.rule_plan.proofs.GoalRight.{goal_right, tells_bound}
 use Rattle.rule_plan.proofs.OpenRight.{next_name}
 use Rattle.rule_plan.proofs.ToldGoals.{own_store, same_frames, same_ports, solved_if, tells_goal}
 
@@ -176,9 +178,10 @@ module _ (v : ViewValue) (g frame : Name) (m r : ℕ) (q : Name) (goes : GoesToP
       (subst (λ (ps : List (Name × Term)). is_some (lookup (same_name q) ps) ≡ true) (sym a.tells.ports) goes.owned)
       ∙ ap (with_tail q (cell (v.table.program.cell + 1))) old
 
-  pub send_right : (new : Stored) → new ≡ sent_store v t.store q → IsRight (plan_at v Rule.Send g 1 (Step.Tell new t.solved))
-  send_right new is = subst (λ (k : Stored). IsRight (plan_at v Rule.Send g 1 (Step.Tell k t.solved))) (sym is)
-      (goal_right v i g Rule.Send (an_atom (Atom.send (term_at v.table.program.templates.nodes frame m) (term_at v.table.program.templates.nodes frame r))) (held v i g frame m r p s) send_in_force change makes
+  pub send_right : (new : Stored) → new ≡ sent_store v t.store q
+      → (binds : List Var) → AreMembers v.table.program.templates.nodes v.stores t.bound.items binds → IsRight (plan_at v Rule.Send g 1 (Step.Tell new t.solved) binds)
+  send_right new is binds b = subst (λ (k : Stored). IsRight (plan_at v Rule.Send g 1 (Step.Tell k t.solved) binds)) (sym is)
+      (goal_right v i g Rule.Send send_in_force change makes (an_atom (Atom.send (term_at v.table.program.templates.nodes frame m) (term_at v.table.program.templates.nodes frame r))) (held v i g frame m r p s)
       (Step.Tell (sent_store v t.store q) t.solved) (
         g,
         p,
@@ -190,4 +193,7 @@ module _ (v : ViewValue) (g frame : Name) (m r : ℕ) (q : Name) (goes : GoesToP
             (record { left = cell v.table.program.cell; right = term_at v.table.program.templates.nodes frame m } ∷ [])) frames ports,
       )
       (solved_if v i (sent_equations v frame m tail) t a (sent_store v t.store q) refl t.solved refl)
-      (subst (λ (u : Place). Reads (IsRead (plan_at v Rule.Send g 1 Step.Fail).reads) Rule.Send u None i.site) (sym p) (goal_reads v i g), (goal_reads v i g).1))
+      (subst (λ (u : Place). Reads (IsRead (plan_at v Rule.Send g 1 Step.Fail []).reads) Rule.Send u None i.site) (sym p) (goal_reads v i g), (goal_reads v i g).1)
+      binds (tells_bound v i g Rule.Send send_in_force change makes content (without_goal g i.site.goals) refl (sent_equations v frame m tail) t a
+      (append_assoc i.site.content.equations (record { left = tree v.table.program.templates.nodes tail; right = cell (v.table.program.cell + 2) } ∷ [])
+      (record { left = cell v.table.program.cell; right = term_at v.table.program.templates.nodes frame m } ∷ [])) binds b))

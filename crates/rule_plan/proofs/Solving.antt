@@ -9,7 +9,7 @@ use Rattle.akl_terms.specs.Standing.{StandFor}
 use Rattle.akl_terms.proofs.StandingLaws.{StandFor-back, StandFor-on}
 use Rattle.constraint_laws.proofs.StandsGrow.{stands_with_more}
 use Rattle.local_store.specs.Stored.{Stored}
-use Rattle.local_store.specs.Chained.{ToldBy, IsSolvedChain, innermost, around, replaced}
+use Rattle.local_store.specs.Chained.{ToldBy, IsFormChain, innermost, around, replaced}
 use Rattle.local_store.specs.Asking.{Resolves}
 use Rattle.table_laws.specs.Rows.{told_in}
 use Rattle.table_laws.proofs.Stores.{told_join}
@@ -23,9 +23,9 @@ fewer nodes ss rest c = (told_stands nodes ss).back (IsConsistent-follows follow
     follows : Follows (told_in nodes ss) (told_in nodes (ss ++ rest))
     follows = record { each = λ {s = l} {t = r} m. told (subst (λ (E : Equations). IsTold E l r) (sym (told_join nodes ss rest)) (IsTold-left (told_in nodes ss) (told_in nodes rest) l r m)) }
 
--- these stores are solved, and with those that are left stand for all
+-- what is found in these stores is a solved form, and with those that are left they stand for all
 pub record IsSolving (nodes : List Node) (all done left : List Stored) : Type 0 where
-  pub solved : IsSolvedChain nodes done
+  pub form : IsFormChain nodes done
   pub stands : StandFor (ToldBy nodes all) (ToldBy nodes (done ++ left))
   pub ports : (innermost (done ++ left)).ports ≡ (innermost all).ports
 
@@ -50,12 +50,12 @@ module _ (nodes : List Node) (all done : List Stored) (s : Stored) (left : List 
   pub next_consistent : IsConsistentBy (ToldBy nodes all) → IsConsistentBy (ToldBy nodes (done ++ s ∷ []))
   next_consistent c = fewer nodes (done ++ s ∷ []) left (subst (λ (ss : List Stored). IsConsistentBy (ToldBy nodes ss)) (split s) (i.stands.to c))
 
-  pub next_around : IsSolvedChain nodes (around (done ++ s ∷ []))
-  next_around = subst (IsSolvedChain nodes) (sym (around_push done s)) i.solved
+  pub next_around : IsFormChain nodes (around (done ++ s ∷ []))
+  next_around = subst (IsFormChain nodes) (sym (around_push done s)) i.form
 
   pub next_solving : (new : Stored) → Resolves nodes (done ++ s ∷ []) new → IsSolving nodes all (done ++ new ∷ []) left
   next_solving new r = record {
-    solved = subst (IsSolvedChain nodes) same r.solved;
+    form = subst (IsFormChain nodes) same r.form;
     stands = StandFor-on (subst (λ (ss : List Stored). StandFor (ToldBy nodes all) (ToldBy nodes ss)) (split s) i.stands)
         (more_stand nodes (done ++ s ∷ []) (done ++ new ∷ []) left (subst (λ (ss : List Stored). StandFor (ToldBy nodes (done ++ s ∷ [])) (ToldBy nodes ss)) same r.stands));
     ports = on left ∙ ap (λ (ss : List Stored). (innermost ss).ports) (sym (split s)) ∙ i.ports;
@@ -72,7 +72,7 @@ module _ (nodes : List Node) (all done : List Stored) (s : Stored) (left : List 
 -- all are solved
 pub all_solved : (nodes : List Node) (all done : List Stored) → IsSolving nodes all done [] → ResolvesAll nodes all done
 all_solved nodes all done i = record {
-  solved = i.solved;
+  form = i.form;
   stands = subst (λ (ss : List Stored). StandFor (ToldBy nodes all) (ToldBy nodes ss)) (append-nil done) i.stands;
   ports = ap (λ (ss : List Stored). (innermost ss).ports) (sym (append-nil done)) ∙ i.ports;
 }
@@ -84,9 +84,9 @@ joined_again zero xs = refl
 joined_again (suc k) [] = refl
 joined_again (suc k) (x ∷ xs) = ap (λ (ys : List Stored). x ∷ ys) (joined_again k xs)
 
-pub begins : (nodes : List Node) (all : List Stored) (k : ℕ) → IsSolvedChain nodes (take k all) → IsSolving nodes all (take k all) (drop k all)
+pub begins : (nodes : List Node) (all : List Stored) (k : ℕ) → IsFormChain nodes (take k all) → IsSolving nodes all (take k all) (drop k all)
 begins nodes all k h = record {
-  solved = h;
+  form = h;
   stands = subst (λ (ss : List Stored). StandFor (ToldBy nodes all) (ToldBy nodes ss)) (sym (joined_again k all)) (StandFor-on (told_stands nodes all) (StandFor-back (told_stands nodes all)));
   ports = ap (λ (ss : List Stored). (innermost ss).ports) (joined_again k all);
 }

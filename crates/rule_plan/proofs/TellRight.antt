@@ -1,7 +1,8 @@
 -- A plan of Tell is right.
-use Rattle.std.proofs.Common.{◌≡◌, ℕ, [], ◌∷◌, Some, None, refl, sym, ap, subst, arith}
+use Rattle.std.proofs.Common.{◌≡◌, ℕ, List, [], ◌∷◌, Some, None, refl, sym, ap, subst, arith}
 use Rattle.std.specs.Prelude.{slice_index}
 use Rattle.akl_terms.specs.declared.name.Name.{Name}
+use Rattle.akl_terms.specs.declared.name.Var.{Var}
 use Rattle.akl_terms.specs.declared.name.Place.{Place}
 use Rattle.akl_terms.specs.declared.term.Term.TheVariants.{Mol}
 use Rattle.akl_terms.specs.declared.term.Equation as code
@@ -16,6 +17,7 @@ use Rattle.akl_model.specs.Stable.{Allows}
 use Rattle.plan_laws.specs.Right.{Reads}
 use Rattle.local_store.specs.declared.telling.ToldStore.{ToldStore}
 use Rattle.local_store.specs.Telling.{AnswersTold}
+use Rattle.class_members.specs.Members.{AreMembers}
 use Rattle.box_tree.specs.declared.step.Step.{Step}
 use Rattle.box_tree.specs.declared.view.Sight.{Sight}
 use Rattle.box_tree.specs.Views.{ViewValue, IsViewOf}
@@ -24,7 +26,7 @@ use Rattle.rule_plan.specs.AtGoals.{label_at, plan_at}
 use Rattle.guard_plan.proofs.Sites.{shows_at}
 use Rattle.rule_plan.proofs.InForce.{tell_in_force}
 use Rattle.guard_plan.proofs.ReadItems.{goal_reads}
-use Rattle.rule_plan.proofs.GoalRight.{goal_right}
+use Rattle.rule_plan.proofs.GoalRight.{goal_right, tells_bound}
 use Rattle.rule_plan.proofs.ToldGoals.{same_frames, same_ports, solved_if, tells_goal}
 
 -- the equation of two nodes under a frame
@@ -53,8 +55,8 @@ module _ (v : ViewValue) (i : IsViewOf v) (g frame : Name) (l r : ℕ) (p : v.pl
     few_names = omega arith;
   }
 
-  pub tell_right : IsRight (plan_at v Rule.Tell g 0 (Step.Tell t.store t.solved))
-  tell_right = goal_right v i g Rule.Tell (an_atom (Atom.equation left right)) held tell_in_force change makes (Step.Tell t.store t.solved) (
+  pub tell_right : (binds : List Var) → AreMembers v.table.program.templates.nodes v.stores t.bound.items binds → IsRight (plan_at v Rule.Tell g 0 (Step.Tell t.store t.solved) binds)
+  tell_right binds m = goal_right v i g Rule.Tell tell_in_force change makes (an_atom (Atom.equation left right)) held (Step.Tell t.store t.solved) (
     g,
     p,
     tells_goal v i (node_equation frame l r ∷ []) t a t.store refl Rule.Tell (slice_index i.table.config.next v.worker) g (telling left right i.site.content) 0
@@ -62,4 +64,5 @@ module _ (v : ViewValue) (i : IsViewOf v) (g frame : Name) (l r : ℕ) (p : v.pl
         (same_frames v i (node_equation frame l r ∷ []) t a) (same_ports v i (node_equation frame l r ∷ []) t a),
   )
       (solved_if v i (node_equation frame l r ∷ []) t a t.store refl t.solved refl)
-      (subst (λ (q : Place). Reads (IsRead (plan_at v Rule.Tell g 0 Step.Fail).reads) Rule.Tell q None i.site) (sym p) (goal_reads v i g).0, (goal_reads v i g).1)
+      (subst (λ (q : Place). Reads (IsRead (plan_at v Rule.Tell g 0 Step.Fail []).reads) Rule.Tell q None i.site) (sym p) (goal_reads v i g).0, (goal_reads v i g).1)
+      binds (tells_bound v i g Rule.Tell tell_in_force change makes (telling left right i.site.content) (without_goal g i.site.goals) refl (node_equation frame l r ∷ []) t a refl binds m)

@@ -13,6 +13,7 @@ use Rattle.akl_model.specs.Config.{Content, without_goal, environment, whole}
 use Rattle.akl_model.specs.Wakes.{names_around}
 use Rattle.rational_unify.specs.Solving.{bindings_in, equations_in}
 use Rattle.rational_unify.specs.Forms.{IsFormOf}
+use Rattle.rational_unify.specs.Older.{LeadOlder}
 use Rattle.local_store.specs.declared.telling.ToldStore.{ToldStore}
 use Rattle.local_store.specs.Stored.{Stored}
 use Rattle.local_store.specs.Chained.{bindings_from, innermost, around, IsSolvedChain}
@@ -29,7 +30,13 @@ use Rattle.rule_plan.proofs.Storing.{tells_stands, told_over}
 
 -- with the same bindings a store is solved as well
 same_solved : (nodes : List Node) (ss : List Stored) (s k : Stored) → k.bindings ≡ s.bindings → IsSolvedChain nodes (ss ++ s ∷ []) → IsSolvedChain nodes (ss ++ k ∷ [])
-same_solved nodes ss s k e h = subst (λ (l : List (Var × Term)). IsFormOf nodes l (IsTold (bindings_in nodes l))) (from-last ss s ∙ ap (λ (l : List (Var × Term)). l ++ bindings_from ss) (sym e) ∙ sym (from-last ss k)) h
+same_solved nodes ss s k e h = record {
+  form = subst (λ (l : List (Var × Term)). IsFormOf nodes l (IsTold (bindings_in nodes l))) same h.form;
+  older = subst (LeadOlder nodes) same h.older;
+}
+  where
+    same : bindings_from (ss ++ s ∷ []) ≡ bindings_from (ss ++ k ∷ [])
+    same = from-last ss s ∙ ap (λ (l : List (Var × Term)). l ++ bindings_from ss) (sym e) ∙ sym (from-last ss k)
 
 pub own_store : (v : ViewValue) (i : IsViewOf v) → innermost v.stores ≡ (row v i).0.store
 own_store v i = ap innermost (stores_split v i) ∙ innermost_push (stores_along (table_of v.table) (names_around i.site)) (row v i).0.store

@@ -1,17 +1,28 @@
 -- What is planned at a goal.
-use Rattle.std.specs.Prelude.{ℕ, ◌∷◌, map, None}
+use Rattle.std.specs.Prelude.{ℕ, List, [], ◌∷◌, map, None}
 use Rattle.akl_terms.specs.declared.name.Name.{Name}
+use Rattle.akl_terms.specs.declared.name.Var.{Var}
+use Rattle.akl_terms.specs.declared.term.Equation as code
 use Rattle.akl_model.specs.declared.item.Item.{Item}
 use Rattle.akl_model.specs.declared.label.Rule.{Rule}
 use Rattle.akl_model.specs.declared.label.Label.{Label}
+use Rattle.local_store.specs.declared.telling.ToldStore.{ToldStore}
+use Rattle.local_store.specs.Telling.{AnswersTold}
+use Rattle.class_members.specs.Members.{AreMembers}
 use Rattle.box_tree.specs.declared.step.Step.{Step}
 use Rattle.box_tree.specs.Views.{ViewValue}
-use Rattle.box_tree.specs.Plans.{PlanValue}
+use Rattle.box_tree.specs.Plans.{PlanValue, IsRight}
 
 -- the label of a rule at the place of a view, by its worker
 abbrev pub label_at : ViewValue → Rule → Label
 label_at v rule = record { rule = rule; place = v.place; alternative = None; worker = v.worker }
 
--- the plan of a rule at a goal, which read the goal and the constraints down to its box
-abbrev pub plan_at : ViewValue → Rule → Name → ℕ → Step → PlanValue
-plan_at v rule goal names step = record { table = v.table; journal = v.journal; label = label_at v rule; reads = Item.Goal goal ∷ map Item.Store v.path; names = names; step = step }
+-- the plan of a rule at a goal, which read the goal and the constraints down to its box, and binds these variables
+abbrev pub plan_at : ViewValue → Rule → Name → ℕ → Step → List Var → PlanValue
+plan_at v rule goal names step binds =
+    record { table = v.table; journal = v.journal; label = label_at v rule; reads = Item.Goal goal ∷ map Item.Store v.path; names = names; step = step; binds = binds }
+
+-- the plan of a rule that tells this equation is right, with each store in which it is told and enough members of what that binds
+abbrev pub TellsRightly : ViewValue → Rule → Name → code.Equation → Type 0
+TellsRightly v rule goal e = (t : ToldStore) → AnswersTold v.table.program.templates.nodes v.stores v.known (e ∷ []) t
+    → (binds : List Var) → AreMembers v.table.program.templates.nodes v.stores t.bound.items binds → IsRight (plan_at v rule goal 0 (Step.Tell t.store t.solved) binds)

@@ -1,5 +1,5 @@
 -- What the parts of a new box are made of.
-use Rattle.std.specs.Prelude.{◌≡◌, ℕ, suc, ◌+◌, List, [], ◌∷◌, ◌++◌, map, length, ◌⊎◌, ⊤}
+use Rattle.std.specs.Prelude.{◌≡◌, ℕ, suc, ◌+◌, List, [], ◌∷◌, ◌++◌, map, length, Bool, ◌⊎◌, ⊤, ◌↔◌, IsTrue}
 use Rattle.akl_terms.specs.declared.name.Name.{Name}
 use Rattle.akl_terms.specs.declared.term.Node.{Node}
 use Rattle.akl_terms.specs.declared.term.Term.TheVariants.{Mol}
@@ -7,9 +7,9 @@ use Rattle.akl_terms.specs.declared.term.Equation as code
 use Rattle.akl_terms.specs.declared.program.Code.{Code}
 use Rattle.akl_terms.specs.declared.program.Goal.{Goal}
 use Rattle.akl_terms.specs.declared.program.Clause.{Clause}
-use Rattle.local_store.specs.declared.telling.ToldStore.{ToldStore}
+use Rattle.akl_terms.specs.Equal.{IsConsistentBy}
 use Rattle.local_store.specs.Stored.{Stored, nothing, with_frame}
-use Rattle.local_store.specs.Telling.{AnswersTold}
+use Rattle.local_store.specs.Telling.{ToldAlso, Tells}
 use Rattle.box_tree.specs.declared.step.NewBox.{NewBox}
 use Rattle.rule_plan.specs.declared.heads.Call.{Call}
 
@@ -39,15 +39,17 @@ store_with frame = with_frame nothing frame
 abbrev pub MoreKnown : ℕ → ℕ → ℕ → Type 0
 MoreKnown known long more = (more ≡ known) ⊎ ((known ≡ long) × (more ≡ suc known))
 
--- the frame's store over the stores of a path, to which the equations of a call's arguments with a head's are told
-pub record IsHeadStore (nodes : List Node) (path : List Stored) (call : Call) (frame : Name) (c : Clause) (answer : ToldStore) : Type 0 where
+-- the frame's store over the stores of a path, to which the equations of a call's arguments with a head's are told, and whether the chain is known
+-- to be solved with it
+pub record IsHeadStore (nodes : List Node) (path : List Stored) (call : Call) (frame : Name) (c : Clause) (store : Stored) (solved : Bool) : Type 0 where
   pub known : ℕ
-  pub told : AnswersTold nodes (path ++ store_with frame ∷ []) known (heads_of call frame c) answer
+  pub tells : Tells nodes (path ++ store_with frame ∷ []) known (heads_of call frame c) store
+  pub is_solved : IsTrue solved ↔ ((length (path ++ store_with frame ∷ []) ≡ known) × IsConsistentBy (ToldAlso nodes (path ++ store_with frame ∷ []) (heads_of call frame c)))
 
 -- the box that a clause makes of a call, where a worker draws its names from a number on
 pub record IsMade (nodes : List Node) (path : List Stored) (call : Call) (w n : ℕ) (c : Clause) (b : NewBox) : Type 0 where
   pub name : b.name ≡ record { worker = w; number = n }
-  pub store : IsHeadStore nodes path call (record { worker = w; number = n + 1 }) c (record { store = b.store; solved = b.solved })
+  pub store : IsHeadStore nodes path call (record { worker = w; number = n + 1 }) c b.store b.solved
   pub goals : b.goals.items ≡ named_under (record { worker = w; number = n + 1 }) (n + 2) c.guard
   pub body : b.body.items ≡ goals_under (record { worker = w; number = n + 1 }) c.body
 

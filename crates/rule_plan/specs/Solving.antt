@@ -11,12 +11,12 @@ use Rattle.akl_terms.specs.Template.{tree}
 use Rattle.akl_terms.specs.Tree.{port}
 use Rattle.akl_model.specs.Config.{whole}
 use Rattle.local_store.specs.Stored.{Stored}
-use Rattle.local_store.specs.Chained.{ToldBy, IsSolvedChain, innermost}
+use Rattle.local_store.specs.Chained.{ToldBy, IsFormChain, innermost}
 use Rattle.box_tree.specs.Views.{ViewValue, IsViewOf}
 
--- stores that are solved together and stand for what others do, and of which the innermost has the same ports
+-- stores in which what is found is a solved form, and which stand for what others do, and of which the innermost has the same ports
 pub record ResolvesAll (nodes : List Node) (ss new : List Stored) : Type 0 where
-  pub solved : IsSolvedChain nodes new
+  pub form : IsFormChain nodes new
   pub stands : StandFor (ToldBy nodes ss) (ToldBy nodes new)
   pub ports : (innermost new).ports ≡ (innermost ss).ports
 

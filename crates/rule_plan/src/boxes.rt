@@ -51,7 +51,7 @@ fn new_box(
     };
     let goals = named_goals(alloc, frame, clause.guard.as_slice())?;
     let body = goals_of(alloc, frame, clause.body.as_slice())?;
-    let ToldStore { store, solved } = head_store(alloc, chain, call, frame, clause)?;
+    let ToldStore { store, solved, .. } = head_store(alloc, chain, call, frame, clause)?;
     let store = Shared::new(alloc, store)?;
     Ok(NewBox {
         name,

@@ -7,12 +7,12 @@ ghost use Rattle.box_tree.specs.declared.view.Sight.{Sight};
 ghost use Rattle.box_tree.specs.Views.{IsViewOf};
 ghost use Rattle.guard_plan.specs.Planned.{IsPlannedBy};
 
-use crate::at_goals::goal_plan;
+use crate::at_goals::{goal_plan, telling_plan};
 use akl_model::Rule;
 use akl_terms::{Code, Equation, Goal, Name, Program, Term, Test};
 use arith_goals::{ArithValue, evaluate};
 use box_tree::{Plan, Step, View};
-use local_store::{Consistency, Shared, ToldStore, consistent, told};
+use local_store::{Consistency, consistent};
 use std::alloc::{AllocError, Global};
 
 /// An arithmetic goal of two nodes under a frame.
@@ -50,25 +50,17 @@ pub(crate) fn eval(
         frame,
     } = arithmetic;
     let code = Code::Arith { test, left, right };
+    let unbound = Vec::new(alloc);
     match evaluate(alloc, &chain, Goal { code, frame })? {
         ArithValue::Is(value) => {
             let equation = Equation {
                 left: Term::Mol { node: left, frame },
                 right: Term::Int(value),
             };
-            let ToldStore { store, solved } = told(alloc, &chain, &[equation])?;
-            let store = Shared::new(alloc, store)?;
-            goal_plan(
-                alloc,
-                view,
-                goal,
-                Rule::Eval,
-                0,
-                Step::Tell { store, solved },
-            )
+            telling_plan(alloc, program, view, goal, Rule::Eval, equation)
         }
-        ArithValue::Holds => goal_plan(alloc, view, goal, Rule::Eval, 0, Step::Confirm),
-        ArithValue::Fails => goal_plan(alloc, view, goal, Rule::Eval, 0, Step::Refute),
+        ArithValue::Holds => goal_plan(alloc, view, goal, Rule::Eval, 0, Step::Confirm, unbound),
+        ArithValue::Fails => goal_plan(alloc, view, goal, Rule::Eval, 0, Step::Refute, unbound),
         ArithValue::Waits { .. } => Ok(None),
         ArithValue::Never => Ok(None),
     }

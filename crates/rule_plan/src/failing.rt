@@ -44,5 +44,5 @@ fn fail_by(alloc: Global, view: &View, item: Item) -> Result<Option<Plan>, Alloc
 {
     let reads = one_item(alloc, item)?;
     let label = label_of(view, Rule::Fail);
-    Ok(Some(Plan::new(view, label, reads, 0, Step::Fail)))
+    Ok(Some(Plan::new(view, label, reads, 0, Step::Fail, Vec::new(alloc))))
 }

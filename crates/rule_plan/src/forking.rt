@@ -50,5 +50,5 @@ pub(crate) fn fork(
         op: found.op,
         alternatives,
     };
-    Ok(Some(Plan::new(view, label, reads, names, step)))
+    Ok(Some(Plan::new(view, label, reads, names, step, Vec::new(alloc))))
 }

@@ -55,7 +55,7 @@ pub(crate) fn head_store(
     frame: Name,
     clause: &Clause,
 ) -> Result<ToldStore, AllocError>
-    ensures { IfOk result (IsHeadStore chain.now.nodes chain.now.stores call frame clause.now) }
+    ensures { IfOk result (λ t. IsHeadStore chain.now.nodes chain.now.stores call frame clause.now t.store t.solved) }
 {
     let equations = head_equations(alloc, call, frame, clause)?;
     let path = chain.stores();

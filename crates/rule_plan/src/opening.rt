@@ -10,6 +10,7 @@ use crate::at_goals::goal_plan;
 use akl_model::Rule;
 use akl_terms::{Equation, Name, Program, Term};
 use box_tree::{Plan, Step, View};
+use class_members::members;
 use local_store::{Shared, ToldStore, told};
 use std::alloc::{AllocError, Global};
 
@@ -37,7 +38,12 @@ pub(crate) fn open(
         right: Term::Port(name),
     };
     let chain = view.chain(&program.templates);
-    let ToldStore { store, solved } = told(alloc, &chain, &[equation])?;
+    let ToldStore {
+        store,
+        solved,
+        bound,
+    } = told(alloc, &chain, &[equation])?;
+    let binds = members(alloc, &chain, bound.as_slice())?;
     let tail = Term::Mol {
         node: stream,
         frame,
@@ -50,5 +56,6 @@ pub(crate) fn open(
         Rule::Open,
         1,
         Step::Tell { store, solved },
+        binds,
     )
 }

@@ -14,6 +14,7 @@ use crate::stores::solved_stores;
 use akl_model::Rule;
 use akl_terms::{Code, Equation, Goal, Name, Program, Term};
 use box_tree::{Plan, Step, View};
+use class_members::members;
 use local_store::{Chain, Consistency, Shared, ToldStore, consistent, told};
 use port_goals::{SendState, sendable};
 use std::alloc::{AllocError, Global};
@@ -111,7 +112,12 @@ fn send_to(
             },
         },
     ];
-    let ToldStore { store, solved } = told(alloc, &chain, &equations)?;
+    let ToldStore {
+        store,
+        solved,
+        bound,
+    } = told(alloc, &chain, &equations)?;
+    let binds = members(alloc, &chain, bound.as_slice())?;
     let new_tail = Term::Mol {
         node: node_after(program.cell, 1)?,
         frame,
@@ -125,5 +131,6 @@ fn send_to(
         Rule::Send,
         1,
         Step::Tell { store, solved },
+        binds,
     )
 }

@@ -1,38 +1,30 @@
 -- The candidate of the box that was looked at, and boxes at which Split doesn't apply.
-use Rattle.std.proofs.Common.{◌≡◌, [], Option, Some, None, refl, sym, ◌∙◌, ap, subst, inl, inr}
+use Rattle.std.proofs.Common.{◌≡◌, Option, Some, None, sym, ◌∙◌, ap, subst}
 use Rattle.std.specs.Prelude.{IsSomeAnd}
 use Rattle.akl_terms.specs.declared.name.Name.{Name}
 use Rattle.akl_terms.specs.declared.name.Place.{Place}
-use Rattle.akl_terms.specs.declared.program.Op.{Op}
 use Rattle.akl_terms.specs.declared.program.Program.{Program}
 use Rattle.akl_model.specs.declared.label.Rule.{Rule}
 use Rattle.akl_model.specs.declared.label.Label.{Label}
-use Rattle.akl_model.specs.Config.{Content, Boxes, no_boxes, box, Goals, Config, Held, an_atom, a_choice, held_in, Found, box_at, site_of}
+use Rattle.akl_model.specs.Config.{Config, Found, box_at, site_of}
 use Rattle.akl_model.specs.Rules.{Reading, ChoiceIn, choice_with}
-use Rattle.akl_model.specs.Changes.{goal_names, shape_of}
+use Rattle.akl_model.specs.Changes.{goal_names}
 use Rattle.akl_model.specs.Instances.{start}
 use Rattle.akl_model.specs.Stable.{IsStable, IsSplitPoint, Allows}
 use Rattle.akl_model.specs.Derivations.{Applies}
 use Rattle.akl_model.proofs.NamesKept.{box-itself}
 use Rattle.akl_model.proofs.Options.{some_value, some_and}
 use Rattle.akl_model.proofs.Results.{Derives-one}
-use Rattle.step_laws.specs.Whereabouts.{BoxIn}
 use Rattle.step_laws.proofs.Whereabouts.{found_in}
-use Rattle.step_laws.proofs.Deeper.{home_found}
-use Rattle.table_laws.specs.Rows.{BoxRow, GoalRow}
-use Rattle.table_laws.specs.Unfolds.{IsBoxRow}
-use Rattle.table_laws.proofs.Frame.{row_of}
 use Rattle.table_laws.proofs.Gone.{goals_once}
-use Rattle.table_laws.proofs.Insides.{goal_row}
-use Rattle.table_laws.proofs.RestBoxes.{EachGoal, each_goal}
-use Rattle.box_tree.specs.Tables.{all_rules, table_of, goals_in}
+use Rattle.table_laws.proofs.RestBoxes.{EachGoal}
+use Rattle.box_tree.specs.Tables.{all_rules, table_of}
 use Rattle.box_tree.specs.Views.{ViewValue, IsViewOf}
 use Rattle.box_tree.specs.Insides.{candidate_among, candidate_in}
-use Rattle.guard_plan.proofs.ChoiceNone.{inside_of}
-use Rattle.guard_plan.proofs.Placed.{placed}
-use Rattle.guard_plan.proofs.Sites.{stand, found, row}
+use Rattle.guard_plan.proofs.Sites.{stand, found}
 use Rattle.split_plan.specs.Split.{HasNoSplit}
-use Rattle.split_plan.proofs.Candidates.{HaveRows, HaveHeldRows, IsShown, IsPoint, is_point, no_point}
+use Rattle.box_tree.proofs.ShownChoices.{IsShown, shown as rows_shown, candidates as rows_candidates}
+use Rattle.split_plan.proofs.Candidates.{IsPoint, is_point, no_point}
 
 -- where Split may be used
 allowed_at : (p : Program) (u : Reading) (n : Name) (alternative : Option Name) (f : Found) → Allows p u Rule.Split (Place.Box n) alternative f
@@ -71,29 +63,11 @@ module _ (v : ViewValue) (i : IsViewOf v) (n : Name) (p : v.place ≡ Place.Box 
       on : (c : Config) → c ≡ i.table.config → (l : Label) (d : Config) → Applies all_rules v.table.program c l d → l.place ≡ v.place → l.rule ≡ Rule.Split → ⊥
       on c same l d a e r = at l d (subst (λ (k : Config). Applies all_rules v.table.program k l d) same a) e r
 
-  -- the rows of alternatives, and of goals
-  have_rows : (g : Name) (o : Op) (bs : Boxes) → held_in g i.site.goals ≡ Some (a_choice o bs) → (cs : Boxes) → ((b : Content) (gs : Goals) → BoxIn [] b gs cs → BoxIn [] b gs bs) → HaveRows (table_of v.table) cs
-  have_rows g o bs held no_boxes among = tt
-  have_rows g o bs held (box b gs cs) among = (here, have_rows g o bs held cs (λ c hs k. among c hs (inr (inr k))))
-    where
-      r : (r : BoxRow) × ((table_of v.table).box_of b.name ≡ Some r) × IsBoxRow (table_of v.table) i.table.config.roots (inside_of i.site b gs) r
-      r = row_of (table_of v.table) i.table.config i.table.unfolds b.name (inside_of i.site b gs) (placed v i g o bs held b gs (among b gs (inl (refl, refl, refl))))
-
-      here : goals_in ((table_of v.table).box_of b.name) ≡ goal_names gs
-      here = ap goals_in r.1 ∙ r.2.goals
-
-  held_rows : (g : Name) (h : Held) → held_in g i.site.goals ≡ Some h → HaveHeldRows (table_of v.table) h
-  held_rows g (an_atom a) j = tt
-  held_rows g (a_choice o bs) j = have_rows g o bs j bs (λ b gs k. k)
-
   shown : EachGoal (IsShown (table_of v.table)) i.site.goals
-  shown = each_goal (IsShown (table_of v.table)) i.site.goals (goals_once i.table.config.roots (stand v i).once i.site (found_in i.site.content.name i.table.config.roots i.site (found v i))) (λ g h j.
-      let w : (r : GoalRow) × ((table_of v.table).goal_of g ≡ Some r) × (r.home ≡ i.site.content.name) × (r.shape ≡ shape_of h) =
-      goal_row (table_of v.table) i.table.config i.table.unfolds (stand v i).once g i.site h (home_found i.table.config.roots (stand v i).once g i.site.content.name i.site h (found v i) j) j in
-      (w.0, w.1, w.3, held_rows g h j))
+  shown = rows_shown v.table i.table.config i.table.unfolds (stand v i).once n i.site there
 
   candidates : candidate_in (table_of v.table) n ≡ candidate_among (table_of v.table) (goal_names i.site.goals)
-  candidates = ap (candidate_in (table_of v.table)) itself ∙ ap (λ (o : Option BoxRow). candidate_among (table_of v.table) (goals_in o)) (row v i).1 ∙ ap (candidate_among (table_of v.table)) (row v i).2.goals
+  candidates = rows_candidates v.table i.table.config i.table.unfolds (stand v i).once n i.site there
 
   -- the candidate is a point, and without one Split doesn't apply
   pub candidate_point : (a : Name) → candidate_in (table_of v.table) n ≡ Some a → IsPoint a i.site.goals

@@ -1,48 +1,25 @@
 -- The alternative that rows show as a candidate is the one at which a stable box may be split, and where there is none the box may not.
-use Rattle.std.proofs.Common.{◌≡◌, ℕ, ◌+◌, ◌≤◌, ◌<◌, List, ◌∷◌, length, Bool, true, false, Option, Some, None, refl, sym, ◌∙◌, ap, subst, inl, inr, arith}
+use Rattle.std.proofs.Common.{◌≡◌, ℕ, ◌+◌, ◌≤◌, ◌<◌, ◌∷◌, length, Bool, true, false, Option, Some, None, refl, sym, ◌∙◌, ap, subst, inl, inr, arith}
 use Rattle.std.proofs.lemmas.Bool.{lt-ltb, ltb-true}
-use Rattle.std.specs.Prelude.{if◌then◌else◌, nat_lt, ⊤}
+use Rattle.std.specs.Prelude.{if◌then◌else◌, nat_lt}
 use Rattle.akl_terms.specs.declared.name.Name.{Name}
 use Rattle.akl_terms.specs.declared.program.Op.{Op}
 use Rattle.akl_terms.specs.Names.{same_name}
 use Rattle.akl_terms.proofs.SameNames.{same_name-equal}
-use Rattle.akl_model.specs.Config.{IsIn, or_else, Atom, Boxes, no_boxes, box, Goals, no_goals, atom, choice, Held, an_atom, a_choice}
+use Rattle.akl_model.specs.Config.{IsIn, or_else, Atom, Boxes, no_boxes, box, Goals, no_goals, atom, choice, an_atom, a_choice}
 use Rattle.akl_model.specs.Rules.{count_of, has_box, ChoiceIn, choice_with}
 use Rattle.akl_model.specs.Stable.{first_solved}
 use Rattle.akl_model.specs.Names.{one_if, times_in}
-use Rattle.akl_model.specs.Changes.{of_choice, shape_of, box_names, goal_names}
+use Rattle.akl_model.specs.Changes.{of_choice, box_names, goal_names}
 use Rattle.akl_model.proofs.Options.{some_value, or_none, or_some}
 use Rattle.akl_model.proofs.Finds.{times, times_inside}
 use Rattle.akl_model.proofs.ScopesAlong.{counted_in}
 use Rattle.step_laws.proofs.Holders.{names_less}
-use Rattle.table_laws.specs.Rows.{GoalRow, Table}
+use Rattle.table_laws.specs.Rows.{Table}
 use Rattle.table_laws.proofs.Sets.{other_name, not_some}
 use Rattle.table_laws.proofs.RestBoxes.{first_named, EachGoal}
-use Rattle.box_tree.specs.Tables.{goals_in, is_empty}
 use Rattle.box_tree.specs.Insides.{first_solved_in, candidate_of, candidate_at, candidate_among}
-
--- by rows, boxes have the goals that they have
-abbrev pub HaveRows : Table → Boxes → Type 0
-HaveRows T no_boxes = ⊤
-HaveRows T (box b gs bs) = (goals_in (T.box_of b.name) ≡ goal_names gs) × HaveRows T bs
-
--- so the same one is the first solved one
-pub first_alike : (T : Table) (bs : Boxes) → HaveRows T bs → first_solved_in T (box_names bs) ≡ first_solved bs
-first_alike T no_boxes r = refl
-first_alike T (box b no_goals bs) r = ap (λ (ns : List Name). if is_empty ns then Some b.name else first_solved_in T (box_names bs)) r.0
-first_alike T (box b (atom g x gs) bs) r = ap (λ (ns : List Name). if is_empty ns then Some b.name else first_solved_in T (box_names bs)) r.0 ∙ first_alike T bs r.1
-first_alike T (box b (choice g o cs gs) bs) r = ap (λ (ns : List Name). if is_empty ns then Some b.name else first_solved_in T (box_names bs)) r.0 ∙ first_alike T bs r.1
-
--- a goal has its row, and a choice's alternatives theirs
-abbrev pub HaveHeldRows : Table → Held → Type 0
-HaveHeldRows T (an_atom a) = ⊤
-HaveHeldRows T (a_choice o bs) = HaveRows T bs
-
-abbrev pub IsShown : Table → Name → Held → Type 0
-IsShown T g h = (row : GoalRow) × (T.goal_of g ≡ Some row) × (row.shape ≡ shape_of h) × HaveHeldRows T h
-
-candidate_is : (T : Table) (g : Name) (h : Held) → IsShown T g h → candidate_at T (T.goal_of g) ≡ candidate_of T (shape_of h)
-candidate_is T g h r = ap (candidate_at T) r.1 ∙ ap (candidate_of T) r.2
+use Rattle.box_tree.proofs.ShownChoices.{HaveRows, first_alike, IsShown, candidate_is, counted}
 
 -- names of alternatives
 
@@ -65,10 +42,6 @@ has_named a (box b gs bs) e = on (same_name a b.name) refl e (has_named a bs)
 
 named_times : (a : Name) (bs : Boxes) → IsIn a (box_names bs) → 1 ≤ times a bs
 named_times a bs i = let x : 0 < times_in a (box_names bs) = counted_in a (box_names bs) i in let y : times_in a (box_names bs) ≤ times a bs = names_less a bs in omega (arith, x, y)
-
-counted : (bs : Boxes) → length (box_names bs) ≡ count_of bs
-counted no_boxes = refl
-counted (box b gs bs) = let e : length (box_names bs) ≡ count_of bs = counted bs in omega arith
 
 -- at this alternative a box of these goals could be split
 pub record IsPoint (a : Name) (gs : Goals) : Type 0 where

@@ -1,11 +1,12 @@
 -- A plan of Split is right, and where none is made, Split doesn't apply.
-use Rattle.std.proofs.Common.{◌≡◌, ℕ, ◌<◌, ◌^◌, List, ◌++◌, length, map, Some, refl, sym, ◌∙◌, ap, subst}
+use Rattle.std.proofs.Common.{◌≡◌, ℕ, ◌<◌, ◌^◌, List, [], ◌++◌, length, map, Some, refl, sym, ◌∙◌, ap, subst}
 use Rattle.std.specs.Prelude.{slice_index}
 use Rattle.akl_terms.specs.declared.name.Name.{Name}
 use Rattle.akl_terms.specs.declared.name.Place.{Place}
 use Rattle.akl_model.specs.declared.item.Item.{Item}
 use Rattle.akl_model.specs.declared.label.Rule.{Rule}
 use Rattle.akl_model.specs.declared.label.Label.{Label}
+use Rattle.akl_model.specs.Config.{a_choice, with_content}
 use Rattle.akl_model.specs.Rules.{nothing, alone, with_alternatives, second_copy, first_of, Change, choice_with, split_at, change_by}
 use Rattle.akl_model.specs.Renaming.{sorted_names}
 use Rattle.akl_model.specs.Conditions as conditions
@@ -22,6 +23,8 @@ use Rattle.box_tree.specs.Tables.{all_rules, table_of}
 use Rattle.box_tree.specs.Views.{ViewValue, IsViewOf, run_of}
 use Rattle.box_tree.specs.Insides.{IsInsideOf, candidate_in}
 use Rattle.box_tree.specs.Plans.{IsRead, IsRight}
+use Rattle.box_tree.proofs.BoundHere.{kept_bound}
+use Rattle.guard_plan.proofs.Sites.{stand}
 use Rattle.box_copies.specs.declared.copying.Copied.{Copied}
 use Rattle.box_copies.specs.Copies.{IsInsideOfBox, IsSplitInto}
 use Rattle.box_copies.proofs.Splits.{split_made, split_draws, split_solved}
@@ -63,7 +66,7 @@ module _ (v : ViewValue) (i : IsViewOf v) (n a : Name) (p : v.place ≡ Place.Bo
   applies = record { in_force = each_in_force Rule.Split; site = i.site; is_site = i.is_site; change = change; makes = makes; result = refl }
 
   pub split_right : (inside : Inside) → IsInsideOf v.table v.journal n v.worker inside → (around : List Name) → around ≡ names_around i.site
-      → IsRight (record { table = v.table; journal = v.journal; label = split_label v a; reads = map Item.Store around ++ items_in inside.boxes.items; names = c.names; step = Step.Split c.copy c.copies })
+      → IsRight (record { table = v.table; journal = v.journal; label = split_label v a; reads = map Item.Store around ++ items_in inside.boxes.items; names = c.names; step = Step.Split c.copy c.copies; binds = [] })
   split_right inside h around is_around = record {
     table = i.table;
     result = after i.table.config (split_label v a) i.site change;
@@ -71,6 +74,8 @@ module _ (v : ViewValue) (i : IsViewOf v) (n a : Name) (p : v.place ≡ Place.Bo
     makes = split_made v i a c x (split_label v a) (after i.table.config (split_label v a) i.site change) applies refl refl refl refl;
     solved = split_solved v i a c x (split_label v a) (after i.table.config (split_label v a) i.site change) applies refl refl refl refl;
     names = split_draws v i a c x (split_label v a) (after i.table.config (split_label v a) i.site change) applies refl refl refl refl;
+    binds = kept_bound all_rules v.table.program i.table.config (split_label v a) (after i.table.config (split_label v a) i.site change) (stand v i) applies i.site.content
+        (with_content q.among.name (a_choice q.among.op (alone a q.among.alternatives)) i.site.goals) (second_copy v.worker (slice_index i.table.config.next v.worker) (rest_of a i.site q.among)) refl refl;
     reads = subst (λ (z : Place). Reads (IsRead (map Item.Store around ++ items_in inside.boxes.items)) Rule.Split z (Some a) i.site) (sym p) (all_read v i n (itself v i n p) inside h around is_around);
     there = reads_there v i n (itself v i n p) inside h around is_around;
   }
@@ -78,7 +83,7 @@ module _ (v : ViewValue) (i : IsViewOf v) (n a : Name) (p : v.place ≡ Place.Bo
 -- by what is asked of a call
 pub split_planned : (v : ViewValue) (i : IsViewOf v) (a : Name) (k : IsCandidate v a) (inside : Inside) (h : IsInsideOfBox v inside) → IsStable v.table.program i.site → (c : Copied) → IsSplitInto v a c → c.names < 2 ^ 32
     → (around : List Name) → around ≡ names_around i.site
-    → IsRight (record { table = v.table; journal = v.journal; label = split_label v a; reads = map Item.Store around ++ items_in inside.boxes.items; names = c.names; step = Step.Split c.copy c.copies })
+    → IsRight (record { table = v.table; journal = v.journal; label = split_label v a; reads = map Item.Store around ++ items_in inside.boxes.items; names = c.names; step = Step.Split c.copy c.copies; binds = [] })
 split_planned v i a k inside h stable c x few around is_around =
     split_right v i h.name a h.place (candidate_point v i h.name h.place a (subst (λ (m : Name). candidate_in (table_of v.table) m ≡ Some a) same k.candidate)) stable c x few inside h.inside around is_around
   where

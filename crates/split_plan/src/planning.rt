@@ -47,5 +47,5 @@ pub fn plan_split(
     }
     let reads = split_reads(alloc, &path[..depth], inside.boxes.as_slice())?;
     let step = Step::Split { copy, copies };
-    Ok(Some(Plan::new(view, label, reads, names, step)))
+    Ok(Some(Plan::new(view, label, reads, names, step, Vec::new(alloc))))
 }

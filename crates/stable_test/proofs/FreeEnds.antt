@@ -45,5 +45,5 @@ module _ (nodes : List Node) (bs : List (Var × Term)) (E : Equations) (f : IsFo
 pub form_taken : (nodes : List Node) (ss : List Stored) (k : ℕ) (new : List (Var × Term)) → IsSolvedChain nodes (take k ss)
     → Takes nodes (bindings_from (take k ss)) [] new (bindings_from (take (length ss - k) (drop k ss)))
     → IsFormOf nodes (bindings_from (take k ss) ++ new) (IsTold (bindings_in nodes (bindings_from ss)))
-form_taken nodes ss k new f t = chain-form nodes ss k (bindings_from (take k ss)) new f
+form_taken nodes ss k new f t = chain-form nodes ss k (bindings_from (take k ss)) new f.form
     (subst (λ (l : List Stored). Takes nodes (bindings_from (take k ss)) [] new (bindings_from l)) (drop-whole ss k) t)

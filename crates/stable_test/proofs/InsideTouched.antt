@@ -12,7 +12,7 @@ use Rattle.akl_model.proofs.NamesKept.{Stand, replay-stands}
 use Rattle.step_laws.proofs.Deeper.{home_found}
 use Rattle.constraint_laws.specs.Touched.{IsAmong}
 use Rattle.local_store.specs.Stored.{Stored, nothing}
-use Rattle.entail_test.proofs.Classes.{among-either, among-left, among-right}
+use Rattle.local_store.proofs.Among.{among-either, among-left, among-right}
 use Rattle.box_tree.specs.declared.inside.Inside.{Inside}
 use Rattle.box_tree.specs.Tables.{all_rules, table_of}
 use Rattle.box_tree.specs.Views.{ViewValue}

@@ -1,4 +1,4 @@
-use Rattle.box_tree.proofs.Parted.{IsParted}
+use Rattle.box_tree.proofs.KeptAndCut.{IsParted}
 use Rattle.box_tree.proofs.cutting.parted.Given as goal
 
 abbrev pub invariant-loop-other : goal.invariant-loop-other

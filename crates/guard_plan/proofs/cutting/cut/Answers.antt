@@ -10,8 +10,8 @@ returns-in_default c =
     let noisy = rw (c.in_default.is, c.stores.ensures, c.candidates-candidates.ensures, c.alternatives.ensures.alternatives, c.requires.program) at c.in_ok-found.ensures in
     cut_none c.args.view.now c.alternatives.ensures.seen c.args.goal c.args.op c.requires.place c.requires.sight c.requires.not_one noisy
 
-pub new-requires : goal.new-requires
-new-requires c =
+pub new-requires-2 : goal.new-requires-2
+new-requires-2 c =
     let found = rw (c.in-Some.is, c.stores.ensures, c.candidates-candidates.ensures, c.alternatives.ensures.alternatives, c.requires.program) at c.in_ok-found.ensures in
-    rw (c.label_for-label.ensures.label, c.in_ok-reads.ensures, c.path.ensures)
+    rw (c.label_for-label.ensures.label, c.new.ensures.items, c.in_ok-reads.ensures, c.path.ensures)
     (cut_planned c.args.view.now c.alternatives.ensures.seen c.args.goal c.args.op c.requires.place c.requires.sight c.requires.not_one c.in-Some.alternative found)

@@ -3,26 +3,25 @@ use Rattle.std.proofs.lemmas.Int.{to_z-of_z}
 use Rattle.rule_plan.proofs.EvalRight.{clash_none, value_right, holds_right, fails_right, waits_none, never_none}
 use Rattle.rule_plan.proofs.evaluating.eval.Goals as goal
 
-pub goal_plan-requires : goal.goal_plan-requires
-goal_plan-requires c =
+pub telling_plan-requires-clause-right : goal.telling_plan-requires-clause-right
+telling_plan-requires-clause-right c =
     let k = rw (c.in-Consistent.is, c.chain-chain.ensures.nodes, c.chain-chain.ensures.stores, c.requires.program) at c.in_ok-consistent.ensures in
     let e = rw (c.in-Is.is, c.chain-chain.ensures.nodes, c.chain-chain.ensures.symbols, c.chain-chain.ensures.stores, c.requires.program) at c.in_ok-value.ensures in
     let f : FitsSigned w64 c.in-Is.value = search rules in
-    let a = rw (c.chain-chain.ensures.nodes, c.chain-chain.ensures.stores, c.chain-chain.ensures.known, c.requires.program, to_z-of_z w64 c.in-Is.value f) at c.in_ok-store-in-Is.ensures in
-    rw c.in_ok-store-in-Is-2.ensures
-    (value_right c.args.view.now c.requires.seen c.args.goal c.args.arithmetic.frame c.args.arithmetic.test c.args.arithmetic.left c.args.arithmetic.right c.requires.place c.requires.sight k c.in-Is.value e c.in_ok-store-in-Is.field-0 a)
+    rw (to_z-of_z w64 c.in-Is.value f)
+    (value_right c.args.view.now c.requires.seen c.args.goal c.args.arithmetic.frame c.args.arithmetic.test c.args.arithmetic.left c.args.arithmetic.right c.requires.place c.requires.sight k c.in-Is.value e)
 
-pub goal_plan-requires-in-Holds : goal.goal_plan-requires-in-Holds
-goal_plan-requires-in-Holds c =
+pub goal_plan-requires : goal.goal_plan-requires
+goal_plan-requires c =
     let k = rw (c.in-Consistent.is, c.chain-chain.ensures.nodes, c.chain-chain.ensures.stores, c.requires.program) at c.in_ok-consistent.ensures in
     let e = rw (c.in-Holds.is, c.chain-chain.ensures.nodes, c.chain-chain.ensures.symbols, c.chain-chain.ensures.stores, c.requires.program) at c.in_ok-value.ensures in
-    holds_right c.args.view.now c.requires.seen c.args.goal c.args.arithmetic.frame c.args.arithmetic.test c.args.arithmetic.left c.args.arithmetic.right c.requires.place c.requires.sight k e
+    rw c.new-unbound.ensures.items (holds_right c.args.view.now c.requires.seen c.args.goal c.args.arithmetic.frame c.args.arithmetic.test c.args.arithmetic.left c.args.arithmetic.right c.requires.place c.requires.sight k e)
 
 pub goal_plan-requires-in-Fails : goal.goal_plan-requires-in-Fails
 goal_plan-requires-in-Fails c =
     let k = rw (c.in-Consistent.is, c.chain-chain.ensures.nodes, c.chain-chain.ensures.stores, c.requires.program) at c.in_ok-consistent.ensures in
     let e = rw (c.in-Fails.is, c.chain-chain.ensures.nodes, c.chain-chain.ensures.symbols, c.chain-chain.ensures.stores, c.requires.program) at c.in_ok-value.ensures in
-    fails_right c.args.view.now c.requires.seen c.args.goal c.args.arithmetic.frame c.args.arithmetic.test c.args.arithmetic.left c.args.arithmetic.right c.requires.place c.requires.sight k e
+    rw c.new-unbound.ensures.items (fails_right c.args.view.now c.requires.seen c.args.goal c.args.arithmetic.frame c.args.arithmetic.test c.args.arithmetic.left c.args.arithmetic.right c.requires.place c.requires.sight k e)
 
 pub returns-in_default : goal.returns-in_default
 returns-in_default c =

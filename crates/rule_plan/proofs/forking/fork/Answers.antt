@@ -33,12 +33,12 @@ returns-in_default-names_of c =
     fork_none c.args.view.now c.label_of-label.ensures.seen c.args.goal c.args.definition c.args.call c.requires.place c.requires.sight
     (λ x e. subst (λ (y : Definition). 2 ^ 32 ≤ drawn_by y.clauses) (one_value (sym is ∙ e)) many)
 
-pub new-requires : goal.new-requires
-new-requires c =
+pub new-requires-2 : goal.new-requires-2
+new-requires-2 c =
     let is = rw (c.as_slice.ensures, c.requires.program) at (get_at c.as_slice.result.now c.args.definition c.in-Some.found.now c.in-Some.ensures.lookup.3.0 c.in-Some.ensures.lookup.1) in
     let names = rw c.as_slice-2.ensures at c.in-Some-names_of.ensures in
     let made = rw (c.chain-chain.ensures.nodes, c.chain-chain.ensures.stores, c.worker.ensures, c.next-next.ensures, c.as_slice-3.ensures, c.requires.program) at c.in_ok-alternatives.ensures in
-    rw (c.label_of-label.ensures.label, c.in_ok-reads.ensures, names.0)
+    rw (c.label_of-label.ensures.label, c.new.ensures.items, c.in_ok-reads.ensures, names.0)
     (fork_right c.args.view.now c.label_of-label.ensures.seen c.args.goal c.args.definition c.args.call c.requires.place c.requires.sight c.in-Some.found.now is
     (subst (λ (n : ℕ). n < 2 ^ 32) names.0 names.1) c.in_ok-alternatives.alternatives.items made
     (Step.Fork c.in-Some.found.now.op c.in_ok-alternatives.alternatives) refl)

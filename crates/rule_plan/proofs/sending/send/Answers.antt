@@ -4,7 +4,7 @@ use Rattle.rule_plan.proofs.sending.send.Goals as goal
 pub sendable-requires : goal.sendable-requires
 sendable-requires c =
     let all = rw c.chain-chain.ensures.nodes at c.in_ok-stores.ensures in
-    record { solved = rw (c.new-solved.ensures, c.as_slice.ensures.value) all.solved; send = tt }
+    record { solved = rw (c.new-solved.ensures, c.as_slice.ensures.value) all.form; send = tt }
 
 pub send_to-requires : goal.send_to-requires
 send_to-requires c =

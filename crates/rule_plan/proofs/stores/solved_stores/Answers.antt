@@ -4,7 +4,7 @@ use Rattle.rule_plan.proofs.Solving.{begins, next_of, none_left, next_consistent
 use Rattle.rule_plan.proofs.stores.solved_stores.Goals as goal
 
 pub loop-store-init : goal.loop-store-init
-loop-store-init c = rw (c.in_ok-stores.ensures, c.stores-path.ensures) (begins c.args.chain.now.nodes c.args.chain.now.stores c.known-known.result (c.known-known.ensures.solved.each c.known-known.result (omega arith)))
+loop-store-init c = rw (c.in_ok-stores.ensures, c.stores-path.ensures) (begins c.args.chain.now.nodes c.args.chain.now.stores c.known-known.result (c.known-known.ensures.solved.each c.known-known.result (omega arith)).form)
 
 pub solved_store-requires : goal.solved_store-requires
 solved_store-requires c =

@@ -13,11 +13,11 @@ pub returns-then-not-branch : goal.returns-then-not-branch
 returns-then-not-branch c = unstable c.args.view.now c.label_for-label.ensures.seen c.args.inside.now c.requires.inside c.args.program.now c.requires.program
     c.saturating_sub-depth.result (c.saturating_sub-depth.ensures ∙ ap (λ (ns : List Name). length ns - 1) c.path-path.ensures) _ c.in_ok-is_stable.ensures c.if-not-branch.true
 
-pub new-requires : goal.new-requires
-new-requires c =
+pub new-requires-2 : goal.new-requires-2
+new-requires-2 c =
     let d = c.saturating_sub-depth.ensures ∙ ap (λ (ns : List Name). length ns - 1) c.path-path.ensures in
     let stable = stable_site c.args.view.now c.label_for-label.ensures.seen c.args.inside.now c.requires.inside c.args.program.now c.requires.program c.saturating_sub-depth.result d _ c.in_ok-is_stable.ensures c.if-not-branch.false in
     let few : c.in_ok-copy.field-0.names < 2 ^ 32 = omega (arith, c.if-names-gt-MOST.false, c.in_ok-copy.names-is) in
-    rw (c.label_for-label.ensures.label, c.in_ok-reads.ensures, c.as_slice.ensures.value, d, c.path-path.ensures)
+    rw (c.label_for-label.ensures.label, c.new.ensures.items, c.in_ok-reads.ensures, c.as_slice.ensures.value, d, c.path-path.ensures)
     (split_planned c.args.view.now c.label_for-label.ensures.seen c.args.alternative c.requires.candidate c.args.inside.now c.requires.inside stable c.in_ok-copy.field-0 c.in_ok-copy.ensures few
     (take (length c.args.view.now.path - 1) c.args.view.now.path) (around_is c.args.view.now c.label_for-label.ensures.seen))
