@@ -113,7 +113,7 @@ last_within rules p q journal i k x = on x.changed
         let n : k ≡ length w.earlier + 1 = w.is_number in
         omega (arith, e, n)
 
-pub not_stale : (c : CoreValue) (p : PlanValue) (i : Item) (o : Option ℕ) → p.journal ≡ c.journal → IsStale c p i o → ⊥
+pub not_stale : (c : CoreValue) (p : PlanValue) (i : Item) (o : Option ℕ) → p.journal ≡ c.journal → IsStale c p.journal p.reads i o → ⊥
 not_stale c p i o e x =
     let within : x.number ≤ length c.journal = last_within all_rules c.table.program c.table.query c.journal i x.number x.last in
     let unseen : length p.journal < x.number = x.unseen in
@@ -124,7 +124,7 @@ pub follows : (c d : CoreValue) (p : PlanValue) (r : Receipt) (before afterwards
 follows c d p r before afterwards w x e = record {
   fixed = x.fixed;
   label = p.label;
-  unspent = x.unspent;
+  unspent = x.fresh.unspent;
   journal = x.journal;
   worker = w;
   seen = length p.journal;

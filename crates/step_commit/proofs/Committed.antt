@@ -1,5 +1,5 @@
 -- A plan that nothing made stale leads the run on.
-use Rattle.std.proofs.Common.{◌≡◌, ℕ, ◌+◌, ◌≤◌, List, [], ◌∷◌, ◌++◌, length, Bool, true, false, Option, Some, None, refl, sym, ap, subst, ◌∙◌, ◌⊎◌, inl, inr, arith}
+use Rattle.std.proofs.Common.{◌≡◌, ℕ, ◌+◌, ◌≤◌, List, [], ◌∷◌, ◌++◌, length, true, Option, Some, None, refl, sym, ap, subst, ◌∙◌, ◌⊎◌, inl, inr, arith}
 use Rattle.std.specs.Prelude.{IsSome, nat_le, slice_index}
 use Rattle.std.proofs.lemmas.List.{length-append}
 use Rattle.std.proofs.lemmas.Bool.Decides.{nat_tests}
@@ -10,17 +10,16 @@ use Rattle.akl_model.specs.declared.label.Rule.{Rule}
 use Rattle.akl_model.specs.declared.label.Label.{Label}
 use Rattle.akl_model.specs.Config.{Config, Found, site_of}
 use Rattle.akl_model.specs.Instances.{start}
-use Rattle.akl_model.specs.Derivations.{Applies, Derives, Replays}
+use Rattle.akl_model.specs.Derivations.{Applies, Derives}
 use Rattle.akl_model.proofs.Results.{Derives-prefix, Derives-one}
 use Rattle.plan_laws.specs.Right.{NoneBy}
 use Rattle.plan_laws.specs.Stamps as stamps
 use Rattle.plan_laws.proofs.Right.{reads_map}
 use Rattle.table_laws.specs.Rows.{BoxRow, GoalRow, Table}
-use Rattle.table_laws.specs.Stamped.{Run, followed_by, LastChange, IsStamped, IsTableOf, store_stamp, goals_stamp, goal_stamp, stamp_in}
+use Rattle.table_laws.specs.Stamped.{Run, LastChange, IsStamped, IsTableOf, store_stamp, goals_stamp, goal_stamp, stamp_in}
 use Rattle.table_laws.specs.Steps.{Step, tells, forks, fails, cuts, promotes, refutes, confirms, splits, Makes, ReadsFor, IsSolvedIn, IsSolvedWhen}
-use Rattle.table_laws.specs.Writes.{IsTable, Leads, DrawsFresh}
+use Rattle.table_laws.specs.Writes.{IsTable}
 use Rattle.table_laws.proofs.Later.{later_law}
-use Rattle.table_laws.proofs.Fresh.{fresh_step}
 use Rattle.table_laws.specs.Laws.{started}
 use Rattle.table_laws.proofs.Started.{start_law}
 use Rattle.box_tree.specs.Tables.{all_rules, TableValue, table_of, step_of}
@@ -87,12 +86,13 @@ pub record LeadsOn (p : Program) (q : Query) (journal : List Label) (T : Table) 
   pub makes : Makes p l (slice_index t.config.next l.worker) applies.site step
   pub drawn : names ≡ applies.change.drawn
 
-module _ (p : Program) (q : Query) (journal further : List Label) (S T : Table) (l : Label) (reads : List Item) (names : ℕ) (step : Step) (x : IsPlanned p q journal S l reads names step)
+-- the labels that come after those of an earlier table lead from its configuration
+module _ (p : Program) (q : Query) (journal further : List Label) (S T : Table) (x : IsTableOf all_rules (record { program = p; query = q; journal = journal }) S)
     (t : IsTableOf all_rules (record { program = p; query = q; journal = journal ++ further }) T) where
-  pub goes : Derives all_rules p x.table.config further t.config
+  pub goes : Derives all_rules p x.config further t.config
   goes =
       let d : (m : Config) × Derives all_rules p (start p q) journal m × Derives all_rules p m further t.config = Derives-prefix all_rules p (start p q) t.config journal further t.replays.derives in
-      subst (λ (m : Config). Derives all_rules p m further t.config) (Derives-one all_rules p (start p q) d.0 x.table.config journal d.1 x.table.replays.derives) d.2
+      subst (λ (m : Config). Derives all_rules p m further t.config) (Derives-one all_rules p (start p q) d.0 x.config journal d.1 x.replays.derives) d.2
 
 module _ (p : Program) (q : Query) (journal further : List Label) (S T : Table) (l : Label) (reads : List Item) (names : ℕ) (step : Step) (x : IsPlanned p q journal S l reads names step)
     (t : IsTableOf all_rules (record { program = p; query = q; journal = journal ++ further }) T) (none : NoneBy l further) (within : AllWithin T reads (length journal)) where
@@ -109,7 +109,7 @@ module _ (p : Program) (q : Query) (journal further : List Label) (S T : Table) 
   pub leads_on : LeadsOn p q (journal ++ further) T t l names step
   leads_on =
       let w : (result : Config) × (now : Applies all_rules p t.config l result) × Makes p l (slice_index t.config.next l.worker) now.site step × (now.site.content.name ≡ x.applies.site.content.name) × (now.change.drawn ≡ x.applies.change.drawn) =
-      later_law all_rules p q journal further x.table.config t.config l x.result x.applies step x.table.replays (goes p q journal further S T l reads names step x t) none
+      later_law all_rules p q journal further x.table.config t.config l x.result x.applies step x.table.replays (goes p q journal further S T x.table t) none
       (reads_for (IsRead reads) (stamps.IsStamped all_rules p q (journal ++ further) (length journal)) stamped l x.applies.site step x.reads_all) x.makes in
       record { result = w.0; applies = w.1; makes = w.2; drawn = x.drawn ∙ sym w.4 }
 
@@ -127,7 +127,7 @@ module _ (p : Program) (q : Query) (journal further : List Label) (S T : Table) 
       empty = none_left further n
 
       config : x.table.config ≡ t.config
-      config = Derives-one all_rules p x.table.config x.table.config t.config [] refl (subst (λ (ls : List Label). Derives all_rules p x.table.config ls t.config) empty (goes p q journal further S T l reads names step x t))
+      config = Derives-one all_rules p x.table.config x.table.config t.config [] refl (subst (λ (ls : List Label). Derives all_rules p x.table.config ls t.config) empty (goes p q journal further S T x.table t))
 
       site : x.applies.site ≡ w.applies.site
       site = some_of (sym x.applies.is_site ∙ ap (λ (c : Config). site_of l.place c.roots) config ∙ w.applies.is_site)

@@ -1,5 +1,5 @@
 -- Each item that has stamps was last changed by some label, or by none.
-use Rattle.std.proofs.Common.{◌≡◌, ◌≢◌, ℕ, ◌+◌, ◌<◌, ◌≤◌, List, [], ◌∷◌, ◌++◌, length, Option, Some, None, refl, sym, ap, subst, ◌∙◌, ◌⊎◌, inl, inr, arith, append_assoc}
+use Rattle.std.proofs.Common.{◌≡◌, ◌≢◌, ℕ, ◌+◌, List, [], ◌∷◌, ◌++◌, length, refl, sym, subst, inl, inr, append_assoc}
 use Rattle.std.specs.Prelude.{⊤}
 use Rattle.std.proofs.lemmas.List.{append-nil}
 use Rattle.akl_terms.specs.declared.program.Program.{Program}
@@ -11,7 +11,7 @@ use Rattle.akl_model.specs.declared.label.Rule.{Rule}
 use Rattle.akl_model.specs.declared.label.Label.{Label}
 use Rattle.akl_model.specs.Config.{Config}
 use Rattle.akl_model.specs.Instances.{start}
-use Rattle.akl_model.specs.Derivations.{Applies, Derives, Replays}
+use Rattle.akl_model.specs.Derivations.{Derives, Replays}
 use Rattle.akl_model.specs.Changes.{by_store, Changes, Shape, Constraint, constraint_at, goals_at, shape_at, box_names, IsLastChange}
 use Rattle.akl_model.proofs.Results.{Derives-append}
 use Rattle.step_laws.proofs.Decide.{option_or, names_or, shape_or, constraint_or}

@@ -1,5 +1,5 @@
 -- What a commit makes of a core.
-use Rattle.std.proofs.Common.{◌≡◌, ℕ, ◌+◌, ◌<◌, ◌≤◌, List, [], ◌∷◌, ◌++◌, length, Bool, true, false, Option, Some, None, refl, sym, ap, subst, ◌∙◌, ◌⊎◌, inl, inr, arith}
+use Rattle.std.proofs.Common.{◌≡◌, ℕ, ◌+◌, ◌<◌, List, [], ◌∷◌, ◌++◌, length, Option, Some, None, refl, sym, ap, subst, ◌∙◌, ◌⊎◌, inl, inr, arith}
 use Rattle.std.proofs.lemmas.List.{length-append}
 use Rattle.akl_terms.specs.declared.name.Name.{Name}
 use Rattle.akl_terms.specs.declared.name.Place.{Place}
@@ -13,7 +13,7 @@ use Rattle.akl_model.specs.Config.{Config, Found}
 use Rattle.akl_model.specs.Rules.{Change, Reading, change_by}
 use Rattle.akl_model.specs.Derivations.{Applies}
 use Rattle.table_laws.specs.Rows.{Table}
-use Rattle.table_laws.specs.Stamped.{IsTableOf, LastChange, stamp_in}
+use Rattle.table_laws.specs.Stamped.{IsTableOf}
 use Rattle.table_laws.specs.Steps as laws
 use Rattle.table_laws.specs.Steps.{Makes, IsSolvedWhen}
 use Rattle.table_laws.specs.Writes.{Leads}
@@ -22,10 +22,10 @@ use Rattle.table_laws.proofs.StepMakes.{step_law}
 use Rattle.box_tree.specs.declared.step.Step.{Step}
 use Rattle.box_tree.specs.Tables.{all_rules, TableValue, table_of, step_of, FitsPlace, MayApply, Applied}
 use Rattle.box_tree.specs.Views.{run_of}
-use Rattle.box_tree.specs.Plans.{PlanValue, IsRead, IsRight}
-use Rattle.step_commit.specs.Cores.{CoreValue, IsCore, run_by, KeepsFixed, MayCommit, Commits, AllWithin, IsFirstUnseen}
+use Rattle.box_tree.specs.Plans.{PlanValue, IsRight}
+use Rattle.step_commit.specs.Cores.{CoreValue, IsCore, MayCommit, IsFresh, IsStale, Commits, AllWithin, IsFirstStale, IsFirstUnseen}
 use Rattle.step_commit.proofs.Committed.{IsPlanned, planned, LeadsOn, leads_on, solved_now}
-use Rattle.step_commit.proofs.Stale.{unchanged}
+use Rattle.step_commit.proofs.Stale.{looked, unchanged_here, stale, all_within}
 use Rattle.step_commit.proofs.InOrder.{makes_ordered}
 
 some_none : {A : Type 0} {x : A} → None ≡ Some x → ⊥
@@ -108,17 +108,23 @@ module _ (c : CoreValue) (k : IsCore c) (p : PlanValue) (r : IsRight p) (m : May
       fixed = record { program = a.program; query = a.query; workers = refl; budget = refl };
       journal = e;
       receipt = f;
-      unspent = less;
-      fresh = λ i j n y. unchanged c.table.program c.table.query p.journal m.further (table_of p.table) (table_of c.table) p.label p.reads p.names step x t i (stamp_in (table_of c.table) i) refl (within i j) n
-          (subst (λ (j : List Label). LastChange all_rules (run_of c.table j) i n) m.front y);
+      fresh = record { unspent = less; unchanged = λ i j. unchanged_here c k p.table p.journal p.reads (looked c p r m) i (within i j) };
     }
 
--- the same over equal tables, items and numbers
-pub within_as : (T U : Table) (xs ys : List Item) (m n : ℕ) → T ≡ U → xs ≡ ys → m ≡ n → AllWithin T xs m → AllWithin U ys n
-within_as T U xs ys m n e f g h = subst (λ (k : ℕ). AllWithin U ys k) g (subst (λ (zs : List Item). AllWithin U zs m) f (subst (λ (V : Table). AllWithin V xs m) e h))
+-- what is found of the items of a plan
+module _ (c : CoreValue) (k : IsCore c) (p : PlanValue) (r : IsRight p) (m : MayCommit c p) where
+  pub fresh : length c.journal < c.budget → AllWithin (table_of c.table) p.reads (length p.journal) → IsFresh c p
+  fresh less within = record { unspent = less; unchanged = λ i j. unchanged_here c k p.table p.journal p.reads (looked c p r m) i (within i j) }
 
-pub unseen_as : (T U : Table) (xs ys : List Item) (m n : ℕ) (i : Item) (o : Option ℕ) → T ≡ U → xs ≡ ys → m ≡ n → IsFirstUnseen T xs m i o → IsFirstUnseen U ys n i o
-unseen_as T U xs ys m n i o e f g h = subst (λ (k : ℕ). IsFirstUnseen U ys k i o) g (subst (λ (zs : List Item). IsFirstUnseen U zs m i o) f (subst (λ (V : Table). IsFirstUnseen V xs m i o) e h))
+  pub not_fresh : (item : Item) (stamp : Option ℕ) → IsFirstUnseen (table_of c.table) p.reads (length p.journal) item stamp → IsStale c p.journal p.reads item stamp
+  not_fresh item stamp f = stale c k p.table p.journal p.reads (looked c p r m) item stamp f
+
+  pub seen_all : IsFresh c p → AllWithin (table_of c.table) p.reads (length p.journal)
+  seen_all f = all_within c k p.table p.journal p.reads (looked c p r m) f.unchanged
+
+-- the same over equal tables, items and numbers
+pub found_as : (T : Table) (xs ys : List Item) (m n : ℕ) (o q : Option (Item × Option ℕ)) → xs ≡ ys → m ≡ n → o ≡ q → IsFirstStale T xs m o → IsFirstStale T ys n q
+found_as T xs ys m n o q f g e h = subst (λ (k : ℕ). IsFirstStale T ys k q) g (subst (λ (zs : List Item). IsFirstStale T zs m q) f (subst (λ (w : Option (Item × Option ℕ)). IsFirstStale T xs m w) e h))
 
 pub may_apply_as : (t u : TableValue) (l k : Label) (a b : Step) → t ≡ u → l ≡ k → a ≡ b → MayApply t l a → MayApply u k b
 may_apply_as t u l k a b e f g h = subst (λ (x : Step). MayApply u k x) g (subst (λ (x : Label). MayApply u x a) f (subst (λ (x : TableValue). MayApply x l a) e h))

@@ -1,34 +1,35 @@
 -- What a plan read, and a later label changed.
 use Rattle.std.proofs.Common.{◌≡◌, ℕ, zero, suc, ◌+◌, ◌<◌, ◌≤◌, List, [], ◌∷◌, ◌++◌, length, take, drop, slice_index_or, Bool, true, false, Option, Some, None, refl, sym, ap, subst, ◌∙◌, ◌⊎◌, inl, inr, arith}
-use Rattle.std.specs.Prelude.{IsSome, nat_le, option_map, option_and_then}
+use Rattle.std.specs.Prelude.{IsSome, IfNone, nat_le, option_map, option_and_then}
 use Rattle.std.proofs.lemmas.Bool.Decides.{nat_tests}
 use Rattle.akl_terms.specs.declared.name.Name.{Name}
 use Rattle.akl_terms.specs.declared.program.Program.{Program}
 use Rattle.akl_terms.specs.declared.program.Query.{Query}
 use Rattle.akl_model.specs.declared.item.Item.{Item}
-use Rattle.akl_model.specs.declared.label.Rule.{Rule}
 use Rattle.akl_model.specs.declared.label.Label.{Label}
-use Rattle.akl_model.specs.Config.{Boxes, Config, Held, Found, held_in, box_at, home_of}
+use Rattle.akl_model.specs.Config.{Config, Held, Found, held_in, box_at, home_of}
 use Rattle.akl_model.specs.Changes.{shape_of}
 use Rattle.akl_model.proofs.Orders.{lt_or}
 use Rattle.step_laws.specs.Stays.{GoesOn, Leaves, HaveShape}
 use Rattle.step_laws.proofs.StaysLaws.{box_stays, goals_stay, goal_stays}
-use Rattle.plan_laws.specs.Right.{NoneBy}
-use Rattle.plan_laws.specs.Stamps as stamps
 use Rattle.plan_laws.proofs.StampLaws.{stamped, one_stamp}
 use Rattle.akl_model.specs.Changes.{by_store}
 use Rattle.table_laws.specs.Rows.{BoxRow, GoalRow, Table}
 use Rattle.table_laws.specs.Unfolds.{Unfolds, Spot, spot_of, spot_in}
 use Rattle.table_laws.specs.Stamped.{Run, LastChange, IsTableOf, store_stamp, goals_stamp, goal_stamp, stamp_in}
-use Rattle.table_laws.specs.Steps.{Step}
 use Rattle.table_laws.proofs.Frame.{row_of, found_of}
 use Rattle.table_laws.proofs.Insides.{spot_held}
-use Rattle.box_tree.specs.Tables.{all_rules, table_of, step_of}
+use Rattle.box_tree.specs.Tables.{all_rules, TableValue, table_of}
 use Rattle.box_tree.specs.Views.{run_of}
 use Rattle.box_tree.specs.Plans.{PlanValue, IsRead, IsRight}
-use Rattle.step_commit.specs.Cores.{CoreValue, IsCore, MayCommit, IsStale, is_within, IsFirstUnseen}
+use Rattle.step_commit.specs.Cores.{CoreValue, IsCore, run_by, MayCommit, IsUnchanged, IsStale, is_within, AllWithin, IsFirstUnseen}
 use Rattle.step_commit.proofs.LastChanges.{IsPart, last_change}
-use Rattle.step_commit.proofs.Committed.{IsPlanned, planned, goes, stamp_last, some_of}
+use Rattle.step_commit.proofs.Committed.{planned, goes, stamp_last, some_of}
+
+-- a fact that is owed where an option has nothing
+pub if_none : {A P : Type 0} (o : Option A) → P → IfNone o P
+if_none None p = p
+if_none (Some x) p = tt
 
 -- lists of items
 
@@ -120,31 +121,31 @@ same_held : (g : Name) (e f : Found) (h : Held) → held_in g e.goals ≡ Some h
 same_held g e f h i s None j = let a : option_map shape_of (held_in g e.goals) ≡ Some (shape_of h) = ap (option_map shape_of) i in let b : option_map shape_of (held_in g f.goals) ≡ None = ap (option_map shape_of) j in absurd (let q : Some (shape_of h) ≡ None = sym a ∙ s ∙ b in cc)
 same_held g e f h i s (Some k) j = (k, j)
 
-module _ (p : Program) (q : Query) (journal further : List Label) (S T : Table) (l : Label) (reads : List Item) (names : ℕ) (step : Step) (x : IsPlanned p q journal S l reads names step)
+module _ (p : Program) (q : Query) (journal further : List Label) (S T : Table) (x : IsTableOf all_rules (record { program = p; query = q; journal = journal }) S)
     (t : IsTableOf all_rules (record { program = p; query = q; journal = journal ++ further }) T) where
   abbrev run : Run
   run = record { program = p; query = q; journal = journal ++ further }
 
-  on : GoesOn all_rules p x.table.config further t.config
-  on = record { query = q; journal = journal; replays = x.table.replays; derives = goes p q journal further S T l reads names step x t }
+  on : GoesOn all_rules p x.config further t.config
+  on = record { query = q; journal = journal; replays = x.replays; derives = goes p q journal further S T x t }
 
   -- an item that was read has its stamp still, where no later label changed it
   there_still : (i : Item) → IsSome (stamp_in S i) → Leaves on i → stamp_in T i ≡ None → ⊥
   there_still Item.Roots s u n = cc
   there_still (Item.Store m) s u n =
       let r : _ = box_there m (S.box_of m) s in
-      let f : _ = found_of S x.table.config x.table.unfolds m r.0 r.1 in
-      let g : _ = box_stays all_rules p x.table.config further t.config on m f.0 f.1 u in
+      let f : _ = found_of S x.config x.unfolds m r.0 r.1 in
+      let g : _ = box_stays all_rules p x.config further t.config on m f.0 f.1 u in
       some_store T t.config t.unfolds m g.0 g.1 n
   there_still (Item.Goals m) s u n =
       let r : _ = goals_there m (S.box_of m) s in
-      let f : _ = found_of S x.table.config x.table.unfolds m r.0 r.1 in
-      let g : _ = goals_stay all_rules p x.table.config further t.config on m f.0 f.1 u in
+      let f : _ = found_of S x.config x.unfolds m r.0 r.1 in
+      let g : _ = goals_stay all_rules p x.config further t.config on m f.0 f.1 u in
       some_goals T t.config t.unfolds m g.0 g.1 n
   there_still (Item.Goal m) s u n =
       let r : _ = goal_there m (S.goal_of m) s in
-      let f : _ = goal_held S x.table.config x.table.unfolds m r.0 r.1 in
-      let g : _ = goal_stays all_rules p x.table.config further t.config on m f.0 f.2 u in
+      let f : _ = goal_held S x.config x.unfolds m r.0 r.1 in
+      let g : _ = goal_stays all_rules p x.config further t.config on m f.0 f.2 u in
       let h : (k : Held) × (held_in m g.0.goals ≡ Some k) = same_held m f.0 g.0 f.1 f.3 g.3 (held_in m g.0.goals) refl in
       some_goal T t.config t.unfolds m g.0 h.0 g.1 h.1 n
   there_still (Item.Binding v) s u n = absurd cc
@@ -166,7 +167,7 @@ module _ (p : Program) (q : Query) (journal further : List Label) (S T : Table) 
       of_last : (m : ℕ) × LastChange all_rules (record { program = p; query = q; journal = journal ++ further }) i m → Changed i None
       of_last z = elim (lt_or (length journal) z.0) [
         | inl h ↦ record { number = z.0; last = z.1; unseen = h; as_kept = λ m j. absurd cc }
-        | inr h ↦ absurd (there_still i s (stamped all_rules p q journal further x.table.config t.config i x.table.replays on.derives (record { number = z.0; last = z.1; early = elim h [ inl a ↦ omega arith | inr b ↦ omega arith ] })) e)
+        | inr h ↦ absurd (there_still i s (stamped all_rules p q journal further x.config t.config i x.replays on.derives (record { number = z.0; last = z.1; early = elim h [ inl a ↦ omega arith | inr b ↦ omega arith ] })) e)
       ]
 
   -- one that has a stamp which was seen was changed by no later label
@@ -180,35 +181,57 @@ module _ (p : Program) (q : Query) (journal further : List Label) (S T : Table) 
       under : (k n : ℕ) → nat_le k n ≡ true → k ≤ n
       under k n e = grind (arith, nat_tests)
 
--- so the plan is stale
-pub stale : (c : CoreValue) (k : IsCore c) (p : PlanValue) (r : IsRight p) (m : MayCommit c p) (item : Item) (stamp : Option ℕ) → IsFirstUnseen (table_of c.table) p.reads (length p.journal) item stamp → IsStale c p item stamp
-stale c k p r m item stamp f = of_journal c.journal m.front k.table
-  where
-    of_journal : (journal : List Label) → journal ≡ p.journal ++ m.further → IsTableOf all_rules (run_of c.table journal) (table_of c.table) → IsStale (record c { journal = journal }) p item stamp
-    of_journal journal e t = subst (λ (j : List Label). IsStale (record c { journal = j }) p item stamp) (sym e) made
-      where
-        x : IsPlanned c.table.program c.table.query p.journal (table_of p.table) p.label p.reads p.names (step_of c.table.program.templates.nodes p.step)
-        x = planned c p r m
+-- what was looked at over a front of a core's journal, with the items that were read, each there
+pub record IsLooked (c : CoreValue) (table : TableValue) (journal : List Label) (reads : List Item) : Type 0 where
+  pub further : List Label
+  pub front : c.journal ≡ journal ++ further
+  pub before : IsTableOf all_rules (record { program = c.table.program; query = c.table.query; journal = journal }) (table_of table)
+  pub there : (i : Item) → IsRead reads i → IsSome (stamp_in (table_of table) i)
 
-        u : IsTableOf all_rules (run_of c.table (p.journal ++ m.further)) (table_of c.table)
-        u = subst (λ (j : List Label). IsTableOf all_rules (run_of c.table j) (table_of c.table)) e t
+pub looked : (c : CoreValue) (p : PlanValue) → IsRight p → MayCommit c p → IsLooked c p.table p.journal p.reads
+looked c p r m = record { further = m.further; front = m.front; before = (planned c p r m).table; there = r.there }
 
-        there : IsSome (stamp_in (table_of p.table) item)
-        there = r.there item (subst (λ (is : List Item). IsRead is item) (sym f.is_read) (in_front f.earlier f.later item))
+module _ (c : CoreValue) (k : IsCore c) (table : TableValue) (journal : List Label) (reads : List Item) (x : IsLooked c table journal reads) where
+  now : IsTableOf all_rules (run_of c.table (journal ++ x.further)) (table_of c.table)
+  now = subst (λ (j : List Label). IsTableOf all_rules (run_of c.table j) (table_of c.table)) x.front k.table
 
-        was : Changed c.table.program c.table.query p.journal m.further (table_of p.table) (table_of c.table) p.label p.reads p.names (step_of c.table.program.templates.nodes p.step) x u item stamp
-        was = changed c.table.program c.table.query p.journal m.further (table_of p.table) (table_of c.table) p.label p.reads p.names (step_of c.table.program.templates.nodes p.step) x u item there stamp (sym f.is_stamp) f.unseen
+  last_here : (i : Item) (n : ℕ) → LastChange all_rules (run_by c) i n → LastChange all_rules (run_of c.table (journal ++ x.further)) i n
+  last_here i n = subst (λ (j : List Label). LastChange all_rules (run_of c.table j) i n) x.front
 
-        made : IsStale (record c { journal = p.journal ++ m.further }) p item stamp
-        made = record {
-          earlier = f.earlier;
-          later = f.later;
-          is_read = f.is_read;
-          first = λ i j. unchanged c.table.program c.table.query p.journal m.further (table_of p.table) (table_of c.table) p.label p.reads p.names (step_of c.table.program.templates.nodes p.step) x u i
-              (stamp_in (table_of c.table) i) refl (f.first i j);
-          number = was.number;
-          last = was.last;
-          unseen = was.unseen;
-          is_stamp = f.is_stamp;
-          as_kept = was.as_kept;
-        }
+  last_there : (i : Item) (n : ℕ) → LastChange all_rules (run_of c.table (journal ++ x.further)) i n → LastChange all_rules (run_by c) i n
+  last_there i n = subst (λ (j : List Label). LastChange all_rules (run_of c.table j) i n) (sym x.front)
+
+  pub unchanged_here : (i : Item) → is_within (stamp_in (table_of c.table) i) (length journal) ≡ true → IsUnchanged c journal i
+  unchanged_here i w n y = unchanged c.table.program c.table.query journal x.further (table_of table) (table_of c.table) x.before now i (stamp_in (table_of c.table) i) refl w n (last_here i n y)
+
+  was : (i : Item) → IsRead reads i → (o : Option ℕ) → stamp_in (table_of c.table) i ≡ o → is_within o (length journal) ≡ false
+      → Changed c.table.program c.table.query journal x.further (table_of table) (table_of c.table) x.before now i o
+  was i j = changed c.table.program c.table.query journal x.further (table_of table) (table_of c.table) x.before now i (x.there i j)
+
+  -- so what read such an item is stale
+  pub stale : (item : Item) (stamp : Option ℕ) → IsFirstUnseen (table_of c.table) reads (length journal) item stamp → IsStale c journal reads item stamp
+  stale item stamp f =
+      let read : IsRead reads item = subst (λ (is : List Item). IsRead is item) (sym f.is_read) (in_front f.earlier f.later item) in
+      let w : Changed c.table.program c.table.query journal x.further (table_of table) (table_of c.table) x.before now item stamp = was item read stamp (sym f.is_stamp) f.unseen in
+      record {
+        earlier = f.earlier;
+        later = f.later;
+        is_read = f.is_read;
+        first = λ i j. unchanged_here i (f.first i j);
+        number = w.number;
+        last = last_there item w.number w.last;
+        unseen = w.unseen;
+        is_stamp = f.is_stamp;
+        as_kept = w.as_kept;
+      }
+
+  -- and where nothing read was changed, all stamps were seen
+  pub all_within : ((i : Item) → IsRead reads i → IsUnchanged c journal i) → AllWithin (table_of c.table) reads (length journal)
+  all_within u i j = on (is_within (stamp_in (table_of c.table) i) (length journal)) refl
+    where
+      on : (b : Bool) → is_within (stamp_in (table_of c.table) i) (length journal) ≡ b → is_within (stamp_in (table_of c.table) i) (length journal) ≡ true
+      on true e = e
+      on false e =
+          let w : _ = was i j (stamp_in (table_of c.table) i) refl e in
+          let h : w.number ≤ length journal = u i j w.number (last_there i w.number w.last) in
+          absurd (omega (arith, h, w.unseen))

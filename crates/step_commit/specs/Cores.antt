@@ -42,34 +42,38 @@ pub record MayCommit (c : CoreValue) (p : PlanValue) : Type 0 where
   pub none_by : NoneBy p.label further
   pub same_table : further ≡ [] → p.table ≡ c.table
 
--- no label that the plan didn't see changed the item
-abbrev pub IsUnchanged : CoreValue → PlanValue → Item → Type 0
-IsUnchanged c p i = (k : ℕ) → LastChange all_rules (run_by c) i k → k ≤ length p.journal
+-- no label behind a front of the journal changed the item
+abbrev pub IsUnchanged : CoreValue → List Label → Item → Type 0
+IsUnchanged c seen i = (k : ℕ) → LastChange all_rules (run_by c) i k → k ≤ length seen
 
--- one did, and the item is the first such of those that it read
-pub record IsStale (c : CoreValue) (p : PlanValue) (item : Item) (stamp : Option ℕ) : Type 0 where
+-- one did, and the item is the first such of those that were read
+pub record IsStale (c : CoreValue) (seen : List Label) (reads : List Item) (item : Item) (stamp : Option ℕ) : Type 0 where
   pub earlier : List Item
   pub later : List Item
-  pub is_read : p.reads ≡ earlier ++ item ∷ later
-  pub first : (i : Item) → IsRead earlier i → IsUnchanged c p i
+  pub is_read : reads ≡ earlier ++ item ∷ later
+  pub first : (i : Item) → IsRead earlier i → IsUnchanged c seen i
   pub number : ℕ
   pub last : LastChange all_rules (run_by c) item number
-  pub unseen : length p.journal < number
+  pub unseen : length seen < number
   pub is_stamp : stamp ≡ stamp_in (table_of c.table) item
   pub as_kept : (k : ℕ) → stamp ≡ Some k → k ≡ number
+
+-- a plan isn't refused: there are fewer labels than the budget allows, and none that the plan didn't see changed an item that it read
+pub record IsFresh (c : CoreValue) (p : PlanValue) : Type 0 where
+  pub unspent : length c.journal < c.budget
+  pub unchanged : (i : Item) → IsRead p.reads i → IsUnchanged c p.journal i
 
 -- the plan's label is the next one of the journal
 pub record Commits (c : CoreValue) (p : PlanValue) (d : CoreValue) (r : Receipt) : Type 0 where
   pub fixed : KeepsFixed c d
   pub journal : d.journal ≡ c.journal ++ p.label ∷ []
   pub receipt : r ≡ record { at = length c.journal + 1; seen = length p.journal; label = p.label }
-  pub unspent : length c.journal < c.budget
-  pub fresh : (i : Item) → IsRead p.reads i → IsUnchanged c p i
+  pub fresh : IsFresh c p
 
 -- why a plan isn't committed; want of memory is free
 abbrev pub IsRefused : CoreValue → PlanValue → CommitError → Type 0
 IsRefused c p (CommitError.Spent budget) = (budget ≡ c.budget) × (length c.journal ≡ c.budget)
-IsRefused c p (CommitError.Stale item stamp) = (length c.journal < c.budget) × IsStale c p item stamp
+IsRefused c p (CommitError.Stale item stamp) = (length c.journal < c.budget) × IsStale c p.journal p.reads item stamp
 IsRefused c p (CommitError.Memory error) = Unit {0}
 
 -- the item is there, and was last changed by one of the first labels, so many as are given

@@ -1,11 +1,11 @@
 //! The state of a run.
 
-ghost use Rattle.std.specs.Prelude.{◌≡◌, IfOk, IfErr, [], length, true};
+ghost use Rattle.std.specs.Prelude.{◌≡◌, IfOk, IfErr, IfSome, IfNone, [], length, true};
 ghost use Rattle.box_tree.specs.Tables.{table_of, goals_in, is_empty, shown_in, shown_trees_of, HasVariables, HasShownVariables};
 ghost use Rattle.box_tree.specs.Views.{is_there, IsUnseen, AreAllPlaces};
 ghost use Rattle.box_tree.specs.Insides.{IsInsideOf, candidate_in};
 ghost use Rattle.akl_terms.specs.declared.name.Place.{Place};
-ghost use Rattle.step_commit.specs.Cores.{IsCore, MayCommit, Commits, IsRefused, IsFirstStale, is_within};
+ghost use Rattle.step_commit.specs.Cores.{IsCore, MayCommit, IsFresh, Commits, IsRefused, IsFirstStale, is_within};
 
 use crate::commit::CommitError;
 use akl_model::{Item, Label, Receipt};
@@ -66,6 +66,14 @@ impl Core {
         ensures { result ≡ length self.now.journal }
     {
         self.journal.len() as u64
+    }
+
+    /// The table.
+    pub fn table(&self) -> &Table
+        ensures table { result.now ≡ self.now.table }
+        ensures core { IsCore self.now }
+    {
+        &self.table
     }
 
     /// The labels that were committed, in order.
@@ -132,6 +140,54 @@ impl Core {
         self.table.shown_of(name)
     }
 
+    /// The first of these items that a label behind the first ones, so many as are given, has changed, with its stamp.
+    pub fn stale(&self, reads: &[Item], seen: u64) -> Option<(Item, Option<u64>)>
+        ensures { IsFirstStale (table_of self.now.table) reads.now seen result }
+    {
+        first_stale(&self.table, reads, seen)
+    }
+
+    /// Why a plan can't be committed, whatever memory there is: all labels of the budget are made, or the plan is stale.
+    /// `None` exactly where neither is so.
+    pub fn refusal(&self, plan: &Plan) -> Option<CommitError>
+        requires { MayCommit self.now plan.now }
+        ensures refused { IfSome result (IsRefused self.now plan.now) }
+        ensures fresh { IfNone result (IsFresh self.now plan.now) }
+    {
+        if self.journal.len() as u64 == self.budget {
+            return Some(CommitError::Spent {
+                budget: self.budget,
+            });
+        }
+        let (item, stamp) = self.stale(plan.reads(), plan.seen())?;
+        Some(CommitError::Stale { item, stamp })
+    }
+
+    /// Appends the label of a plan that isn't refused, and makes its step. An `Err` leaves the core as it was.
+    pub fn append(&mut self, alloc: Global, plan: Plan) -> Result<Receipt, AllocError>
+        requires may { MayCommit self.old plan }
+        requires fresh { IsFresh self.old plan }
+        ensures committed { IfOk result (Commits self.old plan self.new) }
+        ensures unchanged { IfErr result (λ _. self.new ≡ self.old) }
+    {
+        let before = self.journal.len() as u64;
+        let seen = plan.seen();
+        let label = plan.label();
+        let names = plan.names();
+        // Stores that were solved over this very table are solved in it.
+        let at = if seen == before { Some(seen) } else { None };
+        self.journal.push(label)?;
+        if let Err(error) = self.table.apply(alloc, label, names, plan.into_step(), at) {
+            let _ = self.journal.pop();
+            return Err(error);
+        }
+        Ok(Receipt {
+            at: before + 1,
+            seen,
+            label,
+        })
+    }
+
     /// Appends the plan's label, and makes its step. An `Err` leaves the core as it was.
     pub fn commit(&mut self, alloc: Global, plan: Plan) -> Result<Receipt, CommitError>
         requires { MayCommit self.old plan }
@@ -139,32 +195,11 @@ impl Core {
         ensures refused { IfErr result (IsRefused self.old plan) }
         ensures unchanged { IfErr result (λ _. self.new ≡ self.old) }
     {
-        let before = self.journal.len() as u64;
-        if before == self.budget {
-            return Err(CommitError::Spent {
-                budget: self.budget,
-            });
+        if let Some(refused) = self.refusal(&plan) {
+            return Err(refused);
         }
-        let seen = plan.seen();
-        if let Some((item, stamp)) = first_stale(&self.table, plan.reads(), seen) {
-            return Err(CommitError::Stale { item, stamp });
-        }
-        let label = plan.label();
-        let names = plan.names();
-        // Stores that were solved over this very table are solved in it.
-        let at = if seen == before { Some(seen) } else { None };
-        if let Err(failed) = self.journal.push(label) {
-            return Err(CommitError::Memory(AllocError::from(failed)));
-        }
-        if let Err(error) = self.table.apply(alloc, label, names, plan.into_step(), at) {
-            let _ = self.journal.pop();
-            return Err(CommitError::Memory(error));
-        }
-        Ok(Receipt {
-            at: before + 1,
-            seen,
-            label,
-        })
+        let receipt = self.append(alloc, plan)?;
+        Ok(receipt)
     }
 
     /// The journal.

@@ -1,4 +1,4 @@
-use Rattle.std.proofs.Common.{take, drop, ◌≡◌, true, refl, sym, subst, ◌∙◌, inl, inr, suc, slice_index_or}
+use Rattle.std.proofs.Common.{take, drop, ◌≡◌, true, sym, subst, ◌∙◌, inl, inr, suc}
 use Rattle.akl_model.specs.declared.item.Item.{Item}
 use Rattle.table_laws.specs.Stamped.{stamp_in}
 use Rattle.box_tree.specs.Tables.{table_of}

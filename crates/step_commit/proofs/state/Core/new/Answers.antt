@@ -1,4 +1,3 @@
-use Rattle.table_laws.proofs.Started.{start_law}
 use Rattle.step_commit.proofs.Committed.{new_core}
 use Rattle.step_commit.proofs.state.Core.new.Goals as goal
 
