@@ -30,7 +30,7 @@ module _ (rules : List Rule) (p : Program) (q : Query) (journal : List Label) (c
   pub afterwards : Stand d
   afterwards = stands_after rules p c l d before a
 
-  further : Later c d
+  pub further : Later c d
   further = later_step rules p c l d before a
 
   pub was_there : box_at a.site.content.name c.roots ≡ Some a.site

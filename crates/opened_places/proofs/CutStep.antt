@@ -20,7 +20,7 @@ use Rattle.table_laws.specs.Stamped.{Run, IsTableOf}
 use Rattle.table_laws.specs.Steps.{CutsGoal, cuts, Makes}
 use Rattle.table_laws.proofs.Cutting as cutting
 use Rattle.opened_places.specs.declared.around.Around.{Around}
-use Rattle.opened_places.specs.Listed.{listed}
+use Rattle.opened_places.proofs.ListedPlaces.{listed}
 use Rattle.opened_places.specs.Exact.{IsAround, AreExactly}
 use Rattle.opened_places.proofs.SetRows.{some_none}
 use Rattle.opened_places.proofs.GoalTurns.{Comes, AreHolders, no_holders}

@@ -24,7 +24,7 @@ use Rattle.table_laws.specs.Steps.{fails, Makes}
 use Rattle.table_laws.proofs.Gone.{left, names_gone, box_none, home_none, home_left, held_left}
 use Rattle.opened_places.specs.declared.around.Holder.{Holder}
 use Rattle.opened_places.specs.declared.around.Around.{Around}
-use Rattle.opened_places.specs.Listed.{listed, holder_places}
+use Rattle.opened_places.proofs.ListedPlaces.{listed, holder_places}
 use Rattle.opened_places.specs.Exact.{IsAround, AreExactly}
 use Rattle.opened_places.proofs.ChangedWays.{Way, new_goal, new_box, goal_itself, goal_box, holder_itself, holder_box, site_itself, site_holder, way}
 use Rattle.opened_places.proofs.GoalTurns.{AreHolders}

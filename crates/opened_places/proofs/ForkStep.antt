@@ -17,7 +17,7 @@ use Rattle.table_laws.specs.Steps.{NewBox, forks, Makes}
 use Rattle.table_laws.specs.Writes.{IsFresh, set, changed_box, home_in, new_box_of, new_goal_of, names_drawn, after_fork, failing_by, forked_row}
 use Rattle.table_laws.proofs.Fresh.{fresh_step}
 use Rattle.opened_places.specs.declared.around.Around.{Around}
-use Rattle.opened_places.specs.Listed.{new_places, listed}
+use Rattle.opened_places.proofs.ListedPlaces.{new_places, listed}
 use Rattle.opened_places.specs.Exact.{IsAround, AreExactly}
 use Rattle.opened_places.proofs.Members.{part_boxes, part_goals, box_named, goal_named, new_parts, new_parts_places, new_parts_names, either_some, new_box_in, in_new_box, new_goal_in, in_new_goal}
 use Rattle.opened_places.proofs.SetRows.{some_none, set_itself, replaced_none, changed_none, kept_goals}
@@ -27,16 +27,16 @@ use Rattle.opened_places.proofs.GoalTurns as turns
 use Rattle.opened_places.proofs.GoalTurns.{Comes, no_holders}
 use Rattle.opened_places.proofs.RowSteps.{same_table, comes, its_row, same_goals, next_unfolds, at_place}
 
-module _ (rules : List Rule) (r : Run) (T : Table) (l : Label) (d : Config) (t : IsTableOf rules r T) (a : Applies rules r.program t.config l d) (x : Around) (k : IsAround T l x)
+module _ (rules : List Rule) (r : Run) (T : Table) (l : Label) (d : Config) (t : IsTableOf rules r T) (a : Applies rules r.program t.config l d)
     (op : Op) (news : List NewBox) (makes : Makes r.program l (slice_index t.config.next l.worker) a.site (forks op news)) where
   abbrev g : Name
   g = makes.1.0
 
-  abbrev U : Table
+  abbrev pub U : Table
   U = after_fork makes.1.0 op news None l.worker a.change.drawn T
 
-  v : Unfolds U d
-  v = next_unfolds rules r T l d t a x k (forks op news) U makes (at_place rules r T l d t a x k (forks op news) U makes.1.0 makes.1.1 (same_table U))
+  pub v : Unfolds U d
+  v = next_unfolds rules r T l d t a (forks op news) U makes (at_place rules r T l d t a (forks op news) U makes.1.0 makes.1.1 (same_table U))
 
   fresh : IsFresh T (names_drawn news)
   fresh = fresh_step rules r T l d t a (forks op news) makes
@@ -88,8 +88,8 @@ module _ (rules : List Rule) (r : Run) (T : Table) (l : Label) (d : Config) (t :
         | inr e ↦ kept_goals (home_in (T.goal_of g)) (failing_by g news) T.box_of a.site.content.name w y keeps i e.1
       ])
 
-  pub forked : AreExactly t.config d (listed l.place x (forks op news))
-  forked = subst (λ (p : Place). AreExactly t.config d (p ∷ Place.Box x.home ∷ new_places news)) (sym makes.1.1)
+  pub forked : (x : Around) (k : IsAround T l x) → AreExactly t.config d (listed l.place x (forks op news))
+  forked x k = subst (λ (p : Place). AreExactly t.config d (p ∷ Place.Box x.home ∷ new_places news)) (sym makes.1.1)
       (subst (λ (ps : List Place). AreExactly t.config d (Place.Goal makes.1.0 ∷ Place.Box x.home ∷ ps)) (sym (new_parts_places news))
       (turns.exactly rules r T l d t a x k makes.1.0 (site.its_goal rules r.program r.query r.journal t.config l d t.replays a makes.1.0 makes.1.1)
       (site.at_goal rules r.program r.query r.journal t.config l d t.replays a makes.1.0 makes.1.1) there same []

@@ -20,7 +20,8 @@ use Rattle.opened_places.specs.declared.around.Holder.{Holder}
 use Rattle.opened_places.specs.declared.around.Around.{Around}
 use Rattle.opened_places.specs.Changed as changed
 use Rattle.opened_places.specs.Changed.{IsChanged}
-use Rattle.opened_places.specs.Listed.{goals_named, holder_place}
+use Rattle.opened_places.specs.Gone.{goals_named}
+use Rattle.opened_places.proofs.ListedPlaces.{holder_place}
 use Rattle.opened_places.specs.Exact.{IsAround, AreExactly}
 use Rattle.opened_places.proofs.Members.{one_left, one_right, one_either, named_one, one_named}
 use Rattle.opened_places.proofs.ChangedWays.{Way, new_goal, new_box, goal_itself, goal_box, holder_itself, holder_box, site_itself, site_holder, way}

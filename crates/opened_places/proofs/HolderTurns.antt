@@ -27,7 +27,7 @@ use Rattle.opened_places.specs.declared.around.Holder.{Holder}
 use Rattle.opened_places.specs.declared.around.Around.{Around}
 use Rattle.opened_places.specs.Changed as changed
 use Rattle.opened_places.specs.Changed.{IsChanged}
-use Rattle.opened_places.specs.Listed.{holder_places}
+use Rattle.opened_places.proofs.ListedPlaces.{holder_places}
 use Rattle.opened_places.specs.Exact.{IsAround}
 use Rattle.opened_places.proofs.GoalTurns.{AreHolders}
 use Rattle.opened_places.proofs.AtSite as site

@@ -1,4 +1,5 @@
 pub mod OpenedWays
+pub mod ListedPlaces
 pub mod Members
 pub mod ChangedWays
 pub mod AtSite
@@ -15,5 +16,16 @@ pub mod CutStep
 pub mod FailStep
 pub mod SplitSteps
 pub mod ExactSteps
-pub mod PushedParts
-pub mod ListedSteps
+pub mod PlacesAt
+pub mod GoneListed
+pub mod RunRows
+pub mod Outwards
+pub mod InnerPlaces
+pub mod PushedPlaces
+pub mod CopyHomes
+pub mod StillAround
+pub mod PlacesListed
+pub mod OldAround
+pub mod NewAround
+pub mod CopyAround
+pub mod AroundSteps

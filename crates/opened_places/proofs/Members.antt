@@ -8,12 +8,13 @@ use Rattle.akl_terms.proofs.SameNames.{same_name-refl, same_name-equal}
 use Rattle.akl_model.specs.Config.{IsIn, Atom, or_else}
 use Rattle.akl_model.specs.Changes.{Shape, of_atom}
 use Rattle.akl_model.specs.Wakes.{IsOneOf}
-use Rattle.akl_model.proofs.Options.{or_some, none_or, left_some, right_some}
+use Rattle.akl_model.proofs.Options.{some_value, or_some, none_or, left_some, right_some}
 use Rattle.akl_model.proofs.Scoped.{IsIn-left, IsIn-right, IsIn-either}
 use Rattle.table_laws.specs.Rows.{BoxRow, GoalRow}
 use Rattle.table_laws.specs.Steps.{NewBox, BoxCopy, copy_among}
 use Rattle.table_laws.specs.Writes.{atom_among, new_box_of, new_goal_of, new_row, shape_among, copied_goal_of, names_drawn, names_copied}
-use Rattle.opened_places.specs.Listed.{goals_named, new_places, copy_places}
+use Rattle.opened_places.specs.Gone.{goals_named}
+use Rattle.opened_places.proofs.ListedPlaces.{new_places, copy_places}
 
 abbrev pub firsts : {A : Type 0} → List (Name × A) → List Name
 firsts {A} xs = map (λ (x : Name × A). x.0) xs
@@ -134,11 +135,11 @@ search_on {A} m n x rest w = on (same_name m n)
     on true = (x, refl)
     on false = w
 
-searched : {A : Type 0} (m n : Name) (x : A) (rest : Option A) (r : A) → (if same_name m n then Some x else rest) ≡ Some r → (m ≡ n) ⊎ (rest ≡ Some r)
+pub searched : {A : Type 0} (m n : Name) (x : A) (rest : Option A) (r : A) → (if same_name m n then Some x else rest) ≡ Some r → ((m ≡ n) × (x ≡ r)) ⊎ (rest ≡ Some r)
 searched {A} m n x rest r e = on (same_name m n) refl e
   where
-    on : (b : Bool) → same_name m n ≡ b → (if b then Some x else rest) ≡ Some r → (m ≡ n) ⊎ (rest ≡ Some r)
-    on true q h = inl (same_name-equal m n q)
+    on : (b : Bool) → same_name m n ≡ b → (if b then Some x else rest) ≡ Some r → ((m ≡ n) × (x ≡ r)) ⊎ (rest ≡ Some r)
+    on true q h = inl (same_name-equal m n q, some_value h)
     on false q h = inr h
 
 pub either_some : {A : Type 0} (x y : Option A) → ((r : A) × (x ≡ Some r)) ⊎ ((r : A) × (y ≡ Some r)) → (r : A) × (or_else x y ≡ Some r)
@@ -148,7 +149,7 @@ either_some x y (inr w) = elim (none_or x) [ inl z ↦ (w.0, right_some x y w.0 
 pub atom_row_in : (home : Name) (k : ℕ) (xs : List (Name × Atom)) (m : Name) (r : GoalRow) → atom_among home k xs m ≡ Some r → IsIn m (map (λ (x : Name × Atom). x.0) xs)
 atom_row_in home k [] m r e = cc
 atom_row_in home k (x ∷ xs) m r e = elim (searched m x.0 (record { home = home; shape = of_atom x.1; changed = k }) (atom_among home k xs m) r e) [
-  | inl q ↦ inl q
+  | inl q ↦ inl q.0
   | inr q ↦ inr (atom_row_in home k xs m r q)
 ]
 
@@ -160,7 +161,7 @@ in_atom_row home k (x ∷ xs) m (inr h) = search_on m x.0 (record { home = home;
 shape_row_in : (home : Name) (k : ℕ) (xs : List (Name × Shape)) (m : Name) (r : GoalRow) → shape_among home k xs m ≡ Some r → IsIn m (map (λ (x : Name × Shape). x.0) xs)
 shape_row_in home k [] m r e = cc
 shape_row_in home k (x ∷ xs) m r e = elim (searched m x.0 (record { home = home; shape = x.1; changed = k }) (shape_among home k xs m) r e) [
-  | inl q ↦ inl q
+  | inl q ↦ inl q.0
   | inr q ↦ inr (shape_row_in home k xs m r q)
 ]
 
@@ -171,7 +172,7 @@ in_shape_row home k (x ∷ xs) m (inr h) = search_on m x.0 (record { home = home
 
 pub new_box_in : (g : Name) (at : Option ℕ) (k : ℕ) (news : List NewBox) (m : Name) (r : BoxRow) → new_box_of g at k news m ≡ Some r → IsIn m (part_boxes (new_parts news))
 new_box_in g at k [] m r e = cc
-new_box_in g at k (n ∷ ns) m r e = elim (searched m n.name (new_row g at k n) (new_box_of g at k ns m) r e) [ inl q ↦ inl q | inr q ↦ inr (new_box_in g at k ns m r q) ]
+new_box_in g at k (n ∷ ns) m r e = elim (searched m n.name (new_row g at k n) (new_box_of g at k ns m) r e) [ inl q ↦ inl q.0 | inr q ↦ inr (new_box_in g at k ns m r q) ]
 
 pub in_new_box : (g : Name) (at : Option ℕ) (k : ℕ) (news : List NewBox) (m : Name) → IsIn m (part_boxes (new_parts news)) → (r : BoxRow) × (new_box_of g at k news m ≡ Some r)
 in_new_box g at k [] m h = absurd h
@@ -194,7 +195,7 @@ in_new_goal k (n ∷ ns) m h = either_some (atom_among n.name k n.goals m) (new_
 
 pub copy_box_in : (copies : List BoxCopy) (m : Name) (r : BoxCopy) → copy_among copies m ≡ Some r → IsIn m (part_boxes (copy_parts copies))
 copy_box_in [] m r e = cc
-copy_box_in (k ∷ ks) m r e = elim (searched m k.name k (copy_among ks m) r e) [ inl q ↦ inl q | inr q ↦ inr (copy_box_in ks m r q) ]
+copy_box_in (k ∷ ks) m r e = elim (searched m k.name k (copy_among ks m) r e) [ inl q ↦ inl q.0 | inr q ↦ inr (copy_box_in ks m r q) ]
 
 pub in_copy_box : (copies : List BoxCopy) (m : Name) → IsIn m (part_boxes (copy_parts copies)) → (r : BoxCopy) × (copy_among copies m ≡ Some r)
 in_copy_box [] m h = absurd h

@@ -14,7 +14,7 @@ use Rattle.table_laws.specs.Stamped.{Run, IsTableOf}
 use Rattle.table_laws.specs.Steps.{refutes, Makes}
 use Rattle.table_laws.specs.Writes.{home_in, after_refute, failing_row, refuted_row}
 use Rattle.opened_places.specs.declared.around.Around.{Around}
-use Rattle.opened_places.specs.Listed.{listed}
+use Rattle.opened_places.proofs.ListedPlaces.{listed}
 use Rattle.opened_places.specs.Exact.{IsAround, AreExactly}
 use Rattle.opened_places.proofs.SetRows.{set_itself, replaced_none, changed_none, kept_goals}
 use Rattle.opened_places.proofs.AtSite as site
@@ -32,7 +32,7 @@ module _ (rules : List Rule) (r : Run) (T : Table) (l : Label) (d : Config) (t :
   U = after_refute makes.1.0 T
 
   v : Unfolds U d
-  v = next_unfolds rules r T l d t a x k refutes U makes (at_place rules r T l d t a x k refutes U makes.1.0 makes.1.1 (same_table U))
+  v = next_unfolds rules r T l d t a refutes U makes (at_place rules r T l d t a refutes U makes.1.0 makes.1.1 (same_table U))
 
   there : (f : Found) × (home_of makes.1.0 d.roots ≡ Some f)
   there =

@@ -21,7 +21,7 @@ use Rattle.table_laws.specs.Writes.{IsTable, IsFresh, Leads, set, changed_box, h
 use Rattle.table_laws.proofs.Frame.{row_of, found_of}
 use Rattle.table_laws.proofs.StepMakes.{step_law}
 use Rattle.opened_places.specs.declared.around.Around.{Around}
-use Rattle.opened_places.specs.Listed.{holder_place, listed}
+use Rattle.opened_places.proofs.ListedPlaces.{holder_place, listed}
 use Rattle.opened_places.specs.Exact.{IsAround, AreExactly}
 use Rattle.opened_places.proofs.SetRows.{some_none, set_itself, emptied_none, changed_none}
 use Rattle.opened_places.proofs.AtSite as site
@@ -84,7 +84,7 @@ module _ (rules : List Rule) (r : Run) (T U : Table) (l : Label) (d : Config) (t
       let y : (y : BoxRow) × (U.box_of a.site.content.name ≡ Some y) × IsBoxRow U d.roots (site_now at.0) y = row_of U d v a.site.content.name (site_now at.0) now in
       ap (option_map (λ (f : Found). goal_names f.goals)) was ∙ ap Some (sym w.2.goals ∙ sym (same w.0 y.0 w.1 y.1) ∙ y.2.goals) ∙ sym (ap (option_map (λ (f : Found). goal_names f.goals)) now)
 
-module _ (rules : List Rule) (r : Run) (T : Table) (l : Label) (d : Config) (t : IsTableOf rules r T) (a : Applies rules r.program t.config l d) (x : Around) (k : IsAround T l x) where
+module _ (rules : List Rule) (r : Run) (T : Table) (l : Label) (d : Config) (t : IsTableOf rules r T) (a : Applies rules r.program t.config l d) where
   -- the table to which a step leads, where nothing is known of when its stores were solved
   pub next_unfolds : (step : Step) (U : Table) → Makes r.program l (slice_index t.config.next l.worker) a.site step → Leads T l None a.change.drawn step U → Unfolds U d
   next_unfolds step U makes leads =
@@ -94,6 +94,7 @@ module _ (rules : List Rule) (r : Run) (T : Table) (l : Label) (d : Config) (t :
   pub at_place : (step : Step) (U : Table) (g : Name) → l.place ≡ Place.Goal g → Leads T (record l { place = Place.Goal g }) None a.change.drawn step U → Leads T l None a.change.drawn step U
   at_place step U g e y = subst (λ (p : Place). Leads T (record l { place = p }) None a.change.drawn step U) (sym e) y
 
+module _ (rules : List Rule) (r : Run) (T : Table) (l : Label) (d : Config) (t : IsTableOf rules r T) (a : Applies rules r.program t.config l d) (x : Around) (k : IsAround T l x) where
   -- the goal goes, and nothing comes
   goes_alone : (U : Table) (g : Name) (change : BoxRow → BoxRow) → Unfolds U d → l.place ≡ Place.Goal g → ((n : Name) → U.box_of n ≡ changed_box (home_in (T.goal_of g)) change T.box_of n)
       → ((i : Name) → U.goal_of i ≡ set g None T.goal_of i) → AreExactly t.config d (Place.Box x.home ∷ holder_place x.holder)
@@ -107,9 +108,9 @@ module _ (rules : List Rule) (r : Run) (T : Table) (l : Label) (d : Config) (t :
   pub told : (new : Stored) (solved : Bool) → Makes r.program l (slice_index t.config.next l.worker) a.site (tells new solved) → AreExactly t.config d (listed l.place x (tells new solved))
   told new solved makes =
       let U : Table = after_tell makes.0 new (writes.solved_when None solved) l.worker a.change.drawn T in
-      goes_alone U makes.0 (told_row makes.0 new (writes.solved_when None solved) (T.steps + 1)) (next_unfolds (tells new solved) U makes (at_place (tells new solved) U makes.0 makes.1 (same_table U))) makes.1 (λ n. refl) (λ i. refl)
+      goes_alone U makes.0 (told_row makes.0 new (writes.solved_when None solved) (T.steps + 1)) (next_unfolds rules r T l d t a (tells new solved) U makes (at_place rules r T l d t a (tells new solved) U makes.0 makes.1 (same_table U))) makes.1 (λ n. refl) (λ i. refl)
 
   pub confirmed : Makes r.program l (slice_index t.config.next l.worker) a.site confirms → AreExactly t.config d (listed l.place x confirms)
   confirmed makes =
       let U : Table = after_confirm makes.1.0 T in
-      goes_alone U makes.1.0 (confirmed_row makes.1.0 (T.steps + 1)) (next_unfolds confirms U makes (at_place confirms U makes.1.0 makes.1.1 (same_table U))) makes.1.1 (λ n. refl) (λ i. refl)
+      goes_alone U makes.1.0 (confirmed_row makes.1.0 (T.steps + 1)) (next_unfolds rules r T l d t a confirms U makes (at_place rules r T l d t a confirms U makes.1.0 makes.1.1 (same_table U))) makes.1.1 (λ n. refl) (λ i. refl)

@@ -1,6 +1,6 @@
 -- Rows that are set under a name.
-use Rattle.std.proofs.Common.{◌≡◌, Bool, true, false, Option, Some, None, refl, sym, ◌∙◌, ap, ◌⊎◌, inl, inr}
-use Rattle.std.specs.Prelude.{option_map, if◌then◌else◌}
+use Rattle.std.proofs.Common.{◌≡◌, Bool, true, false, Option, Some, None, refl, sym, ◌∙◌, ap, subst, ◌⊎◌, inl, inr}
+use Rattle.std.specs.Prelude.{option_map, if◌then◌else◌, IsSome}
 use Rattle.akl_terms.specs.declared.name.Name.{Name}
 use Rattle.akl_terms.specs.Names.{same_name}
 use Rattle.akl_terms.proofs.SameNames.{same_name-refl, same_name-equal}
@@ -10,6 +10,9 @@ use Rattle.table_laws.specs.Writes.{set, changed_box}
 
 pub some_none : {A : Type 0} {o : Option A} {v : A} → o ≡ None → o ≡ Some v → ⊥
 some_none e i = cc
+
+pub there_some : {A : Type 0} {o : Option A} {a : A} → o ≡ Some a → IsSome o
+there_some {A} {o} {a} e = subst (λ (q : Option A). IsSome q) (sym e) refl
 
 pub set_itself : {A : Type 0} (n : Name) (r : Option A) (at : Name → Option A) → set n r at n ≡ r
 set_itself n r at = ap (λ (b : Bool). if b then r else at n) (same_name-refl n)

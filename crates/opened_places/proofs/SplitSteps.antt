@@ -38,7 +38,7 @@ use Rattle.table_laws.proofs.RestBoxes.{first_named}
 use Rattle.table_laws.proofs.Copies.{copy_of, box_of, IsGoalCopied, goal_copied, home_counted}
 use Rattle.opened_places.specs.declared.around.Holder.{Holder}
 use Rattle.opened_places.specs.declared.around.Around.{Around}
-use Rattle.opened_places.specs.Listed.{listed, choice_place, holder_places, copy_places}
+use Rattle.opened_places.proofs.ListedPlaces.{listed, choice_place, holder_places, copy_places}
 use Rattle.opened_places.specs.Exact.{IsAround, AreExactly}
 use Rattle.opened_places.proofs.Members.{part_boxes, part_goals, copy_parts, copy_parts_places, copy_box_in, in_copy_box, copy_goal_in, in_copy_goal}
 use Rattle.opened_places.proofs.SetRows.{some_none}
@@ -51,7 +51,7 @@ use Rattle.opened_places.proofs.AtRows as rows
 row_holder : (o : Option BoxRow) (v : BoxRow) → o ≡ Some v → writes.holder_in_row o ≡ v.holder
 row_holder o v e = ap writes.holder_in_row e
 
-module _ (rules : List Rule) (r : Run) (T : Table) (l : Label) (d : Config) (t : IsTableOf rules r T) (a : Applies rules r.program t.config l d) (x : Around) (k : IsAround T l x)
+module _ (rules : List Rule) (r : Run) (T : Table) (l : Label) (d : Config) (t : IsTableOf rules r T) (a : Applies rules r.program t.config l d)
     (copy : Name) (copies : List BoxCopy) (makes : Makes r.program l (slice_index t.config.next l.worker) a.site (splits copy copies)) where
   abbrev n : Name
   n = makes.1.0
@@ -59,7 +59,7 @@ module _ (rules : List Rule) (r : Run) (T : Table) (l : Label) (d : Config) (t :
   abbrev al : Name
   al = makes.1.1
 
-  is_split : SplitsBox r.program.templates.nodes l.worker (slice_index t.config.next l.worker) a.site makes.1.1 copy copies
+  pub is_split : SplitsBox r.program.templates.nodes l.worker (slice_index t.config.next l.worker) a.site makes.1.1 copy copies
   is_split = makes.1.4
 
   abbrev g : Name
@@ -71,7 +71,7 @@ module _ (rules : List Rule) (r : Run) (T : Table) (l : Label) (d : Config) (t :
   abbrev bs : Boxes
   bs = is_split.choice.alternatives
 
-  abbrev second : Boxes
+  abbrev pub second : Boxes
   second = second_of l.worker (slice_index t.config.next l.worker) makes.1.1 a.site is_split.choice
 
   s : Stand t.config
@@ -106,7 +106,7 @@ module _ (rules : List Rule) (r : Run) (T : Table) (l : Label) (d : Config) (t :
   abbrev b : Becomes l.worker (slice_index t.config.next l.worker) a.site a.change
   b = cutting.cuts_to rules r.program r.query r.journal t.config l d t.replays a g al o Op.Commit bs second is_goal held boxes_are
 
-  home_was : home_of g t.config.roots ≡ Some a.site
+  pub home_was : home_of g t.config.roots ≡ Some a.site
   home_was = cutting.home_was rules r.program r.query r.journal t.config l d t.replays a g al o Op.Commit bs second is_goal held boxes_are
 
   there : (f : Found) × (home_of g d.roots ≡ Some f)
@@ -128,35 +128,13 @@ module _ (rules : List Rule) (r : Run) (T : Table) (l : Label) (d : Config) (t :
   its_row : (v : BoxRow) × (T.box_of al ≡ Some v) × IsBoxRow T t.config.roots alternative.found v
   its_row = row_of T t.config t.unfolds al alternative.found alternative.is_found
 
-  choice_is : x.choice ≡ Some g
-  choice_is = k.choice al makes.1.3 ∙ row_holder (T.box_of al) its_row.0 its_row.1 ∙ its_row.2.holder
+  held_by_choice : writes.holder_in_row (T.box_of al) ≡ Some g
+  held_by_choice = row_holder (T.box_of al) its_row.0 its_row.1 ∙ its_row.2.holder
       ∙ ap (λ (m : Name). holder_in m t.config.roots) (sym (box-itself al t.config.roots alternative.found alternative.is_found)) ∙ alternative.holder
-
-  -- what holds the box
-
-  differs : (h : Holder) → x.holder ≡ Some h → shape_at h.goal t.config.roots ≡ shape_at h.goal d.roots → ⊥
-  differs h e q = after_differs a.site.content.name copy (box_names by.alternatives) by.among
-      (names ∙ beside.names_now rules r.program r.query r.journal t.config l d t.replays a copy two h.goal by)
-    where
-      by : IsHeldBy a.site.content.name h.goal a.site t.config.roots
-      by = rows.held_by rules r T l d t a x k h e
-
-      is : shape_at h.goal d.roots ≡ Some (of_choice by.op (box_names (edited a.site.content.name a.change.boxes by.alternatives)))
-      is = shape_held h.goal d.roots (beside.home_now rules r.program r.query r.journal t.config l d t.replays a copy two h.goal by) (a_choice by.op (edited a.site.content.name a.change.boxes by.alternatives))
-          (beside.is_home_now rules r.program r.query r.journal t.config l d t.replays a copy two h.goal by) (beside.held_now rules r.program r.query r.journal t.config l d t.replays a copy two h.goal by)
-
-      was : shape_at h.goal t.config.roots ≡ Some (of_choice by.op (box_names by.alternatives))
-      was = shape_held h.goal t.config.roots by.home (a_choice by.op by.alternatives) by.is_home by.held
-
-      names : box_names by.alternatives ≡ box_names (edited a.site.content.name a.change.boxes by.alternatives)
-      names = let z : Some (of_choice by.op (box_names by.alternatives)) ≡ Some (of_choice by.op (box_names (edited a.site.content.name a.change.boxes by.alternatives))) = sym was ∙ q ∙ is in cc
-
-  holders : AreHolders t a (holder_places x.holder)
-  holders = held_by.holders rules r T l d t a x k differs
 
   -- what comes
 
-  second_once : (m : Name) → times m second ≤ 1
+  pub second_once : (m : Name) → times m second ≤ 1
   second_once = cutting.copy_once rules r.program r.query r.journal t.config l d t.replays a g al o Op.Commit bs second is_goal held boxes_are
 
   nowhere : (m : Name) → 1 ≤ times m second → times m t.config.roots ≡ 0
@@ -165,7 +143,7 @@ module _ (rules : List Rule) (r : Run) (T : Table) (l : Label) (d : Config) (t :
   abbrev under : Found → Found
   under f = record f { around = a.site.around ++ f.around }
 
-  copy_there : (f : Found) → Stands f second → Stands (under f) d.roots
+  pub copy_there : (f : Found) → Stands f second → Stands (under f) d.roots
   copy_there f = cutting.copy_stands rules r.program r.query r.journal t.config l d t.replays a g al o Op.Commit bs second is_goal held boxes_are f.around f.content f.goals
 
   abbrev Copied : Name → ℕ → Type 0
@@ -219,7 +197,33 @@ module _ (rules : List Rule) (r : Run) (T : Table) (l : Label) (d : Config) (t :
               let z : 1 ≤ times i second = home_counted i q.held q.home.around q.home.content q.home.goals second stands q.is_held in
               (home_of-none i t.config.roots (nowhere i z), (under q.home, in_home i q.held d.roots (under q.home) later.once (copy_there q.home stands) q.is_held))
 
-  pub was_split : AreExactly t.config d (listed l.place x (splits copy copies))
-  was_split = subst (λ (c : Option Name). AreExactly t.config d (choice_place c ++ (Place.Box x.home ∷ (holder_places x.holder ++ copy_places copies)))) (sym choice_is)
-      (subst (λ (ps : List Place). AreExactly t.config d (Place.Goal g ∷ Place.Box x.home ∷ (holder_places x.holder ++ ps))) (sym (copy_parts_places copies))
-      (turns.exactly rules r T l d t a x k g is_goal at there same (holder_places x.holder) holders (copy_parts copies) comes))
+  module _ (x : Around) (k : IsAround T l x) where
+    pub choice_is : x.choice ≡ Some g
+    choice_is = k.choice al makes.1.3 ∙ held_by_choice
+
+    -- what holds the box
+
+    differs : (h : Holder) → x.holder ≡ Some h → shape_at h.goal t.config.roots ≡ shape_at h.goal d.roots → ⊥
+    differs h e q = after_differs a.site.content.name copy (box_names by.alternatives) by.among
+        (names ∙ beside.names_now rules r.program r.query r.journal t.config l d t.replays a copy two h.goal by)
+      where
+        by : IsHeldBy a.site.content.name h.goal a.site t.config.roots
+        by = rows.held_by rules r T l d t a x k h e
+
+        is : shape_at h.goal d.roots ≡ Some (of_choice by.op (box_names (edited a.site.content.name a.change.boxes by.alternatives)))
+        is = shape_held h.goal d.roots (beside.home_now rules r.program r.query r.journal t.config l d t.replays a copy two h.goal by) (a_choice by.op (edited a.site.content.name a.change.boxes by.alternatives))
+            (beside.is_home_now rules r.program r.query r.journal t.config l d t.replays a copy two h.goal by) (beside.held_now rules r.program r.query r.journal t.config l d t.replays a copy two h.goal by)
+
+        was : shape_at h.goal t.config.roots ≡ Some (of_choice by.op (box_names by.alternatives))
+        was = shape_held h.goal t.config.roots by.home (a_choice by.op by.alternatives) by.is_home by.held
+
+        names : box_names by.alternatives ≡ box_names (edited a.site.content.name a.change.boxes by.alternatives)
+        names = let z : Some (of_choice by.op (box_names by.alternatives)) ≡ Some (of_choice by.op (box_names (edited a.site.content.name a.change.boxes by.alternatives))) = sym was ∙ q ∙ is in cc
+
+    holders : AreHolders t a (holder_places x.holder)
+    holders = held_by.holders rules r T l d t a x k differs
+
+    pub was_split : AreExactly t.config d (listed l.place x (splits copy copies))
+    was_split = subst (λ (c : Option Name). AreExactly t.config d (choice_place c ++ (Place.Box x.home ∷ (holder_places x.holder ++ copy_places copies)))) (sym choice_is)
+        (subst (λ (ps : List Place). AreExactly t.config d (Place.Goal g ∷ Place.Box x.home ∷ (holder_places x.holder ++ ps))) (sym (copy_parts_places copies))
+        (turns.exactly rules r T l d t a x k g is_goal at there same (holder_places x.holder) holders (copy_parts copies) comes))

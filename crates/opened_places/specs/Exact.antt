@@ -1,5 +1,6 @@
 -- What is listed is what changes.
 use Rattle.std.specs.Prelude.{◌≡◌, List, Option, Some, option_map, slice_index}
+use Rattle.std.specs.List.{AllByRecursion}
 use Rattle.akl_terms.specs.declared.name.Name.{Name}
 use Rattle.akl_terms.specs.declared.name.Place.{Place}
 use Rattle.akl_model.specs.declared.label.Label.{Label}
@@ -16,6 +17,7 @@ use Rattle.box_tree.specs.Views.{run_of}
 use Rattle.opened_places.specs.declared.around.Holder.{Holder}
 use Rattle.opened_places.specs.declared.around.Around.{Around}
 use Rattle.opened_places.specs.Changed.{IsChanged}
+use Rattle.opened_places.specs.Placed.{PlacedValue, places_of, StandsSo}
 
 -- the box of a place, by a table's rows
 abbrev pub site_in : Table → Place → Option Name
@@ -34,11 +36,12 @@ pub record AreExactly (c d : Config) (places : List Place) : Type 0 where
   pub listed : (place : Place) → IsChanged c d place → IsOneOf place places
   pub changed : (place : Place) → IsOneOf place places → IsChanged c d place
 
--- so they are wherever the label applies to the configuration of the table, and makes the step there
-abbrev pub AreChanged : TableValue → Label → Step → List Place → Type 0
-AreChanged v l step places = (journal : List Label) (t : IsTableOf all_rules (run_of v journal) (table_of v)) (d : Config) (a : Applies all_rules v.program t.config l d)
-    → Makes v.program l (slice_index t.config.next l.worker) a.site (step_of v.program.templates.nodes step) → AreExactly t.config d places
+-- and each has the boxes around it that it has afterwards
+pub record AreChangedTo (c d : Config) (places : List PlacedValue) : Type 0 where
+  pub exactly : AreExactly c d (places_of places)
+  pub around : AllByRecursion (StandsSo d.roots) places
 
--- of each table in which this stands about the label's place
-abbrev pub AreChangedWhere : Label → Step → Around → List Place → Type 0
-AreChangedWhere l step x places = (v : TableValue) → IsAround (table_of v) l x → AreChanged v l step places
+-- so they are wherever the label applies to the configuration of the table, and makes the step there
+abbrev pub AreChanged : TableValue → Label → Step → List PlacedValue → Type 0
+AreChanged v l step places = (journal : List Label) (t : IsTableOf all_rules (run_of v journal) (table_of v)) (d : Config) (a : Applies all_rules v.program t.config l d)
+    → Makes v.program l (slice_index t.config.next l.worker) a.site (step_of v.program.templates.nodes step) → AreChangedTo t.config d places

@@ -1,3 +1,8 @@
+pub mod Placed
 pub mod Changed
-pub mod Listed
 pub mod Exact
+pub mod Copies
+pub mod Listed
+pub mod Gone
+pub mod Inner
+pub mod Nearest

@@ -1,5 +1,5 @@
--- The places that a step changes, by the rule, in the order in which they are listed.
-use Rattle.std.specs.Prelude.{List, [], ◌∷◌, ◌++◌, map, Option, Some, None}
+-- The places that a step changes, with the boxes around them, where these boxes lead down to the box of the label's place.
+use Rattle.std.specs.Prelude.{◌≡◌, List, [], ◌∷◌, ◌++◌, map, Option, Some, None}
 use Rattle.akl_terms.specs.declared.name.Name.{Name}
 use Rattle.akl_terms.specs.declared.name.Place.{Place}
 use Rattle.akl_model.specs.Config.{Atom}
@@ -7,41 +7,50 @@ use Rattle.akl_model.specs.Changes.{Shape}
 use Rattle.table_laws.specs.Steps as laws
 use Rattle.opened_places.specs.declared.around.Holder.{Holder}
 use Rattle.opened_places.specs.declared.around.Around.{Around}
-
--- goals, by their names
-abbrev pub goals_named : List Name → List Place
-goals_named names = map (λ (g : Name). Place.Goal g) names
+use Rattle.opened_places.specs.Placed.{PlacedValue, placed, all_but_last, goals_placed}
+use Rattle.opened_places.specs.Copies.{CopyPart, AddsCopies}
 
 -- a choice, where there is one
-abbrev pub choice_place : Option Name → List Place
-choice_place None = []
-choice_place (Some g) = Place.Goal g ∷ []
+abbrev pub choice_placed : List Name → Option Name → List PlacedValue
+choice_placed around None = []
+choice_placed around (Some g) = placed (Place.Goal g) around ∷ []
 
--- the choice that holds a box, and with the box in which it stands
-abbrev pub holder_place : Option Holder → List Place
-holder_place None = []
-holder_place (Some h) = Place.Goal h.goal ∷ []
+-- the choice that holds a box, around which these boxes stand, and with the box in which it stands
+abbrev pub holder_placed : List Name → Option Holder → List PlacedValue
+holder_placed around None = []
+holder_placed around (Some h) = placed (Place.Goal h.goal) around ∷ []
 
-abbrev pub holder_places : Option Holder → List Place
-holder_places None = []
-holder_places (Some h) = Place.Goal h.goal ∷ Place.Box h.home ∷ []
+abbrev pub holder_both : List Name → Option Holder → List PlacedValue
+holder_both around None = []
+holder_both around (Some h) = placed (Place.Goal h.goal) around ∷ placed (Place.Box h.home) (all_but_last around) ∷ []
 
--- new boxes with their goals, and copies of boxes with theirs
-abbrev pub new_places : List laws.NewBox → List Place
-new_places [] = []
-new_places (n ∷ ns) = Place.Box n.name ∷ (goals_named (map (λ (x : Name × Atom). x.0) n.goals) ++ new_places ns)
+-- new boxes with their goals
+abbrev pub new_placed : List Name → List laws.NewBox → List PlacedValue
+new_placed around [] = []
+new_placed around (n ∷ ns) = placed (Place.Box n.name) around ∷ (goals_placed (around ++ n.name ∷ []) (map (λ (x : Name × Atom). x.0) n.goals) ++ new_placed around ns)
 
-abbrev pub copy_places : List laws.BoxCopy → List Place
-copy_places [] = []
-copy_places (k ∷ ks) = Place.Box k.name ∷ (goals_named (map (λ (x : Name × Shape). x.0) k.goals) ++ copy_places ks)
+-- copies, by the choices that hold them and their goals
+abbrev pub law_part : laws.BoxCopy → CopyPart
+law_part k = record { name = k.name; holder = k.holder; goals = map (λ (x : Name × Shape). x.0) k.goals }
 
--- by the step: the box of the place and what holds it where a goal goes, the goal and its box where it becomes another one, and what is new
-abbrev pub listed : Place → Around → laws.Step → List Place
-listed place x (laws.tells new solved) = Place.Box x.home ∷ holder_place x.holder
-listed place x (laws.forks op news) = place ∷ Place.Box x.home ∷ new_places news
-listed place x laws.fails = holder_places x.holder
-listed place x laws.cuts = place ∷ Place.Box x.home ∷ []
-listed place x (laws.promotes new solved goals) = Place.Box x.home ∷ (holder_place x.holder ++ goals_named (map (λ (y : Name × Atom). y.0) goals))
-listed place x laws.refutes = place ∷ Place.Box x.home ∷ []
-listed place x laws.confirms = Place.Box x.home ∷ holder_place x.holder
-listed place x (laws.splits copy copies) = choice_place x.choice ++ (Place.Box x.home ∷ (holder_places x.holder ++ copy_places copies))
+-- the goal of the place and its box where the goal becomes another one; the box, and the choice that holds it, where the goal goes
+abbrev pub goal_turns : Place → Around → List Name → List PlacedValue
+goal_turns place x path = placed place path ∷ placed (Place.Box x.home) (all_but_last path) ∷ []
+
+abbrev pub goal_goes : Around → List Name → List PlacedValue
+goal_goes x path = placed (Place.Box x.home) (all_but_last path) ∷ holder_placed (all_but_last path) x.holder
+
+-- the choice of a split with its box, and what holds this, where the box becomes two
+abbrev pub box_parts : Around → List Name → List PlacedValue
+box_parts x path = choice_placed path x.choice ++ (placed (Place.Box x.home) (all_but_last path) ∷ holder_both (all_but_last path) x.holder)
+
+-- by the step, with what is new
+abbrev pub AreListed : Place → Around → List Name → laws.Step → List PlacedValue → Type 0
+AreListed place x path (laws.tells new solved) ps = ps ≡ goal_goes x path
+AreListed place x path (laws.forks op news) ps = ps ≡ goal_turns place x path ++ new_placed path news
+AreListed place x path laws.fails ps = ps ≡ holder_both (all_but_last path) x.holder
+AreListed place x path laws.cuts ps = ps ≡ goal_turns place x path
+AreListed place x path (laws.promotes new solved goals) ps = ps ≡ goal_goes x path ++ goals_placed path (map (λ (y : Name × Atom). y.0) goals)
+AreListed place x path laws.refutes ps = ps ≡ goal_turns place x path
+AreListed place x path laws.confirms ps = ps ≡ goal_goes x path
+AreListed place x path (laws.splits copy copies) ps = AddsCopies (all_but_last path) (map law_part copies) (map law_part copies) (box_parts x path) ps

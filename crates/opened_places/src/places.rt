@@ -1,80 +1,114 @@
 //! The places that a step changes.
 
-ghost use Rattle.std.specs.Prelude.{◌≡◌, ◌++◌, List, [], ◌∷◌, map, IfOk, OnOk};
+ghost use Rattle.std.specs.Prelude.{◌≡◌, ◌++◌, List, [], ◌∷◌, map, true, IfOk, OnOk};
 ghost use Rattle.akl_terms.specs.declared.name.Place.{Place};
 ghost use Rattle.akl_terms.specs.declared.term.Node.{Node};
-ghost use Rattle.box_tree.specs.Tables.{new_box, box_copy};
-ghost use Rattle.opened_places.specs.Exact.{AreChangedWhere};
-ghost use Rattle.opened_places.specs.Listed.{goals_named, choice_place, holder_place, holder_places, new_places, copy_places};
+ghost use Rattle.box_tree.specs.Tables.{table_of, new_box, step_of};
+ghost use Rattle.box_tree.specs.Drops.{IsOfRun};
+ghost use Rattle.box_tree.specs.Views.{is_there};
+ghost use Rattle.opened_places.specs.Placed.{placed, all_but_last, goals_placed};
+ghost use Rattle.opened_places.specs.Exact.{IsAround, AreChanged};
+ghost use Rattle.opened_places.specs.Listed.{holder_placed, holder_both, choice_placed, new_placed, goal_turns, goal_goes, box_parts, AreListed};
 
 use crate::around::{Around, Holder};
+use crate::copies::push_copies;
+use crate::placed::{Placed, all_but_last, push_placed};
 use akl_model::Label;
 use akl_terms::{Name, Place};
-use box_tree::{BoxCopy, NewBox, Step};
+use box_tree::{NewBox, Step, Table};
 use std::alloc::{AllocError, Global};
 
-// Goals come to the end of the places.
-fn push_goals<T>(goals: &[(Name, T)], places: &mut Vec<Place>) -> Result<(), AllocError>
-    ensures { OnOk result (places.new.items ≡ places.old.items ++ goals_named (map (λ x. x.0) goals.now)) }
+/// Goals with these boxes around them come to the end of the places.
+pub(crate) fn push_goals<T>(
+    alloc: Global,
+    goals: &[(Name, T)],
+    around: &[Name],
+    places: &mut Vec<Placed>,
+) -> Result<(), AllocError>
+    ensures { OnOk result (places.new.items ≡ places.old.items ++ goals_placed around.now (map (λ x. x.0) goals.now)) }
 {
     for (name, _) in goals {
-        places.push(Place::Goal(*name))?;
+        push_placed(alloc, Place::Goal(*name), around, places)?;
     }
     Ok(())
 }
 
-// New boxes come, each with its goals.
-fn push_new(boxes: &[NewBox], places: &mut Vec<Place>) -> Result<(), AllocError>
-    ensures { OnOk result ((nodes : List Node) → places.new.items ≡ places.old.items ++ new_places (map (new_box nodes) boxes.now)) }
+// A new box comes with its goals, where these boxes are around it.
+fn push_new_box(
+    alloc: Global,
+    made: &NewBox,
+    around: &[Name],
+    places: &mut Vec<Placed>,
+) -> Result<(), AllocError>
+    ensures { OnOk result (places.new.items ≡ places.old.items ++ (placed (Place.Box made.now.name) around.now ∷ goals_placed (around.now ++ made.now.name ∷ []) (map (λ x. x.0) made.now.goals.items))) }
+{
+    let mut path = Vec::from_slice(alloc, around)?;
+    push_placed(alloc, Place::Box(made.name), path.as_slice(), places)?;
+    path.push(made.name)?;
+    push_goals(alloc, made.goals.as_slice(), path.as_slice(), places)?;
+    Ok(())
+}
+
+// New boxes come, each with its goals, where these boxes are around them.
+fn push_new(
+    alloc: Global,
+    boxes: &[NewBox],
+    around: &[Name],
+    places: &mut Vec<Placed>,
+) -> Result<(), AllocError>
+    ensures { OnOk result ((nodes : List Node) → places.new.items ≡ places.old.items ++ new_placed around.now (map (new_box nodes) boxes.now)) }
 {
     for made in boxes {
-        places.push(Place::Box(made.name))?;
-        push_goals(made.goals.as_slice(), places)?;
-    }
-    Ok(())
-}
-
-// Copies of boxes come, each with its goals.
-fn push_copies(copies: &[BoxCopy], places: &mut Vec<Place>) -> Result<(), AllocError>
-    ensures { OnOk result ((nodes : List Node) → places.new.items ≡ places.old.items ++ copy_places (map (box_copy nodes) copies.now)) }
-{
-    for copied in copies {
-        places.push(Place::Box(copied.name))?;
-        push_goals(copied.goals.as_slice(), places)?;
+        push_new_box(alloc, made, around, places)?;
     }
     Ok(())
 }
 
 // A choice comes, where there is one.
-fn push_choice(choice: Option<Name>, places: &mut Vec<Place>) -> Result<(), AllocError>
-    ensures { OnOk result (places.new.items ≡ places.old.items ++ choice_place choice) }
+fn push_choice(
+    alloc: Global,
+    choice: Option<Name>,
+    around: &[Name],
+    places: &mut Vec<Placed>,
+) -> Result<(), AllocError>
+    ensures { OnOk result (places.new.items ≡ places.old.items ++ choice_placed around.now choice) }
 {
     match choice {
-        Some(goal) => places.push(Place::Goal(goal))?,
+        Some(goal) => push_placed(alloc, Place::Goal(goal), around, places)?,
         None => {}
     }
     Ok(())
 }
 
 // The choice that holds a box comes.
-fn push_holder(holder: Option<Holder>, places: &mut Vec<Place>) -> Result<(), AllocError>
-    ensures { OnOk result (places.new.items ≡ places.old.items ++ holder_place holder) }
+fn push_holder(
+    alloc: Global,
+    holder: Option<Holder>,
+    around: &[Name],
+    places: &mut Vec<Placed>,
+) -> Result<(), AllocError>
+    ensures { OnOk result (places.new.items ≡ places.old.items ++ holder_placed around.now holder) }
 {
     match holder {
-        Some(found) => places.push(Place::Goal(found.goal))?,
+        Some(found) => push_placed(alloc, Place::Goal(found.goal), around, places)?,
         None => {}
     }
     Ok(())
 }
 
 // The choice that holds a box comes, and the box in which it stands.
-fn push_holder_home(holder: Option<Holder>, places: &mut Vec<Place>) -> Result<(), AllocError>
-    ensures { OnOk result (places.new.items ≡ places.old.items ++ holder_places holder) }
+fn push_holder_home(
+    alloc: Global,
+    holder: Option<Holder>,
+    around: &[Name],
+    places: &mut Vec<Placed>,
+) -> Result<(), AllocError>
+    ensures { OnOk result (places.new.items ≡ places.old.items ++ holder_both around.now holder) }
 {
     match holder {
         Some(found) => {
-            places.push(Place::Goal(found.goal))?;
-            places.push(Place::Box(found.home))?;
+            push_placed(alloc, Place::Goal(found.goal), around, places)?;
+            push_placed(alloc, Place::Box(found.home), all_but_last(around), places)?;
         }
         None => {}
     }
@@ -82,85 +116,109 @@ fn push_holder_home(holder: Option<Holder>, places: &mut Vec<Place>) -> Result<(
 }
 
 // The places where the goal of a label goes: its box, and the choice that holds this.
-fn goal_goes(alloc: Global, around: Around) -> Result<Vec<Place>, AllocError>
-    ensures { IfOk result (λ places. places.items ≡ Place.Box around.home ∷ holder_place around.holder) }
+fn goal_goes(alloc: Global, around: Around, path: &[Name]) -> Result<Vec<Placed>, AllocError>
+    ensures { IfOk result (λ places. places.items ≡ goal_goes around path.now) }
 {
     let mut places = Vec::new(alloc);
-    places.push(Place::Box(around.home))?;
-    push_holder(around.holder, &mut places)?;
+    let outer = all_but_last(path);
+    push_placed(alloc, Place::Box(around.home), outer, &mut places)?;
+    push_holder(alloc, around.holder, outer, &mut places)?;
     Ok(places)
 }
 
 // The places where the goal of a label becomes another one: the goal and its box.
-fn goal_turns(alloc: Global, place: Place, around: Around) -> Result<Vec<Place>, AllocError>
-    ensures { IfOk result (λ places. places.items ≡ place ∷ Place.Box around.home ∷ []) }
+fn goal_turns(
+    alloc: Global,
+    place: Place,
+    around: Around,
+    path: &[Name],
+) -> Result<Vec<Placed>, AllocError>
+    ensures { IfOk result (λ places. places.items ≡ goal_turns place around path.now) }
 {
     let mut places = Vec::new(alloc);
-    places.push(place)?;
-    places.push(Place::Box(around.home))?;
+    push_placed(alloc, place, path, &mut places)?;
+    push_placed(
+        alloc,
+        Place::Box(around.home),
+        all_but_last(path),
+        &mut places,
+    )?;
     Ok(places)
 }
 
 // The places where a box becomes two, but the copies: the choice of the split with its box, and the choice that holds
 // the box, with the box in which this stands.
-fn box_parts(alloc: Global, around: Around) -> Result<Vec<Place>, AllocError>
-    ensures { IfOk result (λ places. places.items ≡ choice_place around.choice ++ (Place.Box around.home ∷ holder_places around.holder)) }
+fn box_parts(alloc: Global, around: Around, path: &[Name]) -> Result<Vec<Placed>, AllocError>
+    ensures { IfOk result (λ places. places.items ≡ box_parts around path.now) }
 {
     let mut places = Vec::new(alloc);
-    push_choice(around.choice, &mut places)?;
-    places.push(Place::Box(around.home))?;
-    push_holder_home(around.holder, &mut places)?;
+    let outer = all_but_last(path);
+    push_choice(alloc, around.choice, path, &mut places)?;
+    push_placed(alloc, Place::Box(around.home), outer, &mut places)?;
+    push_holder_home(alloc, around.holder, outer, &mut places)?;
     Ok(places)
 }
 
-/// The places that a label changes by its step, so that it opens them: what is new, a goal that changes with its box, a
-/// box whose constraint or set of goals changes, and the choice that holds a box whose set of goals changes. They are
-/// exactly these in each table in which `around` stands about the label's place, the label applies, and the step is what
-/// it makes there. An `Err` comes for want of memory.
-pub fn changed_places(
+// The places that a step changes, where these boxes lead down to the box of its label's place.
+fn listed(
     alloc: Global,
-    label: Label,
+    place: Place,
     step: &Step,
     around: Around,
-) -> Result<Vec<Place>, AllocError>
-    ensures { IfOk result (λ places. AreChangedWhere label step.now around places.items) }
+    path: &[Name],
+) -> Result<Vec<Placed>, AllocError>
+    ensures { IfOk result (λ places. (nodes : List Node) → AreListed place around path.now (step_of nodes step.now) places.items) }
 {
     match step {
-        Step::Tell { .. } => {
-            let places = goal_goes(alloc, around)?;
+        Step::Tell { .. } | Step::Confirm => {
+            let places = goal_goes(alloc, around, path)?;
             Ok(places)
         }
         Step::Fork { alternatives, .. } => {
-            let mut places = goal_turns(alloc, label.place, around)?;
-            push_new(alternatives.as_slice(), &mut places)?;
+            let mut places = goal_turns(alloc, place, around, path)?;
+            push_new(alloc, alternatives.as_slice(), path, &mut places)?;
             Ok(places)
         }
         Step::Fail => {
             let mut places = Vec::new(alloc);
-            push_holder_home(around.holder, &mut places)?;
+            push_holder_home(alloc, around.holder, all_but_last(path), &mut places)?;
             Ok(places)
         }
-        Step::Cut => {
-            let places = goal_turns(alloc, label.place, around)?;
+        Step::Cut | Step::Refute => {
+            let places = goal_turns(alloc, place, around, path)?;
             Ok(places)
         }
         Step::Promote { goals, .. } => {
-            let mut places = goal_goes(alloc, around)?;
-            push_goals(goals.as_slice(), &mut places)?;
-            Ok(places)
-        }
-        Step::Refute => {
-            let places = goal_turns(alloc, label.place, around)?;
-            Ok(places)
-        }
-        Step::Confirm => {
-            let places = goal_goes(alloc, around)?;
+            let mut places = goal_goes(alloc, around, path)?;
+            push_goals(alloc, goals.as_slice(), path, &mut places)?;
             Ok(places)
         }
         Step::Split { copies, .. } => {
-            let mut places = box_parts(alloc, around)?;
-            push_copies(copies.as_slice(), &mut places)?;
+            let mut places = box_parts(alloc, around, path)?;
+            push_copies(alloc, copies.as_slice(), all_but_last(path), &mut places)?;
             Ok(places)
         }
     }
+}
+
+/// The places that a label changes by its step, so that it opens them, each with the boxes around it once the step is
+/// made: what is new, a goal that changes with its box, a box whose constraint or set of goals changes, and the choice
+/// that holds a box whose set of goals changes. They are exactly these wherever the label applies in the configuration of
+/// the table and the step is what it makes there. It takes as long as they are many, times their depth. An `Err` comes
+/// for want of memory, and of a split whose copies hold one another in a ring, which no label makes.
+pub fn changed_places(
+    alloc: Global,
+    table: &Table,
+    label: Label,
+    step: &Step,
+    around: Around,
+) -> Result<Vec<Placed>, AllocError>
+    requires run { IsOfRun table.now }
+    requires there { is_there (table_of table.now) label.place ≡ true }
+    requires around { IsAround (table_of table.now) label around }
+    ensures { IfOk result (λ places. AreChanged table.now label step.now places.items) }
+{
+    let path = table.path_to(alloc, around.home)?;
+    let places = listed(alloc, label.place, step, around, path.as_slice())?;
+    Ok(places)
 }

@@ -1,0 +1,165 @@
+//! The places that go with a step.
+
+ghost use Rattle.std.specs.Prelude.{◌≡◌, ◌++◌, List, [], ◌∷◌, IfOk, OnOk};
+ghost use Rattle.akl_terms.specs.declared.term.Node.{Node};
+ghost use Rattle.akl_terms.specs.declared.name.Place.{Place};
+ghost use Rattle.table_laws.specs.Writes.{cut_from, others_beside};
+ghost use Rattle.table_laws.specs.Going.{boxes_going};
+ghost use Rattle.box_tree.specs.Tables.{table_of, step_of};
+ghost use Rattle.box_tree.specs.Drops.{IsOfRun};
+ghost use Rattle.opened_places.specs.Gone.{goals_named, own_places, places_at, AreGone};
+
+use akl_model::Label;
+use akl_terms::{Name, Op, Place};
+use box_tree::{Sight, Step, Table, parted};
+use std::alloc::{AllocError, Global};
+
+// The goal of the label's place, where it goes by itself.
+fn own_places(alloc: Global, place: Place, step: &Step) -> Result<Vec<Place>, AllocError>
+    ensures { IfOk result (λ places. (nodes : List Node) → places.items ≡ own_places place (step_of nodes step.now)) }
+{
+    let mut places = Vec::new(alloc);
+    match step {
+        Step::Tell { .. } | Step::Promote { .. } | Step::Confirm => places.push(place)?,
+        Step::Fork { .. } | Step::Fail | Step::Cut | Step::Refute | Step::Split { .. } => {}
+    }
+    Ok(places)
+}
+
+// The alternatives that go where a choice is cut at one of them.
+fn cut_from(alloc: Global, table: &Table, goal: Name, name: Name) -> Result<Vec<Name>, AllocError>
+    ensures { IfOk result (λ gone. gone.items ≡ cut_from name ((table_of table.now).goal_of goal)) }
+{
+    let Some((_, sight)) = table.sight_of(Place::Goal(goal)) else {
+        return Ok(Vec::new(alloc));
+    };
+    match sight {
+        Sight::Choice { op } => {
+            let (_, gone) = parted(alloc, op, name, table.alternatives_of(goal))?;
+            Ok(gone)
+        }
+        Sight::Atom(_) | Sight::Box { .. } => Ok(Vec::new(alloc)),
+    }
+}
+
+// The other alternatives of the choice that holds one.
+fn others_beside(alloc: Global, table: &Table, name: Name) -> Result<Vec<Name>, AllocError>
+    ensures { IfOk result (λ others. others.items ≡ others_beside (table_of table.now) name) }
+{
+    match table.holder_of(name) {
+        Some(choice) => {
+            let alternatives = table.alternatives_of(choice);
+            let (_, others) = parted(alloc, Op::Commit, name, alternatives)?;
+            Ok(others)
+        }
+        None => Ok(Vec::new(alloc)),
+    }
+}
+
+// One name.
+fn one(alloc: Global, name: Name) -> Result<Vec<Name>, AllocError>
+    ensures { IfOk result (λ names. names.items ≡ name ∷ []) }
+{
+    let mut names = Vec::new(alloc);
+    names.push(name)?;
+    Ok(names)
+}
+
+// The boxes that go with all that stands in them, by a label of this goal.
+fn going_at_goal(
+    alloc: Global,
+    table: &Table,
+    goal: Name,
+    alternative: Option<Name>,
+    step: &Step,
+) -> Result<Vec<Name>, AllocError>
+    ensures { IfOk result (λ boxes. (nodes : List Node) → boxes.items ≡ boxes_going (table_of table.now) (step_of nodes step.now) (Place.Goal goal) alternative) }
+{
+    let Some(name) = alternative else {
+        return Ok(Vec::new(alloc));
+    };
+    match step {
+        Step::Cut => cut_from(alloc, table, goal, name),
+        Step::Promote { .. } => one(alloc, name),
+        Step::Tell { .. } | Step::Fork { .. } | Step::Fail => Ok(Vec::new(alloc)),
+        Step::Refute | Step::Confirm | Step::Split { .. } => Ok(Vec::new(alloc)),
+    }
+}
+
+// The boxes that go with all that stands in them, by a label of this box.
+fn going_at_box(
+    alloc: Global,
+    table: &Table,
+    name: Name,
+    alternative: Option<Name>,
+    step: &Step,
+) -> Result<Vec<Name>, AllocError>
+    ensures { IfOk result (λ boxes. (nodes : List Node) → boxes.items ≡ boxes_going (table_of table.now) (step_of nodes step.now) (Place.Box name) alternative) }
+{
+    match step {
+        Step::Fail => one(alloc, name),
+        Step::Split { .. } => match alternative {
+            Some(other) => others_beside(alloc, table, other),
+            None => Ok(Vec::new(alloc)),
+        },
+        Step::Tell { .. } | Step::Fork { .. } | Step::Cut => Ok(Vec::new(alloc)),
+        Step::Promote { .. } | Step::Refute | Step::Confirm => Ok(Vec::new(alloc)),
+    }
+}
+
+// The boxes that go with all that stands in them.
+fn going(alloc: Global, table: &Table, label: Label, step: &Step) -> Result<Vec<Name>, AllocError>
+    ensures { IfOk result (λ boxes. (nodes : List Node) → boxes.items ≡ boxes_going (table_of table.now) (step_of nodes step.now) label.place label.alternative) }
+{
+    match label.place {
+        Place::Goal(goal) => going_at_goal(alloc, table, goal, label.alternative, step),
+        Place::Box(name) => going_at_box(alloc, table, name, label.alternative, step),
+    }
+}
+
+// Goals come to the end of the places.
+fn push_goals(goals: &[Name], places: &mut Vec<Place>) -> Result<(), AllocError>
+    ensures { OnOk result (places.new.items ≡ places.old.items ++ goals_named goals.now) }
+{
+    for goal in goals {
+        places.push(Place::Goal(*goal))?;
+    }
+    Ok(())
+}
+
+// Boxes come to the end of the places, each with the goals directly in it.
+fn push_boxes(
+    alloc: Global,
+    table: &Table,
+    boxes: &[Name],
+    places: &mut Vec<Place>,
+) -> Result<(), AllocError>
+    ensures { OnOk result (places.new.items ≡ places.old.items ++ places_at (table_of table.now) boxes.now) }
+{
+    for name in boxes {
+        places.push(Place::Box(*name))?;
+        let goals = table.goals_of(alloc, *name)?;
+        push_goals(goals.as_slice(), places)?;
+    }
+    Ok(())
+}
+
+/// The places that are there before a label's step is made and aren't afterwards, wherever the label applies in the
+/// configuration of the table and the step is what it makes there: the goal that it takes away, the alternative that is
+/// promoted, and each box that fails or is cut off with all that stands in it. It takes as long as they are many, and the
+/// alternatives of the choice that is cut or split. An `Err` comes for want of memory.
+pub fn gone_places(
+    alloc: Global,
+    table: &Table,
+    label: Label,
+    step: &Step,
+) -> Result<Vec<Place>, AllocError>
+    requires { IsOfRun table.now }
+    ensures { IfOk result (λ places. AreGone table.now label step.now places.items) }
+{
+    let tops = going(alloc, table, label, step)?;
+    let boxes = table.inside_each(alloc, tops.as_slice())?;
+    let mut places = own_places(alloc, label.place, step)?;
+    push_boxes(alloc, table, boxes.as_slice(), &mut places)?;
+    Ok(places)
+}
