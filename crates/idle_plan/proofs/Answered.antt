@@ -9,7 +9,8 @@ use Rattle.local_store.specs.declared.asking.Consistency.{Consistency}
 use Rattle.local_store.specs.Asking.{Decides}
 use Rattle.local_store.specs.Stored.{Stored}
 use Rattle.entail_test.specs.Asked.{frames_from, environment_at, whole_at, IsQuietAt, IsClashAt, AreTouchedAt}
-use Rattle.class_members.specs.Members.{equations_of, AreMembers}
+use Rattle.local_store.specs.Chained.{equations_of}
+use Rattle.class_members.specs.Members.{AreMembers}
 use Rattle.idle_plan.specs.Told.{ListsTold}
 use Rattle.idle_plan.proofs.Wholes.{whole_stands}
 
@@ -25,7 +26,7 @@ module _ (nodes : List Node) (ss : List Stored) where
     on = [];
     consistent = (whole_stands nodes ss (length ss - 1)).to q.consistent;
     touched = record { each = λ x m. absurd m; every = λ x t. absurd (none x t); once = tt };
-    members = record { consistent = λ y m. absurd m; each = λ y m. absurd m; every = λ c z m. absurd m.among };
+    members = record { consistent = λ y m. absurd m; each = λ y m. absurd m; every = λ c z m. absurd m.among; oldest = λ x w m o. absurd m };
   }
     where
       none : (x : Var) → Touches (frames_from (drop (length ss - 1) ss)) (environment_at nodes ss (length ss - 1)) (whole_at nodes ss (length ss - 1)) x → ⊥

@@ -14,12 +14,14 @@ use Rattle.akl_model.specs.Stable.{AtomWaitsOn}
 use Rattle.akl_model.specs.Wakes.{Concerns, awaited}
 use Rattle.akl_model.proofs.Options.{some_value}
 use Rattle.constraint_laws.specs.Standing.{StandsForConsistent}
+use Rattle.constraint_laws.specs.Oldest.{IsOldest}
 use Rattle.constraint_laws.specs.Touched.{IsAmong}
 use Rattle.constraint_laws.proofs.Stands.{variable_stands}
-use Rattle.sleep_laws.specs.Sleeps.{IsAliasAt}
+use Rattle.sleep_laws.specs.Sleeps.{IsOutermostAt, IsAliasAt}
 use Rattle.sleep_laws.proofs.AwaitedAtoms.{awaited_one}
 use Rattle.local_store.specs.Stored.{Stored}
-use Rattle.class_members.specs.Members.{equations_of, outermost_of, IsMember, AreMembers}
+use Rattle.local_store.specs.Chained.{equations_of}
+use Rattle.class_members.specs.Members.{outermost_of, IsMember, AreMembers}
 use Rattle.box_tree.specs.declared.view.Sight.{Sight}
 use Rattle.box_tree.specs.Tables.{goal_atom}
 use Rattle.box_tree.specs.Views.{ViewValue, IsViewOf}
@@ -27,8 +29,9 @@ use Rattle.guard_plan.proofs.Chains.{told_stands}
 use Rattle.guard_plan.proofs.Sites.{shows_at, whole_stands}
 use Rattle.stable_test.proofs.Reaches.{waits_free, atom_waits_stand}
 use Rattle.idle_plan.specs.Waits.{AreAwaited}
+use Rattle.idle_plan.proofs.Listed.{unstructured_class}
 use Rattle.idle_plan.proofs.Needed.{NeedsOwn, Suffices}
-use Rattle.idle_plan.proofs.Outermost.{alias_by}
+use Rattle.idle_plan.proofs.Outermost.{alias_by, oldest_by}
 
 -- by what is found on a chain
 module _ (p : Program) (ss : List Stored) (atom : Goal) where
@@ -42,6 +45,7 @@ module _ (p : Program) (ss : List Stored) (atom : Goal) where
       unstructured = waits_free p (equations_of p.templates.nodes ss) (goal_atom p.templates.nodes atom) on w;
       equal = joined (awaited_one p (equations_of p.templates.nodes ss) (goal_atom p.templates.nodes atom) on x c w k) e;
     });
+    oldest = h.oldest;
   }
 
 module _ (v : ViewValue) (i : IsViewOf v) (g : Name) (a : Goal) (at : v.place ≡ Place.Goal g) (sees : v.sight ≡ Sight.Atom a) (list : List Var) (h : AreAwaited v.table.program v.stores a list) where
@@ -83,6 +87,11 @@ module _ (v : ViewValue) (i : IsViewOf v) (g : Name) (a : Goal) (at : v.place �
       let q : Equal E (variable y) (variable w.0) = subst (λ (z : Var). Equal E (variable y) (variable z)) (the_one w.2.variable_of w.0 w.2.among) (turned w.2.equal) in
       awaited home shown (atom_waits_stand p E W (forth c) (back c) atom w.0 w.1) (variable_stands E W (forth c) (variable y) w.0 (waits_free p E atom w.0 w.1) q)
 
+  oldest : (f : Found) → IsOutermostAt i.table.config v.place f → (y z : Var) → IsAmong y list → IsOldest (whole f) y z → IsAmong z list
+  oldest f outermost y z m o =
+      let w : (x : Var) × AtomWaitsOn p E atom x × IsMember E (x ∷ []) y = h.each y m in
+      oldest_by v i v.stores refl (h.consistent y m) list h.oldest y (unstructured_class E w.2.variable_of y w.2.equal w.2.unstructured) m f outermost z o
+
   enough_awaited : (x on : Var) → IsConsistent (whole i.site) → AtomWaitsOn p (whole i.site) (goal_atom v.table.program.templates.nodes a) on → Equal (whole i.site) (variable x) (variable on)
       → (y : Var) × IsAmong y list × IsAliasAt i.table.config v.place y x
   enough_awaited x on still waits e =
@@ -116,4 +125,5 @@ module _ (v : ViewValue) (i : IsViewOf v) (g : Name) (a : Goal) (at : v.place �
   awaited_suffices = record {
     concern = λ y m. subst (λ (q : Place). Concerns v.table.program i.table.config y q) (sym at) (concern y m);
     enough = λ x n. enough x (subst (λ (q : Place). NeedsOwn v.table.program i.table.config q x) at n);
+    oldest = record { each = oldest };
   }

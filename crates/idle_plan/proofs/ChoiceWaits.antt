@@ -20,13 +20,15 @@ use Rattle.akl_model.specs.Stable.{by_equations}
 use Rattle.akl_model.specs.Wakes.{TellsOutside, Concerns, by_alternative}
 use Rattle.akl_model.proofs.Options.{some_value}
 use Rattle.akl_model.proofs.ScopesKept.{around_outside}
+use Rattle.constraint_laws.specs.Oldest.{IsOldest}
 use Rattle.constraint_laws.specs.Touched.{IsAmong}
-use Rattle.sleep_laws.specs.Sleeps.{IsAliasAt}
+use Rattle.sleep_laws.specs.Sleeps.{IsOutermostAt, IsAliasAt}
 use Rattle.step_laws.specs.Whereabouts.{BoxIn}
 use Rattle.step_laws.proofs.Stays.{alternative_in}
 use Rattle.local_store.specs.Stored.{Stored}
 use Rattle.entail_test.specs.Asked.{frames_from}
-use Rattle.class_members.specs.Members.{equations_of, outermost_of}
+use Rattle.local_store.specs.Chained.{equations_of}
+use Rattle.class_members.specs.Members.{outermost_of}
 use Rattle.box_tree.specs.declared.view.Alternative.{Alternative}
 use Rattle.box_tree.specs.declared.view.Sight.{Sight}
 use Rattle.box_tree.specs.Tables.{all_rules, table_of}
@@ -40,9 +42,9 @@ use Rattle.guard_plan.proofs.Placed.{IsPlaced, ArePlaced, placed, all_placed, fr
 use Rattle.guard_plan.proofs.Sites.{shows_at, whole_stands}
 use Rattle.idle_plan.specs.Told.{ListsTold, IsOne}
 use Rattle.idle_plan.specs.Waits.{AreToldBy}
-use Rattle.idle_plan.proofs.Listed.{AreStoresOf, around_consistent, touched_unstructured, listed_touches, touched_listed}
+use Rattle.idle_plan.proofs.Listed.{AreStoresOf, around_consistent, touched_unstructured, listed_touches, listed_unstructured, touched_listed}
 use Rattle.idle_plan.proofs.Needed.{NeedsOwn, Suffices}
-use Rattle.idle_plan.proofs.Outermost.{alias_by}
+use Rattle.idle_plan.proofs.Outermost.{alias_by, oldest_by}
 use Rattle.idle_plan.proofs.Outward.{outward}
 use Rattle.idle_plan.proofs.Paths.{good}
 
@@ -128,10 +130,18 @@ module _ (v : ViewValue) (i : IsViewOf v) where
 
     concern : (y : Var) → IsAmong y list → Concerns v.table.program i.table.config y (Place.Goal g)
     concern y m =
-        let w : (a : Alternative) × (own : List Var) × (IsOne Alternative a v.alternatives × (a.solved ≡ true)) × ListsTold nodes (v.stores ++ a.store ∷ []) own × IsAmong y own = h.each y m in
+        let w : (a : Alternative) × (own : List Var) × (IsOne Alternative a v.alternatives × (a.solved ≡ true)) × ListsTold nodes (v.stores ++ a.store ∷ []) own × IsAmong y own × ((z : Var) → IsAmong z own → IsAmong z list) = h.each y m in
         let k : (b : Content) × (gs : Goals) × BoxIn [] b gs shown.0 × IsPlaced v i b gs w.0 = box_of shown.0 v.alternatives are_placed w.0 w.2.0 in
         let t : TellsOutside (inside_of i.site k.0 k.1) y = listed_touches nodes (v.stores ++ w.0.store ∷ []) (inside_of i.site k.0 k.1) (stores_placed k.0 k.1 w.0 k.3) w.1 w.3 y w.4 in
         by_alternative k.0.name home shown.1 (named k.0 k.1 k.2) (by_equations t)
+
+    oldest : (f : Found) → IsOutermostAt i.table.config v.place f → (y z : Var) → IsAmong y list → IsOldest (whole f) y z → IsAmong z list
+    oldest f outermost y z m o =
+        let w : (a : Alternative) × (own : List Var) × (IsOne Alternative a v.alternatives × (a.solved ≡ true)) × ListsTold nodes (v.stores ++ a.store ∷ []) own × IsAmong y own × ((z : Var) → IsAmong z own → IsAmong z list) = h.each y m in
+        let k : (b : Content) × (gs : Goals) × BoxIn [] b gs shown.0 × IsPlaced v i b gs w.0 = box_of shown.0 v.alternatives are_placed w.0 w.2.0 in
+        let ss : List Stored = v.stores ++ w.0.store ∷ [] in
+        w.5 z (oldest_by v i (take (length ss - 1) ss) (ap (take 1) (take_push v.stores w.0.store)) (w.3.members.consistent y w.4) w.1 w.3.members.oldest y
+        (listed_unstructured nodes ss (inside_of i.site k.0 k.1) (stores_placed k.0 k.1 w.0 k.3) w.1 w.3 y w.4) w.4 f outermost z o)
 
     enough_placed : (x : Var) (b : Content) (gs : Goals) → BoxIn [] b gs shown.0 → IsSolved gs → IsConsistent (whole (inside_of i.site b gs)) → TellsOutside (inside_of i.site b gs) x
         → (y : Var) × IsAmong y list × IsAliasAt i.table.config v.place y x
@@ -175,6 +185,7 @@ module _ (v : ViewValue) (i : IsViewOf v) where
     choice_suffices = record {
       concern = λ y m. subst (λ (q : Place). Concerns v.table.program i.table.config y q) (sym at) (concern y m);
       enough = λ x n. enough x (subst (λ (q : Place). NeedsOwn v.table.program i.table.config q x) at n);
+      oldest = record { each = oldest };
     }
 
 -- a `?` choice needs nothing by its alternatives
@@ -196,4 +207,4 @@ module _ (v : ViewValue) (i : IsViewOf v) (g : Name) (at : v.place ≡ Place.Goa
       same e = cc
 
   pub undecided_suffices : Suffices v.table.program i.table.config v.place (NeedsOwn v.table.program i.table.config v.place) []
-  undecided_suffices = record { concern = λ y m. absurd m; enough = λ x n. absurd (none_needed x (subst (λ (q : Place). NeedsOwn v.table.program i.table.config q x) at n)) }
+  undecided_suffices = record { concern = λ y m. absurd m; enough = λ x n. absurd (none_needed x (subst (λ (q : Place). NeedsOwn v.table.program i.table.config q x) at n)); oldest = record { each = λ f h x w m k. absurd m } }

@@ -60,8 +60,8 @@ module _ (I : Type 0) (Asked : I → Type 0) (Lists : I → List Var → Type 0)
       → AreGathered I More Asked Lists (list ++ own)
   gathered_more In More list own new g stays here either lists = record {
     each = λ y m. elim (among_either list own y m) [
-      | inl k ↦ let w : _ = g.each y k in (w.0, w.1, stays w.0 w.2, w.3, w.4)
-      | inr k ↦ (new, own, here, lists, k)
+      | inl k ↦ let w : _ = g.each y k in (w.0, w.1, stays w.0 w.2, w.3, w.4, λ z n. among_left list own z (w.5 z n))
+      | inr k ↦ (new, own, here, lists, k, among_right list own)
     ];
     every = λ i h a. elim (either i h) [
       | inl k ↦ let w : _ = g.every i k a in (w.0, w.1, λ y m. among_left list own y (w.2 y m))
@@ -72,6 +72,6 @@ module _ (I : Type 0) (Asked : I → Type 0) (Lists : I → List Var → Type 0)
   -- of more for which nothing is asked
   pub gathered_past : (In More : I → Type 0) (list : List Var) → AreGathered I In Asked Lists list → ((i : I) → In i → More i) → ((i : I) → More i → In i ⊎ (Asked i → ⊥)) → AreGathered I More Asked Lists list
   gathered_past In More list g stays either = record {
-    each = λ y m. let w : _ = g.each y m in (w.0, w.1, stays w.0 w.2, w.3, w.4);
+    each = λ y m. let w : _ = g.each y m in (w.0, w.1, stays w.0 w.2, w.3, w.4, w.5);
     every = λ i h a. elim (either i h) [ inl k ↦ g.every i k a | inr n ↦ absurd (n a) ];
   }

@@ -18,16 +18,18 @@ use Rattle.akl_model.proofs.Options.{some_value}
 use Rattle.akl_model.proofs.ScopesKept.{around_outside}
 use Rattle.constraint_laws.specs.Growth.{IsOver, TellsOver}
 use Rattle.constraint_laws.specs.Standing.{StandsForConsistent}
+use Rattle.constraint_laws.specs.Oldest.{IsOldest}
 use Rattle.constraint_laws.specs.Touched.{IsAmong}
 use Rattle.constraint_laws.proofs.Beside.{follows_told}
 use Rattle.constraint_laws.proofs.Decided.{kept_by}
 use Rattle.constraint_laws.proofs.Grown.{over_kept}
-use Rattle.constraint_laws.proofs.NoEquations.{nothing_told}
 use Rattle.constraint_laws.proofs.Stands.{structured_stands, variable_stands}
 use Rattle.constraint_laws.proofs.TouchedLists.{touches_class}
-use Rattle.sleep_laws.specs.Sleeps.{IsAliasAt}
+use Rattle.sleep_laws.specs.Sleeps.{IsOutermostAt, IsAliasAt, of_box}
+use Rattle.wait_laws.proofs.Roots.{root_unneeded}
 use Rattle.table_laws.proofs.Frame.{equations_join}
 use Rattle.local_store.specs.Stored.{Stored}
+use Rattle.local_store.specs.Chained as chained
 use Rattle.class_members.specs.Members as members
 use Rattle.box_tree.specs.Tables.{all_rules, table_of}
 use Rattle.box_tree.specs.Views.{ViewValue, IsViewOf}
@@ -38,9 +40,10 @@ use Rattle.stable_test.specs.Inner.{IsTouchedInside}
 use Rattle.stable_test.proofs.EachInside.{IsDown, below}
 use Rattle.stable_test.proofs.SomeInside.{down_some, some_down}
 use Rattle.idle_plan.specs.Waits.{AreReachedInside}
+use Rattle.idle_plan.proofs.Listed.{unstructured_class}
 use Rattle.idle_plan.proofs.Needed.{NeedsInside, NeedsOwn, Suffices}
-use Rattle.idle_plan.proofs.Outermost.{alias_by, same_alias}
-use Rattle.idle_plan.proofs.Paths.{long_stores}
+use Rattle.idle_plan.proofs.Outermost.{no_more, alias_by, oldest_by}
+use Rattle.idle_plan.proofs.Paths.{good, long_stores}
 
 front : (A : List Stored) (s : Stored) → take (length A) (A ++ s ∷ []) ≡ A
 front [] s = refl
@@ -65,7 +68,7 @@ module _ (v : ViewValue) (i : IsViewOf v) (n : Name) (at : v.place ≡ Place.Box
   E = environment i.site
 
   abbrev F : Equations
-  F = members.equations_of v.table.program.templates.nodes (take (length i.site.around) v.stores)
+  F = chained.equations_of v.table.program.templates.nodes (take (length i.site.around) v.stores)
 
   is_box : box_at n i.table.config.roots ≡ Some i.site
   is_box = subst (λ (q : Place). site_of q i.table.config.roots ≡ Some i.site) at i.is_site
@@ -77,8 +80,8 @@ module _ (v : ViewValue) (i : IsViewOf v) (n : Name) (at : v.place ≡ Place.Box
   around : take (length i.site.around) v.stores ≡ stores_along (table_of v.table) (names_around i.site)
   around = (λ j. take (sym (long_stores (table_of v.table) i.site.around) j) (stores_split v i j)) ∙ front (stores_along (table_of v.table) (names_around i.site)) _
 
-  stands : StandFor (IsTold (members.equations_of v.table.program.templates.nodes (take (length i.site.around) v.stores))) (IsTold (environment i.site))
-  stands = subst (λ (A : List Stored). StandFor (IsTold (members.equations_of nodes A)) (IsTold (environment i.site))) (sym around)
+  stands : StandFor (IsTold (chained.equations_of v.table.program.templates.nodes (take (length i.site.around) v.stores))) (IsTold (environment i.site))
+  stands = subst (λ (A : List Stored). StandFor (IsTold (chained.equations_of nodes A)) (IsTold (environment i.site))) (sym around)
       (StandFor-on (told_stands nodes (stores_along (table_of v.table) (names_around i.site))) (environment_stands v i))
 
   -- what is told around the box is told in it
@@ -110,7 +113,7 @@ module _ (v : ViewValue) (i : IsViewOf v) (n : Name) (at : v.place ≡ Place.Box
       let w : (d : Found) × IsDown i.table.config (stand v i) n i.site is_box d × (IsConsistent (whole d) × TouchesFrom p (frames_of (only i.site)) E d k.variable_of) =
       some_down i.table.config (stand v i) n i.site is_box (λ (d : Found). IsConsistent (whole d) × TouchesFrom p (frames_of (only i.site)) E d k.variable_of) (h.touched.each k.variable_of k.among) in
       let q : Equal E (variable k.variable_of) (variable y) =
-      variable_stands F E (forth (h.members.consistent y m)) (variable k.variable_of) y (λ z. k.unstructured (z.0, z.1, joined k.equal z.2, z.3)) k.equal in
+      variable_stands F E (forth (h.members.consistent y m)) (variable k.variable_of) y (unstructured_class F k.variable_of y k.equal k.unstructured) k.equal in
       by_box is_box (down_some i.table.config (stand v i) n i.site is_box (λ (d : Found). TouchesFrom p (frames_of (only i.site)) E d y) w.0 w.1 (class_touched w.0 w.1 k.variable_of y q w.2.1))
 
   touched_unbound : (d : Found) (z : Var) → TouchesFrom v.table.program (frames_of (only i.site)) (environment i.site) d z → IsStructured (environment i.site) z → ⊥
@@ -124,14 +127,19 @@ module _ (v : ViewValue) (i : IsViewOf v) (n : Name) (at : v.place ≡ Place.Box
       some_down i.table.config (stand v i) n i.site is_box (λ (d : Found). IsConsistent (whole d) × TouchesFrom p (frames_of (only i.site)) E d z) t in
       (IsConsistent-follows (follows_told E (whole w.0) (told_down w.0 w.1)) w.2.0, touched_unbound w.0 z w.2.1)
 
-  alias : (depth : ℕ) → depth ≡ length i.site.around → IsConsistent F → (z y : Var) → (IsStructured F y → ⊥)
-      → Equal (members.outermost_of v.table.program.templates.nodes (take (length i.site.around) v.stores)) (variable z) (variable y) → IsAliasAt i.table.config v.place z y
-  alias zero q f z y n e = subst (λ (u : Var). IsAliasAt i.table.config v.place u y)
-      (sym (same_var z y (nothing_told (variable z) (variable y) (subst (λ (d : ℕ). Equal (members.outermost_of nodes (take d v.stores)) (variable z) (variable y)) (sym q) e)))) (same_alias v i y)
-    where
-      same_var : (a b : Var) → variable a ≡ variable b → a ≡ b
-      same_var a b e = cc
-  alias (suc d) q f z y n e = alias_by v i (take (length i.site.around) v.stores) (first_of (length i.site.around) v.stores (omega (arith, q))) f z y n e
+  -- a root box has nothing outside; else the stores around the box begin with the outermost one
+  deep : (depth : ℕ) → depth ≡ length i.site.around → (z : Var) → IsTouchedInside v.table.program i.site z → take 1 (take (length i.site.around) v.stores) ≡ take 1 v.stores
+  deep zero q z t = absurd (root_unneeded i.table.config (good v i) v.table.program n i.site is_box (no_more i.site.around (sym q)) z (of_box is_box t))
+  deep (suc d) q z t = first_of (length i.site.around) v.stores (omega (arith, q))
+
+  begins : (z : Var) → IsTouchedInside v.table.program i.site z → take 1 (take (length i.site.around) v.stores) ≡ take 1 v.stores
+  begins = deep (length i.site.around) refl
+
+  oldest : (f : Found) → IsOutermostAt i.table.config v.place f → (y z : Var) → IsAmong y list → IsOldest (whole f) y z → IsAmong z list
+  oldest f outermost y z m o =
+      let k : members.IsMember F h.reached y = h.members.each y m in
+      oldest_by v i (take (length i.site.around) v.stores) (begins k.variable_of (h.touched.each k.variable_of k.among)) (h.members.consistent y m) list h.members.oldest y
+      (unstructured_class F k.variable_of y k.equal k.unstructured) m f outermost z o
 
   enough_inside : (y : Var) → IsTouchedInside v.table.program i.site y → (z : Var) × IsAmong z list × IsAliasAt i.table.config v.place z y
   enough_inside y t =
@@ -142,7 +150,7 @@ module _ (v : ViewValue) (i : IsViewOf v) (n : Name) (at : v.place ≡ Place.Box
       let q : Equal F (variable y) (variable o.0) = variable_stands E F (record { stands = StandFor-back stands; consistent = u.0 }) (variable y) o.0 free o.2 in
       let r : (z : Var) × IsAmong z list × Equal (members.outermost_of nodes (take (length i.site.around) v.stores)) (variable z) (variable y) =
       h.members.every f y (record { variable_of = o.0; among = o.1; unstructured = λ z. free (structured_stands F E (forth f) o.0 z); equal = turned q }) in
-      (r.0, r.1, alias (length i.site.around) refl f r.0 y (λ z. u.1 (structured_stands F E (forth f) y z)) r.2)
+      (r.0, r.1, alias_by v i (take (length i.site.around) v.stores) (begins y t) f r.0 y (λ z. u.1 (structured_stands F E (forth f) y z)) r.2)
 
   enough : (y : Var) → NeedsInside v.table.program i.table.config n y → (z : Var) × IsAmong z list × IsAliasAt i.table.config v.place z y
   enough y b = enough_inside y (subst (λ (f : Found). IsTouchedInside v.table.program f y) (some_value (sym b.is_box ∙ is_box)) b.touches)
@@ -151,4 +159,5 @@ module _ (v : ViewValue) (i : IsViewOf v) (n : Name) (at : v.place ≡ Place.Box
   inside_suffices = record {
     concern = λ y m. subst (λ (q : Place). Concerns v.table.program i.table.config y q) (sym at) (concern y m);
     enough = λ y b. enough y (subst (λ (q : Place). NeedsOwn v.table.program i.table.config q y) at b);
+    oldest = record { each = oldest };
   }

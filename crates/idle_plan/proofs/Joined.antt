@@ -1,5 +1,5 @@
 -- A place that isn't ready is idle by what was read and listed.
-use Rattle.std.proofs.Common.{◌≡◌, ℕ, ◌+◌, ◌-◌, ◌≤◌, List, [], ◌∷◌, ◌++◌, length, map, Some, refl, sym, ◌∙◌, ap, subst, arith, length-append}
+use Rattle.std.proofs.Common.{◌≡◌, true, ℕ, ◌+◌, ◌-◌, ◌≤◌, List, [], ◌∷◌, ◌++◌, length, map, Some, refl, sym, ◌∙◌, ap, subst, arith, length-append}
 use Rattle.std.proofs.lemmas.List.{length-map}
 use Rattle.akl_terms.specs.declared.name.Name.{Name}
 use Rattle.akl_terms.specs.declared.name.Var.{Var}
@@ -15,14 +15,15 @@ use Rattle.box_tree.specs.Tables.{goal_atom}
 use Rattle.box_tree.specs.Views.{ViewValue, IsViewOf}
 use Rattle.box_tree.specs.Insides.{IsInsideOf}
 use Rattle.guard_plan.proofs.Sites.{shows_at}
-use Rattle.idle_plan.specs.Idling.{IsIdle, IsUnready}
+use Rattle.idle_places.specs.Idling.{IsIdle}
+use Rattle.idle_plan.specs.Idling.{IsUnready}
 use Rattle.idle_plan.specs.Read.{sets_in}
 use Rattle.idle_plan.specs.Waits.{AreToldAround, AreOwnWaits, AreReachedInside}
 use Rattle.idle_plan.proofs.Awaiting.{awaited_suffices}
 use Rattle.idle_plan.proofs.BoxesAround.{around_suffices}
 use Rattle.idle_plan.proofs.ChoiceWaits.{choice_suffices, undecided_suffices}
 use Rattle.idle_plan.proofs.InsideWaits.{inside_suffices}
-use Rattle.idle_plan.proofs.Needed.{NeedsAround, NeedsOwn, Suffices, both_concern, both_enough}
+use Rattle.idle_plan.proofs.Needed.{NeedsAround, NeedsOwn, Suffices, both_concern, both_enough, both_oldest}
 use Rattle.idle_plan.proofs.Paths.{count_around, stores_long}
 use Rattle.idle_plan.proofs.ReadItems.{goal_items_of, goal_watches, goal_reads_there, box_watches, box_reads_there}
 
@@ -58,7 +59,7 @@ module _ (v : ViewValue) (i : IsViewOf v) where
     own_suffices (Sight.Box failing) e own o = absurd (shows_at v i (Place.Goal g) (Sight.Box failing) at e)
 
     pub goal_idle : IsUnready v → (around own : List Var) → AreToldAround v.table.program.templates.nodes v.stores (length v.path) around → AreOwnWaits v.table.program v v.sight own
-        → IsIdle (record { table = v.table; journal = v.journal; place = v.place; reads = goal_items_of g v.path v.alternatives; on = around ++ own })
+        → IsIdle (record { table = v.table; journal = v.journal; place = v.place; reads = goal_items_of g v.path v.alternatives; on = around ++ own; inside = true })
     goal_idle unready around own a o = record {
       table = i.table;
       site = i.site;
@@ -66,6 +67,7 @@ module _ (v : ViewValue) (i : IsViewOf v) where
       unready = unready i;
       enough = both_enough v.table.program i.table.config v.place around own outer inner;
       concern = both_concern v.table.program i.table.config v.place around own outer inner;
+      oldest = both_oldest v.table.program i.table.config v.place around own outer inner;
       watches = goal_watches v i g at;
       there = goal_reads_there v i g at (held_by v.sight refl).0 (held_by v.sight refl).1;
     }
@@ -79,7 +81,7 @@ module _ (v : ViewValue) (i : IsViewOf v) where
   module _ (n : Name) (at : v.place ≡ Place.Box n) (inside : Inside) (x : IsInsideOf v.table v.journal n v.worker inside) where
     pub box_idle : IsUnready v → (depth : ℕ) → depth ≡ length v.path - 1 → (names : List Name) → names ≡ names_around i.site → (around own : List Var) → AreToldAround v.table.program.templates.nodes v.stores depth around
         → AreReachedInside v.table.program i.site depth v.stores own
-        → IsIdle (record { table = v.table; journal = v.journal; place = v.place; reads = map Item.Goals names ++ sets_in inside.boxes.items; on = around ++ own })
+        → IsIdle (record { table = v.table; journal = v.journal; place = v.place; reads = map Item.Goals names ++ sets_in inside.boxes.items; on = around ++ own; inside = true })
     box_idle unready depth d names is_around around own a o = record {
       table = i.table;
       site = i.site;
@@ -87,6 +89,7 @@ module _ (v : ViewValue) (i : IsViewOf v) where
       unready = unready i;
       enough = both_enough v.table.program i.table.config v.place around own outer inner;
       concern = both_concern v.table.program i.table.config v.place around own outer inner;
+      oldest = both_oldest v.table.program i.table.config v.place around own outer inner;
       watches = box_watches v i n at inside x names is_around;
       there = box_reads_there v i n at inside x names is_around;
     }

@@ -15,3 +15,4 @@ pub mod Answered
 pub mod Steps
 pub mod Unready
 pub mod RootInside
+pub mod RootIdle

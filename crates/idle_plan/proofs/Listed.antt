@@ -22,13 +22,14 @@ use Rattle.constraint_laws.proofs.TouchedLists.{touches_class}
 use Rattle.local_store.specs.Stored.{Stored}
 use Rattle.entail_test.specs.Asked.{frames_from, environment_at, own_at, whole_at, KeepsApartAt}
 use Rattle.guard_plan.proofs.QuietOver.{keeps_apart}
-use Rattle.class_members.specs.Members.{equations_of, outermost_of, IsMember}
+use Rattle.local_store.specs.Chained.{equations_of}
+use Rattle.class_members.specs.Members.{outermost_of, IsMember}
 use Rattle.stable_test.proofs.Reaches.{touches_inside}
 use Rattle.idle_plan.specs.Told.{ListsTold}
 use Rattle.idle_plan.proofs.Wholes.{whole_stands}
 
 -- what is equal to a variable that isn't structured isn't structured
-unstructured_class : (E : Equations) (x y : Var) → Equal E (variable x) (variable y) → (IsStructured E x → ⊥) → IsStructured E y → ⊥
+pub unstructured_class : (E : Equations) (x y : Var) → Equal E (variable x) (variable y) → (IsStructured E x → ⊥) → IsStructured E y → ⊥
 unstructured_class E x y e n s = n (s.0, s.1, joined e s.2, s.3)
 
 -- the stores down to a box, of which the innermost is its own, with what is known of its frames
@@ -86,6 +87,10 @@ module _ (nodes : List Node) (ss : List Stored) (f : Found) (r : AreStoresOf nod
         variable_stands (environment_at nodes ss (length ss - 1)) (environment f) (around_stands h.consistent) (variable k.variable_of) y
         (unstructured_class (environment_at nodes ss (length ss - 1)) k.variable_of y k.equal k.unstructured) k.equal in
         touches_class (frames_of (only f)) (environment f) (whole f) (IsTold-left (environment f) f.content.equations) r.over k.variable_of y q z
+
+    -- each is a member of a class that isn't structured
+    pub listed_unstructured : (y : Var) → IsAmong y list → IsStructured (equations_of nodes (take (length ss - 1) ss)) y → ⊥
+    listed_unstructured y m = let k : IsMember (equations_of nodes (take (length ss - 1) ss)) h.on y = h.members.each y m in unstructured_class (equations_of nodes (take (length ss - 1) ss)) k.variable_of y k.equal k.unstructured
 
     pub touched_listed : (x : Var) → TellsOutside f x → (y : Var) × IsAmong y list × Equal (outermost_of nodes (take (length ss - 1) ss)) (variable y) (variable x)
     touched_listed x t =

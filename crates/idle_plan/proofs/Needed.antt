@@ -14,6 +14,7 @@ use Rattle.akl_model.specs.Stable.{only, frames_of, AtomWaitsOn, TouchesFrom}
 use Rattle.akl_model.specs.Wakes.{StandsIn, SomeBox, TellsOutside, Concerns}
 use Rattle.constraint_laws.specs.Touched.{IsAmong}
 use Rattle.sleep_laws.specs.Sleeps.{Needs, of_box_around, of_atom, of_alternative, of_box, IsAliasAt, IsEnough}
+use Rattle.wait_laws.specs.Waits.{HasOldestAt}
 use Rattle.idle_plan.proofs.Gathering.{among_left, among_right, among_either}
 
 -- by the equations of a box around it
@@ -68,10 +69,11 @@ needs_by p c place x (of_alternative n not_choice e h a solved still t) =
     inr (inr (record { home = _; op = _; boxes = _; name = n; box = _; other = not_choice; is_home = e; is_choice = h; is_box = a; solved = solved; consistent = still; tells = t }))
 needs_by p c place x (of_box e s) = inr (record { box = _; is_box = e; touches = s })
 
--- each of a list concerns a place, and it is enough for what is needed in one way
+-- each of a list concerns a place, it is enough for what is needed in one way, and it has the oldest of each class
 pub record Suffices (p : Program) (c : Config) (place : Place) (Needed : Var → Type 0) (list : List Var) : Type 0 where
   pub concern : (y : Var) → IsAmong y list → Concerns p c y place
   pub enough : (x : Var) → Needed x → (y : Var) × IsAmong y list × IsAliasAt c place y x
+  pub oldest : HasOldestAt c place list
 
 -- so two lists suffice for all
 module _ (p : Program) (c : Config) (place : Place) (around own : List Var) (a : Suffices p c place (NeedsAround c place) around) (o : Suffices p c place (NeedsOwn p c place) own) where
@@ -83,5 +85,13 @@ module _ (p : Program) (c : Config) (place : Place) (around own : List Var) (a :
     each = λ x n. elim (needs_by p c place x n) [
       | inl k ↦ let w : (y : Var) × IsAmong y around × IsAliasAt c place y x = a.enough x k in (w.0, among_left around own w.0 w.1, w.2)
       | inr k ↦ let w : (y : Var) × IsAmong y own × IsAliasAt c place y x = o.enough x k in (w.0, among_right around own w.0 w.1, w.2)
+    ];
+  }
+
+  pub both_oldest : HasOldestAt c place (around ++ own)
+  both_oldest = record {
+    each = λ f h x w m k. elim (among_either around own x m) [
+      | inl y ↦ among_left around own w (a.oldest.each f h x w y k)
+      | inr y ↦ among_right around own w (o.oldest.each f h x w y k)
     ];
   }

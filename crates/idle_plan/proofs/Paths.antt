@@ -27,7 +27,7 @@ use Rattle.box_tree.specs.Tables.{all_rules, table_of}
 use Rattle.box_tree.specs.Views.{ViewValue, IsViewOf}
 use Rattle.guard_plan.proofs.Chains.{told_stands, take_push, drop_push}
 use Rattle.guard_plan.proofs.Sites.{stand, stores_path}
-use Rattle.class_members.specs.Members.{equations_of}
+use Rattle.local_store.specs.Chained.{equations_of}
 use Rattle.idle_plan.proofs.Listed.{AreStoresOf}
 use Rattle.idle_plan.proofs.Outward.{outward}
 

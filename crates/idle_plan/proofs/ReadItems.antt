@@ -55,7 +55,7 @@ sets_read (n ∷ ns) i (inl e) = (n, inl refl, e)
 sets_read (n ∷ ns) i (inr h) = let w : (m : Name) × IsIn m ns × (i ≡ Item.Goals m) = sets_read ns i h in (w.0, inr w.1, w.2)
 
 -- a box that has its constraint there has its set of goals there
-set_there : (T : Table) (m : Name) → IsSome (stamp_in T (Item.Store m)) → IsSome (stamp_in T (Item.Goals m))
+pub set_there : (T : Table) (m : Name) → IsSome (stamp_in T (Item.Store m)) → IsSome (stamp_in T (Item.Goals m))
 set_there T m h = on (T.box_of m) h
   where
     on : (o : Option BoxRow) → IsSome (store_stamp o) → IsSome (goals_stamp o)

@@ -7,7 +7,7 @@ use Rattle.akl_terms.specs.Equal.{IsConsistent}
 use Rattle.akl_model.specs.Config.{Found}
 use Rattle.local_store.specs.Stored.{Stored}
 use Rattle.entail_test.specs.Asked.{KeepsApartAt}
-use Rattle.class_members.specs.Members.{equations_of}
+use Rattle.local_store.specs.Chained.{equations_of}
 use Rattle.box_tree.specs.declared.view.Alternative.{Alternative}
 use Rattle.box_tree.specs.Views.{ViewValue, IsViewOf}
 use Rattle.guard_plan.specs.Guards.{IsTestable}

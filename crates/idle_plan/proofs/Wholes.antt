@@ -10,7 +10,7 @@ use Rattle.constraint_laws.proofs.Beside.{follows_told}
 use Rattle.local_store.specs.Stored.{Stored}
 use Rattle.local_store.proofs.Layers.{told-split, told-take, told-drop}
 use Rattle.entail_test.specs.Asked.{environment_at, own_at, whole_at}
-use Rattle.class_members.specs.Members.{equations_of}
+use Rattle.local_store.specs.Chained.{equations_of}
 
 module _ (nodes : List Node) (ss : List Stored) (k : ℕ) where
   together : (a b : Tree) → IsTold (whole_at nodes ss k) a b → IsTold (equations_of nodes ss) a b

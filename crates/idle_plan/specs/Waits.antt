@@ -9,6 +9,7 @@ use Rattle.akl_terms.specs.Tree.{variable}
 use Rattle.akl_terms.specs.Equal.{Equal, IsConsistent}
 use Rattle.akl_model.specs.Config.{Found}
 use Rattle.akl_model.specs.Stable.{AtomWaitsOn}
+use Rattle.constraint_laws.specs.Oldest.{HasOldest}
 use Rattle.constraint_laws.specs.Touched.{IsAmong}
 use Rattle.local_store.specs.Stored.{Stored}
 use Rattle.box_tree.specs.declared.view.Alternative.{Alternative}
@@ -16,7 +17,8 @@ use Rattle.box_tree.specs.declared.view.Sight.{Sight}
 use Rattle.box_tree.specs.Tables.{goal_atom}
 use Rattle.box_tree.specs.Views.{ViewValue}
 use Rattle.stable_test.specs.Inner.{AreTouchedInside}
-use Rattle.class_members.specs.Members.{equations_of, outermost_of, IsMember, AreMembers}
+use Rattle.local_store.specs.Chained.{equations_of}
+use Rattle.class_members.specs.Members.{outermost_of, IsMember, AreMembers}
 use Rattle.idle_plan.specs.Told.{ListsTold, AreGathered, IsOne}
 
 -- what the boxes from the second one inwards touch, up to this many, each in the stores down to it
@@ -39,6 +41,7 @@ pub record AreAwaited (p : Program) (ss : List Stored) (atom : Goal) (list : Lis
   pub each : (y : Var) → IsAmong y list → (x : Var) × AtomWaitsOn p (equations_of p.templates.nodes ss) (goal_atom p.templates.nodes atom) x × IsMember (equations_of p.templates.nodes ss) (x ∷ []) y
   pub every : IsConsistent (equations_of p.templates.nodes ss) → (x z : Var) → AtomWaitsOn p (equations_of p.templates.nodes ss) (goal_atom p.templates.nodes atom) x
       → Equal (equations_of p.templates.nodes ss) (variable x) (variable z) → (y : Var) × IsAmong y list × Equal (outermost_of p.templates.nodes ss) (variable y) (variable z)
+  pub oldest : HasOldest (outermost_of p.templates.nodes ss) list
 
 -- what a goal waits on by what stands there: nothing at a `?` choice, nor where a box is seen
 abbrev pub AreOwnWaits : Program → ViewValue → Sight → List Var → Type 0

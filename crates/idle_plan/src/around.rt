@@ -2,7 +2,7 @@
 
 ghost use Rattle.std.specs.Prelude.{◌≡◌, ◌≤◌, length, take, IfOk};
 ghost use Rattle.akl_terms.specs.Equal.{IsConsistent};
-ghost use Rattle.class_members.specs.Members.{equations_of};
+ghost use Rattle.local_store.specs.Chained.{equations_of};
 ghost use Rattle.idle_plan.specs.Waits.{AreToldAround};
 
 use crate::told::told_outside;

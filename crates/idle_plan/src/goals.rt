@@ -4,7 +4,7 @@ ghost use Rattle.std.specs.Prelude.{◌≡◌, ◌++◌, ◌∷◌, [], IfOk, On
 ghost use Rattle.std.specs.List.{AllByRecursion};
 ghost use Rattle.akl_terms.specs.Equal.{IsConsistent};
 ghost use Rattle.guard_plan.specs.Guards.{IsTestable};
-ghost use Rattle.class_members.specs.Members.{equations_of};
+ghost use Rattle.local_store.specs.Chained.{equations_of};
 ghost use Rattle.idle_plan.specs.Told.{ListsTold};
 ghost use Rattle.idle_plan.specs.Waits.{AddsTold, AreAwaited, AreToldBy};
 

@@ -1,18 +1,18 @@
 //! Places that are found idle.
 
-ghost use Rattle.std.specs.Prelude.{◌≡◌, IfOk};
+ghost use Rattle.std.specs.Prelude.{◌≡◌, true, false, IfOk};
 ghost use Rattle.akl_terms.specs.declared.name.Place.{Place};
 ghost use Rattle.box_copies.specs.Copies.{IsInsideOfBox};
-ghost use Rattle.idle_plan.specs.Idling.{IsUnready, IsIdleBy};
+ghost use Rattle.idle_plan.specs.Idling.{IsAtRootBox, IsUnready, IsIdleBy};
 ghost use Rattle.idle_plan.specs.Waits.{AreOwnWaits};
 
 use crate::around::waits_of_boxes_around;
 use crate::goals::{waits_of_atom, waits_of_choice};
-use crate::idle::Idle;
 use crate::inside::waits_inside;
-use crate::reading::{box_reads, goal_reads};
+use crate::reading::{box_reads, goal_reads, item_of};
 use akl_terms::{Name, Op, Program, Var};
 use box_tree::{Inside, Sight, View};
+use idle_places::Idle;
 use std::alloc::{AllocError, Global};
 
 /// What a goal that isn't ready waits on, by a view of it. An `Err` is want of memory.
@@ -28,7 +28,8 @@ pub fn idle_goal(
     requires program { program.now ≡ view.now.table.program }
     requires place { view.now.place ≡ Place.Goal goal }
     requires unready { IsUnready view.now }
-    ensures { IfOk result (IsIdleBy view.now) }
+    ensures idle { IfOk result (IsIdleBy view.now) }
+    ensures inside { IfOk result (λ idle. idle.inside ≡ true) }
 {
     let alternatives = view.alternatives();
     let path = view.path();
@@ -36,7 +37,7 @@ pub fn idle_goal(
     let mut on = waits_of_boxes_around(alloc, program, view, path.len())?;
     on.extend_from_slice(own.as_slice())?;
     let reads = goal_reads(alloc, goal, path, alternatives)?;
-    Ok(Idle::new(view, reads, on))
+    Ok(Idle::new(view, reads, on, true))
 }
 
 /// What a box that isn't ready, by Split neither, waits on, by a view of it and all that stands inside it. An `Err` is
@@ -53,7 +54,8 @@ pub fn idle_box(
     requires program { program.now ≡ view.now.table.program }
     requires inside { IsInsideOfBox view.now inside.now }
     requires unready { IsUnready view.now }
-    ensures { IfOk result (IsIdleBy view.now) }
+    ensures idle { IfOk result (IsIdleBy view.now) }
+    ensures inside { IfOk result (λ idle. idle.inside ≡ true) }
 {
     let path = view.path();
     let depth = path.len().saturating_sub(1);
@@ -62,7 +64,24 @@ pub fn idle_box(
     let mut on = waits_of_boxes_around(alloc, program, view, depth)?;
     on.extend_from_slice(own.as_slice())?;
     let reads = box_reads(alloc, &path[..depth], inside.boxes.as_slice())?;
-    Ok(Idle::new(view, reads, on))
+    Ok(Idle::new(view, reads, on, true))
+}
+
+/// What a root box that isn't ready waits on, by a view of it: nothing, since nothing is outside of it. An `Err` is want of
+/// memory.
+///
+/// What stands inside the box isn't read. So where the box has come to a goal by which it fails, or to a candidate of a
+/// split, it has to be looked at anew.
+pub fn idle_root(alloc: Global, view: &View) -> Result<Idle, AllocError>
+    requires root { IsAtRootBox view.now }
+    requires unready { IsUnready view.now }
+    ensures idle { IfOk result (IsIdleBy view.now) }
+    ensures inside { IfOk result (λ idle. idle.inside ≡ false) }
+{
+    let on = Vec::new(alloc);
+    let mut reads = Vec::new(alloc);
+    reads.push(item_of(view.place()))?;
+    Ok(Idle::new(view, reads, on, false))
 }
 
 // What a goal waits on by itself.

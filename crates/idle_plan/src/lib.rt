@@ -3,11 +3,9 @@
 
 mod around;
 mod goals;
-mod idle;
 mod idling;
 mod inside;
 mod reading;
 mod told;
 
-pub use idle::Idle;
-pub use idling::{idle_box, idle_goal};
+pub use idling::{idle_box, idle_goal, idle_root};

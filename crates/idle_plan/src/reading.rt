@@ -4,10 +4,10 @@ ghost use Rattle.std.specs.Prelude.{◌≡◌, ◌++◌, ◌∷◌, map, IfOk, O
 ghost use Rattle.akl_model.specs.declared.item.Item.{Item};
 ghost use Rattle.box_tree.specs.declared.view.Alternative.{Alternative};
 ghost use Rattle.split_plan.specs.Read.{goal_items};
-ghost use Rattle.idle_plan.specs.Read.{sets_in};
+ghost use Rattle.idle_plan.specs.Read.{item_of, sets_in};
 
 use akl_model::Item;
-use akl_terms::Name;
+use akl_terms::{Name, Place};
 use box_tree::{Alternative, InnerBox, InnerGoal};
 use std::alloc::{AllocError, Global};
 
@@ -44,6 +44,16 @@ pub(crate) fn box_reads(
         push_goals(inner.goals.as_slice(), &mut items)?;
     }
     Ok(items)
+}
+
+// A goal, or the set of goals of a box.
+pub(crate) fn item_of(place: Place) -> Item
+    ensures { result ≡ item_of place }
+{
+    match place {
+        Place::Goal(goal) => Item::Goal(goal),
+        Place::Box(name) => Item::Goals(name),
+    }
 }
 
 // The sets of goals of boxes come to the end of the items.

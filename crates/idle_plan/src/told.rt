@@ -3,7 +3,7 @@
 ghost use Rattle.std.specs.Prelude.{◌-◌, length, IfOk, MatchOption};
 ghost use Rattle.akl_terms.specs.Equal.{IsConsistent};
 ghost use Rattle.entail_test.specs.Asked.{KeepsApartAt};
-ghost use Rattle.class_members.specs.Members.{equations_of};
+ghost use Rattle.local_store.specs.Chained.{equations_of};
 ghost use Rattle.idle_plan.specs.Told.{ListsTold};
 
 use akl_terms::Var;

@@ -1,6 +1,6 @@
 use Rattle.std.proofs.Common.{◌≤◌, take}
 use Rattle.akl_terms.specs.Equal.{IsConsistent}
-use Rattle.class_members.specs.Members.{equations_of}
+use Rattle.local_store.specs.Chained.{equations_of}
 use Rattle.idle_plan.specs.Waits.{AreToldAround}
 use Rattle.idle_plan.proofs.around.told_down.Given as goal
 

@@ -1,7 +1,7 @@
 //! Places that aren't ready, each until what it read changes or a variable on which it waits is bound.
 
 ghost use Rattle.std.specs.Prelude.{◌≡◌, length};
-ghost use Rattle.idle_plan.specs.Idling.{IdleValue, IsIdle};
+ghost use Rattle.idle_places.specs.Idling.{IdleValue, IsIdle};
 
 use akl_model::{Item, Label};
 use akl_terms::{Place, Var};
@@ -18,24 +18,26 @@ pub struct Idle {
     place: Place,
     reads: Vec<Item>,
     on: Vec<Var>,
+    looked_inside: bool,
     ghost same_length: { seen ≡ length view.value.journal },
 }
 
 impl Model for Idle {
-    ghost use Rattle.idle_plan.specs.Idling.{IdleValue, IsIdle};
+    ghost use Rattle.idle_places.specs.Idling.{IdleValue, IsIdle};
 
     ghost Value = { IdleValue };
 
-    ghost view = { λ i. record { table = i.view.value.table; journal = i.view.value.journal; place = i.place; reads = i.reads.items; on = i.on.items } };
+    ghost view = { λ i. record { table = i.view.value.table; journal = i.view.value.journal; place = i.place; reads = i.reads.items; on = i.on.items; inside = i.looked_inside } };
 
-    ghost invariant = { λ i. IsIdle (record { table = i.view.value.table; journal = i.view.value.journal; place = i.place; reads = i.reads.items; on = i.on.items }) };
+    ghost invariant = { λ i. IsIdle (record { table = i.view.value.table; journal = i.view.value.journal; place = i.place; reads = i.reads.items; on = i.on.items; inside = i.looked_inside }) };
 }
 
 impl Idle {
-    /// A place that is idle by a view of it.
-    pub fn new(view: &View, reads: Vec<Item>, on: Vec<Var>) -> Idle
-        requires { IsIdle (record { table = view.now.table; journal = view.now.journal; place = view.now.place; reads = reads.items; on = on.items }) }
-        ensures { result ≡ record { table = view.now.table; journal = view.now.journal; place = view.now.place; reads = reads.items; on = on.items } }
+    /// A place that is idle by a view of it, and whether what stands inside it was read. Only a root box need not look
+    /// inside.
+    pub fn new(view: &View, reads: Vec<Item>, on: Vec<Var>, looked_inside: bool) -> Idle
+        requires { IsIdle (record { table = view.now.table; journal = view.now.journal; place = view.now.place; reads = reads.items; on = on.items; inside = looked_inside }) }
+        ensures { result ≡ record { table = view.now.table; journal = view.now.journal; place = view.now.place; reads = reads.items; on = on.items; inside = looked_inside } }
     {
         Idle {
             view: Snapshot::of(view),
@@ -43,6 +45,7 @@ impl Idle {
             place: view.place(),
             reads,
             on,
+            looked_inside,
         }
     }
 
@@ -62,7 +65,8 @@ impl Idle {
 
     /// The items that were read: while they are unchanged the place isn't ready, whatever it waits on.
     pub fn reads(&self) -> &[Item]
-        ensures { result.now ≡ self.now.reads }
+        ensures reads { result.now ≡ self.now.reads }
+        ensures right { IsIdle self.now }
     {
         self.reads.as_slice()
     }
@@ -73,5 +77,13 @@ impl Idle {
         ensures { result.now ≡ self.now.on }
     {
         self.on.as_slice()
+    }
+
+    /// Whether what stands inside the place was read, if it is a box. Where it wasn't, a root box that has come to a goal by
+    /// which it fails, or to a candidate of a split, may be ready though what it read is unchanged.
+    pub fn looked_inside(&self) -> bool
+        ensures { result ≡ self.now.inside }
+    {
+        self.looked_inside
     }
 }
