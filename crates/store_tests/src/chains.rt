@@ -1,7 +1,9 @@
 //! Chains of boxes from the root inwards, written as words, and how they are made.
 
-ghost use Rattle.std.specs.Prelude.{IfOk, IfSome, length};
-ghost use Rattle.local_store.specs.Chained.{IsKnown, IsSolvedChain, around, replaced};
+ghost use Rattle.std.specs.Prelude.{◌↔◌, IsTrue, IfOk, IfSome};
+ghost use Rattle.rational_unify.specs.Older.{EachOlder};
+ghost use Rattle.local_store.specs.Chained.{IsFormChain, IsKnown, around, replaced};
+ghost use Rattle.store_tests.specs.Solved.{AreSolved};
 
 use crate::stores::store_of;
 use crate::words::{frame, pair};
@@ -9,6 +11,7 @@ use akl_terms::{Equation, Templates, Term};
 use local_store::{
     Chain, Consistency, Shared, Store, Valued, consistent, promoted, solved_store, told, value,
 };
+use rational_unify::leads_older;
 use std::alloc::{AllocError, Global};
 
 /// The store of the words, with the frame of this number.
@@ -51,13 +54,13 @@ fn with_last(
     alloc: Global,
     chain: &Chain,
     count: usize,
-    last: Store,
+    last: &Store,
 ) -> Result<Vec<Shared<Store>>, AllocError> {
     let mut stores = Vec::new(alloc);
     for store in chain.stores().iter().take(count) {
         stores.push(store.share()?)?;
     }
-    stores.push(Shared::new(alloc, last)?)?;
+    stores.push(Shared::new(alloc, last.share()?)?)?;
     Ok(stores)
 }
 
@@ -66,7 +69,7 @@ pub fn told_to(alloc: Global, chain: &Chain, text: &str) -> Result<Vec<Shared<St
     let equations = equations_of(alloc, text)?;
     let innermost = told(alloc, chain, equations.as_slice())?;
     let count = chain.stores().len().saturating_sub(1);
-    with_last(alloc, chain, count, innermost.store)
+    with_last(alloc, chain, count, &innermost.store)
 }
 
 /// The stores of a chain, of which the innermost one joins the one around it, if it has one.
@@ -76,17 +79,17 @@ pub fn joined(alloc: Global, chain: &Chain) -> Result<Vec<Shared<Store>>, AllocE
         return Ok(Vec::new(alloc));
     }
     let innermost = promoted(alloc, chain)?;
-    with_last(alloc, chain, count - 2, innermost.store)
+    with_last(alloc, chain, count - 2, &innermost.store)
 }
 
-/// The innermost store made solved; `None` where the chain is inconsistent.
+/// The innermost store, with which what is found is a solved form; `None` where the chain is inconsistent.
 fn last_solved(
     alloc: Global,
     templates: &Templates,
     stores: &[Shared<Store>],
 ) -> Result<Option<Shared<Store>>, AllocError>
-    requires { IsSolvedChain templates.now.nodes (around stores.now) }
-    ensures { IfOk result (λ found. IfSome found (λ s. IsSolvedChain templates.now.nodes (replaced stores.now s))) }
+    requires { IsFormChain templates.now.nodes (around stores.now) }
+    ensures { IfOk result (λ found. IfSome found (λ s. IsFormChain templates.now.nodes (replaced stores.now s))) }
 {
     let chain = Chain::new(templates, stores);
     match consistent(alloc, &chain)? {
@@ -95,18 +98,17 @@ fn last_solved(
     }
 }
 
-/// The stores made solved, one after another inwards; `None` where they are inconsistent.
+/// Stores with which what is found is a solved form, one after another inwards; `None` where they are inconsistent.
 pub fn solved(
     alloc: Global,
     templates: &Templates,
     stores: &[Shared<Store>],
 ) -> Result<Option<Vec<Shared<Store>>>, AllocError>
-    ensures { IfOk result (λ found. IfSome found (λ list. IsKnown templates.now.nodes list.items (length list.items))) }
+    ensures { IfOk result (λ found. IfSome found (λ list. AreSolved templates.now.nodes list.items)) }
 {
     let mut list = Vec::new(alloc);
     for store in stores {
-        let last = store.share()?;
-        list.push(last)?;
+        list.push(store.share()?)?;
         let Some(last) = last_solved(alloc, templates, list.as_slice())? else {
             return Ok(None);
         };
@@ -116,12 +118,30 @@ pub fn solved(
     Ok(Some(list))
 }
 
-/// What stands for a term; `None` where not all stores are known to be solved.
-pub fn known_value(chain: &Chain, term: Term) -> Option<Valued> {
-    let stores = chain.stores();
-    let known = chain.known();
-    if known == stores.len() {
-        return Some(value(chain, term));
+/// Whether each binding of a store leads to an older variable.
+fn is_older(templates: &Templates, store: &Store) -> Result<bool, AllocError>
+    ensures { IfOk result (λ b. IsTrue b ↔ EachOlder templates.now.nodes store.now.bindings) }
+{
+    let bindings = store.bindings()?;
+    Ok(leads_older(templates, bindings.as_slice()))
+}
+
+/// How many of the outermost of these stores are known to lead to older variables.
+pub fn known_of(templates: &Templates, stores: &[Shared<Store>]) -> Result<usize, AllocError>
+    requires { AreSolved templates.now.nodes stores.now }
+    ensures { IfOk result (λ known. IsKnown templates.now.nodes stores.now known) }
+{
+    for known in 0..stores.len() {
+        if !is_older(templates, stores[known].get())? {
+            return Ok(known);
+        }
     }
-    None
+    Ok(stores.len())
+}
+
+/// What stands for a term in stores with which what is found is a solved form.
+pub fn value_in(templates: &Templates, stores: &[Shared<Store>], term: Term) -> Valued
+    requires { AreSolved templates.now.nodes stores.now }
+{
+    value(&Chain::new(templates, stores), term)
 }

@@ -1,6 +1,6 @@
 //! What boxes answer that were told something.
 
-use crate::chains::{joined, known_value, solved, stores_of, told_to};
+use crate::chains::{joined, known_of, solved, stores_of, told_to, value_in};
 use crate::words::{cut, four_variables, is_said, term, term_of};
 use akl_terms::{Templates, Var};
 use entail_test::{Quietness, quiet, touches};
@@ -58,14 +58,13 @@ fn is_touched(alloc: Global, chain: &Chain, depth: usize, want: &str) -> Result<
 }
 
 /// Whether a value is one of those that are lawful.
-fn is_one_of(found: Option<Valued>, want: &str) -> bool {
+fn is_one_of(found: Valued, want: &str) -> bool {
     let found = match found {
-        Some(Valued::Free(variable)) => Some(term_of(variable)),
-        Some(Valued::Bound(term)) => Some(term),
-        None => None,
+        Valued::Free(variable) => term_of(variable),
+        Valued::Bound(term) => term,
     };
     for word in want.split(" or ") {
-        if found.is_some() && found == term(word) {
+        if term(word) == Some(found) {
             return true;
         }
     }
@@ -81,8 +80,7 @@ fn is_value(alloc: Global, chain: &Chain, word: &str, want: &str) -> Result<bool
     let Some(stores) = solved(alloc, templates, chain.stores())? else {
         return Ok(want == "clash");
     };
-    let chain = Chain::of_solved(templates, stores.as_slice(), stores.len());
-    Ok(is_one_of(known_value(&chain, term), want))
+    Ok(is_one_of(value_in(templates, stores.as_slice(), term), want))
 }
 
 fn answers(alloc: Global, chain: &Chain, question: &str, want: &str) -> Result<bool, AllocError> {
@@ -132,7 +130,8 @@ fn holds_solved(
     let Some(stores) = solved(alloc, templates, stores)? else {
         return Ok(want == "clash");
     };
-    let chain = Chain::of_solved(templates, stores.as_slice(), stores.len());
+    let known = known_of(templates, stores.as_slice())?;
+    let chain = Chain::of_solved(templates, stores.as_slice(), known);
     holds_of(alloc, &chain, question, want)
 }
 
@@ -148,7 +147,8 @@ fn holds_told_to_solved(
     let Some(stores) = solved(alloc, templates, stores)? else {
         return Ok(want == "clash");
     };
-    let chain = Chain::of_solved(templates, stores.as_slice(), stores.len());
+    let known = known_of(templates, stores.as_slice())?;
+    let chain = Chain::of_solved(templates, stores.as_slice(), known);
     let stores = told_to(alloc, &chain, words)?;
     holds_solved(alloc, templates, stores.as_slice(), question, want)
 }

@@ -101,6 +101,13 @@ fn has_beside(
     has(alloc, &changed, want)
 }
 
+/// A copy of a store, changed in place.
+fn copied(store: &Store, change: (Term, Term)) -> Result<Store, AllocError> {
+    let mut copy = store.share()?;
+    add(&mut copy, change)?;
+    Ok(copy)
+}
+
 /// Whether a change makes this of a copy of a store, in place.
 fn has_in_place(
     alloc: Global,
@@ -108,12 +115,26 @@ fn has_in_place(
     change: (Term, Term),
     want: &str,
 ) -> Result<bool, AllocError> {
-    let mut copy = store.share()?;
-    add(&mut copy, change)?;
+    let copy = copied(store, change)?;
     has(alloc, &copy, want)
 }
 
-/// Whether a change makes this of the store of the words, which is then left as it was.
+/// Whether a change makes this of a store that has what the words say, which is then left as it was.
+fn is_changed(
+    alloc: Global,
+    store: &Store,
+    ordered: &str,
+    change: (Term, Term),
+    want: &str,
+) -> Result<bool, AllocError> {
+    Ok(
+        has_beside(alloc, store, change, want)?
+            && has_in_place(alloc, store, change, want)?
+            && has(alloc, store, ordered)?,
+    )
+}
+
+/// The same of the store of a text.
 fn changes(
     alloc: Global,
     text: &str,
@@ -122,11 +143,7 @@ fn changes(
     want: &str,
 ) -> Result<bool, AllocError> {
     let store = store_of(alloc, text)?;
-    Ok(
-        has_beside(alloc, &store, change, want)?
-            && has_in_place(alloc, &store, change, want)?
-            && has(alloc, &store, ordered)?,
-    )
+    is_changed(alloc, &store, ordered, change, want)
 }
 
 /// A store, all that it has in order, a change, and what that makes of the store.

@@ -2,7 +2,7 @@
 
 ghost use Rattle.std.specs.Prelude.{◌≤◌, length};
 
-use crate::lines::each_gives;
+use crate::lines::each_holds;
 use akl_terms::{Clause, Definition, Items, Key, Op, Text};
 use clause_keys::{Callees, Reserved, meaning_of};
 use std::alloc::{AllocError, Global};
@@ -16,7 +16,7 @@ fn key(text: &str) -> (&str, u32) {
 }
 
 /// What a reserved goal means.
-fn meaning(alloc: Global, text: &[u8]) -> Result<String, AllocError> {
+pub fn meaning(alloc: Global, text: &[u8]) -> Result<String, AllocError> {
     let (symbol, arity) = key(from_utf8(text).unwrap_or(""));
     let word = match meaning_of(symbol, arity as usize) {
         Some(Reserved::Arith(test)) => return format!(in alloc; " {test:?}"),
@@ -87,7 +87,7 @@ fn asked(alloc: Global, callees: &mut Callees, text: &str) -> Result<Option<u32>
 
 /// The numbers of `p/1`, `p/2`, and of definition 1 that was made of an inline choice, with four arguments, and what was
 /// asked.
-fn numbers(alloc: Global, text: &[u8]) -> Result<String, AllocError> {
+pub fn numbers(alloc: Global, text: &[u8]) -> Result<String, AllocError> {
     let mut callees = Callees::new(alloc);
     let first = callees.add_named("p", 1)?;
     let second = callees.add_named("p", 2)?;
@@ -97,7 +97,7 @@ fn numbers(alloc: Global, text: &[u8]) -> Result<String, AllocError> {
 }
 
 /// Goals, and what they mean.
-const RESERVED: &str = r"
+const RESERVED: &str = r"meaning
 true/0 => true
 fail/0 => fail
 =/2 => equal
@@ -118,7 +118,7 @@ append/2 => none
 ";
 
 /// What is asked after three numbers were given.
-const NUMBERS: &str = r"
+const NUMBERS: &str = r"numbers
 add p/2 => 0 1 2 Some(1)
 find p/2 => 0 1 2 Some(1)
 find p/0 => 0 1 2 None
@@ -132,13 +132,12 @@ define 1/2 => 0 1 2 Some(3)
 ";
 
 #[test]
-fn reserved_goals_have_their_meaning(rt: HostRuntime) -> Result<(), Fail> {
-    each_gives(&rt, rt.alloc(), meaning, RESERVED)
-}
-
-#[test]
-fn what_is_called_has_one_number(rt: HostRuntime) -> Result<(), Fail> {
+fn what_is_reserved_has_its_meaning_and_what_is_called_one_number(
+    rt: HostRuntime,
+) -> Result<(), Fail> {
     let none = Callees::of_definitions(rt.alloc(), &[])?;
-    assert_eq!(rt; none.named("p", 0), None);
-    each_gives(&rt, rt.alloc(), numbers, NUMBERS)
+    assert!(rt; none.named("p", 0).is_none());
+    each_holds(&rt, rt.alloc(), RESERVED)?;
+    each_holds(&rt, rt.alloc(), NUMBERS)?;
+    Ok(())
 }

@@ -1,25 +1,15 @@
-//! Cases of which each is a line: a text, ` =>`, and what the text gives, with a blank before each part of it.
+//! Tables of cases. The first line of a table names what is asked. Each further line is a case: a text, ` =>`, and what is
+//! answered for it, with a blank before each part.
 //!
 //! In both `$` stands for the end of a line, `@a*3@` for `aaa`, `@p#.*3@` for `p0.p1.p2.`, and `@255@` for this byte.
 
+use crate::{checks, keys, store, syntax, tokens};
 use std::alloc::{AllocError, Global};
 use std::process::Abort;
-use std::test::Fail;
-
-/// Puts a word and a number behind it.
-pub fn put_count(shown: &mut String, word: &str, count: usize) -> Result<(), AllocError> {
-    write!(shown, "{word}{count}")
-}
 
 /// A word and a number behind it.
 pub fn counted(alloc: Global, word: &str, count: usize) -> Result<String, AllocError> {
-    let mut shown = String::new(alloc);
-    put_count(&mut shown, word, count)?;
-    Ok(shown)
-}
-
-pub fn put_integer(shown: &mut String, value: i64) -> Result<(), AllocError> {
-    write!(shown, "{value}")
+    format!(in alloc; "{word}{count}")
 }
 
 /// Puts a part of a line.
@@ -37,25 +27,20 @@ fn put(text: &mut Vec<u8>, part: &str, number: usize) -> Result<(), AllocError> 
     Ok(())
 }
 
-/// Puts a part of a line so many times.
-fn put_times(text: &mut Vec<u8>, part: &str, times: usize) -> Result<(), AllocError> {
-    for number in 0..times {
+/// Puts what stands between two marks: a part so many times, or a byte.
+fn put_marked(text: &mut Vec<u8>, marked: &str) -> Result<(), AllocError> {
+    let Some((part, times)) = marked.split_once('*') else {
+        text.push(marked.parse().unwrap_or(0))?;
+        return Ok(());
+    };
+    for number in 0..times.parse().unwrap_or(0) {
         put(text, part, number)?;
     }
     Ok(())
 }
 
-/// Puts what stands between two marks.
-fn put_marked(text: &mut Vec<u8>, marked: &str) -> Result<(), Fail> {
-    match marked.split_once('*') {
-        Some((part, times)) => put_times(text, part, times.parse()?)?,
-        None => text.push(marked.parse()?)?,
-    }
-    Ok(())
-}
-
 /// What a line says.
-fn expanded(alloc: Global, line: &str) -> Result<Vec<u8>, Fail> {
+fn expanded(alloc: Global, line: &str) -> Result<Vec<u8>, AllocError> {
     let mut text = Vec::new(alloc);
     let mut is_marked = false;
     for part in line.split('@') {
@@ -69,21 +54,35 @@ fn expanded(alloc: Global, line: &str) -> Result<Vec<u8>, Fail> {
     Ok(text)
 }
 
-/// Fails at a line whose text doesn't give what the line says. The first line is empty.
-pub fn each_gives<F: Fn(Global, &[u8]) -> Result<String, AllocError>>(
-    rt: &impl Abort,
-    alloc: Global,
-    shown: F,
-    lines: &str,
-) -> Result<(), Fail>
-    requires { F.IsAlwaysCallable shown }
-{
-    for line in lines.lines().skip(1) {
-        let (text, want) = line.split_once(" =>").ok_or("case")?;
+/// What is answered for a text.
+fn answered(alloc: Global, asked: &str, text: &[u8]) -> Result<String, AllocError> {
+    match asked {
+        "tokens" => tokens::tokens_from(alloc, text, 0),
+        "tokens from byte 2" => tokens::tokens_from(alloc, text, 2),
+        "values" => tokens::values(alloc, text),
+        "layout" => tokens::layout(alloc, text),
+        "clauses" => syntax::program(alloc, text),
+        "number of clauses" => syntax::count(alloc, text),
+        "goals" => syntax::query(alloc, text),
+        "meaning" => keys::meaning(alloc, text),
+        "numbers" => keys::numbers(alloc, text),
+        "checks of a program" => checks::program(alloc, text),
+        "checks of a query" => checks::query(alloc, text),
+        "empty program" => store::program(alloc),
+        "query without goals" => store::query(alloc),
+        _ => String::from_str(alloc, " nothing is asked so"),
+    }
+}
+
+/// Fails at a case of a table with another answer.
+pub fn each_holds(rt: &impl Abort, alloc: Global, table: &str) -> Result<(), AllocError> {
+    let (asked, cases) = table.split_once('\n').unwrap_or((table, "no case"));
+    for case in cases.lines() {
+        let (text, want) = case.split_once(" =>").unwrap_or((case, " no case"));
         let text = expanded(alloc, text)?;
         let want = expanded(alloc, want)?;
-        let found = shown(alloc, text.as_slice())?;
-        assert!(rt; found.as_bytes() == want.as_slice(), "{line}: {found}");
+        let found = answered(alloc, asked, text.as_slice())?;
+        assert!(rt; found.as_bytes() == want.as_slice(), "{case}: {found}");
     }
     Ok(())
 }

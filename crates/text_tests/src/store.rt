@@ -3,7 +3,7 @@
 
 ghost use Rattle.std.specs.Prelude.{◌≤◌, length, IfOk};
 
-use crate::lines::each_gives;
+use crate::lines::each_holds;
 use akl_syntax::SourceQuery;
 use akl_terms::{Name, Query, Term, Text};
 use clause_store::{load, load_query};
@@ -16,7 +16,7 @@ const FRAME: Name = Name {
 };
 
 /// How many definitions and nodes the empty program has, and its cell's first variable.
-fn program(alloc: Global, _text: &[u8]) -> Result<String, AllocError> {
+pub fn program(alloc: Global) -> Result<String, AllocError> {
     let program = load(alloc, Vec::new(alloc))?;
     let count = program.definitions.len();
     let nodes = program.templates.len();
@@ -46,7 +46,7 @@ fn variables(alloc: Global, query: &Query) -> Result<String, AllocError> {
 }
 
 /// How many nodes the program has with the query, and the query's variables.
-fn query(alloc: Global, _text: &[u8]) -> Result<String, AllocError> {
+pub fn query(alloc: Global) -> Result<String, AllocError> {
     let program = load(alloc, Vec::new(alloc))?;
     let query = SourceQuery {
         goals: Vec::new(alloc),
@@ -57,16 +57,17 @@ fn query(alloc: Global, _text: &[u8]) -> Result<String, AllocError> {
     format!(in alloc; " {}{variables}", program.templates.len())
 }
 
-const PROGRAM: &str = "
+const PROGRAM: &str = "empty program
  => 0 4 Free(Var { frame: Name { worker: 0, number: 0 }, index: 0 })
 ";
 
-const QUERY: &str = "
+const QUERY: &str = "query without goals
  => 6 2 Y 1
 ";
 
 #[test]
 fn a_query_is_loaded_over_a_program(rt: HostRuntime) -> Result<(), Fail> {
-    each_gives(&rt, rt.alloc(), program, PROGRAM)?;
-    each_gives(&rt, rt.alloc(), query, QUERY)
+    each_holds(&rt, rt.alloc(), PROGRAM)?;
+    each_holds(&rt, rt.alloc(), QUERY)?;
+    Ok(())
 }

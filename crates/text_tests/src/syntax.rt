@@ -1,6 +1,6 @@
 //! Programs and queries, and what they are read as.
 
-use crate::lines::{counted, each_gives, put_count, put_integer};
+use crate::lines::{counted, each_holds};
 use akl_syntax::{
     Head, SourceClause, SourceGoal, SourcePart, SourceTerm, SyntaxError, check_query, read_program,
     read_query,
@@ -8,17 +8,6 @@ use akl_syntax::{
 use akl_terms::{Op, Text};
 use std::alloc::{AllocError, Global};
 use std::test::Fail;
-
-fn put_between(
-    shown: &mut String,
-    before: &str,
-    text: &str,
-    behind: &str,
-) -> Result<(), AllocError> {
-    shown.push_str(before)?;
-    shown.push_str(text)?;
-    shown.push_str(behind)
-}
 
 #[cycle(shown_terms)]
 fn write_terms(shown: &mut String, terms: &[SourceTerm]) -> Result<(), AllocError> {
@@ -33,8 +22,8 @@ fn write_terms(shown: &mut String, terms: &[SourceTerm]) -> Result<(), AllocErro
 #[cycle(shown_terms)]
 fn write_term(shown: &mut String, term: &SourceTerm) -> Result<(), AllocError> {
     match term {
-        SourceTerm::Var(number) => put_count(shown, "V", *number as usize),
-        SourceTerm::Int(value) => put_integer(shown, *value),
+        SourceTerm::Var(number) => write!(shown, "V{number}"),
+        SourceTerm::Int(value) => write!(shown, "{value}"),
         SourceTerm::Struct { symbol, arguments } => {
             shown.push_str(symbol.as_str())?;
             if arguments.is_empty() {
@@ -55,7 +44,7 @@ fn write_term(shown: &mut String, term: &SourceTerm) -> Result<(), AllocError> {
             shown.push('<')?;
             write_term(shown, first)?;
             for step in rest {
-                put_between(shown, " ", step.symbol.as_str(), " ")?;
+                write!(shown, " {} ", step.symbol.as_str())?;
                 write_term(shown, &step.right)?;
             }
             shown.push('>')
@@ -105,7 +94,7 @@ fn write_part(shown: &mut String, part: &SourcePart) -> Result<(), AllocError> {
 fn write_names(shown: &mut String, names: &[Text]) -> Result<(), AllocError> {
     shown.push_str(" [")?;
     for name in names {
-        put_between(shown, "", name.as_str(), ",")?;
+        write!(shown, "{},", name.as_str())?;
     }
     shown.push(']')
 }
@@ -115,8 +104,7 @@ fn write_clause(shown: &mut String, clause: &SourceClause) -> Result<(), AllocEr
         Head::Named(symbol) => symbol.as_str(),
         Head::Lifted { .. } => "lifted",
     };
-    put_count(shown, " ", clause.start)?;
-    put_between(shown, ": ", name, "")?;
+    write!(shown, " {}: {name}", clause.start)?;
     write_terms(shown, &clause.arguments)?;
     shown.push(' ')?;
     write_part(shown, &clause.part)?;
@@ -145,7 +133,7 @@ fn refusal(alloc: Global, error: SyntaxError) -> Result<String, AllocError> {
 }
 
 /// The clauses of a text, or why it is refused.
-fn program(alloc: Global, text: &[u8]) -> Result<String, AllocError> {
+pub fn program(alloc: Global, text: &[u8]) -> Result<String, AllocError> {
     match read_program(alloc, text) {
         Ok(found) => clauses(alloc, found.as_slice()),
         Err(error) => refusal(alloc, error),
@@ -153,7 +141,7 @@ fn program(alloc: Global, text: &[u8]) -> Result<String, AllocError> {
 }
 
 /// How many clauses a text has.
-fn count(alloc: Global, text: &[u8]) -> Result<String, AllocError> {
+pub fn count(alloc: Global, text: &[u8]) -> Result<String, AllocError> {
     match read_program(alloc, text) {
         Ok(found) => counted(alloc, " ", found.len()),
         Err(error) => refusal(alloc, error),
@@ -161,7 +149,7 @@ fn count(alloc: Global, text: &[u8]) -> Result<String, AllocError> {
 }
 
 /// The goals of a query, or why it is refused.
-fn query(alloc: Global, text: &[u8]) -> Result<String, AllocError> {
+pub fn query(alloc: Global, text: &[u8]) -> Result<String, AllocError> {
     if let Err(error) = check_query(text) {
         return refusal(alloc, error);
     }
@@ -177,7 +165,7 @@ fn query(alloc: Global, text: &[u8]) -> Result<String, AllocError> {
 }
 
 /// Programs, and what they are read as.
-const PROGRAMS: &str = r"
+const PROGRAMS: &str = r"clauses
 p. => 0: p() ? [].
  'q r'. ''(a). => 1: q r() ? []. 8: (a,) ? [].
 p(X, -1, 'A b', f(g(a),b)). => 0: p(V0,-1,A b,f(g(a,),b,),) ? [X,].
@@ -218,7 +206,7 @@ p. ! q. => syntax at 3
 ";
 
 /// What stands between clauses is layout.
-const LAYOUT: &str = r"
+const LAYOUT: &str = r"clauses
  =>
  % nothing$/* at all */ =>
 /**/p. %$q.% r. => 4: p() ? []. 9: q() ? [].
@@ -226,7 +214,7 @@ p.@9@q.$$ => 0: p() ? []. 3: q() ? [].
 ";
 
 /// Queries, and what they are read as.
-const QUERIES: &str = r"
+const QUERIES: &str = r"goals
 p => p() []
  p . => p() []
 p(X), q(Y,X) . % end => p(V0,)q(V1,V0,) [X,Y,]
@@ -242,7 +230,7 @@ X = [], Y = [a], Z = [a,b|T] => =(V0,[],)=(V1,list(a,),)=(V2,list(a,b,)|V3,) [X,
 ";
 
 /// Heads, ends, what stands behind a head, arguments and lists, sums and products, goals, and parts.
-const NO_CLAUSES: &str = r"
+const NO_CLAUSES: &str = r"clauses
 ok.$. => syntax at 4
 ok.$:- p. => syntax at 4
 ok.$X. => syntax at 4
@@ -317,7 +305,7 @@ ok.$p :- -> q -> r. => syntax at 4
 ok.$p :- (q -> r | s ; t). => syntax at 4
 ";
 
-const NO_QUERIES: &str = r"
+const NO_QUERIES: &str = r"goals
   => syntax at 1
  . => syntax at 1
  X => syntax at 1
@@ -351,7 +339,7 @@ const NO_QUERIES: &str = r"
 /// Two hundred brackets may be open. Brackets that were closed, and those of another clause, don't count, and one that
 /// closes none counts against one that opens. Too many of them come before an integer out of range, but behind what
 /// begins no token.
-const NESTED_CLAUSES: &str = r"
+const NESTED_CLAUSES: &str = r"clauses
 p :- @(*200@a@)*200@. => 0: p() ?a() [].
 p :- @(*201@a@)*201@. => too many open brackets at 205
 p :- @(->*200@a@)*200@. => 0: p() ?@{->*200@a()@;}*200@ [].
@@ -370,7 +358,7 @@ p(9223372036854775808, @(*200@a@)*200@). => too many open brackets at 222
 p :- @(*201@a@)*201@! . => syntax at 0
 ";
 
-const NESTED_QUERIES: &str = r"
+const NESTED_QUERIES: &str = r"goals
 @(*200@a@)*200@ => a() []
 @(*201@a@)*201@ => too many open brackets at 200
 p([@[*198@a@]*198@]). => p(list(@list(*198@a@,)*198@,),) []
@@ -380,7 +368,7 @@ p. @(*201@a@)*201@ => syntax at 0
 
 /// An integer is a signed number of 64 bits. The first one out of range decides, also in a text that is no clause, but
 /// only behind the tokens.
-const INTEGERS: &str = r"
+const INTEGERS: &str = r"clauses
 p(9223372036854775807). => 0: p(9223372036854775807,) ? [].
 p(9223372036854775808). => integer out of range at 2
 p(-9223372036854775808). => 0: p(-9223372036854775808,) ? [].
@@ -392,53 +380,46 @@ p. q(9223372036854775808,  => syntax at 3
 p(9223372036854775808!). => syntax at 0
 ";
 
-const QUERY_INTEGERS: &str = r"
+const QUERY_INTEGERS: &str = r"goals
 -9223372036854775808 = -0 => =(-9223372036854775808,0,) []
 X = -9223372036854775809 => integer out of range at 4
 p(9223372036854775808 => integer out of range at 2
 p(9223372036854775808). q => integer out of range at 2
 ";
 
-const LONG_PROGRAMS: &str = r"
+const LONG_PROGRAMS: &str = r"clauses
 @ *999998@p. => 999998: p() ? [].
 @ *999999@p. => too long, 1000001
 ";
 
-const LONG_QUERIES: &str = r"
+const LONG_QUERIES: &str = r"goals
 @ *9998@p. => p() []
 @ *9999@p. => too long, 10001
 ";
 
 /// A program of a million bytes.
-const MANY_CLAUSES: &str = r"
+const MANY_CLAUSES: &str = r"number of clauses
 @p(a) :- q(X), r.$*58823@@ *8@$ => 58823
 ";
 
 #[test]
 fn a_program_is_read_as_its_clauses_or_refused(rt: HostRuntime) -> Result<(), Fail> {
-    for cases in [
-        PROGRAMS,
-        LAYOUT,
-        NO_CLAUSES,
-        NESTED_CLAUSES,
-        INTEGERS,
-        LONG_PROGRAMS,
-    ] {
-        each_gives(&rt, rt.alloc(), program, cases)?;
-    }
-    each_gives(&rt, rt.alloc(), count, MANY_CLAUSES)
+    each_holds(&rt, rt.alloc(), PROGRAMS)?;
+    each_holds(&rt, rt.alloc(), LAYOUT)?;
+    each_holds(&rt, rt.alloc(), NO_CLAUSES)?;
+    each_holds(&rt, rt.alloc(), NESTED_CLAUSES)?;
+    each_holds(&rt, rt.alloc(), INTEGERS)?;
+    each_holds(&rt, rt.alloc(), LONG_PROGRAMS)?;
+    each_holds(&rt, rt.alloc(), MANY_CLAUSES)?;
+    Ok(())
 }
 
 #[test]
 fn a_query_is_read_as_its_goals_or_refused(rt: HostRuntime) -> Result<(), Fail> {
-    for cases in [
-        QUERIES,
-        NO_QUERIES,
-        NESTED_QUERIES,
-        QUERY_INTEGERS,
-        LONG_QUERIES,
-    ] {
-        each_gives(&rt, rt.alloc(), query, cases)?;
-    }
+    each_holds(&rt, rt.alloc(), QUERIES)?;
+    each_holds(&rt, rt.alloc(), NO_QUERIES)?;
+    each_holds(&rt, rt.alloc(), NESTED_QUERIES)?;
+    each_holds(&rt, rt.alloc(), QUERY_INTEGERS)?;
+    each_holds(&rt, rt.alloc(), LONG_QUERIES)?;
     Ok(())
 }

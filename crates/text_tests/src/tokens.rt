@@ -2,7 +2,7 @@
 
 ghost use Rattle.akl_text.specs.Spelling.{IsTokenOf};
 
-use crate::lines::{counted, each_gives, put_integer};
+use crate::lines::{counted, each_holds};
 use akl_text::{Kind, TextError, Token, integer_of, layout_end, text_of, tokens};
 use std::alloc::{AllocError, Global};
 use std::str::from_utf8;
@@ -20,37 +20,11 @@ fn listed(alloc: Global, text: &[u8], found: &[Token]) -> Result<String, AllocEr
 }
 
 /// The tokens of a text from a place on, or why there are none.
-fn tokens_from(alloc: Global, text: &[u8], from: usize) -> Result<String, AllocError> {
+pub fn tokens_from(alloc: Global, text: &[u8], from: usize) -> Result<String, AllocError> {
     match tokens(alloc, text, from.min(text.len())) {
         Ok(found) => listed(alloc, text, found.as_slice()),
         Err(TextError::NoToken { at }) => counted(alloc, " no token at ", at),
         Err(TextError::Memory(error)) => Err(error),
-    }
-}
-
-fn all_tokens(alloc: Global, text: &[u8]) -> Result<String, AllocError> {
-    tokens_from(alloc, text, 0)
-}
-
-fn second_tokens(alloc: Global, text: &[u8]) -> Result<String, AllocError> {
-    tokens_from(alloc, text, 2)
-}
-
-/// The text of a token, between quotes.
-fn put_text(shown: &mut String, text: &str) -> Result<(), AllocError> {
-    shown.push_str(" \"")?;
-    shown.push_str(text)?;
-    shown.push('"')
-}
-
-/// The value of an integer token, or that it has none.
-fn put_value(shown: &mut String, value: Option<i64>) -> Result<(), AllocError> {
-    match value {
-        Some(value) => {
-            shown.push(' ')?;
-            put_integer(shown, value)
-        }
-        None => shown.push_str(" none"),
     }
 }
 
@@ -64,17 +38,17 @@ fn put_token(
     requires { IsTokenOf text.now token.now }
 {
     match token.kind {
-        Kind::Integer => put_value(shown, integer_of(text, token)),
+        Kind::Integer => write!(shown, " {:?}", integer_of(text, token)),
         Kind::Name | Kind::Variable | Kind::Quoted => {
             let value = text_of(alloc, text, token)?;
-            put_text(shown, value.as_str())
+            write!(shown, " \"{}\"", value.as_str())
         }
         _ => shown.push_str(" no value"),
     }
 }
 
 /// The values of the tokens of a text.
-fn values(alloc: Global, text: &[u8]) -> Result<String, AllocError> {
+pub fn values(alloc: Global, text: &[u8]) -> Result<String, AllocError> {
     let mut shown = String::new(alloc);
     if let Ok(found) = tokens(alloc, text, 0) {
         for token in &found {
@@ -84,13 +58,13 @@ fn values(alloc: Global, text: &[u8]) -> Result<String, AllocError> {
     Ok(shown)
 }
 
-fn layout(alloc: Global, text: &[u8]) -> Result<String, AllocError> {
+pub fn layout(alloc: Global, text: &[u8]) -> Result<String, AllocError> {
     counted(alloc, " ", layout_end(text, 0))
 }
 
 /// Every kind; the longest token; a sign, which goes by the token before it; layout; the end token, which is the last;
 /// quoted text; and places where nothing begins.
-const TOKENS: &str = r"
+const TOKENS: &str = r"tokens
 p1_A(X2,'q r') :- (a;b) => Name p1_A OpenCall ( Variable X2 Comma , Quoted 'q r' Close ) Neck :- Open ( Name a Semicolon ; Name b Close )
 _y is -07 mod [Z|2] ? => Variable _y Is is Integer -07 Mod mod OpenList [ Variable Z Bar | Integer 2 CloseList ] Question ?
 ->=<><=>==:==\= => Arrow -> AtMost =< Greater > Less < Equal = AtLeast >= Same =:= Differs =\=
@@ -140,12 +114,12 @@ x '@255@' => no token at 2
 ";
 
 /// A clause that is read from byte 2 on.
-const LATER: &str = r"
+const LATER: &str = r"tokens from byte 2
 a. -1. ' => Integer -1 End .
 ";
 
 /// Texts and integers, of which some are no signed number of 64 bits.
-const VALUES: &str = r#"
+const VALUES: &str = r#"values
 abC_1 => "abC_1"
 _ => "_"
 '' => ""
@@ -154,15 +128,15 @@ _ => "_"
 'a\\b\n\tc' => "a\b$@9@c"
 '''' => "'"
 'né😀 % /* ' => "né😀 % /* "
--07 => -7
-9223372036854775807 => 9223372036854775807
-9223372036854775808 => none
--9223372036854775808 => -9223372036854775808
--9223372036854775809 => none
+-07 => Some(-7)
+9223372036854775807 => Some(9223372036854775807)
+9223372036854775808 => None
+-9223372036854775808 => Some(-9223372036854775808)
+-9223372036854775809 => None
 "#;
 
 /// Where layout ends and something else begins.
-const LAYOUT: &str = r"
+const LAYOUT: &str = r"layout
  @9@$@11@@12@@13@a => 6
 % => 1
 % a$% => 5
@@ -178,16 +152,9 @@ a  => 0
 
 #[test]
 fn a_text_is_read_as_its_tokens(rt: HostRuntime) -> Result<(), Fail> {
-    each_gives(&rt, rt.alloc(), all_tokens, TOKENS)?;
-    each_gives(&rt, rt.alloc(), second_tokens, LATER)
-}
-
-#[test]
-fn a_token_has_its_value(rt: HostRuntime) -> Result<(), Fail> {
-    each_gives(&rt, rt.alloc(), values, VALUES)
-}
-
-#[test]
-fn layout_ends_where_something_else_begins(rt: HostRuntime) -> Result<(), Fail> {
-    each_gives(&rt, rt.alloc(), layout, LAYOUT)
+    each_holds(&rt, rt.alloc(), TOKENS)?;
+    each_holds(&rt, rt.alloc(), LATER)?;
+    each_holds(&rt, rt.alloc(), VALUES)?;
+    each_holds(&rt, rt.alloc(), LAYOUT)?;
+    Ok(())
 }
