@@ -1,0 +1,220 @@
+-- The places that are listed for a plan are those that its label opens.
+use Rattle.std.proofs.Common.{◌≡◌, Bool, true, false, List, [], ◌∷◌, Option, Some, None, refl, sym, ap, subst, ◌∙◌, inl, inr}
+use Rattle.opened_places.proofs.Members.{one_left, one_right, one_either}
+use Rattle.std.specs.Prelude.{slice_index, is_some, option_map, IsSomeAnd}
+use Rattle.std.specs.List.{AllByRecursion}
+use Rattle.akl_terms.specs.declared.name.Name.{Name}
+use Rattle.akl_terms.specs.declared.name.Var.{Var}
+use Rattle.akl_terms.specs.declared.name.Place.{Place}
+use Rattle.akl_terms.specs.declared.term.Node.{Node}
+use Rattle.akl_model.specs.declared.label.Label.{Label}
+use Rattle.akl_model.specs.Config.{IsIn, Config, Found, box_at, home_of}
+use Rattle.akl_model.specs.Derivations.{Applies}
+use Rattle.akl_model.specs.Changes.{Binds}
+use Rattle.akl_model.specs.Wakes.{names_around, names_down_to, boxes_around, StandsIn, Wait, IsKept, IsOneOf, IsThere, Opens}
+use Rattle.constraint_laws.proofs.SameTerms.{Either}
+use Rattle.constraint_laws.specs.Touched.{IsAmong}
+use Rattle.step_laws.specs.Bound.{AreBoundIn}
+use Rattle.step_laws.proofs.Decide.{there_or}
+use Rattle.step_laws.proofs.There.{there_site}
+use Rattle.wait_laws.specs.Waits.{AreWaits}
+use Rattle.wait_laws.proofs.Sites.{adds_at_site}
+use Rattle.wait_laws.proofs.Woken as waking
+use Rattle.table_laws.specs.Stamped.{IsTableOf}
+use Rattle.table_laws.specs.Steps as laws
+use Rattle.box_tree.specs.declared.step.Step.{Step}
+use Rattle.box_tree.specs.Tables.{all_rules, TableValue, table_of, step_of}
+use Rattle.box_tree.specs.Views.{run_of}
+use Rattle.box_tree.specs.Plans.{PlanValue}
+use Rattle.binding_laws.specs.Bindings.{BindsOutside, HasOuterIn}
+use Rattle.binding_laws.proofs.StepOutside.{step_outside}
+use Rattle.opened_places.specs.Changed.{IsChanged, IsWoken, IsBoundOutside}
+use Rattle.opened_places.specs.Placed.{PlacedValue, places_of, StandsSo}
+use Rattle.opened_places.specs.Exact.{AreChangedTo}
+use Rattle.opened_places.specs.Inner.{AreAllInside}
+use Rattle.opened_places.specs.Gone.{AreAllGone}
+use Rattle.opened_places.proofs.AtRows.{home_is}
+use Rattle.opened_places.proofs.OpenedWays.{opens_law}
+use Rattle.opened_places.proofs.StillAround.{still_around}
+use Rattle.scheduler.specs.Openings.{AreListed}
+use Rattle.scheduler.specs.Opening.{IsPlacedIn}
+use Rattle.scheduler.specs.Effects.{StandsNow, stands, goes, AreOpenedBy}
+use Rattle.scheduler.specs.Listing.{waiting_on, places_but, binds_outer, AreInner, AreListedFor}
+use Rattle.wake_lists.specs.Waits.{waits_on}
+use Rattle.scheduler.proofs.DroppedWaits.{Waiting}
+use Rattle.scheduler.proofs.CommitFacts.{stands_there}
+use Rattle.scheduler.proofs.ListedOthers.{waits_listed, listed_waits, stays_listed, listed_stays, outer_so, so_outer}
+use Rattle.scheduler.proofs.PlacedThose.{of_placed, those_keep, those_come, came_so}
+
+-- one listed place, with the boxes around it
+one_placed : (place : Place) (ps : List PlacedValue) → IsOneOf place (places_of ps) → (p : PlacedValue) × IsPlacedIn p ps × (p.place ≡ place)
+one_placed place [] i = absurd i
+one_placed place (q ∷ qs) (inl e) = (q, inl refl, sym e)
+one_placed place (q ∷ qs) (inr i) = let w : (p : PlacedValue) × IsPlacedIn p qs × (p.place ≡ place) = one_placed place qs i in (w.0, inr w.1, w.2)
+
+each_of : (P : PlacedValue → Type 0) (ps : List PlacedValue) → AllByRecursion P ps → (p : PlacedValue) → IsPlacedIn p ps → P p
+each_of P [] a p i = absurd i
+each_of P (q ∷ qs) a p (inl e) = subst P (sym e) a.0
+each_of P (q ∷ qs) a p (inr i) = each_of P qs a.1 p i
+
+-- a step gives its box a store where a variable is of none of its frames
+outer_step : (xs : List Var) (nodes : List Node) (step : Step) → HasOuterIn xs (step_of nodes step) → binds_outer xs step ≡ true
+outer_step xs nodes (Step.Tell store solved) w = so_outer xs store.frames w
+outer_step xs nodes (Step.Promote store solved goals) w = so_outer xs store.frames w
+outer_step xs nodes (Step.Fork op alternatives) w = absurd w
+outer_step xs nodes Step.Fail w = absurd w
+outer_step xs nodes Step.Cut w = absurd w
+outer_step xs nodes Step.Refute w = absurd w
+outer_step xs nodes Step.Confirm w = absurd w
+outer_step xs nodes (Step.Split copy copies) w = absurd w
+
+step_outer : (xs : List Var) (nodes : List Node) (step : Step) → binds_outer xs step ≡ true → HasOuterIn xs (step_of nodes step)
+step_outer xs nodes (Step.Tell store solved) e = outer_so xs store.frames e
+step_outer xs nodes (Step.Promote store solved goals) e = outer_so xs store.frames e
+step_outer xs nodes (Step.Fork op alternatives) e = cc
+step_outer xs nodes Step.Fail e = cc
+step_outer xs nodes Step.Cut e = cc
+step_outer xs nodes Step.Refute e = cc
+step_outer xs nodes Step.Confirm e = cc
+step_outer xs nodes (Step.Split copy copies) e = cc
+
+-- a place that isn't there and comes
+is_new : (c d : Config) (place : Place) → (IsThere place c.roots → ⊥) → IsThere place d.roots → IsChanged c d place
+is_new c d (Place.Goal g) m h = let w : (f : Found) × (home_of g d.roots ≡ Some f) = there_site (Place.Goal g) d.roots h in IsChanged.new_goal (none (home_of g c.roots) (λ e. m e)) w.1
+  where
+    none : (o : Option Found) → (is_some (option_map names_down_to o) ≡ true → ⊥) → o ≡ None
+    none None n = refl
+    none (Some f) n = absurd (n refl)
+is_new c d (Place.Box b) m h = let w : (f : Found) × (box_at b d.roots ≡ Some f) = there_site (Place.Box b) d.roots h in IsChanged.new_box (none (box_at b c.roots) (λ e. m e)) w.1
+  where
+    none : (o : Option Found) → (is_some (option_map names_around o) ≡ true → ⊥) → o ≡ None
+    none None n = refl
+    none (Some f) n = absurd (n refl)
+
+module _ (v : TableValue) (journal : List Label) (t : IsTableOf all_rules (run_of v journal) (table_of v)) (p : PlanValue) (d : Config) (a : Applies all_rules v.program t.config p.label d)
+    (makes : laws.Makes v.program p.label (slice_index t.config.next p.label.worker) a.site (step_of v.program.templates.nodes p.step)) (bound : AreBoundIn t.config d a.site p.binds)
+    (gone : List Place) (all_gone : AreAllGone t.config d gone) (before : List Place) (kept : List Wait) (waits : AreWaits t.config before kept) (ws : Waiting) (listed : AreListed ws kept)
+    (places : List PlacedValue) (x : AreListedFor v ws p gone places) where
+  abbrev c : Config
+  c = t.config
+
+  abbrev n : Name
+  n = a.site.content.name
+
+  same_home : x.around.home ≡ n
+  same_home = home_is all_rules (run_of v journal) (table_of v) p.label d t a x.around x.is_around
+
+  still : (place : Place) → IsThere place c.roots → IsThere place d.roots → boxes_around place c.roots ≡ boxes_around place d.roots
+  still = still_around all_rules v.program v.query journal c p.label d t.replays a
+
+  now_in : (m : Name) (place : Place) → IsThere place d.roots → StandsIn m c.roots place → StandsIn m d.roots place
+  now_in m place h s = subst (λ (o : Option (List Name)). IsSomeAnd o (IsIn m)) (still place (stands_there m c.roots place s) h) s
+
+  was_in : (m : Name) (place : Place) → IsThere place c.roots → StandsIn m d.roots place → StandsIn m c.roots place
+  was_in m place h s = subst (λ (o : Option (List Name)). IsSomeAnd o (IsIn m)) (sym (still place h (stands_there m d.roots place s))) s
+
+  changed : AreChangedTo c d x.adds.changed
+  changed = x.adds.are_changed journal t d a makes
+
+  is_woken : (place : Place) → ((b : Name) (y : Var) → IsKept kept place y → Binds c d b y → (z : Var) × IsKept kept place z × IsAmong z p.binds) × ((z : Var) → IsKept kept place z → IsAmong z p.binds → Binds c d n z)
+  is_woken place = waking.woken all_rules v.program v.query journal c p.label d t.replays a before kept waits p.binds bound place
+
+  outside : (BindsOutside c d n → HasOuterIn p.binds (step_of v.program.templates.nodes p.step)) × (HasOuterIn p.binds (step_of v.program.templates.nodes p.step) → BindsOutside c d n)
+  outside = step_outside all_rules (run_of v journal) (table_of v) p.label d t a (step_of v.program.templates.nodes p.step) makes p.binds bound
+
+  -- the others
+  woken_other : (place : Place) → IsOneOf place (waiting_on ws p.binds) → IsOneOf place x.others
+  woken_other place i = on (binds_outer p.binds p.step) refl
+    where
+      on : (b : Bool) → binds_outer p.binds p.step ≡ b → IsOneOf place x.others
+      on true e = let w : AreInner v x.around.home gone (waiting_on ws p.binds) x.others = x.are_others.outer e in
+          subst (IsOneOf place) (sym w.comes) (one_left place (waiting_on ws p.binds) (places_but gone (places_of w.inside)) i)
+      on false e = subst (IsOneOf place) (sym (x.are_others.none_outer e)) i
+
+  inner_other : binds_outer p.binds p.step ≡ true → (place : Place) → IsThere place d.roots → StandsIn n c.roots place → IsOneOf place x.others
+  inner_other e place h s =
+      let w : AreInner v x.around.home gone (waiting_on ws p.binds) x.others = x.are_others.outer e in
+      let inside : AreAllInside c.roots x.around.home w.inside = w.are_inside (run_of v journal) t in
+      subst (IsOneOf place) (sym w.comes) (one_right place (waiting_on ws p.binds) (places_but gone (places_of w.inside))
+      ((stays_listed gone (places_of w.inside) place (inside.listed place (subst (λ (m : Name). StandsIn m c.roots place) (sym same_home) s)) (λ i. (all_gone.gone place i).gone h))))
+
+  other_opens : (place : Place) → IsOneOf place x.others → Opens kept c d place
+  other_opens place i = on (binds_outer p.binds p.step) refl
+    where
+      by_waits : IsOneOf place (waiting_on ws p.binds) → Opens kept c d place
+      by_waits j =
+          let w : (y : Var) × IsAmong y p.binds × (waits_on ws place y ≡ true) = listed_waits ws p.binds place j in
+          let k : IsKept kept place w.0 = listed.all place w.0 w.2 in
+          (opens_law kept c d place).1 (inr (inl (record { box = n; variable = w.0; kept = k; binds = (is_woken place).1 w.0 k w.1 })))
+
+      by_box : binds_outer p.binds p.step ≡ true → StandsIn n d.roots place → Opens kept c d place
+      by_box e s =
+          let o : BindsOutside c d n = outside.1 (step_outer p.binds v.program.templates.nodes p.step e) in
+          (opens_law kept c d place).1 (inr (inr (record { box = n; variable = o.variable; binds = o.binds; outside = o.outside; stands = s })))
+
+      there : (IsOneOf place gone → ⊥) → IsThere place c.roots → IsThere place d.roots
+      there m h = elim (there_or place d.roots) [ inl k ↦ k | inr z ↦ absurd (m (all_gone.listed place (record { was = h; gone = z }))) ]
+
+      on : (b : Bool) → binds_outer p.binds p.step ≡ b → Opens kept c d place
+      on false e = by_waits (subst (IsOneOf place) (x.are_others.none_outer e) i)
+      on true e =
+          let w : AreInner v x.around.home gone (waiting_on ws p.binds) x.others = x.are_others.outer e in
+          let inside : AreAllInside c.roots x.around.home w.inside = w.are_inside (run_of v journal) t in
+          elim (one_either place (waiting_on ws p.binds) (places_but gone (places_of w.inside)) (subst (IsOneOf place) w.comes i)) [
+            | inl j ↦ by_waits j
+            | inr j ↦
+                let k : IsOneOf place (places_of w.inside) × (IsOneOf place gone → ⊥) = listed_stays gone (places_of w.inside) place j in
+                let s : StandsIn n c.roots place = subst (λ (m : Name). StandsIn m c.roots place) same_home (inside.inside place k.0) in
+                by_box e (now_in n place (there k.1 (stands_there n c.roots place s)) s)
+          ]
+
+  come : (place : Place) → IsOneOf place x.others → IsThere place c.roots → IsOneOf place (places_of places)
+  come place i h = those_come v (run_of v journal) t x.others x.adds.changed places x.adds.adds place i h
+
+  by_change : (place : Place) → IsChanged c d place → IsOneOf place (places_of places)
+  by_change place k = those_keep v (run_of v journal) t x.others x.adds.changed places x.adds.adds place (changed.exactly.listed place k)
+
+  all_listed : (place : Place) → Opens kept c d place → IsOneOf place (places_of places)
+  all_listed place o = elim ((opens_law kept c d place).0 o) [ inl k ↦ by_change place k | inr w ↦ elim w [ inl k ↦ by_wait k | inr k ↦ by_outside k ] ]
+    where
+      by_wait : IsWoken kept c d place → IsOneOf place (places_of places)
+      by_wait k =
+          let y : (z : Var) × IsKept kept place z × IsAmong z p.binds = (is_woken place).0 k.box k.variable k.kept k.binds in
+          come place (woken_other place (waits_listed ws p.binds place y.0 y.2 (listed.only place y.0 y.1))) (waits.there place k.variable k.kept)
+
+      by_outside : IsBoundOutside c d place → IsOneOf place (places_of places)
+      by_outside k = on (there_or place c.roots)
+        where
+          same : k.box ≡ n
+          same = adds_at_site all_rules v.program v.query journal c p.label d t.replays a k.box k.binds.adds
+
+          outer : binds_outer p.binds p.step ≡ true
+          outer = outer_step p.binds v.program.templates.nodes p.step (outside.0 (subst (BindsOutside c d) same (record { variable = k.variable; binds = k.binds; outside = k.outside })))
+
+          in_home : StandsIn n d.roots place
+          in_home = subst (λ (m : Name). StandsIn m d.roots place) same k.stands
+
+          there : IsThere place d.roots
+          there = stands_there n d.roots place in_home
+
+          on : Either (IsThere place c.roots) → IsOneOf place (places_of places)
+          on (inl h) = come place (inner_other outer place there (was_in n place h in_home)) h
+          on (inr m) = by_change place (is_new c d place m there)
+
+  stand : (q : PlacedValue) → IsPlacedIn q places → StandsNow c d q
+  stand q i = elim (came_so v (run_of v journal) t x.others x.adds.changed places x.adds.adds q i) [
+    | inl j ↦ stands (each_of (StandsSo d.roots) x.adds.changed changed.around q j)
+    | inr w ↦ elim (there_or q.place d.roots) [ inl h ↦ stands (sym (still q.place (ap is_some w.1) h) ∙ w.1) | inr m ↦ goes m w.1 ]
+  ]
+
+  pub opened_so : AreOpenedBy c d kept places
+  opened_so = record {
+    listed = all_listed;
+    opened = λ place i.
+        let w : (q : PlacedValue) × IsPlacedIn q places × (q.place ≡ place) = one_placed place places i in
+        subst (Opens kept c d) w.2 (elim (came_so v (run_of v journal) t x.others x.adds.changed places x.adds.adds w.0 w.1) [
+          | inl j ↦ (opens_law kept c d w.0.place).1 (inl (changed.exactly.changed w.0.place (of_placed w.0 x.adds.changed j)))
+          | inr k ↦ other_opens w.0.place k.0
+        ]);
+    around = stand;
+  }

@@ -1,0 +1,6 @@
+use Rattle.std.proofs.Common.{take}
+use Rattle.scheduler.specs.Opening.{AreOpened}
+use Rattle.scheduler.proofs.opening.open_all.Given as goal
+
+abbrev pub invariant-loop-placed : goal.invariant-loop-placed
+invariant-loop-placed l = AreOpened l.fn.open (take l.placed-index l.places) l.open l.tokens.items

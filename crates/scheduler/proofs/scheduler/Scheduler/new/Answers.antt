@@ -1,0 +1,15 @@
+use Rattle.std.proofs.Common.{List, sym, subst}
+use Rattle.akl_terms.specs.declared.name.Var.{Var}
+use Rattle.akl_terms.specs.declared.name.Place.{Place}
+use Rattle.step_commit.specs.Cores.{IsCore}
+use Rattle.scheduler.specs.Schedulers.{IsScheduler}
+use Rattle.scheduler.proofs.Starting.{started}
+use Rattle.scheduler.proofs.scheduler.Scheduler.new.Goals as goal
+
+pub invariant_of-result : goal.invariant_of-result
+invariant_of-result c =
+    subst (λ (ws : List (Var × List Place)). IsScheduler (record { core = c.args.core; openings = c.in_ok-open.open; waits = ws })) (sym c.new.ensures)
+    (started c.args.core c.in_ok-open.open (subst IsCore c.core.view_is c.core.invariant) c.requires c.in_ok-open.ensures)
+
+pub returns-clause-open : goal.returns-clause-open
+returns-clause-open c = record { all = c.in_ok-open.ensures.all }

@@ -1,0 +1,11 @@
+pub mod Openings
+pub mod Opening
+pub mod Effects
+pub mod Dropping
+pub mod Placing
+pub mod Schedulers
+pub mod AllPlaces
+pub mod Listing
+pub mod Settling
+pub mod Committed
+pub mod Settled

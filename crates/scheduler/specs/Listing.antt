@@ -1,0 +1,67 @@
+-- The places that are listed for a plan: those that its label changes, wakes, or leaves under equations that bind a variable from outside.
+use Rattle.std.specs.Prelude.{◌≡◌, List, [], ◌∷◌, ◌++◌, Bool, true, false, not, if◌then◌else◌}
+use Rattle.std.specs.List.{list_any}
+use Rattle.akl_terms.specs.declared.name.Name.{Name}
+use Rattle.akl_terms.specs.declared.name.Var.{Var}
+use Rattle.akl_terms.specs.declared.name.Place.{Place}
+use Rattle.local_store.specs.Stored.{is_named}
+use Rattle.box_tree.specs.declared.step.Step.{Step}
+use Rattle.box_tree.specs.Tables.{TableValue, table_of}
+use Rattle.box_tree.specs.Plans.{PlanValue}
+use Rattle.wake_lists.specs.Waits.{places_at}
+use Rattle.opened_places.specs.declared.around.Around.{Around}
+use Rattle.opened_places.specs.Placed.{PlacedValue, places_of}
+use Rattle.opened_places.specs.Exact.{IsAround, AreChanged}
+use Rattle.opened_places.specs.Inner.{AreInside}
+use Rattle.scheduler.specs.Dropping.{is_place_in}
+use Rattle.scheduler.specs.Placing.{AddsThose}
+
+-- the places that wait on these variables
+abbrev pub waiting_on : List (Var × List Place) → List Var → List Place
+waiting_on ws [] = []
+waiting_on ws (x ∷ xs) = places_at x ws ++ waiting_on ws xs
+
+-- places that don't go
+abbrev pub places_but : List Place → List Place → List Place
+places_but gone [] = []
+places_but gone (p ∷ ps) = if is_place_in p gone then places_but gone ps else p ∷ places_but gone ps
+
+-- one of these variables is of none of these frames
+abbrev pub has_outer : List Var → List Name → Bool
+has_outer xs frames = list_any (λ (x : Var). not (is_named frames x.frame)) xs
+
+-- so it is for the store that a step gives its box
+abbrev pub binds_outer : List Var → Step → Bool
+binds_outer xs (Step.Tell store solved) = has_outer xs store.frames
+binds_outer xs (Step.Promote store solved goals) = has_outer xs store.frames
+binds_outer xs (Step.Fork op alternatives) = false
+binds_outer xs Step.Fail = false
+binds_outer xs Step.Cut = false
+binds_outer xs Step.Refute = false
+binds_outer xs Step.Confirm = false
+binds_outer xs (Step.Split copy copies) = false
+
+-- all that stand in a box, but these, come to the end of a list
+pub record AreInner (v : TableValue) (home : Name) (gone before now : List Place) : Type 0 where
+  pub inside : List PlacedValue
+  pub are_inside : AreInside v home inside
+  pub comes : now ≡ before ++ places_but gone (places_of inside)
+
+-- those that wait on a variable that is bound; and where one is of none of the box's frames all that stand in it
+pub record AreOthers (v : TableValue) (ws : List (Var × List Place)) (p : PlanValue) (home : Name) (gone others : List Place) : Type 0 where
+  pub outer : binds_outer p.binds p.step ≡ true → AreInner v home gone (waiting_on ws p.binds) others
+  pub none_outer : binds_outer p.binds p.step ≡ false → others ≡ waiting_on ws p.binds
+
+-- the places that the label changes, and with them others
+pub record AddsOthers (v : TableValue) (p : PlanValue) (others : List Place) (places : List PlacedValue) : Type 0 where
+  pub changed : List PlacedValue
+  pub are_changed : AreChanged v p.label p.step changed
+  pub adds : AddsThose v others changed places
+
+-- all of these, for what stands about the label's place
+pub record AreListedFor (v : TableValue) (ws : List (Var × List Place)) (p : PlanValue) (gone : List Place) (places : List PlacedValue) : Type 0 where
+  pub around : Around
+  pub is_around : IsAround (table_of v) p.label around
+  pub others : List Place
+  pub are_others : AreOthers v ws p around.home gone others
+  pub adds : AddsOthers v p others places

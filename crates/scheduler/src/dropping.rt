@@ -1,0 +1,67 @@
+//! What a commit leaves of places that opened or went.
+
+ghost use Rattle.std.specs.Prelude.{◌≡◌};
+ghost use Rattle.opened_places.specs.Placed.{places_of};
+ghost use Rattle.scheduler.specs.Dropping.{DropsWaits, boxes_among, closed_one, closed_among, after_going, is_place_in};
+ghost use Rattle.wake_lists.specs.Open.{after_leave};
+
+use akl_terms::Place;
+use opened_places::Placed;
+use wake_lists::{Open, Waits};
+
+/// Places that opened wait no more.
+pub(crate) fn drop_opened(waits: &mut Waits, places: &[Placed])
+    ensures { DropsWaits waits.old (places_of places.now) waits.new }
+{
+    for placed in places {
+        waits.drop_place(placed.place());
+    }
+}
+
+/// Places that went wait no more.
+pub(crate) fn drop_gone(waits: &mut Waits, places: &[Place])
+    ensures { DropsWaits waits.old places.now waits.new }
+{
+    for place in places {
+        waits.drop_place(*place);
+    }
+}
+
+/// Of these places that went nothing stands any more in those that were boxes; and what was open under a token is
+/// closed, where its place is one of them.
+pub(crate) fn leave_gone(open: &mut Open, own: Option<u64>, place: Place, gone: &[Place])
+    ensures { open.new ≡ after_going own place gone.now open.old }
+{
+    leave_boxes(open, gone);
+    if is_among(place, gone) {
+        close_one(open, own);
+    }
+}
+
+// Nothing stands any more in the boxes among these places.
+fn leave_boxes(open: &mut Open, gone: &[Place])
+    ensures { open.new ≡ after_leave (boxes_among gone.now) open.old }
+{
+    for place in gone {
+        match place {
+            Place::Box(name) => open.leave(&[*name]),
+            Place::Goal(_) => {}
+        }
+    }
+}
+
+/// Closes what is open under a token, where there is one.
+pub(crate) fn close_one(open: &mut Open, token: Option<u64>)
+    ensures { open.new ≡ closed_one token open.old }
+{
+    if let Some(number) = token {
+        open.close(number);
+    }
+}
+
+/// Whether a place is one of these.
+pub(crate) fn is_among(place: Place, places: &[Place]) -> bool
+    ensures { result ≡ is_place_in place places.now }
+{
+    places.contains(&place)
+}

@@ -1,0 +1,157 @@
+//! The places that a plan's label opens.
+
+ghost use Rattle.std.specs.Prelude.{◌≡◌, ◌++◌, true, not, IfOk, OnOk};
+ghost use Rattle.std.specs.List.{list_any};
+ghost use Rattle.akl_terms.specs.declared.name.Place.{Place};
+ghost use Rattle.local_store.specs.Stored.{is_named};
+ghost use Rattle.wake_lists.specs.Waits.{places_at};
+ghost use Rattle.opened_places.specs.Placed.{places_of};
+ghost use Rattle.opened_places.specs.Exact.{IsAround};
+ghost use Rattle.box_tree.specs.Tables.{table_of};
+ghost use Rattle.box_tree.specs.Drops.{IsOfRun};
+ghost use Rattle.box_tree.specs.Views.{is_there};
+ghost use Rattle.scheduler.specs.Listing.{waiting_on, places_but, has_outer, binds_outer, AreInner, AreOthers, AddsOthers, AreListedFor};
+
+use crate::dropping::is_among;
+use crate::placing::push_those;
+use akl_terms::{Name, Place, Var};
+use box_tree::{Plan, Step, Table};
+use local_store::Store;
+use opened_places::{Around, Placed, around_of, changed_places, places_inside};
+use std::alloc::{AllocError, Global};
+use wake_lists::Waits;
+
+/// The places that the label of a plan opens, where these go, each with the boxes around it; one may be listed more than
+/// once. It takes as long as they are many, times their depth.
+pub(crate) fn opened_by(
+    alloc: Global,
+    table: &Table,
+    waits: &Waits,
+    plan: &Plan,
+    gone: &[Place],
+) -> Result<Vec<Placed>, AllocError>
+    requires { IsOfRun table.now }
+    ensures { IfOk result (λ places. AreListedFor table.now waits.now plan.now gone.now places.items) }
+{
+    let Some(around) = around_of(table, plan.label()) else {
+        return Err(AllocError);
+    };
+    let others = opened_others(alloc, table, waits, plan, around.home, gone)?;
+    opened_with(alloc, table, plan, around, others.as_slice())
+}
+
+// The places that the label changes, and these.
+fn opened_with(
+    alloc: Global,
+    table: &Table,
+    plan: &Plan,
+    around: Around,
+    others: &[Place],
+) -> Result<Vec<Placed>, AllocError>
+    requires run { IsOfRun table.now }
+    requires there { is_there (table_of table.now) plan.now.label.place ≡ true }
+    requires around { IsAround (table_of table.now) plan.now.label around }
+    ensures { IfOk result (λ places. AddsOthers table.now plan.now others.now places.items) }
+{
+    let mut places = changed_places(alloc, table, plan.label(), plan.step(), around)?;
+    push_those(alloc, table, others, &mut places)?;
+    Ok(places)
+}
+
+// The places that wait on a variable that the label binds; and where it binds one that is external to this box, all that
+// stand in the box and don't go.
+fn opened_others(
+    alloc: Global,
+    table: &Table,
+    waits: &Waits,
+    plan: &Plan,
+    home: Name,
+    gone: &[Place],
+) -> Result<Vec<Place>, AllocError>
+    requires run { IsOfRun table.now }
+    requires there { is_there (table_of table.now) (Place.Box home) ≡ true }
+    ensures { IfOk result (λ others. AreOthers table.now waits.now plan.now home gone.now others.items) }
+{
+    let mut places = Vec::new(alloc);
+    push_woken(waits, plan.binds(), &mut places)?;
+    if binds_outer(plan.step(), plan.binds()) {
+        push_inner(alloc, table, home, gone, &mut places)?;
+    }
+    Ok(places)
+}
+
+// The places that wait on these variables come to the end of the places.
+fn push_woken(waits: &Waits, binds: &[Var], places: &mut Vec<Place>) -> Result<(), AllocError>
+    ensures { OnOk result (places.new.items ≡ places.old.items ++ waiting_on waits.now binds.now) }
+{
+    for variable in binds {
+        push_waiting(waits, *variable, places)?;
+    }
+    Ok(())
+}
+
+// The places that wait on a variable come.
+fn push_waiting(waits: &Waits, variable: Var, places: &mut Vec<Place>) -> Result<(), AllocError>
+    ensures { OnOk result (places.new.items ≡ places.old.items ++ places_at variable waits.now) }
+{
+    for place in waits.woken_by(variable) {
+        places.push(place)?;
+    }
+    Ok(())
+}
+
+// Whether one of these variables is of none of the frames of the store that a step gives its box.
+fn binds_outer(step: &Step, binds: &[Var]) -> bool
+    ensures { result ≡ binds_outer binds.now step.now }
+{
+    match step {
+        Step::Tell { store, .. } | Step::Promote { store, .. } => has_outer(store.get(), binds),
+        Step::Fork { .. }
+        | Step::Fail
+        | Step::Cut
+        | Step::Refute
+        | Step::Confirm
+        | Step::Split { .. } => false,
+    }
+}
+
+// Whether one of these variables is of none of a store's frames.
+fn has_outer(store: &Store, binds: &[Var]) -> bool
+    ensures { result ≡ has_outer binds.now store.now.frames }
+{
+    binds
+        .iter()
+        .any(|variable| !store.has_frame(variable.frame))
+}
+
+// All that stand in a box, but these, come.
+fn push_inner(
+    alloc: Global,
+    table: &Table,
+    home: Name,
+    gone: &[Place],
+    places: &mut Vec<Place>,
+) -> Result<(), AllocError>
+    requires run { IsOfRun table.now }
+    requires there { is_there (table_of table.now) (Place.Box home) ≡ true }
+    ensures { OnOk result (AreInner table.now home gone.now places.old.items places.new.items) }
+{
+    let inside = places_inside(alloc, table, home)?;
+    push_staying(inside.as_slice(), gone, places)
+}
+
+// Places come that aren't among those that go.
+fn push_staying(
+    inside: &[Placed],
+    gone: &[Place],
+    places: &mut Vec<Place>,
+) -> Result<(), AllocError>
+    ensures { OnOk result (places.new.items ≡ places.old.items ++ places_but gone.now (places_of inside.now)) }
+{
+    for placed in inside {
+        if !is_among(placed.place(), gone) {
+            places.push(placed.place())?;
+        }
+    }
+    Ok(())
+}

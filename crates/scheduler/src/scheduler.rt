@@ -1,0 +1,125 @@
+//! The state of a run with its open places.
+
+ghost use Rattle.std.specs.Prelude.{◌≡◌, [], option_map, IfOk, IfNone, true};
+ghost use Rattle.wake_lists.specs.Open.{IsFirst, opening_at, closed, is_busy};
+ghost use Rattle.scheduler.specs.Schedulers.{IsScheduler, AllOpen, IsQuiet, HasGone};
+ghost use Rattle.scheduler.specs.AllPlaces.{AreAllOpen, AreAllPlaced};
+
+use crate::opening::open_all;
+use crate::placing::push_those;
+use akl_terms::{Name, Place};
+use opened_places::Placed;
+use std::alloc::{AllocError, Global};
+use std::marker::Model;
+use step_commit::Core;
+use wake_lists::{Open, Waits};
+
+/// The state of a run, with the places at which a rule may apply, which are open, and the variables on which the others
+/// wait. A place that isn't open isn't ready, or it is a box that is ready by a split alone and has an open place in it.
+#[derive(Drop)]
+pub struct Scheduler {
+    pub(crate) core: Core,
+    pub(crate) open: Open,
+    pub(crate) waits: Waits,
+}
+
+impl Model for Scheduler {
+    ghost use Rattle.scheduler.specs.Schedulers.{SchedulerValue, IsScheduler};
+
+    ghost Value = { SchedulerValue };
+
+    ghost view = { λ s. record { core = s.core; openings = s.open; waits = s.waits } };
+
+    ghost invariant = { λ s. IsScheduler (record { core = s.core; openings = s.open; waits = s.waits }) };
+}
+
+impl Scheduler {
+    /// The scheduler of a core without labels: each of its places is open.
+    pub fn new(alloc: Global, core: Core) -> Result<Scheduler, AllocError>
+        requires { core.journal ≡ [] }
+        ensures core { IfOk result (λ s. s.core ≡ core) }
+        ensures open { IfOk result AllOpen }
+        ensures waits { IfOk result (λ s. s.waits ≡ []) }
+    {
+        let open = open_places(alloc, &core)?;
+        Ok(Scheduler {
+            core,
+            open,
+            waits: Waits::new(alloc),
+        })
+    }
+
+    /// The core.
+    pub fn core(&self) -> &Core
+        ensures core { result.now ≡ self.now.core }
+        ensures scheduler { IsScheduler self.now }
+    {
+        &self.core
+    }
+
+    /// The token of the place that comes first. `None` exactly where no place is open; then no place is ready.
+    pub fn first_open(&self) -> Option<u64>
+        ensures first { IsFirst self.now.openings result }
+        ensures quiet { IfNone result (IsQuiet self.now) }
+    {
+        self.open.first()
+    }
+
+    /// The open place with this token; `None` exactly where there is none.
+    pub fn place_of(&self, token: u64) -> Option<Place>
+        ensures { result ≡ option_map (λ o. o.place) (opening_at token self.now.openings) }
+    {
+        self.open.place_of(token)
+    }
+
+    /// Whether an open place stands in the box.
+    pub fn is_busy(&self, name: Name) -> bool
+        ensures { result ≡ is_busy name self.now.openings }
+    {
+        self.open.busy(name)
+    }
+
+    /// Whether no place is open; then none is ready.
+    pub fn is_quiet(&self) -> bool
+        ensures quiet { result ≡ true → IsQuiet self.now }
+        ensures none { result ≡ true → self.now.openings ≡ [] }
+        ensures some { self.now.openings ≡ [] → result ≡ true }
+    {
+        self.open.count() == 0
+    }
+
+    /// Closes the open place with this token, which has gone.
+    pub fn forget(&mut self, token: u64)
+        requires { HasGone self.old token }
+        ensures { self.new ≡ record self.old { openings = closed token self.old.openings } }
+    {
+        self.open.close(token);
+    }
+
+    /// The core.
+    pub fn into_core(self) -> Core
+        ensures { result ≡ self.core }
+    {
+        self.core
+    }
+}
+
+// All places of a core, open.
+fn open_places(alloc: Global, core: &Core) -> Result<Open, AllocError>
+    ensures { IfOk result (AreAllOpen core.now) }
+{
+    let places = placed_places(alloc, core)?;
+    let mut open = Open::new(alloc);
+    let _ = open_all(alloc, &mut open, places.as_slice())?;
+    Ok(open)
+}
+
+// All places of a core, with the boxes around them.
+fn placed_places(alloc: Global, core: &Core) -> Result<Vec<Placed>, AllocError>
+    ensures { IfOk result (λ places. AreAllPlaced core.now places.items) }
+{
+    let places = core.places(alloc)?;
+    let mut placed = Vec::new(alloc);
+    push_those(alloc, core.table(), places.as_slice(), &mut placed)?;
+    Ok(placed)
+}
