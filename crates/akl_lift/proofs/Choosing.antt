@@ -1,14 +1,15 @@
 -- A choice whose definition is put into the place that was kept for it.
-use Rattle.std.proofs.Common.{◌≡◌, ℕ, ◌+◌, List, [], ◌∷◌, ◌++◌, length, map, get_or, sym, ap, ◌∙◌, arith, length-append, Vec, Global}
+use Rattle.std.proofs.Common.{◌≡◌, ℕ, ◌+◌, List, [], ◌∷◌, ◌++◌, length, map, get_or, sym, ap, ◌∙◌, arith, length-append, Vec, Global, Result, IfOk}
 use Rattle.std.specs.Prelude.{slice_set}
 use Rattle.std.specs.List.{concat}
 use Rattle.std.proofs.lemmas.List.{length-map}
+use Rattle.std.proofs.lemmas.Result.{IfOk-weaker}
 use Rattle.akl_syntax.specs.Goals.{Parts, lifted}
 use Rattle.akl_syntax.specs.GoalView.{goal}
 use Rattle.akl_syntax.specs.Clauses.{Clause}
 use Rattle.akl_syntax.specs.Answers.{clauses_view}
 use Rattle.akl_syntax.specs.declared.source.SourceClause.{SourceClause}
-use Rattle.akl_syntax.specs.declared.source.SourceGoal.TheVariants as source
+use Rattle.akl_syntax.specs.declared.source.SourceGoal.{SourceGoal}
 use Rattle.akl_lift.specs.Places.{place}
 use Rattle.akl_lift.specs.Lifting.{Origin, part_clauses, made_inside}
 use Rattle.akl_lift.specs.Noting.{Noted, distinct, outer_parts, noted_of, inside_view, HasNoted}
@@ -16,7 +17,7 @@ use Rattle.akl_lift.specs.Scopes.{chosen, chosen_of}
 use Rattle.akl_lift.specs.declared.noting.Inside.{Inside}
 use Rattle.akl_lift.specs.declared.scope.Scope.{Scope}
 use Rattle.akl_lift.proofs.Slots.{slot_set}
-use Rattle.akl_lift.proofs.Notes.{noted_at, noted_back, goal_lifted}
+use Rattle.akl_lift.proofs.Notes.{noted_at, noted_back}
 
 -- what was noted of the choice
 pub variables_noted : (x : Inside) (ps : Parts) → inside_view x ≡ noted_of ps → x.variables.items ≡ distinct (concat (outer_parts ps))
@@ -37,8 +38,11 @@ next_noted old new p e es g n =
     let f : length (map clauses_view new) ≡ length (map clauses_view old) + length (e ∷ []) = omega arith in
     noted_back (e ∷ []) es f n
 
-pub choice_goal : (order : List ℕ) (s : Scope) (n : ℕ) (ps : Parts) (v : Vec ℕ Global) (given args : List ℕ) → args ≡ chosen_of s ps → given ≡ args → v.items ≡ map (place order) given → goal (source.Lifted n v) ≡ lifted n (map (place order) (chosen_of s ps))
-choice_goal order s n ps v given args e f g = goal_lifted n v ∙ ap (lifted n) (g ∙ ap (map (place order)) (f ∙ e))
+pub choice_goal : {E : Type 0} (r : Result SourceGoal E) (s : Scope) (n : ℕ) (ps : Parts) (order given args : List ℕ) → args ≡ chosen_of s ps → given ≡ args → order ≡ s.order.items → IfOk r (λ g. goal g ≡ lifted n (map (place order) given))
+    → IfOk r (λ g. goal g ≡ lifted n (map (place s.order.items) (chosen_of s ps)))
+choice_goal r s n ps order given args e f o =
+    IfOk-weaker r (λ g. goal g ≡ lifted n (map (place order) given)) (λ g. goal g ≡ lifted n (map (place s.order.items) (chosen_of s ps)))
+    (λ g h. h ∙ ap (λ ns. lifted n (map (place ns) given)) o ∙ ap (λ ns. lifted n (map (place s.order.items) ns)) (f ∙ e))
 
 pub choice_made : (w : Origin) (s : Scope) (n : ℕ) (ps : Parts) (args given : List ℕ) (old one two : List (Vec SourceClause Global)) (p own : Vec SourceClause Global) (at : ℕ) → args ≡ chosen_of s ps → given ≡ args
     → one ≡ old ++ p ∷ [] → map clauses_view two ≡ map clauses_view one ++ made_inside w given (n + 1) ps → at ≡ length old → clauses_view own ≡ part_clauses w n given (n + 1) ps

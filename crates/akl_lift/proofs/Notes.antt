@@ -126,16 +126,12 @@ pub record NotesParts (noted_first : List Noted) (ps : Parts) (lists : List (Lis
   pub lists_are : lists ++ outer_parts rest ≡ outer_parts ps
   pub noted_are : noted ++ insides_parts rest ≡ noted_first ++ insides_parts ps
 
-pub notes_parts_turn : {noted_first noted noted1 noted2 : List Noted} {ps : Parts} (xs : List SourcePart) (i : ℕ) (x : SourcePart) (lists : List (Vec ℕ Global)) (found0 found1 found2 : Vec ℕ Global) → i < length xs → x ≡ get_or xs i x
-    → NotesParts noted_first ps (map (λ v. v.items) lists) noted (parts (map part (drop i xs)))
-    → found0.items ≡ [] → found1.items ≡ found0.items ++ outer_all (goals (map goal x.guard.items)) → found2.items ≡ found1.items ++ outer_all (goals (map goal x.body.items))
-    → noted1 ≡ noted ++ insides_all (goals (map goal x.guard.items)) → noted2 ≡ noted1 ++ insides_all (goals (map goal x.body.items))
-    → NotesParts noted_first ps (map (λ v. v.items) (lists ++ found2 ∷ [])) noted2 (parts (map part (drop (i + 1) xs)))
-notes_parts_turn {noted = noted} xs i x lists found0 found1 found2 h e s a b c f g = record {
-  lists_are = piece_turn (λ (v : Vec ℕ Global). v.items) lists found2 (outer_part x) (outer_parts (parts (map part (drop i xs)))) _ _
-      (c ∙ ap (λ ns. ns ++ outer_all (goals (map goal x.body.items))) (b ∙ ap (λ ns. ns ++ outer_all (goals (map goal x.guard.items))) a)) (ap outer_parts (parts_dropped xs i x h e)) s.lists_are;
-  noted_are = lists_turn noted (insides_part x) (insides_parts (parts (map part (drop i xs)))) _ _ _
-      (g ∙ ap (λ ns. ns ++ insides_all (goals (map goal x.body.items))) f ∙ append_assoc noted (insides_all (goals (map goal x.guard.items))) (insides_all (goals (map goal x.body.items)))) (ap insides_parts (parts_dropped xs i x h e)) s.noted_are;
+pub notes_parts_turn : {noted_first noted noted' : List Noted} {ps : Parts} (xs : List SourcePart) (i : ℕ) (x : SourcePart) (lists : List (Vec ℕ Global)) (found : Vec ℕ Global) → i < length xs → x ≡ get_or xs i x
+    → NotesParts noted_first ps (map (λ v. v.items) lists) noted (parts (map part (drop i xs))) → found.items ≡ outer_part x → noted' ≡ noted ++ insides_part x
+    → NotesParts noted_first ps (map (λ v. v.items) (lists ++ found ∷ [])) noted' (parts (map part (drop (i + 1) xs)))
+notes_parts_turn {noted = noted} xs i x lists found h e s f n = record {
+  lists_are = piece_turn (λ (v : Vec ℕ Global). v.items) lists found (outer_part x) (outer_parts (parts (map part (drop i xs)))) _ _ f (ap outer_parts (parts_dropped xs i x h e)) s.lists_are;
+  noted_are = lists_turn noted (insides_part x) (insides_parts (parts (map part (drop i xs)))) _ _ _ n (ap insides_parts (parts_dropped xs i x h e)) s.noted_are;
 }
 
 pub record NotedParts (noted_first : List Noted) (ps : Parts) (lists : List (List ℕ)) (noted : List Noted) : Type 0 where

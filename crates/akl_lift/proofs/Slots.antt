@@ -1,8 +1,10 @@
 -- Lists whose elements are seen by what they stand for: one more, and one set in the place that was kept for it.
-use Rattle.std.proofs.Common.{◌≡◌, ℕ, ◌+◌, ◌<◌, ◌≤◌, List, [], ◌∷◌, ◌++◌, length, map, drop, get_or, sym, ap, ◌∙◌, arith, append_assoc, length-append}
+use Rattle.std.proofs.Common.{◌≡◌, ℕ, ◌+◌, ◌<◌, ◌≤◌, List, [], ◌∷◌, ◌++◌, length, map, drop, get_or, sym, ap, ◌∙◌, arith, append_assoc, length-append, Result, OnOk}
 use Rattle.std.specs.Prelude.{slice_set}
 use Rattle.std.proofs.Math.Seq.{set-append_seam}
+use Rattle.std.proofs.lemmas.Result.{on_ok_weaker}
 use Rattle.std.proofs.lemmas.List.{append-nil, map-set, map_push, length-map, drop_more, drop_all}
+use Rattle.akl_lift.proofs.FirstSeen.{one_dropped}
 
 module _ {A B : Type 0} (f : A → B) where
   -- behind the place that was kept, more has come
@@ -30,6 +32,18 @@ module _ {A B : Type 0} (f : A → B) where
 
 pub lists_turn : {A : Type 0} (a b whole rest all next : List A) → next ≡ a ++ b → whole ≡ b ++ rest → a ++ whole ≡ all → next ++ rest ≡ all
 lists_turn a b whole rest all next e g s = ap (λ xs. xs ++ rest) e ∙ append_assoc a b rest ∙ sym (ap (λ xs. a ++ xs) g) ∙ s
+
+-- what each of a list adds, one more and all
+pub added_turn : {A B : Type 0} (f : List A → List B) (g : A → List B) (xs : List A) (i : ℕ) (x : A) (found next all : List B) → ((y : A) (ys : List A) → f (y ∷ ys) ≡ g y ++ f ys) → i < length xs → x ≡ get_or xs i x → next ≡ found ++ g x
+    → found ++ f (drop i xs) ≡ all → next ++ f (drop (i + 1) xs) ≡ all
+added_turn f g xs i x found next all more h e n s = lists_turn found (g x) (f (drop i xs)) (f (drop (i + 1) xs)) all next n (ap f (one_dropped xs i x h e) ∙ more x (drop (i + 1) xs)) s
+
+pub added_end : {A B : Type 0} (f : List A → List B) (xs : List A) (i : ℕ) (found all : List B) → f [] ≡ [] → length xs ≤ i → found ++ f (drop i xs) ≡ all → found ≡ all
+added_end f xs i found all none h s = sym (append-nil found) ∙ sym (ap (λ z. found ++ z) (ap f (drop_all i xs h) ∙ none)) ∙ s
+
+-- what two calls add, one behind the other
+pub both_added : {A T E : Type 0} (r : Result T E) (old one two xs ys : List A) → one ≡ old ++ xs → OnOk r (two ≡ one ++ ys) → OnOk r (two ≡ old ++ (xs ++ ys))
+both_added {A} r old one two xs ys e f = on_ok_weaker r (λ g. g ∙ ap (λ (zs : List A). zs ++ ys) e ∙ append_assoc old xs ys) f
 
 -- one more of what a function gives
 pub map_turn : {A B : Type 0} (f : A → B) (xs : List A) (d : A) (found new all : List B) (y : B) (i : ℕ) → i < length xs → new ≡ found ++ y ∷ [] → y ≡ f (get_or xs i d) → found ++ map f (drop i xs) ≡ all → new ++ map f (drop (i + 1) xs) ≡ all

@@ -1,5 +1,5 @@
 -- Clauses and queries as wholes, lifted.
-use Rattle.std.proofs.Common.{◌≡◌, ℕ, List, [], ◌++◌, length, map, drop, refl, sym, ap, ◌∙◌, append_assoc, Vec, Global}
+use Rattle.std.proofs.Common.{◌≡◌, ℕ, List, [], ◌++◌, length, map, drop, refl, sym, ap, ◌∙◌, Vec, Global}
 use Rattle.std.proofs.lemmas.List.{append-nil}
 use Rattle.akl_syntax.specs.Goals.{Goal, Part, goals}
 use Rattle.akl_syntax.specs.Clauses.{Clause, Query}
@@ -8,7 +8,7 @@ use Rattle.akl_syntax.specs.Variables.{clause_variables}
 use Rattle.akl_syntax.specs.declared.source.SourceClause.{SourceClause}
 use Rattle.term_syntax.specs.Tree.{trees}
 use Rattle.term_syntax.specs.Variables.{trees_variables}
-use Rattle.akl_lift.specs.Lifting.{Origin, without_all, joined, clause_order, clause_shares, query_order, query_shares, query_without, asked_variables, shown_from}
+use Rattle.akl_lift.specs.Lifting.{Origin, without_all, joined, clause_order, clause_shares, query_order, query_shares, asked_variables, shown_from}
 use Rattle.akl_lift.specs.Noting.{Noted, outer_all, inside_view, HasNoted}
 use Rattle.akl_lift.specs.Scopes.{IsTally, chosen_of}
 use Rattle.akl_lift.specs.declared.noting.Inside.{Inside}
@@ -20,8 +20,8 @@ use Rattle.akl_syntax.proofs.PartTurns.{part_is}
 use Rattle.akl_lift.proofs.Parted.{IsScopeOf, clause_by, part_by}
 
 -- what was added one behind the other
-pub all_added : (a b c d all t g h : List ℕ) → a ≡ [] → b ≡ a ++ t → c ≡ b ++ g → d ≡ c ++ h → all ≡ d → all ≡ t ++ (g ++ h)
-all_added a b c d all t g h e f k l m = m ∙ l ∙ ap (λ (xs : List ℕ). xs ++ h) (k ∙ ap (λ (xs : List ℕ). xs ++ g) (f ∙ ap (λ (xs : List ℕ). xs ++ t) e)) ∙ append_assoc t g h
+pub all_added : (a b c all t g : List ℕ) → a ≡ [] → b ≡ a ++ t → c ≡ b ++ g → all ≡ c → all ≡ t ++ g
+all_added a b c all t g e f k m = m ∙ k ∙ ap (λ (xs : List ℕ). xs ++ g) (f ∙ ap (λ (xs : List ℕ). xs ++ t) e)
 
 -- before the first definition
 pub fresh_noted : (noted : List Inside) (ds : List (Vec SourceClause Global)) (es : List Noted) → ds ≡ [] → map inside_view noted ≡ es → HasNoted noted (length (map clauses_view ds)) es
@@ -38,18 +38,16 @@ clause_scoped s c e t = record {
 pub query_agrees : (s : Scope) (q : Query) → s.order.items ≡ query_order q → IsTally (shown_from 0 q.names ++ outer_all (goals q.goals)) s.counts → Agree (chosen_of s) (query_shares q) (goals q.goals)
 query_agrees s q e t = agree_goals s (query_order q) (shown_from 0 q.names ++ outer_all (goals q.goals)) (asked_variables q) e t (shown_from 0 q.names) (goals q.goals) refl refl
 
-abbrev query_by : List Goal → List (List ℕ) → Query
+abbrev pub query_by : List Goal → List (List ℕ) → Query
 query_by gs ws = record { goals = gs; names = ws }
 
-pub query_is : (s : Scope) (q : Query) (next : ℕ) (found : List Goal) → s.order.items ≡ query_order q → Agree (chosen_of s) (query_shares q) (goals q.goals) → found ≡ without_all s.order.items (chosen_of s) next (goals q.goals)
-    → query_by found q.names ≡ query_without next q
-query_is s q next found e a f =
-    ap (λ (gs : List Goal). query_by gs q.names) (f ∙ ap (λ (o : List ℕ). without_all o (chosen_of s) next (goals q.goals)) e ∙ same_without_all (query_order q) (chosen_of s) (query_shares q) next (goals q.goals) a)
+pub query_same : (s : Scope) (q : Query) (next : ℕ) → s.order.items ≡ query_order q → Agree (chosen_of s) (query_shares q) (goals q.goals)
+    → without_all s.order.items (chosen_of s) next (goals q.goals) ≡ without_all (query_order q) (query_shares q) next (goals q.goals)
+query_same s q next e a = ap (λ (o : List ℕ). without_all o (chosen_of s) next (goals q.goals)) e ∙ same_without_all (query_order q) (chosen_of s) (query_shares q) next (goals q.goals) a
 
 -- the clauses of definitions, behind none
-pub definitions_added : (before after : List Clause) (none ds made : List (List Clause)) → before ≡ [] → after ≡ before ++ joined ds → none ≡ [] → ds ≡ none ++ made → after ≡ joined made
-definitions_added before after none ds made e f g h =
-    f ∙ ap (λ (cs : List Clause). cs ++ joined ds) e ∙ ap joined (h ∙ ap (λ (xs : List (List Clause)). xs ++ made) g)
+pub definitions_added : (before after : List Clause) (ds made : List (List Clause)) → before ≡ [] → after ≡ before ++ joined ds → ds ≡ made → after ≡ joined made
+definitions_added before after ds made e f g = f ∙ ap (λ (cs : List Clause). cs ++ joined ds) e ∙ ap joined g
 
 pub definitions_behind : (before after : List Clause) (none ds made : List (List Clause)) → after ≡ before ++ joined ds → none ≡ [] → ds ≡ none ++ made → after ≡ before ++ joined made
 definitions_behind before after none ds made f g h = f ∙ ap (λ (xs : List (List Clause)). before ++ joined xs) (h ∙ ap (λ (xs : List (List Clause)). xs ++ made) g)

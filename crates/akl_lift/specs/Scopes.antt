@@ -1,12 +1,13 @@
 -- What the functions of this crate promise each other about the variables of a clause. No public clause speaks of it.
-use Rattle.std.specs.Prelude.{◌≡◌, ◌≤◌, ◌==◌, ◌&&◌, ℕ, Bool, List, length, map, nat_eq, nat_lt}
+use Rattle.std.specs.Prelude.{◌≡◌, ◌≤◌, ◌==◌, ◌&&◌, ◌+◌, ◌++◌, ℕ, Bool, true, List, length, map, nat_eq, nat_lt}
 use Rattle.std.specs.List.{count_by, filter, concat}
 use Rattle.std.specs.HashMap.{get, HashMap}
 use Rattle.std.specs.Option.{unwrap_or}
-use Rattle.akl_syntax.specs.Goals.{Parts}
+use Rattle.akl_terms.specs.declared.program.Op.{Op}
+use Rattle.akl_syntax.specs.Goals.{Goals, Part, Parts}
 use Rattle.akl_syntax.specs.Clauses.{Clause}
 use Rattle.akl_syntax.specs.Answers.{clauses_view}
-use Rattle.akl_lift.specs.Lifting.{Origin, times}
+use Rattle.akl_lift.specs.Lifting.{Origin, times, choices_in_all, without_all, made_all}
 use Rattle.akl_lift.specs.Noting.{distinct, outer_parts}
 use Rattle.akl_lift.specs.declared.scope.Scope.{Scope}
 use Rattle.akl_lift.specs.declared.lifting.Origin as code
@@ -43,3 +44,16 @@ origin_view o = record { names = o.names.items; inside = o.inside; start = o.sta
 
 abbrev pub definitions_view : Made → List (List Clause)
 definitions_view m = map clauses_view m.definitions.items
+
+-- a part without choices, of a clause whose variables have this order
+abbrev pub part_without : List ℕ → (Parts → List ℕ) → ℕ → Goals → Op → Goals → Part
+part_without order shares next gs op hs = record {
+  guard = without_all order shares next gs;
+  op = op;
+  body = without_all order shares (next + choices_in_all gs) hs;
+  is_written = true;
+}
+
+-- the definitions that are made of the choices in a guard and a body
+abbrev pub made_by : Origin → (Parts → List ℕ) → ℕ → Goals → Goals → List (List Clause)
+made_by w shares next gs hs = made_all w shares next gs ++ made_all w shares (next + choices_in_all gs) hs

@@ -3,20 +3,20 @@
 ghost use Rattle.std.specs.Prelude.{◌≡◌, ◌≤◌, ◌+◌, ◌++◌, map, IfOk, OnOk};
 ghost use Rattle.term_syntax.specs.View.{tree};
 ghost use Rattle.akl_syntax.specs.Goals.{goals};
-ghost use Rattle.akl_syntax.specs.GoalView.{goal};
+ghost use Rattle.akl_syntax.specs.GoalView.{goal, part};
 ghost use Rattle.akl_syntax.specs.Answers.{clause_view, clauses_view};
 ghost use Rattle.akl_syntax.specs.Sizes.{clauses_size};
 ghost use Rattle.term_syntax.specs.Tree.{trees};
 ghost use Rattle.term_syntax.specs.Variables.{trees_variables};
 ghost use Rattle.clause_keys.specs.Keys.{key_of};
-ghost use Rattle.akl_lift.specs.Lifting.{choices_of, clause_choices, clause_without, made_of, joined, lifted_clauses, clause_order, clause_origin};
+ghost use Rattle.akl_lift.specs.Lifting.{choices_in_all, choices_of, clause_choices, clause_without, made_of, joined, lifted_clauses, clause_order, clause_origin};
 ghost use Rattle.akl_lift.specs.Noting.{outer_all, insides_all, inside_view};
-ghost use Rattle.akl_lift.specs.Scopes.{IsScope, IsTally, origin_view};
+ghost use Rattle.akl_lift.specs.Scopes.{IsScope, IsTally, chosen_of, origin_view, part_without, made_by};
 
-use crate::lifting::{Made, Origin, lift_goals};
-use crate::noting::{Inside, note_goals};
+use crate::lifting::{Made, Origin, lift_guard_and_body};
+use crate::noting::{Inside, note_part};
 use crate::places::placed_terms;
-use crate::scope::{Scope, numbers_below, scope_of};
+use crate::scope::{Scope, written_scope};
 use crate::variables::add_terms;
 use akl_syntax::{Head, SourceClause, SourcePart, SourceTerm};
 use akl_terms::{Key, Text};
@@ -111,10 +111,8 @@ fn clause_scope(alloc: Global, clause: &SourceClause) -> Result<(Scope, Vec<Insi
     let mut noted = Vec::new(alloc);
     let mut found = Vec::new(alloc);
     add_terms(&mut found, &clause.arguments)?;
-    note_goals(alloc, &mut noted, &mut found, &clause.part.guard)?;
-    note_goals(alloc, &mut noted, &mut found, &clause.part.body)?;
-    let order = numbers_below(alloc, clause.names.len())?;
-    let scope = scope_of(alloc, order, &found)?;
+    note_part(alloc, &mut noted, &mut found, &clause.part)?;
+    let scope = written_scope(alloc, clause.names.len(), &found)?;
     Ok((scope, noted))
 }
 
@@ -131,6 +129,55 @@ pub fn add_definitions(
     Ok(())
 }
 
+/// The part of a written clause without choices. Behind the clauses that were made come those of its choices.
+fn lift_part(
+    alloc: Global,
+    origin: &Origin,
+    scope: &Scope,
+    out: &mut Lifted,
+    written: &SourcePart,
+) -> Result<SourcePart, AllocError>
+    requires scope { IsScope scope.now }
+    requires room { out.old.next + (choices_in_all (goals (map goal written.now.guard.items)) + choices_in_all (goals (map goal written.now.body.items))) ≤ 4294967295 }
+    requires noted { map inside_view origin.now.noted.items ≡ insides_all (goals (map goal written.now.guard.items)) ++ insides_all (goals (map goal written.now.body.items)) }
+    ensures next { OnOk result (out.new.next ≡ out.old.next + (choices_in_all (goals (map goal written.now.guard.items)) + choices_in_all (goals (map goal written.now.body.items)))) }
+    ensures part { IfOk result (λ p. part p ≡ part_without scope.now.order.items (chosen_of scope.now) out.old.next (goals (map goal written.now.guard.items)) written.now.op (goals (map goal written.now.body.items))) }
+    ensures made { OnOk result (clauses_view out.new.clauses ≡ clauses_view out.old.clauses ++ joined (made_by (origin_view origin.now) (chosen_of scope.now) out.old.next (goals (map goal written.now.guard.items)) (goals (map goal written.now.body.items)))) }
+{
+    let mut made = Made {
+        next: out.next,
+        definitions: Vec::new(alloc),
+    };
+    let part = lift_guard_and_body(alloc, origin, scope, &mut made, written)?;
+    out.next = made.next;
+    add_definitions(&mut out.clauses, &mut made.definitions)?;
+    Ok(part)
+}
+
+/// A clause with the head, the arguments and the place of this one.
+fn with_part(
+    alloc: Global,
+    clause: &SourceClause,
+    names: Vec<Text>,
+    part: SourcePart,
+) -> Result<SourceClause, AllocError>
+    ensures head { IfOk result (λ c. c.head ≡ clause.now.head) }
+    ensures arguments { IfOk result (λ c. map tree c.arguments.items ≡ map tree clause.now.arguments.items) }
+    ensures part { IfOk result (λ c. c.part ≡ part) }
+    ensures names { IfOk result (λ c. c.names.items ≡ names.items) }
+    ensures start { IfOk result (λ c. c.start ≡ clause.now.start) }
+{
+    let head = copied_head(&clause.head)?;
+    let arguments = copied_terms(alloc, &clause.arguments)?;
+    Ok(SourceClause {
+        head,
+        arguments,
+        part,
+        names,
+        start: clause.start,
+    })
+}
+
 /// The clause without choices.
 fn lift_clause(
     alloc: Global,
@@ -144,24 +191,8 @@ fn lift_clause(
 {
     let (scope, noted) = clause_scope(alloc, clause)?;
     let origin = origin(alloc, clause, noted)?;
-    let head = copied_head(&clause.head)?;
-    let arguments = copied_terms(alloc, &clause.arguments)?;
-    let mut made = Made {
-        next: out.next,
-        definitions: Vec::new(alloc),
-    };
-    let guard = lift_goals(alloc, &origin, &scope, &mut made, &clause.part.guard)?;
-    let body = lift_goals(alloc, &origin, &scope, &mut made, &clause.part.body)?;
-    add_definitions(&mut out.clauses, &mut made.definitions)?;
-    out.next = made.next;
-    let op = clause.part.op;
-    Ok(SourceClause {
-        head,
-        arguments,
-        part: SourcePart { guard, op, body },
-        names: origin.names,
-        start: clause.start,
-    })
+    let part = lift_part(alloc, &origin, &scope, out, &clause.part)?;
+    with_part(alloc, clause, origin.names, part)
 }
 
 /// The clauses without their inline choices, and behind them the clauses of the definitions that are made of these, in

@@ -1,17 +1,20 @@
 //! Goals without choices, and the definitions that are made of their choices.
 
 ghost use Rattle.std.specs.Prelude.{◌≡◌, ◌≤◌, ◌+◌, ◌++◌, length, map, IfOk, OnOk};
-ghost use Rattle.akl_syntax.specs.Goals.{choice, goals, parts};
+ghost use Rattle.term_syntax.specs.Tree.{trees};
+ghost use Rattle.term_syntax.specs.View.{tree};
+ghost use Rattle.akl_syntax.specs.Goals.{call, choice, lifted, goals, parts};
 ghost use Rattle.akl_syntax.specs.GoalView.{goal, part};
 ghost use Rattle.akl_syntax.specs.Answers.{clause_view, clauses_view};
+ghost use Rattle.akl_lift.specs.Places.{place, placed_variable, placed_trees};
 ghost use Rattle.akl_lift.specs.Lifting.{name_of, choices_in, choices_in_all, choices_in_parts, without, without_all, part_clause, part_clauses, made, made_all, made_inside, made_in_part};
 ghost use Rattle.akl_lift.specs.Noting.{outer_all, outer_parts, insides, insides_all, insides_parts, HasNoted};
-ghost use Rattle.akl_lift.specs.Scopes.{IsScope, chosen_of, origin_view, definitions_view};
+ghost use Rattle.akl_lift.specs.Scopes.{IsScope, chosen_of, origin_view, definitions_view, part_without, made_by};
 
 use crate::noting::Inside;
 use crate::places::{placed, placed_terms, placed_variables};
 use crate::scope::{Scope, chosen, part_scope};
-use akl_syntax::{Head, SourceClause, SourceGoal, SourcePart};
+use akl_syntax::{Head, SourceClause, SourceGoal, SourcePart, SourceTerm};
 use akl_terms::{Key, Op, Text};
 use std::alloc::{AllocError, Global};
 
@@ -65,6 +68,64 @@ fn lifted_head(origin: &Origin, number: u32) -> Result<Head, AllocError>
     })
 }
 
+/// The clause of this part in the lifted definition of this number, which has these arguments. Its variables have this
+/// order.
+fn lifted_clause(
+    alloc: Global,
+    origin: &Origin,
+    number: u32,
+    arguments: &[u32],
+    order: &[u32],
+    part: SourcePart,
+) -> Result<SourceClause, AllocError>
+    requires { length order.now ≤ 4294967295 }
+    ensures head { IfOk result (λ c. c.head ≡ Head.Lifted number origin.now.inside) }
+    ensures arguments { IfOk result (λ c. map tree c.arguments.items ≡ map (placed_variable order.now) arguments.now) }
+    ensures part { IfOk result (λ c. c.part ≡ part) }
+    ensures names { IfOk result (λ c. c.names.items ≡ map (name_of origin.now.names.items) order.now) }
+    ensures start { IfOk result (λ c. c.start ≡ origin.now.start) }
+{
+    let head = lifted_head(origin, number)?;
+    let arguments = placed_variables(alloc, order, arguments)?;
+    let names = spellings(alloc, &origin.names, order)?;
+    Ok(SourceClause {
+        head,
+        arguments,
+        part,
+        names,
+        start: origin.start,
+    })
+}
+
+/// The call of a symbol, with its variables by their places.
+fn placed_call(
+    alloc: Global,
+    order: &[u32],
+    symbol: &Text,
+    arguments: &[SourceTerm],
+) -> Result<SourceGoal, AllocError>
+    requires { length order.now ≤ 4294967295 }
+    ensures { IfOk result (λ g. goal g ≡ call symbol.now (placed_trees order.now (trees (map tree arguments.now)))) }
+{
+    let symbol = symbol.duplicate()?;
+    let arguments = placed_terms(alloc, order, arguments)?;
+    Ok(SourceGoal::Call { symbol, arguments })
+}
+
+/// The call of the lifted definition of this number, with these variables by their places.
+fn lifted_call(
+    alloc: Global,
+    order: &[u32],
+    number: u32,
+    arguments: &[u32],
+) -> Result<SourceGoal, AllocError>
+    requires { length order.now ≤ 4294967295 }
+    ensures { IfOk result (λ g. goal g ≡ lifted number (map (place order.now) arguments.now)) }
+{
+    let arguments = placed(alloc, order, arguments)?;
+    Ok(SourceGoal::Lifted { number, arguments })
+}
+
 /// The goal without choices.
 #[cycle(lifting)]
 fn lift_goal(
@@ -82,15 +143,13 @@ fn lift_goal(
     ensures made { OnOk result (definitions_view out.new ≡ definitions_view out.old ++ made (origin_view origin.now) (chosen_of scope.now) out.old.next (goal written.now)) }
 {
     match written {
-        SourceGoal::Call { symbol, arguments } => Ok(SourceGoal::Call {
-            symbol: symbol.duplicate()?,
-            arguments: placed_terms(alloc, &scope.order, arguments)?,
-        }),
+        SourceGoal::Call { symbol, arguments } => {
+            placed_call(alloc, &scope.order, symbol, arguments)
+        }
         SourceGoal::Choice(parts) => lift_choice(alloc, origin, scope, out, parts),
-        SourceGoal::Lifted { number, arguments } => Ok(SourceGoal::Lifted {
-            number: *number,
-            arguments: placed(alloc, &scope.order, arguments)?,
-        }),
+        SourceGoal::Lifted { number, arguments } => {
+            lifted_call(alloc, &scope.order, *number, arguments)
+        }
     }
 }
 
@@ -150,8 +209,7 @@ fn lift_choice(
         written,
     )?;
     out.definitions[at] = own;
-    let arguments = placed(alloc, &scope.order, &arguments)?;
-    Ok(SourceGoal::Lifted { number, arguments })
+    lifted_call(alloc, &scope.order, number, &arguments)
 }
 
 /// The clauses of the definition that is made of a choice with these arguments.
@@ -199,6 +257,28 @@ fn lift_body(
     lift_goals(alloc, origin, scope, out, &written.body)
 }
 
+/// The part without choices.
+#[cycle(lifting)]
+pub fn lift_guard_and_body(
+    alloc: Global,
+    origin: &Origin,
+    scope: &Scope,
+    out: &mut Made,
+    written: &SourcePart,
+) -> Result<SourcePart, AllocError>
+    requires scope { IsScope scope.now }
+    requires room { out.old.next + (choices_in_all (goals (map goal written.now.guard.items)) + choices_in_all (goals (map goal written.now.body.items))) ≤ 4294967295 }
+    requires noted { HasNoted origin.now.noted.items (length (definitions_view out.old)) (insides_all (goals (map goal written.now.guard.items)) ++ insides_all (goals (map goal written.now.body.items))) }
+    ensures next { OnOk result (out.new.next ≡ out.old.next + (choices_in_all (goals (map goal written.now.guard.items)) + choices_in_all (goals (map goal written.now.body.items)))) }
+    ensures part { IfOk result (λ p. part p ≡ part_without scope.now.order.items (chosen_of scope.now) out.old.next (goals (map goal written.now.guard.items)) written.now.op (goals (map goal written.now.body.items))) }
+    ensures made { OnOk result (definitions_view out.new ≡ definitions_view out.old ++ made_by (origin_view origin.now) (chosen_of scope.now) out.old.next (goals (map goal written.now.guard.items)) (goals (map goal written.now.body.items))) }
+{
+    let guard = lift_goals(alloc, origin, scope, out, &written.guard)?;
+    let body = lift_body(alloc, origin, scope, out, written)?;
+    let op = written.op;
+    Ok(SourcePart { guard, op, body })
+}
+
 /// The clause of a part.
 #[cycle(lifting)]
 fn lift_part(
@@ -218,17 +298,6 @@ fn lift_part(
     ensures made { OnOk result (definitions_view out.new ≡ definitions_view out.old ++ made_in_part (origin_view origin.now) arguments.now out.old.next (goals (map goal written.now.guard.items)) (goals (map goal written.now.body.items))) }
 {
     let scope = part_scope(alloc, arguments, inside)?;
-    let head = lifted_head(origin, number)?;
-    let arguments = placed_variables(alloc, &scope.order, arguments)?;
-    let guard = lift_goals(alloc, origin, &scope, out, &written.guard)?;
-    let body = lift_body(alloc, origin, &scope, out, written)?;
-    let names = spellings(alloc, &origin.names, &scope.order)?;
-    let op = written.op;
-    Ok(SourceClause {
-        head,
-        arguments,
-        part: SourcePart { guard, op, body },
-        names,
-        start: origin.start,
-    })
+    let part = lift_guard_and_body(alloc, origin, &scope, out, written)?;
+    lifted_clause(alloc, origin, number, arguments, &scope.order, part)
 }

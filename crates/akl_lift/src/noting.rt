@@ -3,7 +3,8 @@
 ghost use Rattle.std.specs.Prelude.{◌≡◌, ◌++◌, map, IfOk, OnOk};
 ghost use Rattle.akl_syntax.specs.Goals.{choice, goals, parts};
 ghost use Rattle.akl_syntax.specs.GoalView.{goal, part};
-ghost use Rattle.akl_lift.specs.Noting.{outer, outer_all, outer_parts, insides, insides_all, insides_parts, inside_view};
+ghost use Rattle.std.specs.List.{concat};
+ghost use Rattle.akl_lift.specs.Noting.{distinct, outer, outer_all, outer_parts, insides, insides_all, insides_parts, inside_view};
 
 use crate::seen::seen_in_all;
 use crate::variables::{add_all, add_terms};
@@ -16,6 +17,15 @@ use std::alloc::{AllocError, Global};
 pub struct Inside {
     pub variables: Vec<u32>,
     pub parts: Vec<Vec<u32>>,
+}
+
+/// What is noted of a choice whose parts have these variables.
+fn inside_of(alloc: Global, parts: Vec<Vec<u32>>) -> Result<Inside, AllocError>
+    ensures variables { IfOk result (λ x. x.variables.items ≡ distinct (concat (map (λ l. l.items) parts.items))) }
+    ensures parts { IfOk result (λ x. x.parts.items ≡ parts.items) }
+{
+    let variables = seen_in_all(alloc, &parts)?;
+    Ok(Inside { variables, parts })
 }
 
 /// Notes the choices in a goal, and adds the goal's variables.
@@ -70,9 +80,9 @@ fn note_choice(
         parts: Vec::new(alloc),
     })?;
     let parts = note_parts(alloc, noted, written)?;
-    let variables = seen_in_all(alloc, &parts)?;
-    add_all(found, &variables)?;
-    noted[at] = Inside { variables, parts };
+    let inside = inside_of(alloc, parts)?;
+    add_all(found, &inside.variables)?;
+    noted[at] = inside;
     Ok(())
 }
 
@@ -89,9 +99,23 @@ fn note_parts(
     let mut lists = Vec::new(alloc);
     for part in written {
         let mut found = Vec::new(alloc);
-        note_goals(alloc, noted, &mut found, &part.guard)?;
-        note_goals(alloc, noted, &mut found, &part.body)?;
+        note_part(alloc, noted, &mut found, part)?;
         lists.push(found)?;
     }
     Ok(lists)
+}
+
+/// Notes the choices in a part, and adds the part's variables.
+#[cycle(noting)]
+pub fn note_part(
+    alloc: Global,
+    noted: &mut Vec<Inside>,
+    found: &mut Vec<u32>,
+    written: &SourcePart,
+) -> Result<(), AllocError>
+    ensures found { OnOk result (found.new.items ≡ found.old.items ++ (outer_all (goals (map goal written.now.guard.items)) ++ outer_all (goals (map goal written.now.body.items)))) }
+    ensures noted { OnOk result (map inside_view noted.new.items ≡ map inside_view noted.old.items ++ (insides_all (goals (map goal written.now.guard.items)) ++ insides_all (goals (map goal written.now.body.items)))) }
+{
+    note_goals(alloc, noted, found, &written.guard)?;
+    note_goals(alloc, noted, found, &written.body)
 }

@@ -76,7 +76,7 @@ pub fn chosen(alloc: Global, scope: &Scope, inside: &[u32]) -> Result<Vec<u32>, 
 }
 
 /// The numbers below a count, in order.
-pub fn numbers_below(alloc: Global, count: usize) -> Result<Vec<u32>, AllocError>
+fn numbers_below(alloc: Global, count: usize) -> Result<Vec<u32>, AllocError>
     ensures order { IfOk result (λ v. v.items ≡ numbers_from 0 count) }
     ensures few { IfOk result (λ v. length v.items ≤ 4294967295) }
 {
@@ -92,7 +92,7 @@ pub fn numbers_below(alloc: Global, count: usize) -> Result<Vec<u32>, AllocError
 }
 
 /// A clause's variables, which have this order and occur at these places.
-pub fn scope_of(alloc: Global, order: Vec<u32>, occurrences: &[u32]) -> Result<Scope, AllocError>
+fn scope_of(alloc: Global, order: Vec<u32>, occurrences: &[u32]) -> Result<Scope, AllocError>
     requires { length order.items ≤ 4294967295 }
     ensures order { IfOk result (λ s. s.order.items ≡ order.items) }
     ensures counts { IfOk result (λ s. IsTally occurrences.now s.counts) }
@@ -100,6 +100,16 @@ pub fn scope_of(alloc: Global, order: Vec<u32>, occurrences: &[u32]) -> Result<S
 {
     let counts = tally(alloc, occurrences)?;
     Ok(Scope { order, counts })
+}
+
+/// The variables of a written clause that has so many, which occur at these places.
+pub fn written_scope(alloc: Global, count: usize, occurrences: &[u32]) -> Result<Scope, AllocError>
+    ensures order { IfOk result (λ s. s.order.items ≡ numbers_from 0 count) }
+    ensures counts { IfOk result (λ s. IsTally occurrences.now s.counts) }
+    ensures scope { IfOk result IsScope }
+{
+    let order = numbers_below(alloc, count)?;
+    scope_of(alloc, order, occurrences)
 }
 
 /// The variables of the clause that a part becomes, where the part has these.

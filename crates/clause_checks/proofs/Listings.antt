@@ -1,5 +1,5 @@
 -- How the listing grows with the clauses.
-use Rattle.std.proofs.Common.{◌≡◌, List, [], ◌∷◌, ◌++◌, map, refl, ap, ◌∙◌, append_assoc, append-nil}
+use Rattle.std.proofs.Common.{◌≡◌, List, [], ◌∷◌, ◌++◌, map, refl, sym, ap, subst, ◌∙◌, append_assoc, append-nil}
 use Rattle.std.proofs.lemmas.List.{map_push}
 use Rattle.akl_syntax.specs.Goals.{Part}
 use Rattle.akl_syntax.specs.Clauses.{Clause}
@@ -10,9 +10,10 @@ use Rattle.akl_syntax.specs.declared.source.SourceClause.{SourceClause}
 use Rattle.clause_keys.specs.declared.callee.Callee.{Callee}
 use Rattle.clause_checks.specs.declared.tally.Tally.{Tally}
 use Rattle.clause_checks.specs.declared.listed.Listed.{Listed}
-use Rattle.clause_checks.specs.Tallies.{clause_of, IsListed, AreListed, nothing, next}
+use Rattle.clause_checks.specs.declared.listed.Listing.{Listing}
+use Rattle.clause_checks.specs.Tallies.{clause_of, IsListed, AreListed, nothing, next, Lists}
 use Rattle.clause_checks.specs.Within.{goals_in}
-use Rattle.clause_checks.proofs.Tallying.{AreTallied, Continues, tallied_start}
+use Rattle.clause_checks.proofs.Tallying.{AreTallied, Continues, tallied_start, tallied_next}
 
 pub op_is : (c : SourceClause) → (clause_view c).part.op ≡ c.part.op
 op_is c = ap (λ (p : Part). p.op) (part_is c.part)
@@ -36,3 +37,10 @@ listing_next {cs} {xs = xs} h x k g = record {
   same = map_push clause_of xs x ∙ ap (λ ds. ds ++ clause_of x ∷ []) h.same;
   listed = listed_more x h.listed (rw h.same (record { goals = g; tally = k.counts }));
 }
+
+pub listing_grows : {cs : List Clause} {c : Clause} {old new : Listing} → IsListing cs old.callees old.tallies.items old.clauses.items → Lists c old new → IsListing (cs ++ c ∷ []) new.callees new.tallies.items new.clauses.items
+listing_grows {cs} {c} {old} {new} h g =
+    let k : Continues cs c new.callees new.tallies.items g.entry.before = tallied_next cs c h.tallied g.callees g.tally refl in
+    let l = listing_next h g.entry (subst (λ (d : Clause). Continues cs d new.callees new.tallies.items g.entry.before) (sym g.clause) k) g.goals in
+    let m = subst (λ (d : Clause). IsListing (cs ++ d ∷ []) new.callees new.tallies.items (old.clauses.items ++ g.entry ∷ [])) g.clause l in
+    subst (λ (xs : List Listed). IsListing (cs ++ c ∷ []) new.callees new.tallies.items xs) (sym g.clauses) m

@@ -1,9 +1,9 @@
 -- How tallies grow with the clauses.
-use Rattle.std.proofs.Common.{◌≡◌, ◌≤◌, ◌⊎◌, inl, inr, ℕ, ◌+◌, Bool, true, false, cond, List, [], ◌∷◌, ◌++◌, length, map, Some, refl, sym, ap, ◌∙◌, arith, length-append, append-nil}
+use Rattle.std.proofs.Common.{◌≡◌, ◌<◌, ◌≤◌, ◌⊎◌, inl, inr, ℕ, ◌+◌, Bool, true, false, cond, List, [], ◌∷◌, ◌++◌, length, map, get_or, Some, None, refl, sym, ap, ◌∙◌, arith, length-append, append-nil}
 use Rattle.std.specs.List.{list_any, slice_get, slice_set}
 use Rattle.std.proofs.lemmas.List.{length-set, map_push}
 use Rattle.std.proofs.lemmas.List.Elements.{filter-append}
-use Rattle.std.proofs.lemmas.Option.{slice_get_within}
+use Rattle.std.proofs.lemmas.Option.{slice_get_within, slice_get_cases}
 use Rattle.std.proofs.lemmas.List.Sums.{length-filter, count_by-le-length}
 use Rattle.akl_terms.specs.declared.program.Op.{Op}
 use Rattle.akl_syntax.specs.Clauses.{Clause}
@@ -139,6 +139,9 @@ pub number_bound : {callees more : List Callee} {k : Callee} {d : ℕ} → Adds 
 number_bound {callees} {more} {k} (known {d = d} f) = omega (arith, slice_get_within callees d k f)
 number_bound (next a) = omega arith
 
-pub tally_bound : (cs : List Clause) (k : Callee) {callees more : List Callee} {tallies : List Tally} {d : ℕ} → AreTallied cs callees tallies → Adds callees k more d → (t : Tally) → slice_get tallies d ≡ Some t → t.clauses ≤ length cs
-tally_bound cs k h (known {d = d} f) t g = omega (arith, (h.tally d k t f g).clauses, length-filter (λ c. is_callee k (defined_by c)) cs, count_by-le-length (λ c. is_callee k (defined_by c)) cs)
-tally_bound cs k {callees} {more} {tallies} h (next a) t g = absurd (omega (arith, slice_get_within tallies (length callees) t g, h.lengths))
+pub tally_bound : (cs : List Clause) {callees : List Callee} {tallies : List Tally} → AreTallied cs callees tallies → (d : ℕ) (t : Tally) → slice_get tallies d ≡ Some t → t.clauses ≤ length cs
+tally_bound cs {callees} {tallies} h d t g = by_place (slice_get_cases callees d).1
+  where
+    by_place : ((k : Callee) × (d < length callees) × (slice_get callees d ≡ Some k) × (get_or callees d k ≡ k)) ⊎ ((length callees ≤ d) × (slice_get callees d ≡ None)) → t.clauses ≤ length cs
+    by_place (inl w) = omega (arith, (h.tally d w.0 t w.2 g).clauses, length-filter (λ c. is_callee w.0 (defined_by c)) cs, count_by-le-length (λ c. is_callee w.0 (defined_by c)) cs)
+    by_place (inr w) = absurd (omega (arith, slice_get_within tallies d t g, h.lengths, w.0))

@@ -6,9 +6,10 @@ use Rattle.akl_syntax.specs.Clauses.{Clause}
 use Rattle.akl_syntax.specs.Answers.{clause_view}
 use Rattle.akl_syntax.specs.GoalView.{goal}
 use Rattle.clause_keys.specs.declared.callee.Callee.{Callee}
-use Rattle.clause_keys.specs.Keys.{defined_by}
+use Rattle.clause_keys.specs.Keys.{defined_by, Adds}
 use Rattle.clause_checks.specs.declared.tally.Tally.{Tally}
 use Rattle.clause_checks.specs.declared.listed.Listed.{Listed}
+use Rattle.clause_checks.specs.declared.listed.Listing.{Listing}
 use Rattle.clause_checks.specs.Within.{goals_in}
 use Rattle.clause_checks.specs.Rows.{is_callee, own}
 
@@ -50,3 +51,13 @@ pub record IsListed (before : List Clause) (x : Listed) : Type 0 where
 pub data AreListed : List Clause → List Listed → Type 0 where
   nothing : {before : List Clause} → AreListed before []
   next : {before : List Clause} {x : Listed} {xs : List Listed} → IsListed before x → AreListed (before ++ clause_of x ∷ []) xs → AreListed before (x ∷ xs)
+
+-- what listing one clause more does
+pub record Lists (c : Clause) (old new : Listing) : Type 0 where
+  pub entry : Listed
+  pub clauses : new.clauses.items ≡ old.clauses.items ++ entry ∷ []
+  pub clause : clause_of entry ≡ c
+  pub goals : HasGoals entry
+  pub definition : ℕ
+  pub callees : Adds old.callees (defined_by c) new.callees definition
+  pub tally : Tallies old.tallies.items c.part.op definition new.tallies.items entry.before

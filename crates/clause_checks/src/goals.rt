@@ -4,10 +4,23 @@ ghost use Rattle.std.specs.Prelude.{◌≡◌, ◌++◌, map, IfOk, OnOk};
 ghost use Rattle.akl_syntax.specs.Goals.{goals, parts};
 ghost use Rattle.akl_syntax.specs.GoalView.{goal, part};
 ghost use Rattle.akl_syntax.specs.Answers.{clause_view, query_view};
-ghost use Rattle.clause_checks.specs.Within.{goals_of_all, goals_of_parts, goals_in, goals_asked};
+ghost use Rattle.clause_checks.specs.Within.{goals_of, goals_of_all, goals_of_parts, goals_in, goals_asked};
 
 use akl_syntax::{SourceClause, SourceGoal, SourcePart, SourceQuery};
 use std::alloc::{AllocError, Global};
+
+/// Adds the goal, and behind it those inside of it.
+#[cycle(goals)]
+fn add_goal<'a>(written: &'a SourceGoal, found: &mut Vec<&'a SourceGoal>) -> Result<(), AllocError>
+    ensures { OnOk result (map (λ g. goal g.now) found.new.items ≡ map (λ g. goal g.now) found.old.items ++ goals_of (goal written.now)) }
+{
+    found.push(written)?;
+    match written {
+        SourceGoal::Choice(parts) => add_parts(parts, found),
+        SourceGoal::Call { .. } => Ok(()),
+        SourceGoal::Lifted { .. } => Ok(()),
+    }
+}
 
 /// Adds the goals, each with those inside of it.
 #[cycle(goals)]
@@ -18,10 +31,7 @@ fn add_goals<'a>(
     ensures { OnOk result (map (λ g. goal g.now) found.new.items ≡ map (λ g. goal g.now) found.old.items ++ goals_of_all (goals (map goal written.now))) }
 {
     for goal in written {
-        found.push(goal)?;
-        if let SourceGoal::Choice(parts) = goal {
-            add_parts(parts, found)?;
-        }
+        add_goal(goal, found)?;
     }
     Ok(())
 }

@@ -1,11 +1,11 @@
-use Rattle.std.proofs.Common.{◌≡◌, ◌<◌, ◌++◌, ◌∷◌, length, map, ap, ◌∙◌, arith}
+use Rattle.std.proofs.Common.{◌≡◌, ◌<◌, ◌++◌, ◌∷◌, length, map, sym, ap, ◌∙◌, arith}
 use Rattle.std.specs.List.{concat}
 use Rattle.akl_syntax.specs.Goals.{parts}
 use Rattle.akl_syntax.specs.GoalView.{part}
 use Rattle.akl_lift.specs.declared.noting.Inside.{Inside}
 use Rattle.akl_lift.specs.Noting.{distinct, inside_view, insides_parts}
-use Rattle.akl_lift.proofs.Slots.{slot_set}
-use Rattle.akl_lift.proofs.Notes.{noted_same, notes_goals_turn, notes_goals_end}
+use Rattle.akl_lift.proofs.Slots.{slot_set, both_added}
+use Rattle.akl_lift.proofs.Notes.{outer_part, noted_same, notes_goals_turn, notes_goals_end, notes_parts_turn, notes_parts_end}
 use Rattle.akl_lift.proofs.noting.+noting.Goals as given
 
 pub note_goals-loop-goal-preserved : given.note_goals-loop-goal-preserved
@@ -19,10 +19,36 @@ note_goals-returns-clause-found t c = (notes_goals_end c.args.written.now c.loop
 pub note_goals-returns-clause-noted : given.note_goals-returns-clause-noted
 note_goals-returns-clause-noted t c = (notes_goals_end c.args.written.now c.loop-goal.goal-index (omega (arith, c.loop-goal-test.false, c.loop-goal.auto.goal-index-end)) c.loop-goal.invariant).noted_are
 
+pub note_choice-returns-clause-found : given.note_choice-returns-clause-found
+note_choice-returns-clause-found t c =
+    let seen = c.deref.ensures.value ∙ c.in_ok-inside.ensures.variables ∙ ap (λ ls. distinct (concat ls)) c.in_ok-parts.ensures.parts in
+    c.in_ok-add_all.ensures ∙ ap (λ xs. c.args.found.now.items ++ xs) seen
+
 pub note_choice-returns-clause-noted : given.note_choice-returns-clause-noted
 note_choice-returns-clause-noted t c =
     let at : c.len-at.result ≡ length c.args.noted.now.items = omega (arith, c.len-at.ensures) in
-    let seen : c.in_ok-variables.variables.items ≡ distinct (concat (map (λ v. v.items) c.in_ok-parts.parts.items)) = c.in_ok-variables.ensures ∙ ap (λ ls. distinct (concat (map (λ v. v.items) ls))) c.deref.ensures.value in
-    let found : Inside = record { variables = c.in_ok-variables.variables; parts = c.in_ok-parts.parts } in
+    let found : Inside = c.in_ok-inside.inside in
+    let lists = ap (map (λ v. v.items)) c.in_ok-inside.ensures.parts ∙ c.in_ok-parts.ensures.parts in
+    let seen : found.variables.items ≡ distinct (concat (map (λ v. v.items) found.parts.items)) = c.in_ok-inside.ensures.variables ∙ ap (λ ls. distinct (concat (map (λ v. v.items) ls))) (sym c.in_ok-inside.ensures.parts) in
     slot_set inside_view c.args.noted.now.items c.push.new.self.items c.note_parts.new.noted.items _ found (insides_parts (parts (map part c.args.written.now))) c.len-at.result c.in_ok-push.ensures.items c.in_ok-parts.ensures.noted at
-    ∙ ap (λ z. map inside_view c.args.noted.now.items ++ z ∷ insides_parts (parts (map part c.args.written.now))) (noted_same found (parts (map part c.args.written.now)) c.in_ok-parts.ensures.parts seen)
+    ∙ ap (λ z. map inside_view c.args.noted.now.items ++ z ∷ insides_parts (parts (map part c.args.written.now))) (noted_same found (parts (map part c.args.written.now)) lists seen)
+
+pub note_parts-loop-part-preserved : given.note_parts-loop-part-preserved
+note_parts-loop-part-preserved t c =
+    let within : c.loop-part.part-index < length c.args.written.now = omega (arith, c.loop-part-test.true, c.loop-part.auto.part-index-end) in
+    let found = c.in_ok-note_part.ensures.found ∙ ap (λ xs. xs ++ outer_part c.part-item.result) c.new-found.ensures.items in
+    rw c.in_ok-push.ensures.items (notes_parts_turn c.args.written.now c.loop-part.part-index c.part-item.result c.loop-part.lists.items c.note_part.new.found within c.part-item.is c.loop-part.invariant found c.in_ok-note_part.ensures.noted)
+
+pub note_parts-returns-clause-parts : given.note_parts-returns-clause-parts
+note_parts-returns-clause-parts t c = (notes_parts_end c.args.written.now c.loop-part.part-index (omega (arith, c.loop-part-test.false, c.loop-part.auto.part-index-end)) c.loop-part.invariant).lists_are
+
+pub note_parts-returns-clause-noted : given.note_parts-returns-clause-noted
+note_parts-returns-clause-noted t c = (notes_parts_end c.args.written.now c.loop-part.part-index (omega (arith, c.loop-part-test.false, c.loop-part.auto.part-index-end)) c.loop-part.invariant).noted_are
+
+pub note_part-returns-clause-found : given.note_part-returns-clause-found
+note_part-returns-clause-found t c =
+    both_added c.note_goals-2.result _ _ _ _ _ (rw c.deref.ensures.value at c.in_ok-note_goals.ensures.found) (rw c.deref-2.ensures.value at c.note_goals-2.ensures.found)
+
+pub note_part-returns-clause-noted : given.note_part-returns-clause-noted
+note_part-returns-clause-noted t c =
+    both_added c.note_goals-2.result _ _ _ _ _ (rw c.deref.ensures.value at c.in_ok-note_goals.ensures.noted) (rw c.deref-2.ensures.value at c.note_goals-2.ensures.noted)
