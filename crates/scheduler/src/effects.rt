@@ -22,7 +22,8 @@ use std::alloc::{AllocError, Global};
 use wake_lists::Waits;
 
 /// The places that the label of a plan opens, where these go, each with the boxes around it; one may be listed more than
-/// once. It takes as long as they are many, times their depth.
+/// once. It takes as long as they are many, times their depth. An `Err` comes for want of memory, and where the label's
+/// place isn't there, as it is for each plan that may be committed.
 pub(crate) fn opened_by(
     alloc: Global,
     table: &Table,
