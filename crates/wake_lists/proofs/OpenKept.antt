@@ -14,12 +14,12 @@ use Rattle.wake_lists.specs.Waits.{same_place}
 use Rattle.wake_lists.specs.Tokens.{Numbers, IsLeastFree}
 use Rattle.wake_lists.specs.Standing.{boxes_at}
 use Rattle.wake_lists.specs.Queue.{Places, IsPut, IsTakenOut, HasNone, is_place}
-use Rattle.wake_lists.specs.Open.{Opening, opening_at, IsOpen, IsLast, IsLeastToken, IsOpened, closed}
+use Rattle.wake_lists.specs.Open.{Opening, Openings, opening_at, untimed, IsOpen, IsLast, IsLeastToken, IsOpened, IsPutLast, closed}
 use Rattle.wake_lists.specs.Opened.{opening, openings, AreOpen}
 use Rattle.wake_lists.proofs.Keys.{token_here}
 use Rattle.wake_lists.proofs.Both.{same_place-equal}
 use Rattle.wake_lists.proofs.Leading.{none_some}
-use Rattle.wake_lists.proofs.OpeningsKept.{Boxes, opened, not_opened, kept_as, openings_apart, openings_put, openings_out}
+use Rattle.wake_lists.proofs.OpeningsKept.{Boxes, opened, not_opened, kept_as, openings_apart, openings_put, openings_out, untimed_put}
 use lib.Dec.{eqb}
 
 module _ (os : Places) (bs : Boxes) where
@@ -49,6 +49,16 @@ module _ (os : Places) (bs : Boxes) where
     pub stays_so : (around : List Name) (kind : Urgency) → (kind ≡ Urgency.Ordinary) ⊎ (o.turn.urgency ≡ Urgency.Urgent) → IsOpened (openings bs os) (openings bs os) place around kind t
     stays_so around kind how = IsOpened.stays (opening (boxes_at t bs) o) (opened bs os t o is) place_of how refl
 
+    -- it comes sooner where it is put last among those that are urgent
+    pub hurried : (around : List Name) (kind : Urgency) → kind ≡ Urgency.Urgent → o.turn.urgency ≡ Urgency.Ordinary → (after : Openings) → IsPutLast (openings bs os) after kind t → IsOpened (openings bs os) after place around kind t
+    hurried around kind urgent ordinary after (IsPutLast.put q u e f l g) =
+        let one : q ≡ opening (boxes_at t bs) o = the q (opening (boxes_at t bs) o) (sym e ∙ opened bs os t o is) in
+        IsOpened.hurries q u e (ap (λ (p : Opening). p.place) one ∙ place_of) urgent (ap (λ (p : Opening). p.turn.urgency) one ∙ ordinary) (f ∙ urgent) l g
+      where
+        the : (x y : Opening) → Some x ≡ Some y → x ≡ y
+        the x y f = cc
+    hurried around kind urgent ordinary after (IsPutLast.none e g) = none_some (opening (boxes_at t bs) o) (sym e ∙ opened bs os t o is)
+
   -- a place is closed
   pub is_out : (t : ℕ) (new : Places) → IsTakenOut os new t → (cs : Boxes) → ((s : ℕ) → boxes_at s cs ≡ (if s == t then [] else boxes_at s bs)) → openings cs new ≡ closed t (openings bs os)
   is_out t new out cs left = openings_apart bs cs t [] new gone left ∙ ap (openings bs) out.entries ∙ openings_out bs os t
@@ -66,11 +76,12 @@ module _ (os : Places) (bs : Boxes) (numbers : Numbers) (next : ℕ) (a : AreOpe
       omega arith
 
   -- an open place gets it
-  pub hurried : (t : ℕ) (o : Opened) → lookup (eqb t) os ≡ Some o → (u : Turn) → u.number ≡ next → (new : Places) → IsPut os new t (record o { turn = u }) → (place : Place) (around : List Name)
-      → IsOpen (openings bs os) place (Some t) → u.urgency ≡ Urgency.Urgent → o.turn.urgency ≡ Urgency.Ordinary → IsOpened (openings bs os) (openings bs new) place around u.urgency t
-  hurried t o is u number new p place around known f g =
-      IsOpened.hurries (opening (boxes_at t bs) o) u (opened bs os t o is) (place_of os bs t o is place known) f g f (comes_last u number)
-      (ap (openings bs) p.entries ∙ openings_put bs os t (record o { turn = u }))
+  pub is_put_last : (t : ℕ) (o : Opened) → lookup (eqb t) os ≡ Some o → (u : Turn) → u.number ≡ next → (new : Places) → IsPut os new t (record o { turn = u }) → IsPutLast (openings bs os) (openings bs new) u.urgency t
+  is_put_last t o is u number new p =
+      IsPutLast.put (opening (boxes_at t bs) o) u (opened bs os t o is) refl (comes_last u number) (ap (openings bs) p.entries ∙ openings_put bs os t (record o { turn = u }))
+
+  pub put_untimed : (t : ℕ) (o : Opened) → lookup (eqb t) os ≡ Some o → (u : Turn) (new : Places) → IsPut os new t (record o { turn = u }) → untimed (openings bs new) ≡ untimed (openings bs os)
+  put_untimed t o is u new p = ap (λ (qs : Places). untimed (openings bs qs)) p.entries ∙ untimed_put bs t o u os a.ordered is
 
   -- the least free number is that of no open place
   module _ (t : ℕ) (least : IsLeastFree numbers t) where

@@ -3,23 +3,27 @@ use Rattle.std.proofs.Common.{◌≡◌, ℕ, ◌+◌, ◌<◌, ◌≤◌, drop,
 use Rattle.std.proofs.lemmas.Bool.Decides.{nat_tests}
 use Rattle.std.proofs.lemmas.List.{at_drop_more}
 use Rattle.std.proofs.Math.ListN.{drop_of_length-le}
+use Rattle.std.proofs.lemmas.Cmp.{nat_cmp_total}
+use Rattle.std.proofs.lemmas.Map.{lookup-none}
+use Rattle.std.proofs.lemmas.Map.Entries.{none_below_head}
 use Rattle.std.proofs.lemmas.Map.Keys.{sorted_head, sorted_tail}
 use Rattle.std.specs.Prelude.{cond, if◌then◌else◌, ◌||◌, ◌==◌, option_map, is_some}
 use Rattle.std.specs.Option.{IfSome, IfNone}
 use Rattle.std.specs.List.{AllByRecursion}
 use Rattle.std.specs.List.Sorted.{IsStrictlySortedBy}
 use Rattle.std.specs.Map.{lookup, remove_entry, keys_of}
-use Rattle.std.specs.BTreeMap.{insert_entry}
+use Rattle.std.specs.BTreeMap.{insert_entry, is_at}
 use Rattle.std.specs.Ordering.{nat_cmp, is_eq, match_ordering}
 use Rattle.std.specs.declared.cmp.Ordering.{Ordering}
 use Rattle.std.specs.declared.cmp.Ordering.TheVariants.{Less, Equal, Greater}
 use Rattle.akl_terms.specs.declared.name.Name.{Name}
 use Rattle.akl_terms.specs.declared.name.Place.{Place}
+use Rattle.wake_lists.specs.declared.turn.Turn.{Turn}
 use Rattle.wake_lists.specs.declared.queue.Opened.{Opened}
 use Rattle.wake_lists.specs.Waits.{same_place}
 use Rattle.wake_lists.specs.Standing.{is_in, boxes_at}
 use Rattle.wake_lists.specs.Queue.{is_earlier, Places, IsTokenOf, IsNext}
-use Rattle.wake_lists.specs.Open.{Opening, Openings, opening_at, IsOpen, IsFirst, after_one, after_leave, is_busy}
+use Rattle.wake_lists.specs.Open.{Opening, Openings, opening_at, untimed, IsOpen, IsFirst, after_one, after_leave, is_busy}
 use Rattle.wake_lists.specs.Opened.{opening, openings}
 use Rattle.wake_lists.proofs.Keys.{token_is, token_equal, token_here}
 use Rattle.wake_lists.proofs.Both.{same_place-equal}
@@ -117,6 +121,32 @@ openings_out bs (e ∷ es) t = on (eqb t e.0) (openings_out bs es t)
     on true r = refl
     on false r = ap (λ (l : Openings). (e.0, opening (boxes_at e.0 bs) e.1) ∷ l) r
 
+neither : (a b : Bool) → a ≡ false → b ≡ false → (a || b) ≡ false
+neither true b e f = e
+neither false b e f = f
+
+-- an open place that gets another turn stays the same otherwise
+pub untimed_put : (bs : Boxes) (t : ℕ) (o : Opened) (u : Turn) (os : Places) → IsStrictlySortedBy nat_cmp (keys_of os) → lookup (eqb t) os ≡ Some o
+    → untimed (openings bs (insert_entry nat_cmp os t (record o { turn = u }))) ≡ untimed (openings bs os)
+untimed_put bs t o u [] s e = none_some o e
+untimed_put bs t o u (f ∷ fs) s e = on (nat_cmp t f.0) refl (untimed_put bs t o u fs (sorted_tail nat_cmp f.0 (keys_of fs) s))
+  where
+    here : (b : Bool) → eqb t f.0 ≡ b → nat_cmp t f.0 ≡ Equal → cond b (Some f.1) (lookup (eqb t) fs) ≡ Some o → f.1 ≡ o
+    here true g h e = cc
+    here false g h e = not_both (eqb t f.0) (sym (token_is t f.0) ∙ ap is_eq h) g
+
+    later : (b : Bool) → eqb t f.0 ≡ b → nat_cmp t f.0 ≡ Greater → cond b (Some f.1) (lookup (eqb t) fs) ≡ Some o → lookup (eqb t) fs ≡ Some o
+    later true g h e = not_both (eqb t f.0) g (sym (token_is t f.0) ∙ ap is_eq h)
+    later false g h e = e
+
+    on : (c : Ordering) → nat_cmp t f.0 ≡ c → (lookup (eqb t) fs ≡ Some o → untimed (openings bs (insert_entry nat_cmp fs t (record o { turn = u }))) ≡ untimed (openings bs fs))
+        → untimed (openings bs (match_ordering c ((t, record o { turn = u }) ∷ f ∷ fs) ((f.0, record o { turn = u }) ∷ fs) (f ∷ insert_entry nat_cmp fs t (record o { turn = u })))) ≡ untimed (openings bs (f ∷ fs))
+    on Less g r =
+        let none : lookup (eqb t) (f ∷ fs) ≡ None = (λ i. lookup (λ k. sym (token_is t k) i) (f ∷ fs)) ∙ lookup-none (is_at (nat_cmp t)) (f ∷ fs) (none_below_head nat_cmp_total t f fs s g) in
+        none_some o (sym none ∙ e)
+    on Equal g r = ap (λ (p : Opened). (f.0, p.place, boxes_at f.0 bs) ∷ untimed (openings bs fs)) (sym (here (eqb t f.0) refl g e))
+    on Greater g r = ap (λ (l : List (ℕ × Place × List Name)). (f.0, f.1.place, boxes_at f.0 bs) ∷ l) (r (later (eqb t f.0) refl g e))
+
 -- a token that stands in a box is that of an open place
 module _ (n : Name) (bs : Boxes) where
   pub busy_from : (os : Places) (t : ℕ) (o : Opened) → lookup (eqb t) os ≡ Some o → is_in n (boxes_at t bs) ≡ true → is_busy n (openings bs os) ≡ true
@@ -137,11 +167,7 @@ module _ (n : Name) (bs : Boxes) where
 
   pub idle_from : (os : Places) → ((t : ℕ) → is_in n (boxes_at t bs) ≡ false) → is_busy n (openings bs os) ≡ false
   idle_from [] h = refl
-  idle_from (f ∷ fs) h = both (is_in n (boxes_at f.0 bs)) (is_busy n (openings bs fs)) (h f.0) (idle_from fs h)
-    where
-      both : (a b : Bool) → a ≡ false → b ≡ false → (a || b) ≡ false
-      both true b e f = e
-      both false b e f = f
+  idle_from (f ∷ fs) h = neither (is_in n (boxes_at f.0 bs)) (is_busy n (openings bs fs)) (h f.0) (idle_from fs h)
 
   pub busy_is : (os : Places) → ((t : ℕ) → lookup (eqb t) os ≡ None → boxes_at t bs ≡ []) → (r : Option ℕ) → IfSome r (λ t. is_in n (boxes_at t bs) ≡ true) → IfNone r ((t : ℕ) → is_in n (boxes_at t bs) ≡ false)
       → is_some r ≡ is_busy n (openings bs os)
@@ -151,6 +177,55 @@ module _ (n : Name) (bs : Boxes) where
       on : (w : Option Opened) → lookup (eqb t) os ≡ w → true ≡ is_busy n (openings bs os)
       on None e = let no : false ≡ true = sym (ap (is_in n) (closed t e)) ∙ there in absurd (cc)
       on (Some o) e = sym (busy_from os t o e there)
+
+  -- where one token is taken out
+  module _ (token : ℕ) where
+    kept_there : (os : Places) (t : ℕ) → (t ≡ token → ⊥) → lookup (eqb t) (remove_entry (eqb token) os) ≡ lookup (eqb t) os
+    kept_there [] t differs = refl
+    kept_there (f ∷ fs) t differs = on (eqb token f.0) refl (kept_there fs t differs)
+      where
+        apart : (s : Bool) → eqb t f.0 ≡ s → eqb token f.0 ≡ true → s ≡ false
+        apart false e g = refl
+        apart true e g = absurd (differs (token_equal t f.0 e ∙ sym (token_equal token f.0 g)))
+
+        on : (s : Bool) → eqb token f.0 ≡ s → lookup (eqb t) (remove_entry (eqb token) fs) ≡ lookup (eqb t) fs
+            → lookup (eqb t) (cond s fs (f ∷ remove_entry (eqb token) fs)) ≡ cond (eqb t f.0) (Some f.1) (lookup (eqb t) fs)
+        on true g r = λ i. cond (sym (apart (eqb t f.0) refl g) i) (Some f.1) (lookup (eqb t) fs)
+        on false g r = ap (cond (eqb t f.0) (Some f.1)) r
+
+    -- it alone stands in the box
+    module _ (one : (t : ℕ) → is_in n (boxes_at t bs) ≡ true → t ≡ token) where
+      idle_at : (k : ℕ) → eqb token k ≡ false → is_in n (boxes_at k bs) ≡ false
+      idle_at k e = on (is_in n (boxes_at k bs)) refl
+        where
+          on : (s : Bool) → is_in n (boxes_at k bs) ≡ s → s ≡ false
+          on false h = refl
+          on true h = not_both (eqb token k) (ap (eqb token) (one k h) ∙ token_here token) e
+
+      idle_past : (k : ℕ) → eqb token k ≡ true → (fs : Places) → AllByRecursion (λ (m : ℕ). nat_cmp k m ≡ Less) (keys_of fs) → is_busy n (openings bs fs) ≡ false
+      idle_past k e [] a = refl
+      idle_past k e (f ∷ fs) a = neither (is_in n (boxes_at f.0 bs)) (is_busy n (openings bs fs)) (idle_at f.0 (apart f.0 a.0)) (idle_past k e fs a.1)
+        where
+          apart : (m : ℕ) → nat_cmp k m ≡ Less → eqb token m ≡ false
+          apart m g = grind (arith, nat_tests)
+
+      idle_without : (os : Places) → IsStrictlySortedBy nat_cmp (keys_of os) → is_busy n (openings bs (remove_entry (eqb token) os)) ≡ false
+      idle_without [] s = refl
+      idle_without (f ∷ fs) s = on (eqb token f.0) refl (idle_without fs (sorted_tail nat_cmp f.0 (keys_of fs) s))
+        where
+          on : (b : Bool) → eqb token f.0 ≡ b → is_busy n (openings bs (remove_entry (eqb token) fs)) ≡ false → is_busy n (openings bs (cond b fs (f ∷ remove_entry (eqb token) fs))) ≡ false
+          on true e r = idle_past f.0 e fs (sorted_head nat_cmp f.0 (keys_of fs) s)
+          on false e r = neither (is_in n (boxes_at f.0 bs)) (is_busy n (openings bs (remove_entry (eqb token) fs))) (idle_at f.0 e) r
+
+    pub busy_without_is : (os : Places) → IsStrictlySortedBy nat_cmp (keys_of os) → ((t : ℕ) → lookup (eqb t) os ≡ None → boxes_at t bs ≡ [])
+        → (r : Option ℕ) → IfSome r (λ t. is_in n (boxes_at t bs) ≡ true) → IfSome r (λ t. t ≡ token → ⊥) → IfNone r ((t : ℕ) → is_in n (boxes_at t bs) ≡ true → t ≡ token)
+        → is_some r ≡ is_busy n (openings bs (remove_entry (eqb token) os))
+    busy_without_is os s closed None there other one = sym (idle_without one os s)
+    busy_without_is os s closed (Some t) there other one = on (lookup (eqb t) os) refl
+      where
+        on : (w : Option Opened) → lookup (eqb t) os ≡ w → true ≡ is_busy n (openings bs (remove_entry (eqb token) os))
+        on None e = let no : false ≡ true = sym (ap (is_in n) (closed t e)) ∙ there in absurd (cc)
+        on (Some o) e = sym (busy_from (remove_entry (eqb token) os) t o (kept_there os t other ∙ e) there)
 
 -- each entry of keys in order is what its key leads to
 abbrev pub AllFound : (ℕ → Option Opened) → Places → Type 0

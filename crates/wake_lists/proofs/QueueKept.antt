@@ -34,11 +34,11 @@ Puts {K} {X} cmp m n k w = (q : K) → get cmp n q ≡ cond (is_at (cmp k) q) w 
 pub finds : (m n : BTreeMap ℕ Opened) (t : ℕ) (w : Option Opened) → Puts nat_cmp m n t w → Finds m.entries n.entries t w
 finds m n t w h = puts nat_cmp eqb token_is t m n w h
 
-pub put_in : (m n : BTreeMap ℕ Opened) (t : ℕ) (o : Opened) → Puts nat_cmp m n t (Some o) → n.entries ≡ insert_entry nat_cmp m.entries t o → IsPut m.entries n.entries t o
-put_in m n t o h e = record { entries = e; finds = finds m n t (Some o) h }
+pub put_in : (m n : BTreeMap ℕ Opened) (t : ℕ) (o : Opened) → Puts nat_cmp m n t (Some o) → n.entries ≡ insert_entry nat_cmp m.entries t o → IsStrictlySortedBy nat_cmp (keys_of n.entries) → IsPut m.entries n.entries t o
+put_in m n t o h e ordered = record { entries = e; ordered = ordered; finds = finds m n t (Some o) h }
 
-pub taken_out : (m n : BTreeMap ℕ Opened) (t : ℕ) → Puts nat_cmp m n t None → n.entries ≡ remove_entry (is_at (nat_cmp t)) m.entries → IsTakenOut m.entries n.entries t
-taken_out m n t h e = record { entries = e ∙ (λ i. remove_entry (λ k. token_is t k i) m.entries); finds = finds m n t None h }
+pub taken_out : (m n : BTreeMap ℕ Opened) (t : ℕ) → Puts nat_cmp m n t None → n.entries ≡ remove_entry (is_at (nat_cmp t)) m.entries → IsStrictlySortedBy nat_cmp (keys_of n.entries) → IsTakenOut m.entries n.entries t
+taken_out m n t h e ordered = record { entries = e ∙ (λ i. remove_entry (λ k. token_is t k i) m.entries); ordered = ordered; finds = finds m n t None h }
 
 -- what a call says where it didn't fail, or did
 pub on_err_so : {T E P : Type 0} (r : Result T E) → OnErr r P → is_err r ≡ true → P

@@ -54,6 +54,15 @@ pub data IsOpened (before after : Openings) (place : Place) (around : List Name)
   is_new : (u : Turn) → IsOpen before place None → IsLeastToken before t → u.urgency ≡ urgency → IsLast before u
       → after ≡ insert_entry nat_cmp before t (record { place = place; turn = u; boxes = around }) → IsOpened before after place around urgency t
 
+-- what is open, in which boxes, whenever it comes
+abbrev pub untimed : Openings → List (ℕ × Place × List Name)
+untimed os = map (λ (e : ℕ × Opening). (e.0, e.1.place, e.1.boxes)) os
+
+-- an open place comes after all others that are as urgent as this; a token that leads to no place is left alone
+pub data IsPutLast (before after : Openings) (urgency : Urgency) (t : ℕ) : Type 0 where
+  put : (o : Opening) (u : Turn) → opening_at t before ≡ Some o → u.urgency ≡ urgency → IsLast before u → after ≡ insert_entry nat_cmp before t (record o { turn = u }) → IsPutLast before after urgency t
+  none : opening_at t before ≡ None → after ≡ before → IsPutLast before after urgency t
+
 abbrev pub closed : ℕ → Openings → Openings
 closed t os = remove_entry (eqb t) os
 

@@ -1,6 +1,8 @@
 -- How open places are kept.
 use Rattle.std.specs.Prelude.{◌≡◌, ℕ, ◌<◌, List, [], None, Some, map, is_some}
-use Rattle.std.specs.Map.{lookup}
+use Rattle.std.specs.Map.{lookup, keys_of}
+use Rattle.std.specs.List.Sorted.{IsStrictlySortedBy}
+use Rattle.std.specs.Ordering.{nat_cmp}
 use Rattle.akl_terms.specs.declared.name.Name.{Name}
 use Rattle.wake_lists.specs.declared.queue.Opened.{Opened}
 use Rattle.wake_lists.specs.Tokens.{Numbers, is_taken}
@@ -20,3 +22,4 @@ pub record AreOpen (os : Places) (bs : List (ℕ × List Name)) (numbers : Numbe
   pub earlier : (t : ℕ) (o : Opened) → lookup (eqb t) os ≡ Some o → o.turn.number < next
   pub taken : (t : ℕ) → is_taken numbers t ≡ is_some (lookup (eqb t) os)
   pub closed : (t : ℕ) → lookup (eqb t) os ≡ None → boxes_at t bs ≡ []
+  pub ordered : IsStrictlySortedBy nat_cmp (keys_of os)

@@ -39,10 +39,12 @@ Finds old new t w = (s : ℕ) → lookup (eqb s) new ≡ (if eqb t s then w else
 
 pub record IsPut (old new : Places) (t : ℕ) (o : Opened) : Type 0 where
   pub entries : new ≡ insert_entry nat_cmp old t o
+  pub ordered : IsStrictlySortedBy nat_cmp (keys_of new)
   pub finds : Finds old new t (Some o)
 
 pub record IsTakenOut (old new : Places) (t : ℕ) : Type 0 where
   pub entries : new ≡ remove_entry (eqb t) old
+  pub ordered : IsStrictlySortedBy nat_cmp (keys_of new)
   pub finds : Finds old new t None
 
 abbrev pub is_place : Place → Opened → Bool

@@ -1,7 +1,7 @@
 //! The open places, in the order in which they come.
 
 ghost use Rattle.std.specs.Prelude.{◌≡◌, [], None, Some, length, option_map, IfOk, IfErr};
-ghost use Rattle.wake_lists.specs.Open.{opening_at, IsFirst, IsOpen, IsOpened, closed, after_one, after_leave, is_busy};
+ghost use Rattle.wake_lists.specs.Open.{opening_at, untimed, IsFirst, IsOpen, IsOpened, IsPutLast, closed, after_one, after_leave, is_busy};
 
 use crate::queue::{Opened, Queue};
 use crate::standing::Standing;
@@ -127,6 +127,33 @@ impl Open {
         self.standing.first(name).is_some()
     }
 
+    /// Whether some open place but the one with this token stands in the box.
+    pub fn busy_without(&self, name: Name, token: u64) -> bool
+        ensures { result ≡ is_busy name (closed token self.now) }
+    {
+        self.standing.other(name, token).is_some()
+    }
+
+    /// Puts the open place with this token behind all others that are as urgent as this. A token that no open place has
+    /// is left alone. An `Err`, for want of memory, leaves all as it was.
+    pub fn put_last(&mut self, token: u64, urgency: Urgency) -> Result<(), AllocError>
+        ensures put { IfOk result (λ _. IsPutLast self.old self.new urgency token) }
+        ensures places { IfOk result (λ _. untimed self.new ≡ untimed self.old) }
+        ensures unchanged { IfErr result (λ _. self.new ≡ self.old) }
+    {
+        let Some(opened) = self.queue.get(token) else {
+            return Ok(());
+        };
+        let next = self.next.checked_add(1).ok_or(AllocError)?;
+        let turn = Turn {
+            urgency,
+            number: self.next,
+        };
+        self.queue.retime(token, opened, turn)?;
+        self.next = next;
+        Ok(())
+    }
+
     // Puts an open place before those that aren't urgent, where it is to be urgent and isn't yet: its token.
     fn hurry(&mut self, token: u64, urgency: Urgency) -> Result<u64, AllocError>
         ensures opened { (place : _) (around : _) → IsOpen self.old place (Some token) → IfOk result (IsOpened self.old self.new place around urgency) }
@@ -143,13 +170,7 @@ impl Open {
             Urgency::Urgent => return Ok(token),
             Urgency::Ordinary => {}
         }
-        let next = self.next.checked_add(1).ok_or(AllocError)?;
-        let turn = Turn {
-            urgency,
-            number: self.next,
-        };
-        self.queue.retime(token, opened, turn)?;
-        self.next = next;
+        self.put_last(token, urgency)?;
         Ok(token)
     }
 

@@ -1,9 +1,7 @@
 //! The open places by their tokens, and in the order of their turns.
 
 ghost use Rattle.std.specs.Prelude.{◌≡◌, [], None, Some, length, OnOk, OnErr};
-ghost use Rattle.std.specs.List.Sorted.{IsStrictlySortedBy};
-ghost use Rattle.std.specs.Map.{keys_of, lookup};
-ghost use Rattle.std.specs.Ordering.{nat_cmp};
+ghost use Rattle.std.specs.Map.{lookup};
 ghost use Rattle.wake_lists.specs.Queue.{Finds, IsPut, IsTakenOut, HasNone, IsTokenOf, IsNext, is_place, is_turn};
 ghost use lib.Dec.{eqb};
 
@@ -66,8 +64,7 @@ impl Queue {
 
     /// The token of the place.
     pub(crate) fn token_of(&self, place: Place) -> Option<u64>
-        ensures token { IsTokenOf self.now place result }
-        ensures ordered { IsStrictlySortedBy nat_cmp (keys_of self.now) }
+        ensures { IsTokenOf self.now place result }
     {
         self.tokens.get(&place).copied()
     }

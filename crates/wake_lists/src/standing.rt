@@ -86,4 +86,13 @@ impl Standing {
     {
         self.inside.first(name)
     }
+
+    /// A token other than this one that stands in the box.
+    pub(crate) fn other(&self, name: Name, token: u64) -> Option<u64>
+        ensures there { IfSome result (λ t. is_in name (boxes_at t self.now) ≡ true) }
+        ensures other { IfSome result (λ t. t ≡ token → ⊥) }
+        ensures none { IfNone result ((t : _) → is_in name (boxes_at t self.now) ≡ true → t ≡ token) }
+    {
+        self.inside.other(name, token)
+    }
 }

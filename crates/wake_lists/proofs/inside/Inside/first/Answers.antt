@@ -1,24 +1,33 @@
 use Rattle.std.proofs.Common.{List, ap, sym, ◌∙◌}
 use Rattle.wake_lists.specs.declared.inside.Stand.{Stand}
 use Rattle.wake_lists.specs.Standing.{stands}
-use Rattle.wake_lists.proofs.InBoxes.{none_in, first_in, other_in, gave_none, gave_some, if_none}
+use Rattle.wake_lists.proofs.InBoxes.{from_box, box_is_from, box_has, none_in, first_in, other_in, least_in, gave_none, gave_some, if_none}
 use Rattle.wake_lists.proofs.inside.Inside.first.Goals as goal
 
 pub returns-in_err-stand-clause-empty : goal.returns-in_err-stand-clause-empty
 returns-in_err-stand-clause-empty c =
     let starts = gave_none c.range.result c.next.new.self c.next.result c.next.ensures.steps (sym c.copied.ensures ∙ c.in_err-stand.was) in
-    if_none c.from_residual.result (λ t. ap (λ (ss : List Stand). stands ss t c.args.name) (sym c.self.view_is) ∙ none_in c.self.inside.stands c.args.name c.range.result (c.range.ensures.in_range tt) starts t)
+    if_none c.from_residual.result (λ t.
+    ap (λ (ss : List Stand). stands ss t c.args.name) (sym c.self.view_is)
+    ∙ none_in c.self.inside.stands c.args.name (from_box c.args.name) (box_is_from c.args.name) c.range.result (c.range.ensures.in_range tt) starts t (box_has c.args.name t))
 
 pub returns-then-eq-clause-there : goal.returns-then-eq-clause-there
 returns-then-eq-clause-there c =
     let stand : Stand = c.in_ok-stand.stand in
     let starts = gave_some c.range.result c.next.new.self c.next.result c.next.ensures.steps stand (sym c.copied.ensures ∙ c.in_ok-stand.was) in
     ap (λ (ss : List Stand). stands ss stand.token c.args.name) (sym c.self.view_is)
-    ∙ first_in c.self.inside.stands c.args.name c.range.result (c.range.ensures.in_range tt) stand c.next.new.self starts (sym c.eq.ensures ∙ c.if-eq.true)
+    ∙ first_in c.self.inside.stands c.args.name (from_box c.args.name) (box_is_from c.args.name) c.range.result (c.range.ensures.in_range tt) stand c.next.new.self starts (sym c.eq.ensures ∙ c.if-eq.true)
+
+pub returns-then-eq-clause-least : goal.returns-then-eq-clause-least
+returns-then-eq-clause-least c =
+    let stand : Stand = c.in_ok-stand.stand in
+    let starts = gave_some c.range.result c.next.new.self c.next.result c.next.ensures.steps stand (sym c.copied.ensures ∙ c.in_ok-stand.was) in
+    λ t h. least_in c.self.inside.stands c.args.name (from_box c.args.name) (box_is_from c.args.name) c.range.result (c.range.ensures.in_range tt) stand c.next.new.self starts (sym c.eq.ensures ∙ c.if-eq.true) t (box_has c.args.name t)
+    (ap (λ (ss : List Stand). stands ss t c.args.name) c.self.view_is ∙ h)
 
 pub returns-else-eq-clause-empty : goal.returns-else-eq-clause-empty
 returns-else-eq-clause-empty c =
     let stand : Stand = c.in_ok-stand.stand in
     let starts = gave_some c.range.result c.next.new.self c.next.result c.next.ensures.steps stand (sym c.copied.ensures ∙ c.in_ok-stand.was) in
     λ t. ap (λ (ss : List Stand). stands ss t c.args.name) (sym c.self.view_is)
-    ∙ other_in c.self.inside.stands c.args.name c.range.result (c.range.ensures.in_range tt) stand c.next.new.self starts (sym c.eq.ensures ∙ c.if-eq.false) t
+    ∙ other_in c.self.inside.stands c.args.name (from_box c.args.name) (box_is_from c.args.name) c.range.result (c.range.ensures.in_range tt) stand c.next.new.self starts (sym c.eq.ensures ∙ c.if-eq.false) t (box_has c.args.name t)

@@ -1,7 +1,5 @@
-use Rattle.std.proofs.Common.{Some, refl, sym, ◌∙◌, subst, inl, inr}
-use Rattle.wake_lists.specs.declared.turn.Turn.{Turn}
-use Rattle.wake_lists.specs.Open.{Openings, IsOpen, IsOpened}
-use Rattle.wake_lists.specs.Opened.{openings}
+use Rattle.std.proofs.Common.{Some, sym, ◌∙◌, subst, inl, inr}
+use Rattle.wake_lists.specs.Open.{Openings, IsOpen, IsOpened, IsPutLast}
 use Rattle.wake_lists.proofs.OpenKept.{not_there, stays_so, hurried}
 use Rattle.wake_lists.proofs.open.Open.hurry.Goals as goal
 
@@ -24,8 +22,7 @@ returns-in-Urgent-urgency-clause-opened c = λ place around known.
 
 pub returns-clause-opened : goal.returns-clause-opened
 returns-clause-opened c = λ place around known.
-    let turn : Turn = record { urgency = c.args.urgency; number = c.self.inside.next } in
-    subst (λ (os : Openings). IsOpened os (openings c.self.inside.standing c.retime.new.self) place around c.args.urgency c.args.token) c.self.view_is
-    (hurried c.self.inside.queue c.self.inside.standing c.self.inside.numbers c.self.inside.next c.self.invariant c.args.token c.in-Some.opened (sym c.get.ensures ∙ c.in-Some.is) turn refl
-    c.retime.new.self c.in_ok-retime.ensures.entered place around (subst (λ (os : Openings). IsOpen os place (Some c.args.token)) (sym c.self.view_is) known)
-    c.in-Urgent.is c.in-Ordinary-urgency.is)
+    subst (λ (os : Openings). IsOpened os c.put_last.new.self place around c.args.urgency c.args.token) c.self.view_is
+    (hurried c.self.inside.queue c.self.inside.standing c.args.token c.in-Some.opened (sym c.get.ensures ∙ c.in-Some.is) place
+    (subst (λ (os : Openings). IsOpen os place (Some c.args.token)) (sym c.self.view_is) known) around c.args.urgency c.in-Urgent.is c.in-Ordinary-urgency.is c.put_last.new.self
+    (subst (λ (os : Openings). IsPutLast os c.put_last.new.self c.args.urgency c.args.token) (sym c.self.view_is) c.in_ok-put_last.ensures.put))

@@ -36,4 +36,4 @@ returns-clause-entered c =
     let places = on_not_err c.insert-3.result c.insert-3.ensures.updates (sym c.is_err-2.ensures.value ∙ c.if-is_err-2.false) in
     let entries = on_not_err c.insert-3.result c.insert-3.ensures.entries (sym c.is_err-2.ensures.value ∙ c.if-is_err-2.false) in
     subst (λ (es : Places). IsPut es c.insert-3.new.self.entries c.args.token c.args.opened) c.self.view_is
-    (put_in c.self.inside.places c.insert-3.new.self c.args.token c.args.opened places.0 entries)
+    (put_in c.self.inside.places c.insert-3.new.self c.args.token c.args.opened places.0 entries c.insert-3.ensures.ordered)

@@ -12,4 +12,4 @@ invariant_of-self-2 c =
 pub returns-clause-gone : goal.returns-clause-gone
 returns-clause-gone c =
     subst (λ (es : Places). IsTakenOut es c.remove.new.self.entries c.args.token) c.self.view_is
-    (taken_out c.self.inside.places c.remove.new.self c.args.token c.remove.ensures.updates.0 c.remove.ensures.entries)
+    (taken_out c.self.inside.places c.remove.new.self c.args.token c.remove.ensures.updates.0 c.remove.ensures.entries c.remove.ensures.ordered)

@@ -22,4 +22,4 @@ returns-clause-entered c =
     let updates = on_there c.insert-2.result _ c.args.opened c.insert-2.ensures.updates c.insert-2.ensures.absent there in
     let entries = on_there c.insert-2.result _ c.args.opened c.insert-2.ensures.entries c.insert-2.ensures.absent there in
     let opened : Opened = record { place = c.args.opened.place; turn = c.args.turn } in
-    subst (λ (es : Places). IsPut es c.insert-2.new.self.entries c.args.token opened) c.self.view_is (put_in c.self.inside.places c.insert-2.new.self c.args.token opened updates.0 entries)
+    subst (λ (es : Places). IsPut es c.insert-2.new.self.entries c.args.token opened) c.self.view_is (put_in c.self.inside.places c.insert-2.new.self c.args.token opened updates.0 entries c.insert-2.ensures.ordered)
