@@ -1,6 +1,5 @@
 -- What is listed for a step is what goes with it.
-use Rattle.std.proofs.Common.{◌≡◌, List, [], ◌∷◌, ◌++◌, refl, sym, ap, subst, ◌⊎◌, inl, inr}
-use Rattle.std.specs.Prelude.{slice_index}
+use Rattle.std.proofs.Common.{◌≡◌, List, ◌++◌, sym, subst, inl, inr}
 use Rattle.akl_terms.specs.declared.name.Name.{Name}
 use Rattle.akl_terms.specs.declared.name.Place.{Place}
 use Rattle.akl_terms.specs.declared.term.Node.{Node}
@@ -8,12 +7,12 @@ use Rattle.akl_model.specs.declared.label.Label.{Label}
 use Rattle.akl_model.specs.Wakes.{IsOneOf}
 use Rattle.table_laws.specs.Steps.{Step, tells, forks, fails, cuts, promotes, refutes, confirms, splits}
 use Rattle.table_laws.specs.Walks.{ListsEach}
-use Rattle.table_laws.specs.Going.{IsGone, OwnGoalGoes, boxes_going, IsOfBoxes}
+use Rattle.table_laws.specs.Going.{OwnGoalGoes, boxes_going}
 use Rattle.table_laws.proofs.GoneSteps.{gone_listed_law}
 use Rattle.box_tree.specs.declared.step.Step as declared
 use Rattle.box_tree.specs.Tables.{all_rules, TableValue, table_of, step_of}
 use Rattle.box_tree.specs.Views.{run_of}
-use Rattle.opened_places.specs.Gone.{AreAllGone, AreGone, own_places, places_at}
+use Rattle.opened_places.specs.Gone.{AreGone, own_places, places_at}
 use Rattle.opened_places.proofs.Members.{one_left, one_right, one_either}
 use Rattle.opened_places.proofs.PlacesAt.{of_listed, listed_of}
 

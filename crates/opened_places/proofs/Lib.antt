@@ -19,7 +19,6 @@ pub mod ExactSteps
 pub mod PlacesAt
 pub mod GoneListed
 pub mod RunRows
-pub mod Outwards
 pub mod InnerPlaces
 pub mod PushedPlaces
 pub mod CopyHomes

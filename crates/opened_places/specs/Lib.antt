@@ -5,4 +5,3 @@ pub mod Copies
 pub mod Listed
 pub mod Gone
 pub mod Inner
-pub mod Nearest

@@ -6,7 +6,6 @@ mod copies;
 mod gone;
 mod inside;
 mod laws;
-mod nearest;
 mod placed;
 mod places;
 
@@ -14,6 +13,5 @@ pub use around::{Around, Holder, around_of};
 pub use gone::gone_places;
 pub use inside::places_inside;
 pub use laws::opens;
-pub use nearest::nearest_candidate;
 pub use placed::{Placed, placed_at};
 pub use places::changed_places;

@@ -26,13 +26,6 @@ in_end p (r ∷ rs) q = ap (λ (b : Bool). same_place p r || b) (in_end p rs q) 
     assoc true = refl
     assoc false = refl
 
-pub dropped_none : (ws : Waiting) → DropsWaits ws [] ws
-dropped_none ws p x = on (waits_on ws p x)
-  where
-    on : (a : Bool) → a ≡ (a && true)
-    on true = refl
-    on false = refl
-
 pub dropped_more : (old mid new : Waiting) (ps : List Place) (q : Place) → DropsWaits old ps mid → ((p : Place) (x : Var) → waits_on new p x ≡ (waits_on mid p x && not (same_place p q))) → DropsWaits old (ps ++ q ∷ []) new
 dropped_more old mid new ps q h s p x = s p x ∙ ap (λ (b : Bool). b && not (same_place p q)) (h p x) ∙ both (waits_on old p x) (is_place_in p ps) (same_place p q) ∙ ap (λ (b : Bool). waits_on old p x && not b) (sym (in_end p ps q))
   where

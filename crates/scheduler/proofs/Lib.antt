@@ -16,3 +16,6 @@ pub mod SettleAfter
 pub mod CommitKept
 pub mod SettleKept
 pub mod SettleCalls
+pub mod Outwards
+pub mod Weights
+pub mod Untimed

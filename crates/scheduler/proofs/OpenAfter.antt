@@ -212,6 +212,7 @@ module _ (c d : Config) (l : Label) (before : List Place) (kept : List Wait) (ps
   record IsStandingSo (q : Opening) : Type 0 where
     around : (n : Name) → StandsIn n d.roots q.place → is_in n q.boxes ≡ true
     only : (n : Name) → is_in n q.boxes ≡ true → StandsIn n d.roots q.place
+    listed : IsThere q.place d.roots → boxes_around q.place d.roots ≡ Some q.boxes
 
   -- one that is there stands on
   stands_on : (o q : Opening) → without_all names o ≡ q → IsThere o.place d.roots → IsStandingSo o → IsStandingSo q
@@ -225,7 +226,7 @@ module _ (c d : Config) (l : Label) (before : List Place) (kept : List Wait) (ps
 
   -- and one that isn't stands in none
   stands_nowhere : (q : Opening) → (IsThere q.place d.roots → ⊥) → ((n : Name) → is_in n q.boxes ≡ true → ⊥) → IsStandingSo q
-  stands_nowhere q m none = record { around = λ n h. absurd (m (stands_there n d.roots q.place h)); only = λ n i. absurd (none n i) }
+  stands_nowhere q m none = record { around = λ n h. absurd (m (stands_there n d.roots q.place h)); only = λ n i. absurd (none n i); listed = λ h. absurd (m h) }
 
   emptied : (o q : Opening) → without_all names o ≡ q → (n : Name) → IsOneOf (Place.Box n) gone → leaves_from n o ≡ true → (k : Name) → is_in k q.boxes ≡ true → ⊥
   emptied o q e n i g k h = not_both h (ap (λ (ns : List Name). is_in k ns) (ap (λ (p : Opening). p.boxes) (sym e) ∙ without_some names o n (box_among n gone i) g))
@@ -257,6 +258,7 @@ module _ (c d : Config) (l : Label) (before : List Place) (kept : List Wait) (ps
           stands_on o q g h (record {
             around = λ k i. standing.around t o k e (subst (λ (x : Option (List Name)). IsSomeAnd x (IsIn k)) (sym same) i);
             only = λ k i. subst (λ (x : Option (List Name)). IsSomeAnd x (IsIn k)) same (standing.only t o k e i);
+            listed = λ i. sym same ∙ standing.listed t o e (ap is_some same ∙ i);
           })
       on (inr m) (inr z) = stands_nowhere q (gone_now m) (λ k h. z (stands_there k c.roots o.place (standing.only t o k e (fewer k h))))
       on (inr m) (inl h) = stands_nowhere q (gone_now m) (goes_empty o q g o.place refl (f.gone_listed o.place h m) (λ i j is. m (subst (λ (p : Place). IsThere p d.roots) (sym is) (own_stays t o e is n))) (λ k i. standing.around t o k e i))
@@ -265,6 +267,7 @@ module _ (c d : Config) (l : Label) (before : List Place) (kept : List Wait) (ps
   is_new_so t o q n g (stands h) = stands_on o q g (stands_by h) (record {
     around = λ k i. names_in k o.boxes (some_and k (boxes_around o.place d.roots) o.boxes h i);
     only = λ k i. and_some k (boxes_around o.place d.roots) o.boxes h (in_names k o.boxes i);
+    listed = λ i. h;
   })
     where
       stands_by : boxes_around o.place d.roots ≡ Some o.boxes → IsThere o.place d.roots
@@ -297,5 +300,6 @@ module _ (c d : Config) (l : Label) (before : List Place) (kept : List Wait) (ps
   standing_after = record {
     around = λ t q n e h. (one_stands t q e).around n h;
     only = λ t q n e h. (one_stands t q e).only n h;
+    listed = λ t q e h. (one_stands t q e).listed h;
     drawn = one_drawn;
   }

@@ -126,17 +126,7 @@ module _ (t : ℕ) where
       on true r = a.1
       on false r = (out_at xs a.1 x.0 ∙ either (eqb x.0 t) (opening_at x.0 xs) a.0, r)
 
--- one after the other
-pub closed_swap : (s t : ℕ) → eqb s t ≡ false → (os : Openings) → closed s (closed t os) ≡ closed t (closed s os)
-closed_swap s t n [] = refl
-closed_swap s t n (x ∷ xs) = on (eqb t x.0) (eqb s x.0) refl refl (closed_swap s t n xs)
-  where
-    on : (a b : Bool) → eqb t x.0 ≡ a → eqb s x.0 ≡ b → closed s (closed t xs) ≡ closed t (closed s xs) → closed s (cond a xs (x ∷ closed t xs)) ≡ closed t (cond b xs (x ∷ closed s xs))
-    on true true e f r = absurd (not_token s t n (token_equal s x.0 f ∙ sym (token_equal t x.0 e)))
-    on true false e f r = sym (ap (λ (a : Bool). cond a (closed s xs) (x ∷ closed t (closed s xs))) e)
-    on false true e f r = ap (λ (b : Bool). cond b (closed t xs) (x ∷ closed s (closed t xs))) f
-    on false false e f r = ap (λ (b : Bool). cond b (closed t xs) (x ∷ closed s (closed t xs))) f ∙ ap (λ (l : Openings). x ∷ l) r ∙ sym (ap (λ (a : Bool). cond a (closed s xs) (x ∷ closed t (closed s xs))) e)
-
+-- those of a list are closed one after another
 pub back_end : (ts : List ℕ) (t : ℕ) (os : Openings) → closed_back (ts ++ t ∷ []) os ≡ closed_back ts (closed t os)
 back_end [] t os = refl
 back_end (s ∷ ss) t os = ap (closed s) (back_end ss t os)

@@ -1,5 +1,5 @@
 -- What is open after a settle, and how it stands.
-use Rattle.std.proofs.Common.{◌≡◌, ℕ, ◌+◌, ◌<◌, Bool, true, false, List, [], ◌∷◌, length, Option, Some, None, refl, sym, ap, subst, ◌∙◌, ◌⊎◌, inl, inr, arith}
+use Rattle.std.proofs.Common.{◌≡◌, ℕ, suc, ◌+◌, ◌<◌, Bool, true, false, List, [], ◌∷◌, length, Option, Some, None, refl, sym, ap, subst, ◌∙◌, ◌⊎◌, inl, inr, arith}
 use Rattle.akl_model.proofs.Options.{some_value}
 use Rattle.std.proofs.lemmas.List.{length-append}
 use Rattle.std.specs.Prelude.{cond, option_map, ◌||◌, is_some, IsSome}
@@ -23,12 +23,16 @@ use Rattle.table_laws.specs.Stamped.{IsTableOf}
 use Rattle.box_tree.specs.Tables.{all_rules, TableValue, table_of}
 use Rattle.box_tree.specs.Views.{run_of}
 use Rattle.scheduler.specs.Openings.{IsOpenAt, AreOpenPlaces, AreOthersOpen, AreApart, AreStandingIn, name_at}
-use Rattle.scheduler.specs.Settling.{OpensCandidate, KeepsCandidate}
+use Rattle.scheduler.specs.Settling.{OpensCandidate, opened_box}
+use Rattle.scheduler.specs.Nearest.{is_used, IsQuietCandidate}
+use Rattle.scheduler.specs.Weights.{weight}
 use Rattle.scheduler.proofs.DroppedWaits.{Waiting}
 use Rattle.scheduler.specs.Dropping.{DropsWaits}
-use Rattle.scheduler.proofs.OpeningLists.{some_none, put_at, put_out, put_apart, out_at, out_apart, closed_swap}
+use Rattle.scheduler.proofs.OpeningLists.{some_none, put_at, put_apart, out_at, out_apart}
+use Rattle.scheduler.proofs.Outwards.{found_is, none_is}
+use Rattle.scheduler.proofs.Weights.{closed_weight, closed_lighter, put_weight}
 use Rattle.scheduler.proofs.OpenAfter.{in_names, names_in, some_and, and_some}
-use Rattle.scheduler.proofs.CommitFacts.{not_both, or_true, or_left, or_right, stands_there}
+use Rattle.scheduler.proofs.CommitFacts.{not_true, not_both, or_true, or_left, or_right, stands_there}
 use Rattle.scheduler.proofs.Starting.{drawn_there}
 use lib.Dec.{eqb}
 
@@ -80,12 +84,15 @@ module _ (v : TableValue) (journal : List Label) (table : IsTableOf all_rules (r
   s : Stand c
   s = replay-stands all_rules v.program v.query journal c table.replays
 
-  -- the nearest box is around the place
+  -- the nearest box is around the place, in fewer boxes
+  abbrev IsFurther : Name → Type 0
+  IsFurther n = (ns : List Name) × (ms : List Name) × (boxes_around place c.roots ≡ Some ns) × (boxes_around (Place.Box n) c.roots ≡ Some ms) × (length ms < length ns) × StandsIn n c.roots place
+
+  out_there : (n : Name) → nearest place c.roots ≡ Some n → IsFurther n
+  out_there n e = settle_out all_rules v.program v.query journal c table.replays place [] n (record { is_nearest = e; idle = λ o i. absurd i })
+
   near : (n : Name) → nearest place c.roots ≡ Some n → StandsIn n c.roots place × IsThere (Place.Box n) c.roots
-  near n e =
-      let w : (ns : List Name) × (ms : List Name) × (boxes_around place c.roots ≡ Some ns) × (boxes_around (Place.Box n) c.roots ≡ Some ms) × (length ms < length ns) × StandsIn n c.roots place =
-      settle_out all_rules v.program v.query journal c table.replays place [] n (record { is_nearest = e; idle = λ o i. absurd i }) in
-      (w.5, ap is_some w.3)
+  near n e = let w : IsFurther n = out_there n e in (w.5, ap is_some w.3)
 
   pub not_own : (n : Name) → nearest place c.roots ≡ Some n → Place.Box n ≡ place → ⊥
   not_own n e f = not_in_itself c s n (subst (λ (p : Place). StandsIn n c.roots p) (sym f) (near n e).0)
@@ -131,25 +138,35 @@ module _ (v : TableValue) (journal : List Label) (table : IsTableOf all_rules (r
   rest_stands = record {
     around = λ t o n e h. standing.around t o n (rest_from t o e).0 h;
     only = λ t o n e h. standing.only t o n (rest_from t o e).0 h;
+    listed = λ t o e h. standing.listed t o (rest_from t o e).0 h;
     drawn = λ t o e. standing.drawn t o (rest_from t o e).0;
   }
 
   -- what a settle leaves: nothing comes, or the nearest box, where nothing is open in it
   pub data Leaves (w1 : Waiting) (now : Openings) (w2 : Waiting) (result : Option ℕ) : Type 0 where
-    closes : now ≡ rest → ((n : Name) → SettleOpens still c place n → ⊥) → w2 ≡ w1 → result ≡ None → Leaves w1 now w2 result
+    closes : now ≡ rest → ((n : Name) → SettleOpens still c place n → ⊥) → DropsWaits w1 [] w2 → result ≡ None → Leaves w1 now w2 result
     opens : (n : Name) (t : ℕ) (o : Opening) → SettleOpens still c place n → opening_at t os ≡ None → o.place ≡ Place.Box n → boxes_around (Place.Box n) c.roots ≡ Some o.boxes
         → ((k : ℕ) → opening_at k now ≡ cond (eqb k t) (Some o) (opening_at k rest)) → AreApart now → DropsWaits w1 (Place.Box n ∷ []) w2 → result ≡ Some t → Leaves w1 now w2 result
 
-  same_near : (n m : Name) (r : Option Name) → r ≡ nearest place c.roots → r ≡ Some n → nearest place c.roots ≡ Some m → n ≡ m
-  same_near n m r e f g = some_value (sym f ∙ e ∙ g)
-
   -- one that is open already
-  open_already : (n : Name) → IsOpenAt os (Place.Box n) → (r : Option Name) → r ≡ nearest place c.roots → r ≡ Some n → (m : Name) → SettleOpens still c place m → ⊥
-  open_already n w r e f m o =
-      let same : n ≡ m = same_near n m r e f o.is_nearest in
-      let x : StandsIn n c.roots place × IsThere (Place.Box n) c.roots = near n (sym e ∙ f) in
+  open_already : (n : Name) → IsOpenAt os (Place.Box n) → nearest place c.roots ≡ Some n → (m : Name) → SettleOpens still c place m → ⊥
+  open_already n w e m o =
+      let same : n ≡ m = some_value (sym e ∙ o.is_nearest) in
+      let x : StandsIn n c.roots place × IsThere (Place.Box n) c.roots = near n e in
       let k : (g : Found) × (box_at n c.roots ≡ Some g) = there_site (Place.Box n) c.roots x.1 in
-      o.idle (Place.Box n) (others.all (Place.Box n) w (not_own n (sym e ∙ f))) (subst (λ (z : Name). IsAt z c.roots (Place.Box n)) same (inl (refl, ap is_some k.1)))
+      o.idle (Place.Box n) (others.all (Place.Box n) w (not_own n e)) (subst (λ (z : Name). IsAt z c.roots (Place.Box n)) same (inl (refl, ap is_some k.1)))
+
+  -- something else is open in a box that stands in the nearest one
+  in_use : (k : Name) → is_used os own k ≡ true → (n : Name) → ((other : Place) → StandsIn k c.roots other → StandsIn n c.roots other) → SettleOpens still c place n → ⊥
+  in_use k b n further so =
+      let w : (t : ℕ) × (q : Opening) × (opening_at t rest ≡ Some q) × (is_in k q.boxes ≡ true) = busy_some k rest (out_apart own os apart) b in
+      so.idle w.1.place (rest_open w.1.place (record { token = w.0; opening = w.1; is_open = w.2; of_place = refl }))
+      (inr (further w.1.place (standing.only w.0 w.1 k (rest_from w.0 w.1 w.2).0 w.3)))
+
+  nothing_found : (r : Option Name) → IsQuietCandidate v os own place r → r ≡ None → (n : Name) → SettleOpens still c place n → ⊥
+  nothing_found r q e n so =
+      let w : (k : Name) × (is_used os own k ≡ true) × ((other : Place) → StandsIn k c.roots other → StandsIn n c.roots other) = none_is v (run_of v journal) table os own place r q e n so.is_nearest in
+      in_use w.0 w.1 n w.2 so
 
   -- one that comes
   module _ (n : Name) (t : ℕ) (o : Opening) (is_near : nearest place c.roots ≡ Some n) (un : IsOpenAt os (Place.Box n) → ⊥) (free : opening_at t os ≡ None) (of_box : o.place ≡ Place.Box n)
@@ -166,12 +183,11 @@ module _ (v : TableValue) (journal : List Label) (table : IsTableOf all_rules (r
     with_apart : AreApart with_it
     with_apart = out_apart own mid mid_apart
 
+    other_tokens : own ≡ t → ⊥
+    other_tokens e = some_none own_is.1 (ap (λ (k : ℕ). opening_at k os) e ∙ free)
+
     not_token : eqb t own ≡ false
-    not_token = on (eqb t own) refl
-      where
-        on : (b : Bool) → eqb t own ≡ b → b ≡ false
-        on true e = absurd (some_none own_is.1 (ap (λ (k : ℕ). opening_at k os) (sym (token_equal t own e)) ∙ free))
-        on false e = refl
+    not_token = not_true (eqb t own) (λ e. other_tokens (sym (token_equal t own e)))
 
     with_at : (k : ℕ) → opening_at k with_it ≡ cond (eqb k t) (Some o) (opening_at k rest)
     with_at k = out_at own mid mid_apart k ∙ ap (cond (eqb k own) None) (put_at t o os free k) ∙ on (eqb k t) refl ∙ ap (cond (eqb k t) (Some o)) (sym (out_at own os apart k))
@@ -180,72 +196,69 @@ module _ (v : TableValue) (journal : List Label) (table : IsTableOf all_rules (r
         on true e = ap (λ (b : Bool). cond b None (Some o)) (ap (λ (j : ℕ). eqb j own) (token_equal k t e) ∙ not_token)
         on false e = refl
 
-    -- something else is open in it
-    in_use : is_busy n with_it ≡ true → (m : Name) → SettleOpens still c place m → ⊥
-    in_use b m so = on (eqb w.0 t) refl (sym (with_at w.0) ∙ w.2)
-      where
-        w : (k : ℕ) × (q : Opening) × (opening_at k with_it ≡ Some q) × (is_in n q.boxes ≡ true)
-        w = busy_some n with_it with_apart b
-
-        same : n ≡ m
-        same = some_value (sym is_near ∙ so.is_nearest)
-
-        on : (b : Bool) → eqb w.0 t ≡ b → cond b (Some o) (opening_at w.0 rest) ≡ Some w.1 → ⊥
-        on true e f = not_in_itself c s n (and_some n (boxes_around (Place.Box n) c.roots) o.boxes around (in_names n o.boxes (ap (λ (q : Opening). is_in n q.boxes) (some_value f) ∙ w.3)))
-        on false e f = so.idle w.1.place (rest_open w.1.place (record { token = w.0; opening = w.1; is_open = f; of_place = refl }))
-            (subst (λ (z : Name). IsAt z c.roots w.1.place) same (inr (standing.only w.0 w.1 n (rest_from w.0 w.1 f).0 w.3)))
-
-    -- nothing else is
-    unused : is_busy n with_it ≡ false → SettleOpens still c place n
+    -- nothing else is open in it
+    unused : is_used os own n ≡ false → SettleOpens still c place n
     unused b = record { is_nearest = is_near; idle = λ other i at. on other i at }
       where
-        kept_in : (k : ℕ) (q : Opening) → opening_at k rest ≡ Some q → opening_at k with_it ≡ Some q
-        kept_in k q e = with_at k ∙ by (eqb k t) refl
-          where
-            by : (b : Bool) → eqb k t ≡ b → cond b (Some o) (opening_at k rest) ≡ Some q
-            by true f = absurd (some_none (rest_from k q e).0 (ap (λ (j : ℕ). opening_at j os) (token_equal k t f) ∙ free))
-            by false f = e
-
         on : (other : Place) → IsOneOf other still → IsAt n c.roots other → ⊥
         on other i (inl e) = un (subst (IsOpenAt os) e.0 (others.only other i))
         on other i (inr h) =
             let w : IsOpenAt rest other = open_rest other i in
-            not_both (some_busy n with_it w.token w.opening (kept_in w.token w.opening w.is_open)
-            (standing.around w.token w.opening n (rest_from w.token w.opening w.is_open).0 (subst (StandsIn n c.roots) (sym w.of_place) h))) b
+            not_both (some_busy n rest w.token w.opening w.is_open (rest_stands.around w.token w.opening n w.is_open (subst (StandsIn n c.roots) (sym w.of_place) h))) b
 
-    undone : closed t with_it ≡ rest
-    undone = closed_swap t own not_token mid ∙ ap (closed own) (put_out t o os free)
+    -- it stands in fewer boxes than the place
+    comes_lighter : weight with_it < weight os
+    comes_lighter =
+        let w : IsFurther n = out_there n is_near in
+        let fewer : length w.1 < length w.0 = w.4 in
+        let its : w.1 ≡ o.boxes = some_value (sym w.3 ∙ around) in
+        let there : boxes_around own_is.0.place c.roots ≡ Some w.0 = ap (λ (p : Place). boxes_around p c.roots) own_is.2 ∙ w.2 in
+        let owns : w.0 ≡ own_is.0.boxes = some_value (sym there ∙ standing.listed own own_is.0 own_is.1 (ap is_some there)) in
+        let own_there : opening_at own mid ≡ Some own_is.0 = put_at t o os free own ∙ ap (λ (b : Bool). cond b (Some o) (opening_at own os)) (not_true (eqb own t) (λ e. other_tokens (token_equal own t e))) ∙ own_is.1 in
+        let less : weight mid ≡ suc (length own_is.0.boxes) + weight with_it = closed_weight own own_is.0 mid own_there in
+        let more : weight mid ≡ suc (length o.boxes) + weight os = put_weight t o os free in
+        let a : length w.1 ≡ length o.boxes = ap length its in
+        let b : length w.0 ≡ length own_is.0.boxes = ap length owns in
+        omega (arith, fewer, less, more, a, b)
 
-    keep : (w1 : Waiting) (r : Option Name) (found : Option ℕ) (now : Openings) (w2 : Waiting) (result : Option ℕ) → r ≡ Some n → found ≡ Some t → KeepsCandidate with_it w1 r found now w2 result → Leaves w1 now w2 result
-    keep w1 r found now w2 result i j (KeepsCandidate.no_box e f g h) = absurd (some_none j e)
-    keep w1 r found now w2 result i j (KeepsCandidate.no_name e f g h) = absurd (some_none i e)
-    keep w1 r found now w2 result i j (KeepsCandidate.busy n2 t2 e f b g w k) =
-        let ns : n2 ≡ n = some_value (sym e ∙ i) in
-        let ts : t2 ≡ t = some_value (sym f ∙ j) in
-        closes (g ∙ ap (λ (z : ℕ). closed z with_it) ts ∙ undone) (in_use (ap (λ (z : Name). is_busy z with_it) (sym ns) ∙ b)) w k
-    keep w1 r found now w2 result i j (KeepsCandidate.keeps n2 t2 e f b g w k) =
-        let ns : n2 ≡ n = some_value (sym e ∙ i) in
-        let ts : t2 ≡ t = some_value (sym f ∙ j) in
-        opens n t o (unused (ap (λ (z : Name). is_busy z with_it) (sym ns) ∙ b)) free of_box around (λ z. ap (opening_at z) g ∙ with_at z) (subst AreApart (sym g) with_apart)
-        (subst (λ (z : Name). DropsWaits w1 (Place.Box z ∷ []) w2) ns w) (k ∙ ap Some ts)
+  module _ (r : Option Name) (middle : Openings) (found : Option ℕ) (quiet : IsQuietCandidate v os own place r) where
+    -- what is found is the nearest box, and nothing else is open in it
+    is_found : (n : Name) → r ≡ Some n → (nearest place c.roots ≡ Some n) × (is_used os own n ≡ false)
+    is_found n e = found_is v (run_of v journal) table os own place r quiet n e
 
-  nothing_came : (w1 : Waiting) (middle : Openings) (r : Option Name) (found : Option ℕ) (now : Openings) (w2 : Waiting) (result : Option ℕ) → middle ≡ os → found ≡ None → ((n : Name) → SettleOpens still c place n → ⊥)
-      → KeepsCandidate (closed own middle) w1 r found now w2 result → Leaves w1 now w2 result
-  nothing_came w1 middle r found now w2 result m f shut (KeepsCandidate.no_box e g w h) = closes (g ∙ ap (closed own) m) shut w h
-  nothing_came w1 middle r found now w2 result m f shut (KeepsCandidate.no_name e g w h) = closes (g ∙ ap (closed own) m) shut w h
-  nothing_came w1 middle r found now w2 result m f shut (KeepsCandidate.busy n t e g b i w h) = absurd (some_none g f)
-  nothing_came w1 middle r found now w2 result m f shut (KeepsCandidate.keeps n t e g b i w h) = absurd (some_none g f)
+    is_there : (n : Name) → r ≡ Some n → boxes_around (Place.Box n) c.roots ≡ None → ⊥
+    is_there n e none = let some : IsSome (boxes_around (Place.Box n) c.roots) = (near n (is_found n e).0).1 in not_both some (ap is_some none)
 
-  pub leaves : (r : Option Name) (middle : Openings) (found : Option ℕ) (w1 : Waiting) (now : Openings) (w2 : Waiting) (result : Option ℕ) → r ≡ nearest place c.roots → OpensCandidate v os r middle found
-      → KeepsCandidate (closed own middle) w1 r found now w2 result → Leaves w1 now w2 result
-  leaves r middle found w1 now w2 result near_is (OpensCandidate.no_box e m f) k = nothing_came w1 middle r found now w2 result m f (λ n o. some_none (near_is ∙ o.is_nearest) e) k
-  leaves r middle found w1 now w2 result near_is (OpensCandidate.was_open n e w m f) k = nothing_came w1 middle r found now w2 result m f (open_already n w r near_is e) k
-  leaves r middle found w1 now w2 result near_is (OpensCandidate.isnt_there n e a m f) k =
-      let none : boxes_around (Place.Box n) c.roots ≡ None = a (run_of v journal) table in
-      let some : IsSome (boxes_around (Place.Box n) c.roots) = (near n (sym near_is ∙ e)).1 in
-      absurd (not_both some (ap is_some none))
-  leaves r middle found w1 now w2 result near_is (OpensCandidate.comes n t o e un free of_box a m f) k =
-      keep n t o (sym near_is ∙ e) un free of_box (a (run_of v journal) table) w1 r found now w2 result e f (subst (λ (z : Openings). KeepsCandidate (closed own z) w1 r found now w2 result) m k)
+    nothing_came : (w1 w2 : Waiting) → middle ≡ os → found ≡ None → opened_box r found ≡ [] → ((n : Name) → SettleOpens still c place n → ⊥) → DropsWaits w1 (opened_box r found) w2 → Leaves w1 (closed own middle) w2 found
+    nothing_came w1 w2 m f b shut d = closes (ap (closed own) m) shut (subst (λ (ps : List Place). DropsWaits w1 ps w2) b d) f
+
+    nothing_opened : (q : Option Name) (f : Option ℕ) → f ≡ None → opened_box q f ≡ []
+    nothing_opened None f e = refl
+    nothing_opened (Some n) None e = refl
+    nothing_opened (Some n) (Some t) e = absurd (some_none refl e)
+
+    pub leaves : (w1 w2 : Waiting) → OpensCandidate v os r middle found → DropsWaits w1 (opened_box r found) w2 → Leaves w1 (closed own middle) w2 found
+    leaves w1 w2 (OpensCandidate.no_box e m f) d = nothing_came w1 w2 m f (nothing_opened r found f) (λ n o. nothing_found r quiet e n o) d
+    leaves w1 w2 (OpensCandidate.was_open n e w m f) d = nothing_came w1 w2 m f (nothing_opened r found f) (open_already n w (is_found n e).0) d
+    leaves w1 w2 (OpensCandidate.isnt_there n e a m f) d = absurd (is_there n e (a (run_of v journal) table))
+    leaves w1 w2 (OpensCandidate.comes n t o e un free of_box a m f) d =
+        let x : (nearest place c.roots ≡ Some n) × (is_used os own n ≡ false) = is_found n e in
+        let around : boxes_around (Place.Box n) c.roots ≡ Some o.boxes = a (run_of v journal) table in
+        let same : closed own middle ≡ with_it n t o x.0 un free of_box around = ap (closed own) m in
+        let one : opened_box r found ≡ Place.Box n ∷ [] = λ i. opened_box (e i) (f i) in
+        opens n t o (unused n t o x.0 un free of_box around x.1) free of_box around (λ k. ap (opening_at k) same ∙ with_at n t o x.0 un free of_box around k) (subst AreApart (sym same) (with_apart n t o x.0 un free of_box around))
+        (subst (λ (ps : List Place). DropsWaits w1 ps w2) one d) f
+
+    same_lighter : middle ≡ os → weight (closed own middle) < weight os
+    same_lighter m = subst (λ (l : Openings). weight (closed own l) < weight os) (sym m) (closed_lighter own own_is.0 os own_is.1)
+
+    -- the own place counted more than what comes
+    pub lighter : OpensCandidate v os r middle found → weight (closed own middle) < weight os
+    lighter (OpensCandidate.no_box e m f) = same_lighter m
+    lighter (OpensCandidate.was_open n e w m f) = same_lighter m
+    lighter (OpensCandidate.isnt_there n e a m f) = same_lighter m
+    lighter (OpensCandidate.comes n t o e un free of_box a m f) =
+        subst (λ (l : Openings). weight (closed own l) < weight os) (sym m) (comes_lighter n t o (is_found n e).0 un free of_box (a (run_of v journal) table))
 
   -- what is open then
   module _ (w1 : Waiting) (now : Openings) (w2 : Waiting) (result : Option ℕ) (x : Leaves w1 now w2 result) where
@@ -301,6 +314,10 @@ module _ (v : TableValue) (journal : List Label) (table : IsTableOf all_rules (r
           only = λ k q m e h. elim (either k q e) [
             | inl z ↦ subst (StandsIn m c.roots) (sym of_box ∙ ap (λ (y : Opening). y.place) z) (and_some m (boxes_around (Place.Box n) c.roots) o.boxes around (in_names m o.boxes (ap (λ (y : Opening). is_in m y.boxes) z ∙ h)))
             | inr z ↦ rest_stands.only k q m z h
+          ];
+          listed = λ k q e h. elim (either k q e) [
+            | inl z ↦ subst (λ (y : Opening). boxes_around y.place c.roots ≡ Some y.boxes) z (ap (λ (p : Place). boxes_around p c.roots) of_box ∙ around)
+            | inr z ↦ rest_stands.listed k q z h
           ];
           drawn = λ k q e. elim (either k q e) [
             | inl z ↦ subst (λ (y : Place). IsOld c (name_at y)) (sym of_box ∙ ap (λ (y : Opening). y.place) z) (drawn_there c s (Place.Box n) (ap is_some around))

@@ -1,13 +1,13 @@
 -- What the calls of a settle say.
-use Rattle.std.proofs.Common.{◌≡◌, ℕ, Bool, true, false, List, [], ◌∷◌, length, Option, Some, None, refl, sym, ap, subst, ◌∙◌}
-use Rattle.std.specs.Prelude.{is_some, option_map, ◌&&◌, not}
+use Rattle.std.proofs.Common.{◌≡◌, ℕ, Bool, true, false, List, length, Option, Some, None, refl, sym, ap, subst, ◌∙◌}
+use Rattle.std.specs.Prelude.{is_some, option_map}
 use Rattle.akl_terms.specs.declared.name.Name.{Name}
 use Rattle.akl_terms.specs.declared.name.Var.{Var}
 use Rattle.akl_terms.specs.declared.name.Place.{Place}
 use Rattle.akl_model.specs.declared.item.Item.{Item}
 use Rattle.wake_lists.specs.declared.turn.Urgency.{Urgency}
 use Rattle.wake_lists.specs.Open.{Openings, IsOpen, IsOpened, closed}
-use Rattle.wake_lists.specs.Waits.{waits_on, same_place}
+use Rattle.wake_lists.specs.Waits.{waits_on}
 use Rattle.box_tree.specs.Tables.{TableValue, table_of}
 use Rattle.step_commit.specs.Cores.{CoreValue, IsCore, IsStale, IsFirstStale}
 use Rattle.step_commit.proofs.Stale.{stale}
@@ -15,11 +15,11 @@ use Rattle.step_commit.proofs.Made.{found_as}
 use Rattle.idle_places.specs.Idling.{IdleValue, IsIdle}
 use Rattle.opened_places.specs.Placed.{PlacedValue, HasAround}
 use Rattle.scheduler.specs.Openings.{IsOpenAt}
-use Rattle.scheduler.specs.Dropping.{DropsWaits, closed_one}
+use Rattle.scheduler.specs.Dropping.{closed_one}
 use Rattle.scheduler.specs.Schedulers.{SchedulerValue, IsScheduler}
 use Rattle.scheduler.specs.Settling.{OpensCandidate}
 use Rattle.scheduler.specs.Settled.{MaySettle, IsFoundIdle, Settles}
-use Rattle.scheduler.proofs.DroppedWaits.{Waiting, or_false}
+use Rattle.scheduler.proofs.DroppedWaits.{Waiting}
 use Rattle.scheduler.proofs.OpeningLists.{put_out}
 use Rattle.scheduler.proofs.OpenedMore.{not_open, its_open}
 use Rattle.scheduler.proofs.SettleKept.{idle_looked, idle_now}
@@ -43,7 +43,7 @@ waits_none s h place w x = on (waits_on s.waits place x) refl
 
 -- one that isn't open is left alone
 pub left_alone : (s : SchedulerValue) (place : Place) (on : List Var) → IsOpen s.openings place None → Settles s place on s None
-left_alone s place on o = record { core = refl; unopened = λ n. (refl, refl); settled = λ w. absurd (not_open s.openings place o w) }
+left_alone s place on o = record { core = refl; unopened = λ n. (refl, refl); settled = λ w. absurd (not_open s.openings place o w); lighter = λ w. absurd (not_open s.openings place o w) }
 
 -- the nearest box
 module _ (v : TableValue) (before : Openings) (near : Option Name) (n : Name) (is_near : near ≡ Some n) where
@@ -67,10 +67,6 @@ candidate_back v before near now found (OpensCandidate.no_box e m f) = ap (λ (o
 candidate_back v before near now found (OpensCandidate.was_open n e w m f) = ap (λ (o : Option ℕ). closed_one o now) f ∙ m
 candidate_back v before near now found (OpensCandidate.isnt_there n e a m f) = ap (λ (o : Option ℕ). closed_one o now) f ∙ m
 candidate_back v before near now found (OpensCandidate.comes n t o e un free of_box a m f) = ap (λ (z : Option ℕ). closed_one z now) f ∙ ap (closed t) m ∙ put_out t o before free
-
--- a box that is kept waits no more
-pub drops_box : (ws now : Waiting) (n : Name) → ((p : Place) (x : Var) → waits_on now p x ≡ (waits_on ws p x && not (same_place p (Place.Box n)))) → DropsWaits ws (Place.Box n ∷ []) now
-drops_box ws now n h p x = h p x ∙ ap (λ (b : Bool). waits_on ws p x && not b) (sym (or_false (same_place p (Place.Box n))))
 
 -- other lists of the same waits
 pub same_scheduler : (s : SchedulerValue) → IsScheduler s → (os : Openings) (ws : Waiting) → os ≡ s.openings → ((p : Place) (x : Var) → waits_on ws p x ≡ waits_on s.waits p x) → IsScheduler (record { core = s.core; openings = os; waits = ws })

@@ -32,11 +32,11 @@ use Rattle.step_commit.proofs.Committed.{stamp_last}
 use Rattle.step_commit.proofs.Stale.{IsLooked}
 use Rattle.idle_places.specs.Idling.{IdleValue, IsIdle}
 use Rattle.idle_places.proofs.Later.{idle_later}
-use Rattle.opened_places.specs.Nearest.{IsNearest}
 use Rattle.scheduler.specs.Openings.{IsOpenAt, AreOpenPlaces, AreOthersOpen, AreListed, AreApart}
-use Rattle.scheduler.specs.Dropping.{is_place_in}
+use Rattle.scheduler.specs.Dropping.{is_place_in, DropsWaits}
 use Rattle.scheduler.specs.Schedulers.{SchedulerValue, TableIn, IsScheduler}
-use Rattle.scheduler.specs.Settling.{OpensCandidate, KeepsCandidate, Suspends}
+use Rattle.scheduler.specs.Nearest.{IsQuietCandidate}
+use Rattle.scheduler.specs.Settling.{OpensCandidate, opened_box, Suspends}
 use Rattle.scheduler.specs.Settled.{MaySettle, IsFoundIdle, IsTokenOfOpened, IsLeftBySettle, Settles}
 use Rattle.scheduler.proofs.DroppedWaits.{Waiting}
 use Rattle.scheduler.proofs.OpeningLists.{some_none}
@@ -147,9 +147,11 @@ kept_as xs ys ws vs g h c own on p x (IsKeptAfterSettle.another other apart k) =
 same_others : (os : Openings) (own : Place) (xs ys : List Place) → AreOthersOpen os own xs → AreOthersOpen os own ys → (p : Place) → IsOneOf p xs → IsOneOf p ys
 same_others os own xs ys a b p i = b.all p (a.only p i) (λ e. a.besides (subst (λ (q : Place). IsOneOf q xs) e i))
 
-module _ (s : SchedulerValue) (h : IsScheduler s) (place : Place) (on : List Var) (idle : IsFoundIdle s.core place on) (own : ℕ) (token : IsOpen s.openings place (Some own)) (near : Option Name) (is_near : IsNearest s.core.table place near)
-    (mid : Openings) (found : Option ℕ) (opens : OpensCandidate s.core.table s.openings near mid found) (w1 : Waiting) (suspends : Suspends s.waits place on w1) (now : Openings) (w2 : Waiting) (result : Option ℕ)
-    (keeps : KeepsCandidate (closed own mid) w1 near found now w2 result) where
+module _ (s : SchedulerValue) (h : IsScheduler s) (place : Place) (on : List Var) (idle : IsFoundIdle s.core place on) (own : ℕ) (token : IsOpen s.openings place (Some own)) (near : Option Name) (quiet : IsQuietCandidate s.core.table s.openings own place near)
+    (mid : Openings) (found : Option ℕ) (opens : OpensCandidate s.core.table s.openings near mid found) (w1 : Waiting) (suspends : Suspends s.waits place on w1) (w2 : Waiting) (drops : DropsWaits w1 (opened_box near found) w2) where
+  abbrev now : Openings
+  now = closed own mid
+
   abbrev t : TableIn s.core
   t = h.core.table
 
@@ -163,22 +165,22 @@ module _ (s : SchedulerValue) (h : IsScheduler s) (place : Place) (on : List Var
   others_so = others_listed s.openings place h.now h.are_open
 
   abbrev Left : Type 0
-  Left = Leaves s.core.table s.core.journal t place s.openings h.now h.are_open h.standing h.apart own token still others_so w1 now w2 result
+  Left = Leaves s.core.table s.core.journal t place s.openings h.now h.are_open h.standing h.apart own token still others_so w1 now w2 found
 
   left : Left
-  left = after.leaves s.core.table s.core.journal t place s.openings h.now h.are_open h.standing h.apart own token still others_so near mid found w1 now w2 result (is_near (run_by s.core) t) opens keeps
+  left = after.leaves s.core.table s.core.journal t place s.openings h.now h.are_open h.standing h.apart own token still others_so near mid found quiet w1 w2 opens drops
 
   now_apart : AreApart now
-  now_apart = after.now_apart s.core.table s.core.journal t place s.openings h.now h.are_open h.standing h.apart own token still others_so w1 now w2 result left
+  now_apart = after.now_apart s.core.table s.core.journal t place s.openings h.now h.are_open h.standing h.apart own token still others_so w1 now w2 found left
 
   are_now : AreOpenPlaces now (open_places now)
   are_now = all_listed now now_apart
 
   open_is : (other : Place) → IsOpenAt now other → IsOpenAfterSettle still c place other
-  open_is = after.open_is s.core.table s.core.journal t place s.openings h.now h.are_open h.standing h.apart own token still others_so w1 now w2 result left
+  open_is = after.open_is s.core.table s.core.journal t place s.openings h.now h.are_open h.standing h.apart own token still others_so w1 now w2 found left
 
   open_all : (other : Place) → IsOpenAfterSettle still c place other → IsOpenAt now other
-  open_all = after.open_all s.core.table s.core.journal t place s.openings h.now h.are_open h.standing h.apart own token still others_so w1 now w2 result left
+  open_all = after.open_all s.core.table s.core.journal t place s.openings h.now h.are_open h.standing h.apart own token still others_so w1 now w2 found left
 
   own_open : IsOneOf place h.now
   own_open = h.are_open.all place (its_open s.openings place own token)
@@ -212,11 +214,11 @@ module _ (s : SchedulerValue) (h : IsScheduler s) (place : Place) (on : List Var
   are_left = by left
     where
       by : Left → (kept : List Wait) × AreLeft kept
-      by (Leaves.closes e shut w g) = (
-        both,
+      by (Leaves.closes e shut drops g) = (
+        kept_but [] both,
         record {
-          listed = subst (λ (z : Waiting). AreListed z both) (sym w) listed_both;
-          left_by = record { each = λ p x k. kept_from p x k (λ n o q. shut n o); all = kept_to };
+          listed = listed_but w1 w2 both [] listed_both drops;
+          left_by = record { each = λ p x k. kept_from p x (but_kept [] both p x k).0 (λ n o q. shut n o); all = λ p x k. kept_still [] both p x (kept_to p x k) refl };
         },
       )
       by (Leaves.opens n token_now o so free of_box around at apart drops g) = (
@@ -256,7 +258,7 @@ module _ (s : SchedulerValue) (h : IsScheduler s) (place : Place) (on : List Var
         (λ x i. concern_scoped all_rules s.core.table.program s.core.table.query s.core.journal c t.replays place x ((idle.idle t).concern x i)) (idle.idle t).oldest
         (λ p i. h.are_open.all p (others_so.only p i)) others_so.besides (λ p i. open_is p (are_now.only p i)) are_left.1.left_by;
     apart = now_apart;
-    standing = after.now_stands s.core.table s.core.journal t place s.openings h.now h.are_open h.standing h.apart own token still others_so w1 now w2 result left;
+    standing = after.now_stands s.core.table s.core.journal t place s.openings h.now h.are_open h.standing h.apart own token still others_so w1 now w2 found left;
   }
 
   abbrev d : SchedulerValue
@@ -284,10 +286,10 @@ module _ (s : SchedulerValue) (h : IsScheduler s) (place : Place) (on : List Var
     opens_there : (n : Name) → SettleOpens still c place n → SettleOpens xs u.config place n
     opens_there n o = subst (λ (y : Config). SettleOpens xs y place n) c_is (settle_as still xs back c place n o)
 
-    token_so : IsTokenOfOpened s d place u.config xs result
+    token_so : IsTokenOfOpened s d place u.config xs found
     token_so = by left
       where
-        by : Left → IsTokenOfOpened s d place u.config xs result
+        by : Left → IsTokenOfOpened s d place u.config xs found
         by (Leaves.closes e shut w g) = record { opened = λ k f. absurd (some_none f g); none = λ f n o. shut n (opens_back n o) }
         by (Leaves.opens n k o so free of_box around at apart drops g) = record {
           opened = λ j f. (n, opens_there n so, (o, opened_at k o at j (some_value (sym g ∙ f)), of_box));
@@ -297,7 +299,7 @@ module _ (s : SchedulerValue) (h : IsScheduler s) (place : Place) (on : List Var
             opened_at : (k : ℕ) (o : Opening) → ((m : ℕ) → opening_at m now ≡ cond (eqb m k) (Some o) (opening_at m (closed own s.openings))) → (j : ℕ) → k ≡ j → opening_at j now ≡ Some o
             opened_at k o at j e = ap (λ (m : ℕ). opening_at m now) (sym e) ∙ at k ∙ ap (λ (b : Bool). cond b (Some o) (opening_at k (closed own s.openings))) (token_here k)
 
-    left_so : IsLeftBySettle s d place on u.config xs ws result
+    left_so : IsLeftBySettle s d place on u.config xs ws found
     left_so = record {
       is_open = λ other. (
         λ i. subst (λ (y : Config). IsOpenAfterSettle xs y place other) c_is (open_as still xs there back c place other (open_is other i)),
@@ -310,9 +312,10 @@ module _ (s : SchedulerValue) (h : IsScheduler s) (place : Place) (on : List Var
       token = token_so;
     }
 
-  pub settled_so : Settles s place on d result
+  pub settled_so : Settles s place on d found
   settled_so = record {
     core = refl;
     unopened = λ n. absurd (n (its_open s.openings place own token));
     settled = λ i u xs ws a b. left_so u xs ws a b;
+    lighter = λ i. after.lighter s.core.table s.core.journal t place s.openings h.now h.are_open h.standing h.apart own token still others_so near mid found quiet opens;
   }

@@ -93,6 +93,7 @@ started c os k e a = record {
   standing = record {
     around = λ t o n i h. names_in n o.boxes (some_and n (boxes_around o.place k.table.config.roots) o.boxes (a.around k.table t o i) h);
     only = λ t o n i h. and_some n (boxes_around o.place k.table.config.roots) o.boxes (a.around k.table t o i) (in_names n o.boxes h);
+    listed = λ t o i h. a.around k.table t o i;
     drawn = λ t o i. drawn_there k.table.config (replay-stands all_rules c.table.program c.table.query c.journal k.table.config k.table.replays) o.place (ap is_some (a.around k.table t o i));
   };
 }
@@ -119,6 +120,7 @@ module _ (s : SchedulerValue) (h : IsScheduler s) (token : ℕ) (gone : HasGone 
   standing = record {
     around = λ t o n e i. h.standing.around t o n (from t o e) i;
     only = λ t o n e i. h.standing.only t o n (from t o e) i;
+    listed = λ t o e i. h.standing.listed t o (from t o e) i;
     drawn = λ t o e. h.standing.drawn t o (from t o e);
   }
 

@@ -9,3 +9,5 @@ pub mod Listing
 pub mod Settling
 pub mod Committed
 pub mod Settled
+pub mod Nearest
+pub mod Weights

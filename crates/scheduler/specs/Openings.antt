@@ -4,7 +4,7 @@ use Rattle.akl_terms.specs.declared.name.Name.{Name}
 use Rattle.akl_terms.specs.declared.name.Var.{Var}
 use Rattle.akl_terms.specs.declared.name.Place.{Place}
 use Rattle.akl_model.specs.Config.{Config}
-use Rattle.akl_model.specs.Wakes.{StandsIn, Wait, IsKept, IsOneOf}
+use Rattle.akl_model.specs.Wakes.{boxes_around, StandsIn, Wait, IsKept, IsOneOf, IsThere}
 use Rattle.step_laws.specs.Likeness.{IsOld}
 use Rattle.wake_lists.specs.Open.{Opening, Openings, opening_at}
 use Rattle.wake_lists.specs.Standing.{is_in}
@@ -42,11 +42,12 @@ abbrev pub name_at : Place → Name
 name_at (Place.Goal g) = g
 name_at (Place.Box n) = n
 
--- each open place stands in just the boxes around it, and one that has gone in none; and its name has been drawn, so that none comes under it
--- later
+-- each open place stands in the boxes around it, as they are listed, and one that has gone in none; and its name has been drawn, so that none
+-- comes under it later
 pub record AreStandingIn (c : Config) (os : Openings) : Type 0 where
   pub around : (t : ℕ) (o : Opening) (n : Name) → opening_at t os ≡ Some o → StandsIn n c.roots o.place → is_in n o.boxes ≡ true
   pub only : (t : ℕ) (o : Opening) (n : Name) → opening_at t os ≡ Some o → is_in n o.boxes ≡ true → StandsIn n c.roots o.place
+  pub listed : (t : ℕ) (o : Opening) → opening_at t os ≡ Some o → IsThere o.place c.roots → boxes_around o.place c.roots ≡ Some o.boxes
   pub drawn : (t : ℕ) (o : Opening) → opening_at t os ≡ Some o → IsOld c (name_at o.place)
 
 abbrev pub IsNumberIn : ℕ → List ℕ → Type 0

@@ -1,5 +1,5 @@
 -- What a settle makes of the open places and the kept waits.
-use Rattle.std.specs.Prelude.{◌≡◌, ℕ, List, ◌++◌, true, false, Option, Some, None, ◌↔◌}
+use Rattle.std.specs.Prelude.{◌≡◌, ◌<◌, ℕ, List, ◌++◌, true, false, Option, Some, None, ◌↔◌}
 use Rattle.akl_terms.specs.declared.name.Name.{Name}
 use Rattle.akl_terms.specs.declared.name.Var.{Var}
 use Rattle.akl_terms.specs.declared.name.Place.{Place}
@@ -14,6 +14,7 @@ use Rattle.idle_places.specs.Idling.{IdleValue}
 use Rattle.idle_places.specs.Later.{HasNoReason, IsIdleStill}
 use Rattle.scheduler.specs.Openings.{IsOpenAt, AreOthersOpen, AreListed}
 use Rattle.scheduler.specs.Schedulers.{SchedulerValue, TableIn}
+use Rattle.scheduler.specs.Weights.{weight}
 
 -- a place was found idle for a front of the journal; one that didn't look inside has no reason to be ready now
 pub record MaySettle (c : CoreValue) (v : IdleValue) : Type 0 where
@@ -38,11 +39,12 @@ pub record IsLeftBySettle (s d : SchedulerValue) (place : Place) (on : List Var)
   pub waits : (other : Place) (x : Var) → (waits_on d.waits other x ≡ true) ↔ IsKeptAfterSettle kept still c place on other x
   pub token : IsTokenOfOpened s d place c still result
 
--- a place that isn't open is left alone
+-- a place that isn't open is left alone; else at most one box is opened for it, which stands in fewer boxes
 pub record Settles (s : SchedulerValue) (place : Place) (on : List Var) (d : SchedulerValue) (result : Option ℕ) : Type 0 where
   pub core : d.core ≡ s.core
   pub unopened : (IsOpenAt s.openings place → ⊥) → (d ≡ s) × (result ≡ None)
   pub settled : IsOpenAt s.openings place → (t : TableIn s.core) (still : List Place) (kept : List Wait) → AreOthersOpen s.openings place still → AreListed s.waits kept → IsLeftBySettle s d place on t.config still kept result
+  pub lighter : IsOpenAt s.openings place → weight d.openings < weight s.openings
 
 -- the state is as it was
 pub record IsUnchanged (s d : SchedulerValue) : Type 0 where

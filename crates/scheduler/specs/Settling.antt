@@ -1,16 +1,15 @@
 -- The nearest box that could be split, while a place is settled.
-use Rattle.std.specs.Prelude.{◌≡◌, ℕ, List, [], ◌∷◌, ◌||◌, ◌&&◌, true, false, Option, Some, None}
+use Rattle.std.specs.Prelude.{◌≡◌, ℕ, List, [], ◌∷◌, ◌||◌, ◌&&◌, Option, Some, None}
 use Rattle.std.specs.BTreeMap.{insert_entry}
 use Rattle.std.specs.Ordering.{nat_cmp}
 use Rattle.akl_terms.specs.declared.name.Name.{Name}
 use Rattle.akl_terms.specs.declared.name.Var.{Var}
 use Rattle.akl_terms.specs.declared.name.Place.{Place}
 use Rattle.box_tree.specs.Tables.{TableValue}
-use Rattle.wake_lists.specs.Open.{Opening, Openings, opening_at, closed, is_busy}
+use Rattle.wake_lists.specs.Open.{Opening, Openings, opening_at}
 use Rattle.wake_lists.specs.Waits.{same_place, waits_on, is_variable_in}
 use Rattle.opened_places.specs.Placed.{HasAround}
 use Rattle.scheduler.specs.Openings.{IsOpenAt}
-use Rattle.scheduler.specs.Dropping.{DropsWaits}
 
 -- the box is opened, in the boxes around it, unless it is open; its token, where it is opened
 pub data OpensCandidate (v : TableValue) (before : Openings) (nearest : Option Name) (now : Openings) (found : Option ℕ) : Type 0 where
@@ -20,13 +19,11 @@ pub data OpensCandidate (v : TableValue) (before : Openings) (nearest : Option N
   comes : (n : Name) (t : ℕ) (o : Opening) → nearest ≡ Some n → (IsOpenAt before (Place.Box n) → ⊥) → opening_at t before ≡ None → o.place ≡ Place.Box n → HasAround v (Place.Box n) (Some o.boxes)
       → now ≡ insert_entry nat_cmp before t o → found ≡ Some t → OpensCandidate v before nearest now found
 
--- it is closed again where something is open in it, or else waits no more
-pub data KeepsCandidate (before : Openings) (ws : List (Var × List Place)) (nearest : Option Name) (found : Option ℕ) (now : Openings) (ws_now : List (Var × List Place)) (result : Option ℕ) : Type 0 where
-  no_box : found ≡ None → now ≡ before → ws_now ≡ ws → result ≡ None → KeepsCandidate before ws nearest found now ws_now result
-  no_name : nearest ≡ None → now ≡ before → ws_now ≡ ws → result ≡ None → KeepsCandidate before ws nearest found now ws_now result
-  busy : (n : Name) (t : ℕ) → nearest ≡ Some n → found ≡ Some t → is_busy n before ≡ true → now ≡ closed t before → ws_now ≡ ws → result ≡ None → KeepsCandidate before ws nearest found now ws_now result
-  keeps : (n : Name) (t : ℕ) → nearest ≡ Some n → found ≡ Some t → is_busy n before ≡ false → now ≡ before → DropsWaits ws (Place.Box n ∷ []) ws_now → result ≡ Some t
-      → KeepsCandidate before ws nearest found now ws_now result
+-- the nearest box, where it was opened
+abbrev pub opened_box : Option Name → Option ℕ → List Place
+opened_box None found = []
+opened_box (Some n) None = []
+opened_box (Some n) (Some t) = Place.Box n ∷ []
 
 -- a place waits on these variables too
 abbrev pub Suspends : List (Var × List Place) → Place → List Var → List (Var × List Place) → Type 0

@@ -10,6 +10,7 @@ use crate::dropping::{drop_gone, drop_opened, leave_gone};
 use crate::effects::opened_by;
 use crate::opening::{close_all, open_all};
 use crate::scheduler::Scheduler;
+use crate::urgent::{hurry_failing, suspects_of};
 use akl_model::Receipt;
 use akl_terms::Place;
 use box_tree::Plan;
@@ -67,7 +68,10 @@ impl Scheduler {
         ensures unchanged { IfErr result (λ _. self.new ≡ self.old) }
     {
         let places = opened_by(alloc, self.core.table(), &self.waits, &plan, gone)?;
-        self.commit_opening(alloc, plan, places.as_slice(), gone)
+        let suspects = suspects_of(alloc, self.core.table(), &plan)?;
+        let committed = self.commit_opening(alloc, plan, places.as_slice(), gone)?;
+        hurry_failing(&mut self.open, self.core.table(), suspects.as_slice());
+        Ok(committed)
     }
 
     // The same where these places open, too.

@@ -29,33 +29,33 @@ pub(crate) fn drop_gone(waits: &mut Waits, places: &[Place])
 
 /// Of these places that went nothing stands any more in those that were boxes; and what was open under a token is
 /// closed, where its place is one of them.
-pub(crate) fn leave_gone(open: &mut Open, own: Option<u64>, place: Place, gone: &[Place])
-    ensures { open.new ≡ after_going own place gone.now open.old }
+pub(crate) fn leave_gone(open_places: &mut Open, own: Option<u64>, place: Place, gone: &[Place])
+    ensures { open_places.new ≡ after_going own place gone.now open_places.old }
 {
-    leave_boxes(open, gone);
+    leave_boxes(open_places, gone);
     if is_among(place, gone) {
-        close_one(open, own);
+        close_one(open_places, own);
     }
 }
 
 // Nothing stands any more in the boxes among these places.
-fn leave_boxes(open: &mut Open, gone: &[Place])
-    ensures { open.new ≡ after_leave (boxes_among gone.now) open.old }
+fn leave_boxes(open_places: &mut Open, gone: &[Place])
+    ensures { open_places.new ≡ after_leave (boxes_among gone.now) open_places.old }
 {
     for place in gone {
         match place {
-            Place::Box(name) => open.leave(&[*name]),
+            Place::Box(name) => open_places.leave(&[*name]),
             Place::Goal(_) => {}
         }
     }
 }
 
 /// Closes what is open under a token, where there is one.
-pub(crate) fn close_one(open: &mut Open, token: Option<u64>)
-    ensures { open.new ≡ closed_one token open.old }
+pub(crate) fn close_one(open_places: &mut Open, token: Option<u64>)
+    ensures { open_places.new ≡ closed_one token open_places.old }
 {
     if let Some(number) = token {
-        open.close(number);
+        open_places.close(number);
     }
 }
 

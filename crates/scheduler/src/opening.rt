@@ -11,16 +11,16 @@ use wake_lists::{Open, Urgency};
 /// was.
 pub(crate) fn open_all(
     alloc: Global,
-    open: &mut Open,
+    open_places: &mut Open,
     places: &[Placed],
 ) -> Result<Vec<u64>, AllocError>
-    ensures opened { IfOk result (λ tokens. AreOpened open.old places.now open.new tokens.items) }
-    ensures unchanged { IfErr result (λ _. open.new ≡ open.old) }
+    ensures opened { IfOk result (λ tokens. AreOpened open_places.old places.now open_places.new tokens.items) }
+    ensures unchanged { IfErr result (λ _. open_places.new ≡ open_places.old) }
 {
     let mut tokens = Vec::new(alloc);
     for placed in places {
-        if let Err(error) = open_one(open, placed, &mut tokens) {
-            close_all(open, tokens);
+        if let Err(error) = open_one(open_places, placed, &mut tokens) {
+            close_all(open_places, tokens);
             return Err(error);
         }
     }
@@ -28,28 +28,32 @@ pub(crate) fn open_all(
 }
 
 // Opens a place: its token comes to the end of the tokens, where it wasn't open. An `Err` leaves all as it was.
-fn open_one(open: &mut Open, placed: &Placed, tokens: &mut Vec<u64>) -> Result<(), AllocError>
-    ensures opened { IfOk result (λ _. IsOpenedBy open.old tokens.old.items placed.now open.new tokens.new.items) }
-    ensures unchanged { IfErr result (λ _. open.new ≡ open.old) }
+fn open_one(
+    open_places: &mut Open,
+    placed: &Placed,
+    tokens: &mut Vec<u64>,
+) -> Result<(), AllocError>
+    ensures opened { IfOk result (λ _. IsOpenedBy open_places.old tokens.old.items placed.now open_places.new tokens.new.items) }
+    ensures unchanged { IfErr result (λ _. open_places.new ≡ open_places.old) }
     ensures tokens { IfErr result (λ _. tokens.new.items ≡ tokens.old.items) }
 {
-    if open.token_of(placed.place()).is_some() {
+    if open_places.token_of(placed.place()).is_some() {
         return Ok(());
     }
-    let token = open.open(placed.place(), placed.around(), Urgency::Ordinary)?;
+    let token = open_places.open(placed.place(), placed.around(), Urgency::Ordinary)?;
     if tokens.push(token).is_err() {
-        open.close(token);
+        open_places.close(token);
         return Err(AllocError);
     }
     Ok(())
 }
 
 /// Closes the places with these tokens, the last one first.
-pub(crate) fn close_all(open: &mut Open, tokens: Vec<u64>)
-    ensures { open.new ≡ closed_back tokens.items open.old }
+pub(crate) fn close_all(open_places: &mut Open, tokens: Vec<u64>)
+    ensures { open_places.new ≡ closed_back tokens.items open_places.old }
 {
     let mut left = tokens;
     while let Some(token) = left.pop() {
-        open.close(token);
+        open_places.close(token);
     }
 }

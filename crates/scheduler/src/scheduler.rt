@@ -1,7 +1,8 @@
 //! The state of a run with its open places.
 
-ghost use Rattle.std.specs.Prelude.{◌≡◌, [], option_map, IfOk, IfNone, true};
-ghost use Rattle.wake_lists.specs.Open.{IsFirst, opening_at, closed, is_busy};
+ghost use Rattle.std.specs.Prelude.{◌≡◌, [], length, option_map, IfOk, IfErr, IfNone, true};
+ghost use Rattle.wake_lists.specs.Open.{IsFirst, IsPutLast, untimed, opening_at, closed, is_busy};
+ghost use Rattle.wake_lists.specs.declared.turn.Urgency.{Urgency};
 ghost use Rattle.scheduler.specs.Schedulers.{IsScheduler, AllOpen, IsQuiet, HasGone};
 ghost use Rattle.scheduler.specs.AllPlaces.{AreAllOpen, AreAllPlaced};
 
@@ -12,7 +13,7 @@ use opened_places::Placed;
 use std::alloc::{AllocError, Global};
 use std::marker::Model;
 use step_commit::Core;
-use wake_lists::{Open, Waits};
+use wake_lists::{Open, Urgency, Waits};
 
 /// The state of a run, with the places at which a rule may apply, which are open, and the variables on which the others
 /// wait. A place that isn't open isn't ready, or it is a box that is ready by a split alone and has an open place in it.
@@ -86,6 +87,25 @@ impl Scheduler {
         ensures some { self.now.openings ≡ [] → result ≡ true }
     {
         self.open.count() == 0
+    }
+
+    /// How many places are open.
+    pub fn open_count(&self) -> usize
+        ensures { result ≡ length self.now.openings }
+    {
+        self.open.count()
+    }
+
+    /// Puts the open place with this token behind all others that aren't urgent. An `Err`, for want of memory, leaves all
+    /// as it was.
+    pub fn postpone(&mut self, token: u64) -> Result<(), AllocError>
+        ensures put { IfOk result (λ _. IsPutLast self.old.openings self.new.openings Urgency.Ordinary token) }
+        ensures places { untimed self.new.openings ≡ untimed self.old.openings }
+        ensures core { self.new.core ≡ self.old.core }
+        ensures waits { self.new.waits ≡ self.old.waits }
+        ensures unchanged { IfErr result (λ _. self.new ≡ self.old) }
+    {
+        self.open.put_last(token, Urgency::Ordinary)
     }
 
     /// Closes the open place with this token, which has gone.

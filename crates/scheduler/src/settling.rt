@@ -4,17 +4,17 @@ ghost use Rattle.std.specs.Prelude.{◌≡◌, Some, false, IfOk, IfErr};
 ghost use Rattle.wake_lists.specs.Open.{IsOpen, closed};
 ghost use Rattle.wake_lists.specs.Waits.{waits_on};
 ghost use Rattle.box_tree.specs.Drops.{IsOfRun};
-ghost use Rattle.opened_places.specs.Nearest.{IsNearest};
-ghost use Rattle.scheduler.specs.Settling.{OpensCandidate, KeepsCandidate};
-ghost use Rattle.scheduler.specs.Dropping.{closed_one};
+ghost use Rattle.scheduler.specs.Settling.{OpensCandidate, opened_box};
+ghost use Rattle.scheduler.specs.Dropping.{closed_one, DropsWaits};
 ghost use Rattle.scheduler.specs.Settled.{MaySettle, IsFoundIdle, Settles, IsUnchanged, IsNotSettled};
 
+use crate::candidates::quiet_candidate;
 use crate::dropping::close_one;
 use crate::scheduler::Scheduler;
 use akl_terms::{Name, Place, Var};
 use box_tree::Table;
 use idle_places::Idle;
-use opened_places::{nearest_candidate, placed_at};
+use opened_places::placed_at;
 use std::alloc::{AllocError, Global};
 use step_commit::CommitError;
 use wake_lists::{Open, Urgency, Waits};
@@ -50,15 +50,15 @@ impl Scheduler {
         let Some(own) = self.open.token_of(place) else {
             return Ok(None);
         };
-        let nearest = nearest_candidate(self.core.table(), place);
+        let nearest = quiet_candidate(self.core.table(), &self.open, own, place);
         let found = open_candidate(alloc, self.core.table(), &mut self.open, nearest)?;
         if let Err(error) = self.waits.suspend(place, on) {
             close_one(&mut self.open, found);
             return Err(error);
         }
         self.open.close(own);
-        let kept = keep_candidate(&mut self.open, &mut self.waits, nearest, found);
-        Ok(kept)
+        drop_candidate(&mut self.waits, nearest, found);
+        Ok(found)
     }
 }
 
@@ -66,44 +66,37 @@ impl Scheduler {
 fn open_candidate(
     alloc: Global,
     table: &Table,
-    open: &mut Open,
+    open_places: &mut Open,
     nearest: Option<Name>,
 ) -> Result<Option<u64>, AllocError>
     requires { IsOfRun table.now }
-    ensures opened { IfOk result (OpensCandidate table.now open.old nearest open.new) }
-    ensures unchanged { IfErr result (λ _. open.new ≡ open.old) }
+    ensures opened { IfOk result (OpensCandidate table.now open_places.old nearest open_places.new) }
+    ensures unchanged { IfErr result (λ _. open_places.new ≡ open_places.old) }
 {
     let Some(name) = nearest else {
         return Ok(None);
     };
     let place = Place::Box(name);
-    if open.token_of(place).is_some() {
+    if open_places.token_of(place).is_some() {
         return Ok(None);
     }
     match placed_at(alloc, table, place)? {
         Some(placed) => {
-            let token = open.open(place, placed.around(), Urgency::Ordinary)?;
+            let token = open_places.open(place, placed.around(), Urgency::Ordinary)?;
             Ok(Some(token))
         }
         None => Ok(None),
     }
 }
 
-// Keeps a box open, and drops its waits, where nothing open stands in it; or else closes it again.
-fn keep_candidate(
-    open: &mut Open,
-    waits: &mut Waits,
-    nearest: Option<Name>,
-    found: Option<u64>,
-) -> Option<u64>
-    ensures { KeepsCandidate open.old waits.old nearest found open.new waits.new result }
+// The nearest box waits no more, where it was opened.
+fn drop_candidate(waits: &mut Waits, nearest: Option<Name>, found: Option<u64>)
+    ensures { DropsWaits waits.old (opened_box nearest found) waits.new }
 {
-    let name = nearest?;
-    let token = found?;
-    if open.busy(name) {
-        open.close(token);
-        return None;
+    let Some(name) = nearest else {
+        return;
+    };
+    if found.is_some() {
+        waits.drop_place(Place::Box(name));
     }
-    waits.drop_place(Place::Box(name));
-    Some(token)
 }

@@ -6,6 +6,6 @@ use Rattle.scheduler.proofs.opening.close_all.Goals as goal
 pub loop-token-preserved : goal.loop-token-preserved
 loop-token-preserved c =
     ap (closed_back c.pop.new.self.items) c.close.ensures
-    ∙ sym (back_end c.pop.new.self.items c.in-Some.token c.loop-token.open)
-    ∙ sym (ap (λ ts. closed_back ts c.loop-token.open) c.in-Some.ensures.items)
+    ∙ sym (back_end c.pop.new.self.items c.in-Some.token c.loop-token.open_places)
+    ∙ sym (ap (λ ts. closed_back ts c.loop-token.open_places) c.in-Some.ensures.items)
     ∙ c.loop-token.invariant

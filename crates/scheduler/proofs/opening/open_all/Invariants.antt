@@ -3,4 +3,4 @@ use Rattle.scheduler.specs.Opening.{AreOpened}
 use Rattle.scheduler.proofs.opening.open_all.Given as goal
 
 abbrev pub invariant-loop-placed : goal.invariant-loop-placed
-invariant-loop-placed l = AreOpened l.fn.open (take l.placed-index l.places) l.open l.tokens.items
+invariant-loop-placed l = AreOpened l.fn.open_places (take l.placed-index l.places) l.open_places l.tokens.items

@@ -7,6 +7,6 @@ use Rattle.scheduler.proofs.scheduler.open_places.Goals as goal
 
 pub returns : goal.returns
 returns c =
-    opened_all c.args.core.now c.in_ok-places.places.items c.open_all.new.open c.in_ok-open_all.field-0.items c.in_ok-places.ensures
-    (subst (λ (os : Openings). AreOpened os c.in_ok-places.places.items c.open_all.new.open c.in_ok-open_all.field-0.items) c.new-open.ensures
-    (subst (λ (ps : List PlacedValue). AreOpened c.new-open.result ps c.open_all.new.open c.in_ok-open_all.field-0.items) c.as_slice.ensures.value c.in_ok-open_all.ensures.opened))
+    opened_all c.args.core.now c.in_ok-places.places.items c.open_all.new.open_places c.in_ok-open_all.field-0.items c.in_ok-places.ensures
+    (subst (λ (os : Openings). AreOpened os c.in_ok-places.places.items c.open_all.new.open_places c.in_ok-open_all.field-0.items) c.new-open.ensures
+    (subst (λ (ps : List PlacedValue). AreOpened c.new-open.result ps c.open_all.new.open_places c.in_ok-open_all.field-0.items) c.as_slice.ensures.value c.in_ok-open_all.ensures.opened))

@@ -22,10 +22,10 @@ invariant_of-self-in-Ok c =
     let listed : AreListedFor s.core.table s.waits c.args.plan c.args.gone.now c.args.places.now =
     subst (λ (x : SchedulerValue). AreListedFor x.core.table x.waits c.args.plan c.args.gone.now c.args.places.now) (sym c.self.view_is) c.requires.places in
     let token : IsOpen s.openings c.args.plan.label.place c.token_of-own.result = subst (λ (l : Label). IsOpen s.openings l.place c.token_of-own.result) c.label-place.ensures c.token_of-own.ensures in
-    let left : c.leave_gone.new.open ≡ after_going c.token_of-own.result c.args.plan.label.place c.args.gone.now c.open_all.new.open =
-    c.leave_gone.ensures ∙ ap (λ (l : Label). after_going c.token_of-own.result l.place c.args.gone.now c.open_all.new.open) c.label-place.ensures in
+    let left : c.leave_gone.new.open_places ≡ after_going c.token_of-own.result c.args.plan.label.place c.args.gone.now c.open_all.new.open_places =
+    c.leave_gone.ensures ∙ ap (λ (l : Label). after_going c.token_of-own.result l.place c.args.gone.now c.open_all.new.open_places) c.label-place.ensures in
     subst (λ (os : Openings). IsScheduler (record { core = c.append.new.self; openings = os; waits = c.drop_gone.new.waits })) (sym left)
-    (committed_scheduler s c.self.invariant c.args.plan right may fresh c.args.gone.now gone c.args.places.now listed c.open_all.new.open c.in_ok-opened.opened.items c.in_ok-opened.ensures.opened c.token_of-own.result token
+    (committed_scheduler s c.self.invariant c.args.plan right may fresh c.args.gone.now gone c.args.places.now listed c.open_all.new.open_places c.in_ok-opened.opened.items c.in_ok-opened.ensures.opened c.token_of-own.result token
     c.append.new.self c.table.ensures.core c.in-Ok.receipt c.in-Ok.ensures.committed c.drop_opened.new.waits c.drop_gone.new.waits c.drop_opened.ensures c.drop_gone.ensures)
 
 pub returns-in-Ok-clause-committed : goal.returns-in-Ok-clause-committed
@@ -38,10 +38,10 @@ returns-in-Ok-clause-committed c =
     let listed : AreListedFor s.core.table s.waits c.args.plan c.args.gone.now c.args.places.now =
     subst (λ (x : SchedulerValue). AreListedFor x.core.table x.waits c.args.plan c.args.gone.now c.args.places.now) (sym c.self.view_is) c.requires.places in
     let token : IsOpen s.openings c.args.plan.label.place c.token_of-own.result = subst (λ (l : Label). IsOpen s.openings l.place c.token_of-own.result) c.label-place.ensures c.token_of-own.ensures in
-    let left : c.leave_gone.new.open ≡ after_going c.token_of-own.result c.args.plan.label.place c.args.gone.now c.open_all.new.open =
-    c.leave_gone.ensures ∙ ap (λ (l : Label). after_going c.token_of-own.result l.place c.args.gone.now c.open_all.new.open) c.label-place.ensures in
+    let left : c.leave_gone.new.open_places ≡ after_going c.token_of-own.result c.args.plan.label.place c.args.gone.now c.open_all.new.open_places =
+    c.leave_gone.ensures ∙ ap (λ (l : Label). after_going c.token_of-own.result l.place c.args.gone.now c.open_all.new.open_places) c.label-place.ensures in
     let r : Committed = record { receipt = c.in-Ok.receipt; opened = c.in_ok-opened.opened } in
-    subst (λ (x : SchedulerValue). CommitsAndOpens x c.args.plan (record { core = c.append.new.self; openings = c.leave_gone.new.open; waits = c.drop_gone.new.waits }) r) c.self.view_is
+    subst (λ (x : SchedulerValue). CommitsAndOpens x c.args.plan (record { core = c.append.new.self; openings = c.leave_gone.new.open_places; waits = c.drop_gone.new.waits }) r) c.self.view_is
     (subst (λ (os : Openings). CommitsAndOpens s c.args.plan (record { core = c.append.new.self; openings = os; waits = c.drop_gone.new.waits }) r) (sym left)
-    (committed_so s c.self.invariant c.args.plan right may fresh c.args.gone.now gone c.args.places.now listed c.open_all.new.open c.in_ok-opened.opened.items c.in_ok-opened.ensures.opened c.token_of-own.result token
+    (committed_so s c.self.invariant c.args.plan right may fresh c.args.gone.now gone c.args.places.now listed c.open_all.new.open_places c.in_ok-opened.opened.items c.in_ok-opened.ensures.opened c.token_of-own.result token
     c.append.new.self c.table.ensures.core c.in-Ok.receipt c.in-Ok.ensures.committed c.drop_opened.new.waits c.drop_gone.new.waits c.drop_opened.ensures c.drop_gone.ensures r refl refl))
