@@ -1,0 +1,2 @@
+pub mod Unsplit
+pub mod FoundIdle

@@ -1,0 +1,7 @@
+use Rattle.std.proofs.Common.{subst}
+use Rattle.split_plan.specs.Split.{IsSplitBy}
+use Rattle.idle_plan.proofs.Unready.{unready_box}
+use Rattle.place_steps.proofs.next.box_next.Goals as goal
+
+pub idle_box-requires-clause-unready : goal.idle_box-requires-clause-unready
+idle_box-requires-clause-unready c = unready_box c.args.view.now c.requires.none (subst (IsSplitBy c.args.view.now) c.in-None.is c.in_ok-found.ensures)

@@ -1,0 +1,21 @@
+-- What comes next at a place.
+use Rattle.std.specs.Prelude.{◌≡◌, false, Some}
+use Rattle.akl_model.specs.Config.{Found, site_of}
+use Rattle.table_laws.specs.Stamped.{IsTableOf}
+use Rattle.box_tree.specs.Tables.{all_rules, table_of}
+use Rattle.box_tree.specs.Views.{ViewValue, run_of}
+use Rattle.guard_plan.specs.Planned.{IsPlanOf}
+use Rattle.idle_places.specs.Idling.{IdleValue}
+use Rattle.idle_places.specs.Later.{HasNoReason}
+use Rattle.idle_plan.specs.Idling.{IsIdleBy}
+use Rattle.place_steps.specs.declared.next.Next.{Next}
+
+-- a place was found idle by a view of it; one that didn't look inside had no reason to be ready there
+pub record IsFoundIdleBy (v : ViewValue) (i : IdleValue) : Type 0 where
+  pub idle : IsIdleBy v i
+  pub no_reason : i.inside ≡ false → (t : IsTableOf all_rules (run_of v.table v.journal) (table_of v.table)) (f : Found) → site_of v.place t.config.roots ≡ Some f → HasNoReason f
+
+-- a right plan for the place of a view, or what the place waits on, as no rule applies there
+abbrev pub IsNext : ViewValue → Next → Type 0
+IsNext v (Next.Plan p) = IsPlanOf v p
+IsNext v (Next.Idle i) = IsFoundIdleBy v i

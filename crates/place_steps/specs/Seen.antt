@@ -1,0 +1,53 @@
+-- What a worker saw of a place.
+use Rattle.std.specs.Prelude.{◌≡◌, ℕ, true, false, Option, Some, None}
+use Rattle.akl_terms.specs.declared.name.Name.{Name}
+use Rattle.akl_terms.specs.declared.name.Place.{Place}
+use Rattle.box_tree.specs.declared.inside.Inside.{Inside}
+use Rattle.box_tree.specs.Tables.{table_of}
+use Rattle.box_tree.specs.Views.{ViewValue, is_there}
+use Rattle.box_tree.specs.Insides.{candidate_in}
+use Rattle.box_copies.specs.Copies.{IsInsideOfBox}
+use Rattle.idle_plan.specs.Idling.{IsAtRootBox}
+use Rattle.step_commit.specs.Cores.{CoreValue}
+use Rattle.place_steps.specs.declared.seen.Seen.{Seen}
+
+-- the view of the place
+abbrev pub view_in : Seen → ViewValue
+view_in (Seen.Goal goal view) = view
+view_in (Seen.Root view) = view
+view_in (Seen.Box view inside alternative) = view
+
+-- the view is that of a box, which could be split at this alternative, if at any
+pub record HasCandidate (v : ViewValue) (alternative : Option Name) : Type 0 where
+  pub name : Name
+  pub is_box : v.place ≡ Place.Box name
+  pub candidate : candidate_in (table_of v.table) name ≡ alternative
+
+-- a root box that couldn't be split
+pub record IsBareRoot (v : ViewValue) : Type 0 where
+  pub root : IsAtRootBox v
+  pub candidate : HasCandidate v None
+
+-- a box with all that stands inside it
+pub record IsSeenInside (v : ViewValue) (i : Inside) (alternative : Option Name) : Type 0 where
+  pub inside : IsInsideOfBox v i
+  pub candidate : HasCandidate v alternative
+
+-- what was seen is what its view is of
+abbrev pub IsSeen : Seen → Type 0
+IsSeen (Seen.Goal goal view) = view.place ≡ Place.Goal goal
+IsSeen (Seen.Root view) = IsBareRoot view
+IsSeen (Seen.Box view inside alternative) = IsSeenInside view inside alternative
+
+-- a worker has looked at a place, which is there
+pub record IsSight (c : CoreValue) (place : Place) (worker : ℕ) (v : ViewValue) : Type 0 where
+  pub table : v.table ≡ c.table
+  pub journal : v.journal ≡ c.journal
+  pub is_place : v.place ≡ place
+  pub seer : v.worker ≡ worker
+  pub there : is_there (table_of c.table) place ≡ true
+
+-- a worker saw a place, or the place isn't there
+abbrev pub IsSeenBy : CoreValue → Place → ℕ → Option Seen → Type 0
+IsSeenBy c place worker None = is_there (table_of c.table) place ≡ false
+IsSeenBy c place worker (Some s) = IsSeen s × IsSight c place worker (view_in s)

@@ -1,0 +1,108 @@
+//! What comes next at a place.
+
+ghost use Rattle.std.specs.Prelude.{◌≡◌, IfOk};
+ghost use Rattle.akl_terms.specs.declared.name.Place.{Place};
+ghost use Rattle.guard_plan.specs.Planned.{HasNoRule};
+ghost use Rattle.split_plan.specs.Split.{IsSplitBy};
+ghost use Rattle.place_steps.specs.Seen.{view_in, IsSeen, IsBareRoot, IsSeenInside};
+ghost use Rattle.place_steps.specs.Next.{IsNext};
+
+use crate::seen::Seen;
+use akl_terms::{Name, Program};
+use box_tree::{Inside, Plan, View};
+use idle_places::Idle;
+use idle_plan::{idle_box, idle_goal, idle_root};
+use rule_plan::plan;
+use split_plan::plan_split;
+use std::alloc::{AllocError, Global};
+
+/// What comes next at a place.
+#[derive(Drop)]
+pub enum Next {
+    /// A rule applies there.
+    Plan(Plan),
+    /// No rule applies there, and none will while what it waits on stays as it is.
+    Idle(Idle),
+}
+
+/// What comes next at a place that was seen: a right plan of a rule that applies there, or what the place waits on, as none
+/// applies. An `Err` is want of memory, or of names for a split.
+pub fn next_of(alloc: Global, program: &Program, seen: &Seen) -> Result<Next, AllocError>
+    requires program { program.now ≡ (view_in seen.now).table.program }
+    requires seen { IsSeen seen.now }
+    ensures { IfOk result (IsNext (view_in seen.now)) }
+{
+    if let Some(found) = plan(alloc, program, seen.view())? {
+        return Ok(Next::Plan(found));
+    }
+    match seen {
+        Seen::Goal { goal, view } => goal_next(alloc, program, view, *goal),
+        Seen::Root { view } => root_next(alloc, view),
+        Seen::Box {
+            view,
+            inside,
+            alternative,
+        } => box_next(alloc, program, view, inside, *alternative),
+    }
+}
+
+// What a goal at which no rule applies waits on.
+fn goal_next(alloc: Global, program: &Program, view: &View, goal: Name) -> Result<Next, AllocError>
+    requires program { program.now ≡ view.now.table.program }
+    requires place { view.now.place ≡ Place.Goal goal }
+    requires none { HasNoRule view.now }
+    ensures { IfOk result (IsNext view.now) }
+{
+    let idle = idle_goal(alloc, program, view, goal)?;
+    Ok(Next::Idle(idle))
+}
+
+// What a root box waits on at which no rule applies, and no choice could be split.
+fn root_next(alloc: Global, view: &View) -> Result<Next, AllocError>
+    requires root { IsBareRoot view.now }
+    requires none { HasNoRule view.now }
+    ensures { IfOk result (IsNext view.now) }
+{
+    let idle = idle_root(alloc, view)?;
+    Ok(Next::Idle(idle))
+}
+
+// What comes next at a box at which no rule but Split applies.
+fn box_next(
+    alloc: Global,
+    program: &Program,
+    view: &View,
+    inside: &Inside,
+    alternative: Option<Name>,
+) -> Result<Next, AllocError>
+    requires program { program.now ≡ view.now.table.program }
+    requires inside { IsSeenInside view.now inside.now alternative }
+    requires none { HasNoRule view.now }
+    ensures { IfOk result (IsNext view.now) }
+{
+    match split_of(alloc, program, view, inside, alternative)? {
+        Some(found) => Ok(Next::Plan(found)),
+        None => {
+            let idle = idle_box(alloc, program, view, inside)?;
+            Ok(Next::Idle(idle))
+        }
+    }
+}
+
+// Plans a split of a box that could be split at this alternative, if at any.
+fn split_of(
+    alloc: Global,
+    program: &Program,
+    view: &View,
+    inside: &Inside,
+    alternative: Option<Name>,
+) -> Result<Option<Plan>, AllocError>
+    requires program { program.now ≡ view.now.table.program }
+    requires inside { IsSeenInside view.now inside.now alternative }
+    ensures { IfOk result (IsSplitBy view.now) }
+{
+    match alternative {
+        Some(name) => plan_split(alloc, program, view, inside, name),
+        None => Ok(None),
+    }
+}

@@ -1,0 +1,91 @@
+//! What a worker saw of a place, enough to tell what comes next there.
+
+ghost use Rattle.std.specs.Prelude.{◌≡◌, IfOk};
+ghost use Rattle.akl_terms.specs.declared.name.Place.{Place};
+ghost use Rattle.place_steps.specs.Seen.{view_in, IsSight, IsSeen, IsSeenBy};
+
+use akl_terms::{Name, Place};
+use box_tree::{Inside, LookError, View};
+use std::alloc::{AllocError, Global};
+use step_commit::Core;
+
+/// What a worker saw of a place.
+#[derive(Drop)]
+pub enum Seen {
+    /// A goal.
+    Goal {
+        goal: Name,
+        view: View,
+    },
+    /// A root box at which no choice could be split. What stands inside it isn't seen.
+    Root {
+        view: View,
+    },
+    /// Another box, with all that stands inside it, and the alternative at which it could be split.
+    Box {
+        view: View,
+        inside: Inside,
+        alternative: Option<Name>,
+    },
+}
+
+impl Seen {
+    /// The view of the place.
+    pub fn view(&self) -> &View
+        ensures { result.now ≡ view_in self.now }
+    {
+        match self {
+            Seen::Goal { view, .. } | Seen::Root { view } | Seen::Box { view, .. } => view,
+        }
+    }
+}
+
+/// What a worker sees of a place; `None` exactly where the place isn't there. An `Err` is want of memory.
+///
+/// Of a root box without a choice that could be split, it costs a look at the box alone, and of another box a look at all
+/// that stands inside it.
+pub fn see(
+    alloc: Global,
+    core: &Core,
+    place: Place,
+    worker: u32,
+) -> Result<Option<Seen>, AllocError>
+    ensures { IfOk result (IsSeenBy core.now place worker) }
+{
+    let view = match core.look(alloc, place, worker) {
+        Ok(view) => view,
+        Err(LookError::Gone) => return Ok(None),
+        Err(LookError::Memory(error)) => return Err(error),
+    };
+    match place {
+        Place::Goal(goal) => Ok(Some(Seen::Goal { goal, view })),
+        Place::Box(name) => {
+            let seen = see_box(alloc, core, name, worker, view)?;
+            Ok(Some(seen))
+        }
+    }
+}
+
+// What a worker sees of a box of which it has a view.
+fn see_box(
+    alloc: Global,
+    core: &Core,
+    name: Name,
+    worker: u32,
+    view: View,
+) -> Result<Seen, AllocError>
+    requires { IsSight core.now (Place.Box name) worker view }
+    ensures seen { IfOk result IsSeen }
+    ensures sight { IfOk result (λ seen. IsSight core.now (Place.Box name) worker (view_in seen)) }
+{
+    let alternative = core.candidate(name);
+    if alternative.is_none() && view.path().len() == 1 {
+        return Ok(Seen::Root { view });
+    }
+    let inside = core.look_inside(alloc, name, worker)?;
+    Ok(Seen::Box {
+        view,
+        inside,
+        alternative,
+    })
+}
