@@ -1,2 +1,3 @@
-pub mod Looks
-pub mod Passes
+pub mod Plans
+pub mod Labels
+pub mod Turns

@@ -1,7 +1,8 @@
 //! The run of one worker.
 #![tactic(auto)]
 
-mod pass;
+mod attending;
 mod run;
+mod steps;
 
-pub use run::{End, Finished, run_one};
+pub use run::{End, Finished, run_on, run_one};

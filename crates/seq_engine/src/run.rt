@@ -1,11 +1,12 @@
-//! A run from its first label to its end.
+//! A run to its end.
 
 ghost use Rattle.std.specs.Prelude.{◌≡◌, IfOk, []};
-ghost use Rattle.seq_engine.specs.Runs.{HasPassedWhole, HasRun};
+ghost use Rattle.seq_engine.specs.Runs.{HasRun, HasRunOn};
 
-use crate::pass::{Kind, Pass, look_at_all};
+use crate::steps::{Stepped, step};
 use akl_model::Receipt;
 use akl_terms::Program;
+use scheduler::Scheduler;
 use std::alloc::{AllocError, Global};
 use step_commit::Core;
 
@@ -27,44 +28,42 @@ pub struct Finished {
     pub end: End,
 }
 
-// Looks at all places as worker 1: for a split only where no other rule applies, so that a box isn't searched for one
-// again and again while something moves in it.
-fn look_once(
+/// Runs on as worker 1, which has these receipts so far, until no rule applies, or until all labels of the budget are made
+/// and a rule still applies.
+///
+/// Of the open places the one that has been open longest comes first; but a box in which another place is open is looked at
+/// only for rules other than Split, until nothing in it is.
+pub fn run_on(
     alloc: Global,
     program: &Program,
-    core: &mut Core,
-    receipts: &mut Vec<Receipt>,
-) -> Result<Pass, AllocError>
-    requires { program.now ≡ core.old.table.program }
-    ensures { IfOk result (HasPassedWhole core.old receipts.old.items core.new receipts.new.items) }
+    scheduler: Scheduler,
+    receipts: Vec<Receipt>,
+) -> Result<Finished, AllocError>
+    requires { program.now ≡ scheduler.core.table.program }
+    ensures { IfOk result (HasRunOn scheduler.core receipts.items) }
 {
-    match look_at_all(alloc, program, core, Kind::Plain, receipts)? {
-        Pass::Quiet => look_at_all(alloc, program, core, Kind::Split, receipts),
-        pass => Ok(pass),
+    let mut scheduler = scheduler;
+    let mut receipts = receipts;
+    loop {
+        let end = match step(alloc, program, &mut scheduler, &mut receipts)? {
+            Stepped::Committed => continue,
+            Stepped::Quiet => End::Quiet,
+            Stepped::Spent => End::Spent,
+        };
+        return Ok(Finished {
+            core: scheduler.into_core(),
+            receipts,
+            end,
+        });
     }
 }
 
 /// Runs a core as worker 1, until no rule applies, or until all labels of the budget are made and a rule still applies.
-///
-/// It looks at all places in turn, and again from the first, until none has a plan; a box is split only where no other
-/// rule applies anywhere.
 pub fn run_one(alloc: Global, program: &Program, core: Core) -> Result<Finished, AllocError>
     requires program { program.now ≡ core.table.program }
     requires begins { core.journal ≡ [] }
     ensures { IfOk result (HasRun core) }
 {
-    let mut core = core;
-    let mut receipts = Vec::new(alloc);
-    loop {
-        let end = match look_once(alloc, program, &mut core, &mut receipts)? {
-            Pass::Moved => continue,
-            Pass::Quiet => End::Quiet,
-            Pass::Spent => End::Spent,
-        };
-        return Ok(Finished {
-            core,
-            receipts,
-            end,
-        });
-    }
+    let scheduler = Scheduler::new(alloc, core)?;
+    run_on(alloc, program, scheduler, Vec::new(alloc))
 }

@@ -1,0 +1,14 @@
+use Rattle.std.proofs.lemmas.Result.{IfOk-weaker}
+use Rattle.seq_engine.specs.Attending.{HasAttended}
+use Rattle.seq_engine.proofs.Turns.{attended_after}
+use Rattle.seq_engine.proofs.attending.attend_next.Goals as goal
+
+pub returns-then-not-is_busy : goal.returns-then-not-is_busy
+returns-then-not-is_busy c =
+    IfOk-weaker c.attend.result (HasAttended c.loop.scheduler c.attend.new.scheduler) (HasAttended c.args.scheduler.now c.attend.new.scheduler)
+    (λ a. attended_after c.args.scheduler.now c.loop.scheduler c.attend.new.scheduler a c.loop.invariant) c.attend.ensures
+
+pub returns : goal.returns
+returns c =
+    IfOk-weaker c.attend_first.result (HasAttended c.loop.scheduler c.attend_first.new.scheduler) (HasAttended c.args.scheduler.now c.attend_first.new.scheduler)
+    (λ a. attended_after c.args.scheduler.now c.loop.scheduler c.attend_first.new.scheduler a c.loop.invariant) c.attend_first.ensures

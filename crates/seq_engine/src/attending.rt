@@ -1,0 +1,163 @@
+//! Open places that one worker looks at in turn.
+
+ghost use Rattle.std.specs.Prelude.{◌≡◌, IfOk};
+ghost use Rattle.seq_engine.specs.Attending.{IsOpenUnder, HasFirst, HasTried, HasAttended, HasPlan, IsIdleNow, HasClosed};
+
+use akl_terms::{Place, Program};
+use box_tree::{LookError, Plan};
+use idle_places::Idle;
+use place_steps::{Next, next_of, see};
+use rule_plan::plan;
+use scheduler::Scheduler;
+use std::alloc::{AllocError, Global};
+use step_commit::CommitError;
+
+/// What came of an open place that was looked at.
+#[derive(Drop)]
+pub enum Attended {
+    /// No place is open.
+    Quiet,
+    /// A rule applies at the place.
+    Planned(Plan),
+    /// The place was closed.
+    Closed,
+}
+
+// The place that comes first, with its token; `None` where no place is open.
+fn first_place(scheduler: &Scheduler) -> Option<(u64, Place)>
+    ensures { HasFirst scheduler.now result }
+{
+    let token = scheduler.first_open()?;
+    let place = scheduler.place_of(token)?;
+    Some((token, place))
+}
+
+// Whether a place is a box in which another place is open.
+fn is_busy(scheduler: &Scheduler, place: Place) -> bool {
+    match place {
+        Place::Box(name) => scheduler.is_busy(name),
+        Place::Goal(_) => false,
+    }
+}
+
+// Plans a rule other than Split at an open place. Where none applies, the place comes after the others.
+fn try_busy(
+    alloc: Global,
+    program: &Program,
+    scheduler: &mut Scheduler,
+    token: u64,
+    place: Place,
+) -> Result<Option<Plan>, AllocError>
+    requires { program.now ≡ scheduler.old.core.table.program }
+    ensures { IfOk result (HasTried scheduler.old scheduler.new) }
+{
+    match scheduler.core().look(alloc, place, 1) {
+        Ok(view) => {
+            if let Some(found) = plan(alloc, program, &view)? {
+                return Ok(Some(found));
+            }
+        }
+        Err(LookError::Gone) => {}
+        Err(LookError::Memory(error)) => return Err(error),
+    }
+    scheduler.postpone(token)?;
+    Ok(None)
+}
+
+// Closes an open place that was found idle in this very state.
+fn settle(alloc: Global, scheduler: &mut Scheduler, idle: &Idle) -> Result<(), AllocError>
+    requires { IsIdleNow scheduler.old idle.now }
+    ensures { IfOk result (λ _. HasClosed scheduler.old scheduler.new) }
+{
+    match scheduler.settle(alloc, idle) {
+        Ok(_) => Ok(()),
+        Err(CommitError::Spent { budget: _ }) => unreachable!(),
+        Err(CommitError::Stale { item: _, stamp: _ }) => unreachable!(),
+        Err(CommitError::Memory(error)) => Err(error),
+    }
+}
+
+// Plans a rule at an open place. Where none applies, the place is closed.
+fn attend(
+    alloc: Global,
+    program: &Program,
+    scheduler: &mut Scheduler,
+    token: u64,
+    place: Place,
+) -> Result<Attended, AllocError>
+    requires program { program.now ≡ scheduler.old.core.table.program }
+    requires open { IsOpenUnder scheduler.old token place }
+    ensures { IfOk result (HasAttended scheduler.old scheduler.new) }
+{
+    let Some(seen) = see(alloc, scheduler.core(), place, 1)? else {
+        scheduler.forget(token);
+        return Ok(Attended::Closed);
+    };
+    match next_of(alloc, program, &seen)? {
+        Next::Plan(found) => Ok(Attended::Planned(found)),
+        Next::Idle(idle) => {
+            settle(alloc, scheduler, &idle)?;
+            Ok(Attended::Closed)
+        }
+    }
+}
+
+// Attends to the place that comes first.
+fn attend_first(
+    alloc: Global,
+    program: &Program,
+    scheduler: &mut Scheduler,
+) -> Result<Attended, AllocError>
+    requires { program.now ≡ scheduler.old.core.table.program }
+    ensures { IfOk result (HasAttended scheduler.old scheduler.new) }
+{
+    match first_place(scheduler) {
+        Some((token, place)) => attend(alloc, program, scheduler, token, place),
+        None => Ok(Attended::Quiet),
+    }
+}
+
+/// Attends to the first open place that isn't a box in which another place is open. Each such box before it is tried by the
+/// rules other than Split, so that one that fails goes at once, and comes after the others.
+fn attend_next(
+    alloc: Global,
+    program: &Program,
+    scheduler: &mut Scheduler,
+) -> Result<Attended, AllocError>
+    requires { program.now ≡ scheduler.old.core.table.program }
+    ensures { IfOk result (HasAttended scheduler.old scheduler.new) }
+{
+    for _ in 0..scheduler.open_count() {
+        let Some((token, place)) = first_place(scheduler) else {
+            return Ok(Attended::Quiet);
+        };
+        if !is_busy(scheduler, place) {
+            return attend(alloc, program, scheduler, token, place);
+        }
+        if let Some(found) = try_busy(alloc, program, scheduler, token, place)? {
+            return Ok(Attended::Planned(found));
+        }
+    }
+    attend_first(alloc, program, scheduler)
+}
+
+/// A plan of a rule that applies at an open place, where those that came before it are closed; `None` where no place is
+/// open, so that none is ready.
+///
+/// It ends, since each place that is closed opens at most one box, which stands in fewer boxes.
+pub(crate) fn next_plan(
+    alloc: Global,
+    program: &Program,
+    scheduler: &mut Scheduler,
+) -> Result<Option<Plan>, AllocError>
+    requires { program.now ≡ scheduler.old.core.table.program }
+    ensures { IfOk result (HasPlan scheduler.old scheduler.new) }
+{
+    loop {
+        match attend_next(alloc, program, scheduler)? {
+            Attended::Quiet => return Ok(None),
+            Attended::Planned(found) => return Ok(Some(found)),
+            Attended::Closed => {}
+        }
+    }
+}

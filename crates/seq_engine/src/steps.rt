@@ -1,0 +1,60 @@
+//! One label of a run, or its end.
+
+ghost use Rattle.std.specs.Prelude.{◌≡◌, IfOk};
+ghost use Rattle.seq_engine.specs.Runs.{HasStepped, IsPlanNow};
+
+use crate::attending::next_plan;
+use akl_model::Receipt;
+use akl_terms::Program;
+use box_tree::Plan;
+use scheduler::Scheduler;
+use std::alloc::{AllocError, Global};
+use step_commit::CommitError;
+
+/// What a step of a run came to.
+#[derive(Clone, Copy)]
+pub enum Stepped {
+    /// A label was committed.
+    Committed,
+    /// No place is ready.
+    Quiet,
+    /// Some place is ready, and all labels of the budget are made.
+    Spent,
+}
+
+// Commits a plan that was made in this very state, and keeps its receipt; or all labels of the budget are made.
+fn commit(
+    alloc: Global,
+    scheduler: &mut Scheduler,
+    plan: Plan,
+    receipts: &mut Vec<Receipt>,
+) -> Result<Stepped, AllocError>
+    requires { IsPlanNow scheduler.old.core plan }
+    ensures { IfOk result (HasStepped scheduler.old.core receipts.old.items scheduler.new.core receipts.new.items) }
+{
+    match scheduler.commit(alloc, plan) {
+        Ok(committed) => {
+            receipts.push(committed.receipt)?;
+            Ok(Stepped::Committed)
+        }
+        Err(CommitError::Spent { budget: _ }) => Ok(Stepped::Spent),
+        Err(CommitError::Stale { item: _, stamp: _ }) => unreachable!(),
+        Err(CommitError::Memory(error)) => Err(error),
+    }
+}
+
+/// Plans at the open places until a rule applies, and commits its label as worker 1.
+pub(crate) fn step(
+    alloc: Global,
+    program: &Program,
+    scheduler: &mut Scheduler,
+    receipts: &mut Vec<Receipt>,
+) -> Result<Stepped, AllocError>
+    requires { program.now ≡ scheduler.old.core.table.program }
+    ensures { IfOk result (HasStepped scheduler.old.core receipts.old.items scheduler.new.core receipts.new.items) }
+{
+    match next_plan(alloc, program, scheduler)? {
+        Some(plan) => commit(alloc, scheduler, plan, receipts),
+        None => Ok(Stepped::Quiet),
+    }
+}
