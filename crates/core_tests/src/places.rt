@@ -1,7 +1,6 @@
 //! Places as they are written in a trace.
 
 use akl_terms::{Name, Place};
-use std::test::Fail;
 
 /// A worker at a place.
 #[derive(Clone, Copy)]
@@ -11,30 +10,30 @@ pub struct Turn {
 }
 
 // A name: a worker, a dot and a number.
-fn name_of(text: &str) -> Result<Name, Fail> {
-    let (worker, number) = text.split_once('.').ok_or("name")?;
-    Ok(Name {
-        worker: worker.parse()?,
-        number: number.parse()?,
+fn name_of(text: &str) -> Option<Name> {
+    let (worker, number) = text.split_once('.')?;
+    Some(Name {
+        worker: worker.parse().ok()?,
+        number: number.parse().ok()?,
     })
 }
 
-// A place: `goal` or `box`, a blank, and its name.
-fn place_of(text: &str) -> Result<Place, Fail> {
-    let (kind, name) = text.split_once(' ').ok_or("place")?;
+/// A place: `goal` or `box`, a blank, and its name.
+pub fn place_of(text: &str) -> Option<Place> {
+    let (kind, name) = text.split_once(' ')?;
     let name = name_of(name)?;
     match kind {
-        "goal" => Ok(Place::Goal(name)),
-        "box" => Ok(Place::Box(name)),
-        _ => Err("kind".into()),
+        "goal" => Some(Place::Goal(name)),
+        "box" => Some(Place::Box(name)),
+        _ => None,
     }
 }
 
 /// A worker, a blank and a place.
-pub fn turn_of(text: &str) -> Result<Turn, Fail> {
-    let (worker, place) = text.split_once(' ').ok_or("turn")?;
-    Ok(Turn {
-        worker: worker.parse()?,
+pub fn turn_of(text: &str) -> Option<Turn> {
+    let (worker, place) = text.split_once(' ')?;
+    Some(Turn {
+        worker: worker.parse().ok()?,
         place: place_of(place)?,
     })
 }

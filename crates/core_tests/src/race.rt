@@ -1,18 +1,18 @@
 //! Two plans over one state.
 
-ghost use Rattle.std.specs.Prelude.{◌≡◌, IfOk, OnOk};
+ghost use Rattle.std.specs.Prelude.{◌≡◌, IfOk, IfSome, OnOk};
 ghost use Rattle.box_tree.specs.Tables.{HasVariables, HasShownVariables};
 
+use crate::loading::loaded;
 use crate::places::{Turn, turn_of};
-use crate::texts::{push_commit, push_journal};
-use akl_model::Receipt;
-use akl_run::{Loaded, load_asked, load_program};
+use crate::texts::{push_journal, push_receipt, push_refused};
+use akl_run::Loaded;
 use akl_terms::Program;
-use box_tree::Plan;
+use box_tree::{LookError, Plan};
 use rule_plan::plan;
-use std::alloc::Global;
+use std::alloc::{AllocError, Global};
 use std::test::Fail;
-use step_commit::{CommitError, Core};
+use step_commit::Core;
 
 /// Programs, queries, turns, and what these come to. At a turn one worker plans and commits, or two workers plan over
 /// one state, and the first commits first. Then what the second commit of the two is, and the journal.
@@ -25,51 +25,70 @@ r(1). s(2). => r(X), s(Y) => 1 goal 0.2 | 2 goal 0.3 => at 2, seen 0 / step 1 fo
 p :- -> true. p :- q -> true. q :- -> true. => p => 1 goal 0.2; 1 goal 0.2 | 2 goal 1.4 => goal 1.4 is gone / step 1 fork goal 0.2 by 1 / step 2 cut goal 0.2 of 1.0 by 1
 ";
 
-// A plan of a worker at a place.
-fn planned(alloc: Global, program: &Program, core: &Core, turn: Turn) -> Result<Plan, Fail>
+// A plan of a worker at a place; `None` where the place isn't there, or no rule applies.
+fn planned(
+    alloc: Global,
+    program: &Program,
+    core: &Core,
+    turn: Turn,
+) -> Result<Option<Plan>, AllocError>
     requires { program.now ≡ core.now.table.program }
-    ensures { IfOk result (λ p. (p.table ≡ core.now.table) × (p.journal ≡ core.now.journal) × (p.label.worker ≡ turn.worker)) }
+    ensures { IfOk result (λ found. IfSome found (λ p. (p.table ≡ core.now.table) × (p.journal ≡ core.now.journal) × (p.label.worker ≡ turn.worker))) }
 {
-    let Ok(view) = core.look(alloc, turn.place, turn.worker) else {
-        return Err("no place".into());
-    };
-    match plan(alloc, program, &view)? {
-        Some(plan) => Ok(plan),
-        None => Err("no plan".into()),
+    match core.look(alloc, turn.place, turn.worker) {
+        Ok(view) => plan(alloc, program, &view),
+        Err(LookError::Gone) => Ok(None),
+        Err(LookError::Memory(error)) => Err(error),
     }
 }
 
 // A worker plans, and commits.
-fn take_turn(alloc: Global, program: &Program, core: &mut Core, turn: Turn) -> Result<(), Fail>
+fn take_turn(
+    alloc: Global,
+    program: &Program,
+    core: &mut Core,
+    turn: Turn,
+    text: &mut String,
+) -> Result<(), AllocError>
     requires { program.now ≡ core.old.table.program }
     ensures { OnOk result (core.new.table.program ≡ core.old.table.program) }
 {
-    let plan = planned(alloc, program, core, turn)?;
+    let Some(plan) = planned(alloc, program, core, turn)? else {
+        return text.push_str("no plan");
+    };
     match core.commit(alloc, plan) {
         Ok(_) => Ok(()),
-        Err(_) => Err("refused".into()),
+        Err(error) => push_refused(text, error),
     }
 }
 
-// Two workers plan over one state, and commit; the second commit is answered.
+// Two workers plan over one state, and commit: what the second commit is.
 fn race(
     alloc: Global,
     program: &Program,
     core: &mut Core,
     first: Turn,
     second: Turn,
-) -> Result<Result<Receipt, CommitError>, Fail>
+    text: &mut String,
+) -> Result<(), AllocError>
     requires { program.now ≡ core.old.table.program }
     ensures { OnOk result (core.new.table.program ≡ core.old.table.program) }
 {
     if first.worker == second.worker {
-        return Err("one worker".into());
+        return text.push_str("one worker");
     }
-    let one = planned(alloc, program, core, first)?;
-    let two = planned(alloc, program, core, second)?;
+    let Some(one) = planned(alloc, program, core, first)? else {
+        return text.push_str("no first plan");
+    };
+    let Some(two) = planned(alloc, program, core, second)? else {
+        return text.push_str("no second plan");
+    };
     match core.commit(alloc, one) {
-        Ok(_) => Ok(core.commit(alloc, two)),
-        Err(_) => Err("refused".into()),
+        Ok(_) => match core.commit(alloc, two) {
+            Ok(receipt) => push_receipt(text, receipt),
+            Err(error) => push_refused(text, error),
+        },
+        Err(error) => push_refused(text, error),
     }
 }
 
@@ -80,19 +99,24 @@ fn play(
     core: &mut Core,
     turn: &str,
     text: &mut String,
-) -> Result<(), Fail>
+) -> Result<(), AllocError>
     requires { program.now ≡ core.old.table.program }
     ensures { OnOk result (core.new.table.program ≡ core.old.table.program) }
 {
     let Some((first, second)) = turn.split_once(" | ") else {
-        return take_turn(alloc, program, core, turn_of(turn)?);
+        return match turn_of(turn) {
+            Some(turn) => take_turn(alloc, program, core, turn, text),
+            None => text.push_str("no turn"),
+        };
     };
-    let commit = race(alloc, program, core, turn_of(first)?, turn_of(second)?)?;
-    push_commit(text, commit)
+    match (turn_of(first), turn_of(second)) {
+        (Some(first), Some(second)) => race(alloc, program, core, first, second, text),
+        _ => text.push_str("no turns"),
+    }
 }
 
 // What the turns of a line come to.
-fn played(alloc: Global, loaded: &Loaded, turns: &str) -> Result<String, Fail>
+fn played(alloc: Global, loaded: &Loaded, turns: &str) -> Result<String, AllocError>
     requires variables { HasVariables loaded.now.program loaded.now.query loaded.now.first_variable }
     requires shown { HasShownVariables loaded.now.query }
 {
@@ -107,22 +131,14 @@ fn played(alloc: Global, loaded: &Loaded, turns: &str) -> Result<String, Fail>
     Ok(text)
 }
 
-// A query over a program.
-fn loaded(alloc: Global, program: &str, query: &str) -> Result<Loaded, Fail>
-    ensures variables { IfOk result (λ l. HasVariables l.program l.query l.first_variable) }
-    ensures shown { IfOk result (λ l. HasShownVariables l.query) }
+/// The same, once more where there was no memory.
+fn played_surely(alloc: Global, loaded: &Loaded, turns: &str) -> Result<String, AllocError>
+    requires variables { HasVariables loaded.now.program loaded.now.query loaded.now.first_variable }
+    requires shown { HasShownVariables loaded.now.query }
 {
-    let program = program.as_bytes();
-    let query = query.as_bytes();
-    if program.len() > 10_000 || query.len() > 10_000 {
-        return Err("too long".into());
-    }
-    let Ok(base) = load_program(alloc, program) else {
-        return Err("program".into());
-    };
-    match load_asked(alloc, base, query) {
-        Ok(loaded) => Ok(loaded),
-        Err(_) => Err("query".into()),
+    match played(alloc, loaded, turns) {
+        Ok(text) => Ok(text),
+        Err(AllocError) => played(alloc, loaded, turns),
     }
 }
 
@@ -134,7 +150,7 @@ fn two_workers_plan_over_one_state(rt: HostRuntime) -> Result<(), Fail> {
         let (query, rest) = rest.split_once(" => ").ok_or("query")?;
         let (turns, wanted) = rest.split_once(" => ").ok_or("turns")?;
         let loaded = loaded(alloc, program, query)?;
-        let found = played(alloc, &loaded, turns)?;
+        let found = played_surely(alloc, &loaded, turns)?;
         assert_eq!(rt; found.as_str(), wanted, "{case}");
     }
     Ok(())
