@@ -33,7 +33,7 @@ use Rattle.akl_model.proofs.OrdersKept.{replay_ordered}
 use Rattle.step_laws.proofs.Whereabouts.{found_in}
 use Rattle.rational_unify.specs.Solving.{bindings_in}
 use Rattle.local_store.specs.declared.telling.ToldStore.{ToldStore}
-use Rattle.local_store.specs.Stored.{Stored, with_frame, with_port}
+use Rattle.local_store.specs.Stored.{Stored}
 use Rattle.local_store.specs.Chained.{bindings_from, ToldBy, innermost}
 use Rattle.local_store.specs.Telling.{AnswersTold}
 use Rattle.plan_laws.specs.Right.{Reads}
@@ -48,6 +48,7 @@ use Rattle.box_tree.specs.Plans.{IsRead, IsRight}
 use Rattle.rule_plan.specs.AtGoals.{label_at, plan_at}
 use Rattle.guard_plan.specs.Planned.{HasNoRule}
 use Rattle.rule_plan.specs.Solving.{ResolvesAll, GoesToPort}
+use Rattle.rule_plan.specs.Sent.{list_equations, with_new_tail}
 use Rattle.guard_plan.proofs.Sites.{row, found, whole_stands, shows_at}
 use Rattle.guard_plan.proofs.Chains.{told_stands}
 use Rattle.rule_plan.proofs.InForce.{send_in_force}
@@ -118,10 +119,10 @@ module _ (v : ViewValue) (i : IsViewOf v) (g frame : Name) (m r : ℕ) (p : v.pl
 
 -- the tail becomes a list of the message and the new tail, under a new frame
 abbrev pub sent_equations : ViewValue → Name → ℕ → Term → List code.Equation
-sent_equations v frame m tail = record { left = tail; right = Mol (v.table.program.cell + 2) (next_name v) } ∷ record { left = Mol v.table.program.cell (next_name v); right = Mol m frame } ∷ []
+sent_equations v frame m tail = list_equations v.table.program.cell (next_name v) tail frame m
 
 abbrev pub sent_store : ViewValue → Stored → Name → Stored
-sent_store v s q = with_port (with_frame s (next_name v)) q (Mol (v.table.program.cell + 1) (next_name v))
+sent_store v s q = with_new_tail v.table.program.cell (next_name v) q s
 
 module _ (v : ViewValue) (g frame : Name) (m r : ℕ) (q : Name) (goes : GoesToPort v frame r q) (p : v.place ≡ Place.Goal g) (s : v.sight ≡ Sight.Atom (record { code = Code.Send m r; frame = frame }))
     (tail : Term) (has : lookup (same_name q) (innermost v.stores).ports ≡ Some tail)

@@ -22,7 +22,11 @@ abbrev pub plan_at : ViewValue → Rule → Name → ℕ → Step → List Var �
 plan_at v rule goal names step binds =
     record { table = v.table; journal = v.journal; label = label_at v rule; reads = Item.Goal goal ∷ map Item.Store v.path; names = names; step = step; binds = binds }
 
+-- the plan of a rule by which the box gets this store is right, with enough members of what is bound
+abbrev pub IsToldRightly : ViewValue → Rule → Name → ℕ → ToldStore → Type 0
+IsToldRightly v rule goal names t = (binds : List Var) → AreMembers v.table.program.templates.nodes v.stores t.bound.items binds
+    → IsRight (plan_at v rule goal names (Step.Tell t.store t.solved) binds)
+
 -- the plan of a rule that tells this equation is right, with each store in which it is told and enough members of what that binds
 abbrev pub TellsRightly : ViewValue → Rule → Name → code.Equation → Type 0
-TellsRightly v rule goal e = (t : ToldStore) → AnswersTold v.table.program.templates.nodes v.stores v.known (e ∷ []) t
-    → (binds : List Var) → AreMembers v.table.program.templates.nodes v.stores t.bound.items binds → IsRight (plan_at v rule goal 0 (Step.Tell t.store t.solved) binds)
+TellsRightly v rule goal e = (t : ToldStore) → AnswersTold v.table.program.templates.nodes v.stores v.known (e ∷ []) t → IsToldRightly v rule goal 0 t

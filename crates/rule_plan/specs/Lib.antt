@@ -2,3 +2,4 @@ pub mod Made
 pub mod Failed
 pub mod AtGoals
 pub mod Solving
+pub mod Sent

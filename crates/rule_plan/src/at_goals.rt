@@ -2,7 +2,7 @@
 
 ghost use Rattle.std.specs.Prelude.{◌≡◌, IfOk};
 ghost use Rattle.box_tree.specs.Plans.{IsRight};
-ghost use Rattle.rule_plan.specs.AtGoals.{plan_at, TellsRightly};
+ghost use Rattle.rule_plan.specs.AtGoals.{plan_at, IsToldRightly, TellsRightly};
 ghost use Rattle.guard_plan.specs.Planned.{IsPlannedBy};
 
 use crate::labels::label_of;
@@ -45,12 +45,30 @@ pub(crate) fn telling_plan(
     requires right { TellsRightly view.now rule goal equation }
     ensures { IfOk result (IsPlannedBy view.now) }
 {
-    let chain = view.chain(&program.templates);
+    let answer = told(alloc, &view.chain(&program.templates), &[equation])?;
+    told_plan(alloc, program, view, goal, rule, 0, answer)
+}
+
+// The plan of a rule that draws so many names, by which the box of its goal gets the store of an answer.
+pub(crate) fn told_plan(
+    alloc: Global,
+    program: &Program,
+    view: &View,
+    goal: Name,
+    rule: Rule,
+    names: u64,
+    answer: ToldStore,
+) -> Result<Option<Plan>, AllocError>
+    requires program { program.now ≡ view.now.table.program }
+    requires right { IsToldRightly view.now rule goal names answer }
+    ensures { IfOk result (IsPlannedBy view.now) }
+{
     let ToldStore {
         store,
         solved,
         bound,
-    } = told(alloc, &chain, &[equation])?;
+    } = answer;
+    let chain = view.chain(&program.templates);
     let binds = members(alloc, &chain, bound.as_slice())?;
     let store = Shared::new(alloc, store)?;
     goal_plan(
@@ -58,7 +76,7 @@ pub(crate) fn telling_plan(
         view,
         goal,
         rule,
-        0,
+        names,
         Step::Tell { store, solved },
         binds,
     )

@@ -1,11 +1,14 @@
 //! Plans of Eval.
 
-ghost use Rattle.std.specs.Prelude.{◌≡◌, IfOk};
+ghost use Rattle.std.specs.Prelude.{◌≡◌, [], IfOk};
 ghost use Rattle.akl_terms.specs.declared.name.Place.{Place};
 ghost use Rattle.akl_terms.specs.declared.program.Code.{Code};
+ghost use Rattle.akl_model.specs.declared.label.Rule.{Rule};
 ghost use Rattle.box_tree.specs.declared.view.Sight.{Sight};
 ghost use Rattle.box_tree.specs.Views.{IsViewOf};
+ghost use Rattle.box_tree.specs.Plans.{IsRight};
 ghost use Rattle.guard_plan.specs.Planned.{IsPlannedBy};
+ghost use Rattle.rule_plan.specs.AtGoals.{plan_at};
 
 use crate::at_goals::{goal_plan, telling_plan};
 use akl_model::Rule;
@@ -50,7 +53,6 @@ pub(crate) fn eval(
         frame,
     } = arithmetic;
     let code = Code::Arith { test, left, right };
-    let unbound = Vec::new(alloc);
     match evaluate(alloc, &chain, Goal { code, frame })? {
         ArithValue::Is(value) => {
             let equation = Equation {
@@ -59,9 +61,17 @@ pub(crate) fn eval(
             };
             telling_plan(alloc, program, view, goal, Rule::Eval, equation)
         }
-        ArithValue::Holds => goal_plan(alloc, view, goal, Rule::Eval, 0, Step::Confirm, unbound),
-        ArithValue::Fails => goal_plan(alloc, view, goal, Rule::Eval, 0, Step::Refute, unbound),
+        ArithValue::Holds => eval_plan(alloc, view, goal, Step::Confirm),
+        ArithValue::Fails => eval_plan(alloc, view, goal, Step::Refute),
         ArithValue::Waits { .. } => Ok(None),
         ArithValue::Never => Ok(None),
     }
+}
+
+// The plan of Eval with a step that tells nothing.
+fn eval_plan(alloc: Global, view: &View, goal: Name, step: Step) -> Result<Option<Plan>, AllocError>
+    requires { IsRight (plan_at view.now Rule.Eval goal 0 step []) }
+    ensures { IfOk result (IsPlannedBy view.now) }
+{
+    goal_plan(alloc, view, goal, Rule::Eval, 0, step, Vec::new(alloc))
 }

@@ -1,6 +1,7 @@
 //! The arguments of a call, and a head to which they are told.
 
 ghost use Rattle.std.specs.Prelude.{◌≡◌, ◌+◌, ◌≤◌, IfOk, [], ◌∷◌, ◌++◌};
+ghost use Rattle.local_store.specs.Telling.{AnswersTold};
 ghost use Rattle.rule_plan.specs.Made.{heads_of, store_with, IsHeadStore, MoreKnown};
 
 use akl_terms::{Clause, Equation, Name, Term};
@@ -57,12 +58,25 @@ pub(crate) fn head_store(
 ) -> Result<ToldStore, AllocError>
     ensures { IfOk result (λ t. IsHeadStore chain.now.nodes chain.now.stores call frame clause.now t.store t.solved) }
 {
-    let equations = head_equations(alloc, call, frame, clause)?;
     let path = chain.stores();
-    let stores = path_with(alloc, path, frame)?;
     let known = known_with(chain.known(), path.len());
+    let stores = path_with(alloc, path, frame)?;
     let inner = Chain::of_solved(chain.templates(), stores.as_slice(), known);
-    told(alloc, &inner, equations.as_slice())
+    tell_head(alloc, &inner, call, frame, clause)
+}
+
+// The innermost store, to which the equations are told.
+fn tell_head(
+    alloc: Global,
+    chain: &Chain,
+    call: Call,
+    frame: Name,
+    clause: &Clause,
+) -> Result<ToldStore, AllocError>
+    ensures { IfOk result (AnswersTold chain.now.nodes chain.now.stores chain.now.known (heads_of call frame clause.now)) }
+{
+    let equations = head_equations(alloc, call, frame, clause)?;
+    told(alloc, chain, equations.as_slice())
 }
 
 // How many are known to be solved with one more that has no bindings.
@@ -86,7 +100,13 @@ fn path_with(
     ensures { IfOk result (λ stores. stores.items ≡ path.now ++ store_with frame ∷ []) }
 {
     let mut stores = shared(alloc, path)?;
-    let own = Shared::new(alloc, Store::new(alloc).with_frame(frame)?)?;
-    stores.push(own)?;
+    stores.push(frame_store(alloc, frame)?)?;
     Ok(stores)
+}
+
+// A store that has the frame alone.
+fn frame_store(alloc: Global, frame: Name) -> Result<Shared<Store>, AllocError>
+    ensures { IfOk result (λ s. s ≡ store_with frame) }
+{
+    Shared::new(alloc, Store::new(alloc).with_frame(frame)?)
 }

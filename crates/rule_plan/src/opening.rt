@@ -6,12 +6,11 @@ ghost use Rattle.akl_terms.specs.declared.program.Code.{Code};
 ghost use Rattle.box_tree.specs.declared.view.Sight.{Sight};
 ghost use Rattle.guard_plan.specs.Planned.{IsPlannedBy};
 
-use crate::at_goals::goal_plan;
+use crate::at_goals::told_plan;
 use akl_model::Rule;
 use akl_terms::{Equation, Name, Program, Term};
-use box_tree::{Plan, Step, View};
-use class_members::members;
-use local_store::{Shared, ToldStore, told};
+use box_tree::{Plan, View};
+use local_store::told;
 use std::alloc::{AllocError, Global};
 
 // The plan that opens a new port, which has a node under a frame as its tail, and tells another node to be the port.
@@ -37,25 +36,12 @@ pub(crate) fn open(
         left: Term::Mol { node: port, frame },
         right: Term::Port(name),
     };
-    let chain = view.chain(&program.templates);
-    let ToldStore {
-        store,
-        solved,
-        bound,
-    } = told(alloc, &chain, &[equation])?;
-    let binds = members(alloc, &chain, bound.as_slice())?;
     let tail = Term::Mol {
         node: stream,
         frame,
     };
-    let store = Shared::new(alloc, store.with_port(name, tail)?)?;
-    goal_plan(
-        alloc,
-        view,
-        goal,
-        Rule::Open,
-        1,
-        Step::Tell { store, solved },
-        binds,
-    )
+    let chain = view.chain(&program.templates);
+    let mut answer = told(alloc, &chain, &[equation])?;
+    answer.store.set_port(name, tail)?;
+    told_plan(alloc, program, view, goal, Rule::Open, 1, answer)
 }

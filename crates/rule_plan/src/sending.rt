@@ -1,21 +1,25 @@
 //! Plans of Send.
 
-ghost use Rattle.std.specs.Prelude.{◌≡◌, IfOk};
+ghost use Rattle.std.specs.Prelude.{◌≡◌, Some, IfOk};
+ghost use Rattle.std.specs.Map.{lookup};
 ghost use Rattle.akl_terms.specs.declared.name.Place.{Place};
 ghost use Rattle.akl_terms.specs.declared.program.Code.{Code};
+ghost use Rattle.akl_terms.specs.Names.{same_name};
+ghost use Rattle.local_store.specs.Chained.{innermost};
+ghost use Rattle.local_store.specs.Telling.{AnswersTold};
 ghost use Rattle.box_tree.specs.declared.view.Sight.{Sight};
 ghost use Rattle.box_tree.specs.Views.{IsViewOf};
 ghost use Rattle.guard_plan.specs.Planned.{IsPlannedBy};
 ghost use Rattle.rule_plan.specs.Solving.{GoesToPort};
+ghost use Rattle.rule_plan.specs.Sent.{list_equations, with_new_tail};
 
-use crate::at_goals::goal_plan;
+use crate::at_goals::told_plan;
 use crate::heads::node_after;
 use crate::stores::solved_stores;
 use akl_model::Rule;
 use akl_terms::{Code, Equation, Goal, Name, Program, Term};
-use box_tree::{Plan, Step, View};
-use class_members::members;
-use local_store::{Chain, Consistency, Shared, ToldStore, consistent, told};
+use box_tree::{Plan, View};
+use local_store::{Chain, Consistency, Store, ToldStore, consistent, told};
 use port_goals::{SendState, sendable};
 use std::alloc::{AllocError, Global};
 
@@ -80,7 +84,21 @@ fn send_to(
     requires goes { GoesToPort view.now message.frame message.port port }
     ensures { IfOk result (IsPlannedBy view.now) }
 {
+    let frame = Name {
+        worker: view.worker(),
+        number: view.next(),
+    };
     let chain = view.chain(&program.templates);
+    let tail = tail_of(&chain, port)?;
+    let mut answer = tell_list(alloc, program, &chain, tail, message, frame)?;
+    set_tail(&mut answer.store, program, port, frame)?;
+    told_plan(alloc, program, view, goal, Rule::Send, 1, answer)
+}
+
+// The tail of a port in the innermost store.
+fn tail_of(chain: &Chain, port: Name) -> Result<Term, AllocError>
+    ensures { IfOk result (λ tail. lookup (same_name port) (innermost chain.now.stores).ports ≡ Some tail) }
+{
     let Some(own) = chain.stores().last() else {
         // Not where a view was taken.
         return Err(AllocError);
@@ -89,10 +107,20 @@ fn send_to(
         // Not where the box has the port.
         return Err(AllocError);
     };
-    let frame = Name {
-        worker: view.worker(),
-        number: view.next(),
-    };
+    Ok(tail)
+}
+
+// The innermost store, to which it is told that a tail is a list of the message and a new tail, both under a new frame.
+fn tell_list(
+    alloc: Global,
+    program: &Program,
+    chain: &Chain,
+    tail: Term,
+    message: Message,
+    frame: Name,
+) -> Result<ToldStore, AllocError>
+    ensures { IfOk result (AnswersTold chain.now.nodes chain.now.stores chain.now.known (list_equations program.now.cell frame tail message.frame message.message)) }
+{
     let equations = [
         Equation {
             left: tail,
@@ -112,25 +140,17 @@ fn send_to(
             },
         },
     ];
-    let ToldStore {
-        store,
-        solved,
-        bound,
-    } = told(alloc, &chain, &equations)?;
-    let binds = members(alloc, &chain, bound.as_slice())?;
-    let new_tail = Term::Mol {
+    told(alloc, chain, &equations)
+}
+
+// The store also has a new frame, and under it the new tail of a port.
+fn set_tail(store: &mut Store, program: &Program, port: Name, frame: Name) -> Result<(), AllocError>
+    ensures { IfOk result (λ _. store.new ≡ with_new_tail program.now.cell frame port store.old) }
+{
+    let tail = Term::Mol {
         node: node_after(program.cell, 1)?,
         frame,
     };
-    let store = store.with_frame(frame)?.with_port(port, new_tail)?;
-    let store = Shared::new(alloc, store)?;
-    goal_plan(
-        alloc,
-        view,
-        goal,
-        Rule::Send,
-        1,
-        Step::Tell { store, solved },
-        binds,
-    )
+    store.add_frame(frame)?;
+    store.set_port(port, tail)
 }

@@ -1,7 +1,6 @@
 use Rattle.rule_plan.proofs.at_goals.telling_plan.Goals as goal
 
-pub goal_plan-requires : goal.goal_plan-requires
-goal_plan-requires c =
-    let a = rw (c.chain-chain.ensures.nodes, c.chain-chain.ensures.stores, c.chain-chain.ensures.known, c.requires.program) at c.in_ok-store.ensures in
-    let m = rw (c.chain-chain.ensures.nodes, c.chain-chain.ensures.stores, c.as_slice.ensures.value, c.requires.program) at c.in_ok-binds.ensures.members in
-    rw c.in_ok-store-2.ensures (c.requires.right c.in_ok-store.field-0 a c.in_ok-binds.binds.items m)
+pub told_plan-requires-clause-right : goal.told_plan-requires-clause-right
+told_plan-requires-clause-right c =
+    let a = rw (c.chain.ensures.nodes, c.chain.ensures.stores, c.chain.ensures.known, c.requires.program) at c.in_ok-answer.ensures in
+    c.requires.right c.in_ok-answer.answer a

@@ -11,17 +11,17 @@ telling_plan-requires-clause-right c =
     rw (to_z-of_z w64 c.in-Is.value f)
     (value_right c.args.view.now c.requires.seen c.args.goal c.args.arithmetic.frame c.args.arithmetic.test c.args.arithmetic.left c.args.arithmetic.right c.requires.place c.requires.sight k c.in-Is.value e)
 
-pub goal_plan-requires : goal.goal_plan-requires
-goal_plan-requires c =
+pub eval_plan-requires : goal.eval_plan-requires
+eval_plan-requires c =
     let k = rw (c.in-Consistent.is, c.chain-chain.ensures.nodes, c.chain-chain.ensures.stores, c.requires.program) at c.in_ok-consistent.ensures in
     let e = rw (c.in-Holds.is, c.chain-chain.ensures.nodes, c.chain-chain.ensures.symbols, c.chain-chain.ensures.stores, c.requires.program) at c.in_ok-value.ensures in
-    rw c.new-unbound.ensures.items (holds_right c.args.view.now c.requires.seen c.args.goal c.args.arithmetic.frame c.args.arithmetic.test c.args.arithmetic.left c.args.arithmetic.right c.requires.place c.requires.sight k e)
+    holds_right c.args.view.now c.requires.seen c.args.goal c.args.arithmetic.frame c.args.arithmetic.test c.args.arithmetic.left c.args.arithmetic.right c.requires.place c.requires.sight k e
 
-pub goal_plan-requires-in-Fails : goal.goal_plan-requires-in-Fails
-goal_plan-requires-in-Fails c =
+pub eval_plan-requires-in-Fails : goal.eval_plan-requires-in-Fails
+eval_plan-requires-in-Fails c =
     let k = rw (c.in-Consistent.is, c.chain-chain.ensures.nodes, c.chain-chain.ensures.stores, c.requires.program) at c.in_ok-consistent.ensures in
     let e = rw (c.in-Fails.is, c.chain-chain.ensures.nodes, c.chain-chain.ensures.symbols, c.chain-chain.ensures.stores, c.requires.program) at c.in_ok-value.ensures in
-    rw c.new-unbound.ensures.items (fails_right c.args.view.now c.requires.seen c.args.goal c.args.arithmetic.frame c.args.arithmetic.test c.args.arithmetic.left c.args.arithmetic.right c.requires.place c.requires.sight k e)
+    fails_right c.args.view.now c.requires.seen c.args.goal c.args.arithmetic.frame c.args.arithmetic.test c.args.arithmetic.left c.args.arithmetic.right c.requires.place c.requires.sight k e
 
 pub returns-in_default : goal.returns-in_default
 returns-in_default c =

@@ -10,5 +10,5 @@ of_solved-inner-requires c =
 
 pub returns : goal.returns
 returns c =
-    let told = rw (c.of_solved-inner.ensures, c.templates.ensures.nodes, c.as_slice.ensures.value, c.in_ok-stores.ensures, c.stores-path.ensures, c.as_slice-2.ensures.value, c.in_ok-equations.ensures) at c.told.ensures in
-    IfOk-weaker c.told.result _ _ (λ t h. record { known = c.known_with-known.result; tells = h.tells; is_solved = h.is_solved }) told
+    let told = rw (c.of_solved-inner.ensures, c.templates.ensures.nodes, c.as_slice.ensures.value, c.in_ok-stores.ensures, c.stores-path.ensures) at c.tell_head.ensures in
+    IfOk-weaker c.tell_head.result _ _ (λ t h. record { known = c.known_with-known.result; tells = h.tells; is_solved = h.is_solved }) told
