@@ -5,12 +5,17 @@
 //! byte.
 #![tactic(auto)]
 
+mod cross_gate;
+mod meet_gate;
 mod memory_sink;
 mod memory_source;
 mod stream;
 mod traits;
 mod transfer;
+mod waiting;
 
+pub use cross_gate::CrossGate;
+pub use meet_gate::MeetGate;
 pub use memory_sink::MemorySink;
 pub use memory_source::MemorySource;
 pub use stream::{StreamSink, StreamSource};
