@@ -1,0 +1,55 @@
+-- What a worker has may go to another thread.
+use denote.Param.Send.{IsSend, IsSync, sendable}
+use Rattle.std.proofs.Crossing as owned
+use Rattle.std.proofs.MapsCrossing as maps
+use Rattle.persist_map.proofs.tree.Tree.TheLaws.TheKnot as trees
+use Rattle.local_store.specs.contracts.store.Store as Store
+use Rattle.box_tree.specs.contracts.entries.GoalEntry as GoalEntry
+use Rattle.box_tree.specs.contracts.entries.BoxEntry as BoxEntry
+use Rattle.box_tree.specs.contracts.table.Table as Table
+use Rattle.step_commit.specs.contracts.state.Core as Core
+use Rattle.wake_lists.specs.contracts.open.Open as Open
+use Rattle.wake_lists.specs.contracts.waits.Waits as Waits
+use Rattle.scheduler.specs.contracts.scheduler.Scheduler as Scheduler
+use Rattle.task_pool.proofs.hand.Hand.TheSendSync as hands
+use Rattle.turn_lock.proofs.lock.Pass.TheSendSync as passes
+use Rattle.par_workers.specs.contracts.shared.Made as Made
+use Rattle.par_workers.specs.contracts.shared.SharedRun as SharedRun
+use Rattle.par_workers.specs.contracts.worker.Worker as Worker
+
+-- each step rests on those before it, since a `search` that goes down through all of them runs out of steps
+Store-send : IsSend Store.the_row
+Store-send = search (owned.crosses, trees.crosses_both, sendable) depth 60 fits 20000
+
+Store-sync : IsSync Store.the_row
+Store-sync = search (owned.crosses, trees.crosses_both, sendable) depth 60 fits 20000
+
+BoxEntry-send : IsSend BoxEntry.the_row
+BoxEntry-send = let a = Store-send in let b = Store-sync in search (owned.crosses, maps.crosses, sendable) depth 60 fits 20000
+
+GoalEntry-send : IsSend GoalEntry.the_row
+GoalEntry-send = search (owned.crosses, maps.crosses, sendable) depth 60 fits 20000
+
+Table-send : IsSend Table.the_row
+Table-send = let a = BoxEntry-send in let b = GoalEntry-send in search (owned.crosses, maps.crosses, sendable) depth 60 fits 20000
+
+Core-send : IsSend Core.the_row
+Core-send = let a = Table-send in search (owned.crosses, sendable) depth 60 fits 20000
+
+Open-send : IsSend Open.the_row
+Open-send = search (owned.crosses, maps.crosses, sendable) depth 60 fits 20000
+
+Waits-send : IsSend Waits.the_row
+Waits-send = search (owned.crosses, maps.crosses, sendable) depth 60 fits 20000
+
+Scheduler-send : IsSend Scheduler.the_row
+Scheduler-send = let a = Core-send in let b = Open-send in let c = Waits-send in search sendable depth 60 fits 20000
+
+Made-send : IsSend Made.the_row
+Made-send = search (owned.crosses, sendable) depth 60 fits 20000
+
+pub SharedRun-send : IsSend SharedRun.the_row
+SharedRun-send = let a = Scheduler-send in let b = Made-send in search (owned.crosses, maps.crosses, sendable) depth 60 fits 20000
+
+pub Worker-send : IsSend Worker.the_row
+Worker-send = let a = SharedRun-send in search (passes.the_field_send, hands.the_send, owned.crosses, sendable) depth 60 fits 20000

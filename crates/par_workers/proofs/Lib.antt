@@ -1,0 +1,6 @@
+mod Cores
+mod Crews
+mod Crossing
+mod Labels
+mod Runs
+mod Turns

@@ -1,0 +1,4 @@
+pub mod Shared
+pub mod Turns
+pub mod Crews
+pub mod Runs

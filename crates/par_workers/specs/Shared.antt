@@ -1,0 +1,47 @@
+-- What the workers of a run share.
+use Rattle.std.specs.Prelude.{◌≡◌, ℕ, ◌≤◌, List, [], ◌∷◌, map}
+use Rattle.akl_model.specs.declared.label.Label.{Label}
+use Rattle.akl_model.specs.declared.label.Receipt.{Receipt}
+use Rattle.box_tree.specs.Tables.{TableValue}
+use Rattle.step_commit.specs.Cores.{CoreValue, KeepsFixed}
+use Rattle.step_commit.specs.Receipts.{labels_of}
+use Rattle.par_workers.specs.declared.shared.Made.{Made}
+
+-- the core with which a run began, and the labels that were made since, each with the table after it
+pub record SharedValue : Type 0 where
+  pub begun : CoreValue
+  pub past : List Made
+
+abbrev pub label_in : Made → Label
+label_in m = m.label.value
+
+-- the worker of the label
+abbrev pub maker : Made → ℕ
+maker m = m.label.value.worker
+
+abbrev pub labels_in : List Made → List Label
+labels_in = map label_in
+
+-- the table after the last of the labels; the first one where there are none
+abbrev pub table_after : TableValue → List Made → TableValue
+table_after first [] = first
+table_after first (m ∷ ms) = table_after m.table.value ms
+
+-- the core to which the labels led
+abbrev pub core_after : CoreValue → List Made → CoreValue
+core_after begun past = record { table = table_after begun.table past; journal = labels_in past; workers = begun.workers; budget = begun.budget }
+
+-- each label is by one of the workers 1 to so many
+abbrev pub AreByWorkers : ℕ → List Label → Type 0
+AreByWorkers workers [] = Unit {0}
+AreByWorkers workers (l ∷ ls) = (1 ≤ l.worker) × (l.worker ≤ workers) × AreByWorkers workers ls
+
+-- the core is that to which the labels led, with the fixed part of the first one, and the workers are those of the run
+pub record IsShared (s : SharedValue) (c : CoreValue) : Type 0 where
+  pub core : c ≡ core_after s.begun s.past
+  pub fixed : KeepsFixed s.begun c
+  pub workers : AreByWorkers s.begun.workers (labels_in s.past)
+
+-- the receipts are the worker's labels, each once and in order
+abbrev pub AreReceiptsOf : ℕ → List Made → List Receipt → Type 0
+AreReceiptsOf worker past rs = map (λ r. (r.at, r.label)) rs ≡ labels_of worker 0 (labels_in past)

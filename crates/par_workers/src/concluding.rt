@@ -1,0 +1,133 @@
+//! What a worker planned, committed or settled.
+
+ghost use Rattle.std.specs.Prelude.{◌≡◌, ◌≤◌, ◌<◌, true, false, length, IfSome, vec_len, vec_capacity};
+ghost use Rattle.turn_lock.specs.Histories.{GoesOnBy};
+ghost use Rattle.par_workers.specs.Shared.{maker, AreReceiptsOf};
+ghost use Rattle.par_workers.specs.Turns.{IsFoundBefore, HasConcluded};
+ghost use Rattle.place_steps.specs.declared.next.Next.TheVariants as next;
+
+use crate::shared::{Made, SharedRun};
+use akl_model::Receipt;
+use box_tree::Plan;
+use idle_places::Idle;
+use place_steps::Next;
+use scheduler::Committed;
+use std::alloc::Global;
+use std::collections::VecDeque;
+use step_commit::CommitError;
+
+/// What comes next at a place, and the token that led there, where this is the worker's own.
+#[derive(Drop)]
+pub struct Planned {
+    pub token: Option<u64>,
+    pub next: Next,
+}
+
+impl SharedRun {
+    /// Commits or settles what a worker planned, if it planned anything; there is room for a receipt. The tokens of the places
+    /// that this opens come to the worker's, and so does that of the place itself where this is still open. Where all labels
+    /// of the budget are made, or memory is wanting, all workers are to stop.
+    pub(crate) fn conclude(
+        &mut self,
+        alloc: Global,
+        worker: u32,
+        planned: Option<Planned>,
+        receipts: &mut Vec<Receipt>,
+        tokens: &mut VecDeque<u64>,
+    )
+        requires worker { (1 ≤ worker) × (worker ≤ self.old.begun.workers) }
+        requires planned { IfSome planned (λ p. IsFoundBefore self.old worker p.next) }
+        requires room { vec_len receipts.old < vec_capacity receipts.old }
+        ensures { HasConcluded worker self.old receipts.old.items self.new receipts.new.items }
+    {
+        let Some(Planned { token, next }) = planned else {
+            return;
+        };
+        match next {
+            Next::Plan(plan) => self.commit(alloc, worker, plan, receipts, tokens),
+            Next::Idle(idle) => self.settle(alloc, worker, idle, tokens),
+        }
+        self.take_back(token, tokens);
+    }
+
+    // Commits a plan. One that is stale is dropped.
+    fn commit(
+        &mut self,
+        alloc: Global,
+        worker: u32,
+        plan: Plan,
+        receipts: &mut Vec<Receipt>,
+        tokens: &mut VecDeque<u64>,
+    )
+        requires worker { (1 ≤ worker) × (worker ≤ self.old.begun.workers) }
+        requires plan { IsFoundBefore self.old worker (next.Plan plan) }
+        requires room { vec_len receipts.old < vec_capacity receipts.old }
+        ensures { HasConcluded worker self.old receipts.old.items self.new receipts.new.items }
+    {
+        if self.past.reserve(1).is_err() {
+            self.stops = true;
+            return;
+        }
+        match self.scheduler.commit(alloc, plan) {
+            Ok(Committed { receipt, opened }) => {
+                let made = Made::of(&receipt.label, self.scheduler.core().table());
+                self.past.push_reserved(made);
+                receipts.push_reserved(receipt);
+                self.hand_out(opened.as_slice(), tokens);
+            }
+            Err(CommitError::Stale { item: _, stamp: _ }) => {}
+            Err(CommitError::Spent { budget: _ } | CommitError::Memory(_)) => self.stops = true,
+        }
+    }
+
+    // Settles an idle place. A root box that was found idle without a look inside stays open where labels were made since.
+    fn settle(&mut self, alloc: Global, worker: u32, idle: Idle, tokens: &mut VecDeque<u64>)
+        requires idle { IsFoundBefore self.old worker (next.Idle idle) }
+        ensures { self.new ≡ self.old }
+    {
+        if !self.is_in_time(&idle) {
+            return;
+        }
+        match self.scheduler.settle(alloc, &idle) {
+            Ok(Some(token)) => self.hand_out(&[token], tokens),
+            Ok(None) | Err(CommitError::Stale { item: _, stamp: _ }) => {}
+            Err(CommitError::Spent { budget: _ } | CommitError::Memory(_)) => self.stops = true,
+        }
+    }
+
+    // Whether a place may be settled that was found idle: what it read is enough, or no label was made since.
+    fn is_in_time(&self, idle: &Idle) -> bool
+        ensures { result ≡ true → idle.now.inside ≡ false → length idle.now.journal ≡ length self.now.past }
+    {
+        idle.looked_inside() || idle.seen() == self.scheduler.core().journal_len()
+    }
+
+    // The tokens of places that were opened come to a worker's, but for those that some worker has still.
+    fn hand_out(&mut self, opened: &[u64], tokens: &mut VecDeque<u64>)
+        ensures { self.new ≡ self.old }
+    {
+        for token in opened {
+            match self.held.insert(*token) {
+                Ok(true) => {
+                    let _ = tokens.push_back(*token);
+                }
+                Ok(false) => {}
+                Err(_) => self.stops = true,
+            }
+        }
+    }
+
+    // The token of a place that was planned comes back to the worker's, if the place is still open.
+    fn take_back(&mut self, token: Option<u64>, tokens: &mut VecDeque<u64>)
+        ensures { self.new ≡ self.old }
+    {
+        let Some(own) = token else {
+            return;
+        };
+        if self.scheduler.place_of(own).is_some() {
+            let _ = tokens.push_back(own);
+        } else {
+            self.held.remove(&own);
+        }
+    }
+}

@@ -1,0 +1,117 @@
+//! What the workers of a run share.
+
+ghost use Rattle.std.specs.Prelude.{◌≡◌, [], IfOk};
+ghost use Rattle.par_workers.specs.Shared.{core_after, IsShared};
+
+use akl_model::Label;
+use box_tree::Table;
+use scheduler::Scheduler;
+use std::alloc::{AllocError, Global};
+use std::collections::BTreeSet;
+use std::marker::Model;
+use std::snapshot::Snapshot;
+use step_commit::Core;
+use turn_lock::Booked;
+
+/// A label that was made, with the table after it. It remembers them in no bytes.
+#[derive(Drop)]
+pub struct Made {
+    pub label: Snapshot<Label>,
+    pub table: Snapshot<Table>,
+}
+
+impl Made {
+    /// This label, with this table after it.
+    pub(crate) fn of(label: &Label, table: &Table) -> Made
+        ensures label { result.label.value ≡ label.now }
+        ensures table { result.table.value ≡ table.now }
+    {
+        Made {
+            label: Snapshot::of(label),
+            table: Snapshot::of(table),
+        }
+    }
+}
+
+/// The state of a run with its open places, which of their tokens a worker has, in its deque or out of it, and whether all
+/// workers are to stop. It remembers in no bytes the core with which the run began, and what was made since.
+#[derive(Drop)]
+pub struct SharedRun {
+    begun: Snapshot<Core>,
+    pub(crate) past: Vec<Made>,
+    pub(crate) scheduler: Scheduler,
+    pub(crate) held: BTreeSet<u64>,
+    pub(crate) stops: bool,
+}
+
+impl Model for SharedRun {
+    ghost use Rattle.par_workers.specs.Shared.{SharedValue, IsShared};
+
+    ghost Value = { SharedValue };
+
+    ghost view = { λ s. record { begun = s.begun.value; past = s.past.items } };
+
+    ghost invariant = { λ s. IsShared (record { begun = s.begun.value; past = s.past.items }) s.scheduler.core };
+}
+
+impl Booked for SharedRun {
+    type Fixed = Core;
+
+    type Entry = Made;
+
+    ghost use Rattle.par_workers.specs.Shared.{maker};
+
+    ghost fixed = { λ s. s.begun };
+
+    ghost history = { λ s. s.past };
+
+    ghost maker = { maker };
+}
+
+impl SharedRun {
+    /// The run of a core without labels. The tokens of all its open places are held.
+    pub(crate) fn new(alloc: Global, core: Core) -> Result<SharedRun, AllocError>
+        requires { core.journal ≡ [] }
+        ensures { IfOk result (λ s. s ≡ record { begun = core; past = [] }) }
+    {
+        let begun = Snapshot::of(&core);
+        let scheduler = Scheduler::new(alloc, core)?;
+        let held = first_tokens(alloc, &scheduler)?;
+        Ok(SharedRun {
+            begun,
+            past: Vec::new(alloc),
+            scheduler,
+            held,
+            stops: false,
+        })
+    }
+
+    /// How many tokens are held.
+    pub(crate) fn held_count(&self) -> usize {
+        self.held.len()
+    }
+
+    /// All workers are to stop.
+    pub(crate) fn stop(&mut self)
+        ensures { self.new ≡ self.old }
+    {
+        self.stops = true;
+    }
+
+    /// The state of the run.
+    pub(crate) fn into_scheduler(self) -> Scheduler
+        ensures core { result.core ≡ core_after self.begun self.past }
+        ensures shared { IsShared self result.core }
+    {
+        self.scheduler
+    }
+}
+
+// The tokens of the places that are open at first: the numbers from 0 on.
+fn first_tokens(alloc: Global, scheduler: &Scheduler) -> Result<BTreeSet<u64>, AllocError> {
+    let mut tokens = BTreeSet::new(alloc);
+    for token in 0..scheduler.open_count() {
+        tokens.insert(token as u64)?;
+    }
+    Ok(tokens)
+}
