@@ -1,6 +1,7 @@
 -- Waits by their variables and by their places.
 use Rattle.std.proofs.Common.{◌≡◌, Bool, true, false, List, Option, Some, None, refl, sym, ap, ◌∙◌}
 use Rattle.std.specs.Prelude.{cond, ◌||◌, ◌&&◌, not}
+use Rattle.std.specs.List.{IsDistinct}
 use Rattle.std.specs.Map.{lookup}
 use Rattle.std.specs.BTreeMap.{BTreeMap, is_at}
 use Rattle.std.specs.BTreeMap as map
@@ -30,14 +31,14 @@ found_now : {X : Type 0} (place : Place) (t u : BTreeMap Place X) (w : Option X)
 found_now place t u w puts p = sym (found_is p u) ∙ puts p ∙ (λ i. cond ((place_is place p ∙ place_back place p) i) w (found_is p t i))
 
 module _ (place : Place) (on : List Var) (old : List (Var × List Place)) (t : BTreeMap Place (Vec Var)) (both : AreBoth old t.entries) where
-  pub kept_both : ((x : Var) → waits_on old place x ≡ false) → (ws : List (Var × List Place)) → JoinedBy place on old ws on → (u : BTreeMap Place (Vec Var)) (v : Vec Var) → v.items ≡ on
+  pub kept_both : ((x : Var) → waits_on old place x ≡ false) → (ws : List (Var × List Place)) → JoinedBy place on old ws on → (u : BTreeMap Place (Vec Var)) (v : Vec Var) → ((x : Var) → is_variable_in x v.items ≡ is_variable_in x on)
       → ((q : Place) → map.get places.cmp-value.it u q ≡ cond (is_at (places.cmp-value.it place) q) (Some v) (map.get places.cmp-value.it t q)) → AreBoth ws u.entries
   kept_both none ws joined u v items puts p x = joined p x ∙ by (same_place p place) refl ∙ ap (lists x) (sym (found_now place t u (Some v) puts p))
     where
       by : (s : Bool) → same_place p place ≡ s → (waits_on old p x || (s && is_variable_in x on)) ≡ lists x (cond s (Some v) (lookup (same_place p) t.entries))
       by true e =
           let nothing : waits_on old p x ≡ false = ap (λ q. waits_on old q x) (same_place-equal p place e) ∙ none x in
-          ap (λ (b : Bool). b || is_variable_in x on) nothing ∙ ap (is_variable_in x) (sym items)
+          ap (λ (b : Bool). b || is_variable_in x on) nothing ∙ sym (items x)
       by false e = less (waits_on old p x) ∙ both p x
         where
           less : (b : Bool) → (b || false) ≡ b
@@ -101,3 +102,19 @@ module _ (place : Place) (on : List Var) (old : List (Var × List Place)) (t : B
           let nothing : waits_on old p x ≡ false = both p x ∙ ap (lists x) (sym (found_is p t) ∙ ap (map.get places.cmp-value.it t) (same_place-equal p place e) ∙ is) in
           nothing ∙ ap (λ (b : Bool). b && false) (sym nothing)
       by false e = less (waits_on old p x)
+
+  -- the list of a place has the variables on which it waits
+  pub listed_so : (v : Vec Var) → map.get places.cmp-value.it t place ≡ Some v → (x : Var) → is_variable_in x v.items ≡ waits_on old place x
+  listed_so v is x = sym (both place x ∙ ap (lists x) (sym (found_is place t) ∙ is))
+
+-- each list has a variable once, also when that of one place changes
+abbrev pub AreOnce : BTreeMap Place (Vec Var) → Type 0
+AreOnce t = (p : Place) (xs : Vec Var) → lookup (same_place p) t.entries ≡ Some xs → IsDistinct same_var xs.items
+
+pub once_kept : (place : Place) (t u : BTreeMap Place (Vec Var)) (w : Option (Vec Var)) → AreOnce t → ((xs : Vec Var) → w ≡ Some xs → IsDistinct same_var xs.items)
+    → ((q : Place) → map.get places.cmp-value.it u q ≡ cond (is_at (places.cmp-value.it place) q) w (map.get places.cmp-value.it t q)) → AreOnce u
+once_kept place t u w o n puts p xs e = by (same_place p place) (sym (found_now place t u w puts p) ∙ e)
+  where
+    by : (s : Bool) → cond s w (lookup (same_place p) t.entries) ≡ Some xs → IsDistinct same_var xs.items
+    by true f = n xs f
+    by false f = o p xs f

@@ -4,7 +4,7 @@ use Rattle.std.proofs.lemmas.Bool.Decides.{nat_tests}
 use Rattle.std.specs.Prelude.{◌&&◌, ◌==◌, cond, if◌then◌else◌}
 use Rattle.std.specs.Map.{lookup}
 use Rattle.std.specs.BTreeMap.{BTreeMap, is_at, get}
-use Rattle.std.specs.Ordering.{is_eq, nat_cmp, ordering_then}
+use Rattle.std.specs.Ordering.{is_eq, nat_cmp, ordering_then, partial_lt}
 use Rattle.std.specs.declared.cmp.Ordering.{Ordering}
 use Rattle.akl_terms.specs.declared.name.Name.{Name}
 use Rattle.akl_terms.specs.declared.name.Var.{Var}
@@ -13,13 +13,14 @@ use Rattle.akl_terms.specs.contracts.name.VarOrd.TheImpl as variables
 use Rattle.akl_terms.specs.contracts.name.PlaceOrd.TheImpl as places
 use Rattle.wake_lists.specs.contracts.inside.StandOrd.TheImpl as in_boxes
 use Rattle.wake_lists.specs.contracts.turn.TurnOrd.TheImpl as turns
+use Rattle.wake_lists.specs.contracts.turn.UrgencyPartialOrd.TheImpl as urgencies
 use Rattle.wake_lists.specs.declared.inside.Stand.{Stand}
 use Rattle.wake_lists.specs.declared.turn.Urgency.{Urgency}
 use Rattle.wake_lists.specs.declared.turn.Turn.{Turn}
 use Rattle.akl_terms.specs.Names.{same_name, same_var, name_cmp, var_cmp}
 use Rattle.wake_lists.specs.Waits.{same_place}
 use Rattle.wake_lists.specs.Standing.{is_stand}
-use Rattle.wake_lists.specs.Queue.{same_turn, same_urgency}
+use Rattle.wake_lists.specs.Queue.{same_turn, same_urgency, is_sooner}
 use lib.Dec.{eqb}
 
 nat_is : (x y : ℕ) → is_eq (nat_cmp x y) ≡ (x == y)
@@ -33,7 +34,7 @@ then_is Ordering.Greater b = refl
 name_is : (m n : Name) → is_eq (name_cmp m n) ≡ same_name m n
 name_is m n = then_is (nat_cmp m.worker n.worker) (nat_cmp m.number n.number) ∙ (λ i. nat_is m.worker n.worker i && nat_is m.number n.number i)
 
-var_is : (x y : Var) → is_eq (var_cmp x y) ≡ same_var x y
+pub var_is : (x y : Var) → is_eq (var_cmp x y) ≡ same_var x y
 var_is x y = then_is (name_cmp x.frame y.frame) (nat_cmp x.index y.index) ∙ (λ i. name_is x.frame y.frame i && nat_is x.index y.index i)
 
 pub variable_is : (x y : Var) → is_at (variables.cmp-value.it x) y ≡ same_var x y
@@ -59,9 +60,15 @@ turn_is u v = on u.urgency v.urgency
   where
     on : (a b : Urgency) → is_at (turns.cmp-value.it (timed a u.number)) (timed b v.number) ≡ same_turn (timed a u.number) (timed b v.number)
     on Urgency.Urgent Urgency.Urgent = nat_is u.number v.number
-    on Urgency.Urgent Urgency.Ordinary = refl
-    on Urgency.Ordinary Urgency.Urgent = refl
     on Urgency.Ordinary Urgency.Ordinary = nat_is u.number v.number
+    on Urgency.Late Urgency.Late = nat_is u.number v.number
+    on a b = refl
+
+pub sooner_is : (a b : Urgency) → partial_lt urgencies.partial_cmp-value.it a b ≡ is_sooner a b
+sooner_is Urgency.Urgent Urgency.Urgent = refl
+sooner_is Urgency.Ordinary Urgency.Ordinary = refl
+sooner_is Urgency.Late Urgency.Late = refl
+sooner_is a b = refl
 
 pub name_back : (m n : Name) → same_name m n ≡ same_name n m
 name_back m n = grind (arith, nat_tests)
@@ -80,9 +87,9 @@ turn_equal u v = on u.urgency v.urgency
 
     on : (a b : Urgency) → (same_urgency a b && (u.number == v.number)) ≡ true → timed a u.number ≡ timed b v.number
     on Urgency.Urgent Urgency.Urgent e = numbers Urgency.Urgent e
-    on Urgency.Urgent Urgency.Ordinary e = absurd (cc)
-    on Urgency.Ordinary Urgency.Urgent e = absurd (cc)
     on Urgency.Ordinary Urgency.Ordinary e = numbers Urgency.Ordinary e
+    on Urgency.Late Urgency.Late e = numbers Urgency.Late e
+    on a b e = absurd (cc)
 
 pub turn_here : (u : Turn) → same_turn u u ≡ true
 turn_here u = on u.urgency
@@ -90,6 +97,7 @@ turn_here u = on u.urgency
     on : (a : Urgency) → (same_urgency a a && (u.number == u.number)) ≡ true
     on Urgency.Urgent = token_here u.number
     on Urgency.Ordinary = token_here u.number
+    on Urgency.Late = token_here u.number
 
 -- a map whose keys are told apart by a test
 module _ {K X : Type 0} (cmp : K → K → Ordering) (same : K → K → Bool) (is : (k l : K) → is_at (cmp k) l ≡ same k l) where

@@ -1,5 +1,6 @@
 pub mod Both
 pub mod BoxesKept
+pub mod EachOnce
 pub mod Growing
 pub mod InBoxes
 pub mod Keys

@@ -1,7 +1,7 @@
 -- Open places, when one is opened, becomes urgent or is closed.
-use Rattle.std.proofs.Common.{◌≡◌, ℕ, ◌<◌, Bool, true, false, List, [], Option, Some, None, refl, sym, ap, ◌∙◌, arith, ◌⊎◌}
+use Rattle.std.proofs.Common.{◌≡◌, ℕ, ◌<◌, Bool, true, false, List, [], Option, Some, None, refl, sym, ap, ◌∙◌, arith}
 use Rattle.std.proofs.lemmas.Bool.Decides.{nat_tests}
-use Rattle.std.specs.Prelude.{if◌then◌else◌, ◌==◌, is_some, IsSome}
+use Rattle.std.specs.Prelude.{if◌then◌else◌, ◌==◌, option_map, is_some, IsSome}
 use Rattle.std.specs.Map.{lookup}
 use Rattle.std.specs.BTreeMap.{insert_entry}
 use Rattle.std.specs.Ordering.{nat_cmp}
@@ -13,8 +13,8 @@ use Rattle.wake_lists.specs.declared.queue.Opened.{Opened}
 use Rattle.wake_lists.specs.Waits.{same_place}
 use Rattle.wake_lists.specs.Tokens.{Numbers, IsLeastFree}
 use Rattle.wake_lists.specs.Standing.{boxes_at}
-use Rattle.wake_lists.specs.Queue.{Places, IsPut, IsTakenOut, HasNone, is_place}
-use Rattle.wake_lists.specs.Open.{Opening, Openings, opening_at, untimed, IsOpen, IsLast, IsLeastToken, IsOpened, IsPutLast, closed}
+use Rattle.wake_lists.specs.Queue.{is_sooner, Places, IsPut, IsTakenOut, HasNone, is_place}
+use Rattle.wake_lists.specs.Open.{Opening, Openings, opening_at, untimed, IsOpen, IsLast, IsLeastToken, IsOpened, IsHurried, IsPutLast, closed}
 use Rattle.wake_lists.specs.Opened.{opening, openings, AreOpen}
 use Rattle.wake_lists.proofs.Keys.{token_here}
 use Rattle.wake_lists.proofs.Both.{same_place-equal}
@@ -22,10 +22,21 @@ use Rattle.wake_lists.proofs.Leading.{none_some}
 use Rattle.wake_lists.proofs.OpeningsKept.{Boxes, opened, not_opened, kept_as, openings_apart, openings_put, openings_out, untimed_put}
 use lib.Dec.{eqb}
 
-module _ (os : Places) (bs : Boxes) where
-  pub not_there : (t : ℕ) → lookup (eqb t) os ≡ None → {X : Type 0} (place : Place) → IsOpen (openings bs os) place (Some t) → X
-  not_there t none place known = let b = known.back t refl in none_some b.0 (sym (not_opened bs os t none) ∙ b.1)
+abbrev urgency_in : Opening → Urgency
+urgency_in o = o.turn.urgency
 
+-- a place that is less urgent than this is put behind all others that are so urgent
+pub hurried : (os : Openings) (t : ℕ) (urgency now : Urgency) → option_map urgency_in (opening_at t os) ≡ Some now → is_sooner urgency now ≡ true → (after : Openings) → IsPutLast os after urgency t → IsHurried os after urgency t
+hurried os t urgency now is e after last = on (opening_at t os) refl
+  where
+    one : (a b : Urgency) → Some a ≡ Some b → a ≡ b
+    one a b f = cc
+
+    on : (w : Option Opening) → opening_at t os ≡ w → IsHurried os after urgency t
+    on None f = none_some now (sym (ap (option_map urgency_in) f) ∙ is)
+    on (Some o) f = IsHurried.hurries o f (ap (is_sooner urgency) (one o.turn.urgency now (sym (ap (option_map urgency_in) f) ∙ is)) ∙ e) last
+
+module _ (os : Places) (bs : Boxes) where
   -- a place that isn't open has no token
   pub is_closed : (place : Place) → IsOpen (openings bs os) place None → HasNone (is_place place) os
   is_closed place known t o e = on (same_place place o.place) refl
@@ -33,31 +44,6 @@ module _ (os : Places) (bs : Boxes) where
       on : (b : Bool) → same_place place o.place ≡ b → b ≡ false
       on false f = refl
       on true f = none_some t (known.there t (opening (boxes_at t bs) o) (opened bs os t o e) (sym (same_place-equal place o.place f)))
-
-  module _ (t : ℕ) (o : Opened) (is : lookup (eqb t) os ≡ Some o) (place : Place) (known : IsOpen (openings bs os) place (Some t)) where
-    -- the place that has a token
-    pub place_of : o.place ≡ place
-    place_of = on (known.back t refl)
-      where
-        one : (x y : Opening) → Some x ≡ Some y → x ≡ y
-        one x y f = cc
-
-        on : (q : Opening) × (opening_at t (openings bs os) ≡ Some q) × (q.place ≡ place) → o.place ≡ place
-        on b = ap (λ (q : Opening). q.place) (one (opening (boxes_at t bs) o) b.0 (sym (opened bs os t o is) ∙ b.1)) ∙ b.2
-
-    -- it comes no later as it is
-    pub stays_so : (around : List Name) (kind : Urgency) → (kind ≡ Urgency.Ordinary) ⊎ (o.turn.urgency ≡ Urgency.Urgent) → IsOpened (openings bs os) (openings bs os) place around kind t
-    stays_so around kind how = IsOpened.stays (opening (boxes_at t bs) o) (opened bs os t o is) place_of how refl
-
-    -- it comes sooner where it is put last among those that are urgent
-    pub hurried : (around : List Name) (kind : Urgency) → kind ≡ Urgency.Urgent → o.turn.urgency ≡ Urgency.Ordinary → (after : Openings) → IsPutLast (openings bs os) after kind t → IsOpened (openings bs os) after place around kind t
-    hurried around kind urgent ordinary after (IsPutLast.put q u e f l g) =
-        let one : q ≡ opening (boxes_at t bs) o = the q (opening (boxes_at t bs) o) (sym e ∙ opened bs os t o is) in
-        IsOpened.hurries q u e (ap (λ (p : Opening). p.place) one ∙ place_of) urgent (ap (λ (p : Opening). p.turn.urgency) one ∙ ordinary) (f ∙ urgent) l g
-      where
-        the : (x y : Opening) → Some x ≡ Some y → x ≡ y
-        the x y f = cc
-    hurried around kind urgent ordinary after (IsPutLast.none e g) = none_some (opening (boxes_at t bs) o) (sym e ∙ opened bs os t o is)
 
   -- a place is closed
   pub is_out : (t : ℕ) (new : Places) → IsTakenOut os new t → (cs : Boxes) → ((s : ℕ) → boxes_at s cs ≡ (if s == t then [] else boxes_at s bs)) → openings cs new ≡ closed t (openings bs os)

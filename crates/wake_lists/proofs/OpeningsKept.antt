@@ -60,10 +60,15 @@ module _ (bs : Boxes) (os : Places) where
       on None f g = none_some q g
       on (Some o) f g = (o, f, one (opening (boxes_at t bs) o) q g)
 
-  pub place_is : (t : ℕ) (r : Option Opened) → r ≡ lookup (eqb t) os → option_map (λ (o : Opened). o.place) r ≡ option_map (λ (o : Opening). o.place) (opening_at t (openings bs os))
-  place_is t r e = on r ∙ ap (λ (w : Option Opened). option_map (λ (o : Opening). o.place) (option_map (opening (boxes_at t bs)) w)) e ∙ ap (option_map (λ (o : Opening). o.place)) (sym (opening_is bs os t))
+  -- what is kept of a place besides its boxes
+  pub part_is : {X : Type 0} (part : Place → Turn → X) (t : ℕ) (r : Option Opened) → r ≡ lookup (eqb t) os
+      → option_map (λ (o : Opened). part o.place o.turn) r ≡ option_map (λ (o : Opening). part o.place o.turn) (opening_at t (openings bs os))
+  part_is {X} part t r e = on r ∙ ap (λ (w : Option Opened). option_map of_opening (option_map (opening (boxes_at t bs)) w)) e ∙ ap (option_map of_opening) (sym (opening_is bs os t))
     where
-      on : (w : Option Opened) → option_map (λ (o : Opened). o.place) w ≡ option_map (λ (o : Opening). o.place) (option_map (opening (boxes_at t bs)) w)
+      of_opening : Opening → X
+      of_opening o = part o.place o.turn
+
+      on : (w : Option Opened) → option_map (λ (o : Opened). part o.place o.turn) w ≡ option_map (λ (o : Opening). part o.place o.turn) (option_map (opening (boxes_at t bs)) w)
       on None = refl
       on (Some o) = refl
 

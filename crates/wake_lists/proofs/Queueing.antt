@@ -26,9 +26,11 @@ no_later u v = on u.urgency v.urgency
 
     on : (a b : Urgency) → is_gt (turns.cmp-value.it (timed a u.number) (timed b v.number)) ≡ false → (timed b v.number ≡ timed a u.number) ⊎ (earlier a u.number b v.number ≡ true)
     on Urgency.Urgent Urgency.Urgent e = numbers Urgency.Urgent e
-    on Urgency.Urgent Urgency.Ordinary e = inr refl
-    on Urgency.Ordinary Urgency.Urgent e = absurd (cc)
     on Urgency.Ordinary Urgency.Ordinary e = numbers Urgency.Ordinary e
+    on Urgency.Late Urgency.Late e = numbers Urgency.Late e
+    on Urgency.Urgent b e = inr refl
+    on Urgency.Ordinary Urgency.Late e = inr refl
+    on a b e = absurd (cc)
 
 module _ (es : Places) (x : Turn → Option ℕ) (l : Leads (λ o. o.turn) x (λ t. lookup (eqb t) es)) where
   -- the token of the least turn is that of the place that comes first

@@ -1,5 +1,5 @@
 -- The open places, the order in which they come, and the boxes in which they stand.
-use Rattle.std.specs.Prelude.{◌≡◌, ℕ, ◌<◌, List, [], ◌∷◌, Option, None, Some, Bool, true, ◌||◌, if◌then◌else◌, map, IsSome, ◌⊎◌}
+use Rattle.std.specs.Prelude.{◌≡◌, ℕ, ◌<◌, List, [], ◌∷◌, Option, None, Some, Bool, true, false, ◌||◌, if◌then◌else◌, map, IsSome, ◌⊎◌}
 use Rattle.std.specs.List.{list_any}
 use Rattle.std.specs.Map.{lookup, remove_entry}
 use Rattle.std.specs.BTreeMap.{insert_entry}
@@ -8,7 +8,7 @@ use Rattle.akl_terms.specs.declared.name.Name.{Name}
 use Rattle.akl_terms.specs.declared.name.Place.{Place}
 use Rattle.wake_lists.specs.declared.turn.Urgency.{Urgency}
 use Rattle.wake_lists.specs.declared.turn.Turn.{Turn}
-use Rattle.wake_lists.specs.Queue.{is_earlier}
+use Rattle.wake_lists.specs.Queue.{is_earlier, is_sooner}
 use Rattle.wake_lists.specs.Standing.{is_in}
 use Rattle.wake_lists.specs.Waits.{same_place}
 use lib.Dec.{eqb}
@@ -45,15 +45,6 @@ pub record IsLeastToken (os : Openings) (t : ℕ) : Type 0 where
   pub free : opening_at t os ≡ None
   pub least : (s : ℕ) → s < t → IsSome (opening_at s os)
 
--- a place is opened: one that is open keeps its token and comes no later, another one comes after all others as urgent
-pub data IsOpened (before after : Openings) (place : Place) (around : List Name) (urgency : Urgency) (t : ℕ) : Type 0 where
-  stays : (o : Opening) → opening_at t before ≡ Some o → o.place ≡ place → (urgency ≡ Urgency.Ordinary) ⊎ (o.turn.urgency ≡ Urgency.Urgent) → after ≡ before
-      → IsOpened before after place around urgency t
-  hurries : (o : Opening) (u : Turn) → opening_at t before ≡ Some o → o.place ≡ place → urgency ≡ Urgency.Urgent → o.turn.urgency ≡ Urgency.Ordinary → u.urgency ≡ Urgency.Urgent → IsLast before u
-      → after ≡ insert_entry nat_cmp before t (record o { turn = u }) → IsOpened before after place around urgency t
-  is_new : (u : Turn) → IsOpen before place None → IsLeastToken before t → u.urgency ≡ urgency → IsLast before u
-      → after ≡ insert_entry nat_cmp before t (record { place = place; turn = u; boxes = around }) → IsOpened before after place around urgency t
-
 -- what is open, in which boxes, whenever it comes
 abbrev pub untimed : Openings → List (ℕ × Place × List Name)
 untimed os = map (λ (e : ℕ × Opening). (e.0, e.1.place, e.1.boxes)) os
@@ -62,6 +53,17 @@ untimed os = map (λ (e : ℕ × Opening). (e.0, e.1.place, e.1.boxes)) os
 pub data IsPutLast (before after : Openings) (urgency : Urgency) (t : ℕ) : Type 0 where
   put : (o : Opening) (u : Turn) → opening_at t before ≡ Some o → u.urgency ≡ urgency → IsLast before u → after ≡ insert_entry nat_cmp before t (record o { turn = u }) → IsPutLast before after urgency t
   none : opening_at t before ≡ None → after ≡ before → IsPutLast before after urgency t
+
+-- an open place that is less urgent than this comes after all others that are so urgent; another one stays
+pub data IsHurried (before after : Openings) (urgency : Urgency) (t : ℕ) : Type 0 where
+  stays : ((o : Opening) → opening_at t before ≡ Some o → is_sooner urgency o.turn.urgency ≡ false) → after ≡ before → IsHurried before after urgency t
+  hurries : (o : Opening) → opening_at t before ≡ Some o → is_sooner urgency o.turn.urgency ≡ true → IsPutLast before after urgency t → IsHurried before after urgency t
+
+-- a place is opened: one that is open keeps its token and comes no later, another one comes after all others as urgent
+pub data IsOpened (before after : Openings) (place : Place) (around : List Name) (urgency : Urgency) (t : ℕ) : Type 0 where
+  was_open : (o : Opening) → opening_at t before ≡ Some o → o.place ≡ place → IsHurried before after urgency t → IsOpened before after place around urgency t
+  is_new : (u : Turn) → IsOpen before place None → IsLeastToken before t → u.urgency ≡ urgency → IsLast before u
+      → after ≡ insert_entry nat_cmp before t (record { place = place; turn = u; boxes = around }) → IsOpened before after place around urgency t
 
 abbrev pub closed : ℕ → Openings → Openings
 closed t os = remove_entry (eqb t) os

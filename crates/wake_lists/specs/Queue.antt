@@ -1,5 +1,5 @@
 -- Open places by their tokens, and in the order of their turns.
-use Rattle.std.specs.Prelude.{◌≡◌, ℕ, List, [], Option, None, Some, Bool, true, false, ◌&&◌, ◌==◌, if◌then◌else◌, nat_lt, ◌⊎◌}
+use Rattle.std.specs.Prelude.{◌≡◌, ℕ, List, [], Option, None, Some, Bool, true, false, ◌&&◌, ◌||◌, ◌==◌, if◌then◌else◌, nat_lt, ◌⊎◌}
 use Rattle.std.specs.Map.{lookup, remove_entry, keys_of}
 use Rattle.std.specs.BTreeMap.{insert_entry}
 use Rattle.std.specs.List.Sorted.{IsStrictlySortedBy}
@@ -11,21 +11,24 @@ use Rattle.wake_lists.specs.declared.queue.Opened.{Opened}
 use Rattle.wake_lists.specs.Waits.{same_place}
 use lib.Dec.{eqb}
 
--- a turn comes before another one: an urgent one before one that isn't, else the one with the lower number
+-- the order of the urgencies
+abbrev pub rank : Urgency → ℕ
+rank Urgency.Urgent = 0
+rank Urgency.Ordinary = 1
+rank Urgency.Late = 2
+
+abbrev pub is_sooner : Urgency → Urgency → Bool
+is_sooner a b = nat_lt (rank a) (rank b)
+
+abbrev pub same_urgency : Urgency → Urgency → Bool
+same_urgency a b = rank a == rank b
+
+-- a turn comes before another one: it is more urgent, or as urgent with the lower number
 abbrev pub earlier : Urgency → ℕ → Urgency → ℕ → Bool
-earlier Urgency.Urgent m Urgency.Urgent n = nat_lt m n
-earlier Urgency.Urgent m Urgency.Ordinary n = true
-earlier Urgency.Ordinary m Urgency.Urgent n = false
-earlier Urgency.Ordinary m Urgency.Ordinary n = nat_lt m n
+earlier a m b n = is_sooner a b || (same_urgency a b && nat_lt m n)
 
 abbrev pub is_earlier : Turn → Turn → Bool
 is_earlier s t = earlier s.urgency s.number t.urgency t.number
-
-abbrev pub same_urgency : Urgency → Urgency → Bool
-same_urgency Urgency.Urgent Urgency.Urgent = true
-same_urgency Urgency.Urgent Urgency.Ordinary = false
-same_urgency Urgency.Ordinary Urgency.Urgent = false
-same_urgency Urgency.Ordinary Urgency.Ordinary = true
 
 abbrev pub same_turn : Turn → Turn → Bool
 same_turn s t = same_urgency s.urgency t.urgency && (s.number == t.number)

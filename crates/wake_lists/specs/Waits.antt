@@ -1,6 +1,6 @@
 -- Which places wait on which variables.
 use Rattle.std.specs.Prelude.{◌≡◌, List, [], Option, None, Some, Bool, false, map}
-use Rattle.std.specs.List.{list_any}
+use Rattle.std.specs.List.{list_any, IsDistinct}
 use Rattle.std.specs.Map.{lookup}
 use Rattle.std.specs.BTreeSet.{BTreeSet}
 use Rattle.std.specs.Global.{Vec}
@@ -41,3 +41,8 @@ lists x (Some xs) = is_variable_in x xs.items
 -- the same waits are kept by their places
 abbrev pub AreBoth : List (Var × List Place) → List (Place × Vec Var) → Type 0
 AreBoth ws es = (p : Place) (x : Var) → waits_on ws p x ≡ lists x (lookup (same_place p) es)
+
+-- and each of these lists has a variable once
+pub record AreKeptBoth (ws : List (Var × List Place)) (es : List (Place × Vec Var)) : Type 0 where
+  pub both : AreBoth ws es
+  pub once : (p : Place) (xs : Vec Var) → lookup (same_place p) es ≡ Some xs → IsDistinct same_var xs.items

@@ -1,7 +1,7 @@
 //! The open places, in the order in which they come.
 
 ghost use Rattle.std.specs.Prelude.{◌≡◌, [], None, Some, length, option_map, IfOk, IfErr};
-ghost use Rattle.wake_lists.specs.Open.{opening_at, untimed, IsFirst, IsOpen, IsOpened, IsPutLast, closed, after_one, after_leave, is_busy};
+ghost use Rattle.wake_lists.specs.Open.{opening_at, untimed, IsFirst, IsOpen, IsOpened, IsHurried, IsPutLast, closed, after_one, after_leave, is_busy};
 
 use crate::queue::{Opened, Queue};
 use crate::standing::Standing;
@@ -51,8 +51,8 @@ impl Open {
 
     /// Opens a place, and gives its token: the one that it has, where it is open already, or else the least that no
     /// open place has. It stands in each of the boxes around it, and comes after all others that are as urgent; one
-    /// that is open already stands where it did, and comes no later. An `Err`, for want of memory, leaves all as it
-    /// was.
+    /// that is open already stands where it did, and keeps its turn, unless it was less urgent. An `Err`, for want of
+    /// memory, leaves all as it was.
     pub fn open(
         &mut self,
         place: Place,
@@ -63,7 +63,10 @@ impl Open {
         ensures unchanged { IfErr result (λ _. self.new ≡ self.old) }
     {
         match self.queue.token_of(place) {
-            Some(token) => self.hurry(token, urgency),
+            Some(token) => {
+                self.hurry(token, urgency)?;
+                Ok(token)
+            }
             None => self.open_new(place, around, urgency),
         }
     }
@@ -105,6 +108,16 @@ impl Open {
         }
     }
 
+    /// How urgent the open place with this token is; `None` exactly where there is none.
+    pub fn urgency_of(&self, token: u64) -> Option<Urgency>
+        ensures { result ≡ option_map (λ o. o.turn.urgency) (opening_at token self.now) }
+    {
+        match self.queue.get(token) {
+            Some(opened) => Some(opened.turn.urgency),
+            None => None,
+        }
+    }
+
     /// The token of the place; `None` exactly where it isn't open.
     pub fn token_of(&self, place: Place) -> Option<u64>
         ensures { IsOpen self.now place result }
@@ -112,8 +125,8 @@ impl Open {
         self.queue.token_of(place)
     }
 
-    /// The token of the place that comes first: the one that has been urgent longest, or else the one that has been open
-    /// longest. `None` exactly where no place is open.
+    /// The token of the place that comes first: of the most urgent ones the one that has been so longest. `None` exactly
+    /// where no place is open.
     pub fn first(&self) -> Option<u64>
         ensures { IsFirst self.now result }
     {
@@ -154,24 +167,44 @@ impl Open {
         Ok(())
     }
 
-    // Puts an open place before those that aren't urgent, where it is to be urgent and isn't yet: its token.
-    fn hurry(&mut self, token: u64, urgency: Urgency) -> Result<u64, AllocError>
-        ensures opened { (place : _) (around : _) → IsOpen self.old place (Some token) → IfOk result (IsOpened self.old self.new place around urgency) }
+    /// Puts the open place with this token, where it is less urgent than this, behind all others that are so urgent. A
+    /// token that no open place has is left alone. An `Err`, for want of memory, leaves all as it was.
+    pub fn hurry(&mut self, token: u64, urgency: Urgency) -> Result<(), AllocError>
+        ensures hurried { IfOk result (λ _. IsHurried self.old self.new urgency token) }
+        ensures places { IfOk result (λ _. untimed self.new ≡ untimed self.old) }
         ensures unchanged { IfErr result (λ _. self.new ≡ self.old) }
     {
-        let Some(opened) = self.queue.get(token) else {
-            return Ok(token);
+        let Some(now) = self.urgency_of(token) else {
+            return Ok(());
         };
-        match urgency {
-            Urgency::Ordinary => return Ok(token),
-            Urgency::Urgent => {}
+        if urgency < now {
+            self.put_last(token, urgency)
+        } else {
+            Ok(())
         }
-        match opened.turn.urgency {
-            Urgency::Urgent => return Ok(token),
-            Urgency::Ordinary => {}
+    }
+
+    /// Puts all late places behind all others that aren't late. Where memory is wanting for it, some stay late.
+    pub fn resume_late(&mut self)
+        ensures { untimed self.new ≡ untimed self.old }
+    {
+        for _ in 0..self.queue.count() {
+            let Some(token) = self.last_late() else {
+                return;
+            };
+            if self.put_last(token, Urgency::Ordinary).is_err() {
+                return;
+            }
         }
-        self.put_last(token, urgency)?;
-        Ok(token)
+    }
+
+    // The token of the place that comes last, where it is late; `None` where no place is late.
+    fn last_late(&self) -> Option<u64> {
+        let token = self.queue.last()?;
+        match self.urgency_of(token) {
+            Some(Urgency::Late) => Some(token),
+            _ => None,
+        }
     }
 
     // Opens a place that isn't open: its token.

@@ -79,6 +79,14 @@ impl Queue {
         }
     }
 
+    /// The token of the place whose turn comes after all others.
+    pub(crate) fn last(&self) -> Option<u64> {
+        match self.turns.last_key_value() {
+            Some((_, token)) => Some(*token),
+            None => None,
+        }
+    }
+
     /// Enters a place that isn't open under a token that no place has, with a turn that none has. An `Err`, for want of
     /// memory, leaves all as it was.
     pub(crate) fn insert(&mut self, token: u64, opened: Opened) -> Result<(), AllocError>

@@ -1,13 +1,16 @@
 //! When an open place comes.
 
-/// Whether a place comes before those that aren't urgent.
+/// How urgent an open place is: one of an earlier variant comes before all of a later one.
 #[derive(Clone, Copy, Debug, PartialEq, Eq, PartialOrd, Ord)]
 pub enum Urgency {
     Urgent,
     Ordinary,
+    /// It comes once all open places are late.
+    Late,
 }
 
-/// The turn of an open place: the urgent ones come first, and of these and of the others the one with the least number.
+/// The turn of an open place: the more urgent one comes first, and of two that are as urgent the one with the lesser
+/// number.
 #[derive(Clone, Copy, Debug, PartialEq, Eq, PartialOrd, Ord)]
 pub struct Turn {
     pub urgency: Urgency,

@@ -1,6 +1,8 @@
 //! Which places wait on which variables.
 
 ghost use Rattle.std.specs.Prelude.{◌≡◌, [], false, ◌||◌, ◌&&◌, not, IfOk, IfErr};
+ghost use Rattle.std.specs.List.{IsDistinct};
+ghost use Rattle.akl_terms.specs.Names.{same_var};
 ghost use Rattle.wake_lists.specs.Waits.{same_place, waits_on, places_at, is_variable_in};
 
 use crate::waiting::Waiting;
@@ -17,6 +19,7 @@ use std::marker::Model;
 pub struct Waits {
     alloc: Global,
     by_variable: Waiting,
+    // Each variable of a place once.
     by_place: BTreeMap<Place, Vec<Var>>,
 }
 
@@ -24,13 +27,13 @@ impl Model for Waits {
     ghost use Rattle.std.specs.Prelude.{List};
     ghost use Rattle.akl_terms.specs.declared.name.Var.{Var};
     ghost use Rattle.akl_terms.specs.declared.name.Place.{Place};
-    ghost use Rattle.wake_lists.specs.Waits.{AreBoth};
+    ghost use Rattle.wake_lists.specs.Waits.{AreKeptBoth};
 
     ghost Value = { List (Var × List Place) };
 
     ghost view = { λ w. w.by_variable };
 
-    ghost invariant = { λ w. AreBoth w.by_variable w.by_place.entries };
+    ghost invariant = { λ w. AreKeptBoth w.by_variable w.by_place.entries };
 }
 
 impl Waits {
@@ -52,7 +55,7 @@ impl Waits {
         ensures kept { IfOk result (λ _. (p : _) (x : _) → waits_on self.new p x ≡ (waits_on self.old p x || (same_place p place && is_variable_in x on.now))) }
         ensures unchanged { IfErr result (λ _. (p : _) (x : _) → waits_on self.new p x ≡ waits_on self.old p x) }
     {
-        let variables = Vec::from_slice(self.alloc, on)?;
+        let variables = each_once(self.alloc, on)?;
         if let Err(refused) = self.by_variable.add_all(place, on) {
             self.by_variable.remove_all(place, on);
             return Err(refused);
@@ -64,12 +67,18 @@ impl Waits {
         Ok(())
     }
 
-    /// Drops all waits of a place.
-    pub fn drop_place(&mut self, place: Place)
-        ensures { (p : _) (x : _) → waits_on self.new p x ≡ (waits_on self.old p x && not (same_place p place)) }
+    /// Drops all waits of a place: the variables on which it waited, each once.
+    pub fn drop_place(&mut self, place: Place) -> Vec<Var>
+        ensures dropped { (p : _) (x : _) → waits_on self.new p x ≡ (waits_on self.old p x && not (same_place p place)) }
+        ensures variables { (x : _) → is_variable_in x result.items ≡ waits_on self.old place x }
+        ensures once { IsDistinct same_var result.items }
     {
-        if let Some(variables) = self.by_place.remove(&place) {
-            self.by_variable.remove_all(place, variables.as_slice());
+        match self.by_place.remove(&place) {
+            Some(variables) => {
+                self.by_variable.remove_all(place, variables.as_slice());
+                variables
+            }
+            None => Vec::new(self.alloc),
         }
     }
 
@@ -81,6 +90,17 @@ impl Waits {
             places: self.by_variable.places(variable),
         }
     }
+}
+
+// Variables, each once.
+fn each_once(alloc: Global, variables: &[Var]) -> Result<Vec<Var>, AllocError>
+    ensures same { IfOk result (λ list. (x : _) → is_variable_in x list.items ≡ is_variable_in x variables.now) }
+    ensures once { IfOk result (λ list. IsDistinct same_var list.items) }
+{
+    let mut list = Vec::from_slice(alloc, variables)?;
+    list.sort_unstable();
+    list.dedup();
+    Ok(list)
 }
 
 /// An iterator over the places that wait on a variable. Contracts see it as those that are left.

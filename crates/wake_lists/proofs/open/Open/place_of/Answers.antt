@@ -2,15 +2,15 @@ use Rattle.std.proofs.Common.{sym, ap, ◌∙◌}
 use Rattle.std.specs.Prelude.{option_map}
 use Rattle.wake_lists.specs.declared.queue.Opened.{Opened}
 use Rattle.wake_lists.specs.Open.{Opening, Openings, opening_at}
-use Rattle.wake_lists.proofs.OpeningsKept.{place_is}
+use Rattle.wake_lists.proofs.OpeningsKept.{part_is}
 use Rattle.wake_lists.proofs.open.Open.place_of.Goals as goal
 
 pub returns-in-Some : goal.returns-in-Some
 returns-in-Some c =
-    ap (option_map (λ (o : Opened). o.place)) (sym c.in-Some.is) ∙ place_is c.self.inside.standing c.self.inside.queue c.args.token c.get.result c.get.ensures
+    ap (option_map (λ (o : Opened). o.place)) (sym c.in-Some.is) ∙ part_is c.self.inside.standing c.self.inside.queue (λ p u. p) c.args.token c.get.result c.get.ensures
     ∙ ap (λ (os : Openings). option_map (λ (o : Opening). o.place) (opening_at c.args.token os)) c.self.view_is
 
 pub returns-in-None : goal.returns-in-None
 returns-in-None c =
-    ap (option_map (λ (o : Opened). o.place)) (sym c.in-None.is) ∙ place_is c.self.inside.standing c.self.inside.queue c.args.token c.get.result c.get.ensures
+    ap (option_map (λ (o : Opened). o.place)) (sym c.in-None.is) ∙ part_is c.self.inside.standing c.self.inside.queue (λ p u. p) c.args.token c.get.result c.get.ensures
     ∙ ap (λ (os : Openings). option_map (λ (o : Opening). o.place) (opening_at c.args.token os)) c.self.view_is
