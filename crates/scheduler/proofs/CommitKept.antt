@@ -1,5 +1,5 @@
 -- A commit keeps what a scheduler is, and makes of it what it is to.
-use Rattle.std.proofs.Common.{◌≡◌, ℕ, true, List, [], ◌∷◌, ◌++◌, Option, sym, subst, ◌⊎◌, inl, inr}
+use Rattle.std.proofs.Common.{◌≡◌, ℕ, true, false, List, [], ◌∷◌, ◌++◌, Option, sym, subst, ◌∙◌, ◌⊎◌, inl, inr}
 use Rattle.akl_terms.specs.declared.name.Var.{Var}
 use Rattle.akl_terms.specs.declared.name.Place.{Place}
 use Rattle.akl_terms.specs.declared.program.Program.{Program}
@@ -30,7 +30,7 @@ use Rattle.scheduler.specs.Opening.{AreOpened}
 use Rattle.scheduler.specs.Dropping.{DropsWaits, after_going}
 use Rattle.scheduler.specs.Listing.{AreListedFor}
 use Rattle.scheduler.specs.Schedulers.{SchedulerValue, TableIn, IsScheduler}
-use Rattle.scheduler.specs.Committed.{IsOpenAndKept, CommitsAndOpens}
+use Rattle.scheduler.specs.Committed.{IsOpenAndKept, CommitsAndOpens, OpensAmong}
 use Rattle.scheduler.specs.declared.committing.Committed.{Committed}
 use Rattle.scheduler.proofs.DroppedWaits.{Waiting}
 use Rattle.scheduler.proofs.CommitFacts.{CommitFacts}
@@ -201,9 +201,17 @@ module _ (s : SchedulerValue) (h : IsScheduler s) (p : PlanValue) (right : IsRig
     follows_so : IsOpenAndKept s (record { core = core; openings = now; waits = w2 }) p v w before kept
     follows_so = record { is_open = λ place. (open_now place, now_open place); waits = λ place x. (kept_now place x, now_kept place x) }
 
-  pub committed_so : (r : Committed) → r.receipt ≡ receipt → r.opened.items ≡ ts → CommitsAndOpens s p (record { core = core; openings = now; waits = w2 }) r
-  committed_so r e f = record {
+  pub opens_among : OpensAmong s (record { core = core; openings = now; waits = w2 }) (places_of ps)
+  opens_among = record {
+    listed = λ v w kept place l o.
+        facts.effects.listed place (opens_as kept h.kept (same_waits s.waits kept h.kept l h.listed) t.config u.config place
+        (subst (λ (x : Config). Opens kept t.config x place) (one_config core w u) (subst (λ (x : Config). Opens kept x w.config place) (one_config s.core v t) o)));
+  }
+
+  pub committed_so : (r : Committed) → r.receipt ≡ receipt → r.opened.items ≡ ts → r.hurried ≡ false → CommitsAndOpens s p (record { core = core; openings = now; waits = w2 }) r
+  committed_so r e f g = record {
     commits = subst (Commits s.core p core) (sym e) commits;
     follows = follows_so;
     tokens = subst (λ (z : List ℕ). AreNewTokens s.openings now z) (sym f) (after.new_tokens t.config u.config l h.now h.kept ps gone facts s.openings h.are_open h.standing h.apart mid ts opened own token);
+    hurried = λ k. absurd (let no : true ≡ false = sym k ∙ g in cc);
   }

@@ -39,18 +39,12 @@ use Rattle.opened_places.proofs.StillAround.{still_around}
 use Rattle.scheduler.specs.Openings.{AreListed}
 use Rattle.scheduler.specs.Opening.{IsPlacedIn}
 use Rattle.scheduler.specs.Effects.{StandsNow, stands, goes, AreOpenedBy}
-use Rattle.scheduler.specs.Listing.{waiting_on, places_but, binds_outer, AreInner, AreListedFor}
+use Rattle.scheduler.specs.Listing.{waiting_on, places_but, binds_outer, AreInner, AreOthers, AreListedFor}
 use Rattle.wake_lists.specs.Waits.{waits_on}
 use Rattle.scheduler.proofs.DroppedWaits.{Waiting}
 use Rattle.scheduler.proofs.CommitFacts.{stands_there}
 use Rattle.scheduler.proofs.ListedOthers.{waits_listed, listed_waits, stays_listed, listed_stays, outer_so, so_outer}
-use Rattle.scheduler.proofs.PlacedThose.{of_placed, those_keep, those_come, came_so}
-
--- one listed place, with the boxes around it
-one_placed : (place : Place) (ps : List PlacedValue) → IsOneOf place (places_of ps) → (p : PlacedValue) × IsPlacedIn p ps × (p.place ≡ place)
-one_placed place [] i = absurd i
-one_placed place (q ∷ qs) (inl e) = (q, inl refl, sym e)
-one_placed place (q ∷ qs) (inr i) = let w : (p : PlacedValue) × IsPlacedIn p qs × (p.place ≡ place) = one_placed place qs i in (w.0, inr w.1, w.2)
+use Rattle.scheduler.proofs.PlacedThose.{of_placed, one_placed, those_keep, those_come, came_so}
 
 each_of : (P : PlacedValue → Type 0) (ps : List PlacedValue) → AllByRecursion P ps → (p : PlacedValue) → IsPlacedIn p ps → P p
 each_of P [] a p i = absurd i
@@ -123,20 +117,26 @@ module _ (v : TableValue) (journal : List Label) (t : IsTableOf all_rules (run_o
   outside = step_outside all_rules (run_of v journal) (table_of v) p.label d t a (step_of v.program.templates.nodes p.step) makes p.binds bound
 
   -- the others
+  abbrev all : List Place
+  all = x.are_others.all
+
+  are_others : AreOthers v ws p x.around.home gone all
+  are_others = x.are_others.are_others
+
   woken_other : (place : Place) → IsOneOf place (waiting_on ws p.binds) → IsOneOf place x.others
-  woken_other place i = on (binds_outer p.binds p.step) refl
+  woken_other place i = x.are_others.same.all place (on (binds_outer p.binds p.step) refl)
     where
-      on : (b : Bool) → binds_outer p.binds p.step ≡ b → IsOneOf place x.others
-      on true e = let w : AreInner v x.around.home gone (waiting_on ws p.binds) x.others = x.are_others.outer e in
+      on : (b : Bool) → binds_outer p.binds p.step ≡ b → IsOneOf place all
+      on true e = let w : AreInner v x.around.home gone (waiting_on ws p.binds) all = are_others.outer e in
           subst (IsOneOf place) (sym w.comes) (one_left place (waiting_on ws p.binds) (places_but gone (places_of w.inside)) i)
-      on false e = subst (IsOneOf place) (sym (x.are_others.none_outer e)) i
+      on false e = subst (IsOneOf place) (sym (are_others.none_outer e)) i
 
   inner_other : binds_outer p.binds p.step ≡ true → (place : Place) → IsThere place d.roots → StandsIn n c.roots place → IsOneOf place x.others
   inner_other e place h s =
-      let w : AreInner v x.around.home gone (waiting_on ws p.binds) x.others = x.are_others.outer e in
+      let w : AreInner v x.around.home gone (waiting_on ws p.binds) all = are_others.outer e in
       let inside : AreAllInside c.roots x.around.home w.inside = w.are_inside (run_of v journal) t in
-      subst (IsOneOf place) (sym w.comes) (one_right place (waiting_on ws p.binds) (places_but gone (places_of w.inside))
-      ((stays_listed gone (places_of w.inside) place (inside.listed place (subst (λ (m : Name). StandsIn m c.roots place) (sym same_home) s)) (λ i. (all_gone.gone place i).gone h))))
+      x.are_others.same.all place (subst (IsOneOf place) (sym w.comes) (one_right place (waiting_on ws p.binds) (places_but gone (places_of w.inside))
+      ((stays_listed gone (places_of w.inside) place (inside.listed place (subst (λ (m : Name). StandsIn m c.roots place) (sym same_home) s)) (λ i. (all_gone.gone place i).gone h)))))
 
   other_opens : (place : Place) → IsOneOf place x.others → Opens kept c d place
   other_opens place i = on (binds_outer p.binds p.step) refl
@@ -155,12 +155,15 @@ module _ (v : TableValue) (journal : List Label) (t : IsTableOf all_rules (run_o
       there : (IsOneOf place gone → ⊥) → IsThere place c.roots → IsThere place d.roots
       there m h = elim (there_or place d.roots) [ inl k ↦ k | inr z ↦ absurd (m (all_gone.listed place (record { was = h; gone = z }))) ]
 
+      listed_all : IsOneOf place all
+      listed_all = x.are_others.same.only place i
+
       on : (b : Bool) → binds_outer p.binds p.step ≡ b → Opens kept c d place
-      on false e = by_waits (subst (IsOneOf place) (x.are_others.none_outer e) i)
+      on false e = by_waits (subst (IsOneOf place) (are_others.none_outer e) listed_all)
       on true e =
-          let w : AreInner v x.around.home gone (waiting_on ws p.binds) x.others = x.are_others.outer e in
+          let w : AreInner v x.around.home gone (waiting_on ws p.binds) all = are_others.outer e in
           let inside : AreAllInside c.roots x.around.home w.inside = w.are_inside (run_of v journal) t in
-          elim (one_either place (waiting_on ws p.binds) (places_but gone (places_of w.inside)) (subst (IsOneOf place) w.comes i)) [
+          elim (one_either place (waiting_on ws p.binds) (places_but gone (places_of w.inside)) (subst (IsOneOf place) w.comes listed_all)) [
             | inl j ↦ by_waits j
             | inr j ↦
                 let k : IsOneOf place (places_of w.inside) × (IsOneOf place gone → ⊥) = listed_stays gone (places_of w.inside) place j in

@@ -19,3 +19,9 @@ pub mod SettleCalls
 pub mod Outwards
 pub mod Weights
 pub mod Untimed
+pub mod SeenOnce
+pub mod CountedContents
+pub mod CountedOpenings
+pub mod CountedWaits
+pub mod WorkBound
+pub mod Hurrying

@@ -3,7 +3,7 @@ use Rattle.std.proofs.Common.{◌≡◌, ℕ, ◌+◌, ◌<◌, get_or, take, Bo
 use Rattle.opened_places.proofs.Members.{one_left, one_right, one_either}
 use Rattle.std.proofs.lemmas.List.{take_more}
 use Rattle.std.specs.Prelude.{if◌then◌else◌, not}
-use Rattle.std.specs.Result.{OnOk}
+use Rattle.std.specs.Result.{IfOk, OnOk}
 use Rattle.std.specs.declared.result.Result.{Result}
 use Rattle.std.specs.declared.result.Result.TheVariants.{Ok, Err}
 use Rattle.akl_terms.specs.declared.name.Name.{Name}
@@ -11,14 +11,19 @@ use Rattle.akl_terms.specs.declared.name.Var.{Var}
 use Rattle.akl_terms.specs.declared.name.Place.{Place}
 use Rattle.akl_terms.specs.Names.{same_name}
 use Rattle.akl_terms.proofs.SameNames.{same_name-equal}
+use Rattle.akl_model.specs.declared.label.Label.{Label}
 use Rattle.akl_model.specs.Config.{IsIn}
 use Rattle.akl_model.specs.Wakes.{IsOneOf}
 use Rattle.constraint_laws.specs.Touched.{IsAmong}
 use Rattle.local_store.specs.Stored.{is_named}
+use Rattle.box_tree.specs.declared.step.Step.{Step}
+use Rattle.box_tree.specs.Tables.{TableValue}
 use Rattle.wake_lists.specs.Waits.{places_at, waits_on}
+use Rattle.opened_places.specs.Gone.{AreGone, AreAllGone}
 use Rattle.opened_places.specs.Placed.{PlacedValue, places_of}
 use Rattle.binding_laws.specs.Bindings.{HasOuter}
 use Rattle.scheduler.specs.Dropping.{is_place_in}
+use Rattle.scheduler.specs.Once.{AreSameOnce}
 use Rattle.scheduler.specs.Listing.{waiting_on, places_but, has_outer}
 use Rattle.scheduler.proofs.DroppedWaits.{Waiting, places_end}
 use Rattle.scheduler.proofs.CommitFacts.{not_both, or_true, or_left, or_right, place_itself, listed_place, place_listed}
@@ -138,7 +143,17 @@ so_outer xs frames w = on xs w.listed
     on (y ∷ ys) (inl e) = or_left (not (is_named frames y.frame)) (has_outer ys frames) (ap (λ (z : Var). not (is_named frames z.frame)) (sym e) ∙ false_not (is_named frames w.variable.frame) (λ f. w.outer (named_in w.variable.frame frames f)))
     on (y ∷ ys) (inr i) = or_right (not (is_named frames y.frame)) (has_outer ys frames) (on ys i)
 
+-- the places that go, each once
+pub gone_same : (v : TableValue) (l : Label) (step : Step) (places once : List Place) → AreGone v l step places → AreSameOnce places once → AreGone v l step once
+gone_same v l step places once g s = λ journal t d a m.
+    let x : AreAllGone t.config d places = g journal t d a m in
+    record { listed = λ p i. s.all p (x.listed p i); gone = λ p i. x.gone p (s.only p i) }
+
 -- what a call says where it didn't fail
+pub if_ok : {T E : Type 0} (r : Result T E) (P Q : T → Type 0) → ((x : T) → P x → Q x) → IfOk r P → IfOk r Q
+if_ok (Ok x) P Q f p = f x p
+if_ok (Err y) P Q f p = p
+
 pub on_ok : {T E P R : Type 0} (r : Result T E) → (P → R) → OnOk r P → OnOk r R
 on_ok (Ok x) f p = f p
 on_ok (Err y) f p = p

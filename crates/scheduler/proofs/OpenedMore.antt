@@ -48,7 +48,7 @@ once_end : (ts : List ℕ) (t : ℕ) → IsEachOnce ts → (IsNumberIn t ts → 
 once_end [] t o n = (λ i. i, tt)
 once_end (s ∷ ss) t o n = (λ i. elim (number_either s t ss i) [ inl j ↦ o.0 j | inr e ↦ n (inl (sym e)) ], once_end ss t o.1 (λ i. n (inr i)))
 
-place_either : (place : Place) (ps : List PlacedValue) (p : PlacedValue) → IsOneOf place (places_of (ps ++ p ∷ [])) → IsOneOf place (places_of ps) ⊎ (place ≡ p.place)
+pub place_either : (place : Place) (ps : List PlacedValue) (p : PlacedValue) → IsOneOf place (places_of (ps ++ p ∷ [])) → IsOneOf place (places_of ps) ⊎ (place ≡ p.place)
 place_either place [] p (inl e) = inr e
 place_either place [] p (inr i) = absurd i
 place_either place (q ∷ qs) p (inl e) = inl (inl e)
@@ -96,10 +96,10 @@ module _ (before cur : Openings) (ps : List PlacedValue) (p : PlacedValue) (ts :
     place_is = ap (λ (q : PlacedValue). q.place) same
 
     here : opening_at t now ≡ Some o
-    here = put_at t o cur free t ∙ ap (λ (b : Bool). cond b (Some o) (opening_at t cur)) (token_here t)
+    here = put_at t o cur t ∙ ap (λ (b : Bool). cond b (Some o) (opening_at t cur)) (token_here t)
 
     still : (s : ℕ) (q : Opening) → opening_at s cur ≡ Some q → opening_at s now ≡ Some q
-    still s q h = put_at t o cur free s ∙ on (eqb s t) refl
+    still s q h = put_at t o cur s ∙ on (eqb s t) refl
       where
         on : (b : Bool) → eqb s t ≡ b → cond b (Some o) (opening_at s cur) ≡ Some q
         on true e = absurd (some_none h (ap (λ (k : ℕ). opening_at k cur) (token_equal s t e) ∙ free))
@@ -122,7 +122,7 @@ module _ (before cur : Openings) (ps : List PlacedValue) (p : PlacedValue) (ts :
     it_is = record { unused = unused; unopened = unopened; is_placed = subst (λ (q : PlacedValue). IsPlacedIn q (ps ++ p ∷ [])) (sym same) (placed_end p ps); listed = number_end t ts }
 
     each_now : (s : ℕ) (q : Opening) → opening_at s now ≡ Some q → (opening_at s before ≡ Some q) ⊎ IsNewOpening before (ps ++ p ∷ []) (ts ++ t ∷ []) s q
-    each_now s q h = on (eqb s t) refl (sym (put_at t o cur free s) ∙ h)
+    each_now s q h = on (eqb s t) refl (sym (put_at t o cur s) ∙ h)
       where
         on : (b : Bool) → eqb s t ≡ b → cond b (Some o) (opening_at s cur) ≡ Some q → (opening_at s before ≡ Some q) ⊎ IsNewOpening before (ps ++ p ∷ []) (ts ++ t ∷ []) s q
         on true e f = inr (subst (λ (k : ℕ). IsNewOpening before (ps ++ p ∷ []) (ts ++ t ∷ []) k q) (sym (token_equal s t e)) (subst (IsNewOpening before (ps ++ p ∷ []) (ts ++ t ∷ []) t) (same_value refl f) it_is))
@@ -170,13 +170,11 @@ module _ (before now : Openings) (place : Place) (around : List Name) (t : ℕ) 
   other o s e f = not_open before place none (record { token = s; opening = o; is_open = e; of_place = f })
 
   pub one_back : IsOpened before now place around Urgency.Ordinary t → closed t now ≡ before
-  one_back (IsOpened.stays o e f u a) = absurd (other o t e f)
-  one_back (IsOpened.hurries o u e f g h i j a) = absurd (other o t e f)
+  one_back (IsOpened.was_open o e f h) = absurd (other o t e f)
   one_back (IsOpened.is_new u n least g last a) = ap (closed t) a ∙ put_out t (record { place = place; turn = u; boxes = around }) before least.free
 
   pub one_more : (p : PlacedValue) (ts ts_now : List ℕ) → place ≡ p.place → around ≡ p.around → ts_now ≡ ts ++ t ∷ [] → IsOpened before now place around Urgency.Ordinary t → IsOpenedBy before ts p now ts_now
-  one_more p ts ts_now i j k (IsOpened.stays o e f u a) = absurd (other o t e f)
-  one_more p ts ts_now i j k (IsOpened.hurries o u e f g h l m a) = absurd (other o t e f)
+  one_more p ts ts_now i j k (IsOpened.was_open o e f h) = absurd (other o t e f)
   one_more p ts ts_now i j k (IsOpened.is_new u n least g last a) = is_new t (record { place = place; turn = u; boxes = around }) (λ w. not_open before place none (record { token = w.token; opening = w.opening; is_open = w.is_open; of_place = w.of_place ∙ sym i })) least.free (λ m. record { place = i m; around = j m }) a k
 
 -- a call that didn't fail

@@ -40,23 +40,27 @@ module _ (t : ℕ) (o : Opening) where
   equal_none : (x : ℕ × Opening) (xs : Openings) → nat_cmp t x.0 ≡ Equal → opening_at t (x ∷ xs) ≡ None → ⊥
   equal_none x xs f e = let here : eqb t x.0 ≡ true = sym (token_is t x.0) ∙ ap is_eq f in let not : eqb t x.0 ≡ false = (none_here (eqb t x.0) x.1 (opening_at t xs) e).0 in cc
 
-  pub put_at : (os : Openings) → opening_at t os ≡ None → (s : ℕ) → opening_at s (insert_entry nat_cmp os t o) ≡ cond (eqb s t) (Some o) (opening_at s os)
-  put_at [] e s = refl
-  put_at (x ∷ xs) e s = on (nat_cmp t x.0) refl (put_at xs rest.1 s)
+  pub put_at : (os : Openings) (s : ℕ) → opening_at s (insert_entry nat_cmp os t o) ≡ cond (eqb s t) (Some o) (opening_at s os)
+  put_at [] s = refl
+  put_at (x ∷ xs) s = on (nat_cmp t x.0) refl (put_at xs s)
     where
-      rest : (eqb t x.0 ≡ false) × (opening_at t xs ≡ None)
-      rest = none_here (eqb t x.0) x.1 (opening_at t xs) e
+      another : nat_cmp t x.0 ≡ Greater → eqb t x.0 ≡ false
+      another f = sym (token_is t x.0) ∙ ap is_eq f
 
-      found : (b : Bool) → eqb s x.0 ≡ b → opening_at s (insert_entry nat_cmp xs t o) ≡ cond (eqb s t) (Some o) (opening_at s xs)
+      replaced : (b : Bool) → cond b (Some o) (opening_at s xs) ≡ cond b (Some o) (cond b (Some x.1) (opening_at s xs))
+      replaced true = refl
+      replaced false = refl
+
+      found : nat_cmp t x.0 ≡ Greater → (b : Bool) → eqb s x.0 ≡ b → opening_at s (insert_entry nat_cmp xs t o) ≡ cond (eqb s t) (Some o) (opening_at s xs)
           → cond b (Some x.1) (opening_at s (insert_entry nat_cmp xs t o)) ≡ cond (eqb s t) (Some o) (cond b (Some x.1) (opening_at s xs))
-      found true g r = ap (λ (c : Bool). cond c (Some o) (Some x.1)) (sym (differs s t x.0 rest.0 g))
-      found false g r = r
+      found f true g r = ap (λ (c : Bool). cond c (Some o) (Some x.1)) (sym (differs s t x.0 (another f) g))
+      found f false g r = r
 
       on : (c : Ordering) → nat_cmp t x.0 ≡ c → opening_at s (insert_entry nat_cmp xs t o) ≡ cond (eqb s t) (Some o) (opening_at s xs)
           → opening_at s (match_ordering c ((t, o) ∷ x ∷ xs) ((x.0, o) ∷ xs) (x ∷ insert_entry nat_cmp xs t o)) ≡ cond (eqb s t) (Some o) (opening_at s (x ∷ xs))
       on Less f r = refl
-      on Equal f r = absurd (equal_none x xs f e)
-      on Greater f r = found (eqb s x.0) refl r
+      on Equal f r = replaced (eqb s x.0) ∙ ap (λ (k : ℕ). cond (eqb s k) (Some o) (opening_at s (x ∷ xs))) (sym (token_equal t x.0 (sym (token_is t x.0) ∙ ap is_eq f)))
+      on Greater f r = found f (eqb s x.0) refl r
 
   pub put_out : (os : Openings) → opening_at t os ≡ None → closed t (insert_entry nat_cmp os t o) ≡ os
   put_out [] e = ap (λ (b : Bool). cond b [] ((t, o) ∷ [])) (token_here t)
@@ -83,7 +87,7 @@ module _ (t : ℕ) (o : Opening) where
       other false g = refl
 
       free : opening_at x.0 (insert_entry nat_cmp xs t o) ≡ None
-      free = put_at xs rest.1 x.0 ∙ ap (λ (b : Bool). cond b (Some o) (opening_at x.0 xs)) (other (eqb x.0 t) refl) ∙ a.0
+      free = put_at xs x.0 ∙ ap (λ (b : Bool). cond b (Some o) (opening_at x.0 xs)) (other (eqb x.0 t) refl) ∙ a.0
 
       on : (c : Ordering) → nat_cmp t x.0 ≡ c → AreApart (insert_entry nat_cmp xs t o) → AreApart (match_ordering c ((t, o) ∷ x ∷ xs) ((x.0, o) ∷ xs) (x ∷ insert_entry nat_cmp xs t o))
       on Less f r = (e, a)

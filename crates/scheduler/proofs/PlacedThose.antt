@@ -33,6 +33,12 @@ of_placed p [] i = absurd i
 of_placed p (q ∷ qs) (inl e) = inl (ap (λ (v : PlacedValue). v.place) e)
 of_placed p (q ∷ qs) (inr i) = inr (of_placed p qs i)
 
+-- one listed place, with the boxes around it
+pub one_placed : (place : Place) (ps : List PlacedValue) → IsOneOf place (places_of ps) → (p : PlacedValue) × IsPlacedIn p ps × (p.place ≡ place)
+one_placed place [] i = absurd i
+one_placed place (q ∷ qs) (inl e) = (q, inl refl, sym e)
+one_placed place (q ∷ qs) (inr i) = let w : (p : PlacedValue) × IsPlacedIn p qs × (p.place ≡ place) = one_placed place qs i in (w.0, inr w.1, w.2)
+
 either_placed : (p : PlacedValue) (ps : List PlacedValue) (q : PlacedValue) → IsPlacedIn p (ps ++ q ∷ []) → IsPlacedIn p ps ⊎ (p ≡ q)
 either_placed p [] q (inl e) = inr e
 either_placed p [] q (inr i) = absurd i

@@ -190,7 +190,7 @@ module _ (v : TableValue) (journal : List Label) (table : IsTableOf all_rules (r
     not_token = not_true (eqb t own) (λ e. other_tokens (sym (token_equal t own e)))
 
     with_at : (k : ℕ) → opening_at k with_it ≡ cond (eqb k t) (Some o) (opening_at k rest)
-    with_at k = out_at own mid mid_apart k ∙ ap (cond (eqb k own) None) (put_at t o os free k) ∙ on (eqb k t) refl ∙ ap (cond (eqb k t) (Some o)) (sym (out_at own os apart k))
+    with_at k = out_at own mid mid_apart k ∙ ap (cond (eqb k own) None) (put_at t o os k) ∙ on (eqb k t) refl ∙ ap (cond (eqb k t) (Some o)) (sym (out_at own os apart k))
       where
         on : (b : Bool) → eqb k t ≡ b → cond (eqb k own) None (cond b (Some o) (opening_at k os)) ≡ cond b (Some o) (cond (eqb k own) None (opening_at k os))
         on true e = ap (λ (b : Bool). cond b None (Some o)) (ap (λ (j : ℕ). eqb j own) (token_equal k t e) ∙ not_token)
@@ -214,7 +214,7 @@ module _ (v : TableValue) (journal : List Label) (table : IsTableOf all_rules (r
         let its : w.1 ≡ o.boxes = some_value (sym w.3 ∙ around) in
         let there : boxes_around own_is.0.place c.roots ≡ Some w.0 = ap (λ (p : Place). boxes_around p c.roots) own_is.2 ∙ w.2 in
         let owns : w.0 ≡ own_is.0.boxes = some_value (sym there ∙ standing.listed own own_is.0 own_is.1 (ap is_some there)) in
-        let own_there : opening_at own mid ≡ Some own_is.0 = put_at t o os free own ∙ ap (λ (b : Bool). cond b (Some o) (opening_at own os)) (not_true (eqb own t) (λ e. other_tokens (token_equal own t e))) ∙ own_is.1 in
+        let own_there : opening_at own mid ≡ Some own_is.0 = put_at t o os own ∙ ap (λ (b : Bool). cond b (Some o) (opening_at own os)) (not_true (eqb own t) (λ e. other_tokens (token_equal own t e))) ∙ own_is.1 in
         let less : weight mid ≡ suc (length own_is.0.boxes) + weight with_it = closed_weight own own_is.0 mid own_there in
         let more : weight mid ≡ suc (length o.boxes) + weight os = put_weight t o os free in
         let a : length w.1 ≡ length o.boxes = ap length its in

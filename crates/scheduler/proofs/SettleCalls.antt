@@ -56,8 +56,7 @@ module _ (v : TableValue) (before : Openings) (near : Option Name) (n : Name) (i
 
   pub candidate_comes : (found : Option PlacedValue) (x : PlacedValue) (around : List Name) (now : Openings) (t : ℕ) → found ≡ Some x → HasAround v (Place.Box n) (option_map (λ p. p.around) found) → around ≡ x.around
       → IsOpen before (Place.Box n) None → IsOpened before now (Place.Box n) around Urgency.Ordinary t → OpensCandidate v before near now (Some t)
-  candidate_comes found x around now t e a same none (IsOpened.stays o f g u w) = absurd (not_open before (Place.Box n) none (record { token = t; opening = o; is_open = f; of_place = g }))
-  candidate_comes found x around now t e a same none (IsOpened.hurries o u f g h i j k w) = absurd (not_open before (Place.Box n) none (record { token = t; opening = o; is_open = f; of_place = g }))
+  candidate_comes found x around now t e a same none (IsOpened.was_open o f g h) = absurd (not_open before (Place.Box n) none (record { token = t; opening = o; is_open = f; of_place = g }))
   candidate_comes found x around now t e a same none (IsOpened.is_new u un least g last w) = OpensCandidate.comes n t (record { place = Place.Box n; turn = u; boxes = around }) is_near (not_open before (Place.Box n) none) least.free refl
       (subst (λ (ns : List Name). HasAround v (Place.Box n) (Some ns)) (sym same) (subst (λ (o : Option PlacedValue). HasAround v (Place.Box n) (option_map (λ p. p.around) o)) e a)) w refl
 

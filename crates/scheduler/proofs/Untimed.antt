@@ -1,5 +1,6 @@
 -- When open places come doesn't count for what a scheduler is, nor for what a commit makes of it.
 use Rattle.std.proofs.Common.{◌≡◌, ℕ, Bool, true, false, List, [], ◌∷◌, Option, Some, None, refl, sym, ap, subst, ◌∙◌}
+use Rattle.std.specs.Global.{Vec}
 use Rattle.std.specs.Prelude.{cond, option_map, ⊤, Result, Ok, Err, IfOk, IfErr}
 use Rattle.akl_terms.specs.declared.name.Name.{Name}
 use Rattle.akl_terms.specs.declared.name.Place.{Place}
@@ -10,10 +11,11 @@ use Rattle.step_laws.specs.Likeness.{IsOld}
 use Rattle.box_tree.specs.Plans.{PlanValue}
 use Rattle.wake_lists.specs.Open.{Opening, Openings, opening_at, untimed}
 use Rattle.wake_lists.specs.Standing.{is_in}
+use Rattle.step_commit.specs.Cores.{Commits}
 use Rattle.scheduler.specs.declared.committing.Committed.{Committed}
 use Rattle.scheduler.specs.Openings.{IsOpenAt, AreOpenPlaces, AreApart, AreStandingIn, AreNewTokens, name_at}
 use Rattle.scheduler.specs.Schedulers.{SchedulerValue, IsScheduler}
-use Rattle.scheduler.specs.Committed.{IsOpenAndKept, CommitsAndOpens}
+use Rattle.scheduler.specs.Committed.{IsOpenAndKept, CommitsAndOpens, FailingAreUrgent}
 use lib.Dec.{eqb}
 
 -- an opening without its turn
@@ -111,14 +113,23 @@ untimed_tokens before a b e ts h = record {
   once = h.once;
 }
 
-pub untimed_commits : (s : SchedulerValue) (p : PlanValue) (d : SchedulerValue) (r : Committed) → CommitsAndOpens s p d r → (os : Openings) → untimed os ≡ untimed d.openings → CommitsAndOpens s p (record d { openings = os }) r
-untimed_commits s p d r h os e = record {
-  commits = h.commits;
+commits_untimed : (s : SchedulerValue) (p : PlanValue) (d : SchedulerValue) (r q : Committed) → CommitsAndOpens s p d r → (os : Openings) → untimed os ≡ untimed d.openings → q.receipt ≡ r.receipt → q.opened ≡ r.opened
+    → (q.hurried ≡ true → FailingAreUrgent s (record d { openings = os })) → CommitsAndOpens s p (record d { openings = os }) q
+commits_untimed s p d r q h os e f g u = record {
+  commits = subst (Commits s.core p d.core) (sym f) h.commits;
   follows = λ t u before kept a w.
       let x : IsOpenAndKept s d p t u before kept = h.follows t u before kept a w in
       record {
         is_open = λ place. (λ i. (x.is_open place).0 (untimed_open d.openings os e place i), λ i. untimed_open os d.openings (sym e) place ((x.is_open place).1 i));
         waits = x.waits;
       };
-  tokens = untimed_tokens s.openings d.openings os e r.opened.items h.tokens;
+  tokens = untimed_tokens s.openings d.openings os e q.opened.items (subst (λ (v : Vec ℕ). AreNewTokens s.openings d.openings v.items) (sym g) h.tokens);
+  hurried = u;
 }
+
+pub untimed_commits : (s : SchedulerValue) (p : PlanValue) (d e : SchedulerValue) (r q : Committed) → CommitsAndOpens s p d r → untimed e.openings ≡ untimed d.openings → e.core ≡ d.core → e.waits ≡ d.waits → q.receipt ≡ r.receipt → q.opened ≡ r.opened
+    → (q.hurried ≡ true → FailingAreUrgent s e) → CommitsAndOpens s p e q
+untimed_commits s p d e r q h x y z f g u = subst (λ (v : SchedulerValue). CommitsAndOpens s p v q) same (commits_untimed s p d r q h e.openings x f g (λ k. subst (FailingAreUrgent s) (sym same) (u k)))
+  where
+    same : record d { openings = e.openings } ≡ e
+    same = λ i. record { core = sym y i; openings = e.openings; waits = sym z i }

@@ -25,7 +25,7 @@ pub closed_lighter : (t : ℕ) (o : Opening) (os : Openings) → opening_at t os
 closed_lighter t o os e = let w : weight os ≡ suc (length o.boxes) + weight (closed t os) = closed_weight t o os e in omega (arith, w)
 
 pub put_weight : (t : ℕ) (o : Opening) (os : Openings) → opening_at t os ≡ None → weight (insert_entry nat_cmp os t o) ≡ suc (length o.boxes) + weight os
-put_weight t o os e = closed_weight t o (insert_entry nat_cmp os t o) (put_at t o os e t ∙ ap (λ (b : Bool). cond b (Some o) (opening_at t os)) (token_here t)) ∙ ap (λ (l : Openings). suc (length o.boxes) + weight l) (put_out t o os e)
+put_weight t o os e = closed_weight t o (insert_entry nat_cmp os t o) (put_at t o os t ∙ ap (λ (b : Bool). cond b (Some o) (opening_at t os)) (token_here t)) ∙ ap (λ (l : Openings). suc (length o.boxes) + weight l) (put_out t o os e)
 
 -- turns don't count
 abbrev counted : List (ℕ × Place × List Name) → ℕ

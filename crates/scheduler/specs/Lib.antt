@@ -7,7 +7,11 @@ pub mod Schedulers
 pub mod AllPlaces
 pub mod Listing
 pub mod Settling
+pub mod Turns
 pub mod Committed
 pub mod Settled
 pub mod Nearest
 pub mod Weights
+pub mod Once
+pub mod Work
+pub mod Counting

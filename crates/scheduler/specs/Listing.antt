@@ -14,6 +14,7 @@ use Rattle.opened_places.specs.Placed.{PlacedValue, places_of}
 use Rattle.opened_places.specs.Exact.{IsAround, AreChanged}
 use Rattle.opened_places.specs.Inner.{AreInside}
 use Rattle.scheduler.specs.Dropping.{is_place_in}
+use Rattle.scheduler.specs.Once.{AreSameOnce}
 use Rattle.scheduler.specs.Placing.{AddsThose}
 
 -- the places that wait on these variables
@@ -52,6 +53,12 @@ pub record AreOthers (v : TableValue) (ws : List (Var × List Place)) (p : PlanV
   pub outer : binds_outer p.binds p.step ≡ true → AreInner v home gone (waiting_on ws p.binds) others
   pub none_outer : binds_outer p.binds p.step ≡ false → others ≡ waiting_on ws p.binds
 
+-- each once
+pub record AreOthersOnce (v : TableValue) (ws : List (Var × List Place)) (p : PlanValue) (home : Name) (gone others : List Place) : Type 0 where
+  pub all : List Place
+  pub are_others : AreOthers v ws p home gone all
+  pub same : AreSameOnce all others
+
 -- the places that the label changes, and with them others
 pub record AddsOthers (v : TableValue) (p : PlanValue) (others : List Place) (places : List PlacedValue) : Type 0 where
   pub changed : List PlacedValue
@@ -63,5 +70,5 @@ pub record AreListedFor (v : TableValue) (ws : List (Var × List Place)) (p : Pl
   pub around : Around
   pub is_around : IsAround (table_of v) p.label around
   pub others : List Place
-  pub are_others : AreOthers v ws p around.home gone others
+  pub are_others : AreOthersOnce v ws p around.home gone others
   pub adds : AddsOthers v p others places

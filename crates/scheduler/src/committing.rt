@@ -1,21 +1,28 @@
 //! Labels that are committed, with the places that they open.
 
-ghost use Rattle.std.specs.Prelude.{◌≡◌, IfOk, IfErr};
+ghost use Rattle.std.specs.Prelude.{◌≡◌, ◌<◌, IfOk, IfErr};
 ghost use Rattle.step_commit.specs.Cores.{MayCommit, IsFresh, IsRefused};
 ghost use Rattle.opened_places.specs.Gone.{AreGone};
 ghost use Rattle.scheduler.specs.Listing.{AreListedFor};
-ghost use Rattle.scheduler.specs.Committed.{CommitsAndOpens};
+ghost use Rattle.scheduler.specs.Once.{IsEachPlaceOnce};
+ghost use Rattle.opened_places.specs.Placed.{places_of};
+ghost use Rattle.scheduler.specs.Committed.{CommitsAndOpens, OpensAmong};
+ghost use Rattle.scheduler.specs.Work.{TakesSteps};
+ghost use Rattle.scheduler.specs.Counting.{TakesLabelSteps};
 
+use crate::counting::{count, count_contents};
 use crate::dropping::{drop_gone, drop_opened, leave_gone};
-use crate::effects::opened_by;
+use crate::effects::{gone_once, opened_by};
 use crate::opening::{close_all, open_all};
 use crate::scheduler::Scheduler;
-use crate::urgent::{hurry_failing, suspects_of};
+use crate::turns::unsolved_by;
 use akl_model::Receipt;
-use akl_terms::Place;
+use akl_terms::{Place, Steps};
 use box_tree::Plan;
-use opened_places::{Placed, gone_places};
+use opened_places::Placed;
 use std::alloc::{AllocError, Global};
+use std::marker::Brand;
+use std::sync::ledger::{Blank, Ledger};
 use step_commit::CommitError;
 
 /// A label that was committed.
@@ -24,82 +31,145 @@ pub struct Committed {
     pub receipt: Receipt,
     /// The tokens of the places that it opened and that weren't open before, each once.
     pub opened: Vec<u64>,
+    /// Whether memory sufficed for the boxes that fail to come first.
+    pub hurried: bool,
 }
 
 impl Scheduler {
     /// Appends the plan's label, makes its step, and opens exactly the places that it can have made ready: those that are
     /// new or changed, those that wait on a variable that it binds or makes equal, and all in a box whose equations come to
-    /// bind a variable from outside. Its own place closes where it has gone. An `Err` leaves all as it was.
-    pub fn commit(&mut self, alloc: Global, plan: Plan) -> Result<Committed, CommitError>
+    /// bind a variable from outside. Of these none is late any more, and those boxes are urgent that have a goal by which
+    /// they fail, or that the label leaves unsolved. Its own place closes where it has gone. An `Err` leaves all as it was.
+    ///
+    /// It counts at most a step for each item that the plan read, each content that it writes, each place that it takes
+    /// away, each place that it opens, each box around such a place, and each wait of a place that it opens or takes away.
+    /// The stamps and the contents are counted before the core reads and writes them. Not counted is what closes: a box's
+    /// count of what is open in it goes down once for each time that it went up, as a place opened. Nor are the looks by
+    /// which these places are found, nor those by which they get their turns.
+    pub fn commit<L: Ledger>(
+        &mut self,
+        alloc: Global,
+        plan: Plan,
+        steps: &mut Steps<L>,
+    ) -> Result<Committed, CommitError>
+        requires { MayCommit self.old.core plan }
+        ensures committed { IfOk result (CommitsAndOpens self.old plan self.new) }
+        ensures refused { IfErr result (IsRefused self.old.core plan) }
+        ensures unchanged { IfErr result (λ _. self.new ≡ self.old) }
+        ensures steps { TakesSteps self.old plan steps.old steps.new }
+    {
+        count(plan.reads().len(), steps);
+        if let Some(refused) = self.core.refusal(&plan) {
+            return Err(refused);
+        }
+        let committed = self.commit_fresh(alloc, plan, steps)?;
+        Ok(committed)
+    }
+
+    /// The same by a counter that nobody reads.
+    pub fn commit_uncounted(&mut self, alloc: Global, plan: Plan) -> Result<Committed, CommitError>
         requires { MayCommit self.old.core plan }
         ensures committed { IfOk result (CommitsAndOpens self.old plan self.new) }
         ensures refused { IfErr result (IsRefused self.old.core plan) }
         ensures unchanged { IfErr result (λ _. self.new ≡ self.old) }
     {
-        if let Some(refused) = self.core.refusal(&plan) {
-            return Err(refused);
-        }
-        let committed = self.commit_fresh(alloc, plan)?;
-        Ok(committed)
+        self.commit_blank::<Brand>(alloc, plan, Blank::new(1))
+    }
+
+    // The same by a new counter.
+    fn commit_blank<L: Ledger>(
+        &mut self,
+        alloc: Global,
+        plan: Plan,
+        blank: Blank,
+    ) -> Result<Committed, CommitError>
+        requires may { MayCommit self.old.core plan }
+        requires name { blank.name ≡ L.name }
+        requires parts { blank.parts ≡ L.parts }
+        requires some { 0 < blank.parts }
+        ensures committed { IfOk result (CommitsAndOpens self.old plan self.new) }
+        ensures refused { IfErr result (IsRefused self.old.core plan) }
+        ensures unchanged { IfErr result (λ _. self.new ≡ self.old) }
+    {
+        let mut steps = Steps::<L>::new(blank);
+        self.commit(alloc, plan, &mut steps)
     }
 
     // The same for a plan that isn't refused.
-    fn commit_fresh(&mut self, alloc: Global, plan: Plan) -> Result<Committed, AllocError>
+    fn commit_fresh<L: Ledger>(
+        &mut self,
+        alloc: Global,
+        plan: Plan,
+        steps: &mut Steps<L>,
+    ) -> Result<Committed, AllocError>
         requires may { MayCommit self.old.core plan }
         requires fresh { IsFresh self.old.core plan }
         ensures committed { IfOk result (CommitsAndOpens self.old plan self.new) }
         ensures unchanged { IfErr result (λ _. self.new ≡ self.old) }
+        ensures steps { TakesLabelSteps self.old plan steps.old steps.new }
     {
-        let gone = gone_places(alloc, self.core.table(), plan.label(), plan.step())?;
-        self.commit_leaving(alloc, plan, gone.as_slice())
+        let gone = gone_once(alloc, self.core.table(), &plan)?;
+        self.commit_leaving(alloc, plan, gone.as_slice(), steps)
     }
 
     // The same where these places go.
-    fn commit_leaving(
+    fn commit_leaving<L: Ledger>(
         &mut self,
         alloc: Global,
         plan: Plan,
         gone: &[Place],
+        steps: &mut Steps<L>,
     ) -> Result<Committed, AllocError>
         requires may { MayCommit self.old.core plan }
         requires fresh { IsFresh self.old.core plan }
         requires gone { AreGone self.old.core.table plan.label plan.step gone.now }
+        requires once { IsEachPlaceOnce gone.now }
         ensures committed { IfOk result (CommitsAndOpens self.old plan self.new) }
         ensures unchanged { IfErr result (λ _. self.new ≡ self.old) }
+        ensures steps { TakesLabelSteps self.old plan steps.old steps.new }
     {
         let places = opened_by(alloc, self.core.table(), &self.waits, &plan, gone)?;
-        let suspects = suspects_of(alloc, self.core.table(), &plan)?;
-        let committed = self.commit_opening(alloc, plan, places.as_slice(), gone)?;
-        hurry_failing(&mut self.open, self.core.table(), suspects.as_slice());
+        let unsolved = unsolved_by(alloc, self.core.table(), &plan)?;
+        let mut committed = self.commit_opening(alloc, plan, places.as_slice(), gone, steps)?;
+        committed.hurried = self.set_turns(places.as_slice(), unsolved.as_slice());
         Ok(committed)
     }
 
-    // The same where these places open, too.
-    fn commit_opening(
+    // The same where these places open, too; when each comes is left open.
+    fn commit_opening<L: Ledger>(
         &mut self,
         alloc: Global,
         plan: Plan,
         places: &[Placed],
         gone: &[Place],
+        steps: &mut Steps<L>,
     ) -> Result<Committed, AllocError>
         requires may { MayCommit self.old.core plan }
         requires fresh { IsFresh self.old.core plan }
         requires gone { AreGone self.old.core.table plan.label plan.step gone.now }
+        requires once { IsEachPlaceOnce gone.now }
         requires places { AreListedFor self.old.core.table self.old.waits plan gone.now places.now }
         ensures committed { IfOk result (CommitsAndOpens self.old plan self.new) }
+        ensures opened { IfOk result (λ _. OpensAmong self.old self.new (places_of places.now)) }
         ensures unchanged { IfErr result (λ _. self.new ≡ self.old) }
+        ensures steps { TakesLabelSteps self.old plan steps.old steps.new }
     {
         let place = plan.label().place;
         let own = self.open.token_of(place);
-        let opened = open_all(alloc, &mut self.open, places)?;
+        count_contents(plan.step(), steps);
+        let opened = open_all(alloc, &mut self.open, places, steps)?;
         match self.core.append(alloc, plan) {
             Ok(receipt) => {
                 // By this call it is known that the core is one still.
                 let _ = self.core.table();
-                drop_opened(&mut self.waits, places);
-                drop_gone(&mut self.waits, gone);
+                drop_opened(&mut self.waits, places, steps);
+                drop_gone(&mut self.waits, gone, steps);
                 leave_gone(&mut self.open, own, place, gone);
-                Ok(Committed { receipt, opened })
+                Ok(Committed {
+                    receipt,
+                    opened,
+                    hurried: false,
+                })
             }
             Err(error) => {
                 close_all(&mut self.open, opened);

@@ -1,29 +1,35 @@
 //! What a commit leaves of places that opened or went.
 
-ghost use Rattle.std.specs.Prelude.{◌≡◌};
+ghost use Rattle.std.specs.Prelude.{◌≡◌, ◌+◌, length};
 ghost use Rattle.opened_places.specs.Placed.{places_of};
 ghost use Rattle.scheduler.specs.Dropping.{DropsWaits, boxes_among, closed_one, closed_among, after_going, is_place_in};
+ghost use Rattle.scheduler.specs.Counting.{DropBySteps};
 ghost use Rattle.wake_lists.specs.Open.{after_leave};
 
-use akl_terms::Place;
+use crate::counting::count;
+use akl_terms::{Place, Steps};
 use opened_places::Placed;
+use std::sync::ledger::Ledger;
 use wake_lists::{Open, Waits};
 
-/// Places that opened wait no more.
-pub(crate) fn drop_opened(waits: &mut Waits, places: &[Placed])
-    ensures { DropsWaits waits.old (places_of places.now) waits.new }
+/// Places that opened wait no more. It counts a step for each of their waits.
+pub(crate) fn drop_opened<L: Ledger>(waits: &mut Waits, places: &[Placed], steps: &mut Steps<L>)
+    ensures waits { DropsWaits waits.old (places_of places.now) waits.new }
+    ensures steps { DropBySteps waits.old (places_of places.now) steps.old steps.new }
 {
     for placed in places {
-        waits.drop_place(placed.place());
+        count(waits.drop_place(placed.place()).len(), steps);
     }
 }
 
-/// Places that went wait no more.
-pub(crate) fn drop_gone(waits: &mut Waits, places: &[Place])
-    ensures { DropsWaits waits.old places.now waits.new }
+/// Places that went wait no more. It counts a step for each of them, and for each of their waits.
+pub(crate) fn drop_gone<L: Ledger>(waits: &mut Waits, places: &[Place], steps: &mut Steps<L>)
+    ensures waits { DropsWaits waits.old places.now waits.new }
+    ensures steps { DropBySteps waits.old places.now (steps.old + length places.now) steps.new }
 {
     for place in places {
-        waits.drop_place(*place);
+        steps.tick();
+        count(waits.drop_place(*place).len(), steps);
     }
 }
 

@@ -1,4 +1,4 @@
-//! The places that a plan's label opens.
+//! The places that a plan's label takes away, and those that it opens.
 
 ghost use Rattle.std.specs.Prelude.{◌≡◌, ◌++◌, true, not, IfOk, OnOk};
 ghost use Rattle.std.specs.List.{list_any};
@@ -10,19 +10,32 @@ ghost use Rattle.opened_places.specs.Exact.{IsAround};
 ghost use Rattle.box_tree.specs.Tables.{table_of};
 ghost use Rattle.box_tree.specs.Drops.{IsOfRun};
 ghost use Rattle.box_tree.specs.Views.{is_there};
-ghost use Rattle.scheduler.specs.Listing.{waiting_on, places_but, has_outer, binds_outer, AreInner, AreOthers, AddsOthers, AreListedFor};
+ghost use Rattle.opened_places.specs.Gone.{AreGone};
+ghost use Rattle.scheduler.specs.Once.{IsEachPlaceOnce};
+ghost use Rattle.scheduler.specs.Listing.{waiting_on, places_but, has_outer, binds_outer, AreInner, AreOthers, AreOthersOnce, AddsOthers, AreListedFor};
 
 use crate::dropping::is_among;
+use crate::once::each_once;
 use crate::placing::push_those;
 use akl_terms::{Name, Place, Var};
 use box_tree::{Plan, Step, Table};
 use local_store::Store;
-use opened_places::{Around, Placed, around_of, changed_places, places_inside};
+use opened_places::{Around, Placed, around_of, changed_places, gone_places, places_inside};
 use std::alloc::{AllocError, Global};
 use wake_lists::Waits;
 
-/// The places that the label of a plan opens, where these go, each with the boxes around it; one may be listed more than
-/// once. It takes as long as they are many, times their depth. An `Err` comes for want of memory, and where the label's
+/// The places that go with the label of a plan, each once. An `Err` comes for want of memory.
+pub(crate) fn gone_once(alloc: Global, table: &Table, plan: &Plan) -> Result<Vec<Place>, AllocError>
+    requires { IsOfRun table.now }
+    ensures gone { IfOk result (λ gone. AreGone table.now plan.now.label plan.now.step gone.items) }
+    ensures once { IfOk result (λ gone. IsEachPlaceOnce gone.items) }
+{
+    let gone = gone_places(alloc, table, plan.label(), plan.step())?;
+    each_once(alloc, gone.as_slice())
+}
+
+/// The places that the label of a plan opens, where these go, each with the boxes around it; one that the label changes may
+/// be listed twice. It takes as long as they are many, times their depth. An `Err` comes for want of memory, and where the label's
 /// place isn't there, as it is for each plan that may be committed.
 pub(crate) fn opened_by(
     alloc: Global,
@@ -59,9 +72,26 @@ fn opened_with(
     Ok(places)
 }
 
-// The places that wait on a variable that the label binds; and where it binds one that is external to this box, all that
-// stand in the box and don't go.
+// The other places that the label opens, each once.
 fn opened_others(
+    alloc: Global,
+    table: &Table,
+    waits: &Waits,
+    plan: &Plan,
+    home: Name,
+    gone: &[Place],
+) -> Result<Vec<Place>, AllocError>
+    requires run { IsOfRun table.now }
+    requires there { is_there (table_of table.now) (Place.Box home) ≡ true }
+    ensures { IfOk result (λ others. AreOthersOnce table.now waits.now plan.now home gone.now others.items) }
+{
+    let others = all_others(alloc, table, waits, plan, home, gone)?;
+    each_once(alloc, others.as_slice())
+}
+
+// The places that wait on a variable that the label binds, as often as they do; and where it binds one that is external to
+// this box, all that stand in the box and don't go.
+fn all_others(
     alloc: Global,
     table: &Table,
     waits: &Waits,

@@ -3,13 +3,15 @@
 
 mod candidates;
 mod committing;
+mod counting;
 mod dropping;
 mod effects;
+mod once;
 mod opening;
 mod placing;
 mod scheduler;
 mod settling;
-mod urgent;
+mod turns;
 
 pub use committing::Committed;
 pub use scheduler::Scheduler;

@@ -2,24 +2,30 @@
 
 ghost use Rattle.std.specs.Prelude.{IfOk, IfErr, ◌≡◌};
 ghost use Rattle.scheduler.specs.Opening.{AreOpened, IsOpenedBy, closed_back};
+ghost use Rattle.scheduler.specs.Counting.{OpensBySteps, OpenSomeBySteps};
 
+use crate::counting::count;
+use akl_terms::Steps;
 use opened_places::Placed;
 use std::alloc::{AllocError, Global};
+use std::sync::ledger::Ledger;
 use wake_lists::{Open, Urgency};
 
-/// Opens these places: the tokens of those that weren't open, in order. An `Err`, for want of memory, leaves all as it
-/// was.
-pub(crate) fn open_all(
+/// Opens these places: the tokens of those that weren't open, in order. It counts a step for each of these, and for each
+/// box around it. An `Err`, for want of memory, leaves all as it was.
+pub(crate) fn open_all<L: Ledger>(
     alloc: Global,
     open_places: &mut Open,
     places: &[Placed],
+    steps: &mut Steps<L>,
 ) -> Result<Vec<u64>, AllocError>
     ensures opened { IfOk result (λ tokens. AreOpened open_places.old places.now open_places.new tokens.items) }
     ensures unchanged { IfErr result (λ _. open_places.new ≡ open_places.old) }
+    ensures steps { OpenSomeBySteps places.now steps.old steps.new }
 {
     let mut tokens = Vec::new(alloc);
     for placed in places {
-        if let Err(error) = open_one(open_places, placed, &mut tokens) {
+        if let Err(error) = open_one(open_places, placed, &mut tokens, steps) {
             close_all(open_places, tokens);
             return Err(error);
         }
@@ -28,18 +34,22 @@ pub(crate) fn open_all(
 }
 
 // Opens a place: its token comes to the end of the tokens, where it wasn't open. An `Err` leaves all as it was.
-fn open_one(
+fn open_one<L: Ledger>(
     open_places: &mut Open,
     placed: &Placed,
     tokens: &mut Vec<u64>,
+    steps: &mut Steps<L>,
 ) -> Result<(), AllocError>
     ensures opened { IfOk result (λ _. IsOpenedBy open_places.old tokens.old.items placed.now open_places.new tokens.new.items) }
     ensures unchanged { IfErr result (λ _. open_places.new ≡ open_places.old) }
     ensures tokens { IfErr result (λ _. tokens.new.items ≡ tokens.old.items) }
+    ensures steps { OpensBySteps open_places.old placed.now steps.old steps.new }
 {
     if open_places.token_of(placed.place()).is_some() {
         return Ok(());
     }
+    steps.tick();
+    count(placed.around().len(), steps);
     let token = open_places.open(placed.place(), placed.around(), Urgency::Ordinary)?;
     if tokens.push(token).is_err() {
         open_places.close(token);

@@ -1,17 +1,19 @@
 //! The state of a run with its open places.
 
-ghost use Rattle.std.specs.Prelude.{◌≡◌, [], length, option_map, IfOk, IfErr, IfNone, true};
+ghost use Rattle.std.specs.Prelude.{◌≡◌, ◌<◌, [], length, option_map, IfOk, IfErr, IfNone, true};
 ghost use Rattle.wake_lists.specs.Open.{IsFirst, IsPutLast, untimed, opening_at, closed, is_busy};
 ghost use Rattle.wake_lists.specs.declared.turn.Urgency.{Urgency};
 ghost use Rattle.scheduler.specs.Schedulers.{IsScheduler, AllOpen, IsQuiet, HasGone};
+ghost use Rattle.scheduler.specs.Opening.{AreOpened};
 ghost use Rattle.scheduler.specs.AllPlaces.{AreAllOpen, AreAllPlaced};
 
 use crate::opening::open_all;
 use crate::placing::push_those;
-use akl_terms::{Name, Place};
+use akl_terms::{Name, Place, Steps};
 use opened_places::Placed;
 use std::alloc::{AllocError, Global};
-use std::marker::Model;
+use std::marker::{Brand, Model};
+use std::sync::ledger::{Blank, Ledger};
 use step_commit::Core;
 use wake_lists::{Open, Urgency, Waits};
 
@@ -22,6 +24,8 @@ pub struct Scheduler {
     pub(crate) core: Core,
     pub(crate) open: Open,
     pub(crate) waits: Waits,
+    // The labels since late places came as ordinary ones.
+    pub(crate) labels: usize,
 }
 
 impl Model for Scheduler {
@@ -47,6 +51,7 @@ impl Scheduler {
             core,
             open,
             waits: Waits::new(alloc),
+            labels: 0,
         })
     }
 
@@ -73,6 +78,13 @@ impl Scheduler {
         self.open.place_of(token)
     }
 
+    /// How urgent the open place with this token is; `None` exactly where there is none.
+    pub fn urgency_of(&self, token: u64) -> Option<Urgency>
+        ensures { result ≡ option_map (λ o. o.turn.urgency) (opening_at token self.now.openings) }
+    {
+        self.open.urgency_of(token)
+    }
+
     /// Whether an open place stands in the box.
     pub fn is_busy(&self, name: Name) -> bool
         ensures { result ≡ is_busy name self.now.openings }
@@ -96,16 +108,16 @@ impl Scheduler {
         self.open.count()
     }
 
-    /// Puts the open place with this token behind all others that aren't urgent. An `Err`, for want of memory, leaves all
-    /// as it was.
+    /// Puts the open place with this token behind all others, as a late one, until a label opens it, or as many labels
+    /// were made as places are open. An `Err`, for want of memory, leaves all as it was.
     pub fn postpone(&mut self, token: u64) -> Result<(), AllocError>
-        ensures put { IfOk result (λ _. IsPutLast self.old.openings self.new.openings Urgency.Ordinary token) }
+        ensures put { IfOk result (λ _. IsPutLast self.old.openings self.new.openings Urgency.Late token) }
         ensures places { untimed self.new.openings ≡ untimed self.old.openings }
         ensures core { self.new.core ≡ self.old.core }
         ensures waits { self.new.waits ≡ self.old.waits }
         ensures unchanged { IfErr result (λ _. self.new ≡ self.old) }
     {
-        self.open.put_last(token, Urgency::Ordinary)
+        self.open.put_last(token, Urgency::Late)
     }
 
     /// Closes the open place with this token, which has gone.
@@ -129,9 +141,24 @@ fn open_places(alloc: Global, core: &Core) -> Result<Open, AllocError>
     ensures { IfOk result (AreAllOpen core.now) }
 {
     let places = placed_places(alloc, core)?;
-    let mut open = Open::new(alloc);
-    let _ = open_all(alloc, &mut open, places.as_slice())?;
-    Ok(open)
+    open_placed::<Brand>(alloc, places.as_slice(), Blank::new(1))
+}
+
+// These places, open, by a counter of its own.
+fn open_placed<L: Ledger>(
+    alloc: Global,
+    places: &[Placed],
+    blank: Blank,
+) -> Result<Open, AllocError>
+    requires name { blank.name ≡ L.name }
+    requires parts { blank.parts ≡ L.parts }
+    requires some { 0 < blank.parts }
+    ensures { IfOk result (λ open_places. (tokens : _) × AreOpened [] places.now open_places tokens) }
+{
+    let mut steps = Steps::<L>::new(blank);
+    let mut open_places = Open::new(alloc);
+    let _ = open_all(alloc, &mut open_places, places, &mut steps)?;
+    Ok(open_places)
 }
 
 // All places of a core, with the boxes around them.

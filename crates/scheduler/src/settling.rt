@@ -97,6 +97,6 @@ fn drop_candidate(waits: &mut Waits, nearest: Option<Name>, found: Option<u64>)
         return;
     };
     if found.is_some() {
-        waits.drop_place(Place::Box(name));
+        let _ = waits.drop_place(Place::Box(name));
     }
 }

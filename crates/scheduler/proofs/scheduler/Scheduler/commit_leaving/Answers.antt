@@ -1,16 +1,26 @@
-use Rattle.std.proofs.Common.{sym, subst}
+use Rattle.std.proofs.Common.{List, refl, subst}
+use Rattle.opened_places.specs.Placed.{PlacedValue, places_of}
 use Rattle.scheduler.specs.Schedulers.{SchedulerValue}
-use Rattle.scheduler.specs.Committed.{CommitsAndOpens}
-use Rattle.scheduler.proofs.Untimed.{untimed_scheduler, untimed_commits}
+use Rattle.scheduler.specs.Turns.{AreUrgent}
+use Rattle.scheduler.specs.Committed.{OpensAmong}
+use Rattle.scheduler.proofs.Untimed.{untimed_commits}
+use Rattle.scheduler.proofs.Hurrying.{failing_urgent, still_among}
+use Rattle.scheduler.proofs.WorkBound.{label_within}
 use Rattle.scheduler.proofs.scheduler.Scheduler.commit_leaving.Goals as goal
 
-pub invariant_of-self : goal.invariant_of-self
-invariant_of-self c =
-    untimed_scheduler (record { core = c.self-2.inside.core; openings = c.self-2.inside.open; waits = c.self-2.inside.waits }) c.self-2.invariant c.hurry_failing.new.open_places c.hurry_failing.ensures
+pub returns-in_err-places-clause-steps : goal.returns-in_err-places-clause-steps
+returns-in_err-places-clause-steps g c = label_within c.args.self.now c.args.plan c.args.steps.now
+
+pub returns-in_err-unsolved-clause-steps : goal.returns-in_err-unsolved-clause-steps
+returns-in_err-unsolved-clause-steps g c = label_within c.args.self.now c.args.plan c.args.steps.now
 
 pub returns-clause-committed : goal.returns-clause-committed
-returns-clause-committed c =
-    let d : SchedulerValue = record { core = c.self-2.inside.core; openings = c.self-2.inside.open; waits = c.self-2.inside.waits } in
-    untimed_commits c.args.self.now c.args.plan d c.in_ok-committed.committed
-    (subst (λ (x : SchedulerValue). CommitsAndOpens c.args.self.now c.args.plan x c.in_ok-committed.committed) (sym c.self-2.view_is) c.in_ok-committed.ensures.committed)
-    c.hurry_failing.new.open_places c.hurry_failing.ensures
+returns-clause-committed g c =
+    let d : SchedulerValue = c.commit_opening.new.self in
+    let e : SchedulerValue = c.set_turns.new.self in
+    let places : List PlacedValue = c.in_ok-places.places.items in
+    untimed_commits c.args.self.now c.args.plan d e c.in_ok-committed.committed _ c.in_ok-committed.ensures.committed c.set_turns.ensures.places c.set_turns.ensures.core c.set_turns.ensures.waits refl refl
+    (λ k. failing_urgent c.args.self.now e (places_of places)
+    (still_among c.args.self.now d e (places_of places) c.set_turns.ensures.core
+    (subst (λ (ps : List PlacedValue). OpensAmong c.args.self.now d (places_of ps)) c.as_slice.ensures.value c.in_ok-committed.ensures.opened))
+    (subst (λ (ps : List PlacedValue). AreUrgent e.core.table (places_of ps) e.openings) c.as_slice-2.ensures.value (c.set_turns.ensures.urgent k)))

@@ -1,0 +1,111 @@
+-- Places that become urgent.
+use Rattle.std.proofs.Common.{◌≡◌, ℕ, ◌+◌, ◌<◌, get_or, take, Bool, true, false, List, length, Option, Some, None, refl, sym, ap, subst, ◌∙◌, inl, inr}
+use Rattle.std.proofs.lemmas.List.{take_more}
+use Rattle.std.specs.Prelude.{cond, option_map}
+use Rattle.std.specs.Map.{lookup}
+use Rattle.std.specs.BTreeMap.{insert_entry}
+use Rattle.std.specs.Ordering.{nat_cmp}
+use Rattle.akl_terms.specs.declared.name.Name.{Name}
+use Rattle.akl_terms.specs.declared.name.Place.{Place}
+use Rattle.akl_terms.specs.Names.{same_name}
+use Rattle.akl_model.specs.Config.{Found, box_at}
+use Rattle.akl_model.specs.Conditions.{HasFailed}
+use Rattle.akl_model.proofs.Options.{some_value, map_some}
+use Rattle.table_laws.specs.Rows.{BoxRow}
+use Rattle.table_laws.specs.Unfolds.{FailsBy, IsBoxRow}
+use Rattle.table_laws.proofs.Frame.{row_of}
+use Rattle.box_tree.specs.Tables.{TableValue, table_of, box_row}
+use Rattle.box_tree.specs.Paths.{sight_in}
+use Rattle.box_tree.specs.declared.entries.BoxEntry.{BoxEntry}
+use Rattle.box_tree.specs.declared.view.Sight.{Sight}
+use Rattle.opened_places.specs.Placed.{PlacedValue, places_of}
+use Rattle.wake_lists.specs.declared.turn.Urgency.{Urgency}
+use Rattle.wake_lists.specs.declared.turn.Turn.{Turn}
+use Rattle.wake_lists.specs.Queue.{is_sooner}
+use Rattle.wake_lists.specs.Open.{Opening, Openings, opening_at, IsOpen, IsHurried, IsPutLast}
+use Rattle.wake_lists.proofs.Keys.{token_here}
+use Rattle.step_commit.specs.Cores.{CoreValue}
+use Rattle.scheduler.specs.Schedulers.{SchedulerValue, TableIn}
+use Rattle.scheduler.specs.Turns.{urgency_by, urgency_seen, IsUrgentAt, AreUrgent}
+use Rattle.scheduler.specs.Committed.{FailingAreUrgent, OpensAmong}
+use Rattle.scheduler.proofs.OpeningLists.{some_none, put_at}
+use Rattle.scheduler.proofs.OpenedMore.{place_either}
+use lib.Dec.{eqb}
+
+-- nothing is sooner than what is urgent
+none_sooner : (u : Urgency) → is_sooner u Urgency.Urgent ≡ true → ⊥
+none_sooner Urgency.Urgent e = cc
+none_sooner Urgency.Ordinary e = cc
+none_sooner Urgency.Late e = cc
+
+no_sooner : (u : Urgency) → is_sooner Urgency.Urgent u ≡ false → u ≡ Urgency.Urgent
+no_sooner Urgency.Urgent e = refl
+no_sooner Urgency.Ordinary e = cc
+no_sooner Urgency.Late e = cc
+
+module _ (before after : Openings) (urgency : Urgency) (t : ℕ) where
+  -- what is open under a token where one was put last
+  put_case : (p : Opening) (w : Turn) → after ≡ insert_entry nat_cmp before t (record p { turn = w }) → (s : ℕ) (o : Opening) → opening_at s after ≡ Some o → cond (eqb s t) (Some (record p { turn = w })) (opening_at s before) ≡ Some o
+  put_case p w e s o f = sym (put_at t (record p { turn = w }) before s) ∙ ap (opening_at s) (sym e) ∙ f
+
+  pub urgent_still : IsHurried before after urgency t → (q : Place) → IsUrgentAt before q → IsUrgentAt after q
+  urgent_still (IsHurried.stays k e) q u = subst (λ (os : Openings). IsUrgentAt os q) (sym e) u
+  urgent_still (IsHurried.hurries o f g (IsPutLast.none h e)) q u = absurd (some_none f h)
+  urgent_still (IsHurried.hurries o f g (IsPutLast.put p w h i l e)) q u = record { each = λ s x y z. on s x z (eqb s t) (put_case p w e s x y) }
+    where
+      on : (s : ℕ) (x : Opening) → x.place ≡ q → (b : Bool) → cond b (Some (record p { turn = w })) (opening_at s before) ≡ Some x → x.turn.urgency ≡ Urgency.Urgent
+      on s x z true y =
+          let was : p.place ≡ q = ap (λ (v : Opening). v.place) (some_value y) ∙ z in
+          let one : o ≡ p = some_value (sym f ∙ h) in
+          absurd (none_sooner urgency (ap (is_sooner urgency) (sym (ap (λ (v : Opening). v.turn.urgency) one ∙ u.each t p h was)) ∙ g))
+      on s x z false y = u.each s x y z
+
+  pub urgent_now : IsHurried before after urgency t → urgency ≡ Urgency.Urgent → (place : Place) → IsOpen before place (Some t) → IsUrgentAt after place
+  urgent_now (IsHurried.stays k e) a place known = record {
+    each = λ s o f z.
+        let was : opening_at s before ≡ Some o = ap (opening_at s) (sym e) ∙ f in
+        no_sooner o.turn.urgency (ap (λ (v : Urgency). is_sooner v o.turn.urgency) (sym a) ∙ k o (ap (λ (r : ℕ). opening_at r before) (some_value (known.there s o was z)) ∙ was));
+  }
+  urgent_now (IsHurried.hurries o f g (IsPutLast.none h e)) a place known = absurd (some_none f h)
+  urgent_now (IsHurried.hurries o f g (IsPutLast.put p w h i l e)) a place known = record { each = λ s x y z. on s x z (eqb s t) refl (put_case p w e s x y) }
+    where
+      on : (s : ℕ) (x : Opening) → x.place ≡ place → (b : Bool) → eqb s t ≡ b → cond b (Some (record p { turn = w })) (opening_at s before) ≡ Some x → x.turn.urgency ≡ Urgency.Urgent
+      on s x z true c y = sym (ap (λ (v : Opening). v.turn.urgency) (some_value y)) ∙ i ∙ a
+      on s x z false c y =
+          let same : t ≡ s = some_value (known.there s x y z) in
+          let here : eqb s t ≡ true = ap (eqb s) same ∙ token_here s in
+          cc
+
+-- a place that isn't open
+pub urgent_none : (os : Openings) (place : Place) → IsOpen os place None → IsUrgentAt os place
+urgent_none os place known = record { each = λ s o f z. absurd (some_none (known.there s o f z) refl) }
+
+-- one more place
+pub urgent_next : (v : TableValue) (ps : List PlacedValue) (i : ℕ) (d : PlacedValue) (q : Place) (mid new : Openings) → i < length ps → AreUrgent v (places_of (take i ps)) mid → q ≡ (get_or ps i d).place
+    → ((p : Place) → IsUrgentAt mid p → IsUrgentAt new p) → (urgency_seen (sight_in v q) ≡ Urgency.Urgent → IsUrgentAt new q) → AreUrgent v (places_of (take (i + 1) ps)) new
+urgent_next v ps i d q mid new h r e still now = subst (λ (l : List PlacedValue). AreUrgent v (places_of l) new) (sym (take_more ps i d h)) (record {
+  each = λ place j f. elim (place_either place (take i ps) (get_or ps i d) j) [
+    | inl k ↦ still place (r.each place k f)
+    | inr k ↦ subst (IsUrgentAt new) (e ∙ sym k) (now (ap (λ (p : Place). urgency_seen (sight_in v p)) (e ∙ sym k) ∙ f))
+  ];
+})
+
+-- a box that fails is seen so
+module _ (s d : SchedulerValue) (places : List Place) (among : OpensAmong s d places) (urgent : AreUrgent d.core.table places d.openings) where
+  seen_failing : (u : TableIn d.core) (n : Name) (f : Found) → box_at n u.config.roots ≡ Some f → HasFailed f.goals → urgency_seen (sight_in d.core.table (Place.Box n)) ≡ Urgency.Urgent
+  seen_failing u n f e h =
+      let w : (r : BoxRow) × ((table_of d.core.table).box_of n ≡ Some r) × IsBoxRow (table_of d.core.table) u.config.roots f r = row_of (table_of d.core.table) u.config u.unfolds n f e in
+      let x : (b : BoxEntry) × (lookup (same_name n) d.core.table.boxes ≡ Some b) × (box_row d.core.table.program.templates.nodes b ≡ w.0) =
+      map_some (box_row d.core.table.program.templates.nodes) (lookup (same_name n) d.core.table.boxes) w.0 w.1 in
+      ap (λ (o : Option BoxEntry). urgency_seen (option_map (λ (b : BoxEntry). (n, Sight.Box b.failing)) o)) x.1 ∙ on x.0.failing (subst (λ (r : BoxRow). FailsBy f.goals r.failing) (sym x.2) w.2.failing)
+    where
+      on : (o : Option Name) → FailsBy f.goals o → urgency_by (Sight.Box o) ≡ Urgency.Urgent
+      on None k = absurd (k h)
+      on (Some g) k = refl
+
+  pub failing_urgent : FailingAreUrgent s d
+  failing_urgent = record { urgent = λ t u kept n f l o e h. urgent.each (Place.Box n) (among.listed t u kept (Place.Box n) l o) (seen_failing u n f e h) }
+
+-- what is open among these places doesn't depend on when it comes
+pub still_among : (s d e : SchedulerValue) (places : List Place) → e.core ≡ d.core → OpensAmong s d places → OpensAmong s e places
+still_among s d e places x o = subst (λ (k : CoreValue). OpensAmong s (record e { core = k }) places) (sym x) (record { listed = o.listed })
