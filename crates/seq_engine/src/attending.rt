@@ -11,6 +11,7 @@ use rule_plan::plan;
 use scheduler::Scheduler;
 use std::alloc::{AllocError, Global};
 use step_commit::CommitError;
+use wake_lists::Urgency;
 
 /// What came of an open place that was looked at.
 #[derive(Drop)]
@@ -40,7 +41,30 @@ fn is_busy(scheduler: &Scheduler, place: Place) -> bool {
     }
 }
 
-// Plans a rule other than Split at an open place. Where none applies, the place comes after the others.
+// Whether an open place is late.
+fn is_late(scheduler: &Scheduler, token: u64) -> bool {
+    matches!(scheduler.urgency_of(token), Some(Urgency::Late))
+}
+
+// Plans a rule other than Split at a place.
+fn plan_other(
+    alloc: Global,
+    program: &Program,
+    scheduler: &Scheduler,
+    place: Place,
+) -> Result<Option<Plan>, AllocError>
+    requires { program.now ≡ scheduler.now.core.table.program }
+    ensures { IfOk result (HasTried scheduler.now scheduler.now) }
+{
+    match scheduler.core().look(alloc, place, 1) {
+        Ok(view) => plan(alloc, program, &view),
+        Err(LookError::Gone) => Ok(None),
+        Err(LookError::Memory(error)) => Err(error),
+    }
+}
+
+// Plans a rule other than Split at an open place. Where none applies, the place is late; one that is late already isn't
+// tried again, until it comes as an ordinary one.
 fn try_busy(
     alloc: Global,
     program: &Program,
@@ -51,14 +75,10 @@ fn try_busy(
     requires { program.now ≡ scheduler.old.core.table.program }
     ensures { IfOk result (HasTried scheduler.old scheduler.new) }
 {
-    match scheduler.core().look(alloc, place, 1) {
-        Ok(view) => {
-            if let Some(found) = plan(alloc, program, &view)? {
-                return Ok(Some(found));
-            }
+    if !is_late(scheduler, token) {
+        if let Some(found) = plan_other(alloc, program, scheduler, place)? {
+            return Ok(Some(found));
         }
-        Err(LookError::Gone) => {}
-        Err(LookError::Memory(error)) => return Err(error),
     }
     scheduler.postpone(token)?;
     Ok(None)
@@ -118,7 +138,7 @@ fn attend_first(
 }
 
 /// Attends to the first open place that isn't a box in which another place is open. Each such box before it is tried by the
-/// rules other than Split, so that one that fails goes at once, and comes after the others.
+/// rules other than Split, so that one that fails goes at once, and is late from then on.
 fn attend_next(
     alloc: Global,
     program: &Program,

@@ -32,7 +32,7 @@ fn commit(
     requires { IsPlanNow scheduler.old.core plan }
     ensures { IfOk result (HasStepped scheduler.old.core receipts.old.items scheduler.new.core receipts.new.items) }
 {
-    match scheduler.commit(alloc, plan) {
+    match scheduler.commit_uncounted(alloc, plan) {
         Ok(committed) => {
             receipts.push(committed.receipt)?;
             Ok(Stepped::Committed)
