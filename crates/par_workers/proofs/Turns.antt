@@ -50,6 +50,10 @@ pub program_seen : (s : SharedValue) (number : ℕ) (v : ViewValue) (p : Program
 program_seen s number v p taken is = is ∙ sym (ap (λ (t : TableValue). t.program) taken.table ∙ taken.fixed.program)
 
 pub some_found_before : (number : ℕ) (v : View CoreValue Made) (s : SharedValue) (o : Option Planned) → s.begun ≡ v.fixed → v.number ≡ number → GoesOnWithout maker v.number v.seen s.past
-    → IfSome o (λ p. IsFoundIn (run_seen v) number p.next) → IfSome o (λ p. IsFoundBefore s number p.next)
+    → IfSome o (λ p. IfSome p.next (IsFoundIn (run_seen v) number)) → IfSome o (λ p. IfSome p.next (IsFoundBefore s number))
 some_found_before number v s None begun is goes found = tt
-some_found_before number v s (Some p) begun is goes found = found_before number v s p.next begun is goes found
+some_found_before number v s (Some p) begun is goes found = of_next p.next found
+  where
+    of_next : (o : Option Next) → IfSome o (IsFoundIn (run_seen v) number) → IfSome o (IsFoundBefore s number)
+    of_next None found = tt
+    of_next (Some n) found = found_before number v s n begun is goes found

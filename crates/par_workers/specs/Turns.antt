@@ -1,16 +1,18 @@
 -- What a worker knows in its turns and between them.
-use Rattle.std.specs.Prelude.{◌≡◌, ℕ, ◌≤◌, List}
+use Rattle.std.specs.Prelude.{◌≡◌, ℕ, ◌≤◌, false, List, Option, Some, None}
 use Rattle.turn_lock.specs.Histories.{GoesOnBy, GoesOnWithout}
 use Rattle.turn_lock.specs.declared.view.View.{View}
 use Rattle.akl_model.specs.declared.label.Receipt.{Receipt}
-use Rattle.box_tree.specs.Views.{ViewValue}
+use Rattle.akl_terms.specs.declared.name.Place.{Place}
+use Rattle.box_tree.specs.Tables.{table_of}
+use Rattle.box_tree.specs.Views.{ViewValue, is_there}
 use Rattle.step_commit.specs.Cores.{CoreValue, KeepsFixed}
 use Rattle.place_steps.specs.declared.next.Next.{Next}
-use Rattle.place_steps.specs.declared.seen.Seen.{Seen}
-use Rattle.place_steps.specs.Seen.{IsSeen, view_in}
+use Rattle.place_steps.specs.Seen.{IsSeen, IsSight, view_in}
 use Rattle.place_steps.specs.Next.{IsNext}
 use Rattle.par_workers.specs.declared.shared.Made.{Made}
 use Rattle.par_workers.specs.declared.choosing.Chosen.{Chosen}
+use Rattle.par_workers.specs.declared.choosing.Sight.{Sight}
 use Rattle.par_workers.specs.Shared.{SharedValue, maker, labels_in, core_after, AreReceiptsOf}
 
 -- the run as a pass has seen it
@@ -24,12 +26,25 @@ pub record IsTakenOf (s : SharedValue) (worker : ℕ) (v : ViewValue) : Type 0 w
   pub seer : v.worker ≡ worker
   pub fixed : KeepsFixed s.begun (core_after s.begun s.past)
 
--- a worker looked at a place of the run
-abbrev pub IsSeenIn : SharedValue → ℕ → Seen → Type 0
-IsSeenIn s worker seen = IsSeen seen × IsTakenOf s worker (view_in seen)
+abbrev pub view_of : Sight → ViewValue
+view_of (Sight.Whole seen) = view_in seen
+view_of (Sight.Busy view) = view
+
+abbrev pub HasSeen : Sight → Type 0
+HasSeen (Sight.Whole seen) = IsSeen seen
+HasSeen (Sight.Busy view) = Unit {0}
+
+-- a worker saw a place, or the place isn't there
+abbrev pub IsSightBy : CoreValue → Place → ℕ → Option Sight → Type 0
+IsSightBy c place worker None = is_there (table_of c.table) place ≡ false
+IsSightBy c place worker (Some s) = HasSeen s × IsSight c place worker (view_of s)
+
+-- a worker saw a place of the run
+abbrev pub IsSeenIn : SharedValue → ℕ → Sight → Type 0
+IsSeenIn s worker sight = HasSeen sight × IsTakenOf s worker (view_of sight)
 
 abbrev pub IsChosenIn : SharedValue → ℕ → Chosen → Type 0
-IsChosenIn s worker (Chosen.At look) = IsSeenIn s worker look.seen
+IsChosenIn s worker (Chosen.At look) = IsSeenIn s worker look.sight
 IsChosenIn s worker Chosen.Wait = Unit {0}
 IsChosenIn s worker Chosen.End = Unit {0}
 

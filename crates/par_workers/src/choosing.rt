@@ -1,18 +1,31 @@
 //! The place that a worker plans next.
 
 ghost use Rattle.std.specs.Prelude.{◌≡◌, IfOk, IfSome};
-ghost use Rattle.par_workers.specs.Turns.{IsSeenIn, IsChosenIn};
+ghost use Rattle.par_workers.specs.Turns.{IsSightBy, IsSeenIn, IsChosenIn};
 
 use crate::shared::SharedRun;
+use akl_terms::Place;
+use box_tree::{LookError, View};
 use place_steps::{Seen, see};
 use std::alloc::{AllocError, Global};
 use std::collections::VecDeque;
+use step_commit::Core;
+use wake_lists::Urgency;
+
+/// What a worker saw of a place.
+#[derive(Drop)]
+pub enum Sight {
+    /// Enough to tell what comes next there.
+    Whole(Seen),
+    /// A box in which another place is open, without what stands inside it.
+    Busy(View),
+}
 
 /// What a worker saw of a place, and the token that led it there, where this is its own.
 #[derive(Drop)]
 pub struct Look {
     pub token: Option<u64>,
-    pub seen: Seen,
+    pub sight: Sight,
 }
 
 /// What a worker does next.
@@ -27,14 +40,15 @@ pub enum Chosen {
 }
 
 impl SharedRun {
-    /// Looks at the place of the first of a worker's tokens whose place is there. Without one the worker waits, or, where it
-    /// `seeks`, looks at the first open place. Want of memory stops all workers.
+    /// Looks at the place of the first of a worker's tokens whose place is there, and isn't a busy box that is late. Without
+    /// one the worker waits, or, where it `has_waited`, looks at the first open place. Only such a worker looks at a late box,
+    /// and inside of a busy one. Want of memory stops all workers.
     pub(crate) fn choose(
         &mut self,
         alloc: Global,
         worker: u32,
         tokens: &mut VecDeque<u64>,
-        seeks: bool,
+        has_waited: bool,
     ) -> Chosen
         ensures same { self.new ≡ self.old }
         ensures chosen { IsChosenIn self.old worker result }
@@ -42,7 +56,7 @@ impl SharedRun {
         if self.stops {
             return Chosen::End;
         }
-        match self.try_choose(alloc, worker, tokens, seeks) {
+        match self.try_choose(alloc, worker, tokens, has_waited) {
             Ok(chosen) => chosen,
             Err(_) => {
                 self.stops = true;
@@ -57,42 +71,48 @@ impl SharedRun {
         alloc: Global,
         worker: u32,
         tokens: &mut VecDeque<u64>,
-        seeks: bool,
+        has_waited: bool,
     ) -> Result<Chosen, AllocError>
         ensures same { self.new ≡ self.old }
         ensures chosen { IfOk result (IsChosenIn self.old worker) }
     {
-        if let Some(look) = self.look_through(alloc, worker, tokens)? {
+        if let Some(look) = self.look_through(alloc, worker, tokens, has_waited)? {
             return Ok(Chosen::At(look));
         }
         let Some(token) = self.scheduler.first_open() else {
             return Ok(Chosen::End);
         };
-        if seeks {
+        if has_waited {
             self.seek(alloc, worker, token)
         } else {
             Ok(Chosen::Wait)
         }
     }
 
-    // Looks at the place of the first token whose place is there. Those before it go.
+    // Looks at the place of the first token whose place is there, and isn't put off. Of those before it those go whose place
+    // isn't there.
     fn look_through(
         &mut self,
         alloc: Global,
         worker: u32,
         tokens: &mut VecDeque<u64>,
+        has_waited: bool,
     ) -> Result<Option<Look>, AllocError>
         ensures same { self.new ≡ self.old }
-        ensures look { IfOk result (λ found. IfSome found (λ look. IsSeenIn self.old worker look.seen)) }
+        ensures look { IfOk result (λ found. IfSome found (λ look. IsSeenIn self.old worker look.sight)) }
     {
         for _ in 0..tokens.len() {
             let Some(token) = tokens.pop_front() else {
                 break;
             };
-            if let Some(seen) = self.see_at(alloc, worker, token)? {
+            if !has_waited && self.is_put_off(token) {
+                tokens.push_back(token)?;
+                continue;
+            }
+            if let Some(sight) = self.see_at(alloc, worker, token, has_waited)? {
                 return Ok(Some(Look {
                     token: Some(token),
-                    seen,
+                    sight,
                 }));
             }
             self.held.remove(&token);
@@ -106,27 +126,85 @@ impl SharedRun {
         ensures chosen { IfOk result (IsChosenIn self.old worker) }
     {
         let is_new = self.held.insert(token)?;
-        match self.see_at(alloc, worker, token)? {
-            Some(seen) => Ok(Chosen::At(Look {
+        match self.see_at(alloc, worker, token, true)? {
+            Some(sight) => Ok(Chosen::At(Look {
                 token: if is_new { Some(token) } else { None },
-                seen,
+                sight,
             })),
             None => Ok(Chosen::Wait),
         }
     }
 
     // Looks at the open place with this token, if there is one. Where it has gone, it is closed.
-    fn see_at(&mut self, alloc: Global, worker: u32, token: u64) -> Result<Option<Seen>, AllocError>
+    fn see_at(
+        &mut self,
+        alloc: Global,
+        worker: u32,
+        token: u64,
+        inside: bool,
+    ) -> Result<Option<Sight>, AllocError>
         ensures same { self.new ≡ self.old }
-        ensures seen { IfOk result (λ found. IfSome found (IsSeenIn self.old worker)) }
+        ensures sight { IfOk result (λ found. IfSome found (IsSeenIn self.old worker)) }
     {
         let Some(place) = self.scheduler.place_of(token) else {
             return Ok(None);
         };
-        let found = see(alloc, self.scheduler.core(), place, worker)?;
+        let found = if inside || !self.is_busy(place) {
+            see_whole(alloc, self.scheduler.core(), place, worker)?
+        } else {
+            see_busy(alloc, self.scheduler.core(), place, worker)?
+        };
         if found.is_none() {
             self.scheduler.forget(token);
         }
         Ok(found)
+    }
+
+    // Whether an open place is late, and a box in which another place is open.
+    fn is_put_off(&self, token: u64) -> bool {
+        let is_late = matches!(self.scheduler.urgency_of(token), Some(Urgency::Late));
+        match self.scheduler.place_of(token) {
+            Some(place) => is_late && self.is_busy(place),
+            None => false,
+        }
+    }
+
+    // Whether a place is a box in which another place is open.
+    fn is_busy(&self, place: Place) -> bool {
+        match place {
+            Place::Box(name) => self.scheduler.is_busy(name),
+            Place::Goal(_) => false,
+        }
+    }
+}
+
+// What a worker sees of a place; `None` exactly where the place isn't there.
+fn see_whole(
+    alloc: Global,
+    core: &Core,
+    place: Place,
+    worker: u32,
+) -> Result<Option<Sight>, AllocError>
+    ensures { IfOk result (IsSightBy core.now place worker) }
+{
+    match see(alloc, core, place, worker)? {
+        Some(seen) => Ok(Some(Sight::Whole(seen))),
+        None => Ok(None),
+    }
+}
+
+// The same without what stands inside a box.
+fn see_busy(
+    alloc: Global,
+    core: &Core,
+    place: Place,
+    worker: u32,
+) -> Result<Option<Sight>, AllocError>
+    ensures { IfOk result (IsSightBy core.now place worker) }
+{
+    match core.look(alloc, place, worker) {
+        Ok(view) => Ok(Some(Sight::Busy(view))),
+        Err(LookError::Gone) => Ok(None),
+        Err(LookError::Memory(error)) => Err(error),
     }
 }

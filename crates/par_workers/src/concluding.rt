@@ -16,11 +16,11 @@ use std::alloc::Global;
 use std::collections::VecDeque;
 use step_commit::CommitError;
 
-/// What comes next at a place, and the token that led there, where this is the worker's own.
+/// What comes next at a place, where this is known, and the token that led there, where this is the worker's own.
 #[derive(Drop)]
 pub struct Planned {
     pub token: Option<u64>,
-    pub next: Next,
+    pub next: Option<Next>,
 }
 
 impl SharedRun {
@@ -36,7 +36,7 @@ impl SharedRun {
         tokens: &mut VecDeque<u64>,
     )
         requires worker { (1 ≤ worker) × (worker ≤ self.old.begun.workers) }
-        requires planned { IfSome planned (λ p. IsFoundBefore self.old worker p.next) }
+        requires planned { IfSome planned (λ p. IfSome p.next (IsFoundBefore self.old worker)) }
         requires room { vec_len receipts.old < vec_capacity receipts.old }
         ensures { HasConcluded worker self.old receipts.old.items self.new receipts.new.items }
     {
@@ -44,8 +44,9 @@ impl SharedRun {
             return;
         };
         match next {
-            Next::Plan(plan) => self.commit(alloc, worker, plan, receipts, tokens),
-            Next::Idle(idle) => self.settle(alloc, worker, idle, tokens),
+            Some(Next::Plan(plan)) => self.commit(alloc, worker, plan, receipts, tokens),
+            Some(Next::Idle(idle)) => self.settle(alloc, worker, idle, tokens),
+            None => self.put_off(token),
         }
         self.take_back(token, tokens);
     }
@@ -68,8 +69,14 @@ impl SharedRun {
             self.stops = true;
             return;
         }
-        match self.scheduler.commit(alloc, plan) {
-            Ok(Committed { receipt, opened }) => {
+        match self.scheduler.commit_uncounted(alloc, plan) {
+            Ok(
+                Committed {
+                    receipt,
+                    opened,
+                    hurried: _,
+                },
+            ) => {
                 let made = Made::of(&receipt.label, self.scheduler.core().table());
                 self.past.push_reserved(made);
                 receipts.push_reserved(receipt);
@@ -113,6 +120,17 @@ impl SharedRun {
                 }
                 Ok(false) => {}
                 Err(_) => self.stops = true,
+            }
+        }
+    }
+
+    // A busy box in which no rule was found is late.
+    fn put_off(&mut self, token: Option<u64>)
+        ensures { self.new ≡ self.old }
+    {
+        if let Some(own) = token {
+            if self.scheduler.postpone(own).is_err() {
+                self.stops = true;
             }
         }
     }

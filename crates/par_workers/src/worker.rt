@@ -3,18 +3,19 @@
 ghost use Rattle.std.specs.Prelude.{◌≡◌, IfOk, IfSome};
 ghost use Rattle.turn_lock.specs.Passes.{view, IsPassOf, HasNoTurn};
 ghost use Rattle.place_steps.specs.Next.{IsNext};
-ghost use Rattle.place_steps.specs.Seen.{IsSeen, view_in};
 ghost use Rattle.par_workers.specs.Shared.{AreReceiptsOf};
-ghost use Rattle.par_workers.specs.Turns.{run_seen, IsNumber, IsChosenIn, IsFoundIn};
+ghost use Rattle.par_workers.specs.Turns.{run_seen, IsNumber, IsChosenIn, IsFoundIn, HasSeen, view_of};
 
-use crate::choosing::{Chosen, Look};
+use crate::choosing::{Chosen, Look, Sight};
 use crate::concluding::Planned;
 use crate::shared::SharedRun;
 use akl_model::Receipt;
 use akl_outside::Gate;
 use akl_terms::Program;
+use box_tree::View;
 use crossbeam_utils::Backoff;
-use place_steps::next_of;
+use place_steps::{Next, next_of};
+use rule_plan::plan;
 use std::alloc::{AllocError, Global};
 use std::collections::VecDeque;
 use std::sync::Wait;
@@ -39,8 +40,9 @@ pub struct Worker {
 impl Worker {
     /// Takes turns, and plans between them, until no place is open or all workers are to stop.
     ///
-    /// A worker that has nothing to conclude and finds no token waits outside of the lock, and only once it has waited long
-    /// enough it seeks an open place itself: another worker may be planning there.
+    /// A worker that has nothing to conclude and finds no token waits outside of the lock. Only once it has waited long enough
+    /// it seeks an open place itself, since another worker may be planning there; and it then looks inside of a box in which
+    /// another place is open, in which it would else plan no split.
     pub(crate) fn work<R: Wait, G: Gate>(
         &mut self,
         rt: &R,
@@ -58,21 +60,24 @@ impl Worker {
         let mut planned = None;
         for _ in rt.forever() {
             let has_token = self.draw(rt);
-            let seeks = planned.is_none() && !has_token;
-            if seeks && !backoff.is_completed() {
+            let has_waited = backoff.is_completed();
+            if planned.is_none() && !has_token && !has_waited {
                 backoff.snooze();
                 continue;
             }
-            match self.turn(rt, alloc, lock, planned, seeks) {
+            match self.turn(rt, alloc, lock, planned, has_waited) {
                 Chosen::End => return,
-                Chosen::Wait => planned = None,
+                Chosen::Wait => {
+                    backoff.snooze();
+                    planned = None;
+                }
                 Chosen::At(look) => {
-                    backoff.reset();
                     gate.before_plan(self.number);
                     let Ok(found) = plan_at(alloc, program, look) else {
                         self.stop(rt, lock);
                         return;
                     };
+                    pace(&backoff, &found);
                     planned = Some(found);
                 }
             }
@@ -87,10 +92,10 @@ impl Worker {
         alloc: Global,
         lock: &TurnLock<SharedRun>,
         planned: Option<Planned>,
-        seeks: bool,
+        has_waited: bool,
     ) -> Chosen
         requires lock { IsPassOf lock.now self.old.pass }
-        requires planned { IfSome planned (λ p. IsFoundIn (run_seen (view self.old.pass)) self.old.number p.next) }
+        requires planned { IfSome planned (λ p. IfSome p.next (IsFoundIn (run_seen (view self.old.pass)) self.old.number)) }
         ensures lock { IsPassOf lock.now self.new.pass }
         ensures number { self.new.number ≡ self.old.number }
         ensures chosen { IsChosenIn (run_seen (view self.new.pass)) self.new.number result }
@@ -102,7 +107,7 @@ impl Worker {
         let (turn, mut run) = lock.lock(rt, &mut self.pass);
         let worker = self.number;
         run.conclude(alloc, worker, planned, &mut self.receipts, &mut self.tokens);
-        let chosen = run.choose(alloc, worker, &mut self.tokens, seeks);
+        let chosen = run.choose(alloc, worker, &mut self.tokens, has_waited);
         lock.unlock(turn, run, &mut self.pass);
         self.lay_down();
         chosen
@@ -144,15 +149,38 @@ impl Worker {
     }
 }
 
-// What comes next at a place that a worker looked at.
+// A worker that found nothing to conclude has waited for a while.
+fn pace(backoff: &Backoff, planned: &Planned) {
+    if planned.next.is_some() {
+        backoff.reset();
+    } else {
+        backoff.snooze();
+    }
+}
+
+// What comes next at a place that a worker looked at; at a busy box only where a rule other than Split applies.
 fn plan_at(alloc: Global, program: &Program, look: Look) -> Result<Planned, AllocError>
-    requires seen { IsSeen look.seen }
-    requires program { program.now ≡ (view_in look.seen).table.program }
-    ensures { IfOk result (λ planned. IsNext (view_in look.seen) planned.next) }
+    requires seen { HasSeen look.sight }
+    requires program { program.now ≡ (view_of look.sight).table.program }
+    ensures { IfOk result (λ planned. IfSome planned.next (IsNext (view_of look.sight))) }
 {
-    let next = next_of(alloc, program, &look.seen)?;
+    let next = match &look.sight {
+        Sight::Whole(seen) => Some(next_of(alloc, program, seen)?),
+        Sight::Busy(view) => plan_busy(alloc, program, view)?,
+    };
     Ok(Planned {
         token: look.token,
         next,
     })
+}
+
+// A right plan of a rule other than Split, if one applies.
+fn plan_busy(alloc: Global, program: &Program, view: &View) -> Result<Option<Next>, AllocError>
+    requires { program.now ≡ view.now.table.program }
+    ensures { IfOk result (λ next. IfSome next (IsNext view.now)) }
+{
+    match plan(alloc, program, view)? {
+        Some(found) => Ok(Some(Next::Plan(found))),
+        None => Ok(None),
+    }
 }
