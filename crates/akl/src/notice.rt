@@ -5,24 +5,25 @@ ghost use Rattle.akl.specs.Notices.{notice_of};
 
 /// What a lone `--help` prints.
 pub const HELP: &str = "\
-Usage: ./akl --query TEXT [--budget N] < FILE
+Usage: ./akl --query TEXT [--workers N] [--budget N] [--trace] < FILE
+       ./akl --generate N [--workers N] [--budget N] [--trace]
 
 Runs the query TEXT over the program in FILE, and prints the answers and the outcome. The program is
-read from standard input, to its end: without `< FILE` akl waits for it there.
+read from standard input, to its end: without `< FILE` akl waits for it there. With --generate both
+are made from a number, and standard input isn't read.
 
 Options:
   --query TEXT  the query; one that begins with `-` is written --query=TEXT
+  --generate N  makes a program and a query from N: 0 to 4294967295
+  --workers N   how many workers run it: 1 to 16, and 1 where none is given
   --budget N    how many steps the run may make: 1 to 4000000, and 100000 where none is given
+  --trace       prints a line for each step before the answers
   --help        as the only word: prints this text
   --version     as the only word: prints the version
 
 Examples:
   ./akl --query 'X = f(Y), Y = a' < /dev/null
-  echo 'p(a). p(b).' | ./akl --query 'p(c)'
-
-So far calls become choices of their clauses, equations are told, and boxes fail. Nothing chooses
-among clauses yet, so a query with a call that doesn't fail is suspended. Choices in brackets,
-arithmetic, `open_port` and `send` aren't built yet, nor are --generate, --trace and more workers.
+  echo 'p(a). p(b).' | ./akl --query 'p(X)' --workers 4
 
 Exit status:
    0  done: each root box is an answer
@@ -35,8 +36,7 @@ Exit status:
    7  standard input failed, or would block
    8  standard output failed, or would block
    9  out of memory
-  10  this part isn't built yet
-With 4 to 10 a line on standard error says why.
+With 4 to 9 a line on standard error says why.
 ";
 
 /// What a lone `--version` prints.

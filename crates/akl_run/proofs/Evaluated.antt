@@ -15,7 +15,6 @@ use Rattle.clause_store.specs.Loaded.{IsQueryOf}
 use Rattle.akl_lift.specs.Lifting.{query_without, made_of_query}
 use Rattle.box_tree.specs.Tables.{all_rules, HasShownVariables, AreBelow}
 use Rattle.step_commit.specs.Cores.{CoreValue, IsCore}
-use Rattle.step_commit.specs.Receipts.{AreReceipts, AreBy}
 use Rattle.seq_engine.specs.declared.run.End.{End}
 use Rattle.seq_engine.specs.Runs.{EndsAs}
 use Rattle.root_answers.specs.Roots.{TableIn}
@@ -33,7 +32,7 @@ use Rattle.akl_run.specs.Evaluations.{HasEnded, IsEvaluated}
 use Rattle.akl_run.specs.Outputs.{Outlet, HasAppended, IsCause, HasBrokenOff, PartsOf, ShortOf}
 use Rattle.akl_run.specs.Written.{AreAllTexts, AreFirstTexts, HasWrittenAnswers, ArePartsOfAnswers, IsRunIn, HasWritten, BreaksOff}
 use Rattle.akl_run.specs.Steps.{EndsWriting, whole, fault, memory, status_by_writing}
-use Rattle.akl_run.specs.Reports.{IsStatusOf, IsRunBy}
+use Rattle.akl_run.specs.Reports.{IsStatusOf, AreOfWorkers, IsRunBy}
 use Rattle.akl_run.proofs.ShownTerms.{shown-below}
 use Rattle.akl_run.proofs.Appended.{appended_both, cause_later}
 use Rattle.akl_run.proofs.AllAnswers.{found_none, found_first}
@@ -192,17 +191,15 @@ some_line (Ending.Suspended left) = omega arith
 some_line Ending.Budget = omega arith
 
 -- ---- a run of a loaded query
-module _ (l : Loaded) (budget : ℕ) (trace : Bool) (e : Evaluated) (i : IsEvaluated l budget trace e) where
+module _ (l : Loaded) (workers budget : ℕ) (trace : Bool) (e : Evaluated) (i : IsEvaluated l workers budget trace e) where
   pub run_by : (answers : List Content) (outcome : Outcome) (journal : List Label) (receipts : List (List Receipt)) → IsRunIn e answers outcome → journal ≡ e.core.journal → receipts ≡ map (λ rs. rs.items) e.receipts.items
-      → IsRunBy l budget answers outcome journal receipts
+      → IsRunBy l workers budget answers outcome journal receipts
   run_by answers outcome journal receipts run j r = record {
     run = subst (λ (ls : List Label). IsRun l.program l.query budget ls answers outcome) (sym j)
         (subst (λ (b : ℕ). IsRun l.program l.query b e.core.journal answers outcome) i.same_budget
         (subst (λ (q : Query). IsRun l.program q e.core.budget e.core.journal answers outcome) i.query
         (subst (λ (p : Program). IsRun p e.core.table.query e.core.budget e.core.journal answers outcome) i.program run)));
-    one_worker = subst (AreBy 1) (sym j) i.ended.kept.by_one;
-    one_list = ap length (r ∙ i.ended.one_list);
-    are_receipts = subst (AreReceipts 1 journal) (sym (r ∙ i.ended.one_list)) (subst (λ (ls : List Label). AreReceipts 1 ls (i.ended.receipts ∷ [])) (sym j) i.ended.kept.receipts);
+    of_workers = subst (λ (ls : List Label). AreOfWorkers workers ls receipts) (sym j) (subst (AreOfWorkers workers e.core.journal) (sym r) i.of_workers);
   }
 
   -- what holds of the symbols, the trace and the journal of the run holds of those of the query

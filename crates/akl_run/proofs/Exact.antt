@@ -1,5 +1,5 @@
 -- A text that is refused is refused in one way, and a command ends so.
-use Rattle.std.proofs.Common.{◌≡◌, ◌<◌, ◌≤◌, ℕ, zero, suc, List, [], ◌++◌, length, map, Option, Some, None, Result, Ok, Err, Bool, true, false, refl, sym, ap, subst, ◌∙◌, ◌⊎◌, inl, inr, arith}
+use Rattle.std.proofs.Common.{◌≡◌, ◌<◌, ◌≤◌, ℕ, zero, suc, List, [], ◌++◌, length, map, Option, Some, None, Result, Ok, Err, refl, sym, ap, subst, ◌∙◌, ◌⊎◌, inl, inr, arith}
 use Rattle.std.specs.Prelude.{take}
 use Rattle.std.proofs.lemmas.List.{take_at, take_all}
 use Rattle.akl_terms.specs.declared.program.Program.{Program}
@@ -18,7 +18,7 @@ use Rattle.akl_run.specs.declared.report.Refusal.{Refusal}
 use Rattle.akl_run.specs.declared.loaded.Loaded.{Loaded}
 use Rattle.akl_args.specs.declared.options.Options.{Options}
 use Rattle.akl_args.specs.declared.options.WordsError.{WordsError}
-use Rattle.akl_run.specs.Words.{is_built, query_of, program_of}
+use Rattle.akl_run.specs.Words.{query_of, program_of}
 use Rattle.akl_run.specs.declared.evaluate.Evaluated.{Evaluated}
 use Rattle.akl_run.specs.declared.stop.Stop.{Stop}
 use Rattle.akl_run.specs.Steps.{IsStopped, IsWritten, EndsWriting}
@@ -68,9 +68,6 @@ accepted_same p = cc
 
 not_both : {A : Type 0} {x : A} {e : SyntaxError} → accepted x ≡ refused e → ⊥
 not_both p = absurd cc
-
-true_false : {b : Bool} → b ≡ true → b ≡ false → ⊥
-true_false p q = let r : true ≡ false = sym p ∙ q in cc
 
 none_some : {X : Type 0} {o : Option X} {x : X} → o ≡ None → o ≡ Some x → ⊥
 none_some p q = let r : None ≡ Some _ = sym p ∙ q in cc
@@ -153,20 +150,14 @@ same_words_stop : {words : List (List ℕ)} {s t : Status} {f g : Refusal} → c
 same_words_stop commands.no_memory q n = absurd (n tt)
 same_words_stop p commands.no_memory n = inl tt
 same_words_stop (commands.refused r) (commands.refused q) n = inr (refl, ap Refusal.Words (err_same (sym q ∙ r)))
-same_words_stop (commands.refused r) (commands.not_built q b) n = absurd (ok_or_err (sym q ∙ r))
-same_words_stop (commands.refused r) (commands.long_query q b h) n = absurd (ok_or_err (sym q ∙ r))
-same_words_stop (commands.not_built r b) (commands.refused q) n = absurd (ok_or_err (sym r ∙ q))
-same_words_stop (commands.not_built r b) (commands.not_built q d) n = inr (refl, refl)
-same_words_stop (commands.not_built r b) (commands.long_query q d h) n = absurd (true_false d (subst (λ (o : Options). is_built o ≡ false) (ok_same (sym r ∙ q)) b))
-same_words_stop (commands.long_query r d h) (commands.refused q) n = absurd (ok_or_err (sym r ∙ q))
-same_words_stop (commands.long_query r d h) (commands.not_built q b) n = absurd (true_false d (subst (λ (o : Options). is_built o ≡ false) (ok_same (sym q ∙ r)) b))
-same_words_stop (commands.long_query r d h) (commands.long_query q e k) n = inr (refl, ap (λ (o : Options). Refusal.TextOf (TooLong (length (query_of o)))) (ok_same (sym q ∙ r)))
+same_words_stop (commands.refused r) (commands.long_query q h) n = absurd (ok_or_err (sym q ∙ r))
+same_words_stop (commands.long_query r h) (commands.refused q) n = absurd (ok_or_err (sym r ∙ q))
+same_words_stop (commands.long_query r h) (commands.long_query q k) n = inr (refl, ap (λ (o : Options). Refusal.TextOf (TooLong (length (query_of o)))) (ok_same (sym q ∙ r)))
 
 asked_words : {words : List (List ℕ)} {o : Options} {s : Status} {f : Refusal} → IsAskedBy words o → commands.WordsStop words s f → IsFault s
 asked_words a commands.no_memory = tt
 asked_words a (commands.refused r) = absurd (ok_or_err (sym a.reads ∙ r))
-asked_words a (commands.not_built r b) = absurd (true_false a.built (subst (λ (k : Options). is_built k ≡ false) (ok_same (sym r ∙ a.reads)) b))
-asked_words a (commands.long_query r d h) = let k = subst (λ (z : Options). length (query_of z) ≤ 10000) (ok_same (sym a.reads ∙ r)) a.short in absurd (omega (arith, k, h))
+asked_words a (commands.long_query r h) = let k = subst (λ (z : Options). length (query_of z) ≤ 10000) (ok_same (sym a.reads ∙ r)) a.short in absurd (omega (arith, k, h))
 
 read_faults : {before after : Side} {s : Status} {f : Refusal} → commands.ReadStops before after s f → IsFault s
 read_faults (fault r b) = tt
@@ -190,7 +181,6 @@ fault_is Status.Words f = absurd f
 fault_is Status.Program f = absurd f
 fault_is Status.Query f = absurd f
 fault_is Status.WriteFault f = absurd f
-fault_is Status.NotYet f = absurd f
 
 -- what follows of a command that stopped, or whose run was written
 module _ (c : Command) where

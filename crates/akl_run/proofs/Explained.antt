@@ -36,7 +36,6 @@ status_runs Status.Query o i = absurd i
 status_runs Status.ReadFault o i = absurd i
 status_runs Status.WriteFault o i = absurd i
 status_runs Status.NoMemory o i = absurd i
-status_runs Status.NotYet o i = absurd i
 
 late_run : (s : Status) → IsOutcome s → IsLate s
 late_run Status.Done e = tt
@@ -49,7 +48,6 @@ late_run Status.Query e = absurd e
 late_run Status.ReadFault e = absurd e
 late_run Status.WriteFault e = absurd e
 late_run Status.NoMemory e = absurd e
-late_run Status.NotYet e = absurd e
 
 not_both : (s : Status) → IsEarly s → IsLate s → ⊥
 not_both Status.Done e l = e
@@ -62,7 +60,6 @@ not_both Status.Query e l = l
 not_both Status.ReadFault e l = l
 not_both Status.WriteFault e l = e
 not_both Status.NoMemory e l = e
-not_both Status.NotYet e l = l
 
 -- what a stop is: a call of the source failed, memory was wanting, or another early end
 data Stopping (before after : Side) : Status → Refusal → Type 0 where
@@ -73,8 +70,7 @@ data Stopping (before after : Side) : Status → Refusal → Type 0 where
 module _ (words : List (List ℕ)) (before after : Side) where
   stopping : {s : Status} {f : Refusal} → Stops words before after s f → Stopping before after s f
   stopping (by_words (commands.refused r) l) = other tt (λ d. cc)
-  stopping (by_words (commands.not_built r b) l) = other tt (λ d. cc)
-  stopping (by_words (commands.long_query q b h) l) = other tt (λ d. cc)
+  stopping (by_words (commands.long_query q h) l) = other tt (λ d. cc)
   stopping (by_words commands.no_memory l) = out_of_memory
   stopping (by_reading a d (commands.fault r b)) = failed_read r
   stopping (by_reading a d (commands.no_memory_read b)) = out_of_memory
@@ -168,9 +164,9 @@ module _ (c : Command) where
   counted n h = omega (arith, h)
 
   run_of : (e : Evaluated) (q : IsRunAs c.words c.source c.source_after e) → IsWritten e c.sink c.sink_after c.report → (answers : List Content) (outcome : Outcome) → IsRunIn e answers outcome
-      → IsRunBy q.loaded q.options.budget answers outcome c.report.journal.items (map (λ rs. rs.items) c.report.receipts.items)
+      → IsRunBy q.loaded q.options.workers q.options.budget answers outcome c.report.journal.items (map (λ rs. rs.items) c.report.receipts.items)
   run_of e q w answers outcome r =
-      run_by q.loaded q.options.budget q.options.trace e q.run answers outcome c.report.journal.items (map (λ rs. rs.items) c.report.receipts.items) r w.journal (ap (λ (v : Vec (Vec Receipt Global) Global). map (λ (rs : Vec Receipt Global). rs.items) v.items) w.receipts)
+      run_by q.loaded q.options.workers q.options.budget q.options.trace e q.run answers outcome c.report.journal.items (map (λ rs. rs.items) c.report.receipts.items) r w.journal (ap (λ (v : Vec (Vec Receipt Global) Global). map (λ (rs : Vec Receipt Global). rs.items) v.items) w.receipts)
 
   whole_run : (e : Evaluated) → IsRunAs c.words c.source c.source_after e → IsWritten e c.sink c.sink_after c.report → HasWritten e start end c.report.status → WroteRun c
   whole_run e q w h = record {
@@ -186,7 +182,7 @@ module _ (c : Command) where
       is_loaded = q.is_loaded;
       answers = h.answers;
       run = run_of e q w h.answers h.outcome h.run;
-      is_text = of_loaded q.loaded q.options.budget q.options.trace e q.run (λ (symbols : List (List ℕ)) (trace : Bool) (journal : List Label). IsRunText symbols trace journal h.answers h.outcome h.text) c.report.journal.items w.journal h.is_text;
+      is_text = of_loaded q.loaded q.options.workers q.options.budget q.options.trace e q.run (λ (symbols : List (List ℕ)) (trace : Bool) (journal : List Label). IsRunText symbols trace journal h.answers h.outcome h.text) c.report.journal.items w.journal h.is_text;
     };
     wrote = h.appended.bytes;
     count = counted (length h.text) h.appended.counted;
@@ -210,7 +206,7 @@ module _ (c : Command) where
       is_loaded = q.is_loaded;
       answers = b.answers;
       run = run_of e q w b.answers b.outcome b.run;
-      is_front = of_loaded q.loaded q.options.budget q.options.trace e q.run (λ (symbols : List (List ℕ)) (trace : Bool) (journal : List Label). IsRunFront symbols trace journal b.answers b.outcome b.front) c.report.journal.items w.journal b.is_front;
+      is_front = of_loaded q.loaded q.options.workers q.options.budget q.options.trace e q.run (λ (symbols : List (List ℕ)) (trace : Bool) (journal : List Label). IsRunFront symbols trace journal b.answers b.outcome b.front) c.report.journal.items w.journal b.is_front;
     };
     wrote = b.appended.bytes;
     count = counted (length b.front) b.appended.counted;

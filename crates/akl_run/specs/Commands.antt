@@ -1,12 +1,11 @@
 -- A command, and what its report says of it.
-use Rattle.std.specs.Prelude.{◌≡◌, ◌⊎◌, ℕ, true, false, ◌<◌, ◌≤◌, List, [], length, take, map, Option, Some, None, IfSome, Ok, Err}
+use Rattle.std.specs.Prelude.{◌≡◌, ◌⊎◌, ℕ, ◌<◌, ◌≤◌, List, [], length, take, map, Option, Some, None, IfSome, Ok, Err}
 use Rattle.std.specs.Io.KnownBytes.{prepend_known, append_known}
 use Rattle.akl_outside.specs.Counts.{Rose, next_count}
 use Rattle.akl_outside.specs.Transfer.{ReadSome}
 use Rattle.akl_terms.specs.declared.program.Program.{Program}
 use Rattle.akl_model.specs.Derivations.{Outcome}
 use Rattle.akl_lexemes.specs.declared.error.SyntaxError.TheVariants.{TooLong}
-use Rattle.akl_run.specs.declared.report.Part.{Part}
 use Rattle.akl_run.specs.declared.report.Status.{Status}
 use Rattle.akl_run.specs.declared.report.Refusal.{Refusal}
 use Rattle.akl_run.specs.declared.report.Report.{Report}
@@ -14,7 +13,7 @@ use Rattle.akl_run.specs.declared.loaded.Loaded.{Loaded}
 use Rattle.akl_args.specs.declared.options.Options.{Options}
 use Rattle.akl_args.specs.declared.options.WordsError.{WordsError}
 use Rattle.akl_args.specs.Table.{reading}
-use Rattle.akl_run.specs.Words.{is_built, query_of, program_of}
+use Rattle.akl_run.specs.Words.{query_of, program_of}
 use Rattle.akl_run.specs.Loads.{IsLoadedProgram, ProgramStops, QueryStops, IsLoadedFrom}
 use Rattle.akl_run.specs.Reports.{IsStatusOf, IsRunOf, BeginsRunOf, RunStops}
 
@@ -46,17 +45,15 @@ pub record Command : Type 0 where
 
 -- ---- the words and the source
 
--- the words are a command that is built, with a query that isn't too long
+-- the words are a command, with a query that isn't too long
 pub record IsAskedBy (words : List (List ℕ)) (o : Options) : Type 0 where
   pub reads : reading words ≡ Ok o
-  pub built : is_built o ≡ true
   pub short : length (query_of o) ≤ 10000
 
--- the words are refused, ask for what isn't built, or have a query that is too long; want of memory is free
+-- the words are refused, or have a query that is too long; want of memory is free
 pub data WordsStop (words : List (List ℕ)) : Status → Refusal → Type 0 where
   refused : {e : WordsError} → reading words ≡ Err e → WordsStop words Status.Words (Refusal.Words e)
-  not_built : {o : Options} → reading words ≡ Ok o → is_built o ≡ false → WordsStop words Status.NotYet (Refusal.NotYet Part.Words)
-  long_query : {o : Options} → reading words ≡ Ok o → is_built o ≡ true → 10000 < length (query_of o) → WordsStop words Status.Query (Refusal.TextOf (TooLong (length (query_of o))))
+  long_query : {o : Options} → reading words ≡ Ok o → 10000 < length (query_of o) → WordsStop words Status.Query (Refusal.TextOf (TooLong (length (query_of o))))
   no_memory : WordsStop words Status.NoMemory Refusal.Nothing
 
 -- these bytes were read of a source: all that it had, unless these are more than a program may have
@@ -98,7 +95,7 @@ IsFault s = ⊥
 abbrev pub IsUnlessFault : Report → Status → Refusal → Type 0
 IsUnlessFault r s f = IsFault r.status ⊎ ((r.status ≡ s) × (r.refusal ≡ f))
 
--- where the words are refused, ask for what isn't built, or have a query that is too long, the command ends so
+-- where the words are refused, or have a query that is too long, the command ends so
 abbrev pub WordsEnd : Command → Type 0
 WordsEnd c = (s : Status) (f : Refusal) → WordsStop c.words s f → (IsFault s → ⊥) → IsUnlessFault c.report s f
 
@@ -144,7 +141,7 @@ pub record WroteRun (c : Command) : Type 0 where
   pub outcome : Outcome
   pub is_status : IsStatusOf c.report.status outcome
   pub text : List ℕ
-  pub run : IsRunOf program (query_of options) options.budget options.trace outcome c.report.journal.items (map (λ rs. rs.items) c.report.receipts.items) text
+  pub run : IsRunOf program (query_of options) options.workers options.budget options.trace outcome c.report.journal.items (map (λ rs. rs.items) c.report.receipts.items) text
   pub wrote : c.sink_after.bytes ≡ append_known c.sink.bytes text
   pub count : c.report.written ≡ length text
 
@@ -156,7 +153,7 @@ pub record WrotePart (c : Command) : Type 0 where
   pub given : IsGiven (program_of options) c.source c.source_after program
   pub outcome : Outcome
   pub front : List ℕ
-  pub run : BeginsRunOf program (query_of options) options.budget options.trace outcome c.report.journal.items (map (λ rs. rs.items) c.report.receipts.items) front
+  pub run : BeginsRunOf program (query_of options) options.workers options.budget options.trace outcome c.report.journal.items (map (λ rs. rs.items) c.report.receipts.items) front
   pub wrote : c.sink_after.bytes ≡ append_known c.sink.bytes front
   pub count : c.report.written ≡ length front
 
@@ -180,7 +177,6 @@ IsEarly Status.Words = Unit {0}
 IsEarly Status.Program = Unit {0}
 IsEarly Status.Query = Unit {0}
 IsEarly Status.ReadFault = Unit {0}
-IsEarly Status.NotYet = Unit {0}
 IsEarly s = ⊥
 
 -- the statuses with which a run may have been written, or a front of it
@@ -206,7 +202,7 @@ pub record IsReported (c : Command) : Type 0 where
   pub nothing : IsEarly c.report.status → WroteNothing c
   pub stops : IsEarly c.report.status → Stops c.words c.source c.source_after c.report.status c.report.refusal
   pub read_fault : c.report.status ≡ Status.ReadFault → HasFaulted c.source c.source_after
-  -- What is refused or isn't built ends the command so, unless a fault comes before.
+  -- What is refused ends the command so, unless a fault comes before.
   pub words : WordsEnd c
   pub program : ProgramEnds c
   pub query : QueryEnds c

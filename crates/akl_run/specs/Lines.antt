@@ -11,7 +11,6 @@ use Rattle.clause_checks.specs.declared.error.Limit.{Limit}
 use Rattle.clause_checks.specs.declared.error.Limit.TheVariants as limits
 use Rattle.clause_checks.specs.declared.error.LoadError.{LoadError}
 use Rattle.clause_checks.specs.declared.error.LoadError.TheVariants as load_errors
-use Rattle.akl_run.specs.declared.report.Part.{Part}
 use Rattle.akl_run.specs.declared.report.Status.{Status}
 use Rattle.akl_run.specs.declared.report.Refusal.{Refusal}
 
@@ -51,27 +50,21 @@ abbrev pub cause_of : Refusal → List ℕ
 cause_of (Refusal.Words e) = words_cause e
 cause_of (Refusal.TextOf e) = text_cause e
 cause_of (Refusal.Loading e) = loading_cause e
-cause_of f = []
+cause_of Refusal.Nothing = []
 
 -- the line of words, or of a text, that are refused
 abbrev pub refused_line : List ℕ → Refusal → List ℕ
 refused_line side f = codes "akl: " ++ side ++ codes ": " ++ cause_of f ++ codes "\n"
 
--- the part that isn't built
-abbrev pub part_line : Refusal → List ℕ
-part_line (Refusal.NotYet Part.Words) = codes "akl: not yet: words\n"
-part_line f = []
-
 -- the line of a status that says all itself; the outcomes of a run have none
-abbrev pub fixed_line : Status → Refusal → List ℕ
-fixed_line Status.ReadFault f = codes "akl: read fault\n"
-fixed_line Status.WriteFault f = codes "akl: write fault\n"
-fixed_line Status.NoMemory f = codes "akl: out of memory\n"
-fixed_line Status.NotYet f = part_line f
-fixed_line s f = []
+abbrev pub fixed_line : Status → List ℕ
+fixed_line Status.ReadFault = codes "akl: read fault\n"
+fixed_line Status.WriteFault = codes "akl: write fault\n"
+fixed_line Status.NoMemory = codes "akl: out of memory\n"
+fixed_line s = []
 
 abbrev pub refusal_text : Status → Refusal → List ℕ
 refusal_text Status.Words f = refused_line (codes "words") f
 refusal_text Status.Program f = refused_line (codes "program") f
 refusal_text Status.Query f = refused_line (codes "query") f
-refusal_text s f = fixed_line s f
+refusal_text s f = fixed_line s

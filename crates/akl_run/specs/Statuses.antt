@@ -13,4 +13,3 @@ number_of Status.Query = 6
 number_of Status.ReadFault = 7
 number_of Status.WriteFault = 8
 number_of Status.NoMemory = 9
-number_of Status.NotYet = 10

@@ -1,9 +1,10 @@
 -- The steps of a command, of which the clauses of private functions speak.
-use Rattle.std.specs.Prelude.{◌≡◌, ℕ, Bool, List, [], option_map, Result, Ok, Err}
+use Rattle.std.specs.Prelude.{◌≡◌, ◌≤◌, ℕ, List, [], option_map, Result, Ok, Err}
 use Rattle.akl_run.specs.declared.report.Status.{Status}
 use Rattle.akl_run.specs.declared.report.Refusal.{Refusal}
 use Rattle.akl_run.specs.declared.report.Report.{Report}
 use Rattle.akl_run.specs.declared.loaded.Loaded.{Loaded}
+use Rattle.akl_run.specs.declared.prepare.Prepared.{Prepared}
 use Rattle.akl_run.specs.declared.evaluate.Evaluated.{Evaluated}
 use Rattle.akl_run.specs.declared.output.Unwritten.{Unwritten}
 use Rattle.akl_run.specs.declared.stop.Stop.{Stop}
@@ -17,25 +18,30 @@ use Rattle.akl_run.specs.declared.words.Asked.{Asked}
 use Rattle.akl_run.specs.Words.{query_of, program_of}
 use Rattle.akl_run.specs.Commands.{Side, IsAskedBy, IsGiven}
 
--- the words ask for this, and these are the program where it is made, the query, the budget, and whether a trace is asked
+-- the words ask for this, and these are the program where it is made, the query, the number of workers, the budget, and whether a trace is
+-- asked
 pub record IsAsked (words : List (List ℕ)) (a : Asked) : Type 0 where
   pub options : Options
   pub asked : IsAskedBy words options
   pub program : option_map (λ text. text.items) a.program ≡ program_of options
   pub query : a.query.items ≡ query_of options
+  pub workers : a.workers ≡ options.workers
+  pub few_workers : (1 ≤ a.workers) × (a.workers ≤ 16)
   pub budget : a.budget ≡ options.budget
   pub trace : a.trace ≡ options.trace
 
 -- the query over the program is that of the words and the source, and it is ready to run
-pub record IsReady (words : List (List ℕ)) (before after : Side) (l : Loaded) (budget : ℕ) (trace : Bool) : Type 0 where
+pub record IsReady (words : List (List ℕ)) (before after : Side) (p : Prepared) : Type 0 where
   pub options : Options
   pub program : List ℕ
   pub asked : IsAskedBy words options
   pub given : IsGiven (program_of options) before after program
-  pub loaded : IsLoadedFrom program (query_of options) l
-  pub variables : HasVariables l.program l.query l.first_variable
-  pub same_budget : budget ≡ options.budget
-  pub same_trace : trace ≡ options.trace
+  pub loaded : IsLoadedFrom program (query_of options) p.loaded
+  pub variables : HasVariables p.loaded.program p.loaded.query p.loaded.first_variable
+  pub workers : p.workers ≡ options.workers
+  pub few_workers : (1 ≤ p.workers) × (p.workers ≤ 16)
+  pub budget : p.budget ≡ options.budget
+  pub trace : p.trace ≡ options.trace
 
 -- it was run
 pub record IsRunAs (words : List (List ℕ)) (before after : Side) (e : Evaluated) : Type 0 where
@@ -45,7 +51,7 @@ pub record IsRunAs (words : List (List ℕ)) (before after : Side) (e : Evaluate
   pub asked : IsAskedBy words options
   pub given : IsGiven (program_of options) before after program
   pub is_loaded : IsLoadedFrom program (query_of options) loaded
-  pub run : IsEvaluated loaded options.budget options.trace e
+  pub run : IsEvaluated loaded options.workers options.budget options.trace e
 
 -- the report of a command that stopped: no run is answered
 pub record IsStopped (stop : Stop) (r : Report) : Type 0 where

@@ -1,5 +1,5 @@
 -- What the words of a command ask for.
-use Rattle.std.specs.Prelude.{ℕ, Bool, ◌==◌, List, map, Option, Some, None, String, string_bytes}
+use Rattle.std.specs.Prelude.{ℕ, List, map, Option, Some, None, String, string_bytes}
 use Rattle.akl_args.specs.declared.options.Job.{Job}
 use Rattle.akl_args.specs.declared.options.Job.TheVariants.{Query, Generate}
 use Rattle.akl_args.specs.declared.options.Options.{Options}
@@ -8,10 +8,6 @@ use Rattle.akl_gen.specs.Generated.{lists, query_text}
 -- the bytes of each word
 abbrev pub bytes_of : {A : Type 0} → List (String A) → List (List ℕ)
 bytes_of words = map (λ word. string_bytes word) words
-
--- one worker, which is built
-abbrev pub is_built : Options → Bool
-is_built o = o.workers == 1
 
 -- the query that is run: the one that is given, or the one that is made from the number
 abbrev pub query_in : Job → List ℕ

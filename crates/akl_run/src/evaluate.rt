@@ -1,16 +1,21 @@
 //! From a loaded query to the end of its run.
 
-ghost use Rattle.std.specs.Prelude.{IfOk, IfErr};
+ghost use Rattle.std.specs.Prelude.{◌≡◌, ◌≤◌, [], IfOk, IfErr};
 ghost use Rattle.box_tree.specs.Tables.{HasVariables, HasShownVariables};
+ghost use Rattle.par_workers.specs.Runs.{HasRunMany};
 ghost use Rattle.akl_run.specs.Evaluations.{HasFinished, IsEvaluated, StopsRun};
 
 use crate::loaded::Loaded;
 use crate::prepare::Prepared;
 use crate::stop::Stop;
 use akl_model::Receipt;
+use akl_outside::Gate;
 use akl_terms::Program;
-use seq_engine::{End, Finished, run_one};
+use par_workers::{Finished, run_many};
+use seq_engine::{End, run_one};
 use std::alloc::{AllocError, Global};
+use std::sync::Wait;
+use std::thread::Threads;
 use step_commit::Core;
 
 /// A run that has ended, and whether its trace is asked.
@@ -24,29 +29,69 @@ pub struct Evaluated {
     pub trace: bool,
 }
 
-// Runs a loaded query as worker 1, to its end.
-fn run_loaded(alloc: Global, loaded: &Loaded, budget: u64) -> Result<Finished, AllocError>
+// Runs a core as worker 1 alone, to its end.
+fn run_alone(alloc: Global, program: &Program, core: Core) -> Result<Finished, AllocError>
+    requires program { program.now ≡ core.table.program }
+    requires workers { core.workers ≡ 1 }
+    requires begins { core.journal ≡ [] }
+    ensures { IfOk result (HasRunMany core) }
+{
+    let run = run_one(alloc, program, core)?;
+    let mut receipts = Vec::new(alloc);
+    receipts.push(run.receipts)?;
+    Ok(Finished {
+        core: run.core,
+        receipts,
+        end: run.end,
+    })
+}
+
+// Runs a loaded query by so many workers, to its end. A single one needs no thread, no lock and no gate.
+fn run_loaded<R: Threads + Wait + Sync, G: Gate>(
+    rt: &R,
+    alloc: Global,
+    loaded: &Loaded,
+    workers: u32,
+    budget: u64,
+    gate: &G,
+) -> Result<Finished, AllocError>
     requires variables { HasVariables loaded.now.program loaded.now.query loaded.now.first_variable }
     requires shown { HasShownVariables loaded.now.query }
-    ensures { IfOk result (HasFinished loaded.now budget) }
+    requires workers { (1 ≤ workers) × (workers ≤ 16) }
+    ensures { IfOk result (HasFinished loaded.now workers budget) }
 {
     let program = &loaded.program;
     let first_variable = loaded.first_variable;
-    match Core::new(alloc, program, &loaded.query, first_variable, 1, budget) {
-        Ok(core) => run_one(alloc, program, core),
-        Err(error) => Err(error),
+    let core = Core::new(
+        alloc,
+        program,
+        &loaded.query,
+        first_variable,
+        workers,
+        budget,
+    )?;
+    if workers == 1 {
+        return run_alone(alloc, program, core);
     }
+    run_many(rt, alloc, program, core, workers, gate)
 }
 
 /// Runs a query that is ready.
-pub fn evaluate(alloc: Global, prepared: Prepared) -> Result<Evaluated, Stop>
+pub fn evaluate<R: Threads + Wait + Sync, G: Gate>(
+    rt: &R,
+    alloc: Global,
+    prepared: Prepared,
+    gate: &G,
+) -> Result<Evaluated, Stop>
     requires variables { HasVariables prepared.loaded.program prepared.loaded.query prepared.loaded.first_variable }
     requires shown { HasShownVariables prepared.loaded.query }
-    ensures run { IfOk result (IsEvaluated prepared.loaded prepared.budget prepared.trace) }
+    requires workers { (1 ≤ prepared.workers) × (prepared.workers ≤ 16) }
+    ensures run { IfOk result (IsEvaluated prepared.loaded prepared.workers prepared.budget prepared.trace) }
     ensures stop { IfErr result StopsRun }
 {
     let Prepared {
         loaded,
+        workers,
         budget,
         trace,
     } = prepared;
@@ -54,17 +99,15 @@ pub fn evaluate(alloc: Global, prepared: Prepared) -> Result<Evaluated, Stop>
         core,
         receipts,
         end,
-    } = match run_loaded(alloc, &loaded, budget) {
+    } = match run_loaded(rt, alloc, &loaded, workers, budget, gate) {
         Ok(finished) => finished,
         Err(error) => return Err(Stop::from(error)),
     };
-    let mut lists = Vec::new(alloc);
-    lists.push(receipts)?;
     Ok(Evaluated {
         program: loaded.program,
         core,
         end,
-        receipts: lists,
+        receipts,
         trace,
     })
 }

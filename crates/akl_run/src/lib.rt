@@ -19,7 +19,7 @@ pub use akl_args::WordsError;
 pub use clause_checks::{Limit, LoadError};
 pub use loaded::{Loaded, load_asked, load_program};
 pub use refusal::refusal_line;
-pub use report::{Part, Refusal, Report, Status};
+pub use report::{Refusal, Report, Status};
 pub use run::run_akl;
 pub use stop::Stop;
 pub use trace::trace_line;

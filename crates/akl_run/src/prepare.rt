@@ -14,10 +14,11 @@ use std::alloc::Global;
 /// One byte more than a program may have.
 const MOST_READ: usize = 1_000_001;
 
-/// A query that is ready to run, how many labels its run may make, and whether it is traced.
+/// A query that is ready to run, by how many workers, how many labels its run may make, and whether it is traced.
 #[derive(Drop)]
 pub struct Prepared {
     pub loaded: Loaded,
+    pub workers: u32,
     pub budget: u64,
     pub trace: bool,
 }
@@ -52,12 +53,13 @@ pub fn prepare<S: Source>(
     words: &[String],
     program: &mut S,
 ) -> Result<Prepared, Stop>
-    ensures ready { IfOk result (λ p. IsReady (bytes_of words.now) (side (S.left program.old) (S.faults program.old)) (side (S.left program.new) (S.faults program.new)) p.loaded p.budget p.trace) }
+    ensures ready { IfOk result (IsReady (bytes_of words.now) (side (S.left program.old) (S.faults program.old)) (side (S.left program.new) (S.faults program.new))) }
     ensures stop { IfErr result (λ stop. Stops (bytes_of words.now) (side (S.left program.old) (S.faults program.old)) (side (S.left program.new) (S.faults program.new)) stop.status stop.refusal) }
 {
     let Asked {
         program: made,
         query,
+        workers,
         budget,
         trace,
     } = read_asked(alloc, words)?;
@@ -66,6 +68,7 @@ pub fn prepare<S: Source>(
     match load_asked(alloc, program, &query) {
         Ok(loaded) => Ok(Prepared {
             loaded,
+            workers,
             budget,
             trace,
         }),

@@ -3,7 +3,7 @@
 ghost use Rattle.std.specs.Prelude.{◌≡◌, ◌++◌, IfOk, OnOk};
 ghost use Rattle.akl_run.specs.Lines.{key_text, kind_of, words_cause, text_cause, loading_cause, cause_of, refused_line, fixed_line, refusal_text};
 
-use crate::report::{Part, Refusal, Report, Status};
+use crate::report::{Refusal, Report, Status};
 use crate::text::{push_number, push_text};
 use akl_args::WordsError;
 use akl_syntax::SyntaxError;
@@ -96,7 +96,7 @@ fn push_cause(line: &mut Vec<u8>, refusal: &Refusal) -> Result<(), AllocError>
         Refusal::Words(error) => push_words_cause(line, error),
         Refusal::TextOf(error) => push_text_cause(line, error),
         Refusal::Loading(error) => push_loading_cause(line, error),
-        _ => Ok(()),
+        Refusal::Nothing => Ok(()),
     }
 }
 
@@ -113,17 +113,13 @@ fn refused_line(alloc: Global, side: &str, refusal: &Refusal) -> Result<Vec<u8>,
 }
 
 // The line of any other status.
-fn fixed_line(status: Status, refusal: &Refusal) -> &'static str
-    ensures { result.now ≡ fixed_line status refusal.now }
+fn fixed_line(status: Status) -> &'static str
+    ensures { result.now ≡ fixed_line status }
 {
     match status {
         Status::ReadFault => "akl: read fault\n",
         Status::WriteFault => "akl: write fault\n",
         Status::NoMemory => "akl: out of memory\n",
-        Status::NotYet => match refusal {
-            Refusal::NotYet(Part::Words) => "akl: not yet: words\n",
-            _ => "",
-        },
         _ => "",
     }
 }
@@ -136,6 +132,6 @@ pub fn refusal_line(alloc: Global, report: &Report) -> Result<Vec<u8>, AllocErro
         Status::Words => refused_line(alloc, "words", &report.refusal),
         Status::Program => refused_line(alloc, "program", &report.refusal),
         Status::Query => refused_line(alloc, "query", &report.refusal),
-        status => Vec::from_slice(alloc, fixed_line(status, &report.refusal).as_bytes()),
+        status => Vec::from_slice(alloc, fixed_line(status).as_bytes()),
     }
 }

@@ -31,12 +31,10 @@ pub enum Status {
     WriteFault,
     /// There was no memory.
     NoMemory,
-    /// A part of the command isn't built yet.
-    NotYet,
 }
 
 impl Status {
-    /// The number with which the program ends: 0 to 10, in the order of the variants.
+    /// The number with which the program ends: 0 to 9, in the order of the variants.
     pub fn number(self) -> u8
         ensures { result ≡ number_of self }
     {
@@ -51,15 +49,8 @@ impl Status {
             Status::ReadFault => 7,
             Status::WriteFault => 8,
             Status::NoMemory => 9,
-            Status::NotYet => 10,
         }
     }
-}
-
-/// A part of a command.
-#[derive(Clone, Copy)]
-pub enum Part {
-    Words,
 }
 
 /// Why a command is refused.
@@ -72,8 +63,6 @@ pub enum Refusal {
     TextOf(SyntaxError),
     /// The program or the query isn't loaded. It is never for want of memory.
     Loading(LoadError),
-    /// The part has a form that isn't built yet.
-    NotYet(Part),
 }
 
 /// What became of a command.

@@ -18,12 +18,18 @@ use std::sync::Wait;
 use std::thread::Threads;
 
 // Reads the words and the source, and runs the query.
-fn work<S: Source>(alloc: Global, words: &[String], program: &mut S) -> Result<Evaluated, Stop>
+fn work<R: Threads + Wait + Sync, S: Source, G: Gate>(
+    rt: &R,
+    alloc: Global,
+    words: &[String],
+    program: &mut S,
+    gate: &G,
+) -> Result<Evaluated, Stop>
     ensures run { IfOk result (λ e. IsRunAs (bytes_of words.now) (side (S.left program.old) (S.faults program.old)) (side (S.left program.new) (S.faults program.new)) e) }
     ensures stop { IfErr result (λ stop. Stops (bytes_of words.now) (side (S.left program.old) (S.faults program.old)) (side (S.left program.new) (S.faults program.new)) stop.status stop.refusal) }
 {
     let prepared = prepare(alloc, words, program)?;
-    evaluate(alloc, prepared)
+    evaluate(rt, alloc, prepared, gate)
 }
 
 // The report of a command that ended before there was anything to write.
@@ -83,7 +89,6 @@ fn report_of<K: Sink>(alloc: Global, run: Evaluated, sink: &mut K) -> Report
 ///   whose lines have more than a million bytes has one line in their place.
 /// - `Words` comes exactly where the words are refused, and `Program` and `Query` exactly where that
 ///   text is, with the cause.
-/// - `NotYet` comes with the part that isn't built: words with other workers than 1.
 /// - `ReadFault` comes only where the source failed, and `WriteFault` only where the sink failed: the journal
 ///   is the run's then, and a front of its text was written.
 /// - `NoMemory` comes only for want of memory. Either nothing is answered and nothing was written, or the run
@@ -93,7 +98,9 @@ fn report_of<K: Sink>(alloc: Global, run: Evaluated, sink: &mut K) -> Report
 /// So an accepted query over an accepted program has one of the four outcomes, unless the source, the sink or memory
 /// fails. `IsReported` says all this, a field for a fact.
 ///
-/// The run takes one worker and never waits; the gate isn't called.
+/// The run takes as many workers as the words ask for. With one it never waits, and the gate isn't called. Several may wait for
+/// one another, and each calls the gate before each planning; which derivation comes is then by their turns. The journal's
+/// labels are by the workers 1 to this number, and the report's receipts are a list for each of them, worker 1's first.
 pub fn run_akl<R: Threads + Wait + Sync, S: Source, K: Sink, G: Gate>(
     rt: &R,
     alloc: Global,
@@ -111,9 +118,7 @@ pub fn run_akl<R: Threads + Wait + Sync, S: Source, K: Sink, G: Gate>(
       report = result;
     }) }
 {
-    let _ = rt;
-    let _ = gate;
-    match work(alloc, words, program) {
+    match work(rt, alloc, words, program, gate) {
         Err(stop) => stopped(alloc, stop),
         Ok(evaluated) => report_of(alloc, evaluated, out),
     }

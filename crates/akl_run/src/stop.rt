@@ -3,7 +3,7 @@
 ghost use Rattle.std.specs.Prelude.{◌≡◌};
 ghost use Rattle.akl_run.specs.Stops.{IsStop, IsWordsStop, IsTextStop, IsLoadingStop};
 
-use crate::report::{Part, Refusal, Status};
+use crate::report::{Refusal, Status};
 use akl_args::WordsError;
 use akl_outside::ReadError;
 use akl_syntax::SyntaxError;
@@ -25,16 +25,6 @@ impl Stop {
         Stop {
             status: Status::NoMemory,
             refusal: Refusal::Nothing,
-        }
-    }
-
-    /// The part has a form that isn't built yet.
-    pub fn not_yet(part: Part) -> Self
-        ensures { IsStop Status.NotYet (Refusal.NotYet part) result }
-    {
-        Stop {
-            status: Status::NotYet,
-            refusal: Refusal::NotYet(part),
         }
     }
 

@@ -1,24 +1,25 @@
 //! The words of a command.
 
-ghost use Rattle.std.specs.Prelude.{◌≡◌, IfOk, IfErr, true, option_map};
+ghost use Rattle.std.specs.Prelude.{◌≡◌, IfOk, IfErr, option_map};
 ghost use Rattle.akl_args.specs.Limits.{IsJobWithinLimits};
-ghost use Rattle.akl_run.specs.Words.{bytes_of, is_built, query_in, program_in};
+ghost use Rattle.akl_run.specs.Words.{bytes_of, query_in, program_in};
 ghost use Rattle.akl_run.specs.Commands.{WordsStop};
 ghost use Rattle.akl_run.specs.Steps.{IsAsked};
 
-use crate::report::{Part, Status};
+use crate::report::Status;
 use crate::stop::Stop;
 use akl_args::{Job, Options, read_words};
 use akl_gen::generate;
 use akl_syntax::check_query;
 use std::alloc::{AllocError, Global};
 
-/// What the words ask for: a query, how many labels its run may make, and whether it is traced.
+/// What the words ask for: a query, by how many workers it is run, how many labels its run may make, and whether it is traced.
 #[derive(Drop)]
 pub struct Asked {
     /// The program's text, where it is made; else it is read from the source.
     pub program: Option<Vec<u8>>,
     pub query: Vec<u8>,
+    pub workers: u32,
     pub budget: u64,
     pub trace: bool,
 }
@@ -41,7 +42,7 @@ fn texts_of(alloc: Global, job: &Job) -> Result<(Option<Vec<u8>>, Vec<u8>), Allo
     }
 }
 
-/// What the words ask for, where they are a command that is built, with a query that isn't too long.
+/// What the words ask for, where they are a command with a query that isn't too long.
 pub fn read_asked(alloc: Global, words: &[String]) -> Result<Asked, Stop>
     ensures ok { IfOk result (IsAsked (bytes_of words.now)) }
     ensures stop { IfErr result (λ stop. WordsStop (bytes_of words.now) stop.status stop.refusal) }
@@ -50,14 +51,12 @@ pub fn read_asked(alloc: Global, words: &[String]) -> Result<Asked, Stop>
         Ok(options) => options,
         Err(error) => return Err(Stop::words(error)),
     };
-    if options.workers != 1 {
-        return Err(Stop::not_yet(Part::Words));
-    }
     let (program, query) = texts_of(alloc, &options.job)?;
     match check_query(&query) {
         Ok(()) => Ok(Asked {
             program,
             query,
+            workers: options.workers,
             budget: options.budget,
             trace: options.trace,
         }),
