@@ -1,9 +1,7 @@
-//! Tests of runs by several workers: what no clause says of them.
+//! Tests of `run_many` with one worker, which no command asks for.
 #![tactic(auto)]
 
 #[cfg(test)]
 mod loading;
-#[cfg(test)]
-mod meeting;
 #[cfg(test)]
 mod running;

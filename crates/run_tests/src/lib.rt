@@ -4,4 +4,10 @@
 #[cfg(test)]
 mod commands;
 #[cfg(test)]
+mod faults;
+#[cfg(test)]
+mod replies;
+#[cfg(test)]
 mod rules;
+#[cfg(test)]
+mod workers;

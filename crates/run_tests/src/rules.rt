@@ -1,12 +1,13 @@
 //! What each rule does: whole commands with their journals.
 
-use crate::commands::{command, shown};
+use crate::replies::{Reply, add_options, command, expect, words_of};
 use std::alloc::Global;
+use std::process::Abort;
 use std::sync::Wait;
 use std::test::Fail;
 use std::thread::Threads;
 
-const LISTS: &str =
+pub const LISTS: &str =
     "append([],Y,Z) :- -> Z = Y. append([X|Xs],Y,Z) :- -> Z = [X|Zs], append(Xs,Y,Zs). nrev([],R) :- -> R = []. nrev([X|Xs],R) :- -> nrev(Xs,S), append(S,[X],R). member(X,[X|_]). member(X,[_|T]) :- member(X,T).";
 
 const MERGE: &str =
@@ -149,44 +150,80 @@ fn named(text: &str) -> &str {
     }
 }
 
-// The reply that a line of a table gets, and the one that it wants. A line has words, a program, a query and the reply.
-fn replies<'a, R: Threads + Wait + Sync>(
-    rt: &R,
-    alloc: Global,
-    case: &'a str,
-) -> Result<(String, &'a str), Fail> {
-    let (options, rest) = case.split_once(" => ").ok_or("words")?;
-    let (program, rest) = rest.split_once(" => ").ok_or("program")?;
-    let (query, wanted) = rest.split_once(" => ").ok_or("query")?;
-    let mut words = Vec::new(alloc);
-    words.push("--query")?;
-    words.push(query)?;
-    for word in options.split(',').filter(|word| !word.is_empty()) {
-        words.push(word)?;
-    }
-    let found = shown(alloc, &command(rt, alloc, named(program), &words)?)?;
-    Ok((found, wanted))
+/// The parts of a line, between which ` => ` stands: options that are parted by commas, a program or its name, a query and
+/// the reply.
+#[derive(Clone, Copy)]
+pub struct Case<'a> {
+    options: &'a str,
+    program: &'a str,
+    query: &'a str,
+    pub wanted: &'a str,
 }
 
-#[test]
-fn each_rule_applies_where_it_may(rt: HostRuntime) -> Result<(), Fail> {
-    let alloc = rt.alloc();
-    for table in [RULES, VALUES, SPLITS, CHOICES, TRACES] {
-        for case in table.lines().skip(1) {
-            let (found, wanted) = replies(&rt, alloc, case)?;
-            assert_eq!(rt; found.as_str(), wanted, "{case}");
-        }
+/// The parts of a line; the name of the first that nothing ends.
+pub fn case_of(line: &str) -> Result<Case<'_>, &'static str> {
+    let (options, rest) = line.split_once(" => ").ok_or("words")?;
+    let (program, rest) = rest.split_once(" => ").ok_or("program")?;
+    let (query, wanted) = rest.split_once(" => ").ok_or("query")?;
+    Ok(Case {
+        options,
+        program: named(program),
+        query,
+        wanted,
+    })
+}
+
+/// The reply that a line gets.
+pub fn replied<R: Threads + Wait + Sync>(
+    rt: &R,
+    alloc: Global,
+    case: &Case,
+) -> Result<Reply, Fail> {
+    let mut words = words_of(alloc, &["--query", case.query])?;
+    add_options(alloc, &mut words, case.options)?;
+    command(rt, alloc, &words, case.program)
+}
+
+// A line gets the reply that it should.
+fn try_rule<R: Threads + Wait + Sync + Abort>(
+    rt: &R,
+    alloc: Global,
+    line: &str,
+) -> Result<(), Fail> {
+    let case = case_of(line)?;
+    let reply = replied(rt, alloc, &case)?;
+    expect(rt, &reply.text, case.wanted, line);
+    Ok(())
+}
+
+fn try_rules<R: Threads + Wait + Sync + Abort>(
+    rt: &R,
+    alloc: Global,
+    table: &str,
+) -> Result<(), Fail> {
+    for line in table.lines().skip(1) {
+        try_rule(rt, alloc, line)?;
     }
     Ok(())
 }
 
 #[test]
+fn each_rule_applies_where_it_may(rt: HostRuntime) -> Result<(), Fail> {
+    let alloc = rt.alloc();
+    try_rules(&rt, alloc, RULES)?;
+    try_rules(&rt, alloc, VALUES)?;
+    try_rules(&rt, alloc, SPLITS)?;
+    try_rules(&rt, alloc, CHOICES)?;
+    try_rules(&rt, alloc, TRACES)
+}
+
+#[test]
 fn generated_programs_are_run(rt: HostRuntime) -> Result<(), Fail> {
     let alloc = rt.alloc();
-    let reply = command(&rt, alloc, "", &["--generate", "0"])?;
-    assert_eq!(rt;
-        shown(alloc, &reply)?.as_str(),
-        "0 / answer 1 / R = [775,606,345] / X = 345 / answer 2 / R = [775,606,345] / X = 606 / answer 3 / R = [775,606,345] / X = 775 / done",
-    );
+    let words = words_of(alloc, &["--generate", "0"])?;
+    let reply = command(&rt, alloc, &words, "")?;
+    let wanted =
+        "0 / answer 1 / R = [775,606,345] / X = 345 / answer 2 / R = [775,606,345] / X = 606 / answer 3 / R = [775,606,345] / X = 775 / done";
+    expect(&rt, &reply.text, wanted, "--generate 0");
     Ok(())
 }

@@ -1,0 +1,153 @@
+//! Whole commands by several workers.
+
+use crate::replies::{Reply, command, command_at, expect, words_of};
+use crate::rules::{LISTS, case_of, replied};
+use akl_outside::{CrossGate, Gate, MeetGate};
+use std::alloc::Global;
+use std::process::Abort;
+use std::sync::Wait;
+use std::test::Fail;
+use std::thread::Threads;
+
+/// Words, programs, queries and replies.
+const RUNS: &str = r"
+--workers,1 => LISTS => nrev([1,2,3,4,5,6,7,8,9,10,11,12,13,14,15,16,17,18,19,20,21,22,23,24,25,26,27,28,29,30],R) => 0 / answer 1 / R = [30,29,28,27,26,25,24,23,22,21,20,19,18,17,16,15,14,13,12,11,10,9,8,7,6,5,4,3,2,1] / done
+--workers,4 => LISTS => nrev([1,2,3,4,5,6,7,8],R) => 0 / answer 1 / R = [8,7,6,5,4,3,2,1] / done
+--workers,3 => LISTS => member(X,[1,2,3]), member(Y,[1,2,3]), X + Y =:= 4, X < Y => 0 / answer 1 / X = 1 / Y = 3 / done
+--workers,16 => LISTS => append(L,[c],Z) => 2 / suspended 1
+--workers,2 =>  => X = a, X = b => 1 / failed
+--workers,16 => p(X) :- (X = a ? true). => p(X) => 0 / answer 1 / X = a / done
+";
+
+/// The same without the number of workers. Where the order of two labels is free, there are two replies.
+const BY_EACH: &str = r"
+--budget,10 => p :- -> p. => p => 3 / budget
+ => LISTS => nrev([1,2,3],R) => 0 / answer 1 / R = [3,2,1] / done
+ => MERGE => merge([a],[b],Z) => 0 / answer 1 / Z = [a,b] / done or 0 / answer 1 / Z = [b,a] / done
+ => COUNT => open_port(P,S), send(a,P), send(b,P), count(S,0,R) => 2 / suspended 1
+ =>  => open_port(P,S), send(a,P), send(b,P) => 0 / answer 1 / P = port / S = [a,b|_1] / done or 0 / answer 1 / P = port / S = [b,a|_1] / done
+";
+
+// Whether a reply is one of those that are allowed.
+fn is_one_of(found: &str, allowed: &str) -> bool {
+    allowed.split(" or ").any(|one| one == found)
+}
+
+// A reply is one of those that a line allows.
+fn accept(alloc: Global, found: &str, allowed: &str, line: &str) -> Result<(), Fail> {
+    if is_one_of(found, allowed) {
+        Ok(())
+    } else {
+        Err(format!(in alloc; "{line}: {found}")?.into())
+    }
+}
+
+// Runs a line's command. The reply is one of those that the line allows.
+fn run<R: Threads + Wait + Sync>(rt: &R, alloc: Global, line: &str) -> Result<(), Fail> {
+    let case = case_of(line)?;
+    let reply = replied(rt, alloc, &case)?;
+    accept(alloc, &reply.text, case.wanted, line)
+}
+
+// The same by each number of workers.
+fn run_by_each<R: Threads + Wait + Sync>(rt: &R, alloc: Global, case: &str) -> Result<(), Fail> {
+    for workers in 1..=16 {
+        let case = format!(in alloc; "--workers={workers},{case}")?;
+        run(rt, alloc, &case)?;
+    }
+    Ok(())
+}
+
+#[test]
+fn several_workers_answer_as_one_may(rt: HostRuntime) -> Result<(), Fail> {
+    for case in RUNS.lines().skip(1) {
+        run(&rt, rt.alloc(), case)?;
+    }
+    Ok(())
+}
+
+#[test]
+fn each_number_of_workers_has_a_lawful_output(rt: HostRuntime) -> Result<(), Fail> {
+    for case in BY_EACH.lines().skip(1) {
+        run_by_each(&rt, rt.alloc(), case)?;
+    }
+    Ok(())
+}
+
+// Words over a program.
+fn run_words<R: Threads + Wait + Sync>(
+    rt: &R,
+    alloc: Global,
+    texts: &[&str],
+    program: &str,
+) -> Result<Reply, Fail> {
+    let words = words_of(alloc, texts)?;
+    command(rt, alloc, &words, program)
+}
+
+// Ten labels, and no more.
+fn expect_ten(rt: &impl Abort, text: &str) {
+    assert!(rt; text.starts_with("3 / step 1 fork goal 0.2 by "));
+    assert!(rt; text.ends_with(" / budget"));
+    assert_eq!(rt; text.split(" / step ").count(), 11);
+}
+
+#[test]
+fn several_workers_spend_one_budget(rt: HostRuntime) -> Result<(), Fail> {
+    let words = [
+        "--query",
+        "p",
+        "--workers",
+        "4",
+        "--budget",
+        "10",
+        "--trace",
+    ];
+    let reply = run_words(&rt, rt.alloc(), &words, "p :- -> p.")?;
+    expect_ten(&rt, &reply.text);
+    Ok(())
+}
+
+#[test]
+fn sixteen_workers_write_what_one_does(rt: HostRuntime) -> Result<(), Fail> {
+    let alloc = rt.alloc();
+    let one = run_words(&rt, alloc, &["--generate", "0"], "")?;
+    let sixteen = run_words(&rt, alloc, &["--generate", "0", "--workers", "16"], "")?;
+    expect(&rt, &sixteen.text, &one.text, "--generate 0");
+    Ok(())
+}
+
+// A query over a program by four workers, with a gate.
+fn answer_at<R: Threads + Wait + Sync, G: Gate>(
+    rt: &R,
+    alloc: Global,
+    program: &str,
+    query: &str,
+    gate: &G,
+) -> Result<Reply, Fail> {
+    let words = words_of(alloc, &["--query", query, "--workers", "4"])?;
+    command_at(rt, alloc, &words, program, gate)
+}
+
+#[test]
+fn a_worker_plans_while_another_is_held(rt: HostRuntime) -> Result<(), Fail> {
+    let gate = CrossGate::new(10_000_000);
+    let query = "nrev([1,2,3],R), nrev([4,5,6],S)";
+    let reply = answer_at(&rt, rt.alloc(), LISTS, query, &gate)?;
+    let wanted = "0 / answer 1 / R = [3,2,1] / S = [6,5,4] / done";
+    expect(&rt, &reply.text, wanted, query);
+    assert!(rt; gate.crossed());
+    Ok(())
+}
+
+#[test]
+fn four_workers_plan_over_one_state(rt: HostRuntime) -> Result<(), Fail> {
+    let gate = MeetGate::new(4, 10_000_000);
+    let query = "p(A), p(B), p(C), p(D)";
+    let reply = answer_at(&rt, rt.alloc(), "p(a) :- -> true.", query, &gate)?;
+    expect(&rt, &reply.text, "2 / suspended 1", query);
+    assert!(rt; gate.met());
+    assert_eq!(rt; reply.labels, 4);
+    assert!(rt; reply.first_plans >= 3);
+    Ok(())
+}
