@@ -86,7 +86,7 @@ fn commit(
     requires { MayCommit scheduler.old.core plan }
     ensures { IfOk result (λ _. GoesOnTo scheduler.old.core scheduler.new.core) }
 {
-    match scheduler.commit(alloc, plan) {
+    match scheduler.commit_uncounted(alloc, plan) {
         Ok(committed) => {
             push_committed(alloc, scheduler, &committed, text)?;
             Ok(true)

@@ -1,10 +1,19 @@
 //! Tests of one core: with two workers, which plan over one state and commit one after the other, and of its open places.
 #![tactic(auto)]
 
+#[cfg(test)]
 mod attending;
+#[cfg(test)]
+mod cases;
+#[cfg(test)]
 mod listing;
+#[cfg(test)]
 mod loading;
+#[cfg(test)]
 mod places;
+#[cfg(test)]
 mod race;
+#[cfg(test)]
 mod texts;
+#[cfg(test)]
 mod waking;

@@ -3,6 +3,7 @@
 ghost use Rattle.std.specs.Prelude.{◌≡◌, IfOk, IfSome, OnOk};
 ghost use Rattle.box_tree.specs.Tables.{HasVariables, HasShownVariables};
 
+use crate::cases::{Case, case_of, expect};
 use crate::loading::loaded;
 use crate::places::{Turn, turn_of};
 use crate::texts::{push_journal, push_receipt, push_refused};
@@ -11,6 +12,7 @@ use akl_terms::Program;
 use box_tree::{LookError, Plan};
 use rule_plan::plan;
 use std::alloc::{AllocError, Global};
+use std::process::Abort;
 use std::test::Fail;
 use step_commit::Core;
 
@@ -115,23 +117,64 @@ fn play(
     }
 }
 
-// What the turns of a line come to.
+// All turns of a line, one after the other.
+fn play_all(
+    alloc: Global,
+    program: &Program,
+    core: &mut Core,
+    turns: &str,
+    text: &mut String,
+) -> Result<(), AllocError>
+    requires { program.now ≡ core.old.table.program }
+{
+    for turn in turns.split("; ") {
+        play(alloc, program, core, turn, text)?;
+    }
+    Ok(())
+}
+
+// A core of a query that no label has changed, for two workers.
+fn begun(alloc: Global, loaded: &Loaded) -> Result<Core, AllocError>
+    requires variables { HasVariables loaded.now.program loaded.now.query loaded.now.first_variable }
+    requires shown { HasShownVariables loaded.now.query }
+    ensures { IfOk result (λ c. c.table.program ≡ loaded.now.program) }
+{
+    Core::new(
+        alloc,
+        &loaded.program,
+        &loaded.query,
+        loaded.first_variable,
+        2,
+        1000,
+    )
+}
+
+// What the turns of a line come to, and the journal.
+fn push_played(
+    alloc: Global,
+    loaded: &Loaded,
+    turns: &str,
+    text: &mut String,
+) -> Result<(), AllocError>
+    requires variables { HasVariables loaded.now.program loaded.now.query loaded.now.first_variable }
+    requires shown { HasShownVariables loaded.now.query }
+{
+    let mut core = begun(alloc, loaded)?;
+    play_all(alloc, &loaded.program, &mut core, turns, text)?;
+    push_journal(alloc, text, &core.into_journal())
+}
+
+// The same, as a text of its own.
 fn played(alloc: Global, loaded: &Loaded, turns: &str) -> Result<String, AllocError>
     requires variables { HasVariables loaded.now.program loaded.now.query loaded.now.first_variable }
     requires shown { HasShownVariables loaded.now.query }
 {
-    let program = &loaded.program;
-    let first_variable = loaded.first_variable;
-    let mut core = Core::new(alloc, program, &loaded.query, first_variable, 2, 1000)?;
     let mut text = String::new(alloc);
-    for turn in turns.split("; ") {
-        play(alloc, program, &mut core, turn, &mut text)?;
-    }
-    push_journal(alloc, &mut text, &core.into_journal())?;
+    push_played(alloc, loaded, turns, &mut text)?;
     Ok(text)
 }
 
-/// The same, once more where there was no memory.
+// The same, once more where there was no memory.
 fn played_surely(alloc: Global, loaded: &Loaded, turns: &str) -> Result<String, AllocError>
     requires variables { HasVariables loaded.now.program loaded.now.query loaded.now.first_variable }
     requires shown { HasShownVariables loaded.now.query }
@@ -142,16 +185,25 @@ fn played_surely(alloc: Global, loaded: &Loaded, turns: &str) -> Result<String, 
     }
 }
 
+// What a line comes to.
+fn found(alloc: Global, case: &Case) -> Result<String, Fail> {
+    let loaded = loaded(alloc, case.program, case.query)?;
+    Ok(played_surely(alloc, &loaded, case.turns)?)
+}
+
+// A line comes to what it should.
+fn try_line(rt: &impl Abort, alloc: Global, line: &str) -> Result<(), Fail> {
+    let case = case_of(line)?;
+    let found = found(alloc, &case)?;
+    expect(rt, found.as_str(), case.wanted, line);
+    Ok(())
+}
+
 #[test]
 fn two_workers_plan_over_one_state(rt: HostRuntime) -> Result<(), Fail> {
     let alloc = rt.alloc();
-    for case in RACES.lines().skip(1) {
-        let (program, rest) = case.split_once(" => ").ok_or("program")?;
-        let (query, rest) = rest.split_once(" => ").ok_or("query")?;
-        let (turns, wanted) = rest.split_once(" => ").ok_or("turns")?;
-        let loaded = loaded(alloc, program, query)?;
-        let found = played_surely(alloc, &loaded, turns)?;
-        assert_eq!(rt; found.as_str(), wanted, "{case}");
+    for line in RACES.lines().skip(1) {
+        try_line(&rt, alloc, line)?;
     }
     Ok(())
 }

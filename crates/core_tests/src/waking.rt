@@ -5,6 +5,7 @@ ghost use Rattle.box_tree.specs.Tables.{HasVariables, HasShownVariables};
 ghost use Rattle.core_tests.specs.Waking.{GoesOnTo};
 
 use crate::attending::{attend, attend_between};
+use crate::cases::{Case, case_of, expect};
 use crate::listing::push_open;
 use crate::loading::loaded;
 use crate::places::place_of;
@@ -12,13 +13,14 @@ use akl_run::Loaded;
 use akl_terms::Program;
 use scheduler::Scheduler;
 use std::alloc::{AllocError, Global};
+use std::process::Abort;
 use std::test::Fail;
 use step_commit::Core;
 
 /// Programs, queries, places to which worker 1 attends in turn, and what comes of each: the rule of the label, with the
-/// places that it opens and that weren't open; or that the place sleeps, with the box that this opens; or that it is gone.
-/// At `goal 0.2 < goal 0.3` the first is looked at before the second is attended to, and is settled afterwards. Last come
-/// the places that are still open. Boxes are listed before goals, each by name.
+/// places that it opens and that weren't open; or that the place sleeps, with the box that this opens; or that it is gone,
+/// or that all labels are spent. At `goal 0.2 < goal 0.3` the first is looked at before the second is attended to, and is
+/// settled afterwards. Last come the places that are still open. Boxes are listed before goals, each by name.
 const WAKES: &str = r"
 p(a) :- -> true. => p(X), X = a => goal 0.2; box 0.0; goal 0.2; box 1.0; goal 0.3; goal 0.2; box 1.0; box 0.0 => fork box 1.0 / sleeps / sleeps / sleeps / tell box 0.0, box 1.0, goal 0.2 / promote / gone / sleeps / open
 p(Y) :- Z = Y, Z > 0 -> true. => p(X), X = 1 => goal 0.2; goal 1.2; box 0.0; goal 0.2; box 1.0; goal 1.3; goal 0.3; goal 1.3; goal 0.2; box 1.0; box 0.0 => fork box 1.0, goal 1.2, goal 1.3 / tell / sleeps / sleeps / sleeps / sleeps / tell box 0.0, box 1.0, goal 1.3 / eval goal 0.2 / promote / gone / sleeps / open
@@ -36,8 +38,13 @@ p :- q -> true. q :- -> true. => p => goal 0.2; goal 1.2; goal 0.2; box 0.0; box
 m(a). m(b). p(a) :- -> true. => m(X), p(X) => goal 0.2; goal 0.3; goal 0.2; goal 0.3; box 1.0; box 1.2; box 1.4; box 0.0; goal 1.9; box 1.12; goal 1.8; goal 0.2 => fork box 1.0, box 1.2 / fork box 1.4 / sleeps / sleeps / sleeps / sleeps / sleeps / split box 1.6, box 1.10, box 1.12, goal 0.2, goal 1.8, goal 1.9 / sleeps / sleeps / promote box 1.12, goal 1.9 / promote box 1.0, box 1.4, goal 0.3 / open box 0.0, box 1.0, box 1.4, box 1.6, box 1.10, box 1.12, goal 0.3, goal 1.9
 m(a). m(b). n :- q(Z) ? true. q(a) :- -> true. k :- m(X), n ? true. => k => goal 0.2; goal 1.2; goal 1.3; goal 1.2; goal 1.3; box 1.4; box 1.6; box 1.8; box 1.0; goal 0.2; box 0.0; goal 1.10; box 1.11; goal 1.10; box 1.8; box 1.0 => fork box 1.0, goal 1.2, goal 1.3 / fork box 1.4, box 1.6 / fork box 1.8, goal 1.10 / sleeps / sleeps / sleeps / sleeps / sleeps / sleeps / sleeps / sleeps / fork box 1.8, box 1.11 / sleeps / sleeps / sleeps, opens box 1.0 / split box 0.0, box 1.13, box 1.17, box 1.19, box 1.22, goal 0.2, goal 1.2, goal 1.15, goal 1.16, goal 1.21 / open box 0.0, box 1.0, box 1.13, box 1.17, box 1.19, box 1.22, goal 0.2, goal 1.2, goal 1.15, goal 1.16, goal 1.21
 p(a) :- -> true. => p(X), X = b => goal 0.2; goal 0.3; box 0.0; goal 0.2; box 1.0; goal 0.2; box 0.0 => fork box 1.0 / tell / sleeps / sleeps / fail box 0.0, goal 0.2 / sleeps / fail / open
+p(a) :- -> true. q(a) :- -> true. => p(X), q(Y), X = a => goal 0.2; goal 0.3; box 1.0; box 1.2; goal 0.2; goal 0.3; box 0.0; goal 0.4 => fork box 1.0 / fork box 1.2 / sleeps / sleeps / sleeps / sleeps / sleeps / tell box 0.0, box 1.0, goal 0.2 / open box 0.0, box 1.0, goal 0.2
+p :- -> p. => p => goal 0.2; goal 0.2; goal 1.2; goal 1.2; goal 1.5; goal 1.5; goal 1.8 => fork box 1.0 / promote goal 1.2 / fork box 1.3 / promote goal 1.5 / fork box 1.6 / promote goal 1.8 / spent / open box 0.0, box 1.0, box 1.3, box 1.6, goal 1.8
 p(a) :- q(W) -> true. q(c) :- -> true. => p(X), X = b => goal 0.2; goal 0.3; goal 1.2; goal 1.2 < box 1.0 => fork box 1.0, goal 1.2 / tell / fork box 1.3 / fail / stale goal 1.2 / open box 0.0, box 1.3, goal 0.2, goal 1.2
 ";
+
+/// How many labels are made at most.
+const LABELS: u64 = 6;
 
 // What comes of a turn.
 fn take_turn(
@@ -93,19 +100,32 @@ fn begun(alloc: Global, loaded: &Loaded) -> Result<Scheduler, AllocError>
         &loaded.query,
         loaded.first_variable,
         1,
-        1000,
+        LABELS,
     )?;
     Scheduler::new(alloc, core)
 }
 
 // What the turns of a line come to.
-fn woken(alloc: Global, loaded: &Loaded, turns: &str) -> Result<String, AllocError>
+fn push_woken(
+    alloc: Global,
+    loaded: &Loaded,
+    turns: &str,
+    text: &mut String,
+) -> Result<(), AllocError>
     requires variables { HasVariables loaded.now.program loaded.now.query loaded.now.first_variable }
     requires shown { HasShownVariables loaded.now.query }
 {
     let mut scheduler = begun(alloc, loaded)?;
+    take_turns(alloc, &loaded.program, &mut scheduler, turns, text)
+}
+
+// The same, as a text of its own.
+fn woken(alloc: Global, loaded: &Loaded, turns: &str) -> Result<String, AllocError>
+    requires variables { HasVariables loaded.now.program loaded.now.query loaded.now.first_variable }
+    requires shown { HasShownVariables loaded.now.query }
+{
     let mut text = String::new(alloc);
-    take_turns(alloc, &loaded.program, &mut scheduler, turns, &mut text)?;
+    push_woken(alloc, loaded, turns, &mut text)?;
     Ok(text)
 }
 
@@ -120,16 +140,25 @@ fn woken_surely(alloc: Global, loaded: &Loaded, turns: &str) -> Result<String, A
     }
 }
 
+// What a line comes to.
+fn found(alloc: Global, case: &Case) -> Result<String, Fail> {
+    let loaded = loaded(alloc, case.program, case.query)?;
+    Ok(woken_surely(alloc, &loaded, case.turns)?)
+}
+
+// A line comes to what it should.
+fn try_line(rt: &impl Abort, alloc: Global, line: &str) -> Result<(), Fail> {
+    let case = case_of(line)?;
+    let found = found(alloc, &case)?;
+    expect(rt, found.as_str(), case.wanted, line);
+    Ok(())
+}
+
 #[test]
 fn each_place_sleeps_until_it_is_opened(rt: HostRuntime) -> Result<(), Fail> {
     let alloc = rt.alloc();
-    for case in WAKES.lines().skip(1) {
-        let (program, rest) = case.split_once(" => ").ok_or("program")?;
-        let (query, rest) = rest.split_once(" => ").ok_or("query")?;
-        let (turns, wanted) = rest.split_once(" => ").ok_or("turns")?;
-        let loaded = loaded(alloc, program, query)?;
-        let found = woken_surely(alloc, &loaded, turns)?;
-        assert_eq!(rt; found.as_str(), wanted, "{case}");
+    for line in WAKES.lines().skip(1) {
+        try_line(&rt, alloc, line)?;
     }
     Ok(())
 }

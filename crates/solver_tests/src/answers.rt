@@ -1,6 +1,8 @@
 //! The text of answers.
 
-ghost use Rattle.std.specs.Prelude.{◌≡◌};
+ghost use Rattle.std.specs.Prelude.{◌≡◌, []};
+ghost use Rattle.akl_terms.specs.Equal.{IsConsistentBy};
+ghost use Rattle.local_store.specs.Chained.{ToldBy};
 
 use akl_terms::{Name, Node, ShownTerm, Templates, Term, Text, Var};
 use answer_text::{
@@ -22,8 +24,10 @@ fn mol(node: u32) -> Term {
 }
 
 // X, Y, [X|Y], [], 'it\'s', X, [], [X], -7, [X|Y], f(-7,[X|Y])
-fn templates(alloc: Global) -> Result<Templates, AllocError> {
-    let mut templates = Templates::new(alloc);
+fn push_nodes(templates: &mut Templates) -> Result<(), AllocError>
+    requires nodes { templates.old.nodes ≡ [] }
+    requires symbols { templates.old.symbols ≡ [] }
+{
     let end = templates.intern("[]")?;
     let cell = templates.intern(".")?;
     let quoted = templates.intern("it's")?;
@@ -57,6 +61,12 @@ fn templates(alloc: Global) -> Result<Templates, AllocError> {
     templates.push(&[pair, nil, text, Node::Var(0), nil])?;
     templates.push(&[one, Node::Int(-7), pair])?;
     templates.push(&[compound])?;
+    Ok(())
+}
+
+fn templates(alloc: Global) -> Result<Templates, AllocError> {
+    let mut templates = Templates::new(alloc);
+    push_nodes(&mut templates)?;
     Ok(templates)
 }
 
@@ -67,10 +77,18 @@ fn shown(alloc: Global, name: &str, term: Term) -> Result<ShownTerm, AllocError>
     })
 }
 
-#[test]
-fn each_kind_of_term_is_written(rt: HostRuntime) -> Result<(), Fail> {
-    let alloc = rt.alloc();
-    let templates = templates(alloc)?;
+fn push_line(
+    alloc: Global,
+    lines: &mut Vec<ShownTerm>,
+    name: &str,
+    term: Term,
+) -> Result<(), AllocError> {
+    lines.push(shown(alloc, name, term)?)?;
+    Ok(())
+}
+
+/// A line for each kind of term.
+fn each_kind(alloc: Global) -> Result<Vec<ShownTerm>, AllocError> {
     let mut lines = Vec::new(alloc);
     let nodes = [
         ("A", 1),
@@ -82,10 +100,23 @@ fn each_kind_of_term_is_written(rt: HostRuntime) -> Result<(), Fail> {
         ("G", 10),
     ];
     for (name, node) in nodes {
-        lines.push(shown(alloc, name, mol(node))?)?;
+        push_line(alloc, &mut lines, name, mol(node))?;
     }
-    lines.push(shown(alloc, "P", Term::Port(FRAME))?)?;
-    let text = answer(alloc, &templates, &Nothing, &lines)?;
+    push_line(alloc, &mut lines, "P", Term::Port(FRAME))?;
+    Ok(lines)
+}
+
+/// The text of such lines.
+fn text_of_each(alloc: Global, templates: &Templates) -> Result<Vec<u8>, AnswerError> {
+    let lines = each_kind(alloc)?;
+    answer(alloc, templates, &Nothing, &lines)
+}
+
+#[test]
+fn each_kind_of_term_is_written(rt: HostRuntime) -> Result<(), Fail> {
+    let alloc = rt.alloc();
+    let templates = templates(alloc)?;
+    let text = text_of_each(alloc, &templates)?;
     let expected =
         b"A = _1\nB = _2\nC = [_2|_1]\nD = [_2]\nE = []\nF = 'it\\'s'\nG = f(-7,[_2|_1])\nP = port\n";
     assert_eq!(rt; text.as_slice(), expected.as_slice());
@@ -146,21 +177,36 @@ fn wanted(alloc: Global, want: &str) -> Result<String, AllocError> {
     }
 }
 
+/// The lines of X and Y.
+fn x_and_y(alloc: Global) -> Result<Vec<ShownTerm>, AllocError> {
+    let mut lines = Vec::new(alloc);
+    push_line(alloc, &mut lines, "X", mol(0))?;
+    push_line(alloc, &mut lines, "Y", mol(1))?;
+    Ok(lines)
+}
+
+/// The answer of X and Y by a chain, or a word where it is too long.
+fn text_by(alloc: Global, chain: &Chain) -> Result<Vec<u8>, AllocError>
+    requires { IsConsistentBy (ToldBy chain.now.nodes chain.now.stores) }
+{
+    let lines = x_and_y(alloc)?;
+    match chain_answer(alloc, chain, &lines) {
+        Ok(text) => Ok(text),
+        Err(AnswerError::Long) => Vec::from_slice(alloc, b"long"),
+        Err(AnswerError::Memory(error)) => Err(error),
+    }
+}
+
 /// The answer of X and Y under stores, or a word where there is none.
 fn text_under(
     alloc: Global,
     templates: &Templates,
     stores: &[Shared<Store>],
 ) -> Result<Vec<u8>, AllocError> {
-    let lines = [shown(alloc, "X", mol(0))?, shown(alloc, "Y", mol(1))?];
     let chain = Chain::new(templates, stores);
     match consistent(alloc, &chain)? {
         Consistency::Clash { left: _, right: _ } => Vec::from_slice(alloc, b"clash"),
-        Consistency::Consistent => match chain_answer(alloc, &chain, &lines) {
-            Ok(text) => Ok(text),
-            Err(AnswerError::Long) => Vec::from_slice(alloc, b"long"),
-            Err(AnswerError::Memory(error)) => Err(error),
-        },
+        Consistency::Consistent => text_by(alloc, &chain),
     }
 }
 
@@ -181,12 +227,22 @@ X=[X] => R1 _1 [R1]
 X=[X|Y] / Y=[X|Y] => R1 R1 [R1|R1]
 ";
 
+/// The answer under stores.
+fn text_told(alloc: Global, templates: &Templates, told: &str) -> Result<Vec<u8>, Fail> {
+    let stores = stores_of(alloc, told)?;
+    Ok(text_under(alloc, templates, stores.as_slice())?)
+}
+
+/// Whether this is what was wanted.
+fn is_wanted(alloc: Global, found: &[u8], want: &str) -> Result<bool, AllocError> {
+    let expected = wanted(alloc, want)?;
+    Ok(found == expected.as_bytes())
+}
+
 /// Whether this is the answer under stores.
 fn is_answered(alloc: Global, templates: &Templates, told: &str, want: &str) -> Result<bool, Fail> {
-    let stores = stores_of(alloc, told)?;
-    let found = text_under(alloc, templates, stores.as_slice())?;
-    let expected = wanted(alloc, want)?;
-    Ok(found.as_slice() == expected.as_bytes())
+    let found = text_told(alloc, templates, told)?;
+    Ok(is_wanted(alloc, found.as_slice(), want)?)
 }
 
 #[test]

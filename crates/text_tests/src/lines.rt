@@ -74,15 +74,37 @@ fn answered(alloc: Global, asked: &str, text: &[u8]) -> Result<String, AllocErro
     }
 }
 
+/// What is answered for the text of a case.
+fn found(alloc: Global, asked: &str, text: &str) -> Result<String, AllocError> {
+    let text = expanded(alloc, text)?;
+    answered(alloc, asked, text.as_slice())
+}
+
+/// Fails where another answer is wanted of a case.
+fn expect(
+    rt: &impl Abort,
+    alloc: Global,
+    case: &str,
+    found: &str,
+    want: &str,
+) -> Result<(), AllocError> {
+    let want = expanded(alloc, want)?;
+    assert!(rt; found.as_bytes() == want.as_slice(), "{case}: {found}");
+    Ok(())
+}
+
+/// Fails where a case has another answer.
+fn try_case(rt: &impl Abort, alloc: Global, asked: &str, case: &str) -> Result<(), AllocError> {
+    let (text, want) = case.split_once(" =>").unwrap_or((case, " no case"));
+    let found = found(alloc, asked, text)?;
+    expect(rt, alloc, case, found.as_str(), want)
+}
+
 /// Fails at a case of a table with another answer.
 pub fn each_holds(rt: &impl Abort, alloc: Global, table: &str) -> Result<(), AllocError> {
     let (asked, cases) = table.split_once('\n').unwrap_or((table, "no case"));
     for case in cases.lines() {
-        let (text, want) = case.split_once(" =>").unwrap_or((case, " no case"));
-        let text = expanded(alloc, text)?;
-        let want = expanded(alloc, want)?;
-        let found = answered(alloc, asked, text.as_slice())?;
-        assert!(rt; found.as_bytes() == want.as_slice(), "{case}: {found}");
+        try_case(rt, alloc, asked, case)?;
     }
     Ok(())
 }

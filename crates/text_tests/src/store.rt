@@ -5,7 +5,7 @@ ghost use Rattle.std.specs.Prelude.{◌≤◌, length, IfOk};
 
 use crate::lines::each_holds;
 use akl_syntax::SourceQuery;
-use akl_terms::{Name, Query, Term, Text};
+use akl_terms::{Name, Program, Query, Term, Text};
 use clause_store::{load, load_query};
 use std::alloc::{AllocError, Global};
 use std::test::Fail;
@@ -45,7 +45,13 @@ fn variables(alloc: Global, query: &Query) -> Result<String, AllocError> {
     Ok(shown)
 }
 
-/// How many nodes the program has with the query, and the query's variables.
+/// How many nodes a program has, and a query's variables.
+fn shown(alloc: Global, program: &Program, query: &Query) -> Result<String, AllocError> {
+    let variables = variables(alloc, query)?;
+    format!(in alloc; " {}{variables}", program.templates.len())
+}
+
+/// The same of the empty program with a query without goals.
 pub fn query(alloc: Global) -> Result<String, AllocError> {
     let program = load(alloc, Vec::new(alloc))?;
     let query = SourceQuery {
@@ -53,8 +59,7 @@ pub fn query(alloc: Global) -> Result<String, AllocError> {
         names: names(alloc)?,
     };
     let (program, query) = load_query(alloc, program, query, Vec::new(alloc))?;
-    let variables = variables(alloc, &query)?;
-    format!(in alloc; " {}{variables}", program.templates.len())
+    shown(alloc, &program, &query)
 }
 
 const PROGRAM: &str = "empty program

@@ -2,8 +2,8 @@
 
 use crate::lines::{counted, each_holds};
 use akl_syntax::{
-    Head, SourceClause, SourceGoal, SourcePart, SourceTerm, SyntaxError, check_query, read_program,
-    read_query,
+    Head, SourceClause, SourceGoal, SourcePart, SourceQuery, SourceTerm, SyntaxError, check_query,
+    read_program, read_query,
 };
 use akl_terms::{Op, Text};
 use std::alloc::{AllocError, Global};
@@ -148,18 +148,20 @@ pub fn count(alloc: Global, text: &[u8]) -> Result<String, AllocError> {
     }
 }
 
+fn goals(alloc: Global, query: &SourceQuery) -> Result<String, AllocError> {
+    let mut shown = String::from_str(alloc, " ")?;
+    write_goals(&mut shown, &query.goals)?;
+    write_names(&mut shown, &query.names)?;
+    Ok(shown)
+}
+
 /// The goals of a query, or why it is refused.
 pub fn query(alloc: Global, text: &[u8]) -> Result<String, AllocError> {
     if let Err(error) = check_query(text) {
         return refusal(alloc, error);
     }
     match read_query(alloc, text) {
-        Ok(found) => {
-            let mut shown = String::from_str(alloc, " ")?;
-            write_goals(&mut shown, &found.goals)?;
-            write_names(&mut shown, &found.names)?;
-            Ok(shown)
-        }
+        Ok(found) => goals(alloc, &found),
         Err(error) => refusal(alloc, error),
     }
 }
