@@ -9,15 +9,15 @@ use box_tree::{LookError, View};
 use place_steps::{Seen, see};
 use std::alloc::{AllocError, Global};
 use std::collections::VecDeque;
+use scheduler::Attention;
 use step_commit::Core;
-use wake_lists::Urgency;
 
 /// What a worker saw of a place.
 #[derive(Drop)]
 pub enum Sight {
     /// Enough to tell what comes next there.
     Whole(Seen),
-    /// A box in which another place is open, without what stands inside it.
+    /// A box that may fail, or in which another place is open, without what stands inside it.
     Busy(View),
 }
 
@@ -40,9 +40,9 @@ pub enum Chosen {
 }
 
 impl SharedRun {
-    /// Looks at the place of the first of a worker's tokens whose place is there, and isn't a busy box that is late. Without
-    /// one the worker waits, or, where it `has_waited`, looks at the first open place. Only such a worker looks at a late box,
-    /// and inside of a busy one. Want of memory stops all workers.
+    /// Looks at the place of the first of a worker's tokens whose place is there, and isn't late while something is open in
+    /// it. Without one the worker waits, or, where it `has_waited`, looks at the first open place. Only such a worker looks at
+    /// such a late place, and inside of a box in which something is open. Want of memory stops all workers.
     pub(crate) fn choose(
         &mut self,
         alloc: Global,
@@ -149,7 +149,8 @@ impl SharedRun {
         let Some(place) = self.scheduler.place_of(token) else {
             return Ok(None);
         };
-        let found = if inside || !self.is_busy(place) {
+        let attention = self.scheduler.attention_at(token, place);
+        let found = if inside || attention == Attention::Whole {
             see_whole(alloc, self.scheduler.core(), place, worker)?
         } else {
             see_busy(alloc, self.scheduler.core(), place, worker)?
@@ -160,20 +161,11 @@ impl SharedRun {
         Ok(found)
     }
 
-    // Whether an open place is late, and a box in which another place is open.
+    // Whether an open place isn't looked at yet.
     fn is_put_off(&self, token: u64) -> bool {
-        let is_late = matches!(self.scheduler.urgency_of(token), Some(Urgency::Late));
         match self.scheduler.place_of(token) {
-            Some(place) => is_late && self.is_busy(place),
+            Some(place) => self.scheduler.attention_at(token, place) == Attention::PutOff,
             None => false,
-        }
-    }
-
-    // Whether a place is a box in which another place is open.
-    fn is_busy(&self, place: Place) -> bool {
-        match place {
-            Place::Box(name) => self.scheduler.is_busy(name),
-            Place::Goal(_) => false,
         }
     }
 }

@@ -68,7 +68,7 @@ impl Worker {
             match self.turn(rt, alloc, lock, planned, has_waited) {
                 Chosen::End => return,
                 Chosen::Wait => {
-                    backoff.snooze();
+                    backoff.reset();
                     planned = None;
                 }
                 Chosen::At(look) => {

@@ -15,7 +15,7 @@ use crate::dropping::{drop_gone, drop_opened, leave_gone};
 use crate::effects::{gone_once, opened_by};
 use crate::opening::{close_all, open_all};
 use crate::scheduler::Scheduler;
-use crate::turns::unsolved_by;
+use crate::turns::Doubts;
 use akl_model::Receipt;
 use akl_terms::{Place, Steps};
 use box_tree::Plan;
@@ -38,8 +38,9 @@ pub struct Committed {
 impl Scheduler {
     /// Appends the plan's label, makes its step, and opens exactly the places that it can have made ready: those that are
     /// new or changed, those that wait on a variable that it binds or makes equal, and all in a box whose equations come to
-    /// bind a variable from outside. Of these none is late any more, and those boxes are urgent that have a goal by which
-    /// they fail, or that the label leaves unsolved. Its own place closes where it has gone. An `Err` leaves all as it was.
+    /// bind a variable from outside. Of these the boxes are urgent that have a goal by which they fail, that the label
+    /// leaves unsolved, or that may clash with what it tells, if memory suffices for it. Its own place closes where it has
+    /// gone. An `Err` leaves all as it was.
     ///
     /// It counts at most a step for each item that the plan read, each content that it writes, each place that it takes
     /// away, each place that it opens, each box around such a place, and each wait of a place that it opens or takes away.
@@ -129,9 +130,9 @@ impl Scheduler {
         ensures steps { TakesLabelSteps self.old plan steps.old steps.new }
     {
         let places = opened_by(alloc, self.core.table(), &self.waits, &plan, gone)?;
-        let unsolved = unsolved_by(alloc, self.core.table(), &plan)?;
+        let doubts = Doubts::of(alloc, self.core.table(), &plan)?;
         let mut committed = self.commit_opening(alloc, plan, places.as_slice(), gone, steps)?;
-        committed.hurried = self.set_turns(places.as_slice(), unsolved.as_slice());
+        committed.hurried = self.set_turns(places.as_slice(), &doubts);
         Ok(committed)
     }
 

@@ -1,6 +1,7 @@
 //! Which places of a run are open, and what those that sleep wait on.
 #![tactic(auto)]
 
+mod attention;
 mod candidates;
 mod committing;
 mod counting;
@@ -13,5 +14,6 @@ mod scheduler;
 mod settling;
 mod turns;
 
+pub use attention::Attention;
 pub use committing::Committed;
 pub use scheduler::Scheduler;

@@ -5,7 +5,7 @@ ghost use Rattle.scheduler.specs.Opening.{AreOpened, IsOpenedBy, closed_back};
 ghost use Rattle.scheduler.specs.Counting.{OpensBySteps, OpenSomeBySteps};
 
 use crate::counting::count;
-use akl_terms::Steps;
+use akl_terms::{Place, Steps};
 use opened_places::Placed;
 use std::alloc::{AllocError, Global};
 use std::sync::ledger::Ledger;
@@ -50,12 +50,21 @@ fn open_one<L: Ledger>(
     }
     steps.tick();
     count(placed.around().len(), steps);
-    let token = open_places.open(placed.place(), placed.around(), Urgency::Ordinary)?;
+    let place = placed.place();
+    let token = open_places.open(place, placed.around(), urgency_at_first(place))?;
     if tokens.push(token).is_err() {
         open_places.close(token);
         return Err(AllocError);
     }
     Ok(())
+}
+
+// A goal comes in its turn. Rules other than Split apply to a box where it fails, which makes it urgent, so else it is late.
+fn urgency_at_first(place: Place) -> Urgency {
+    match place {
+        Place::Goal(_) => Urgency::Ordinary,
+        Place::Box(_) => Urgency::Late,
+    }
 }
 
 /// Closes the places with these tokens, the last one first.

@@ -1,7 +1,7 @@
 //! The state of a run with its open places.
 
 ghost use Rattle.std.specs.Prelude.{◌≡◌, ◌<◌, [], length, option_map, IfOk, IfErr, IfNone, true};
-ghost use Rattle.wake_lists.specs.Open.{IsFirst, IsPutLast, untimed, opening_at, closed, is_busy};
+ghost use Rattle.wake_lists.specs.Open.{IsFirst, IsPutLast, untimed, opening_at, closed};
 ghost use Rattle.wake_lists.specs.declared.turn.Urgency.{Urgency};
 ghost use Rattle.scheduler.specs.Schedulers.{IsScheduler, AllOpen, IsQuiet, HasGone};
 ghost use Rattle.scheduler.specs.Opening.{AreOpened};
@@ -85,13 +85,6 @@ impl Scheduler {
         self.open.urgency_of(token)
     }
 
-    /// Whether an open place stands in the box.
-    pub fn is_busy(&self, name: Name) -> bool
-        ensures { result ≡ is_busy name self.now.openings }
-    {
-        self.open.busy(name)
-    }
-
     /// Whether no place is open; then none is ready.
     pub fn is_quiet(&self) -> bool
         ensures quiet { result ≡ true → IsQuiet self.now }
@@ -108,8 +101,8 @@ impl Scheduler {
         self.open.count()
     }
 
-    /// Puts the open place with this token behind all others, as a late one, until a label opens it, or as many labels
-    /// were made as places are open. An `Err`, for want of memory, leaves all as it was.
+    /// Puts the open place with this token behind all others, as a late one, until a label makes it come sooner, or sixteen
+    /// labels were made for each open place. An `Err`, for want of memory, leaves all as it was.
     pub fn postpone(&mut self, token: u64) -> Result<(), AllocError>
         ensures put { IfOk result (λ _. IsPutLast self.old.openings self.new.openings Urgency.Late token) }
         ensures places { untimed self.new.openings ≡ untimed self.old.openings }

@@ -6,7 +6,7 @@ ghost use Rattle.box_tree.specs.Paths.{sight_in};
 ghost use Rattle.opened_places.specs.Placed.{places_of};
 ghost use Rattle.wake_lists.specs.Open.{untimed};
 ghost use Rattle.wake_lists.specs.declared.turn.Urgency.{Urgency};
-ghost use Rattle.scheduler.specs.Turns.{urgency_by, urgency_seen, IsUrgentAt, AreUrgent};
+ghost use Rattle.scheduler.specs.Turns.{urgency_seen, IsUrgentAt, AreUrgent};
 
 use crate::scheduler::Scheduler;
 use akl_terms::{Name, Place};
@@ -15,24 +15,73 @@ use opened_places::{Placed, around_of};
 use std::alloc::{AllocError, Global};
 use wake_lists::{Open, Urgency};
 
-/// The boxes whose stores the label of a plan leaves unsolved, as it does one with a clash.
-pub(crate) fn unsolved_by(
-    alloc: Global,
-    table: &Table,
-    plan: &Plan,
-) -> Result<Vec<Name>, AllocError>
+/// What the turns of the places hang on that the label of a plan opens.
+#[derive(Drop)]
+pub(crate) struct Doubts {
+    /// The boxes whose stores it leaves unsolved, as it does one with a clash.
+    unsolved: Vec<Name>,
+    /// The box that it tells something; the stores of other boxes that it opens may clash with that.
+    told: Option<Name>,
+    /// The call that it forks, where no alternative is solved from the start, so that no rule applies to it yet.
+    forked: Option<Place>,
+}
+
+impl Doubts {
+    /// Those of the label of a plan.
+    pub(crate) fn of(alloc: Global, table: &Table, plan: &Plan) -> Result<Doubts, AllocError>
+        requires { IsOfRun table.now }
+    {
+        let told = told_by(table, plan);
+        let unsolved = unsolved_by(alloc, plan.step(), told)?;
+        Ok(Doubts {
+            unsolved,
+            told,
+            forked: forked_by(plan),
+        })
+    }
+}
+
+// The box that a plan's step tells something.
+fn told_by(table: &Table, plan: &Plan) -> Option<Name>
     requires { IsOfRun table.now }
 {
-    let mut unsolved = Vec::new(alloc);
-    if leaves_unsolved(plan.step()) {
-        if let Some(around) = around_of(table, plan.label()) {
-            unsolved.push(around.home)?;
-        }
+    match plan.step() {
+        Step::Tell { .. } | Step::Promote { .. } => match around_of(table, plan.label()) {
+            Some(around) => Some(around.home),
+            None => None,
+        },
+        Step::Fork { .. }
+        | Step::Fail
+        | Step::Cut
+        | Step::Refute
+        | Step::Confirm
+        | Step::Split { .. } => None,
     }
-    if let Step::Fork { alternatives, .. } = plan.step() {
-        push_unsolved(alternatives.as_slice(), &mut unsolved)?;
+}
+
+// The boxes whose stores a step leaves unsolved, which tells this box something.
+fn unsolved_by(alloc: Global, step: &Step, told: Option<Name>) -> Result<Vec<Name>, AllocError> {
+    let mut unsolved = Vec::new(alloc);
+    match step {
+        Step::Tell { solved, .. } | Step::Promote { solved, .. } => {
+            if !solved {
+                push_told(told, &mut unsolved)?;
+            }
+        }
+        Step::Fork { alternatives, .. } => {
+            push_unsolved(alternatives.as_slice(), &mut unsolved)?;
+        }
+        Step::Fail | Step::Cut | Step::Refute | Step::Confirm | Step::Split { .. } => {}
     }
     Ok(unsolved)
+}
+
+// The box that was told something comes.
+fn push_told(told: Option<Name>, unsolved: &mut Vec<Name>) -> Result<(), AllocError> {
+    if let Some(name) = told {
+        unsolved.push(name)?;
+    }
+    Ok(())
 }
 
 // Those of these new boxes come whose stores are unsolved.
@@ -45,42 +94,48 @@ fn push_unsolved(boxes: &[NewBox], unsolved: &mut Vec<Name>) -> Result<(), Alloc
     Ok(())
 }
 
-// Whether a step leaves the store of its box unsolved.
-fn leaves_unsolved(step: &Step) -> bool {
-    match step {
-        Step::Tell { solved, .. } | Step::Promote { solved, .. } => !solved,
-        Step::Fork { .. }
-        | Step::Fail
-        | Step::Cut
-        | Step::Refute
-        | Step::Confirm
-        | Step::Split { .. } => false,
+// The call that a plan forks, where each alternative has goals.
+fn forked_by(plan: &Plan) -> Option<Place> {
+    match plan.step() {
+        Step::Fork { alternatives, .. } => {
+            if alternatives.iter().any(|new| new.goals.is_empty()) {
+                None
+            } else {
+                Some(plan.label().place)
+            }
+        }
+        _ => None,
     }
 }
 
+// As many labels are made for each open place before all late places come again.
+const LABELS_A_PLACE: usize = 16;
+
 impl Scheduler {
-    /// Gives turns to the places that a label opened, where it left the stores of these boxes unsolved: whether memory
-    /// sufficed for it. None of the places is late any more, and of the boxes those come first that are unsolved or have a
-    /// goal by which they fail. Once as many labels were made as places are open, all late places come as ordinary ones.
-    pub(crate) fn set_turns(&mut self, places: &[Placed], unsolved: &[Name]) -> bool
+    /// Gives turns to the places that a label opened: whether memory sufficed for it.
+    ///
+    /// Those boxes are urgent that have a goal by which they fail, whose stores the label left unsolved, or may clash with
+    /// what it told. Other boxes are late, as no rule but Split may apply to them, and so is a choice without a solved
+    /// alternative. Once sixteen labels were made for each open place, all late places come as ordinary ones.
+    pub(crate) fn set_turns(&mut self, places: &[Placed], doubts: &Doubts) -> bool
         ensures urgent { result ≡ true → AreUrgent self.new.core.table (places_of places.now) self.new.openings }
         ensures places { untimed self.new.openings ≡ untimed self.old.openings }
         ensures core { self.new.core ≡ self.old.core }
         ensures waits { self.new.waits ≡ self.old.waits }
     {
         resume_late(&mut self.open, &mut self.labels);
-        match hurry_all(&mut self.open, self.core.table(), places, unsolved) {
+        match order_all(&mut self.open, self.core.table(), places, doubts) {
             Ok(()) => true,
             Err(_) => false,
         }
     }
 }
 
-// Counts a label. All late places come as ordinary ones where there were as many since they last did as places are open.
+// Counts a label. All late places come as ordinary ones where there were enough of them since they last did.
 fn resume_late(open_places: &mut Open, labels: &mut usize)
     ensures { untimed open_places.new ≡ untimed open_places.old }
 {
-    if *labels < open_places.count() {
+    if *labels < open_places.count().saturating_mul(LABELS_A_PLACE) {
         *labels += 1;
     } else {
         *labels = 0;
@@ -88,18 +143,32 @@ fn resume_late(open_places: &mut Open, labels: &mut usize)
     }
 }
 
-// The unsolved boxes and the places that were opened come as soon as they are to.
-fn hurry_all(
+// The places that were opened, and the unsolved boxes, come as soon as they are to.
+fn order_all(
     open_places: &mut Open,
     table: &Table,
     places: &[Placed],
-    unsolved: &[Name],
+    doubts: &Doubts,
 ) -> Result<(), AllocError>
     ensures urgent { IfOk result (λ _. AreUrgent table.now (places_of places.now) open_places.new) }
     ensures places { untimed open_places.new ≡ untimed open_places.old }
 {
-    hurry_unsolved(open_places, unsolved)?;
-    hurry_opened(open_places, table, places)
+    delay(open_places, doubts.forked)?;
+    hurry_unsolved(open_places, doubts.unsolved.as_slice())?;
+    hurry_opened(open_places, table, places, doubts.told)
+}
+
+// A place is late, if it is open.
+fn delay(open_places: &mut Open, place: Option<Place>) -> Result<(), AllocError>
+    ensures { untimed open_places.new ≡ untimed open_places.old }
+{
+    let Some(delayed) = place else {
+        return Ok(());
+    };
+    match open_places.token_of(delayed) {
+        Some(token) => open_places.put_last(token, Urgency::Late),
+        None => Ok(()),
+    }
 }
 
 // These boxes are urgent.
@@ -112,37 +181,50 @@ fn hurry_unsolved(open_places: &mut Open, unsolved: &[Name]) -> Result<(), Alloc
     Ok(())
 }
 
-// Of these places none is late any more, and those are urgent of which this is seen.
-fn hurry_opened(open_places: &mut Open, table: &Table, places: &[Placed]) -> Result<(), AllocError>
+// These places come no later than they are to, by what is seen of them, where this box was told something.
+fn hurry_opened(
+    open_places: &mut Open,
+    table: &Table,
+    places: &[Placed],
+    told: Option<Name>,
+) -> Result<(), AllocError>
     ensures urgent { IfOk result (λ _. AreUrgent table.now (places_of places.now) open_places.new) }
     ensures places { untimed open_places.new ≡ untimed open_places.old }
 {
     for placed in places {
         let place = placed.place();
-        hurry(open_places, place, urgency_of(table, place))?;
+        hurry(open_places, place, urgency_of(table, place, told))?;
     }
     Ok(())
 }
 
-// How urgent a place is by what is seen of it.
-fn urgency_of(table: &Table, place: Place) -> Urgency
-    ensures { result ≡ urgency_seen (sight_in table.now place) }
+// How urgent a place is by what is seen of it, where this box was told something.
+fn urgency_of(table: &Table, place: Place, told: Option<Name>) -> Urgency
+    ensures { urgency_seen (sight_in table.now place) ≡ Urgency.Urgent → result ≡ Urgency.Urgent }
 {
-    match table.sight_of(place) {
-        Some((_, sight)) => urgency_by(sight),
-        None => Urgency::Ordinary,
+    match (place, table.sight_of(place)) {
+        (_, Some((_, Sight::Box { failing: Some(_) }))) => Urgency::Urgent,
+        (Place::Box(name), _) => urgency_of_box(name, told),
+        (Place::Goal(goal), Some((_, Sight::Choice { op: _ }))) => urgency_of_choice(table, goal),
+        (Place::Goal(_), _) => Urgency::Ordinary,
     }
 }
 
-// So it is by what stands there.
-fn urgency_by(sight: Sight) -> Urgency
-    ensures { result ≡ urgency_by sight }
-{
-    match sight {
-        Sight::Box { failing: Some(_) } => Urgency::Urgent,
-        Sight::Box { failing: None } => Urgency::Ordinary,
-        Sight::Atom(_) => Urgency::Ordinary,
-        Sight::Choice { op: _ } => Urgency::Ordinary,
+// A box is urgent that may clash with what another one was told.
+fn urgency_of_box(name: Name, told: Option<Name>) -> Urgency {
+    match told {
+        Some(home) if home != name => Urgency::Urgent,
+        _ => Urgency::Late,
+    }
+}
+
+// A choice is late as long as no alternative is solved.
+fn urgency_of_choice(table: &Table, goal: Name) -> Urgency {
+    let alternatives = table.alternatives_of(goal);
+    if alternatives.iter().any(|name| table.is_solved(*name)) {
+        Urgency::Ordinary
+    } else {
+        Urgency::Late
     }
 }
 

@@ -8,10 +8,9 @@ use box_tree::{LookError, Plan};
 use idle_places::Idle;
 use place_steps::{Next, next_of, see};
 use rule_plan::plan;
-use scheduler::Scheduler;
+use scheduler::{Attention, Scheduler};
 use std::alloc::{AllocError, Global};
 use step_commit::CommitError;
-use wake_lists::Urgency;
 
 /// What came of an open place that was looked at.
 #[derive(Drop)]
@@ -33,19 +32,6 @@ fn first_place(scheduler: &Scheduler) -> Option<(u64, Place)>
     Some((token, place))
 }
 
-// Whether a place is a box in which another place is open.
-fn is_busy(scheduler: &Scheduler, place: Place) -> bool {
-    match place {
-        Place::Box(name) => scheduler.is_busy(name),
-        Place::Goal(_) => false,
-    }
-}
-
-// Whether an open place is late.
-fn is_late(scheduler: &Scheduler, token: u64) -> bool {
-    matches!(scheduler.urgency_of(token), Some(Urgency::Late))
-}
-
 // Plans a rule other than Split at a place.
 fn plan_other(
     alloc: Global,
@@ -63,19 +49,19 @@ fn plan_other(
     }
 }
 
-// Plans a rule other than Split at an open place. Where none applies, the place is late; one that is late already isn't
-// tried again, until it comes as an ordinary one.
-fn try_busy(
+// Plans a rule other than Split at an open place that isn't put off. Where none applies, the place is late.
+fn try_at(
     alloc: Global,
     program: &Program,
     scheduler: &mut Scheduler,
     token: u64,
     place: Place,
+    attention: Attention,
 ) -> Result<Option<Plan>, AllocError>
     requires { program.now ≡ scheduler.old.core.table.program }
     ensures { IfOk result (HasTried scheduler.old scheduler.new) }
 {
-    if !is_late(scheduler, token) {
+    if attention == Attention::Tried {
         if let Some(found) = plan_other(alloc, program, scheduler, place)? {
             return Ok(Some(found));
         }
@@ -137,8 +123,8 @@ fn attend_first(
     }
 }
 
-/// Attends to the first open place that isn't a box in which another place is open. Each such box before it is tried by the
-/// rules other than Split, so that one that fails goes at once, and is late from then on.
+/// Attends to the first open place that is looked at whole. Each one before it is tried by the rules other than Split, so
+/// that a box that fails goes at once, or put off, and is late from then on.
 fn attend_next(
     alloc: Global,
     program: &Program,
@@ -151,10 +137,11 @@ fn attend_next(
         let Some((token, place)) = first_place(scheduler) else {
             return Ok(Attended::Quiet);
         };
-        if !is_busy(scheduler, place) {
+        let attention = scheduler.attention_at(token, place);
+        if attention == Attention::Whole {
             return attend(alloc, program, scheduler, token, place);
         }
-        if let Some(found) = try_busy(alloc, program, scheduler, token, place)? {
+        if let Some(found) = try_at(alloc, program, scheduler, token, place, attention)? {
             return Ok(Attended::Planned(found));
         }
     }

@@ -31,9 +31,9 @@ pub struct Finished {
 /// Runs on as worker 1, which has these receipts so far, until no rule applies, or until all labels of the budget are made
 /// and a rule still applies.
 ///
-/// Of the open places the one that has been open longest comes first. But a box that a label made fail comes at once; and
-/// one in which another place is open is looked at only for rules other than Split, and then comes after the others, until
-/// a label opens it again, or as many labels were made as places are open.
+/// Of the open places the one that has been open longest comes first. But a box that a label may have made fail comes at
+/// once; and other boxes, and choices, come after all others while something inside them is open, or no alternative is
+/// solved. Each of these is tried once sixteen labels were made for each open place.
 pub fn run_on(
     alloc: Global,
     program: &Program,

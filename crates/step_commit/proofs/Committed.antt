@@ -1,8 +1,10 @@
 -- A plan that nothing made stale leads the run on.
-use Rattle.std.proofs.Common.{◌≡◌, ℕ, ◌+◌, ◌≤◌, List, [], ◌∷◌, ◌++◌, length, true, Option, Some, None, refl, sym, ap, subst, ◌∙◌, ◌⊎◌, inl, inr, arith}
-use Rattle.std.specs.Prelude.{IsSome, nat_le, slice_index}
+use Rattle.std.proofs.Common.{◌≡◌, ℕ, ◌+◌, ◌≤◌, List, [], ◌∷◌, ◌++◌, length, Bool, true, false, Option, Some, None, refl, sym, ap, subst, ◌∙◌, ◌⊎◌, inl, inr, arith}
+use Rattle.std.specs.Prelude.{IsSome, nat_le, slice_index, ⊤}
 use Rattle.std.proofs.lemmas.List.{length-append}
 use Rattle.std.proofs.lemmas.Bool.Decides.{nat_tests}
+use Rattle.akl_terms.specs.declared.name.Name.{Name}
+use Rattle.akl_terms.specs.declared.term.Node.{Node}
 use Rattle.akl_terms.specs.declared.program.Program.{Program}
 use Rattle.akl_terms.specs.declared.program.Query.{Query}
 use Rattle.akl_model.specs.declared.item.Item.{Item}
@@ -11,13 +13,18 @@ use Rattle.akl_model.specs.declared.label.Label.{Label}
 use Rattle.akl_model.specs.Config.{Config, Found, site_of}
 use Rattle.akl_model.specs.Instances.{start}
 use Rattle.akl_model.specs.Derivations.{Applies, Derives}
+use Rattle.akl_model.specs.Wakes.{names_around}
 use Rattle.akl_model.proofs.Results.{Derives-prefix, Derives-one}
-use Rattle.plan_laws.specs.Right.{NoneBy}
+use Rattle.akl_model.proofs.NamesKept.{replay-stands}
+use Rattle.local_store.specs.Stored.{Stored}
+use Rattle.local_store.specs.Chained.{IsSolvedChain}
+use Rattle.plan_laws.specs.Right.{Reads, NoneBy, IsRightOn}
 use Rattle.plan_laws.specs.Stamps as stamps
 use Rattle.plan_laws.proofs.Right.{reads_map}
-use Rattle.table_laws.specs.Rows.{BoxRow, GoalRow, Table}
+use Rattle.plan_laws.proofs.StampLaws.{stamped_right}
+use Rattle.table_laws.specs.Rows.{BoxRow, GoalRow, Table, stores_along}
 use Rattle.table_laws.specs.Stamped.{Run, LastChange, IsStamped, IsTableOf, store_stamp, goals_stamp, goal_stamp, stamp_in}
-use Rattle.table_laws.specs.Steps.{Step, tells, forks, fails, cuts, promotes, refutes, confirms, splits, Makes, ReadsFor, IsSolvedIn, IsSolvedWhen}
+use Rattle.table_laws.specs.Steps.{Step, tells, forks, fails, cuts, promotes, refutes, confirms, splits, Makes, ReadsFor, IsSolvedIf, IsSolvedIn, IsSolvedWhen}
 use Rattle.table_laws.specs.Writes.{IsTable}
 use Rattle.table_laws.proofs.Later.{later_law}
 use Rattle.table_laws.specs.Laws.{started}
@@ -25,6 +32,8 @@ use Rattle.table_laws.proofs.Started.{start_law}
 use Rattle.box_tree.specs.Tables.{all_rules, TableValue, table_of, step_of}
 use Rattle.box_tree.specs.Plans.{PlanValue, IsRead, IsRight}
 use Rattle.step_commit.specs.Cores.{CoreValue, IsCore, MayCommit, is_within, AllWithin}
+use Rattle.step_commit.specs.Solving.{GivesStore, GivesRootStore}
+use Rattle.step_commit.proofs.RootStores.{none_around}
 
 pub some_of : {A : Type 0} {a b : A} → Some a ≡ Some b → a ≡ b
 some_of e = cc
@@ -61,6 +70,17 @@ reads_for U V h l f (splits copy copies) r = reads_map U V h l.rule l.place l.al
 reads_for U V h l f cuts r = reads_map U V h l.rule l.place l.alternative f r
 reads_for U V h l f (promotes new solved goals) r = reads_map U V h l.rule l.place l.alternative f r
 
+-- and of these what its label reads
+label_reads : (U : Item → Type 0) (l : Label) (f : Found) (step : Step) → ReadsFor U l f step → Reads U l.rule l.place l.alternative f
+label_reads U l f (tells new solved) r = r.0
+label_reads U l f (forks op news) r = r
+label_reads U l f fails r = r
+label_reads U l f refutes r = r
+label_reads U l f confirms r = r
+label_reads U l f (splits copy copies) r = r
+label_reads U l f cuts r = r
+label_reads U l f (promotes new solved goals) r = r
+
 -- all that a plan's type keeps, over a program and a query
 pub record IsPlanned (p : Program) (q : Query) (journal : List Label) (T : Table) (l : Label) (reads : List Item) (names : ℕ) (step : Step) : Type 0 where
   pub table : IsTableOf all_rules (record { program = p; query = q; journal = journal }) T
@@ -96,6 +116,11 @@ module _ (p : Program) (q : Query) (journal further : List Label) (S T : Table) 
 
 module _ (p : Program) (q : Query) (journal further : List Label) (S T : Table) (l : Label) (reads : List Item) (names : ℕ) (step : Step) (x : IsPlanned p q journal S l reads names step)
     (t : IsTableOf all_rules (record { program = p; query = q; journal = journal ++ further }) T) (none : NoneBy l further) (within : AllWithin T reads (length journal)) where
+  -- this is the number of labels, and the plan has seen all of them, or it gives a root box its store
+  abbrev pub IsSolvedOver : Option ℕ → Type 0
+  IsSolvedOver None = ⊤
+  IsSolvedOver (Some k) = (k ≡ length (journal ++ further)) × ((length journal ≡ length (journal ++ further)) ⊎ GivesRootStore T l.place step)
+
   unseen : (o : Option ℕ) (i : Item) → stamp_in T i ≡ o → is_within o (length journal) ≡ true → stamps.IsStamped all_rules p q (journal ++ further) (length journal) i
   unseen None i e w = absurd cc
   unseen (Some k) i e w = record { number = k; last = stamp_last all_rules (record { program = p; query = q; journal = journal ++ further }) T t.stamped i k e; early = within_is k w }
@@ -113,18 +138,48 @@ module _ (p : Program) (q : Query) (journal further : List Label) (S T : Table) 
       (reads_for (IsRead reads) (stamps.IsStamped all_rules p q (journal ++ further) (length journal)) stamped l x.applies.site step x.reads_all) x.makes in
       record { result = w.0; applies = w.1; makes = w.2; drawn = x.drawn ∙ sym w.4 }
 
-  -- where the plan has seen the whole run, and this very table, its stores are solved there
-  pub solved_now : (same : further ≡ [] → S ≡ T) (w : LeadsOn p q (journal ++ further) T t l names step) (at : Option ℕ)
-      → (at ≡ None) ⊎ ((at ≡ Some (length journal)) × (length journal ≡ length (journal ++ further))) → IsSolvedWhen at T w.applies.site step
-  solved_now same w at (inl e) = subst (λ (o : Option ℕ). IsSolvedWhen o T w.applies.site step) (sym e) tt
-  solved_now same w at (inr (e, n)) = subst (λ (o : Option ℕ). IsSolvedWhen o T w.applies.site step) (sym e) (n ∙ sym t.stamped.steps, here)
+  -- the same boxes are around the place
+  same_around : (w : LeadsOn p q (journal ++ further) T t l names step) → names_around x.applies.site ≡ names_around w.applies.site
+  same_around w =
+      let right : IsRightOn x.applies t.config = stamped_right all_rules p q journal further x.table.config t.config l x.result x.applies x.table.replays (goes p q journal further S T x.table t) none
+      (label_reads (stamps.IsStamped all_rules p q (journal ++ further) (length journal)) l x.applies.site step
+      (reads_for (IsRead reads) (stamps.IsStamped all_rules p q (journal ++ further) (length journal)) stamped l x.applies.site step x.reads_all)) in
+      right.same_around ∙ ap names_around (some_of (sym right.applies.is_site ∙ w.applies.is_site))
+
+  -- the store that it gives a root box is solved alone, as it was where it was planned
+  root_solved : (w : LeadsOn p q (journal ++ further) T t l names step) → GivesRootStore T l.place step → IsSolvedIn T w.applies.site step
+  root_solved w r = on step r.0 x.solved
+    where
+      none_now : names_around w.applies.site ≡ []
+      none_now = none_around T t.config t.unfolds (replay-stands all_rules p q (journal ++ further) t.config t.replays) l.place w.applies.site w.applies.is_site r.1
+
+      alone : (b : Bool) (new : Stored) → IsSolvedIf b S (names_around x.applies.site) new → IsSolvedIf b T (names_around w.applies.site) new
+      alone false new h = tt
+      alone true new h = subst (λ (ns : List Name). IsSolvedChain T.nodes (stores_along T ns ++ new ∷ [])) (sym none_now)
+          (subst (λ (nodes : List Node). IsSolvedChain nodes (new ∷ [])) (x.table.nodes ∙ sym t.nodes) (subst (λ (ns : List Name). IsSolvedChain S.nodes (stores_along S ns ++ new ∷ [])) (same_around w ∙ none_now) h))
+
+      on : (made : Step) → GivesStore made → IsSolvedIn S x.applies.site made → IsSolvedIn T w.applies.site made
+      on (tells new solved) g h = alone solved new h
+      on (promotes new solved goals) g h = alone solved new h
+      on (forks op news) g h = absurd g
+      on fails g h = absurd g
+      on cuts g h = absurd g
+      on refutes g h = absurd g
+      on confirms g h = absurd g
+      on (splits copy copies) g h = absurd g
+
+  -- where the plan has seen the whole run, and this very table, or gives a root box its store, its stores are solved there
+  pub solved_now : (same : further ≡ [] → S ≡ T) (w : LeadsOn p q (journal ++ further) T t l names step) (at : Option ℕ) → IsSolvedOver at → IsSolvedWhen at T w.applies.site step
+  solved_now same w None h = tt
+  solved_now same w (Some k) (n, inr r) = (n ∙ sym t.stamped.steps, root_solved w r)
+  solved_now same w (Some k) (n, inl e) = (n ∙ sym t.stamped.steps, here)
     where
       none_left : (ls : List Label) → length journal ≡ length (journal ++ ls) → ls ≡ []
       none_left [] i = refl
       none_left (k ∷ ks) i = let j : length (journal ++ k ∷ ks) ≡ length journal + length (k ∷ ks) = length-append journal (k ∷ ks) in absurd (omega (arith, i, j))
 
       empty : further ≡ []
-      empty = none_left further n
+      empty = none_left further e
 
       config : x.table.config ≡ t.config
       config = Derives-one all_rules p x.table.config x.table.config t.config [] refl (subst (λ (ls : List Label). Derives all_rules p x.table.config ls t.config) empty (goes p q journal further S T x.table t))

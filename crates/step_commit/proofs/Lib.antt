@@ -1,4 +1,5 @@
 pub mod LastChanges
+pub mod RootStores
 pub mod Committed
 pub mod Stale
 pub mod InOrder

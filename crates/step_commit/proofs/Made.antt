@@ -1,5 +1,5 @@
 -- What a commit makes of a core.
-use Rattle.std.proofs.Common.{◌≡◌, ℕ, ◌+◌, ◌<◌, List, [], ◌∷◌, ◌++◌, length, Option, Some, None, refl, sym, ap, subst, ◌∙◌, ◌⊎◌, inl, inr, arith}
+use Rattle.std.proofs.Common.{◌≡◌, ℕ, ◌+◌, ◌<◌, List, [], ◌∷◌, ◌++◌, length, Option, Some, None, refl, sym, ap, subst, ◌∙◌, ◌⊎◌, arith}
 use Rattle.std.proofs.lemmas.List.{length-append}
 use Rattle.akl_terms.specs.declared.name.Name.{Name}
 use Rattle.akl_terms.specs.declared.name.Place.{Place}
@@ -24,7 +24,8 @@ use Rattle.box_tree.specs.Tables.{all_rules, TableValue, table_of, step_of, Fits
 use Rattle.box_tree.specs.Views.{run_of}
 use Rattle.box_tree.specs.Plans.{PlanValue, IsRight}
 use Rattle.step_commit.specs.Cores.{CoreValue, IsCore, MayCommit, IsFresh, IsStale, Commits, AllWithin, IsFirstStale, IsFirstUnseen}
-use Rattle.step_commit.proofs.Committed.{IsPlanned, planned, LeadsOn, leads_on, solved_now}
+use Rattle.step_commit.specs.Solving.{GivesRootStore, IsSolvedAt}
+use Rattle.step_commit.proofs.Committed.{IsPlanned, planned, LeadsOn, leads_on, IsSolvedOver, solved_now}
 use Rattle.step_commit.proofs.Stale.{looked, unchanged_here, stale, all_within}
 use Rattle.step_commit.proofs.InOrder.{makes_ordered}
 
@@ -57,10 +58,6 @@ fits rules p c l d n a laws.confirms m = fits_goal l.place l.alternative m.1.0 l
 fits rules p c l d n a (laws.splits copy copies) m = fits_box l.place l.alternative m.1.0 m.1.1 (laws.splits copy copies) m.1.2 m.1.3 tt
 fits rules p c l d n a laws.fails m = fail_place p a.makes.reading l.worker _ l.rule l.place l.alternative a.site a.change m a.makes.change
 
--- the number of labels is that of the plan's view, where it is given
-abbrev pub IsNow : CoreValue → PlanValue → Option ℕ → Type 0
-IsNow c p at = (at ≡ None) ⊎ ((at ≡ Some (length p.journal)) × (length p.journal ≡ length c.journal))
-
 module _ (c : CoreValue) (k : IsCore c) (p : PlanValue) (r : IsRight p) (m : MayCommit c p) (within : AllWithin (table_of c.table) p.reads (length p.journal)) where
   abbrev step : laws.Step
   step = step_of c.table.program.templates.nodes p.step
@@ -83,11 +80,15 @@ module _ (c : CoreValue) (k : IsCore c) (p : PlanValue) (r : IsRight p) (m : May
     ordered = makes_ordered all_rules (run_of c.table (p.journal ++ m.further)) (table_of c.table) p.label on.result t on.applies step on.makes;
   }
 
-  solved : (at : Option ℕ) → IsNow c p at → IsSolvedWhen at (table_of c.table) on.applies.site step
+  solved : (at : Option ℕ) → IsSolvedAt c p at → IsSolvedWhen at (table_of c.table) on.applies.site step
   solved at h = solved_now c.table.program c.table.query p.journal m.further (table_of p.table) (table_of c.table) p.label p.reads p.names step x t m.none_by within
-      (λ e. ap table_of (m.same_table e)) on at (elim h [ inl e ↦ inl e | inr (e, n) ↦ inr (e, n ∙ ap length m.front) ])
+      (λ e. ap table_of (m.same_table e)) on at (over at h)
+    where
+      over : (o : Option ℕ) → IsSolvedAt c p o → IsSolvedOver c.table.program c.table.query p.journal m.further (table_of p.table) (table_of c.table) p.label p.reads p.names step x t m.none_by within o
+      over None i = tt
+      over (Some n) i = subst (λ (j : List Label). (n ≡ length j) × ((length p.journal ≡ length j) ⊎ GivesRootStore (table_of c.table) p.label.place step)) m.front i
 
-  module _ (at : Option ℕ) (u : TableValue) (h : IsNow c p at) (a : Applied c.table p.label at p.names p.step u) where
+  module _ (at : Option ℕ) (u : TableValue) (h : IsSolvedAt c p at) (a : Applied c.table p.label at p.names p.step u) where
     next : IsTableOf all_rules (run_of c.table ((p.journal ++ m.further) ++ p.label ∷ [])) (table_of u)
     next = (step_law all_rules (run_of c.table (p.journal ++ m.further)) (table_of c.table) (table_of u) p.label on.result t on.applies step at on.makes (solved at h)
         (subst (λ (n : ℕ). Leads (table_of c.table) p.label at n step (table_of u)) on.drawn a.leads)).0

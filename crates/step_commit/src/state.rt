@@ -1,16 +1,17 @@
 //! The state of a run.
 
 ghost use Rattle.std.specs.Prelude.{◌≡◌, IfOk, IfErr, IfSome, IfNone, [], length, true};
-ghost use Rattle.box_tree.specs.Tables.{table_of, goals_in, is_empty, shown_in, shown_trees_of, HasVariables, HasShownVariables};
+ghost use Rattle.box_tree.specs.Tables.{table_of, step_of, goals_in, is_empty, shown_in, shown_trees_of, HasVariables, HasShownVariables};
 ghost use Rattle.box_tree.specs.Views.{is_there, IsUnseen, AreAllPlaces};
 ghost use Rattle.box_tree.specs.Insides.{IsInsideOf, candidate_in};
 ghost use Rattle.akl_terms.specs.declared.name.Place.{Place};
 ghost use Rattle.step_commit.specs.Cores.{IsCore, MayCommit, IsFresh, Commits, IsRefused, IsFirstStale, is_within};
+ghost use Rattle.step_commit.specs.Solving.{IsInRoot, GivesRootStore, IsSolvedAt};
 
 use crate::commit::CommitError;
 use akl_model::{Item, Label, Receipt};
 use akl_terms::{Name, Place, Program, Query, ShownTerm};
-use box_tree::{Inside, LookError, Plan, Table, View};
+use box_tree::{Inside, LookError, Plan, Step, Table, View};
 use std::alloc::{AllocError, Global};
 use std::marker::Model;
 
@@ -163,6 +164,19 @@ impl Core {
         Some(CommitError::Stale { item, stamp })
     }
 
+    // How many labels there are, where what a plan's stores were found to be solved over is in the table still: it has seen
+    // all labels, or it gives a root box its store, around which there is no other.
+    fn solved_at(&self, plan: &Plan) -> Option<u64>
+        ensures { IsSolvedAt self.now plan.now result }
+    {
+        let count = self.journal.len() as u64;
+        if plan.seen() == count || gives_root_store(&self.table, plan) {
+            Some(count)
+        } else {
+            None
+        }
+    }
+
     /// Appends the label of a plan that isn't refused, and makes its step. An `Err` leaves the core as it was.
     pub fn append(&mut self, alloc: Global, plan: Plan) -> Result<Receipt, AllocError>
         requires may { MayCommit self.old plan }
@@ -174,8 +188,7 @@ impl Core {
         let seen = plan.seen();
         let label = plan.label();
         let names = plan.names();
-        // Stores that were solved over this very table are solved in it.
-        let at = if seen == before { Some(seen) } else { None };
+        let at = self.solved_at(&plan);
         self.journal.push(label)?;
         if let Err(error) = self.table.apply(alloc, label, names, plan.into_step(), at) {
             let _ = self.journal.pop();
@@ -207,6 +220,34 @@ impl Core {
         ensures { result.items ≡ self.journal }
     {
         self.journal
+    }
+}
+
+// Whether a plan gives a root box its store.
+fn gives_root_store(table: &Table, plan: &Plan) -> bool
+    ensures { result ≡ true → GivesRootStore (table_of table.now) plan.now.label.place (step_of table.now.program.templates.nodes plan.now.step) }
+{
+    match plan.step() {
+        Step::Tell { .. } | Step::Promote { .. } => is_in_root(table, plan.label().place),
+        Step::Fork { .. }
+        | Step::Fail
+        | Step::Cut
+        | Step::Refute
+        | Step::Confirm
+        | Step::Split { .. } => false,
+    }
+}
+
+// Whether a goal stands in a root box.
+fn is_in_root(table: &Table, place: Place) -> bool
+    ensures { result ≡ true → IsInRoot (table_of table.now) place }
+{
+    match place {
+        Place::Goal(goal) => match table.home_of(goal) {
+            Some(home) => table.outside(home).is_none(),
+            None => false,
+        },
+        Place::Box(_) => false,
     }
 }
 

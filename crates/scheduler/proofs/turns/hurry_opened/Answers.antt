@@ -6,6 +6,6 @@ use Rattle.scheduler.proofs.turns.hurry_opened.Goals as goal
 pub loop-placed-preserved : goal.loop-placed-preserved
 loop-placed-preserved c = record {
   urgent = urgent_next c.args.table.now c.args.places.now c.loop-placed.placed-index c.placed-item.result c.place-place.result c.loop-placed.open_places c.hurry.new.open_places c.loop-placed-test.true c.loop-placed.invariant.urgent
-      (c.place-place.ensures ∙ ap (λ (p : PlacedValue). p.place) c.placed-item.is) c.in_ok-hurry.ensures.still (λ u. c.in_ok-hurry.ensures.now (c.urgency_of.ensures ∙ u));
+      (c.place-place.ensures ∙ ap (λ (p : PlacedValue). p.place) c.placed-item.is) c.in_ok-hurry.ensures.still (λ u. c.in_ok-hurry.ensures.now (c.urgency_of.ensures u));
   places = c.hurry.ensures.places ∙ c.loop-placed.invariant.places;
 }
