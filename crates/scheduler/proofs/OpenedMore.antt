@@ -169,13 +169,13 @@ module _ (before now : Openings) (place : Place) (around : List Name) (t : ℕ) 
   other : (o : Opening) (s : ℕ) → opening_at s before ≡ Some o → o.place ≡ place → ⊥
   other o s e f = not_open before place none (record { token = s; opening = o; is_open = e; of_place = f })
 
-  pub one_back : (urgency : Urgency) → IsOpened before now place around urgency t → closed t now ≡ before
-  one_back urgency (IsOpened.was_open o e f h) = absurd (other o t e f)
-  one_back urgency (IsOpened.is_new u n least g last a) = ap (closed t) a ∙ put_out t (record { place = place; turn = u; boxes = around }) before least.free
+  pub one_back : (how : Urgency) → IsOpened before now place around how t → closed t now ≡ before
+  one_back how (IsOpened.was_open o e f h) = absurd (other o t e f)
+  one_back how (IsOpened.is_new u n least g last a) = ap (closed t) a ∙ put_out t (record { place = place; turn = u; boxes = around }) before least.free
 
-  pub one_more : (urgency : Urgency) (p : PlacedValue) (ts ts_now : List ℕ) → place ≡ p.place → around ≡ p.around → ts_now ≡ ts ++ t ∷ [] → IsOpened before now place around urgency t → IsOpenedBy before ts p now ts_now
-  one_more urgency p ts ts_now i j k (IsOpened.was_open o e f h) = absurd (other o t e f)
-  one_more urgency p ts ts_now i j k (IsOpened.is_new u n least g last a) = is_new t (record { place = place; turn = u; boxes = around }) (λ w. not_open before place none (record { token = w.token; opening = w.opening; is_open = w.is_open; of_place = w.of_place ∙ sym i })) least.free (λ m. record { place = i m; around = j m }) a k
+  pub one_more : (how : Urgency) (p : PlacedValue) (ts ts_now : List ℕ) → place ≡ p.place → around ≡ p.around → ts_now ≡ ts ++ t ∷ [] → IsOpened before now place around how t → IsOpenedBy before ts p now ts_now
+  one_more how p ts ts_now i j k (IsOpened.was_open o e f h) = absurd (other o t e f)
+  one_more how p ts ts_now i j k (IsOpened.is_new u n least g last a) = is_new t (record { place = place; turn = u; boxes = around }) (λ w. not_open before place none (record { token = w.token; opening = w.opening; is_open = w.is_open; of_place = w.of_place ∙ sym i })) least.free (λ m. record { place = i m; around = j m }) a k
 
 -- a call that didn't fail
 pub ok_of : {T E : Type 0} (r : Result T E) → is_err r ≡ false → is_ok r ≡ true

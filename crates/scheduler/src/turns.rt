@@ -202,11 +202,14 @@ fn hurry_opened(
 fn urgency_of(table: &Table, place: Place, told: Option<Name>) -> Urgency
     ensures { urgency_seen (sight_in table.now place) ≡ Urgency.Urgent → result ≡ Urgency.Urgent }
 {
-    match (place, table.sight_of(place)) {
-        (_, Some((_, Sight::Box { failing: Some(_) }))) => Urgency::Urgent,
-        (Place::Box(name), _) => urgency_of_box(name, told),
-        (Place::Goal(goal), Some((_, Sight::Choice { op: _ }))) => urgency_of_choice(table, goal),
-        (Place::Goal(_), _) => Urgency::Ordinary,
+    let Some((home, sight)) = table.sight_of(place) else {
+        return Urgency::Ordinary;
+    };
+    match sight {
+        Sight::Box { failing: Some(_) } => Urgency::Urgent,
+        Sight::Box { failing: None } => urgency_of_box(home, told),
+        Sight::Atom(_) => Urgency::Ordinary,
+        Sight::Choice { op: _ } => urgency_of_choice(table, place),
     }
 }
 
@@ -219,13 +222,16 @@ fn urgency_of_box(name: Name, told: Option<Name>) -> Urgency {
 }
 
 // A choice is late as long as no alternative is solved.
-fn urgency_of_choice(table: &Table, goal: Name) -> Urgency {
-    let alternatives = table.alternatives_of(goal);
-    if alternatives.iter().any(|name| table.is_solved(*name)) {
-        Urgency::Ordinary
-    } else {
-        Urgency::Late
+fn urgency_of_choice(table: &Table, place: Place) -> Urgency {
+    match place {
+        Place::Goal(goal) if has_solved(table, table.alternatives_of(goal)) => Urgency::Ordinary,
+        _ => Urgency::Late,
     }
+}
+
+// Whether one of these boxes has no goals.
+fn has_solved(table: &Table, boxes: &[Name]) -> bool {
+    boxes.iter().any(|name| table.is_solved(*name))
 }
 
 // A place comes as urgent as this, where it is open and was less so.
