@@ -26,10 +26,12 @@ pub record IsTakenOf (s : SharedValue) (worker : ℕ) (v : ViewValue) : Type 0 w
   pub seer : v.worker ≡ worker
   pub fixed : KeepsFixed s.begun (core_after s.begun s.past)
 
+-- the view of what was seen
 abbrev pub view_of : Sight → ViewValue
 view_of (Sight.Whole seen) = view_in seen
 view_of (Sight.Busy view) = view
 
+-- of a place that was seen whole, all was seen that tells what comes next there
 abbrev pub HasSeen : Sight → Type 0
 HasSeen (Sight.Whole seen) = IsSeen seen
 HasSeen (Sight.Busy view) = Unit {0}

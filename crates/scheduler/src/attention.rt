@@ -45,8 +45,7 @@ impl Scheduler {
 
     // Whether one of these boxes is open, or something that stands in it.
     fn has_open(&self, boxes: &[Name]) -> bool {
-        boxes
-            .iter()
-            .any(|name| self.open.busy(*name) || self.open.token_of(Place::Box(*name)).is_some())
+        boxes.iter().any(|name| self.open.busy(*name)
+            || self.open.token_of(Place::Box(*name)).is_some())
     }
 }

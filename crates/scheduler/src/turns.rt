@@ -1,6 +1,6 @@
 //! When open places come, once a label was made.
 
-ghost use Rattle.std.specs.Prelude.{◌≡◌, true, IfOk};
+ghost use Rattle.std.specs.Prelude.{◌≡◌, true, Some, IfOk};
 ghost use Rattle.box_tree.specs.Drops.{IsOfRun};
 ghost use Rattle.box_tree.specs.Paths.{sight_in};
 ghost use Rattle.opened_places.specs.Placed.{places_of};
@@ -193,39 +193,42 @@ fn hurry_opened(
 {
     for placed in places {
         let place = placed.place();
-        hurry(open_places, place, urgency_of(table, place, told))?;
+        if let Some(urgency) = urgency_of(table, place, told) {
+            hurry(open_places, place, urgency)?;
+        }
     }
     Ok(())
 }
 
-// How urgent a place is by what is seen of it, where this box was told something.
-fn urgency_of(table: &Table, place: Place, told: Option<Name>) -> Urgency
-    ensures { urgency_seen (sight_in table.now place) ≡ Urgency.Urgent → result ≡ Urgency.Urgent }
+// How soon a place is to come at least by what is seen of it, where this box was told something; `None` where any turn is
+// soon enough.
+fn urgency_of(table: &Table, place: Place, told: Option<Name>) -> Option<Urgency>
+    ensures { urgency_seen (sight_in table.now place) ≡ Urgency.Urgent → result ≡ Some Urgency.Urgent }
 {
-    let Some((home, sight)) = table.sight_of(place) else {
-        return Urgency::Ordinary;
-    };
+    let (home, sight) = table.sight_of(place)?;
     match sight {
-        Sight::Box { failing: Some(_) } => Urgency::Urgent,
+        Sight::Box { failing: Some(_) } => Some(Urgency::Urgent),
         Sight::Box { failing: None } => urgency_of_box(home, told),
-        Sight::Atom(_) => Urgency::Ordinary,
+        Sight::Atom(_) => None,
         Sight::Choice { op: _ } => urgency_of_choice(table, place),
     }
 }
 
 // A box is urgent that may clash with what another one was told.
-fn urgency_of_box(name: Name, told: Option<Name>) -> Urgency {
+fn urgency_of_box(name: Name, told: Option<Name>) -> Option<Urgency> {
     match told {
-        Some(home) if home != name => Urgency::Urgent,
-        _ => Urgency::Late,
+        Some(home) if home != name => Some(Urgency::Urgent),
+        _ => None,
     }
 }
 
-// A choice is late as long as no alternative is solved.
-fn urgency_of_choice(table: &Table, place: Place) -> Urgency {
+// A choice isn't late once an alternative is solved.
+fn urgency_of_choice(table: &Table, place: Place) -> Option<Urgency> {
     match place {
-        Place::Goal(goal) if has_solved(table, table.alternatives_of(goal)) => Urgency::Ordinary,
-        _ => Urgency::Late,
+        Place::Goal(goal) if has_solved(table, table.alternatives_of(goal)) => {
+            Some(Urgency::Ordinary)
+        }
+        _ => None,
     }
 }
 

@@ -1,11 +1,12 @@
 //! The state of a run.
 
-ghost use Rattle.std.specs.Prelude.{◌≡◌, IfOk, IfErr, IfSome, IfNone, [], length, true};
+ghost use Rattle.std.specs.Prelude.{◌≡◌, IfOk, IfErr, IfSome, IfNone, Some, [], length, true};
 ghost use Rattle.box_tree.specs.Tables.{table_of, step_of, goals_in, is_empty, shown_in, shown_trees_of, HasVariables, HasShownVariables};
 ghost use Rattle.box_tree.specs.Views.{is_there, IsUnseen, AreAllPlaces};
 ghost use Rattle.box_tree.specs.Insides.{IsInsideOf, candidate_in};
 ghost use Rattle.akl_terms.specs.declared.name.Place.{Place};
 ghost use Rattle.step_commit.specs.Cores.{IsCore, MayCommit, IsFresh, Commits, IsRefused, IsFirstStale, is_within};
+ghost use Rattle.step_commit.specs.declared.commit.CommitError.TheVariants as variants;
 ghost use Rattle.step_commit.specs.Solving.{IsInRoot, GivesRootStore, IsSolvedAt};
 
 use crate::commit::CommitError;
@@ -154,6 +155,7 @@ impl Core {
         requires { MayCommit self.now plan.now }
         ensures refused { IfSome result (IsRefused self.now plan.now) }
         ensures fresh { IfNone result (IsFresh self.now plan.now) }
+        ensures known { (error : _) → result ≡ Some (variants.Memory error) → ⊥ }
     {
         if self.journal.len() as u64 == self.budget {
             return Some(CommitError::Spent {
