@@ -7,9 +7,9 @@ use crate::shared::SharedRun;
 use akl_terms::Place;
 use box_tree::{LookError, View};
 use place_steps::{Seen, see};
+use scheduler::Attention;
 use std::alloc::{AllocError, Global};
 use std::collections::VecDeque;
-use scheduler::Attention;
 use step_commit::Core;
 
 /// What a worker saw of a place.

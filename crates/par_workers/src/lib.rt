@@ -4,6 +4,7 @@
 mod choosing;
 mod concluding;
 mod crew;
+mod patience;
 mod run;
 mod shared;
 mod worker;

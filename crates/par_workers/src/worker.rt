@@ -8,12 +8,12 @@ ghost use Rattle.par_workers.specs.Turns.{run_seen, IsNumber, IsChosenIn, IsFoun
 
 use crate::choosing::{Chosen, Look, Sight};
 use crate::concluding::Planned;
+use crate::patience::Patience;
 use crate::shared::SharedRun;
 use akl_model::Receipt;
 use akl_outside::Gate;
 use akl_terms::Program;
 use box_tree::View;
-use crossbeam_utils::Backoff;
 use place_steps::{Next, next_of};
 use rule_plan::plan;
 use std::alloc::{AllocError, Global};
@@ -40,9 +40,9 @@ pub struct Worker {
 impl Worker {
     /// Takes turns, and plans between them, until no place is open or all workers are to stop.
     ///
-    /// A worker that has nothing to conclude and finds no token waits outside of the lock. Only once it has waited long enough
-    /// it seeks an open place itself, since another worker may be planning there; and it then looks inside of a box in which
-    /// another place is open, in which it would else plan no split.
+    /// A worker that has nothing to conclude and finds no token waits outside of the lock. Only once it found none again and
+    /// again it seeks an open place itself, since another worker may be planning there; and it then looks inside of a box in
+    /// which another place is open, in which it would else plan no split.
     pub(crate) fn work<R: Wait, G: Gate>(
         &mut self,
         rt: &R,
@@ -56,19 +56,23 @@ impl Worker {
         ensures lock { IsPassOf lock.now self.new.pass }
         ensures number { self.new.number ≡ self.old.number }
     {
-        let backoff = Backoff::new();
+        let mut patience = Patience::new();
         let mut planned = None;
         for _ in rt.forever() {
+            if planned.is_none() && patience.is_waiting() {
+                patience.wait();
+                continue;
+            }
             let has_token = self.draw(rt);
-            let has_waited = backoff.is_completed();
+            let has_waited = patience.is_over();
             if planned.is_none() && !has_token && !has_waited {
-                backoff.snooze();
+                patience.lengthen(has_token);
                 continue;
             }
             match self.turn(rt, alloc, lock, planned, has_waited) {
                 Chosen::End => return,
                 Chosen::Wait => {
-                    backoff.reset();
+                    patience.lengthen(has_token);
                     planned = None;
                 }
                 Chosen::At(look) => {
@@ -77,7 +81,7 @@ impl Worker {
                         self.stop(rt, lock);
                         return;
                     };
-                    pace(&backoff, &found);
+                    pace(&mut patience, &found);
                     planned = Some(found);
                 }
             }
@@ -149,12 +153,10 @@ impl Worker {
     }
 }
 
-// A worker that found nothing to conclude has waited for a while.
-fn pace(backoff: &Backoff, planned: &Planned) {
+// A worker that planned something waits no longer.
+fn pace(patience: &mut Patience, planned: &Planned) {
     if planned.next.is_some() {
-        backoff.reset();
-    } else {
-        backoff.snooze();
+        patience.renew();
     }
 }
 
