@@ -132,7 +132,7 @@ impl Scheduler {
         let places = opened_by(alloc, self.core.table(), &self.waits, &plan, gone)?;
         let doubts = Doubts::of(alloc, self.core.table(), &plan)?;
         let mut committed = self.commit_opening(alloc, plan, places.as_slice(), gone, steps)?;
-        committed.hurried = self.set_turns(places.as_slice(), &doubts);
+        committed.hurried = self.set_turns(places.as_slice(), gone, &doubts);
         Ok(committed)
     }
 

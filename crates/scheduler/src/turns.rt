@@ -112,19 +112,20 @@ fn forked_by(plan: &Plan) -> Option<Place> {
 const LABELS_A_PLACE: usize = 16;
 
 impl Scheduler {
-    /// Gives turns to the places that a label opened: whether memory sufficed for it.
+    /// Gives turns to the places that a label opened, and to those that went with it: whether memory sufficed for it.
     ///
     /// Those boxes are urgent that have a goal by which they fail, whose stores the label left unsolved, or may clash with
     /// what it told. Other boxes are late, as no rule but Split may apply to them, and so is a choice without a solved
-    /// alternative. Once sixteen labels were made for each open place, all late places come as ordinary ones.
-    pub(crate) fn set_turns(&mut self, places: &[Placed], doubts: &Doubts) -> bool
+    /// alternative. What went isn't late, so that it is forgotten soon. Once sixteen labels were made for each open place, all
+    /// late places come as ordinary ones.
+    pub(crate) fn set_turns(&mut self, places: &[Placed], gone: &[Place], doubts: &Doubts) -> bool
         ensures urgent { result ≡ true → AreUrgent self.new.core.table (places_of places.now) self.new.openings }
         ensures places { untimed self.new.openings ≡ untimed self.old.openings }
         ensures core { self.new.core ≡ self.old.core }
         ensures waits { self.new.waits ≡ self.old.waits }
     {
         resume_late(&mut self.open, &mut self.labels);
-        match order_all(&mut self.open, self.core.table(), places, doubts) {
+        match order_all(&mut self.open, self.core.table(), places, gone, doubts) {
             Ok(()) => true,
             Err(_) => false,
         }
@@ -143,17 +144,19 @@ fn resume_late(open_places: &mut Open, labels: &mut usize)
     }
 }
 
-// The places that were opened, and the unsolved boxes, come as soon as they are to.
+// The places that were opened or went, and the unsolved boxes, come as soon as they are to.
 fn order_all(
     open_places: &mut Open,
     table: &Table,
     places: &[Placed],
+    gone: &[Place],
     doubts: &Doubts,
 ) -> Result<(), AllocError>
     ensures urgent { IfOk result (λ _. AreUrgent table.now (places_of places.now) open_places.new) }
     ensures places { untimed open_places.new ≡ untimed open_places.old }
 {
     delay(open_places, doubts.forked)?;
+    hurry_gone(open_places, gone)?;
     hurry_unsolved(open_places, doubts.unsolved.as_slice())?;
     hurry_opened(open_places, table, places, doubts.told)
 }
@@ -169,6 +172,16 @@ fn delay(open_places: &mut Open, place: Option<Place>) -> Result<(), AllocError>
         Some(token) => open_places.put_last(token, Urgency::Late),
         None => Ok(()),
     }
+}
+
+// These places aren't late.
+fn hurry_gone(open_places: &mut Open, gone: &[Place]) -> Result<(), AllocError>
+    ensures { untimed open_places.new ≡ untimed open_places.old }
+{
+    for place in gone {
+        hurry(open_places, *place, Urgency::Ordinary)?;
+    }
+    Ok(())
 }
 
 // These boxes are urgent.
