@@ -40,9 +40,8 @@ pub enum Chosen {
 }
 
 impl SharedRun {
-    /// Looks at the place of the first of a worker's tokens whose place is there, and isn't late while something is open in
-    /// it. Without one the worker waits, or, where it `has_waited`, looks at the first open place. Only such a worker looks at
-    /// such a late place, and inside of a box in which something is open. Want of memory stops all workers.
+    /// Looks at the place of the first of a worker's tokens whose place is there, and isn't put off. Without one the worker
+    /// waits, or, where it `has_waited`, seeks a place itself. Want of memory stops all workers.
     pub(crate) fn choose(
         &mut self,
         alloc: Global,
@@ -76,7 +75,7 @@ impl SharedRun {
         ensures same { self.new ≡ self.old }
         ensures chosen { IfOk result (IsChosenIn self.old worker) }
     {
-        if let Some(look) = self.look_through(alloc, worker, tokens, has_waited)? {
+        if let Some(look) = self.look_through(alloc, worker, tokens)? {
             return Ok(Chosen::At(look));
         }
         let Some(token) = self.scheduler.first_open() else {
@@ -96,7 +95,6 @@ impl SharedRun {
         alloc: Global,
         worker: u32,
         tokens: &mut VecDeque<u64>,
-        has_waited: bool,
     ) -> Result<Option<Look>, AllocError>
         ensures same { self.new ≡ self.old }
         ensures look { IfOk result (λ found. IfSome found (λ look. IsSeenIn self.old worker look.sight)) }
@@ -105,11 +103,11 @@ impl SharedRun {
             let Some(token) = tokens.pop_front() else {
                 break;
             };
-            if !has_waited && self.is_put_off(token) {
+            if self.is_put_off(token) {
                 tokens.push_back(token)?;
                 continue;
             }
-            if let Some(sight) = self.see_at(alloc, worker, token, has_waited)? {
+            if let Some(sight) = self.see_at(alloc, worker, token)? {
                 return Ok(Some(Look {
                     token: Some(token),
                     sight,
@@ -120,13 +118,18 @@ impl SharedRun {
         Ok(None)
     }
 
-    // Looks at an open place, whose token another worker may have.
+    // Looks at the first open place, whose token another worker may have. One that is put off comes after all others, so that
+    // whoever seeks next finds another.
     fn seek(&mut self, alloc: Global, worker: u32, token: u64) -> Result<Chosen, AllocError>
         ensures same { self.new ≡ self.old }
         ensures chosen { IfOk result (IsChosenIn self.old worker) }
     {
+        if self.is_put_off(token) {
+            self.scheduler.postpone(token)?;
+            return Ok(Chosen::Wait);
+        }
         let is_new = self.held.insert(token)?;
-        match self.see_at(alloc, worker, token, true)? {
+        match self.see_at(alloc, worker, token)? {
             Some(sight) => Ok(Chosen::At(Look {
                 token: if is_new { Some(token) } else { None },
                 sight,
@@ -141,7 +144,6 @@ impl SharedRun {
         alloc: Global,
         worker: u32,
         token: u64,
-        inside: bool,
     ) -> Result<Option<Sight>, AllocError>
         ensures same { self.new ≡ self.old }
         ensures sight { IfOk result (λ found. IfSome found (IsSeenIn self.old worker)) }
@@ -149,8 +151,7 @@ impl SharedRun {
         let Some(place) = self.scheduler.place_of(token) else {
             return Ok(None);
         };
-        let attention = self.scheduler.attention_at(token, place);
-        let found = if inside || attention == Attention::Whole {
+        let found = if self.scheduler.attention_at(token, place) == Attention::Whole {
             see_whole(alloc, self.scheduler.core(), place, worker)?
         } else {
             see_busy(alloc, self.scheduler.core(), place, worker)?

@@ -41,8 +41,7 @@ impl Worker {
     /// Takes turns, and plans between them, until no place is open or all workers are to stop.
     ///
     /// A worker that has nothing to conclude and finds no token waits outside of the lock. Only once it found none again and
-    /// again it seeks an open place itself, since another worker may be planning there; and it then looks inside of a box in
-    /// which another place is open, in which it would else plan no split.
+    /// again it seeks an open place itself, since another worker may be planning there.
     pub(crate) fn work<R: Wait, G: Gate>(
         &mut self,
         rt: &R,
