@@ -142,6 +142,12 @@ impl Store {
         Ok(store)
     }
 
+    /// Brings what was added last into the trees, in place where no copy shares them. The store's value stays; for want
+    /// of memory a part of what was added last stays where it is.
+    pub fn settle(&mut self)
+        ensures { self.new ≡ self.old }
+    {}
+
     // Also has these bindings, added one after another. After an `Err` it may have some of them.
     fn add_all(&mut self, bindings: &[(Var, Term)]) -> Result<(), AllocError>
         ensures { IfOk result (λ _. self.new ≡ with_bindings self.old bindings.now) }
