@@ -6,23 +6,25 @@ ghost use Rattle.rational_unify.specs.Known.{found_in};
 ghost use Rattle.local_store.specs.Stored.{nothing, unbound, is_named, with_frame, with_port, with_binding, with_bindings};
 
 use akl_terms::{Name, Term, Var};
-use persist_map::PMap;
+use persist_map::BufferedMap;
 use std::alloc::{AllocError, Global};
 use std::marker::Model;
 
 /// The frames, bindings and ports of one box.
 ///
-/// Copies share what they have in common: a change of one costs in the order of the logarithm of its size and leaves
-/// the others as they were. What no copy shares changes in place.
+/// Copies share what they have in common, but for the few entries that were added last, which each has in lists of its
+/// own: a change of one adds to its lists and leaves the others as they were. `settle` brings the lists into trees, and so
+/// does a change that finds its list full: each entry at a cost in the order of the logarithm of the store's size, in
+/// place where no copy shares the tree.
 #[derive(Drop)]
 pub struct Store {
     alloc: Global,
-    frames: PMap<Name, ()>,
+    frames: BufferedMap<Name, ()>,
     // Each binding under its variable and a number: 0 for the first of its variable, a new one for each further.
-    bindings: PMap<(Var, u64), Term>,
+    bindings: BufferedMap<(Var, u64), Term>,
     // The number of the next further binding.
     next: u64,
-    ports: PMap<Name, Term>,
+    ports: BufferedMap<Name, Term>,
 }
 
 impl Model for Store {
@@ -43,14 +45,15 @@ impl Store {
     {
         Store {
             alloc,
-            frames: PMap::new(alloc),
-            bindings: PMap::new(alloc),
+            frames: BufferedMap::new(alloc),
+            bindings: BufferedMap::new(alloc),
             next: 1,
-            ports: PMap::new(alloc),
+            ports: BufferedMap::new(alloc),
         }
     }
 
-    /// An equal store, in constant time. Want of memory comes only where a count of holders is full.
+    /// An equal store, in constant time. Want of memory comes only where there are entries that aren't in a tree yet, or
+    /// where a count of holders is full.
     pub fn share(&self) -> Result<Store, AllocError>
         ensures { IfOk result (λ s. s ≡ self.now) }
     {
@@ -146,7 +149,11 @@ impl Store {
     /// of memory a part of what was added last stays where it is.
     pub fn settle(&mut self)
         ensures { self.new ≡ self.old }
-    {}
+    {
+        let _ = self.frames.settle();
+        let _ = self.bindings.settle();
+        let _ = self.ports.settle();
+    }
 
     // Also has these bindings, added one after another. After an `Err` it may have some of them.
     fn add_all(&mut self, bindings: &[(Var, Term)]) -> Result<(), AllocError>
@@ -165,7 +172,7 @@ impl Store {
         Ok(Store {
             alloc: self.alloc,
             frames: self.frames.share()?,
-            bindings: PMap::new(self.alloc),
+            bindings: BufferedMap::new(self.alloc),
             next: 1,
             ports: self.ports.share()?,
         })
@@ -196,9 +203,10 @@ impl Store {
     pub fn frames(&self) -> Result<Vec<Name>, AllocError>
         ensures { IfOk result (λ list. list.items ≡ self.now.frames) }
     {
+        let entries = self.frames.entries()?;
         let mut list = Vec::new(self.alloc);
-        for (frame, _) in self.frames.walk() {
-            list.push(*frame)?;
+        for entry in &entries {
+            list.push(entry.0)?;
         }
         Ok(list)
     }
@@ -207,9 +215,10 @@ impl Store {
     pub fn bindings(&self) -> Result<Vec<(Var, Term)>, AllocError>
         ensures { IfOk result (λ list. list.items ≡ self.now.bindings) }
     {
+        let entries = self.bindings.entries()?;
         let mut list = Vec::new(self.alloc);
-        for (key, term) in self.bindings.walk() {
-            list.push((key.0, *term))?;
+        for entry in &entries {
+            list.push((entry.0.0, entry.1))?;
         }
         Ok(list)
     }
@@ -218,11 +227,7 @@ impl Store {
     pub fn ports(&self) -> Result<Vec<(Name, Term)>, AllocError>
         ensures { IfOk result (λ list. list.items ≡ self.now.ports) }
     {
-        let mut list = Vec::new(self.alloc);
-        for (port, tail) in self.ports.walk() {
-            list.push((*port, *tail))?;
-        }
-        Ok(list)
+        self.ports.entries()
     }
 }
 

@@ -1,3 +1,4 @@
 pub mod Changes
 pub mod Contents
 pub mod Entries
+pub mod Newest

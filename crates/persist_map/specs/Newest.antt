@@ -1,0 +1,15 @@
+-- Entries in the order of their keys, into which newer ones are put.
+use Rattle.std.specs.Prelude.{ℕ, ◌+◌, List, [], ◌∷◌}
+use Rattle.std.specs.declared.cmp.Ordering.{Ordering}
+use Rattle.std.specs.Ordering.{match_ordering}
+use Rattle.std.specs.BTreeMap.{insert_entry}
+
+-- entries with newer ones set in them, one after another
+abbrev pub with_entries : {K V : Type 0} → (K → K → Ordering) → List (K × V) → List (K × V) → List (K × V)
+with_entries cmp entries [] = entries
+with_entries cmp entries (n ∷ newest) = with_entries cmp (insert_entry cmp entries n.0 n.1) newest
+
+-- how many entries at the front have keys below k
+abbrev pub place_of : {K V : Type 0} → (K → K → Ordering) → List (K × V) → K → ℕ
+place_of cmp [] k = 0
+place_of cmp (e ∷ entries) k = match_ordering (cmp k e.0) 0 0 (place_of cmp entries k + 1)

@@ -1,0 +1,183 @@
+//! A map whose newest entries stand in a short list beside its tree.
+ghost use Rattle.std.specs.Prelude.{◌≡◌, List, [], Some, IfOk, IfErr, option_copied};
+ghost use Rattle.std.specs.Option.{option_or};
+ghost use Rattle.std.specs.BTreeMap.{insert_entry};
+ghost use Rattle.persist_map.specs.Entries.{value_at, ChangesOnly, ClonesAreEqual};
+ghost use Rattle.persist_map.specs.Newest.{with_entries, place_of};
+
+use crate::map::PMap;
+use std::alloc::{AllocError, Global};
+use std::marker::Model;
+
+/// How many of the newest entries stand in the list at most.
+const FEW: usize = 8;
+
+/// A map from keys to values, in the order of the keys, made for copies that differ in a few entries.
+///
+/// An entry that is set goes to the end of a list, in one place in memory for all of the list, and no node of the tree
+/// is copied for it. It goes into the tree when the list is full, or at a call of `settle`: best once the copies are
+/// gone that share the tree, since what nothing shares changes in place. A map that never had more than eight entries
+/// set has no tree.
+///
+/// Contracts see it as the list of its entries in the order of their keys, wherever they stand.
+#[derive(Drop)]
+pub struct BufferedMap<K: Ord, V> {
+    alloc: Global,
+    settled: PMap<K, V>,
+    // In the order in which they were set. A key may stand here more than once, and in the tree.
+    newest: Vec<(K, V)>,
+}
+
+impl<K: Ord, V> Model for BufferedMap<K, V> {
+    ghost use Rattle.std.specs.Prelude.{List};
+    ghost use Rattle.persist_map.specs.Newest.{with_entries};
+
+    ghost Value = { List (K × V) };
+
+    ghost view = { λ m. with_entries K.cmp m.settled m.newest.items };
+}
+
+impl<K: Ord + Copy, V: Copy> BufferedMap<K, V> {
+    /// The empty map, whose list and nodes will be made by `alloc`. It takes no memory.
+    pub fn new(alloc: Global) -> BufferedMap<K, V>
+        ensures { result ≡ [] }
+    {
+        BufferedMap {
+            alloc,
+            settled: PMap::new(alloc),
+            newest: Vec::new(alloc),
+        }
+    }
+
+    /// The value at the key, or `None` exactly where the key is not there. The list is looked through before the tree.
+    pub fn get(&self, key: &K) -> Option<&V>
+        ensures { option_copied result ≡ value_at K.cmp self.now key.now }
+    {
+        match newest_at(&self.newest, key) {
+            Some(value) => Some(value),
+            None => self.settled.get(key),
+        }
+    }
+
+    /// An equal map that shares all nodes of the tree and has a copy of the list. Where the list is empty, want of
+    /// memory comes only from a full count of owners.
+    pub fn share(&self) -> Result<BufferedMap<K, V>, AllocError>
+        ensures { IfOk result (λ m. m ≡ self.now) }
+    {
+        let mut newest = Vec::new(self.alloc);
+        newest.extend_from_slice(&self.newest)?;
+        Ok(BufferedMap {
+            alloc: self.alloc,
+            settled: self.settled.share()?,
+            newest,
+        })
+    }
+
+    /// Sets the pair in this map: where an equal key is there, it stays and takes the value. The pair goes into the
+    /// list; where that is full, what stands in it goes into the tree first. Maps that share the tree stay as they
+    /// are. An `Err`, for want of memory, leaves the map as it was.
+    pub fn insert(&mut self, key: K, value: V) -> Result<(), AllocError>
+        requires keys { ClonesAreEqual K.is_clone }
+        requires values { ClonesAreEqual V.is_clone }
+        ensures entries { IfOk result (λ _. self.new ≡ insert_entry K.cmp self.old key value) }
+        ensures changes { IfOk result (λ _. ChangesOnly K.cmp self.old self.new key (Some value)) }
+        ensures unchanged { IfErr result (λ _. self.new ≡ self.old) }
+    {
+        if self.newest.len() >= FEW {
+            self.empty_list()?;
+        }
+        self.newest.push((key, value))?;
+        Ok(())
+    }
+
+    /// Brings the list into the tree, in place where no other map shares the tree's nodes. The entries stay. A map that
+    /// has no tree is left without one. An `Err`, for want of memory, leaves a part of the list where it is.
+    pub fn settle(&mut self) -> Result<(), AllocError>
+        requires keys { ClonesAreEqual K.is_clone }
+        requires values { ClonesAreEqual V.is_clone }
+        ensures { self.new ≡ self.old }
+    {
+        if self.settled.height() == 0 {
+            return Ok(());
+        }
+        self.empty_list()
+    }
+
+    // Brings the list into the tree, from the oldest entry on.
+    fn empty_list(&mut self) -> Result<(), AllocError>
+        requires keys { ClonesAreEqual K.is_clone }
+        requires values { ClonesAreEqual V.is_clone }
+        ensures { self.new ≡ self.old }
+    {
+        while self.newest.len() > 0 {
+            let (key, value) = self.newest[0];
+            self.settled.insert(key, value)?;
+            self.newest.remove(0);
+        }
+        Ok(())
+    }
+
+    /// The entries, in the order of their keys. It makes no node.
+    pub fn entries(&self) -> Result<Vec<(K, V)>, AllocError>
+        ensures { IfOk result (λ list. list.items ≡ self.now) }
+    {
+        let mut list = entries_in(self.alloc, &self.settled)?;
+        for entry in &self.newest {
+            put(&mut list, entry.0, entry.1)?;
+        }
+        Ok(list)
+    }
+}
+
+// The entries of a tree.
+fn entries_in<K: Ord + Copy, V: Copy>(
+    alloc: Global,
+    map: &PMap<K, V>,
+) -> Result<Vec<(K, V)>, AllocError>
+    ensures { IfOk result (λ list. list.items ≡ map.now) }
+{
+    let mut list = Vec::new(alloc);
+    for (key, value) in map.walk() {
+        list.push((*key, *value))?;
+    }
+    Ok(list)
+}
+
+// The value that was set last at the key, where one was.
+fn newest_at<'a, K: Ord, V>(newest: &'a [(K, V)], key: &K) -> Option<&'a V>
+    ensures { (older : List (K × V)) → value_at K.cmp (with_entries K.cmp older newest.now) key.now ≡ option_or (option_copied result) (value_at K.cmp older key.now) }
+{
+    let mut left = newest.len();
+    while left > 0 {
+        left -= 1;
+        let entry = &newest[left];
+        if entry.0.cmp(key).is_eq() {
+            return Some(&entry.1);
+        }
+    }
+    None
+}
+
+// Sets the pair in entries that are in the order of their keys.
+fn put<K: Ord + Copy, V: Copy>(list: &mut Vec<(K, V)>, key: K, value: V) -> Result<(), AllocError>
+    ensures { IfOk result (λ _. list.new.items ≡ insert_entry K.cmp list.old.items key value) }
+{
+    let place = place_of(list, &key);
+    if place < list.len() && key.cmp(&list[place].0).is_eq() {
+        list[place].1 = value;
+        return Ok(());
+    }
+    list.insert(place, (key, value))?;
+    Ok(())
+}
+
+// How many entries at the front have lower keys.
+fn place_of<K: Ord, V>(list: &[(K, V)], key: &K) -> usize
+    ensures { result ≡ place_of K.cmp list.now key.now }
+{
+    let mut place = 0;
+    while place < list.len() && key.cmp(&list[place].0).is_gt() {
+        place += 1;
+    }
+    place
+}
