@@ -26,6 +26,12 @@ pub data IsPath (nodes : List Node) (bs : List (Var × Term)) (t : Term) : List 
   headed : {xs : List Var} {s : Term} → LeadsAlong nodes bs t xs s → ((x : Var) → seen_of nodes s ≡ Free x → ⊥) → IsPath nodes bs t xs s
   free : {xs : List Var} {s : Term} {x : Var} → LeadsAlong nodes bs t xs s → Free x ≡ seen_of nodes s → found_in bs x ≡ None → IsPath nodes bs t (xs ++ x ∷ []) s
 
+-- a term's chain leads to the end, and the variables along it were put at the end of a list
+pub record Leads (nodes : List Node) (bs : List (Var × Term)) (t : Term) (old new : List Var) (end : Term) : Type 0 where
+  pub path : List Var
+  pub followed_by : new ≡ old ++ path
+  pub leads : IsPath nodes bs t path end
+
 -- each of these variables that is bound is bound to the term
 pub data ReboundAll (u : Term) (old : List (Var × Term)) : List Var → List (Var × Term) → Type 0 where
   unchanged : ReboundAll u old [] old

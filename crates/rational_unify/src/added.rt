@@ -2,14 +2,20 @@
 
 ghost use Rattle.std.specs.Prelude.{◌≡◌, ◌<◌, ◌^◌, ◌++◌, ◌∷◌, [], IfOk, None, length, slice_get};
 ghost use Rattle.rational_unify.specs.Known.{found_in};
+ghost use Rattle.rational_unify.specs.Indexes.{place_in};
 ghost use Rattle.rational_unify.specs.Shortened.{Rebinds};
 
+use crate::known::place_among;
 use akl_terms::{Term, Var};
 use std::alloc::{AllocError, Global};
 use std::collections::HashMap;
 use std::marker::Model;
 
-/// Bindings in the order in which they were added, at most one of each variable, with an index.
+/// Most lists stay so short that looking through them costs less than an index would.
+pub const FEW: usize = 8;
+
+/// Bindings in the order in which they were added, at most one of each variable. The first `FEW`
+/// are found by looking through them, and the rest by an index of their places.
 #[derive(Drop)]
 pub struct AddedBindings {
     list: Vec<(Var, Term)>,
@@ -21,12 +27,13 @@ impl Model for AddedBindings {
     ghost use Rattle.akl_terms.specs.declared.name.Var.{Var};
     ghost use Rattle.akl_terms.specs.declared.term.Term.{Term};
     ghost use Rattle.rational_unify.specs.Indexes.{IsIndex};
+    ghost use Rattle.rational_unify.specs.declared.added.TheConstants.{FEW};
 
     ghost Value = { List (Var × Term) };
 
     ghost view = { λ a. a.list.items };
 
-    ghost invariant = { λ a. IsIndex a.places.entries a.list.items };
+    ghost invariant = { λ a. IsIndex FEW a.places.entries a.list.items };
 }
 
 impl AddedBindings {
@@ -44,8 +51,8 @@ impl AddedBindings {
     pub fn get(&self, variable: Var) -> Option<Term>
         ensures { result ≡ found_in self.now variable }
     {
-        match self.places.get(&variable) {
-            Some(place) => Some(self.list[*place].1),
+        match self.place_of(variable) {
+            Some(place) => Some(self.list[place].1),
             None => None,
         }
     }
@@ -58,6 +65,9 @@ impl AddedBindings {
     {
         let place = self.list.len();
         self.list.push((variable, term))?;
+        if place < FEW {
+            return Ok(());
+        }
         match self.places.insert(variable, place) {
             Ok(_) => Ok(()),
             Err(_) => {
@@ -71,9 +81,21 @@ impl AddedBindings {
     pub fn rebind(&mut self, variable: Var, term: Term)
         ensures { Rebinds self.old self.new variable term }
     {
-        if let Some(place) = self.places.get(&variable) {
-            let place = *place;
+        if let Some(place) = self.place_of(variable) {
             self.list[place] = (variable, term);
+        }
+    }
+
+    /// The place of a variable's binding; `None` exactly where it has none.
+    fn place_of(&self, variable: Var) -> Option<usize>
+        ensures { result ≡ place_in self.now variable }
+    {
+        if self.list.len() <= FEW {
+            return place_among(&self.list, variable);
+        }
+        match place_among(&self.list[..FEW], variable) {
+            Some(place) => Some(place),
+            None => self.places.get(&variable).copied(),
         }
     }
 

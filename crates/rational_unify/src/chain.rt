@@ -4,12 +4,12 @@ ghost use Rattle.std.specs.Prelude.{◌≡◌, ◌++◌, IfOk};
 ghost use Rattle.akl_terms.specs.Template.{tree};
 ghost use Rattle.rational_unify.specs.Known.{IsSolved, end_of, next_in};
 ghost use Rattle.rational_unify.specs.Shortened.{IsEndOf};
-ghost use Rattle.rational_unify.specs.Followed.{IsPath, Follows, ReboundAll};
+ghost use Rattle.rational_unify.specs.Followed.{Leads, Follows, ReboundAll};
 
 use crate::added::AddedBindings;
 use crate::known::Lookup;
 use akl_terms::{Seen, Templates, Term, Var};
-use std::alloc::{AllocError, Global};
+use std::alloc::AllocError;
 
 /// The end of a term's chain: the term itself, where it is no variable that is bound.
 pub fn chain_end<K: Lookup>(templates: &Templates, known: &K, term: Term) -> Term
@@ -67,47 +67,30 @@ impl<'a, K: Lookup> Lookup for Together<'a, K> {
     }
 }
 
-/// The variables along a term's chain, and its end.
-#[derive(Drop)]
-pub struct Path {
-    pub variables: Vec<Var>,
-    pub end: Term,
-}
-
-/// Follows a term's chain.
+/// The end of a term's chain. All variables on the chain are put at the end of a list.
 fn path_of<K: Lookup>(
-    alloc: Global,
     templates: &Templates,
     known: &K,
     term: Term,
-) -> Result<Path, AllocError>
+    variables: &mut Vec<Var>,
+) -> Result<Term, AllocError>
     requires { IsSolved templates.now.nodes (K.bindings known.now) }
-    ensures { IfOk result (λ p. IsPath templates.now.nodes (K.bindings known.now) term p.variables.items p.end) }
+    ensures { IfOk result (λ end. Leads templates.now.nodes (K.bindings known.now) term variables.old.items variables.new.items end) }
 {
-    let mut variables = Vec::new(alloc);
     let mut last = term;
     while let Seen::Free(variable) = templates.look(last) {
         variables.push(variable)?;
         match known.get(variable) {
             Some(next) => last = next,
-            None => {
-                return Ok(Path {
-                    variables,
-                    end: last,
-                });
-            }
+            None => return Ok(last),
         }
     }
-    Ok(Path {
-        variables,
-        end: last,
-    })
+    Ok(last)
 }
 
 /// The end of a term's chain. Each added variable on the chain is bound to it, and all variables
 /// on the chain are put to those that were followed.
 pub fn follow<K: Lookup>(
-    alloc: Global,
     templates: &Templates,
     known: &K,
     added: &mut AddedBindings,
@@ -117,10 +100,10 @@ pub fn follow<K: Lookup>(
     requires { IsSolved templates.now.nodes (K.bindings known.now ++ added.old) }
     ensures { IfOk result (λ end. Follows templates.now.nodes (K.bindings known.now) term added.old added.new followed.old.items followed.new.items end) }
 {
-    let path = path_of(alloc, templates, &Together { known, added }, term)?;
-    rebind_all(added, path.variables.as_slice(), path.end);
-    followed.extend_from_slice(&path.variables)?;
-    Ok(path.end)
+    let start = followed.len();
+    let end = path_of(templates, &Together { known, added }, term, followed)?;
+    rebind_all(added, &followed[start..], end);
+    Ok(end)
 }
 
 /// Binds each of these variables that is bound to a term.

@@ -57,6 +57,9 @@ impl<'a, K: Lookup> Form<'a, K> {
         for binding in bindings {
             self.take_one(templates, binding.0, binding.1, &mut pending)?;
         }
+        if pending.is_empty() {
+            return Ok(None);
+        }
         let Solution {
             solved,
             followed: _,

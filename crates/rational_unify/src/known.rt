@@ -5,6 +5,7 @@ ghost use Rattle.std.specs.Prelude.{◌≡◌, List};
 ghost use Rattle.akl_terms.specs.declared.name.Var.{Var};
 ghost use Rattle.akl_terms.specs.declared.term.Term.{Term};
 ghost use Rattle.rational_unify.specs.Known.{found_in};
+ghost use Rattle.rational_unify.specs.Indexes.{place_in};
 
 use akl_terms::{Term, Var};
 
@@ -23,6 +24,13 @@ pub fn found(list: &[(Var, Term)], variable: Var) -> Option<Term>
     ensures { result ≡ found_in list.now variable }
 {
     list.iter().find(|b| b.0 == variable).map(|b| b.1)
+}
+
+/// The place of the first binding of a variable in a list; `None` exactly where the list has none.
+pub fn place_among(list: &[(Var, Term)], variable: Var) -> Option<usize>
+    ensures { result ≡ place_in list.now variable }
+{
+    list.iter().position(|b| b.0 == variable)
 }
 
 impl Lookup for Vec<(Var, Term)> {

@@ -1,15 +1,17 @@
 //! The solver.
 
-ghost use Rattle.std.specs.Prelude.{◌≡◌, ◌<◌, ◌^◌, ◌++◌, IfOk, MatchOption, length};
+ghost use Rattle.std.specs.Prelude.{◌≡◌, ◌<◌, ◌^◌, ◌++◌, List, None, IfOk, MatchOption, length};
+ghost use Rattle.akl_terms.specs.declared.name.Var.{Var};
+ghost use Rattle.akl_terms.specs.declared.term.Term.{Term};
 ghost use Rattle.akl_terms.specs.Template.{IsArranged};
-ghost use Rattle.rational_unify.specs.Known.{IsSolved};
+ghost use Rattle.rational_unify.specs.Known.{IsSolved, next_in};
 ghost use Rattle.rational_unify.specs.Older.{KeepsOlder, AddsOlder};
 ghost use Rattle.rational_unify.specs.Meeting.{Advances, AgreeInHead, Clashes};
 ghost use Rattle.rational_unify.specs.Solving.{BindNew, Solves};
 ghost use Rattle.rational_unify.specs.Followed.{Settles, SolvesAlso};
 
 use crate::added::AddedBindings;
-use crate::chain::{Together, chain_end, follow};
+use crate::chain::follow;
 use crate::compared::Compared;
 use crate::known::Lookup;
 use crate::meet::{Meeting, compare};
@@ -64,9 +66,9 @@ pub fn solve<K: Lookup>(
     let mut followed = Vec::new(alloc);
     while let Some(pair) = work.pending.pop() {
         let added = &mut work.added;
-        let left = follow(alloc, templates, known, added, &mut followed, pair.left)?;
-        let right = follow(alloc, templates, known, added, &mut followed, pair.right)?;
-        if let Some(clash) = advance(templates, known, &mut work, Equation { left, right })? {
+        let left = follow(templates, known, added, &mut followed, pair.left)?;
+        let right = follow(templates, known, added, &mut followed, pair.right)?;
+        if let Some(clash) = advance(templates, &mut work, Equation { left, right })? {
             let solved = Solved::Clash {
                 left: clash.left,
                 right: clash.right,
@@ -74,7 +76,7 @@ pub fn solve<K: Lookup>(
             return Ok(Solution { solved, followed });
         }
     }
-    settle(alloc, templates, known, &mut work.added, &mut followed)?;
+    settle(templates, known, &mut work.added, &mut followed)?;
     let solved = Solved::Added(work.added.into_vec());
     Ok(Solution { solved, followed })
 }
@@ -87,31 +89,24 @@ struct Work {
     compared: Compared,
 }
 
-/// Takes one equation on. `Some` gives two terms of different heads that it makes equal.
-fn advance<K: Lookup>(
+/// Takes one equation on, of terms at the ends of their chains. `Some` gives two terms of different
+/// heads that it makes equal.
+fn advance(
     templates: &Templates,
-    known: &K,
     work: &mut Work,
     pair: Equation,
 ) -> Result<Option<Equation>, AllocError>
-    requires solved { IsSolved templates.now.nodes (K.bindings known.now ++ work.old.added) }
+    requires left { next_in templates.now.nodes work.old.added pair.left ≡ None }
+    requires right { next_in templates.now.nodes work.old.added pair.right ≡ None }
     requires compared { AgreeInHead templates.now.nodes work.old.compared }
     ensures arranged { IfOk result (λ _. IsArranged templates.now.nodes) }
     ensures turn { IfOk result (λ found. MatchOption found
-        (Advances templates.now.nodes (K.bindings known.now) pair work.old work.new)
-        (λ clash. Clashes templates.now.nodes (K.bindings known.now) pair work.old clash)) }
-    ensures older { IfOk result (λ _. KeepsOlder templates.now.nodes (K.bindings known.now ++ work.old.added) (K.bindings known.now ++ work.new.added)) }
+        (Advances templates.now.nodes pair work.old work.new)
+        (λ clash. Clashes templates.now.nodes pair work.old clash)) }
+    ensures older { IfOk result (λ _. (known : List (Var × Term)) → KeepsOlder templates.now.nodes (known ++ work.old.added) (known ++ work.new.added)) }
 {
-    let together = Together {
-        known,
-        added: &work.added,
-    };
-    let left = work
-        .compared
-        .last_of(chain_end(templates, &together, pair.left));
-    let right = work
-        .compared
-        .last_of(chain_end(templates, &together, pair.right));
+    let left = work.compared.last_of(pair.left);
+    let right = work.compared.last_of(pair.right);
     match compare(templates, left, right) {
         Meeting::Same => Ok(None),
         Meeting::Differ => Ok(Some(Equation { left, right })),
@@ -129,7 +124,6 @@ fn advance<K: Lookup>(
 
 /// Binds each added variable to the end of its chain.
 fn settle<K: Lookup>(
-    alloc: Global,
     templates: &Templates,
     known: &K,
     added: &mut AddedBindings,
@@ -145,7 +139,7 @@ fn settle<K: Lookup>(
             return Ok(());
         };
         let (variable, term) = *binding;
-        let end = follow(alloc, templates, known, added, followed, term)?;
+        let end = follow(templates, known, added, followed, term)?;
         added.rebind(variable, end);
     }
     Ok(())
