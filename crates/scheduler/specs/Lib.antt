@@ -15,3 +15,4 @@ pub mod Weights
 pub mod Once
 pub mod Work
 pub mod Counting
+pub mod Splits

@@ -12,6 +12,7 @@ mod opening;
 mod placing;
 mod scheduler;
 mod settling;
+mod splits;
 mod turns;
 
 pub use attention::Attention;

@@ -9,6 +9,7 @@ ghost use Rattle.scheduler.specs.AllPlaces.{AreAllOpen, AreAllPlaced};
 
 use crate::opening::open_all;
 use crate::placing::push_those;
+use crate::splits::Splits;
 use akl_terms::{Name, Place, Steps};
 use opened_places::Placed;
 use std::alloc::{AllocError, Global};
@@ -24,18 +25,21 @@ pub struct Scheduler {
     pub(crate) core: Core,
     pub(crate) open: Open,
     pub(crate) waits: Waits,
+    // The choices by which boxes could be split; of those that are open some alone.
+    pub(crate) splits: Splits,
     // The labels since late places came as ordinary ones.
     pub(crate) labels: usize,
 }
 
 impl Model for Scheduler {
-    ghost use Rattle.scheduler.specs.Schedulers.{SchedulerValue, IsScheduler};
+    ghost use Rattle.scheduler.specs.Schedulers.{SchedulerValue};
+    ghost use Rattle.scheduler.specs.Splits.{KeepsSplits};
 
     ghost Value = { SchedulerValue };
 
     ghost view = { λ s. record { core = s.core; openings = s.open; waits = s.waits } };
 
-    ghost invariant = { λ s. IsScheduler (record { core = s.core; openings = s.open; waits = s.waits }) };
+    ghost invariant = { λ s. KeepsSplits (record { core = s.core; openings = s.open; waits = s.waits }) s.splits };
 }
 
 impl Scheduler {
@@ -51,6 +55,7 @@ impl Scheduler {
             core,
             open,
             waits: Waits::new(alloc),
+            splits: Splits::new(alloc),
             labels: 0,
         })
     }

@@ -50,7 +50,8 @@ impl Scheduler {
         let Some(own) = self.open.token_of(place) else {
             return Ok(None);
         };
-        let nearest = quiet_candidate(self.core.table(), &self.open, own, place);
+        self.splits.keep(self.core.table(), place)?;
+        let nearest = quiet_candidate(self.core.table(), &self.open, &self.splits, own, place);
         let found = open_candidate(alloc, self.core.table(), &mut self.open, nearest)?;
         if let Err(error) = self.waits.suspend(place, on) {
             close_one(&mut self.open, found);

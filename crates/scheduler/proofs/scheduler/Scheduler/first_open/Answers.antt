@@ -6,4 +6,4 @@ use Rattle.scheduler.proofs.scheduler.Scheduler.first_open.Goals as goal
 
 pub returns-clause-quiet : goal.returns-clause-quiet
 returns-clause-quiet c =
-    quiet_first c.args.self.now (subst IsScheduler c.self.view_is c.self.invariant) c.first.result (subst (λ (s : SchedulerValue). IsFirst s.openings c.first.result) c.self.view_is c.first.ensures)
+    quiet_first c.args.self.now (subst IsScheduler c.self.view_is c.self.invariant.scheduler) c.first.result (subst (λ (s : SchedulerValue). IsFirst s.openings c.first.result) c.self.view_is c.first.ensures)

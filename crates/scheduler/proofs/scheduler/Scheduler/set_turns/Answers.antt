@@ -4,5 +4,5 @@ use Rattle.scheduler.proofs.scheduler.Scheduler.set_turns.Goals as goal
 
 pub invariant_of-self : goal.invariant_of-self
 invariant_of-self c =
-    untimed_scheduler (record { core = c.self.inside.core; openings = c.self.inside.open; waits = c.self.inside.waits }) c.self.invariant c.order_all.new.open_places
+    untimed_scheduler (record { core = c.self.inside.core; openings = c.self.inside.open; waits = c.self.inside.waits }) c.self.invariant.scheduler c.order_all.new.open_places
     (c.order_all.ensures.places ∙ c.resume_late.ensures)

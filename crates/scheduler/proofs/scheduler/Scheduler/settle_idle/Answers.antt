@@ -13,12 +13,12 @@ use Rattle.scheduler.proofs.scheduler.Scheduler.settle_idle.Goals as goal
 pub suspend-requires : goal.suspend-requires
 suspend-requires c =
     let s : SchedulerValue = record { core = c.self.inside.core; openings = c.self.inside.open; waits = c.self.inside.waits } in
-    waits_none s c.self.invariant c.args.place (its_open s.openings c.args.place c.in-Some.own (subst (IsOpen s.openings c.args.place) c.in-Some.is c.token_of.ensures))
+    waits_none s c.self.invariant.scheduler c.args.place (its_open s.openings c.args.place c.in-Some.own (subst (IsOpen s.openings c.args.place) c.in-Some.is c.token_of.ensures))
 
 pub invariant_of-self-in-Err : goal.invariant_of-self-in-Err
 invariant_of-self-in-Err c =
     let s : SchedulerValue = record { core = c.self.inside.core; openings = c.self.inside.open; waits = c.self.inside.waits } in
-    same_scheduler s c.self.invariant c.close_one.new.open_places c.suspend.new.self
+    same_scheduler s c.self.invariant.scheduler c.close_one.new.open_places c.suspend.new.self
     (c.close_one.ensures ∙ candidate_back c.table-2.result.now s.openings c.quiet_candidate-nearest.result c.open_candidate.new.open_places c.in_ok-found.found c.in_ok-found.ensures.opened) c.in-Err.ensures.unchanged
 
 pub returns-in-Err-clause-unchanged : goal.returns-in-Err-clause-unchanged
@@ -39,7 +39,7 @@ invariant_of-self-2 c =
     let opens : OpensCandidate s.core.table s.openings c.quiet_candidate-nearest.result c.open_candidate.new.open_places c.in_ok-found.found =
     subst (λ (v : TableValue). OpensCandidate v s.openings c.quiet_candidate-nearest.result c.open_candidate.new.open_places c.in_ok-found.found) c.table-2.ensures.table c.in_ok-found.ensures.opened in
     subst (λ (os : Openings). IsScheduler (record { core = s.core; openings = os; waits = c.drop_candidate.new.waits })) (sym c.close.ensures)
-    (settled_scheduler s c.self.invariant c.args.place c.args.on.now idle c.in-Some.own token c.quiet_candidate-nearest.result quiet c.open_candidate.new.open_places c.in_ok-found.found opens c.suspend.new.self c.in_default-suspend.ensures.kept
+    (settled_scheduler s c.self.invariant.scheduler c.args.place c.args.on.now idle c.in-Some.own token c.quiet_candidate-nearest.result quiet c.open_candidate.new.open_places c.in_ok-found.found opens c.suspend.new.self c.in_default-suspend.ensures.kept
     c.drop_candidate.new.waits c.drop_candidate.ensures)
 
 pub returns-clause-settled : goal.returns-clause-settled
@@ -53,5 +53,5 @@ returns-clause-settled c =
     subst (λ (v : TableValue). OpensCandidate v s.openings c.quiet_candidate-nearest.result c.open_candidate.new.open_places c.in_ok-found.found) c.table-2.ensures.table c.in_ok-found.ensures.opened in
     subst (λ (x : SchedulerValue). Settles x c.args.place c.args.on.now (record { core = c.self.inside.core; openings = c.close.new.self; waits = c.drop_candidate.new.waits }) c.in_ok-found.found) c.self.view_is
     (subst (λ (os : Openings). Settles s c.args.place c.args.on.now (record { core = s.core; openings = os; waits = c.drop_candidate.new.waits }) c.in_ok-found.found) (sym c.close.ensures)
-    (settled_so s c.self.invariant c.args.place c.args.on.now idle c.in-Some.own token c.quiet_candidate-nearest.result quiet c.open_candidate.new.open_places c.in_ok-found.found opens c.suspend.new.self c.in_default-suspend.ensures.kept
+    (settled_so s c.self.invariant.scheduler c.args.place c.args.on.now idle c.in-Some.own token c.quiet_candidate-nearest.result quiet c.open_candidate.new.open_places c.in_ok-found.found opens c.suspend.new.self c.in_default-suspend.ensures.kept
     c.drop_candidate.new.waits c.drop_candidate.ensures))

@@ -16,7 +16,7 @@ use Rattle.scheduler.specs.Counting.{TakesLabelSteps}
 use Rattle.scheduler.proofs.CountedWaits.{drop_both}
 use Rattle.scheduler.proofs.WorkBound.{opening_within, dropping_within}
 use Rattle.scheduler.proofs.CommitKept.{committed_scheduler, opens_among, committed_so}
-use Rattle.scheduler.proofs.scheduler.Scheduler.commit_opening.Goals as goal
+use Rattle.scheduler.proofs.scheduler.Scheduler.commit_ending.Goals as goal
 
 pub invariant_of-self-in-Ok : goal.invariant_of-self-in-Ok
 invariant_of-self-in-Ok g c =
@@ -31,7 +31,7 @@ invariant_of-self-in-Ok g c =
     let left : c.leave_gone.new.open_places ≡ after_going c.token_of-own.result c.args.plan.label.place c.args.gone.now c.open_all.new.open_places =
     c.leave_gone.ensures ∙ ap (λ (l : Label). after_going c.token_of-own.result l.place c.args.gone.now c.open_all.new.open_places) c.label-place.ensures in
     subst (λ (os : Openings). IsScheduler (record { core = c.append.new.self; openings = os; waits = c.drop_gone.new.waits })) (sym left)
-    (committed_scheduler s c.self.invariant c.args.plan right may fresh c.args.gone.now gone c.args.places.now listed c.open_all.new.open_places c.in_ok-opened.opened.items c.in_ok-opened.ensures.opened c.token_of-own.result token
+    (committed_scheduler s c.self.invariant.scheduler c.args.plan right may fresh c.args.gone.now gone c.args.places.now listed c.open_all.new.open_places c.in_ok-opened.opened.items c.in_ok-opened.ensures.opened c.token_of-own.result token
     c.append.new.self c.table.ensures.core c.in-Ok.receipt c.in-Ok.ensures.committed c.drop_opened.new.waits c.drop_gone.new.waits c.drop_opened.ensures.waits c.drop_gone.ensures.waits)
 
 pub returns-in-Ok-clause-committed : goal.returns-in-Ok-clause-committed
@@ -49,7 +49,7 @@ returns-in-Ok-clause-committed g c =
     let r : Committed = record { receipt = c.in-Ok.receipt; opened = c.in_ok-opened.opened; hurried = false } in
     subst (λ (x : SchedulerValue). CommitsAndOpens x c.args.plan (record { core = c.append.new.self; openings = c.leave_gone.new.open_places; waits = c.drop_gone.new.waits }) r) c.self.view_is
     (subst (λ (os : Openings). CommitsAndOpens s c.args.plan (record { core = c.append.new.self; openings = os; waits = c.drop_gone.new.waits }) r) (sym left)
-    (committed_so s c.self.invariant c.args.plan right may fresh c.args.gone.now gone c.args.places.now listed c.open_all.new.open_places c.in_ok-opened.opened.items c.in_ok-opened.ensures.opened c.token_of-own.result token
+    (committed_so s c.self.invariant.scheduler c.args.plan right may fresh c.args.gone.now gone c.args.places.now listed c.open_all.new.open_places c.in_ok-opened.opened.items c.in_ok-opened.ensures.opened c.token_of-own.result token
     c.append.new.self c.table.ensures.core c.in-Ok.receipt c.in-Ok.ensures.committed c.drop_opened.new.waits c.drop_gone.new.waits c.drop_opened.ensures.waits c.drop_gone.ensures.waits r refl refl refl))
 
 pub returns-in_err-opened-clause-steps : goal.returns-in_err-opened-clause-steps
@@ -63,7 +63,7 @@ returns-in_err-opened-clause-steps g c =
     subst (λ (x : SchedulerValue). AreListedFor x.core.table x.waits c.args.plan c.args.gone.now c.args.places.now) (sym c.self.view_is) c.requires.places in
     let written : c.count_contents.new.steps ≡ c.args.steps.now + contents c.args.plan.step = c.count_contents.ensures ∙ ap (λ (x : Step). c.args.steps.now + contents x) c.step.ensures in
     subst (λ (x : SchedulerValue). TakesLabelSteps x c.args.plan c.args.steps.now c.open_all.new.steps) c.self.view_is
-    (opening_within s c.self.invariant c.args.plan right may fresh c.args.gone.now gone c.requires.once c.args.places.now listed c.args.steps.now c.count_contents.new.steps c.open_all.new.steps written c.open_all.ensures.steps)
+    (opening_within s c.self.invariant.scheduler c.args.plan right may fresh c.args.gone.now gone c.requires.once c.args.places.now listed c.args.steps.now c.count_contents.new.steps c.open_all.new.steps written c.open_all.ensures.steps)
 
 pub returns-in-Err-clause-steps : goal.returns-in-Err-clause-steps
 returns-in-Err-clause-steps g c =
@@ -76,7 +76,7 @@ returns-in-Err-clause-steps g c =
     subst (λ (x : SchedulerValue). AreListedFor x.core.table x.waits c.args.plan c.args.gone.now c.args.places.now) (sym c.self.view_is) c.requires.places in
     let written : c.count_contents.new.steps ≡ c.args.steps.now + contents c.args.plan.step = c.count_contents.ensures ∙ ap (λ (x : Step). c.args.steps.now + contents x) c.step.ensures in
     subst (λ (x : SchedulerValue). TakesLabelSteps x c.args.plan c.args.steps.now c.open_all.new.steps) c.self.view_is
-    (opening_within s c.self.invariant c.args.plan right may fresh c.args.gone.now gone c.requires.once c.args.places.now listed c.args.steps.now c.count_contents.new.steps c.open_all.new.steps written c.open_all.ensures.steps)
+    (opening_within s c.self.invariant.scheduler c.args.plan right may fresh c.args.gone.now gone c.requires.once c.args.places.now listed c.args.steps.now c.count_contents.new.steps c.open_all.new.steps written c.open_all.ensures.steps)
 
 pub returns-in-Ok-clause-steps : goal.returns-in-Ok-clause-steps
 returns-in-Ok-clause-steps g c =
@@ -89,7 +89,7 @@ returns-in-Ok-clause-steps g c =
     subst (λ (x : SchedulerValue). AreListedFor x.core.table x.waits c.args.plan c.args.gone.now c.args.places.now) (sym c.self.view_is) c.requires.places in
     let written : c.count_contents.new.steps ≡ c.args.steps.now + contents c.args.plan.step = c.count_contents.ensures ∙ ap (λ (x : Step). c.args.steps.now + contents x) c.step.ensures in
     subst (λ (x : SchedulerValue). TakesLabelSteps x c.args.plan c.args.steps.now c.drop_gone.new.steps) c.self.view_is
-    (dropping_within s c.self.invariant c.args.plan right may fresh c.args.gone.now gone c.requires.once c.args.places.now listed c.args.steps.now c.count_contents.new.steps c.open_all.new.steps c.drop_gone.new.steps written c.open_all.ensures.steps
+    (dropping_within s c.self.invariant.scheduler c.args.plan right may fresh c.args.gone.now gone c.requires.once c.args.places.now listed c.args.steps.now c.count_contents.new.steps c.open_all.new.steps c.drop_gone.new.steps written c.open_all.ensures.steps
     (drop_both s.waits c.drop_opened.new.waits (places_of c.args.places.now) c.args.gone.now c.open_all.new.steps c.drop_opened.new.steps c.drop_gone.new.steps c.drop_opened.ensures.waits c.drop_opened.ensures.steps c.drop_gone.ensures.steps))
 
 pub returns-in-Ok-clause-opened : goal.returns-in-Ok-clause-opened
@@ -106,5 +106,5 @@ returns-in-Ok-clause-opened g c =
     c.leave_gone.ensures ∙ ap (λ (l : Label). after_going c.token_of-own.result l.place c.args.gone.now c.open_all.new.open_places) c.label-place.ensures in
     subst (λ (x : SchedulerValue). OpensAmong x (record { core = c.append.new.self; openings = c.leave_gone.new.open_places; waits = c.drop_gone.new.waits }) (places_of c.args.places.now)) c.self.view_is
     (subst (λ (os : Openings). OpensAmong s (record { core = c.append.new.self; openings = os; waits = c.drop_gone.new.waits }) (places_of c.args.places.now)) (sym left)
-    (opens_among s c.self.invariant c.args.plan right may fresh c.args.gone.now gone c.args.places.now listed c.open_all.new.open_places c.in_ok-opened.opened.items c.in_ok-opened.ensures.opened c.token_of-own.result token
+    (opens_among s c.self.invariant.scheduler c.args.plan right may fresh c.args.gone.now gone c.args.places.now listed c.open_all.new.open_places c.in_ok-opened.opened.items c.in_ok-opened.ensures.opened c.token_of-own.result token
     c.append.new.self c.table.ensures.core c.in-Ok.receipt c.in-Ok.ensures.committed c.drop_opened.new.waits c.drop_gone.new.waits c.drop_opened.ensures.waits c.drop_gone.ensures.waits))

@@ -1,0 +1,60 @@
+-- The choices by which boxes could be split, as they are kept.
+use Rattle.std.specs.Prelude.{◌≡◌, ℕ, List, [], ◌∷◌, ◌++◌, Bool, true, false, ◌&&◌, Option, Some, None, is_some, ◌⊎◌}
+use Rattle.std.specs.List.{list_any}
+use Rattle.akl_terms.specs.declared.name.Name.{Name}
+use Rattle.akl_terms.specs.declared.name.Place.{Place}
+use Rattle.akl_terms.specs.Names.{same_name}
+use Rattle.wake_lists.specs.Open.{Openings}
+use Rattle.table_laws.specs.Rows.{Table}
+use Rattle.table_laws.specs.Writes.{home_in}
+use Rattle.box_tree.specs.Tables.{TableValue, table_of}
+use Rattle.box_tree.specs.Insides.{candidate_at, candidate_in}
+use Rattle.scheduler.specs.declared.splits.Split.{Split}
+use Rattle.scheduler.specs.Openings.{IsOpenAt}
+use Rattle.scheduler.specs.Nearest.{is_used}
+use Rattle.scheduler.specs.Schedulers.{SchedulerValue, IsScheduler}
+
+abbrev pub same_split : Split → Split → Bool
+same_split s r = same_name s.name r.name && same_name s.goal r.goal
+
+-- it is one of these
+abbrev pub is_kept : Split → List Split → Bool
+is_kept s ss = list_any (same_split s) ss
+
+-- one of these is directly in a box
+abbrev pub has_kept : Name → List Split → Bool
+has_kept n ss = list_any (λ (s : Split). same_name n s.name) ss
+
+-- a choice with its box, where it has a candidate
+abbrev pub split_by : Name → Option Name → Option Name → Option Split
+split_by g None home = None
+split_by g (Some alternative) None = None
+split_by g (Some alternative) (Some n) = Some (record { name = n; goal = g })
+
+-- what stands at a place, where it is a choice by which its box could be split
+abbrev pub split_at : Table → Place → Option Split
+split_at T (Place.Box n) = None
+split_at T (Place.Goal g) = split_by g (candidate_at T (T.goal_of g)) (home_in (T.goal_of g))
+
+-- those at some places
+abbrev pub split_list : Option Split → List Split
+split_list None = []
+split_list (Some s) = s ∷ []
+
+abbrev pub splits_at : Table → List Place → List Split
+splits_at T [] = []
+splits_at T (p ∷ ps) = split_list (split_at T p) ++ splits_at T ps
+
+-- all of them are kept that aren't open, and nothing else is kept
+pub record AreSplitsOf (T : Table) (os : Openings) (kept : List Split) : Type 0 where
+  pub all : (s : Split) → split_at T (Place.Goal s.goal) ≡ Some s → IsOpenAt os (Place.Goal s.goal) ⊎ (is_kept s kept ≡ true)
+  pub only : (s : Split) → is_kept s kept ≡ true → split_at T (Place.Goal s.goal) ≡ Some s
+
+-- so a scheduler keeps them
+pub record KeepsSplits (s : SchedulerValue) (kept : List Split) : Type 0 where
+  pub scheduler : IsScheduler s
+  pub splits : AreSplitsOf (table_of s.core.table) s.openings kept
+
+-- a box could be split exactly where one is kept of it, if nothing is open in it but what has a token
+abbrev pub AreEnough : TableValue → Openings → ℕ → List Split → Type 0
+AreEnough v os own kept = (n : Name) → is_used os own n ≡ false → is_some (candidate_in (table_of v) n) ≡ has_kept n kept

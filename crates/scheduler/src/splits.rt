@@ -1,0 +1,190 @@
+//! The choices by which boxes could be split, once these are stable.
+
+ghost use Rattle.std.specs.Prelude.{◌≡◌, ◌||◌, ◌&&◌, ◌++◌, [], not, is_some, IfOk, OnOk, OnErr};
+ghost use Rattle.akl_terms.specs.declared.name.Place.{Place};
+ghost use Rattle.box_tree.specs.Tables.{table_of};
+ghost use Rattle.box_tree.specs.Insides.{first_solved_in, candidate_at};
+ghost use Rattle.opened_places.specs.Placed.{places_of};
+ghost use Rattle.scheduler.specs.Splits.{same_split, is_kept, has_kept, split_at, split_list, splits_at};
+
+use akl_terms::{Name, Op, Place};
+use box_tree::{Sight, Table};
+use opened_places::Placed;
+use std::alloc::{AllocError, Global};
+use std::collections::BTreeSet;
+use std::marker::Model;
+
+/// A choice by which its box could be split. Those of one box stand together.
+#[derive(Clone, Copy, Debug, PartialEq, Eq, PartialOrd, Ord)]
+pub(crate) struct Split {
+    pub name: Name,
+    pub goal: Name,
+}
+
+/// The choices that are kept of those by which boxes could be split.
+///
+/// A call takes time in the order of the logarithm of what is kept, for each choice that it is given.
+#[derive(Drop)]
+pub(crate) struct Splits {
+    kept: BTreeSet<Split>,
+}
+
+impl Model for Splits {
+    ghost use Rattle.std.specs.Prelude.{List};
+    ghost use Rattle.scheduler.specs.declared.splits.Split.{Split};
+
+    ghost Value = { List Split };
+
+    ghost view = { λ s. s.kept.keys };
+}
+
+impl Splits {
+    pub(crate) fn new(alloc: Global) -> Splits
+        ensures { result ≡ [] }
+    {
+        Splits {
+            kept: BTreeSet::new(alloc),
+        }
+    }
+
+    /// Whether one that is kept is directly in this box.
+    pub(crate) fn has_box(&self, name: Name) -> bool
+        ensures { result ≡ has_kept name self.now }
+    {
+        let least = Name {
+            worker: 0,
+            number: 0,
+        };
+        let from = Split { name, goal: least };
+        match self.kept.range(from..).next() {
+            Some(split) => split.name == name,
+            None => false,
+        }
+    }
+
+    /// Keeps what stands at a place, where it is a choice by which its box could be split. An `Err` leaves all as it was.
+    pub(crate) fn keep(&mut self, table: &Table, place: Place) -> Result<(), AllocError>
+        ensures kept { OnOk result ((s : _) → is_kept s self.new ≡ (is_kept s self.old || is_kept s (split_list (split_at (table_of table.now) place)))) }
+        ensures unchanged { OnErr result ((s : _) → is_kept s self.new ≡ is_kept s self.old) }
+    {
+        match split_at(table, place) {
+            Some(split) => self.insert(split),
+            None => Ok(()),
+        }
+    }
+
+    /// Keeps these no more.
+    pub(crate) fn remove_all(&mut self, splits: &[Split])
+        ensures { (s : _) → is_kept s self.new ≡ (is_kept s self.old && not (is_kept s splits.now)) }
+    {
+        for split in splits {
+            self.remove(*split);
+        }
+    }
+
+    // Keeps one more. An `Err` leaves all as it was.
+    fn insert(&mut self, split: Split) -> Result<(), AllocError>
+        ensures kept { OnOk result ((s : _) → is_kept s self.new ≡ (is_kept s self.old || same_split s split)) }
+        ensures unchanged { OnErr result ((s : _) → is_kept s self.new ≡ is_kept s self.old) }
+    {
+        self.kept.insert(split)?;
+        Ok(())
+    }
+
+    // Keeps this one no more.
+    fn remove(&mut self, split: Split)
+        ensures { (s : _) → is_kept s self.new ≡ (is_kept s self.old && not (same_split s split)) }
+    {
+        self.kept.remove(&split);
+    }
+}
+
+/// Whether one of these boxes has no goals.
+pub(crate) fn has_solved(table: &Table, names: &[Name]) -> bool
+    ensures { result ≡ is_some (first_solved_in (table_of table.now) names.now) }
+{
+    for name in names {
+        if table.is_solved(*name) {
+            return true;
+        }
+    }
+    false
+}
+
+// Whether a goal is a `?` choice with a solved alternative, and another.
+fn is_candidate(table: &Table, goal: Name) -> bool
+    ensures { result ≡ is_some (candidate_at (table_of table.now) ((table_of table.now).goal_of goal)) }
+{
+    let Some((_, sight)) = table.sight_of(Place::Goal(goal)) else {
+        return false;
+    };
+    match sight {
+        Sight::Choice { op: Op::Choice } => {
+            let alternatives = table.alternatives_of(goal);
+            alternatives.len() > 1 && has_solved(table, alternatives)
+        }
+        _ => false,
+    }
+}
+
+// What stands at a place, where it is a choice by which its box could be split.
+fn split_at(table: &Table, place: Place) -> Option<Split>
+    ensures { result ≡ split_at (table_of table.now) place }
+{
+    match place {
+        Place::Goal(goal) => {
+            if !is_candidate(table, goal) {
+                return None;
+            }
+            let name = table.home_of(goal)?;
+            Some(Split { name, goal })
+        }
+        Place::Box(_) => None,
+    }
+}
+
+/// The choices by which boxes could be split at the places of two lists, of which a label opens the first and takes away the
+/// others. An `Err` comes for want of memory.
+pub(crate) fn splits_of(
+    alloc: Global,
+    table: &Table,
+    opened: &[Placed],
+    gone: &[Place],
+) -> Result<Vec<Split>, AllocError>
+    ensures { IfOk result (λ splits. splits.items ≡ splits_at (table_of table.now) (places_of opened.now) ++ splits_at (table_of table.now) gone.now) }
+{
+    let mut splits = Vec::new(alloc);
+    push_opened(table, opened, &mut splits)?;
+    push_gone(table, gone, &mut splits)?;
+    Ok(splits)
+}
+
+// Those at places that open come.
+fn push_opened(table: &Table, opened: &[Placed], splits: &mut Vec<Split>) -> Result<(), AllocError>
+    ensures { OnOk result (splits.new.items ≡ splits.old.items ++ splits_at (table_of table.now) (places_of opened.now)) }
+{
+    for placed in opened {
+        push_split(table, placed.place(), splits)?;
+    }
+    Ok(())
+}
+
+// Those at places that go come.
+fn push_gone(table: &Table, gone: &[Place], splits: &mut Vec<Split>) -> Result<(), AllocError>
+    ensures { OnOk result (splits.new.items ≡ splits.old.items ++ splits_at (table_of table.now) gone.now) }
+{
+    for place in gone {
+        push_split(table, *place, splits)?;
+    }
+    Ok(())
+}
+
+// That at a place comes, where there is one.
+fn push_split(table: &Table, place: Place, splits: &mut Vec<Split>) -> Result<(), AllocError>
+    ensures { OnOk result (splits.new.items ≡ splits.old.items ++ split_list (split_at (table_of table.now) place)) }
+{
+    if let Some(split) = split_at(table, place) {
+        splits.push(split)?;
+    }
+    Ok(())
+}
