@@ -1,7 +1,6 @@
 -- Open places by their tokens, and in the order of their turns.
-use Rattle.std.specs.Prelude.{◌≡◌, ℕ, List, [], Option, None, Some, Bool, true, false, ◌&&◌, ◌||◌, ◌==◌, if◌then◌else◌, nat_lt, ◌⊎◌}
-use Rattle.std.specs.Map.{lookup, remove_entry, keys_of}
-use Rattle.std.specs.BTreeMap.{insert_entry}
+use Rattle.std.specs.Prelude.{◌≡◌, ℕ, List, [], Option, None, Some, Bool, true, false, ◌&&◌, ◌||◌, ◌==◌, nat_lt, ◌⊎◌}
+use Rattle.std.specs.Map.{lookup, keys_of}
 use Rattle.std.specs.List.Sorted.{IsStrictlySortedBy}
 use Rattle.std.specs.Ordering.{nat_cmp}
 use Rattle.akl_terms.specs.declared.name.Place.{Place}
@@ -35,20 +34,6 @@ same_turn s t = same_urgency s.urgency t.urgency && (s.number == t.number)
 
 abbrev pub Places : Type 0
 Places = List (ℕ × Opened)
-
--- one token leads to something else, or to nothing
-abbrev pub Finds : Places → Places → ℕ → Option Opened → Type 0
-Finds old new t w = (s : ℕ) → lookup (eqb s) new ≡ (if eqb t s then w else lookup (eqb s) old)
-
-pub record IsPut (old new : Places) (t : ℕ) (o : Opened) : Type 0 where
-  pub entries : new ≡ insert_entry nat_cmp old t o
-  pub ordered : IsStrictlySortedBy nat_cmp (keys_of new)
-  pub finds : Finds old new t (Some o)
-
-pub record IsTakenOut (old new : Places) (t : ℕ) : Type 0 where
-  pub entries : new ≡ remove_entry (eqb t) old
-  pub ordered : IsStrictlySortedBy nat_cmp (keys_of new)
-  pub finds : Finds old new t None
 
 abbrev pub is_place : Place → Opened → Bool
 is_place p o = same_place p o.place

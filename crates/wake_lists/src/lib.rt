@@ -4,6 +4,7 @@
 mod inside;
 mod open;
 mod queue;
+mod slots;
 mod standing;
 mod tokens;
 mod turn;

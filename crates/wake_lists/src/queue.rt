@@ -2,9 +2,11 @@
 
 ghost use Rattle.std.specs.Prelude.{◌≡◌, [], None, Some, length, OnOk, OnErr};
 ghost use Rattle.std.specs.Map.{lookup};
-ghost use Rattle.wake_lists.specs.Queue.{Finds, IsPut, IsTakenOut, HasNone, IsTokenOf, IsNext, is_place, is_turn};
+ghost use Rattle.wake_lists.specs.Queue.{HasNone, IsTokenOf, IsNext, is_place, is_turn};
+ghost use Rattle.wake_lists.specs.Slots.{IsPut, IsTakenOut};
 ghost use lib.Dec.{eqb};
 
+use crate::slots::Slots;
 use crate::turn::Turn;
 use akl_terms::Place;
 use std::alloc::{AllocError, Global};
@@ -21,7 +23,7 @@ pub(crate) struct Opened {
 /// The open places by their tokens, each once, and each with a turn of its own.
 #[derive(Drop)]
 pub(crate) struct Queue {
-    places: BTreeMap<u64, Opened>,
+    places: Slots<Opened>,
     tokens: BTreeMap<Place, u64>,
     turns: BTreeMap<Turn, u64>,
 }
@@ -33,9 +35,9 @@ impl Model for Queue {
 
     ghost Value = { List (ℕ × Opened) };
 
-    ghost view = { λ q. q.places.entries };
+    ghost view = { λ q. q.places };
 
-    ghost invariant = { λ q. AreQueued q.places.entries q.tokens.entries q.turns.entries };
+    ghost invariant = { λ q. AreQueued q.places q.tokens.entries q.turns.entries };
 }
 
 impl Queue {
@@ -43,7 +45,7 @@ impl Queue {
         ensures { result ≡ [] }
     {
         Queue {
-            places: BTreeMap::new(alloc),
+            places: Slots::new(alloc),
             tokens: BTreeMap::new(alloc),
             turns: BTreeMap::new(alloc),
         }
@@ -59,7 +61,7 @@ impl Queue {
     pub(crate) fn get(&self, token: u64) -> Option<Opened>
         ensures { result ≡ lookup (eqb token) self.now }
     {
-        self.places.get(&token).copied()
+        self.places.get(token).copied()
     }
 
     /// The token of the place.
@@ -124,7 +126,7 @@ impl Queue {
     {
         self.turns.insert(turn, token)?;
         self.turns.remove(&opened.turn);
-        let _ = self.places.insert(token, Opened { turn, ..opened });
+        self.places.set(token, Opened { turn, ..opened });
         Ok(())
     }
 
@@ -133,7 +135,7 @@ impl Queue {
         ensures was { result ≡ lookup (eqb token) self.old }
         ensures gone { IsTakenOut self.old self.new token }
     {
-        let opened = self.places.remove(&token)?;
+        let opened = self.places.remove(token)?;
         self.tokens.remove(&opened.place);
         self.turns.remove(&opened.turn);
         Some(opened)
