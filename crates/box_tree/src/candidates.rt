@@ -21,8 +21,9 @@ impl Table {
         None
     }
 
-    // The alternative at which the box of a goal could be split by it.
-    fn candidate_at(&self, goal: Name) -> Option<Name>
+    /// The alternative at which the box of a goal could be split by it: the first solved one of a `?` choice that has
+    /// others. `None` where the goal isn't such a choice, and of one that isn't there.
+    pub fn candidate_at(&self, goal: Name) -> Option<Name>
         ensures { result ≡ candidate_at (table_of self.now) ((table_of self.now).goal_of goal) }
     {
         match self.goals.get(&goal) {

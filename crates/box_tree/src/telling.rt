@@ -78,7 +78,9 @@ impl Table {
             return;
         };
         if let Some(entry) = self.boxes.get_mut(&name) {
+            // The store before it is dropped first, so that nothing else holds what they have in common.
             entry.store = store;
+            entry.store.settle();
             entry.changed = number;
             entry.solved_at = solved_at;
             entry.goals.remove(&goal);

@@ -29,12 +29,12 @@ pub record IsTakenOf (s : SharedValue) (worker : ℕ) (v : ViewValue) : Type 0 w
 -- the view of what was seen
 abbrev pub view_of : Sight → ViewValue
 view_of (Sight.Whole seen) = view_in seen
-view_of (Sight.Busy view) = view
+view_of (Sight.Tried view) = view
 
 -- of a place that was seen whole, all was seen that tells what comes next there
 abbrev pub HasSeen : Sight → Type 0
 HasSeen (Sight.Whole seen) = IsSeen seen
-HasSeen (Sight.Busy view) = Unit {0}
+HasSeen (Sight.Tried view) = Unit {0}
 
 -- a worker saw a place, or the place isn't there
 abbrev pub IsSightBy : CoreValue → Place → ℕ → Option Sight → Type 0

@@ -17,8 +17,8 @@ use step_commit::Core;
 pub enum Sight {
     /// Enough to tell what comes next there.
     Whole(Seen),
-    /// A box that may fail, or in which another place is open, without what stands inside it.
-    Busy(View),
+    /// A place that is only tried by the rules other than Split: a box without what stands inside it.
+    Tried(View),
 }
 
 /// What a worker saw of a place, and the token that led it there, where this is its own.
@@ -154,7 +154,7 @@ impl SharedRun {
         let found = if self.scheduler.attention_at(token, place) == Attention::Whole {
             see_whole(alloc, self.scheduler.core(), place, worker)?
         } else {
-            see_busy(alloc, self.scheduler.core(), place, worker)?
+            see_tried(alloc, self.scheduler.core(), place, worker)?
         };
         if found.is_none() {
             self.scheduler.forget(token);
@@ -187,7 +187,7 @@ fn see_whole(
 }
 
 // The same without what stands inside a box.
-fn see_busy(
+fn see_tried(
     alloc: Global,
     core: &Core,
     place: Place,
@@ -196,7 +196,7 @@ fn see_busy(
     ensures { IfOk result (IsSightBy core.now place worker) }
 {
     match core.look(alloc, place, worker) {
-        Ok(view) => Ok(Some(Sight::Busy(view))),
+        Ok(view) => Ok(Some(Sight::Tried(view))),
         Err(LookError::Gone) => Ok(None),
         Err(LookError::Memory(error)) => Err(error),
     }

@@ -4,9 +4,9 @@
 mod choosing;
 mod concluding;
 mod crew;
-mod patience;
 mod run;
 mod shared;
+mod vain_turns;
 mod worker;
 
 pub use run::{Finished, run_many};

@@ -8,8 +8,8 @@ ghost use Rattle.par_workers.specs.Turns.{run_seen, IsNumber, IsChosenIn, IsFoun
 
 use crate::choosing::{Chosen, Look, Sight};
 use crate::concluding::Planned;
-use crate::patience::Patience;
 use crate::shared::SharedRun;
+use crate::vain_turns::VainTurns;
 use akl_model::Receipt;
 use akl_outside::Gate;
 use akl_terms::Program;
@@ -55,23 +55,23 @@ impl Worker {
         ensures lock { IsPassOf lock.now self.new.pass }
         ensures number { self.new.number ≡ self.old.number }
     {
-        let mut patience = Patience::new();
+        let mut vain = VainTurns::new();
         let mut planned = None;
         for _ in rt.forever() {
-            if planned.is_none() && patience.is_waiting() {
-                patience.wait();
+            if planned.is_none() && vain.is_waiting() {
+                vain.wait();
                 continue;
             }
             let has_token = self.draw(rt);
-            let has_waited = patience.is_over();
+            let has_waited = vain.are_many();
             if planned.is_none() && !has_token && !has_waited {
-                patience.lengthen(has_token);
+                vain.add(has_token);
                 continue;
             }
             match self.turn(rt, alloc, lock, planned, has_waited) {
                 Chosen::End => return,
                 Chosen::Wait => {
-                    patience.lengthen(has_token);
+                    vain.add(has_token);
                     planned = None;
                 }
                 Chosen::At(look) => {
@@ -80,7 +80,7 @@ impl Worker {
                         self.stop(rt, lock);
                         return;
                     };
-                    pace(&mut patience, &found);
+                    end_if_found(&mut vain, &found);
                     planned = Some(found);
                 }
             }
@@ -153,13 +153,13 @@ impl Worker {
 }
 
 // A worker that planned something waits no longer.
-fn pace(patience: &mut Patience, planned: &Planned) {
+fn end_if_found(vain: &mut VainTurns, planned: &Planned) {
     if planned.next.is_some() {
-        patience.renew();
+        vain.end();
     }
 }
 
-// What comes next at a place that a worker looked at; at a busy box only where a rule other than Split applies.
+// What comes next at a place that a worker looked at; at one that is tried only where a rule other than Split applies.
 fn plan_at(alloc: Global, program: &Program, look: Look) -> Result<Planned, AllocError>
     requires seen { HasSeen look.sight }
     requires program { program.now ≡ (view_of look.sight).table.program }
@@ -167,7 +167,7 @@ fn plan_at(alloc: Global, program: &Program, look: Look) -> Result<Planned, Allo
 {
     let next = match &look.sight {
         Sight::Whole(seen) => Some(next_of(alloc, program, seen)?),
-        Sight::Busy(view) => plan_busy(alloc, program, view)?,
+        Sight::Tried(view) => plan_tried(alloc, program, view)?,
     };
     Ok(Planned {
         token: look.token,
@@ -176,7 +176,7 @@ fn plan_at(alloc: Global, program: &Program, look: Look) -> Result<Planned, Allo
 }
 
 // A right plan of a rule other than Split, if one applies.
-fn plan_busy(alloc: Global, program: &Program, view: &View) -> Result<Option<Next>, AllocError>
+fn plan_tried(alloc: Global, program: &Program, view: &View) -> Result<Option<Next>, AllocError>
     requires { program.now ≡ view.now.table.program }
     ensures { IfOk result (λ next. IfSome next (IsNext view.now)) }
 {

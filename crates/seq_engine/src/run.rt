@@ -31,9 +31,10 @@ pub struct Finished {
 /// Runs on as worker 1, which has these receipts so far, until no rule applies, or until all labels of the budget are made
 /// and a rule still applies.
 ///
-/// Of the open places the one that has been open longest comes first. But a box that a label may have made fail comes at
-/// once; and other boxes, and choices, come after all others while something inside them is open, or no alternative is
-/// solved. Each of these is tried once sixteen labels were made for each open place.
+/// Of the open places a box that a label may have made fail comes before all others, and then the place that has been open
+/// longest. Boxes that don't fail come last, and so do choices without a solved alternative; one of them in which
+/// something else is open isn't looked at yet. They come among the others again once sixteen labels were made for each open
+/// place.
 pub fn run_on(
     alloc: Global,
     program: &Program,
