@@ -1,5 +1,5 @@
 //! `persist_map`: that calls succeed, that maps which share nodes stay, and use from other threads.
-use persist_map::PMap;
+use persist_map::{BufferedMap, PMap};
 use std::alloc::AllocError;
 use std::ops::Range;
 use std::process::Abort;
@@ -74,6 +74,57 @@ fn a_map_has_its_values_and_those_that_share_nodes_stay(rt: HostRuntime) -> Resu
     make_changes(&rt, &mut map, &mut values, 300..600)?;
     assert!(rt; agree(&shared, &then));
     assert!(rt; 4 < shared.height() && shared.height() < 10);
+    Ok(())
+}
+
+/// Whether a map has these entries and no other, in this order.
+fn has(map: &BufferedMap<u32, u32>, entries: &[(u32, u32)]) -> Result<bool, AllocError> {
+    for (key, value) in entries {
+        if map.get(key) != Some(value) {
+            return Ok(false);
+        }
+    }
+    Ok(map.entries()?.as_slice() == entries)
+}
+
+#[test]
+fn newest_entries_are_seen_wherever_they_stand(rt: HostRuntime) -> Result<(), Fail> {
+    let mut map = BufferedMap::new(rt.alloc());
+    for key in [5, 3, 8, 1, 9, 3, 7, 2, 6, 5, 4] {
+        map.insert(key, key * 10)?;
+    }
+    let mut other = map.share()?;
+    map.insert(3, 31)?;
+    map.insert(0, 0)?;
+    other.settle()?;
+    other.insert(9, 91)?;
+    let here = [
+        (0, 0),
+        (1, 10),
+        (2, 20),
+        (3, 31),
+        (4, 40),
+        (5, 50),
+        (6, 60),
+        (7, 70),
+        (8, 80),
+        (9, 90),
+    ];
+    assert!(rt; has(&map, &here)?);
+    map.settle()?;
+    assert!(rt; has(&map, &here)? && map.get(&10).is_none());
+    let there = [
+        (1, 10),
+        (2, 20),
+        (3, 30),
+        (4, 40),
+        (5, 50),
+        (6, 60),
+        (7, 70),
+        (8, 80),
+        (9, 91),
+    ];
+    assert!(rt; has(&other, &there)? && other.get(&0).is_none());
     Ok(())
 }
 

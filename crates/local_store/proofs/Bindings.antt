@@ -27,6 +27,10 @@ Entry = (Var × ℕ) × Term
 equal-one : (x y : Var) → var_cmp x y ≡ Equal → y ≡ x
 equal-one x y e = same_var-equal y x (sym (var-same x y) ∙ ap is_eq e)
 
+pub kept-nothing : IsKept [] 1
+unfolding IsStrictlySortedBy
+kept-nothing = record { ordered = tt; first = tt; below = tt; some = omega arith }
+
 -- an entry of the variable has a smaller number
 abbrev IsBehind : Var → ℕ → Entry → Type 0
 IsBehind x n e = var_cmp x e.0.0 ≡ Equal → e.0.1 < n

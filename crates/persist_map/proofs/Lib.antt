@@ -3,6 +3,7 @@ pub mod Changes
 pub mod Forks
 pub mod Heights
 pub mod Later
+pub mod Newest
 pub mod Removals
 pub mod Settings
 pub mod Sides

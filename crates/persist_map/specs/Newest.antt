@@ -1,5 +1,5 @@
 -- Entries in the order of their keys, into which newer ones are put.
-use Rattle.std.specs.Prelude.{ℕ, ◌+◌, List, [], ◌∷◌}
+use Rattle.std.specs.Prelude.{ℕ, suc, List, [], ◌∷◌}
 use Rattle.std.specs.declared.cmp.Ordering.{Ordering}
 use Rattle.std.specs.Ordering.{match_ordering}
 use Rattle.std.specs.BTreeMap.{insert_entry}
@@ -12,4 +12,4 @@ with_entries cmp entries (n ∷ newest) = with_entries cmp (insert_entry cmp ent
 -- how many entries at the front have keys below k
 abbrev pub place_of : {K V : Type 0} → (K → K → Ordering) → List (K × V) → K → ℕ
 place_of cmp [] k = 0
-place_of cmp (e ∷ entries) k = match_ordering (cmp k e.0) 0 0 (place_of cmp entries k + 1)
+place_of cmp (e ∷ entries) k = match_ordering (cmp k e.0) 0 0 (suc (place_of cmp entries k))

@@ -5,6 +5,10 @@ use Rattle.local_store.proofs.Replaced.{answers-whole, answers-further}
 use Rattle.local_store.proofs.Answered.{IfOk-both}
 use Rattle.local_store.proofs.telling.told.Goals as goal
 
+pub tell-requires : goal.tell-requires
+tell-requires c = rw c.templates-templates.ensures.nodes
+    (whole-known c.args.chain.now.nodes c.args.chain.now.stores c.known-known.result c.known-known.ensures.solved (c.if-known-stores.true ∙ ap length c.stores-stores.ensures)).form.solved
+
 pub returns-then-known-stores : goal.returns-then-known-stores
 returns-then-known-stores c = IfOk-weaker c.tell.result _ _
     (λ t h. answers-whole c.args.chain.now.nodes c.args.chain.now.stores c.args.chain.now.known c.args.equations.now t
