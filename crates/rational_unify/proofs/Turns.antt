@@ -293,6 +293,10 @@ turn-ends nodes known es added compared w f = record {
   stands = work-stands (bound_in nodes (known ++ added)) (length (known ++ added)) w (λ s t m. m);
 }
 
+-- no bindings solve no equations
+pub none-solved : (nodes : List Node) (known : List (Var × Term)) → IsSolved nodes known → IsSolution nodes known [] []
+none-solved nodes known h = turn-ends nodes known [] [] [] (turn-starts nodes known [] h) tt
+
 -- how many turns there can be yet: each takes a pair away, or takes memory for a binding or a comparison
 abbrev pub turns_left : ℕ → ℕ → ℕ → ℕ
 turns_left added compared pending = ((2 ^ 64 - added) + (2 ^ 64 - compared)) * 2 ^ 64 + pending
