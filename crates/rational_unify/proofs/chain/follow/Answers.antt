@@ -1,4 +1,4 @@
-use Rattle.std.proofs.Common.{◌≡◌, List, subst, ◌∙◌, arith}
+use Rattle.std.proofs.Common.{List, subst, ◌∙◌, arith}
 use Rattle.akl_terms.specs.declared.name.Var.{Var}
 use Rattle.rational_unify.specs.Followed.{ReboundAll}
 use Rattle.rational_unify.proofs.Taking.{behind-first}

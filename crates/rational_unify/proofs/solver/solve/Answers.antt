@@ -1,4 +1,4 @@
-use Rattle.std.proofs.Common.{refl, arith, ◌≡◌, ◌++◌, ◌∷◌, [], List, length, subst, append-nil}
+use Rattle.std.proofs.Common.{arith, ◌≡◌, ◌++◌, [], List, length, subst, append-nil}
 use Rattle.akl_terms.specs.declared.name.Var.{Var}
 use Rattle.akl_terms.specs.declared.term.Node.{Node}
 use Rattle.akl_terms.specs.declared.term.Term.{Term}

@@ -1,4 +1,4 @@
-use Rattle.std.proofs.Common.{◌≡◌, Some, None, List, Option, ℕ, sym, ◌∙◌, ap, take}
+use Rattle.std.proofs.Common.{List, sym, ◌∙◌, ap, take}
 use Rattle.std.specs.List.{position}
 use Rattle.akl_terms.specs.declared.name.Var.{Var}
 use Rattle.akl_terms.specs.declared.term.Term.{Term}
