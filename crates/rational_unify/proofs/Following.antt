@@ -8,7 +8,6 @@ use Rattle.akl_terms.specs.declared.term.Seen.TheVariants.{Free}
 use Rattle.akl_terms.specs.declared.term.Equation as code
 use Rattle.akl_terms.specs.Tree.{Tree, variable}
 use Rattle.akl_terms.specs.Template.{tree, seen_of}
-use Rattle.rational_unify.specs.declared.solver.Work.{Work}
 use Rattle.rational_unify.specs.Known.{found_in, bound_in, next_seen, IsSolved, end_of}
 use Rattle.rational_unify.specs.Older.{KeepsOlder}
 use Rattle.rational_unify.specs.Shortened.{Rebinds, KeepsEnds}
@@ -16,8 +15,7 @@ use Rattle.rational_unify.specs.Followed.{AgreeOn, LeadsAlong, start, on, IsPath
 use Rattle.rational_unify.specs.Solving.{bindings_in, BindNew}
 use Rattle.akl_terms.specs.Equal.{IsTold}
 use Rattle.akl_terms.specs.Solved.{IsBound, bound}
-use Rattle.rational_unify.specs.Meeting.{LeadsTo, Clashes, Advances}
-use Rattle.rational_unify.proofs.Walks.{walk-again, walk-bound}
+use Rattle.rational_unify.proofs.Walks.{walk-bound}
 use Rattle.rational_unify.proofs.Chains.{found-first, found-second, next_walks, no_next_stays, BindNew-bound}
 use Rattle.rational_unify.proofs.Ends.{free-tree}
 use Rattle.rational_unify.proofs.OlderEnds.{rebound-older}
@@ -126,37 +124,6 @@ module _ (nodes : List Node) (known other : List (Var × Term)) (t : Term) (old 
 
   pub follows-older : KeepsOlder nodes (other ++ old) (other ++ new)
   follows-older = ReboundAll-older nodes other old (tree nodes t) end f.path new h ends_there.0 ends_there.1 f.rebound_by
-
--- a term at the end of two chains stands for both
-pub LeadsTo-end : (nodes : List Node) (bs cs : List (Var × Term)) (pairs : List code.Equation) (s t u : Term) → IsSolved nodes bs
-    → (v : Tree) → tree nodes s ≡ end_of nodes bs v → tree nodes s ≡ end_of nodes cs (tree nodes t) → LeadsTo nodes bs pairs s u → LeadsTo nodes cs pairs t u
-LeadsTo-end nodes bs cs pairs s t u h v e f l = record {
-  last = l.last;
-  ends = l.ends ∙ ap (end_of nodes bs) e ∙ sym (walk-again (bound_in nodes bs) (length bs) h.ends v) ∙ sym e ∙ f;
-  linked = l.linked;
-}
-
-pub Advances-end : (nodes : List Node) (known other : List (Var × Term)) (pair : code.Equation) (left right : Term) (v w : Tree) (old new : Work) → IsSolved nodes (known ++ old.added)
-    → tree nodes left ≡ end_of nodes (known ++ old.added) v → tree nodes right ≡ end_of nodes (known ++ old.added) w
-    → tree nodes left ≡ end_of nodes (other ++ old.added) (tree nodes pair.left) → tree nodes right ≡ end_of nodes (other ++ old.added) (tree nodes pair.right)
-    → Advances nodes known (record { left = left; right = right }) old new → Advances nodes other pair old new
-Advances-end nodes known other pair left right v w old new h kl kr ol or a = record {
-  left = a.left;
-  right = a.right;
-  is_left = LeadsTo-end nodes (known ++ old.added) (other ++ old.added) old.compared left pair.left a.left h v kl ol a.is_left;
-  is_right = LeadsTo-end nodes (known ++ old.added) (other ++ old.added) old.compared right pair.right a.right h w kr or a.is_right;
-  meet = a.meet;
-}
-
-pub Clashes-end : (nodes : List Node) (known other : List (Var × Term)) (pair : code.Equation) (left right : Term) (v w : Tree) (old : Work) (clash : code.Equation) → IsSolved nodes (known ++ old.added)
-    → tree nodes left ≡ end_of nodes (known ++ old.added) v → tree nodes right ≡ end_of nodes (known ++ old.added) w
-    → tree nodes left ≡ end_of nodes (other ++ old.added) (tree nodes pair.left) → tree nodes right ≡ end_of nodes (other ++ old.added) (tree nodes pair.right)
-    → Clashes nodes known (record { left = left; right = right }) old clash → Clashes nodes other pair old clash
-Clashes-end nodes known other pair left right v w old clash h kl kr ol or c = record {
-  left = LeadsTo-end nodes (known ++ old.added) (other ++ old.added) old.compared left pair.left clash.left h v kl ol c.left;
-  right = LeadsTo-end nodes (known ++ old.added) (other ++ old.added) old.compared right pair.right clash.right h w kr or c.right;
-  differ = c.differ;
-}
 
 -- both terms of an equation were followed to their ends
 pub record EndsOf (nodes : List Node) (known old new : List (Var × Term)) (pair : code.Equation) (left right : Term) : Type 0 where

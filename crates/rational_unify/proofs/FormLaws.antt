@@ -21,7 +21,7 @@ use Rattle.rational_unify.proofs.Same.{Equal-same, Same-consistent}
 use Rattle.rational_unify.proofs.Walks.{walk-equal, walk-free, IsFree, Adds, Adds-ends, EndsWithin-leads}
 use Rattle.akl_terms.proofs.SameNames.{same_var-equal, same_var-refl}
 use Rattle.rational_unify.proofs.Chains.{found-first, found-second, one_more-adds, BindNew-push}
-use Rattle.rational_unify.proofs.Turns.{length-push, equations-left, equations-right, equations-either}
+use Rattle.rational_unify.proofs.Turns.{none-solved, length-push, equations-left, equations-right, equations-either}
 use Rattle.rational_unify.proofs.Ends.{free-tree, headed-tree}
 
 -- a term that isn't this variable
@@ -236,6 +236,11 @@ module _ (nodes : List Node) (known old cur : List (Var × Term)) (pending : Lis
       hold = λ a b m n. elim m [ inl o ↦ s.hold a b (told (inl (h.kept a b o))) n | inr o ↦ s.hold a b (h.covers a b o) n ];
     });
   }
+
+-- where no equation waits, all is taken in
+pub half-whole : (nodes : List Node) (known old cur : List (Var × Term)) (pending : List code.Equation) (all : List (Var × Term)) → IsHalf nodes known old cur pending all all → pending ≡ [] → Takes nodes known old cur all
+half-whole nodes known old cur pending all h e = subst (λ (l : List (Var × Term)). Takes nodes known old l all) (append-nil cur)
+    (half-ends nodes known old cur pending all h [] (subst (λ (es : List code.Equation). IsSolution nodes (known ++ cur) es []) (sym e) (none-solved nodes (known ++ cur) h.solved)))
 
 pub bound-told : (nodes : List Node) (bs : List (Var × Term)) (i : ℕ) (b : Var × Term) → slice_get bs i ≡ Some b → IsTold (bindings_in nodes bs) (variable b.0) (tree nodes b.1)
 bound-told nodes [] i b e = cc

@@ -8,19 +8,23 @@ use Rattle.akl_terms.specs.declared.term.Equation as code
 use Rattle.akl_terms.specs.Tree.{Tree, variable, integer, port, symbol, Head, symbol_head, head_of}
 use Rattle.akl_terms.specs.Equal.{IsTold}
 use Rattle.akl_terms.specs.Solved.{Bindings}
-use Rattle.akl_terms.specs.Template.{IsArranged, tree}
+use Rattle.akl_terms.specs.declared.term.Seen.{Seen}
+use Rattle.akl_terms.specs.declared.term.Seen.TheVariants.{Free}
+use Rattle.akl_terms.specs.Template.{IsArranged, tree, seen_of}
 use Rattle.rational_unify.specs.declared.meet.Meeting.TheVariants.{Bind, Agree}
 use Rattle.rational_unify.specs.declared.meet.Pairs.{Pairs}
 use Rattle.rational_unify.specs.declared.solver.Work.{Work}
-use Rattle.rational_unify.specs.Known.{found_in, bound_in, IsSolved, end_of}
+use Rattle.rational_unify.specs.Known.{found_in, bound_in, next_in, next_seen, IsSolved, end_of}
 use Rattle.rational_unify.specs.Shortened.{KeepsEnds}
 use Rattle.rational_unify.specs.Solving.{equations_in, Tells, BindNew, IsSolution, IsClashOf}
 use Rattle.rational_unify.specs.Indexes.{IsOf, IsLinked, here, on}
-use Rattle.rational_unify.specs.Meeting.{Meets, argument_pair, argument_pairs, LeadsTo, AgreeInHead, Clashes, Meet, same, bind, agree, Advances}
+use Rattle.rational_unify.specs.Meeting.{Meets, argument_pair, argument_pairs, AgreeInHead, Clashes, Meet, same, bind, agree, Advances}
 use Rattle.akl_terms.proofs.Arguments.{same_value}
 use Rattle.rational_unify.proofs.Walks.{IsFree, walk-free, walk-again}
-use Rattle.rational_unify.proofs.Chains.{free_found, one_more-adds, BindNew-push, BindNew-bound}
+use Rattle.rational_unify.proofs.Chains.{free_found, found-none, one_more-adds, BindNew-push, BindNew-bound}
 use Rattle.rational_unify.proofs.Heads.{head_of_seen, head_seen}
+use Rattle.rational_unify.proofs.Ends.{free-tree, headed-tree}
+use Rattle.std.specs.Prelude.{option_map}
 use Rattle.akl_terms.proofs.Unfolding.{arguments-struct, few_arguments}
 use Rattle.rational_unify.proofs.Work.{IsWork, IsDone, met, was, back, through, Arguments, work-start, work-shorter, work-same, work-bind, work-agree, pair-follows, work-consistent, work-hold, work-trees, work-stands}
 
@@ -90,10 +94,11 @@ linked-done nodes go P pairs s t here = met refl
 linked-done nodes go P pairs s u (on {t = t} l (inl m)) = through (linked-done nodes go P pairs s t l) (was (IsOf-told nodes pairs (record { left = t; right = u }) m))
 linked-done nodes go P pairs s u (on {t = t} l (inr m)) = through (linked-done nodes go P pairs s t l) (back (was (IsOf-told nodes pairs (record { left = u; right = t }) m)))
 
-leads-done : (nodes : List Node) (bs : List (Var × Term)) (pairs : List code.Equation) (P : Tree → Tree → Type 0) (s t : Term) → IsSolved nodes bs → LeadsTo nodes bs pairs s t
-    → IsDone (end_of nodes bs) P (IsTold (equations_in nodes pairs)) (tree nodes s) (tree nodes t)
-leads-done nodes bs pairs P s t h l =
-    through (met (walk-again (bound_in nodes bs) (length bs) h.ends (tree nodes s) ∙ ap (end_of nodes bs) (sym l.ends))) (linked-done nodes (end_of nodes bs) P pairs l.last t l.linked)
+-- a term and what stands for the end of its chain are done with
+end-done : (nodes : List Node) (bs : List (Var × Term)) (pairs : List code.Equation) (P : Tree → Tree → Type 0) (s last t : Term) → IsSolved nodes bs
+    → tree nodes last ≡ end_of nodes bs (tree nodes s) → IsLinked pairs last t → IsDone (end_of nodes bs) P (IsTold (equations_in nodes pairs)) (tree nodes s) (tree nodes t)
+end-done nodes bs pairs P s last t h e l =
+    through (met (walk-again (bound_in nodes bs) (length bs) h.ends (tree nodes s) ∙ ap (end_of nodes bs) (sym e))) (linked-done nodes (end_of nodes bs) P pairs last t l)
 
 headed-free : (look : Bindings) (t : Tree) (h : Head) → head_of t ≡ Some h → IsFree look t
 headed-free look (variable x) h e = cc
@@ -101,28 +106,55 @@ headed-free look (integer z) h e = tt
 headed-free look (port p) h e = tt
 headed-free look (symbol f ts) h e = tt
 
--- what stands for a term is bound to nothing
-pub leads-free : (nodes : List Node) (bs : List (Var × Term)) (pairs : List code.Equation) (s t : Term) → IsSolved nodes bs → AgreeInHead nodes pairs → LeadsTo nodes bs pairs s t
-    → IsFree (bound_in nodes bs) (tree nodes t)
-leads-free nodes bs pairs s t h a l = at_end l.last t l.linked (subst (IsFree (bound_in nodes bs)) (sym l.ends) (walk-free (bound_in nodes bs) (length bs) (tree nodes s) (h.ends (tree nodes s))))
+-- a chain's end is bound to nothing
+end-free : (nodes : List Node) (bs : List (Var × Term)) (s : Tree) (t : Term) → IsSolved nodes bs → tree nodes t ≡ end_of nodes bs s → IsFree (bound_in nodes bs) (tree nodes t)
+end-free nodes bs s t h e = subst (IsFree (bound_in nodes bs)) (sym e) (walk-free (bound_in nodes bs) (length bs) s (h.ends s))
+
+headed : (nodes : List Node) (bs : List (Var × Term)) (t : Term) (k : Seen) → seen_of nodes t ≡ k → ((x : Var) → k ≡ Free x → ⊥) → IsFree (bound_in nodes bs) (tree nodes t)
+headed nodes bs t k e n = let w : (h : Head) × (head_of (tree nodes t) ≡ Some h) = headed-tree nodes t k (sym e) n in
+    headed-free (bound_in nodes bs) (tree nodes t) w.0 w.1
+
+-- a term that leads to no other is bound to nothing
+pub next-free : (nodes : List Node) (bs : List (Var × Term)) (t : Term) → next_in nodes bs t ≡ None → IsFree (bound_in nodes bs) (tree nodes t)
+next-free nodes bs t e = on (seen_of nodes t) refl
   where
-    at_end : (u t : Term) → IsLinked pairs u t → IsFree (bound_in nodes bs) (tree nodes u) → IsFree (bound_in nodes bs) (tree nodes t)
-    at_end u t here f = f
-    at_end u t (on {t = k} i (inl m)) f = let g : (h : Head) × (head_of (tree nodes k) ≡ Some h) × (head_of (tree nodes t) ≡ Some h) = a.each (record { left = k; right = t }) m in
-        headed-free (bound_in nodes bs) (tree nodes t) g.0 g.2
-    at_end u t (on {t = k} i (inr m)) f = let g : (h : Head) × (head_of (tree nodes t) ≡ Some h) × (head_of (tree nodes k) ≡ Some h) = a.each (record { left = t; right = k }) m in
-        headed-free (bound_in nodes bs) (tree nodes t) g.0 g.1
+    on : (k : Seen) → seen_of nodes t ≡ k → IsFree (bound_in nodes bs) (tree nodes t)
+    on (Free x) p = subst (IsFree (bound_in nodes bs)) (sym (free-tree nodes t x (sym p))) (ap (option_map (tree nodes)) (ap (next_seen bs) (sym p) ∙ e))
+    on (Seen.Int z) p = headed nodes bs t (Seen.Int z) p (λ x f. cc)
+    on (Seen.Port z) p = headed nodes bs t (Seen.Port z) p (λ x f. cc)
+    on (Seen.Struct a b c d) p = headed nodes bs t (Seen.Struct a b c d) p (λ x f. cc)
+
+-- the end of a chain leads to no other term, by the added bindings either
+pub end-unbound : (nodes : List Node) (known added : List (Var × Term)) (s : Tree) (t : Term) → IsSolved nodes (known ++ added) → tree nodes t ≡ end_of nodes (known ++ added) s → next_in nodes added t ≡ None
+end-unbound nodes known added s t h e = on (seen_of nodes t) refl
+  where
+    on : (k : Seen) → seen_of nodes t ≡ k → next_in nodes added t ≡ None
+    on (Free x) p = ap (next_seen added) p
+        ∙ (found-none known added x (free_found nodes (known ++ added) x (subst (IsFree (bound_in nodes (known ++ added))) (free-tree nodes t x (sym p)) (end-free nodes (known ++ added) s t h e)))).1
+    on (Seen.Int z) p = ap (next_seen added) p
+    on (Seen.Port z) p = ap (next_seen added) p
+    on (Seen.Struct a b c d) p = ap (next_seen added) p
+
+-- what stands for a term that is bound to nothing is bound to nothing
+linked-free : (nodes : List Node) (bs : List (Var × Term)) (pairs : List code.Equation) (u t : Term) → AgreeInHead nodes pairs → IsLinked pairs u t
+    → IsFree (bound_in nodes bs) (tree nodes u) → IsFree (bound_in nodes bs) (tree nodes t)
+linked-free nodes bs pairs u t a here f = f
+linked-free nodes bs pairs u t a (on {t = k} i (inl m)) f = let g : (h : Head) × (head_of (tree nodes k) ≡ Some h) × (head_of (tree nodes t) ≡ Some h) = a.each (record { left = k; right = t }) m in
+    headed-free (bound_in nodes bs) (tree nodes t) g.0 g.2
+linked-free nodes bs pairs u t a (on {t = k} i (inr m)) f = let g : (h : Head) × (head_of (tree nodes t) ≡ Some h) × (head_of (tree nodes k) ≡ Some h) = a.each (record { left = t; right = k }) m in
+    headed-free (bound_in nodes bs) (tree nodes t) g.0 g.1
 
 -- the variable that is to be bound has no binding yet
-pub bind-free : (nodes : List Node) (bs : List (Var × Term)) (pairs : List code.Equation) (s t u v : Term) (x : Var) (r : Term) → IsSolved nodes bs → AgreeInHead nodes pairs
-    → LeadsTo nodes bs pairs s u → LeadsTo nodes bs pairs t v → Meets nodes u v (Bind x r) → (found_in bs x ≡ None) × IsFree (bound_in nodes bs) (tree nodes r)
-bind-free nodes bs pairs s t u v x r h a su tv (inl m, d) = (
-  free_found nodes bs x (subst (IsFree (bound_in nodes bs)) m.0 (leads-free nodes bs pairs s u h a su)),
-  subst (λ (k : Term). IsFree (bound_in nodes bs) (tree nodes k)) (sym m.1) (leads-free nodes bs pairs t v h a tv),
+pub bind-free : (nodes : List Node) (bs : List (Var × Term)) (pairs : List code.Equation) (s t u v : Term) (x : Var) (r : Term) → AgreeInHead nodes pairs
+    → IsFree (bound_in nodes bs) (tree nodes s) → IsFree (bound_in nodes bs) (tree nodes t) → IsLinked pairs s u → IsLinked pairs t v → Meets nodes u v (Bind x r)
+    → (found_in bs x ≡ None) × IsFree (bound_in nodes bs) (tree nodes r)
+bind-free nodes bs pairs s t u v x r a f g su tv (inl m, d) = (
+  free_found nodes bs x (subst (IsFree (bound_in nodes bs)) m.0 (linked-free nodes bs pairs s u a su f)),
+  subst (λ (k : Term). IsFree (bound_in nodes bs) (tree nodes k)) (sym m.1) (linked-free nodes bs pairs t v a tv g),
 )
-bind-free nodes bs pairs s t u v x r h a su tv (inr m, d) = (
-  free_found nodes bs x (subst (IsFree (bound_in nodes bs)) m.0 (leads-free nodes bs pairs t v h a tv)),
-  subst (λ (k : Term). IsFree (bound_in nodes bs) (tree nodes k)) (sym m.1) (leads-free nodes bs pairs s u h a su),
+bind-free nodes bs pairs s t u v x r a f g su tv (inr m, d) = (
+  free_found nodes bs x (subst (IsFree (bound_in nodes bs)) m.0 (linked-free nodes bs pairs t v a tv g)),
+  subst (λ (k : Term). IsFree (bound_in nodes bs) (tree nodes k)) (sym m.1) (linked-free nodes bs pairs s u a su f),
 )
 
 -- the pair at each place waits
@@ -167,28 +199,30 @@ module _ (nodes : List Node) (arranged : IsArranged nodes) (u v : Term) (p : Pai
     )
   ]
 
+-- an equation whose terms' chains were followed to their ends is taken on
 module _ (nodes : List Node) (known : List (Var × Term)) (es : List code.Equation) (old : Work) (pair : code.Equation)
-    (w : IsWorkOn nodes known es old.added (old.pending.items ++ pair ∷ []) old.compared) where
+    (w : IsWorkOn nodes known es old.added (old.pending.items ++ pair ∷ []) old.compared) (last : code.Equation)
+    (at_left : tree nodes last.left ≡ end_of nodes (known ++ old.added) (tree nodes pair.left)) (at_right : tree nodes last.right ≡ end_of nodes (known ++ old.added) (tree nodes pair.right)) where
   solved : IsSolved nodes (known ++ old.added)
   solved = record { ends = w.ends }
 
   -- two terms of different heads that stand for the pair
-  pub clash-follows : (clash : code.Equation) → Clashes nodes known pair old clash → IsClashOf nodes known es clash.left clash.right
+  pub clash-follows : (clash : code.Equation) → Clashes nodes last old clash → IsClashOf nodes known es clash.left clash.right
   clash-follows clash c = record {
     equal = pair-follows (bound_in nodes (known ++ old.added)) (length (known ++ old.added))
         (tree nodes pair.left) (tree nodes pair.right) (tree nodes clash.left) (tree nodes clash.right) w
         (equations-last nodes old.pending.items pair) (equations-left nodes old.pending.items (pair ∷ [])) (equations-but-last nodes old.pending.items pair)
-        (leads-done nodes (known ++ old.added) old.compared (IsTold (equations_in nodes old.pending.items)) pair.left clash.left solved c.left)
-        (leads-done nodes (known ++ old.added) old.compared (IsTold (equations_in nodes old.pending.items)) pair.right clash.right solved c.right);
+        (end-done nodes (known ++ old.added) old.compared (IsTold (equations_in nodes old.pending.items)) pair.left last.left clash.left solved at_left c.left)
+        (end-done nodes (known ++ old.added) old.compared (IsTold (equations_in nodes old.pending.items)) pair.right last.right clash.right solved at_right c.right);
     differ = c.differ;
   }
 
-  module _ (arranged : IsArranged nodes) (new : Work) (fresh : BindNew known old.added) (a : Advances nodes known pair old new) where
+  module _ (arranged : IsArranged nodes) (new : Work) (fresh : BindNew known old.added) (a : Advances nodes last old new) where
     su : IsDone (end_of nodes (known ++ old.added)) (IsTold (equations_in nodes old.pending.items)) (IsTold (equations_in nodes old.compared)) (tree nodes pair.left) (tree nodes a.left)
-    su = leads-done nodes (known ++ old.added) old.compared (IsTold (equations_in nodes old.pending.items)) pair.left a.left solved a.is_left
+    su = end-done nodes (known ++ old.added) old.compared (IsTold (equations_in nodes old.pending.items)) pair.left last.left a.left solved at_left a.is_left
 
     tv : IsDone (end_of nodes (known ++ old.added)) (IsTold (equations_in nodes old.pending.items)) (IsTold (equations_in nodes old.compared)) (tree nodes pair.right) (tree nodes a.right)
-    tv = leads-done nodes (known ++ old.added) old.compared (IsTold (equations_in nodes old.pending.items)) pair.right a.right solved a.is_right
+    tv = end-done nodes (known ++ old.added) old.compared (IsTold (equations_in nodes old.pending.items)) pair.right last.right a.right solved at_right a.is_right
 
     to : (A : List (Var × Term)) (P C : List code.Equation) → IsWorkOn nodes known es A P C → BindNew known A → new.added ≡ A → new.pending.items ≡ P → new.compared ≡ C → GoesOn nodes known es new
     to A P C k f p q r = record { kept = rw (p, q, r) k; fresh = rw p f }
@@ -198,7 +232,8 @@ module _ (nodes : List Node) (known : List (Var × Term)) (es : List code.Equati
         (equations-last nodes old.pending.items pair) (equations-left nodes old.pending.items (pair ∷ [])) (equations-but-last nodes old.pending.items pair) su tv e
 
     bound-free : (x : Var) (r : Term) → Meets nodes a.left a.right (Bind x r) → (found_in (known ++ old.added) x ≡ None) × IsFree (bound_in nodes (known ++ old.added)) (tree nodes r)
-    bound-free x r m = bind-free nodes (known ++ old.added) old.compared pair.left pair.right a.left a.right x r solved (work-heads nodes known es old.added (old.pending.items ++ pair ∷ []) old.compared w) a.is_left a.is_right m
+    bound-free x r m = bind-free nodes (known ++ old.added) old.compared last.left last.right a.left a.right x r (work-heads nodes known es old.added (old.pending.items ++ pair ∷ []) old.compared w)
+        (end-free nodes (known ++ old.added) (tree nodes pair.left) last.left solved at_left) (end-free nodes (known ++ old.added) (tree nodes pair.right) last.right solved at_right) a.is_left a.is_right m
 
     on_bind : (x : Var) (r : Term) → Meets nodes a.left a.right (Bind x r) → IsWorkOn nodes known es (old.added ++ (x, r) ∷ []) old.pending.items old.compared
     on_bind x r m =
@@ -258,13 +293,17 @@ turn-ends nodes known es added compared w f = record {
   stands = work-stands (bound_in nodes (known ++ added)) (length (known ++ added)) w (λ s t m. m);
 }
 
+-- no bindings solve no equations
+pub none-solved : (nodes : List Node) (known : List (Var × Term)) → IsSolved nodes known → IsSolution nodes known [] []
+none-solved nodes known h = turn-ends nodes known [] [] [] (turn-starts nodes known [] h) tt
+
 -- how many turns there can be yet: each takes a pair away, or takes memory for a binding or a comparison
 abbrev pub turns_left : ℕ → ℕ → ℕ → ℕ
 turns_left added compared pending = ((2 ^ 64 - added) + (2 ^ 64 - compared)) * 2 ^ 64 + pending
 
-pub turn-falls : (nodes : List Node) (known : List (Var × Term)) (pair : code.Equation) (old new : Work) → length new.pending.items < 2 ^ 64 → Advances nodes known pair old new
+pub turn-falls : (nodes : List Node) (pair : code.Equation) (old new : Work) → length new.pending.items < 2 ^ 64 → Advances nodes pair old new
     → turns_left (length new.added) (length new.compared) (length new.pending.items) < turns_left (length old.added) (length old.compared) (suc (length old.pending.items))
-turn-falls nodes known pair old new l a = each a.meet
+turn-falls nodes pair old new l a = each a.meet
   where
     each : Meet nodes a.left a.right old new → turns_left (length new.added) (length new.compared) (length new.pending.items) < turns_left (length old.added) (length old.compared) (suc (length old.pending.items))
     each (same e n) =

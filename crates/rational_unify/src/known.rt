@@ -2,10 +2,11 @@
 
 ghost use Rattle.std.specs.declared.option.Option.{Option};
 ghost use Rattle.std.specs.Prelude.{◌≡◌, List};
+ghost use Rattle.std.specs.List.{position};
 ghost use Rattle.akl_terms.specs.declared.name.Var.{Var};
 ghost use Rattle.akl_terms.specs.declared.term.Term.{Term};
+ghost use Rattle.akl_terms.specs.Names.{same_var};
 ghost use Rattle.rational_unify.specs.Known.{found_in};
-ghost use Rattle.rational_unify.specs.Indexes.{place_in};
 
 use akl_terms::{Term, Var};
 
@@ -28,7 +29,7 @@ pub fn found(list: &[(Var, Term)], variable: Var) -> Option<Term>
 
 /// The place of the first binding of a variable in a list; `None` exactly where the list has none.
 pub fn place_among(list: &[(Var, Term)], variable: Var) -> Option<usize>
-    ensures { result ≡ place_in list.now variable }
+    ensures { result ≡ position (λ b. same_var b.0 variable) list.now }
 {
     list.iter().position(|b| b.0 == variable)
 }

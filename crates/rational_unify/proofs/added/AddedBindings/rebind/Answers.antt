@@ -1,24 +1,24 @@
-use Rattle.std.proofs.Common.{◌≡◌, Some, sym, ◌∙◌, arith, ◌<◌, length}
+use Rattle.std.proofs.Common.{◌≡◌, Some, sym, ◌∙◌, ap, arith, ◌<◌, length}
 use Rattle.std.proofs.lemmas.Option.{slice_get_within}
 use Rattle.rational_unify.specs.Indexes.{place_in}
+use Rattle.rational_unify.specs.declared.added.TheConstants.{FEW}
 use Rattle.rational_unify.proofs.Indexing.{place_in-found, place_in-none, rebinds-set, rebinds-nothing, IsIndex-set}
 use Rattle.rational_unify.proofs.added.AddedBindings.rebind.Goals as goal
 
 pub index_mut-requires : goal.index_mut-requires
 index_mut-requires c =
-    let p : place_in c.self.inside.list.items c.args.variable ≡ Some c.in-Some.place.now = sym (c.self.invariant.each c.args.variable) ∙ sym c.in-Some.ensures.value in
-    let w = place_in-found c.self.inside.list.items c.args.variable c.in-Some.place.now p in
-    let l : c.in-Some.place.now < length c.self.inside.list.items = slice_get_within c.self.inside.list.items c.in-Some.place.now w.0 w.1 in
+    let p : place_in c.self.inside.list.items c.args.variable ≡ Some c.in-Some.place = ap (λ l. place_in l c.args.variable) c.self.view_is ∙ sym c.in-Some.ensures in
+    let w = place_in-found c.self.inside.list.items c.args.variable c.in-Some.place p in
+    let l : c.in-Some.place < length c.self.inside.list.items = slice_get_within c.self.inside.list.items c.in-Some.place w.0 w.1 in
     omega (arith, c.self.inside.list.ok, l)
 
 pub invariant_of-self : goal.invariant_of-self
-invariant_of-self c = IsIndex-set c.self.inside.places.entries c.self.inside.list.items c.args.variable c.in-Some.place.now c.args.term c.self.invariant
-    (sym (c.self.invariant.each c.args.variable) ∙ sym c.in-Some.ensures.value)
+invariant_of-self c = IsIndex-set FEW c.self.inside.places.entries c.self.inside.list.items c.args.variable c.in-Some.place c.args.term c.self.invariant
+    (ap (λ l. place_in l c.args.variable) c.self.view_is ∙ sym c.in-Some.ensures)
 
 pub returns-in-Some : goal.returns-in-Some
-returns-in-Some c = rw (← c.self.view_is) (rebinds-set c.self.inside.list.items c.args.variable c.in-Some.place.now c.args.term
-    (sym (c.self.invariant.each c.args.variable) ∙ sym c.in-Some.ensures.value))
+returns-in-Some c = rw (← c.self.view_is) (rebinds-set c.self.inside.list.items c.args.variable c.in-Some.place c.args.term
+    (ap (λ l. place_in l c.args.variable) c.self.view_is ∙ sym c.in-Some.ensures))
 
 pub returns-in_default : goal.returns-in_default
-returns-in_default c = rw (← c.self.view_is) (rebinds-nothing c.self.inside.list.items c.args.variable c.args.term
-    (place_in-none c.self.inside.list.items c.args.variable (sym (c.self.invariant.each c.args.variable) ∙ sym c.in_default.ensures.value)))
+returns-in_default c = rebinds-nothing c.args.self.now c.args.variable c.args.term (place_in-none c.args.self.now c.args.variable (sym c.in_default.ensures))

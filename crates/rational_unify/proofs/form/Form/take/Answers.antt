@@ -1,7 +1,8 @@
-use Rattle.std.proofs.Common.{◌≡◌, refl, ◌∙◌, take, arith, ◌+◌}
-use Rattle.rational_unify.proofs.FormLaws.{half-starts, half-goes, half-clashes, half-ends, bound-told}
+use Rattle.std.proofs.Common.{◌≡◌, refl, ◌∙◌, take, length, arith, ◌+◌}
+use Rattle.std.proofs.lemmas.Bool.Decides.{nat_tests}
+use Rattle.rational_unify.proofs.FormLaws.{half-starts, half-goes, half-clashes, half-ends, half-whole, bound-told}
 use Rattle.rational_unify.proofs.OlderEnds.{EachOlder-at}
-use Rattle.rational_unify.proofs.Taking.{take-next, take-all, get-index, past}
+use Rattle.rational_unify.proofs.Taking.{nothing, take-next, take-all, get-index, past}
 use Rattle.rational_unify.proofs.form.Form.take.Goals as goal
 
 pub loop-binding-init : goal.loop-binding-init
@@ -36,3 +37,13 @@ returns-clause-taken g c =
     (half-ends c.args.templates.now.nodes (g.K.Lookup.bindings c.args.self.now.known.now) c.args.self.now.added c.loop-binding.self.added c.loop-binding.pending.items c.args.bindings.now
     (rw all at c.loop-binding.invariant.1) c.in-Added.more.items
     (rw (c.loop-binding.invariant.0, c.in-Added.is, c.as_slice.ensures.value) at c.in_ok-solved.ensures.solves))
+
+pub returns-then-is_empty-clause-taken : goal.returns-then-is_empty-clause-taken
+returns-then-is_empty-clause-taken g c =
+    let all : take c.loop-binding.binding-index c.args.bindings.now ≡ c.args.bindings.now = take-all c.args.bindings.now c.loop-binding.binding-index
+    (let a = c.loop-binding.auto.binding-index-end in let b = c.loop-binding-test.false in omega arith) in
+    half-whole c.args.templates.now.nodes (g.K.Lookup.bindings c.args.self.now.known.now) c.args.self.now.added c.loop-binding.self.added c.loop-binding.pending.items c.args.bindings.now
+    (rw all at c.loop-binding.invariant.1) (nothing c.loop-binding.pending.items empty)
+  where
+    empty : length c.loop-binding.pending.items ≡ 0
+    empty = grind (arith, nat_tests, c.is_empty.ensures, c.if-is_empty.true, c.loop-binding.pending.ok)
