@@ -17,14 +17,15 @@ use Rattle.wait_laws.specs.Kept.{AreLeftByCommit}
 use Rattle.wait_laws.proofs.KeptByCommit.{kept_by_commit}
 use Rattle.wait_laws.proofs.RunsOn.{commit_runs}
 use Rattle.table_laws.specs.Steps as laws
-use Rattle.box_tree.specs.Tables.{all_rules, step_of}
+use Rattle.box_tree.specs.Tables.{all_rules, step_of, table_of}
 use Rattle.box_tree.specs.Plans.{PlanValue, IsRight}
 use Rattle.wake_lists.specs.Open.{Openings, IsOpen}
 use Rattle.wake_lists.specs.Waits.{waits_on}
-use Rattle.step_commit.specs.Cores.{CoreValue, IsCore, MayCommit, IsFresh, Commits}
+use Rattle.step_commit.specs.Cores.{CoreValue, IsCore, MayCommit, IsFresh, Commits, run_by}
 use Rattle.opened_places.specs.Placed.{PlacedValue, places_of}
 use Rattle.opened_places.specs.Gone.{AreAllGone, AreGone}
 use Rattle.opened_places.proofs.OpenedWays.{opens_law}
+use Rattle.opened_places.proofs.RunRows as run_rows
 use Rattle.scheduler.specs.Openings.{IsOpenAt, AreOpenPlaces, AreListed, AreNewTokens}
 use Rattle.scheduler.specs.Opening.{AreOpened}
 use Rattle.scheduler.specs.Dropping.{DropsWaits, after_going}
@@ -32,6 +33,8 @@ use Rattle.scheduler.specs.Listing.{AreListedFor}
 use Rattle.scheduler.specs.Schedulers.{SchedulerValue, TableIn, IsScheduler}
 use Rattle.scheduler.specs.Committed.{IsOpenAndKept, CommitsAndOpens, OpensAmong}
 use Rattle.scheduler.specs.declared.committing.Committed.{Committed}
+use Rattle.scheduler.specs.declared.splits.Split.{Split}
+use Rattle.scheduler.specs.Splits.{splits_at, DropsSplits, AreSplitsOf}
 use Rattle.scheduler.proofs.DroppedWaits.{Waiting}
 use Rattle.scheduler.proofs.CommitFacts.{CommitFacts}
 use Rattle.scheduler.proofs.OpenAfter as after
@@ -41,6 +44,7 @@ use Rattle.scheduler.proofs.CoreTables.{one_config}
 use Rattle.scheduler.proofs.Effecting.{opened_so}
 use Rattle.scheduler.proofs.LabelFacts.{commit_facts}
 use Rattle.scheduler.proofs.PlanNow.{IsMadeAt, made_now}
+use Rattle.scheduler.proofs.SplitsAfter.{label_splits}
 
 -- what is opened where other lists have the same waits and places
 opens_as : (ws vs : List Wait) → ((p : Place) (x : Var) → IsKept ws p x → IsKept vs p x) → (c d : Config) (p : Place) → Opens ws c d p → Opens vs c d p
@@ -156,6 +160,13 @@ module _ (s : SchedulerValue) (h : IsScheduler s) (p : PlanValue) (right : IsRig
     apart = after.now_apart t.config u.config l h.now h.kept ps gone facts s.openings h.are_open h.standing h.apart mid ts opened own token;
     standing = after.standing_after t.config u.config l h.now h.kept ps gone facts s.openings h.are_open h.standing h.apart mid ts opened own token;
   }
+
+  -- the choices that it keeps by which boxes could be split
+  pub committed_splits : (before left_kept : List Split) → AreSplitsOf (table_of s.core.table) s.openings before
+      → DropsSplits (splits_at (table_of s.core.table) (places_of ps) ++ splits_at (table_of s.core.table) gone) before left_kept → AreSplitsOf (table_of core.table) now left_kept
+  committed_splits before left_kept are drops =
+      label_splits (table_of s.core.table) (table_of core.table) t.config u.config t.unfolds u.unfolds (run_rows.once s.core.table (run_by s.core) t) (run_rows.once core.table (run_by core) u) l.place h.now h.kept ps gone facts s.openings now
+      (λ place i m. after_all place (IsOpenAfterCommit.stays (h.are_open.all place i) (λ e. m))) (λ place o. after_all place (IsOpenAfterCommit.opened o)) before left_kept are drops
 
   -- over any lists, and any configurations of the cores
   module _ (v : TableIn s.core) (w : TableIn core) (before : List Place) (kept : List Wait) (same_open : AreOpenPlaces s.openings before) (same_kept : AreListed s.waits kept) where

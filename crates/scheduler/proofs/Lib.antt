@@ -4,6 +4,10 @@ pub mod DroppedWaits
 pub mod CommitFacts
 pub mod OpenAfter
 pub mod KeptAfter
+pub mod KeptSplits
+pub mod SplitRows
+pub mod SplitsAfter
+pub mod SplitsKept
 pub mod OpenPlaces
 pub mod PlacedThose
 pub mod CoreTables

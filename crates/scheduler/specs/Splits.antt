@@ -1,5 +1,5 @@
 -- The choices by which boxes could be split, as they are kept.
-use Rattle.std.specs.Prelude.{◌≡◌, ℕ, List, [], ◌∷◌, ◌++◌, Bool, true, false, ◌&&◌, Option, Some, None, is_some, ◌⊎◌}
+use Rattle.std.specs.Prelude.{◌≡◌, ℕ, List, [], ◌∷◌, ◌++◌, Bool, true, false, ◌&&◌, ◌||◌, not, Option, Some, None, is_some, ◌⊎◌}
 use Rattle.std.specs.List.{list_any}
 use Rattle.akl_terms.specs.declared.name.Name.{Name}
 use Rattle.akl_terms.specs.declared.name.Place.{Place}
@@ -44,6 +44,14 @@ split_list (Some s) = s ∷ []
 abbrev pub splits_at : Table → List Place → List Split
 splits_at T [] = []
 splits_at T (p ∷ ps) = split_list (split_at T p) ++ splits_at T ps
+
+-- what stands at a place is kept too, where it is one of them
+abbrev pub KeepsPlace : Table → Place → List Split → List Split → Type 0
+KeepsPlace T place before now = (s : Split) → is_kept s now ≡ (is_kept s before || is_kept s (split_list (split_at T place)))
+
+-- these are kept no more
+abbrev pub DropsSplits : List Split → List Split → List Split → Type 0
+DropsSplits ended before now = (s : Split) → is_kept s now ≡ (is_kept s before && not (is_kept s ended))
 
 -- all of them are kept that aren't open, and nothing else is kept
 pub record AreSplitsOf (T : Table) (os : Openings) (kept : List Split) : Type 0 where

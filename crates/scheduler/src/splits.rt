@@ -5,7 +5,7 @@ ghost use Rattle.akl_terms.specs.declared.name.Place.{Place};
 ghost use Rattle.box_tree.specs.Tables.{table_of};
 ghost use Rattle.box_tree.specs.Insides.{first_solved_in, candidate_at};
 ghost use Rattle.opened_places.specs.Placed.{places_of};
-ghost use Rattle.scheduler.specs.Splits.{same_split, is_kept, has_kept, split_at, split_list, splits_at};
+ghost use Rattle.scheduler.specs.Splits.{same_split, is_kept, has_kept, split_at, split_list, splits_at, KeepsPlace, DropsSplits};
 
 use akl_terms::{Name, Op, Place};
 use box_tree::{Sight, Table};
@@ -64,7 +64,7 @@ impl Splits {
 
     /// Keeps what stands at a place, where it is a choice by which its box could be split. An `Err` leaves all as it was.
     pub(crate) fn keep(&mut self, table: &Table, place: Place) -> Result<(), AllocError>
-        ensures kept { OnOk result ((s : _) → is_kept s self.new ≡ (is_kept s self.old || is_kept s (split_list (split_at (table_of table.now) place)))) }
+        ensures kept { OnOk result (KeepsPlace (table_of table.now) place self.old self.new) }
         ensures unchanged { OnErr result ((s : _) → is_kept s self.new ≡ is_kept s self.old) }
     {
         match split_at(table, place) {
@@ -75,7 +75,7 @@ impl Splits {
 
     /// Keeps these no more.
     pub(crate) fn remove_all(&mut self, splits: &[Split])
-        ensures { (s : _) → is_kept s self.new ≡ (is_kept s self.old && not (is_kept s splits.now)) }
+        ensures { DropsSplits splits.now self.old self.new }
     {
         for split in splits {
             self.remove(*split);

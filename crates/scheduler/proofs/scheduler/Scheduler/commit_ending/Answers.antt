@@ -1,12 +1,15 @@
-use Rattle.std.proofs.Common.{◌≡◌, ◌+◌, false, refl, sym, ap, subst, ◌∙◌}
+use Rattle.std.proofs.Common.{◌≡◌, ◌+◌, List, ◌++◌, false, refl, sym, ap, subst, ◌∙◌}
 use Rattle.akl_model.specs.declared.label.Label.{Label}
 use Rattle.box_tree.specs.Plans.{IsRight}
+use Rattle.box_tree.specs.Tables.{table_of}
 use Rattle.wake_lists.specs.Open.{Openings, IsOpen}
 use Rattle.step_commit.specs.Cores.{MayCommit, IsFresh}
 use Rattle.opened_places.specs.Gone.{AreGone}
 use Rattle.scheduler.specs.Dropping.{after_going}
 use Rattle.scheduler.specs.Listing.{AreListedFor}
-use Rattle.scheduler.specs.Schedulers.{SchedulerValue, IsScheduler}
+use Rattle.scheduler.specs.Schedulers.{SchedulerValue}
+use Rattle.scheduler.specs.declared.splits.Split.{Split}
+use Rattle.scheduler.specs.Splits.{splits_at, DropsSplits, KeepsSplits}
 use Rattle.scheduler.specs.Committed.{CommitsAndOpens, OpensAmong}
 use Rattle.scheduler.specs.declared.committing.Committed.{Committed}
 use Rattle.box_tree.specs.declared.step.Step.{Step}
@@ -15,7 +18,7 @@ use Rattle.scheduler.specs.Work.{contents}
 use Rattle.scheduler.specs.Counting.{TakesLabelSteps}
 use Rattle.scheduler.proofs.CountedWaits.{drop_both}
 use Rattle.scheduler.proofs.WorkBound.{opening_within, dropping_within}
-use Rattle.scheduler.proofs.CommitKept.{committed_scheduler, opens_among, committed_so}
+use Rattle.scheduler.proofs.CommitKept.{committed_scheduler, committed_splits, opens_among, committed_so}
 use Rattle.scheduler.proofs.scheduler.Scheduler.commit_ending.Goals as goal
 
 pub invariant_of-self-in-Ok : goal.invariant_of-self-in-Ok
@@ -30,9 +33,16 @@ invariant_of-self-in-Ok g c =
     let token : IsOpen s.openings c.args.plan.label.place c.token_of-own.result = subst (λ (l : Label). IsOpen s.openings l.place c.token_of-own.result) c.label-place.ensures c.token_of-own.ensures in
     let left : c.leave_gone.new.open_places ≡ after_going c.token_of-own.result c.args.plan.label.place c.args.gone.now c.open_all.new.open_places =
     c.leave_gone.ensures ∙ ap (λ (l : Label). after_going c.token_of-own.result l.place c.args.gone.now c.open_all.new.open_places) c.label-place.ensures in
-    subst (λ (os : Openings). IsScheduler (record { core = c.append.new.self; openings = os; waits = c.drop_gone.new.waits })) (sym left)
-    (committed_scheduler s c.self.invariant.scheduler c.args.plan right may fresh c.args.gone.now gone c.args.places.now listed c.open_all.new.open_places c.in_ok-opened.opened.items c.in_ok-opened.ensures.opened c.token_of-own.result token
-    c.append.new.self c.table.ensures.core c.in-Ok.receipt c.in-Ok.ensures.committed c.drop_opened.new.waits c.drop_gone.new.waits c.drop_opened.ensures.waits c.drop_gone.ensures.waits)
+    let drops : DropsSplits (splits_at (table_of s.core.table) (places_of c.args.places.now) ++ splits_at (table_of s.core.table) c.args.gone.now) c.self.inside.splits c.remove_all.new.self =
+    subst (λ (ended : List Split). DropsSplits ended c.self.inside.splits c.remove_all.new.self)
+    (c.requires.ended ∙ ap (λ (x : SchedulerValue). splits_at (table_of x.core.table) (places_of c.args.places.now) ++ splits_at (table_of x.core.table) c.args.gone.now) (sym c.self.view_is)) c.remove_all.ensures in
+    subst (λ (os : Openings). KeepsSplits (record { core = c.append.new.self; openings = os; waits = c.drop_gone.new.waits }) c.remove_all.new.self) (sym left) (record {
+      scheduler = committed_scheduler s c.self.invariant.scheduler c.args.plan right may fresh c.args.gone.now gone c.args.places.now listed c.open_all.new.open_places c.in_ok-opened.opened.items c.in_ok-opened.ensures.opened c.token_of-own.result token
+          c.append.new.self c.table.ensures.core c.in-Ok.receipt c.in-Ok.ensures.committed c.drop_opened.new.waits c.drop_gone.new.waits c.drop_opened.ensures.waits c.drop_gone.ensures.waits;
+      splits = committed_splits s c.self.invariant.scheduler c.args.plan right may fresh c.args.gone.now gone c.args.places.now listed c.open_all.new.open_places c.in_ok-opened.opened.items c.in_ok-opened.ensures.opened c.token_of-own.result token
+          c.append.new.self c.table.ensures.core c.in-Ok.receipt c.in-Ok.ensures.committed c.drop_opened.new.waits c.drop_gone.new.waits c.drop_opened.ensures.waits c.drop_gone.ensures.waits c.self.inside.splits c.remove_all.new.self
+          c.self.invariant.splits drops;
+    })
 
 pub returns-in-Ok-clause-committed : goal.returns-in-Ok-clause-committed
 returns-in-Ok-clause-committed g c =

@@ -1,10 +1,16 @@
 use Rattle.std.proofs.Common.{sym, subst}
 use Rattle.wake_lists.specs.Open.{Openings}
-use Rattle.scheduler.specs.Schedulers.{SchedulerValue, IsScheduler, HasGone}
+use Rattle.scheduler.specs.Schedulers.{SchedulerValue, HasGone}
+use Rattle.scheduler.specs.Splits.{KeepsSplits}
 use Rattle.scheduler.proofs.Starting.{forgotten}
+use Rattle.scheduler.proofs.SplitsKept.{forgotten_splits}
 use Rattle.scheduler.proofs.scheduler.Scheduler.forget.Goals as goal
 
 pub invariant_of-self : goal.invariant_of-self
 invariant_of-self c =
-    subst (λ (os : Openings). IsScheduler (record { core = c.self.inside.core; openings = os; waits = c.self.inside.waits })) (sym c.close.ensures)
-    (forgotten (record { core = c.self.inside.core; openings = c.self.inside.open; waits = c.self.inside.waits }) c.self.invariant.scheduler c.args.token (subst (λ (s : SchedulerValue). HasGone s c.args.token) (sym c.self.view_is) c.requires))
+    let s : SchedulerValue = record { core = c.self.inside.core; openings = c.self.inside.open; waits = c.self.inside.waits } in
+    let gone : HasGone s c.args.token = subst (λ (x : SchedulerValue). HasGone x c.args.token) (sym c.self.view_is) c.requires in
+    subst (λ (os : Openings). KeepsSplits (record s { openings = os }) c.self.inside.splits) (sym c.close.ensures) (record {
+      scheduler = forgotten s c.self.invariant.scheduler c.args.token gone;
+      splits = forgotten_splits s c.self.invariant.scheduler c.args.token gone c.self.inside.splits c.self.invariant.splits;
+    })
