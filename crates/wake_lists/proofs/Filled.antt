@@ -1,7 +1,7 @@
 -- Values by the numbers of their slots: what is found, and what a change of one slot makes of them.
 use Rattle.std.proofs.Common.{◌≡◌, ℕ, zero, suc, ◌+◌, ◌<◌, ◌≤◌, Bool, true, false, List, [], ◌∷◌, ◌++◌, length, get_or, set, Option, Some, None, refl, sym, ap, ◌∙◌, arith}
 use Rattle.std.proofs.lemmas.Bool.Decides.{nat_tests}
-use Rattle.std.proofs.lemmas.List.{get_or-set_same, get_or-set_other, get_or_past, length-set}
+use Rattle.std.proofs.lemmas.List.{get_or-set_same, get_or-set_other, get_or_past}
 use Rattle.std.specs.Prelude.{cond, is_some, if◌then◌else◌}
 use Rattle.std.specs.Map.{lookup, remove_entry, keys_of}
 use Rattle.std.specs.BTreeMap.{insert_entry}
@@ -10,7 +10,7 @@ use Rattle.std.specs.List.Sorted.{IsStrictlySortedBy}
 use Rattle.std.specs.Ordering.{nat_cmp, match_ordering}
 use Rattle.std.specs.declared.cmp.Ordering.{Ordering}
 use Rattle.wake_lists.specs.Slots.{filled_from, filled, Finds, IsPut, IsTakenOut}
-use Rattle.wake_lists.proofs.Keys.{token_equal, token_here}
+use Rattle.wake_lists.proofs.Keys.{token_equal}
 use lib.Dec.{eqb}
 
 apart : (t k : ℕ) → t < k → eqb t k ≡ false

@@ -1,9 +1,9 @@
 -- That a queue is kept as it is to be, when a place comes, goes or gets another turn.
 use Rattle.std.proofs.Common.{◌≡◌, ℕ, ◌<◌, true, false, List, [], ◌∷◌, length, Option, Some, None, refl, sym, ap, ◌∙◌, arith}
 use Rattle.std.specs.Prelude.{cond, is_some, IsSome}
-use Rattle.std.specs.Map.{lookup, keys_of, remove_entry}
-use Rattle.std.specs.BTreeMap.{BTreeMap, is_at, get, insert_entry}
-use Rattle.std.specs.Result.{OnErr, OnOk, is_err}
+use Rattle.std.specs.Map.{lookup, keys_of}
+use Rattle.std.specs.BTreeMap.{BTreeMap, is_at, get}
+use Rattle.std.specs.Result.{OnErr, is_err}
 use Rattle.std.specs.declared.result.Result.{Result}
 use Rattle.std.specs.declared.result.Result.TheVariants.{Ok, Err}
 use Rattle.std.specs.List.Sorted.{IsStrictlySortedBy}
@@ -18,7 +18,7 @@ use Rattle.wake_lists.specs.declared.queue.Opened.{Opened}
 use Rattle.wake_lists.specs.Waits.{same_place}
 use Rattle.wake_lists.specs.Queue.{same_turn, Places, HasNone, is_place, is_turn, Leads, AreQueued, IsTokenOf, IsNext}
 use Rattle.wake_lists.specs.Slots.{Finds}
-use Rattle.wake_lists.proofs.Keys.{token_is, place_is, turn_is, turn_equal, turn_here, found, puts}
+use Rattle.wake_lists.proofs.Keys.{place_is, turn_is, turn_equal, turn_here, found, puts}
 use Rattle.wake_lists.proofs.Both.{same_place-equal}
 use Rattle.wake_lists.proofs.Queueing.{next_is, none_open}
 use Rattle.wake_lists.proofs.Leading.{none_some, restored, absent, leads_as, leads_more, leads_fewer, leads_same, leads_moved}
