@@ -6,6 +6,7 @@ ghost use Rattle.opened_places.specs.Placed.{placed, all_but_last, HasAround};
 
 use akl_terms::{Name, Place};
 use box_tree::Table;
+use name_list::NameList;
 use std::alloc::{AllocError, Global};
 use std::marker::Model;
 
@@ -13,7 +14,7 @@ use std::marker::Model;
 #[derive(Drop)]
 pub struct Placed {
     place: Place,
-    around: Vec<Name>,
+    around: NameList,
 }
 
 impl Model for Placed {
@@ -21,7 +22,7 @@ impl Model for Placed {
 
     ghost Value = { PlacedValue };
 
-    ghost view = { λ p. record { place = p.place; around = p.around.items } };
+    ghost view = { λ p. record { place = p.place; around = p.around } };
 }
 
 impl Placed {
@@ -50,7 +51,7 @@ pub(crate) fn push_placed(
 ) -> Result<(), AllocError>
     ensures { OnOk result (places.new.items ≡ places.old.items ++ placed place around.now ∷ []) }
 {
-    let around = Vec::from_slice(alloc, around)?;
+    let around = NameList::from_slice(alloc, around)?;
     places.push(Placed { place, around })?;
     Ok(())
 }
@@ -79,10 +80,10 @@ pub fn placed_at(alloc: Global, table: &Table, place: Place) -> Result<Option<Pl
     match place {
         Place::Goal(_) => Ok(Some(Placed {
             place,
-            around: path,
+            around: NameList::from_vec(path),
         })),
         Place::Box(_) => {
-            let around = Vec::from_slice(alloc, all_but_last(path.as_slice()))?;
+            let around = NameList::from_slice(alloc, all_but_last(path.as_slice()))?;
             Ok(Some(Placed { place, around }))
         }
     }

@@ -42,8 +42,9 @@ fn push_new_box(
 ) -> Result<(), AllocError>
     ensures { OnOk result (places.new.items ≡ places.old.items ++ (placed (Place.Box made.now.name) around.now ∷ goals_placed (around.now ++ made.now.name ∷ []) (map (λ x. x.0) made.now.goals.items))) }
 {
-    let mut path = Vec::from_slice(alloc, around)?;
-    push_placed(alloc, Place::Box(made.name), path.as_slice(), places)?;
+    push_placed(alloc, Place::Box(made.name), around, places)?;
+    let mut path = Vec::with_capacity(alloc, around.len() + 1)?;
+    path.extend_from_slice(around)?;
     path.push(made.name)?;
     push_goals(alloc, made.goals.as_slice(), path.as_slice(), places)?;
     Ok(())

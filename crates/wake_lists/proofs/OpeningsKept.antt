@@ -31,7 +31,7 @@ use Rattle.wake_lists.proofs.Leading.{none_some, not_both}
 use lib.Dec.{eqb}
 
 abbrev pub Boxes : Type 0
-Boxes = List (ℕ × List Name)
+Boxes = List (List Name)
 
 pub opening_is : (bs : Boxes) (os : Places) (t : ℕ) → opening_at t (openings bs os) ≡ option_map (opening (boxes_at t bs)) (lookup (eqb t) os)
 opening_is bs [] t = refl

@@ -15,10 +15,10 @@ use lib.Dec.{eqb}
 abbrev pub opening : List Name → Opened → Opening
 opening ns o = record { place = o.place; turn = o.turn; boxes = ns }
 
-abbrev pub openings : List (ℕ × List Name) → Places → Openings
+abbrev pub openings : List (List Name) → Places → Openings
 openings bs os = map (λ (e : ℕ × Opened). (e.0, opening (boxes_at e.0 bs) e.1)) os
 
-pub record AreOpen (os : Places) (bs : List (ℕ × List Name)) (numbers : Numbers) (next : ℕ) : Type 0 where
+pub record AreOpen (os : Places) (bs : List (List Name)) (numbers : Numbers) (next : ℕ) : Type 0 where
   pub earlier : (t : ℕ) (o : Opened) → lookup (eqb t) os ≡ Some o → o.turn.number < next
   pub taken : (t : ℕ) → is_taken numbers t ≡ is_some (lookup (eqb t) os)
   pub closed : (t : ℕ) → lookup (eqb t) os ≡ None → boxes_at t bs ≡ []

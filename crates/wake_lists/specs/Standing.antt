@@ -1,12 +1,9 @@
 -- The boxes in which tokens stand.
-use Rattle.std.specs.Prelude.{◌≡◌, ℕ, List, [], Option, None, Some, Bool, ◌&&◌, ◌==◌, map}
+use Rattle.std.specs.Prelude.{◌≡◌, ℕ, ◌+◌, List, [], ◌∷◌, length, Option, None, Some, Bool, ◌&&◌, ◌==◌, slice_get}
 use Rattle.std.specs.List.{list_any}
-use Rattle.std.specs.Map.{lookup}
-use Rattle.std.specs.Global.{Vec}
 use Rattle.akl_terms.specs.declared.name.Name.{Name}
 use Rattle.akl_terms.specs.Names.{same_name}
 use Rattle.wake_lists.specs.declared.inside.Stand.{Stand}
-use lib.Dec.{eqb}
 
 abbrev pub is_in : Name → List Name → Bool
 is_in n ns = list_any (same_name n) ns
@@ -22,14 +19,15 @@ abbrev pub or_none : Option (List Name) → List Name
 or_none None = []
 or_none (Some ns) = ns
 
--- the boxes in which a token stands
-abbrev pub boxes_at : ℕ → List (ℕ × List Name) → List Name
-boxes_at t bs = or_none (lookup (eqb t) bs)
+-- the boxes in which a token stands, by the boxes of each token, from the first on
+abbrev pub boxes_at : ℕ → List (List Name) → List Name
+boxes_at t bs = or_none (slice_get bs t)
 
--- the boxes by their tokens, as they are kept
-abbrev pub boxes_of : List (ℕ × Vec Name) → List (ℕ × List Name)
-boxes_of es = map (λ (e : ℕ × Vec Name). (e.0, e.1.items)) es
+-- how many names there are in the lists
+abbrev pub how_many : List (List Name) → ℕ
+how_many [] = 0
+how_many (ns ∷ bs) = length ns + how_many bs
 
 -- the tokens of each box are those that have it among theirs
-abbrev pub AreStanding : List Stand → List (ℕ × Vec Name) → Type 0
-AreStanding ss es = (t : ℕ) (n : Name) → stands ss t n ≡ is_in n (boxes_at t (boxes_of es))
+abbrev pub AreStanding : List Stand → List (List Name) → Type 0
+AreStanding ss bs = (t : ℕ) (n : Name) → stands ss t n ≡ is_in n (boxes_at t bs)

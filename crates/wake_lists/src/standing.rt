@@ -1,34 +1,33 @@
 //! The boxes in which each open place stands.
 
-ghost use Rattle.std.specs.Prelude.{◌≡◌, ◌+◌, [], true, false, ◌==◌, if◌then◌else◌, length, is_some, OnOk, OnErr, IfSome, IfNone};
-ghost use Rattle.std.specs.Map.{lookup};
-ghost use Rattle.wake_lists.specs.Standing.{boxes_at, is_in};
-ghost use lib.Dec.{eqb};
+ghost use Rattle.std.specs.Prelude.{◌≡◌, ◌+◌, ◌<◌, [], true, false, ◌==◌, if◌then◌else◌, length, OnOk, OnErr, IfSome, IfNone};
+ghost use Rattle.wake_lists.specs.Standing.{boxes_at, is_in, how_many};
 
 use crate::inside::Inside;
 use akl_terms::Name;
+use name_list::NameList;
 use std::alloc::{AllocError, Global};
-use std::collections::BTreeMap;
 use std::marker::Model;
+use std::mem;
 
-/// The boxes in which each token stands. Contracts see it as the boxes of each token that was entered.
+/// The boxes in which each token stands. Contracts see it as the boxes of each token, from the first on.
 #[derive(Drop)]
 pub(crate) struct Standing {
     alloc: Global,
     inside: Inside,
-    boxes: BTreeMap<u64, Vec<Name>>,
+    boxes: Vec<NameList>,
 }
 
 impl Model for Standing {
-    ghost use Rattle.std.specs.Prelude.{List, ℕ};
+    ghost use Rattle.std.specs.Prelude.{List};
     ghost use Rattle.akl_terms.specs.declared.name.Name.{Name};
-    ghost use Rattle.wake_lists.specs.Standing.{boxes_of, AreStanding};
+    ghost use Rattle.wake_lists.specs.Standing.{AreStanding};
 
-    ghost Value = { List (ℕ × List Name) };
+    ghost Value = { List (List Name) };
 
-    ghost view = { λ s. boxes_of s.boxes.entries };
+    ghost view = { λ s. s.boxes.items };
 
-    ghost invariant = { λ s. AreStanding s.inside s.boxes.entries };
+    ghost invariant = { λ s. AreStanding s.inside s.boxes.items };
 }
 
 impl Standing {
@@ -38,7 +37,7 @@ impl Standing {
         Standing {
             alloc,
             inside: Inside::new(alloc),
-            boxes: BTreeMap::new(alloc),
+            boxes: Vec::new(alloc),
         }
     }
 
@@ -48,25 +47,25 @@ impl Standing {
         ensures entered { OnOk result ((t : _) → boxes_at t self.new ≡ (if t == token then around.now else boxes_at t self.old)) }
         ensures unchanged { OnErr result ((t : _) → boxes_at t self.new ≡ boxes_at t self.old) }
     {
-        let boxes = Vec::from_slice(self.alloc, around)?;
+        make_room(&mut self.boxes, token)?;
+        let boxes = NameList::from_slice(self.alloc, around)?;
         if let Err(refused) = self.inside.add_all(token, around) {
             self.inside.remove_all(token, around);
             return Err(refused);
         }
-        if self.boxes.insert(token, boxes).is_err() {
-            self.inside.remove_all(token, around);
-            return Err(AllocError);
-        }
+        self.boxes[token as usize] = boxes;
         Ok(())
     }
 
     /// Has a token stand in no box.
     pub(crate) fn exit(&mut self, token: u64)
         ensures boxes { (t : _) → boxes_at t self.new ≡ (if t == token then [] else boxes_at t self.old) }
-        ensures count { length self.new + (if is_some (lookup (eqb token) self.old) then 1 else 0) ≡ length self.old }
+        ensures fewer { how_many self.new + length (boxes_at token self.old) ≡ how_many self.old }
     {
-        if let Some(boxes) = self.boxes.remove(&token) {
+        if let Some(slot) = self.boxes.get_mut(token as usize) {
+            let boxes = mem::replace(slot, NameList::new());
             self.inside.remove_all(token, boxes.as_slice());
+            drop(boxes);
         }
     }
 
@@ -95,4 +94,15 @@ impl Standing {
     {
         self.inside.other(name, token)
     }
+}
+
+// There is a list for the token, an empty one where there was none.
+fn make_room(boxes: &mut Vec<NameList>, token: u64) -> Result<(), AllocError>
+    ensures room { OnOk result (token < length boxes.new.items) }
+    ensures same { (t : _) → boxes_at t boxes.new.items ≡ boxes_at t boxes.old.items }
+{
+    while boxes.len() <= token as usize {
+        boxes.push(NameList::new())?;
+    }
+    Ok(())
 }
