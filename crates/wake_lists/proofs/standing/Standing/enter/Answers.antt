@@ -1,8 +1,8 @@
-use Rattle.std.proofs.Common.{ℕ, List, sym, ap, ◌∙◌}
+use Rattle.std.proofs.Common.{List, ap, ◌∙◌}
 use Rattle.std.specs.Prelude.{◌==◌, if◌then◌else◌}
 use Rattle.akl_terms.specs.declared.name.Name.{Name}
 use Rattle.wake_lists.specs.Standing.{boxes_at}
-use Rattle.wake_lists.proofs.BoxesKept.{boxes_now, kept_more, kept_same}
+use Rattle.wake_lists.proofs.BoxesKept.{boxes_now, kept_more}
 use Rattle.wake_lists.proofs.standing.Standing.enter.Goals as goal
 
 pub invariant_of-self-2 : goal.invariant_of-self-2
