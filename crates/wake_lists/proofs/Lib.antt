@@ -1,6 +1,7 @@
 pub mod Both
 pub mod BoxesKept
 pub mod EachOnce
+pub mod Filled
 pub mod Growing
 pub mod InBoxes
 pub mod Keys

@@ -13,7 +13,8 @@ use Rattle.wake_lists.specs.declared.queue.Opened.{Opened}
 use Rattle.wake_lists.specs.Waits.{same_place}
 use Rattle.wake_lists.specs.Tokens.{Numbers, IsLeastFree}
 use Rattle.wake_lists.specs.Standing.{boxes_at}
-use Rattle.wake_lists.specs.Queue.{is_sooner, Places, IsPut, IsTakenOut, HasNone, is_place}
+use Rattle.wake_lists.specs.Queue.{is_sooner, Places, HasNone, is_place}
+use Rattle.wake_lists.specs.Slots.{IsPut, IsTakenOut}
 use Rattle.wake_lists.specs.Open.{Opening, Openings, opening_at, untimed, IsOpen, IsLast, IsLeastToken, IsOpened, IsHurried, IsPutLast, closed}
 use Rattle.wake_lists.specs.Opened.{opening, openings, AreOpen}
 use Rattle.wake_lists.proofs.Keys.{token_here}

@@ -65,6 +65,7 @@ impl Standing {
         if let Some(slot) = self.boxes.get_mut(token as usize) {
             let boxes = mem::replace(slot, NameList::new());
             self.inside.remove_all(token, boxes.as_slice());
+            drop(boxes);
         }
     }
 

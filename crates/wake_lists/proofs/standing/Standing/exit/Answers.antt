@@ -1,35 +1,44 @@
-use Rattle.std.proofs.Common.{◌≡◌, ℕ, ◌+◌, List, [], None, length, sym, ap, ◌∙◌, subst}
-use Rattle.std.specs.Prelude.{◌==◌, ◌&&◌, not, if◌then◌else◌, is_some}
-use Rattle.std.specs.Map.{lookup}
+use Rattle.std.proofs.Common.{◌≡◌, ℕ, ◌+◌, ◌<◌, true, false, List, [], length, slice_set, refl, sym, ap, ◌∙◌, subst, arith}
+use Rattle.std.specs.Prelude.{◌==◌, ◌&&◌, not, if◌then◌else◌}
 use Rattle.akl_terms.specs.declared.name.Name.{Name}
-use Rattle.wake_lists.specs.Standing.{boxes_at, boxes_of, stands, is_in}
-use Rattle.wake_lists.proofs.BoxesKept.{boxes_now, boxes_found, kept_fewer, counted}
+use Rattle.wake_lists.specs.Standing.{boxes_at, how_many, stands, is_in}
+use Rattle.wake_lists.proofs.BoxesKept.{boxes_now, boxes_there, boxes_beyond, boxes_without, how_many_without, kept_fewer}
 use Rattle.wake_lists.proofs.standing.Standing.exit.Goals as goal
-use lib.Dec.{eqb}
+
+no_slot : false ≡ true → ⊥
+no_slot e = cc
 
 pub invariant_of-self : goal.invariant_of-self
 invariant_of-self c =
-    let all = c.as_slice.ensures.value ∙ sym (boxes_found c.self.inside.boxes c.args.token c.in-Some.boxes (sym c.remove.ensures.value ∙ c.in-Some.is)) in
-    kept_fewer c.args.token c.self.inside.inside c.self.inside.boxes c.self.invariant c.remove_all.new.self
+    let within : c.args.token < length c.self.inside.boxes.items = subst (λ (n : ℕ). c.args.token < n) c.self.inside.boxes.ok.0 (c.in-Some.ensures.variant.0 refl) in
+    let all = c.as_slice.ensures ∙ c.replace-boxes.ensures.value ∙ c.in-Some.ensures.value ∙ sym (boxes_there c.self.inside.boxes.items c.args.token c.in-Some.slot.now within) in
+    kept_fewer c.args.token c.self.inside.inside c.self.inside.boxes.items c.self.invariant c.remove_all.new.self
     (λ t n. c.remove_all.ensures t n ∙ ap (λ (ns : List Name). stands c.self.inside.inside t n && not (t == c.args.token && is_in n ns)) all)
-    c.remove.new.self (boxes_now c.args.token c.self.inside.boxes c.remove.new.self None c.remove.ensures.updates.0)
+    (slice_set c.self.inside.boxes.items c.args.token c.replace-boxes.new.dest)
+    (λ t. boxes_now c.self.inside.boxes.items c.args.token c.replace-boxes.new.dest within t
+    ∙ ap (λ (ns : List Name). if t == c.args.token then ns else boxes_at t c.self.inside.boxes.items) (c.replace-boxes.ensures.after ∙ c.new.ensures))
 
 pub returns-in-Some-clause-boxes : goal.returns-in-Some-clause-boxes
 returns-in-Some-clause-boxes c = λ t.
-    boxes_now c.args.token c.self.inside.boxes c.remove.new.self None c.remove.ensures.updates.0 t
-    ∙ ap (λ (bs : List (ℕ × List Name)). if t == c.args.token then [] else boxes_at t bs) c.self.view_is
+    let within : c.args.token < length c.self.inside.boxes.items = subst (λ (n : ℕ). c.args.token < n) c.self.inside.boxes.ok.0 (c.in-Some.ensures.variant.0 refl) in
+    boxes_now c.self.inside.boxes.items c.args.token c.replace-boxes.new.dest within t
+    ∙ ap (λ (ns : List Name). if t == c.args.token then ns else boxes_at t c.self.inside.boxes.items) (c.replace-boxes.ensures.after ∙ c.new.ensures)
+    ∙ ap (λ (bs : List (List Name)). if t == c.args.token then [] else boxes_at t bs) c.self.view_is
 
-pub returns-in-Some-clause-count : goal.returns-in-Some-clause-count
-returns-in-Some-clause-count c =
-    subst (λ (bs : List (ℕ × List Name)). length (boxes_of c.remove.new.self.entries) + (if is_some (lookup (eqb c.args.token) bs) then 1 else 0) ≡ length bs) c.self.view_is
-    (counted c.self.inside.boxes c.remove.new.self c.args.token c.remove.result c.remove.ensures.value c.remove.ensures.len)
+pub returns-in-Some-clause-fewer : goal.returns-in-Some-clause-fewer
+returns-in-Some-clause-fewer c =
+    subst (λ (bs : List (List Name)). how_many (slice_set c.self.inside.boxes.items c.args.token c.replace-boxes.new.dest) + length (boxes_at c.args.token bs) ≡ how_many bs) c.self.view_is
+    (ap (λ (ns : List Name). how_many (slice_set c.self.inside.boxes.items c.args.token ns) + length (boxes_at c.args.token c.self.inside.boxes.items)) (c.replace-boxes.ensures.after ∙ c.new.ensures)
+    ∙ how_many_without c.self.inside.boxes.items c.args.token)
 
 pub returns-in_default-clause-boxes : goal.returns-in_default-clause-boxes
 returns-in_default-clause-boxes c = λ t.
-    boxes_now c.args.token c.self.inside.boxes c.remove.new.self None c.remove.ensures.updates.0 t
-    ∙ ap (λ (bs : List (ℕ × List Name)). if t == c.args.token then [] else boxes_at t bs) c.self.view_is
+    let none = boxes_beyond c.self.inside.boxes.items c.args.token (λ l. no_slot (c.in_default.ensures.variant.1 (subst (λ (n : ℕ). c.args.token < n) (sym c.self.inside.boxes.ok.0) l))) in
+    boxes_without c.self.inside.boxes.items c.args.token none t
+    ∙ ap (λ (bs : List (List Name)). if t == c.args.token then [] else boxes_at t bs) c.self.view_is
 
-pub returns-in_default-clause-count : goal.returns-in_default-clause-count
-returns-in_default-clause-count c =
-    subst (λ (bs : List (ℕ × List Name)). length (boxes_of c.remove.new.self.entries) + (if is_some (lookup (eqb c.args.token) bs) then 1 else 0) ≡ length bs) c.self.view_is
-    (counted c.self.inside.boxes c.remove.new.self c.args.token c.remove.result c.remove.ensures.value c.remove.ensures.len)
+pub returns-in_default-clause-fewer : goal.returns-in_default-clause-fewer
+returns-in_default-clause-fewer c =
+    let none = boxes_beyond c.self.inside.boxes.items c.args.token (λ l. no_slot (c.in_default.ensures.variant.1 (subst (λ (n : ℕ). c.args.token < n) (sym c.self.inside.boxes.ok.0) l))) in
+    subst (λ (bs : List (List Name)). how_many c.self.inside.boxes.items + length (boxes_at c.args.token bs) ≡ how_many bs) c.self.view_is
+    (let zero : length (boxes_at c.args.token c.self.inside.boxes.items) ≡ 0 = ap length none in omega arith)
