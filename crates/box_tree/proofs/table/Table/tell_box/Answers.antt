@@ -1,6 +1,7 @@
 use Rattle.std.proofs.Common.{refl, sym, ap, ◌∙◌, List}
 use Rattle.std.specs.Option.{option_copied_mut}
 use Rattle.akl_terms.specs.declared.name.Name.{Name}
+use Rattle.local_store.specs.Stored.{Stored}
 use Rattle.table_laws.specs.Writes.{told_row}
 use Rattle.box_tree.specs.declared.entries.BoxEntry.{BoxEntry}
 use Rattle.box_tree.specs.Tables.{TableValue, box_row}
@@ -16,10 +17,11 @@ returns c =
       | in-Some-get_mut w ↦
           let old : BoxEntry = w.in-Some-get_mut.entry.now in
           let is = sym c.get_mut.follows.claims.0 ∙ ap option_copied_mut w.in-Some-get_mut.is in
-          let new : BoxEntry = record { holder = old.holder; store = c.args.store; changed = c.args.number; solved_at = c.args.solved_at; goals = w.remove.new.self; goals_changed = c.args.number; failing = old.failing; body = old.body; shown = old.shown } in
+          let new : BoxEntry = record { holder = old.holder; store = w.settle.new.self; changed = c.args.number; solved_at = c.args.solved_at; goals = w.remove.new.self; goals_changed = c.args.number; failing = old.failing; body = old.body; shown = old.shown } in
           rw w.self-inside-is (rw (sym c.self.view_is) (writes_box t (told_row c.args.goal c.args.store c.args.solved_at c.args.number) c.in-Some.name c.self.inside.boxes (c.get_mut.follows.lender new) old new refl is
           (((c.get_mut.follows.holds new).3 (is_some_if _ old is)).0)
-          (ap (λ (ks : List Name). record (box_row t.program.templates.nodes new) { goals = ks }) (w.remove.ensures.keys ∙ removed_is c.args.goal old.goals.keys))))
+          (ap (λ (s : Stored). record (box_row t.program.templates.nodes new) { store = s }) w.settle.ensures
+          ∙ ap (λ (ks : List Name). record (box_row t.program.templates.nodes new) { store = c.args.store; goals = ks }) (w.remove.ensures.keys ∙ removed_is c.args.goal old.goals.keys))))
       | in_default-get_mut w ↦
           let none = sym c.get_mut.follows.claims.0 ∙ ap option_copied_mut w.in_default-get_mut.is in
           rw w.self-inside-is (rw (sym c.self.view_is) (writes_no_box t (told_row c.args.goal c.args.store c.args.solved_at c.args.number) c.in-Some.name c.self.inside.boxes c.get_mut.follows.lender-at-none refl none c.get_mut.follows.holds-at-none))
