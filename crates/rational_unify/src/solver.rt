@@ -134,7 +134,9 @@ fn settle<K: Lookup>(
     ensures settles { IfOk result (λ _. Settles templates.now.nodes (K.bindings known.now) added.old added.new followed.old.items followed.new.items) }
     ensures older { IfOk result (λ _. KeepsOlder templates.now.nodes (K.bindings known.now ++ added.old) (K.bindings known.now ++ added.new)) }
 {
-    for place in 0..added.as_slice().len() {
+    // The last binding leads to an end, as none was added after it.
+    let last = added.as_slice().len().saturating_sub(1);
+    for place in 0..last {
         let Some(binding) = added.as_slice().get(place) else {
             return Ok(());
         };
