@@ -1,6 +1,6 @@
 //! The choices by which boxes could be split, once these are stable.
 
-ghost use Rattle.std.specs.Prelude.{◌≡◌, ◌||◌, ◌&&◌, ◌++◌, [], not, is_some, IfOk, OnOk, OnErr};
+ghost use Rattle.std.specs.Prelude.{◌≡◌, ◌||◌, ◌&&◌, ◌++◌, [], not, IfOk, OnOk, OnErr};
 ghost use Rattle.akl_terms.specs.declared.name.Place.{Place};
 ghost use Rattle.box_tree.specs.Tables.{table_of};
 ghost use Rattle.box_tree.specs.Insides.{first_solved_in, candidate_at};
@@ -99,31 +99,33 @@ impl Splits {
     }
 }
 
-/// Whether one of these boxes has no goals.
-pub(crate) fn has_solved(table: &Table, names: &[Name]) -> bool
-    ensures { result ≡ is_some (first_solved_in (table_of table.now) names.now) }
+// The first solved one of boxes.
+fn first_solved(table: &Table, names: &[Name]) -> Option<Name>
+    ensures { result ≡ first_solved_in (table_of table.now) names.now }
 {
     for name in names {
         if table.is_solved(*name) {
-            return true;
+            return Some(*name);
         }
     }
-    false
+    None
 }
 
-// Whether a goal is a `?` choice with a solved alternative, and another.
-fn is_candidate(table: &Table, goal: Name) -> bool
-    ensures { result ≡ is_some (candidate_at (table_of table.now) ((table_of table.now).goal_of goal)) }
+// The alternative at which the box of a goal could be split by it.
+fn candidate_at(table: &Table, goal: Name) -> Option<Name>
+    ensures { result ≡ candidate_at (table_of table.now) ((table_of table.now).goal_of goal) }
 {
-    let Some((_, sight)) = table.sight_of(Place::Goal(goal)) else {
-        return false;
-    };
+    let (_, sight) = table.sight_of(Place::Goal(goal))?;
     match sight {
         Sight::Choice { op: Op::Choice } => {
             let alternatives = table.alternatives_of(goal);
-            alternatives.len() > 1 && has_solved(table, alternatives)
+            if alternatives.len() > 1 {
+                first_solved(table, alternatives)
+            } else {
+                None
+            }
         }
-        _ => false,
+        _ => None,
     }
 }
 
@@ -133,9 +135,7 @@ fn split_at(table: &Table, place: Place) -> Option<Split>
 {
     match place {
         Place::Goal(goal) => {
-            if !is_candidate(table, goal) {
-                return None;
-            }
+            let _ = candidate_at(table, goal)?;
             let name = table.home_of(goal)?;
             Some(Split { name, goal })
         }
