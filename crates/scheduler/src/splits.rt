@@ -21,9 +21,9 @@ pub(crate) struct Split {
     pub goal: Name,
 }
 
-/// The choices that are kept of those by which boxes could be split.
+/// Choices by which boxes could be split, as they are kept. Contracts see them as a list.
 ///
-/// A call takes time in the order of the logarithm of what is kept, for each choice that it is given.
+/// A call takes time in the order of the logarithm of what is kept, for each choice that it adds or takes out.
 #[derive(Drop)]
 pub(crate) struct Splits {
     kept: BTreeSet<Split>,
@@ -47,7 +47,7 @@ impl Splits {
         }
     }
 
-    /// Whether one that is kept is directly in this box.
+    /// Whether one of those that are kept is directly in this box.
     pub(crate) fn has_box(&self, name: Name) -> bool
         ensures { result ≡ has_kept name self.now }
     {
@@ -62,7 +62,8 @@ impl Splits {
         }
     }
 
-    /// Keeps what stands at a place, where it is a choice by which its box could be split. An `Err` leaves all as it was.
+    /// Keeps what stands at a place, where it is a choice by which its box could be split. An `Err`, for want of memory,
+    /// leaves all as it was.
     pub(crate) fn keep(&mut self, table: &Table, place: Place) -> Result<(), AllocError>
         ensures kept { OnOk result (KeepsPlace (table_of table.now) place self.old self.new) }
         ensures unchanged { OnErr result ((s : _) → is_kept s self.new ≡ is_kept s self.old) }
@@ -143,8 +144,8 @@ fn split_at(table: &Table, place: Place) -> Option<Split>
     }
 }
 
-/// The choices by which boxes could be split at the places of two lists, of which a label opens the first and takes away the
-/// others. An `Err` comes for want of memory.
+/// The choices by which boxes could be split among the places that a label opens and those that go with it, each as it is
+/// before the label. An `Err` comes for want of memory.
 pub(crate) fn splits_of(
     alloc: Global,
     table: &Table,
