@@ -188,13 +188,13 @@ module _ (T U : Table) (c d : Config) (t : Unfolds T c) (u : Unfolds U d) (once 
 
 -- Once a label was made, whose choices are kept no more that it opens or takes away
 
-both_true : (a b : Bool) → (a && not b) ≡ true → (a ≡ true) × (b ≡ false)
-both_true true true e = cc
-both_true true false e = (refl, refl)
-both_true false b e = cc
+kept_but : (a b : Bool) → (a && not b) ≡ true → (a ≡ true) × (b ≡ false)
+kept_but true true e = cc
+kept_but true false e = (refl, refl)
+kept_but false b e = cc
 
-both_so : (a b : Bool) → a ≡ true → b ≡ false → (a && not b) ≡ true
-both_so a b e f = (λ i. e i && not (f i))
+but_kept : (a b : Bool) → a ≡ true → b ≡ false → (a && not b) ≡ true
+but_kept a b e f = (λ i. e i && not (f i))
 
 module _ (T U : Table) (c d : Config) (t : Unfolds T c) (u : Unfolds U d) (once : (m : Name) → times m c.roots ≤ 1) (once_later : (m : Name) → times m d.roots ≤ 1) (own : Place) (before : List Place) (kept : List Wait) (ps : List PlacedValue)
     (gone : List Place) (f : CommitFacts c d own before kept ps gone) (os left : Openings) (stays : (place : Place) → IsOpenAt os place → IsThere place d.roots → IsOpenAt left place) (opens : (place : Place) → Opens kept c d place → IsOpenAt left place)
@@ -236,14 +236,14 @@ module _ (T U : Table) (c d : Config) (t : Unfolds T c) (u : Unfolds U d) (once 
       on : (IsOneOf (Place.Goal s.goal) (places_of ps) → ⊥) → IsOpenAt left (Place.Goal s.goal) ⊎ (is_kept s now ≡ true)
       on n = elim (are.all s (same s.goal (was_there s.goal there n) there n ∙ e)) [
         | inl i ↦ inl (stays (Place.Goal s.goal) i there)
-        | inr k ↦ inr (drops s ∙ both_so (is_kept s ks) (is_kept s ended) k (not_true (is_kept s ended) (λ z. elim (in_ended s z) [ inl i ↦ n i | inr i ↦ f.is_gone (Place.Goal s.goal) i there ])))
+        | inr k ↦ inr (drops s ∙ but_kept (is_kept s ks) (is_kept s ended) k (not_true (is_kept s ended) (λ z. elim (in_ended s z) [ inl i ↦ n i | inr i ↦ f.is_gone (Place.Goal s.goal) i there ])))
       ]
 
   only_after : (s : Split) → is_kept s now ≡ true → split_at U (Place.Goal s.goal) ≡ Some s
   only_after s e = sym (same s.goal was there unlisted) ∙ q
     where
       w : (is_kept s ks ≡ true) × (is_kept s ended ≡ false)
-      w = both_true (is_kept s ks) (is_kept s ended) (sym (drops s) ∙ e)
+      w = kept_but (is_kept s ks) (is_kept s ended) (sym (drops s) ∙ e)
 
       q : split_at T (Place.Goal s.goal) ≡ Some s
       q = are.only s w.0

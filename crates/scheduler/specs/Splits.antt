@@ -53,12 +53,12 @@ KeepsPlace T place before now = (s : Split) → is_kept s now ≡ (is_kept s bef
 abbrev pub DropsSplits : List Split → List Split → List Split → Type 0
 DropsSplits ended before now = (s : Split) → is_kept s now ≡ (is_kept s before && not (is_kept s ended))
 
--- all of them are kept that aren't open, and nothing else is kept
+-- each of them is kept that isn't open, and nothing is kept that isn't one of them
 pub record AreSplitsOf (T : Table) (os : Openings) (kept : List Split) : Type 0 where
   pub all : (s : Split) → split_at T (Place.Goal s.goal) ≡ Some s → IsOpenAt os (Place.Goal s.goal) ⊎ (is_kept s kept ≡ true)
   pub only : (s : Split) → is_kept s kept ≡ true → split_at T (Place.Goal s.goal) ≡ Some s
 
--- so a scheduler keeps them
+-- a scheduler keeps these of its own table
 pub record KeepsSplits (s : SchedulerValue) (kept : List Split) : Type 0 where
   pub scheduler : IsScheduler s
   pub splits : AreSplitsOf (table_of s.core.table) s.openings kept

@@ -48,9 +48,9 @@ impl Scheduler {
     /// It counts at most a step for each item that the plan read, each content that it writes, each place that it takes
     /// away, each place that it opens, each box around such a place, and each wait of a place that it opens or takes away.
     /// The stamps and the contents are counted before the core reads and writes them. Not counted is what closes: a box's
-    /// count of what is open in it goes down once for each time that it went up, as a place opened; and what is kept of a
-    /// choice by which its box could be split is given up once, as it was kept. Nor are the looks by which these places are
-    /// found, nor those by which they get their turns.
+    /// count of what is open in it goes down once for each time that it went up, as a place opened; and a choice by which its
+    /// box could be split is given up once for each time that it was kept. Nor are the looks by which these places are found,
+    /// nor those by which it is found which of them are such choices, nor those by which they get their turns.
     pub fn commit<L: Ledger>(
         &mut self,
         alloc: Global,
@@ -163,7 +163,7 @@ impl Scheduler {
         self.commit_ending(alloc, plan, places, gone, ended.as_slice(), steps)
     }
 
-    // The same where these choices are kept no more, of those by which boxes could be split.
+    // The same where these are the choices among the places by which boxes could be split; they are kept no more.
     fn commit_ending<L: Ledger>(
         &mut self,
         alloc: Global,

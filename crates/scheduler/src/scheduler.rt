@@ -25,7 +25,7 @@ pub struct Scheduler {
     pub(crate) core: Core,
     pub(crate) open: Open,
     pub(crate) waits: Waits,
-    // The choices by which boxes could be split; of those that are open some alone.
+    // The choices by which boxes could be split; one that is open may be missing.
     pub(crate) splits: Splits,
     // The labels since late places came as ordinary ones.
     pub(crate) labels: usize,

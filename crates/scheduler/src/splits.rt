@@ -1,6 +1,6 @@
 //! The choices by which boxes could be split, once these are stable.
 
-ghost use Rattle.std.specs.Prelude.{◌≡◌, ◌||◌, ◌&&◌, ◌++◌, [], not, is_some, IfOk, OnOk, OnErr};
+ghost use Rattle.std.specs.Prelude.{◌≡◌, ◌||◌, ◌&&◌, ◌++◌, [], not, IfOk, OnOk, OnErr};
 ghost use Rattle.akl_terms.specs.declared.name.Place.{Place};
 ghost use Rattle.box_tree.specs.Tables.{table_of};
 ghost use Rattle.box_tree.specs.Insides.{first_solved_in, candidate_at};
@@ -21,9 +21,9 @@ pub(crate) struct Split {
     pub goal: Name,
 }
 
-/// The choices that are kept of those by which boxes could be split.
+/// Choices by which boxes could be split, as they are kept. Contracts see them as a list.
 ///
-/// A call takes time in the order of the logarithm of what is kept, for each choice that it is given.
+/// A call takes time in the order of the logarithm of what is kept, for each choice that it adds or takes out.
 #[derive(Drop)]
 pub(crate) struct Splits {
     kept: BTreeSet<Split>,
@@ -47,7 +47,7 @@ impl Splits {
         }
     }
 
-    /// Whether one that is kept is directly in this box.
+    /// Whether one of those that are kept is directly in this box.
     pub(crate) fn has_box(&self, name: Name) -> bool
         ensures { result ≡ has_kept name self.now }
     {
@@ -62,7 +62,8 @@ impl Splits {
         }
     }
 
-    /// Keeps what stands at a place, where it is a choice by which its box could be split. An `Err` leaves all as it was.
+    /// Keeps what stands at a place, where it is a choice by which its box could be split. An `Err`, for want of memory,
+    /// leaves all as it was.
     pub(crate) fn keep(&mut self, table: &Table, place: Place) -> Result<(), AllocError>
         ensures kept { OnOk result (KeepsPlace (table_of table.now) place self.old self.new) }
         ensures unchanged { OnErr result ((s : _) → is_kept s self.new ≡ is_kept s self.old) }
@@ -99,31 +100,33 @@ impl Splits {
     }
 }
 
-/// Whether one of these boxes has no goals.
-pub(crate) fn has_solved(table: &Table, names: &[Name]) -> bool
-    ensures { result ≡ is_some (first_solved_in (table_of table.now) names.now) }
+// The first solved one of boxes.
+fn first_solved(table: &Table, names: &[Name]) -> Option<Name>
+    ensures { result ≡ first_solved_in (table_of table.now) names.now }
 {
     for name in names {
         if table.is_solved(*name) {
-            return true;
+            return Some(*name);
         }
     }
-    false
+    None
 }
 
-// Whether a goal is a `?` choice with a solved alternative, and another.
-fn is_candidate(table: &Table, goal: Name) -> bool
-    ensures { result ≡ is_some (candidate_at (table_of table.now) ((table_of table.now).goal_of goal)) }
+// The alternative at which the box of a goal could be split by it.
+fn candidate_at(table: &Table, goal: Name) -> Option<Name>
+    ensures { result ≡ candidate_at (table_of table.now) ((table_of table.now).goal_of goal) }
 {
-    let Some((_, sight)) = table.sight_of(Place::Goal(goal)) else {
-        return false;
-    };
+    let (_, sight) = table.sight_of(Place::Goal(goal))?;
     match sight {
         Sight::Choice { op: Op::Choice } => {
             let alternatives = table.alternatives_of(goal);
-            alternatives.len() > 1 && has_solved(table, alternatives)
+            if alternatives.len() > 1 {
+                first_solved(table, alternatives)
+            } else {
+                None
+            }
         }
-        _ => false,
+        _ => None,
     }
 }
 
@@ -133,9 +136,7 @@ fn split_at(table: &Table, place: Place) -> Option<Split>
 {
     match place {
         Place::Goal(goal) => {
-            if !is_candidate(table, goal) {
-                return None;
-            }
+            let _ = candidate_at(table, goal)?;
             let name = table.home_of(goal)?;
             Some(Split { name, goal })
         }
@@ -143,8 +144,8 @@ fn split_at(table: &Table, place: Place) -> Option<Split>
     }
 }
 
-/// The choices by which boxes could be split at the places of two lists, of which a label opens the first and takes away the
-/// others. An `Err` comes for want of memory.
+/// The choices by which boxes could be split among the places that a label opens and those that go with it, each as it is
+/// before the label. An `Err` comes for want of memory.
 pub(crate) fn splits_of(
     alloc: Global,
     table: &Table,

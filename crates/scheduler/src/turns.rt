@@ -9,7 +9,6 @@ ghost use Rattle.wake_lists.specs.declared.turn.Urgency.{Urgency};
 ghost use Rattle.scheduler.specs.Turns.{urgency_seen, IsUrgentAt, AreUrgent};
 
 use crate::scheduler::Scheduler;
-use crate::splits::has_solved;
 use akl_terms::{Name, Place};
 use box_tree::{NewBox, Plan, Sight, Step, Table};
 use opened_places::{Placed, around_of};
@@ -244,6 +243,11 @@ fn urgency_of_choice(table: &Table, place: Place) -> Option<Urgency> {
         }
         _ => None,
     }
+}
+
+// Whether one of these boxes has no goals.
+fn has_solved(table: &Table, boxes: &[Name]) -> bool {
+    boxes.iter().any(|name| table.is_solved(*name))
 }
 
 // A place comes as urgent as this, where it is open and was less so.
