@@ -1,5 +1,5 @@
 -- Places that are listed once, one after another.
-use Rattle.std.proofs.Common.{◌≡◌, ℕ, ◌+◌, ◌<◌, get_or, take, length, Bool, true, false, List, [], ◌∷◌, ◌++◌, refl, sym, ap, subst, ◌∙◌, inl, inr}
+use Rattle.std.proofs.Common.{◌≡◌, ℕ, ◌+◌, ◌<◌, ◌≤◌, arith, get_or, take, length, Bool, true, false, List, [], ◌∷◌, ◌++◌, refl, sym, ap, subst, ◌∙◌, inl, inr}
 use Rattle.std.proofs.lemmas.List.{take_more}
 use Rattle.std.specs.Prelude.{◌||◌, cond, not, if◌then◌else◌}
 use Rattle.std.specs.BTreeMap.{is_at}
@@ -92,3 +92,12 @@ module _ (ps once : List Place) (place : Place) (seen seen_now now : List Place)
 -- by an index
 pub seen_next : (ps : List Place) (i : ℕ) (d : Place) (once seen seen_now now : List Place) → i < length ps → IsSeenOnce (take i ps) once seen → AddsNew (get_or ps i d) seen once seen_now now → IsSeenOnce (take (i + 1) ps) now seen_now
 seen_next ps i d once seen seen_now now h was adds = subst (λ (l : List Place). IsSeenOnce l now seen_now) (sym (take_more ps i d h)) (seen_more (take i ps) once (get_or ps i d) seen seen_now now was adds)
+
+-- places that are at most one
+pub few_once : (ps : List Place) → length ps ≤ 1 → AreSameOnce ps ps
+few_once ps le = record { all = λ p i. i; only = λ p i. i; is_once = alone ps le }
+  where
+    alone : (qs : List Place) → length qs ≤ 1 → IsEachPlaceOnce qs
+    alone [] le = tt
+    alone (p ∷ []) le = (λ i. absurd i, tt)
+    alone (p ∷ q ∷ qs) le = absurd (omega (arith, le))

@@ -31,7 +31,7 @@ pub(crate) fn gone_once(alloc: Global, table: &Table, plan: &Plan) -> Result<Vec
     ensures once { IfOk result (λ gone. IsEachPlaceOnce gone.items) }
 {
     let gone = gone_places(alloc, table, plan.label(), plan.step())?;
-    each_once(alloc, gone.as_slice())
+    each_once(alloc, gone)
 }
 
 /// The places that the label of a plan opens, where these go, each with the boxes around it; one that the label changes may
@@ -86,7 +86,7 @@ fn opened_others(
     ensures { IfOk result (λ others. AreOthersOnce table.now waits.now plan.now home gone.now others.items) }
 {
     let others = all_others(alloc, table, waits, plan, home, gone)?;
-    each_once(alloc, others.as_slice())
+    each_once(alloc, others)
 }
 
 // The places that wait on a variable that the label binds, as often as they do; and where it binds one that is external to

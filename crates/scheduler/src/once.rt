@@ -8,7 +8,18 @@ use std::alloc::{AllocError, Global};
 use std::collections::BTreeSet;
 
 /// These places, each once, in the order in which they first come.
-pub(crate) fn each_once(alloc: Global, places: &[Place]) -> Result<Vec<Place>, AllocError>
+pub(crate) fn each_once(alloc: Global, places: Vec<Place>) -> Result<Vec<Place>, AllocError>
+    ensures { IfOk result (λ once. AreSameOnce places.items once.items) }
+{
+    if places.len() > 1 {
+        first_of_each(alloc, places.as_slice())
+    } else {
+        Ok(places)
+    }
+}
+
+// Each of these places where it first comes.
+fn first_of_each(alloc: Global, places: &[Place]) -> Result<Vec<Place>, AllocError>
     ensures { IfOk result (λ once. AreSameOnce places.now once.items) }
 {
     let mut seen = BTreeSet::new(alloc);

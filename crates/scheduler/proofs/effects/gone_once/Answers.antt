@@ -1,4 +1,4 @@
-use Rattle.std.proofs.Common.{List, sym, subst}
+use Rattle.std.proofs.Common.{subst}
 use Rattle.akl_terms.specs.declared.name.Place.{Place}
 use Rattle.akl_model.specs.declared.label.Label.{Label}
 use Rattle.box_tree.specs.declared.step.Step.{Step}
@@ -10,8 +10,8 @@ use Rattle.scheduler.proofs.effects.gone_once.Goals as goal
 
 pub returns-clause-gone : goal.returns-clause-gone
 returns-clause-gone c =
-    if_ok c.each_once.result (λ (once : Vec Place). AreSameOnce c.as_slice.result.now once.items) (λ (once : Vec Place). AreGone c.args.table.now c.args.plan.now.label c.args.plan.now.step once.items)
-    (λ once same. gone_same c.args.table.now c.args.plan.now.label c.args.plan.now.step c.as_slice.result.now once.items
-    (subst (λ (l : Label). AreGone c.args.table.now l c.args.plan.now.step c.as_slice.result.now) c.label.ensures
-    (subst (λ (s : Step). AreGone c.args.table.now c.label.result s c.as_slice.result.now) c.step.ensures
-    (subst (λ (ps : List Place). AreGone c.args.table.now c.label.result c.step.result.now ps) (sym c.as_slice.ensures.value) c.in_ok-gone.ensures))) same) c.each_once.ensures
+    if_ok c.each_once.result (λ (once : Vec Place). AreSameOnce c.in_ok-gone.gone.items once.items) (λ (once : Vec Place). AreGone c.args.table.now c.args.plan.now.label c.args.plan.now.step once.items)
+    (λ once same. gone_same c.args.table.now c.args.plan.now.label c.args.plan.now.step c.in_ok-gone.gone.items once.items
+    (subst (λ (l : Label). AreGone c.args.table.now l c.args.plan.now.step c.in_ok-gone.gone.items) c.label.ensures
+    (subst (λ (s : Step). AreGone c.args.table.now c.label.result s c.in_ok-gone.gone.items) c.step.ensures
+    c.in_ok-gone.ensures)) same) c.each_once.ensures
