@@ -18,7 +18,7 @@ use crate::effects::{gone_once, opened_by};
 use crate::opening::{close_all, open_all};
 use crate::scheduler::Scheduler;
 use crate::splits::{Split, splits_of};
-use crate::turns::Doubts;
+use crate::turns::TurnHints;
 use akl_model::Receipt;
 use akl_terms::{Place, Steps};
 use box_tree::Plan;
@@ -134,9 +134,9 @@ impl Scheduler {
         ensures steps { TakesLabelSteps self.old plan steps.old steps.new }
     {
         let places = opened_by(alloc, self.core.table(), &self.waits, &plan, gone)?;
-        let doubts = Doubts::of(alloc, self.core.table(), &plan)?;
+        let hints = TurnHints::of(alloc, self.core.table(), &plan)?;
         let mut committed = self.commit_opening(alloc, plan, places.as_slice(), gone, steps)?;
-        committed.hurried = self.set_turns(places.as_slice(), gone, &doubts);
+        committed.hurried = self.set_turns(places.as_slice(), gone, &hints);
         Ok(committed)
     }
 

@@ -3,12 +3,11 @@
 ghost use Rattle.std.specs.Prelude.{◌≡◌, ◌||◌, ◌&&◌, ◌++◌, [], not, IfOk, OnOk, OnErr};
 ghost use Rattle.akl_terms.specs.declared.name.Place.{Place};
 ghost use Rattle.box_tree.specs.Tables.{table_of};
-ghost use Rattle.box_tree.specs.Insides.{first_solved_in, candidate_at};
 ghost use Rattle.opened_places.specs.Placed.{places_of};
 ghost use Rattle.scheduler.specs.Splits.{same_split, is_kept, has_kept, split_at, split_list, splits_at, KeepsPlace, DropsSplits};
 
-use akl_terms::{Name, Op, Place};
-use box_tree::{Sight, Table};
+use akl_terms::{Name, Place};
+use box_tree::Table;
 use opened_places::Placed;
 use std::alloc::{AllocError, Global};
 use std::collections::BTreeSet;
@@ -100,43 +99,13 @@ impl Splits {
     }
 }
 
-// The first solved one of boxes.
-fn first_solved(table: &Table, names: &[Name]) -> Option<Name>
-    ensures { result ≡ first_solved_in (table_of table.now) names.now }
-{
-    for name in names {
-        if table.is_solved(*name) {
-            return Some(*name);
-        }
-    }
-    None
-}
-
-// The alternative at which the box of a goal could be split by it.
-fn candidate_at(table: &Table, goal: Name) -> Option<Name>
-    ensures { result ≡ candidate_at (table_of table.now) ((table_of table.now).goal_of goal) }
-{
-    let (_, sight) = table.sight_of(Place::Goal(goal))?;
-    match sight {
-        Sight::Choice { op: Op::Choice } => {
-            let alternatives = table.alternatives_of(goal);
-            if alternatives.len() > 1 {
-                first_solved(table, alternatives)
-            } else {
-                None
-            }
-        }
-        _ => None,
-    }
-}
-
 // What stands at a place, where it is a choice by which its box could be split.
 fn split_at(table: &Table, place: Place) -> Option<Split>
     ensures { result ≡ split_at (table_of table.now) place }
 {
     match place {
         Place::Goal(goal) => {
-            let _ = candidate_at(table, goal)?;
+            let _ = table.candidate_at(goal)?;
             let name = table.home_of(goal)?;
             Some(Split { name, goal })
         }

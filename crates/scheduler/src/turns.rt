@@ -15,9 +15,9 @@ use opened_places::{Placed, around_of};
 use std::alloc::{AllocError, Global};
 use wake_lists::{Open, Urgency};
 
-/// What the turns of the places hang on that the label of a plan opens.
+/// What the label of a plan tells of the turns of the places that it opens.
 #[derive(Drop)]
-pub(crate) struct Doubts {
+pub(crate) struct TurnHints {
     /// The boxes whose stores it leaves unsolved, as it does one with a clash.
     unsolved: Vec<Name>,
     /// The box that it tells something; the stores of other boxes that it opens may clash with that.
@@ -26,14 +26,14 @@ pub(crate) struct Doubts {
     forked: Option<Place>,
 }
 
-impl Doubts {
-    /// Those of the label of a plan.
-    pub(crate) fn of(alloc: Global, table: &Table, plan: &Plan) -> Result<Doubts, AllocError>
+impl TurnHints {
+    /// What the label of a plan tells.
+    pub(crate) fn of(alloc: Global, table: &Table, plan: &Plan) -> Result<TurnHints, AllocError>
         requires { IsOfRun table.now }
     {
         let told = told_by(table, plan);
         let unsolved = unsolved_by(alloc, plan.step(), told)?;
-        Ok(Doubts {
+        Ok(TurnHints {
             unsolved,
             told,
             forked: forked_by(plan),
@@ -104,7 +104,13 @@ fn forked_by(plan: &Plan) -> Option<Place> {
                 Some(plan.label().place)
             }
         }
-        _ => None,
+        Step::Tell { .. }
+        | Step::Fail
+        | Step::Cut
+        | Step::Promote { .. }
+        | Step::Refute
+        | Step::Confirm
+        | Step::Split { .. } => None,
     }
 }
 
@@ -118,14 +124,14 @@ impl Scheduler {
     /// what it told. Other boxes are late, as no rule but Split may apply to them, and so is a choice without a solved
     /// alternative. What went isn't late, so that it is forgotten soon. Once sixteen labels were made for each open place, all
     /// late places come as ordinary ones.
-    pub(crate) fn set_turns(&mut self, places: &[Placed], gone: &[Place], doubts: &Doubts) -> bool
+    pub(crate) fn set_turns(&mut self, places: &[Placed], gone: &[Place], hints: &TurnHints) -> bool
         ensures urgent { result ≡ true → AreUrgent self.new.core.table (places_of places.now) self.new.openings }
         ensures places { untimed self.new.openings ≡ untimed self.old.openings }
         ensures core { self.new.core ≡ self.old.core }
         ensures waits { self.new.waits ≡ self.old.waits }
     {
         resume_late(&mut self.open, &mut self.labels);
-        match order_all(&mut self.open, self.core.table(), places, gone, doubts) {
+        match order_all(&mut self.open, self.core.table(), places, gone, hints) {
             Ok(()) => true,
             Err(_) => false,
         }
@@ -150,15 +156,15 @@ fn order_all(
     table: &Table,
     places: &[Placed],
     gone: &[Place],
-    doubts: &Doubts,
+    hints: &TurnHints,
 ) -> Result<(), AllocError>
     ensures urgent { IfOk result (λ _. AreUrgent table.now (places_of places.now) open_places.new) }
     ensures places { untimed open_places.new ≡ untimed open_places.old }
 {
-    delay(open_places, doubts.forked)?;
+    delay(open_places, hints.forked)?;
     hurry_gone(open_places, gone)?;
-    hurry_unsolved(open_places, doubts.unsolved.as_slice())?;
-    hurry_opened(open_places, table, places, doubts.told)
+    hurry_unsolved(open_places, hints.unsolved.as_slice())?;
+    hurry_opened(open_places, table, places, hints.told)
 }
 
 // A place is late, if it is open.

@@ -11,8 +11,8 @@ use Rattle.scheduler.proofs.scheduler.Scheduler.commit_leaving.Goals as goal
 pub returns-in_err-places-clause-steps : goal.returns-in_err-places-clause-steps
 returns-in_err-places-clause-steps g c = label_within c.args.self.now c.args.plan c.args.steps.now
 
-pub returns-in_err-doubts-clause-steps : goal.returns-in_err-doubts-clause-steps
-returns-in_err-doubts-clause-steps g c = label_within c.args.self.now c.args.plan c.args.steps.now
+pub returns-in_err-hints-clause-steps : goal.returns-in_err-hints-clause-steps
+returns-in_err-hints-clause-steps g c = label_within c.args.self.now c.args.plan c.args.steps.now
 
 pub returns-clause-committed : goal.returns-clause-committed
 returns-clause-committed g c =
