@@ -3,6 +3,7 @@ use Rattle.std.proofs.Common.{◌≡◌, ℕ, ◌≤◌, List, [], ◌∷◌, �
 use Rattle.std.proofs.lemmas.List.{take-append-drop, drop-append-le, drop_all}
 use Rattle.std.proofs.lemmas.Bool.Decides.{nat_tests}
 use Rattle.std.proofs.lemmas.List.Folds.{list_any-append}
+use Rattle.std.specs.List.{list_any}
 use Rattle.std.specs.Prelude.{IsTrue, ◌↔◌, ◌||◌}
 use Rattle.akl_terms.specs.declared.name.Var.{Var}
 use Rattle.akl_terms.specs.declared.term.Node.{Node}
@@ -37,14 +38,25 @@ among-has (y ∷ ys) x (inr m) = on (same_var x y) (among-has ys x m)
 same_var-sym : (x y : Var) → same_var x y ≡ same_var y x
 same_var-sym x y = grind (arith, nat_tests)
 
+-- the same test, with the variable on the other side
+pub backward : (xs : List Var) (x : Var) → list_any (λ y. same_var y x) xs ≡ has xs x
+backward xs x = λ i. list_any (λ y. same_var-sym y x i) xs
+
 pub has_is : (xs : List Var) (x : Var) (b : Bool) → b ≡ has xs x → IsTrue b ↔ IsAmong x xs
 has_is xs x b e = (λ t. has-among xs x (sym e ∙ t), λ m. e ∙ among-has xs x m)
 
 module _ (few : ℕ) (keys list : List Var) (h : IsRest few keys list) where
   -- the first few and the set have all
-  pub has_rest : (x : Var) → (has (take few list) x || has keys x) ≡ has list x
+  has_rest : (x : Var) → (has (take few list) x || has keys x) ≡ has list x
   has_rest x = ap (λ (k : Bool). has (take few list) x || k) (h.each x) ∙ sym (list_any-append (same_var x) (take few list) (drop few list))
       ∙ ap (λ (xs : List Var). has xs x) (take-append-drop few list)
+
+  -- what the first few have is there, and otherwise what the set has
+  pub has_first : (x : Var) (b : Bool) → b ≡ has (take few list) x → b ≡ true → b ≡ has list x
+  has_first x b e t = t ∙ sym (ap (λ (k : Bool). k || has keys x) (sym e ∙ t)) ∙ has_rest x
+
+  pub has_later : (x : Var) (a b : Bool) → a ≡ has (take few list) x → a ≡ false → b ≡ has keys x → b ≡ has list x
+  has_later x a b p f e = e ∙ sym (ap (λ (k : Bool). k || has keys x) (sym p ∙ f)) ∙ has_rest x
 
   -- one more among the first few
   pub rest_few : (x : Var) → length (list ++ x ∷ []) ≤ few → IsRest few keys (list ++ x ∷ [])
