@@ -1,4 +1,4 @@
-use Rattle.std.proofs.Common.{◌∷◌, [], length, arith, length-append}
+use Rattle.std.proofs.Common.{arith, length-append}
 use Rattle.akl_terms.specs.declared.name.Var.{Var}
 use Rattle.class_members.specs.declared.ending.TheConstants.{FEW}
 use Rattle.class_members.proofs.Gathered.{rest_few, rest_push}
