@@ -1,5 +1,5 @@
 -- How members are listed: the ends of chains over a solved form, and each candidate whose chain ends in one of them.
-use Rattle.std.specs.Prelude.{◌≡◌, List, [], ◌∷◌, ◌++◌, map, filter, not, is_some, Bool, true, ◌⊎◌}
+use Rattle.std.specs.Prelude.{◌≡◌, ℕ, List, drop, [], ◌∷◌, ◌++◌, map, filter, not, is_some, Bool, ◌⊎◌}
 use Rattle.std.specs.List.{list_any}
 use Rattle.akl_terms.specs.declared.name.Var.{Var}
 use Rattle.akl_terms.specs.declared.term.Node.{Node}
@@ -16,22 +16,24 @@ pub record IsEndOfOne (nodes : List Node) (bs : List (Var × Term)) (of : List V
   pub among : IsAmong start of
   pub ends : end_of nodes bs (variable start) ≡ variable r
 
--- a set has a variable
+-- the chains of these variables end in those of a list, and in no others
+pub record AreEnds (nodes : List Node) (bs : List (Var × Term)) (of list : List Var) : Type 0 where
+  pub each : (r : Var) → IsAmong r list → IsEndOfOne nodes bs of r
+  pub every : (r : Var) → IsEndOfOne nodes bs of r → IsAmong r list
+
+-- a variable's chain ends in a variable of the list
+pub record EndsAmong (nodes : List Node) (bs : List (Var × Term)) (list : List Var) (x : Var) : Type 0 where
+  pub end : Var
+  pub ends : end_of nodes bs (variable x) ≡ variable end
+  pub there : IsAmong end list
+
+-- the keys of a set have a variable
 abbrev pub has : List Var → Var → Bool
 has keys r = list_any (same_var r) keys
 
--- a list and a set have these ends, and nothing else
-pub record AreEnds (nodes : List Node) (bs : List (Var × Term)) (of list keys : List Var) : Type 0 where
-  pub each : (r : Var) → IsAmong r list → IsEndOfOne nodes bs of r
-  pub every : (r : Var) → IsEndOfOne nodes bs of r → IsAmong r list
-  pub kept : (r : Var) → IsAmong r list → has keys r ≡ true
-  pub known : (r : Var) → has keys r ≡ true → IsAmong r list
-
--- a variable's chain ends in a variable of the set
-pub record EndsAmong (nodes : List Node) (bs : List (Var × Term)) (keys : List Var) (x : Var) : Type 0 where
-  pub end : Var
-  pub ends : end_of nodes bs (variable x) ≡ variable end
-  pub there : has keys end ≡ true
+-- the set has the variables behind the first few of the list, and no others
+pub record IsRest (few : ℕ) (keys list : List Var) : Type 0 where
+  pub each : (x : Var) → has keys x ≡ has (drop few list) x
 
 -- the ends, and of the candidates those whose chains end in one of them
 pub record AreListed (nodes : List Node) (bs : List (Var × Term)) (of candidates list : List Var) : Type 0 where

@@ -8,7 +8,7 @@ ghost use Rattle.class_members.specs.Members.{AreMembers};
 ghost use Rattle.class_members.specs.Listed.{AreListed};
 
 use crate::candidates::candidates_of;
-use crate::ending::{Ends, ends_among, ends_of};
+use crate::ending::Ends;
 use akl_terms::{Templates, Var};
 use local_store::{Chain, take_stores};
 use rational_unify::{AddedBindings, Form, Lookup};
@@ -51,11 +51,14 @@ fn members_among<W: Lookup>(
     requires { IsSolved templates.now.nodes (W.bindings whole.now) }
     ensures { IfOk result (λ list. AreListed templates.now.nodes (W.bindings whole.now) of.now candidates.now list.items) }
 {
-    let Ends { mut list, set } = ends_of(alloc, templates, whole, of)?;
+    let ends = Ends::of_all(alloc, templates, whole, of)?;
+    let mut others = Vec::new(alloc);
     for candidate in candidates {
-        if ends_among(templates, whole, &set, *candidate) {
-            list.push(*candidate)?;
+        if ends.has_end_of(templates, whole, *candidate) {
+            others.push(*candidate)?;
         }
     }
+    let mut list = ends.into_vec();
+    list.extend_from_slice(&others)?;
     Ok(list)
 }

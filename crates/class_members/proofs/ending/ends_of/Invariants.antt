@@ -1,6 +1,0 @@
-use Rattle.std.proofs.Common.{take}
-use Rattle.class_members.specs.Listed.{AreEnds}
-use Rattle.class_members.proofs.ending.ends_of.Given as goal
-
-abbrev pub invariant-loop-variable : goal.invariant-loop-variable
-invariant-loop-variable g l = AreEnds l.templates.nodes (g.W.Lookup.bindings l.whole) (take l.variable-index l.of) l.list.items l.set.keys
