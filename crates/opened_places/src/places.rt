@@ -18,6 +18,9 @@ use akl_terms::{Name, Place};
 use box_tree::{NewBox, Step, Table};
 use std::alloc::{AllocError, Global};
 
+// Most labels change no more places than this.
+const ROOM: usize = 8;
+
 /// Goals with these boxes around them come to the end of the places.
 pub(crate) fn push_goals<T>(
     alloc: Global,
@@ -120,7 +123,7 @@ fn push_holder_home(
 fn goal_goes(alloc: Global, around: Around, path: &[Name]) -> Result<Vec<Placed>, AllocError>
     ensures { IfOk result (λ places. places.items ≡ goal_goes around path.now) }
 {
-    let mut places = Vec::new(alloc);
+    let mut places = Vec::with_capacity(alloc, ROOM)?;
     let outer = all_but_last(path);
     push_placed(alloc, Place::Box(around.home), outer, &mut places)?;
     push_holder(alloc, around.holder, outer, &mut places)?;
@@ -136,7 +139,7 @@ fn goal_turns(
 ) -> Result<Vec<Placed>, AllocError>
     ensures { IfOk result (λ places. places.items ≡ goal_turns place around path.now) }
 {
-    let mut places = Vec::new(alloc);
+    let mut places = Vec::with_capacity(alloc, ROOM)?;
     push_placed(alloc, place, path, &mut places)?;
     push_placed(
         alloc,
@@ -152,7 +155,7 @@ fn goal_turns(
 fn box_parts(alloc: Global, around: Around, path: &[Name]) -> Result<Vec<Placed>, AllocError>
     ensures { IfOk result (λ places. places.items ≡ box_parts around path.now) }
 {
-    let mut places = Vec::new(alloc);
+    let mut places = Vec::with_capacity(alloc, ROOM)?;
     let outer = all_but_last(path);
     push_choice(alloc, around.choice, path, &mut places)?;
     push_placed(alloc, Place::Box(around.home), outer, &mut places)?;
