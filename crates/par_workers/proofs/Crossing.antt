@@ -10,6 +10,7 @@ use Rattle.box_tree.specs.contracts.table.Table as Table
 use Rattle.step_commit.specs.contracts.state.Core as Core
 use Rattle.wake_lists.specs.contracts.open.Open as Open
 use Rattle.wake_lists.specs.contracts.waits.Waits as Waits
+use Rattle.scheduler.specs.contracts.splits.Splits as Splits
 use Rattle.scheduler.specs.contracts.scheduler.Scheduler as Scheduler
 use Rattle.task_pool.proofs.hand.Hand.TheSendSync as hands
 use Rattle.turn_lock.proofs.lock.Pass.TheSendSync as passes
@@ -42,8 +43,11 @@ Open-send = search (owned.crosses, maps.crosses, sendable) depth 60 fits 20000
 Waits-send : IsSend Waits.the_row
 Waits-send = search (owned.crosses, maps.crosses, sendable) depth 60 fits 20000
 
+Splits-send : IsSend Splits.the_row
+Splits-send = search (owned.crosses, maps.crosses, sendable) depth 60 fits 20000
+
 Scheduler-send : IsSend Scheduler.the_row
-Scheduler-send = let a = Core-send in let b = Open-send in let c = Waits-send in search sendable depth 60 fits 20000
+Scheduler-send = let a = Core-send in let b = Open-send in let c = Waits-send in let d = Splits-send in search sendable depth 60 fits 20000
 
 Made-send : IsSend Made.the_row
 Made-send = search (owned.crosses, sendable) depth 60 fits 20000
