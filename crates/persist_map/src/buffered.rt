@@ -56,13 +56,13 @@ impl<K: Ord + Copy, V: Copy> BufferedMap<K, V> {
     }
 
     /// The value at the key, or `None` exactly where the key is not there. The list is looked through before the tree,
-    /// where a key above all that it ever had is not sought.
+    /// in which a key above all of its keys isn't sought.
     pub fn get(&self, key: &K) -> Option<&V>
         ensures { option_copied result ≡ value_at K.cmp self.now key.now }
     {
         match newest_at(&self.newest, key) {
             Some(value) => Some(value),
-            // Most keys that are looked up are above all of the tree's, being newer: these cost one comparison.
+            // Most keys that are looked up are newer than the tree's, so above them: one comparison rules it out.
             None if is_above(key, self.greatest.as_ref()) => None,
             None => self.settled.get(key),
         }
