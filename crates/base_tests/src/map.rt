@@ -90,7 +90,8 @@ fn has(map: &BufferedMap<u32, u32>, entries: &[(u32, u32)]) -> Result<bool, Allo
 #[test]
 fn newest_entries_are_seen_wherever_they_stand(rt: HostRuntime) -> Result<(), Fail> {
     let mut map = BufferedMap::new(rt.alloc());
-    for key in [5, 3, 8, 1, 9, 3, 7, 2, 6, 5, 4] {
+    // The greatest key comes when there is a tree.
+    for key in [5, 3, 8, 1, 4, 3, 7, 2, 6, 5, 9] {
         map.insert(key, key * 10)?;
     }
     let mut other = map.share()?;

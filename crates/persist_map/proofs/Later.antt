@@ -13,7 +13,7 @@ use Rattle.std.proofs.lemmas.List.Elements.{filter-append}
 use Rattle.persist_map.specs.Entries.{IsOrdered, is_above, entries_after}
 use Rattle.persist_map.proofs.Sides.{all_weaker, left_below, right_above, Greater-from_less}
 
-Less-from_is_lt : (a : Ordering) → is_lt a ≡ true → a ≡ Less
+pub Less-from_is_lt : (a : Ordering) → is_lt a ≡ true → a ≡ Less
 Less-from_is_lt Less h = refl
 Less-from_is_lt Equal h = cc
 Less-from_is_lt Greater h = cc
@@ -31,7 +31,7 @@ option_map-option_or f None p = refl
 option_map-option_or f (Some x) p = refl
 
 -- a key above one that is after `last` is after it too
-is_above-above : {K : Type 0} (cmp : K → K → Ordering) → IsTotalOrder cmp → (last : Option K) (k y : K) → cmp k y ≡ Less → is_above cmp k last ≡ true → is_above cmp y last ≡ true
+pub is_above-above : {K : Type 0} (cmp : K → K → Ordering) → IsTotalOrder cmp → (last : Option K) (k y : K) → cmp k y ≡ Less → is_above cmp k last ≡ true → is_above cmp y last ≡ true
 is_above-above cmp o None k y above h = refl
 is_above-above cmp o (Some last) k y above h = ap is_lt (o.trans last k y (Less-from_is_lt (cmp last k) h) above)
 

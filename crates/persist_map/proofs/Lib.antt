@@ -1,6 +1,7 @@
 pub mod Bounds
 pub mod Changes
 pub mod Forks
+pub mod Greatest
 pub mod Heights
 pub mod Later
 pub mod Newest

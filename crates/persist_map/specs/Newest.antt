@@ -1,8 +1,9 @@
 -- Entries in the order of their keys, into which newer ones are put.
-use Rattle.std.specs.Prelude.{ℕ, suc, List, [], ◌∷◌}
+use Rattle.std.specs.Prelude.{◌≡◌, ℕ, suc, true, List, [], ◌∷◌, Option, None}
 use Rattle.std.specs.declared.cmp.Ordering.{Ordering}
 use Rattle.std.specs.Ordering.{match_ordering}
 use Rattle.std.specs.BTreeMap.{insert_entry}
+use Rattle.persist_map.specs.Entries.{value_at, is_above}
 
 -- entries with newer ones set in them, one after another
 abbrev pub with_entries : {K V : Type 0} → (K → K → Ordering) → List (K × V) → List (K × V) → List (K × V)
@@ -13,3 +14,7 @@ with_entries cmp entries (n ∷ newest) = with_entries cmp (insert_entry cmp ent
 abbrev pub place_of : {K V : Type 0} → (K → K → Ordering) → List (K × V) → K → ℕ
 place_of cmp [] k = 0
 place_of cmp (e ∷ entries) k = match_ordering (cmp k e.0) 0 0 (suc (place_of cmp entries k))
+
+-- no key above `greatest` has a value, and no key at all where there is no such key
+abbrev pub HasNoneAbove : {K V : Type 0} → (K → K → Ordering) → Option K → List (K × V) → Type 0
+HasNoneAbove {K} cmp greatest entries = (k : K) → is_above cmp k greatest ≡ true → value_at cmp entries k ≡ None

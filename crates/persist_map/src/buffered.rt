@@ -1,11 +1,12 @@
 //! A map whose newest entries stand in a short list beside its tree.
-ghost use Rattle.std.specs.Prelude.{◌≡◌, List, [], Some, IfOk, IfErr, option_copied};
+ghost use Rattle.std.specs.Prelude.{◌≡◌, List, [], Some, cond, IfOk, IfErr, option_copied};
 ghost use Rattle.std.specs.Option.{option_or};
 ghost use Rattle.std.specs.BTreeMap.{insert_entry};
-ghost use Rattle.persist_map.specs.Entries.{value_at, ChangesOnly, ClonesAreEqual};
+ghost use Rattle.persist_map.specs.Entries.{value_at, ChangesOnly, ClonesAreEqual, is_above};
 ghost use Rattle.persist_map.specs.Newest.{with_entries, place_of};
 
 use crate::map::PMap;
+use crate::walk::is_above;
 use std::alloc::{AllocError, Global};
 use std::marker::Model;
 
@@ -24,17 +25,21 @@ const FEW: usize = 8;
 pub struct BufferedMap<K: Ord, V> {
     alloc: Global,
     settled: PMap<K, V>,
+    // No key above it stands in the tree, and no key at all where it is `None`.
+    greatest: Option<K>,
     // In the order in which they were set. A key may stand here more than once, and in the tree.
     newest: Vec<(K, V)>,
 }
 
 impl<K: Ord, V> Model for BufferedMap<K, V> {
     ghost use Rattle.std.specs.Prelude.{List};
-    ghost use Rattle.persist_map.specs.Newest.{with_entries};
+    ghost use Rattle.persist_map.specs.Newest.{with_entries, HasNoneAbove};
 
     ghost Value = { List (K × V) };
 
     ghost view = { λ m. with_entries K.cmp m.settled m.newest.items };
+
+    ghost invariant = { λ m. HasNoneAbove K.cmp m.greatest m.settled };
 }
 
 impl<K: Ord + Copy, V: Copy> BufferedMap<K, V> {
@@ -45,16 +50,20 @@ impl<K: Ord + Copy, V: Copy> BufferedMap<K, V> {
         BufferedMap {
             alloc,
             settled: PMap::new(alloc),
+            greatest: None,
             newest: Vec::new(alloc),
         }
     }
 
-    /// The value at the key, or `None` exactly where the key is not there. The list is looked through before the tree.
+    /// The value at the key, or `None` exactly where the key is not there. The list is looked through before the tree,
+    /// in which a key above all of its keys isn't sought.
     pub fn get(&self, key: &K) -> Option<&V>
         ensures { option_copied result ≡ value_at K.cmp self.now key.now }
     {
         match newest_at(&self.newest, key) {
             Some(value) => Some(value),
+            // Most keys that are looked up are newer than the tree's, so above them: one comparison rules it out.
+            None if is_above(key, self.greatest.as_ref()) => None,
             None => self.settled.get(key),
         }
     }
@@ -69,6 +78,7 @@ impl<K: Ord + Copy, V: Copy> BufferedMap<K, V> {
         Ok(BufferedMap {
             alloc: self.alloc,
             settled: self.settled.share()?,
+            greatest: self.greatest,
             newest,
         })
     }
@@ -112,6 +122,7 @@ impl<K: Ord + Copy, V: Copy> BufferedMap<K, V> {
         while self.newest.len() > 0 {
             let (key, value) = self.newest[0];
             self.settled.insert(key, value)?;
+            self.greatest = greatest_with(self.greatest, key);
             self.newest.remove(0);
         }
         Ok(())
@@ -126,6 +137,17 @@ impl<K: Ord + Copy, V: Copy> BufferedMap<K, V> {
             put(&mut list, entry.0, entry.1)?;
         }
         Ok(list)
+    }
+}
+
+// The greatest key, where there is this one too.
+fn greatest_with<K: Ord + Copy>(greatest: Option<K>, key: K) -> Option<K>
+    ensures { result ≡ cond (is_above K.cmp key greatest) (Some key) greatest }
+{
+    if is_above(&key, greatest.as_ref()) {
+        Some(key)
+    } else {
+        greatest
     }
 }
 

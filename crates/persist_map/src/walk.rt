@@ -72,8 +72,8 @@ impl<K: Ord, V> Tree<K, V> {
     }
 }
 
-// Whether the key is above `last`, as each key is where there is none.
-fn is_above<K: Ord>(key: &K, last: Option<&K>) -> bool
+/// Whether the key is above `last`, as each key is where there is none.
+pub(crate) fn is_above<K: Ord>(key: &K, last: Option<&K>) -> bool
     ensures { result ≡ is_above K.cmp key.now (option_copied last.entry) }
 {
     match last {
