@@ -17,7 +17,7 @@ use Rattle.std.proofs.lemmas.Map.Keys.{IsDistinct-from_sorted}
 use Rattle.persist_map.specs.declared.tree.Tree.{Tree}
 use Rattle.persist_map.specs.Entries.{IsOrdered, value_at, ChangesOnly}
 use Rattle.persist_map.specs.Contents.{entries_of, IsSearchTree}
-use Rattle.persist_map.specs.Changes.{IsSet, IsTakenOut}
+use Rattle.persist_map.specs.Changes.{IsReshaped, IsSet, IsTakenOut}
 use Rattle.persist_map.proofs.Sides.{all_weaker, Less-from_greater}
 
 -- a fact that an `Ok` shows and an `Err` too
@@ -106,6 +106,9 @@ module _ {K V : Type 0} (cmp : K → K → Ordering) where
 
     pub IsSearchTree-set : (old : Tree K V) (k : K) (v : V) (new : Tree K V) → IsSearchTree cmp old → IsSet cmp old k v new → IsSearchTree cmp new
     IsSearchTree-set old k v new h set = record { ordered = rw set.entries (IsOrdered-insert_entry (entries_of old) k v h.ordered); balanced = set.balanced }
+
+  pub IsSearchTree-reshaped : (old new : Tree K V) → IsSearchTree cmp old → IsReshaped old new → IsSearchTree cmp new
+  IsSearchTree-reshaped old new h same = record { ordered = rw same.entries h.ordered; balanced = same.balanced h.balanced }
 
   pub IsSearchTree-taken_out : (old : Tree K V) (k : K) (new : Tree K V) → IsSearchTree cmp old → IsTakenOut cmp old k new → IsSearchTree cmp new
   IsSearchTree-taken_out old k new h taken = record { ordered = rw taken.entries (IsOrdered-remove_entry (is_at (cmp k)) (entries_of old) h.ordered); balanced = taken.balanced }

@@ -7,7 +7,7 @@ use Rattle.std.specs.Ordering.{match_ordering}
 use Rattle.persist_map.specs.declared.tree.Tree.{Tree}
 use Rattle.persist_map.specs.declared.tree.Fork.{Fork}
 use Rattle.persist_map.specs.Contents.{height_of, DifferByAtMost}
-use Rattle.persist_map.specs.Changes.{may_shrink, IsSameTree, IsJoined, IsTogether, IsTakenOut}
+use Rattle.persist_map.specs.Changes.{may_shrink, IsJoined, IsTogether, IsTakenOut}
 use Rattle.persist_map.proofs.Sides.{remove_entry-left, remove_entry-here, remove_entry-right}
 use Rattle.persist_map.proofs.Heights.{eqb_either_way, taken_height}
 use Rattle.persist_map.proofs.Forks.{HasTop, HasBalancedTop}
@@ -16,30 +16,27 @@ module _ {K V : Type 0} (cmp : K → K → Ordering) (o : IsTotalOrder cmp) (old
   shrinks_by : (a : Ordering) → cmp k f.key ≡ a → may_shrink cmp k old ≡ match_ordering a (cond (eqb (height_of f.left) (height_of f.right)) false (may_shrink cmp k f.left)) true (cond (eqb (height_of f.left) (height_of f.right)) false (may_shrink cmp k f.right))
   shrinks_by a is = high.shrinks_by k ∙ ap (λ (b : Ordering). match_ordering b (cond (eqb (height_of f.left) (height_of f.right)) false (may_shrink cmp k f.left)) true (cond (eqb (height_of f.left) (height_of f.right)) false (may_shrink cmp k f.right))) is
 
-  pub taken_left : cmp k f.key ≡ Less → (l r t : Tree K V) → IsTakenOut cmp f.left k l → IsSameTree f.right r → IsJoined l f.key f.value r t → IsTakenOut cmp old k t
-  taken_left less l r t taken same j =
-      let stands : DifferByAtMost 1 (height_of l) (height_of f.right) → height_of t ≡ max (height_of l) (height_of f.right) + 1 = rw same.height at j.as_it_stands in
-      let low : max (height_of l) (height_of f.right) ≤ height_of t = rw same.height at j.not_lower in
-      let up : height_of t ≤ max (height_of l) (height_of f.right) + 1 = rw same.height at j.at_most_one_higher in
-      let heights = taken_height (height_of f.left) (height_of f.right) (height_of l) (height_of t) (may_shrink cmp k f.left) high.fork.sides taken.not_higher taken.at_most_one_lower low up stands in
+  pub taken_left : cmp k f.key ≡ Less → (l t : Tree K V) → IsTakenOut cmp f.left k l → IsJoined l f.key f.value f.right t → IsTakenOut cmp old k t
+  taken_left less l t taken j =
+      let heights = taken_height (height_of f.left) (height_of f.right) (height_of l) (height_of t) (may_shrink cmp k f.left) high.fork.sides taken.not_higher taken.at_most_one_lower j.not_lower j.at_most_one_higher j.as_it_stands in
       record {
-        entries = j.entries ∙ rw (taken.entries, same.entries, top.entries) (sym (remove_entry-left cmp o k _ _ _ _ top.ordered less));
+        entries = j.entries ∙ rw (taken.entries, top.entries) (sym (remove_entry-left cmp o k _ _ _ _ top.ordered less));
         balanced = j.balanced;
         not_higher = rw high.height heights.0;
         at_most_one_lower = rw (high.height, shrinks_by Less less) heights.1;
       }
 
-  pub taken_right : cmp k f.key ≡ Greater → (l r t : Tree K V) → IsTakenOut cmp f.right k r → IsSameTree f.left l → IsJoined l f.key f.value r t → IsTakenOut cmp old k t
-  taken_right greater l r t taken same j =
+  pub taken_right : cmp k f.key ≡ Greater → (r t : Tree K V) → IsTakenOut cmp f.right k r → IsJoined f.left f.key f.value r t → IsTakenOut cmp old k t
+  taken_right greater r t taken j =
       let sides = high.fork.sides in
-      let stands : DifferByAtMost 1 (height_of r) (height_of f.left) → height_of t ≡ max (height_of r) (height_of f.left) + 1 = λ d. (rw same.height at j.as_it_stands) (d.1, d.0) ∙ omega arith in
-      let not_lower : max (height_of f.left) (height_of r) ≤ height_of t = rw same.height at j.not_lower in
-      let not_higher : height_of t ≤ max (height_of f.left) (height_of r) + 1 = rw same.height at j.at_most_one_higher in
+      let stands : DifferByAtMost 1 (height_of r) (height_of f.left) → height_of t ≡ max (height_of r) (height_of f.left) + 1 = λ d. j.as_it_stands (d.1, d.0) ∙ omega arith in
+      let not_lower = j.not_lower in
+      let not_higher = j.at_most_one_higher in
       let heights = taken_height (height_of f.right) (height_of f.left) (height_of r) (height_of t) (may_shrink cmp k f.right) (sides.1, sides.0) taken.not_higher taken.at_most_one_lower (omega arith) (omega arith) stands in
       let upper = heights.0 in
       let lower = rw (eqb_either_way (height_of f.right) (height_of f.left)) at heights.1 in
       record {
-        entries = j.entries ∙ rw (taken.entries, same.entries, top.entries) (sym (remove_entry-right cmp o k _ _ _ _ top.ordered greater));
+        entries = j.entries ∙ rw (taken.entries, top.entries) (sym (remove_entry-right cmp o k _ _ _ _ top.ordered greater));
         balanced = j.balanced;
         not_higher = rw high.height (omega arith);
         at_most_one_lower = rw (high.height, shrinks_by Greater greater) (omega arith);

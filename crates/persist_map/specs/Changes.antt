@@ -1,12 +1,13 @@
 -- What a change of a tree does to its entries and its height.
-use Rattle.std.specs.Prelude.{◌≡◌, ◌+◌, ◌<◌, ◌≤◌, max, Bool, true, false, eqb, cond, ◌&&◌, ◌∷◌, ◌++◌}
+use Rattle.std.specs.Prelude.{◌≡◌, ◌+◌, ◌<◌, ◌≤◌, max, Bool, true, false, eqb, ltb, cond, ◌&&◌, ◌∷◌, ◌++◌}
 use Rattle.std.specs.declared.cmp.Ordering.{Ordering}
+use Rattle.std.specs.declared.cmp.Ordering.TheVariants.{Less, Greater}
 use Rattle.std.specs.Ordering.{match_ordering}
 use Rattle.std.specs.BTreeMap.{is_at, insert_entry}
 use Rattle.std.specs.Map.{remove_entry}
 use Rattle.persist_map.specs.declared.tree.Tree.{Tree, Leaf, Fork'}
 use Rattle.persist_map.specs.declared.tree.Fork.{Fork}
-use Rattle.persist_map.specs.Contents.{entries_of, height_of, IsBalanced, DifferByAtMost}
+use Rattle.persist_map.specs.Contents.{entries_of, height_of, IsBalanced, IsBalancedFork, DifferByAtMost}
 
 -- whether the sides at the top are equally high
 abbrev pub is_level : {K V : Type 0} → Tree K V → Bool
@@ -15,6 +16,13 @@ is_level (Fork' _ left key value right _) = eqb (height_of left) (height_of righ
 
 -- new has the entries and the shape of old
 pub record IsSameTree {K V : Type 0} (old new : Tree K V) : Type 0 where
+  pub entries : entries_of new ≡ entries_of old
+  pub height : height_of new ≡ height_of old
+  pub level : is_level new ≡ is_level old
+  pub balanced : IsBalanced old → IsBalanced new
+
+-- new has the entries and the height of old
+pub record IsReshaped {K V : Type 0} (old new : Tree K V) : Type 0 where
   pub entries : entries_of new ≡ entries_of old
   pub height : height_of new ≡ height_of old
   pub balanced : IsBalanced old → IsBalanced new
@@ -41,6 +49,22 @@ pub record IsSet {K V : Type 0} (cmp : K → K → Ordering) (old : Tree K V) (k
   pub balanced : IsBalanced new
   pub height : height_of new ≡ height_of old + cond (grows cmp k old) 1 0
   pub leans : grows cmp k old ≡ true → 0 < height_of old → is_level new ≡ false
+
+-- the same of a fork
+abbrev pub fork_grows : {K V : Type 0} → (K → K → Ordering) → K → Fork K V → Bool
+fork_grows cmp k f = eqb (height_of f.left) (height_of f.right) && match_ordering (cmp k f.key) (grows cmp k f.left) false (grows cmp k f.right)
+
+-- new is old in another shape, or in the same: the same entries at the same height, and it grows where old does
+pub record IsTurned {K V : Type 0} (cmp : K → K → Ordering) (k : K) (old new : Fork K V) : Type 0 where
+  pub entries : entries_of new.left ++ (new.key, new.value) ∷ entries_of new.right ≡ entries_of old.left ++ (old.key, old.value) ∷ entries_of old.right
+  pub balanced : IsBalancedFork new
+  pub height : new.height ≡ old.height
+  pub grows : fork_grows cmp k new ≡ fork_grows cmp k old
+
+-- no side of f that is higher already gets higher where k is set in it
+pub record HasRoom {K V : Type 0} (cmp : K → K → Ordering) (k : K) (f : Fork K V) : Type 0 where
+  pub left : cmp k f.key ≡ Less → (ltb (height_of f.right) (height_of f.left) && grows cmp k f.left) ≡ false
+  pub right : cmp k f.key ≡ Greater → (ltb (height_of f.left) (height_of f.right) && grows cmp k f.right) ≡ false
 
 -- whether a tree may get lower where k is taken out: no fork on the way to it is level
 abbrev pub may_shrink : {K V : Type 0} → (K → K → Ordering) → K → Tree K V → Bool

@@ -15,10 +15,10 @@ const FEW: usize = 8;
 
 /// A map from keys to values, in the order of the keys, made for copies that differ in a few entries.
 ///
-/// An entry that is set goes to the end of a list, in one place in memory for all of the list, and no node of the tree
-/// is copied for it. It goes into the tree when the list is full, or at a call of `settle`: best once the copies are
-/// gone that share the tree, since what nothing shares changes in place. A map that never had more than eight entries
-/// set has no tree.
+/// The entries that were set last, at most eight, stand in a list beside a `PMap`. To set one is to push it onto the
+/// list: no node of the tree is copied for it. The list goes into the tree when it is full, or at a call of `settle`,
+/// which is best made once the copies are gone that share the tree, since what nothing shares changes in place. A map in
+/// which at most eight entries were set has no tree.
 ///
 /// Contracts see it as the list of its entries in the order of their keys, wherever they stand.
 #[derive(Drop)]
@@ -55,8 +55,8 @@ impl<K: Ord + Copy, V: Copy> BufferedMap<K, V> {
         }
     }
 
-    /// The value at the key, or `None` exactly where the key is not there. The list is looked through before the tree,
-    /// in which a key above all of its keys isn't sought.
+    /// The value at the key, or `None` exactly where the key is not there. The key is compared to each of the list before
+    /// it is sought in the tree, and not sought there where it is above all of the tree's keys.
     pub fn get(&self, key: &K) -> Option<&V>
         ensures { option_copied result ≡ value_at K.cmp self.now key.now }
     {
@@ -68,8 +68,8 @@ impl<K: Ord + Copy, V: Copy> BufferedMap<K, V> {
         }
     }
 
-    /// An equal map that shares all nodes of the tree and has a copy of the list. Where the list is empty, want of
-    /// memory comes only from a full count of owners.
+    /// An equal map that shares all nodes of the tree and has a copy of the list, in one piece of memory. Where the list
+    /// is empty it takes none, and want of memory comes only from a full count of owners.
     pub fn share(&self) -> Result<BufferedMap<K, V>, AllocError>
         ensures { IfOk result (λ m. m ≡ self.now) }
     {
@@ -128,7 +128,8 @@ impl<K: Ord + Copy, V: Copy> BufferedMap<K, V> {
         Ok(())
     }
 
-    /// The entries, in the order of their keys. It makes no node.
+    /// The entries, in the order of their keys. No node is made: each entry of the list is put in at its place among
+    /// those of the tree, which is sought from the front.
     pub fn entries(&self) -> Result<Vec<(K, V)>, AllocError>
         ensures { IfOk result (λ list. list.items ≡ self.now) }
     {

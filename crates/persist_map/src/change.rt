@@ -1,8 +1,8 @@
 //! Changes in place: of the nodes that nothing else holds, from the root down to where the shape of the tree changes.
-ghost use Rattle.std.specs.Prelude.{◌≡◌, ◌+◌, ◌<◌, ◌^◌, ◌&&◌, ltb, IfOk, IfErr};
+ghost use Rattle.std.specs.Prelude.{◌≡◌, ◌+◌, ◌<◌, ◌^◌, ◌&&◌, max, ltb, IfOk, IfErr};
 ghost use Rattle.persist_map.specs.Entries.{ClonesAreEqual};
 ghost use Rattle.persist_map.specs.Contents.{height_of, IsBalanced, IsSearchTree};
-ghost use Rattle.persist_map.specs.Changes.{IsSet, IsTakenOut, grows, may_shrink};
+ghost use Rattle.persist_map.specs.Changes.{IsReshaped, IsSet, IsTakenOut, grows, may_shrink};
 
 use crate::tree::{Fork, Tree};
 use std::alloc::{AllocError, Global};
@@ -27,8 +27,8 @@ impl<K: Ord, V> Tree<K, V> {
             }
     }
 
-    // Whether the other side of a fork, which is higher already, gets higher still where the key is set in it.
-    fn is_passed_by(&self, other: &Tree<K, V>, key: &K) -> bool
+    /// Whether the other side of a fork, which is higher already, gets higher still where the key is set in it.
+    pub fn is_passed_by(&self, other: &Tree<K, V>, key: &K) -> bool
         requires own { IsBalanced self.now }
         requires other { IsBalanced other.now }
         ensures { result ≡ ltb (height_of self.now) (height_of other.now) && grows K.cmp key.now other.now }
@@ -64,44 +64,54 @@ impl<K: Ord, V> Tree<K, V> {
 }
 
 impl<K: Ord + Clone + Drop, V: Clone + Drop> Tree<K, V> {
-    /// Sets the pair: in place, but for the nodes that something else holds and those around a place that turns. At an
-    /// error the tree is as it was.
+    /// Sets the pair: in place, but for the nodes that something else holds and those below a fork that has no room. At
+    /// an error the tree has the entries and the height that it had.
     pub fn insert(&mut self, alloc: Global, key: K, value: V) -> Result<(), AllocError>
         requires keys { ClonesAreEqual K.is_clone }
         requires values { ClonesAreEqual V.is_clone }
         requires tree { IsSearchTree K.cmp self.old }
         requires room { height_of self.old + 1 < 2 ^ 32 }
         ensures ok { IfOk result (λ _. IsSet K.cmp self.old key value self.new) }
-        ensures err { IfErr result (λ _. self.new ≡ self.old) }
+        ensures err { IfErr result (λ _. IsReshaped self.old self.new) }
     {
         let Tree::Fork(shared) = self else {
             *self = Tree::fork(alloc, Tree::Leaf, key, value, Tree::Leaf)?;
             return Ok(());
         };
         let Some(fork) = Arc::get_mut(shared) else {
-            *self = self.with(alloc, &key, &value)?;
-            return Ok(());
+            return self.insert_in_copy(alloc, &key, &value);
         };
+        if !fork.make_room(&key) {
+            return self.insert_in_copy(alloc, &key, &value);
+        }
         match key.cmp(&fork.key) {
-            Ordering::Less if !fork.right.is_passed_by(&fork.left, &key) => {
-                fork.left.insert(alloc, key, value)?;
-                fork.height = fork.left.height().max(fork.right.height()) + 1;
-                Ok(())
+            Ordering::Less => {
+                let outcome = fork.left.insert(alloc, key, value);
+                fork.measure();
+                outcome
             }
             Ordering::Equal => {
                 fork.value = value;
                 Ok(())
             }
-            Ordering::Greater if !fork.left.is_passed_by(&fork.right, &key) => {
-                fork.right.insert(alloc, key, value)?;
-                fork.height = fork.left.height().max(fork.right.height()) + 1;
-                Ok(())
-            }
-            _ => {
-                *self = self.with(alloc, &key, &value)?;
-                Ok(())
+            Ordering::Greater => {
+                let outcome = fork.right.insert(alloc, key, value);
+                fork.measure();
+                outcome
             }
         }
+    }
+
+    // Sets the pair in a copy of the way to its key.
+    fn insert_in_copy(&mut self, alloc: Global, key: &K, value: &V) -> Result<(), AllocError>
+        requires keys { ClonesAreEqual K.is_clone }
+        requires values { ClonesAreEqual V.is_clone }
+        requires tree { IsSearchTree K.cmp self.old }
+        ensures ok { IfOk result (λ _. IsSet K.cmp self.old key.now value.now self.new) }
+        ensures err { IfErr result (λ _. self.new ≡ self.old) }
+    {
+        *self = self.with(alloc, key, value)?;
+        Ok(())
     }
 
     /// Takes the key out, in the same way.
@@ -117,24 +127,44 @@ impl<K: Ord + Clone + Drop, V: Clone + Drop> Tree<K, V> {
             return Ok(());
         };
         let Some(fork) = Arc::get_mut(shared) else {
-            *self = self.without(alloc, key)?;
-            return Ok(());
+            return self.remove_in_copy(alloc, key);
         };
         match key.cmp(&fork.key) {
             Ordering::Less if !fork.left.falls_short_of(&fork.right, key) => {
                 fork.left.remove(alloc, key)?;
-                fork.height = fork.left.height().max(fork.right.height()) + 1;
+                fork.measure();
                 Ok(())
             }
             Ordering::Greater if !fork.right.falls_short_of(&fork.left, key) => {
                 fork.right.remove(alloc, key)?;
-                fork.height = fork.left.height().max(fork.right.height()) + 1;
+                fork.measure();
                 Ok(())
             }
-            _ => {
-                *self = self.without(alloc, key)?;
-                Ok(())
-            }
+            _ => self.remove_in_copy(alloc, key),
         }
+    }
+
+    // Takes the key out of a copy of the way to it.
+    fn remove_in_copy(&mut self, alloc: Global, key: &K) -> Result<(), AllocError>
+        requires keys { ClonesAreEqual K.is_clone }
+        requires values { ClonesAreEqual V.is_clone }
+        requires tree { IsSearchTree K.cmp self.old }
+        ensures ok { IfOk result (λ _. IsTakenOut K.cmp self.old key.now self.new) }
+        ensures err { IfErr result (λ _. self.new ≡ self.old) }
+    {
+        *self = self.without(alloc, key)?;
+        Ok(())
+    }
+}
+
+impl<K, V> Fork<K, V> {
+    // Keeps the height that the sides give.
+    fn measure(&mut self)
+        requires left { IsBalanced self.old.left }
+        requires right { IsBalanced self.old.right }
+        requires room { max (height_of self.old.left) (height_of self.old.right) + 1 < 2 ^ 32 }
+        ensures { self.new ≡ record self.old { height = max (height_of self.old.left) (height_of self.old.right) + 1 } }
+    {
+        self.height = self.left.height().max(self.right.height()) + 1;
     }
 }

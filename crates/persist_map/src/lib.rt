@@ -14,6 +14,7 @@ mod buffered;
 mod change;
 mod map;
 mod tree;
+mod turning;
 mod walk;
 
 pub use buffered::BufferedMap;

@@ -100,6 +100,28 @@ impl<K: Ord, V> Tree<K, V> {
     }
 }
 
+impl<K: Clone + Drop, V: Clone + Drop> Tree<K, V> {
+    /// A copy of an entry between two sides that it shares.
+    pub fn copied(
+        alloc: Global,
+        left: &Tree<K, V>,
+        key: &K,
+        value: &V,
+        right: &Tree<K, V>,
+    ) -> Result<Tree<K, V>, AllocError>
+        requires keys { ClonesAreEqual K.is_clone }
+        requires values { ClonesAreEqual V.is_clone }
+        requires left { IsBalanced left.now }
+        requires right { IsBalanced right.now }
+        requires heights { DifferByAtMost 1 (height_of left.now) (height_of right.now) }
+        ensures { IfOk result (λ t. IsJoined left.now key.now value.now right.now t) }
+    {
+        let key = key.clone()?;
+        let value = value.clone()?;
+        Tree::fork(alloc, left.share()?, key, value, right.share()?)
+    }
+}
+
 impl<K: Ord + Clone + Drop, V: Clone + Drop> Tree<K, V> {
     // The pair is lent, so that it isn't moved at each fork on the way.
     pub fn with(&self, alloc: Global, key: &K, value: &V) -> Result<Tree<K, V>, AllocError>
@@ -109,24 +131,20 @@ impl<K: Ord + Clone + Drop, V: Clone + Drop> Tree<K, V> {
         ensures { IfOk result (λ t. IsSet K.cmp self.now key.now value.now t) }
     {
         match self {
-            Tree::Leaf => Tree::fork(alloc, Tree::Leaf, key.clone()?, value.clone()?, Tree::Leaf),
+            Tree::Leaf => Tree::copied(alloc, &Tree::Leaf, key, value, &Tree::Leaf),
             Tree::Fork(fork) => {
                 let fork: &Fork<K, V> = fork;
                 match key.cmp(&fork.key) {
                     Ordering::Less => {
                         let left = fork.left.with(alloc, key, value)?;
-                        fork.between(alloc, left, fork.right.share()?)
+                        fork.with_left(alloc, left)
                     }
-                    Ordering::Equal => Tree::fork(
-                        alloc,
-                        fork.left.share()?,
-                        fork.key.clone()?,
-                        value.clone()?,
-                        fork.right.share()?,
-                    ),
+                    Ordering::Equal => {
+                        Tree::copied(alloc, &fork.left, &fork.key, value, &fork.right)
+                    }
                     Ordering::Greater => {
                         let right = fork.right.with(alloc, key, value)?;
-                        fork.between(alloc, fork.left.share()?, right)
+                        fork.with_right(alloc, right)
                     }
                 }
             }
@@ -146,12 +164,12 @@ impl<K: Ord + Clone + Drop, V: Clone + Drop> Tree<K, V> {
                 match key.cmp(&fork.key) {
                     Ordering::Less => {
                         let left = fork.left.without(alloc, key)?;
-                        fork.between(alloc, left, fork.right.share()?)
+                        fork.with_left(alloc, left)
                     }
                     Ordering::Equal => joined(alloc, &fork.left, &fork.right),
                     Ordering::Greater => {
                         let right = fork.right.without(alloc, key)?;
-                        fork.between(alloc, fork.left.share()?, right)
+                        fork.with_right(alloc, right)
                     }
                 }
             }
@@ -172,7 +190,8 @@ impl<K: Clone + Drop, V: Clone + Drop> Fork<K, V> {
             Tree::Fork(left) => {
                 let left: &Fork<K, V> = left;
                 let (first, others) = left.split_first(alloc)?;
-                Ok((first, self.between(alloc, others, self.right.share()?)?))
+                let others = self.with_left(alloc, others)?;
+                Ok((first, others))
             }
         }
     }

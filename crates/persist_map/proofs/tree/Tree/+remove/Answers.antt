@@ -1,7 +1,7 @@
 use Rattle.std.proofs.Common.{◌≡◌, false, ltb, ◌&&◌, sym, ◌∙◌, arith}
 use Rattle.persist_map.specs.Contents.{height_of}
 use Rattle.persist_map.specs.Changes.{may_shrink}
-use Rattle.persist_map.proofs.Forks.{has_top, has_balanced_top, joined_in_place, same_tree}
+use Rattle.persist_map.proofs.Forks.{has_top, has_balanced_top, joined_by_height}
 use Rattle.persist_map.proofs.Heights.{taken_in_place}
 use Rattle.persist_map.proofs.Removals.{taken_left, taken_right}
 use Rattle.persist_map.proofs.tree.Tree.+remove.Goals as goal
@@ -28,7 +28,7 @@ returns-in_ok-remove-in-Less-clause-ok g t c =
     let high = has_balanced_top g.K.Ord.cmp c.args.self.now c.in-Fork.shared c.in-Some.fork.now c.in-Fork.is c.in-Some.ensures.value c.requires.tree.balanced in
     let taken = c.in_ok-remove-in-Less.ensures.ok in
     let sides = taken_in_place _ _ _ _ high.fork.sides (sym c.falls_short_of.ensures ∙ c.if-not-falls_short_of.true) taken.not_higher taken.at_most_one_lower in
-    taken_left g.K.Ord.cmp g.met.K.Ord.total _ _ top high _ (sym c.in-Less.ensures) _ _ _ taken (same_tree _) (joined_in_place _ (record { left = taken.balanced; right = high.fork.right; kept = omega arith; sides = sides }))
+    taken_left g.K.Ord.cmp g.met.K.Ord.total _ _ top high _ (sym c.in-Less.ensures) _ _ taken (joined_by_height _ _ _ _ _ c.measure.ensures taken.balanced high.fork.right sides)
 
 pub returns-in_ok-remove-in-Greater-clause-ok : goal.returns-in_ok-remove-in-Greater-clause-ok
 returns-in_ok-remove-in-Greater-clause-ok g t c =
@@ -39,18 +39,4 @@ returns-in_ok-remove-in-Greater-clause-ok g t c =
     let f = c.in-Some.fork.now in
     let stays : (ltb (height_of f.right) (height_of f.left) && may_shrink g.K.Ord.cmp c.args.key.now f.right) ≡ false = cc (c.if-not-falls_short_of-2.ensures, c.if-not-falls_short_of-2.true) in
     let sides = taken_in_place _ _ _ _ (apart.1, apart.0) stays taken.not_higher taken.at_most_one_lower in
-    taken_right g.K.Ord.cmp g.met.K.Ord.total _ _ top high _ (sym c.in-Greater.ensures) _ _ _ taken (same_tree _) (joined_in_place _ (record { left = high.fork.left; right = taken.balanced; kept = omega arith; sides = (sides.1, sides.0) }))
-
-pub overflow_add-fork : goal.overflow_add-fork
-overflow_add-fork g t c =
-    let high = has_balanced_top g.K.Ord.cmp c.args.self.now c.in-Fork.shared c.in-Some.fork.now c.in-Fork.is c.in-Some.ensures.value c.requires.tree.balanced in
-    let taken = c.in_ok-remove-in-Less.ensures.ok in
-    let room = c.requires.room in
-    omega arith
-
-pub overflow_add-fork-in-Greater : goal.overflow_add-fork-in-Greater
-overflow_add-fork-in-Greater g t c =
-    let high = has_balanced_top g.K.Ord.cmp c.args.self.now c.in-Fork.shared c.in-Some.fork.now c.in-Fork.is c.in-Some.ensures.value c.requires.tree.balanced in
-    let taken = c.in_ok-remove-in-Greater.ensures.ok in
-    let room = c.requires.room in
-    omega arith
+    taken_right g.K.Ord.cmp g.met.K.Ord.total _ _ top high _ (sym c.in-Greater.ensures) _ _ taken (joined_by_height _ _ _ _ _ c.measure-in-Greater.ensures high.fork.left taken.balanced (sides.1, sides.0))

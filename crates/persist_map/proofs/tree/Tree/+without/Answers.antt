@@ -18,11 +18,11 @@ without-requires-in-Greater g t c κs within =
     let smaller = c.decreases in
     (omega arith, (within.0, (within.1, (c.requires.keys, (c.requires.values, record { ordered = top.right_ordered; balanced = high.fork.right })))))
 
-pub returns-in_ok-share-in-Less : goal.returns-in_ok-share-in-Less
-returns-in_ok-share-in-Less g t c =
+pub returns-in_ok-left-in-Less : goal.returns-in_ok-left-in-Less
+returns-in_ok-left-in-Less g t c =
     let top = has_top g.K.Ord.cmp c.args.self.now c.in-Fork.fork c.deref-fork.result.now c.in-Fork.is c.deref-fork.ensures c.requires.tree.ordered in
     let high = has_balanced_top g.K.Ord.cmp c.args.self.now c.in-Fork.fork c.deref-fork.result.now c.in-Fork.is c.deref-fork.ensures c.requires.tree.balanced in
-    IfOk-weaker c.between.result _ _ (λ z j. taken_left g.K.Ord.cmp g.met.K.Ord.total _ _ top high _ (sym c.in-Less.ensures) _ _ z c.in_ok-left-in-Less.ensures c.in_ok-share-in-Less.ensures j) c.between.ensures
+    IfOk-weaker c.with_left.result _ _ (λ z j. taken_left g.K.Ord.cmp g.met.K.Ord.total _ _ top high _ (sym c.in-Less.ensures) _ z c.in_ok-left-in-Less.ensures j) c.with_left.ensures
 
 pub returns-in-Equal : goal.returns-in-Equal
 returns-in-Equal g t c =
@@ -30,8 +30,8 @@ returns-in-Equal g t c =
     let high = has_balanced_top g.K.Ord.cmp c.args.self.now c.in-Fork.fork c.deref-fork.result.now c.in-Fork.is c.deref-fork.ensures c.requires.tree.balanced in
     IfOk-weaker c.joined.result _ _ (λ z j. taken_here g.K.Ord.cmp g.met.K.Ord.total _ _ top high _ (sym c.in-Equal.ensures) z j) c.joined.ensures
 
-pub returns-in_ok-share-in-Greater : goal.returns-in_ok-share-in-Greater
-returns-in_ok-share-in-Greater g t c =
+pub returns-in_ok-right-in-Greater : goal.returns-in_ok-right-in-Greater
+returns-in_ok-right-in-Greater g t c =
     let top = has_top g.K.Ord.cmp c.args.self.now c.in-Fork.fork c.deref-fork.result.now c.in-Fork.is c.deref-fork.ensures c.requires.tree.ordered in
     let high = has_balanced_top g.K.Ord.cmp c.args.self.now c.in-Fork.fork c.deref-fork.result.now c.in-Fork.is c.deref-fork.ensures c.requires.tree.balanced in
-    IfOk-weaker c.between-in-Greater.result _ _ (λ z j. taken_right g.K.Ord.cmp g.met.K.Ord.total _ _ top high _ (sym c.in-Greater.ensures) _ _ z c.in_ok-right-in-Greater.ensures c.in_ok-share-in-Greater.ensures j) c.between-in-Greater.ensures
+    IfOk-weaker c.with_right.result _ _ (λ z j. taken_right g.K.Ord.cmp g.met.K.Ord.total _ _ top high _ (sym c.in-Greater.ensures) _ z c.in_ok-right-in-Greater.ensures j) c.with_right.ensures
