@@ -59,7 +59,7 @@ ports-bindings s (p ∷ ps) = ports-bindings s ps
 named-bindings : (s other : Stored) → (named_too s other).bindings ≡ s.bindings
 named-bindings s other = ports-bindings (with_frames s other.frames) other.ports ∙ frames-bindings s other.frames
 
-fresh-all : (nodes : List Node) (known added bs : List (Var × Term)) → Takes nodes known [] added bs → BindNew known added
+pub fresh-all : (nodes : List Node) (known added bs : List (Var × Term)) → Takes nodes known [] added bs → BindNew known added
 fresh-all nodes known added bs t = subst (λ (l : List (Var × Term)). BindNew known l) (sym t.added) (subst (λ (l : List (Var × Term)). BindNew l t.more) (append-nil known) t.fresh)
 
 pub around-length : (ss : List Stored) → length (around ss) ≡ length ss - 1

@@ -10,3 +10,4 @@ pub mod NewlyBound
 pub mod Replaced
 pub mod Resolved
 pub mod Joining
+pub mod Listing

@@ -33,6 +33,10 @@ pub record AnswersTold (nodes : List Node) (ss : List Stored) (known : ℕ) (es 
   pub is_solved : IsTrue answer.solved ↔ ((length ss ≡ known) × IsConsistentBy (ToldAlso nodes ss es))
   pub bound : AreNewlyBound (equations_of nodes ss) (equations_of nodes ss) (equations_of nodes ss ++ equations_in nodes es) answer.bound.items
 
+-- a store to which nothing was told
+abbrev pub IsUntold : ToldStore → Type 0
+IsUntold t = (t.solved ≡ false) × (t.bound.items ≡ [])
+
 -- a variable that is bound to two terms
 abbrev pub somewhere : Var
 somewhere = record { frame = record { worker = 0; number = 0 }; index = 0 }

@@ -1,12 +1,13 @@
 //! A box whose store joins that of the box around it.
 ghost use Rattle.std.specs.Prelude.{◌≡◌, ◌<◌, length, IfOk};
 ghost use Rattle.rational_unify.specs.Known.{IsSolved};
+ghost use Rattle.local_store.specs.Telling.{IsUntold};
 ghost use Rattle.local_store.specs.Promoting.{with_frames, with_ports, named_too, Joins, JoinsChain, AnswersPromoted};
 
 use crate::binding::bound_over;
 use crate::chain::Chain;
 use crate::store::Store;
-use crate::telling::{ToldStore, with_added};
+use crate::telling::ToldStore;
 use akl_terms::{Name, Templates, Term, Var};
 use rational_unify::{AddedBindings, Form, Lookup, leads_older};
 use std::alloc::{AllocError, Global};
@@ -22,61 +23,68 @@ pub fn promoted(alloc: Global, chain: &Chain) -> Result<ToldStore, AllocError>
 {
     let stores = chain.stores();
     let count = stores.len() - 1;
-    let own = stores[count].get();
-    let store = with_names(stores[count - 1].get(), own)?;
-    let bindings = own.bindings()?;
-    join_chain(alloc, &chain.outer(count), &store, bindings.as_slice())
+    let mut told = ToldStore::of(alloc, stores[count - 1].get().share()?);
+    join_store(alloc, &chain.outer(count), stores[count].get(), &mut told)?;
+    Ok(told)
 }
 
-// A store with what is found for bindings over a chain, where that is known to be solved, and else with them as they
+// All that a store has joins another one, to which nothing was told: the innermost one of a chain.
+fn join_store(
+    alloc: Global,
+    outer: &Chain,
+    own: &Store,
+    told: &mut ToldStore,
+) -> Result<(), AllocError>
+    requires { IsUntold told.old }
+    ensures { IfOk result (λ _. JoinsChain outer.now.nodes outer.now.stores outer.now.known own.now.bindings (named_too told.old.store own.now) told.new) }
+{
+    add_names(&mut told.store, own)?;
+    let bindings = own.bindings()?;
+    join_chain(alloc, outer, bindings.as_slice(), told)
+}
+
+// What is found for bindings over a chain joins a store, where that is known to be solved, and else they join as they
 // stand.
 fn join_chain(
     alloc: Global,
     outer: &Chain,
-    store: &Store,
     bindings: &[(Var, Term)],
-) -> Result<ToldStore, AllocError>
-    ensures { IfOk result (λ t. JoinsChain outer.now.nodes outer.now.stores outer.now.known bindings.now store.now t) }
+    told: &mut ToldStore,
+) -> Result<(), AllocError>
+    requires { IsUntold told.old }
+    ensures { IfOk result (λ _. JoinsChain outer.now.nodes outer.now.stores outer.now.known bindings.now told.old.store told.new) }
 {
     if outer.known() == outer.stores().len() {
-        return join(alloc, outer.templates(), outer, store, bindings);
+        return join(alloc, outer.templates(), outer, bindings, told);
     }
-    let bound = bound_over(alloc, outer, bindings)?;
-    ToldStore::joining(store, bindings, false, bound)
+    told.store.add_all(bindings)?;
+    bound_over(alloc, outer, bindings, &mut told.bound)
 }
 
-// A store with what is found for bindings over a solved form, and what they bind; its flag says whether each of them
-// leads to an older variable. Where they are inconsistent with it, the store has them as they stand.
+// What is found for bindings over a solved form joins a store, with what they bind; the flag says whether each of them
+// leads to an older variable. Where they are inconsistent with it, they join as they stand.
 fn join<K: Lookup>(
     alloc: Global,
     templates: &Templates,
     known: &K,
-    store: &Store,
     bindings: &[(Var, Term)],
-) -> Result<ToldStore, AllocError>
-    requires { IsSolved templates.now.nodes (K.bindings known.now) }
-    ensures { IfOk result (λ t. Joins templates.now.nodes (K.bindings known.now) bindings.now store.now t.store t.solved t.bound.items) }
+    told: &mut ToldStore,
+) -> Result<(), AllocError>
+    requires solved { IsSolved templates.now.nodes (K.bindings known.now) }
+    requires untold { IsUntold told.old }
+    ensures { IfOk result (λ _. Joins templates.now.nodes (K.bindings known.now) bindings.now told.old.store told.new.store told.new.solved told.new.bound.items) }
 {
     let mut form = Form {
         known,
         added: AddedBindings::new(alloc),
     };
     match form.take(alloc, templates, bindings)? {
-        Some(_) => ToldStore::joining(store, bindings, false, Vec::new(alloc)),
+        Some(_) => told.store.add_all(bindings),
         None => {
-            let older = leads_older(templates, bindings);
-            with_added(alloc, templates, &form, store, older)
+            told.solved = leads_older(templates, bindings);
+            told.add(templates, &form)
         }
     }
-}
-
-// A store that also has the frames and ports of another one.
-fn with_names(store: &Store, other: &Store) -> Result<Store, AllocError>
-    ensures { IfOk result (λ s. s ≡ named_too store.now other.now) }
-{
-    let mut named = store.share()?;
-    add_names(&mut named, other)?;
-    Ok(named)
 }
 
 // The store also has the frames and ports of another one.

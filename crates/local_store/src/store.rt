@@ -127,15 +127,6 @@ impl Store {
         Ok(store)
     }
 
-    /// The store that also has these bindings, added one after another.
-    pub(crate) fn with_all(&self, bindings: &[(Var, Term)]) -> Result<Store, AllocError>
-        ensures { IfOk result (λ s. s ≡ with_bindings self.now bindings.now) }
-    {
-        let mut store = self.share()?;
-        store.add_all(bindings)?;
-        Ok(store)
-    }
-
     /// The frames and ports with these bindings alone, added one after another.
     pub(crate) fn with_only(&self, bindings: &[(Var, Term)]) -> Result<Store, AllocError>
         ensures { IfOk result (λ s. s ≡ with_bindings (unbound self.now) bindings.now) }
@@ -155,8 +146,8 @@ impl Store {
         let _ = self.ports.settle();
     }
 
-    // Also has these bindings, added one after another. After an `Err` it may have some of them.
-    fn add_all(&mut self, bindings: &[(Var, Term)]) -> Result<(), AllocError>
+    /// Also has these bindings, added one after another. After an `Err` it may have some of them.
+    pub(crate) fn add_all(&mut self, bindings: &[(Var, Term)]) -> Result<(), AllocError>
         ensures { IfOk result (λ _. self.new ≡ with_bindings self.old bindings.now) }
     {
         for binding in bindings {

@@ -1,11 +1,12 @@
 //! Equations told to a chain, and what the chain says.
-ghost use Rattle.std.specs.Prelude.{◌≡◌, ◌++◌, [], false, IfOk, MatchOption};
+ghost use Rattle.std.specs.Prelude.{◌≡◌, ◌++◌, IfOk, MatchOption};
 ghost use Rattle.rational_unify.specs.Known.{IsSolved};
+ghost use Rattle.rational_unify.specs.Solving.{BindNew};
 ghost use Rattle.rational_unify.specs.Forms.{Takes, IsClashOfBindings};
 ghost use Rattle.local_store.specs.Chained.{bindings_from, innermost};
 ghost use Rattle.local_store.specs.Stored.{with_bindings};
 ghost use Rattle.local_store.specs.Bound.{bound_by};
-ghost use Rattle.local_store.specs.Telling.{clashed, Adds, AddsOver, AnswersTold};
+ghost use Rattle.local_store.specs.Telling.{IsUntold, clashed, Adds, AddsOver, AnswersTold};
 
 use crate::binding::bound_by;
 use crate::chain::Chain;
@@ -28,20 +29,48 @@ pub struct ToldStore {
 }
 
 impl ToldStore {
-    /// A store with these bindings, added one after another, and what else is answered.
-    pub(crate) fn joining(
-        store: &Store,
-        bindings: &[(Var, Term)],
-        solved: bool,
-        bound: Vec<Var>,
-    ) -> Result<ToldStore, AllocError>
-        ensures { IfOk result (λ t. t ≡ record { store = with_bindings store.now bindings.now; solved = solved; bound = bound }) }
+    /// A store to which nothing was told.
+    pub(crate) fn of(alloc: Global, store: Store) -> ToldStore
+        ensures store { result.store ≡ store }
+        ensures untold { IsUntold result }
     {
-        Ok(ToldStore {
-            store: store.with_all(bindings)?,
-            solved,
-            bound,
-        })
+        ToldStore {
+            store,
+            solved: false,
+            bound: Vec::new(alloc),
+        }
+    }
+
+    /// Also has what a form has added, and lists what that binds.
+    pub(crate) fn add<K: Lookup>(
+        &mut self,
+        templates: &Templates,
+        form: &Form<'_, K>,
+    ) -> Result<(), AllocError>
+        requires solved { IsSolved templates.now.nodes (K.bindings form.now.known.now ++ form.now.added) }
+        requires fresh { BindNew (K.bindings form.now.known.now) form.now.added }
+        ensures store { IfOk result (λ _. self.new.store ≡ with_bindings self.old.store form.now.added) }
+        ensures solved { self.new.solved ≡ self.old.solved }
+        ensures bound { IfOk result (λ _. self.new.bound.items ≡ self.old.bound.items ++ bound_by templates.now.nodes (K.bindings form.now.known.now ++ form.now.added) form.now.added) }
+    {
+        let added = form.added.as_slice();
+        self.store.add_all(added)?;
+        bound_by(templates, form, added, &mut self.bound)
+    }
+
+    // Also has a variable that is bound to both terms.
+    fn add_clash(&mut self, left: Term, right: Term) -> Result<(), AllocError>
+        ensures store { IfOk result (λ _. self.new.store ≡ clashed self.old.store left right) }
+        ensures solved { self.new.solved ≡ self.old.solved }
+        ensures bound { self.new.bound ≡ self.old.bound }
+    {
+        let frame = Name {
+            worker: 0,
+            number: 0,
+        };
+        let variable = Var { frame, index: 0 };
+        self.store.add_binding(variable, left)?;
+        self.store.add_binding(variable, right)
     }
 }
 
@@ -49,21 +78,38 @@ impl ToldStore {
 pub fn told(alloc: Global, chain: &Chain, equations: &[Equation]) -> Result<ToldStore, AllocError>
     ensures { IfOk result (λ t. AnswersTold chain.now.nodes chain.now.stores chain.now.known equations.now t) }
 {
+    let mut told = ToldStore::of(alloc, innermost(alloc, chain.stores())?);
+    tell_chain(alloc, chain, equations, &mut told)?;
+    Ok(told)
+}
+
+// Tells equations to a chain, to whose innermost store nothing was told.
+fn tell_chain(
+    alloc: Global,
+    chain: &Chain,
+    equations: &[Equation],
+    told: &mut ToldStore,
+) -> Result<(), AllocError>
+    requires store { told.old.store ≡ innermost chain.now.stores }
+    requires untold { IsUntold told.old }
+    ensures { IfOk result (λ _. AnswersTold chain.now.nodes chain.now.stores chain.now.known equations.now told.new) }
+{
     let templates = chain.templates();
     let stores = chain.stores();
     let known = chain.known();
-    let store = innermost(alloc, stores)?;
     if known == stores.len() {
-        return tell(alloc, templates, chain, &store, equations);
+        return tell(alloc, templates, chain, equations, told);
     }
     tell_over(
         alloc,
         templates,
         &chain.outer(known),
         &stores[known..],
-        &store,
         equations,
-    )
+        told,
+    )?;
+    told.solved = false;
+    Ok(())
 }
 
 /// Takes the bindings of stores in, which stand from the outermost inwards. `Some` gives two terms
@@ -106,99 +152,73 @@ pub(crate) fn take_store<K: Lookup>(
     form.take(alloc, templates, bindings.as_slice())
 }
 
-// What `tell` answers where stores are first taken in over a solved form. It isn't said to be solved.
+// As `tell`, where stores are first taken in over a solved form.
 fn tell_over<K: Lookup>(
     alloc: Global,
     templates: &Templates,
     known: &K,
     stores: &[Shared<Store>],
-    store: &Store,
     equations: &[Equation],
-) -> Result<ToldStore, AllocError>
-    requires { IsSolved templates.now.nodes (K.bindings known.now) }
-    ensures adds { IfOk result (λ t. AddsOver templates.now.nodes (K.bindings known.now) stores.now equations.now store.now t.store t.bound.items) }
-    ensures unsolved { IfOk result (λ t. t.solved ≡ false) }
+    told: &mut ToldStore,
+) -> Result<(), AllocError>
+    requires solved { IsSolved templates.now.nodes (K.bindings known.now) }
+    requires untold { IsUntold told.old }
+    ensures { IfOk result (λ _. AddsOver templates.now.nodes (K.bindings known.now) stores.now equations.now told.old.store told.new.store told.new.bound.items) }
 {
     let mut form = Form {
         known,
         added: AddedBindings::new(alloc),
     };
     match take_stores(alloc, templates, &mut form, stores)? {
-        Some(clash) => clashing(alloc, store, clash.left, clash.right),
-        None => {
-            let mut told = tell(alloc, templates, &form, store, equations)?;
-            told.solved = false;
-            Ok(told)
-        }
+        Some(clash) => told.add_clash(clash.left, clash.right),
+        None => tell(alloc, templates, &form, equations, told),
     }
 }
 
-// A store with what is found for the equations over a solved form, whether they are consistent with it, and what they
-// bind.
+// Adds what is found for equations over a solved form, whether they are consistent with it, and what they bind.
 fn tell<K: Lookup>(
     alloc: Global,
     templates: &Templates,
     known: &K,
-    store: &Store,
     equations: &[Equation],
-) -> Result<ToldStore, AllocError>
-    requires { IsSolved templates.now.nodes (K.bindings known.now) }
-    ensures { IfOk result (λ t. Adds templates.now.nodes (K.bindings known.now) equations.now store.now t.store t.solved t.bound.items) }
+    told: &mut ToldStore,
+) -> Result<(), AllocError>
+    requires solved { IsSolved templates.now.nodes (K.bindings known.now) }
+    requires untold { IsUntold told.old }
+    ensures { IfOk result (λ _. Adds templates.now.nodes (K.bindings known.now) equations.now told.old.store told.new.store told.new.solved told.new.bound.items) }
 {
     let Solution {
         solved,
         followed: _,
     } = solve(alloc, templates, known, equations)?;
     match solved {
-        Solved::Clash { left, right } => clashing(alloc, store, left, right),
+        Solved::Clash { left, right } => told.add_clash(left, right),
         Solved::Added(bindings) => {
-            let mut form = Form {
-                known,
-                added: AddedBindings::new(alloc),
-            };
-            form.add(bindings.as_slice())?;
-            with_added(alloc, templates, &form, store, true)
+            told.solved = true;
+            add_found(alloc, templates, known, bindings, told)
         }
     }
 }
 
-// A store with what a form has added, this flag, and what the added bindings bind.
-pub(crate) fn with_added<K: Lookup>(
+// Adds bindings that were found over a solved form, and what they bind.
+fn add_found<K: Lookup>(
     alloc: Global,
     templates: &Templates,
-    form: &Form<'_, K>,
-    store: &Store,
-    solved: bool,
-) -> Result<ToldStore, AllocError>
-    requires { IsSolved templates.now.nodes (K.bindings form.now.known.now ++ form.now.added) }
-    ensures store { IfOk result (λ t. t.store ≡ with_bindings store.now form.now.added) }
-    ensures solved { IfOk result (λ t. t.solved ≡ solved) }
-    ensures bound { IfOk result (λ t. t.bound.items ≡ bound_by templates.now.nodes (K.bindings form.now.known.now ++ form.now.added) form.now.added) }
+    known: &K,
+    bindings: Vec<(Var, Term)>,
+    told: &mut ToldStore,
+) -> Result<(), AllocError>
+    requires solved { IsSolved templates.now.nodes (K.bindings known.now ++ bindings.items) }
+    requires fresh { BindNew (K.bindings known.now) bindings.items }
+    ensures store { IfOk result (λ _. told.new.store ≡ with_bindings told.old.store bindings.items) }
+    ensures solved { IfOk result (λ _. told.new.solved ≡ told.old.solved) }
+    ensures bound { IfOk result (λ _. told.new.bound.items ≡ told.old.bound.items ++ bound_by templates.now.nodes (K.bindings known.now ++ bindings.items) bindings.items) }
 {
-    let added = form.added.as_slice();
-    let bound = bound_by(alloc, templates, form, added)?;
-    ToldStore::joining(store, added, solved, bound)
-}
-
-// A store in which a variable is bound to both terms.
-fn clashing(alloc: Global, store: &Store, left: Term, right: Term) -> Result<ToldStore, AllocError>
-    ensures store { IfOk result (λ t. t.store ≡ clashed store.now left right) }
-    ensures solved { IfOk result (λ t. t.solved ≡ false) }
-    ensures bound { IfOk result (λ t. t.bound.items ≡ []) }
-{
-    let frame = Name {
-        worker: 0,
-        number: 0,
+    let form = Form {
+        known,
+        added: AddedBindings::from_list(alloc, bindings)?,
     };
-    let variable = Var { frame, index: 0 };
-    let mut store = store.share()?;
-    store.add_binding(variable, left)?;
-    store.add_binding(variable, right)?;
-    Ok(ToldStore {
-        store,
-        solved: false,
-        bound: Vec::new(alloc),
-    })
+    told.add(templates, &form)
 }
 
 /// The innermost store; one that has nothing where there are no stores.

@@ -9,6 +9,7 @@ use Rattle.akl_terms.specs.Template.{seen_of}
 use Rattle.rational_unify.specs.Known.{found_in, IsSolved}
 use Rattle.rational_unify.specs.Solving.{BindNew, Solves}
 use Rattle.rational_unify.specs.declared.solver.Solution.{Solution}
+use Rattle.rational_unify.specs.declared.solver.Solved.{Solved}
 use Rattle.rational_unify.specs.Shortened.{Rebinds, KeepsEnds}
 
 -- both lists of bindings give each of these variables the same
@@ -50,6 +51,10 @@ pub record Settles (nodes : List Node) (known old new : List (Var × Term)) (fol
   pub followed_by : followed' ≡ followed ++ path
   pub keeps : (other : List (Var × Term)) → IsSolved nodes (other ++ old) → BindNew other old → AgreeOn path known other → KeepsEnds nodes other old new
 
+-- what was found holds over any solved form that gives each of these variables what the known bindings give it
+abbrev pub SolvesAlong : List Node → List (Var × Term) → List code.Equation → List Var → Solved → Type 0
+SolvesAlong nodes known es followed solved = (other : List (Var × Term)) → IsSolved nodes other → AgreeOn followed known other → Solves nodes other es solved
+
 -- the answer holds too over any other solved form that gives each followed variable what the known bindings give it
 abbrev pub SolvesAlso : List Node → List (Var × Term) → List code.Equation → Solution → Type 0
-SolvesAlso nodes known es s = (other : List (Var × Term)) → IsSolved nodes other → AgreeOn s.followed.items known other → Solves nodes other es s.solved
+SolvesAlso nodes known es s = SolvesAlong nodes known es s.followed.items s.solved

@@ -7,10 +7,14 @@ use Rattle.akl_terms.specs.Names.{same_var}
 use Rattle.akl_terms.specs.Tree.{Tree, Head, head_of, variable}
 use Rattle.rational_unify.specs.Known.{found_in, IsSolved, end_of}
 
+-- a tree is a variable, or has a head
+abbrev pub IsVariableOf : Tree → Option Var → Type 0
+IsVariableOf t (Some y) = t ≡ variable y
+IsVariableOf t None = (h : Head) × (head_of t ≡ Some h)
+
 -- a variable's chain ends in a variable, or in a term with a head
 abbrev pub IsEndOf : List Node → List (Var × Term) → Var → Option Var → Type 0
-IsEndOf nodes bs x (Some y) = end_of nodes bs (variable x) ≡ variable y
-IsEndOf nodes bs x None = (h : Head) × (head_of (end_of nodes bs (variable x)) ≡ Some h)
+IsEndOf nodes bs x end = IsVariableOf (end_of nodes bs (variable x)) end
 
 -- the same variables are bound, this one, where it is, to this term, and the others to what they were
 pub record Rebinds (old new : List (Var × Term)) (x : Var) (t : Term) : Type 0 where

@@ -2,8 +2,10 @@
 
 ghost use Rattle.std.specs.Prelude.{◌≡◌, ◌<◌, ◌^◌, ◌++◌, ◌∷◌, [], IfOk, None, length, slice_get};
 ghost use Rattle.rational_unify.specs.Known.{found_in};
-ghost use Rattle.rational_unify.specs.Indexes.{place_in};
+ghost use Rattle.rational_unify.specs.Solving.{BindNew};
+ghost use Rattle.rational_unify.specs.Indexes.{IsIndex, place_in};
 ghost use Rattle.rational_unify.specs.Shortened.{Rebinds};
+ghost use Rattle.rational_unify.specs.declared.added.TheConstants.{FEW};
 
 use crate::known::place_among;
 use akl_terms::{Term, Var};
@@ -45,6 +47,17 @@ impl AddedBindings {
             list: Vec::new(alloc),
             places: HashMap::new(alloc),
         }
+    }
+
+    /// These bindings in their order. None is copied, and memory is taken only where there are more than `FEW`.
+    pub fn from_list(alloc: Global, list: Vec<(Var, Term)>) -> Result<AddedBindings, AllocError>
+        requires { BindNew [] list.items }
+        ensures { IfOk result (λ added. added ≡ list.items) }
+    {
+        Ok(AddedBindings {
+            places: places_of(alloc, list.as_slice())?,
+            list,
+        })
     }
 
     /// The term that a variable is bound to; `None` exactly where it has no binding.
@@ -112,4 +125,16 @@ impl AddedBindings {
     {
         self.list
     }
+}
+
+// The places of the bindings behind the first `FEW`.
+fn places_of(alloc: Global, list: &[(Var, Term)]) -> Result<HashMap<Var, usize>, AllocError>
+    requires { BindNew [] list.now }
+    ensures { IfOk result (λ places. IsIndex FEW places.entries list.now) }
+{
+    let mut places = HashMap::new(alloc);
+    for place in FEW..list.len() {
+        places.insert(list[place].0, place)?;
+    }
+    Ok(places)
 }

@@ -3,7 +3,7 @@
 ghost use Rattle.std.specs.Prelude.{◌≡◌, ◌++◌, IfOk};
 ghost use Rattle.akl_terms.specs.Template.{tree};
 ghost use Rattle.rational_unify.specs.Known.{IsSolved, end_of, next_in};
-ghost use Rattle.rational_unify.specs.Shortened.{IsEndOf};
+ghost use Rattle.rational_unify.specs.Shortened.{IsEndOf, IsVariableOf};
 ghost use Rattle.rational_unify.specs.Followed.{Leads, Follows, ReboundAll};
 
 use crate::added::AddedBindings;
@@ -38,9 +38,17 @@ pub fn variable_end<K: Lookup>(templates: &Templates, known: &K, variable: Var) 
     requires { IsSolved templates.now.nodes (K.bindings known.now) }
     ensures { IsEndOf templates.now.nodes (K.bindings known.now) variable result }
 {
-    let Some(term) = known.get(variable) else {
-        return Some(variable);
-    };
+    match known.get(variable) {
+        Some(term) => end_variable(templates, known, term),
+        None => Some(variable),
+    }
+}
+
+/// The variable at the end of a term's chain; `None` exactly where a term with a head is there.
+pub fn end_variable<K: Lookup>(templates: &Templates, known: &K, term: Term) -> Option<Var>
+    requires { IsSolved templates.now.nodes (K.bindings known.now) }
+    ensures { IsVariableOf (end_of templates.now.nodes (K.bindings known.now) (tree templates.now.nodes term)) result }
+{
     match templates.look(chain_end(templates, known, term)) {
         Seen::Free(end) => Some(end),
         _ => None,

@@ -11,7 +11,7 @@ mod older;
 mod solver;
 
 pub use added::AddedBindings;
-pub use chain::{chain_end, variable_end};
+pub use chain::{chain_end, end_variable, variable_end};
 pub use form::Form;
 pub use known::{Lookup, Nothing, found};
 pub use older::leads_older;

@@ -1,6 +1,6 @@
 //! The solver.
 
-ghost use Rattle.std.specs.Prelude.{◌≡◌, ◌<◌, ◌^◌, ◌++◌, List, None, IfOk, MatchOption, length};
+ghost use Rattle.std.specs.Prelude.{◌≡◌, ◌<◌, ◌^◌, ◌++◌, List, [], None, IfOk, MatchOption, length};
 ghost use Rattle.akl_terms.specs.declared.name.Var.{Var};
 ghost use Rattle.akl_terms.specs.declared.term.Term.{Term};
 ghost use Rattle.akl_terms.specs.Template.{IsArranged};
@@ -8,9 +8,9 @@ ghost use Rattle.rational_unify.specs.Known.{IsSolved, next_in};
 ghost use Rattle.rational_unify.specs.Older.{KeepsOlder, AddsOlder};
 ghost use Rattle.rational_unify.specs.Meeting.{Advances, AgreeInHead, Clashes};
 ghost use Rattle.rational_unify.specs.Solving.{BindNew, Solves};
-ghost use Rattle.rational_unify.specs.Followed.{Settles, SolvesAlso};
+ghost use Rattle.rational_unify.specs.Followed.{Settles, SolvesAlong, SolvesAlso};
 
-use crate::added::AddedBindings;
+use crate::added::{AddedBindings, FEW};
 use crate::chain::follow;
 use crate::compared::Compared;
 use crate::known::Lookup;
@@ -57,28 +57,38 @@ pub fn solve<K: Lookup>(
     ensures followed { IfOk result (λ s. SolvesAlso templates.now.nodes (K.bindings known.now) equations.now s) }
     ensures older { IfOk result (λ s. AddsOlder templates.now.nodes (K.bindings known.now) s.solved) }
 {
-    let mut work = Work {
-        added: AddedBindings::new(alloc),
-        pending: Vec::new(alloc),
-        compared: Compared::new(alloc),
-    };
-    work.pending.extend_from_slice(equations)?;
-    let mut followed = Vec::new(alloc);
+    // Most equations lead along few variables.
+    let mut followed = Vec::with_capacity(alloc, FEW)?;
+    let solved = solved_along(alloc, templates, known, equations, &mut followed)?;
+    Ok(Solution { solved, followed })
+}
+
+/// What is found for equations. All variables whose known bindings are read are put at the end of a list.
+fn solved_along<K: Lookup>(
+    alloc: Global,
+    templates: &Templates,
+    known: &K,
+    equations: &[Equation],
+    followed: &mut Vec<Var>,
+) -> Result<Solved, AllocError>
+    requires known { IsSolved templates.now.nodes (K.bindings known.now) }
+    ensures followed { IfOk result (λ solved. SolvesAlong templates.now.nodes (K.bindings known.now) equations.now followed.new.items solved) }
+    ensures older { IfOk result (λ solved. AddsOlder templates.now.nodes (K.bindings known.now) solved) }
+{
+    let mut work = work_of(alloc, equations)?;
     while let Some(pair) = work.pending.pop() {
         let added = &mut work.added;
-        let left = follow(templates, known, added, &mut followed, pair.left)?;
-        let right = follow(templates, known, added, &mut followed, pair.right)?;
+        let left = follow(templates, known, added, followed, pair.left)?;
+        let right = follow(templates, known, added, followed, pair.right)?;
         if let Some(clash) = advance(templates, &mut work, Equation { left, right })? {
-            let solved = Solved::Clash {
+            return Ok(Solved::Clash {
                 left: clash.left,
                 right: clash.right,
-            };
-            return Ok(Solution { solved, followed });
+            });
         }
     }
-    settle(templates, known, &mut work.added, &mut followed)?;
-    let solved = Solved::Added(work.added.into_vec());
-    Ok(Solution { solved, followed })
+    settle(templates, known, &mut work.added, followed)?;
+    Ok(Solved::Added(work.added.into_vec()))
 }
 
 /// What the solver keeps from equation to equation.
@@ -87,6 +97,19 @@ struct Work {
     added: AddedBindings,
     pending: Vec<Equation>,
     compared: Compared,
+}
+
+/// What the solver begins with.
+fn work_of(alloc: Global, equations: &[Equation]) -> Result<Work, AllocError>
+    ensures { IfOk result (λ work. (work.added ≡ []) × (work.pending.items ≡ equations.now) × (work.compared ≡ [])) }
+{
+    let mut pending = Vec::new(alloc);
+    pending.extend_from_slice(equations)?;
+    Ok(Work {
+        added: AddedBindings::new(alloc),
+        pending,
+        compared: Compared::new(alloc),
+    })
 }
 
 /// Takes one equation on, of terms at the ends of their chains. `Some` gives two terms of different

@@ -5,7 +5,7 @@ use Rattle.rational_unify.specs.Known.{IsSolved}
 use Rattle.rational_unify.specs.Older.{KeepsOlder}
 use Rattle.rational_unify.specs.Followed.{AgreeOn}
 use Rattle.rational_unify.proofs.Turns.{GoesOn, turns_left}
-use Rattle.rational_unify.proofs.solver.solve.Given as goal
+use Rattle.rational_unify.proofs.solver.solved_along.Given as goal
 
 abbrev pub invariant-loop-pair : goal.invariant-loop-pair
 invariant-loop-pair g l = ((other : List (Var × Term)) → IsSolved l.templates.nodes other → AgreeOn l.followed.items (g.K.Lookup.bindings l.known) other → GoesOn l.templates.nodes other l.equations l.work)
