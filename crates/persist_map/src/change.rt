@@ -1,4 +1,4 @@
-//! Changes in place: of the nodes that nothing else holds, from the root down to where the shape of the tree changes.
+//! Changes in place, of the nodes that nothing else holds.
 ghost use Rattle.std.specs.Prelude.{◌≡◌, ◌+◌, ◌<◌, ◌^◌, ◌&&◌, max, ltb, IfOk, IfErr};
 ghost use Rattle.persist_map.specs.Entries.{ClonesAreEqual};
 ghost use Rattle.persist_map.specs.Contents.{height_of, IsBalanced, IsSearchTree};
@@ -114,7 +114,8 @@ impl<K: Ord + Clone + Drop, V: Clone + Drop> Tree<K, V> {
         Ok(())
     }
 
-    /// Takes the key out, in the same way.
+    /// Takes the key out: in place, but for the nodes that something else holds and those below a fork that would turn.
+    /// At an error the tree is as it was.
     pub fn remove(&mut self, alloc: Global, key: &K) -> Result<(), AllocError>
         requires keys { ClonesAreEqual K.is_clone }
         requires values { ClonesAreEqual V.is_clone }
@@ -158,7 +159,7 @@ impl<K: Ord + Clone + Drop, V: Clone + Drop> Tree<K, V> {
 }
 
 impl<K, V> Fork<K, V> {
-    // Keeps the height that the sides give.
+    // Takes the height anew from those of the sides.
     fn measure(&mut self)
         requires left { IsBalanced self.old.left }
         requires right { IsBalanced self.old.right }

@@ -105,8 +105,9 @@ impl<K: Ord + Clone + Drop, V: Clone + Drop> PMap<K, V> {
     }
 
     /// Sets the pair in this map: where an equal key is there, it stays and takes the value. Entries that no other map
-    /// shares change in place, but for a few around a place that turns. Maps that share entries with this one stay as
-    /// they are. An `Err`, for want of memory, leaves the map as it was.
+    /// shares change in place, but for those below a place that turns where one of the entries that turn is shared, or
+    /// is the new one. Maps that share entries with this one stay as they are. An `Err`, for want of memory, leaves the
+    /// map as it was.
     pub fn insert(&mut self, key: K, value: V) -> Result<(), AllocError>
         requires keys { ClonesAreEqual K.is_clone }
         requires values { ClonesAreEqual V.is_clone }
@@ -121,7 +122,9 @@ impl<K: Ord + Clone + Drop, V: Clone + Drop> PMap<K, V> {
         self.tree.insert(self.alloc, key, value)
     }
 
-    /// Takes the key out of this map, in place as `insert`. An `Err`, for want of memory, leaves the map as it was.
+    /// Takes the key out of this map. Entries that no other map shares change in place, but for those below a place that
+    /// turns. Maps that share entries with this one stay as they are. An `Err`, for want of memory, leaves the map as it
+    /// was.
     pub fn remove(&mut self, key: &K) -> Result<(), AllocError>
         requires keys { ClonesAreEqual K.is_clone }
         requires values { ClonesAreEqual V.is_clone }
