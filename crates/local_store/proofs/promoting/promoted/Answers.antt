@@ -1,5 +1,4 @@
-use Rattle.std.proofs.Common.{◌≡◌, sym, ◌∙◌, ap, arith}
-use Rattle.local_store.specs.Stored.{Stored}
+use Rattle.std.proofs.Common.{◌≡◌, sym, ◌∙◌, arith}
 use Rattle.local_store.specs.Chained.{innermost, around}
 use Rattle.local_store.proofs.Resolved.{around-take}
 use Rattle.local_store.proofs.Joining.{innermost-index, beside-index, promotes-chain}
