@@ -25,12 +25,14 @@ use Rattle.akl_model.specs.Instances.{atoms_of, shown_of}
 use Rattle.akl_model.specs.Ordered.{IsIncreasing, IsBeforeAll}
 use Rattle.table_laws.specs.Writes.{IsTable, set, atom_among, first_fail}
 use Rattle.table_laws.specs.Laws.{named_from, first_row, started}
+use Rattle.table_laws.specs.Rows.{GoalRow}
+use Rattle.box_tree.specs.declared.entries.Held.{Held}
 use Rattle.box_tree.specs.declared.entries.BoxEntry.{BoxEntry}
 use Rattle.box_tree.specs.declared.entries.GoalEntry.{GoalEntry}
 use Rattle.box_tree.specs.Tables.{TableValue, table_of, box_row, goal_row, goal_atom, HasVariables, AreBelow, shown_tree}
-use Rattle.box_tree.specs.Edits.{named_atoms, atoms_with, SetsBoxes, SetsGoals}
+use Rattle.box_tree.specs.Edits.{named_atoms, named_shapes, shapes_with, SetsRows}
 use Rattle.box_tree.specs.Starts.{query_box, query_frame, goals_from, IsFirstEntry, IsEmpty}
-use Rattle.box_tree.proofs.News.{names_atoms}
+use Rattle.box_tree.proofs.News.{names_atoms, atom_shapes}
 
 -- goals
 
@@ -94,21 +96,17 @@ or_none : {A : Type 0} (o y : Option A) → y ≡ None → or_else o y ≡ o
 or_none None y e = e
 or_none (Some a) y e = refl
 
-module _ (p : Program) (q : Query) (goals : List (Name × Goal)) (shown : List ShownTerm) (e : BoxEntry) (t u v : TableValue) (count : ℕ) (empty : IsEmpty p q count t)
-    (puts : SetsGoals t u (atoms_with query_box 0 (named_atoms t.program.templates.nodes goals) (table_of t)))
-    (sets : SetsBoxes u v (set query_box (Some (box_row u.program.templates.nodes e)) (table_of u).box_of)) (entry : IsFirstEntry goals shown e)
+module _ (p : Program) (q : Query) (goals : List (Name × Goal)) (shown : List ShownTerm) (e : BoxEntry) (t v : TableValue) (count : ℕ) (empty : IsEmpty p q count t)
+    (puts : SetsRows t v (set query_box (Some (box_row t.program.templates.nodes e)) (table_of t).box_of) (shapes_with query_box 0 (named_shapes Held.Atom t.program.templates.nodes goals) (table_of t))) (entry : IsFirstEntry goals shown e)
     (are : goals ≡ goals_from 2 q.goals) (counted : count ≡ length goals) (shows : map (shown_tree p.templates.nodes) shown ≡ map (shown_of query_frame) q.shown) where
-  middle : u.program ≡ p
-  middle = ap (λ (k : TableValue). k.program) puts.rest ∙ empty.program
-
   pub program_is : v.program ≡ p
-  program_is = ap (λ (k : TableValue). k.program) sets.rest ∙ middle
+  program_is = ap (λ (k : TableValue). k.program) puts.rest ∙ empty.program
 
   pub query_is : v.query ≡ q
-  query_is = ap (λ (k : TableValue). k.query) sets.rest ∙ ap (λ (k : TableValue). k.query) puts.rest ∙ empty.query
+  query_is = ap (λ (k : TableValue). k.query) puts.rest ∙ empty.query
 
-  boxes_none : (m : Name) → (table_of u).box_of m ≡ None
-  boxes_none m = ap (λ (es : List (Name × BoxEntry)). option_map (box_row u.program.templates.nodes) (lookup (same_name m) es)) (ap (λ (k : TableValue). k.boxes) puts.rest ∙ empty.boxes)
+  boxes_none : (m : Name) → (table_of t).box_of m ≡ None
+  boxes_none m = ap (λ (es : List (Name × BoxEntry)). option_map (box_row t.program.templates.nodes) (lookup (same_name m) es)) empty.boxes
 
   goals_none : (m : Name) → (table_of t).goal_of m ≡ None
   goals_none m = ap (λ (es : List (Name × GoalEntry)). option_map (goal_row t.program.templates.nodes) (lookup (same_name m) es)) empty.no_goals
@@ -132,23 +130,21 @@ module _ (p : Program) (q : Query) (goals : List (Name × Goal)) (shown : List S
     shown = (ap (map (shown_tree p.templates.nodes)) entry.shows ∙ shows) i;
   }
 
-  row_is : Some (box_row u.program.templates.nodes e) ≡ Some (first_row p q)
-  row_is = ap (λ (k : Program). Some (box_row k.templates.nodes e)) middle ∙ ap Some row
+  row_is : Some (box_row t.program.templates.nodes e) ≡ Some (first_row p q)
+  row_is = ap (λ (k : Program). Some (box_row k.templates.nodes e)) empty.program ∙ ap Some row
 
   pub begun : IsTable (table_of v) (started p q)
   begun = record {
     nodes = ap (λ (k : Program). k.templates.nodes) program_is;
-    boxes = λ m. sets.rows m ∙ none_set query_box m (Some (box_row u.program.templates.nodes e)) (Some (first_row p q)) (table_of u).box_of row_is (boxes_none m);
-    goals = λ m.
-        ap (λ (es : List (Name × GoalEntry)). option_map (goal_row v.program.templates.nodes) (lookup (same_name m) es)) (ap (λ (k : TableValue). k.goals) sets.rest)
-        ∙ ap (λ (k : Program). option_map (goal_row k.templates.nodes) (lookup (same_name m) u.goals)) (program_is ∙ sym middle) ∙ puts.rows m
+    boxes = λ m. puts.boxes m ∙ none_set query_box m (Some (box_row t.program.templates.nodes e)) (Some (first_row p q)) (table_of t).box_of row_is (boxes_none m);
+    goals = λ m. puts.goals m ∙ ap (λ (o : Option GoalRow). or_else o ((table_of t).goal_of m)) (atom_shapes query_box 0 t.program.templates.nodes goals m)
         ∙ or_none (atom_among query_box 0 (named_atoms t.program.templates.nodes goals) m) ((table_of t).goal_of m) (goals_none m)
         ∙ ap (λ (k : Program). atom_among query_box 0 (named_atoms k.templates.nodes goals) m) empty.program ∙ ap (λ (xs : List (Name × Atom)). atom_among query_box 0 xs m) atoms;
-    roots = ap (λ (k : TableValue). k.roots) sets.rest ∙ ap (λ (k : TableValue). k.roots) puts.rest ∙ empty.roots;
-    roots_changed = ap (λ (k : TableValue). k.roots_changed) sets.rest ∙ ap (λ (k : TableValue). k.roots_changed) puts.rest ∙ empty.roots_changed;
-    next = λ w. ap (λ (ns : List ℕ). slice_index ns w) (ap (λ (k : TableValue). k.next) sets.rest ∙ ap (λ (k : TableValue). k.next) puts.rest ∙ empty.next
+    roots = ap (λ (k : TableValue). k.roots) puts.rest ∙ empty.roots;
+    roots_changed = ap (λ (k : TableValue). k.roots_changed) puts.rest ∙ empty.roots_changed;
+    next = λ w. ap (λ (ns : List ℕ). slice_index ns w) (ap (λ (k : TableValue). k.next) puts.rest ∙ empty.next
         ∙ ap (λ (k : ℕ). (2 + k) ∷ []) (counted ∙ ap length are ∙ goals_count 2 q.goals));
-    steps = ap (λ (k : TableValue). k.steps) sets.rest ∙ ap (λ (k : TableValue). k.steps) puts.rest ∙ empty.steps;
+    steps = ap (λ (k : TableValue). k.steps) puts.rest ∙ empty.steps;
   }
 
 -- names as places

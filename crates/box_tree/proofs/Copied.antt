@@ -13,12 +13,11 @@ use Rattle.table_laws.specs.Steps as laws
 use Rattle.table_laws.specs.Writes.{set, solved_when, names_copied, copied_row, copied_goal_of, shape_among}
 use Rattle.box_tree.specs.declared.entries.Held.{Held}
 use Rattle.box_tree.specs.declared.entries.BoxEntry.{BoxEntry}
-use Rattle.box_tree.specs.declared.entries.GoalEntry.{GoalEntry}
 use Rattle.box_tree.specs.declared.step.BoxCopy.{BoxCopy}
 use Rattle.box_tree.specs.Tables.{TableValue, table_of, goal_atom, shown_tree, box_row, box_copy, AreCopiesInOrder}
-use Rattle.box_tree.specs.Edits.{SetsBoxes, SetsGoals, SetsRows, AddsOnly, named_shapes, shapes_with}
+use Rattle.box_tree.specs.Edits.{SetsRows, AddsOnly, named_shapes, shapes_with}
 use Rattle.box_tree.specs.Splits.{copies_with, copied_goals_with}
-use Rattle.box_tree.proofs.Adding.{adds_nothing, adds_then, adds_more}
+use Rattle.box_tree.proofs.Adding.{adds_nothing, adds_then}
 use Rattle.box_tree.proofs.News.{firsts, or_one, or_or}
 
 -- what a copy holds is held
@@ -52,25 +51,17 @@ or_copy : {A B : Type 0} (f : A → B) (s : Bool) (a : A) (rest : Option A) (z :
 or_copy f true a rest z = refl
 or_copy f false a rest z = refl
 
-module _ (t u v : TableValue) (holder : Option Name) (at : Option ℕ) (number : ℕ) (k : BoxCopy) (e : BoxEntry) where
-  pub copy_only : AddsOnly t u (firsts k.goals.items) → AddsOnly u v (k.name ∷ []) → AddsOnly t v (k.name ∷ firsts k.goals.items)
-  copy_only a b = adds_then t u v (k.name ∷ firsts k.goals.items) (k.name ∷ []) (adds_more t u (firsts k.goals.items) (k.name ∷ firsts k.goals.items) a (λ m i. inr i)) b sub
-    where
-      sub : (m : Name) → IsIn m (k.name ∷ []) → IsIn m (k.name ∷ firsts k.goals.items)
-      sub m (inl e) = inl e
-      sub m (inr i) = absurd i
-
-  pub copy_comes : SetsGoals t u (shapes_with k.name number (named_shapes as_held t.program.templates.nodes k.goals.items) (table_of t)) → IsEntryOfCopy holder at number k e
-      → SetsBoxes u v (set k.name (Some (box_row u.program.templates.nodes e)) (table_of u).box_of)
+module _ (t v : TableValue) (holder : Option Name) (at : Option ℕ) (number : ℕ) (k : BoxCopy) (e : BoxEntry) where
+  pub copy_comes : IsEntryOfCopy holder at number k e
+      → SetsRows t v (set k.name (Some (box_row t.program.templates.nodes e)) (table_of t).box_of) (shapes_with k.name number (named_shapes as_held t.program.templates.nodes k.goals.items) (table_of t))
       → SetsRows t v (copies_with holder at number (box_copy t.program.templates.nodes k ∷ []) (table_of t)) (copied_goals_with number (box_copy t.program.templates.nodes k ∷ []) (table_of t))
-  copy_comes a i b =
+  copy_comes i s =
       let nodes : List Node = t.program.templates.nodes in
       record {
-        boxes = λ m. b.rows m ∙ ap (λ (w : TableValue). if same_name m k.name then Some (box_row w.program.templates.nodes e) else (table_of (record w { goals = t.goals })).box_of m) a.rest
-            ∙ ap (λ (r : BoxRow). if same_name m k.name then Some r else (table_of t).box_of m) (copy_row nodes holder at number k e i)
+        boxes = λ m. s.boxes m ∙ ap (λ (r : BoxRow). if same_name m k.name then Some r else (table_of t).box_of m) (copy_row nodes holder at number k e i)
             ∙ or_copy (copied_row holder at number) (same_name m k.name) (box_copy nodes k) None ((table_of t).box_of m);
-        goals = λ m. ap (λ (w : TableValue). (table_of w).goal_of m) b.rest ∙ a.rows m ∙ or_one (shape_among k.name number (named_shapes as_held nodes k.goals.items) m) ((table_of t).goal_of m);
-        rest = b.rest ∙ ap (λ (w : TableValue). record w { boxes = v.boxes }) a.rest ∙ ap (λ (gs : List (Name × GoalEntry)). record t { boxes = v.boxes; goals = gs }) (sym (ap (λ (w : TableValue). w.goals) b.rest));
+        goals = λ m. s.goals m ∙ or_one (shape_among k.name number (named_shapes as_held nodes k.goals.items) m) ((table_of t).goal_of m);
+        rest = s.rest;
       }
 
 -- all copies

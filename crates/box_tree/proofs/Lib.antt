@@ -3,6 +3,7 @@ mod Stamping
 mod Written
 pub mod Dropped
 mod Adding
+mod Gathered
 mod KeptAndCut
 mod Naming
 pub mod GoalsInOrder
@@ -18,7 +19,6 @@ pub mod Viewed
 pub mod ShownChoices
 mod Within
 mod Removed
-mod Beside
 mod Copied
 mod Halved
 pub mod BoundHere

@@ -87,7 +87,7 @@ goals_end {A} held t u home number all left g e =
 
 -- atoms
 
-atom_shapes : (home : Name) (number : ℕ) (nodes : List Node) (xs : List (Name × Goal)) (m : Name) → shape_among home number (named_shapes Held.Atom nodes xs) m ≡ atom_among home number (named_atoms nodes xs) m
+pub atom_shapes : (home : Name) (number : ℕ) (nodes : List Node) (xs : List (Name × Goal)) (m : Name) → shape_among home number (named_shapes Held.Atom nodes xs) m ≡ atom_among home number (named_atoms nodes xs) m
 atom_shapes home number nodes [] m = refl
 atom_shapes home number nodes (x ∷ xs) m = ap (λ (o : Option GoalRow). if same_name m x.0 then Some (record { home = home; shape = of_atom (goal_atom nodes x.1); changed = number }) else o) (atom_shapes home number nodes xs m)
 
@@ -102,6 +102,23 @@ rows_set t u v home change goals a b = record {
   goals = λ m. ap (λ (k : TableValue). (table_of k).goal_of m) b.rest ∙ a.rows m;
   rest = b.rest ∙ ap (λ (k : TableValue). record k { boxes = v.boxes }) a.rest ∙ ap (λ (gs : List (Name × GoalEntry)). record t { boxes = v.boxes; goals = gs }) (sym (ap (λ (k : TableValue). k.goals) b.rest));
 }
+
+-- goals come, and then the entry of their box
+module _ (t u v : TableValue) (n : Name) where
+  pub entry_only : (names : List Name) → AddsOnly t u names → AddsOnly u v (n ∷ []) → AddsOnly t v (n ∷ names)
+  entry_only names a b = adds_then t u v (n ∷ names) (n ∷ []) (adds_more t u names (n ∷ names) a (λ m i. inr i)) b sub
+    where
+      sub : (m : Name) → IsIn m (n ∷ []) → IsIn m (n ∷ names)
+      sub m (inl e) = inl e
+      sub m (inr i) = absurd i
+
+  pub entry_comes : (e : BoxEntry) (goals : Name → Option GoalRow) → SetsGoals t u goals → SetsBoxes u v (set n (Some (box_row u.program.templates.nodes e)) (table_of u).box_of)
+      → SetsRows t v (set n (Some (box_row t.program.templates.nodes e)) (table_of t).box_of) goals
+  entry_comes e goals a b = record {
+    boxes = λ m. b.rows m ∙ ap (λ (k : TableValue). if same_name m n then Some (box_row k.program.templates.nodes e) else (table_of (record k { goals = t.goals })).box_of m) a.rest;
+    goals = λ m. ap (λ (k : TableValue). (table_of k).goal_of m) b.rest ∙ a.rows m;
+    rest = b.rest ∙ ap (λ (k : TableValue). record k { boxes = v.boxes }) a.rest ∙ ap (λ (gs : List (Name × GoalEntry)). record t { boxes = v.boxes; goals = gs }) (sym (ap (λ (k : TableValue). k.goals) b.rest));
+  }
 
 -- one new box
 
@@ -128,25 +145,17 @@ entry_row nodes holder at number n e i =
     let f : e.failing ≡ first_fail (named_atoms nodes n.goals.items) = i.failing nodes in
     λ k. record { holder = i.holder_is k; store = i.store k; changed = i.changed k; solved_at = i.solved k; goals = g k; goals_changed = i.goals_changed k; failing = f k; body = b k; shown = s k }
 
-module _ (t u v : TableValue) (holder : Name) (at : Option ℕ) (number : ℕ) (n : NewBox) (e : BoxEntry) where
-  pub box_only : AddsOnly t u (firsts n.goals.items) → AddsOnly u v (n.name ∷ []) → AddsOnly t v (n.name ∷ firsts n.goals.items)
-  box_only a b = adds_then t u v (n.name ∷ firsts n.goals.items) (n.name ∷ []) (adds_more t u (firsts n.goals.items) (n.name ∷ firsts n.goals.items) a (λ m i. inr i)) b sub
-    where
-      sub : (m : Name) → IsIn m (n.name ∷ []) → IsIn m (n.name ∷ firsts n.goals.items)
-      sub m (inl e) = inl e
-      sub m (inr i) = absurd i
-
-  pub box_comes : SetsGoals t u (atoms_with n.name number (named_atoms t.program.templates.nodes n.goals.items) (table_of t)) → IsEntryOf holder at number n e
-      → SetsBoxes u v (set n.name (Some (box_row u.program.templates.nodes e)) (table_of u).box_of)
+module _ (t v : TableValue) (holder : Name) (at : Option ℕ) (number : ℕ) (n : NewBox) (e : BoxEntry) where
+  pub box_comes : IsEntryOf holder at number n e
+      → SetsRows t v (set n.name (Some (box_row t.program.templates.nodes e)) (table_of t).box_of) (shapes_with n.name number (named_shapes Held.Atom t.program.templates.nodes n.goals.items) (table_of t))
       → SetsRows t v (boxes_with holder at number (new_box t.program.templates.nodes n ∷ []) (table_of t)) (goals_with number (new_box t.program.templates.nodes n ∷ []) (table_of t))
-  box_comes a i b =
+  box_comes i s =
       let nodes : List Node = t.program.templates.nodes in
       record {
-        boxes = λ m. b.rows m ∙ ap (λ (k : TableValue). if same_name m n.name then Some (box_row k.program.templates.nodes e) else (table_of (record k { goals = t.goals })).box_of m) a.rest
-            ∙ ap (λ (r : BoxRow). if same_name m n.name then Some r else (table_of t).box_of m) (entry_row nodes holder at number n e i)
+        boxes = λ m. s.boxes m ∙ ap (λ (r : BoxRow). if same_name m n.name then Some r else (table_of t).box_of m) (entry_row nodes holder at number n e i)
             ∙ or_if (same_name m n.name) (new_row holder at number (new_box nodes n)) None ((table_of t).box_of m);
-        goals = λ m. ap (λ (k : TableValue). (table_of k).goal_of m) b.rest ∙ a.rows m ∙ or_one (atom_among n.name number (named_atoms nodes n.goals.items) m) ((table_of t).goal_of m);
-        rest = b.rest ∙ ap (λ (k : TableValue). record k { boxes = v.boxes }) a.rest ∙ ap (λ (gs : List (Name × GoalEntry)). record t { boxes = v.boxes; goals = gs }) (sym (ap (λ (k : TableValue). k.goals) b.rest));
+        goals = λ m. s.goals m ∙ ap (λ (o : Option GoalRow). or_else o ((table_of t).goal_of m)) (atom_shapes n.name number nodes n.goals.items m) ∙ or_one (atom_among n.name number (named_atoms nodes n.goals.items) m) ((table_of t).goal_of m);
+        rest = s.rest;
       }
 
 -- all new boxes

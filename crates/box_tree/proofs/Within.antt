@@ -1,5 +1,6 @@
 -- All that stands in a box and inside it, gathered by rows.
-use Rattle.std.proofs.Common.{◌≡◌, ℕ, List, [], ◌∷◌, ◌++◌, map, refl, sym, ap, subst, ◌∙◌, ◌⊎◌, inl, inr}
+use Rattle.std.proofs.Common.{◌≡◌, ℕ, ◌+◌, ◌<◌, List, [], ◌∷◌, ◌++◌, length, drop, get_or, map, refl, sym, ap, subst, ◌∙◌, ◌⊎◌, inl, inr, append_assoc}
+use Rattle.std.proofs.lemmas.List.{drop_more}
 use Rattle.std.specs.List.{AllByRecursion}
 use Rattle.akl_terms.specs.declared.name.Name.{Name}
 use Rattle.akl_terms.specs.declared.name.Place.{Place}
@@ -26,6 +27,15 @@ all_end P (y ∷ ys) x a p = (a.0, all_end P ys x a.1 p)
 pub map_end : {A B : Type 0} (f : A → B) (xs : List A) (x : A) → map f (xs ++ x ∷ []) ≡ map f xs ++ f x ∷ []
 map_end f [] x = refl
 map_end f (y ∷ ys) x = ap (λ (zs : List _). f y ∷ zs) (map_end f ys x)
+
+-- the places of one box more
+pub places_more : (boxes : List InnerBox) (i : ℕ) (x : InnerBox) (old pushed new : List Place) → i < length boxes → x ≡ get_or boxes i x → old ++ places_in (drop i boxes) ≡ places_in boxes → pushed ≡ old ++ Place.Box x.name ∷ []
+    → new ≡ pushed ++ goal_places x.goals.items → new ++ places_in (drop (i + 1) boxes) ≡ places_in boxes
+places_more boxes i x old pushed new l e left p n =
+    let rest : List Place = places_in (drop (i + 1) boxes) in
+    ap (λ (ps : List Place). ps ++ rest) (n ∙ ap (λ (ps : List Place). ps ++ goal_places x.goals.items) p)
+    ∙ append_assoc (old ++ Place.Box x.name ∷ []) (goal_places x.goals.items) rest ∙ append_assoc old (Place.Box x.name ∷ []) (goal_places x.goals.items ++ rest)
+    ∙ ap (λ (b : InnerBox). old ++ places_in (b ∷ drop (i + 1) boxes)) e ∙ ap (λ (bs : List InnerBox). old ++ places_in bs) (sym (drop_more boxes i x l)) ∙ left
 
 abbrev pub box_names : List InnerBox → List Name
 box_names bs = map (λ (b : InnerBox). b.name) bs

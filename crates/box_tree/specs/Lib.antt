@@ -8,3 +8,5 @@ pub mod Drops
 pub mod Insides
 pub mod Places
 pub mod Splits
+pub mod Choices
+pub mod Kinds

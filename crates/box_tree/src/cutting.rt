@@ -1,9 +1,11 @@
 //! A choice loses the alternatives for which a solved one leaves no room.
 
-ghost use Rattle.std.specs.Prelude.{◌≡◌, ◌+◌, IfOk, IfErr, OnOk};
+ghost use Rattle.std.specs.Prelude.{◌≡◌, ◌+◌, ◌&&◌, not, IfOk, IfErr, OnOk};
+ghost use Rattle.table_laws.specs.Walks.{alternatives_of, ListsEach};
 ghost use Rattle.table_laws.specs.Writes.{names_kept, names_cut, Cuts};
 ghost use Rattle.box_tree.specs.Tables.{table_of};
 ghost use Rattle.box_tree.specs.Edits.{keeps};
+ghost use Rattle.box_tree.specs.Choices.{IsChoiceBy};
 ghost use Rattle.box_tree.specs.Drops.{IsOfRun};
 
 use crate::table::Table;
@@ -11,13 +13,13 @@ use crate::view::Sight;
 use akl_terms::{Name, Op, Place};
 use std::alloc::{AllocError, Global};
 
-// Whether an alternative is kept, by whether the solved one was passed before it, and whether it is that one.
-fn keeps(op: Op, passed: bool, here: bool) -> bool
-    ensures { result ≡ keeps op passed here }
+// Whether an alternative is kept, by whether the solved one was passed before it, and whether it has the name of that one.
+fn keeps(op: Op, passed: bool, same: bool) -> bool
+    ensures { result ≡ keeps op passed (not passed && same) }
 {
     match op {
         Op::Condition => !passed,
-        Op::Commit => here,
+        Op::Commit => !passed && same,
         Op::Choice => true,
     }
 }
@@ -37,18 +39,46 @@ pub fn parted(
     let mut gone = Vec::new(alloc);
     let mut passed = false;
     for other in names {
-        let here = !passed && name == *other;
-        if keeps(op, passed, here) {
+        let same = name == *other;
+        if keeps(op, passed, same) {
             kept.push(*other)?;
         } else {
             gone.push(*other)?;
         }
-        passed = passed || here;
+        passed = passed || same;
     }
     Ok((kept, gone))
 }
 
 impl Table {
+    /// The operator of a choice. An `Err` comes where the goal isn't one.
+    pub(crate) fn op_of(&self, goal: Name) -> Result<Op, AllocError>
+        ensures { IfOk result (IsChoiceBy self.now goal) }
+    {
+        let Some((_, Sight::Choice { op })) = self.sight_of(Place::Goal(goal)) else {
+            return Err(AllocError);
+        };
+        Ok(op)
+    }
+
+    /// The alternatives of a goal that are kept where it is cut at one of them, and the boxes that go: the others with the
+    /// boxes inside them. An `Err` comes for want of memory.
+    pub(crate) fn kept_and_gone(
+        &self,
+        alloc: Global,
+        goal: Name,
+        op: Op,
+        name: Name,
+    ) -> Result<(Vec<Name>, Vec<Name>), AllocError>
+        requires { IsOfRun self.now }
+        ensures kept { IfOk result (λ p. p.0.items ≡ names_kept op name (alternatives_of ((table_of self.now).goal_of goal))) }
+        ensures gone { IfOk result (λ p. ListsEach (table_of self.now) (names_cut op name (alternatives_of ((table_of self.now).goal_of goal))) p.1.items) }
+    {
+        let (kept, others) = parted(alloc, op, name, self.alternatives_of(goal))?;
+        let gone = self.inside_each(alloc, others.as_slice())?;
+        Ok((kept, gone))
+    }
+
     /// A choice loses the alternatives for which a solved one leaves no room, with all that stands in them. An `Err`
     /// leaves the table as it was.
     pub(crate) fn cut(
@@ -65,13 +95,10 @@ impl Table {
         ensures cuts { OnOk result (Cuts (table_of self.old) (table_of self.new) goal name) }
         ensures unchanged { IfErr result (λ _. self.new ≡ self.old) }
     {
-        let Some((_, Sight::Choice { op })) = self.sight_of(Place::Goal(goal)) else {
-            return Err(AllocError);
-        };
-        let (kept, gone) = parted(alloc, op, name, self.alternatives_of(goal))?;
-        let inside = self.inside_each(alloc, gone.as_slice())?;
+        let op = self.op_of(goal)?;
+        let (kept, gone) = self.kept_and_gone(alloc, goal, op, name)?;
         self.make_choice(goal, op, kept, number);
-        self.drop_boxes(&inside);
+        self.drop_boxes(&gone);
         self.steps = number;
         Ok(())
     }

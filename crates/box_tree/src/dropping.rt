@@ -5,7 +5,6 @@ ghost use Rattle.table_laws.specs.Walks.{alternatives_of, boxes_directly_in, Lis
 ghost use Rattle.box_tree.specs.Tables.{table_of};
 ghost use Rattle.box_tree.specs.Drops.{IsOfRun, DropsGoals, DropsBoxes};
 
-use crate::entries::Held;
 use crate::table::Table;
 use akl_terms::Name;
 use std::alloc::{AllocError, Global};
@@ -16,13 +15,7 @@ impl Table {
     fn push_alternatives(&self, goal: Name, names: &mut Vec<Name>) -> Result<(), AllocError>
         ensures { OnOk result (names.new.items ≡ names.old.items ++ alternatives_of ((table_of self.now).goal_of goal)) }
     {
-        if let Some(entry) = self.goals.get(&goal) {
-            if let Held::Choice { alternatives, .. } = &entry.held {
-                for name in alternatives {
-                    names.push(*name)?;
-                }
-            }
-        }
+        names.extend_from_slice(self.alternatives_of(goal))?;
         Ok(())
     }
 
@@ -30,10 +23,11 @@ impl Table {
     fn push_inside(&self, name: Name, names: &mut Vec<Name>) -> Result<(), AllocError>
         ensures { OnOk result (names.new.items ≡ names.old.items ++ boxes_directly_in (table_of self.now) name) }
     {
-        if let Some(entry) = self.boxes.get(&name) {
-            for goal in entry.goals.iter() {
-                self.push_alternatives(*goal, names)?;
-            }
+        let Some(entry) = self.boxes.get(&name) else {
+            return Ok(());
+        };
+        for goal in entry.goals.iter() {
+            self.push_alternatives(*goal, names)?;
         }
         Ok(())
     }

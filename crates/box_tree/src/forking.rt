@@ -107,8 +107,8 @@ impl Table {
         Ok(())
     }
 
-    /// A box's entry comes.
-    pub(crate) fn put_box(&mut self, name: Name, entry: BoxEntry) -> Result<(), AllocError>
+    // A box's entry comes.
+    fn put_box(&mut self, name: Name, entry: BoxEntry) -> Result<(), AllocError>
         ensures put { OnOk result (SetsBoxes self.old self.new (set name (Some (box_row self.old.program.templates.nodes entry)) (table_of self.old).box_of)) }
         ensures only { AddsOnly self.old self.new (name ∷ []) }
     {
@@ -138,6 +138,21 @@ impl Table {
         Ok(())
     }
 
+    /// A box's entry comes, with those of its goals.
+    pub(crate) fn put_entry<T: IntoHeld>(
+        &mut self,
+        name: Name,
+        entry: BoxEntry,
+        goals: Vec<(Name, T)>,
+        number: u64,
+    ) -> Result<(), AllocError>
+        ensures put { OnOk result (SetsRows self.old self.new (set name (Some (box_row self.old.program.templates.nodes entry)) (table_of self.old).box_of) (shapes_with name number (named_shapes T.held self.old.program.templates.nodes goals.items) (table_of self.old))) }
+        ensures only { AddsOnly self.old self.new (name ∷ map (λ x. x.0) goals.items) }
+    {
+        self.put_goals(name, goals, number)?;
+        self.put_box(name, entry)
+    }
+
     // A new box comes, with its goals.
     fn put_new(
         &mut self,
@@ -151,6 +166,8 @@ impl Table {
         ensures put { OnOk result (SetsRows self.old self.new (boxes_with holder at number (new_box self.old.program.templates.nodes new ∷ []) (table_of self.old)) (goals_with number (new_box self.old.program.templates.nodes new ∷ []) (table_of self.old))) }
         ensures only { AddsOnly self.old self.new (new.name ∷ map (λ x. x.0) new.goals.items) }
     {
+        let names = goal_set(alloc, new.goals.as_slice())?;
+        let failing = first_fail(new.goals.as_slice());
         let NewBox {
             name,
             store,
@@ -158,9 +175,6 @@ impl Table {
             goals,
             body,
         } = new;
-        let names = goal_set(alloc, goals.as_slice())?;
-        let failing = first_fail(goals.as_slice());
-        self.put_goals(name, goals, number)?;
         let entry = BoxEntry {
             holder: Some(holder),
             store,
@@ -172,8 +186,7 @@ impl Table {
             body,
             shown: Vec::new(alloc),
         };
-        self.put_box(name, entry)?;
-        Ok(())
+        self.put_entry(name, entry, goals, number)
     }
 
     // New boxes come, with their goals.

@@ -87,10 +87,11 @@ impl Table {
         ensures { IfOk result (λ goals. goals.items ≡ goals_in ((table_of self.now).box_of name)) }
     {
         let mut goals = Vec::new(alloc);
-        if let Some(entry) = self.boxes.get(&name) {
-            for goal in entry.goals.iter() {
-                goals.push(*goal)?;
-            }
+        let Some(entry) = self.boxes.get(&name) else {
+            return Ok(goals);
+        };
+        for goal in entry.goals.iter() {
+            goals.push(*goal)?;
         }
         Ok(goals)
     }

@@ -1,6 +1,6 @@
 //! A box becomes two: in the first a choice keeps an alternative alone, and the second is the copy of the box without it.
 
-ghost use Rattle.std.specs.Prelude.{◌≡◌, ◌+◌, ◌∷◌, ◌++◌, List, [], map, Option, option_map, IfOk, IfErr, OnOk};
+ghost use Rattle.std.specs.Prelude.{◌≡◌, ◌+◌, ◌∷◌, ◌++◌, List, [], map, Option, option_map, false, IfOk, IfErr, OnOk, OnErr};
 ghost use Rattle.akl_terms.specs.declared.term.Node.{Node};
 ghost use Rattle.akl_model.specs.Config.{or_else};
 ghost use Rattle.akl_model.specs.Ordered.{IsIncreasing};
@@ -10,15 +10,13 @@ ghost use Rattle.box_tree.specs.Edits.{SetsRows, AddsOnly};
 ghost use Rattle.box_tree.specs.Drops.{IsOfRun};
 ghost use Rattle.box_tree.specs.Splits.{copies_with, copied_goals_with, IsHolderOf, Holds, is_choice};
 
-use crate::cutting::parted;
 use crate::entries::BoxEntry;
 use crate::named::{goal_set, push_names};
 use crate::starting::after;
 use crate::step::BoxCopy;
 use crate::table::Table;
 use crate::telling::solved_when;
-use crate::view::Sight;
-use akl_terms::{Name, Op, Place};
+use akl_terms::{Name, Op};
 use std::alloc::{AllocError, Global};
 
 /// What holds a box, with the names that it has once a copy stands after the box.
@@ -32,18 +30,6 @@ pub(crate) enum Holder {
     },
 }
 
-impl Holder {
-    // Whether it is this choice.
-    fn is_choice(&self, choice: Name) -> bool
-        ensures { result ≡ is_choice self.now choice }
-    {
-        match self {
-            Holder::Roots(_) => false,
-            Holder::Choice { goal, .. } => *goal == choice,
-        }
-    }
-}
-
 // Names with a copy's name after that of its box.
 fn name_after(
     alloc: Global,
@@ -53,15 +39,14 @@ fn name_after(
 ) -> Result<Vec<Name>, AllocError>
     ensures { IfOk result (λ v. v.items ≡ name_after name copy names.now) }
 {
-    let mut all = Vec::new(alloc);
-    let mut passed = false;
-    for other in names {
-        let here = !passed && name == *other;
-        all.push(*other)?;
-        if here {
-            all.push(copy)?;
+    let mut all = Vec::from_slice(alloc, names)?;
+    let mut at = 0;
+    while at < names.len() {
+        if name == names[at] {
+            all.insert(at + 1, copy)?;
+            return Ok(all);
         }
-        passed = passed || here;
+        at += 1;
     }
     Ok(all)
 }
@@ -115,6 +100,7 @@ impl Table {
         ensures put { OnOk result (SetsRows self.old self.new (copies_with holder at number (box_copy self.old.program.templates.nodes copy ∷ []) (table_of self.old)) (copied_goals_with number (box_copy self.old.program.templates.nodes copy ∷ []) (table_of self.old))) }
         ensures only { AddsOnly self.old self.new (copy.name ∷ map (λ x. x.0) copy.goals.items) }
     {
+        let names = goal_set(alloc, copy.goals.as_slice())?;
         let BoxCopy {
             name,
             holder: own,
@@ -124,8 +110,6 @@ impl Table {
             body,
             shown,
         } = copy;
-        let names = goal_set(alloc, goals.as_slice())?;
-        self.put_goals(name, goals, number)?;
         let entry = BoxEntry {
             holder: holder_or(own, holder),
             store,
@@ -137,8 +121,7 @@ impl Table {
             body,
             shown,
         };
-        self.put_box(name, entry)?;
-        Ok(())
+        self.put_entry(name, entry, goals, number)
     }
 
     // Copies come, with their goals.
@@ -161,17 +144,48 @@ impl Table {
         Ok(())
     }
 
-    // What holds a box, with the names that it has once a copy stands after the box.
-    fn held_beside(&self, alloc: Global, name: Name, copy: Name) -> Result<Holder, AllocError>
-        ensures { IfOk result (IsHolderOf self.now name copy) }
+    // Copies come, with their goals. An `Err` leaves the table as it was.
+    fn add_copies(
+        &mut self,
+        alloc: Global,
+        holder: Option<Name>,
+        copies: Vec<BoxCopy>,
+        at: Option<u64>,
+        number: u64,
+    ) -> Result<(), AllocError>
+        requires fresh { IsFresh (table_of self.old) (names_copied (map (box_copy self.old.program.templates.nodes) copies.items)) }
+        requires ordered { AreCopiesInOrder (map (box_copy self.old.program.templates.nodes) copies.items) }
+        ensures put { OnOk result (SetsRows self.old self.new (copies_with holder at number (map (box_copy self.old.program.templates.nodes) copies.items) (table_of self.old)) (copied_goals_with number (map (box_copy self.old.program.templates.nodes) copies.items) (table_of self.old))) }
+        ensures unchanged { OnErr result (self.new ≡ self.old) }
+    {
+        let drawn = copied_names(alloc, copies.as_slice())?;
+        let Ok(()) = self.put_copies(alloc, holder, copies, at, number) else {
+            self.drop_entries(drawn.as_slice());
+            return Err(AllocError);
+        };
+        Ok(())
+    }
+
+    // What holds a box, with the names that it has once a copy stands after the box. An `Err` comes also where this choice
+    // holds it.
+    fn held_beside(
+        &self,
+        alloc: Global,
+        name: Name,
+        copy: Name,
+        choice: Name,
+    ) -> Result<Holder, AllocError>
+        ensures held { IfOk result (IsHolderOf self.now name copy) }
+        ensures apart { IfOk result (λ holder. is_choice holder choice ≡ false) }
     {
         let Some(goal) = self.holder_of(name) else {
             let names = name_after(alloc, self.roots(), name, copy)?;
             return Ok(Holder::Roots(names));
         };
-        let Some((_, Sight::Choice { op })) = self.sight_of(Place::Goal(goal)) else {
+        if goal == choice {
             return Err(AllocError);
-        };
+        }
+        let op = self.op_of(goal)?;
         let names = name_after(alloc, self.alternatives_of(goal), name, copy)?;
         Ok(Holder::Choice { goal, op, names })
     }
@@ -216,26 +230,16 @@ impl Table {
         let Some(choice) = self.holder_of(alternative) else {
             return Err(AllocError);
         };
-        let Some((_, Sight::Choice { op })) = self.sight_of(Place::Goal(choice)) else {
-            return Err(AllocError);
-        };
-        let held = self.held_beside(alloc, name, copy)?;
-        if held.is_choice(choice) {
-            return Err(AllocError);
-        }
-        let (alone, others) = parted(alloc, Op::Commit, alternative, self.alternatives_of(choice))?;
-        let inside = self.inside_each(alloc, others.as_slice())?;
-        let drawn = copied_names(alloc, copies.as_slice())?;
-        let next = self.raised(alloc, worker, count)?;
+        let op = self.op_of(choice)?;
         let later = one_later(at)?;
+        let next = self.raised(alloc, worker, count)?;
+        let held = self.held_beside(alloc, name, copy, choice)?;
+        let (alone, gone) = self.kept_and_gone(alloc, choice, Op::Commit, alternative)?;
         let holder = self.holder_of(name);
-        let Ok(()) = self.put_copies(alloc, holder, copies, later, number) else {
-            self.drop_entries(drawn.as_slice());
-            return Err(AllocError);
-        };
+        self.add_copies(alloc, holder, copies, later, number)?;
         self.make_choice(choice, op, alone, number);
         self.hold(held, number);
-        self.drop_boxes(&inside);
+        self.drop_boxes(&gone);
         self.next = next;
         self.steps = number;
         Ok(())

@@ -1,6 +1,7 @@
 //! The table of a query's one box.
 
 ghost use Rattle.std.specs.Prelude.{◌≡◌, ◌+◌, ◌∷◌, [], map, IfOk};
+ghost use Rattle.local_store.specs.Stored.{nothing, with_frame};
 ghost use Rattle.akl_model.specs.Ordered.{IsIncreasing};
 ghost use Rattle.akl_model.specs.Instances.{shown_of};
 ghost use Rattle.table_laws.specs.Writes.{IsTable};
@@ -77,6 +78,15 @@ fn shown_terms(
     Ok(terms)
 }
 
+// The store of the query's box.
+fn first_store(alloc: Global) -> Result<Shared<Store>, AllocError>
+    ensures { IfOk result (λ store. store ≡ with_frame nothing query_frame) }
+{
+    let mut store = Store::new(alloc);
+    store.add_frame(FRAME)?;
+    Shared::new(alloc, store)
+}
+
 // The entry of the query's box.
 fn first_entry(
     alloc: Global,
@@ -86,14 +96,14 @@ fn first_entry(
     requires { IsIncreasing (map (λ x. x.0) goals.now) }
     ensures { IfOk result (IsFirstEntry goals.now shown.items) }
 {
-    let mut store = Store::new(alloc);
-    store.add_frame(FRAME)?;
+    let store = first_store(alloc)?;
+    let names = goal_set(alloc, goals)?;
     Ok(BoxEntry {
         holder: None,
-        store: Shared::new(alloc, store)?,
+        store,
         changed: 0,
         solved_at: Some(0),
-        goals: goal_set(alloc, goals)?,
+        goals: names,
         goals_changed: 0,
         failing: first_fail(goals),
         body: Vec::new(alloc),
@@ -121,14 +131,16 @@ impl Table {
         ensures { IfOk result (IsEmpty program.now query.now goals) }
     {
         let number = (goals as u64).checked_add(2).ok_or(AllocError)?;
+        let roots = only(alloc, ROOT)?;
+        let next = only(alloc, number)?;
         Ok(Table {
             program: Snapshot::of(program),
             query: Snapshot::of(query),
             boxes: BTreeMap::new(alloc),
             goals: BTreeMap::new(alloc),
-            roots: only(alloc, ROOT)?,
+            roots,
             roots_changed: 0,
-            next: only(alloc, number)?,
+            next,
             steps: 0,
         })
     }
@@ -146,12 +158,11 @@ impl Table {
         ensures query { IfOk result (λ t. t.query ≡ query.now) }
         ensures started { IfOk result (λ t. IsTable (table_of t) (started program.now query.now)) }
     {
-        let goals = first_goals(alloc, query)?;
         let shown = shown_terms(alloc, program, query, first_variable)?;
+        let goals = first_goals(alloc, query)?;
         let entry = first_entry(alloc, goals.as_slice(), shown)?;
         let mut table = Table::empty(alloc, program, query, goals.len())?;
-        table.put_goals(ROOT, goals, 0)?;
-        table.put_box(ROOT, entry)?;
+        table.put_entry(ROOT, entry, goals, 0)?;
         Ok(table)
     }
 }

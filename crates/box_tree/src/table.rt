@@ -6,6 +6,7 @@ ghost use Rattle.table_laws.specs.Writes.{IsTable};
 ghost use Rattle.table_laws.specs.Laws.{started};
 ghost use Rattle.table_laws.specs.Stamped.{IsTableOf, stamp_in};
 ghost use Rattle.box_tree.specs.Tables.{all_rules, table_of, MayApply, Applied, HasVariables, HasShownVariables, goals_in, is_empty, shown_in, shown_trees_of};
+ghost use Rattle.box_tree.specs.Kinds.{IsGoal, IsBox};
 ghost use Rattle.box_tree.specs.Paths.{sight_in};
 ghost use Rattle.box_tree.specs.Views.{run_of, is_there, IsUnseen, IsViewOf, AreAllPlaces};
 
@@ -21,45 +22,25 @@ use std::collections::BTreeMap;
 use std::marker::Model;
 use std::snapshot::Snapshot;
 
-// The goal of a place.
-fn goal_at(place: Place) -> Result<Name, AllocError>
-    ensures { IfOk result (λ goal. place ≡ Place.Goal goal) }
+// The goal of a place that has one.
+fn goal_at(place: Place) -> Name
+    requires { IsGoal place }
+    ensures { place ≡ Place.Goal result }
 {
     match place {
-        Place::Goal(goal) => Ok(goal),
-        Place::Box(_) => Err(AllocError),
+        Place::Goal(goal) => goal,
+        Place::Box(name) => name,
     }
 }
 
-// The box of a place.
-fn box_at(place: Place) -> Result<Name, AllocError>
-    ensures { IfOk result (λ name. place ≡ Place.Box name) }
+// The box of a place that is one.
+fn box_at(place: Place) -> Name
+    requires { IsBox place }
+    ensures { place ≡ Place.Box result }
 {
     match place {
-        Place::Box(name) => Ok(name),
-        Place::Goal(_) => Err(AllocError),
-    }
-}
-
-// The goal of a label, and the alternative that it names.
-fn alternative_at(label: Label) -> Result<(Name, Name), AllocError>
-    ensures { IfOk result (λ x. (label.place ≡ Place.Goal x.0) × (label.alternative ≡ Some x.1)) }
-{
-    let goal = goal_at(label.place)?;
-    match label.alternative {
-        Some(name) => Ok((goal, name)),
-        None => Err(AllocError),
-    }
-}
-
-// The box of a label, and the alternative that it names.
-fn split_at(label: Label) -> Result<(Name, Name), AllocError>
-    ensures { IfOk result (λ x. (label.place ≡ Place.Box x.0) × (label.alternative ≡ Some x.1)) }
-{
-    let name = box_at(label.place)?;
-    match label.alternative {
-        Some(alternative) => Ok((name, alternative)),
-        None => Err(AllocError),
+        Place::Box(name) => name,
+        Place::Goal(goal) => goal,
     }
 }
 
@@ -256,22 +237,23 @@ impl Table {
         let worker = label.worker;
         match step {
             Step::Tell { store, solved } => {
-                let goal = goal_at(label.place)?;
+                let goal = goal_at(label.place);
                 let solved_at = solved_when(at, solved);
                 self.tell(alloc, goal, store, solved_at, number, worker, names)
             }
             Step::Fork { op, alternatives } => {
-                let goal = goal_at(label.place)?;
+                let goal = goal_at(label.place);
                 self.fork(alloc, goal, op, alternatives, at, number, worker, names)
             }
             Step::Fail => {
-                let name = box_at(label.place)?;
+                let name = box_at(label.place);
                 let inside = self.inside(alloc, name)?;
                 self.fail(name, &inside, number);
                 Ok(())
             }
             Step::Cut => {
-                let (goal, name) = alternative_at(label)?;
+                let goal = goal_at(label.place);
+                let name = label.alternative.unwrap();
                 self.cut(alloc, goal, name, number)
             }
             Step::Promote {
@@ -279,24 +261,24 @@ impl Table {
                 solved,
                 goals,
             } => {
-                let (goal, name) = alternative_at(label)?;
+                let goal = goal_at(label.place);
+                let name = label.alternative.unwrap();
                 let solved_at = solved_when(at, solved);
                 self.promote(
                     alloc, goal, name, store, solved_at, goals, number, worker, names,
                 )
             }
             Step::Refute => {
-                let goal = goal_at(label.place)?;
-                self.refute(goal, number);
+                self.refute(goal_at(label.place), number);
                 Ok(())
             }
             Step::Confirm => {
-                let goal = goal_at(label.place)?;
-                self.confirm(goal, number);
+                self.confirm(goal_at(label.place), number);
                 Ok(())
             }
             Step::Split { copy, copies } => {
-                let (name, other) = split_at(label)?;
+                let name = box_at(label.place);
+                let other = label.alternative.unwrap();
                 self.split(alloc, name, other, copy, copies, at, number, worker, names)
             }
         }

@@ -1,7 +1,10 @@
-use Rattle.std.proofs.Common.{◌≡◌, ◌++◌, drop}
+use Rattle.std.proofs.Common.{◌≡◌, ◌++◌, ◌-◌, length, take, drop}
 use Rattle.table_laws.specs.Writes.{name_after}
-use Rattle.box_tree.proofs.Beside.{left_after}
 use Rattle.box_tree.proofs.splitting.name_after.Given as goal
 
-abbrev pub invariant-loop-other : goal.invariant-loop-other
-invariant-loop-other l = l.all.items ++ left_after l.passed l.name l.copy (drop l.other-index l.names) ≡ name_after l.name l.copy l.names
+-- the names before the place are passed
+abbrev pub invariant-loop-at : goal.invariant-loop-at
+invariant-loop-at l = (l.all.items ≡ l.names) × (take l.at l.names ++ name_after l.name l.copy (drop l.at l.names) ≡ name_after l.name l.copy l.names)
+
+abbrev pub decreases-loop-at : goal.decreases-loop-at
+decreases-loop-at l = length l.names - l.at

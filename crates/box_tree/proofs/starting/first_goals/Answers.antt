@@ -1,5 +1,5 @@
 use Rattle.std.proofs.Common.{◌≡◌, ◌+◌, ◌∷◌, ◌++◌, [], length, take, get_or, sym, ap, ◌∙◌, ℕ, List, arith}
-use Rattle.std.proofs.lemmas.List.{take_more, length-take-le}
+use Rattle.std.proofs.lemmas.List.{take_more, length-take-le, take_all}
 use Rattle.akl_terms.specs.declared.name.Name.{Name}
 use Rattle.akl_terms.specs.declared.program.Code.{Code}
 use Rattle.akl_terms.specs.declared.program.Goal.{Goal}
@@ -18,3 +18,6 @@ loop-code-preserved c =
           ∙ sym (goals_more 2 before code) ∙ ap (goals_from 2) (sym (take_more c.as_slice-code-items.result.now c.loop-code.code-index (Code.Equal 0 0) c.loop-code-test.true)),
       omega (arith, c.in_ok-number.ensures, c.loop-code.invariant.1),
     )
+
+pub returns : goal.returns
+returns c = c.loop-code.invariant.0 ∙ ap (goals_from 2) (take_all c.loop-code.code-index c.as_slice-code-items.result.now c.loop-code-test.false ∙ c.as_slice-code-items.ensures)

@@ -1,5 +1,5 @@
 use Rattle.std.proofs.Common.{◌≡◌, ◌∙◌, ◌++◌, ◌∷◌, [], ◌<◌, ◌+◌, sym, ap, subst, take, map, arith}
-use Rattle.std.proofs.lemmas.List.{take_more}
+use Rattle.std.proofs.lemmas.List.{take_more, take_all}
 use Rattle.akl_model.specs.Instances.{shown_of}
 use Rattle.box_tree.specs.Tables.{AreBelow}
 use Rattle.box_tree.specs.Starts.{query_frame}
@@ -24,3 +24,6 @@ loop-shown-preserved c =
     rw (c.in_ok-push.ensures.items, c.in_ok-name.ensures)
     (shown_more c.args.program.now c.args.query.now c.args.first_variable c.loop-shown.terms.items (take c.loop-shown.shown-index c.as_slice-shown-items.result.now) c.shown-item.result c.requires.variables below c.loop-shown.invariant
     ∙ ap (map (shown_of query_frame)) (sym more))
+
+pub returns : goal.returns
+returns c = c.loop-shown.invariant ∙ ap (map (shown_of query_frame)) (take_all c.loop-shown.shown-index c.as_slice-shown-items.result.now c.loop-shown-test.false ∙ c.as_slice-shown-items.ensures)

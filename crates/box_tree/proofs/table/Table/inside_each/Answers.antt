@@ -1,5 +1,5 @@
 use Rattle.std.proofs.Common.{ℕ, List, ◌++◌, take, get_or, sym, ap, ◌∙◌, subst}
-use Rattle.std.proofs.lemmas.List.{take_more}
+use Rattle.std.proofs.lemmas.List.{take_more, take_all}
 use Rattle.akl_terms.specs.declared.name.Name.{Name}
 use Rattle.table_laws.specs.Walks.{ListsEach}
 use Rattle.table_laws.proofs.Drops.{each_more}
@@ -15,3 +15,6 @@ loop-name-preserved c =
     let items = c.in_ok-extend_from_slice.ensures.items ∙ ap (λ (ns : List Name). c.loop-name.names.items ++ ns) c.as_slice.ensures.value in
     subst (λ (z : List Name × List Name). ListsEach (table_of c.args.self.now) z.0 z.1) (λ i. ((sym more) i, (sym items) i))
     (each_more (table_of c.args.self.now) (take at boxes) c.loop-name.names.items (get_or boxes at d) c.in_ok-inside.inside.items c.loop-name.invariant c.in_ok-inside.ensures)
+
+pub returns : goal.returns
+returns c = subst (λ (ns : List Name). ListsEach (table_of c.args.self.now) ns c.loop-name.names.items) (take_all c.loop-name.name-index c.args.boxes.now c.loop-name-test.false) c.loop-name.invariant

@@ -1,17 +1,17 @@
 use Rattle.std.proofs.Common.{List, Some, refl, ap, ◌∙◌}
+use Rattle.std.proofs.lemmas.Result.{on_ok_weaker}
 use Rattle.akl_terms.specs.declared.name.Name.{Name}
 use Rattle.akl_terms.specs.declared.program.Goal.{Goal}
 use Rattle.table_laws.specs.Writes.{first_fail}
 use Rattle.box_tree.specs.declared.entries.BoxEntry.{BoxEntry}
 use Rattle.box_tree.specs.Edits.{named_atoms}
-use Rattle.box_tree.proofs.News.{firsts, atoms_put, box_comes, box_only}
+use Rattle.box_tree.proofs.News.{firsts, box_comes}
 use Rattle.box_tree.proofs.table.Table.put_new.Goals as goal
 
 pub returns-clause-put : goal.returns-clause-put
 returns-clause-put c =
     let e : BoxEntry = record { holder = Some c.args.holder; store = c.args.new.store; changed = c.args.number; solved_at = c.solved_when.result; goals = c.in_ok-names.names; goals_changed = c.args.number; failing = c.first_fail-failing.result; body = c.args.new.body; shown = c.new.result } in
-    box_comes c.args.self.now c.put_goals.new.self c.put_box.new.self c.args.holder c.args.at c.args.number c.args.new e
-    (atoms_put c.args.self.now c.put_goals.new.self c.args.new.name c.args.number c.args.new.goals.items c.in_ok-put_goals.ensures.put)
+    on_ok_weaker c.put_entry.result (box_comes c.args.self.now c.put_entry.new.self c.args.holder c.args.at c.args.number c.args.new e
     (record {
       holder_is = refl;
       store = refl;
@@ -22,8 +22,4 @@ returns-clause-put c =
       failing = λ nodes. c.first_fail-failing.ensures nodes ∙ ap (λ (xs : List (Name × Goal)). first_fail (named_atoms nodes xs)) c.as_slice-2.ensures.value;
       body = refl;
       shown = c.new.ensures.items;
-    }) c.in_ok-put_box.ensures.put
-
-pub returns-clause-only : goal.returns-clause-only
-returns-clause-only c = box_only c.args.self.now c.put_goals.new.self c.put_box.new.self c.args.holder c.args.at c.args.number c.args.new (record { holder = Some c.args.holder; store = c.args.new.store; changed = c.args.number; solved_at = c.solved_when.result; goals = c.in_ok-names.names; goals_changed = c.args.number; failing = c.first_fail-failing.result; body = c.args.new.body; shown = c.new.result })
-    c.in_ok-put_goals.ensures.only c.in_ok-put_box.ensures.only
+    })) c.put_entry.ensures.put
