@@ -21,6 +21,12 @@ fn box_of(alloc: Global, number: usize, words: &str) -> Result<Shared<Store>, Al
     Shared::new(alloc, store)
 }
 
+/// Adds the store of one more box inside.
+fn add_box(alloc: Global, stores: &mut Vec<Shared<Store>>, words: &str) -> Result<(), AllocError> {
+    stores.push(box_of(alloc, stores.len(), words)?)?;
+    Ok(())
+}
+
 /// The stores of boxes, which have a frame each: of those around the innermost one, between which `/` stands, and of
 /// that.
 pub fn stores_of(
@@ -31,10 +37,10 @@ pub fn stores_of(
     let mut stores = Vec::new(alloc);
     for words in outer.split('/') {
         if !words.is_empty() {
-            stores.push(box_of(alloc, stores.len(), words)?)?;
+            add_box(alloc, &mut stores, words)?;
         }
     }
-    stores.push(box_of(alloc, stores.len(), inner)?)?;
+    add_box(alloc, &mut stores, inner)?;
     Ok(stores)
 }
 

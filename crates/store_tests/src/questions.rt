@@ -135,6 +135,21 @@ fn holds_solved(
     holds_of(alloc, &chain, question, want)
 }
 
+/// These stores, made solved, with what the words say told to the innermost one; `None` where they are inconsistent.
+fn told_to_solved(
+    alloc: Global,
+    templates: &Templates,
+    stores: &[Shared<Store>],
+    words: &str,
+) -> Result<Option<Vec<Shared<Store>>>, AllocError> {
+    let Some(stores) = solved(alloc, templates, stores)? else {
+        return Ok(None);
+    };
+    let known = known_of(templates, stores.as_slice())?;
+    let chain = Chain::of_solved(templates, stores.as_slice(), known);
+    Ok(Some(told_to(alloc, &chain, words)?))
+}
+
 /// The same, where they are made solved before the words are told, and again after that.
 fn holds_told_to_solved(
     alloc: Global,
@@ -144,12 +159,9 @@ fn holds_told_to_solved(
     question: &str,
     want: &str,
 ) -> Result<bool, AllocError> {
-    let Some(stores) = solved(alloc, templates, stores)? else {
+    let Some(stores) = told_to_solved(alloc, templates, stores, words)? else {
         return Ok(want == "clash");
     };
-    let known = known_of(templates, stores.as_slice())?;
-    let chain = Chain::of_solved(templates, stores.as_slice(), known);
-    let stores = told_to(alloc, &chain, words)?;
     holds_solved(alloc, templates, stores.as_slice(), question, want)
 }
 

@@ -4,6 +4,7 @@ use crate::words::{cut, frame, is_said, pair, term, term_of};
 use akl_terms::{Term, Var};
 use local_store::Store;
 use std::alloc::{AllocError, Global};
+use std::str::SplitWhitespace;
 use std::test::Fail;
 
 /// Adds what a word says: a binding of a variable, a port with its tail, or a frame.
@@ -35,102 +36,77 @@ pub fn store_of(alloc: Global, text: &str) -> Result<Store, AllocError> {
     Ok(store)
 }
 
-/// The terms of the words, two of each.
-fn terms_of(alloc: Global, text: &str) -> Result<Vec<Term>, AllocError> {
-    let mut terms = Vec::new(alloc);
-    for word in text.split_whitespace() {
-        if let Some(said) = pair(word) {
-            put(&mut terms, said.0, said.1)?;
-        }
+/// Whether the next word says this.
+fn is_next(words: &mut SplitWhitespace<'_>, said: (Term, Term)) -> bool {
+    match words.next() {
+        Some(word) => pair(word) == Some(said),
+        None => false,
     }
-    Ok(terms)
 }
 
-fn put(terms: &mut Vec<Term>, left: Term, right: Term) -> Result<(), AllocError> {
-    terms.push(left)?;
-    terms.push(right)?;
-    Ok(())
-}
-
-fn put_frames(terms: &mut Vec<Term>, store: &Store) -> Result<(), AllocError> {
+fn has_frames(store: &Store, words: &mut SplitWhitespace<'_>) -> Result<bool, AllocError> {
     for frame in store.frames()?.iter() {
         let number = Term::Int(i64::try_from(frame.number).unwrap_or(-1));
-        put(terms, number, number)?;
+        if !is_next(words, (number, number)) {
+            return Ok(false);
+        }
     }
-    Ok(())
+    Ok(true)
 }
 
-fn put_ports(terms: &mut Vec<Term>, store: &Store) -> Result<(), AllocError> {
+fn has_ports(store: &Store, words: &mut SplitWhitespace<'_>) -> Result<bool, AllocError> {
     for port in store.ports()?.iter() {
-        put(terms, Term::Port(port.0), port.1)?;
+        if !is_next(words, (Term::Port(port.0), port.1)) {
+            return Ok(false);
+        }
     }
-    Ok(())
+    Ok(true)
 }
 
-fn put_bindings(terms: &mut Vec<Term>, store: &Store) -> Result<(), AllocError> {
+fn has_bindings(store: &Store, words: &mut SplitWhitespace<'_>) -> Result<bool, AllocError> {
     for binding in store.bindings()?.iter() {
-        put(terms, term_of(binding.0), binding.1)?;
+        if !is_next(words, (term_of(binding.0), binding.1)) {
+            return Ok(false);
+        }
     }
-    Ok(())
-}
-
-/// All that a store has, two terms of each, in its order.
-fn listed(alloc: Global, store: &Store) -> Result<Vec<Term>, AllocError> {
-    let mut terms = Vec::new(alloc);
-    put_frames(&mut terms, store)?;
-    put_ports(&mut terms, store)?;
-    put_bindings(&mut terms, store)?;
-    Ok(terms)
+    Ok(true)
 }
 
 /// Whether a store has what the words say, in this order, and nothing else.
-fn has(alloc: Global, store: &Store, text: &str) -> Result<bool, AllocError> {
-    let found = listed(alloc, store)?;
-    let want = terms_of(alloc, text)?;
-    Ok(found.as_slice() == want.as_slice())
+fn has(store: &Store, text: &str) -> Result<bool, AllocError> {
+    let mut words = text.split_whitespace();
+    Ok(
+        has_frames(store, &mut words)?
+            && has_ports(store, &mut words)?
+            && has_bindings(store, &mut words)?
+            && words.next().is_none(),
+    )
 }
 
 /// Whether a change makes this of a store, beside it.
-fn has_beside(
-    alloc: Global,
-    store: &Store,
-    change: (Term, Term),
-    want: &str,
-) -> Result<bool, AllocError> {
+fn has_beside(store: &Store, change: (Term, Term), want: &str) -> Result<bool, AllocError> {
     let changed = with(store, change)?;
-    has(alloc, &changed, want)
-}
-
-/// A copy of a store, changed in place.
-fn copied(store: &Store, change: (Term, Term)) -> Result<Store, AllocError> {
-    let mut copy = store.share()?;
-    add(&mut copy, change)?;
-    Ok(copy)
+    has(&changed, want)
 }
 
 /// Whether a change makes this of a copy of a store, in place.
-fn has_in_place(
-    alloc: Global,
-    store: &Store,
-    change: (Term, Term),
-    want: &str,
-) -> Result<bool, AllocError> {
-    let copy = copied(store, change)?;
-    has(alloc, &copy, want)
+fn has_in_place(store: &Store, change: (Term, Term), want: &str) -> Result<bool, AllocError> {
+    let mut copy = store.share()?;
+    add(&mut copy, change)?;
+    has(&copy, want)
 }
 
 /// Whether a change makes this of a store that has what the words say, which is then left as it was.
 fn is_changed(
-    alloc: Global,
     store: &Store,
     ordered: &str,
     change: (Term, Term),
     want: &str,
 ) -> Result<bool, AllocError> {
     Ok(
-        has_beside(alloc, store, change, want)?
-            && has_in_place(alloc, store, change, want)?
-            && has(alloc, store, ordered)?,
+        has_beside(store, change, want)?
+            && has_in_place(store, change, want)?
+            && has(store, ordered)?,
     )
 }
 
@@ -143,7 +119,7 @@ fn changes(
     want: &str,
 ) -> Result<bool, AllocError> {
     let store = store_of(alloc, text)?;
-    is_changed(alloc, &store, ordered, change, want)
+    is_changed(&store, ordered, change, want)
 }
 
 /// A store, all that it has in order, a change, and what that makes of the store.
