@@ -3,7 +3,7 @@ use persist_map::{BufferedMap, PMap};
 use std::alloc::AllocError;
 use std::ops::Range;
 use std::process::Abort;
-use std::test::Fail;
+use std::str::SplitWhitespace;
 use std::thread::join;
 
 /// What stands at each key.
@@ -64,73 +64,93 @@ fn make_changes(
     Ok(())
 }
 
-#[test]
-fn a_map_has_its_values_and_those_that_share_nodes_stay(rt: HostRuntime) -> Result<(), Fail> {
-    let mut map = PMap::new(rt.alloc());
-    let mut values = [None; 64];
-    make_changes(&rt, &mut map, &mut values, 0..300)?;
+/// Makes further changes, which leave a map that shares nodes as it was.
+fn change_beside(
+    rt: &impl Abort,
+    map: &mut PMap<u32, u32>,
+    values: &mut Values,
+) -> Result<(), AllocError> {
     let shared = map.share()?;
-    let then = values;
-    make_changes(&rt, &mut map, &mut values, 300..600)?;
+    let then = *values;
+    make_changes(rt, map, values, 300..600)?;
     assert!(rt; agree(&shared, &then));
     assert!(rt; 4 < shared.height() && shared.height() < 10);
     Ok(())
 }
 
-/// Whether a map has these entries and no other, in this order.
-fn has(map: &BufferedMap<u32, u32>, entries: &[(u32, u32)]) -> Result<bool, AllocError> {
-    for (key, value) in entries {
-        if map.get(key) != Some(value) {
+#[test]
+fn a_map_has_its_values_and_those_that_share_nodes_stay(rt: HostRuntime) -> Result<(), AllocError> {
+    let mut map = PMap::new(rt.alloc());
+    let mut values = [None; 64];
+    make_changes(&rt, &mut map, &mut values, 0..300)?;
+    change_beside(&rt, &mut map, &mut values)?;
+    Ok(())
+}
+
+/// The entry of a word such as `3=31`.
+fn entry(word: &str) -> Option<(u32, u32)> {
+    let (key, value) = word.split_once('=')?;
+    Some((key.parse().ok()?, value.parse().ok()?))
+}
+
+/// Whether the next word says this entry.
+fn is_next(words: &mut SplitWhitespace<'_>, key: u32, value: u32) -> bool {
+    match words.next() {
+        Some(word) => entry(word) == Some((key, value)),
+        None => false,
+    }
+}
+
+/// Whether a map has the entries of the words and no other, in this order.
+fn has(map: &BufferedMap<u32, u32>, text: &str) -> Result<bool, AllocError> {
+    let mut words = text.split_whitespace();
+    for (key, value) in map.entries()?.iter() {
+        if !is_next(&mut words, *key, *value) || map.get(key) != Some(value) {
             return Ok(false);
         }
     }
-    Ok(map.entries()?.as_slice() == entries)
+    Ok(words.next().is_none())
+}
+
+const HERE: &str = "0=0 1=10 2=20 3=31 4=40 5=50 6=60 7=70 8=80 9=90";
+
+const THERE: &str = "1=10 2=20 3=30 4=40 5=50 6=60 7=70 8=80 9=91";
+
+/// Whether each of two maps that share what they have sees its own newest entries.
+fn are_apart(
+    map: &mut BufferedMap<u32, u32>,
+    other: &mut BufferedMap<u32, u32>,
+) -> Result<bool, AllocError> {
+    map.insert(3, 31)?;
+    map.insert(0, 0)?;
+    other.settle()?;
+    other.insert(9, 91)?;
+    let is_here = has(map, HERE)?;
+    map.settle()?;
+    let is_settled = has(map, HERE)? && map.get(&10).is_none();
+    let is_there = has(other, THERE)? && other.get(&0).is_none();
+    Ok(is_here && is_settled && is_there)
+}
+
+/// The same of a map and one that is made of it here.
+fn is_apart(map: &mut BufferedMap<u32, u32>) -> Result<bool, AllocError> {
+    let mut other = map.share()?;
+    are_apart(map, &mut other)
 }
 
 #[test]
-fn newest_entries_are_seen_wherever_they_stand(rt: HostRuntime) -> Result<(), Fail> {
+fn newest_entries_are_seen_wherever_they_stand(rt: HostRuntime) -> Result<(), AllocError> {
     let mut map = BufferedMap::new(rt.alloc());
     // The greatest key comes when there is a tree.
     for key in [5, 3, 8, 1, 4, 3, 7, 2, 6, 5, 9] {
         map.insert(key, key * 10)?;
     }
-    let mut other = map.share()?;
-    map.insert(3, 31)?;
-    map.insert(0, 0)?;
-    other.settle()?;
-    other.insert(9, 91)?;
-    let here = [
-        (0, 0),
-        (1, 10),
-        (2, 20),
-        (3, 31),
-        (4, 40),
-        (5, 50),
-        (6, 60),
-        (7, 70),
-        (8, 80),
-        (9, 90),
-    ];
-    assert!(rt; has(&map, &here)?);
-    map.settle()?;
-    assert!(rt; has(&map, &here)? && map.get(&10).is_none());
-    let there = [
-        (1, 10),
-        (2, 20),
-        (3, 30),
-        (4, 40),
-        (5, 50),
-        (6, 60),
-        (7, 70),
-        (8, 80),
-        (9, 91),
-    ];
-    assert!(rt; has(&other, &there)? && other.get(&0).is_none());
+    assert!(rt; is_apart(&mut map)?);
     Ok(())
 }
 
 #[test]
-fn other_threads_read_and_drop(rt: HostRuntime) -> Result<(), Fail> {
+fn other_threads_read_and_drop(rt: HostRuntime) -> Result<(), AllocError> {
     let map = PMap::new(rt.alloc()).with(1, 'a')?.with(2, 'b')?;
     let other = map.share()?;
     let found = join(&rt, || map.get(&1).copied(), move || other.get(&2).copied());

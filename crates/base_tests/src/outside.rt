@@ -10,7 +10,6 @@ use std::alloc::{AllocError, Global};
 use std::io;
 use std::io::{ErrorKind, Read, Write};
 use std::str::from_utf8;
-use std::test::Fail;
 
 /// Puts what five reads of up to `most` bytes gave: bytes and a bar, a dot at the end, an exclamation mark at a failure.
 fn put_reads<S: Source>(text: &mut String, source: &mut S, most: usize) -> Result<(), AllocError> {
@@ -76,7 +75,18 @@ fn put_read(
     }
 }
 
-/// Puts what a sink takes that has room for so many bytes, by four writes or whole, and the bytes.
+/// Puts what a sink takes, by four writes or whole.
+fn put_taken(text: &mut String, sink: &mut MemorySink, is_whole: bool) -> Result<(), AllocError> {
+    if !is_whole {
+        return put_writes(text, sink);
+    }
+    match write_all(sink, b"abcdef") {
+        Ok(()) => text.push_str("whole"),
+        Err(ShortWrite { written }) => write!(text, "{written}"),
+    }
+}
+
+/// Puts what a sink takes that has room for so many bytes, and the bytes.
 fn put_written(
     text: &mut String,
     is_whole: bool,
@@ -85,14 +95,7 @@ fn put_written(
     fails: Vec<u64>,
 ) -> Result<(), AllocError> {
     let mut sink = MemorySink::new(*text.allocator(), piece.max(1), room, fails)?;
-    if is_whole {
-        match write_all(&mut sink, b"abcdef") {
-            Ok(()) => text.push_str("whole")?,
-            Err(ShortWrite { written }) => write!(text, "{written}")?,
-        }
-    } else {
-        put_writes(text, &mut sink)?;
-    }
+    put_taken(text, &mut sink, is_whole)?;
     put_bytes(text, sink.bytes())
 }
 
@@ -143,26 +146,29 @@ fn put_stream(text: &mut String, asked: &str) -> Result<(), AllocError> {
     }
 }
 
-/// What is asked for: a verb, the bytes of a piece, those of a buffer or that there is room for, and the calls that
+/// Puts what is asked for: a verb, the bytes of a piece, those of a buffer or that there is room for, and the calls that
 /// fail; or a stream.
-fn answer(alloc: Global, asked: &str) -> Result<String, AllocError> {
-    let mut text = String::new(alloc);
+fn put_answer(text: &mut String, asked: &str) -> Result<(), AllocError> {
     let (verb, numbers) = asked.split_once(' ').unwrap_or((asked, ""));
     if verb == "stream" {
-        put_stream(&mut text, numbers)?;
-        return Ok(text);
+        return put_stream(text, numbers);
     }
     let (piece, rest) = numbers.split_once(' ').unwrap_or(("", ""));
     let (most, fails) = rest.split_once(' ').unwrap_or((rest, ""));
     let piece = piece.parse::<usize>().unwrap_or(0);
     let most = most.parse::<usize>().unwrap_or(0);
-    let fails = calls(alloc, fails)?;
+    let fails = calls(*text.allocator(), fails)?;
     match verb {
-        "read" => put_read(&mut text, false, piece, most, fails)?,
-        "limit" => put_read(&mut text, true, piece, most, fails)?,
-        "write" => put_written(&mut text, false, piece, most, fails)?,
-        _ => put_written(&mut text, true, piece, most, fails)?,
+        "read" => put_read(text, false, piece, most, fails),
+        "limit" => put_read(text, true, piece, most, fails),
+        "write" => put_written(text, false, piece, most, fails),
+        _ => put_written(text, true, piece, most, fails),
     }
+}
+
+fn answer(alloc: Global, asked: &str) -> Result<String, AllocError> {
+    let mut text = String::new(alloc);
+    put_answer(&mut text, asked)?;
     Ok(text)
 }
 
@@ -200,7 +206,7 @@ stream write broken => !!!!
 ";
 
 #[test]
-fn sources_and_sinks_give_and_take_what_they_say(rt: HostRuntime) -> Result<(), Fail> {
+fn sources_and_sinks_give_and_take_what_they_say(rt: HostRuntime) -> Result<(), AllocError> {
     for case in CASES.lines().skip(1) {
         let (asked, want) = case.split_once(" => ").unwrap_or((case, "no case"));
         let found = answer(rt.alloc(), asked)?;

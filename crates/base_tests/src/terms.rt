@@ -1,37 +1,50 @@
 //! Terms: each public call once.
 
-ghost use Rattle.std.specs.Prelude.{◌≡◌, ◌<◌};
+ghost use Rattle.std.specs.Prelude.{◌≡◌, ◌<◌, []};
 
 use akl_terms::{
     Code, Items, Name, Node, Place, Seen, Steps, Templates, Term, Text, Var, equality, order,
     standing,
 };
+use std::alloc::{AllocError, Global};
 use std::marker::Brand;
 use std::sync::ledger::{Blank, Ledger};
-use std::test::Fail;
 
 const FRAME: Name = Name {
     worker: 0,
     number: 1,
 };
 
-#[test]
-fn equal_texts_have_one_symbol(rt: HostRuntime) -> Result<(), Fail> {
-    let mut templates = Templates::new(rt.alloc());
+/// Whether a text that comes again has the symbol that it had, and each symbol its text.
+fn have_one_symbol(templates: &mut Templates) -> Result<bool, AllocError>
+    requires { templates.old.symbols ≡ [] }
+{
     let append = templates.intern("append")?;
     let nil = templates.intern("[]")?;
     let again = templates.intern("append")?;
-    assert!(rt; append == 0 && nil == 1 && again == 0 && templates.symbols() == 2);
-    assert!(rt; templates.symbol(1) == "[]");
-    assert!(rt; templates.number_of("[]") == Some(1));
-    assert!(rt; templates.number_of("member").is_none());
-    Ok(())
+    Ok(
+        append == 0
+            && nil == 1
+            && again == 0
+            && templates.symbols() == 2
+            && templates.symbol(1) == "[]"
+            && templates.number_of("[]") == Some(1)
+            && templates.number_of("member").is_none(),
+    )
 }
 
 #[test]
-fn nodes_are_looked_at_under_a_frame(rt: HostRuntime) -> Result<(), Fail> {
+fn equal_texts_have_one_symbol(rt: HostRuntime) -> Result<(), AllocError> {
     let mut templates = Templates::new(rt.alloc());
-    assert!(rt; templates.is_empty());
+    assert!(rt; have_one_symbol(&mut templates)?);
+    Ok(())
+}
+
+/// Whether nodes stand in the order in which they are put, and are seen.
+fn stand_in_order(templates: &mut Templates) -> Result<bool, AllocError>
+    requires nodes { templates.old.nodes ≡ [] }
+    requires symbols { templates.old.symbols ≡ [] }
+{
     let symbol = templates.intern("f")?;
     let pair = templates.push(&[Node::Var(3), Node::Int(-7)])?;
     let whole = Node::Struct {
@@ -40,9 +53,20 @@ fn nodes_are_looked_at_under_a_frame(rt: HostRuntime) -> Result<(), Fail> {
         count: 2,
     };
     let last = templates.push(&[whole])?;
-    assert!(rt; pair == 0 && last == 2 && templates.len() == 3);
-    assert!(rt; templates.node(2) == whole);
-    assert!(rt; are_seen(&templates, symbol));
+    Ok(
+        pair == 0
+            && last == 2
+            && templates.len() == 3
+            && templates.node(2) == whole
+            && are_seen(templates, symbol),
+    )
+}
+
+#[test]
+fn nodes_are_looked_at_under_a_frame(rt: HostRuntime) -> Result<(), AllocError> {
+    let mut templates = Templates::new(rt.alloc());
+    assert!(rt; templates.is_empty());
+    assert!(rt; stand_in_order(&mut templates)?);
     Ok(())
 }
 
@@ -64,15 +88,33 @@ fn are_seen(templates: &Templates, symbol: u32) -> bool {
         && templates.look(Term::Port(FRAME)) == Seen::Port(FRAME)
 }
 
-#[test]
-fn texts_and_lists_give_back_what_they_are_made_of(rt: HostRuntime) -> Result<(), Fail> {
-    let text = Text::from_str(rt.alloc(), "nrev")?;
+fn is_copied(text: &Text, given: &str) -> Result<bool, AllocError> {
     let copy = text.duplicate()?;
-    assert!(rt; copy.as_str() == "nrev" && Text::new(text.into_string()).as_str() == "nrev");
+    Ok(copy.as_str() == given)
+}
+
+/// Whether a text, and a copy of it, are what was given.
+fn is_given_back(alloc: Global, given: &str) -> Result<bool, AllocError> {
+    let text = Text::from_str(alloc, given)?;
+    let is_copied = is_copied(&text, given)?;
+    let again = Text::new(text.into_string());
+    Ok(is_copied && again.as_str() == given)
+}
+
+/// Whether these are two goals, the first one `fail`.
+fn are_both(goals: Items<Code>) -> bool {
+    let are_both = goals.len() == 2
+        && !goals.is_empty()
+        && matches!(goals.as_slice(), [Code::Fail, _]);
+    let list = goals.into_vec();
+    are_both && list.len() == 2
+}
+
+#[test]
+fn texts_and_lists_give_back_what_they_are_made_of(rt: HostRuntime) -> Result<(), AllocError> {
+    assert!(rt; is_given_back(rt.alloc(), "nrev")?);
     let goals = Items::new(vec![in rt.alloc(); Code::Fail, Code::OpenPort { port: 0, stream: 1 }]?);
-    assert!(rt; goals.len() == 2 && !goals.is_empty());
-    assert!(rt; matches!(goals.as_slice(), [Code::Fail, _]));
-    assert!(rt; goals.into_vec().len() == 2);
+    assert!(rt; are_both(goals));
     Ok(())
 }
 
