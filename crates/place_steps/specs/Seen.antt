@@ -17,6 +17,10 @@ view_in (Seen.Goal goal view) = view
 view_in (Seen.Root view) = view
 view_in (Seen.Box view inside alternative) = view
 
+-- a box could be split at this alternative, if at any; of a goal nothing is said
+abbrev pub IsCandidateAt : CoreValue → Place → Option Name → Type 0
+IsCandidateAt c place alternative = (name : Name) → place ≡ Place.Box name → candidate_in (table_of c.table) name ≡ alternative
+
 -- the view is that of a box, which could be split at this alternative, if at any
 pub record HasCandidate (v : ViewValue) (alternative : Option Name) : Type 0 where
   pub name : Name

@@ -2,7 +2,9 @@
 
 ghost use Rattle.std.specs.Prelude.{◌≡◌, IfOk};
 ghost use Rattle.akl_terms.specs.declared.name.Place.{Place};
-ghost use Rattle.place_steps.specs.Seen.{view_in, IsSight, IsSeen, IsSeenBy};
+ghost use Rattle.box_tree.specs.Tables.{table_of};
+ghost use Rattle.box_tree.specs.Insides.{candidate_in};
+ghost use Rattle.place_steps.specs.Seen.{view_in, IsSight, IsCandidateAt, IsSeen, IsSeenBy};
 
 use akl_terms::{Name, Place};
 use box_tree::{Inside, LookError, View};
@@ -40,7 +42,8 @@ impl Seen {
     }
 }
 
-/// What a worker sees of a place; `None` exactly where the place isn't there. An `Err` is want of memory.
+/// What a worker sees of a place, for which the alternative is given at which it could be split, if it is a box. `None`
+/// exactly where the place isn't there. An `Err` is want of memory.
 ///
 /// Of a root box without a choice that could be split, it costs a look at the box alone, and of another box a look at all
 /// that stands inside it.
@@ -49,7 +52,9 @@ pub fn see(
     core: &Core,
     place: Place,
     worker: u32,
+    alternative: Option<Name>,
 ) -> Result<Option<Seen>, AllocError>
+    requires { IsCandidateAt core.now place alternative }
     ensures { IfOk result (IsSeenBy core.now place worker) }
 {
     let view = match core.look(alloc, place, worker) {
@@ -60,25 +65,26 @@ pub fn see(
     match place {
         Place::Goal(goal) => Ok(Some(Seen::Goal { goal, view })),
         Place::Box(name) => {
-            let seen = see_box(alloc, core, name, worker, view)?;
+            let seen = see_box(alloc, core, name, worker, view, alternative)?;
             Ok(Some(seen))
         }
     }
 }
 
-// What a worker sees of a box of which it has a view.
+// What a worker sees of a box of which it has a view, and the alternative at which it could be split.
 fn see_box(
     alloc: Global,
     core: &Core,
     name: Name,
     worker: u32,
     view: View,
+    alternative: Option<Name>,
 ) -> Result<Seen, AllocError>
-    requires { IsSight core.now (Place.Box name) worker view }
+    requires sight { IsSight core.now (Place.Box name) worker view }
+    requires candidate { candidate_in (table_of core.now.table) name ≡ alternative }
     ensures seen { IfOk result IsSeen }
     ensures sight { IfOk result (λ seen. IsSight core.now (Place.Box name) worker (view_in seen)) }
 {
-    let alternative = core.candidate(name);
     if alternative.is_none() && view.path().len() == 1 {
         return Ok(Seen::Root { view });
     }

@@ -1,8 +1,10 @@
 -- The choices by which a box could be split, by a table's rows.
-use Rattle.std.proofs.Common.{◌≡◌, ◌≤◌, List, [], ◌∷◌, true, Option, Some, None, refl, sym, ap, subst, ◌∙◌, inl, inr}
+use Rattle.std.proofs.Common.{◌≡◌, ◌≤◌, List, [], ◌∷◌, true, false, Option, Some, None, refl, sym, ap, subst, ◌∙◌, inl, inr}
 use Rattle.std.specs.Prelude.{is_some}
 use Rattle.akl_terms.specs.declared.name.Name.{Name}
 use Rattle.akl_terms.specs.declared.name.Place.{Place}
+use Rattle.akl_terms.specs.Names.{is_before}
+use Rattle.akl_model.specs.Ordered.{IsBeforeAll, IsIncreasing}
 use Rattle.akl_model.specs.Config.{IsIn, or_else, Config, Held, held_in, Found, box_at, home_of}
 use Rattle.akl_model.specs.Wakes.{names_around, StandsIn, IsThere}
 use Rattle.akl_model.proofs.Finds.{times}
@@ -44,6 +46,24 @@ one_among T (h ∷ hs) g i e = on (candidate_at T (T.goal_of h)) refl i (λ j. o
     on (Some a) q j k = refl
     on None q (inl r) k = absurd (not_both e (ap (λ (n : Name). is_some (candidate_at T (T.goal_of n))) r ∙ ap is_some q))
     on None q (inr j) k = k j
+
+-- of goals in increasing order one comes before those behind it
+before_each : (g h : Name) (hs : List Name) → IsBeforeAll g hs → IsIn h hs → is_before g h ≡ true
+before_each g h [] b i = absurd i
+before_each g h (k ∷ ks) b (inl e) = ap (is_before g) e ∙ b.0
+before_each g h (k ∷ ks) b (inr i) = before_each g h ks b.1 i
+
+-- so the one that has a candidate and before which no other comes that has is the first that has
+pub among_first : (T : Table) (gs : List Name) (g : Name) → IsIncreasing gs → IsIn g gs → is_some (candidate_at T (T.goal_of g)) ≡ true
+    → ((h : Name) → IsIn h gs → is_some (candidate_at T (T.goal_of h)) ≡ true → is_before h g ≡ false) → candidate_among T gs ≡ candidate_at T (T.goal_of g)
+among_first T [] g o i e f = absurd i
+among_first T (h ∷ hs) g o i e f = on (candidate_at T (T.goal_of h)) refl i (λ j. among_first T hs g o.1 j e (λ k r. f k (inr r)))
+  where
+    on : (a : Option Name) → candidate_at T (T.goal_of h) ≡ a → IsIn g (h ∷ hs) → (IsIn g hs → candidate_among T hs ≡ candidate_at T (T.goal_of g)) → or_else a (candidate_among T hs) ≡ candidate_at T (T.goal_of g)
+    on None q (inl r) k = absurd (not_both e (ap (λ (n : Name). is_some (candidate_at T (T.goal_of n))) r ∙ ap is_some q))
+    on None q (inr j) k = k j
+    on (Some a) q (inl r) k = sym q ∙ ap (λ (n : Name). candidate_at T (T.goal_of n)) (sym r)
+    on (Some a) q (inr j) k = absurd (not_both (before_each h g hs o.0 j) (f h (inl refl) (ap is_some q)))
 
 -- a choice by which its box could be split: it has a row there, and a candidate
 pub record IsSplitRow (T : Table) (s : Split) : Type 0 where
@@ -102,6 +122,14 @@ module _ (T : Table) (c : Config) (u : Unfolds T c) (once : (m : Name) → times
         stands = stands_down s.goal c.roots f.0 s.name f.1 (IsIn-right s.name (names_around f.0) (f.0.content.name ∷ []) (inl (sym n)));
       }
 
+  -- a goal directly in a box that has a candidate is such a choice
+  pub goal_split : (n g : Name) (r : BoxRow) → T.box_of n ≡ Some r → IsIn g r.goals → is_some (candidate_at T (T.goal_of g)) ≡ true → split_at T (Place.Goal g) ≡ Some (record { name = n; goal = g })
+  goal_split n g r i j e =
+      let f : (f : Found) × (box_at n c.roots ≡ Some f) × IsBoxRow T c.roots f r = found_of T c u n r i in
+      let h : (h : Held) × (held_in g f.0.goals ≡ Some h) = held_directly T c u once n g f.0 f.1 (record { row = r; there = i; named = j }) in
+      let x : (x : GoalRow) × (T.goal_of g ≡ Some x) × (x.home ≡ f.0.content.name) × _ = goal_row T c u once g f.0 h.0 (home_found c.roots once g n f.0 h.0 f.1 h.1) h.1 in
+      row_split T (record { name = n; goal = g }) (record { row = x.0; there = x.1; home = x.2 ∙ sym (box-itself n c.roots f.0 f.1); candidate = e })
+
   -- a box could be split by a choice directly in it
   pub box_split : (n : Name) → is_some (candidate_in T n) ≡ true → (s : Split) × (s.name ≡ n) × (split_at T (Place.Goal s.goal) ≡ Some s)
   box_split n e = on (T.box_of n) refl
@@ -110,17 +138,17 @@ module _ (T : Table) (c : Config) (u : Unfolds T c) (once : (m : Name) → times
       on None i = absurd (not_both e (ap (λ (b : Option BoxRow). is_some (candidate_among T (goals_in b))) i))
       on (Some r) i =
           let w : (g : Name) × IsIn g r.goals × (is_some (candidate_at T (T.goal_of g)) ≡ true) = among_one T r.goals (sym (ap (λ (b : Option BoxRow). is_some (candidate_among T (goals_in b))) i) ∙ e) in
-          let f : (f : Found) × (box_at n c.roots ≡ Some f) × IsBoxRow T c.roots f r = found_of T c u n r i in
-          let h : (h : Held) × (held_in w.0 f.0.goals ≡ Some h) = held_directly T c u once n w.0 f.0 f.1 (record { row = r; there = i; named = w.1 }) in
-          let x : (x : GoalRow) × (T.goal_of w.0 ≡ Some x) × (x.home ≡ f.0.content.name) × _ = goal_row T c u once w.0 f.0 h.0 (home_found c.roots once w.0 n f.0 h.0 f.1 h.1) h.1 in
-          let s : Split = record { name = n; goal = w.0 } in
-          (s, refl, row_split T s (record { row = x.0; there = x.1; home = x.2 ∙ sym (box-itself n c.roots f.0 f.1); candidate = w.2 }))
+          (record { name = n; goal = w.0 }, refl, goal_split n w.0 r i w.1 w.2)
 
-  pub split_box : (s : Split) → split_at T (Place.Goal s.goal) ≡ Some s → is_some (candidate_in T s.name) ≡ true
-  split_box s e =
-      let w : IsSplitRow T s = split_row T s e in
+  -- and such a choice is directly in its box
+  pub split_directly : (s : Split) → split_at T (Place.Goal s.goal) ≡ Some s → IsDirectlyIn T s.name s.goal
+  split_directly s e =
       let f : IsSplitIn s = split_in s e in
       let b : box_at s.name c.roots ≡ Some f.found = subst (λ (n : Name). box_at n c.roots ≡ Some f.found) f.named (home-box s.goal c.roots f.found once f.is_home) in
       let h : (h : Held) × (held_in s.goal f.found.goals ≡ Some h) = (home_in s.goal c.roots f.found f.is_home).1 in
-      let d : IsDirectlyIn T s.name s.goal = directly T c u once s.name s.goal f.found h.0 b h.1 in
-      ap (λ (o : Option BoxRow). is_some (candidate_among T (goals_in o))) d.there ∙ one_among T d.row.goals s.goal d.named w.candidate
+      directly T c u once s.name s.goal f.found h.0 b h.1
+
+  pub split_box : (s : Split) → split_at T (Place.Goal s.goal) ≡ Some s → is_some (candidate_in T s.name) ≡ true
+  split_box s e =
+      let d : IsDirectlyIn T s.name s.goal = split_directly s e in
+      ap (λ (o : Option BoxRow). is_some (candidate_among T (goals_in o))) d.there ∙ one_among T d.row.goals s.goal d.named (split_row T s e).candidate

@@ -4,16 +4,25 @@ use Rattle.std.specs.Prelude.{cond, is_some, IfSome}
 use Rattle.akl_terms.specs.declared.name.Name.{Name}
 use Rattle.akl_terms.specs.declared.name.Var.{Var}
 use Rattle.akl_terms.specs.declared.name.Place.{Place}
+use Rattle.akl_model.specs.Config.{Found, box_at}
+use Rattle.akl_model.specs.Ordered.{IsIncreasing, BoxesOrdered}
 use Rattle.akl_model.specs.Wakes.{StandsIn, IsOpenAfterSettle}
 use Rattle.akl_model.proofs.Finds.{times}
 use Rattle.akl_model.proofs.Options.{some_value}
-use Rattle.wake_lists.specs.Open.{Opening, Openings, opening_at, IsOpen, closed, untimed}
+use Rattle.akl_model.proofs.OrdersKept.{replay_ordered}
+use Rattle.step_laws.proofs.Whereabouts.{found_in}
+use Rattle.wake_lists.specs.Open.{Opening, Openings, opening_at, IsOpen, closed, untimed, is_busy}
 use Rattle.wake_lists.specs.Standing.{is_in}
 use Rattle.wake_lists.proofs.Keys.{token_equal}
+use Rattle.table_laws.specs.Inside.{IsDirectlyIn}
+use Rattle.table_laws.specs.Rows.{BoxRow, Table}
 use Rattle.table_laws.specs.Stamped.{Run, IsTableOf}
-use Rattle.box_tree.specs.Tables.{all_rules, TableValue, table_of}
+use Rattle.table_laws.specs.Unfolds.{IsBoxRow}
+use Rattle.table_laws.proofs.Frame.{found_of}
+use Rattle.box_tree.specs.Tables.{all_rules, TableValue, table_of, goals_in}
 use Rattle.box_tree.specs.Views.{is_there}
-use Rattle.box_tree.specs.Insides.{candidate_in}
+use Rattle.box_tree.specs.Insides.{candidate_at, candidate_among, candidate_in}
+use Rattle.box_tree.proofs.GoalsInOrder.{names_increase, stood_ordered}
 use Rattle.opened_places.proofs.RunRows as run_rows
 use Rattle.step_commit.specs.Cores.{CoreValue, IsCore, run_by}
 use Rattle.scheduler.specs.declared.splits.Split.{Split}
@@ -22,17 +31,22 @@ use Rattle.scheduler.specs.Nearest.{is_used}
 use Rattle.scheduler.specs.Openings.{IsOpenAt, AreApart, AreStandingIn}
 use Rattle.scheduler.specs.Schedulers.{SchedulerValue, IsScheduler, HasGone}
 use Rattle.scheduler.specs.Settled.{Settles}
-use Rattle.scheduler.specs.Splits.{is_kept, has_kept, split_at, KeepsPlace, AreSplitsOf, KeepsSplits, AreEnough}
+use Rattle.scheduler.specs.Splits.{is_kept, has_kept, split_at, KeepsPlace, AreSplitsOf, KeepsSplits, IsFirstIn, AreEnough}
 use Rattle.scheduler.proofs.CommitFacts.{not_both, not_true}
 use Rattle.scheduler.proofs.KeptSplits.{kept_has, has_one}
 use Rattle.scheduler.proofs.OpeningLists.{out_at}
-use Rattle.scheduler.proofs.OpenedMore.{its_open}
+use Rattle.scheduler.proofs.OpenedMore.{none_of, its_open}
 use Rattle.scheduler.proofs.OpenPlaces.{others, others_listed}
 use Rattle.scheduler.proofs.SettleAfter.{some_busy}
-use Rattle.scheduler.proofs.SplitRows.{split_row, split_in, box_split, split_box}
+use Rattle.scheduler.proofs.SplitRows.{among_first, split_row, split_in, goal_split, box_split, split_directly, split_box}
 use Rattle.scheduler.proofs.SplitsAfter.{still_splits, kept_with, its_kept, closes_one}
 use Rattle.scheduler.proofs.Untimed.{untimed_open}
 use lib.Dec.{eqb}
+
+-- the alternative at which a box could be split by a goal
+abbrev pub candidate_by : Table → Option Name → Option Name
+candidate_by T None = None
+candidate_by T (Some g) = candidate_at T (T.goal_of g)
 
 -- where all places are open none need be kept
 pub started_splits : (c : CoreValue) (os : Openings) → IsCore c → AreAllOpen c os → AreSplitsOf (table_of c.table) os []
@@ -80,6 +94,61 @@ settled_stays s d h place on r x i other w n =
     let o : _ = others_listed s.openings place h.now h.are_open in
     ((x.settled i h.core.table still h.kept o h.listed).is_open other).1 (IsOpenAfterSettle.stays (o.all other w n))
 
+-- of a box of which all are kept
+module _ (v : TableValue) (run : Run) (t : IsTableOf all_rules run (table_of v)) (kept : List Split) (only : (s : Split) → is_kept s kept ≡ true → split_at (table_of v) (Place.Goal s.goal) ≡ Some s) (n : Name)
+    (all : (s : Split) → s.name ≡ n → split_at (table_of v) (Place.Goal s.goal) ≡ Some s → is_kept s kept ≡ true) where
+  its_once : (m : Name) → times m t.config.roots ≤ 1
+  its_once = run_rows.once v run t
+
+  pub box_enough : is_some (candidate_in (table_of v) n) ≡ has_kept n kept
+  box_enough = on (is_some (candidate_in (table_of v) n)) refl (has_kept n kept) refl
+    where
+      on : (x : Bool) → is_some (candidate_in (table_of v) n) ≡ x → (y : Bool) → has_kept n kept ≡ y → x ≡ y
+      on true e true f = refl
+      on false e false f = refl
+      on true e false f =
+          let w : (s : Split) × (s.name ≡ n) × (split_at (table_of v) (Place.Goal s.goal) ≡ Some s) = box_split (table_of v) t.config t.unfolds its_once n e in
+          absurd (not_both (ap (λ (m : Name). has_kept m kept) (sym w.1) ∙ kept_has w.0 kept (all w.0 w.1 w.2)) f)
+      on false e true f =
+          let w : (s : Split) × (s.name ≡ n) × (is_kept s kept ≡ true) = has_one n kept f in
+          absurd (not_both (ap (λ (m : Name). is_some (candidate_in (table_of v) m)) (sym w.1) ∙ split_box (table_of v) t.config t.unfolds its_once w.0 (only w.0 w.2)) e)
+
+  increasing : (r : BoxRow) → (table_of v).box_of n ≡ Some r → IsIncreasing r.goals
+  increasing r e =
+      let w : (f : Found) × (box_at n t.config.roots ≡ Some f) × IsBoxRow (table_of v) t.config.roots f r = found_of (table_of v) t.config t.unfolds n r e in
+      let o : BoxesOrdered t.config.roots = replay_ordered all_rules run.program run.query run.journal t.config t.replays in
+      subst IsIncreasing (sym w.2.goals) (names_increase w.0.goals (stood_ordered w.0.around w.0.content w.0.goals t.config.roots (found_in n t.config.roots w.0 w.1) o))
+
+  -- it could be split by the first of them
+  first_is : (g : Name) → IsFirstIn n kept (Some g) → candidate_in (table_of v) n ≡ candidate_at (table_of v) ((table_of v).goal_of g)
+  first_is g f =
+      let s : Split = record { name = n; goal = g } in
+      let e : split_at (table_of v) (Place.Goal g) ≡ Some s = only s f.0 in
+      let d : IsDirectlyIn (table_of v) n g = split_directly (table_of v) t.config t.unfolds its_once s e in
+      ap (λ (o : Option BoxRow). candidate_among (table_of v) (goals_in o)) d.there
+      ∙ among_first (table_of v) d.row.goals g (increasing d.row d.there) d.named (split_row (table_of v) s e).candidate
+      (λ h i c. f.1 h (all (record { name = n; goal = h }) refl (goal_split (table_of v) t.config t.unfolds its_once n h d.row d.there i c)))
+
+  pub first_splits : (o : Option Name) → IsFirstIn n kept o → candidate_in (table_of v) n ≡ candidate_by (table_of v) o
+  first_splits None f = none_of (candidate_in (table_of v) n) (box_enough ∙ f)
+  first_splits (Some g) f = first_is g f
+
+-- a scheduler keeps all of a box in which nothing is open
+pub quiet_splits : (s : SchedulerValue) (kept : List Split) → KeepsSplits s kept → (n : Name) → is_busy n s.openings ≡ false → (o : Option Name) → IsFirstIn n kept o
+    → candidate_in (table_of s.core.table) n ≡ candidate_by (table_of s.core.table) o
+quiet_splits s kept h n b = first_splits s.core.table (run_by s.core) h.scheduler.core.table kept h.splits.only n all
+  where
+    all : (x : Split) → x.name ≡ n → split_at (table_of s.core.table) (Place.Goal x.goal) ≡ Some x → is_kept x kept ≡ true
+    all x e f = elim (h.splits.all x f) [
+      | inr k ↦ k
+      | inl w ↦
+          let stands : StandsIn x.name h.scheduler.core.table.config.roots (Place.Goal x.goal) =
+          (split_in (table_of s.core.table) h.scheduler.core.table.config h.scheduler.core.table.unfolds (run_rows.once s.core.table (run_by s.core) h.scheduler.core.table) x f).stands in
+          let inside : is_in x.name w.opening.boxes ≡ true =
+          h.scheduler.standing.around w.token w.opening x.name w.is_open (subst (StandsIn x.name h.scheduler.core.table.config.roots) (sym w.of_place) stands) in
+          absurd (not_both (ap (λ (m : Name). is_busy m s.openings) (sym e) ∙ some_busy x.name s.openings w.token w.opening w.is_open inside) b)
+    ]
+
 -- of a box in which nothing is open but one place, all are kept
 module _ (v : TableValue) (run : Run) (t : IsTableOf all_rules run (table_of v)) (os : Openings) (apart : AreApart os) (standing : AreStandingIn t.config os) (place : Place) (own : ℕ) (token : IsOpen os place (Some own))
     (kept : List Split) (are : AreSplitsOf (table_of v) os kept) (known : (s : Split) → place ≡ Place.Goal s.goal → split_at (table_of v) (Place.Goal s.goal) ≡ Some s → is_kept s kept ≡ true) where
@@ -102,18 +171,7 @@ module _ (v : TableValue) (run : Run) (t : IsTableOf all_rules run (table_of v))
   all_known s b e = elim (are.all s e) [ inr k ↦ k | inl i ↦ known s (its_own s b e i) e ]
 
   pub splits_enough : AreEnough v os own kept
-  splits_enough n b = on (is_some (candidate_in (table_of v) n)) refl (has_kept n kept) refl
-    where
-      on : (x : Bool) → is_some (candidate_in (table_of v) n) ≡ x → (y : Bool) → has_kept n kept ≡ y → x ≡ y
-      on true e true f = refl
-      on false e false f = refl
-      on true e false f =
-          let w : (s : Split) × (s.name ≡ n) × (split_at (table_of v) (Place.Goal s.goal) ≡ Some s) = box_split (table_of v) t.config t.unfolds once n e in
-          let k : is_kept w.0 kept ≡ true = all_known w.0 (ap (is_used os own) w.1 ∙ b) w.2 in
-          absurd (not_both (ap (λ (m : Name). has_kept m kept) (sym w.1) ∙ kept_has w.0 kept k) f)
-      on false e true f =
-          let w : (s : Split) × (s.name ≡ n) × (is_kept s kept ≡ true) = has_one n kept f in
-          absurd (not_both (ap (λ (m : Name). is_some (candidate_in (table_of v) m)) (sym w.1) ∙ split_box (table_of v) t.config t.unfolds once w.0 (are.only w.0 w.2)) e)
+  splits_enough n b = box_enough v run t kept are.only n (λ s e. all_known s (ap (is_used os own) e ∙ b))
 
 -- a settle keeps what stands at its place, before this closes
 module _ (s : SchedulerValue) (before now : List Split) (h : KeepsSplits s before) (place : Place) (keeps : KeepsPlace (table_of s.core.table) place before now) where

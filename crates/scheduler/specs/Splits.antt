@@ -3,7 +3,7 @@ use Rattle.std.specs.Prelude.{◌≡◌, ℕ, List, [], ◌∷◌, ◌++◌, Boo
 use Rattle.std.specs.List.{list_any}
 use Rattle.akl_terms.specs.declared.name.Name.{Name}
 use Rattle.akl_terms.specs.declared.name.Place.{Place}
-use Rattle.akl_terms.specs.Names.{same_name}
+use Rattle.akl_terms.specs.Names.{same_name, is_before}
 use Rattle.wake_lists.specs.Open.{Openings}
 use Rattle.table_laws.specs.Rows.{Table}
 use Rattle.table_laws.specs.Writes.{home_in}
@@ -24,6 +24,11 @@ is_kept s ss = list_any (same_split s) ss
 -- one of these is directly in a box
 abbrev pub has_kept : Name → List Split → Bool
 has_kept n ss = list_any (λ (s : Split). same_name n s.name) ss
+
+-- the goal of the first of these that is directly in a box, by the order of names; `None` where there is none
+abbrev pub IsFirstIn : Name → List Split → Option Name → Type 0
+IsFirstIn n kept None = has_kept n kept ≡ false
+IsFirstIn n kept (Some g) = (is_kept (record { name = n; goal = g }) kept ≡ true) × ((h : Name) → is_kept (record { name = n; goal = h }) kept ≡ true → is_before h g ≡ false)
 
 -- a choice with its box, where it has a candidate
 abbrev pub split_by : Name → Option Name → Option Name → Option Split

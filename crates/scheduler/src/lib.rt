@@ -1,6 +1,7 @@
 //! Which places of a run are open, and what those that sleep wait on.
 #![tactic(auto)]
 
+mod alternatives;
 mod attention;
 mod candidates;
 mod committing;

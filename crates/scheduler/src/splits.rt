@@ -4,7 +4,7 @@ ghost use Rattle.std.specs.Prelude.{◌≡◌, ◌||◌, ◌&&◌, ◌++◌, [],
 ghost use Rattle.akl_terms.specs.declared.name.Place.{Place};
 ghost use Rattle.box_tree.specs.Tables.{table_of};
 ghost use Rattle.opened_places.specs.Placed.{places_of};
-ghost use Rattle.scheduler.specs.Splits.{same_split, is_kept, has_kept, split_at, split_list, splits_at, KeepsPlace, DropsSplits};
+ghost use Rattle.scheduler.specs.Splits.{same_split, is_kept, has_kept, IsFirstIn, split_at, split_list, splits_at, KeepsPlace, DropsSplits};
 
 use akl_terms::{Name, Place};
 use box_tree::Table;
@@ -46,9 +46,9 @@ impl Splits {
         }
     }
 
-    /// Whether one of those that are kept is directly in this box.
-    pub(crate) fn has_box(&self, name: Name) -> bool
-        ensures { result ≡ has_kept name self.now }
+    /// The goal of the first of those that are kept of this box.
+    pub(crate) fn first_in(&self, name: Name) -> Option<Name>
+        ensures { IsFirstIn name self.now result }
     {
         let least = Name {
             worker: 0,
@@ -56,9 +56,22 @@ impl Splits {
         };
         let from = Split { name, goal: least };
         match self.kept.range(from..).next() {
-            Some(split) => split.name == name,
-            None => false,
+            Some(split) => {
+                if split.name == name {
+                    Some(split.goal)
+                } else {
+                    None
+                }
+            }
+            None => None,
         }
+    }
+
+    /// Whether one of those that are kept is directly in this box.
+    pub(crate) fn has_box(&self, name: Name) -> bool
+        ensures { result ≡ has_kept name self.now }
+    {
+        self.first_in(name).is_some()
     }
 
     /// Keeps what stands at a place, where it is a choice by which its box could be split. An `Err`, for want of memory,

@@ -1,7 +1,6 @@
 //! When open places come, once a label was made.
 
 ghost use Rattle.std.specs.Prelude.{◌≡◌, true, Some, IfOk};
-ghost use Rattle.box_tree.specs.Drops.{IsOfRun};
 ghost use Rattle.box_tree.specs.Paths.{sight_in};
 ghost use Rattle.opened_places.specs.Placed.{places_of};
 ghost use Rattle.wake_lists.specs.Open.{untimed};
@@ -11,7 +10,7 @@ ghost use Rattle.scheduler.specs.Turns.{urgency_seen, IsUrgentAt, AreUrgent};
 use crate::scheduler::Scheduler;
 use akl_terms::{Name, Place};
 use box_tree::{NewBox, Plan, Sight, Step, Table};
-use opened_places::{Placed, around_of};
+use opened_places::Placed;
 use std::alloc::{AllocError, Global};
 use wake_lists::{Open, Urgency};
 
@@ -28,9 +27,7 @@ pub(crate) struct TurnHints {
 
 impl TurnHints {
     /// What the label of a plan tells.
-    pub(crate) fn of(alloc: Global, table: &Table, plan: &Plan) -> Result<TurnHints, AllocError>
-        requires { IsOfRun table.now }
-    {
+    pub(crate) fn of(alloc: Global, table: &Table, plan: &Plan) -> Result<TurnHints, AllocError> {
         let told = told_by(table, plan);
         let unsolved = unsolved_by(alloc, plan.step(), told)?;
         Ok(TurnHints {
@@ -42,14 +39,12 @@ impl TurnHints {
 }
 
 // The box that a plan's step tells something.
-fn told_by(table: &Table, plan: &Plan) -> Option<Name>
-    requires { IsOfRun table.now }
-{
+fn told_by(table: &Table, plan: &Plan) -> Option<Name> {
     match plan.step() {
-        Step::Tell { .. } | Step::Promote { .. } => match around_of(table, plan.label()) {
-            Some(around) => Some(around.home),
-            None => None,
-        },
+        Step::Tell { .. } | Step::Promote { .. } => {
+            let (home, _) = table.sight_of(plan.label().place)?;
+            Some(home)
+        }
         Step::Fork { .. }
         | Step::Fail
         | Step::Cut
