@@ -28,7 +28,8 @@ fn looked(
     requires { program.now ≡ scheduler.now.core.table.program }
     ensures { IfOk result (IsFoundAt scheduler.now.core place) }
 {
-    let Some(seen) = see(alloc, scheduler.core(), place, 1)? else {
+    let candidate = scheduler.candidate_at(place);
+    let Some(seen) = see(alloc, scheduler.core(), place, 1, candidate)? else {
         return Ok(None);
     };
     let next = next_of(alloc, program, &seen)?;

@@ -7,7 +7,7 @@ use crate::shared::SharedRun;
 use akl_terms::Place;
 use box_tree::{LookError, View};
 use place_steps::{Seen, see};
-use scheduler::Attention;
+use scheduler::{Attention, Scheduler};
 use std::alloc::{AllocError, Global};
 use std::collections::VecDeque;
 use step_commit::Core;
@@ -152,7 +152,7 @@ impl SharedRun {
             return Ok(None);
         };
         let found = if self.scheduler.attention_at(token, place) == Attention::Whole {
-            see_whole(alloc, self.scheduler.core(), place, worker)?
+            see_whole(alloc, &self.scheduler, place, worker)?
         } else {
             see_tried(alloc, self.scheduler.core(), place, worker)?
         };
@@ -174,13 +174,14 @@ impl SharedRun {
 // What a worker sees of a place; `None` exactly where the place isn't there.
 fn see_whole(
     alloc: Global,
-    core: &Core,
+    scheduler: &Scheduler,
     place: Place,
     worker: u32,
 ) -> Result<Option<Sight>, AllocError>
-    ensures { IfOk result (IsSightBy core.now place worker) }
+    ensures { IfOk result (IsSightBy scheduler.now.core place worker) }
 {
-    match see(alloc, core, place, worker)? {
+    let candidate = scheduler.candidate_at(place);
+    match see(alloc, scheduler.core(), place, worker, candidate)? {
         Some(seen) => Ok(Some(Sight::Whole(seen))),
         None => Ok(None),
     }

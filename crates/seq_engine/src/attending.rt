@@ -95,7 +95,8 @@ fn attend(
     requires open { IsOpenUnder scheduler.old token place }
     ensures { IfOk result (HasAttended scheduler.old scheduler.new) }
 {
-    let Some(seen) = see(alloc, scheduler.core(), place, 1)? else {
+    let candidate = scheduler.candidate_at(place);
+    let Some(seen) = see(alloc, scheduler.core(), place, 1, candidate)? else {
         scheduler.forget(token);
         return Ok(Attended::Closed);
     };
@@ -124,7 +125,8 @@ fn attend_first(
 }
 
 /// Attends to the first open place that is looked at whole. Each one before it is tried by the rules other than Split, so
-/// that a box that fails goes at once, or put off, and is late from then on.
+/// that a box that fails goes at once, or put off, and is late from then on. Once all of them are late, the first of them in
+/// which nothing is open is looked at; so none comes more than twice.
 fn attend_next(
     alloc: Global,
     program: &Program,
@@ -133,7 +135,7 @@ fn attend_next(
     requires { program.now ≡ scheduler.old.core.table.program }
     ensures { IfOk result (HasAttended scheduler.old scheduler.new) }
 {
-    for _ in 0..scheduler.open_count() {
+    for _ in 0..scheduler.open_count().saturating_mul(2) {
         let Some((token, place)) = first_place(scheduler) else {
             return Ok(Attended::Quiet);
         };
