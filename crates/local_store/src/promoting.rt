@@ -28,7 +28,7 @@ pub fn promoted(alloc: Global, chain: &Chain) -> Result<ToldStore, AllocError>
     Ok(told)
 }
 
-// All that a store has joins another one, to which nothing was told: the innermost one of a chain.
+// All that a store has joins another one, to which nothing was told, with its bindings as a chain has them.
 fn join_store(
     alloc: Global,
     outer: &Chain,
