@@ -1,7 +1,6 @@
 //! Goals over stores of one box: each public call once, and an expression that is deep and shares its operands.
 
-ghost use Rattle.std.specs.Prelude.{◌≡◌, IsTrue};
-ghost use Rattle.akl_terms.specs.Template.{IsAfter};
+ghost use Rattle.std.specs.Prelude.{◌≡◌, []};
 ghost use Rattle.arith_goals.specs.Answers.{IsArithmetic};
 
 use akl_terms::{Code, Goal, Name, Node, Templates, Term, Test, Var};
@@ -9,8 +8,6 @@ use arith_goals::{ArithValue, evaluate};
 use local_store::{Chain, Consistency, Shared, Store, consistent, solved_store};
 use port_goals::{SendState, sendable};
 use std::alloc::{AllocError, Global};
-use std::process::Abort;
-use std::test::Fail;
 
 const FRAME: Name = Name {
     worker: 0,
@@ -37,50 +34,26 @@ const OTHER: Name = Name {
     number: 8,
 };
 
-/// Whether the node may be appended.
-fn fits(templates: &Templates, node: Node) -> bool
-    ensures { IsTrue result → IsAfter templates.now node }
+/// Puts the variable of index 0 as node 0, one of this index as node 1, and a symbol over the two as node 2.
+fn put_nodes(templates: &mut Templates, text: &str, right: u32) -> Result<(), AllocError>
+    requires nodes { templates.old.nodes ≡ [] }
+    requires symbols { templates.old.symbols ≡ [] }
 {
-    match node {
-        Node::Var(_) => true,
-        Node::Int(_) => true,
-        Node::Struct {
-            symbol,
-            first,
-            count,
-        } => {
-            let len = templates.len();
-            symbol < templates.symbols() && first <= len && count <= len - first
-        }
-    }
-}
-
-fn push(rt: &impl Abort, templates: &mut Templates, node: Node) -> Result<u32, AllocError> {
-    assert!(rt; fits(templates, node) && templates.len() < 1000);
-    templates.push(&[node])
-}
-
-/// The variable of index 0 as node 0, one of this index as node 1, and a symbol over the two as node 2.
-fn applied(
-    rt: &impl Abort,
-    alloc: Global,
-    text: &str,
-    right: u32,
-) -> Result<Templates, AllocError> {
-    let mut templates = Templates::new(alloc);
-    push(rt, &mut templates, Node::Var(0))?;
-    push(rt, &mut templates, Node::Var(right))?;
-    assert!(rt; templates.symbols() < 1000);
     let symbol = templates.intern(text)?;
-    push(
-        rt,
-        &mut templates,
-        Node::Struct {
-            symbol,
-            first: 0,
-            count: 2,
-        },
-    )?;
+    templates.push(&[Node::Var(0), Node::Var(right)])?;
+    let whole = Node::Struct {
+        symbol,
+        first: 0,
+        count: 2,
+    };
+    templates.push(&[whole])?;
+    Ok(())
+}
+
+/// Templates with these nodes.
+fn applied(alloc: Global, text: &str, right: u32) -> Result<Templates, AllocError> {
+    let mut templates = Templates::new(alloc);
+    put_nodes(&mut templates, text, right)?;
     Ok(templates)
 }
 
@@ -121,40 +94,90 @@ fn value(
     }
 }
 
-/// What is told of a variable: nothing, a port, a node, or a number.
-fn operand(text: &str) -> Result<Option<Term>, Fail> {
+/// What is told of a variable: a port, a node, or a number.
+fn operand(text: &str) -> Option<Term> {
     let node = |node: u32| Some(Term::Mol { node, frame: FRAME });
-    Ok(match text {
-        "_" => None,
+    match text {
         "own" => Some(Term::Port(OWN)),
         "other" => Some(Term::Port(OTHER)),
         "Y" => node(1),
         "whole" => node(2),
-        number => Some(Term::Int(number.parse::<i64>()?)),
-    })
+        number => match number.parse::<i64>() {
+            Ok(number) => Some(Term::Int(number)),
+            Err(_) => None,
+        },
+    }
 }
 
-/// The store with a port, and with what is told of X and of Y.
-fn store_of(alloc: Global, x: Option<Term>, y: Option<Term>) -> Result<Store, AllocError> {
-    let mut store = Store::new(alloc).with_port(OWN, Term::Int(0))?;
-    if let Some(term) = x {
-        store.add_binding(X, term)?;
+/// Tells what a word says of a variable, or nothing; whether the word says something.
+fn tell(store: &mut Store, variable: Var, text: &str) -> Result<bool, AllocError> {
+    if text == "_" {
+        return Ok(true);
     }
-    if let Some(term) = y {
-        store.add_binding(Y, term)?;
-    }
-    Ok(store)
+    let Some(term) = operand(text) else {
+        return Ok(false);
+    };
+    store.add_binding(variable, term)?;
+    Ok(true)
 }
 
-fn wanted_value(text: &str) -> Result<ArithValue, Fail> {
-    Ok(match text {
-        "holds" => ArithValue::Holds,
-        "fails" => ArithValue::Fails,
-        "waits on X" => ArithValue::Waits { on: X },
-        "waits on Y" => ArithValue::Waits { on: Y },
-        "never" => ArithValue::Never,
-        number => ArithValue::Is(number.parse::<i64>()?),
-    })
+/// Opens a port, and tells what is said of X and of Y; whether both words say something.
+fn tell_both(store: &mut Store, x: &str, y: &str) -> Result<bool, AllocError> {
+    store.set_port(OWN, Term::Int(0))?;
+    Ok(tell(store, X, x)? && tell(store, Y, y)?)
+}
+
+/// The store with a port, and with what is told of X and of Y; `None` where that is nothing that can be told.
+fn store_of(alloc: Global, x: &str, y: &str) -> Result<Option<Store>, AllocError> {
+    let mut store = Store::new(alloc);
+    if tell_both(&mut store, x, y)? {
+        Ok(Some(store))
+    } else {
+        Ok(None)
+    }
+}
+
+/// What an arithmetic goal comes to where this is told of X and of Y.
+fn value_told(
+    alloc: Global,
+    templates: &Templates,
+    x: &str,
+    y: &str,
+    code: Code,
+) -> Result<Option<ArithValue>, AllocError>
+    requires { IsArithmetic code }
+{
+    match store_of(alloc, x, y)? {
+        Some(store) => value(alloc, templates, store, code),
+        None => Ok(None),
+    }
+}
+
+fn wanted_value(text: &str) -> Option<ArithValue> {
+    match text {
+        "holds" => Some(ArithValue::Holds),
+        "fails" => Some(ArithValue::Fails),
+        "waits on X" => Some(ArithValue::Waits { on: X }),
+        "waits on Y" => Some(ArithValue::Waits { on: Y }),
+        "never" => Some(ArithValue::Never),
+        number => match number.parse::<i64>() {
+            Ok(number) => Some(ArithValue::Is(number)),
+            Err(_) => None,
+        },
+    }
+}
+
+/// Whether the operation or the comparison comes to this.
+fn comes_to(
+    alloc: Global,
+    x: &str,
+    text: &str,
+    y: &str,
+    want: Option<ArithValue>,
+) -> Result<bool, AllocError> {
+    let templates = applied(alloc, text, 1)?;
+    let found = value_told(alloc, &templates, x, y, arithmetic(text))?;
+    Ok(found.is_some() && found == want)
 }
 
 /// What is told of X, an operation or a comparison, what is told of Y, and what it comes to. `whole` is the term X
@@ -209,34 +232,44 @@ own < _ => never
 ";
 
 #[test]
-fn the_first_obstacle_decides_and_values_are_of_64_bits(rt: HostRuntime) -> Result<(), Fail> {
+fn the_first_obstacle_decides_and_values_are_of_64_bits(rt: HostRuntime) -> Result<(), AllocError> {
     for case in ARITHMETIC.lines().skip(1) {
-        let (asked, want) = case.split_once(" => ").ok_or("case")?;
-        let (x, rest) = asked.split_once(' ').ok_or("left")?;
-        let (text, y) = rest.split_once(' ').ok_or("right")?;
-        let templates = applied(&rt, rt.alloc(), text, 1)?;
-        let store = store_of(rt.alloc(), operand(x)?, operand(y)?)?;
-        let value = value(rt.alloc(), &templates, store, arithmetic(text))?;
-        assert_eq!(rt; value, Some(wanted_value(want)?), "{case}");
+        let (asked, want) = case.split_once(" => ").unwrap_or((case, "no case"));
+        let (x, rest) = asked.split_once(' ').unwrap_or((asked, ""));
+        let (text, y) = rest.split_once(' ').unwrap_or((rest, ""));
+        assert!(rt;
+            comes_to(rt.alloc(), x, text, y, wanted_value(want))?,
+            "{case}"
+        );
     }
     Ok(())
 }
 
-/// X = X1 + X1, X1 = X2 + X2 and so on, the last one 0: walked without end but for the values that are kept.
-#[test]
-fn an_expression_of_100000_shared_operations(rt: HostRuntime) -> Result<(), Fail> {
-    let templates = applied(&rt, rt.alloc(), "+", 0)?;
+/// Tells X = X1 + X1, X1 = X2 + X2 and so on, 99999 times, the last one 0.
+fn tell_operations(store: &mut Store) -> Result<(), AllocError> {
     let variable = |number: u64| Var {
         frame: Name { worker: 0, number },
         index: 0,
     };
-    let mut store = Store::new(rt.alloc());
     for number in 1..100000u64 {
         let frame = Name { worker: 0, number };
         store.add_binding(variable(number - 1), Term::Mol { node: 2, frame })?;
     }
-    store.add_binding(variable(99999), Term::Int(0))?;
-    let value = value(rt.alloc(), &templates, store, arithmetic("+"))?;
+    store.add_binding(variable(99999), Term::Int(0))
+}
+
+/// What X comes to then, over these templates.
+fn value_of_shared(alloc: Global, templates: &Templates) -> Result<Option<ArithValue>, AllocError> {
+    let mut store = Store::new(alloc);
+    tell_operations(&mut store)?;
+    value(alloc, templates, store, arithmetic("+"))
+}
+
+/// It is walked without end but for the values that are kept.
+#[test]
+fn an_expression_of_100000_shared_operations(rt: HostRuntime) -> Result<(), AllocError> {
+    let templates = applied(rt.alloc(), "+", 0)?;
+    let value = value_of_shared(rt.alloc(), &templates)?;
     assert_eq!(rt; value, Some(ArithValue::Is(0)));
     Ok(())
 }
@@ -284,15 +317,30 @@ Y 1 => no port
 whole _ => no port
 ";
 
+/// Whether the port is there where this is told of X and of Y.
+fn is_there(
+    alloc: Global,
+    templates: &Templates,
+    x: &str,
+    y: &str,
+    want: SendState,
+) -> Result<bool, AllocError> {
+    match store_of(alloc, x, y)? {
+        Some(store) => Ok(state(alloc, templates, store)? == Some(want)),
+        None => Ok(false),
+    }
+}
+
 #[test]
-fn a_send_goes_to_an_own_port_or_elsewhere_or_waits(rt: HostRuntime) -> Result<(), Fail> {
-    let templates = applied(&rt, rt.alloc(), "f", 1)?;
+fn a_send_goes_to_an_own_port_or_elsewhere_or_waits(rt: HostRuntime) -> Result<(), AllocError> {
+    let templates = applied(rt.alloc(), "f", 1)?;
     for case in SENDS.lines().skip(1) {
-        let (told, want) = case.split_once(" => ").ok_or("case")?;
-        let (x, y) = told.split_once(' ').ok_or("told")?;
-        let store = store_of(rt.alloc(), operand(x)?, operand(y)?)?;
-        let state = state(rt.alloc(), &templates, store)?;
-        assert_eq!(rt; state, Some(wanted_state(want)), "{case}");
+        let (told, want) = case.split_once(" => ").unwrap_or((case, "no case"));
+        let (x, y) = told.split_once(' ').unwrap_or((told, ""));
+        assert!(rt;
+            is_there(rt.alloc(), &templates, x, y, wanted_state(want))?,
+            "{case}"
+        );
     }
     Ok(())
 }
