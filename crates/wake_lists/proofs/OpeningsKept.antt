@@ -23,7 +23,7 @@ use Rattle.wake_lists.specs.declared.queue.Opened.{Opened}
 use Rattle.wake_lists.specs.Waits.{same_place}
 use Rattle.wake_lists.specs.Standing.{is_in, boxes_at}
 use Rattle.wake_lists.specs.Queue.{is_earlier, Places, IsTokenOf, IsNext}
-use Rattle.wake_lists.specs.Open.{Opening, Openings, opening_at, untimed, IsOpen, IsFirst, after_one, after_leave, is_busy}
+use Rattle.wake_lists.specs.Open.{Opening, Openings, opening_at, untimed, IsOpen, IsFirst, after_one, after_leave, is_busy, IsInside}
 use Rattle.wake_lists.specs.Opened.{opening, openings}
 use Rattle.wake_lists.proofs.Keys.{token_is, token_equal, token_here}
 use Rattle.wake_lists.proofs.Both.{same_place-equal}
@@ -182,6 +182,15 @@ module _ (n : Name) (bs : Boxes) where
       on : (w : Option Opened) → lookup (eqb t) os ≡ w → true ≡ is_busy n (openings bs os)
       on None e = let no : false ≡ true = sym (ap (is_in n) (closed t e)) ∙ there in absurd (cc)
       on (Some o) e = sym (busy_from os t o e there)
+
+  pub inside_is : (os : Places) → ((t : ℕ) → lookup (eqb t) os ≡ None → boxes_at t bs ≡ []) → (r : Option ℕ) → IfSome r (λ t. is_in n (boxes_at t bs) ≡ true) → IfNone r ((t : ℕ) → is_in n (boxes_at t bs) ≡ false)
+      → IsInside n (openings bs os) r
+  inside_is os closed None there empty = idle_from os empty
+  inside_is os closed (Some t) there empty = on (lookup (eqb t) os) refl
+    where
+      on : (w : Option Opened) → lookup (eqb t) os ≡ w → IsInside n (openings bs os) (Some t)
+      on None e = let no : false ≡ true = sym (ap (is_in n) (closed t e)) ∙ there in absurd (cc)
+      on (Some o) e = (opening (boxes_at t bs) o, opened bs os t o e, there)
 
   -- where one token is taken out
   module _ (token : ℕ) where

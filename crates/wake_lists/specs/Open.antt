@@ -82,3 +82,8 @@ after_leave (n ∷ ns) os = after_leave ns (after_one n os)
 -- an open place stands in the box
 abbrev pub is_busy : Name → Openings → Bool
 is_busy n os = list_any (λ (o : ℕ × Opening). is_in n o.1.boxes) os
+
+-- the token of an open place that stands in the box, where one does
+abbrev pub IsInside : Name → Openings → Option ℕ → Type 0
+IsInside n os None = is_busy n os ≡ false
+IsInside n os (Some t) = (o : Opening) × (opening_at t os ≡ Some o) × (is_in n o.boxes ≡ true)

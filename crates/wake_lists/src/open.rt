@@ -1,7 +1,7 @@
 //! The open places, in the order in which they come.
 
 ghost use Rattle.std.specs.Prelude.{◌≡◌, [], None, Some, length, option_map, IfOk, IfErr};
-ghost use Rattle.wake_lists.specs.Open.{opening_at, untimed, IsFirst, IsOpen, IsOpened, IsHurried, IsPutLast, closed, after_one, after_leave, is_busy};
+ghost use Rattle.wake_lists.specs.Open.{opening_at, untimed, IsFirst, IsInside, IsOpen, IsOpened, IsHurried, IsPutLast, closed, after_one, after_leave, is_busy};
 
 use crate::queue::{Opened, Queue};
 use crate::standing::Standing;
@@ -131,6 +131,13 @@ impl Open {
         ensures { IsFirst self.now result }
     {
         self.queue.first()
+    }
+
+    /// The token of an open place that stands in the box. `None` exactly where none stands in it.
+    pub fn inside(&self, name: Name) -> Option<u64>
+        ensures { IsInside name self.now result }
+    {
+        self.standing.first(name)
     }
 
     /// Whether some open place stands in the box.
