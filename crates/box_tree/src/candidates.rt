@@ -2,7 +2,7 @@
 
 ghost use Rattle.std.specs.Prelude.{◌≡◌};
 ghost use Rattle.box_tree.specs.Tables.{table_of};
-ghost use Rattle.box_tree.specs.Insides.{first_solved_in, candidate_at, candidate_in};
+ghost use Rattle.box_tree.specs.Insides.{first_solved_in, candidate_at};
 
 use crate::entries::Held;
 use crate::table::Table;
@@ -42,22 +42,5 @@ impl Table {
             },
             None => None,
         }
-    }
-
-    /// The alternative at which a box could be split: the first solved one of a `?` choice directly in it that has others,
-    /// by the first of the box's goals that is such a choice. `None` where there is none, and of a box that isn't there.
-    /// The box need not be stable. It takes as long as the goals of the box and their alternatives are many.
-    pub fn candidate(&self, name: Name) -> Option<Name>
-        ensures { result ≡ candidate_in (table_of self.now) name }
-    {
-        let Some(entry) = self.boxes.get(&name) else {
-            return None;
-        };
-        for goal in entry.goals.iter() {
-            if let Some(alternative) = self.candidate_at(*goal) {
-                return Some(alternative);
-            }
-        }
-        None
     }
 }

@@ -7,6 +7,7 @@ ghost use Rattle.step_commit.specs.Cores.{MayCommit};
 ghost use Rattle.scheduler.specs.Settled.{MaySettle};
 ghost use Rattle.core_tests.specs.Waking.{GoesOnTo, IsFoundAt, IsFoundNow};
 
+use crate::candidates::candidate_at;
 use crate::listing::{places_under, push_open, push_places, token_of};
 use crate::texts::{push_item, push_place, rule_name};
 use akl_terms::{Place, Program};
@@ -28,7 +29,7 @@ fn looked(
     requires { program.now ≡ scheduler.now.core.table.program }
     ensures { IfOk result (IsFoundAt scheduler.now.core place) }
 {
-    let candidate = scheduler.candidate_at(place);
+    let candidate = candidate_at(alloc, scheduler.core(), place)?;
     let Some(seen) = see(alloc, scheduler.core(), place, 1, candidate)? else {
         return Ok(None);
     };

@@ -4,6 +4,8 @@
 #[cfg(test)]
 mod attending;
 #[cfg(test)]
+mod candidates;
+#[cfg(test)]
 mod cases;
 #[cfg(test)]
 mod listing;

@@ -1,6 +1,7 @@
 //! The place that a worker plans next.
 
 ghost use Rattle.std.specs.Prelude.{◌≡◌, IfOk, IfSome};
+ghost use Rattle.scheduler.specs.Resting.{IsAtRest};
 ghost use Rattle.par_workers.specs.Turns.{IsSightBy, IsSeenIn, IsChosenIn};
 
 use crate::shared::SharedRun;
@@ -171,13 +172,14 @@ impl SharedRun {
     }
 }
 
-// What a worker sees of a place; `None` exactly where the place isn't there.
+// What a worker sees of a place in which nothing is open; `None` exactly where the place isn't there.
 fn see_whole(
     alloc: Global,
     scheduler: &Scheduler,
     place: Place,
     worker: u32,
 ) -> Result<Option<Sight>, AllocError>
+    requires { IsAtRest scheduler.now.openings place }
     ensures { IfOk result (IsSightBy scheduler.now.core place worker) }
 {
     let candidate = scheduler.candidate_at(place);

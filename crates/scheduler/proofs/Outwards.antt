@@ -195,21 +195,36 @@ module _ (v : TableValue) where
               around = same_around (Place.Box n) p.0 (names_around f) (ap (option_map names_around) e) around;
             }
 
+    -- the boxes around what stands in a box are those around the box, the box, and some inside it
+    pub record WayThrough (k : Name) (around ks : List Name) : Type 0 where
+      pub outer inner : List Name
+      pub parts : around ≡ outer ++ k ∷ inner
+      pub same : reverse outer ≡ ks
+
+    pub way_through : (k : Name) (ks : List Name) → Outward (table_of v) (outside_of (table_of v) k) ks → (place : Place) (ns : List Name) → boxes_around place t.config.roots ≡ Some ns → IsIn k ns → WayThrough k ns ks
+    way_through k ks o place ns e i =
+        let w : WayOut place = way_out place in
+        let p : (P : List Name) × (Q : List Name) × (ns ≡ P ++ k ∷ Q) = names_cut k ns i in
+        let long : w.names ≡ reverse p.1 ++ k ∷ reverse p.0 =
+        sym (ap reverse (w.around ns e) ∙ reverse-reverse w.names) ∙ ap reverse p.2 ∙ reverse-append p.0 (k ∷ p.1) ∙ ap (λ (ms : List Name). ms ++ reverse p.0) (reverse-append (k ∷ []) p.1) ∙ append_assoc (reverse p.1) (k ∷ []) (reverse p.0) in
+        record {
+          outer = p.0;
+          inner = p.1;
+          parts = p.2;
+          same = outward_one (table_of v) (outside_of (table_of v) k) (reverse p.0) ks
+              (outward_cut (table_of v) (first_around (table_of v) place) (reverse p.1) k (reverse p.0) (subst (Outward (table_of v) (first_around (table_of v) place)) long w.outward)) o;
+        }
+
     -- what stands in a box stands in the nearest one from it outwards
     outer_stands : (k : Name) (ks : List Name) → Outward (table_of v) (outside_of (table_of v) k) ks → (place : Place) → StandsIn k t.config.roots place → (m : Name) → nearest_of (k ∷ ks) t.config.roots ≡ Some m
         → StandsIn m t.config.roots place
     outer_stands k ks o place h m e =
         let s : (ns : List Name) × (boxes_around place t.config.roots ≡ Some ns) × IsIn k ns = some_and (IsIn k) (boxes_around place t.config.roots) h in
-        let w : WayOut place = way_out place in
-        let p : (P : List Name) × (Q : List Name) × (s.0 ≡ P ++ k ∷ Q) = names_cut k s.0 s.2 in
-        let long : w.names ≡ reverse p.1 ++ k ∷ reverse p.0 =
-        sym (ap reverse (w.around s.0 s.1) ∙ reverse-reverse w.names) ∙ ap reverse p.2 ∙ reverse-append p.0 (k ∷ p.1) ∙ ap (λ (ns : List Name). ns ++ reverse p.0) (reverse-append (k ∷ []) p.1) ∙ append_assoc (reverse p.1) (k ∷ []) (reverse p.0) in
-        let same : reverse p.0 ≡ ks = outward_one (table_of v) (outside_of (table_of v) k) (reverse p.0) ks
-        (outward_cut (table_of v) (first_around (table_of v) place) (reverse p.1) k (reverse p.0) (subst (Outward (table_of v) (first_around (table_of v) place)) long w.outward)) o in
-        let down : reverse (p.0 ++ k ∷ []) ≡ k ∷ ks = reverse-append p.0 (k ∷ []) ∙ ap (λ (ns : List Name). k ∷ ns) same in
-        let i : IsIn m (p.0 ++ k ∷ []) = nearest_in (p.0 ++ k ∷ []) t.config.roots m (ap (λ (ns : List Name). nearest_of ns t.config.roots) down ∙ e) in
+        let p : WayThrough k s.0 ks = way_through k ks o place s.0 s.1 s.2 in
+        let down : reverse (p.outer ++ k ∷ []) ≡ k ∷ ks = reverse-append p.outer (k ∷ []) ∙ ap (λ (ns : List Name). k ∷ ns) p.same in
+        let i : IsIn m (p.outer ++ k ∷ []) = nearest_in (p.outer ++ k ∷ []) t.config.roots m (ap (λ (ns : List Name). nearest_of ns t.config.roots) down ∙ e) in
         and_some (IsIn m) (boxes_around place t.config.roots) s.0 s.1
-        (subst (IsIn m) (append_assoc p.0 (k ∷ []) p.1 ∙ sym p.2) (IsIn-left m (p.0 ++ k ∷ []) p.1 i))
+        (subst (IsIn m) (append_assoc p.outer (k ∷ []) p.inner ∙ sym p.parts) (IsIn-left m (p.outer ++ k ∷ []) p.inner i))
 
     module _ (used : Name → Bool) where
       abbrev quiet : List Name → Option Name

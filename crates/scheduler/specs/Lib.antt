@@ -16,3 +16,4 @@ pub mod Once
 pub mod Work
 pub mod Counting
 pub mod Splits
+pub mod Resting

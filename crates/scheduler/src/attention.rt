@@ -1,5 +1,9 @@
 //! How an open place is looked at.
 
+ghost use Rattle.std.specs.Prelude.{◌≡◌, false};
+ghost use Rattle.scheduler.specs.Resting.{IsAtRest};
+ghost use Rattle.scheduler.specs.declared.attention.Attention.{Attention};
+
 use crate::scheduler::Scheduler;
 use akl_terms::{Name, Place};
 use wake_lists::Urgency;
@@ -16,8 +20,11 @@ pub enum Attention {
 }
 
 impl Scheduler {
-    /// How the open place with this token is looked at, once it comes.
-    pub fn attention_at(&self, token: u64, place: Place) -> Attention {
+    /// How the open place with this token is looked at, once it comes. A box is looked at whole only where nothing is open
+    /// in it.
+    pub fn attention_at(&self, token: u64, place: Place) -> Attention
+        ensures { result ≡ Attention.Whole → IsAtRest self.now.openings place }
+    {
         match (self.urgency_of(token), place) {
             (Some(Urgency::Urgent), _) => Attention::Tried,
             (Some(Urgency::Late), _) => self.attention_if_busy(place, Attention::PutOff),
@@ -27,7 +34,10 @@ impl Scheduler {
     }
 
     // This, if something is open inside of a place.
-    fn attention_if_busy(&self, place: Place, attention: Attention) -> Attention {
+    fn attention_if_busy(&self, place: Place, attention: Attention) -> Attention
+        requires { attention ≡ Attention.Whole → ⊥ }
+        ensures { result ≡ Attention.Whole → IsAtRest self.now.openings place }
+    {
         if self.is_busy(place) {
             attention
         } else {
@@ -36,7 +46,9 @@ impl Scheduler {
     }
 
     // Whether something is open inside of a place: in a box, or in an alternative of a choice, or the alternative itself.
-    fn is_busy(&self, place: Place) -> bool {
+    fn is_busy(&self, place: Place) -> bool
+        ensures { result ≡ false → IsAtRest self.now.openings place }
+    {
         match place {
             Place::Box(name) => self.open.busy(name),
             Place::Goal(goal) => self.has_open(self.core.table().alternatives_of(goal)),

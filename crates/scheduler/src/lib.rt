@@ -11,6 +11,7 @@ mod effects;
 mod once;
 mod opening;
 mod placing;
+mod resting;
 mod scheduler;
 mod settling;
 mod splits;

@@ -1,6 +1,7 @@
 //! Open places that one worker looks at in turn.
 
 ghost use Rattle.std.specs.Prelude.{◌≡◌, IfOk};
+ghost use Rattle.scheduler.specs.Resting.{IsAtRest};
 ghost use Rattle.seq_engine.specs.Attending.{IsOpenUnder, HasFirst, HasTried, HasAttended, HasPlan, IsIdleNow, HasClosed};
 
 use akl_terms::{Place, Program};
@@ -83,7 +84,7 @@ fn settle(alloc: Global, scheduler: &mut Scheduler, idle: &Idle) -> Result<(), A
     }
 }
 
-// Plans a rule at an open place. Where none applies, the place is closed.
+// Plans a rule at an open place in which nothing is open. Where none applies, the place is closed.
 fn attend(
     alloc: Global,
     program: &Program,
@@ -93,6 +94,7 @@ fn attend(
 ) -> Result<Attended, AllocError>
     requires program { program.now ≡ scheduler.old.core.table.program }
     requires open { IsOpenUnder scheduler.old token place }
+    requires rest { IsAtRest scheduler.old.openings place }
     ensures { IfOk result (HasAttended scheduler.old scheduler.new) }
 {
     let candidate = scheduler.candidate_at(place);
@@ -109,8 +111,8 @@ fn attend(
     }
 }
 
-// Attends to the place that comes first.
-fn attend_first(
+// Attends to an open place in which nothing is open.
+fn attend_at_rest(
     alloc: Global,
     program: &Program,
     scheduler: &mut Scheduler,
@@ -118,7 +120,7 @@ fn attend_first(
     requires { program.now ≡ scheduler.old.core.table.program }
     ensures { IfOk result (HasAttended scheduler.old scheduler.new) }
 {
-    match first_place(scheduler) {
+    match scheduler.first_at_rest() {
         Some((token, place)) => attend(alloc, program, scheduler, token, place),
         None => Ok(Attended::Quiet),
     }
@@ -147,7 +149,7 @@ fn attend_next(
             return Ok(Attended::Planned(found));
         }
     }
-    attend_first(alloc, program, scheduler)
+    attend_at_rest(alloc, program, scheduler)
 }
 
 /// A plan of a rule that applies at an open place, where those that came before it are closed; `None` where no place is

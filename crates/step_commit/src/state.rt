@@ -3,7 +3,7 @@
 ghost use Rattle.std.specs.Prelude.{◌≡◌, IfOk, IfErr, IfSome, IfNone, Some, [], length, true};
 ghost use Rattle.box_tree.specs.Tables.{table_of, step_of, goals_in, is_empty, shown_in, shown_trees_of, HasVariables, HasShownVariables};
 ghost use Rattle.box_tree.specs.Views.{is_there, IsUnseen, AreAllPlaces};
-ghost use Rattle.box_tree.specs.Insides.{IsInsideOf, candidate_in};
+ghost use Rattle.box_tree.specs.Insides.{IsInsideOf};
 ghost use Rattle.akl_terms.specs.declared.name.Place.{Place};
 ghost use Rattle.step_commit.specs.Cores.{IsCore, MayCommit, IsFresh, Commits, IsRefused, IsFirstStale, is_within};
 ghost use Rattle.step_commit.specs.declared.commit.CommitError.TheVariants as variants;
@@ -103,14 +103,6 @@ impl Core {
         ensures { IfOk result (IsInsideOf self.now.table self.now.journal name worker) }
     {
         self.table.look_inside(alloc, &self.journal, name, worker)
-    }
-
-    /// The alternative at which a box could be split, were it stable; `None` where there is none, and of a box that
-    /// isn't there.
-    pub fn candidate(&self, name: Name) -> Option<Name>
-        ensures { result ≡ candidate_in (table_of self.now.table) name }
-    {
-        self.table.candidate(name)
     }
 
     /// All boxes and goals: boxes first, each in increasing order of names.
