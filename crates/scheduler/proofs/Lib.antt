@@ -22,7 +22,7 @@ pub mod SettleKept
 pub mod SettleCalls
 pub mod Outwards
 pub mod Weights
-pub mod Resting
+pub mod AtRest
 pub mod Untimed
 pub mod SeenOnce
 pub mod CountedContents

@@ -197,7 +197,8 @@ module _ (v : TableValue) where
 
     -- the boxes around what stands in a box are those around the box, the box, and some inside it
     pub record WayThrough (k : Name) (around ks : List Name) : Type 0 where
-      pub outer inner : List Name
+      pub outer : List Name
+      pub inner : List Name
       pub parts : around ≡ outer ++ k ∷ inner
       pub same : reverse outer ≡ ks
 

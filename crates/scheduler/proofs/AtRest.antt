@@ -1,7 +1,7 @@
 -- From an open box on, what stands open in it stands deeper.
 use Rattle.std.proofs.Common.{◌≡◌, ℕ, suc, ◌+◌, ◌-◌, ◌<◌, Bool, true, false, List, [], ◌∷◌, ◌++◌, length, reverse, ◌≤◌, Option, Some, None, refl, sym, ◌∙◌, ap, subst, arith}
 use Rattle.std.proofs.lemmas.List.{length-append, length-reverse}
-use Rattle.std.specs.Prelude.{◌||◌}
+use Rattle.std.specs.Prelude.{◌||◌, option_map}
 use Rattle.akl_terms.specs.declared.name.Name.{Name}
 use Rattle.akl_terms.specs.declared.name.Place.{Place}
 use Rattle.akl_terms.proofs.SameNames.{same_name-refl}
@@ -10,9 +10,9 @@ use Rattle.akl_model.specs.Wakes.{boxes_around, StandsIn}
 use Rattle.akl_model.proofs.Options.{some_value, some_and}
 use Rattle.box_tree.specs.Tables.{TableValue, table_of}
 use Rattle.box_tree.specs.Paths.{outside_of}
-use Rattle.wake_lists.specs.Open.{Opening, Openings, opening_at, closed}
+use Rattle.wake_lists.specs.Open.{Opening, Openings, opening_at, closed, IsFirst}
 use Rattle.wake_lists.specs.Standing.{is_in}
-use Rattle.scheduler.specs.Nearest.{Outward}
+use Rattle.scheduler.specs.Resting.{IsOpenAtRest, IsInsideOf, IsInsideAt}
 use Rattle.scheduler.specs.Schedulers.{SchedulerValue, IsScheduler}
 use Rattle.scheduler.specs.Weights.{weight}
 use Rattle.scheduler.proofs.OpeningLists.{some_none}
@@ -67,3 +67,26 @@ module _ (s : SchedulerValue) (i : IsScheduler s) where
       let a : length k.boxes ≡ length z.outer + suc (length z.inner) = ap length (listed ∙ z.parts) ∙ length-append z.outer (n ∷ z.inner) in
       let b : length z.outer ≡ length w.names = sym (length-reverse z.outer) ∙ ap length z.same in
       left_less s.openings t u o k e f (omega (arith, few, a, b))
+
+-- a token leads to an open place
+abbrev pub IsToken : Openings → ℕ → Type 0
+IsToken os t = (o : Opening) × (opening_at t os ≡ Some o)
+
+pub first_token : (os : Openings) (r : Option ℕ) (t : ℕ) → IsFirst os r → r ≡ Some t → IsToken os t
+first_token os r t f e = let w : IsFirst os (Some t) = subst (IsFirst os) e f in (w.0, w.1)
+
+pub inner_token : (s : SchedulerValue) → IsScheduler s → (t u : ℕ) (r : Option ℕ) → IsToken s.openings t → IsInsideAt s.openings t r → r ≡ Some u → IsToken s.openings u × (depth_left s.openings u < depth_left s.openings t)
+inner_token s i t u r w h e = on w.0.place refl (subst (IsInsideOf s.openings w.0.place) e (h w.0 w.1))
+  where
+    on : (p : Place) → w.0.place ≡ p → IsInsideOf s.openings p (Some u) → IsToken s.openings u × (depth_left s.openings u < depth_left s.openings t)
+    on (Place.Goal g) q x = let z : Some u ≡ None = x in absurd cc
+    on (Place.Box n) q x = ((x.0, x.1), deeper s i n t u w.0 x.0 w.1 q x.1 x.2)
+
+pub rests : (os : Openings) (t : ℕ) (p : Place) (r : Option ℕ) → IsToken os t → IsInsideAt os t r → r ≡ None → Some p ≡ option_map (λ (o : Opening). o.place) (opening_at t os) → IsOpenAtRest os (t, p)
+rests os t p r w h e f =
+    let q : p ≡ w.0.place = some_value (f ∙ ap (option_map (λ (o : Opening). o.place)) w.1) in
+    let x : IsInsideOf os w.0.place None = subst (IsInsideOf os w.0.place) e (h w.0 w.1) in
+    record { opening = w.0; is_open = w.1; of_place = sym q; at_rest = λ n g. subst (λ (k : Place). IsInsideOf os k None) (sym q ∙ g) x }
+
+pub token_leads : (os : Openings) (t : ℕ) → IsToken os t → None ≡ option_map (λ (o : Opening). o.place) (opening_at t os) → ⊥
+token_leads os t w f = some_none (ap (option_map (λ (o : Opening). o.place)) w.1) (sym f)
