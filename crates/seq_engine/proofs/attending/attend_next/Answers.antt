@@ -10,5 +10,5 @@ returns-then-eq c =
 
 pub returns : goal.returns
 returns c =
-    IfOk-weaker c.attend_first.result (HasAttended c.loop.scheduler c.attend_first.new.scheduler) (HasAttended c.args.scheduler.now c.attend_first.new.scheduler)
-    (λ a. attended_after c.args.scheduler.now c.loop.scheduler c.attend_first.new.scheduler a c.loop.invariant) c.attend_first.ensures
+    IfOk-weaker c.attend_at_rest.result (HasAttended c.loop.scheduler c.attend_at_rest.new.scheduler) (HasAttended c.args.scheduler.now c.attend_at_rest.new.scheduler)
+    (λ a. attended_after c.args.scheduler.now c.loop.scheduler c.attend_at_rest.new.scheduler a c.loop.invariant) c.attend_at_rest.ensures
