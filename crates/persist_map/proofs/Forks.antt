@@ -9,7 +9,7 @@ use Rattle.persist_map.specs.declared.tree.Tree.{Tree}
 use Rattle.persist_map.specs.declared.tree.Tree.TheVariants as tree
 use Rattle.persist_map.specs.declared.tree.Fork.{Fork}
 use Rattle.persist_map.specs.Contents.{entries_of, height_of, DifferByAtMost, IsBalanced, IsBalancedFork, IsSearchTree}
-use Rattle.persist_map.specs.Changes.{grows, fork_grows, may_shrink, IsSameTree, IsJoined, IsTurned}
+use Rattle.persist_map.specs.Changes.{is_level, grows, fork_grows, may_shrink, IsSameTree, IsReshaped, IsJoined, IsTurned}
 use Rattle.persist_map.specs.Entries.{IsOrdered}
 use Rattle.persist_map.proofs.Sides.{IsOrdered-front, IsOrdered-right}
 
@@ -88,6 +88,9 @@ module _ {K V : Type 0} where
         grows = s.grows ∙ sym turned.grows;
       }
 
+  pub same_shape : (t : Tree K V) → IsReshaped t t
+  same_shape t = record { entries = refl; height = refl; balanced = λ b. b }
+
   pub same_tree : (t : Tree K V) → IsSameTree t t
   same_tree t = record { entries = refl; height = refl; level = refl; balanced = λ b. b }
 
@@ -117,9 +120,29 @@ module _ {K V : Type 0} where
     right_comes_up = λ e no. let s = b.sides in absurd (omega arith);
   }
 
+  pub reshaped_in_place : (cmp : K → K → Ordering) (k : K) (old : Tree K V) (a : Arc (Fork K V) Global) → StandsFor cmp k old (arc_value a) → IsReshaped old (tree.Fork a)
+  reshaped_in_place cmp k old a s =
+      let fork = s.fork in
+      record { entries = sym s.top.entries; height = sym s.height; balanced = λ _. (fork.left, fork.right, fork.kept, fork.sides) }
+
   -- a fork of balanced sides whose height was taken anew
   pub joined_by_height : (a : Arc (Fork K V) Global) (l : Tree K V) (k : K) (v : V) (r : Tree K V) → arc_value a ≡ record { left = l; key = k; value = v; right = r; height = max (height_of l) (height_of r) + 1 }
       → IsBalanced l → IsBalanced r → DifferByAtMost 1 (height_of l) (height_of r) → IsJoined l k v r (tree.Fork a)
   joined_by_height a l k v r is left right sides =
       let fork : IsBalancedFork (record { left = l; key = k; value = v; right = r; height = max (height_of l) (height_of r) + 1 }) = record { left = left; right = right; kept = refl; sides = sides } in
       subst (λ (z : Fork K V). IsJoined z.left z.key z.value z.right (tree.Fork a)) is (joined_in_place a (subst IsBalancedFork (sym is) fork))
+
+-- the balanced tree t, whose top is the fork f, by its sides
+pub record HasParts {K V : Type 0} (t : Tree K V) (f : Fork K V) : Type 0 where
+  pub entries : entries_of t ≡ entries_of f.left ++ (f.key, f.value) ∷ entries_of f.right
+  pub height : height_of t ≡ max (height_of f.left) (height_of f.right) + 1
+  pub level : is_level t ≡ eqb (height_of f.left) (height_of f.right)
+  pub fork : IsBalancedFork f
+
+module _ {K V : Type 0} where
+  parts_at_top : (a : Arc (Fork K V) Global) → IsBalanced (tree.Fork a) → HasParts (tree.Fork a) (arc_value a)
+  parts_at_top a b = record { entries = refl; height = refl; level = refl; fork = record { left = b.0; right = b.1; kept = b.2; sides = b.3 } }
+
+  pub has_parts : (t : Tree K V) (a : Arc (Fork K V) Global) (f : Fork K V) → t ≡ tree.Fork a → f ≡ arc_value a → IsBalanced t → HasParts t f
+  has_parts t a f is at b =
+      subst (λ (z : Tree K V). HasParts z f) (sym is) (subst (λ (z : Fork K V). HasParts (tree.Fork a) z) (sym at) (parts_at_top a (subst IsBalanced is b)))

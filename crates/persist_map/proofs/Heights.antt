@@ -19,6 +19,10 @@ both_true false b h = cc
 not_eqb : (m n : ℕ) → (m ≡ n → ⊥) → eqb m n ≡ false
 not_eqb m n other = grind (arith, nat_tests)
 
+pub one_at_most : (b : Bool) → cond b 1 0 ≤ 1
+one_at_most true = omega arith
+one_at_most false = omega arith
+
 -- `h` and `s` are the heights of the side that changes and of the other one, and `new` is that of the fork then; `top_level` says whether the changed
 -- side is level
 pub set_height : (h s h' new : ℕ) (level grows top_level : Bool) → level ≡ eqb h s → DifferByAtMost 1 h s → h' ≡ h + cond grows 1 0
@@ -85,3 +89,11 @@ taken_in_place h s h' true d stays below by =
       | true ↦ λ at no. cc
       | false ↦ λ at no. let high = ltb-false h s at in (omega arith, omega arith)
     ] refl stays
+
+-- `h` and `s` are the heights of the side that may have got one lower, to `h'`, and of the other one, and `new` is that of the two joined
+pub joined_not_lower : (h s h' new : ℕ) → DifferByAtMost 1 h s → h ≤ h' + 1 → max h' s ≤ new → (DifferByAtMost 1 h' s → new ≡ max h' s + 1) → max h s ≤ new
+joined_not_lower h s h' new d by low stands =
+    elim (ltb (max h' s) h) as (λ b. ltb (max h' s) h ≡ b → max h s ≤ new) [
+      | true ↦ λ is. let less = ltb-true (max h' s) h is in let w = stands (omega arith) in omega arith
+      | false ↦ λ is. let more = ltb-false (max h' s) h is in omega arith
+    ] refl

@@ -8,3 +8,4 @@ pub mod Newest
 pub mod Removals
 pub mod Settings
 pub mod Sides
+pub mod Turns

@@ -1,16 +1,16 @@
 -- A key that is taken out of a tree, from the tree that it makes of a side.
-use Rattle.std.proofs.Common.{◌≡◌, ◌+◌, ◌≤◌, max, true, false, cond, eqb, sym, ap, ◌∙◌, arith}
+use Rattle.std.proofs.Common.{◌≡◌, ◌+◌, max, List, true, false, cond, eqb, ◌∷◌, ◌++◌, sym, ap, ◌∙◌, arith}
 use Rattle.std.specs.declared.cmp.Ordering.{Ordering}
 use Rattle.std.specs.declared.cmp.Ordering.TheVariants.{Less, Equal, Greater}
 use Rattle.std.specs.Cmp.{IsTotalOrder}
 use Rattle.std.specs.Ordering.{match_ordering}
 use Rattle.persist_map.specs.declared.tree.Tree.{Tree}
 use Rattle.persist_map.specs.declared.tree.Fork.{Fork}
-use Rattle.persist_map.specs.Contents.{height_of, DifferByAtMost}
-use Rattle.persist_map.specs.Changes.{may_shrink, IsJoined, IsTogether, IsTakenOut}
+use Rattle.persist_map.specs.Contents.{entries_of, height_of, DifferByAtMost, IsBalancedFork}
+use Rattle.persist_map.specs.Changes.{may_shrink, IsJoined, IsSplit, IsTogether, IsTakenOut}
 use Rattle.persist_map.proofs.Sides.{remove_entry-left, remove_entry-here, remove_entry-right}
-use Rattle.persist_map.proofs.Heights.{eqb_either_way, taken_height}
-use Rattle.persist_map.proofs.Forks.{HasTop, HasBalancedTop}
+use Rattle.persist_map.proofs.Heights.{eqb_either_way, taken_height, joined_not_lower}
+use Rattle.persist_map.proofs.Forks.{HasTop, HasBalancedTop, HasParts}
 
 module _ {K V : Type 0} (cmp : K → K → Ordering) (o : IsTotalOrder cmp) (old : Tree K V) (f : Fork K V) (top : HasTop cmp old f) (high : HasBalancedTop cmp old f) (k : K) where
   shrinks_by : (a : Ordering) → cmp k f.key ≡ a → may_shrink cmp k old ≡ match_ordering a (cond (eqb (height_of f.left) (height_of f.right)) false (may_shrink cmp k f.left)) true (cond (eqb (height_of f.left) (height_of f.right)) false (may_shrink cmp k f.right))
@@ -51,4 +51,40 @@ module _ {K V : Type 0} (cmp : K → K → Ordering) (o : IsTotalOrder cmp) (old
         balanced = j.balanced;
         not_higher = rw high.height (omega arith);
         at_most_one_lower = rw (high.height, shrinks_by Equal same_key) (omega arith);
+      }
+
+module _ {K V : Type 0} where
+  -- the first entry of the fork f is that of its left side, whose top is x
+  pub split_on_left : (f x : Fork K V) (e : K × V) (o t : Tree K V) → HasParts f.left x → IsBalancedFork f → IsSplit x e o → IsJoined o f.key f.value f.right t → IsSplit f e t
+  split_on_left f x e o t side fork split j =
+      let kept = fork.kept in
+      let side_kept = side.fork.kept in
+      let side_height = side.height in
+      let upper = split.not_higher in
+      let lower = split.at_most_one_lower in
+      let up = j.at_most_one_higher in
+      let low = joined_not_lower (height_of f.left) (height_of f.right) (height_of o) (height_of t) fork.sides (omega arith) j.not_lower j.as_it_stands in
+      record {
+        entries = rw (side.entries, split.entries) (ap (λ (es : List (K × V)). e ∷ es) (sym j.entries));
+        balanced = j.balanced;
+        not_higher = omega arith;
+        at_most_one_lower = omega arith;
+      }
+
+  -- the entries on the right, whose top is f, begin with that of the fork that joins the sides
+  pub together : (l r : Tree K V) (f : Fork K V) (e : K × V) (o t : Tree K V) → HasParts r f → DifferByAtMost 1 (height_of l) (height_of r) → IsSplit f e o → IsJoined l e.0 e.1 o t → IsTogether l r t
+  together l r f e o t top sides split j =
+      let kept = top.fork.kept in
+      let height = top.height in
+      let upper = split.not_higher in
+      let lower = split.at_most_one_lower in
+      let up = j.at_most_one_higher in
+      let not_lower = j.not_lower in
+      let stands : DifferByAtMost 1 (height_of o) (height_of l) → height_of t ≡ max (height_of o) (height_of l) + 1 = λ d. j.as_it_stands (d.1, d.0) ∙ omega arith in
+      let low = joined_not_lower (height_of r) (height_of l) (height_of o) (height_of t) (sides.1, sides.0) (omega arith) (omega arith) stands in
+      record {
+        entries = j.entries ∙ rw top.entries (ap (λ (es : List (K × V)). entries_of l ++ es) (sym split.entries));
+        balanced = j.balanced;
+        not_lower = omega arith;
+        at_most_one_higher = omega arith;
       }

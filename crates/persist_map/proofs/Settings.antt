@@ -1,15 +1,20 @@
 -- A pair that is set in a tree, from the tree that it makes of a side.
-use Rattle.std.proofs.Common.{◌≡◌, ◌+◌, max, Bool, false, eqb, ◌&&◌, refl, sym, ap, ◌∙◌, arith}
+use Rattle.std.proofs.Common.{◌≡◌, ◌+◌, ◌≤◌, max, List, Bool, false, eqb, ◌&&◌, refl, sym, ap, ◌∙◌, arith}
 use Rattle.std.specs.declared.cmp.Ordering.{Ordering}
 use Rattle.std.specs.declared.cmp.Ordering.TheVariants.{Less, Equal, Greater}
 use Rattle.std.specs.Cmp.{IsTotalOrder}
 use Rattle.std.specs.Ordering.{match_ordering}
+use Rattle.std.specs.Arc.{arc_value}
+use Rattle.std.specs.BTreeMap.{insert_entry}
+use Rattle.std.specs.declared.sync.Arc.{Arc}
+use Rattle.std.specs.declared.alloc.Global.{Global}
 use Rattle.persist_map.specs.declared.tree.Tree.{Tree}
+use Rattle.persist_map.specs.declared.tree.Tree.TheVariants as tree
 use Rattle.persist_map.specs.declared.tree.Fork.{Fork}
 use Rattle.persist_map.specs.Contents.{height_of, DifferByAtMost}
-use Rattle.persist_map.specs.Changes.{is_level, grows, IsJoined, IsSet}
+use Rattle.persist_map.specs.Changes.{is_level, grows, IsReshaped, IsJoined, IsSet}
 use Rattle.persist_map.proofs.Sides.{insert_entry-left, insert_entry-here, insert_entry-right}
-use Rattle.persist_map.proofs.Heights.{and_false, eqb_either_way, set_height, set_leans}
+use Rattle.persist_map.proofs.Heights.{and_false, one_at_most, eqb_either_way, set_height, set_leans}
 use Rattle.persist_map.proofs.Forks.{StandsFor}
 
 module _ {K V : Type 0} (cmp : K → K → Ordering) (old : Tree K V) (f : Fork K V) (k : K) (v : V) (s : StandsFor cmp k old f) where
@@ -50,3 +55,32 @@ module _ {K V : Type 0} (cmp : K → K → Ordering) (old : Tree K V) (f : Fork 
         height = rw (s.height, none) (omega arith);
         leans = λ grown. cc (none, grown);
       }
+
+  -- the sides in place of ones that have their entries and heights
+  pub reshaped : (l r t : Tree K V) → IsReshaped f.left l → IsReshaped f.right r → IsJoined l f.key f.value r t → IsReshaped old t
+  reshaped l r t left right j =
+      let sides = s.fork.sides in
+      let left_height = left.height in
+      let right_height = right.height in
+      let stands = j.as_it_stands (omega arith) in
+      let height = s.height in
+      record {
+        entries = j.entries ∙ rw (left.entries, right.entries, s.top.entries) refl;
+        height = omega arith;
+        balanced = λ _. j.balanced;
+      }
+
+-- a pair that is set in a fork that stands for the tree
+pub set_in_fork : {K V : Type 0} (cmp : K → K → Ordering) (old : Tree K V) (k : K) (v : V) (a : Arc (Fork K V) Global) (t : Tree K V) → StandsFor cmp k old (arc_value a) → IsSet cmp (tree.Fork a) k v t → IsSet cmp old k v t
+set_in_fork {K} {V} cmp old k v a t s set = record {
+  entries = set.entries ∙ ap (λ (es : List (K × V)). insert_entry cmp es k v) (sym s.top.entries);
+  balanced = set.balanced;
+  height = rw (s.height, s.grows) set.height;
+  leans = λ grown high. set.leans (sym s.grows ∙ grown) (omega arith);
+}
+
+pub set_at_most : {K V : Type 0} (cmp : K → K → Ordering) (old : Tree K V) (k : K) (v : V) (new : Tree K V) → IsSet cmp old k v new → height_of new ≤ height_of old + 1
+set_at_most cmp old k v new set =
+    let height = set.height in
+    let one = one_at_most (grows cmp k old) in
+    omega arith

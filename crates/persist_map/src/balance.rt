@@ -23,23 +23,28 @@ impl<K: Clone + Drop, V: Clone + Drop> Fork<K, V> {
         self.between(alloc, left, self.right.share()?)
     }
 
-    /// The same entry between the left side, which it shares, and another right side.
+    /// The same entry between a left side, which it shares, and another right side.
     #[inline(always)]
-    pub fn with_right(&self, alloc: Global, right: Tree<K, V>) -> Result<Tree<K, V>, AllocError>
+    pub fn with_right(
+        &self,
+        alloc: Global,
+        left: &Tree<K, V>,
+        right: Tree<K, V>,
+    ) -> Result<Tree<K, V>, AllocError>
         requires keys { ClonesAreEqual K.is_clone }
         requires values { ClonesAreEqual V.is_clone }
-        requires left { IsBalanced self.now.left }
+        requires left { IsBalanced left.now }
         requires right { IsBalanced right }
-        requires heights { DifferByAtMost 2 (height_of self.now.left) (height_of right) }
-        ensures { IfOk result (λ t. IsJoined self.now.left self.now.key self.now.value right t) }
+        requires heights { DifferByAtMost 2 (height_of left.now) (height_of right) }
+        ensures { IfOk result (λ t. IsJoined left.now self.now.key self.now.value right t) }
     {
-        self.between(alloc, self.left.share()?, right)
+        self.between(alloc, left.share()?, right)
     }
 
-    /// The same entry between two other sides whose heights differ by at most two: the heights of the result's sides
-    /// differ by at most one.
+    // The same entry between two other sides whose heights differ by at most two: the heights of the result's sides
+    // differ by at most one.
     #[inline(always)]
-    pub fn between(
+    fn between(
         &self,
         alloc: Global,
         left: Tree<K, V>,
@@ -57,7 +62,7 @@ impl<K: Clone + Drop, V: Clone + Drop> Fork<K, V> {
         } else if right.height().saturating_sub(left.height()) > 1 {
             self.turned_left(alloc, &left, &right)
         } else {
-            self.over(alloc, left, right)
+            Tree::over(alloc, left, &self.key, &self.value, right)
         }
     }
 
@@ -80,19 +85,18 @@ impl<K: Clone + Drop, V: Clone + Drop> Fork<K, V> {
             unreachable!()
         };
         let top: &Fork<K, V> = top;
-        match &top.right {
-            Tree::Fork(middle) if middle.height > top.left.height() => {
-                let middle: &Fork<K, V> = middle;
-                let lower_left = top.copied_over(alloc, &top.left, &middle.left)?;
-                let lower_right = self.copied_over(alloc, &middle.right, right)?;
-                middle.over(alloc, lower_left, lower_right)
-            }
-            inner => {
-                let outer = top.left.share()?;
-                let lower = self.copied_over(alloc, inner, right)?;
-                top.over(alloc, outer, lower)
-            }
+        if top.right.height() <= top.left.height() {
+            let outer = top.left.share()?;
+            let lower = Tree::copied(alloc, &top.right, &self.key, &self.value, right)?;
+            return Tree::over(alloc, outer, &top.key, &top.value, lower);
         }
+        let Tree::Fork(middle) = &top.right else {
+            unreachable!()
+        };
+        let middle: &Fork<K, V> = middle;
+        let lower_left = Tree::copied(alloc, &top.left, &top.key, &top.value, &middle.left)?;
+        let lower_right = Tree::copied(alloc, &middle.right, &self.key, &self.value, right)?;
+        Tree::over(alloc, lower_left, &middle.key, &middle.value, lower_right)
     }
 
     // The right side, or its left side where that is the higher one, comes to the top.
@@ -114,53 +118,17 @@ impl<K: Clone + Drop, V: Clone + Drop> Fork<K, V> {
             unreachable!()
         };
         let top: &Fork<K, V> = top;
-        match &top.left {
-            Tree::Fork(middle) if middle.height > top.right.height() => {
-                let middle: &Fork<K, V> = middle;
-                let lower_left = self.copied_over(alloc, left, &middle.left)?;
-                let lower_right = top.copied_over(alloc, &middle.right, &top.right)?;
-                middle.over(alloc, lower_left, lower_right)
-            }
-            inner => {
-                let outer = top.right.share()?;
-                let lower = self.copied_over(alloc, left, inner)?;
-                top.over(alloc, lower, outer)
-            }
+        if top.left.height() <= top.right.height() {
+            let outer = top.right.share()?;
+            let lower = Tree::copied(alloc, left, &self.key, &self.value, &top.left)?;
+            return Tree::over(alloc, lower, &top.key, &top.value, outer);
         }
-    }
-
-    // The same entry over two other sides.
-    #[inline(always)]
-    fn over(
-        &self,
-        alloc: Global,
-        left: Tree<K, V>,
-        right: Tree<K, V>,
-    ) -> Result<Tree<K, V>, AllocError>
-        requires keys { ClonesAreEqual K.is_clone }
-        requires values { ClonesAreEqual V.is_clone }
-        requires left { IsBalanced left }
-        requires right { IsBalanced right }
-        requires heights { DifferByAtMost 1 (height_of left) (height_of right) }
-        ensures { IfOk result (λ t. IsJoined left self.now.key self.now.value right t) }
-    {
-        Tree::fork(alloc, left, self.key.clone()?, self.value.clone()?, right)
-    }
-
-    // The same over two sides that it shares.
-    fn copied_over(
-        &self,
-        alloc: Global,
-        left: &Tree<K, V>,
-        right: &Tree<K, V>,
-    ) -> Result<Tree<K, V>, AllocError>
-        requires keys { ClonesAreEqual K.is_clone }
-        requires values { ClonesAreEqual V.is_clone }
-        requires left { IsBalanced left.now }
-        requires right { IsBalanced right.now }
-        requires heights { DifferByAtMost 1 (height_of left.now) (height_of right.now) }
-        ensures { IfOk result (λ t. IsJoined left.now self.now.key self.now.value right.now t) }
-    {
-        Tree::copied(alloc, left, &self.key, &self.value, right)
+        let Tree::Fork(middle) = &top.left else {
+            unreachable!()
+        };
+        let middle: &Fork<K, V> = middle;
+        let lower_left = Tree::copied(alloc, left, &self.key, &self.value, &middle.left)?;
+        let lower_right = Tree::copied(alloc, &middle.right, &top.key, &top.value, &top.right)?;
+        Tree::over(alloc, lower_left, &middle.key, &middle.value, lower_right)
     }
 }

@@ -79,10 +79,10 @@ impl<K: Ord + Clone + Drop, V: Clone + Drop> Tree<K, V> {
             return Ok(());
         };
         let Some(fork) = Arc::get_mut(shared) else {
-            return self.insert_in_copy(alloc, &key, &value);
+            return self.insert_in_copy(alloc, key, value);
         };
         if !fork.make_room(&key) {
-            return self.insert_in_copy(alloc, &key, &value);
+            return self.insert_in_copy(alloc, key, value);
         }
         match key.cmp(&fork.key) {
             Ordering::Less => {
@@ -103,14 +103,14 @@ impl<K: Ord + Clone + Drop, V: Clone + Drop> Tree<K, V> {
     }
 
     // Sets the pair in a copy of the way to its key.
-    fn insert_in_copy(&mut self, alloc: Global, key: &K, value: &V) -> Result<(), AllocError>
+    fn insert_in_copy(&mut self, alloc: Global, key: K, value: V) -> Result<(), AllocError>
         requires keys { ClonesAreEqual K.is_clone }
         requires values { ClonesAreEqual V.is_clone }
         requires tree { IsSearchTree K.cmp self.old }
-        ensures ok { IfOk result (λ _. IsSet K.cmp self.old key.now value.now self.new) }
+        ensures ok { IfOk result (λ _. IsSet K.cmp self.old key value self.new) }
         ensures err { IfErr result (λ _. self.new ≡ self.old) }
     {
-        *self = self.with(alloc, key, value)?;
+        *self = self.with(alloc, &key, &value)?;
         Ok(())
     }
 

@@ -1,7 +1,5 @@
 //! A search tree of shared nodes, balanced by height.
-ghost use Rattle.std.specs.Prelude.{◌≡◌, ◌∷◌, ◌++◌, IfOk, option_copied};
-ghost use Rattle.std.specs.BTreeMap.{is_at, insert_entry};
-ghost use Rattle.std.specs.Map.{remove_entry};
+ghost use Rattle.std.specs.Prelude.{◌≡◌, IfOk, option_copied};
 ghost use Rattle.persist_map.specs.Entries.{IsOrdered, value_at, ClonesAreEqual};
 ghost use Rattle.persist_map.specs.Contents.{entries_of, height_of, DifferByAtMost, IsBalanced, IsBalancedFork, IsSearchTree};
 ghost use Rattle.persist_map.specs.Changes.{IsSameTree, IsJoined, IsSet, IsTakenOut, IsSplit, IsTogether};
@@ -101,6 +99,25 @@ impl<K: Ord, V> Tree<K, V> {
 }
 
 impl<K: Clone + Drop, V: Clone + Drop> Tree<K, V> {
+    /// A copy of an entry between two sides.
+    #[inline(always)]
+    pub fn over(
+        alloc: Global,
+        left: Tree<K, V>,
+        key: &K,
+        value: &V,
+        right: Tree<K, V>,
+    ) -> Result<Tree<K, V>, AllocError>
+        requires keys { ClonesAreEqual K.is_clone }
+        requires values { ClonesAreEqual V.is_clone }
+        requires left { IsBalanced left }
+        requires right { IsBalanced right }
+        requires heights { DifferByAtMost 1 (height_of left) (height_of right) }
+        ensures { IfOk result (λ t. IsJoined left key.now value.now right t) }
+    {
+        Tree::fork(alloc, left, key.clone()?, value.clone()?, right)
+    }
+
     /// A copy of an entry between two sides that it shares.
     pub fn copied(
         alloc: Global,
@@ -116,9 +133,7 @@ impl<K: Clone + Drop, V: Clone + Drop> Tree<K, V> {
         requires heights { DifferByAtMost 1 (height_of left.now) (height_of right.now) }
         ensures { IfOk result (λ t. IsJoined left.now key.now value.now right.now t) }
     {
-        let key = key.clone()?;
-        let value = value.clone()?;
-        Tree::fork(alloc, left.share()?, key, value, right.share()?)
+        Tree::over(alloc, left.share()?, key, value, right.share()?)
     }
 }
 
@@ -144,7 +159,7 @@ impl<K: Ord + Clone + Drop, V: Clone + Drop> Tree<K, V> {
                     }
                     Ordering::Greater => {
                         let right = fork.right.with(alloc, key, value)?;
-                        fork.with_right(alloc, right)
+                        fork.with_right(alloc, &fork.left, right)
                     }
                 }
             }
@@ -169,7 +184,7 @@ impl<K: Ord + Clone + Drop, V: Clone + Drop> Tree<K, V> {
                     Ordering::Equal => joined(alloc, &fork.left, &fork.right),
                     Ordering::Greater => {
                         let right = fork.right.without(alloc, key)?;
-                        fork.with_right(alloc, right)
+                        fork.with_right(alloc, &fork.left, right)
                     }
                 }
             }
@@ -215,5 +230,5 @@ fn joined<K: Clone + Drop, V: Clone + Drop>(
     };
     let right: &Fork<K, V> = right;
     let (first, others) = right.split_first(alloc)?;
-    first.between(alloc, left.share()?, others)
+    first.with_right(alloc, left, others)
 }

@@ -1,8 +1,11 @@
-use Rattle.std.proofs.Common.{sym, arith}
-use Rattle.std.proofs.lemmas.Result.{IfOk-weaker}
-use Rattle.persist_map.proofs.Forks.{stands_for, stands_for_turned, joined_in_place, joined_by_height}
+use Rattle.std.proofs.Common.{sym, subst, arith}
+use Rattle.std.proofs.lemmas.Result.{IfOk-weaker, IfErr-weaker}
+use Rattle.persist_map.specs.declared.tree.Tree.{Tree}
+use Rattle.persist_map.specs.Changes.{IsReshaped}
+use Rattle.persist_map.proofs.Changes.{by_outcome, IsSearchTree-reshaped}
+use Rattle.persist_map.proofs.Forks.{stands_for, stands_for_turned, same_shape, reshaped_in_place, joined_in_place, joined_by_height}
 use Rattle.persist_map.proofs.Heights.{set_in_place}
-use Rattle.persist_map.proofs.Settings.{set_left, set_here, set_right}
+use Rattle.persist_map.proofs.Settings.{set_left, set_here, set_right, set_in_fork, reshaped, set_at_most}
 use Rattle.persist_map.proofs.tree.Tree.+insert.Goals as goal
 
 pub insert-outcome-requires : goal.insert-outcome-requires
@@ -48,3 +51,70 @@ returns-in-Greater-clause-ok g t c =
     (λ x set. let sides = set_in_place _ _ _ _ (apart.1, apart.0) stays set.height in
     set_right g.K.Ord.cmp _ _ _ _ s g.met.K.Ord.total greater _ _ set (joined_by_height _ _ _ _ _ c.measure-in-Greater.ensures s.fork.left set.balanced (sides.1, sides.0)))
     c.insert-outcome-in-Greater.ensures.ok
+
+pub insert_in_copy-requires-then-not-make_room-clause-tree : goal.insert_in_copy-requires-then-not-make_room-clause-tree
+insert_in_copy-requires-then-not-make_room-clause-tree g t c =
+    let s = stands_for_turned g.K.Ord.cmp c.args.key c.args.self.now c.in-Some.fork.now c.make_room.new.self (stands_for g.K.Ord.cmp c.args.key c.args.self.now c.in-Fork.shared c.in-Some.fork.now c.in-Fork.is c.in-Some.ensures.value c.requires.tree) c.make_room.ensures.turned in
+    IsSearchTree-reshaped g.K.Ord.cmp _ _ c.requires.tree (reshaped_in_place g.K.Ord.cmp c.args.key _ _ s)
+
+pub returns-then-not-make_room-clause-ok : goal.returns-then-not-make_room-clause-ok
+returns-then-not-make_room-clause-ok g t c =
+    let s = stands_for_turned g.K.Ord.cmp c.args.key c.args.self.now c.in-Some.fork.now c.make_room.new.self (stands_for g.K.Ord.cmp c.args.key c.args.self.now c.in-Fork.shared c.in-Some.fork.now c.in-Fork.is c.in-Some.ensures.value c.requires.tree) c.make_room.ensures.turned in
+    IfOk-weaker c.insert_in_copy-then-not-make_room.result _ _ (λ x set. set_in_fork g.K.Ord.cmp _ _ _ _ _ s set) c.insert_in_copy-then-not-make_room.ensures.ok
+
+pub returns-then-not-make_room-clause-err : goal.returns-then-not-make_room-clause-err
+returns-then-not-make_room-clause-err g t c =
+    let s = stands_for_turned g.K.Ord.cmp c.args.key c.args.self.now c.in-Some.fork.now c.make_room.new.self (stands_for g.K.Ord.cmp c.args.key c.args.self.now c.in-Fork.shared c.in-Some.fork.now c.in-Fork.is c.in-Some.ensures.value c.requires.tree) c.make_room.ensures.turned in
+    IfErr-weaker c.insert_in_copy-then-not-make_room.result _ _ (λ x same. subst (λ (z : Tree _ _). IsReshaped c.args.self.now z) (sym same) (reshaped_in_place g.K.Ord.cmp c.args.key _ _ s)) c.insert_in_copy-then-not-make_room.ensures.err
+
+pub measure-requires-clause-left : goal.measure-requires-clause-left
+measure-requires-clause-left g t c =
+    let s = stands_for_turned g.K.Ord.cmp c.args.key c.args.self.now c.in-Some.fork.now c.make_room.new.self (stands_for g.K.Ord.cmp c.args.key c.args.self.now c.in-Fork.shared c.in-Some.fork.now c.in-Fork.is c.in-Some.ensures.value c.requires.tree) c.make_room.ensures.turned in
+    by_outcome _ c.insert-outcome.result c.insert-outcome.ensures.ok c.insert-outcome.ensures.err (λ set. set.balanced) (λ same. same.balanced s.fork.left)
+
+pub measure-requires-clause-right : goal.measure-requires-clause-right
+measure-requires-clause-right g t c =
+    let s = stands_for_turned g.K.Ord.cmp c.args.key c.args.self.now c.in-Some.fork.now c.make_room.new.self (stands_for g.K.Ord.cmp c.args.key c.args.self.now c.in-Fork.shared c.in-Some.fork.now c.in-Fork.is c.in-Some.ensures.value c.requires.tree) c.make_room.ensures.turned in
+    s.fork.right
+
+pub measure-requires-clause-room : goal.measure-requires-clause-room
+measure-requires-clause-room g t c =
+    let s = stands_for_turned g.K.Ord.cmp c.args.key c.args.self.now c.in-Some.fork.now c.make_room.new.self (stands_for g.K.Ord.cmp c.args.key c.args.self.now c.in-Fork.shared c.in-Some.fork.now c.in-Fork.is c.in-Some.ensures.value c.requires.tree) c.make_room.ensures.turned in
+    let room = c.requires.room in
+    let height = s.height in
+    by_outcome _ c.insert-outcome.result c.insert-outcome.ensures.ok c.insert-outcome.ensures.err (λ set. let up = set_at_most g.K.Ord.cmp _ _ _ _ set in omega arith) (λ same. let level = same.height in omega arith)
+
+pub returns-in-Less-clause-err : goal.returns-in-Less-clause-err
+returns-in-Less-clause-err g t c =
+    let s = stands_for_turned g.K.Ord.cmp c.args.key c.args.self.now c.in-Some.fork.now c.make_room.new.self (stands_for g.K.Ord.cmp c.args.key c.args.self.now c.in-Fork.shared c.in-Some.fork.now c.in-Fork.is c.in-Some.ensures.value c.requires.tree) c.make_room.ensures.turned in
+    let sides = s.fork.sides in
+    IfErr-weaker c.insert-outcome.result _ _
+    (λ x same. let level = same.height in
+    reshaped g.K.Ord.cmp _ _ c.args.key c.args.value s _ _ _ same (same_shape _) (joined_by_height _ _ _ _ _ c.measure.ensures (same.balanced s.fork.left) s.fork.right (omega arith)))
+    c.insert-outcome.ensures.err
+
+pub measure-requires-in-Greater-clause-right : goal.measure-requires-in-Greater-clause-right
+measure-requires-in-Greater-clause-right g t c =
+    let s = stands_for_turned g.K.Ord.cmp c.args.key c.args.self.now c.in-Some.fork.now c.make_room.new.self (stands_for g.K.Ord.cmp c.args.key c.args.self.now c.in-Fork.shared c.in-Some.fork.now c.in-Fork.is c.in-Some.ensures.value c.requires.tree) c.make_room.ensures.turned in
+    by_outcome _ c.insert-outcome-in-Greater.result c.insert-outcome-in-Greater.ensures.ok c.insert-outcome-in-Greater.ensures.err (λ set. set.balanced) (λ same. same.balanced s.fork.right)
+
+pub measure-requires-in-Greater-clause-left : goal.measure-requires-in-Greater-clause-left
+measure-requires-in-Greater-clause-left g t c =
+    let s = stands_for_turned g.K.Ord.cmp c.args.key c.args.self.now c.in-Some.fork.now c.make_room.new.self (stands_for g.K.Ord.cmp c.args.key c.args.self.now c.in-Fork.shared c.in-Some.fork.now c.in-Fork.is c.in-Some.ensures.value c.requires.tree) c.make_room.ensures.turned in
+    s.fork.left
+
+pub measure-requires-in-Greater-clause-room : goal.measure-requires-in-Greater-clause-room
+measure-requires-in-Greater-clause-room g t c =
+    let s = stands_for_turned g.K.Ord.cmp c.args.key c.args.self.now c.in-Some.fork.now c.make_room.new.self (stands_for g.K.Ord.cmp c.args.key c.args.self.now c.in-Fork.shared c.in-Some.fork.now c.in-Fork.is c.in-Some.ensures.value c.requires.tree) c.make_room.ensures.turned in
+    let room = c.requires.room in
+    let height = s.height in
+    by_outcome _ c.insert-outcome-in-Greater.result c.insert-outcome-in-Greater.ensures.ok c.insert-outcome-in-Greater.ensures.err (λ set. let up = set_at_most g.K.Ord.cmp _ _ _ _ set in omega arith) (λ same. let level = same.height in omega arith)
+
+pub returns-in-Greater-clause-err : goal.returns-in-Greater-clause-err
+returns-in-Greater-clause-err g t c =
+    let s = stands_for_turned g.K.Ord.cmp c.args.key c.args.self.now c.in-Some.fork.now c.make_room.new.self (stands_for g.K.Ord.cmp c.args.key c.args.self.now c.in-Fork.shared c.in-Some.fork.now c.in-Fork.is c.in-Some.ensures.value c.requires.tree) c.make_room.ensures.turned in
+    let sides = s.fork.sides in
+    IfErr-weaker c.insert-outcome-in-Greater.result _ _
+    (λ x same. let level = same.height in
+    reshaped g.K.Ord.cmp _ _ c.args.key c.args.value s _ _ _ (same_shape _) same (joined_by_height _ _ _ _ _ c.measure-in-Greater.ensures s.fork.left (same.balanced s.fork.right) (omega arith)))
+    c.insert-outcome-in-Greater.ensures.err

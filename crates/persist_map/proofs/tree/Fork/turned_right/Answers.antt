@@ -1,0 +1,67 @@
+use Rattle.std.proofs.Common.{◌<◌, ◌≤◌, arith}
+use Rattle.std.proofs.lemmas.Result.{IfOk-weaker}
+use Rattle.persist_map.specs.Contents.{height_of}
+use Rattle.persist_map.proofs.Forks.{has_parts}
+use Rattle.persist_map.proofs.Turns.{left_raised, left_middle_raised}
+use Rattle.persist_map.proofs.tree.Fork.turned_right.Goals as goal
+
+pub copied-requires : goal.copied-requires
+copied-requires g c =
+    let top = has_parts c.args.left.now c.in-Fork.top c.deref-top.result.now c.in-Fork.is c.deref-top.ensures c.requires.left in
+    let sides = top.fork.sides in
+    let height = top.height in
+    record { keys = c.requires.keys; values = c.requires.values; left = top.fork.right; right = c.requires.right; heights = (omega arith, omega arith) }
+
+pub over-requires : goal.over-requires
+over-requires g c =
+    let top = has_parts c.args.left.now c.in-Fork.top c.deref-top.result.now c.in-Fork.is c.deref-top.ensures c.requires.left in
+    let sides = top.fork.sides in
+    let height = top.height in
+    let kept = c.in_ok-outer.ensures.height in
+    let low = c.in_ok-lower.ensures.as_it_stands (omega arith) in
+    record { keys = c.requires.keys; values = c.requires.values; left = c.in_ok-outer.ensures.balanced top.fork.left; right = c.in_ok-lower.ensures.balanced; heights = (omega arith, omega arith) }
+
+pub returns-then-height : goal.returns-then-height
+returns-then-height g c =
+    let top = has_parts c.args.left.now c.in-Fork.top c.deref-top.result.now c.in-Fork.is c.deref-top.ensures c.requires.left in
+    let higher : height_of c.deref-top.result.now.right ≤ height_of c.deref-top.result.now.left = omega arith in
+    IfOk-weaker c.over.result _ _ (λ t j. left_raised c.args.left.now c.args.self.now.key c.args.self.now.value c.args.right.now c.deref-top.result.now top c.requires.heights higher c.in_ok-outer.outer c.in_ok-lower.lower t c.in_ok-outer.ensures c.in_ok-lower.ensures j) c.over.ensures
+
+pub copied-requires-2 : goal.copied-requires-2
+copied-requires-2 g c =
+    let top = has_parts c.args.left.now c.in-Fork.top c.deref-top.result.now c.in-Fork.is c.deref-top.ensures c.requires.left in
+    let middle = has_parts c.deref-top.result.now.right c.in-Fork-right.middle c.deref-middle.result.now c.in-Fork-right.is c.deref-middle.ensures top.fork.right in
+    let sides = top.fork.sides in
+    let height = top.height in
+    let inner_sides = middle.fork.sides in
+    let inner = middle.height in
+    record { keys = c.requires.keys; values = c.requires.values; left = top.fork.left; right = middle.fork.left; heights = (omega arith, omega arith) }
+
+pub copied-requires-3 : goal.copied-requires-3
+copied-requires-3 g c =
+    let top = has_parts c.args.left.now c.in-Fork.top c.deref-top.result.now c.in-Fork.is c.deref-top.ensures c.requires.left in
+    let middle = has_parts c.deref-top.result.now.right c.in-Fork-right.middle c.deref-middle.result.now c.in-Fork-right.is c.deref-middle.ensures top.fork.right in
+    let sides = top.fork.sides in
+    let height = top.height in
+    let inner_sides = middle.fork.sides in
+    let inner = middle.height in
+    record { keys = c.requires.keys; values = c.requires.values; left = middle.fork.right; right = c.requires.right; heights = (omega arith, omega arith) }
+
+pub over-requires-2 : goal.over-requires-2
+over-requires-2 g c =
+    let top = has_parts c.args.left.now c.in-Fork.top c.deref-top.result.now c.in-Fork.is c.deref-top.ensures c.requires.left in
+    let middle = has_parts c.deref-top.result.now.right c.in-Fork-right.middle c.deref-middle.result.now c.in-Fork-right.is c.deref-middle.ensures top.fork.right in
+    let sides = top.fork.sides in
+    let height = top.height in
+    let inner_sides = middle.fork.sides in
+    let inner = middle.height in
+    let on_left = c.in_ok-lower_left.ensures.as_it_stands (omega arith) in
+    let on_right = c.in_ok-lower_right.ensures.as_it_stands (omega arith) in
+    record { keys = c.requires.keys; values = c.requires.values; left = c.in_ok-lower_left.ensures.balanced; right = c.in_ok-lower_right.ensures.balanced; heights = (omega arith, omega arith) }
+
+pub returns : goal.returns
+returns g c =
+    let top = has_parts c.args.left.now c.in-Fork.top c.deref-top.result.now c.in-Fork.is c.deref-top.ensures c.requires.left in
+    let middle = has_parts c.deref-top.result.now.right c.in-Fork-right.middle c.deref-middle.result.now c.in-Fork-right.is c.deref-middle.ensures top.fork.right in
+    let passed : height_of c.deref-top.result.now.left < height_of c.deref-top.result.now.right = omega arith in
+    IfOk-weaker c.over-2.result _ _ (λ t j. left_middle_raised c.args.left.now c.args.self.now.key c.args.self.now.value c.args.right.now c.deref-top.result.now top c.requires.heights passed c.deref-middle.result.now middle c.in_ok-lower_left.lower_left c.in_ok-lower_right.lower_right t c.in_ok-lower_left.ensures c.in_ok-lower_right.ensures j) c.over-2.ensures
