@@ -1,15 +1,20 @@
 -- Newer entries set in older ones, one after another.
-use Rattle.std.proofs.Common.{◌≡◌, ℕ, suc, ◌+◌, ◌-◌, ◌<◌, ◌≤◌, List, [], ◌∷◌, ◌++◌, length, take, Some, true, false, cond, refl, sym, ap, ◌∙◌, slice_index_or, slice_set, arith}
+use Rattle.std.proofs.Common.{◌≡◌, ℕ, suc, ◌+◌, ◌-◌, ◌<◌, ◌≤◌, List, [], ◌∷◌, ◌++◌, length, take, drop, drop-cons, add-one, Some, true, false, cond, refl, sym, ap, ◌∙◌, slice_index_or, slice_set, arith}
 use Rattle.std.specs.declared.cmp.Ordering.{Ordering}
 use Rattle.std.specs.declared.cmp.Ordering.TheVariants.{Less, Equal, Greater}
 use Rattle.std.specs.Cmp.{IsTotalOrder}
 use Rattle.std.specs.BTreeMap.{is_at, insert_entry}
-use Rattle.std.specs.Ordering.{is_eq, match_ordering}
+use Rattle.std.specs.Ordering.{is_eq, is_gt, match_ordering}
 use Rattle.std.specs.List.{insert}
 use Rattle.std.proofs.lemmas.List.{take_more}
 use Rattle.persist_map.specs.Entries.{value_at}
 use Rattle.persist_map.specs.Newest.{with_entries, place_of}
 use Rattle.persist_map.proofs.Changes.{value_at-insert_entry}
+
+Greater-from_is_gt : (a : Ordering) → is_gt a ≡ true → a ≡ Greater
+Greater-from_is_gt Less h = cc
+Greater-from_is_gt Equal h = cc
+Greater-from_is_gt Greater h = refl
 
 module _ {K V : Type 0} (cmp : K → K → Ordering) where
   -- one more at the end
@@ -41,6 +46,22 @@ module _ {K V : Type 0} (cmp : K → K → Ordering) where
 
     pub value_at-before_last : is_eq (cmp e.0 k) ≡ false → (older : List (K × V)) → value_at cmp (with_entries cmp older (take left newest)) k ≡ value_at cmp (with_entries cmp older (take (left - 1) newest)) k
     value_at-before_last other older = with_last older ∙ ap (λ b. cond b (Some e.1) (value_at cmp (with_entries cmp older (take (left - 1) newest)) k)) other
+
+  -- the place among the entries from `place` on
+  module _ (k : K) (es : List (K × V)) (place : ℕ) (e : K × V) (within : place < length es) (here : place_of cmp es k ≡ place + place_of cmp (drop place es) k) where
+    by_next : (a : Ordering) → cmp k (slice_index_or es place e).0 ≡ a → place_of cmp (drop place es) k ≡ match_ordering a 0 0 (suc (place_of cmp (drop (suc place) es) k))
+    by_next a is = ap (λ l. place_of cmp l k) (drop-cons es place e within) ∙ ap (λ (b : Ordering). match_ordering b 0 0 (suc (place_of cmp (drop (suc place) es) k))) is
+
+    pub place_of-passed : is_gt (cmp k (slice_index_or es place e).0) ≡ true → place_of cmp es k ≡ (place + 1) + place_of cmp (drop (place + 1) es) k
+    place_of-passed above = let next = by_next Greater (Greater-from_is_gt _ above) in rw add-one (omega arith)
+
+    pub place_of-reached : is_gt (cmp k (slice_index_or es place e).0) ≡ false → place ≡ place_of cmp es k
+    place_of-reached stays =
+        elim (cmp k (slice_index_or es place e).0) as (λ a. cmp k (slice_index_or es place e).0 ≡ a → is_gt a ≡ false → place ≡ place_of cmp es k) [
+          | Less ↦ λ is no. let next = by_next Less is in omega arith
+          | Equal ↦ λ is no. let next = by_next Equal is in omega arith
+          | Greater ↦ λ is no. cc
+        ] refl stays
 
   module _ (k : K) (v : V) where
     pub place_within : (es : List (K × V)) → place_of cmp es k ≤ length es

@@ -1,5 +1,5 @@
 -- A key that is taken out of a tree, from the tree that it makes of a side.
-use Rattle.std.proofs.Common.{◌≡◌, ◌+◌, max, List, true, false, cond, eqb, ◌∷◌, ◌++◌, sym, ap, ◌∙◌, arith}
+use Rattle.std.proofs.Common.{◌≡◌, ◌+◌, ◌≤◌, max, List, true, false, cond, eqb, ◌∷◌, ◌++◌, sym, ap, ◌∙◌, arith}
 use Rattle.std.specs.declared.cmp.Ordering.{Ordering}
 use Rattle.std.specs.declared.cmp.Ordering.TheVariants.{Less, Equal, Greater}
 use Rattle.std.specs.Cmp.{IsTotalOrder}
@@ -9,7 +9,7 @@ use Rattle.persist_map.specs.declared.tree.Fork.{Fork}
 use Rattle.persist_map.specs.Contents.{entries_of, height_of, DifferByAtMost, IsBalancedFork}
 use Rattle.persist_map.specs.Changes.{may_shrink, IsJoined, IsSplit, IsTogether, IsTakenOut}
 use Rattle.persist_map.proofs.Sides.{remove_entry-left, remove_entry-here, remove_entry-right}
-use Rattle.persist_map.proofs.Heights.{eqb_either_way, taken_height, joined_not_lower}
+use Rattle.persist_map.proofs.Heights.{one_at_most, eqb_either_way, taken_height, joined_not_lower}
 use Rattle.persist_map.proofs.Forks.{HasTop, HasBalancedTop, HasParts}
 
 module _ {K V : Type 0} (cmp : K → K → Ordering) (o : IsTotalOrder cmp) (old : Tree K V) (f : Fork K V) (top : HasTop cmp old f) (high : HasBalancedTop cmp old f) (k : K) where
@@ -88,3 +88,9 @@ module _ {K V : Type 0} where
         not_lower = omega arith;
         at_most_one_higher = omega arith;
       }
+
+pub taken_height_bounds : {K V : Type 0} (cmp : K → K → Ordering) (old : Tree K V) (k : K) (new : Tree K V) → IsTakenOut cmp old k new → (height_of new ≤ height_of old) × (height_of old ≤ height_of new + 1)
+taken_height_bounds cmp old k new taken =
+    let lower = taken.at_most_one_lower in
+    let one = one_at_most (may_shrink cmp k old) in
+    (taken.not_higher, omega arith)

@@ -79,8 +79,8 @@ set_in_fork {K} {V} cmp old k v a t s set = record {
   leans = λ grown high. set.leans (sym s.grows ∙ grown) (omega arith);
 }
 
-pub set_at_most : {K V : Type 0} (cmp : K → K → Ordering) (old : Tree K V) (k : K) (v : V) (new : Tree K V) → IsSet cmp old k v new → height_of new ≤ height_of old + 1
-set_at_most cmp old k v new set =
+pub set_height_bounds : {K V : Type 0} (cmp : K → K → Ordering) (old : Tree K V) (k : K) (v : V) (new : Tree K V) → IsSet cmp old k v new → (height_of old ≤ height_of new) × (height_of new ≤ height_of old + 1)
+set_height_bounds cmp old k v new set =
     let height = set.height in
     let one = one_at_most (grows cmp k old) in
-    omega arith
+    (omega arith, omega arith)

@@ -5,7 +5,7 @@ use Rattle.persist_map.specs.Changes.{IsReshaped}
 use Rattle.persist_map.proofs.Changes.{by_outcome, IsSearchTree-reshaped}
 use Rattle.persist_map.proofs.Forks.{stands_for, stands_for_turned, same_shape, reshaped_in_place, joined_in_place, joined_by_height}
 use Rattle.persist_map.proofs.Heights.{set_in_place}
-use Rattle.persist_map.proofs.Settings.{set_left, set_here, set_right, set_in_fork, reshaped, set_at_most}
+use Rattle.persist_map.proofs.Settings.{set_left, set_here, set_right, set_in_fork, reshaped, set_height_bounds}
 use Rattle.persist_map.proofs.tree.Tree.+insert.Goals as goal
 
 pub insert-outcome-requires : goal.insert-outcome-requires
@@ -82,7 +82,7 @@ measure-requires-clause-room g t c =
     let s = stands_for_turned g.K.Ord.cmp c.args.key c.args.self.now c.in-Some.fork.now c.make_room.new.self (stands_for g.K.Ord.cmp c.args.key c.args.self.now c.in-Fork.shared c.in-Some.fork.now c.in-Fork.is c.in-Some.ensures.value c.requires.tree) c.make_room.ensures.turned in
     let room = c.requires.room in
     let height = s.height in
-    by_outcome _ c.insert-outcome.result c.insert-outcome.ensures.ok c.insert-outcome.ensures.err (λ set. let up = set_at_most g.K.Ord.cmp _ _ _ _ set in omega arith) (λ same. let level = same.height in omega arith)
+    by_outcome _ c.insert-outcome.result c.insert-outcome.ensures.ok c.insert-outcome.ensures.err (λ set. let bounds = set_height_bounds g.K.Ord.cmp _ _ _ _ set in omega arith) (λ same. let level = same.height in omega arith)
 
 pub returns-in-Less-clause-err : goal.returns-in-Less-clause-err
 returns-in-Less-clause-err g t c =
@@ -108,7 +108,7 @@ measure-requires-in-Greater-clause-room g t c =
     let s = stands_for_turned g.K.Ord.cmp c.args.key c.args.self.now c.in-Some.fork.now c.make_room.new.self (stands_for g.K.Ord.cmp c.args.key c.args.self.now c.in-Fork.shared c.in-Some.fork.now c.in-Fork.is c.in-Some.ensures.value c.requires.tree) c.make_room.ensures.turned in
     let room = c.requires.room in
     let height = s.height in
-    by_outcome _ c.insert-outcome-in-Greater.result c.insert-outcome-in-Greater.ensures.ok c.insert-outcome-in-Greater.ensures.err (λ set. let up = set_at_most g.K.Ord.cmp _ _ _ _ set in omega arith) (λ same. let level = same.height in omega arith)
+    by_outcome _ c.insert-outcome-in-Greater.result c.insert-outcome-in-Greater.ensures.ok c.insert-outcome-in-Greater.ensures.err (λ set. let bounds = set_height_bounds g.K.Ord.cmp _ _ _ _ set in omega arith) (λ same. let level = same.height in omega arith)
 
 pub returns-in-Greater-clause-err : goal.returns-in-Greater-clause-err
 returns-in-Greater-clause-err g t c =

@@ -37,6 +37,29 @@ returns-in_ok-remove-in-Greater-clause-ok g t c =
     let taken = c.in_ok-remove-in-Greater.ensures.ok in
     let apart = high.fork.sides in
     let f = c.in-Some.fork.now in
-    let stays : (ltb (height_of f.right) (height_of f.left) && may_shrink g.K.Ord.cmp c.args.key.now f.right) ≡ false = cc (c.if-not-falls_short_of-2.ensures, c.if-not-falls_short_of-2.true) in
+    let stays : (ltb (height_of f.right) (height_of f.left) && may_shrink g.K.Ord.cmp c.args.key.now f.right) ≡ false = cc c.if-not-falls_short_of-2.ensures in
     let sides = taken_in_place _ _ _ _ (apart.1, apart.0) stays taken.not_higher taken.at_most_one_lower in
     taken_right g.K.Ord.cmp g.met.K.Ord.total _ _ top high _ (sym c.in-Greater.ensures) _ _ taken (joined_by_height _ _ _ _ _ c.measure-in-Greater.ensures high.fork.left taken.balanced (sides.1, sides.0))
+
+pub falls_short_of-requires : goal.falls_short_of-requires
+falls_short_of-requires g t c =
+    let high = has_balanced_top g.K.Ord.cmp c.args.self.now c.in-Fork.shared c.in-Some.fork.now c.in-Fork.is c.in-Some.ensures.value c.requires.tree.balanced in
+    record { own = high.fork.left; other = high.fork.right }
+
+pub measure-requires : goal.measure-requires
+measure-requires g t c =
+    let high = has_balanced_top g.K.Ord.cmp c.args.self.now c.in-Fork.shared c.in-Some.fork.now c.in-Fork.is c.in-Some.ensures.value c.requires.tree.balanced in
+    let room = c.requires.room in
+    let height = high.height in
+    let taken = c.in_ok-remove-in-Less.ensures.ok in
+    let lower = taken.not_higher in
+    record { left = taken.balanced; right = high.fork.right; room = omega arith }
+
+pub measure-requires-in-Greater : goal.measure-requires-in-Greater
+measure-requires-in-Greater g t c =
+    let high = has_balanced_top g.K.Ord.cmp c.args.self.now c.in-Fork.shared c.in-Some.fork.now c.in-Fork.is c.in-Some.ensures.value c.requires.tree.balanced in
+    let room = c.requires.room in
+    let height = high.height in
+    let taken = c.in_ok-remove-in-Greater.ensures.ok in
+    let lower = taken.not_higher in
+    record { right = taken.balanced; left = high.fork.left; room = omega arith }

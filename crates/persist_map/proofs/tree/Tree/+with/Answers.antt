@@ -1,7 +1,7 @@
 use Rattle.std.proofs.Common.{sym, arith}
 use Rattle.std.proofs.lemmas.Result.{IfOk-weaker}
 use Rattle.persist_map.proofs.Forks.{stands_for}
-use Rattle.persist_map.proofs.Settings.{set_left, set_here, set_right}
+use Rattle.persist_map.proofs.Settings.{set_left, set_here, set_right, set_height_bounds}
 use Rattle.persist_map.proofs.tree.Tree.+with.Goals as goal
 
 pub with-requires : goal.with-requires
@@ -32,3 +32,25 @@ pub returns-in_ok-right-in-Greater : goal.returns-in_ok-right-in-Greater
 returns-in_ok-right-in-Greater g t c =
     let s = stands_for g.K.Ord.cmp c.args.key.now c.args.self.now c.in-Fork.fork c.deref-fork.result.now c.in-Fork.is c.deref-fork.ensures c.requires.tree in
     IfOk-weaker c.with_right.result _ _ (λ z j. set_right g.K.Ord.cmp _ _ _ _ s g.met.K.Ord.total (sym c.in-Greater.ensures) _ z c.in_ok-right-in-Greater.ensures j) c.with_right.ensures
+
+pub with_left-requires : goal.with_left-requires
+with_left-requires g t c =
+    let s = stands_for g.K.Ord.cmp c.args.key.now c.args.self.now c.in-Fork.fork c.deref-fork.result.now c.in-Fork.is c.deref-fork.ensures c.requires.tree in
+    let sides = s.fork.sides in
+    let set = c.in_ok-left-in-Less.ensures in
+    let bounds = set_height_bounds g.K.Ord.cmp _ _ _ _ set in
+    record { keys = c.requires.keys; values = c.requires.values; left = set.balanced; right = s.fork.right; heights = (omega arith, omega arith) }
+
+pub copied-requires-in-Equal : goal.copied-requires-in-Equal
+copied-requires-in-Equal g t c =
+    let s = stands_for g.K.Ord.cmp c.args.key.now c.args.self.now c.in-Fork.fork c.deref-fork.result.now c.in-Fork.is c.deref-fork.ensures c.requires.tree in
+    let fork = s.fork in
+    record { keys = c.requires.keys; values = c.requires.values; left = fork.left; right = fork.right; heights = fork.sides }
+
+pub with_right-requires : goal.with_right-requires
+with_right-requires g t c =
+    let s = stands_for g.K.Ord.cmp c.args.key.now c.args.self.now c.in-Fork.fork c.deref-fork.result.now c.in-Fork.is c.deref-fork.ensures c.requires.tree in
+    let sides = s.fork.sides in
+    let set = c.in_ok-right-in-Greater.ensures in
+    let bounds = set_height_bounds g.K.Ord.cmp _ _ _ _ set in
+    record { keys = c.requires.keys; values = c.requires.values; left = s.fork.left; right = set.balanced; heights = (omega arith, omega arith) }

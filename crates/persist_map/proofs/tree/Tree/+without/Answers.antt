@@ -1,7 +1,7 @@
 use Rattle.std.proofs.Common.{sym, arith}
 use Rattle.std.proofs.lemmas.Result.{IfOk-weaker}
 use Rattle.persist_map.proofs.Forks.{has_top, has_balanced_top}
-use Rattle.persist_map.proofs.Removals.{taken_left, taken_here, taken_right}
+use Rattle.persist_map.proofs.Removals.{taken_left, taken_here, taken_right, taken_height_bounds}
 use Rattle.persist_map.proofs.tree.Tree.+without.Goals as goal
 
 pub without-requires : goal.without-requires
@@ -35,3 +35,25 @@ returns-in_ok-right-in-Greater g t c =
     let top = has_top g.K.Ord.cmp c.args.self.now c.in-Fork.fork c.deref-fork.result.now c.in-Fork.is c.deref-fork.ensures c.requires.tree.ordered in
     let high = has_balanced_top g.K.Ord.cmp c.args.self.now c.in-Fork.fork c.deref-fork.result.now c.in-Fork.is c.deref-fork.ensures c.requires.tree.balanced in
     IfOk-weaker c.with_right.result _ _ (λ z j. taken_right g.K.Ord.cmp g.met.K.Ord.total _ _ top high _ (sym c.in-Greater.ensures) _ z c.in_ok-right-in-Greater.ensures j) c.with_right.ensures
+
+pub with_left-requires : goal.with_left-requires
+with_left-requires g t c =
+    let high = has_balanced_top g.K.Ord.cmp c.args.self.now c.in-Fork.fork c.deref-fork.result.now c.in-Fork.is c.deref-fork.ensures c.requires.tree.balanced in
+    let sides = high.fork.sides in
+    let taken = c.in_ok-left-in-Less.ensures in
+    let bounds = taken_height_bounds g.K.Ord.cmp _ _ _ taken in
+    record { keys = c.requires.keys; values = c.requires.values; left = taken.balanced; right = high.fork.right; heights = (omega arith, omega arith) }
+
+pub joined-requires : goal.joined-requires
+joined-requires g t c =
+    let high = has_balanced_top g.K.Ord.cmp c.args.self.now c.in-Fork.fork c.deref-fork.result.now c.in-Fork.is c.deref-fork.ensures c.requires.tree.balanced in
+    let fork = high.fork in
+    record { keys = c.requires.keys; values = c.requires.values; left = fork.left; right = fork.right; heights = fork.sides }
+
+pub with_right-requires : goal.with_right-requires
+with_right-requires g t c =
+    let high = has_balanced_top g.K.Ord.cmp c.args.self.now c.in-Fork.fork c.deref-fork.result.now c.in-Fork.is c.deref-fork.ensures c.requires.tree.balanced in
+    let sides = high.fork.sides in
+    let taken = c.in_ok-right-in-Greater.ensures in
+    let bounds = taken_height_bounds g.K.Ord.cmp _ _ _ taken in
+    record { keys = c.requires.keys; values = c.requires.values; left = high.fork.left; right = taken.balanced; heights = (omega arith, omega arith) }
