@@ -1,4 +1,4 @@
-use Rattle.std.proofs.Common.{◌≤◌, length, sym, ap, ◌∙◌, arith}
+use Rattle.std.proofs.Common.{sym, ap, ◌∙◌, arith}
 use Rattle.std.specs.Ordering.{is_gt}
 use Rattle.persist_map.proofs.Newest.{place_of-passed, place_of-reached}
 use Rattle.persist_map.proofs.buffered.place_of.Goals as goal
