@@ -5,21 +5,37 @@ use Rattle.persist_map.proofs.Forks.{has_parts}
 use Rattle.persist_map.proofs.Turns.{left_raised, left_middle_raised}
 use Rattle.persist_map.proofs.tree.Fork.turned_right.Goals as goal
 
-pub copied-requires : goal.copied-requires
-copied-requires g c =
+pub copied-requires-clause-left : goal.copied-requires-clause-left
+copied-requires-clause-left g c =
+    let top = has_parts c.args.left.now c.in-Fork.top c.deref-top.result.now c.in-Fork.is c.deref-top.ensures c.requires.left in
+    top.fork.right
+
+pub copied-requires-clause-right : goal.copied-requires-clause-right
+copied-requires-clause-right g c = c.requires.right
+
+pub copied-requires-clause-heights : goal.copied-requires-clause-heights
+copied-requires-clause-heights g c =
     let top = has_parts c.args.left.now c.in-Fork.top c.deref-top.result.now c.in-Fork.is c.deref-top.ensures c.requires.left in
     let sides = top.fork.sides in
     let height = top.height in
-    record { keys = c.requires.keys; values = c.requires.values; left = top.fork.right; right = c.requires.right; heights = (omega arith, omega arith) }
+    (omega arith, omega arith)
 
-pub over-requires : goal.over-requires
-over-requires g c =
+pub over-requires-clause-left : goal.over-requires-clause-left
+over-requires-clause-left g c =
+    let top = has_parts c.args.left.now c.in-Fork.top c.deref-top.result.now c.in-Fork.is c.deref-top.ensures c.requires.left in
+    c.in_ok-outer.ensures.balanced top.fork.left
+
+pub over-requires-clause-right : goal.over-requires-clause-right
+over-requires-clause-right g c = c.in_ok-lower.ensures.balanced
+
+pub over-requires-clause-heights : goal.over-requires-clause-heights
+over-requires-clause-heights g c =
     let top = has_parts c.args.left.now c.in-Fork.top c.deref-top.result.now c.in-Fork.is c.deref-top.ensures c.requires.left in
     let sides = top.fork.sides in
     let height = top.height in
     let kept = c.in_ok-outer.ensures.height in
     let low = c.in_ok-lower.ensures.as_it_stands (omega arith) in
-    record { keys = c.requires.keys; values = c.requires.values; left = c.in_ok-outer.ensures.balanced top.fork.left; right = c.in_ok-lower.ensures.balanced; heights = (omega arith, omega arith) }
+    (omega arith, omega arith)
 
 pub returns-then-height : goal.returns-then-height
 returns-then-height g c =
@@ -27,28 +43,54 @@ returns-then-height g c =
     let higher : height_of c.deref-top.result.now.right ≤ height_of c.deref-top.result.now.left = omega arith in
     IfOk-weaker c.over.result _ _ (λ t j. left_raised c.args.left.now c.args.self.now.key c.args.self.now.value c.args.right.now c.deref-top.result.now top c.requires.heights higher c.in_ok-outer.outer c.in_ok-lower.lower t c.in_ok-outer.ensures c.in_ok-lower.ensures j) c.over.ensures
 
-pub copied-requires-2 : goal.copied-requires-2
-copied-requires-2 g c =
+pub copied-requires-2-clause-left : goal.copied-requires-2-clause-left
+copied-requires-2-clause-left g c =
+    let top = has_parts c.args.left.now c.in-Fork.top c.deref-top.result.now c.in-Fork.is c.deref-top.ensures c.requires.left in
+    top.fork.left
+
+pub copied-requires-2-clause-right : goal.copied-requires-2-clause-right
+copied-requires-2-clause-right g c =
+    let top = has_parts c.args.left.now c.in-Fork.top c.deref-top.result.now c.in-Fork.is c.deref-top.ensures c.requires.left in
+    let middle = has_parts c.deref-top.result.now.right c.in-Fork-right.middle c.deref-middle.result.now c.in-Fork-right.is c.deref-middle.ensures top.fork.right in
+    middle.fork.left
+
+pub copied-requires-2-clause-heights : goal.copied-requires-2-clause-heights
+copied-requires-2-clause-heights g c =
     let top = has_parts c.args.left.now c.in-Fork.top c.deref-top.result.now c.in-Fork.is c.deref-top.ensures c.requires.left in
     let middle = has_parts c.deref-top.result.now.right c.in-Fork-right.middle c.deref-middle.result.now c.in-Fork-right.is c.deref-middle.ensures top.fork.right in
     let sides = top.fork.sides in
     let height = top.height in
     let inner_sides = middle.fork.sides in
     let inner = middle.height in
-    record { keys = c.requires.keys; values = c.requires.values; left = top.fork.left; right = middle.fork.left; heights = (omega arith, omega arith) }
+    (omega arith, omega arith)
 
-pub copied-requires-3 : goal.copied-requires-3
-copied-requires-3 g c =
+pub copied-requires-3-clause-left : goal.copied-requires-3-clause-left
+copied-requires-3-clause-left g c =
+    let top = has_parts c.args.left.now c.in-Fork.top c.deref-top.result.now c.in-Fork.is c.deref-top.ensures c.requires.left in
+    let middle = has_parts c.deref-top.result.now.right c.in-Fork-right.middle c.deref-middle.result.now c.in-Fork-right.is c.deref-middle.ensures top.fork.right in
+    middle.fork.right
+
+pub copied-requires-3-clause-right : goal.copied-requires-3-clause-right
+copied-requires-3-clause-right g c = c.requires.right
+
+pub copied-requires-3-clause-heights : goal.copied-requires-3-clause-heights
+copied-requires-3-clause-heights g c =
     let top = has_parts c.args.left.now c.in-Fork.top c.deref-top.result.now c.in-Fork.is c.deref-top.ensures c.requires.left in
     let middle = has_parts c.deref-top.result.now.right c.in-Fork-right.middle c.deref-middle.result.now c.in-Fork-right.is c.deref-middle.ensures top.fork.right in
     let sides = top.fork.sides in
     let height = top.height in
     let inner_sides = middle.fork.sides in
     let inner = middle.height in
-    record { keys = c.requires.keys; values = c.requires.values; left = middle.fork.right; right = c.requires.right; heights = (omega arith, omega arith) }
+    (omega arith, omega arith)
 
-pub over-requires-2 : goal.over-requires-2
-over-requires-2 g c =
+pub over-requires-2-clause-left : goal.over-requires-2-clause-left
+over-requires-2-clause-left g c = c.in_ok-lower_left.ensures.balanced
+
+pub over-requires-2-clause-right : goal.over-requires-2-clause-right
+over-requires-2-clause-right g c = c.in_ok-lower_right.ensures.balanced
+
+pub over-requires-2-clause-heights : goal.over-requires-2-clause-heights
+over-requires-2-clause-heights g c =
     let top = has_parts c.args.left.now c.in-Fork.top c.deref-top.result.now c.in-Fork.is c.deref-top.ensures c.requires.left in
     let middle = has_parts c.deref-top.result.now.right c.in-Fork-right.middle c.deref-middle.result.now c.in-Fork-right.is c.deref-middle.ensures top.fork.right in
     let sides = top.fork.sides in
@@ -57,7 +99,7 @@ over-requires-2 g c =
     let inner = middle.height in
     let on_left = c.in_ok-lower_left.ensures.as_it_stands (omega arith) in
     let on_right = c.in_ok-lower_right.ensures.as_it_stands (omega arith) in
-    record { keys = c.requires.keys; values = c.requires.values; left = c.in_ok-lower_left.ensures.balanced; right = c.in_ok-lower_right.ensures.balanced; heights = (omega arith, omega arith) }
+    (omega arith, omega arith)
 
 pub returns : goal.returns
 returns g c =

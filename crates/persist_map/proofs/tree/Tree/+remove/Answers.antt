@@ -41,25 +41,50 @@ returns-in_ok-remove-in-Greater-clause-ok g t c =
     let sides = taken_in_place _ _ _ _ (apart.1, apart.0) stays taken.not_higher taken.at_most_one_lower in
     taken_right g.K.Ord.cmp g.met.K.Ord.total _ _ top high _ (sym c.in-Greater.ensures) _ _ taken (joined_by_height _ _ _ _ _ c.measure-in-Greater.ensures high.fork.left taken.balanced (sides.1, sides.0))
 
-pub falls_short_of-requires : goal.falls_short_of-requires
-falls_short_of-requires g t c =
+pub falls_short_of-requires-clause-own : goal.falls_short_of-requires-clause-own
+falls_short_of-requires-clause-own g t c =
     let high = has_balanced_top g.K.Ord.cmp c.args.self.now c.in-Fork.shared c.in-Some.fork.now c.in-Fork.is c.in-Some.ensures.value c.requires.tree.balanced in
-    record { own = high.fork.left; other = high.fork.right }
+    high.fork.left
 
-pub measure-requires : goal.measure-requires
-measure-requires g t c =
+pub falls_short_of-requires-clause-other : goal.falls_short_of-requires-clause-other
+falls_short_of-requires-clause-other g t c =
+    let high = has_balanced_top g.K.Ord.cmp c.args.self.now c.in-Fork.shared c.in-Some.fork.now c.in-Fork.is c.in-Some.ensures.value c.requires.tree.balanced in
+    high.fork.right
+
+pub measure-requires-clause-left : goal.measure-requires-clause-left
+measure-requires-clause-left g t c =
+    let taken = c.in_ok-remove-in-Less.ensures.ok in
+    taken.balanced
+
+pub measure-requires-clause-right : goal.measure-requires-clause-right
+measure-requires-clause-right g t c =
+    let high = has_balanced_top g.K.Ord.cmp c.args.self.now c.in-Fork.shared c.in-Some.fork.now c.in-Fork.is c.in-Some.ensures.value c.requires.tree.balanced in
+    high.fork.right
+
+pub measure-requires-clause-room : goal.measure-requires-clause-room
+measure-requires-clause-room g t c =
     let high = has_balanced_top g.K.Ord.cmp c.args.self.now c.in-Fork.shared c.in-Some.fork.now c.in-Fork.is c.in-Some.ensures.value c.requires.tree.balanced in
     let room = c.requires.room in
     let height = high.height in
     let taken = c.in_ok-remove-in-Less.ensures.ok in
     let lower = taken.not_higher in
-    record { left = taken.balanced; right = high.fork.right; room = omega arith }
+    omega arith
 
-pub measure-requires-in-Greater : goal.measure-requires-in-Greater
-measure-requires-in-Greater g t c =
+pub measure-requires-in-Greater-clause-right : goal.measure-requires-in-Greater-clause-right
+measure-requires-in-Greater-clause-right g t c =
+    let taken = c.in_ok-remove-in-Greater.ensures.ok in
+    taken.balanced
+
+pub measure-requires-in-Greater-clause-left : goal.measure-requires-in-Greater-clause-left
+measure-requires-in-Greater-clause-left g t c =
+    let high = has_balanced_top g.K.Ord.cmp c.args.self.now c.in-Fork.shared c.in-Some.fork.now c.in-Fork.is c.in-Some.ensures.value c.requires.tree.balanced in
+    high.fork.left
+
+pub measure-requires-in-Greater-clause-room : goal.measure-requires-in-Greater-clause-room
+measure-requires-in-Greater-clause-room g t c =
     let high = has_balanced_top g.K.Ord.cmp c.args.self.now c.in-Fork.shared c.in-Some.fork.now c.in-Fork.is c.in-Some.ensures.value c.requires.tree.balanced in
     let room = c.requires.room in
     let height = high.height in
     let taken = c.in_ok-remove-in-Greater.ensures.ok in
     let lower = taken.not_higher in
-    record { right = taken.balanced; left = high.fork.left; room = omega arith }
+    omega arith

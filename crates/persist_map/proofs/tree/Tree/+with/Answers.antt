@@ -33,24 +33,56 @@ returns-in_ok-right-in-Greater g t c =
     let s = stands_for g.K.Ord.cmp c.args.key.now c.args.self.now c.in-Fork.fork c.deref-fork.result.now c.in-Fork.is c.deref-fork.ensures c.requires.tree in
     IfOk-weaker c.with_right.result _ _ (λ z j. set_right g.K.Ord.cmp _ _ _ _ s g.met.K.Ord.total (sym c.in-Greater.ensures) _ z c.in_ok-right-in-Greater.ensures j) c.with_right.ensures
 
-pub with_left-requires : goal.with_left-requires
-with_left-requires g t c =
+pub with_left-requires-clause-left : goal.with_left-requires-clause-left
+with_left-requires-clause-left g t c =
+    let set = c.in_ok-left-in-Less.ensures in
+    set.balanced
+
+pub with_left-requires-clause-right : goal.with_left-requires-clause-right
+with_left-requires-clause-right g t c =
+    let s = stands_for g.K.Ord.cmp c.args.key.now c.args.self.now c.in-Fork.fork c.deref-fork.result.now c.in-Fork.is c.deref-fork.ensures c.requires.tree in
+    s.fork.right
+
+pub with_left-requires-clause-heights : goal.with_left-requires-clause-heights
+with_left-requires-clause-heights g t c =
     let s = stands_for g.K.Ord.cmp c.args.key.now c.args.self.now c.in-Fork.fork c.deref-fork.result.now c.in-Fork.is c.deref-fork.ensures c.requires.tree in
     let sides = s.fork.sides in
     let set = c.in_ok-left-in-Less.ensures in
     let bounds = set_height_bounds g.K.Ord.cmp _ _ _ _ set in
-    record { keys = c.requires.keys; values = c.requires.values; left = set.balanced; right = s.fork.right; heights = (omega arith, omega arith) }
+    (omega arith, omega arith)
 
-pub copied-requires-in-Equal : goal.copied-requires-in-Equal
-copied-requires-in-Equal g t c =
+pub copied-requires-in-Equal-clause-left : goal.copied-requires-in-Equal-clause-left
+copied-requires-in-Equal-clause-left g t c =
     let s = stands_for g.K.Ord.cmp c.args.key.now c.args.self.now c.in-Fork.fork c.deref-fork.result.now c.in-Fork.is c.deref-fork.ensures c.requires.tree in
     let fork = s.fork in
-    record { keys = c.requires.keys; values = c.requires.values; left = fork.left; right = fork.right; heights = fork.sides }
+    fork.left
 
-pub with_right-requires : goal.with_right-requires
-with_right-requires g t c =
+pub copied-requires-in-Equal-clause-right : goal.copied-requires-in-Equal-clause-right
+copied-requires-in-Equal-clause-right g t c =
+    let s = stands_for g.K.Ord.cmp c.args.key.now c.args.self.now c.in-Fork.fork c.deref-fork.result.now c.in-Fork.is c.deref-fork.ensures c.requires.tree in
+    let fork = s.fork in
+    fork.right
+
+pub copied-requires-in-Equal-clause-heights : goal.copied-requires-in-Equal-clause-heights
+copied-requires-in-Equal-clause-heights g t c =
+    let s = stands_for g.K.Ord.cmp c.args.key.now c.args.self.now c.in-Fork.fork c.deref-fork.result.now c.in-Fork.is c.deref-fork.ensures c.requires.tree in
+    let fork = s.fork in
+    fork.sides
+
+pub with_right-requires-clause-left : goal.with_right-requires-clause-left
+with_right-requires-clause-left g t c =
+    let s = stands_for g.K.Ord.cmp c.args.key.now c.args.self.now c.in-Fork.fork c.deref-fork.result.now c.in-Fork.is c.deref-fork.ensures c.requires.tree in
+    s.fork.left
+
+pub with_right-requires-clause-right : goal.with_right-requires-clause-right
+with_right-requires-clause-right g t c =
+    let set = c.in_ok-right-in-Greater.ensures in
+    set.balanced
+
+pub with_right-requires-clause-heights : goal.with_right-requires-clause-heights
+with_right-requires-clause-heights g t c =
     let s = stands_for g.K.Ord.cmp c.args.key.now c.args.self.now c.in-Fork.fork c.deref-fork.result.now c.in-Fork.is c.deref-fork.ensures c.requires.tree in
     let sides = s.fork.sides in
     let set = c.in_ok-right-in-Greater.ensures in
     let bounds = set_height_bounds g.K.Ord.cmp _ _ _ _ set in
-    record { keys = c.requires.keys; values = c.requires.values; left = s.fork.left; right = set.balanced; heights = (omega arith, omega arith) }
+    (omega arith, omega arith)

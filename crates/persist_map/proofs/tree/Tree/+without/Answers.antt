@@ -36,24 +36,56 @@ returns-in_ok-right-in-Greater g t c =
     let high = has_balanced_top g.K.Ord.cmp c.args.self.now c.in-Fork.fork c.deref-fork.result.now c.in-Fork.is c.deref-fork.ensures c.requires.tree.balanced in
     IfOk-weaker c.with_right.result _ _ (λ z j. taken_right g.K.Ord.cmp g.met.K.Ord.total _ _ top high _ (sym c.in-Greater.ensures) _ z c.in_ok-right-in-Greater.ensures j) c.with_right.ensures
 
-pub with_left-requires : goal.with_left-requires
-with_left-requires g t c =
+pub with_left-requires-clause-left : goal.with_left-requires-clause-left
+with_left-requires-clause-left g t c =
+    let taken = c.in_ok-left-in-Less.ensures in
+    taken.balanced
+
+pub with_left-requires-clause-right : goal.with_left-requires-clause-right
+with_left-requires-clause-right g t c =
+    let high = has_balanced_top g.K.Ord.cmp c.args.self.now c.in-Fork.fork c.deref-fork.result.now c.in-Fork.is c.deref-fork.ensures c.requires.tree.balanced in
+    high.fork.right
+
+pub with_left-requires-clause-heights : goal.with_left-requires-clause-heights
+with_left-requires-clause-heights g t c =
     let high = has_balanced_top g.K.Ord.cmp c.args.self.now c.in-Fork.fork c.deref-fork.result.now c.in-Fork.is c.deref-fork.ensures c.requires.tree.balanced in
     let sides = high.fork.sides in
     let taken = c.in_ok-left-in-Less.ensures in
     let bounds = taken_height_bounds g.K.Ord.cmp _ _ _ taken in
-    record { keys = c.requires.keys; values = c.requires.values; left = taken.balanced; right = high.fork.right; heights = (omega arith, omega arith) }
+    (omega arith, omega arith)
 
-pub joined-requires : goal.joined-requires
-joined-requires g t c =
+pub joined-requires-clause-left : goal.joined-requires-clause-left
+joined-requires-clause-left g t c =
     let high = has_balanced_top g.K.Ord.cmp c.args.self.now c.in-Fork.fork c.deref-fork.result.now c.in-Fork.is c.deref-fork.ensures c.requires.tree.balanced in
     let fork = high.fork in
-    record { keys = c.requires.keys; values = c.requires.values; left = fork.left; right = fork.right; heights = fork.sides }
+    fork.left
 
-pub with_right-requires : goal.with_right-requires
-with_right-requires g t c =
+pub joined-requires-clause-right : goal.joined-requires-clause-right
+joined-requires-clause-right g t c =
+    let high = has_balanced_top g.K.Ord.cmp c.args.self.now c.in-Fork.fork c.deref-fork.result.now c.in-Fork.is c.deref-fork.ensures c.requires.tree.balanced in
+    let fork = high.fork in
+    fork.right
+
+pub joined-requires-clause-heights : goal.joined-requires-clause-heights
+joined-requires-clause-heights g t c =
+    let high = has_balanced_top g.K.Ord.cmp c.args.self.now c.in-Fork.fork c.deref-fork.result.now c.in-Fork.is c.deref-fork.ensures c.requires.tree.balanced in
+    let fork = high.fork in
+    fork.sides
+
+pub with_right-requires-clause-left : goal.with_right-requires-clause-left
+with_right-requires-clause-left g t c =
+    let high = has_balanced_top g.K.Ord.cmp c.args.self.now c.in-Fork.fork c.deref-fork.result.now c.in-Fork.is c.deref-fork.ensures c.requires.tree.balanced in
+    high.fork.left
+
+pub with_right-requires-clause-right : goal.with_right-requires-clause-right
+with_right-requires-clause-right g t c =
+    let taken = c.in_ok-right-in-Greater.ensures in
+    taken.balanced
+
+pub with_right-requires-clause-heights : goal.with_right-requires-clause-heights
+with_right-requires-clause-heights g t c =
     let high = has_balanced_top g.K.Ord.cmp c.args.self.now c.in-Fork.fork c.deref-fork.result.now c.in-Fork.is c.deref-fork.ensures c.requires.tree.balanced in
     let sides = high.fork.sides in
     let taken = c.in_ok-right-in-Greater.ensures in
     let bounds = taken_height_bounds g.K.Ord.cmp _ _ _ taken in
-    record { keys = c.requires.keys; values = c.requires.values; left = high.fork.left; right = taken.balanced; heights = (omega arith, omega arith) }
+    (omega arith, omega arith)
