@@ -1,7 +1,7 @@
 -- What loops over lists of written goals, parts and clauses have done.
-use Rattle.std.proofs.Common.{◌≡◌, ℕ, zero, suc, ◌+◌, ◌<◌, ◌≤◌, Bool, List, [], ◌∷◌, ◌++◌, length, map, drop, get_or, sym, ap, ◌∙◌, arith}
+use Rattle.std.proofs.Common.{◌≡◌, ℕ, zero, suc, ◌+◌, ◌<◌, ◌≤◌, Bool, List, [], ◌∷◌, ◌++◌, length, map, take, drop, set, get_or, sym, ap, ◌∙◌, arith}
 use Rattle.std.specs.List.{filter}
-use Rattle.std.proofs.lemmas.List.{append-nil, drop_all, drop_more, map_push}
+use Rattle.std.proofs.lemmas.List.{append-nil, take_all, drop_all, drop_more, map_push, take_more_set, drop-set-lt}
 use Rattle.std.proofs.lemmas.List.Elements.{filter-append}
 use Rattle.akl_syntax.specs.Goals.{Goal, Goals, Parts, goals, parts}
 use Rattle.akl_syntax.specs.Clauses.{Clause}
@@ -90,31 +90,34 @@ parts_done {after = after} {own = own} xs i h s =
     let t = rw dropped at s in
     record { next_is = omega (arith, t.next_is); own_are = sym (append-nil own) ∙ t.own_are; made_are = sym (append-nil after) ∙ t.made_are }
 
--- ---- clauses
-pub clauses_turn : {cs after after' : List Clause} {next next' : ℕ} (xs : List SourceClause) (i : ℕ) (x y : SourceClause) (found : List SourceClause) → i < length xs → x ≡ get_or xs i x
-    → ClausesSoFar cs next (map clause_view found) after (map clause_view (drop i xs)) → next' ≡ next + clause_choices (clause_view x) → clause_view y ≡ clause_without next (clause_view x) → after' ≡ after ++ joined (made_of next (clause_view x))
-    → ClausesSoFar cs next' (map clause_view (found ++ y ∷ [])) after' (map clause_view (drop (i + 1) xs))
-clauses_turn xs i x y found h e s a b m =
-    let dropped : drop i xs ≡ x ∷ drop (i + 1) xs = one_dropped xs i x h e in
-    rw (map_push clause_view found y) (clauses_step (clause_view x) (clause_view y) (rw dropped at s) a b m)
+-- ---- clauses, each put in the place of what it was made of
+module _ {first : ℕ} {before cs : List Clause} where
+  pub clauses_turn : {after after' : List Clause} {next next' : ℕ} (xs : List SourceClause) (i : ℕ) (x y : SourceClause) → i < length xs → x ≡ get_or xs i x
+      → ClausesSoFar first before cs next (map clause_view (take i xs)) after (map clause_view (drop i xs)) → next' ≡ next + clause_choices (clause_view x) → clause_view y ≡ clause_without next (clause_view x)
+      → after' ≡ after ++ joined (made_of next (clause_view x)) → ClausesSoFar first before cs next' (map clause_view (take (i + 1) (set xs i y))) after' (map clause_view (drop (i + 1) (set xs i y)))
+  clauses_turn xs i x y h e s a b m =
+      let dropped : drop i xs ≡ x ∷ drop (i + 1) xs = one_dropped xs i x h e in
+      let onward : i < i + 1 = omega arith in
+      rw (take_more_set xs i y h, drop-set-lt (i + 1) xs i y onward, map_push clause_view (take i xs) y) (clauses_step (clause_view x) (clause_view y) (rw dropped at s) a b m)
 
-pub clauses_room : {cs found after : List Clause} {next : ℕ} (xs : List SourceClause) (i : ℕ) (x : SourceClause) → i < length xs → x ≡ get_or xs i x → ClausesSoFar cs next found after (map clause_view (drop i xs))
-    → next + clause_choices (clause_view x) ≤ choices_of cs
-clauses_room xs i x h e s =
-    let dropped : drop i xs ≡ x ∷ drop (i + 1) xs = one_dropped xs i x h e in
-    let t = rw dropped at s in
-    omega (arith, t.next_is)
+  pub clauses_room : {found after : List Clause} {next : ℕ} (xs : List SourceClause) (i : ℕ) (x : SourceClause) → i < length xs → x ≡ get_or xs i x → ClausesSoFar first before cs next found after (map clause_view (drop i xs))
+      → next + clause_choices (clause_view x) ≤ first + choices_of cs
+  clauses_room xs i x h e s =
+      let dropped : drop i xs ≡ x ∷ drop (i + 1) xs = one_dropped xs i x h e in
+      let t = rw dropped at s in
+      omega (arith, t.next_is)
 
-pub record ClausesDone (cs : List Clause) (next : ℕ) (found after : List Clause) : Type 0 where
-  pub next_is : next ≡ choices_of cs
-  pub found_are : found ≡ clauses_without 0 cs
-  pub made_are : after ≡ made_of_all 0 cs
+pub record ClausesDone (first : ℕ) (before cs found after : List Clause) : Type 0 where
+  pub found_are : found ≡ clauses_without first cs
+  pub made_are : after ≡ before ++ made_of_all first cs
 
-pub clauses_done : {cs found after : List Clause} {next : ℕ} (xs : List SourceClause) (i : ℕ) → length xs ≤ i → ClausesSoFar cs next found after (map clause_view (drop i xs)) → ClausesDone cs next found after
-clauses_done {found = found} {after = after} xs i h s =
+pub clauses_done : {first next : ℕ} {before cs after : List Clause} (xs : List SourceClause) (i : ℕ) → length xs ≤ i → ClausesSoFar first before cs next (map clause_view (take i xs)) after (map clause_view (drop i xs))
+    → ClausesDone first before cs (map clause_view xs) after
+clauses_done {after = after} xs i h s =
     let dropped : drop i xs ≡ [] = drop_all i xs h in
-    let t = rw dropped at s in
-    record { next_is = omega (arith, t.next_is); found_are = sym (append-nil found) ∙ t.found_are; made_are = sym (append-nil after) ∙ t.made_are }
+    let taken : take i xs ≡ xs = take_all i xs h in
+    let t = rw (dropped, taken) at s in
+    record { found_are = sym (append-nil (map clause_view xs)) ∙ t.found_are; made_are = sym (append-nil after) ∙ t.made_are }
 
 -- ---- variables
 pub filter_turn : (p : ℕ → Bool) (xs found new : List ℕ) (i : ℕ) → i < length xs → new ≡ found ++ filter p (get_or xs i 0 ∷ []) → found ++ filter p (drop i xs) ≡ filter p xs → new ++ filter p (drop (i + 1) xs) ≡ filter p xs

@@ -5,16 +5,16 @@ use Rattle.akl_syntax.specs.Clauses.{Clause}
 use Rattle.akl_syntax.specs.Sizes.{goal_size, goals_size, parts_size, clauses_size}
 use Rattle.akl_lift.specs.Lifting.{choices_in, choices_in_all, choices_in_parts, clause_choices, choices_of, clause_without, clauses_without, made_of, made_of_all, joined}
 
-pub record ClausesSoFar (cs : List Clause) (next : ℕ) (found after : List Clause) (rest : List Clause) : Type 0 where
-  pub next_is : next + choices_of rest ≡ choices_of cs
-  pub found_are : found ++ clauses_without next rest ≡ clauses_without 0 cs
-  pub made_are : after ++ made_of_all next rest ≡ made_of_all 0 cs
+pub record ClausesSoFar (first : ℕ) (before cs : List Clause) (next : ℕ) (found after : List Clause) (rest : List Clause) : Type 0 where
+  pub next_is : next + choices_of rest ≡ first + choices_of cs
+  pub found_are : found ++ clauses_without next rest ≡ clauses_without first cs
+  pub made_are : after ++ made_of_all next rest ≡ before ++ made_of_all first cs
 
-pub clauses_start : (cs : List Clause) → ClausesSoFar cs 0 [] [] cs
-clauses_start cs = record { next_is = omega arith; found_are = refl; made_are = refl }
+pub clauses_start : (first : ℕ) (before cs : List Clause) → ClausesSoFar first before cs first [] before cs
+clauses_start first before cs = record { next_is = refl; found_are = refl; made_are = refl }
 
-pub clauses_step : {cs rest found after after' : List Clause} {next next' : ℕ} (c d : Clause) → ClausesSoFar cs next found after (c ∷ rest) → next' ≡ next + clause_choices c → d ≡ clause_without next c
-    → after' ≡ after ++ joined (made_of next c) → ClausesSoFar cs next' (found ++ d ∷ []) after' rest
+pub clauses_step : {first : ℕ} {before cs rest found after after' : List Clause} {next next' : ℕ} (c d : Clause) → ClausesSoFar first before cs next found after (c ∷ rest) → next' ≡ next + clause_choices c → d ≡ clause_without next c
+    → after' ≡ after ++ joined (made_of next c) → ClausesSoFar first before cs next' (found ++ d ∷ []) after' rest
 clauses_step {rest = rest} {found = found} {after = after} {next = next} c d s e f m = rw (e, f, m) (record {
   next_is = omega (arith, s.next_is);
   found_are = append_assoc found (clause_without next c ∷ []) (clauses_without (next + clause_choices c) rest) ∙ s.found_are;

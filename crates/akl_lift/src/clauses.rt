@@ -1,6 +1,6 @@
 //! Programs.
 
-ghost use Rattle.std.specs.Prelude.{◌≡◌, ◌≤◌, ◌+◌, ◌++◌, map, IfOk, OnOk};
+ghost use Rattle.std.specs.Prelude.{◌≡◌, ◌≤◌, ◌+◌, ◌++◌, [], map, IfOk, OnOk};
 ghost use Rattle.term_syntax.specs.View.{tree};
 ghost use Rattle.akl_syntax.specs.Goals.{goals};
 ghost use Rattle.akl_syntax.specs.GoalView.{goal, part};
@@ -9,16 +9,15 @@ ghost use Rattle.akl_syntax.specs.Sizes.{clauses_size};
 ghost use Rattle.term_syntax.specs.Tree.{trees};
 ghost use Rattle.term_syntax.specs.Variables.{trees_variables};
 ghost use Rattle.clause_keys.specs.Keys.{key_of};
-ghost use Rattle.akl_lift.specs.Lifting.{choices_in_all, choices_of, clause_choices, clause_without, made_of, joined, lifted_clauses, clause_order, clause_origin};
+ghost use Rattle.akl_lift.specs.Lifting.{choices_in_all, choices_of, clause_choices, clause_without, clauses_without, made_of, made_of_all, joined, lifted_clauses, clause_order, clause_origin};
 ghost use Rattle.akl_lift.specs.Noting.{outer_all, insides_all, inside_view};
 ghost use Rattle.akl_lift.specs.Scopes.{IsScope, IsTally, chosen_of, origin_view, part_without, made_by};
 
 use crate::lifting::{Made, Origin, lift_guard_and_body};
 use crate::noting::{Inside, note_part};
-use crate::places::placed_terms;
 use crate::scope::{Scope, written_scope};
 use crate::variables::add_terms;
-use akl_syntax::{Head, SourceClause, SourcePart, SourceTerm};
+use akl_syntax::{Head, SourceClause, SourcePart};
 use akl_terms::{Key, Text};
 use std::alloc::{AllocError, Global};
 
@@ -41,31 +40,6 @@ pub fn copied(alloc: Global, texts: &[Text]) -> Result<Vec<Text>, AllocError>
     Ok(found)
 }
 
-/// A copy of terms.
-fn copied_terms(alloc: Global, terms: &[SourceTerm]) -> Result<Vec<SourceTerm>, AllocError>
-    ensures { IfOk result (λ v. map tree v.items ≡ map tree terms.now) }
-{
-    let found = placed_terms(alloc, &[], terms)?;
-    Ok(found)
-}
-
-/// A copy of a head.
-fn copied_head(head: &Head) -> Result<Head, AllocError>
-    ensures { IfOk result (λ h. h ≡ head.now) }
-{
-    match head {
-        Head::Named(symbol) => Ok(Head::Named(symbol.duplicate()?)),
-        Head::Lifted { number, inside } => {
-            let symbol = inside.symbol.duplicate()?;
-            let arity = inside.arity;
-            Ok(Head::Lifted {
-                number: *number,
-                inside: Key { symbol, arity },
-            })
-        }
-    }
-}
-
 /// The key of the definition of a head with so many arguments.
 fn key(head: &Head, arity: usize) -> Result<Key, AllocError>
     ensures { IfOk result (λ k. k ≡ key_of head.now arity) }
@@ -86,10 +60,10 @@ fn key(head: &Head, arity: usize) -> Result<Key, AllocError>
     }
 }
 
-/// What clauses have that are made of a clause, with what was noted of the choices in it.
-fn origin(alloc: Global, clause: &SourceClause, noted: Vec<Inside>) -> Result<Origin, AllocError>
+/// What clauses have that are made of a clause, where nothing was noted yet.
+fn origin(alloc: Global, clause: &SourceClause) -> Result<Origin, AllocError>
     ensures origin { IfOk result (λ o. origin_view o ≡ clause_origin (clause_view clause.now)) }
-    ensures noted { IfOk result (λ o. o.noted.items ≡ noted.items) }
+    ensures noted { IfOk result (λ o. o.noted.items ≡ []) }
 {
     let names = copied(alloc, &clause.names)?;
     let inside = key(&clause.head, clause.arguments.len())?;
@@ -97,23 +71,25 @@ fn origin(alloc: Global, clause: &SourceClause, noted: Vec<Inside>) -> Result<Or
         names,
         inside,
         start: clause.start,
-        noted,
+        noted: Vec::new(alloc),
     })
 }
 
-/// The variables of a written clause, and what is noted of the choices in it.
-fn clause_scope(alloc: Global, clause: &SourceClause) -> Result<(Scope, Vec<Inside>), AllocError>
-    ensures order { IfOk result (λ x. x.0.order.items ≡ clause_order (clause_view clause.now)) }
-    ensures counts { IfOk result (λ x. IsTally (trees_variables (trees (map tree clause.now.arguments.items)) ++ (outer_all (goals (map goal clause.now.part.guard.items)) ++ outer_all (goals (map goal clause.now.part.body.items)))) x.0.counts) }
-    ensures scope { IfOk result (λ x. IsScope x.0) }
-    ensures noted { IfOk result (λ x. map inside_view x.1.items ≡ insides_all (goals (map goal clause.now.part.guard.items)) ++ insides_all (goals (map goal clause.now.part.body.items))) }
+/// The variables of a written clause. The choices in it are noted.
+fn clause_scope(
+    alloc: Global,
+    noted: &mut Vec<Inside>,
+    clause: &SourceClause,
+) -> Result<Scope, AllocError>
+    ensures order { IfOk result (λ s. s.order.items ≡ clause_order (clause_view clause.now)) }
+    ensures counts { IfOk result (λ s. IsTally (trees_variables (trees (map tree clause.now.arguments.items)) ++ (outer_all (goals (map goal clause.now.part.guard.items)) ++ outer_all (goals (map goal clause.now.part.body.items)))) s.counts) }
+    ensures scope { IfOk result IsScope }
+    ensures noted { OnOk result (map inside_view noted.new.items ≡ map inside_view noted.old.items ++ (insides_all (goals (map goal clause.now.part.guard.items)) ++ insides_all (goals (map goal clause.now.part.body.items)))) }
 {
-    let mut noted = Vec::new(alloc);
     let mut found = Vec::new(alloc);
     add_terms(&mut found, &clause.arguments)?;
-    note_part(alloc, &mut noted, &mut found, &clause.part)?;
-    let scope = written_scope(alloc, clause.names.len(), &found)?;
-    Ok((scope, noted))
+    note_part(alloc, noted, &mut found, &clause.part)?;
+    written_scope(alloc, clause.names.len(), &found)
 }
 
 /// Moves the clauses of definitions behind others.
@@ -154,45 +130,34 @@ fn lift_part(
     Ok(part)
 }
 
-/// A clause with the head, the arguments and the place of this one.
-fn with_part(
-    alloc: Global,
-    clause: &SourceClause,
-    names: Vec<Text>,
-    part: SourcePart,
-) -> Result<SourceClause, AllocError>
-    ensures head { IfOk result (λ c. c.head ≡ clause.now.head) }
-    ensures arguments { IfOk result (λ c. map tree c.arguments.items ≡ map tree clause.now.arguments.items) }
-    ensures part { IfOk result (λ c. c.part ≡ part) }
-    ensures names { IfOk result (λ c. c.names.items ≡ names.items) }
-    ensures start { IfOk result (λ c. c.start ≡ clause.now.start) }
+/// Takes the inline choices out of a clause. Behind the clauses that were made come those of its choices.
+fn lift_clause(alloc: Global, out: &mut Lifted, clause: &mut SourceClause) -> Result<(), AllocError>
+    requires { out.old.next + clause_choices (clause_view clause.old) ≤ 4294967295 }
+    ensures next { OnOk result (out.new.next ≡ out.old.next + clause_choices (clause_view clause.old)) }
+    ensures clause { OnOk result (clause_view clause.new ≡ clause_without out.old.next (clause_view clause.old)) }
+    ensures made { OnOk result (clauses_view out.new.clauses ≡ clauses_view out.old.clauses ++ joined (made_of out.old.next (clause_view clause.old))) }
 {
-    let head = copied_head(&clause.head)?;
-    let arguments = copied_terms(alloc, &clause.arguments)?;
-    Ok(SourceClause {
-        head,
-        arguments,
-        part,
-        names,
-        start: clause.start,
-    })
+    let mut origin = origin(alloc, clause)?;
+    let scope = clause_scope(alloc, &mut origin.noted, clause)?;
+    let part = lift_part(alloc, &origin, &scope, out, &clause.part)?;
+    clause.part = part;
+    Ok(())
 }
 
-/// The clause without choices.
-fn lift_clause(
+/// Takes the inline choices out of clauses.
+fn lift_each(
     alloc: Global,
     out: &mut Lifted,
-    clause: &SourceClause,
-) -> Result<SourceClause, AllocError>
-    requires { out.old.next + clause_choices (clause_view clause.now) ≤ 4294967295 }
-    ensures next { OnOk result (out.new.next ≡ out.old.next + clause_choices (clause_view clause.now)) }
-    ensures clause { IfOk result (λ c. clause_view c ≡ clause_without out.old.next (clause_view clause.now)) }
-    ensures made { OnOk result (clauses_view out.new.clauses ≡ clauses_view out.old.clauses ++ joined (made_of out.old.next (clause_view clause.now))) }
+    clauses: &mut [SourceClause],
+) -> Result<(), AllocError>
+    requires { out.old.next + choices_of (map clause_view clauses.old) ≤ 4294967295 }
+    ensures clauses { OnOk result (map clause_view clauses.new ≡ clauses_without out.old.next (map clause_view clauses.old)) }
+    ensures made { OnOk result (clauses_view out.new.clauses ≡ clauses_view out.old.clauses ++ made_of_all out.old.next (map clause_view clauses.old)) }
 {
-    let (scope, noted) = clause_scope(alloc, clause)?;
-    let origin = origin(alloc, clause, noted)?;
-    let part = lift_part(alloc, &origin, &scope, out, &clause.part)?;
-    with_part(alloc, clause, origin.names, part)
+    for clause in clauses.iter_mut() {
+        lift_clause(alloc, out, clause)?;
+    }
+    Ok(())
 }
 
 /// The clauses without their inline choices, and behind them the clauses of the definitions that are made of these, in
@@ -202,7 +167,7 @@ fn lift_clause(
 /// the opening brackets in the text. The arguments are the variables that occur in the choice and also outside it in its
 /// clause, in order of their numbers there. A clause that is made numbers its variables by first occurrence, beginning
 /// with its arguments. It is an error only where memory runs out.
-pub fn lift(alloc: Global, clauses: Vec<SourceClause>) -> Result<Vec<SourceClause>, AllocError>
+pub fn lift(alloc: Global, mut clauses: Vec<SourceClause>) -> Result<Vec<SourceClause>, AllocError>
     requires { clauses_size (clauses_view clauses) ≤ 1000000 }
     ensures { IfOk result (λ v. clauses_view v ≡ lifted_clauses (clauses_view clauses)) }
 {
@@ -210,11 +175,7 @@ pub fn lift(alloc: Global, clauses: Vec<SourceClause>) -> Result<Vec<SourceClaus
         next: 0,
         clauses: Vec::new(alloc),
     };
-    let mut found = Vec::new(alloc);
-    for clause in &clauses {
-        let next = lift_clause(alloc, &mut out, clause)?;
-        found.push(next)?;
-    }
-    found.append(&mut out.clauses)?;
-    Ok(found)
+    lift_each(alloc, &mut out, &mut clauses)?;
+    clauses.append(&mut out.clauses)?;
+    Ok(clauses)
 }

@@ -1,14 +1,12 @@
 use Rattle.std.proofs.Common.{◌++◌, map, ap, ◌∙◌, arith}
-use Rattle.std.proofs.lemmas.Result.{IfOk-weaker}
 use Rattle.akl_syntax.specs.Goals.{goals}
 use Rattle.akl_syntax.specs.GoalView.{goal}
 use Rattle.akl_syntax.specs.Answers.{query_view, clauses_view}
 use Rattle.akl_lift.specs.Lifting.{without_all, made_all, query_origin, query_shares}
-use Rattle.akl_lift.specs.Noting.{inside_view}
 use Rattle.akl_lift.specs.Scopes.{chosen_of, origin_view}
 use Rattle.akl_lift.proofs.Programs.{goals_choices_size}
 use Rattle.akl_lift.proofs.Shares.{same_made_all}
-use Rattle.akl_lift.proofs.Wholes.{fresh_noted, query_agrees, query_same}
+use Rattle.akl_lift.proofs.Wholes.{fresh_noted, query_agrees, query_same, query_by}
 use Rattle.akl_lift.proofs.query.lift_asked.Goals as given
 
 pub lift_goals-requires-clause-room : given.lift_goals-requires-clause-room
@@ -16,15 +14,15 @@ lift_goals-requires-clause-room c = rw c.deref.ensures.value (omega (arith, goal
 
 pub lift_goals-requires-clause-noted : given.lift_goals-requires-clause-noted
 lift_goals-requires-clause-noted c =
-    rw c.deref.ensures.value (fresh_noted c.in_ok-origin.origin.noted.items c.args.out.now.definitions.items _ c.requires.none (ap (map inside_view) c.in_ok-origin.ensures.noted ∙ c.in_ok-scope.ensures.noted))
+    rw c.deref.ensures.value (fresh_noted c.query_scope.new.noted.items c.args.out.now.definitions.items _ c.requires.none (rw c.in_ok-origin.ensures.noted at c.in_ok-scope.ensures.noted))
 
-pub returns-clause-goals : given.returns-clause-goals
-returns-clause-goals c =
+pub returns-clause-query : given.returns-clause-query
+returns-clause-query c =
     let s = c.in_ok-scope.scope in
     let q = query_view c.args.query.now in
     let agrees = query_agrees s q c.in_ok-scope.ensures.order c.in_ok-scope.ensures.counts in
     let same = ap (λ xs. without_all s.order.items (chosen_of s) c.args.out.now.next (goals (map goal xs))) c.deref.ensures.value ∙ query_same s q c.args.out.now.next c.in_ok-scope.ensures.order agrees in
-    IfOk-weaker c.lift_goals.result _ _ (λ v e. e ∙ same) c.lift_goals.ensures.goals
+    ap (λ gs. query_by gs c.args.query.now.names.items) (c.in_ok-goals.ensures.goals ∙ same)
 
 pub returns-clause-made : given.returns-clause-made
 returns-clause-made c =
@@ -33,7 +31,7 @@ returns-clause-made c =
     let first = c.args.out.now.next in
     let gs = goals (map goal c.args.query.now.goals.items) in
     let agrees = query_agrees s q c.in_ok-scope.ensures.order c.in_ok-scope.ensures.counts in
-    let same = ap (λ ds. map clauses_view ds ++ made_all (origin_view c.in_ok-origin.origin) (chosen_of s) c.args.out.now.next (goals (map goal c.deref.result.now))) c.requires.none
+    c.in_ok-goals.ensures.made
+    ∙ ap (λ ds. map clauses_view ds ++ made_all (origin_view c.in_ok-origin.origin) (chosen_of s) c.args.out.now.next (goals (map goal c.deref.result.now))) c.requires.none
     ∙ ap (λ xs. made_all (origin_view c.in_ok-origin.origin) (chosen_of s) c.args.out.now.next (goals (map goal xs))) c.deref.ensures.value
-    ∙ ap (λ w. made_all w (chosen_of s) first gs) c.in_ok-origin.ensures.origin ∙ same_made_all (query_origin q) (chosen_of s) (query_shares q) first gs agrees in
-    IfOk-weaker c.lift_goals.result _ _ (λ v e. e ∙ same) c.lift_goals.ensures.made
+    ∙ ap (λ w. made_all w (chosen_of s) first gs) c.in_ok-origin.ensures.origin ∙ same_made_all (query_origin q) (chosen_of s) (query_shares q) first gs agrees
