@@ -1,14 +1,12 @@
 -- What the functions that load goals have put.
-use Rattle.std.proofs.Common.{◌≡◌, ℕ, zero, suc, ◌+◌, ◌<◌, ◌≤◌, Bool, true, false, List, [], ◌∷◌, ◌++◌, length, map, slice_get, get_or, Option, Some, None, ◌⊎◌, inl, inr, refl, sym, ap, subst, ◌∙◌, arith}
+use Rattle.std.proofs.Common.{◌≡◌, ℕ, zero, suc, ◌+◌, ◌<◌, ◌≤◌, Bool, true, false, List, [], ◌∷◌, ◌++◌, length, slice_get, get_or, Option, Some, None, ◌⊎◌, inl, inr, refl, sym, ap, subst, ◌∙◌, arith}
 use Rattle.std.specs.Prelude.{◌==◌, option_to_list, if◌then◌else◌}
-use Rattle.std.specs.List.{All, Contains}
-use Rattle.std.proofs.lemmas.List.{length-map}
+use Rattle.std.specs.List.{Contains}
 use Rattle.std.proofs.lemmas.Bool.{eqb-true}
-use Rattle.akl_terms.specs.declared.term.Node.{Node}
 use Rattle.akl_terms.specs.declared.program.Code.{Code}
 use Rattle.akl_terms.specs.declared.program.Code.TheVariants as made
 use Rattle.akl_terms.specs.declared.program.Test.TheVariants as tests
-use Rattle.akl_terms.specs.Template.{Template, IsAfter}
+use Rattle.akl_terms.specs.Template.{Template}
 use Rattle.term_syntax.specs.Tree.{Tree, Trees, no_trees, more_trees, trees}
 use Rattle.akl_syntax.specs.Sizes.{goal_size, goals_size}
 use Rattle.term_syntax.specs.Sizes.{trees_size}
@@ -23,11 +21,11 @@ use Rattle.clause_keys.specs.Conditions.{count, MayCall}
 use Rattle.clause_store.specs.Plain.{plains}
 use Rattle.clause_store.specs.Nodes.{Extends, AreNodes, no_nodes, a_node}
 use Rattle.clause_store.specs.Codes.{pair, variables, AreCodes, no_codes, true_goal, a_code, fail, equal, arithmetic, open_port, send, calls, calls_lifted}
-use Rattle.clause_store.specs.Standing.{StandAt, stand_more, StandsAt, stands_variable, HasRoom, Gains, ArePut}
+use Rattle.clause_store.specs.Standing.{StandAt, stand_more, StandsAt, HasRoom, Gains, ArePut}
 use Rattle.clause_store.specs.Putting.{reserved_code, IsGoalPut, AreGoalsPut}
 use Rattle.clause_store.proofs.Sums.{both, goals_sum}
-use Rattle.clause_store.proofs.Growing.{node_stays, still_stands, extends_none, Each, each_none, each_more, each_after, at_group}
-use Rattle.clause_store.proofs.Room.{gains_none, gains_trans, gains_less, gains_group, room_left}
+use Rattle.clause_store.proofs.Growing.{node_stays, still_stands}
+use Rattle.clause_store.proofs.Room.{gains_none, gains_trans, gains_less, room_left}
 use Rattle.clause_store.proofs.Renamed.{codes_as}
 use Rattle.clause_store.proofs.VariableNodes.{variables_size}
 

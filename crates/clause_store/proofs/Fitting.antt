@@ -1,5 +1,5 @@
 -- The calls of a loaded program have as many arguments as the clauses that they call.
-use Rattle.std.proofs.Common.{◌≡◌, ℕ, List, [], ◌∷◌, length, map, slice_get, Some, sym, ap, subst, ◌∙◌}
+use Rattle.std.proofs.Common.{◌≡◌, ℕ, List, length, map, slice_get, Some, ap, subst, ◌∙◌}
 use Rattle.std.specs.Prelude.{All}
 use Rattle.std.proofs.lemmas.Option.{slice_get_within}
 use Rattle.std.proofs.lemmas.List.Elements.{All-nil, All-cons, All-head, All-tail, All-weaker, All-contains}
@@ -16,7 +16,6 @@ use Rattle.clause_keys.specs.declared.callee.Callee.{Callee}
 use Rattle.clause_keys.specs.declared.callee.Callee.TheVariants.{Named, Lifted}
 use Rattle.clause_keys.specs.Keys.{by_head, defined_by, called_by}
 use Rattle.clause_store.specs.Codes.{IsCode, fail, equal, arithmetic, open_port, send, calls, calls_lifted, AreCodes, no_codes, true_goal, a_code}
-use Rattle.clause_store.specs.Nodes.{IsNodeOf}
 use Rattle.clause_store.specs.Loaded.{AreLoaded, none_loaded, one_loaded, IsDefinitionOf, IsProgramOf}
 use Rattle.clause_store.specs.Fitting.{HasArguments, IsFitting, IsFittingClause, HasFittingCalls}
 use Rattle.clause_store.proofs.Collected.{place_is}

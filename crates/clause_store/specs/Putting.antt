@@ -76,6 +76,13 @@ pub record IsExtended (old_callees callees : List Callee) (old new : Template) (
   pub loaded : All (IsDefinitionOf callees (StandsAt new) cs) added
   pub gains : Gains (clauses_size cs) 0 old new
 
+-- what clauses and goals need was put, the definitions gained those that the clauses define, and these are the goals' codes
+pub record AreAllPut (old new : Template) (before after : List Definition) (cs : List Clause) (gs : List Goal) (found : List Code) : Type 0 where
+  pub callees : List Callee
+  pub mid : Template
+  pub extended : IsExtended (map called_by before) callees old mid before after cs
+  pub goals : AreGoalsPut callees mid new gs found
+
 -- the list's cell was put
 pub record IsCellPut (old new : Template) (at : ℕ) : Type 0 where
   pub cell : IsCell new at

@@ -4,10 +4,14 @@ ghost use Rattle.std.specs.Prelude.{◌≡◌, ◌<◌, ◌≤◌, ◌+◌, ◌*
 ghost use Rattle.std.specs.List.{All};
 ghost use Rattle.akl_syntax.specs.Answers.{clauses_view, query_view};
 ghost use Rattle.akl_syntax.specs.Clauses.{Clause};
-ghost use Rattle.akl_syntax.specs.Sizes.{clauses_size, query_size};
-ghost use Rattle.clause_keys.specs.Keys.{called_by, defined_by, AreUnique};
+ghost use Rattle.akl_syntax.specs.Goals.{goals};
+ghost use Rattle.akl_syntax.specs.GoalView.{goal};
+ghost use Rattle.akl_syntax.specs.Sizes.{clauses_size, goals_size, query_size};
+ghost use Rattle.clause_keys.specs.Keys.{called_by, defined_by, AreUnique, IsAbsent};
 ghost use Rattle.clause_keys.specs.Conditions.{IsLoadable, IsClauseLoadable, AreUnmixed};
 ghost use Rattle.clause_store.specs.Conditions.{IsNewLifted};
+ghost use Rattle.clause_store.specs.Standing.{HasRoom};
+ghost use Rattle.clause_store.specs.Putting.{AreAllPut};
 ghost use Rattle.clause_store.specs.Loaded.{IsProgramOf, IsQueryOf};
 ghost use Rattle.clause_store.specs.Fitting.{IsOver};
 
@@ -15,11 +19,33 @@ use crate::codes::goal_codes;
 use crate::definitions::extend;
 use crate::program::in_order;
 use crate::shown::shown;
-use crate::variables::{numbers_below, put_variables};
-use akl_syntax::{SourceClause, SourceQuery};
-use akl_terms::{Items, Program, Query};
+use crate::variables::put_variables_below;
+use akl_syntax::{SourceClause, SourceGoal, SourceQuery};
+use akl_terms::{Code, Definition, Items, Program, Query, Templates};
 use clause_keys::Callees;
 use std::alloc::{AllocError, Global};
+
+/// Adds the definitions that clauses define, and puts what goals need, which may call these too. Gives the goals' codes.
+fn put_all(
+    alloc: Global,
+    templates: &mut Templates,
+    definitions: &mut Vec<Definition>,
+    clauses: Vec<SourceClause>,
+    written: &[SourceGoal],
+) -> Result<Vec<Code>, AllocError>
+    requires unique { AreUnique (map called_by definitions.old.items) }
+    requires new { All (λ c. IsAbsent (map called_by definitions.old.items) (defined_by c)) (clauses_view clauses) }
+    requires loadable { All (IsClauseLoadable (map called_by definitions.old.items ++ map defined_by (clauses_view clauses))) (clauses_view clauses) }
+    requires goals { All (IsLoadable (map called_by definitions.old.items ++ map defined_by (clauses_view clauses))) (map goal written.now) }
+    requires unmixed { AreUnmixed (clauses_view clauses) }
+    requires few { length definitions.old.items + clauses_size (clauses_view clauses) < 4294967295 }
+    requires room { HasRoom templates.old (goals_size (goals (map goal written.now)) + clauses_size (clauses_view clauses)) }
+    ensures { IfOk result (λ v. AreAllPut templates.old templates.new definitions.old.items definitions.new.items (clauses_view clauses) (map goal written.now) v.items) }
+{
+    let mut callees = Callees::of_definitions(alloc, definitions.as_slice())?;
+    extend(alloc, &mut callees, templates, definitions, clauses)?;
+    goal_codes(alloc, &callees, templates, written)
+}
 
 /// Loads a query over a program, with the clauses of the definitions that were made of its inline choices.
 ///
@@ -52,18 +78,15 @@ pub fn load_query(
 {
     let variables = query.names.len() as u32;
     let mut templates = program.templates;
-    let numbers = numbers_below(alloc, variables)?;
-    put_variables(alloc, &mut templates, &numbers)?;
     let mut definitions = program.definitions.into_vec();
-    let mut callees = Callees::of_definitions(alloc, &definitions)?;
-    extend(
+    put_variables_below(alloc, &mut templates, variables)?;
+    let goals = put_all(
         alloc,
-        &mut callees,
         &mut templates,
         &mut definitions,
         lifted,
+        &query.goals,
     )?;
-    let goals = goal_codes(alloc, &callees, &mut templates, &query.goals)?;
     let shown = shown(alloc, query.names)?;
     in_order(&templates);
     let program = Program {

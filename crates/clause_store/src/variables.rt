@@ -8,7 +8,7 @@ use akl_terms::{Node, Templates};
 use std::alloc::{AllocError, Global};
 
 /// The numbers below a count, in order.
-pub fn numbers_below(alloc: Global, count: u32) -> Result<Vec<u32>, AllocError>
+fn numbers_below(alloc: Global, count: u32) -> Result<Vec<u32>, AllocError>
     ensures { IfOk result (λ v. v.items ≡ numbers_from 0 count) }
 {
     let mut numbers = Vec::new(alloc);
@@ -34,4 +34,18 @@ pub fn put_variables(
     }
     let first = templates.push(&group)?;
     Ok(first)
+}
+
+/// Puts the nodes of the variables below a count as neighbours, in order.
+pub fn put_variables_below(
+    alloc: Global,
+    templates: &mut Templates,
+    count: u32,
+) -> Result<(), AllocError>
+    requires { length templates.old.nodes + count < 2 ^ 32 }
+    ensures { OnOk result (templates.new ≡ record templates.old { nodes = templates.old.nodes ++ map (λ n. Node.Var n) (numbers_from 0 count) }) }
+{
+    let numbers = numbers_below(alloc, count)?;
+    put_variables(alloc, templates, &numbers)?;
+    Ok(())
 }
