@@ -6,9 +6,9 @@ use Rattle.term_syntax.specs.declared.source.SourceStep.{SourceStep}
 use Rattle.term_syntax.specs.View.{tree, step}
 use Rattle.term_syntax.specs.declared.source.SourceTerm.TheVariants as written
 use Rattle.term_syntax.proofs.Trees.{tree_step, tree_var}
-use Rattle.term_syntax.specs.Tree.{Tree, Trees, Tail, Steps, Step, variable, integer, compound, list, chain, no_trees, more_trees, no_tail, tail, no_steps, more_steps, trees, steps}
+use Rattle.term_syntax.specs.Tree.{Tree, Trees, Steps, Step, variable, more_trees, more_steps, trees, steps}
 use Rattle.akl_lift.proofs.Slots.{map_turn}
-use Rattle.akl_lift.specs.Places.{place, placed_variable, placed_tree, placed_trees, placed_tail, placed_steps}
+use Rattle.akl_lift.specs.Places.{place, placed_variable, placed_tree, placed_trees, placed_steps}
 
 abbrev pub placed_step : List ℕ → Step → Step
 placed_step order s = record { symbol = s.symbol; right = placed_tree order s.right }
@@ -20,36 +20,6 @@ trees_placed order (t ∷ ts) = ap (λ (z : Trees). more_trees (placed_tree orde
 pub steps_placed : (order : List ℕ) (ss : List Step) → placed_steps order (steps ss) ≡ steps (map (placed_step order) ss)
 steps_placed order [] = refl
 steps_placed order (s ∷ ss) = ap (λ (z : Steps). more_steps s.symbol (placed_tree order s.right) z) (steps_placed order ss)
-
--- ---- an empty order leaves all as it is
-mutual
-  tree_same : (t : Tree) → placed_tree [] t ≡ t
-  tree_same (variable n) = refl
-  tree_same (integer z) = refl
-  tree_same (compound s ts) = ap (compound s) (trees_same ts)
-  tree_same (list ts e) = ap (λ (z : Trees). list z (placed_tail [] e)) (trees_same ts) ∙ ap (list ts) (tail_same e)
-  tree_same (chain t ss) = ap (λ (z : Tree). chain z (placed_steps [] ss)) (tree_same t) ∙ ap (chain t) (steps_same ss)
-
-  pub trees_same : (ts : Trees) → placed_trees [] ts ≡ ts
-  trees_same no_trees = refl
-  trees_same (more_trees t ts) = ap (λ (z : Tree). more_trees z (placed_trees [] ts)) (tree_same t) ∙ ap (more_trees t) (trees_same ts)
-
-  tail_same : (e : Tail) → placed_tail [] e ≡ e
-  tail_same no_tail = refl
-  tail_same (tail t) = ap tail (tree_same t)
-
-  steps_same : (ss : Steps) → placed_steps [] ss ≡ ss
-  steps_same no_steps = refl
-  steps_same (more_steps w t ss) = ap (λ (z : Tree). more_steps w z (placed_steps [] ss)) (tree_same t) ∙ ap (more_steps w t) (steps_same ss)
-
-pub trees_one : (ts us : List Tree) → trees ts ≡ trees us → ts ≡ us
-trees_one [] [] e = refl
-trees_one [] (u ∷ us) e = cc
-trees_one (t ∷ ts) [] e = cc
-trees_one (t ∷ ts) (u ∷ us) e =
-    let z : trees ts ≡ trees us = cc in
-    let w : t ≡ u = cc in
-    ap (λ (x : Tree). x ∷ ts) w ∙ ap (λ (xs : List Tree). u ∷ xs) (trees_one ts us z)
 
 -- ---- one of a list more, and all of it
 pub one_more : {A B : Type 0} (f : A → B) (p : B → B) (all : List B) (xs found : List A) (i : ℕ) (x y : A) → i < length xs → x ≡ get_or xs i x → f y ≡ p (f x) → map f found ++ map p (map f (drop i xs)) ≡ all

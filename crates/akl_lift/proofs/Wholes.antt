@@ -8,7 +8,7 @@ use Rattle.akl_syntax.specs.Variables.{clause_variables}
 use Rattle.akl_syntax.specs.declared.source.SourceClause.{SourceClause}
 use Rattle.term_syntax.specs.Tree.{trees}
 use Rattle.term_syntax.specs.Variables.{trees_variables}
-use Rattle.akl_lift.specs.Lifting.{Origin, without_all, joined, clause_order, clause_shares, query_order, query_shares, asked_variables, shown_from}
+use Rattle.akl_lift.specs.Lifting.{without_all, joined, clause_order, clause_shares, query_order, query_shares, asked_variables, shown_from}
 use Rattle.akl_lift.specs.Noting.{Noted, outer_all, inside_view, HasNoted}
 use Rattle.akl_lift.specs.Scopes.{IsTally, chosen_of}
 use Rattle.akl_lift.specs.declared.noting.Inside.{Inside}
@@ -58,6 +58,3 @@ seen_clause x = clause_by x.head (map tree x.arguments.items) (part_by (map goal
 
 pub clause_seen : (x : SourceClause) → clause_view x ≡ seen_clause x
 clause_seen x = ap (λ (p : Part). clause_by x.head (map tree x.arguments.items) p x.names.items x.start) (part_is x.part)
-
-abbrev pub names_of : Origin → List (List ℕ)
-names_of w = w.names

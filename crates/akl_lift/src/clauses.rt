@@ -105,29 +105,30 @@ pub fn add_definitions(
     Ok(())
 }
 
-/// The part of a written clause without choices. Behind the clauses that were made come those of its choices.
+/// Takes the inline choices out of the part of a written clause. Behind the clauses that were made come those of its
+/// choices.
 fn lift_part(
     alloc: Global,
     origin: &Origin,
     scope: &Scope,
     out: &mut Lifted,
-    written: &SourcePart,
-) -> Result<SourcePart, AllocError>
+    written: &mut SourcePart,
+) -> Result<(), AllocError>
     requires scope { IsScope scope.now }
-    requires room { out.old.next + (choices_in_all (goals (map goal written.now.guard.items)) + choices_in_all (goals (map goal written.now.body.items))) ≤ 4294967295 }
-    requires noted { map inside_view origin.now.noted.items ≡ insides_all (goals (map goal written.now.guard.items)) ++ insides_all (goals (map goal written.now.body.items)) }
-    ensures next { OnOk result (out.new.next ≡ out.old.next + (choices_in_all (goals (map goal written.now.guard.items)) + choices_in_all (goals (map goal written.now.body.items)))) }
-    ensures part { IfOk result (λ p. part p ≡ part_without scope.now.order.items (chosen_of scope.now) out.old.next (goals (map goal written.now.guard.items)) written.now.op (goals (map goal written.now.body.items))) }
-    ensures made { OnOk result (clauses_view out.new.clauses ≡ clauses_view out.old.clauses ++ joined (made_by (origin_view origin.now) (chosen_of scope.now) out.old.next (goals (map goal written.now.guard.items)) (goals (map goal written.now.body.items)))) }
+    requires room { out.old.next + (choices_in_all (goals (map goal written.old.guard.items)) + choices_in_all (goals (map goal written.old.body.items))) ≤ 4294967295 }
+    requires noted { map inside_view origin.now.noted.items ≡ insides_all (goals (map goal written.old.guard.items)) ++ insides_all (goals (map goal written.old.body.items)) }
+    ensures next { OnOk result (out.new.next ≡ out.old.next + (choices_in_all (goals (map goal written.old.guard.items)) + choices_in_all (goals (map goal written.old.body.items)))) }
+    ensures part { OnOk result (part written.new ≡ part_without scope.now.order.items (chosen_of scope.now) out.old.next (goals (map goal written.old.guard.items)) written.old.op (goals (map goal written.old.body.items))) }
+    ensures made { OnOk result (clauses_view out.new.clauses ≡ clauses_view out.old.clauses ++ joined (made_by (origin_view origin.now) (chosen_of scope.now) out.old.next (goals (map goal written.old.guard.items)) (goals (map goal written.old.body.items)))) }
 {
     let mut made = Made {
         next: out.next,
         definitions: Vec::new(alloc),
     };
     let part = lift_guard_and_body(alloc, origin, scope, &mut made, written)?;
+    *written = part;
     out.next = made.next;
-    add_definitions(&mut out.clauses, &mut made.definitions)?;
-    Ok(part)
+    add_definitions(&mut out.clauses, &mut made.definitions)
 }
 
 /// Takes the inline choices out of a clause. Behind the clauses that were made come those of its choices.
@@ -139,9 +140,7 @@ fn lift_clause(alloc: Global, out: &mut Lifted, clause: &mut SourceClause) -> Re
 {
     let mut origin = origin(alloc, clause)?;
     let scope = clause_scope(alloc, &mut origin.noted, clause)?;
-    let part = lift_part(alloc, &origin, &scope, out, &clause.part)?;
-    clause.part = part;
-    Ok(())
+    lift_part(alloc, &origin, &scope, out, &mut clause.part)
 }
 
 /// Takes the inline choices out of clauses.

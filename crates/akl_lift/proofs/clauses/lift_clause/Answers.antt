@@ -1,4 +1,5 @@
 use Rattle.std.proofs.Common.{◌++◌, map, sym, ap, ◌∙◌}
+use Rattle.std.proofs.lemmas.Result.{on_ok_weaker}
 use Rattle.term_syntax.specs.View.{tree}
 use Rattle.akl_syntax.specs.Goals.{goals}
 use Rattle.akl_syntax.specs.GoalView.{goal}
@@ -17,7 +18,7 @@ pub lift_part-requires-clause-noted : given.lift_part-requires-clause-noted
 lift_part-requires-clause-noted c = rw c.in_ok-origin.ensures.noted at c.in_ok-scope.ensures.noted
 
 pub returns-clause-next : given.returns-clause-next
-returns-clause-next c = rw (part_is c.args.clause.now.part) c.in_ok-part.ensures.next
+returns-clause-next c = rw (part_is c.args.clause.now.part) c.lift_part.ensures.next
 
 pub returns-clause-clause : given.returns-clause-clause
 returns-clause-clause c =
@@ -28,8 +29,9 @@ returns-clause-clause c =
     let gs = goals (map goal c.args.clause.now.part.guard.items) in
     let hs = goals (map goal c.args.clause.now.part.body.items) in
     let scoped = clause_scoped s d c.in_ok-scope.ensures.order c.in_ok-scope.ensures.counts in
-    ap (λ p. clause_by x.head (map tree x.arguments.items) p x.names.items x.start) (c.in_ok-part.ensures.part ∙ part_same (clause_origin d) s (clause_order d) (clause_shares d) gs hs scoped next c.args.clause.now.part.op)
-    ∙ ap (clause_without next) (sym (clause_seen c.args.clause.now))
+    on_ok_weaker c.lift_part.result
+    (λ e. ap (λ p. clause_by x.head (map tree x.arguments.items) p x.names.items x.start) (e ∙ part_same (clause_origin d) s (clause_order d) (clause_shares d) gs hs scoped next c.args.clause.now.part.op)
+    ∙ ap (clause_without next) (sym (clause_seen c.args.clause.now))) c.lift_part.ensures.part
 
 pub returns-clause-made : given.returns-clause-made
 returns-clause-made c =
@@ -40,6 +42,7 @@ returns-clause-made c =
     let gs = goals (map goal c.args.clause.now.part.guard.items) in
     let hs = goals (map goal c.args.clause.now.part.body.items) in
     let scoped = clause_scoped s d c.in_ok-scope.ensures.order c.in_ok-scope.ensures.counts in
-    c.in_ok-part.ensures.made ∙ ap (λ z. clauses_view c.args.out.now.clauses ++ joined z) (made_same w s (clause_order d) (clause_shares d) gs hs scoped next)
+    on_ok_weaker c.lift_part.result
+    (λ e. e ∙ ap (λ z. clauses_view c.args.out.now.clauses ++ joined z) (made_same w s (clause_order d) (clause_shares d) gs hs scoped next)
     ∙ ap (λ z. clauses_view c.args.out.now.clauses ++ joined (made_by z (clause_shares d) next gs hs)) c.in_ok-origin.ensures.origin
-    ∙ ap (λ z. clauses_view c.args.out.now.clauses ++ joined (made_of next z)) (sym (clause_seen c.args.clause.now))
+    ∙ ap (λ z. clauses_view c.args.out.now.clauses ++ joined (made_of next z)) (sym (clause_seen c.args.clause.now))) c.lift_part.ensures.made
