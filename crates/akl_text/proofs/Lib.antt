@@ -13,3 +13,4 @@ pub mod Runs
 pub mod SoFar
 pub mod TextFound
 pub mod TokenBounds
+pub mod Rests
