@@ -1,11 +1,14 @@
 //! What is loaded or refused, also at the limits and one past them.
 
+ghost use Rattle.std.specs.Prelude.{◌≤◌};
+ghost use Rattle.akl_syntax.specs.Answers.{query_view};
+ghost use Rattle.akl_syntax.specs.Sizes.{query_size};
+
 use crate::lines::{counted, each_holds};
-use akl_syntax::{check_query, read_program, read_query};
+use akl_syntax::{SourceQuery, check_query, read_program, read_query};
 use clause_checks::{Limit, LoadError, check_clauses, check_goals};
 use clause_store::load;
 use std::alloc::{AllocError, Global};
-use std::test::Fail;
 
 /// The line of a refusal.
 fn refusal(alloc: Global, error: &LoadError) -> Result<String, AllocError> {
@@ -46,16 +49,23 @@ pub fn program(alloc: Global, text: &[u8]) -> Result<String, AllocError> {
     }
 }
 
+/// What is answered for goals over a program without clauses.
+fn goals(alloc: Global, query: &SourceQuery) -> Result<String, AllocError>
+    requires { query_size (query_view query.now) ≤ 10000 }
+{
+    let program = load(alloc, Vec::new(alloc))?;
+    answer(alloc, check_goals(alloc, &program, query))
+}
+
 /// What is answered for a query over a program without clauses.
 pub fn query(alloc: Global, text: &[u8]) -> Result<String, AllocError> {
     let Ok(()) = check_query(text) else {
         return String::from_str(alloc, " too long");
     };
-    let Ok(query) = read_query(alloc, text) else {
-        return String::from_str(alloc, " no query");
-    };
-    let program = load(alloc, Vec::new(alloc))?;
-    answer(alloc, check_goals(alloc, &program, &query))
+    match read_query(alloc, text) {
+        Ok(query) => goals(alloc, &query),
+        Err(_) => String::from_str(alloc, " no query"),
+    }
 }
 
 /// Programs, and what is answered. Where two tests are broken, the earlier test decides, not the earlier clause.
@@ -124,10 +134,10 @@ true, X = f(@a,*32@b) => too many arguments, 33
 ";
 
 #[test]
-fn a_program_or_a_query_is_loaded_or_refused(rt: HostRuntime) -> Result<(), Fail> {
-    each_holds(&rt, rt.alloc(), PROGRAMS)?;
-    each_holds(&rt, rt.alloc(), PROGRAM_LIMITS)?;
-    each_holds(&rt, rt.alloc(), QUERIES)?;
-    each_holds(&rt, rt.alloc(), QUERY_LIMITS)?;
-    Ok(())
+fn a_program_or_a_query_is_loaded_or_refused(rt: HostRuntime) -> Result<(), AllocError> {
+    each_holds(
+        &rt,
+        rt.alloc(),
+        &[PROGRAMS, PROGRAM_LIMITS, QUERIES, QUERY_LIMITS],
+    )
 }

@@ -1,13 +1,12 @@
 //! What is reserved, and the index of what is called.
 
-ghost use Rattle.std.specs.Prelude.{◌≤◌, length};
+ghost use Rattle.std.specs.Prelude.{◌≡◌, ◌≤◌, [], length};
 
 use crate::lines::each_holds;
 use akl_terms::{Clause, Definition, Items, Key, Op, Text};
 use clause_keys::{Callees, Reserved, meaning_of};
 use std::alloc::{AllocError, Global};
 use std::str::from_utf8;
-use std::test::Fail;
 
 /// A symbol or a number, and a number of arguments, with a slash between.
 fn key(text: &str) -> (&str, u32) {
@@ -87,13 +86,20 @@ fn asked(alloc: Global, callees: &mut Callees, text: &str) -> Result<Option<u32>
 
 /// The numbers of `p/1`, `p/2`, and of definition 1 that was made of an inline choice, with four arguments, and what was
 /// asked.
-pub fn numbers(alloc: Global, text: &[u8]) -> Result<String, AllocError> {
-    let mut callees = Callees::new(alloc);
+fn given(alloc: Global, callees: &mut Callees, text: &str) -> Result<String, AllocError>
+    requires { callees.old ≡ [] }
+{
     let first = callees.add_named("p", 1)?;
     let second = callees.add_named("p", 2)?;
     let third = callees.add_lifted(1, 4)?;
-    let last = asked(alloc, &mut callees, from_utf8(text).unwrap_or(""))?;
+    let last = asked(alloc, callees, text)?;
     format!(in alloc; " {first} {second} {third} {last:?}")
+}
+
+/// The same where nothing had a number yet.
+pub fn numbers(alloc: Global, text: &[u8]) -> Result<String, AllocError> {
+    let mut callees = Callees::new(alloc);
+    given(alloc, &mut callees, from_utf8(text).unwrap_or(""))
 }
 
 /// Goals, and what they mean.
@@ -134,10 +140,8 @@ define 1/2 => 0 1 2 Some(3)
 #[test]
 fn what_is_reserved_has_its_meaning_and_what_is_called_one_number(
     rt: HostRuntime,
-) -> Result<(), Fail> {
+) -> Result<(), AllocError> {
     let none = Callees::of_definitions(rt.alloc(), &[])?;
     assert!(rt; none.named("p", 0).is_none());
-    each_holds(&rt, rt.alloc(), RESERVED)?;
-    each_holds(&rt, rt.alloc(), NUMBERS)?;
-    Ok(())
+    each_holds(&rt, rt.alloc(), &[RESERVED, NUMBERS])
 }

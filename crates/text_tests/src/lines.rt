@@ -101,10 +101,18 @@ fn try_case(rt: &impl Abort, alloc: Global, asked: &str, case: &str) -> Result<(
 }
 
 /// Fails at a case of a table with another answer.
-pub fn each_holds(rt: &impl Abort, alloc: Global, table: &str) -> Result<(), AllocError> {
+fn try_table(rt: &impl Abort, alloc: Global, table: &str) -> Result<(), AllocError> {
     let (asked, cases) = table.split_once('\n').unwrap_or((table, "no case"));
     for case in cases.lines() {
         try_case(rt, alloc, asked, case)?;
+    }
+    Ok(())
+}
+
+/// Fails at a case of these tables with another answer.
+pub fn each_holds(rt: &impl Abort, alloc: Global, tables: &[&str]) -> Result<(), AllocError> {
+    for table in tables {
+        try_table(rt, alloc, table)?;
     }
     Ok(())
 }

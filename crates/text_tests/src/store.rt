@@ -8,21 +8,25 @@ use akl_syntax::SourceQuery;
 use akl_terms::{Name, Program, Query, Term, Text};
 use clause_store::{load, load_query};
 use std::alloc::{AllocError, Global};
-use std::test::Fail;
 
 const FRAME: Name = Name {
     worker: 0,
     number: 0,
 };
 
-/// How many definitions and nodes the empty program has, and its cell's first variable.
-pub fn program(alloc: Global) -> Result<String, AllocError> {
-    let program = load(alloc, Vec::new(alloc))?;
+/// How many definitions and nodes a program has, and its cell's first variable.
+fn sizes(alloc: Global, program: &Program) -> Result<String, AllocError> {
     let count = program.definitions.len();
     let nodes = program.templates.len();
     let node = program.cell;
     let first = program.templates.look(Term::Mol { node, frame: FRAME });
     format!(in alloc; " {count} {nodes} {first:?}")
+}
+
+/// The same of the empty program.
+pub fn program(alloc: Global) -> Result<String, AllocError> {
+    let program = load(alloc, Vec::new(alloc))?;
+    sizes(alloc, &program)
 }
 
 /// The names `_X` and `Y`.
@@ -71,8 +75,6 @@ const QUERY: &str = "query without goals
 ";
 
 #[test]
-fn a_query_is_loaded_over_a_program(rt: HostRuntime) -> Result<(), Fail> {
-    each_holds(&rt, rt.alloc(), PROGRAM)?;
-    each_holds(&rt, rt.alloc(), QUERY)?;
-    Ok(())
+fn a_query_is_loaded_over_a_program(rt: HostRuntime) -> Result<(), AllocError> {
+    each_holds(&rt, rt.alloc(), &[PROGRAM, QUERY])
 }

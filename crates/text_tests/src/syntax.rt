@@ -7,7 +7,6 @@ use akl_syntax::{
 };
 use akl_terms::{Op, Text};
 use std::alloc::{AllocError, Global};
-use std::test::Fail;
 
 #[cycle(shown_terms)]
 fn write_terms(shown: &mut String, terms: &[SourceTerm]) -> Result<(), AllocError> {
@@ -405,23 +404,33 @@ const MANY_CLAUSES: &str = r"number of clauses
 ";
 
 #[test]
-fn a_program_is_read_as_its_clauses_or_refused(rt: HostRuntime) -> Result<(), Fail> {
-    each_holds(&rt, rt.alloc(), PROGRAMS)?;
-    each_holds(&rt, rt.alloc(), LAYOUT)?;
-    each_holds(&rt, rt.alloc(), NO_CLAUSES)?;
-    each_holds(&rt, rt.alloc(), NESTED_CLAUSES)?;
-    each_holds(&rt, rt.alloc(), INTEGERS)?;
-    each_holds(&rt, rt.alloc(), LONG_PROGRAMS)?;
-    each_holds(&rt, rt.alloc(), MANY_CLAUSES)?;
-    Ok(())
+fn a_program_is_read_as_its_clauses_or_refused(rt: HostRuntime) -> Result<(), AllocError> {
+    each_holds(
+        &rt,
+        rt.alloc(),
+        &[
+            PROGRAMS,
+            LAYOUT,
+            NO_CLAUSES,
+            NESTED_CLAUSES,
+            INTEGERS,
+            LONG_PROGRAMS,
+            MANY_CLAUSES,
+        ],
+    )
 }
 
 #[test]
-fn a_query_is_read_as_its_goals_or_refused(rt: HostRuntime) -> Result<(), Fail> {
-    each_holds(&rt, rt.alloc(), QUERIES)?;
-    each_holds(&rt, rt.alloc(), NO_QUERIES)?;
-    each_holds(&rt, rt.alloc(), NESTED_QUERIES)?;
-    each_holds(&rt, rt.alloc(), QUERY_INTEGERS)?;
-    each_holds(&rt, rt.alloc(), LONG_QUERIES)?;
-    Ok(())
+fn a_query_is_read_as_its_goals_or_refused(rt: HostRuntime) -> Result<(), AllocError> {
+    each_holds(
+        &rt,
+        rt.alloc(),
+        &[
+            QUERIES,
+            NO_QUERIES,
+            NESTED_QUERIES,
+            QUERY_INTEGERS,
+            LONG_QUERIES,
+        ],
+    )
 }

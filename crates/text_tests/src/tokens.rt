@@ -6,7 +6,6 @@ use crate::lines::{counted, each_holds};
 use akl_text::{Kind, TextError, Token, integer_of, layout_end, text_of, tokens};
 use std::alloc::{AllocError, Global};
 use std::str::from_utf8;
-use std::test::Fail;
 
 /// The kind and the spelling of each token.
 fn listed(alloc: Global, text: &[u8], found: &[Token]) -> Result<String, AllocError> {
@@ -47,14 +46,20 @@ fn put_token(
     }
 }
 
+/// Puts the texts and values of the tokens of a text.
+fn put_tokens(alloc: Global, shown: &mut String, text: &[u8]) -> Result<(), AllocError> {
+    if let Ok(found) = tokens(alloc, text, 0) {
+        for token in &found {
+            put_token(alloc, shown, text, token)?;
+        }
+    }
+    Ok(())
+}
+
 /// The values of the tokens of a text.
 pub fn values(alloc: Global, text: &[u8]) -> Result<String, AllocError> {
     let mut shown = String::new(alloc);
-    if let Ok(found) = tokens(alloc, text, 0) {
-        for token in &found {
-            put_token(alloc, &mut shown, text, token)?;
-        }
-    }
+    put_tokens(alloc, &mut shown, text)?;
     Ok(shown)
 }
 
@@ -151,10 +156,6 @@ a  => 0
 ";
 
 #[test]
-fn a_text_is_read_as_its_tokens(rt: HostRuntime) -> Result<(), Fail> {
-    each_holds(&rt, rt.alloc(), TOKENS)?;
-    each_holds(&rt, rt.alloc(), LATER)?;
-    each_holds(&rt, rt.alloc(), VALUES)?;
-    each_holds(&rt, rt.alloc(), LAYOUT)?;
-    Ok(())
+fn a_text_is_read_as_its_tokens(rt: HostRuntime) -> Result<(), AllocError> {
+    each_holds(&rt, rt.alloc(), &[TOKENS, LATER, VALUES, LAYOUT])
 }
