@@ -1,11 +1,11 @@
 //! Commands that are answered or refused.
 
 use crate::replies::{add_options, answer, command, expanded, expect};
-use std::alloc::Global;
+use crate::rules::cut;
+use std::alloc::{AllocError, Global};
 use std::fmt::Write;
 use std::process::Abort;
 use std::sync::Wait;
-use std::test::Fail;
 use std::thread::Threads;
 
 /// Programs, queries and their replies.
@@ -100,16 +100,16 @@ fn try_command<R: Threads + Wait + Sync + Abort>(
     alloc: Global,
     line: &str,
     case: &str,
-) -> Result<(), Fail> {
-    let (program, rest) = line.split_once(" => ").ok_or("program")?;
-    let (query, wanted) = rest.split_once(" => ").ok_or("query")?;
+) -> Result<(), AllocError> {
+    let (program, rest) = cut(line);
+    let (query, wanted) = cut(rest);
     let reply = answer(rt, alloc, program, query)?;
     expect(rt, &reply.text, wanted, case);
     Ok(())
 }
 
 #[test]
-fn commands_are_answered_or_refused(rt: HostRuntime) -> Result<(), Fail> {
+fn commands_are_answered_or_refused(rt: HostRuntime) -> Result<(), AllocError> {
     let alloc = rt.alloc();
     for case in COMMANDS.lines().skip(1) {
         let line = expanded(alloc, case)?;
@@ -143,8 +143,8 @@ fn try_words<R: Threads + Wait + Sync + Abort>(
     rt: &R,
     alloc: Global,
     case: &str,
-) -> Result<(), Fail> {
-    let (options, wanted) = case.split_once(" => ").ok_or("words")?;
+) -> Result<(), AllocError> {
+    let (options, wanted) = cut(case);
     let mut words = Vec::new(alloc);
     add_options(alloc, &mut words, options)?;
     let reply = command(rt, alloc, &words, "")?;
@@ -153,7 +153,7 @@ fn try_words<R: Threads + Wait + Sync + Abort>(
 }
 
 #[test]
-fn words_are_read_or_refused(rt: HostRuntime) -> Result<(), Fail> {
+fn words_are_read_or_refused(rt: HostRuntime) -> Result<(), AllocError> {
     let alloc = rt.alloc();
     for case in WORDS.lines().skip(1) {
         try_words(&rt, alloc, case)?;
@@ -166,7 +166,7 @@ const LONG: &str =
     "_0 = a, _1 = f(_0,_0), _2 = f(_1,_1), _3 = f(_2,_2), _4 = f(_3,_3), _5 = f(_4,_4), _6 = f(_5,_5), _7 = f(_6,_6), _8 = f(_7,_7), _9 = f(_8,_8), _10 = f(_9,_9), _11 = f(_10,_10), _12 = f(_11,_11), _13 = f(_12,_12), _14 = f(_13,_13), _15 = f(_14,_14), _16 = f(_15,_15), _17 = f(_16,_16), X = h(_17,_16,_11,_10,";
 
 // This query, with so many letters.
-fn long_query(alloc: Global, letters: usize) -> Result<String, Fail> {
+fn long_query(alloc: Global, letters: usize) -> Result<String, AllocError> {
     let query = format!(in alloc; "{LONG}{{a*{letters}}})")?;
     expanded(alloc, &query)
 }
@@ -178,14 +178,14 @@ fn try_query<R: Threads + Wait + Sync + Abort>(
     program: &str,
     query: &str,
     wanted: &str,
-) -> Result<(), Fail> {
+) -> Result<(), AllocError> {
     let reply = answer(rt, alloc, program, query)?;
     expect(rt, &reply.text, wanted, query);
     Ok(())
 }
 
 #[test]
-fn an_answer_may_have_a_million_bytes(rt: HostRuntime) -> Result<(), Fail> {
+fn an_answer_may_have_a_million_bytes(rt: HostRuntime) -> Result<(), AllocError> {
     let alloc = rt.alloc();
     let query = long_query(alloc, 1604)?;
     let reply = answer(&rt, alloc, "", &query)?;
@@ -197,14 +197,14 @@ fn an_answer_may_have_a_million_bytes(rt: HostRuntime) -> Result<(), Fail> {
 const TOO_LONG: &str = "0 / answer 1 / (longer than 1000000 bytes) / done";
 
 #[test]
-fn a_longer_answer_is_not_written(rt: HostRuntime) -> Result<(), Fail> {
+fn a_longer_answer_is_not_written(rt: HostRuntime) -> Result<(), AllocError> {
     let alloc = rt.alloc();
     let query = long_query(alloc, 1605)?;
     try_query(&rt, alloc, "", &query, TOO_LONG)
 }
 
 #[test]
-fn others_stand_beside_a_longer_answer(rt: HostRuntime) -> Result<(), Fail> {
+fn others_stand_beside_a_longer_answer(rt: HostRuntime) -> Result<(), AllocError> {
     let alloc = rt.alloc();
     let query = long_query(alloc, 1605)?;
     let program = format!(in alloc; "p(Y) :- {query}, X = Y. p(b).")?;
@@ -213,7 +213,7 @@ fn others_stand_beside_a_longer_answer(rt: HostRuntime) -> Result<(), Fail> {
 }
 
 // A term over two of the same, forty times.
-fn push_doubled(query: &mut String) -> Result<(), Fail> {
+fn push_doubled(query: &mut String) -> Result<(), AllocError> {
     query.push_str("X40 = a")?;
     for k in 0..40 {
         let next = k + 1;
@@ -223,7 +223,7 @@ fn push_doubled(query: &mut String) -> Result<(), Fail> {
 }
 
 #[test]
-fn a_term_that_is_doubled_is_too_long(rt: HostRuntime) -> Result<(), Fail> {
+fn a_term_that_is_doubled_is_too_long(rt: HostRuntime) -> Result<(), AllocError> {
     let alloc = rt.alloc();
     let mut query = String::new(alloc);
     push_doubled(&mut query)?;

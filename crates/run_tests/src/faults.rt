@@ -3,11 +3,11 @@
 ghost use Rattle.std.specs.Prelude.{◌<◌};
 
 use crate::replies::{Reply, command, expanded, expect, run_from, run_into, words_of};
+use crate::rules::cut;
 use akl_outside::{MemorySink, MemorySource, NoGate, Source};
 use std::alloc::{AllocError, Global};
 use std::process::Abort;
 use std::sync::Wait;
-use std::test::Fail;
 use std::thread::Threads;
 
 // A source that gives so many bytes at a time, and fails at one call.
@@ -30,7 +30,7 @@ fn answer_from<R: Threads + Wait + Sync>(
     alloc: Global,
     source: &mut MemorySource,
     query: &str,
-) -> Result<Reply, Fail> {
+) -> Result<Reply, AllocError> {
     let words = words_of(alloc, &["--query", query])?;
     run_from(rt, alloc, &words, source, &NoGate)
 }
@@ -42,14 +42,14 @@ fn left_after<R: Threads + Wait + Sync + Abort>(
     source: &mut MemorySource,
     query: &str,
     wanted: &str,
-) -> Result<Option<usize>, Fail> {
+) -> Result<Option<usize>, AllocError> {
     let reply = answer_from(rt, alloc, source, query)?;
     expect(rt, &reply.text, wanted, "too long");
     Ok(source.read(&mut [0; 16]).ok())
 }
 
 #[test]
-fn a_program_is_read_to_one_byte_more_than_it_may_have(rt: HostRuntime) -> Result<(), Fail> {
+fn a_program_is_read_to_one_byte_more_than_it_may_have(rt: HostRuntime) -> Result<(), AllocError> {
     let alloc = rt.alloc();
     let spaces = expanded(alloc, "{ *1000010}")?;
     let mut source = source_of(alloc, &spaces, 1000, &[])?;
@@ -60,7 +60,7 @@ fn a_program_is_read_to_one_byte_more_than_it_may_have(rt: HostRuntime) -> Resul
 }
 
 #[test]
-fn nothing_is_read_where_the_query_is_too_long(rt: HostRuntime) -> Result<(), Fail> {
+fn nothing_is_read_where_the_query_is_too_long(rt: HostRuntime) -> Result<(), AllocError> {
     let alloc = rt.alloc();
     let blanks = expanded(alloc, "{ *10001}")?;
     let mut source = source_of(alloc, "", 1, &[0])?;
@@ -71,13 +71,17 @@ fn nothing_is_read_where_the_query_is_too_long(rt: HostRuntime) -> Result<(), Fa
 }
 
 // A command whose source fails at this call.
-fn read_fault<R: Threads + Wait + Sync>(rt: &R, alloc: Global, call: u64) -> Result<Reply, Fail> {
+fn read_fault<R: Threads + Wait + Sync>(
+    rt: &R,
+    alloc: Global,
+    call: u64,
+) -> Result<Reply, AllocError> {
     let mut source = source_of(alloc, "p(a). q(b).", 7, &[call])?;
     answer_from(rt, alloc, &mut source, "X = a")
 }
 
 #[test]
-fn nothing_is_written_after_a_read_fault(rt: HostRuntime) -> Result<(), Fail> {
+fn nothing_is_written_after_a_read_fault(rt: HostRuntime) -> Result<(), AllocError> {
     let alloc = rt.alloc();
     // The program takes three reads, of which the last gives nothing.
     for call in 0..3 {
@@ -95,7 +99,7 @@ fn write_fault<R: Threads + Wait + Sync>(
     words: &[String],
     program: &str,
     count: u64,
-) -> Result<Reply, Fail> {
+) -> Result<Reply, AllocError> {
     let fails = Vec::from_slice(alloc, &[count])?;
     let mut sink = MemorySink::new(alloc, 1, 1000, fails)?;
     run_into(rt, alloc, words, program, &mut sink)
@@ -107,7 +111,7 @@ fn labels_of<R: Threads + Wait + Sync>(
     alloc: Global,
     words: &[String],
     program: &str,
-) -> Result<usize, Fail> {
+) -> Result<usize, AllocError> {
     let reply = command(rt, alloc, words, program)?;
     Ok(reply.labels)
 }
@@ -131,27 +135,40 @@ const FAULTS: &str = r"
 --trace =>  => A = a, B = b => 58 => 8 / akl: write fault / step 1 tell goal 0.2 by 1 / step 2 tell goal 0.3 by 1 / answer
 ";
 
-// The fault of a line, beside the command without a fault.
-fn try_fault<R: Threads + Wait + Sync + Abort>(
+// The fault of a command, beside the same without a fault.
+fn expect_fault<R: Threads + Wait + Sync + Abort>(
     rt: &R,
     alloc: Global,
+    words: &[String],
+    program: &str,
+    count: u64,
+    wanted: &str,
     case: &str,
-) -> Result<(), Fail> {
-    let (option, rest) = case.split_once(" => ").ok_or("option")?;
-    let (program, rest) = rest.split_once(" => ").ok_or("program")?;
-    let (query, rest) = rest.split_once(" => ").ok_or("query")?;
-    let (count, wanted) = rest.split_once(" => ").ok_or("count")?;
-    let count: u64 = count.parse()?;
-    let words = words_of(alloc, &[option, "--query", query])?;
-    let labels = labels_of(rt, alloc, &words, program)?;
-    let fault = write_fault(rt, alloc, &words, program, count)?;
+) -> Result<(), AllocError> {
+    let labels = labels_of(rt, alloc, words, program)?;
+    let fault = write_fault(rt, alloc, words, program, count)?;
     expect(rt, &fault.text, wanted, case);
     assert_eq!(rt; (fault.count, fault.labels), (count, labels), "{case}");
     Ok(())
 }
 
+// A line's command fails as it should.
+fn try_fault<R: Threads + Wait + Sync + Abort>(
+    rt: &R,
+    alloc: Global,
+    case: &str,
+) -> Result<(), AllocError> {
+    let (option, rest) = cut(case);
+    let (program, rest) = cut(rest);
+    let (query, rest) = cut(rest);
+    let (count, wanted) = cut(rest);
+    let count = count.parse::<u64>().unwrap_or(1_000_000);
+    let words = words_of(alloc, &[option, "--query", query])?;
+    expect_fault(rt, alloc, &words, program, count, wanted, case)
+}
+
 #[test]
-fn a_front_of_the_text_stands_before_a_write_fault(rt: HostRuntime) -> Result<(), Fail> {
+fn a_front_of_the_text_stands_before_a_write_fault(rt: HostRuntime) -> Result<(), AllocError> {
     let alloc = rt.alloc();
     for case in FAULTS.lines().skip(1) {
         try_fault(&rt, alloc, case)?;

@@ -2,7 +2,17 @@
 #![tactic(auto)]
 
 #[cfg(test)]
+mod brackets;
+#[cfg(test)]
+mod choices;
+#[cfg(test)]
 mod commands;
+#[cfg(test)]
+mod definitions;
+#[cfg(test)]
+mod drawn;
+#[cfg(test)]
+mod draws;
 #[cfg(test)]
 mod faults;
 #[cfg(test)]
@@ -11,3 +21,5 @@ mod replies;
 mod rules;
 #[cfg(test)]
 mod workers;
+#[cfg(test)]
+mod written;

@@ -8,7 +8,6 @@ use std::fmt::Write;
 use std::process::Abort;
 use std::str::from_utf8;
 use std::sync::Wait;
-use std::test::Fail;
 use std::thread::Threads;
 
 /// What a command answers.
@@ -34,14 +33,14 @@ fn count_first_plans(receipts: &[Vec<Receipt>]) -> usize {
     count
 }
 
-fn push_lines(text: &mut String, lines: &[u8]) -> Result<(), Fail> {
-    for line in from_utf8(lines)?.lines() {
+fn push_lines(text: &mut String, lines: &[u8]) -> Result<(), AllocError> {
+    for line in from_utf8(lines).unwrap_or("no text").lines() {
         write!(text, " / {line}")?;
     }
     Ok(())
 }
 
-fn push_refusal(alloc: Global, text: &mut String, report: &Report) -> Result<(), Fail> {
+fn push_refusal(alloc: Global, text: &mut String, report: &Report) -> Result<(), AllocError> {
     let line = refusal_line(alloc, report)?;
     push_lines(text, &line)
 }
@@ -51,13 +50,13 @@ fn push_reply(
     text: &mut String,
     report: &Report,
     written: &[u8],
-) -> Result<(), Fail> {
+) -> Result<(), AllocError> {
     write!(text, "{}", report.status.number())?;
     push_refusal(alloc, text, report)?;
     push_lines(text, written)
 }
 
-fn reply_of(alloc: Global, report: &Report, written: &[u8]) -> Result<Reply, Fail> {
+fn reply_of(alloc: Global, report: &Report, written: &[u8]) -> Result<Reply, AllocError> {
     let mut text = String::new(alloc);
     push_reply(alloc, &mut text, report, written)?;
     Ok(Reply {
@@ -77,7 +76,7 @@ fn run_words<R: Threads + Wait + Sync, G: Gate>(
     source: &mut MemorySource,
     sink: &mut MemorySink,
     gate: &G,
-) -> Result<Reply, Fail> {
+) -> Result<Reply, AllocError> {
     let report = run_akl(rt, alloc, words, source, sink, gate);
     reply_of(alloc, &report, sink.bytes())
 }
@@ -89,7 +88,7 @@ pub fn run_from<R: Threads + Wait + Sync, G: Gate>(
     words: &[String],
     source: &mut MemorySource,
     gate: &G,
-) -> Result<Reply, Fail> {
+) -> Result<Reply, AllocError> {
     let mut sink = MemorySink::new(alloc, 5, 2_000_000, Vec::new(alloc))?;
     run_words(rt, alloc, words, source, &mut sink, gate)
 }
@@ -107,7 +106,7 @@ pub fn run_into<R: Threads + Wait + Sync>(
     words: &[String],
     program: &str,
     sink: &mut MemorySink,
-) -> Result<Reply, Fail> {
+) -> Result<Reply, AllocError> {
     let mut source = source_of(alloc, program)?;
     run_words(rt, alloc, words, &mut source, sink, &NoGate)
 }
@@ -119,7 +118,7 @@ pub fn command_at<R: Threads + Wait + Sync, G: Gate>(
     words: &[String],
     program: &str,
     gate: &G,
-) -> Result<Reply, Fail> {
+) -> Result<Reply, AllocError> {
     let mut source = source_of(alloc, program)?;
     run_from(rt, alloc, words, &mut source, gate)
 }
@@ -130,7 +129,7 @@ pub fn command<R: Threads + Wait + Sync>(
     alloc: Global,
     words: &[String],
     program: &str,
-) -> Result<Reply, Fail> {
+) -> Result<Reply, AllocError> {
     command_at(rt, alloc, words, program, &NoGate)
 }
 
@@ -168,7 +167,7 @@ pub fn answer<R: Threads + Wait + Sync>(
     alloc: Global,
     program: &str,
     query: &str,
-) -> Result<Reply, Fail> {
+) -> Result<Reply, AllocError> {
     let words = words_of(alloc, &["--query", query])?;
     command(rt, alloc, &words, program)
 }
@@ -178,27 +177,27 @@ pub fn expect(rt: &impl Abort, text: &str, wanted: &str, case: &str) {
     assert_eq!(rt; text, wanted, "{case}");
 }
 
-fn push_repeated(all: &mut String, repeated: &str) -> Result<(), Fail> {
-    let (part, times) = repeated.split_once('*').ok_or("times")?;
-    let times: usize = times.parse()?;
+fn push_repeated(all: &mut String, repeated: &str) -> Result<(), AllocError> {
+    let (part, times) = repeated.split_once('*').unwrap_or((repeated, ""));
+    let Ok(times) = times.parse::<usize>() else {
+        return all.push_str("no number of times");
+    };
     for _ in 0..times {
         all.push_str(part)?;
     }
     Ok(())
 }
 
-fn push_piece(all: &mut String, piece: &str) -> Result<(), Fail> {
+fn push_piece(all: &mut String, piece: &str) -> Result<(), AllocError> {
     let Some((repeated, after)) = piece.split_once('}') else {
-        all.push_str(piece)?;
-        return Ok(());
+        return all.push_str(piece);
     };
     push_repeated(all, repeated)?;
-    all.push_str(after)?;
-    Ok(())
+    all.push_str(after)
 }
 
 /// A text in which `{a*3}` stands for `aaa`.
-pub fn expanded(alloc: Global, text: &str) -> Result<String, Fail> {
+pub fn expanded(alloc: Global, text: &str) -> Result<String, AllocError> {
     let mut all = String::new(alloc);
     for piece in text.split('{') {
         push_piece(&mut all, piece)?;

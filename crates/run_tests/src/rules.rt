@@ -1,10 +1,9 @@
 //! What each rule does: whole commands with their journals.
 
 use crate::replies::{Reply, add_options, command, expect, words_of};
-use std::alloc::Global;
+use std::alloc::{AllocError, Global};
 use std::process::Abort;
 use std::sync::Wait;
-use std::test::Fail;
 use std::thread::Threads;
 
 pub const LISTS: &str =
@@ -160,17 +159,22 @@ pub struct Case<'a> {
     pub wanted: &'a str,
 }
 
-/// The parts of a line; the name of the first that nothing ends.
-pub fn case_of(line: &str) -> Result<Case<'_>, &'static str> {
-    let (options, rest) = line.split_once(" => ").ok_or("words")?;
-    let (program, rest) = rest.split_once(" => ").ok_or("program")?;
-    let (query, wanted) = rest.split_once(" => ").ok_or("query")?;
-    Ok(Case {
+/// The part of a line before the first ` => `, and the rest, which is no reply where there is no such part.
+pub fn cut(line: &str) -> (&str, &str) {
+    line.split_once(" => ").unwrap_or((line, "no reply"))
+}
+
+/// The parts of a line.
+pub fn case_of(line: &str) -> Case<'_> {
+    let (options, rest) = cut(line);
+    let (program, rest) = cut(rest);
+    let (query, wanted) = cut(rest);
+    Case {
         options,
         program: named(program),
         query,
         wanted,
-    })
+    }
 }
 
 /// The reply that a line gets.
@@ -178,7 +182,7 @@ pub fn replied<R: Threads + Wait + Sync>(
     rt: &R,
     alloc: Global,
     case: &Case,
-) -> Result<Reply, Fail> {
+) -> Result<Reply, AllocError> {
     let mut words = words_of(alloc, &["--query", case.query])?;
     add_options(alloc, &mut words, case.options)?;
     command(rt, alloc, &words, case.program)
@@ -189,8 +193,8 @@ fn try_rule<R: Threads + Wait + Sync + Abort>(
     rt: &R,
     alloc: Global,
     line: &str,
-) -> Result<(), Fail> {
-    let case = case_of(line)?;
+) -> Result<(), AllocError> {
+    let case = case_of(line);
     let reply = replied(rt, alloc, &case)?;
     expect(rt, &reply.text, case.wanted, line);
     Ok(())
@@ -200,7 +204,7 @@ fn try_rules<R: Threads + Wait + Sync + Abort>(
     rt: &R,
     alloc: Global,
     table: &str,
-) -> Result<(), Fail> {
+) -> Result<(), AllocError> {
     for line in table.lines().skip(1) {
         try_rule(rt, alloc, line)?;
     }
@@ -208,7 +212,7 @@ fn try_rules<R: Threads + Wait + Sync + Abort>(
 }
 
 #[test]
-fn each_rule_applies_where_it_may(rt: HostRuntime) -> Result<(), Fail> {
+fn each_rule_applies_where_it_may(rt: HostRuntime) -> Result<(), AllocError> {
     let alloc = rt.alloc();
     try_rules(&rt, alloc, RULES)?;
     try_rules(&rt, alloc, VALUES)?;
@@ -218,7 +222,7 @@ fn each_rule_applies_where_it_may(rt: HostRuntime) -> Result<(), Fail> {
 }
 
 #[test]
-fn generated_programs_are_run(rt: HostRuntime) -> Result<(), Fail> {
+fn generated_programs_are_run(rt: HostRuntime) -> Result<(), AllocError> {
     let alloc = rt.alloc();
     let words = words_of(alloc, &["--generate", "0"])?;
     let reply = command(&rt, alloc, &words, "")?;

@@ -3,10 +3,9 @@
 use crate::replies::{Reply, command, command_at, expect, words_of};
 use crate::rules::{LISTS, case_of, replied};
 use akl_outside::{CrossGate, Gate, MeetGate};
-use std::alloc::Global;
+use std::alloc::{AllocError, Global};
 use std::process::Abort;
 use std::sync::Wait;
-use std::test::Fail;
 use std::thread::Threads;
 
 /// Words, programs, queries and replies.
@@ -33,24 +32,28 @@ fn is_one_of(found: &str, allowed: &str) -> bool {
     allowed.split(" or ").any(|one| one == found)
 }
 
-// A reply is one of those that a line allows.
-fn accept(alloc: Global, found: &str, allowed: &str, line: &str) -> Result<(), Fail> {
-    if is_one_of(found, allowed) {
-        Ok(())
-    } else {
-        Err(format!(in alloc; "{line}: {found}")?.into())
-    }
-}
-
 // Runs a line's command. The reply is one of those that the line allows.
-fn run<R: Threads + Wait + Sync>(rt: &R, alloc: Global, line: &str) -> Result<(), Fail> {
-    let case = case_of(line)?;
+fn run<R: Threads + Wait + Sync + Abort>(
+    rt: &R,
+    alloc: Global,
+    line: &str,
+) -> Result<(), AllocError> {
+    let case = case_of(line);
     let reply = replied(rt, alloc, &case)?;
-    accept(alloc, &reply.text, case.wanted, line)
+    assert!(rt;
+        is_one_of(&reply.text, case.wanted),
+        "{line}: {}",
+        reply.text
+    );
+    Ok(())
 }
 
 // The same by each number of workers.
-fn run_by_each<R: Threads + Wait + Sync>(rt: &R, alloc: Global, case: &str) -> Result<(), Fail> {
+fn run_by_each<R: Threads + Wait + Sync + Abort>(
+    rt: &R,
+    alloc: Global,
+    case: &str,
+) -> Result<(), AllocError> {
     for workers in 1..=16 {
         let case = format!(in alloc; "--workers={workers},{case}")?;
         run(rt, alloc, &case)?;
@@ -59,7 +62,7 @@ fn run_by_each<R: Threads + Wait + Sync>(rt: &R, alloc: Global, case: &str) -> R
 }
 
 #[test]
-fn several_workers_answer_as_one_may(rt: HostRuntime) -> Result<(), Fail> {
+fn several_workers_answer_as_one_may(rt: HostRuntime) -> Result<(), AllocError> {
     for case in RUNS.lines().skip(1) {
         run(&rt, rt.alloc(), case)?;
     }
@@ -67,7 +70,7 @@ fn several_workers_answer_as_one_may(rt: HostRuntime) -> Result<(), Fail> {
 }
 
 #[test]
-fn each_number_of_workers_has_a_lawful_output(rt: HostRuntime) -> Result<(), Fail> {
+fn each_number_of_workers_has_a_lawful_output(rt: HostRuntime) -> Result<(), AllocError> {
     for case in BY_EACH.lines().skip(1) {
         run_by_each(&rt, rt.alloc(), case)?;
     }
@@ -80,7 +83,7 @@ fn run_words<R: Threads + Wait + Sync>(
     alloc: Global,
     texts: &[&str],
     program: &str,
-) -> Result<Reply, Fail> {
+) -> Result<Reply, AllocError> {
     let words = words_of(alloc, texts)?;
     command(rt, alloc, &words, program)
 }
@@ -93,7 +96,7 @@ fn expect_ten(rt: &impl Abort, text: &str) {
 }
 
 #[test]
-fn several_workers_spend_one_budget(rt: HostRuntime) -> Result<(), Fail> {
+fn several_workers_spend_one_budget(rt: HostRuntime) -> Result<(), AllocError> {
     let words = [
         "--query",
         "p",
@@ -109,7 +112,7 @@ fn several_workers_spend_one_budget(rt: HostRuntime) -> Result<(), Fail> {
 }
 
 #[test]
-fn sixteen_workers_write_what_one_does(rt: HostRuntime) -> Result<(), Fail> {
+fn sixteen_workers_write_what_one_does(rt: HostRuntime) -> Result<(), AllocError> {
     let alloc = rt.alloc();
     let one = run_words(&rt, alloc, &["--generate", "0"], "")?;
     let sixteen = run_words(&rt, alloc, &["--generate", "0", "--workers", "16"], "")?;
@@ -124,13 +127,13 @@ fn answer_at<R: Threads + Wait + Sync, G: Gate>(
     program: &str,
     query: &str,
     gate: &G,
-) -> Result<Reply, Fail> {
+) -> Result<Reply, AllocError> {
     let words = words_of(alloc, &["--query", query, "--workers", "4"])?;
     command_at(rt, alloc, &words, program, gate)
 }
 
 #[test]
-fn a_worker_plans_while_another_is_held(rt: HostRuntime) -> Result<(), Fail> {
+fn a_worker_plans_while_another_is_held(rt: HostRuntime) -> Result<(), AllocError> {
     let gate = CrossGate::new(10_000_000);
     let query = "nrev([1,2,3],R), nrev([4,5,6],S)";
     let reply = answer_at(&rt, rt.alloc(), LISTS, query, &gate)?;
@@ -141,7 +144,7 @@ fn a_worker_plans_while_another_is_held(rt: HostRuntime) -> Result<(), Fail> {
 }
 
 #[test]
-fn four_workers_plan_over_one_state(rt: HostRuntime) -> Result<(), Fail> {
+fn four_workers_plan_over_one_state(rt: HostRuntime) -> Result<(), AllocError> {
     let gate = MeetGate::new(4, 10_000_000);
     let query = "p(A), p(B), p(C), p(D)";
     let reply = answer_at(&rt, rt.alloc(), "p(a) :- -> true.", query, &gate)?;

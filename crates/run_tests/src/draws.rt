@@ -63,15 +63,13 @@ impl Draws {
     /// A clause or the goals of a query, with one to eight choices.
     pub fn written(&mut self, kind: Kind) -> Result<Written, AllocError> {
         for number in 0..1 + self.below(8) {
-            let choice = self.choice(number)?;
-            self.loose.push(choice)?;
+            self.add_loose(number)?;
         }
         let guarding = match kind {
             Kind::Clause => self.below(3),
             Kind::Query => 0,
         };
-        let mut part = self.part(guarding)?;
-        part.body.append(&mut self.loose)?;
+        let part = self.whole(guarding)?;
         Ok(Written {
             kind,
             begin: BEGINS[self.below(4)],
@@ -81,42 +79,72 @@ impl Draws {
         })
     }
 
+    // Makes a choice that stands in no other.
+    fn add_loose(&mut self, number: usize) -> Result<(), AllocError> {
+        let choice = self.choice(number)?;
+        self.loose.push(Goal::Choice(choice))?;
+        Ok(())
+    }
+
+    // A part with all choices that stand in no other.
+    fn whole(&mut self, guarding: usize) -> Result<Part, AllocError> {
+        let mut part = self.part(guarding)?;
+        part.body.append(&mut self.loose)?;
+        Ok(part)
+    }
+
     fn operator(&mut self) -> &'static str {
         OPERATORS[self.below(3)]
     }
 
-    fn choice(&mut self, number: usize) -> Result<Goal, AllocError> {
-        let op = self.operator();
-        let mut parts = Vec::new(self.alloc);
-        let mut variables = 0;
-        for _ in 0..1 + self.below(3) {
-            let guarding = self.below(3);
-            let part = self.part(guarding)?;
-            variables |= part.variables();
-            parts.push(part)?;
-        }
-        Ok(Goal::Choice(Choice {
+    fn choice(&mut self, number: usize) -> Result<Choice, AllocError> {
+        let mut choice = Choice {
             number,
-            op,
-            parts,
-            variables,
-        }))
+            op: self.operator(),
+            parts: Vec::new(self.alloc),
+            variables: 0,
+        };
+        for _ in 0..1 + self.below(3) {
+            self.add_part(&mut choice)?;
+        }
+        Ok(choice)
+    }
+
+    fn add_part(&mut self, choice: &mut Choice) -> Result<(), AllocError> {
+        let guarding = self.below(3);
+        let part = self.part(guarding)?;
+        choice.variables |= part.variables();
+        choice.parts.push(part)?;
+        Ok(())
     }
 
     fn part(&mut self, guarding: usize) -> Result<Part, AllocError> {
-        let guard = self.goals(guarding)?;
-        let doing = 1 + self.below(2);
-        let body = self.goals(doing)?;
-        Ok(Part { guard, body })
+        let mut part = Part {
+            guard: Vec::new(self.alloc),
+            body: Vec::new(self.alloc),
+        };
+        self.fill(&mut part, guarding)?;
+        Ok(part)
     }
 
-    fn goals(&mut self, count: usize) -> Result<Vec<Goal>, AllocError> {
-        let mut goals = Vec::new(self.alloc);
+    // Adds so many goals to the guard, and one or two to the body.
+    fn fill(&mut self, part: &mut Part, guarding: usize) -> Result<(), AllocError> {
+        self.add_goals(&mut part.guard, guarding)?;
+        let doing = 1 + self.below(2);
+        self.add_goals(&mut part.body, doing)
+    }
+
+    fn add_goals(&mut self, goals: &mut Vec<Goal>, count: usize) -> Result<(), AllocError> {
         for _ in 0..count {
-            let goal = self.goal()?;
-            goals.push(goal)?;
+            self.add_goal(goals)?;
         }
-        Ok(goals)
+        Ok(())
+    }
+
+    fn add_goal(&mut self, goals: &mut Vec<Goal>) -> Result<(), AllocError> {
+        let goal = self.goal()?;
+        goals.push(goal)?;
+        Ok(())
     }
 
     fn variable(&mut self) -> (u16, &'static str) {
@@ -155,19 +183,30 @@ impl Draws {
         let first = self.variable();
         let second = self.variable();
         let mut text = String::new(self.alloc);
-        let mut variables = 0;
-        for letter in form.chars() {
-            let (bit, name) = match letter {
-                'X' => first,
-                'Y' => second,
-                _ => {
-                    text.push(letter)?;
-                    continue;
-                }
-            };
-            variables |= bit;
-            text.push_str(name)?;
-        }
+        let variables = write_form(&mut text, form, first, second)?;
         Ok(Goal::Plain { text, variables })
     }
+}
+
+// Writes a goal of the form, with these variables for `X` and `Y`, and gives the bits of those that occur.
+fn write_form(
+    text: &mut String,
+    form: &str,
+    first: (u16, &str),
+    second: (u16, &str),
+) -> Result<u16, AllocError> {
+    let mut variables = 0;
+    for letter in form.chars() {
+        let (bit, name) = match letter {
+            'X' => first,
+            'Y' => second,
+            _ => {
+                text.push(letter)?;
+                continue;
+            }
+        };
+        variables |= bit;
+        text.push_str(name)?;
+    }
+    Ok(variables)
 }
