@@ -1,11 +1,15 @@
-//! Tests of stores and of chains of stores: what no clause says of them.
+//! Tests of the solver, of stores and chains of stores, and of the text of answers: what no clause says of them.
 #![tactic(auto)]
 
+#[cfg(test)]
+mod answers;
 #[cfg(test)]
 mod chains;
 #[cfg(test)]
 mod questions;
 #[cfg(test)]
 mod stores;
+#[cfg(test)]
+mod unify;
 #[cfg(test)]
 mod words;
