@@ -68,6 +68,19 @@ fn added(callees: &mut Callees, symbol: &str, arity: u32) -> Result<u32, AllocEr
     }
 }
 
+/// The number that a definition gets.
+fn defined(
+    alloc: Global,
+    callees: &mut Callees,
+    lifted: Option<u32>,
+    count: u32,
+) -> Result<u32, AllocError>
+    requires { length callees.old ≤ 3 }
+{
+    let definition = definition(alloc, lifted, count)?;
+    callees.add_definition(&definition)
+}
+
 /// What was asked: `find`, `add`, or the number of a definition.
 fn asked(alloc: Global, callees: &mut Callees, text: &str) -> Result<Option<u32>, AllocError>
     requires { length callees.old ≤ 3 }
@@ -77,10 +90,7 @@ fn asked(alloc: Global, callees: &mut Callees, text: &str) -> Result<Option<u32>
     match verb {
         "find" => Ok(found(callees, symbol, arity)),
         "add" => Ok(Some(added(callees, symbol, arity)?)),
-        _ => {
-            let definition = definition(alloc, symbol.parse().ok(), arity)?;
-            Ok(Some(callees.add_definition(&definition)?))
-        }
+        _ => Ok(Some(defined(alloc, callees, symbol.parse().ok(), arity)?)),
     }
 }
 
@@ -137,11 +147,16 @@ define 1/4 => 0 1 2 Some(2)
 define 1/2 => 0 1 2 Some(3)
 ";
 
+/// Whether `p/0` has no number where there are no definitions.
+fn has_none(alloc: Global) -> Result<bool, AllocError> {
+    let callees = Callees::of_definitions(alloc, &[])?;
+    Ok(callees.named("p", 0).is_none())
+}
+
 #[test]
 fn what_is_reserved_has_its_meaning_and_what_is_called_one_number(
     rt: HostRuntime,
 ) -> Result<(), AllocError> {
-    let none = Callees::of_definitions(rt.alloc(), &[])?;
-    assert!(rt; none.named("p", 0).is_none());
+    assert!(rt; has_none(rt.alloc())?, "no definitions");
     each_holds(&rt, rt.alloc(), &[RESERVED, NUMBERS])
 }

@@ -12,14 +12,17 @@ pub fn counted(alloc: Global, word: &str, count: usize) -> Result<String, AllocE
     format!(in alloc; "{word}{count}")
 }
 
+/// Puts the digits of a number.
+fn put_number(text: &mut Vec<u8>, number: usize) -> Result<(), AllocError> {
+    let digits = counted(*text.allocator(), "", number)?;
+    text.extend_from_slice(digits.as_bytes())
+}
+
 /// Puts a part of a line.
 fn put(text: &mut Vec<u8>, part: &str, number: usize) -> Result<(), AllocError> {
     for letter in part.bytes() {
         match letter {
-            b'#' => {
-                let digits = counted(*text.allocator(), "", number)?;
-                text.extend_from_slice(digits.as_bytes())?;
-            }
+            b'#' => put_number(text, number)?,
             b'$' => text.push(b'\n')?,
             _ => text.push(letter)?,
         }

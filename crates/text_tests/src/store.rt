@@ -55,14 +55,23 @@ fn shown(alloc: Global, program: &Program, query: &Query) -> Result<String, Allo
     format!(in alloc; " {}{variables}", program.templates.len())
 }
 
-/// The same of the empty program with a query without goals.
-pub fn query(alloc: Global) -> Result<String, AllocError> {
+/// The empty program with a query without goals, whose variables have these names.
+fn loaded(alloc: Global, names: Vec<Text>) -> Result<(Program, Query), AllocError>
+    requires { length names.items ≤ 2 }
+{
     let program = load(alloc, Vec::new(alloc))?;
-    let query = SourceQuery {
-        goals: Vec::new(alloc),
-        names: names(alloc)?,
-    };
-    let (program, query) = load_query(alloc, program, query, Vec::new(alloc))?;
+    let goals = Vec::new(alloc);
+    load_query(
+        alloc,
+        program,
+        SourceQuery { goals, names },
+        Vec::new(alloc),
+    )
+}
+
+/// How many nodes it has, and the query's variables.
+pub fn query(alloc: Global) -> Result<String, AllocError> {
+    let (program, query) = loaded(alloc, names(alloc)?)?;
     shown(alloc, &program, &query)
 }
 
