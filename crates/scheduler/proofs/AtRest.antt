@@ -1,5 +1,5 @@
 -- From an open box on, what stands open in it stands deeper.
-use Rattle.std.proofs.Common.{◌≡◌, ℕ, suc, ◌+◌, ◌-◌, ◌<◌, Bool, true, false, List, [], ◌∷◌, ◌++◌, length, reverse, ◌≤◌, Option, Some, None, refl, sym, ◌∙◌, ap, subst, arith}
+use Rattle.std.proofs.Common.{◌≡◌, ℕ, suc, ◌+◌, ◌-◌, ◌<◌, Bool, true, List, [], ◌∷◌, length, reverse, ◌≤◌, Option, Some, None, refl, sym, ◌∙◌, ap, subst, arith}
 use Rattle.std.proofs.lemmas.List.{length-append, length-reverse}
 use Rattle.std.specs.Prelude.{◌||◌, option_map}
 use Rattle.akl_terms.specs.declared.name.Name.{Name}
@@ -8,8 +8,7 @@ use Rattle.akl_terms.proofs.SameNames.{same_name-refl}
 use Rattle.akl_model.specs.Config.{IsIn, Boxes}
 use Rattle.akl_model.specs.Wakes.{boxes_around, StandsIn}
 use Rattle.akl_model.proofs.Options.{some_value, some_and}
-use Rattle.box_tree.specs.Tables.{TableValue, table_of}
-use Rattle.box_tree.specs.Paths.{outside_of}
+use Rattle.box_tree.specs.Tables.{TableValue}
 use Rattle.wake_lists.specs.Open.{Opening, Openings, opening_at, closed, IsFirst}
 use Rattle.wake_lists.specs.Standing.{is_in}
 use Rattle.scheduler.specs.Resting.{IsOpenAtRest, IsInsideOf, IsInsideAt}

@@ -1,7 +1,7 @@
 use Rattle.std.proofs.Common.{◌≡◌, ℕ, IfNone, Option, Some, None, sym, ◌∙◌, ap, subst}
 use Rattle.std.specs.Prelude.{option_map}
 use Rattle.akl_terms.specs.declared.name.Place.{Place}
-use Rattle.wake_lists.specs.Open.{Opening, Openings, opening_at, IsFirst}
+use Rattle.wake_lists.specs.Open.{Opening, opening_at, IsFirst}
 use Rattle.scheduler.specs.Schedulers.{SchedulerValue, IsScheduler, IsQuiet}
 use Rattle.scheduler.proofs.Starting.{quiet_first}
 use Rattle.scheduler.proofs.AtRest.{first_token, inner_token, rests, token_leads}
