@@ -1,6 +1,9 @@
-//! Tests of one core: with two workers, which plan over one state and commit one after the other, and of its open places.
+//! Tests of one core: with two workers, which plan over one state and commit one after the other, of its open places, and of
+//! `run_many` with one worker, which no command asks for.
 #![tactic(auto)]
 
+#[cfg(test)]
+mod answering;
 #[cfg(test)]
 mod attending;
 #[cfg(test)]
@@ -15,6 +18,8 @@ mod loading;
 mod places;
 #[cfg(test)]
 mod race;
+#[cfg(test)]
+mod running;
 #[cfg(test)]
 mod texts;
 #[cfg(test)]

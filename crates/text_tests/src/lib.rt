@@ -1,15 +1,24 @@
-//! Tests of what reads texts.
+//! Tests of what reads texts: of programs, of queries, with their choices in brackets, and of a command line's words; and of
+//! the program and query that are made from a number.
 #![tactic(auto)]
 
 #[cfg(test)]
 mod checks;
 #[cfg(test)]
+mod generated;
+#[cfg(test)]
 mod keys;
 #[cfg(test)]
+mod lifted;
+#[cfg(test)]
 mod lines;
+#[cfg(test)]
+mod shown;
 #[cfg(test)]
 mod store;
 #[cfg(test)]
 mod syntax;
 #[cfg(test)]
 mod tokens;
+#[cfg(test)]
+mod words;

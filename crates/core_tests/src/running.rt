@@ -3,7 +3,8 @@
 ghost use Rattle.std.specs.Prelude.{◌≡◌, ◌≤◌, ◌<◌, IfOk};
 ghost use Rattle.box_tree.specs.Tables.{HasVariables, HasShownVariables};
 
-use crate::loading::{loaded, put_answers};
+use crate::answering::put_answers;
+use crate::loading::loaded;
 use akl_outside::NoGate;
 use akl_run::Loaded;
 use akl_terms::Program;
