@@ -17,9 +17,9 @@ use Rattle.akl_model.proofs.QuietEnds.{clash_not}
 use Rattle.step_laws.specs.Whereabouts.{BoxIn}
 use Rattle.step_laws.proofs.Whereabouts.{in_found}
 use Rattle.box_tree.specs.Tables.{all_rules}
-use Rattle.step_commit.specs.Cores.{CoreValue}
+use Rattle.step_commit.specs.Cores.{CoreValue, TableIn}
 use Rattle.root_answers.specs.Text.{IsTextOf, AreTexts, no_answers, an_answer}
-use Rattle.root_answers.specs.Roots.{TableIn, symbols_of, root_box, IsText}
+use Rattle.root_answers.specs.Roots.{symbols_of, root_box, IsText}
 use Rattle.akl_run.specs.declared.output.Unwritten.{Unwritten}
 use Rattle.akl_run.specs.Outputs.{Outlet, HasAppended, HasBrokenOff, PartsOf}
 use Rattle.akl_run.specs.Written.{AreAllTexts, AreFirstTexts, HasWrittenAnswers, ArePartsOfAnswers}

@@ -14,10 +14,9 @@ use Rattle.akl_model.specs.Derivations as derivations
 use Rattle.clause_store.specs.Loaded.{IsQueryOf}
 use Rattle.akl_lift.specs.Lifting.{query_without, made_of_query}
 use Rattle.box_tree.specs.Tables.{all_rules, HasShownVariables, AreBelow}
-use Rattle.step_commit.specs.Cores.{CoreValue, IsCore}
+use Rattle.step_commit.specs.Cores.{CoreValue, IsCore, TableIn}
 use Rattle.seq_engine.specs.declared.run.End.{End}
 use Rattle.seq_engine.specs.Runs.{EndsAs}
-use Rattle.root_answers.specs.Roots.{TableIn}
 use Rattle.akl_run.specs.declared.loaded.Loaded.{Loaded}
 use Rattle.akl_run.specs.declared.evaluate.Evaluated.{Evaluated}
 use Rattle.akl_run.specs.declared.ending.Ending.{Ending}

@@ -2,9 +2,9 @@
 use Rattle.std.specs.Prelude.{◌≡◌, ℕ, List, ◌++◌, length}
 use Rattle.akl_model.specs.Config.{Content}
 use Rattle.akl_model.specs.Derivations.{AreAnswers, Outcome}
-use Rattle.step_commit.specs.Cores.{CoreValue}
+use Rattle.step_commit.specs.Cores.{CoreValue, TableIn}
 use Rattle.root_answers.specs.Text.{AreTexts}
-use Rattle.root_answers.specs.Roots.{TableIn, symbols_of}
+use Rattle.root_answers.specs.Roots.{symbols_of}
 use Rattle.akl_run.specs.declared.evaluate.Evaluated.{Evaluated}
 use Rattle.akl_run.specs.declared.output.Unwritten.{Unwritten}
 use Rattle.akl_run.specs.declared.report.Status.{Status}

@@ -22,7 +22,7 @@ use Rattle.plan_laws.proofs.StampLaws.{stamped}
 use Rattle.sleep_laws.specs.Sleeps.{IsEnough}
 use Rattle.sleep_laws.proofs.Replayed.{good_replay}
 use Rattle.wait_laws.specs.Waits.{HasOldestAt}
-use Rattle.wait_laws.proofs.Scopes.{site_there}
+use Rattle.step_laws.proofs.There.{site_there}
 use Rattle.wait_laws.proofs.SameSites.{HasSameSite, oldest_same}
 use Rattle.wait_laws.proofs.Still.{is_still, still_enough, still_oldest}
 use Rattle.wait_laws.proofs.StillConcerns.{still_concern}

@@ -33,9 +33,9 @@ use Rattle.table_laws.specs.Stamped.{IsTableOf}
 use Rattle.table_laws.proofs.Frame.{both_there}
 use Rattle.box_tree.specs.Tables.{all_rules, TableValue, table_of, goals_in, is_empty, shown_in, shown_tree, shown_trees_of}
 use Rattle.box_tree.specs.Views.{ViewValue, IsViewOf, run_of, is_there}
-use Rattle.step_commit.specs.Cores.{CoreValue}
+use Rattle.step_commit.specs.Cores.{CoreValue, TableIn}
 use Rattle.root_answers.specs.Text.{shown_lines, long_line, fits, is_long}
-use Rattle.root_answers.specs.Roots.{TableIn, symbols_of, root_box, IsText}
+use Rattle.root_answers.specs.Roots.{symbols_of, root_box, IsText}
 
 -- the row of a root box
 abbrev RowOf : (c : CoreValue) (t : TableIn c) (name : Name) (f : Found) → Type 0

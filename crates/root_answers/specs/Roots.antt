@@ -4,14 +4,8 @@ use Rattle.std.proofs.Common.{Vec, Global}
 use Rattle.akl_terms.specs.declared.name.Name.{Name}
 use Rattle.akl_model.specs.Config.{Content, Goals, Found, box_at}
 use Rattle.akl_model.specs.Derivations.{IsAnswer}
-use Rattle.table_laws.specs.Stamped.{IsTableOf}
-use Rattle.box_tree.specs.Tables.{all_rules, table_of}
-use Rattle.step_commit.specs.Cores.{CoreValue, run_by}
+use Rattle.step_commit.specs.Cores.{CoreValue, TableIn}
 use Rattle.root_answers.specs.Text.{IsTextOf}
-
--- the table of a core, with the configuration to which it unfolds
-abbrev pub TableIn : CoreValue → Type 0
-TableIn c = IsTableOf all_rules (run_by c) (table_of c.table)
 
 abbrev pub symbols_of : CoreValue → List (List ℕ)
 symbols_of c = c.table.program.templates.symbols

@@ -21,7 +21,7 @@ use Rattle.box_tree.specs.Tables.{all_rules, step_of, table_of}
 use Rattle.box_tree.specs.Plans.{PlanValue, IsRight}
 use Rattle.wake_lists.specs.Open.{Openings, IsOpen}
 use Rattle.wake_lists.specs.Waits.{waits_on}
-use Rattle.step_commit.specs.Cores.{CoreValue, IsCore, MayCommit, IsFresh, Commits, run_by}
+use Rattle.step_commit.specs.Cores.{CoreValue, IsCore, MayCommit, IsFresh, Commits, run_by, TableIn}
 use Rattle.opened_places.specs.Placed.{PlacedValue, places_of}
 use Rattle.opened_places.specs.Gone.{AreAllGone, AreGone}
 use Rattle.opened_places.proofs.OpenedWays.{opens_law}
@@ -30,7 +30,7 @@ use Rattle.scheduler.specs.Openings.{IsOpenAt, AreOpenPlaces, AreListed, AreNewT
 use Rattle.scheduler.specs.Opening.{AreOpened}
 use Rattle.scheduler.specs.Dropping.{DropsWaits, after_going}
 use Rattle.scheduler.specs.Listing.{AreListedFor}
-use Rattle.scheduler.specs.Schedulers.{SchedulerValue, TableIn, IsScheduler}
+use Rattle.scheduler.specs.Schedulers.{SchedulerValue, IsScheduler}
 use Rattle.scheduler.specs.Committed.{IsOpenAndKept, CommitsAndOpens, OpensAmong}
 use Rattle.scheduler.specs.declared.committing.Committed.{Committed}
 use Rattle.scheduler.specs.declared.splits.Split.{Split}

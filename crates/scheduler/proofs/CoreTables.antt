@@ -26,8 +26,7 @@ use Rattle.box_tree.proofs.Viewed.{StandsAt, seen}
 use Rattle.opened_places.specs.declared.around.Around.{Around}
 use Rattle.opened_places.specs.Exact.{IsAround}
 use Rattle.opened_places.proofs.RunRows.{sight_site, no_sight}
-use Rattle.step_commit.specs.Cores.{CoreValue}
-use Rattle.scheduler.specs.Schedulers.{TableIn}
+use Rattle.step_commit.specs.Cores.{CoreValue, TableIn}
 
 -- a run has one configuration
 pub one_config : (c : CoreValue) (t u : TableIn c) → t.config ≡ u.config

@@ -24,8 +24,8 @@ use Rattle.wake_lists.specs.declared.turn.Turn.{Turn}
 use Rattle.wake_lists.specs.Queue.{is_sooner}
 use Rattle.wake_lists.specs.Open.{Opening, Openings, opening_at, IsOpen, IsHurried, IsPutLast}
 use Rattle.wake_lists.proofs.Keys.{token_here}
-use Rattle.step_commit.specs.Cores.{CoreValue}
-use Rattle.scheduler.specs.Schedulers.{SchedulerValue, TableIn}
+use Rattle.step_commit.specs.Cores.{CoreValue, TableIn}
+use Rattle.scheduler.specs.Schedulers.{SchedulerValue}
 use Rattle.scheduler.specs.Turns.{urgency_by, urgency_seen, IsUrgentAt, AreUrgent}
 use Rattle.scheduler.specs.Committed.{FailingAreUrgent, OpensAmong}
 use Rattle.scheduler.proofs.OpeningLists.{some_none, put_at}

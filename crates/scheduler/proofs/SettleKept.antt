@@ -27,14 +27,14 @@ use Rattle.wake_lists.specs.Open.{Opening, Openings, opening_at, IsOpen, closed}
 use Rattle.wake_lists.specs.Waits.{same_place, waits_on, is_variable_in}
 use Rattle.wake_lists.proofs.Both.{same_place-equal}
 use Rattle.wake_lists.proofs.Keys.{token_here}
-use Rattle.step_commit.specs.Cores.{CoreValue, run_by, is_within, AllWithin}
+use Rattle.step_commit.specs.Cores.{CoreValue, run_by, is_within, AllWithin, TableIn}
 use Rattle.step_commit.proofs.Committed.{stamp_last}
 use Rattle.step_commit.proofs.Stale.{IsLooked}
 use Rattle.idle_places.specs.Idling.{IdleValue, IsIdle}
 use Rattle.idle_places.proofs.Later.{idle_later}
 use Rattle.scheduler.specs.Openings.{IsOpenAt, AreOpenPlaces, AreOthersOpen, AreListed, AreApart}
 use Rattle.scheduler.specs.Dropping.{is_place_in, DropsWaits}
-use Rattle.scheduler.specs.Schedulers.{SchedulerValue, TableIn, IsScheduler}
+use Rattle.scheduler.specs.Schedulers.{SchedulerValue, IsScheduler}
 use Rattle.scheduler.specs.Nearest.{IsQuietCandidate}
 use Rattle.scheduler.specs.Settling.{OpensCandidate, opened_box, Suspends}
 use Rattle.scheduler.specs.Settled.{MaySettle, IsFoundIdle, IsTokenOfOpened, IsLeftBySettle, Settles}

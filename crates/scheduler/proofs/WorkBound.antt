@@ -9,11 +9,11 @@ use Rattle.box_tree.specs.Plans.{PlanValue, IsRight}
 use Rattle.opened_places.specs.Placed.{PlacedValue, places_of}
 use Rattle.opened_places.specs.Gone.{AreGone, AreAllGone}
 use Rattle.opened_places.proofs.Members.{one_either}
-use Rattle.step_commit.specs.Cores.{MayCommit, IsFresh}
+use Rattle.step_commit.specs.Cores.{MayCommit, IsFresh, TableIn}
 use Rattle.wake_lists.specs.Waits.{waits_on}
 use Rattle.scheduler.specs.Effects.{AreOpenedBy}
 use Rattle.scheduler.specs.Listing.{AreListedFor}
-use Rattle.scheduler.specs.Schedulers.{SchedulerValue, IsScheduler, TableIn}
+use Rattle.scheduler.specs.Schedulers.{SchedulerValue, IsScheduler}
 use Rattle.scheduler.specs.Once.{IsEachPlaceOnce}
 use Rattle.scheduler.specs.Work.{Work, contents, boxes_around_all, steps_of, IsEachWaitOnce, EndsWaits, IsLabelWork, IsWorkOf, TakesSteps}
 use Rattle.scheduler.specs.Counting.{place_steps, OpenSomeBySteps, DropBySteps, TakesLabelSteps}

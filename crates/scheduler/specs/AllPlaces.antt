@@ -4,10 +4,9 @@ use Rattle.akl_terms.specs.declared.name.Place.{Place}
 use Rattle.akl_model.specs.Wakes.{boxes_around, IsOneOf, IsThere}
 use Rattle.opened_places.specs.Placed.{PlacedValue, places_of, StandsSo}
 use Rattle.wake_lists.specs.Open.{Opening, Openings, opening_at}
-use Rattle.step_commit.specs.Cores.{CoreValue}
+use Rattle.step_commit.specs.Cores.{CoreValue, TableIn}
 use Rattle.scheduler.specs.Openings.{IsOpenAt, AreApart}
 use Rattle.scheduler.specs.Opening.{IsPlacedIn}
-use Rattle.scheduler.specs.Schedulers.{TableIn}
 
 -- each place that is there, and each with the boxes around it
 pub record AreAllPlaced (c : CoreValue) (places : List PlacedValue) : Type 0 where

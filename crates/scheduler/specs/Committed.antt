@@ -8,10 +8,10 @@ use Rattle.akl_model.specs.Conditions.{HasFailed}
 use Rattle.akl_model.specs.Wakes.{Wait, IsOneOf, IsThere, Opens, IsOpenAfterCommit, IsKeptAfterCommit}
 use Rattle.box_tree.specs.Plans.{PlanValue}
 use Rattle.wake_lists.specs.Waits.{waits_on}
-use Rattle.step_commit.specs.Cores.{Commits}
+use Rattle.step_commit.specs.Cores.{Commits, TableIn}
 use Rattle.scheduler.specs.declared.committing.Committed.{Committed}
 use Rattle.scheduler.specs.Openings.{IsOpenAt, AreOpenPlaces, AreListed, AreNewTokens}
-use Rattle.scheduler.specs.Schedulers.{SchedulerValue, TableIn}
+use Rattle.scheduler.specs.Schedulers.{SchedulerValue}
 use Rattle.scheduler.specs.Turns.{IsUrgentAt}
 
 -- just the places are open that a commit leaves open, and just the waits kept of the places that it doesn't open and that are still there

@@ -6,20 +6,16 @@ use Rattle.akl_model.specs.Derivations.{IsQuietEnd}
 use Rattle.akl_model.specs.Wakes.{Wait, IsThere}
 use Rattle.sleep_laws.specs.Runs.{Runs}
 use Rattle.wait_laws.specs.Waits.{AreWaits}
-use Rattle.table_laws.specs.Stamped.{IsTableOf}
 use Rattle.box_tree.specs.Tables.{all_rules, table_of}
 use Rattle.box_tree.specs.Views.{is_there}
 use Rattle.wake_lists.specs.Open.{Opening, Openings, opening_at}
-use Rattle.step_commit.specs.Cores.{CoreValue, IsCore, run_by}
+use Rattle.step_commit.specs.Cores.{CoreValue, IsCore, TableIn}
 use Rattle.scheduler.specs.Openings.{IsOpenAt, AreOpenPlaces, AreListed, AreApart, AreStandingIn}
 
 pub record SchedulerValue : Type 0 where
   pub core : CoreValue
   pub openings : Openings
   pub waits : List (Var × List Place)
-
-abbrev pub TableIn : CoreValue → Type 0
-TableIn c = IsTableOf all_rules (run_by c) (table_of c.table)
 
 -- open places and waits to which commits, settles and forgets led from the query on, with no token twice, each place in the boxes around it
 pub record IsScheduler (s : SchedulerValue) : Type 0 where

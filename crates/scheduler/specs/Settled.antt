@@ -8,12 +8,12 @@ use Rattle.akl_model.specs.Config.{Config, Found, site_of}
 use Rattle.akl_model.specs.Wakes.{Wait, SettleOpens, IsOpenAfterSettle, IsKeptAfterSettle}
 use Rattle.wake_lists.specs.Open.{Opening, opening_at}
 use Rattle.wake_lists.specs.Waits.{waits_on}
-use Rattle.step_commit.specs.Cores.{CoreValue, IsStale}
+use Rattle.step_commit.specs.Cores.{CoreValue, IsStale, TableIn}
 use Rattle.step_commit.specs.declared.commit.CommitError.{CommitError}
 use Rattle.idle_places.specs.Idling.{IdleValue}
 use Rattle.idle_places.specs.Later.{HasNoReason, IsIdleStill}
 use Rattle.scheduler.specs.Openings.{IsOpenAt, AreOthersOpen, AreListed}
-use Rattle.scheduler.specs.Schedulers.{SchedulerValue, TableIn}
+use Rattle.scheduler.specs.Schedulers.{SchedulerValue}
 use Rattle.scheduler.specs.Weights.{weight}
 
 -- a place was found idle for a front of the journal; one that didn't look inside has no reason to be ready now

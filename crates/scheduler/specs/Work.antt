@@ -12,11 +12,12 @@ use Rattle.box_tree.specs.declared.step.BoxCopy.{BoxCopy}
 use Rattle.box_tree.specs.Tables.{all_rules}
 use Rattle.box_tree.specs.Plans.{PlanValue}
 use Rattle.opened_places.specs.Placed.{PlacedValue, places_of}
+use Rattle.step_commit.specs.Cores.{TableIn}
 use Rattle.scheduler.specs.Opening.{IsPlacedIn}
 use Rattle.scheduler.specs.Once.{IsEachPlaceOnce}
 use Rattle.scheduler.specs.Openings.{AreListed}
 use Rattle.scheduler.specs.Effects.{StandsNow}
-use Rattle.scheduler.specs.Schedulers.{SchedulerValue, TableIn}
+use Rattle.scheduler.specs.Schedulers.{SchedulerValue}
 
 -- how much work a commit has
 pub record Work : Type 0 where

@@ -6,8 +6,9 @@ use Rattle.box_tree.specs.Plans.{PlanValue}
 use Rattle.idle_places.specs.Idling.{IdleValue}
 use Rattle.idle_places.specs.Later.{HasNoReason}
 use Rattle.wake_lists.specs.Open.{Opening, opening_at, untimed}
+use Rattle.step_commit.specs.Cores.{TableIn}
 use Rattle.scheduler.specs.Openings.{IsOpenAt}
-use Rattle.scheduler.specs.Schedulers.{SchedulerValue, TableIn}
+use Rattle.scheduler.specs.Schedulers.{SchedulerValue}
 use Rattle.scheduler.specs.Weights.{weight}
 use Rattle.seq_engine.specs.declared.attending.Attended.{Attended}
 use Rattle.seq_engine.specs.Runs.{IsPlanNow, IsQuiet}

@@ -4,18 +4,13 @@ use Rattle.akl_terms.specs.declared.name.Place.{Place}
 use Rattle.akl_model.specs.declared.label.Label.{Label}
 use Rattle.akl_model.specs.declared.label.Receipt.{Receipt}
 use Rattle.akl_model.specs.Derivations.{IsReady, IsQuietEnd}
-use Rattle.table_laws.specs.Stamped.{IsTableOf}
-use Rattle.box_tree.specs.Tables.{all_rules, table_of}
+use Rattle.box_tree.specs.Tables.{all_rules}
 use Rattle.box_tree.specs.Plans.{PlanValue, IsRight}
-use Rattle.step_commit.specs.Cores.{CoreValue, run_by, KeepsFixed}
+use Rattle.step_commit.specs.Cores.{CoreValue, KeepsFixed, TableIn}
 use Rattle.step_commit.specs.Receipts.{AreReceipts, AreBy}
 use Rattle.seq_engine.specs.declared.steps.Stepped.{Stepped}
 use Rattle.seq_engine.specs.declared.run.End.{End}
 use Rattle.seq_engine.specs.declared.run.Finished.{Finished}
-
--- the table of a core, with the configuration to which it unfolds
-abbrev pub TableIn : CoreValue → Type 0
-TableIn c = IsTableOf all_rules (run_by c) (table_of c.table)
 
 -- a right plan of worker 1 was made of the whole journal
 pub record IsPlanNow (c : CoreValue) (p : PlanValue) : Type 0 where

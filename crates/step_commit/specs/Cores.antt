@@ -20,10 +20,14 @@ pub record CoreValue : Type 0 where
 abbrev pub run_by : CoreValue → Run
 run_by c = run_of c.table c.journal
 
+-- its table unfolds to the replay of its journal
+abbrev pub TableIn : CoreValue → Type 0
+TableIn c = IsTableOf all_rules (run_by c) (table_of c.table)
+
 -- the table unfolds to the replay of the journal, which has at most as many labels as the budget, and keeps the number of the last change of
 -- each item
 pub record IsCore (c : CoreValue) : Type 0 where
-  pub table : IsTableOf all_rules (run_by c) (table_of c.table)
+  pub table : TableIn c
   pub within : length c.journal ≤ c.budget
 
 -- what no call changes

@@ -31,7 +31,7 @@ use Rattle.sleep_laws.proofs.Replayed.{good_replay, replay_further}
 use Rattle.wait_laws.specs.Waits.{IsScopedAt, AreWaits}
 use Rattle.wait_laws.specs.Kept.{AreLeftByCommit}
 use Rattle.wait_laws.proofs.FramesGrow.{frames_grow}
-use Rattle.wait_laws.proofs.Scopes.{there_site}
+use Rattle.step_laws.proofs.There.{there_site}
 
 no_names : (path : List Content) → map (λ (b : Content). b.name) path ≡ [] → path ≡ []
 no_names [] q = refl

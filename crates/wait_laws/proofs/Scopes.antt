@@ -1,10 +1,9 @@
--- Which variables are in scope at a place, and which places are there.
-use Rattle.std.proofs.Common.{◌≡◌, List, [], ◌∷◌, ◌++◌, map, Option, Some, None, refl, sym, ap, subst, ◌⊎◌, inl, inr}
-use Rattle.std.specs.Prelude.{option_map, is_some}
+-- Which variables are in scope at a place.
+use Rattle.std.proofs.Common.{◌≡◌, List, [], ◌∷◌, ◌++◌, map, Some, refl, sym, subst, ◌⊎◌, inl, inr}
 use Rattle.akl_terms.specs.declared.name.Name.{Name}
 use Rattle.akl_terms.specs.declared.name.Var.{Var}
 use Rattle.akl_terms.specs.declared.name.Place.{Place}
-use Rattle.akl_model.specs.Config.{IsIn, Content, Boxes, Goals, Config, Found, box_at, home_of, site_of}
+use Rattle.akl_model.specs.Config.{IsIn, Content, Goals, Config, Found, box_at, site_of}
 use Rattle.akl_model.specs.Scopes.{nowhere}
 use Rattle.akl_model.specs.Wakes.{names_around, names_down_to, IsAt, IsThere}
 use Rattle.akl_model.proofs.NamesKept.{box-itself}
@@ -12,27 +11,11 @@ use Rattle.akl_model.proofs.Scoped.{IsIn-left, IsIn-right, IsIn-either}
 use Rattle.akl_model.proofs.ScopesAlong.{scope_along}
 use Rattle.step_laws.proofs.Whereabouts.{found_in}
 use Rattle.step_laws.proofs.Deeper.{in_path, chain_at}
+use Rattle.step_laws.proofs.There.{site_there}
 use Rattle.sleep_laws.proofs.InScope.{Good, InScope}
 use Rattle.sleep_laws.proofs.DownTo.{down_to}
 use Rattle.wait_laws.specs.Waits.{IsScopedAt}
 use Rattle.wait_laws.proofs.Frames.{along_home}
-
--- a place is there where its site is
-pub site_there : (place : Place) (bs : Boxes) (f : Found) → site_of place bs ≡ Some f → IsThere place bs
-site_there (Place.Goal g) bs f e = ap (λ (o : Option Found). is_some (option_map names_down_to o)) e
-site_there (Place.Box n) bs f e = ap (λ (o : Option Found). is_some (option_map names_around o)) e
-
-pub there_site : (place : Place) (bs : Boxes) → IsThere place bs → (f : Found) × (site_of place bs ≡ Some f)
-there_site (Place.Goal g) bs h = on (home_of g bs) h
-  where
-    on : (o : Option Found) → is_some (option_map names_down_to o) ≡ Rattle.std.proofs.Common.true → (f : Found) × (o ≡ Some f)
-    on None i = cc
-    on (Some f) i = (f, refl)
-there_site (Place.Box n) bs h = on (box_at n bs) h
-  where
-    on : (o : Option Found) → is_some (option_map names_around o) ≡ Rattle.std.proofs.Common.true → (f : Found) × (o ≡ Some f)
-    on None i = cc
-    on (Some f) i = (f, refl)
 
 pub scoped_there : (c : Config) (place : Place) (x : Var) → IsScopedAt c place x → IsThere place c.roots
 scoped_there c place x s = let u : (f : Found) × (site_of place c.roots ≡ Some f) × IsIn s.home.content.name (names_down_to f) = down_to s.home.content.name c.roots place s.is_at in site_there place c.roots u.0 u.1
