@@ -1,7 +1,7 @@
 -- Keys that lead to the tokens of open places, when one comes or goes.
 use Rattle.std.proofs.Common.{◌≡◌, ℕ, Bool, true, false, Option, Some, None, refl, sym, ap, ◌∙◌}
 use Rattle.std.specs.Prelude.{if◌then◌else◌}
-use Rattle.wake_lists.specs.declared.queue.Opened.{Opened}
+use Rattle.wake_lists.specs.declared.turn.Opened.{Opened}
 use Rattle.wake_lists.specs.Queue.{Leads}
 use Rattle.wake_lists.proofs.Keys.{token_equal, token_here}
 use lib.Dec.{eqb}
@@ -16,7 +16,7 @@ LeadsBy {K} same x y k w = (l : K) → y l ≡ (if same k l then w else x l)
 pub none_some : {A X : Type 0} (a : A) → None ≡ Some a → X
 none_some a e = absurd (cc)
 
-same_some : {A : Type 0} (a b : A) → Some a ≡ Some b → a ≡ b
+pub same_some : {A : Type 0} (a b : A) → Some a ≡ Some b → a ≡ b
 same_some a b e = cc
 
 pub not_both : {X : Type 0} (b : Bool) → b ≡ true → b ≡ false → X
@@ -151,40 +151,3 @@ module _ {K : Type 0} (same : K → K → Bool) (equal : (k l : K) → same k l 
                 let one : o ≡ b.0 = same_some o b.0 (sym is ∙ ap f (token_equal t s c) ∙ b.1) in
                 (p, ap g (sym (token_equal t s c)) ∙ at_it f t (Some p) g h, keys ∙ ap key one ∙ b.2)
             on false c = (b.0, elsewhere f t (Some p) g h s c ∙ b.1, b.2)
-
-    -- a place gets another key, which none has
-    pub leads_moved : (x y z : K → Option ℕ) (f g : ℕ → Option Opened) (t : ℕ) (o p : Opened) → Leads key x f → f t ≡ Some o
-        → ((s : ℕ) (q : Opened) → f s ≡ Some q → same (key p) (key q) ≡ false) → FindsBy f g t (Some p) → LeadsBy same x y (key p) (Some t) → LeadsBy same y z (key o) None → Leads key z g
-    leads_moved x y z f g t o p l is none h u v = leads_more out z gone g t p (leads_fewer x out f gone t o l is (λ s. refl) (λ k. refl)) first others again after
-      where
-        gone : ℕ → Option Opened
-        gone s = if eqb t s then None else f s
-
-        out : K → Option ℕ
-        out k = if same (key o) k then None else x k
-
-        first : gone t ≡ None
-        first = λ i. if token_here t i then None else f t
-
-        others : (s : ℕ) (q : Opened) → gone s ≡ Some q → same (key p) (key q) ≡ false
-        others s q e = on (eqb t s) e
-          where
-            on : (b : Bool) → (if b then None else f s) ≡ Some q → same (key p) (key q) ≡ false
-            on true e = none_some q e
-            on false e = none s q e
-
-        again : FindsBy gone g t (Some p)
-        again s = h s ∙ on (eqb t s)
-          where
-            on : (b : Bool) → (if b then Some p else f s) ≡ (if b then Some p else (if b then None else f s))
-            on true = refl
-            on false = refl
-
-        after : LeadsBy same out z (key p) (Some t)
-        after k = v k ∙ ap (λ (w : Option ℕ). if same (key o) k then None else w) (u k) ∙ on (same (key o) k) refl (same (key p) k) refl
-          where
-            on : (a : Bool) → same (key o) k ≡ a → (b : Bool) → same (key p) k ≡ b → (if a then None else (if b then Some t else x k)) ≡ (if b then Some t else (if a then None else x k))
-            on true c true d = not_both (same (key p) (key o)) (ap (same (key p)) (equal (key o) k c) ∙ d) (none t o is)
-            on true c false d = refl
-            on false c true d = refl
-            on false c false d = refl

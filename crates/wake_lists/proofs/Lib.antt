@@ -1,14 +1,16 @@
 pub mod Both
 pub mod BoxesKept
+pub mod Coming
 pub mod EachOnce
 pub mod Filled
 pub mod Growing
 pub mod InBoxes
 pub mod Keys
 pub mod Leading
+pub mod LinesKept
 pub mod OpeningsKept
 pub mod OpenKept
-pub mod Queueing
 pub mod QueueKept
 pub mod Taking
+pub mod Thinning
 pub mod WaitsKept

@@ -2,26 +2,39 @@
 use Rattle.std.proofs.Common.{◌≡◌, ℕ, ◌<◌, Bool, true, false, List, [], Option, Some, None, refl, sym, ap, ◌∙◌, arith}
 use Rattle.std.proofs.lemmas.Bool.Decides.{nat_tests}
 use Rattle.std.specs.Prelude.{if◌then◌else◌, ◌==◌, option_map, is_some, IsSome}
-use Rattle.std.specs.Map.{lookup}
+use Rattle.std.specs.Map.{lookup, keys_of}
+use Rattle.std.specs.Result.{OnOk, IfOk}
+use Rattle.std.specs.declared.result.Result.{Result}
+use Rattle.std.specs.declared.result.Result.TheVariants.{Ok, Err}
 use Rattle.std.specs.BTreeMap.{insert_entry}
+use Rattle.std.specs.List.Sorted.{IsStrictlySortedBy}
 use Rattle.std.specs.Ordering.{nat_cmp}
 use Rattle.akl_terms.specs.declared.name.Name.{Name}
 use Rattle.akl_terms.specs.declared.name.Place.{Place}
 use Rattle.wake_lists.specs.declared.turn.Urgency.{Urgency}
 use Rattle.wake_lists.specs.declared.turn.Turn.{Turn}
-use Rattle.wake_lists.specs.declared.queue.Opened.{Opened}
+use Rattle.wake_lists.specs.declared.turn.Opened.{Opened}
 use Rattle.wake_lists.specs.Waits.{same_place}
 use Rattle.wake_lists.specs.Tokens.{Numbers, IsLeastFree}
 use Rattle.wake_lists.specs.Standing.{boxes_at}
-use Rattle.wake_lists.specs.Queue.{is_sooner, Places, HasNone, is_place}
-use Rattle.wake_lists.specs.Slots.{IsPut, IsTakenOut}
+use Rattle.wake_lists.specs.Queue.{is_sooner, Places, HasNone, is_place, GetsLast}
+use Rattle.wake_lists.specs.Slots.{IsTakenOut}
 use Rattle.wake_lists.specs.Open.{Opening, Openings, opening_at, untimed, IsOpen, IsLast, IsLeastToken, IsOpened, IsHurried, IsPutLast, closed}
 use Rattle.wake_lists.specs.Opened.{opening, openings, AreOpen}
-use Rattle.wake_lists.proofs.Keys.{token_here}
+use Rattle.wake_lists.proofs.Keys.{timed, token_here}
 use Rattle.wake_lists.proofs.Both.{same_place-equal}
 use Rattle.wake_lists.proofs.Leading.{none_some}
 use Rattle.wake_lists.proofs.OpeningsKept.{Boxes, opened, not_opened, kept_as, openings_apart, openings_put, openings_out, untimed_put}
 use lib.Dec.{eqb}
+
+pub if_ok : {T E P Q : Type 0} (r : Result T E) → OnOk r P → (P → Q) → IfOk r (λ x. Q)
+if_ok (Ok x) p f = f p
+if_ok (Err e) p f = p
+
+-- no place is open
+pub none_open : AreOpen [] [] (record { bound = 0; free = [] })
+unfolding IsStrictlySortedBy
+none_open = record { taken = λ t. grind (arith, nat_tests); closed = λ t e. refl; ordered = tt }
 
 abbrev urgency_in : Opening → Urgency
 urgency_in o = o.turn.urgency
@@ -53,23 +66,25 @@ module _ (os : Places) (bs : Boxes) where
       gone : lookup (eqb t) new ≡ None
       gone = out.finds t ∙ (λ i. if token_here t i then None else lookup (eqb t) os)
 
-module _ (os : Places) (bs : Boxes) (numbers : Numbers) (next : ℕ) (a : AreOpen os bs numbers next) where
-  -- a turn with the next number comes after all others as urgent
-  comes_last : (u : Turn) → u.number ≡ next → IsLast (openings bs os) u
-  comes_last u e s q f =
+module _ (os : Places) (bs : Boxes) where
+  -- a turn with a number above those of all comes after all others as urgent
+  comes_last : (u : Turn) → ((t : ℕ) (o : Opened) → lookup (eqb t) os ≡ Some o → o.turn.number < u.number) → IsLast (openings bs os) u
+  comes_last u above s q f =
       let k = kept_as bs os s q f in
-      let below : k.0.turn.number < next = a.earlier s k.0 k.1 in
+      let below : k.0.turn.number < u.number = above s k.0 k.1 in
       let same : q.turn.number ≡ k.0.turn.number = ap (λ (o : Opening). o.turn.number) k.2 in
       omega arith
 
   -- an open place gets it
-  pub is_put_last : (t : ℕ) (o : Opened) → lookup (eqb t) os ≡ Some o → (u : Turn) → u.number ≡ next → (new : Places) → IsPut os new t (record o { turn = u }) → IsPutLast (openings bs os) (openings bs new) u.urgency t
-  is_put_last t o is u number new p =
-      IsPutLast.put (opening (boxes_at t bs) o) u (opened bs os t o is) refl (comes_last u number) (ap (openings bs) p.entries ∙ openings_put bs os t (record o { turn = u }))
+  pub is_put_last : (t : ℕ) (o : Opened) → lookup (eqb t) os ≡ Some o → (urgency : Urgency) (new : Places) → GetsLast os new t o.place urgency → IsPutLast (openings bs os) (openings bs new) urgency t
+  is_put_last t o is urgency new g =
+      let u = timed urgency g.number in
+      IsPutLast.put (opening (boxes_at t bs) o) u (opened bs os t o is) refl (comes_last u g.above) (ap (openings bs) g.put.entries ∙ openings_put bs os t (record o { turn = u }))
 
-  pub put_untimed : (t : ℕ) (o : Opened) → lookup (eqb t) os ≡ Some o → (u : Turn) (new : Places) → IsPut os new t (record o { turn = u }) → untimed (openings bs new) ≡ untimed (openings bs os)
-  put_untimed t o is u new p = ap (λ (qs : Places). untimed (openings bs qs)) p.entries ∙ untimed_put bs t o u os a.ordered is
+  pub put_untimed : IsStrictlySortedBy nat_cmp (keys_of os) → (t : ℕ) (o : Opened) → lookup (eqb t) os ≡ Some o → (urgency : Urgency) (new : Places) → GetsLast os new t o.place urgency → untimed (openings bs new) ≡ untimed (openings bs os)
+  put_untimed ordered t o is urgency new g = ap (λ (qs : Places). untimed (openings bs qs)) g.put.entries ∙ untimed_put bs t o (timed urgency g.number) os ordered is
 
+module _ (os : Places) (bs : Boxes) (numbers : Numbers) (a : AreOpen os bs numbers) where
   -- the least free number is that of no open place
   module _ (t : ℕ) (least : IsLeastFree numbers t) where
     is_free : lookup (eqb t) os ≡ None
@@ -90,12 +105,15 @@ module _ (os : Places) (bs : Boxes) (numbers : Numbers) (next : ℕ) (a : AreOpe
         some s (Some o) e f = ap is_some (opened bs os s o e)
 
     -- a place is opened under it
-    pub is_opened : (place : Place) (around : List Name) (u : Turn) → u.number ≡ next → (new : Places) → IsPut os new t (record { place = place; turn = u })
-        → (cs : Boxes) → ((s : ℕ) → boxes_at s cs ≡ (if s == t then around else boxes_at s bs)) → IsOpen (openings bs os) place None → IsOpened (openings bs os) (openings cs new) place around u.urgency t
-    is_opened place around u number new p cs entered known = IsOpened.is_new u known is_least refl (comes_last u number)
-        (ap (openings cs) p.entries ∙ openings_put cs os t (record { place = place; turn = u })
+    pub is_opened : (place : Place) (around : List Name) (urgency : Urgency) (new : Places) → GetsLast os new t place urgency
+        → (cs : Boxes) → ((s : ℕ) → boxes_at s cs ≡ (if s == t then around else boxes_at s bs)) → IsOpen (openings bs os) place None → IsOpened (openings bs os) (openings cs new) place around urgency t
+    is_opened place around urgency new g cs entered known = IsOpened.is_new u known is_least refl (comes_last os bs u g.above)
+        (ap (openings cs) g.put.entries ∙ openings_put cs os t (record { place = place; turn = u })
         ∙ (λ i. insert_entry nat_cmp (openings_apart bs cs t around os is_free entered i) t (record { place = place; turn = u; boxes = its i })))
       where
+        u : Turn
+        u = timed urgency g.number
+
         same : (t == t) ≡ true
         same = grind (arith, nat_tests)
 

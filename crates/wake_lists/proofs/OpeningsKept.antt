@@ -19,7 +19,7 @@ use Rattle.std.specs.declared.cmp.Ordering.TheVariants.{Less, Equal, Greater}
 use Rattle.akl_terms.specs.declared.name.Name.{Name}
 use Rattle.akl_terms.specs.declared.name.Place.{Place}
 use Rattle.wake_lists.specs.declared.turn.Turn.{Turn}
-use Rattle.wake_lists.specs.declared.queue.Opened.{Opened}
+use Rattle.wake_lists.specs.declared.turn.Opened.{Opened}
 use Rattle.wake_lists.specs.Waits.{same_place}
 use Rattle.wake_lists.specs.Standing.{is_in, boxes_at}
 use Rattle.wake_lists.specs.Queue.{is_earlier, Places, IsTokenOf, IsNext}

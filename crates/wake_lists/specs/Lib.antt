@@ -1,3 +1,4 @@
+pub mod Lines
 pub mod Open
 pub mod Opened
 pub mod Queue

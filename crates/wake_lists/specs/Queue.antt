@@ -1,12 +1,11 @@
--- Open places by their tokens, and in the order of their turns.
-use Rattle.std.specs.Prelude.{◌≡◌, ℕ, List, [], Option, None, Some, Bool, true, false, ◌&&◌, ◌||◌, ◌==◌, nat_lt, ◌⊎◌}
-use Rattle.std.specs.Map.{lookup, keys_of}
-use Rattle.std.specs.List.Sorted.{IsStrictlySortedBy}
-use Rattle.std.specs.Ordering.{nat_cmp}
+-- Open places by their tokens, in the order of their turns.
+use Rattle.std.specs.Prelude.{◌≡◌, ℕ, ◌<◌, List, [], Option, None, Some, Bool, true, false, ◌&&◌, ◌||◌, ◌==◌, nat_lt, ◌⊎◌}
+use Rattle.std.specs.Map.{lookup}
 use Rattle.akl_terms.specs.declared.name.Place.{Place}
 use Rattle.wake_lists.specs.declared.turn.Urgency.{Urgency}
 use Rattle.wake_lists.specs.declared.turn.Turn.{Turn}
-use Rattle.wake_lists.specs.declared.queue.Opened.{Opened}
+use Rattle.wake_lists.specs.declared.turn.Opened.{Opened}
+use Rattle.wake_lists.specs.Slots.{IsPut}
 use Rattle.wake_lists.specs.Waits.{same_place}
 use lib.Dec.{eqb}
 
@@ -38,9 +37,6 @@ Places = List (ℕ × Opened)
 abbrev pub is_place : Place → Opened → Bool
 is_place p o = same_place p o.place
 
-abbrev pub is_turn : Turn → Opened → Bool
-is_turn u o = same_turn u o.turn
-
 -- no open place is so
 abbrev pub HasNone : (Opened → Bool) → Places → Type 0
 HasNone test os = (t : ℕ) (o : Opened) → lookup (eqb t) os ≡ Some o → test o ≡ false
@@ -60,7 +56,12 @@ pub record Leads {K : Type 0} (key : Opened → K) (index : K → Option ℕ) (f
   pub there : (t : ℕ) (o : Opened) → find t ≡ Some o → index (key o) ≡ Some t
   pub back : (k : K) (t : ℕ) → index k ≡ Some t → (o : Opened) × (find t ≡ Some o) × (key o ≡ k)
 
-pub record AreQueued (es : Places) (tokens : List (Place × ℕ)) (turns : List (Turn × ℕ)) : Type 0 where
-  pub by_place : Leads (λ o. o.place) (λ k. lookup (same_place k) tokens) (λ t. lookup (eqb t) es)
-  pub by_turn : Leads (λ o. o.turn) (λ k. lookup (same_turn k) turns) (λ t. lookup (eqb t) es)
-  pub ordered : IsStrictlySortedBy nat_cmp (keys_of es)
+-- the tokens by the places
+abbrev pub AreQueued : Places → List (Place × ℕ) → Type 0
+AreQueued os tokens = Leads (λ o. o.place) (λ k. lookup (same_place k) tokens) (λ t. lookup (eqb t) os)
+
+-- a place is put behind all others that are as urgent, with a number above those of all
+pub record GetsLast (old new : Places) (t : ℕ) (place : Place) (urgency : Urgency) : Type 0 where
+  pub number : ℕ
+  pub above : (s : ℕ) (q : Opened) → lookup (eqb s) old ≡ Some q → q.turn.number < number
+  pub put : IsPut old new t (record { place = place; turn = record { urgency = urgency; number = number } })

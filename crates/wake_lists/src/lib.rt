@@ -2,8 +2,11 @@
 #![tactic(auto)]
 
 mod inside;
+mod line;
+mod lines;
 mod open;
 mod queue;
+mod schedule;
 mod slots;
 mod standing;
 mod tokens;

@@ -3,10 +3,10 @@
 ghost use Rattle.std.specs.Prelude.{◌≡◌, [], None, Some, length, option_map, IfOk, IfErr};
 ghost use Rattle.wake_lists.specs.Open.{opening_at, untimed, IsFirst, IsInside, IsOpen, IsOpened, IsHurried, IsPutLast, closed, after_one, after_leave, is_busy};
 
-use crate::queue::{Opened, Queue};
+use crate::queue::Queue;
 use crate::standing::Standing;
 use crate::tokens::Tokens;
-use crate::turn::{Turn, Urgency};
+use crate::turn::Urgency;
 use akl_terms::{Name, Place};
 use std::alloc::{AllocError, Global};
 use std::marker::Model;
@@ -20,8 +20,6 @@ pub struct Open {
     queue: Queue,
     standing: Standing,
     numbers: Tokens,
-    // The number of the next turn.
-    next: u64,
 }
 
 impl Model for Open {
@@ -33,7 +31,7 @@ impl Model for Open {
 
     ghost view = { λ o. openings o.standing o.queue };
 
-    ghost invariant = { λ o. AreOpen o.queue o.standing o.numbers o.next };
+    ghost invariant = { λ o. AreOpen o.queue o.standing o.numbers };
 }
 
 impl Open {
@@ -45,7 +43,6 @@ impl Open {
             queue: Queue::new(alloc),
             standing: Standing::new(alloc),
             numbers: Tokens::new(alloc),
-            next: 0,
         }
     }
 
@@ -164,14 +161,7 @@ impl Open {
         let Some(opened) = self.queue.get(token) else {
             return Ok(());
         };
-        let next = self.next.checked_add(1).ok_or(AllocError)?;
-        let turn = Turn {
-            urgency,
-            number: self.next,
-        };
-        self.queue.retime(token, opened, turn)?;
-        self.next = next;
-        Ok(())
+        self.queue.retime(token, opened, urgency)
     }
 
     /// Puts the open place with this token, where it is less urgent than this, behind all others that are so urgent. A
@@ -196,21 +186,12 @@ impl Open {
         ensures { untimed self.new ≡ untimed self.old }
     {
         for _ in 0..self.queue.count() {
-            let Some(token) = self.last_late() else {
+            let Some(token) = self.queue.last_late() else {
                 return;
             };
             if self.put_last(token, Urgency::Ordinary).is_err() {
                 return;
             }
-        }
-    }
-
-    // The token of the place that comes last, where it is late; `None` where no place is late.
-    fn last_late(&self) -> Option<u64> {
-        let token = self.queue.last()?;
-        match self.urgency_of(token) {
-            Some(Urgency::Late) => Some(token),
-            _ => None,
         }
     }
 
@@ -225,22 +206,16 @@ impl Open {
         ensures opened { IfOk result (IsOpened self.old self.new place around.now urgency) }
         ensures unchanged { IfErr result (λ _. self.new ≡ self.old) }
     {
-        let next = self.next.checked_add(1).ok_or(AllocError)?;
-        let turn = Turn {
-            urgency,
-            number: self.next,
-        };
         let token = self.numbers.take()?;
         if self.standing.enter(token, around).is_err() {
             self.numbers.give_back(token);
             return Err(AllocError);
         }
-        if self.queue.insert(token, Opened { place, turn }).is_err() {
+        if self.queue.insert(token, place, urgency).is_err() {
             self.standing.exit(token);
             self.numbers.give_back(token);
             return Err(AllocError);
         }
-        self.next = next;
         Ok(token)
     }
 

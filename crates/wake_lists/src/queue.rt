@@ -1,43 +1,35 @@
-//! The open places by their tokens, and in the order of their turns.
+//! The open places by their tokens, in the order of their turns, and their tokens by the places.
 
 ghost use Rattle.std.specs.Prelude.{◌≡◌, [], None, Some, length, OnOk, OnErr};
 ghost use Rattle.std.specs.Map.{lookup};
-ghost use Rattle.wake_lists.specs.Queue.{HasNone, IsTokenOf, IsNext, is_place, is_turn};
-ghost use Rattle.wake_lists.specs.Slots.{IsPut, IsTakenOut};
+ghost use Rattle.wake_lists.specs.Queue.{HasNone, IsTokenOf, IsNext, GetsLast, is_place};
+ghost use Rattle.wake_lists.specs.Slots.{IsTakenOut};
 ghost use lib.Dec.{eqb};
 
-use crate::slots::Slots;
-use crate::turn::Turn;
+use crate::schedule::Schedule;
+use crate::turn::{Opened, Urgency};
 use akl_terms::Place;
 use std::alloc::{AllocError, Global};
 use std::collections::BTreeMap;
 use std::marker::Model;
 
-/// An open place, and when it comes.
-#[derive(Clone, Copy, Debug)]
-pub(crate) struct Opened {
-    pub place: Place,
-    pub turn: Turn,
-}
-
 /// The open places by their tokens, each once, and each with a turn of its own.
 #[derive(Drop)]
 pub(crate) struct Queue {
-    places: Slots<Opened>,
+    schedule: Schedule,
     tokens: BTreeMap<Place, u64>,
-    turns: BTreeMap<Turn, u64>,
 }
 
 impl Model for Queue {
     ghost use Rattle.std.specs.Prelude.{List, ℕ};
-    ghost use Rattle.wake_lists.specs.declared.queue.Opened.{Opened};
+    ghost use Rattle.wake_lists.specs.declared.turn.Opened.{Opened};
     ghost use Rattle.wake_lists.specs.Queue.{AreQueued};
 
     ghost Value = { List (ℕ × Opened) };
 
-    ghost view = { λ q. q.places };
+    ghost view = { λ q. q.schedule };
 
-    ghost invariant = { λ q. AreQueued q.places q.tokens.entries q.turns.entries };
+    ghost invariant = { λ q. AreQueued q.schedule q.tokens.entries };
 }
 
 impl Queue {
@@ -45,23 +37,22 @@ impl Queue {
         ensures { result ≡ [] }
     {
         Queue {
-            places: Slots::new(alloc),
+            schedule: Schedule::new(alloc),
             tokens: BTreeMap::new(alloc),
-            turns: BTreeMap::new(alloc),
         }
     }
 
     pub(crate) fn count(&self) -> usize
         ensures { result ≡ length self.now }
     {
-        self.places.len()
+        self.schedule.count()
     }
 
     /// The open place with this token.
     pub(crate) fn get(&self, token: u64) -> Option<Opened>
         ensures { result ≡ lookup (eqb token) self.now }
     {
-        self.places.get(token).copied()
+        self.schedule.get(token)
     }
 
     /// The token of the place.
@@ -75,59 +66,48 @@ impl Queue {
     pub(crate) fn first(&self) -> Option<u64>
         ensures { IsNext self.now result }
     {
-        match self.turns.first_key_value() {
-            Some((_, token)) => Some(*token),
-            None => None,
-        }
+        self.schedule.first()
     }
 
-    /// The token of the place whose turn comes after all others.
-    pub(crate) fn last(&self) -> Option<u64> {
-        match self.turns.last_key_value() {
-            Some((_, token)) => Some(*token),
-            None => None,
-        }
+    /// The token of the late place whose turn comes after all others.
+    pub(crate) fn last_late(&self) -> Option<u64> {
+        self.schedule.last_late()
     }
 
-    /// Enters a place that isn't open under a token that no place has, with a turn that none has. An `Err`, for want of
-    /// memory, leaves all as it was.
-    pub(crate) fn insert(&mut self, token: u64, opened: Opened) -> Result<(), AllocError>
+    /// Enters a place that isn't open under a token that no place has, behind all others that are as urgent. An `Err`,
+    /// for want of memory, leaves all as it was.
+    pub(crate) fn insert(
+        &mut self,
+        token: u64,
+        place: Place,
+        urgency: Urgency,
+    ) -> Result<(), AllocError>
         requires free { lookup (eqb token) self.old ≡ None }
-        requires closed { HasNone (is_place opened.place) self.old }
-        requires unused { HasNone (is_turn opened.turn) self.old }
-        ensures entered { OnOk result (IsPut self.old self.new token opened) }
+        requires closed { HasNone (is_place place) self.old }
+        ensures entered { OnOk result (GetsLast self.old self.new token place urgency) }
         ensures unchanged { OnErr result (self.new ≡ self.old) }
     {
-        self.tokens.insert(opened.place, token)?;
-        if self.turns.insert(opened.turn, token).is_err() {
-            self.tokens.remove(&opened.place);
-            return Err(AllocError);
-        }
-        if self.places.insert(token, opened).is_err() {
-            self.turns.remove(&opened.turn);
-            self.tokens.remove(&opened.place);
+        self.tokens.insert(place, token)?;
+        if self.schedule.insert(token, place, urgency).is_err() {
+            self.tokens.remove(&place);
             return Err(AllocError);
         }
         Ok(())
     }
 
-    /// Gives the open place with this token another turn, which no place has. An `Err`, for want of memory, leaves all
-    /// as it was.
+    /// Puts the open place with this token behind all others that are as urgent as this. An `Err`, for want of memory,
+    /// leaves all as it was.
     pub(crate) fn retime(
         &mut self,
         token: u64,
         opened: Opened,
-        turn: Turn,
+        urgency: Urgency,
     ) -> Result<(), AllocError>
-        requires open { lookup (eqb token) self.old ≡ Some opened }
-        requires unused { HasNone (is_turn turn) self.old }
-        ensures entered { OnOk result (IsPut self.old self.new token (record opened { turn = turn })) }
+        requires { lookup (eqb token) self.old ≡ Some opened }
+        ensures entered { OnOk result (GetsLast self.old self.new token opened.place urgency) }
         ensures unchanged { OnErr result (self.new ≡ self.old) }
     {
-        self.turns.insert(turn, token)?;
-        self.turns.remove(&opened.turn);
-        self.places.set(token, Opened { turn, ..opened });
-        Ok(())
+        self.schedule.retime(token, opened, urgency)
     }
 
     /// Takes out the open place with this token, where there is one.
@@ -135,9 +115,8 @@ impl Queue {
         ensures was { result ≡ lookup (eqb token) self.old }
         ensures gone { IsTakenOut self.old self.new token }
     {
-        let opened = self.places.remove(token)?;
+        let opened = self.schedule.remove(token)?;
         self.tokens.remove(&opened.place);
-        self.turns.remove(&opened.turn);
         Some(opened)
     }
 }

@@ -1,5 +1,7 @@
 //! When an open place comes.
 
+use akl_terms::Place;
+
 /// How urgent an open place is: one of an earlier variant comes before all of a later one.
 #[derive(Clone, Copy, Debug, PartialEq, Eq, PartialOrd, Ord)]
 pub enum Urgency {
@@ -16,4 +18,11 @@ pub struct Turn {
     pub urgency: Urgency,
     /// Above those of all places that were open when the turn was given.
     pub number: u64,
+}
+
+/// An open place, and when it comes.
+#[derive(Clone, Copy, Debug)]
+pub(crate) struct Opened {
+    pub place: Place,
+    pub turn: Turn,
 }

@@ -1,5 +1,4 @@
-use Rattle.std.proofs.Common.{None, refl, sym, ◌∙◌, subst}
-use Rattle.wake_lists.specs.declared.turn.Turn.{Turn}
+use Rattle.std.proofs.Common.{None, sym, ◌∙◌, subst}
 use Rattle.wake_lists.specs.Open.{Openings, IsOpen, IsOpened}
 use Rattle.wake_lists.specs.Opened.{openings}
 use Rattle.wake_lists.proofs.WaitsKept.{on_not_err}
@@ -13,10 +12,9 @@ insert-requires-clause-closed c =
 
 pub returns-clause-opened : goal.returns-clause-opened
 returns-clause-opened c =
-    let turn : Turn = record { urgency = c.args.urgency; number = c.self.inside.next } in
     let entered = on_not_err c.enter.result c.enter.ensures.entered (sym c.is_err.ensures.value ∙ c.if-is_err.false) in
     let put = on_not_err c.insert.result c.insert.ensures.entered (sym c.is_err-2.ensures.value ∙ c.if-is_err-2.false) in
     let closed = subst (λ (os : Openings). IsOpen os c.args.place None) (sym c.self.view_is) c.requires in
     subst (λ (os : Openings). IsOpened os (openings c.enter.new.self c.insert.new.self) c.args.place c.args.around.now c.args.urgency c.in_ok-token.token) c.self.view_is
-    (is_opened c.self.inside.queue c.self.inside.standing c.self.inside.numbers c.self.inside.next c.self.invariant c.in_ok-token.token c.in_ok-token.ensures.least c.args.place c.args.around.now turn refl
+    (is_opened c.self.inside.queue c.self.inside.standing c.self.inside.numbers c.self.invariant c.in_ok-token.token c.in_ok-token.ensures.least c.args.place c.args.around.now c.args.urgency
     c.insert.new.self put c.enter.new.self entered closed)

@@ -1,6 +1,6 @@
 use Rattle.std.proofs.Common.{sym, ap, ◌∙◌}
 use Rattle.std.specs.Prelude.{option_map}
-use Rattle.wake_lists.specs.declared.queue.Opened.{Opened}
+use Rattle.wake_lists.specs.declared.turn.Opened.{Opened}
 use Rattle.wake_lists.specs.Open.{Opening, Openings, opening_at}
 use Rattle.wake_lists.proofs.OpeningsKept.{part_is}
 use Rattle.wake_lists.proofs.open.Open.urgency_of.Goals as goal
