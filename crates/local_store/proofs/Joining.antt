@@ -239,24 +239,15 @@ module _ (nodes : List Node) (ss : List Stored) (known : ℕ) (all : known ≡ l
   whole : IsSolvedChain nodes ss
   whole = whole-known nodes ss known k all
 
-  form : IsFormOf nodes (own ++ others) (IsTold (bindings_in nodes (own ++ others)))
-  form = subst (λ (l : List (Var × Term)). IsFormOf nodes l (IsTold (bindings_in nodes l))) (from-innermost ss) whole.form
-
-  once : BindOnce (own ++ others)
-  once = subst BindOnce (from-innermost ss) whole.once
-
-  older : LeadOlder nodes (own ++ others)
-  older = subst (LeadOlder nodes) (from-innermost ss) whole.older
-
   pub innermost-found : AreFound (bindings_from ss) (innermost ss).bindings
-  innermost-found = subst (λ (l : List (Var × Term)). AreFound l (innermost ss).bindings) (sym (from-innermost ss)) (part-found nodes others own form once)
+  innermost-found = part-found nodes ss others own (from-innermost ss) whole
 
   pub joins-innermost : (old : Stored) (answer : ToldStore) → 0 < length ss → answer.store ≡ with_bindings old (innermost ss).bindings → answer.solved ≡ true
       → answer.bound.items ≡ bound_by nodes (bindings_from ss) (innermost ss).bindings → JoinsChain nodes (around ss) (min (length ss - 1) known) (innermost ss).bindings old answer
   joins-innermost old answer some store solved bound = over_solved (let long : length (around ss) ≡ length ss - 1 = around-length ss in omega arith)
       (subst (IsSolvedChain nodes) (around-take ss) (k.each (length ss - 1) (omega arith)))
-      (found own (takes-part nodes others own form once) (λ _ _. older-parts nodes others own form once older) store (λ _. part-older nodes others own form once older, λ _. solved)
-      (bound ∙ ap (λ (l : List (Var × Term)). bound_by nodes l own) (from-innermost ss) ∙ bound-parts nodes others own form once own))
+      (found own (takes-part nodes ss others own (from-innermost ss) whole) (λ _ _. older-parts nodes ss others own (from-innermost ss) whole) store
+      (λ _. part-older nodes ss others own (from-innermost ss) whole, λ _. solved) (bound ∙ bound-parts nodes ss others own (from-innermost ss) whole own))
 
 -- the stores by their places
 pub innermost-index : (ss : List Stored) (d s : Stored) → 0 < length ss → s ≡ slice_index_or ss (length ss - 1) d → innermost ss ≡ s
