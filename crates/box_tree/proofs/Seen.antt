@@ -77,6 +77,7 @@ no_chain : (nodes : List Node) → IsSolvedChain nodes []
 no_chain nodes = record {
   form = record { solved = nothing-solved nodes; follow = λ s t b. absurd (unbound s t b); hold = λ s t o n. absurd o };
   older = record { each = λ x y t e v. cc };
+  once = record { each = λ x. omega arith };
 }
   where
     unbound : (s t : Tree) → IsBound (bound_in nodes []) s t → ⊥

@@ -1,11 +1,12 @@
 -- What is read from solved forms is what is asked.
-use Rattle.std.proofs.Common.{◌≡◌, ℕ, List, [], ◌∷◌, ◌++◌, length, ◌-◌, take, drop, refl, sym, ap, subst, ◌∙◌, ◌⊎◌, inl, inr, append-nil, None, Bool, true, false, zero, suc, arith}
+use Rattle.std.proofs.Common.{◌≡◌, ℕ, List, [], ◌∷◌, ◌++◌, length, ◌-◌, take, drop, refl, sym, ap, subst, ◌∙◌, ◌⊎◌, inl, inr, append-nil, None, Bool, true, false, zero, suc, ◌<◌, ◌≤◌, slice_index_or, arith}
 use Rattle.std.specs.Prelude.{◌==◌}
+use Rattle.std.specs.List.{AllByRecursion}
 use Rattle.akl_terms.specs.declared.name.Name.{Name}
 use Rattle.akl_terms.specs.declared.name.Var.{Var}
 use Rattle.akl_terms.specs.declared.term.Node.{Node}
 use Rattle.akl_terms.specs.declared.term.Term.{Term}
-use Rattle.akl_terms.specs.Tree.{variable, head_of}
+use Rattle.akl_terms.specs.Tree.{Tree, variable, head_of}
 use Rattle.akl_terms.specs.Touching.{IsLocal, IsTied, Touches}
 use Rattle.akl_terms.specs.Equal.{Equations, IsTold, Equal, told, IsConsistent, IsStructured, IsQuiet}
 use Rattle.akl_terms.specs.Solved.{IsBound}
@@ -13,20 +14,23 @@ use Rattle.akl_terms.proofs.EqualLaws.{EqualBy-follows, IsTold-left, IsTold-righ
 use Rattle.rational_unify.specs.Known.{bound_in, end_of}
 use Rattle.akl_terms.specs.Names.{same_var}
 use Rattle.rational_unify.specs.Forms.{IsFormOf, TellsBindings, Takes, IsClashOfBindings}
+use Rattle.rational_unify.specs.Shortened.{IsVariableOf}
 use Rattle.rational_unify.proofs.FormLaws.{form-consistent}
+use Rattle.rational_unify.proofs.Taking.{drop-next}
 use Rattle.rational_unify.proofs.Stands.{HasHead}
 use Rattle.akl_terms.proofs.SameNames.{same_var-equal, same_var-refl}
 use Rattle.local_store.specs.Stored.{Stored}
 use Rattle.local_store.specs.Chained.{bindings_from, IsSolvedChain}
 use Rattle.local_store.proofs.Layers.{end-extends, form-join, form-as, chain-form, chain-clash}
 use Rattle.local_store.proofs.Known.{drop-whole}
+use Rattle.local_store.proofs.Parts.{takes-part, ends-parts, from-split}
 use Rattle.entail_test.specs.declared.outside.Outside.{Outside}
 use Rattle.entail_test.specs.declared.outside.Outside.TheVariants.{Touched, Clash}
-use Rattle.entail_test.specs.Asked.{frames_from, environment_at, own_at, KeepsApart, Reads, AnswersOver}
+use Rattle.entail_test.specs.Asked.{frames_from, environment_at, own_at, KeepsApart, Reads, Shows, ReadsOver, AnswersOver}
 use Rattle.entail_test.specs.Touched.{AreTouched}
 use Rattle.local_store.proofs.FormEnds.{has_head, unheaded, structured, unstructured, one_class, one_end}
 use Rattle.entail_test.proofs.Ends.{are_touched}
-use Rattle.entail_test.proofs.Enough.{ends-outside, enough}
+use Rattle.entail_test.proofs.Enough.{ShownIn, ends-outside, enough}
 
 -- where nothing is touched all is quiet
 module _ (nodes : List Node) (known : List (Var × Term)) (E C : Equations) (inner : List Name) (f : IsFormOf nodes known (IsTold E)) where
@@ -95,10 +99,10 @@ module _ (nodes : List Node) (ss : List Stored) (depth : ℕ) (known : List (Var
       fW = whole-form r.added r.takes
 
       touched_all : AreTouched (frames_from (drop depth ss)) (environment_at nodes ss depth) (environment_at nodes ss depth ++ own_at nodes ss depth) on.items
-      touched_all = rw r.noisy (are_touched nodes known (known ++ r.added) (environment_at nodes ss depth) (environment_at nodes ss depth ++ own_at nodes ss depth) (frames_from (drop depth ss)) fE fW
-          (end-extends nodes known r.added fW.solved) r.candidates r.classes r.classified
-          (enough nodes known r.added (IsTold (environment_at nodes ss depth)) (IsTold (environment_at nodes ss depth ++ own_at nodes ss depth)) (frames_from (drop depth ss)) r.candidates fE fW
-          (end-extends nodes known r.added fW.solved) (ends-outside nodes known (environment_at nodes ss depth) (frames_from (drop depth ss)) fE scoped) r.shown))
+      touched_all = rw r.shows.noisy (are_touched nodes known (known ++ r.added) (environment_at nodes ss depth) (environment_at nodes ss depth ++ own_at nodes ss depth) (frames_from (drop depth ss)) fE fW
+          (end-extends nodes known r.added fW.solved) r.shows.candidates r.shows.classes r.shows.classified
+          (enough nodes known r.added (IsTold (environment_at nodes ss depth)) (IsTold (environment_at nodes ss depth ++ own_at nodes ss depth)) (frames_from (drop depth ss)) r.shows.candidates fE fW
+          (end-extends nodes known r.added fW.solved) (ends-outside nodes known (environment_at nodes ss depth) (frames_from (drop depth ss)) fE scoped) r.shows.shown))
   answers-reads scoped (Clash left right) c = (
     EqualBy-follows (λ a b m. elim m [
       | inl x ↦ EqualBy-follows (λ u v y. told (IsTold-left (environment_at nodes ss depth) (own_at nodes ss depth) u v y)) (fE.follow a b (subst (λ (l : List (Var × Term)). IsBound (bound_in nodes l) a b) (append-nil known) x))
@@ -120,6 +124,43 @@ module _ (nodes : List Node) (ss : List Stored) (depth k : ℕ) (f : IsSolvedCha
         (chain-clash nodes (take depth ss) k (bindings_from (take k (take depth ss))) left right f.form (subst (λ (l : List Stored). IsClashOfBindings nodes (bindings_from (take k (take depth ss)) ++ []) (bindings_from l) left right) (drop-whole (take depth ss) k) c)),
     c.differ,
   )
+
+-- over other bindings whose chains end where those do the same is shown
+module _ (nodes : List Node) (known bs cs : List (Var × Term)) (ends : (t : Tree) → end_of nodes bs t ≡ end_of nodes cs t) (inner : List Name) where
+  shown-as : (candidates : List Var) (added : List (Var × Term)) → AllByRecursion (ShownIn nodes bs inner candidates) added → AllByRecursion (ShownIn nodes cs inner candidates) added
+  shown-as candidates [] h = tt
+  shown-as candidates (b ∷ added) h = (λ o. ((h.0 o).0, λ y p e. (h.0 o).1 y p (ends (variable b.0) ∙ e)), shown-as candidates added h.1)
+
+  shows-as : (added : List (Var × Term)) (on : List Var) → Shows nodes known bs inner added on → Shows nodes known cs inner added on
+  shows-as added on h = record {
+    candidates = h.candidates;
+    shown = record { outside = h.shown.outside; each = shown-as h.candidates added h.shown.each };
+    classes = h.classes;
+    classified = record {
+      member = h.classified.member;
+      root = h.classified.root;
+      end = λ c m. subst (λ (t : Tree). IsVariableOf t c.end) (ends (variable c.member)) (h.classified.end c m);
+      covers = h.classified.covers;
+      distinct = h.classified.distinct;
+    };
+    noisy = h.noisy;
+  }
+
+-- where the whole chain is known to be solved, the inner stores add their own bindings
+pub reads-solved : (nodes : List Node) (ss : List Stored) (depth : ℕ) (on : List Var) → IsSolvedChain nodes ss
+    → Shows nodes (bindings_from (take depth ss)) (bindings_from ss) (frames_from (drop depth ss)) (bindings_from (drop depth ss)) on → ReadsOver nodes (bindings_from (take depth ss)) (drop depth ss) on
+reads-solved nodes ss depth on f h = record {
+  added = bindings_from (drop depth ss);
+  takes = takes-part nodes ss (bindings_from (take depth ss)) (bindings_from (drop depth ss)) (from-split ss depth) f;
+  shows = shows-as nodes (bindings_from (take depth ss)) (bindings_from ss) (bindings_from (take depth ss) ++ bindings_from (drop depth ss))
+      (ends-parts nodes ss (bindings_from (take depth ss)) (bindings_from (drop depth ss)) (from-split ss depth) f) (frames_from (drop depth ss)) (bindings_from (drop depth ss)) on h;
+}
+
+-- a list of all bindings of the stores from a place on, with those of the store before it
+pub listed-more : (ss : List Stored) (left : ℕ) (d s : Stored) (list new : List (Var × Term)) → 0 < left → left ≤ length ss → s ≡ slice_index_or ss (left - 1) d
+    → list ≡ bindings_from (drop left ss) → new ≡ list ++ s.bindings → new ≡ bindings_from (drop (left - 1) ss)
+listed-more ss left d s list new more within e h n = n ∙ ap (λ (l : List (Var × Term)). l ++ s.bindings) h
+    ∙ sym (ap bindings_from (drop-next ss (left - 1) left d (omega arith) (omega arith) ∙ ap (λ (r : Stored). r ∷ drop left ss) (sym e)))
 
 pub noisy-some : (E C : Equations) (inner : List Name) (xs : List Var) → (length xs ≡ 0 → ⊥) → AreTouched inner E (E ++ C) xs → IsQuiet E (IsLocal inner) C → ⊥
 noisy-some E C inner [] n t q = n refl

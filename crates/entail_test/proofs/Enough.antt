@@ -136,7 +136,7 @@ outside-push inner cs y h o x m = elim (among-either cs (y ∷ []) x m) [ inl a 
 
 -- candidates one by one
 module _ (nodes : List Node) (whole : List (Var × Term)) (inner : List Name) where
-  abbrev ShownIn : List Var → (Var × Term) → Type 0
+  abbrev pub ShownIn : List Var → (Var × Term) → Type 0
   ShownIn candidates b = IsOutside inner b.0 → IsAmong b.0 candidates × ((y : Var) → IsOutside inner y → end_of nodes whole (variable b.0) ≡ variable y → IsAmong y candidates)
 
   pub candidates-none : AreCandidates nodes whole inner [] []

@@ -78,15 +78,19 @@ pub record AreCandidates (nodes : List Node) (whole : List (Var × Term)) (inner
   pub each : AllByRecursion (λ (b : Var × Term). IsOutside inner b.0 → IsAmong b.0 candidates
       × ((y : Var) → IsOutside inner y → end_of nodes whole (variable b.0) ≡ variable y → IsAmong y candidates)) added
 
+-- what added bindings show: the candidates, their classes, and a member of each that is noisy
+pub record Shows (nodes : List Node) (known whole : List (Var × Term)) (inner : List Name) (added : List (Var × Term)) (on : List Var) : Type 0 where
+  pub candidates : List Var
+  pub shown : AreCandidates nodes whole inner added candidates
+  pub classes : List Class
+  pub classified : AreClasses nodes known whole candidates classes
+  pub noisy : on ≡ map (λ c. c.member) (filter (λ c. is_noisy classes c) classes)
+
 -- what inner stores tell over a solved form of the others
 pub record ReadsOver (nodes : List Node) (known : List (Var × Term)) (inner : List Stored) (on : List Var) : Type 0 where
   pub added : List (Var × Term)
   pub takes : Takes nodes known [] added (bindings_from inner)
-  pub candidates : List Var
-  pub shown : AreCandidates nodes (known ++ added) (frames_from inner) added candidates
-  pub classes : List Class
-  pub classified : AreClasses nodes known (known ++ added) candidates classes
-  pub noisy : on ≡ map (λ c. c.member) (filter (λ c. is_noisy classes c) classes)
+  pub shows : Shows nodes known (known ++ added) (frames_from inner) added on
 
 abbrev pub AnswersOver : List Node → List (Var × Term) → List Stored → Outside → Type 0
 AnswersOver nodes known inner (Touched on) = ReadsOver nodes known inner on.items

@@ -1,7 +1,8 @@
 //! What the stores of a chain from a depth on tell the variables from outside of them.
-ghost use Rattle.std.specs.Prelude.{◌≡◌, ◌≤◌, IfOk, length};
+ghost use Rattle.std.specs.Prelude.{◌≡◌, ◌≤◌, ◌++◌, IfOk, length, take, drop};
 ghost use Rattle.rational_unify.specs.Known.{IsSolved};
-ghost use Rattle.entail_test.specs.Asked.{Reads, KeepsApartAt, AreCandidates, frames_from, named_in, AnswersOver};
+ghost use Rattle.local_store.specs.Chained.{bindings_from, IsKnown};
+ghost use Rattle.entail_test.specs.Asked.{Reads, KeepsApartAt, AreCandidates, Shows, frames_from, named_in, AnswersOver};
 
 use crate::reading::touched;
 use akl_terms::{Name, Templates, Term, Var};
@@ -22,11 +23,15 @@ pub enum Outside {
 /// What the stores from a depth on tell the variables from outside of them.
 ///
 /// It solves the bindings of these stores over a solved form of those before them, and reads the
-/// answer from the bindings that this adds.
+/// answer from the bindings that this adds. Where the whole chain is known to be solved, these are
+/// the stores' own bindings.
 pub fn outside_of(alloc: Global, chain: &Chain, depth: usize) -> Result<Outside, AllocError>
     requires { depth ≤ length chain.now.stores }
     ensures { IfOk result (λ answer. KeepsApartAt chain.now.nodes chain.now.stores depth → Reads chain.now.nodes chain.now.stores depth answer) }
 {
+    if chain.known() == chain.stores().len() {
+        return told_in(alloc, chain, depth);
+    }
     let templates = chain.templates();
     let environment = chain.outer(depth);
     let known = environment.known();
@@ -42,6 +47,46 @@ pub fn outside_of(alloc: Global, chain: &Chain, depth: usize) -> Result<Outside,
         }),
         None => told_by(alloc, templates, &form, &chain.stores()[depth..]),
     }
+}
+
+// What the stores from a depth on tell, where the whole chain is known to be solved.
+fn told_in(alloc: Global, chain: &Chain, depth: usize) -> Result<Outside, AllocError>
+    requires depth { depth ≤ length chain.now.stores }
+    requires solved { IsKnown chain.now.nodes chain.now.stores (length chain.now.stores) }
+    ensures { IfOk result (λ answer. AnswersOver chain.now.nodes (bindings_from (take depth chain.now.stores)) (drop depth chain.now.stores) answer) }
+{
+    let inner = &chain.stores()[depth..];
+    let added = bindings_of(alloc, inner)?;
+    let on = shown(
+        alloc,
+        chain.templates(),
+        &chain.outer(depth),
+        chain,
+        added.as_slice(),
+        inner,
+    )?;
+    Ok(Outside::Touched(on))
+}
+
+// All bindings of stores, those of inner ones first.
+fn bindings_of(alloc: Global, stores: &[Shared<Store>]) -> Result<Vec<(Var, Term)>, AllocError>
+    ensures { IfOk result (λ list. list.items ≡ bindings_from stores.now) }
+{
+    let mut list = Vec::new(alloc);
+    let mut left = stores.len();
+    while left > 0 {
+        left -= 1;
+        add_bindings(stores[left].get(), &mut list)?;
+    }
+    Ok(list)
+}
+
+// Also lists the bindings of a store.
+fn add_bindings(store: &Store, list: &mut Vec<(Var, Term)>) -> Result<(), AllocError>
+    ensures { IfOk result (λ _. list.new.items ≡ list.old.items ++ store.now.bindings) }
+{
+    let bindings = store.bindings()?;
+    list.extend_from_slice(bindings.as_slice())
 }
 
 // What inner stores tell over a solved form of the others.
@@ -64,17 +109,34 @@ fn told_by<K: Lookup>(
             right: clash.right,
         }),
         None => {
-            let candidates = candidates_of(
+            let on = shown(
                 alloc,
                 templates,
+                known,
                 &whole,
                 whole.added.as_slice(),
                 inner,
             )?;
-            let on = touched(alloc, templates, known, &whole, candidates.as_slice())?;
             Ok(Outside::Touched(on))
         }
     }
+}
+
+// What the added bindings show.
+fn shown<K: Lookup, W: Lookup>(
+    alloc: Global,
+    templates: &Templates,
+    known: &K,
+    whole: &W,
+    added: &[(Var, Term)],
+    inner: &[Shared<Store>],
+) -> Result<Vec<Var>, AllocError>
+    requires known { IsSolved templates.now.nodes (K.bindings known.now) }
+    requires whole { IsSolved templates.now.nodes (W.bindings whole.now) }
+    ensures { IfOk result (λ on. Shows templates.now.nodes (K.bindings known.now) (W.bindings whole.now) (frames_from inner.now) added.now on.items) }
+{
+    let candidates = candidates_of(alloc, templates, whole, added, inner)?;
+    touched(alloc, templates, known, whole, candidates.as_slice())
 }
 
 // The candidates that the added bindings show.

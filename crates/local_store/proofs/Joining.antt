@@ -20,15 +20,17 @@ use Rattle.rational_unify.proofs.FormLaws.{form-consistent}
 use Rattle.rational_unify.proofs.Taking.{get-index}
 use Rattle.local_store.specs.declared.telling.ToldStore.{ToldStore}
 use Rattle.local_store.specs.Stored.{Stored, with_frame, with_port, joins, unbound, with_bindings}
-use Rattle.local_store.specs.Chained.{bindings_from, equations_of, innermost, around, replaced, ToldBy, IsFormChain, IsSolvedChain}
-use Rattle.local_store.specs.Bound.{AreNewlyBound, bound_by, BindsOver, taken, clashes}
+use Rattle.local_store.specs.Chained.{bindings_from, equations_of, innermost, around, replaced, ToldBy, IsFormChain, BindOnce, IsSolvedChain, IsKnown}
+use Rattle.local_store.specs.Bound.{AreNewlyBound, AreFound, bound_by, BindsOver, taken, clashes}
 use Rattle.local_store.specs.Asking.{Resolves}
 use Rattle.local_store.specs.Promoting.{with_frames, with_ports, named_too, Joins, found, clashing, JoinsChain, over_solved, as_they_stand, AnswersPromoted}
-use Rattle.local_store.proofs.Known.{innermost-last}
+use Rattle.local_store.proofs.Once.{once-joins}
+use Rattle.local_store.proofs.Known.{innermost-last, whole-known}
 use Rattle.local_store.proofs.Layers.{form-as, form-reorder, older-reorder, joins-found, joins-length, joins-told, told-joins, from-last, from-innermost, bindings-either, bindings-left, bindings-right}
 use Rattle.local_store.proofs.Replaced.{length-append, replaced-told, told-replaced}
-use Rattle.local_store.proofs.Resolved.{resolves, joined-form, no-clash, inner-no-clash}
+use Rattle.local_store.proofs.Resolved.{around-take, resolves, joined-form, no-clash, inner-no-clash}
 use Rattle.local_store.proofs.NewlyBound.{none_bound, are_newly_bound}
+use Rattle.local_store.proofs.Parts.{takes-part, part-found, bound-parts, part-older, older-parts}
 
 -- frames and ports, from the last to the first
 pub frames-push : (s : Stored) (ns : List Name) (n : Name) → with_frames s (ns ++ n ∷ []) ≡ with_frames (with_frame s n) ns
@@ -196,13 +198,16 @@ module _ (nodes : List Node) (ss : List Stored) where
     older-chain : LeadOlder nodes (outer ++ added) → LeadOlder nodes (bindings_from (replaced (around ss) new))
     older-chain h = subst (LeadOlder nodes) (sym list) (older-reorder nodes (outer ++ added) (joins beside added ++ further) found_joined h)
 
+    once-chain : BindOnce (bindings_from (replaced (around ss) new))
+    once-chain = subst BindOnce (sym list) (once-joins beside further added (subst (λ (l : List (Var × Term)). BindNew l added) split fresh) (subst BindOnce split f.once))
+
     pub promotes-added : (known : ℕ) → length ss ≤ known + 1 → (LeadOlder nodes outer → EachOlder nodes inner → LeadOlder nodes (outer ++ added)) → IsTrue answer.solved ↔ EachOlder nodes inner → answer.bound.items ≡ bound_by nodes (outer ++ added) added → AnswersPromoted nodes ss known answer
     promotes-added known l o h b = record {
       promotes = record {
         frames = ap (λ (r : Stored). r.frames) e;
         ports = ap (λ (r : Stored). r.ports) e;
         stands = StandFor-on solution.stands (StandFor-follows (λ s t m. told (from-apart s t m)) (λ s t m. told (to-apart s t m)));
-        solved = λ _ c each. record { form = form-chain; older = older-chain (o f.older each) };
+        solved = λ _ c each. record { form = form-chain; older = older-chain (o f.older each); once = once-chain };
       };
       is_solved = (λ is. (l, solution.stands.back (form-consistent nodes (bindings_from (replaced ss apart)) (ToldBy nodes (replaced ss apart)) solution.form), h.0 is), λ w. h.1 w.2);
       bound = around-bound outer f.form answer.bound.items (taken added t b);
@@ -222,6 +227,27 @@ module _ (nodes : List Node) (ss : List Stored) where
     where
       less : length ss ≤ known + 1 → ⊥
       less enough = let long : length (around ss) ≡ length ss - 1 = around-length ss in e (omega arith)
+
+-- where the whole chain is known to be solved, the bindings of the innermost store are found in it, and are what is found for them over the others
+module _ (nodes : List Node) (ss : List Stored) (known : ℕ) (all : known ≡ length ss) (k : IsKnown nodes ss known) where
+  abbrev own : List (Var × Term)
+  own = (innermost ss).bindings
+
+  abbrev others : List (Var × Term)
+  others = bindings_from (around ss)
+
+  whole : IsSolvedChain nodes ss
+  whole = whole-known nodes ss known k all
+
+  pub innermost-found : AreFound (bindings_from ss) (innermost ss).bindings
+  innermost-found = part-found nodes ss others own (from-innermost ss) whole
+
+  pub joins-innermost : (old : Stored) (answer : ToldStore) → 0 < length ss → answer.store ≡ with_bindings old (innermost ss).bindings → answer.solved ≡ true
+      → answer.bound.items ≡ bound_by nodes (bindings_from ss) (innermost ss).bindings → JoinsChain nodes (around ss) (min (length ss - 1) known) (innermost ss).bindings old answer
+  joins-innermost old answer some store solved bound = over_solved (let long : length (around ss) ≡ length ss - 1 = around-length ss in omega arith)
+      (subst (IsSolvedChain nodes) (around-take ss) (k.each (length ss - 1) (omega arith)))
+      (found own (takes-part nodes ss others own (from-innermost ss) whole) (λ _ _. older-parts nodes ss others own (from-innermost ss) whole) store
+      (λ _. part-older nodes ss others own (from-innermost ss) whole, λ _. solved) (bound ∙ bound-parts nodes ss others own (from-innermost ss) whole own))
 
 -- the stores by their places
 pub innermost-index : (ss : List Stored) (d s : Stored) → 0 < length ss → s ≡ slice_index_or ss (length ss - 1) d → innermost ss ≡ s

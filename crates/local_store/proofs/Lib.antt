@@ -3,11 +3,13 @@ pub mod Orders
 pub mod Bindings
 pub mod Ports
 pub mod Layers
+pub mod Once
 pub mod Known
 pub mod Among
 pub mod FormEnds
 pub mod NewlyBound
 pub mod Replaced
+pub mod Parts
 pub mod Resolved
 pub mod Joining
 pub mod Listing

@@ -17,11 +17,12 @@ use Rattle.rational_unify.specs.Solving.{bindings_in, equations_in, BindNew, IsS
 use Rattle.rational_unify.specs.Forms.{IsFormOf, Takes, IsClashOfBindings}
 use Rattle.rational_unify.proofs.FormLaws.{form-consistent}
 use Rattle.local_store.specs.Stored.{Stored, joins, with_bindings}
-use Rattle.local_store.specs.Chained.{bindings_from, equations_of, innermost, around, replaced, ToldBy, IsFormChain, IsSolvedChain}
+use Rattle.local_store.specs.Chained.{bindings_from, equations_of, innermost, around, replaced, ToldBy, IsFormChain, BindOnce, IsSolvedChain}
 use Rattle.local_store.specs.Bound.{AreNewlyBound}
 use Rattle.local_store.specs.declared.telling.ToldStore.{ToldStore}
 use Rattle.local_store.specs.Telling.{ToldAlso, Tells, AnswersTold, Adds, added, clash, AddsOver, taken, clashing, clashed, somewhere}
 use Rattle.local_store.proofs.Layers.{form-as, form-equations, form-added, forms-stand, inconsistent-stand, form-reorder, older-reorder, joins-found, joins-length, joins-told, told-joins, from-last, from-innermost, bindings-either, bindings-left, bindings-right, chain-form, chain-clash}
+use Rattle.local_store.proofs.Once.{once-joins}
 use Rattle.local_store.proofs.Known.{drop-whole}
 use Rattle.local_store.proofs.NewlyBound.{none_bound, are_newly_bound}
 
@@ -85,13 +86,13 @@ tells-clash nodes ss known es new left right q d e = record {
     there : (t : Term) → IsTold (bindings_in nodes ((somewhere, left) ∷ (somewhere, right) ∷ [])) (variable somewhere) (tree nodes t) → ToldBy nodes (replaced ss new) (variable somewhere) (tree nodes t)
     there t m = told-replaced nodes ss ((somewhere, left) ∷ (somewhere, right) ∷ []) new (ap (λ (r : Stored). r.bindings) e) (variable somewhere) (tree nodes t) (inr m)
 
-module _ (nodes : List Node) (ss : List Stored) (known : ℕ) (bs : List (Var × Term)) (es : List code.Equation) (new : Stored) (f : IsFormOf nodes bs (ToldBy nodes ss)) (whole : length ss ≡ known → (bs ≡ bindings_from ss) × LeadOlder nodes bs) where
+module _ (nodes : List Node) (ss : List Stored) (known : ℕ) (bs : List (Var × Term)) (es : List code.Equation) (new : Stored) (f : IsFormOf nodes bs (ToldBy nodes ss)) (whole : length ss ≡ known → (bs ≡ bindings_from ss) × LeadOlder nodes bs × BindOnce bs) where
   pub tells-added : (more : List (Var × Term)) → IsSolution nodes bs es more → KeepsOlder nodes bs (bs ++ more) → new ≡ with_bindings (innermost ss) more → Tells nodes ss known es new
   tells-added more s keeps e = record {
     frames = ap (λ (r : Stored). r.frames) e;
     ports = ap (λ (r : Stored). r.ports) e;
     stands = forms-stand nodes (bs ++ more) (ToldAlso nodes ss es) (ToldBy nodes (replaced ss new)) (form-equations nodes bs es more (ToldBy nodes ss) f s) form;
-    solved = λ l c. record { form = solved (whole l).0; older = older (whole l).0 (keeps (whole l).1) };
+    solved = λ l c. record { form = solved (whole l).0; older = older (whole l).0 (keeps (whole l).1); once = once (whole l).0 (whole l).2 };
   }
     where
       is : new.bindings ≡ joins (innermost ss).bindings more
@@ -130,6 +131,9 @@ module _ (nodes : List Node) (ss : List Stored) (known : ℕ) (bs : List (Var ×
       older q h = subst (LeadOlder nodes) (sym list)
           (older-reorder nodes ((b ++ o) ++ more) (joins b more ++ o) (found (q ∙ from-innermost ss)) (subst (λ (l : List (Var × Term)). LeadOlder nodes (l ++ more)) (q ∙ from-innermost ss) h))
 
+      once : bs ≡ bindings_from ss → BindOnce bs → BindOnce (bindings_from (replaced ss new))
+      once q h = subst BindOnce (sym list) (once-joins b o more (subst (λ (l : List (Var × Term)). BindNew l more) (q ∙ from-innermost ss) s.fresh) (subst BindOnce (q ∙ from-innermost ss) h))
+
   clash_here : (left right : Term) → IsClashOf nodes bs es left right → EqualBy (ToldAlso nodes ss es) (tree nodes left) (tree nodes right)
   clash_here left right c = EqualBy-follows (λ a b m. elim m [ inl x ↦ EqualBy-follows (λ u v y. told (inl y)) (f.follow a b x) | inr x ↦ told (inr x) ]) c.equal
 
@@ -155,10 +159,10 @@ module _ (nodes : List Node) (ss : List Stored) (known : ℕ) (bs : List (Var ×
 pub answers-whole : (nodes : List Node) (ss : List Stored) (known : ℕ) (es : List code.Equation) (answer : ToldStore) → IsSolvedChain nodes ss → length ss ≡ known
     → Adds nodes (bindings_from ss) es (innermost ss) answer.store answer.solved answer.bound.items → AnswersTold nodes ss known es answer
 answers-whole nodes ss known es answer f l a =
-    let says : IsTrue answer.solved ↔ IsConsistentBy (ToldAlso nodes ss es) = adds-says nodes ss known (bindings_from ss) es answer.store f.form (λ e. (refl, f.older)) answer.solved answer.bound.items a in record {
-      tells = tells-adds nodes ss known (bindings_from ss) es answer.store f.form (λ e. (refl, f.older)) answer.solved answer.bound.items a;
+    let says : IsTrue answer.solved ↔ IsConsistentBy (ToldAlso nodes ss es) = adds-says nodes ss known (bindings_from ss) es answer.store f.form (λ e. (refl, f.older, f.once)) answer.solved answer.bound.items a in record {
+      tells = tells-adds nodes ss known (bindings_from ss) es answer.store f.form (λ e. (refl, f.older, f.once)) answer.solved answer.bound.items a;
       is_solved = (λ h. (l, says.0 h), λ w. says.1 w.1);
-      bound = adds-bound nodes ss known (bindings_from ss) es answer.store f.form (λ e. (refl, f.older)) answer.solved answer.bound.items a;
+      bound = adds-bound nodes ss known (bindings_from ss) es answer.store f.form (λ e. (refl, f.older, f.once)) answer.solved answer.bound.items a;
     }
 
 -- and over one of which only so many outermost stores are, with the others taken in

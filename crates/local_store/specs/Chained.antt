@@ -1,8 +1,9 @@
 -- Chains of stores.
-use Rattle.std.specs.Prelude.{ℕ, ◌≤◌, List, [], ◌∷◌, ◌++◌, length, take}
+use Rattle.std.specs.Prelude.{ℕ, ◌+◌, ◌≤◌, cond, List, [], ◌∷◌, ◌++◌, length, take}
 use Rattle.akl_terms.specs.declared.name.Var.{Var}
 use Rattle.akl_terms.specs.declared.term.Node.{Node}
 use Rattle.akl_terms.specs.declared.term.Term.{Term}
+use Rattle.akl_terms.specs.Names.{same_var}
 use Rattle.akl_terms.specs.Tree.{Tree}
 use Rattle.akl_terms.specs.Equal.{Equations, IsTold}
 use Rattle.rational_unify.specs.Solving.{bindings_in}
@@ -34,10 +35,20 @@ ToldBy nodes ss = IsTold (equations_of nodes ss)
 abbrev pub IsFormChain : List Node → List Stored → Type 0
 IsFormChain nodes ss = IsFormOf nodes (bindings_from ss) (ToldBy nodes ss)
 
--- and it leads from younger variables to older ones
+-- how many bindings a variable has
+abbrev pub times_bound : Var → List (Var × Term) → ℕ
+times_bound x [] = 0
+times_bound x (b ∷ bs) = cond (same_var b.0 x) 1 0 + times_bound x bs
+
+-- no variable is bound twice
+pub record BindOnce (bs : List (Var × Term)) : Type 0 where
+  pub each : (x : Var) → times_bound x bs ≤ 1
+
+-- and it leads from younger variables to older ones, and no variable is bound twice, in one of the stores or in two
 pub record IsSolvedChain (nodes : List Node) (ss : List Stored) : Type 0 where
   pub form : IsFormChain nodes ss
   pub older : LeadOlder nodes (bindings_from ss)
+  pub once : BindOnce (bindings_from ss)
 
 -- as far as is known each chain of the outermost stores is solved
 pub record IsKnown (nodes : List Node) (ss : List Stored) (known : ℕ) : Type 0 where

@@ -1,6 +1,7 @@
 //! A box whose store joins that of the box around it.
-ghost use Rattle.std.specs.Prelude.{◌≡◌, ◌<◌, length, IfOk};
+ghost use Rattle.std.specs.Prelude.{◌≡◌, ◌<◌, ◌-◌, length, min, IfOk};
 ghost use Rattle.rational_unify.specs.Known.{IsSolved};
+ghost use Rattle.local_store.specs.Chained.{innermost, around};
 ghost use Rattle.local_store.specs.Telling.{IsUntold};
 ghost use Rattle.local_store.specs.Promoting.{with_frames, with_ports, named_too, Joins, JoinsChain, AnswersPromoted};
 
@@ -24,23 +25,48 @@ pub fn promoted(alloc: Global, chain: &Chain) -> Result<ToldStore, AllocError>
     let stores = chain.stores();
     let count = stores.len() - 1;
     let mut told = ToldStore::of(alloc, stores[count - 1].get().share()?);
-    join_store(alloc, &chain.outer(count), stores[count].get(), &mut told)?;
+    join_store(alloc, chain, stores[count].get(), &mut told)?;
     Ok(told)
 }
 
-// All that a store has joins another one, to which nothing was told, with its bindings as a chain has them.
+// All that the innermost store of a chain has joins another one, to which nothing was told, with its bindings as the
+// stores around it have them.
 fn join_store(
     alloc: Global,
-    outer: &Chain,
+    chain: &Chain,
     own: &Store,
     told: &mut ToldStore,
 ) -> Result<(), AllocError>
-    requires { IsUntold told.old }
-    ensures { IfOk result (λ _. JoinsChain outer.now.nodes outer.now.stores outer.now.known own.now.bindings (named_too told.old.store own.now) told.new) }
+    requires some { 0 < length chain.now.stores }
+    requires own { own.now ≡ innermost chain.now.stores }
+    requires untold { IsUntold told.old }
+    ensures { IfOk result (λ _. JoinsChain chain.now.nodes (around chain.now.stores) (min (length chain.now.stores - 1) chain.now.known)
+        (innermost chain.now.stores).bindings (named_too told.old.store (innermost chain.now.stores)) told.new) }
 {
     add_names(&mut told.store, own)?;
     let bindings = own.bindings()?;
-    join_chain(alloc, outer, bindings.as_slice(), told)
+    join_innermost(alloc, chain, bindings.as_slice(), told)
+}
+
+// The bindings of the innermost store join another one: as they stand where the whole chain is known to be solved,
+// as they are then what is found for them over the stores around.
+fn join_innermost(
+    alloc: Global,
+    chain: &Chain,
+    bindings: &[(Var, Term)],
+    told: &mut ToldStore,
+) -> Result<(), AllocError>
+    requires some { 0 < length chain.now.stores }
+    requires own { bindings.now ≡ (innermost chain.now.stores).bindings }
+    requires untold { IsUntold told.old }
+    ensures { IfOk result (λ _. JoinsChain chain.now.nodes (around chain.now.stores) (min (length chain.now.stores - 1) chain.now.known) bindings.now told.old.store told.new) }
+{
+    let count = chain.stores().len();
+    if chain.known() == count {
+        told.solved = true;
+        return told.add(chain.templates(), chain, bindings);
+    }
+    join_chain(alloc, &chain.outer(count - 1), bindings, told)
 }
 
 // What is found for bindings over a chain joins a store, where that is known to be solved, and else they join as they
@@ -82,7 +108,7 @@ fn join<K: Lookup>(
         Some(_) => told.store.add_all(bindings),
         None => {
             told.solved = leads_older(templates, bindings);
-            told.add(templates, &form)
+            told.add(templates, &form, form.added.as_slice())
         }
     }
 }

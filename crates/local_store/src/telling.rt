@@ -5,7 +5,7 @@ ghost use Rattle.rational_unify.specs.Solving.{BindNew};
 ghost use Rattle.rational_unify.specs.Forms.{Takes, IsClashOfBindings};
 ghost use Rattle.local_store.specs.Chained.{bindings_from, innermost};
 ghost use Rattle.local_store.specs.Stored.{with_bindings};
-ghost use Rattle.local_store.specs.Bound.{bound_by};
+ghost use Rattle.local_store.specs.Bound.{bound_by, AreFound};
 ghost use Rattle.local_store.specs.Telling.{IsUntold, clashed, Adds, AddsOver, AnswersTold};
 
 use crate::binding::bound_by;
@@ -41,21 +41,21 @@ impl ToldStore {
         }
     }
 
-    /// Also has what a form has added, and lists what that binds.
-    pub(crate) fn add<K: Lookup>(
+    /// Also has bindings of a solved form, and lists what they bind.
+    pub(crate) fn add<W: Lookup>(
         &mut self,
         templates: &Templates,
-        form: &Form<'_, K>,
+        whole: &W,
+        added: &[(Var, Term)],
     ) -> Result<(), AllocError>
-        requires solved { IsSolved templates.now.nodes (K.bindings form.now.known.now ++ form.now.added) }
-        requires fresh { BindNew (K.bindings form.now.known.now) form.now.added }
-        ensures store { IfOk result (λ _. self.new.store ≡ with_bindings self.old.store form.now.added) }
+        requires solved { IsSolved templates.now.nodes (W.bindings whole.now) }
+        requires found { AreFound (W.bindings whole.now) added.now }
+        ensures store { IfOk result (λ _. self.new.store ≡ with_bindings self.old.store added.now) }
         ensures solved { self.new.solved ≡ self.old.solved }
-        ensures bound { IfOk result (λ _. self.new.bound.items ≡ self.old.bound.items ++ bound_by templates.now.nodes (K.bindings form.now.known.now ++ form.now.added) form.now.added) }
+        ensures bound { IfOk result (λ _. self.new.bound.items ≡ self.old.bound.items ++ bound_by templates.now.nodes (W.bindings whole.now) added.now) }
     {
-        let added = form.added.as_slice();
         self.store.add_all(added)?;
-        bound_by(templates, form, added, &mut self.bound)
+        bound_by(templates, whole, added, &mut self.bound)
     }
 
     // Also has a variable that is bound to both terms.
@@ -218,7 +218,7 @@ fn add_found<K: Lookup>(
         known,
         added: AddedBindings::from_list(alloc, bindings)?,
     };
-    told.add(templates, &form)
+    told.add(templates, &form, form.added.as_slice())
 }
 
 /// The innermost store; one that has nothing where there are no stores.

@@ -11,7 +11,7 @@ use Rattle.rational_unify.specs.Forms.{IsFormOf}
 use Rattle.rational_unify.specs.Older.{LeadOlder}
 use Rattle.rational_unify.proofs.Taking.{take-all}
 use Rattle.local_store.specs.Stored.{Stored}
-use Rattle.local_store.specs.Chained.{IsSolvedChain, IsKnown}
+use Rattle.local_store.specs.Chained.{BindOnce, IsSolvedChain, IsKnown}
 use Rattle.local_store.proofs.Layers.{from-last}
 use Rattle.guard_plan.proofs.Chains.{long_push}
 use Rattle.rule_plan.specs.Made.{store_with, MoreKnown}
@@ -26,6 +26,7 @@ framed : (nodes : List Node) (path : List Stored) (frame : Name) → IsSolvedCha
 framed nodes path frame h = record {
   form = subst (λ (l : List (Var × Term)). IsFormOf nodes l (IsTold (bindings_in nodes l))) (sym (from-last path (store_with frame))) h.form;
   older = subst (LeadOlder nodes) (sym (from-last path (store_with frame))) h.older;
+  once = subst BindOnce (sym (from-last path (store_with frame))) h.once;
 }
 
 pub more_known : (nodes : List Node) (path : List Stored) (frame : Name) (known more : ℕ) → IsKnown nodes path known → MoreKnown known (length path) more → IsKnown nodes (path ++ store_with frame ∷ []) more

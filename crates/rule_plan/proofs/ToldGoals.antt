@@ -16,7 +16,7 @@ use Rattle.rational_unify.specs.Forms.{IsFormOf}
 use Rattle.rational_unify.specs.Older.{LeadOlder}
 use Rattle.local_store.specs.declared.telling.ToldStore.{ToldStore}
 use Rattle.local_store.specs.Stored.{Stored}
-use Rattle.local_store.specs.Chained.{bindings_from, innermost, around, IsSolvedChain}
+use Rattle.local_store.specs.Chained.{bindings_from, innermost, around, BindOnce, IsSolvedChain}
 use Rattle.local_store.specs.Telling.{AnswersTold}
 use Rattle.local_store.proofs.Layers.{from-last}
 use Rattle.table_laws.specs.Rows.{stores_along, told_in, ports_in}
@@ -33,6 +33,7 @@ same_solved : (nodes : List Node) (ss : List Stored) (s k : Stored) → k.bindin
 same_solved nodes ss s k e h = record {
   form = subst (λ (l : List (Var × Term)). IsFormOf nodes l (IsTold (bindings_in nodes l))) same h.form;
   older = subst (LeadOlder nodes) same h.older;
+  once = subst BindOnce same h.once;
 }
   where
     same : bindings_from (ss ++ s ∷ []) ≡ bindings_from (ss ++ k ∷ [])

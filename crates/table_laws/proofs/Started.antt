@@ -41,6 +41,7 @@ unbound_chain : (nodes : List Node) (n : Name) → IsSolvedChain nodes (with_fra
 unbound_chain nodes n = record {
   form = record { solved = nothing-solved nodes; follow = λ s t b. absurd (nothing_bound nodes s t b); hold = λ s t o n. absurd o };
   older = record { each = λ x y t e v. cc };
+  once = record { each = λ x. omega arith };
 }
 
 -- the goals of one box of atoms
