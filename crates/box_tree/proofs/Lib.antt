@@ -14,6 +14,7 @@ mod Numbers
 mod Forked
 mod Begins
 pub mod Looks
+mod WaysOut
 pub mod Seen
 pub mod Viewed
 pub mod ShownChoices

@@ -1,6 +1,6 @@
 -- A climb from a box to its root box.
-use Rattle.std.proofs.Common.{◌≡◌, ℕ, ◌+◌, ◌<◌, List, [], ◌∷◌, ◌++◌, length, reverse, take, get_or, Some, None, refl, sym, ap, subst, ◌∙◌, arith, append_assoc, append-nil}
-use Rattle.std.proofs.lemmas.List.{length-append, take_more}
+use Rattle.std.proofs.Common.{◌≡◌, ℕ, ◌+◌, ◌<◌, List, [], ◌∷◌, ◌++◌, length, reverse, Some, None, refl, sym, ap, subst, ◌∙◌, arith, append_assoc, append-nil}
+use Rattle.std.proofs.lemmas.List.{length-append}
 use Rattle.std.specs.Prelude.{option_map}
 use Rattle.std.specs.Map.{lookup}
 use Rattle.akl_terms.specs.declared.name.Name.{Name}
@@ -27,7 +27,7 @@ pub record Climb (t : TableValue) (n at : Name) (names : List Name) : Type 0 whe
 pub climb_begin : (t : TableValue) (n : Name) → HasPath t n → Climb t n n (n ∷ [])
 climb_begin t n h = let l : length h.0 < length t.boxes = h.2 in record { rest = h.0; deep = h.1; all = h.0; whole = h.1; parts = refl; few = omega arith }
 
-last_end : (xs ys : List Name) (y : Name) → xs ++ y ∷ ys ≡ (xs ++ y ∷ []) ++ ys
+pub last_end : (xs ys : List Name) (y : Name) → xs ++ y ∷ ys ≡ (xs ++ y ∷ []) ++ ys
 last_end xs ys y = sym (append_assoc xs (y ∷ []) ys)
 
 pub climb_step : (t : TableValue) (n at home : Name) (names : List Name) → Climb t n at names → Some home ≡ outside_of (table_of t) at → Climb t n home (names ++ home ∷ []) × (length names < length t.boxes)
@@ -68,9 +68,3 @@ module _ (t : TableValue) (n : Name) where
 pub stores_append : (T : Table) (xs ys : List Name) → stores_along T (xs ++ ys) ≡ stores_along T xs ++ stores_along T ys
 stores_append T [] ys = refl
 stores_append T (x ∷ xs) ys = ap (λ (ss : List Stored). store_in (T.box_of x) ∷ ss) (stores_append T xs ys)
-
-pub stores_more : (T : Table) (ns : List Name) (i : ℕ) (d : Name) (ss new : List Stored) (s : Stored) → new ≡ ss ++ s ∷ [] → ss ≡ stores_along T (take i ns) → s ≡ store_in (T.box_of (get_or ns i d)) → i < length ns
-    → new ≡ stores_along T (take (i + 1) ns)
-stores_more T ns i d ss new s p q r l =
-    p ∙ ap (λ (xs : List Stored). xs ++ s ∷ []) q ∙ ap (λ (x : Stored). stores_along T (take i ns) ++ x ∷ []) r
-    ∙ sym (ap (stores_along T) (take_more ns i d l) ∙ stores_append T (take i ns) (get_or ns i d ∷ []))

@@ -132,7 +132,7 @@ known_few T latest (n ∷ ns) = on (is_at_least (solving_in (T.box_of n)).0 late
     on false k = omega arith
 
 -- one box more
-pub known_end : (T : Table) (ns : List Name) (n : Name) (latest : ℕ) → known_in T latest (ns ++ n ∷ []) ≡ known_with T (known_in T latest ns) (latest_in T latest ns) (length ns + 1) n
+pub known_end : (T : Table) (ns : List Name) (n : Name) (latest : ℕ) → known_in T latest (ns ++ n ∷ []) ≡ known_with (solving_in (T.box_of n)).0 (known_in T latest ns) (latest_in T latest ns) (length ns + 1)
 known_end T [] n latest = refl
 known_end T (m ∷ ms) n latest = on (is_at_least (solving_in (T.box_of m)).0 latest) (latest_in T (max latest (solving_in (T.box_of m)).1) ms) (known_end T ms n (max latest (solving_in (T.box_of m)).1))
   where
@@ -140,8 +140,8 @@ known_end T (m ∷ ms) n latest = on (is_at_least (solving_in (T.box_of m)).0 la
     two true e = omega arith
     two false e = omega arith
 
-    on : (b : Bool) (o : Option ℕ) → known_in T (max latest (solving_in (T.box_of m)).1) (ms ++ n ∷ []) ≡ known_with T (known_in T (max latest (solving_in (T.box_of m)).1) ms) o (length ms + 1) n
-        → (if b then known_in T (max latest (solving_in (T.box_of m)).1) (ms ++ n ∷ []) + 1 else 0) ≡ known_with T (if b then known_in T (max latest (solving_in (T.box_of m)).1) ms + 1 else 0) (if b then o else None) (suc (length ms) + 1) n
+    on : (b : Bool) (o : Option ℕ) → known_in T (max latest (solving_in (T.box_of m)).1) (ms ++ n ∷ []) ≡ known_with (solving_in (T.box_of n)).0 (known_in T (max latest (solving_in (T.box_of m)).1) ms) o (length ms + 1)
+        → (if b then known_in T (max latest (solving_in (T.box_of m)).1) (ms ++ n ∷ []) + 1 else 0) ≡ known_with (solving_in (T.box_of n)).0 (if b then known_in T (max latest (solving_in (T.box_of m)).1) ms + 1 else 0) (if b then o else None) (suc (length ms) + 1)
     on false o e = refl
     on true None e = ap (λ (k : ℕ). k + 1) e
     on true (Some k) e = two (is_at_least (solving_in (T.box_of n)).0 k) e

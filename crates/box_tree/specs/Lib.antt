@@ -3,6 +3,7 @@ pub mod Edits
 pub mod Starts
 pub mod Views
 pub mod Paths
+pub mod Ways
 pub mod Plans
 pub mod Drops
 pub mod Insides

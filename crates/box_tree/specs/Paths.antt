@@ -69,11 +69,11 @@ abbrev pub names_at : Table → Place → List Name
 names_at T (Place.Goal g) = alternatives_of (T.goal_of g)
 names_at T (Place.Box n) = []
 
--- how many of the stores down to an alternative are known to be solved together, where so many are of those around it; where these are all,
--- the last label that changed one of them is given, and with the alternative's own these are the whole
-abbrev pub known_with : Table → ℕ → Option ℕ → ℕ → Name → ℕ
-known_with T known None whole n = known
-known_with T known (Some latest) whole n = if is_at_least (solving_in (T.box_of n)).0 latest then whole else known
+-- how many of the stores down to an alternative are known to be solved together, by when its own was solved, where so many are of those
+-- around it; where these are all, the last label that changed one of them is given, and with the alternative's own these are the whole
+abbrev pub known_with : Option ℕ → ℕ → Option ℕ → ℕ → ℕ
+known_with solved_at known None whole = known
+known_with solved_at known (Some latest) whole = if is_at_least solved_at latest then whole else known
 
 -- what is seen of an alternative
 abbrev pub seen_as : Table → ℕ → Option ℕ → ℕ → Name → Alternative
@@ -81,7 +81,7 @@ seen_as T known latest whole n = record {
   name = n;
   solved = is_empty (goals_in (T.box_of n));
   store = store_in (T.box_of n);
-  known = known_with T known latest whole n;
+  known = known_with (solving_in (T.box_of n)).0 known latest whole;
 }
 
 -- the body of the only one of some boxes

@@ -50,9 +50,8 @@ impl Table {
         requires { number ≡ self.old.steps + 1 }
         ensures { Becomes self.old self.new (after_confirm goal (table_of self.old)) }
     {
-        let home = self.home_of(goal);
+        let home = self.drop_goal(goal);
         self.lose_goal(home, goal, number);
-        self.drop_goal(goal);
         self.steps = number;
     }
 }

@@ -67,7 +67,7 @@ impl Table {
         ensures { DropsGoals self.old self.new goals.now.keys }
     {
         for goal in goals.iter() {
-            self.drop_goal(*goal);
+            let _ = self.drop_goal(*goal);
         }
     }
 

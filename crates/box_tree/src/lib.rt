@@ -20,6 +20,7 @@ mod step;
 mod table;
 mod telling;
 mod view;
+mod way;
 
 pub use cutting::parted;
 pub use entries::{BoxEntry, GoalEntry, Held};

@@ -1,15 +1,14 @@
 //! What is seen of a place.
 
-ghost use Rattle.std.specs.Prelude.{◌≡◌, IfOk, slice_index};
-ghost use Rattle.table_laws.specs.Rows.{store_in, stores_along};
+ghost use Rattle.std.specs.Prelude.{◌≡◌, List, ◌∷◌, IfOk, slice_index};
+ghost use Rattle.akl_terms.specs.declared.name.Name.{Name};
 ghost use Rattle.box_tree.specs.Tables.{table_of, goals_in};
-ghost use Rattle.box_tree.specs.Paths.{outside_of, IsPath, HasPath, sight_held, sight_in, is_at_least, solving_in, known_in, latest_in};
+ghost use Rattle.box_tree.specs.Paths.{home_at, outside_of, IsPath, HasPath, sight_held, sight_in, is_at_least, solving_in, known_in, latest_in};
 
 use crate::entries::Held;
 use crate::table::Table;
 use crate::view::Sight;
 use akl_terms::{Name, Place};
-use local_store::{Shared, Store};
 use std::alloc::{AllocError, Global};
 
 fn sight_held(held: &Held) -> Sight
@@ -58,10 +57,17 @@ impl Table {
         ensures { result ≡ outside_of (table_of self.now) name }
     {
         match self.boxes.get(&name) {
-            Some(entry) => match entry.holder {
-                Some(goal) => self.home_of(goal),
-                None => None,
-            },
+            Some(entry) => self.home_around(entry.holder),
+            None => None,
+        }
+    }
+
+    /// The box in which the choice stands that holds a box; `None` where none does.
+    pub(crate) fn home_around(&self, holder: Option<Name>) -> Option<Name>
+        ensures { result ≡ home_at (table_of self.now) holder }
+    {
+        match holder {
+            Some(goal) => self.home_of(goal),
             None => None,
         }
     }
@@ -96,40 +102,27 @@ impl Table {
         Ok(goals)
     }
 
-    /// The store of a box; one that isn't there has nothing.
-    pub(crate) fn store_of(&self, alloc: Global, name: Name) -> Result<Shared<Store>, AllocError>
-        ensures { IfOk result (λ store. store ≡ store_in ((table_of self.now).box_of name)) }
-    {
-        match self.boxes.get(&name) {
-            Some(entry) => entry.store.share(),
-            None => Shared::new(alloc, Store::new(alloc)),
-        }
-    }
-
-    /// The stores of boxes, in their order.
-    pub(crate) fn stores_of(
-        &self,
-        alloc: Global,
-        names: &[Name],
-    ) -> Result<Vec<Shared<Store>>, AllocError>
-        ensures { IfOk result (λ stores. stores.items ≡ stores_along (table_of self.now) names.now) }
-    {
-        let mut stores = Vec::new(alloc);
-        for name in names {
-            stores.push(self.store_of(alloc, *name)?)?;
-        }
-        Ok(stores)
-    }
-
     /// How many of the outermost boxes were solved when no box around them was changed later; where all were, also the
-    /// number of the last label that changed one of them.
-    pub(crate) fn known_of(&self, path: &[Name]) -> (usize, Option<u64>)
+    /// number of the last label that changed one of them. When the outermost was solved and last changed is known.
+    pub(crate) fn known_of(
+        &self,
+        path: &[Name],
+        outermost: (Option<u64>, u64),
+    ) -> (usize, Option<u64>)
+        requires { (n : Name) (ns : List Name) → path.now ≡ n ∷ ns → outermost ≡ solving_in ((table_of self.now).box_of n) }
         ensures known { result.0 ≡ known_in (table_of self.now) 0 path.now }
         ensures latest { result.1 ≡ latest_in (table_of self.now) 0 path.now }
     {
-        let mut known = 0;
-        let mut latest = 0;
-        for name in path {
+        let Some((_, inner)) = path.split_first() else {
+            return (0, Some(0));
+        };
+        let (first_solved_at, first_changed) = outermost;
+        if !is_at_least(first_solved_at, 0) {
+            return (0, None);
+        }
+        let mut known = 1;
+        let mut latest = first_changed;
+        for name in inner {
             let (solved_at, changed) = self.solving_of(*name);
             if !is_at_least(solved_at, latest) {
                 return (known, None);

@@ -130,7 +130,7 @@ impl Table {
             return Err(AllocError);
         };
         self.tell_box(Some(home), goal, store, solved_at, number);
-        self.drop_goal(goal);
+        let _ = self.drop_goal(goal);
         self.drop_alternative(name);
         self.next = next;
         self.steps = number;

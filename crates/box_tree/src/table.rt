@@ -15,6 +15,7 @@ use crate::starting::after;
 use crate::step::Step;
 use crate::telling::solved_when;
 use crate::view::{LookError, Sight, View};
+use crate::way::Way;
 use akl_model::{Item, Label};
 use akl_terms::{Name, Place, Program, Query, ShownTerm};
 use std::alloc::{AllocError, Global};
@@ -113,13 +114,16 @@ impl Table {
         ensures worker { IfOk result (λ v. v.worker ≡ worker) }
         ensures seen { IfOk result IsViewOf }
     {
-        let path = self.path_to(alloc, home)?;
-        let stores = self.stores_of(alloc, path.as_slice())?;
-        let (known, latest) = self.known_of(path.as_slice());
+        let Way {
+            path,
+            stores,
+            solving,
+        } = self.way_to(alloc, home)?;
+        let (known, latest) = self.known_of(path.as_slice(), solving);
         let Some(whole) = path.len().checked_add(1) else {
             return Err(AllocError);
         };
-        let names = self.names_at(place);
+        let names = self.names_seen(place, sight);
         let alternatives = self.alternatives_seen(alloc, names, known, latest, whole)?;
         let body = self.body_of_only(alloc, names)?;
         Ok(View {

@@ -46,9 +46,8 @@ impl Table {
         ensures unchanged { IfErr result (λ _. self.new ≡ self.old) }
     {
         self.draw(alloc, worker, count)?;
-        let home = self.home_of(goal);
+        let home = self.drop_goal(goal);
         self.tell_box(home, goal, store, solved_at, number);
-        self.drop_goal(goal);
         self.steps = number;
         Ok(())
     }
@@ -88,10 +87,14 @@ impl Table {
         }
     }
 
-    /// A goal's entry goes.
-    pub(crate) fn drop_goal(&mut self, goal: Name)
-        ensures { SetsGoals self.old self.new (set goal None (table_of self.old).goal_of) }
+    /// A goal's entry goes: the box in which it stood; `None` where it wasn't there.
+    pub(crate) fn drop_goal(&mut self, goal: Name) -> Option<Name>
+        ensures home { result ≡ home_in ((table_of self.old).goal_of goal) }
+        ensures dropped { SetsGoals self.old self.new (set goal None (table_of self.old).goal_of) }
     {
-        self.goals.remove(&goal);
+        match self.goals.remove(&goal) {
+            Some(entry) => Some(entry.home),
+            None => None,
+        }
     }
 }

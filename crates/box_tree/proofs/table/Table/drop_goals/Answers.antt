@@ -8,5 +8,5 @@ loop-goal-preserved c =
     let w = c.loop-goal.invariant in (
       w.0 ++ c.in-Some.goal.now ∷ [],
       append_assoc w.0 (c.in-Some.goal.now ∷ []) c.next.new.self ∙ ap (λ (ks : List Name). w.0 ++ ks) (sym c.in-Some.ensures.steps) ∙ w.1,
-      goal_gone c.args.self.now c.loop-goal.self c.drop_goal.new.self w.0 c.in-Some.goal.now w.2 c.drop_goal.ensures,
+      goal_gone c.args.self.now c.loop-goal.self c.drop_goal.new.self w.0 c.in-Some.goal.now w.2 c.drop_goal.ensures.dropped,
     )

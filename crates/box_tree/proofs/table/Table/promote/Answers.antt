@@ -35,4 +35,4 @@ returns-clause-made c =
     subst (λ (x : TableValue). Becomes t (record x { next = c.in_ok-next.next.items; steps = c.args.number })
     (after_promote c.args.goal c.args.name c.args.store c.args.solved_at (named_atoms t.program.templates.nodes c.args.goals.items) c.args.worker c.args.count (table_of t))) (sym c.self.view_is)
     (joined t c.put_body.new.self c.tell_box.new.self c.drop_goal.new.self c.drop_alternative.new.self c.args.goal c.args.name c.in-Some.home c.args.store c.args.solved_at c.args.goals.items c.first_fail-failing.result c.args.number c.args.worker c.args.count
-    c.as_slice-3.result.now c.in_ok-next.next.items c.requires.number c.requires.fresh c.in-Some.ensures (goals_increase t c.requires.run c.in-Some.home) names failing c.in_ok-next.ensures c.in-Ok.ensures.put c.tell_box.ensures c.drop_goal.ensures c.drop_alternative.ensures)
+    c.as_slice-3.result.now c.in_ok-next.next.items c.requires.number c.requires.fresh c.in-Some.ensures (goals_increase t c.requires.run c.in-Some.home) names failing c.in_ok-next.ensures c.in-Ok.ensures.put c.tell_box.ensures c.drop_goal.ensures.dropped c.drop_alternative.ensures)
