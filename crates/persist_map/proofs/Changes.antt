@@ -25,6 +25,11 @@ pub by_outcome : {X E P Q : Type 0} (R : Type 0) (r : Result X E) → IfOk r (λ
 by_outcome R (Ok x) ok err f g = f ok
 by_outcome R (Err e) ok err f g = g err
 
+-- a fact that stands anyway
+pub IfErr-any : {X E P : Type 0} (r : Result X E) → P → IfErr r (λ _. P)
+IfErr-any (Ok x) h = tt
+IfErr-any (Err e) h = h
+
 Equal-from_is_eq : (a : Ordering) → is_eq a ≡ true → a ≡ Equal
 Equal-from_is_eq Less h = cc
 Equal-from_is_eq Equal h = refl

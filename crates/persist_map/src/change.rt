@@ -10,8 +10,8 @@ use std::cmp::Ordering;
 use std::sync::Arc;
 
 impl<K: Ord, V> Tree<K, V> {
-    // Whether the tree gets higher where the key is set.
-    fn grows(&self, key: &K) -> bool
+    /// Whether the tree gets higher where the key is set.
+    pub fn grows(&self, key: &K) -> bool
         requires { IsBalanced self.now }
         ensures { result ≡ grows K.cmp key.now self.now }
     {
@@ -25,15 +25,6 @@ impl<K: Ord, V> Tree<K, V> {
                 Ordering::Equal => false,
                 Ordering::Greater => fork.right.grows(key),
             }
-    }
-
-    /// Whether the other side of a fork, which is higher already, gets higher still where the key is set in it.
-    pub fn is_passed_by(&self, other: &Tree<K, V>, key: &K) -> bool
-        requires own { IsBalanced self.now }
-        requires other { IsBalanced other.now }
-        ensures { result ≡ ltb (height_of self.now) (height_of other.now) && grows K.cmp key.now other.now }
-    {
-        self.height() < other.height() && other.grows(key)
     }
 
     // Whether the tree may get lower where the key is taken out.
@@ -65,33 +56,33 @@ impl<K: Ord, V> Tree<K, V> {
 
 impl<K: Ord + Clone + Drop, V: Clone + Drop> Tree<K, V> {
     /// Sets the pair: in place, but for the nodes that something else holds and those below a fork that has no room. At
-    /// an error the tree has the entries and the height that it had.
-    pub fn insert(&mut self, alloc: Global, key: K, value: V) -> Result<(), AllocError>
+    /// an error the tree has the entries and the height that it had. The pair is lent, so that it isn't moved at each
+    /// fork on the way.
+    pub fn insert(&mut self, alloc: Global, key: &K, value: &V) -> Result<(), AllocError>
         requires keys { ClonesAreEqual K.is_clone }
         requires values { ClonesAreEqual V.is_clone }
         requires tree { IsSearchTree K.cmp self.old }
         requires room { height_of self.old + 1 < 2 ^ 32 }
-        ensures ok { IfOk result (λ _. IsSet K.cmp self.old key value self.new) }
+        ensures ok { IfOk result (λ _. IsSet K.cmp self.old key.now value.now self.new) }
         ensures err { IfErr result (λ _. IsReshaped self.old self.new) }
     {
         let Tree::Fork(shared) = self else {
-            *self = Tree::fork(alloc, Tree::Leaf, key, value, Tree::Leaf)?;
-            return Ok(());
+            return self.insert_in_copy(alloc, key, value);
         };
         let Some(fork) = Arc::get_mut(shared) else {
             return self.insert_in_copy(alloc, key, value);
         };
-        if !fork.make_room(&key) {
+        let Some(order) = fork.make_room(key) else {
             return self.insert_in_copy(alloc, key, value);
-        }
-        match key.cmp(&fork.key) {
+        };
+        match order {
             Ordering::Less => {
                 let outcome = fork.left.insert(alloc, key, value);
                 fork.measure();
                 outcome
             }
             Ordering::Equal => {
-                fork.value = value;
+                fork.value = value.clone()?;
                 Ok(())
             }
             Ordering::Greater => {
@@ -102,15 +93,17 @@ impl<K: Ord + Clone + Drop, V: Clone + Drop> Tree<K, V> {
         }
     }
 
-    // Sets the pair in a copy of the way to its key.
-    fn insert_in_copy(&mut self, alloc: Global, key: K, value: V) -> Result<(), AllocError>
+    // Sets the pair in a copy of the way to its key. It stays a call of its own: each level of `insert` would hold what
+    // it needs.
+    #[inline(never)]
+    fn insert_in_copy(&mut self, alloc: Global, key: &K, value: &V) -> Result<(), AllocError>
         requires keys { ClonesAreEqual K.is_clone }
         requires values { ClonesAreEqual V.is_clone }
         requires tree { IsSearchTree K.cmp self.old }
-        ensures ok { IfOk result (λ _. IsSet K.cmp self.old key value self.new) }
+        ensures ok { IfOk result (λ _. IsSet K.cmp self.old key.now value.now self.new) }
         ensures err { IfErr result (λ _. self.new ≡ self.old) }
     {
-        *self = self.with(alloc, &key, &value)?;
+        *self = self.with(alloc, key, value)?;
         Ok(())
     }
 

@@ -119,7 +119,7 @@ impl<K: Ord + Clone + Drop, V: Clone + Drop> PMap<K, V> {
         if self.tree.height() == u32::MAX {
             return Err(AllocError);
         }
-        self.tree.insert(self.alloc, key, value)
+        self.tree.insert(self.alloc, &key, &value)
     }
 
     /// Takes the key out of this map. Entries that no other map shares change in place, but for those below a place that

@@ -84,17 +84,16 @@ impl<K: Ord, V> Tree<K, V> {
         requires { IsOrdered K.cmp (entries_of self.now) }
         ensures { option_copied result ≡ value_at K.cmp (entries_of self.now) key.now }
     {
-        match self {
-            Tree::Leaf => None,
-            Tree::Fork(fork) => {
-                let fork: &Fork<K, V> = fork;
-                match key.cmp(&fork.key) {
-                    Ordering::Less => fork.left.get(key),
-                    Ordering::Equal => Some(&fork.value),
-                    Ordering::Greater => fork.right.get(key),
-                }
-            }
+        let mut at = self;
+        while let Tree::Fork(fork) = at {
+            let fork: &Fork<K, V> = fork;
+            at = match key.cmp(&fork.key) {
+                Ordering::Less => &fork.left,
+                Ordering::Equal => return Some(&fork.value),
+                Ordering::Greater => &fork.right,
+            };
         }
+        None
     }
 }
 

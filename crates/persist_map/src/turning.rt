@@ -1,5 +1,5 @@
 //! Turns in place, of nodes that nothing else holds. A tree that turns keeps its entries and its height.
-ghost use Rattle.std.specs.Prelude.{◌≡◌, ◌+◌, true};
+ghost use Rattle.std.specs.Prelude.{◌≡◌, ◌+◌, true, IfSome};
 ghost use Rattle.persist_map.specs.Contents.{height_of, IsBalancedFork};
 ghost use Rattle.persist_map.specs.Changes.{grows, HasRoom, IsTurned};
 
@@ -9,21 +9,27 @@ use std::mem;
 use std::sync::Arc;
 
 impl<K: Ord, V> Fork<K, V> {
-    /// Turns the fork where it would get out of balance when the key is set in one of its sides. It answers whether
-    /// there is room for the key then: not where the fork has to turn and something else holds a node that would
-    /// change, or the key itself comes to the top.
-    pub fn make_room(&mut self, key: &K) -> bool
+    /// Turns the fork where it would get out of balance when the key is set in one of its sides. It answers how the key
+    /// compares to the one at the top then. `None` says that there is no room for the key: the fork has to turn and
+    /// something else holds a node that would change, or the key itself comes to the top.
+    pub fn make_room(&mut self, key: &K) -> Option<Ordering>
         requires { IsBalancedFork self.old }
         ensures turned { IsTurned K.cmp key.now self.old self.new }
-        ensures room { result ≡ true → HasRoom K.cmp key.now self.new }
+        ensures order { IfSome result (λ order. order ≡ K.cmp key.now self.new.key) }
+        ensures room { IfSome result (λ _. HasRoom K.cmp key.now self.new) }
     {
-        if self.left.height() == self.right.height() {
-            return true;
-        }
-        match key.cmp(&self.key) {
-            Ordering::Less if self.right.is_passed_by(&self.left, key) => self.turn_right(key),
-            Ordering::Greater if self.left.is_passed_by(&self.right, key) => self.turn_left(key),
-            _ => true,
+        let order = key.cmp(&self.key);
+        let left = self.left.height();
+        let right = self.right.height();
+        let turned = match order {
+            Ordering::Less if left > right && self.left.grows(key) => self.turn_right(key),
+            Ordering::Greater if right > left && self.right.grows(key) => self.turn_left(key),
+            _ => return Some(order),
+        };
+        if turned {
+            Some(key.cmp(&self.key))
+        } else {
+            None
         }
     }
 
