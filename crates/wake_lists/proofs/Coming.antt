@@ -1,5 +1,5 @@
 -- The place that comes first is that at the front of the first line that isn't empty.
-use Rattle.std.proofs.Common.{◌≡◌, ℕ, ◌+◌, ◌<◌, ◌≤◌, Bool, true, false, List, [], ◌∷◌, Option, Some, None, refl, sym, ap, ◌∙◌, subst, arith, ◌⊎◌, inl, inr}
+use Rattle.std.proofs.Common.{◌≡◌, ℕ, ◌+◌, ◌<◌, Bool, true, false, List, [], ◌∷◌, Some, refl, sym, ap, ◌∙◌, subst, arith, ◌⊎◌, inl, inr}
 use Rattle.std.proofs.lemmas.Bool.Decides.{nat_tests}
 use Rattle.std.specs.Prelude.{◌||◌, ◌&&◌, if◌then◌else◌, nat_lt}
 use Rattle.std.specs.Map.{lookup}
@@ -8,10 +8,9 @@ use Rattle.wake_lists.specs.declared.turn.Turn.{Turn}
 use Rattle.wake_lists.specs.declared.turn.Opened.{Opened}
 use Rattle.wake_lists.specs.declared.line.Entry.{Entry}
 use Rattle.wake_lists.specs.declared.lines.Lines.{Lines}
-use Rattle.wake_lists.specs.Queue.{rank, is_sooner, same_urgency, earlier, is_earlier, Places, IsNext}
+use Rattle.wake_lists.specs.Queue.{is_sooner, same_urgency, earlier, is_earlier, Places, IsNext}
 use Rattle.wake_lists.specs.Lines.{is_entry, stands_at, IsRising, is_current, HasCurrentFront, front_of, line_of, or_else, first_of, AreLined}
 use Rattle.wake_lists.proofs.Keys.{timed, token_here}
-use Rattle.wake_lists.proofs.Leading.{none_some}
 use Rattle.wake_lists.proofs.Thinning.{entry_is, within}
 use Rattle.wake_lists.proofs.LinesKept.{urgency_equal, current_is}
 use lib.Dec.{eqb}

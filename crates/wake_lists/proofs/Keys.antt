@@ -12,7 +12,6 @@ use Rattle.akl_terms.specs.declared.name.Place.{Place}
 use Rattle.akl_terms.specs.contracts.name.VarOrd.TheImpl as variables
 use Rattle.akl_terms.specs.contracts.name.PlaceOrd.TheImpl as places
 use Rattle.wake_lists.specs.contracts.inside.StandOrd.TheImpl as in_boxes
-use Rattle.wake_lists.specs.contracts.turn.TurnOrd.TheImpl as turns
 use Rattle.wake_lists.specs.contracts.turn.UrgencyPartialOrd.TheImpl as urgencies
 use Rattle.wake_lists.specs.declared.inside.Stand.{Stand}
 use Rattle.wake_lists.specs.declared.turn.Urgency.{Urgency}
@@ -54,15 +53,6 @@ stand_is t n s = then_is (name_cmp n s.name) (nat_cmp t s.token) ∙ (λ i. name
 
 abbrev pub timed : Urgency → ℕ → Turn
 timed a n = record { urgency = a; number = n }
-
-pub turn_is : (u v : Turn) → is_at (turns.cmp-value.it u) v ≡ same_turn u v
-turn_is u v = on u.urgency v.urgency
-  where
-    on : (a b : Urgency) → is_at (turns.cmp-value.it (timed a u.number)) (timed b v.number) ≡ same_turn (timed a u.number) (timed b v.number)
-    on Urgency.Urgent Urgency.Urgent = nat_is u.number v.number
-    on Urgency.Ordinary Urgency.Ordinary = nat_is u.number v.number
-    on Urgency.Late Urgency.Late = nat_is u.number v.number
-    on a b = refl
 
 pub sooner_is : (a b : Urgency) → partial_lt urgencies.partial_cmp-value.it a b ≡ is_sooner a b
 sooner_is Urgency.Urgent Urgency.Urgent = refl

@@ -1,6 +1,5 @@
 -- That lines of tokens are kept as they are to be, when a place comes, goes or gets another turn.
-use Rattle.std.proofs.Common.{◌≡◌, ℕ, ◌+◌, ◌<◌, ◌≤◌, Bool, true, false, List, [], ◌∷◌, ◌++◌, Option, Some, None, refl, sym, ap, ◌∙◌, subst, arith}
-use Rattle.std.proofs.lemmas.Bool.Decides.{nat_tests}
+use Rattle.std.proofs.Common.{◌≡◌, ℕ, ◌+◌, ◌<◌, Bool, true, false, List, [], ◌∷◌, ◌++◌, Option, Some, None, refl, sym, ap, ◌∙◌, subst, arith}
 use Rattle.std.specs.Prelude.{if◌then◌else◌}
 use Rattle.std.specs.Map.{lookup}
 use Rattle.std.specs.Result.{OnErr, is_err}
@@ -15,7 +14,7 @@ use Rattle.wake_lists.specs.declared.lines.Lines.{Lines}
 use Rattle.wake_lists.specs.Queue.{Places, same_urgency, same_turn, GetsLast}
 use Rattle.wake_lists.specs.Slots.{Finds, IsPut}
 use Rattle.wake_lists.specs.Lines.{stands_at, IsRising, has_turn, is_current, HasCurrentFront, IsThinned, line_of, with_line, joined, IsThinnedAt, AreLined}
-use Rattle.wake_lists.proofs.Keys.{token_equal, token_here, turn_equal, turn_here, timed}
+use Rattle.wake_lists.proofs.Keys.{token_equal, turn_equal, turn_here, timed}
 use Rattle.wake_lists.proofs.Leading.{none_some, same_some, not_both, at_it, elsewhere}
 use Rattle.wake_lists.proofs.Thinning.{rising_higher, rising_more, within, stands_before, stands_last, thinned_same}
 use lib.Dec.{eqb}

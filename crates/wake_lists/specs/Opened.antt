@@ -1,5 +1,5 @@
 -- How open places are kept.
-use Rattle.std.specs.Prelude.{◌≡◌, ℕ, List, [], None, Some, map, is_some}
+use Rattle.std.specs.Prelude.{◌≡◌, ℕ, List, [], None, map, is_some}
 use Rattle.std.specs.Map.{lookup, keys_of}
 use Rattle.std.specs.List.Sorted.{IsStrictlySortedBy}
 use Rattle.std.specs.Ordering.{nat_cmp}

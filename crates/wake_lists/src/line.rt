@@ -9,7 +9,7 @@ use std::alloc::{AllocError, Global};
 use std::collections::VecDeque;
 use std::marker::Model;
 
-// A shorter line keeps what isn't current.
+// A line with no more entries than this keeps those between its ends that aren't current.
 const SHORT: usize = 16;
 
 /// A token, and the number of the turn that its place got when it came into the line.
@@ -71,8 +71,8 @@ impl Line {
         }
     }
 
-    /// Takes off the entries at both ends that aren't current, and, from a line that is long for as many places, all of
-    /// them. So it takes a constant time for each entry that ever came into the line.
+    /// Takes off the entries at both ends that aren't current, and, where the line is long for as many places, those in
+    /// between. All such calls together take a time in the order of their number and that of the entries.
     pub(crate) fn thin(&mut self, urgency: Urgency, places: &Slots<Opened>)
         ensures thinned { IsThinned (is_current places.now urgency) self.old self.new }
         ensures front { HasCurrentFront (is_current places.now urgency) self.new }

@@ -13,8 +13,9 @@ use std::marker::Model;
 
 /// The open places. Contracts see it as these by their tokens, each with its turn and the boxes in which it stands.
 ///
-/// A call takes time in the order of the logarithm of what is held, for each box in which its place stands. `leave`
-/// takes so much for each place that stands in the boxes, and none of these stands in a box afterwards.
+/// A call takes time in the order of the logarithm of what is held, for each box in which its place stands. One that
+/// closes a place or gives it another turn now and then also takes as much as there were such calls since. `leave` takes
+/// so much for each place that stands in the boxes, and none of these stands in a box afterwards.
 #[derive(Drop)]
 pub struct Open {
     queue: Queue,

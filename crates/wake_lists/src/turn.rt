@@ -3,7 +3,7 @@
 use akl_terms::Place;
 
 /// How urgent an open place is: one of an earlier variant comes before all of a later one.
-#[derive(Clone, Copy, Debug, PartialEq, Eq, PartialOrd, Ord)]
+#[derive(Clone, Copy, Debug, PartialEq, Eq, PartialOrd)]
 pub enum Urgency {
     Urgent,
     Ordinary,
@@ -13,7 +13,7 @@ pub enum Urgency {
 
 /// The turn of an open place: the more urgent one comes first, and of two that are as urgent the one with the lesser
 /// number.
-#[derive(Clone, Copy, Debug, PartialEq, Eq, PartialOrd, Ord)]
+#[derive(Clone, Copy, Debug, PartialEq, Eq)]
 pub struct Turn {
     pub urgency: Urgency,
     /// Above those of all places that were open when the turn was given.

@@ -73,6 +73,10 @@ impl Waits {
         ensures variables { (x : _) → is_variable_in x result.items ≡ waits_on self.old place x }
         ensures once { IsDistinct same_var result.items }
     {
+        // Most places have no waits; to remove a key that isn't there takes longer than to look for it.
+        if !self.by_place.contains_key(&place) {
+            return Vec::new(self.alloc);
+        }
         match self.by_place.remove(&place) {
             Some(variables) => {
                 self.by_variable.remove_all(place, variables.as_slice());

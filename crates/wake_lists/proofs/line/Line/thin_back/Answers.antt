@@ -1,5 +1,5 @@
 use Rattle.std.proofs.Common.{◌≡◌, ◌++◌, ◌∷◌, [], ◌-◌, List, Option, Some, length, slice_index_or, option_copied, sym, ap, ◌∙◌, subst, length-append, arith}
-use Rattle.std.specs.Option.{unwrap_or, option_to_list}
+use Rattle.std.specs.Option.{unwrap_or}
 use Rattle.wake_lists.specs.declared.line.Entry.{Entry}
 use Rattle.wake_lists.specs.Lines.{is_current, IsThinned}
 use Rattle.wake_lists.proofs.Thinning.{thinned_same, thinned_then, thinned_back, copied_some, taken_off}

@@ -1,4 +1,3 @@
-use Rattle.std.proofs.Common.{ℕ}
 use Rattle.wake_lists.specs.Lines.{is_current, IsThinned}
 use Rattle.wake_lists.proofs.line.Line.thin_back.Given as goal
 

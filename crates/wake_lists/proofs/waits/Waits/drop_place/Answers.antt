@@ -40,5 +40,8 @@ returns-in-Some-clause-variables c =
 pub returns-in-Some-clause-once : goal.returns-in-Some-clause-once
 returns-in-Some-clause-once c = c.self.invariant.once c.args.place c.in-Some.variables (sym (found_is c.args.place c.self.inside.by_place) ∙ sym c.remove.ensures.value ∙ c.in-Some.is)
 
+pub returns-then-not-contains_key-clause-once : goal.returns-then-not-contains_key-clause-once
+returns-then-not-contains_key-clause-once c = subst (λ (xs : List Var). IsDistinct same_var xs) (sym c.new.ensures.items) none_once
+
 pub returns-in-None-clause-once : goal.returns-in-None-clause-once
-returns-in-None-clause-once c = subst (λ (xs : List Var). IsDistinct same_var xs) (sym c.new.ensures.items) none_once
+returns-in-None-clause-once c = subst (λ (xs : List Var). IsDistinct same_var xs) (sym c.new-in-None.ensures.items) none_once
