@@ -64,16 +64,6 @@ module _ {K V : Type 0} (cmp : K → K → Ordering) where
         ] refl stays
 
   module _ (k : K) (v : V) where
-    pub place_within : (es : List (K × V)) → place_of cmp es k ≤ length es
-    place_within [] = omega arith
-    place_within (e ∷ es) =
-        let later : place_of cmp es k ≤ length es = place_within es in
-        elim (cmp k e.0) as (λ a. match_ordering a 0 0 (suc (place_of cmp es k)) ≤ suc (length es)) [
-          | Less ↦ omega arith
-          | Equal ↦ omega arith
-          | Greater ↦ omega arith
-        ]
-
     -- the place has an equal key
     set_cases : (a : Ordering) (x : K × V) (es : List (K × V)) (e : K × V) → cmp k x.0 ≡ a
         → (place_of cmp es k < length es → e ≡ slice_index_or es (place_of cmp es k) e → is_eq (cmp k e.0) ≡ true → slice_set es (place_of cmp es k) (e.0, v) ≡ insert_entry cmp es k v)
@@ -101,3 +91,14 @@ module _ {K V : Type 0} (cmp : K → K → Ordering) where
         → insert es (place_of cmp es k) (k, v) ≡ insert_entry cmp es k v
     insert_here [] other = refl
     insert_here (x ∷ es) other = insert_cases (cmp k x.0) x es refl (insert_here es) other
+
+    -- no key is at the new one or above it
+    push_cases : (a : Ordering) (x : K × V) (es : List (K × V)) → (length es ≤ place_of cmp es k → es ++ (k, v) ∷ [] ≡ insert_entry cmp es k v) → suc (length es) ≤ match_ordering a 0 0 (suc (place_of cmp es k))
+        → x ∷ (es ++ (k, v) ∷ []) ≡ match_ordering a ((k, v) ∷ x ∷ es) ((x.0, v) ∷ es) (x ∷ insert_entry cmp es k v)
+    push_cases Less x es later passed = absurd (omega arith)
+    push_cases Equal x es later passed = absurd (omega arith)
+    push_cases Greater x es later passed = ap (λ l. x ∷ l) (later (omega arith))
+
+    pub push_here : (es : List (K × V)) → length es ≤ place_of cmp es k → es ++ (k, v) ∷ [] ≡ insert_entry cmp es k v
+    push_here [] passed = refl
+    push_here (x ∷ es) passed = push_cases (cmp k x.0) x es (push_here es) passed

@@ -186,7 +186,11 @@ fn put<K: Ord + Copy, V: Copy>(list: &mut Vec<(K, V)>, key: K, value: V) -> Resu
     ensures { IfOk result (λ _. list.new.items ≡ insert_entry K.cmp list.old.items key value) }
 {
     let place = place_of(list, &key);
-    if place < list.len() && key.cmp(&list[place].0).is_eq() {
+    if place >= list.len() {
+        list.push((key, value))?;
+        return Ok(());
+    }
+    if key.cmp(&list[place].0).is_eq() {
         list[place].1 = value;
         return Ok(());
     }
