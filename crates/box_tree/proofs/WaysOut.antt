@@ -1,5 +1,5 @@
 -- The way from a box out to its root box, box by box.
-use Rattle.std.proofs.Common.{◌≡◌, ℕ, ◌+◌, ◌<◌, List, [], ◌∷◌, ◌++◌, length, reverse, Option, Some, None, refl, sym, ap, subst, ◌∙◌, arith, append-nil}
+use Rattle.std.proofs.Common.{◌≡◌, ◌+◌, ◌<◌, List, [], ◌∷◌, ◌++◌, length, reverse, Option, Some, None, refl, sym, ap, subst, ◌∙◌, arith, append-nil}
 use Rattle.std.proofs.lemmas.List.{length-append, reverse-append}
 use Rattle.akl_terms.specs.declared.name.Name.{Name}
 use Rattle.akl_model.proofs.Options.{some_value}
@@ -7,7 +7,7 @@ use Rattle.local_store.specs.Stored.{Stored}
 use Rattle.table_laws.specs.Rows.{Table, store_in, stores_along}
 use Rattle.box_tree.specs.declared.way.Way.{Way}
 use Rattle.box_tree.specs.Tables.{TableValue, table_of}
-use Rattle.box_tree.specs.Paths.{outside_of, Deep, HasPath, IsPath, solving_in}
+use Rattle.box_tree.specs.Paths.{outside_of, Deep, HasPath, solving_in}
 use Rattle.box_tree.specs.Ways.{Passes, IsWay}
 use Rattle.box_tree.proofs.Looks.{last_end, stores_append}
 

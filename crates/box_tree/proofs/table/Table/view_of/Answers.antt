@@ -1,4 +1,4 @@
-use Rattle.std.proofs.Common.{◌≡◌, ◌+◌, List, ◌∷◌, length, map, sym, ap, ◌∙◌, arith}
+use Rattle.std.proofs.Common.{◌≡◌, ◌+◌, List, length, map, sym, ap, ◌∙◌, arith}
 use Rattle.akl_terms.specs.declared.name.Name.{Name}
 use Rattle.box_tree.specs.declared.way.Way.{Way}
 use Rattle.box_tree.specs.Tables.{table_of}

@@ -1,9 +1,8 @@
-use Rattle.std.proofs.Common.{ap, ◌∙◌, sym, List, Option, ◌++◌, ◌∷◌, []}
+use Rattle.std.proofs.Common.{ap, ◌∙◌, sym, Option, ◌++◌, ◌∷◌, []}
 use Rattle.std.specs.Prelude.{option_map}
 use Rattle.local_store.specs.Stored.{Stored}
 use Rattle.table_laws.specs.Rows.{BoxRow, store_in}
 use Rattle.table_laws.specs.Writes.{holder_in_row}
-use Rattle.box_tree.specs.declared.entries.BoxEntry.{BoxEntry}
 use Rattle.box_tree.specs.Tables.{TableValue, table_of, box_row}
 use Rattle.box_tree.specs.Paths.{home_at, solving_in}
 use Rattle.box_tree.proofs.Maps.{found_at}
