@@ -195,7 +195,7 @@ impl Store {
         ensures { IfOk result (λ list. list.items ≡ self.now.frames) }
     {
         let entries = self.frames.entries()?;
-        let mut list = Vec::new(self.alloc);
+        let mut list = Vec::with_capacity(self.alloc, entries.len())?;
         for entry in &entries {
             list.push(entry.0)?;
         }
@@ -207,7 +207,7 @@ impl Store {
         ensures { IfOk result (λ list. list.items ≡ self.now.bindings) }
     {
         let entries = self.bindings.entries()?;
-        let mut list = Vec::new(self.alloc);
+        let mut list = Vec::with_capacity(self.alloc, entries.len())?;
         for entry in &entries {
             list.push((entry.0.0, entry.1))?;
         }
