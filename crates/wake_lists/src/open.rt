@@ -214,8 +214,9 @@ impl Open {
         }
     }
 
-    // Opens a place that isn't open: its token.
-    fn open_new(
+    /// Opens a place that isn't open, and gives its token, the least that no open place has. It stands in each of the boxes
+    /// around it, and comes after all others that are as urgent. An `Err`, for want of memory, leaves all as it was.
+    pub fn open_new(
         &mut self,
         place: Place,
         around: &[Name],
