@@ -58,6 +58,10 @@ KeepsPlace T place before now = (s : Split) → is_kept s now ≡ (is_kept s bef
 abbrev pub DropsSplits : List Split → List Split → List Split → Type 0
 DropsSplits ended before now = (s : Split) → is_kept s now ≡ (is_kept s before && not (is_kept s ended))
 
+-- of what is kept, giving up these is giving up all that stand at the places that open or go
+abbrev pub EndsThose : Table → List Place → List Place → List Split → List Split → Type 0
+EndsThose T opened gone kept ended = (s : Split) → (is_kept s kept && not (is_kept s ended)) ≡ (is_kept s kept && not (is_kept s (splits_at T opened ++ splits_at T gone)))
+
 -- each of them is kept that isn't open, and nothing is kept that isn't one of them
 pub record AreSplitsOf (T : Table) (os : Openings) (kept : List Split) : Type 0 where
   pub all : (s : Split) → split_at T (Place.Goal s.goal) ≡ Some s → IsOpenAt os (Place.Goal s.goal) ⊎ (is_kept s kept ≡ true)

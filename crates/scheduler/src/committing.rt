@@ -1,7 +1,6 @@
 //! Labels that are committed, with the places that they open.
 
-ghost use Rattle.std.specs.Prelude.{◌≡◌, ◌<◌, ◌++◌, IfOk, IfErr};
-ghost use Rattle.box_tree.specs.Tables.{table_of};
+ghost use Rattle.std.specs.Prelude.{◌≡◌, ◌<◌, IfOk, IfErr};
 ghost use Rattle.step_commit.specs.Cores.{MayCommit, IsFresh, IsRefused};
 ghost use Rattle.opened_places.specs.Gone.{AreGone};
 ghost use Rattle.scheduler.specs.Listing.{AreListedFor};
@@ -10,14 +9,13 @@ ghost use Rattle.opened_places.specs.Placed.{places_of};
 ghost use Rattle.scheduler.specs.Committed.{CommitsAndOpens, OpensAmong};
 ghost use Rattle.scheduler.specs.Work.{TakesSteps};
 ghost use Rattle.scheduler.specs.Counting.{TakesLabelSteps};
-ghost use Rattle.scheduler.specs.Splits.{splits_at};
 
 use crate::counting::{count, count_contents};
 use crate::dropping::{drop_gone, drop_opened, leave_gone};
 use crate::effects::{gone_once, opened_by};
 use crate::opening::{close_all, open_all};
 use crate::scheduler::Scheduler;
-use crate::splits::{Split, splits_of};
+use crate::splits::splits_of;
 use crate::turns::TurnHints;
 use akl_model::Receipt;
 use akl_terms::{Place, Steps};
@@ -140,7 +138,8 @@ impl Scheduler {
         Ok(committed)
     }
 
-    // The same where these places open, too; when each comes is left open.
+    // The same where these places open, too; when each comes is left open. The choices among all these places by which boxes
+    // could be split are kept no more.
     fn commit_opening<L: Ledger>(
         &mut self,
         alloc: Global,
@@ -159,31 +158,7 @@ impl Scheduler {
         ensures unchanged { IfErr result (λ _. self.new ≡ self.old) }
         ensures steps { TakesLabelSteps self.old plan steps.old steps.new }
     {
-        let ended = splits_of(alloc, self.core.table(), places, gone)?;
-        self.commit_ending(alloc, plan, places, gone, ended.as_slice(), steps)
-    }
-
-    // The same where these are the choices among the places by which boxes could be split; they are kept no more.
-    fn commit_ending<L: Ledger>(
-        &mut self,
-        alloc: Global,
-        plan: Plan,
-        places: &[Placed],
-        gone: &[Place],
-        ended: &[Split],
-        steps: &mut Steps<L>,
-    ) -> Result<Committed, AllocError>
-        requires may { MayCommit self.old.core plan }
-        requires fresh { IsFresh self.old.core plan }
-        requires gone { AreGone self.old.core.table plan.label plan.step gone.now }
-        requires once { IsEachPlaceOnce gone.now }
-        requires places { AreListedFor self.old.core.table self.old.waits plan gone.now places.now }
-        requires ended { ended.now ≡ splits_at (table_of self.old.core.table) (places_of places.now) ++ splits_at (table_of self.old.core.table) gone.now }
-        ensures committed { IfOk result (CommitsAndOpens self.old plan self.new) }
-        ensures opened { IfOk result (λ _. OpensAmong self.old self.new (places_of places.now)) }
-        ensures unchanged { IfErr result (λ _. self.new ≡ self.old) }
-        ensures steps { TakesLabelSteps self.old plan steps.old steps.new }
-    {
+        let ended = splits_of(alloc, self.core.table(), &self.splits, places, gone)?;
         let place = plan.label().place;
         let own = self.open.token_of(place);
         count_contents(plan.step(), steps);
@@ -195,7 +170,7 @@ impl Scheduler {
                 drop_opened(&mut self.waits, places, steps);
                 drop_gone(&mut self.waits, gone, steps);
                 leave_gone(&mut self.open, own, place, gone);
-                self.splits.remove_all(ended);
+                self.splits.remove_all(ended.as_slice());
                 Ok(Committed {
                     receipt,
                     opened,

@@ -45,13 +45,13 @@ fn open_one<L: Ledger>(
     ensures tokens { IfErr result (λ _. tokens.new.items ≡ tokens.old.items) }
     ensures steps { OpensBySteps open_places.old placed.now steps.old steps.new }
 {
-    if open_places.token_of(placed.place()).is_some() {
+    let place = placed.place();
+    if open_places.token_of(place).is_some() {
         return Ok(());
     }
     steps.tick();
     count(placed.around().len(), steps);
-    let place = placed.place();
-    let token = open_places.open(place, placed.around(), urgency_at_first(place))?;
+    let token = open_places.open_new(place, placed.around(), urgency_at_first(place))?;
     if tokens.push(token).is_err() {
         open_places.close(token);
         return Err(AllocError);

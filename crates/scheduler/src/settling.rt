@@ -83,7 +83,7 @@ fn open_candidate(
     }
     match placed_at(alloc, table, place)? {
         Some(placed) => {
-            let token = open_places.open(place, placed.around(), Urgency::Ordinary)?;
+            let token = open_places.open_new(place, placed.around(), Urgency::Ordinary)?;
             Ok(Some(token))
         }
         None => Ok(None),

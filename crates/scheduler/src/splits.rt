@@ -1,10 +1,10 @@
 //! The choices by which boxes could be split, once these are stable.
 
-ghost use Rattle.std.specs.Prelude.{◌≡◌, ◌||◌, ◌&&◌, ◌++◌, [], not, IfOk, OnOk, OnErr};
+ghost use Rattle.std.specs.Prelude.{◌≡◌, ◌||◌, ◌&&◌, ◌++◌, [], true, not, IfOk, OnOk, OnErr};
 ghost use Rattle.akl_terms.specs.declared.name.Place.{Place};
 ghost use Rattle.box_tree.specs.Tables.{table_of};
 ghost use Rattle.opened_places.specs.Placed.{places_of};
-ghost use Rattle.scheduler.specs.Splits.{same_split, is_kept, has_kept, IsFirstIn, split_at, split_list, splits_at, KeepsPlace, DropsSplits};
+ghost use Rattle.scheduler.specs.Splits.{same_split, is_kept, has_kept, IsFirstIn, split_at, split_list, splits_at, KeepsPlace, DropsSplits, EndsThose};
 
 use akl_terms::{Name, Place};
 use box_tree::Table;
@@ -44,6 +44,14 @@ impl Splits {
         Splits {
             kept: BTreeSet::new(alloc),
         }
+    }
+
+    // Whether none is kept.
+    fn is_empty(&self) -> bool
+        ensures none { result ≡ true → self.now ≡ [] }
+        ensures some { self.now ≡ [] → result ≡ true }
+    {
+        self.kept.is_empty()
     }
 
     /// The goal of the first of those that are kept of this box.
@@ -127,16 +135,20 @@ fn split_at(table: &Table, place: Place) -> Option<Split>
 }
 
 /// The choices by which boxes could be split among the places that a label opens and those that go with it, each as it is
-/// before the label. An `Err` comes for want of memory.
+/// before the label; where none is kept, none is looked for. An `Err` comes for want of memory.
 pub(crate) fn splits_of(
     alloc: Global,
     table: &Table,
+    kept: &Splits,
     opened: &[Placed],
     gone: &[Place],
 ) -> Result<Vec<Split>, AllocError>
-    ensures { IfOk result (λ splits. splits.items ≡ splits_at (table_of table.now) (places_of opened.now) ++ splits_at (table_of table.now) gone.now) }
+    ensures { IfOk result (λ ended. EndsThose (table_of table.now) (places_of opened.now) gone.now kept.now ended.items) }
 {
     let mut splits = Vec::new(alloc);
+    if kept.is_empty() {
+        return Ok(splits);
+    }
     push_opened(table, opened, &mut splits)?;
     push_gone(table, gone, &mut splits)?;
     Ok(splits)

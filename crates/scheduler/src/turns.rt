@@ -1,6 +1,7 @@
 //! When open places come, once a label was made.
 
 ghost use Rattle.std.specs.Prelude.{◌≡◌, true, Some, IfOk};
+ghost use Rattle.akl_terms.specs.declared.name.Place.{Place};
 ghost use Rattle.box_tree.specs.Paths.{sight_in};
 ghost use Rattle.opened_places.specs.Placed.{places_of};
 ghost use Rattle.wake_lists.specs.Open.{untimed};
@@ -219,30 +220,30 @@ fn hurry_opened(
 fn urgency_of(table: &Table, place: Place, told: Option<Name>) -> Option<Urgency>
     ensures { urgency_seen (sight_in table.now place) ≡ Urgency.Urgent → result ≡ Some Urgency.Urgent }
 {
-    let (home, sight) = table.sight_of(place)?;
-    match sight {
-        Sight::Box { failing: Some(_) } => Some(Urgency::Urgent),
-        Sight::Box { failing: None } => urgency_of_box(home, told),
-        Sight::Atom(_) => None,
-        Sight::Choice { op: _ } => urgency_of_choice(table, place),
+    match place {
+        Place::Box(name) => urgency_of_box(table, name, told),
+        Place::Goal(goal) => urgency_of_goal(table, goal),
     }
 }
 
-// A box is urgent that may clash with what another one was told.
-fn urgency_of_box(name: Name, told: Option<Name>) -> Option<Urgency> {
-    match told {
-        Some(home) if home != name => Some(Urgency::Urgent),
+// A box is urgent that has a goal by which it fails, or may clash with what another one was told.
+fn urgency_of_box(table: &Table, name: Name, told: Option<Name>) -> Option<Urgency>
+    ensures { urgency_seen (sight_in table.now (Place.Box name)) ≡ Urgency.Urgent → result ≡ Some Urgency.Urgent }
+{
+    let (_, sight) = table.sight_of(Place::Box(name))?;
+    match (sight, told) {
+        (Sight::Box { failing: Some(_) }, _) => Some(Urgency::Urgent),
+        (_, Some(home)) if home != name => Some(Urgency::Urgent),
         _ => None,
     }
 }
 
 // A choice isn't late once an alternative is solved.
-fn urgency_of_choice(table: &Table, place: Place) -> Option<Urgency> {
-    match place {
-        Place::Goal(goal) if has_solved(table, table.alternatives_of(goal)) => {
-            Some(Urgency::Ordinary)
-        }
-        _ => None,
+fn urgency_of_goal(table: &Table, goal: Name) -> Option<Urgency> {
+    if has_solved(table, table.alternatives_of(goal)) {
+        Some(Urgency::Ordinary)
+    } else {
+        None
     }
 }
 

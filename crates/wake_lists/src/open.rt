@@ -69,6 +69,31 @@ impl Open {
         }
     }
 
+    /// Opens a place that isn't open, and gives its token, the least that no open place has. It stands in each of the boxes
+    /// around it, and comes after all others that are as urgent. An `Err`, for want of memory, leaves all as it was.
+    pub fn open_new(
+        &mut self,
+        place: Place,
+        around: &[Name],
+        urgency: Urgency,
+    ) -> Result<u64, AllocError>
+        requires { IsOpen self.old place None }
+        ensures opened { IfOk result (IsOpened self.old self.new place around.now urgency) }
+        ensures unchanged { IfErr result (λ _. self.new ≡ self.old) }
+    {
+        let token = self.numbers.take()?;
+        if self.standing.enter(token, around).is_err() {
+            self.numbers.give_back(token);
+            return Err(AllocError);
+        }
+        if self.queue.insert(token, place, urgency).is_err() {
+            self.standing.exit(token);
+            self.numbers.give_back(token);
+            return Err(AllocError);
+        }
+        Ok(token)
+    }
+
     /// Closes the place with this token, where there is one.
     pub fn close(&mut self, token: u64)
         ensures { self.new ≡ closed token self.old }
@@ -194,30 +219,6 @@ impl Open {
                 return;
             }
         }
-    }
-
-    // Opens a place that isn't open: its token.
-    fn open_new(
-        &mut self,
-        place: Place,
-        around: &[Name],
-        urgency: Urgency,
-    ) -> Result<u64, AllocError>
-        requires { IsOpen self.old place None }
-        ensures opened { IfOk result (IsOpened self.old self.new place around.now urgency) }
-        ensures unchanged { IfErr result (λ _. self.new ≡ self.old) }
-    {
-        let token = self.numbers.take()?;
-        if self.standing.enter(token, around).is_err() {
-            self.numbers.give_back(token);
-            return Err(AllocError);
-        }
-        if self.queue.insert(token, place, urgency).is_err() {
-            self.standing.exit(token);
-            self.numbers.give_back(token);
-            return Err(AllocError);
-        }
-        Ok(token)
     }
 
     // A box leaves.

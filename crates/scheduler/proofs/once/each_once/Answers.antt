@@ -1,4 +1,4 @@
-use Rattle.std.proofs.Common.{ℕ, ◌≤◌, subst, sym, ◌∙◌}
+use Rattle.std.proofs.Common.{ℕ, ◌≤◌, subst, ◌∙◌}
 use Rattle.scheduler.proofs.SeenOnce.{few_once}
 use Rattle.scheduler.proofs.once.each_once.Goals as goal
 

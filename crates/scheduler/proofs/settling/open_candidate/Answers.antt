@@ -9,9 +9,12 @@ pub returns-then-is_some-clause-opened : goal.returns-then-is_some-clause-opened
 returns-then-is_some-clause-opened c =
     candidate_open c.args.table.now c.args.open_places.now c.args.nearest c.in-Some.name c.in-Some.is c.token_of.result (sym c.is_some.ensures ∙ c.if-is_some.true) c.token_of.ensures
 
+pub open_new-requires : goal.open_new-requires
+open_new-requires c = subst (IsOpen c.args.open_places.now (Place.Box c.in-Some.name)) (none_of c.token_of.result (sym c.is_some.ensures ∙ c.if-is_some.false)) c.token_of.ensures
+
 pub returns-in_ok-token-in-Some-2-clause-opened : goal.returns-in_ok-token-in-Some-2-clause-opened
 returns-in_ok-token-in-Some-2-clause-opened c =
-    candidate_comes c.args.table.now c.args.open_places.now c.args.nearest c.in-Some.name c.in-Some.is c.in_ok-placed.field-0 c.in-Some-2.placed c.around.result.now c.open.new.self c.in_ok-token-in-Some-2.token c.in-Some-2.is
+    candidate_comes c.args.table.now c.args.open_places.now c.args.nearest c.in-Some.name c.in-Some.is c.in_ok-placed.field-0 c.in-Some-2.placed c.around.result.now c.open_new.new.self c.in_ok-token-in-Some-2.token c.in-Some-2.is
     c.in_ok-placed.ensures.around c.around.ensures (subst (IsOpen c.args.open_places.now (Place.Box c.in-Some.name)) (none_of c.token_of.result (sym c.is_some.ensures ∙ c.if-is_some.false)) c.token_of.ensures)
     c.in_ok-token-in-Some-2.ensures.opened
 
