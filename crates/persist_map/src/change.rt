@@ -93,9 +93,7 @@ impl<K: Ord + Clone + Drop, V: Clone + Drop> Tree<K, V> {
         }
     }
 
-    // Sets the pair in a copy of the way to its key. It stays a call of its own: each level of `insert` would hold what
-    // it needs.
-    #[inline(never)]
+    // Sets the pair in a copy of the way to its key.
     fn insert_in_copy(&mut self, alloc: Global, key: &K, value: &V) -> Result<(), AllocError>
         requires keys { ClonesAreEqual K.is_clone }
         requires values { ClonesAreEqual V.is_clone }
