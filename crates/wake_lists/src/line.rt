@@ -13,7 +13,7 @@ use std::marker::Model;
 const SHORT: usize = 16;
 
 /// A token, and the number of the turn that its place got when it came into the line.
-#[derive(Clone, Copy, Debug)]
+#[derive(Clone, Copy)]
 pub(crate) struct Entry {
     pub number: u64,
     pub token: u64,

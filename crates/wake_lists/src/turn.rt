@@ -21,7 +21,7 @@ pub struct Turn {
 }
 
 /// An open place, and when it comes.
-#[derive(Clone, Copy, Debug)]
+#[derive(Clone, Copy)]
 pub(crate) struct Opened {
     pub place: Place,
     pub turn: Turn,
