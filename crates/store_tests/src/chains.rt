@@ -1,17 +1,17 @@
 //! Chains of boxes from the root inwards, written as words, and how they are made.
 
-ghost use Rattle.std.specs.Prelude.{◌↔◌, IsTrue, IfOk, IfSome};
+ghost use Rattle.std.specs.Prelude.{IsTrue, IfOk, IfSome};
 ghost use Rattle.rational_unify.specs.Older.{EachOlder};
-ghost use Rattle.local_store.specs.Chained.{IsFormChain, IsKnown, around, replaced};
-ghost use Rattle.store_tests.specs.Solved.{AreSolved};
+ghost use Rattle.local_store.specs.Chained.{IsFormChain, IsKnown, bindings_from, around, replaced};
+ghost use Rattle.store_tests.specs.Solved.{AreSolved, AreNew};
 
 use crate::stores::store_of;
 use crate::words::{frame, pair};
-use akl_terms::{Equation, Templates, Term};
+use akl_terms::{Equation, Templates, Term, Var};
 use local_store::{
     Chain, Consistency, Shared, Store, Valued, consistent, promoted, solved_store, told, value,
 };
-use rational_unify::leads_older;
+use rational_unify::{Lookup, found, leads_older};
 use std::alloc::{AllocError, Global};
 
 /// The store of the words, with the frame of this number.
@@ -124,21 +124,44 @@ pub fn solved(
     Ok(Some(list))
 }
 
-/// Whether each binding of a store leads to an older variable.
-fn is_older(templates: &Templates, store: &Store) -> Result<bool, AllocError>
-    ensures { IfOk result (λ b. IsTrue b ↔ EachOlder templates.now.nodes store.now.bindings) }
+/// Whether these bindings are of variables that neither the chain nor a later one of them binds.
+fn are_new(chain: &Chain, bindings: &[(Var, Term)]) -> bool
+    ensures { IsTrue result → AreNew (bindings_from chain.now.stores) bindings.now }
 {
-    let bindings = store.bindings()?;
-    Ok(leads_older(templates, bindings.as_slice()))
+    let mut place = bindings.len();
+    while place > 0 {
+        place -= 1;
+        let variable = bindings[place].0;
+        if chain.get(variable).is_some() || found(&bindings[place + 1..], variable).is_some() {
+            return false;
+        }
+    }
+    true
 }
 
-/// How many of the outermost of these stores are known to lead to older variables.
+/// Whether each binding of a store leads to an older variable, and is of one that neither the stores around it nor a
+/// later one binds.
+fn is_known_inside(
+    templates: &Templates,
+    outer: &[Shared<Store>],
+    store: &Store,
+) -> Result<bool, AllocError>
+    ensures older { IfOk result (λ b. IsTrue b → EachOlder templates.now.nodes store.now.bindings) }
+    ensures new { IfOk result (λ b. IsTrue b → AreNew (bindings_from outer.now) store.now.bindings) }
+{
+    let bindings = store.bindings()?;
+    let chain = Chain::new(templates, outer);
+    let older = leads_older(templates, bindings.as_slice());
+    Ok(older && are_new(&chain, bindings.as_slice()))
+}
+
+/// How many of the outermost of these stores are known to be solved together.
 pub fn known_of(templates: &Templates, stores: &[Shared<Store>]) -> Result<usize, AllocError>
     requires { AreSolved templates.now.nodes stores.now }
     ensures { IfOk result (λ known. IsKnown templates.now.nodes stores.now known) }
 {
     for known in 0..stores.len() {
-        if !is_older(templates, stores[known].get())? {
+        if !is_known_inside(templates, &stores[..known], stores[known].get())? {
             return Ok(known);
         }
     }
