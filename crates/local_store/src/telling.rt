@@ -55,6 +55,7 @@ impl ToldStore {
         ensures bound { IfOk result (λ _. self.new.bound.items ≡ self.old.bound.items ++ bound_by templates.now.nodes (W.bindings whole.now) added.now) }
     {
         self.store.add_all(added)?;
+        self.bound.reserve(added.len().saturating_mul(2))?;
         bound_by(templates, whole, added, &mut self.bound)
     }
 
@@ -193,31 +194,27 @@ fn tell<K: Lookup>(
     } = solve(alloc, templates, known, equations)?;
     match solved {
         Solved::Clash { left, right } => told.add_clash(left, right),
-        Solved::Added(bindings) => {
+        Solved::Added(added) => {
             told.solved = true;
-            add_found(alloc, templates, known, bindings, told)
+            add_found(templates, known, added, told)
         }
     }
 }
 
 // Adds bindings that were found over a solved form, and what they bind.
 fn add_found<K: Lookup>(
-    alloc: Global,
     templates: &Templates,
     known: &K,
-    bindings: Vec<(Var, Term)>,
+    added: AddedBindings,
     told: &mut ToldStore,
 ) -> Result<(), AllocError>
-    requires solved { IsSolved templates.now.nodes (K.bindings known.now ++ bindings.items) }
-    requires fresh { BindNew (K.bindings known.now) bindings.items }
-    ensures store { IfOk result (λ _. told.new.store ≡ with_bindings told.old.store bindings.items) }
+    requires solved { IsSolved templates.now.nodes (K.bindings known.now ++ added) }
+    requires fresh { BindNew (K.bindings known.now) added }
+    ensures store { IfOk result (λ _. told.new.store ≡ with_bindings told.old.store added) }
     ensures solved { IfOk result (λ _. told.new.solved ≡ told.old.solved) }
-    ensures bound { IfOk result (λ _. told.new.bound.items ≡ told.old.bound.items ++ bound_by templates.now.nodes (K.bindings known.now ++ bindings.items) bindings.items) }
+    ensures bound { IfOk result (λ _. told.new.bound.items ≡ told.old.bound.items ++ bound_by templates.now.nodes (K.bindings known.now ++ added) added) }
 {
-    let form = Form {
-        known,
-        added: AddedBindings::from_list(alloc, bindings)?,
-    };
+    let form = Form { known, added };
     told.add(templates, &form, form.added.as_slice())
 }
 

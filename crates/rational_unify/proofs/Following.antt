@@ -110,20 +110,27 @@ ReboundAll-older nodes known old t u xs new h e w (rebound {xs = ys} {cur = cur}
     let k : KeepsEnds nodes known old cur = ReboundAll-keeps nodes known old t u ys cur h e b.0 all in
     rebound-older nodes known cur new x u k.solved r (e ∙ sym b.1 ∙ sym (k.ends (variable x))) (ReboundAll-older nodes known old t u ys cur h e b.0 all o)
 
+EndWith-left : (nodes : List Node) (bs : List (Var × Term)) (t : Tree) (xs ys : List Var) → EndWith nodes bs t (xs ++ ys) → EndWith nodes bs t xs
+EndWith-left nodes bs t [] ys h = tt
+EndWith-left nodes bs t (x ∷ xs) ys h = (h.0, EndWith-left nodes bs t xs ys h.1)
+
 -- what was followed over known bindings holds over others that give the same on the path
 module _ (nodes : List Node) (known other : List (Var × Term)) (t : Term) (old new : List (Var × Term)) (followed followed' : List Var) (end : Term)
     (f : Follows nodes known t old new followed followed' end) (h : IsSolved nodes (other ++ old)) (a : AgreeOn f.path known other) where
   ends_there : (tree nodes end ≡ end_of nodes (other ++ old) (tree nodes t)) × EndWith nodes (other ++ old) (tree nodes t) f.path
   ends_there = path-ends nodes (other ++ old) t f.path end h (IsPath-agree nodes (known ++ old) (other ++ old) t f.path end (AgreeOn-both f.path known other old a) f.leads)
 
+  firsts_end : EndWith nodes (other ++ old) (tree nodes t) f.first
+  firsts_end = EndWith-left nodes (other ++ old) (tree nodes t) f.first f.others (subst (EndWith nodes (other ++ old) (tree nodes t)) f.parts ends_there.1)
+
   pub follows-keeps : KeepsEnds nodes other old new
-  follows-keeps = ReboundAll-keeps nodes other old (tree nodes t) end f.path new h ends_there.0 ends_there.1 f.rebound_by
+  follows-keeps = ReboundAll-keeps nodes other old (tree nodes t) end f.first new h ends_there.0 firsts_end f.rebound_by
 
   pub follows-end : tree nodes end ≡ end_of nodes (other ++ old) (tree nodes t)
   follows-end = ends_there.0
 
   pub follows-older : KeepsOlder nodes (other ++ old) (other ++ new)
-  follows-older = ReboundAll-older nodes other old (tree nodes t) end f.path new h ends_there.0 ends_there.1 f.rebound_by
+  follows-older = ReboundAll-older nodes other old (tree nodes t) end f.first new h ends_there.0 firsts_end f.rebound_by
 
 -- both terms of an equation were followed to their ends
 pub record EndsOf (nodes : List Node) (known old new : List (Var × Term)) (pair : code.Equation) (left right : Term) : Type 0 where

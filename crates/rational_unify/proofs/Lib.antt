@@ -14,3 +14,4 @@ pub mod Following
 pub mod Taking
 pub mod FormLaws
 pub mod FromNothing
+pub mod Short

@@ -1,5 +1,5 @@
 -- One turn of the solver.
-use Rattle.std.proofs.Common.{◌≡◌, ℕ, zero, suc, ◌+◌, ◌-◌, ◌*◌, ◌^◌, ◌<◌, ◌≤◌, [], ◌∷◌, List, ◌++◌, length, Some, None, refl, sym, ◌∙◌, ap, subst, arith, ◌⊎◌, inl, inr, append_assoc, append-nil}
+use Rattle.std.proofs.Common.{◌≡◌, ℕ, zero, suc, ◌+◌, ◌-◌, ◌*◌, ◌^◌, ◌<◌, ◌≤◌, [], ◌∷◌, List, ◌++◌, length, Some, None, refl, sym, ◌∙◌, ap, subst, arith, ◌⊎◌, inl, inr, append_assoc, append-nil, length-append}
 use Rattle.akl_terms.specs.declared.name.Var.{Var}
 use Rattle.akl_terms.specs.declared.term.Node.{Node}
 use Rattle.akl_terms.specs.declared.term.Term.{Term}
@@ -39,7 +39,7 @@ IsWorkOn nodes known es added pending compared =
 
 -- what the solver's loop keeps
 pub record GoesOn (nodes : List Node) (known : List (Var × Term)) (es : List code.Equation) (work : Work) : Type 0 where
-  pub kept : IsWorkOn nodes known es work.added work.pending.items work.compared
+  pub kept : IsWorkOn nodes known es work.added work.pending work.compared
   pub fresh : BindNew known work.added
 
 -- the work goes on over bindings whose chains end where they did
@@ -201,7 +201,7 @@ module _ (nodes : List Node) (arranged : IsArranged nodes) (u v : Term) (p : Pai
 
 -- an equation whose terms' chains were followed to their ends is taken on
 module _ (nodes : List Node) (known : List (Var × Term)) (es : List code.Equation) (old : Work) (pair : code.Equation)
-    (w : IsWorkOn nodes known es old.added (old.pending.items ++ pair ∷ []) old.compared) (last : code.Equation)
+    (w : IsWorkOn nodes known es old.added (old.pending ++ pair ∷ []) old.compared) (last : code.Equation)
     (at_left : tree nodes last.left ≡ end_of nodes (known ++ old.added) (tree nodes pair.left)) (at_right : tree nodes last.right ≡ end_of nodes (known ++ old.added) (tree nodes pair.right)) where
   solved : IsSolved nodes (known ++ old.added)
   solved = record { ends = w.ends }
@@ -211,38 +211,38 @@ module _ (nodes : List Node) (known : List (Var × Term)) (es : List code.Equati
   clash-follows clash c = record {
     equal = pair-follows (bound_in nodes (known ++ old.added)) (length (known ++ old.added))
         (tree nodes pair.left) (tree nodes pair.right) (tree nodes clash.left) (tree nodes clash.right) w
-        (equations-last nodes old.pending.items pair) (equations-left nodes old.pending.items (pair ∷ [])) (equations-but-last nodes old.pending.items pair)
-        (end-done nodes (known ++ old.added) old.compared (IsTold (equations_in nodes old.pending.items)) pair.left last.left clash.left solved at_left c.left)
-        (end-done nodes (known ++ old.added) old.compared (IsTold (equations_in nodes old.pending.items)) pair.right last.right clash.right solved at_right c.right);
+        (equations-last nodes old.pending pair) (equations-left nodes old.pending (pair ∷ [])) (equations-but-last nodes old.pending pair)
+        (end-done nodes (known ++ old.added) old.compared (IsTold (equations_in nodes old.pending)) pair.left last.left clash.left solved at_left c.left)
+        (end-done nodes (known ++ old.added) old.compared (IsTold (equations_in nodes old.pending)) pair.right last.right clash.right solved at_right c.right);
     differ = c.differ;
   }
 
   module _ (arranged : IsArranged nodes) (new : Work) (fresh : BindNew known old.added) (a : Advances nodes last old new) where
-    su : IsDone (end_of nodes (known ++ old.added)) (IsTold (equations_in nodes old.pending.items)) (IsTold (equations_in nodes old.compared)) (tree nodes pair.left) (tree nodes a.left)
-    su = end-done nodes (known ++ old.added) old.compared (IsTold (equations_in nodes old.pending.items)) pair.left last.left a.left solved at_left a.is_left
+    su : IsDone (end_of nodes (known ++ old.added)) (IsTold (equations_in nodes old.pending)) (IsTold (equations_in nodes old.compared)) (tree nodes pair.left) (tree nodes a.left)
+    su = end-done nodes (known ++ old.added) old.compared (IsTold (equations_in nodes old.pending)) pair.left last.left a.left solved at_left a.is_left
 
-    tv : IsDone (end_of nodes (known ++ old.added)) (IsTold (equations_in nodes old.pending.items)) (IsTold (equations_in nodes old.compared)) (tree nodes pair.right) (tree nodes a.right)
-    tv = end-done nodes (known ++ old.added) old.compared (IsTold (equations_in nodes old.pending.items)) pair.right last.right a.right solved at_right a.is_right
+    tv : IsDone (end_of nodes (known ++ old.added)) (IsTold (equations_in nodes old.pending)) (IsTold (equations_in nodes old.compared)) (tree nodes pair.right) (tree nodes a.right)
+    tv = end-done nodes (known ++ old.added) old.compared (IsTold (equations_in nodes old.pending)) pair.right last.right a.right solved at_right a.is_right
 
-    to : (A : List (Var × Term)) (P C : List code.Equation) → IsWorkOn nodes known es A P C → BindNew known A → new.added ≡ A → new.pending.items ≡ P → new.compared ≡ C → GoesOn nodes known es new
+    to : (A : List (Var × Term)) (P C : List code.Equation) → IsWorkOn nodes known es A P C → BindNew known A → new.added ≡ A → new.pending ≡ P → new.compared ≡ C → GoesOn nodes known es new
     to A P C k f p q r = record { kept = rw (p, q, r) k; fresh = rw p f }
 
-    on_same : tree nodes a.left ≡ tree nodes a.right → IsWorkOn nodes known es old.added old.pending.items old.compared
+    on_same : tree nodes a.left ≡ tree nodes a.right → IsWorkOn nodes known es old.added old.pending old.compared
     on_same e = work-same (bound_in nodes (known ++ old.added)) (length (known ++ old.added)) (tree nodes pair.left) (tree nodes pair.right) (tree nodes a.left) (tree nodes a.right) w
-        (equations-last nodes old.pending.items pair) (equations-left nodes old.pending.items (pair ∷ [])) (equations-but-last nodes old.pending.items pair) su tv e
+        (equations-last nodes old.pending pair) (equations-left nodes old.pending (pair ∷ [])) (equations-but-last nodes old.pending pair) su tv e
 
     bound-free : (x : Var) (r : Term) → Meets nodes a.left a.right (Bind x r) → (found_in (known ++ old.added) x ≡ None) × IsFree (bound_in nodes (known ++ old.added)) (tree nodes r)
-    bound-free x r m = bind-free nodes (known ++ old.added) old.compared last.left last.right a.left a.right x r (work-heads nodes known es old.added (old.pending.items ++ pair ∷ []) old.compared w)
+    bound-free x r m = bind-free nodes (known ++ old.added) old.compared last.left last.right a.left a.right x r (work-heads nodes known es old.added (old.pending ++ pair ∷ []) old.compared w)
         (end-free nodes (known ++ old.added) (tree nodes pair.left) last.left solved at_left) (end-free nodes (known ++ old.added) (tree nodes pair.right) last.right solved at_right) a.is_left a.is_right m
 
-    on_bind : (x : Var) (r : Term) → Meets nodes a.left a.right (Bind x r) → IsWorkOn nodes known es (old.added ++ (x, r) ∷ []) old.pending.items old.compared
+    on_bind : (x : Var) (r : Term) → Meets nodes a.left a.right (Bind x r) → IsWorkOn nodes known es (old.added ++ (x, r) ∷ []) old.pending old.compared
     on_bind x r m =
-        subst (λ (l : List (Var × Term)). IsWork (Tells nodes known es) (bound_in nodes l) (length l) (IsTold (equations_in nodes old.pending.items)) (IsTold (equations_in nodes old.compared)))
+        subst (λ (l : List (Var × Term)). IsWork (Tells nodes known es) (bound_in nodes l) (length l) (IsTold (equations_in nodes old.pending)) (IsTold (equations_in nodes old.compared)))
         (append_assoc known old.added ((x, r) ∷ []))
-        (subst (λ (n : ℕ). IsWork (Tells nodes known es) (bound_in nodes ((known ++ old.added) ++ (x, r) ∷ [])) n (IsTold (equations_in nodes old.pending.items)) (IsTold (equations_in nodes old.compared)))
+        (subst (λ (n : ℕ). IsWork (Tells nodes known es) (bound_in nodes ((known ++ old.added) ++ (x, r) ∷ [])) n (IsTold (equations_in nodes old.pending)) (IsTold (equations_in nodes old.compared)))
         (sym (length-push (known ++ old.added) (x, r)))
         (work-bind (bound_in nodes (known ++ old.added)) (length (known ++ old.added)) (tree nodes pair.left) (tree nodes pair.right) (tree nodes a.left) (tree nodes a.right) w
-        (equations-last nodes old.pending.items pair) (equations-left nodes old.pending.items (pair ∷ [])) (equations-but-last nodes old.pending.items pair) su tv
+        (equations-last nodes old.pending pair) (equations-left nodes old.pending (pair ∷ [])) (equations-but-last nodes old.pending pair) su tv
         (bound_in nodes ((known ++ old.added) ++ (x, r) ∷ [])) x (tree nodes r)
         (one_more-adds nodes (known ++ old.added) x r (bound-free x r m).0 (bound-free x r m).1 m.1) (sides m.0)))
       where
@@ -252,13 +252,13 @@ module _ (nodes : List Node) (known : List (Var × Term)) (es : List code.Equati
         sides (inr e) = inr (e.0, ap (tree nodes) (sym e.1))
 
     on_agree : (p : Pairs) → Meets nodes a.left a.right (Agree p)
-        → IsWorkOn nodes known es old.added (old.pending.items ++ argument_pairs p p.count) (old.compared ++ record { left = a.left; right = a.right } ∷ [])
+        → IsWorkOn nodes known es old.added (old.pending ++ argument_pairs p p.count) (old.compared ++ record { left = a.left; right = a.right } ∷ [])
     on_agree p m = work-agree (bound_in nodes (known ++ old.added)) (length (known ++ old.added)) (tree nodes pair.left) (tree nodes pair.right) (tree nodes a.left) (tree nodes a.right) w
-        (equations-last nodes old.pending.items pair) (equations-left nodes old.pending.items (pair ∷ [])) (equations-but-last nodes old.pending.items pair) su tv
+        (equations-last nodes old.pending pair) (equations-left nodes old.pending (pair ∷ [])) (equations-but-last nodes old.pending pair) su tv
         (symbol_head p.symbol p.count) (left-head nodes arranged a.left a.right p m) (right-head nodes arranged a.left a.right p m)
-        (equations-left nodes old.pending.items (argument_pairs p p.count))
-        (λ x y o. equations-right nodes old.pending.items (argument_pairs p p.count) x y (arguments-wait nodes arranged a.left a.right p m x y o))
-        (λ x y o. elim (equations-either nodes old.pending.items (argument_pairs p p.count) x y o) [ inl i ↦ inl i | inr i ↦ inr (only-arguments nodes arranged a.left a.right p m p.count (omega arith) x y i) ])
+        (equations-left nodes old.pending (argument_pairs p p.count))
+        (λ x y o. equations-right nodes old.pending (argument_pairs p p.count) x y (arguments-wait nodes arranged a.left a.right p m x y o))
+        (λ x y o. elim (equations-either nodes old.pending (argument_pairs p p.count) x y o) [ inl i ↦ inl i | inr i ↦ inr (only-arguments nodes arranged a.left a.right p m p.count (omega arith) x y i) ])
         (equations-left nodes old.compared (record { left = a.left; right = a.right } ∷ []))
         (equations-last nodes old.compared (record { left = a.left; right = a.right }))
         (equations-but-last nodes old.compared (record { left = a.left; right = a.right }))
@@ -268,11 +268,11 @@ module _ (nodes : List Node) (known : List (Var × Term)) (es : List code.Equati
     turn-goes = each a.meet
       where
         each : Meet nodes a.left a.right old new → GoesOn nodes known es new
-        each (same e n) = to old.added old.pending.items old.compared (on_same e) fresh
-            (ap (λ (k : Work). k.added) n) (ap (λ (k : Work). k.pending.items) n) (ap (λ (k : Work). k.compared) n)
-        each (bind {x = x} {u = r} m p l q c) = to (old.added ++ (x, r) ∷ []) old.pending.items old.compared (on_bind x r m)
-            (BindNew-push known old.added x r fresh (bound-free x r m).0) p (ap (λ k. k.items) q) c
-        each (agree {p = p} m c l q e) = to old.added (old.pending.items ++ argument_pairs p p.count) (old.compared ++ record { left = a.left; right = a.right } ∷ []) (on_agree p m) fresh e q c
+        each (same e n) = to old.added old.pending old.compared (on_same e) fresh
+            (ap (λ (k : Work). k.added) n) (ap (λ (k : Work). k.pending) n) (ap (λ (k : Work). k.compared) n)
+        each (bind {x = x} {u = r} m p l q c) = to (old.added ++ (x, r) ∷ []) old.pending old.compared (on_bind x r m)
+            (BindNew-push known old.added x r fresh (bound-free x r m).0) p q c
+        each (agree {p = p} m few c l q e) = to old.added (old.pending ++ argument_pairs p p.count) (old.compared ++ record { left = a.left; right = a.right } ∷ []) (on_agree p m) fresh e q c
 
 -- nothing has been done yet
 pub turn-starts : (nodes : List Node) (known : List (Var × Term)) (es : List code.Equation) → IsSolved nodes known → IsWorkOn nodes known es [] es []
@@ -297,26 +297,31 @@ turn-ends nodes known es added compared w f = record {
 pub none-solved : (nodes : List Node) (known : List (Var × Term)) → IsSolved nodes known → IsSolution nodes known [] []
 none-solved nodes known h = turn-ends nodes known [] [] [] (turn-starts nodes known [] h) tt
 
+pub length-arguments : (p : Pairs) (n : ℕ) → length (argument_pairs p n) ≡ n
+length-arguments p zero = refl
+length-arguments p (suc n) = length-push (argument_pairs p n) (argument_pair p n) ∙ ap suc (length-arguments p n)
+
 -- how many turns there can be yet: each takes a pair away, or takes memory for a binding or a comparison
 abbrev pub turns_left : ℕ → ℕ → ℕ → ℕ
 turns_left added compared pending = ((2 ^ 64 - added) + (2 ^ 64 - compared)) * 2 ^ 64 + pending
 
-pub turn-falls : (nodes : List Node) (pair : code.Equation) (old new : Work) → length new.pending.items < 2 ^ 64 → Advances nodes pair old new
-    → turns_left (length new.added) (length new.compared) (length new.pending.items) < turns_left (length old.added) (length old.compared) (suc (length old.pending.items))
-turn-falls nodes pair old new l a = each a.meet
+pub turn-falls : (nodes : List Node) (pair : code.Equation) (old new : Work) → Advances nodes pair old new
+    → turns_left (length new.added) (length new.compared) (length new.pending) < turns_left (length old.added) (length old.compared) (suc (length old.pending))
+turn-falls nodes pair old new a = each a.meet
   where
-    each : Meet nodes a.left a.right old new → turns_left (length new.added) (length new.compared) (length new.pending.items) < turns_left (length old.added) (length old.compared) (suc (length old.pending.items))
+    each : Meet nodes a.left a.right old new → turns_left (length new.added) (length new.compared) (length new.pending) < turns_left (length old.added) (length old.compared) (suc (length old.pending))
     each (same e n) =
         let p : length new.added ≡ length old.added = ap (λ (k : Work). length k.added) n in
         let q : length new.compared ≡ length old.compared = ap (λ (k : Work). length k.compared) n in
-        let r : length new.pending.items ≡ length old.pending.items = ap (λ (k : Work). length k.pending.items) n in
+        let r : length new.pending ≡ length old.pending = ap (λ (k : Work). length k.pending) n in
         omega arith
     each (bind {x = x} {u = u} m p small q c) =
         let p' : length new.added ≡ suc (length old.added) = ap length p ∙ length-push old.added (x, u) in
         let q' : length new.compared ≡ length old.compared = ap length c in
-        let r' : length new.pending.items ≡ length old.pending.items = ap (λ k. length k.items) q in
+        let r' : length new.pending ≡ length old.pending = ap length q in
         omega arith
-    each (agree {p = p} m c small q e) =
+    each (agree {p = p} m few c small q e) =
         let p' : length new.compared ≡ suc (length old.compared) = ap length c ∙ length-push old.compared (record { left = a.left; right = a.right }) in
         let q' : length new.added ≡ length old.added = ap length e in
+        let r' : length new.pending ≡ length old.pending + p.count = ap length q ∙ length-append old.pending (argument_pairs p p.count) ∙ ap (λ n. length old.pending + n) (length-arguments p p.count) in
         omega arith

@@ -38,12 +38,15 @@ pub data ReboundAll (u : Term) (old : List (Var × Term)) : List Var → List (V
   unchanged : ReboundAll u old [] old
   rebound : {xs : List Var} {cur new : List (Var × Term)} {x : Var} → ReboundAll u old xs cur → Rebinds cur new x u → ReboundAll u old (xs ++ x ∷ []) new
 
--- a term's chain was followed to its end, and all variables on it were bound to the end
+-- a term's chain was followed to its end, and the first variables on it, where they are bound, were bound to the end
 pub record Follows (nodes : List Node) (known : List (Var × Term)) (t : Term) (old new : List (Var × Term)) (followed followed' : List Var) (end : Term) : Type 0 where
   pub path : List Var
   pub followed_by : followed' ≡ followed ++ path
   pub leads : IsPath nodes (known ++ old) t path end
-  pub rebound_by : ReboundAll end old path new
+  pub first : List Var
+  pub others : List Var
+  pub parts : path ≡ first ++ others
+  pub rebound_by : ReboundAll end old first new
 
 -- over the known bindings, and over any others that give the followed variables the same, each chain ends where it did
 pub record Settles (nodes : List Node) (known old new : List (Var × Term)) (followed followed' : List Var) : Type 0 where
@@ -57,4 +60,4 @@ SolvesAlong nodes known es followed solved = (other : List (Var × Term)) → Is
 
 -- the answer holds too over any other solved form that gives each followed variable what the known bindings give it
 abbrev pub SolvesAlso : List Node → List (Var × Term) → List code.Equation → Solution → Type 0
-SolvesAlso nodes known es s = SolvesAlong nodes known es s.followed.items s.solved
+SolvesAlso nodes known es s = SolvesAlong nodes known es s.followed s.solved

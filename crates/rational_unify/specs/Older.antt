@@ -30,5 +30,5 @@ EachOlder nodes bs = AllByRecursion (IsToOlder nodes) bs
 
 -- with what is added the known bindings lead to older variables where they did before
 abbrev pub AddsOlder : List Node → List (Var × Term) → Solved → Type 0
-AddsOlder nodes known (Added added) = KeepsOlder nodes known (known ++ added.items)
+AddsOlder nodes known (Added added) = KeepsOlder nodes known (known ++ added)
 AddsOlder nodes known (Clash left right) = Unit {0}

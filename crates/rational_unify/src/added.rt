@@ -8,6 +8,7 @@ ghost use Rattle.rational_unify.specs.Shortened.{Rebinds};
 ghost use Rattle.rational_unify.specs.declared.added.TheConstants.{FEW};
 
 use crate::known::place_among;
+use crate::short_list::{NO_BINDING, ShortList};
 use akl_terms::{Term, Var};
 use std::alloc::{AllocError, Global};
 use std::collections::HashMap;
@@ -20,7 +21,7 @@ pub const FEW: usize = 8;
 /// are found by looking through them, and the rest by an index of their places.
 #[derive(Drop)]
 pub struct AddedBindings {
-    list: Vec<(Var, Term)>,
+    list: ShortList<(Var, Term), 4>,
     places: HashMap<Var, usize>,
 }
 
@@ -33,9 +34,9 @@ impl Model for AddedBindings {
 
     ghost Value = { List (Var × Term) };
 
-    ghost view = { λ a. a.list.items };
+    ghost view = { λ a. a.list };
 
-    ghost invariant = { λ a. IsIndex FEW a.places.entries a.list.items };
+    ghost invariant = { λ a. IsIndex FEW a.places.entries a.list };
 }
 
 impl AddedBindings {
@@ -44,28 +45,20 @@ impl AddedBindings {
         ensures { result ≡ [] }
     {
         AddedBindings {
-            list: Vec::new(alloc),
+            list: ShortList::new(alloc, NO_BINDING),
             places: HashMap::new(alloc),
         }
-    }
-
-    /// These bindings in their order. None is copied, and memory is taken only where there are more than `FEW`.
-    pub fn from_list(alloc: Global, list: Vec<(Var, Term)>) -> Result<AddedBindings, AllocError>
-        requires { BindNew [] list.items }
-        ensures { IfOk result (λ added. added ≡ list.items) }
-    {
-        Ok(AddedBindings {
-            places: places_of(alloc, list.as_slice())?,
-            list,
-        })
     }
 
     /// The term that a variable is bound to; `None` exactly where it has no binding.
     pub fn get(&self, variable: Var) -> Option<Term>
         ensures { result ≡ found_in self.now variable }
     {
-        match self.place_of(variable) {
-            Some(place) => Some(self.list[place].1),
+        let Some(place) = self.place_of(variable) else {
+            return None;
+        };
+        match self.list.get(place) {
+            Some((_, term)) => Some(term),
             None => None,
         }
     }
@@ -95,7 +88,7 @@ impl AddedBindings {
         ensures { Rebinds self.old self.new variable term }
     {
         if let Some(place) = self.place_of(variable) {
-            self.list[place] = (variable, term);
+            self.list.set(place, (variable, term));
         }
     }
 
@@ -104,9 +97,9 @@ impl AddedBindings {
         ensures { result ≡ place_in self.now variable }
     {
         if self.list.len() <= FEW {
-            return place_among(&self.list, variable);
+            return place_among(self.list.as_slice(), variable);
         }
-        match place_among(&self.list[..FEW], variable) {
+        match place_among(&self.list.as_slice()[..FEW], variable) {
             Some(place) => Some(place),
             None => self.places.get(&variable).copied(),
         }
@@ -118,23 +111,4 @@ impl AddedBindings {
     {
         self.list.as_slice()
     }
-
-    /// The bindings in order. It takes no memory.
-    pub fn into_vec(self) -> Vec<(Var, Term)>
-        ensures { result.items ≡ self }
-    {
-        self.list
-    }
-}
-
-// The places of the bindings behind the first `FEW`.
-fn places_of(alloc: Global, list: &[(Var, Term)]) -> Result<HashMap<Var, usize>, AllocError>
-    requires { BindNew [] list.now }
-    ensures { IfOk result (λ places. IsIndex FEW places.entries list.now) }
-{
-    let mut places = HashMap::new(alloc);
-    for place in FEW..list.len() {
-        places.insert(list[place].0, place)?;
-    }
-    Ok(places)
 }

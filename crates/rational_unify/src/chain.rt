@@ -8,8 +8,12 @@ ghost use Rattle.rational_unify.specs.Followed.{Leads, Follows, ReboundAll};
 
 use crate::added::AddedBindings;
 use crate::known::Lookup;
+use crate::short_list::ShortList;
 use akl_terms::{Seen, Templates, Term, Var};
 use std::alloc::AllocError;
+
+/// Variables whose bindings were read.
+pub type Followed = ShortList<Var, 12>;
 
 /// The end of a term's chain: the term itself, where it is no variable that is bound.
 pub fn chain_end<K: Lookup>(templates: &Templates, known: &K, term: Term) -> Term
@@ -80,10 +84,10 @@ fn path_of<K: Lookup>(
     templates: &Templates,
     known: &K,
     term: Term,
-    variables: &mut Vec<Var>,
+    variables: &mut Followed,
 ) -> Result<Term, AllocError>
     requires { IsSolved templates.now.nodes (K.bindings known.now) }
-    ensures { IfOk result (λ end. Leads templates.now.nodes (K.bindings known.now) term variables.old.items variables.new.items end) }
+    ensures { IfOk result (λ end. Leads templates.now.nodes (K.bindings known.now) term variables.old variables.new end) }
 {
     let mut last = term;
     while let Seen::Free(variable) = templates.look(last) {
@@ -102,15 +106,17 @@ pub fn follow<K: Lookup>(
     templates: &Templates,
     known: &K,
     added: &mut AddedBindings,
-    followed: &mut Vec<Var>,
+    followed: &mut Followed,
     term: Term,
 ) -> Result<Term, AllocError>
     requires { IsSolved templates.now.nodes (K.bindings known.now ++ added.old) }
-    ensures { IfOk result (λ end. Follows templates.now.nodes (K.bindings known.now) term added.old added.new followed.old.items followed.new.items end) }
+    ensures { IfOk result (λ end. Follows templates.now.nodes (K.bindings known.now) term added.old added.new followed.old followed.new end) }
 {
     let start = followed.len();
     let end = path_of(templates, &Together { known, added }, term, followed)?;
-    rebind_all(added, &followed[start..], end);
+    // The last variable on the way is bound to the end, or to nothing.
+    let last = followed.len().saturating_sub(1).max(start);
+    rebind_all(added, &followed.as_slice()[start..last], end);
     Ok(end)
 }
 

@@ -4,6 +4,7 @@ ghost use Rattle.std.specs.Prelude.{◌≡◌, ◌+◌, ◌<◌, ◌++◌, ◌^�
 ghost use Rattle.akl_terms.specs.Template.{IsArranged};
 ghost use Rattle.rational_unify.specs.Meeting.{Meets, BindsYounger, IsSymbolPair, IsNoSymbolPair, is_one_constant, argument_pairs};
 
+use crate::pending::Pending;
 use akl_terms::{Equation, Name, Seen, Templates, Term, Var};
 use std::alloc::AllocError;
 
@@ -66,10 +67,10 @@ impl Pairs {
     }
 
     /// Puts the pairs of arguments at the end of a list of equations.
-    pub fn push_to(self, pending: &mut Vec<Equation>) -> Result<(), AllocError>
+    pub fn push_to(self, pending: &mut Pending<'_>) -> Result<(), AllocError>
         requires left { self.left + self.count < 2 ^ 32 }
         requires right { self.right + self.count < 2 ^ 32 }
-        ensures { OnOk result (pending.new.items ≡ pending.old.items ++ argument_pairs self self.count) }
+        ensures { OnOk result (pending.new ≡ pending.old ++ argument_pairs self self.count) }
     {
         for k in 0..self.count {
             pending.push(Equation {

@@ -10,11 +10,13 @@ ghost use Rattle.rational_unify.specs.Meeting.{Advances, AgreeInHead, Clashes};
 ghost use Rattle.rational_unify.specs.Solving.{BindNew, Solves};
 ghost use Rattle.rational_unify.specs.Followed.{Settles, SolvesAlong, SolvesAlso};
 
-use crate::added::{AddedBindings, FEW};
-use crate::chain::follow;
+use crate::added::AddedBindings;
+use crate::chain::{Followed, follow};
 use crate::compared::Compared;
 use crate::known::Lookup;
 use crate::meet::{Meeting, compare};
+use crate::pending::Pending;
+use crate::short_list::NO_VARIABLE;
 use akl_terms::{Equation, Templates, Term, Var};
 use std::alloc::{AllocError, Global};
 
@@ -23,7 +25,7 @@ use std::alloc::{AllocError, Global};
 pub enum Solved {
     /// The known bindings and the equations are consistent. With these bindings, of variables that
     /// had none, the known ones are a solved form of both.
-    Added(Vec<(Var, Term)>),
+    Added(AddedBindings),
     /// They are inconsistent: they make these two terms equal, whose heads differ.
     Clash { left: Term, right: Term },
 }
@@ -33,7 +35,7 @@ pub enum Solved {
 #[derive(Drop)]
 pub struct Solution {
     pub solved: Solved,
-    pub followed: Vec<Var>,
+    pub followed: Followed,
 }
 
 /// Solves equations over known bindings, by rational trees: there is no occurs check.
@@ -57,8 +59,7 @@ pub fn solve<K: Lookup>(
     ensures followed { IfOk result (λ s. SolvesAlso templates.now.nodes (K.bindings known.now) equations.now s) }
     ensures older { IfOk result (λ s. AddsOlder templates.now.nodes (K.bindings known.now) s.solved) }
 {
-    // Most equations lead along few variables.
-    let mut followed = Vec::with_capacity(alloc, FEW)?;
+    let mut followed = Followed::new(alloc, NO_VARIABLE);
     let solved = solved_along(alloc, templates, known, equations, &mut followed)?;
     Ok(Solution { solved, followed })
 }
@@ -69,13 +70,13 @@ fn solved_along<K: Lookup>(
     templates: &Templates,
     known: &K,
     equations: &[Equation],
-    followed: &mut Vec<Var>,
+    followed: &mut Followed,
 ) -> Result<Solved, AllocError>
     requires known { IsSolved templates.now.nodes (K.bindings known.now) }
-    ensures followed { IfOk result (λ solved. SolvesAlong templates.now.nodes (K.bindings known.now) equations.now followed.new.items solved) }
+    ensures followed { IfOk result (λ solved. SolvesAlong templates.now.nodes (K.bindings known.now) equations.now followed.new solved) }
     ensures older { IfOk result (λ solved. AddsOlder templates.now.nodes (K.bindings known.now) solved) }
 {
-    let mut work = work_of(alloc, equations)?;
+    let mut work = Work::of(alloc, equations);
     while let Some(pair) = work.pending.pop() {
         let added = &mut work.added;
         let left = follow(templates, known, added, followed, pair.left)?;
@@ -88,35 +89,35 @@ fn solved_along<K: Lookup>(
         }
     }
     settle(templates, known, &mut work.added, followed)?;
-    Ok(Solved::Added(work.added.into_vec()))
+    Ok(Solved::Added(work.added))
 }
 
 /// What the solver keeps from equation to equation.
 #[derive(Drop)]
-struct Work {
+struct Work<'a> {
     added: AddedBindings,
-    pending: Vec<Equation>,
+    pending: Pending<'a>,
     compared: Compared,
 }
 
-/// What the solver begins with.
-fn work_of(alloc: Global, equations: &[Equation]) -> Result<Work, AllocError>
-    ensures { IfOk result (λ work. (work.added ≡ []) × (work.pending.items ≡ equations.now) × (work.compared ≡ [])) }
-{
-    let mut pending = Vec::new(alloc);
-    pending.extend_from_slice(equations)?;
-    Ok(Work {
-        added: AddedBindings::new(alloc),
-        pending,
-        compared: Compared::new(alloc),
-    })
+impl<'a> Work<'a> {
+    /// What the solver begins with.
+    fn of(alloc: Global, equations: &'a [Equation]) -> Work<'a>
+        ensures { (result.added ≡ []) × (result.pending ≡ equations.now) × (result.compared ≡ []) }
+    {
+        Work {
+            added: AddedBindings::new(alloc),
+            pending: Pending::of(alloc, equations),
+            compared: Compared::new(alloc),
+        }
+    }
 }
 
 /// Takes one equation on, of terms at the ends of their chains. `Some` gives two terms of different
 /// heads that it makes equal.
 fn advance(
     templates: &Templates,
-    work: &mut Work,
+    work: &mut Work<'_>,
     pair: Equation,
 ) -> Result<Option<Equation>, AllocError>
     requires left { next_in templates.now.nodes work.old.added pair.left ≡ None }
@@ -150,11 +151,11 @@ fn settle<K: Lookup>(
     templates: &Templates,
     known: &K,
     added: &mut AddedBindings,
-    followed: &mut Vec<Var>,
+    followed: &mut Followed,
 ) -> Result<(), AllocError>
     requires solved { IsSolved templates.now.nodes (K.bindings known.now ++ added.old) }
     requires fresh { BindNew (K.bindings known.now) added.old }
-    ensures settles { IfOk result (λ _. Settles templates.now.nodes (K.bindings known.now) added.old added.new followed.old.items followed.new.items) }
+    ensures settles { IfOk result (λ _. Settles templates.now.nodes (K.bindings known.now) added.old added.new followed.old followed.new) }
     ensures older { IfOk result (λ _. KeepsOlder templates.now.nodes (K.bindings known.now ++ added.old) (K.bindings known.now ++ added.new)) }
 {
     // The last binding leads to an end, as none was added after it.

@@ -18,5 +18,5 @@ add_found-requires-clause-fresh g c = (rw c.in-Added.is at c.in_ok-solved.ensure
 
 pub returns-in-Added : goal.returns-in-Added
 returns-in-Added g c = IfOk-all c.add_found.result _ _ _ _
-    (λ t store solved bound. added c.in-Added.bindings.items (rw c.in-Added.is at c.in_ok-solved.ensures.solves) (rw c.in-Added.is at c.in_ok-solved.ensures.older) store solved bound)
+    (λ t store solved bound. added c.in-Added.added (rw c.in-Added.is at c.in_ok-solved.ensures.solves) (rw c.in-Added.is at c.in_ok-solved.ensures.older) store solved bound)
     c.add_found.ensures.store c.add_found.ensures.solved (rw c.requires.untold.1 at c.add_found.ensures.bound)

@@ -1,7 +1,7 @@
-use Rattle.std.proofs.Common.{List, subst, ◌∙◌, arith}
+use Rattle.std.proofs.Common.{List, ℕ, ◌-◌, sym, ◌∙◌, take, drop}
 use Rattle.akl_terms.specs.declared.name.Var.{Var}
-use Rattle.rational_unify.specs.Followed.{ReboundAll}
-use Rattle.rational_unify.proofs.Taking.{behind-first}
+use Rattle.rational_unify.proofs.Taking.{drops}
+use Rattle.std.proofs.lemmas.List.{take-append-drop}
 use Rattle.rational_unify.proofs.chain.follow.Goals as goal
 
 pub returns : goal.returns
@@ -9,7 +9,14 @@ returns g c = record {
   path = c.in_ok-end.ensures.path;
   followed_by = c.in_ok-end.ensures.followed_by;
   leads = c.in_ok-end.ensures.leads;
-  rebound_by = subst (λ (xs : List Var). ReboundAll c.in_ok-end.end c.args.added.now xs c.rebind_all.new.added)
-      (behind-first c.len-start.result c.deref.result.now c.args.followed.now.items c.in_ok-end.ensures.path (c.deref.ensures.value ∙ c.in_ok-end.ensures.followed_by)
-      (omega (arith, c.len-start.ensures, c.args.followed.now.ok))) c.rebind_all.ensures;
+  first = take many behind;
+  others = drop many behind;
+  parts = sym (drops c.len-start.result c.as_slice.result.now c.args.followed.now c.in_ok-end.ensures.path (c.as_slice.ensures ∙ c.in_ok-end.ensures.followed_by) c.len-start.ensures) ∙ sym (take-append-drop many behind);
+  rebound_by = c.rebind_all.ensures;
 }
+  where
+    many : ℕ
+    many = c.max-last.result - c.len-start.result
+
+    behind : List Var
+    behind = drop c.len-start.result c.as_slice.result.now

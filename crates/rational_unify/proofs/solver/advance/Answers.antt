@@ -1,4 +1,4 @@
-use Rattle.std.proofs.Common.{refl, arith, ◌<◌, ◌+◌, length}
+use Rattle.std.proofs.Common.{refl, arith, ◌<◌, ◌+◌, ◌^◌, length}
 use Rattle.rational_unify.specs.Meeting.{same, bind, agree}
 use Rattle.rational_unify.proofs.Heads.{struct-within}
 use Rattle.rational_unify.proofs.OlderEnds.{one_more-older}
@@ -45,8 +45,14 @@ returns-in_ok-push_to-in-Agree-clause-turn c = record {
   right = c.last_of-right.result;
   is_left = c.last_of-left.ensures;
   is_right = c.last_of-right.ensures;
-  meet = agree c.in-Agree.ensures.meets c.in_ok-push-in-Agree.ensures.list c.in_ok-push-in-Agree.ensures.small c.in_ok-push_to-in-Agree.ensures refl;
+  meet = agree c.in-Agree.ensures.meets few c.in_ok-push-in-Agree.ensures.list c.in_ok-push-in-Agree.ensures.small c.in_ok-push_to-in-Agree.ensures refl;
 }
+  where
+    few : c.in-Agree.pairs.count < 2 ^ 32
+    few =
+        let h : c.in-Agree.pairs.left + c.in-Agree.pairs.count < length c.args.templates.now.nodes = struct-within _ _ _ _ _ _ c.in-Agree.ensures.arranged c.in-Agree.ensures.meets.0 in
+        let s : length c.args.templates.now.nodes < 4294967296 = c.in-Agree.ensures.small in
+        omega arith
 
 pub returns-in_ok-push-in-Bind-clause-older : goal.returns-in_ok-push-in-Bind-clause-older
 returns-in_ok-push-in-Bind-clause-older c = λ known. one_more-older c.args.templates.now.nodes known c.args.work.now.added _ c.in-Bind.variable c.in-Bind.term

@@ -1,4 +1,4 @@
-use Rattle.std.proofs.Common.{arith, ◌≡◌, ◌++◌, [], List, length, subst, append-nil}
+use Rattle.std.proofs.Common.{◌++◌, [], List, subst, append-nil}
 use Rattle.akl_terms.specs.declared.name.Var.{Var}
 use Rattle.akl_terms.specs.declared.term.Node.{Node}
 use Rattle.akl_terms.specs.declared.term.Term.{Term}
@@ -6,17 +6,16 @@ use Rattle.rational_unify.specs.Known.{IsSolved}
 use Rattle.rational_unify.specs.Followed.{AgreeOn}
 use Rattle.rational_unify.proofs.Shortening.{KeepsEnds-new, length-variables}
 use Rattle.rational_unify.proofs.Following.{AgreeOn-refl, AgreeOn-left, AgreeOn-right, sides-agree, sides-end, follows-keeps, sides-older, EndsOf}
-use Rattle.rational_unify.proofs.Taking.{nothing}
 use Rattle.rational_unify.proofs.Turns.{end-unbound, turn-falls, length-push, turn-shorter, turn-starts, turn-goes, turn-ends, clash-follows, work-heads, work-solved}
 use Rattle.rational_unify.proofs.solver.solved_along.Goals as goal
 
 pub loop-pair-init : goal.loop-pair-init
 loop-pair-init g c = (
   λ other h a. record {
-    kept = rw (c.in_ok-work.ensures.0, c.in_ok-work.ensures.1, c.in_ok-work.ensures.2) (turn-starts _ _ _ h);
-    fresh = rw c.in_ok-work.ensures.0 tt;
+    kept = rw (c.of-work.ensures.0, c.of-work.ensures.1, c.of-work.ensures.2) (turn-starts _ _ _ h);
+    fresh = rw c.of-work.ensures.0 tt;
   },
-  λ o. rw (c.in_ok-work.ensures.0, append-nil (g.K.Lookup.bindings c.args.known.now)) o,
+  λ o. rw (c.of-work.ensures.0, append-nil (g.K.Lookup.bindings c.args.known.now)) o,
 )
 
 pub follow-requires : goal.follow-requires
@@ -83,9 +82,8 @@ loop-pair-smaller g c =
     let k : EndsOf c.args.templates.now.nodes (g.K.Lookup.bindings c.args.known.now) c.loop-pair.work.added c.follow-in-Some.new.added c.in-Some.pair c.in_ok-left.left c.in_ok-right.right =
     sides-end _ _ c.in-Some.pair _ _ _ _ _ _ _ _ c.in_ok-left.ensures c.in_ok-right.ensures (g.K.Lookup.bindings c.args.known.now) (work-solved _ _ _ _ _ _ was.kept) (AgreeOn-refl _ _) in
     let a = turn-falls c.args.templates.now.nodes (record { left = c.in_ok-left.left; right = c.in_ok-right.right })
-    (record { added = c.follow-in-Some.new.added; pending = c.pop.new.self; compared = c.loop-pair.work.compared }) c.advance.new.work
-    (omega (arith, c.advance.new.work.pending.ok, c.advance.new.work.pending.small)) (rw c.in_default-2.is at c.in_ok-clash.ensures.turn) in
-    rw (c.in-Some.ensures.items, length-push c.pop.new.self.items c.in-Some.pair, ← length-variables c.follow-in-Some.new.added c.loop-pair.work.added k.keeps.variables) a
+    (record { added = c.follow-in-Some.new.added; pending = c.pop.new.self; compared = c.loop-pair.work.compared }) c.advance.new.work (rw c.in_default-2.is at c.in_ok-clash.ensures.turn) in
+    rw (c.in-Some.ensures.items, length-push c.pop.new.self c.in-Some.pair, ← length-variables c.follow-in-Some.new.added c.loop-pair.work.added k.keeps.variables) a
 
 pub settle-requires-clause-solved : goal.settle-requires-clause-solved
 settle-requires-clause-solved g c = work-solved _ _ _ _ _ _ (c.loop-pair.invariant.0 (g.K.Lookup.bindings c.args.known.now) c.requires.known (AgreeOn-refl _ _)).kept
@@ -97,12 +95,11 @@ pub returns-clause-followed : goal.returns-clause-followed
 returns-clause-followed g c = λ other h a.
     let known = g.K.Lookup.bindings c.args.known.now in
     let s = c.in_ok-settle.ensures.settles in
-    let b : AgreeOn (c.loop-pair.followed.items ++ s.path) known other = subst (λ (xs : List Var). AgreeOn xs known other) s.followed_by a in
-    let before = c.loop-pair.invariant.0 other h (AgreeOn-left c.loop-pair.followed.items s.path known other b) in
-    let k = s.keeps other (work-solved _ _ _ _ _ _ before.kept) before.fresh (AgreeOn-right c.loop-pair.followed.items s.path known other b) in
-    let l : length c.loop-pair.work.pending.items ≡ 0 = omega (arith, c.in_default.ensures.cases.0, c.loop-pair.work.pending.ok) in
-    rw c.into_vec.ensures (turn-ends _ _ _ _ c.loop-pair.work.compared
-    (turn-shorter _ _ _ _ _ [] c.loop-pair.work.compared k (rw (nothing c.loop-pair.work.pending.items l) at before.kept)) (KeepsEnds-new _ _ _ _ k before.fresh))
+    let b : AgreeOn (c.loop-pair.followed ++ s.path) known other = subst (λ (xs : List Var). AgreeOn xs known other) s.followed_by a in
+    let before = c.loop-pair.invariant.0 other h (AgreeOn-left c.loop-pair.followed s.path known other b) in
+    let k = s.keeps other (work-solved _ _ _ _ _ _ before.kept) before.fresh (AgreeOn-right c.loop-pair.followed s.path known other b) in
+    turn-ends _ _ _ _ c.loop-pair.work.compared
+    (turn-shorter _ _ _ _ _ [] c.loop-pair.work.compared k (rw c.in_default.ensures.none at before.kept)) (KeepsEnds-new _ _ _ _ k before.fresh)
 
 pub returns-clause-older : goal.returns-clause-older
-returns-clause-older g c = λ o. rw c.into_vec.ensures (c.in_ok-settle.ensures.older (c.loop-pair.invariant.1 o))
+returns-clause-older g c = λ o. c.in_ok-settle.ensures.older (c.loop-pair.invariant.1 o)

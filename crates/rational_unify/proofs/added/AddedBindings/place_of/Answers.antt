@@ -8,15 +8,15 @@ use Rattle.rational_unify.proofs.Indexing.{place_in-position, place_in-take, pla
 use Rattle.rational_unify.proofs.added.AddedBindings.place_of.Goals as goal
 
 pub returns-then-len-le-FEW : goal.returns-then-len-le-FEW
-returns-then-len-le-FEW c = rw (← c.self.view_is) (c.place_among.ensures ∙ ap (λ (l : List (Var × Term)). position (λ b. same_var b.0 c.args.variable) l) c.deref.ensures.value
-    ∙ sym (place_in-position c.self.inside.list.items c.args.variable))
+returns-then-len-le-FEW c = rw (← c.self.view_is) (c.place_among.ensures ∙ ap (λ (l : List (Var × Term)). position (λ b. same_var b.0 c.args.variable) l) c.as_slice.ensures
+    ∙ sym (place_in-position c.self.inside.list c.args.variable))
 
 pub returns-in-Some : goal.returns-in-Some
-returns-in-Some c = rw (← c.self.view_is) (sym (place_in-take FEW c.self.inside.list.items c.args.variable c.in-Some.place
-    (place_in-position (take FEW c.self.inside.list.items) c.args.variable
-    ∙ ap (λ (l : List (Var × Term)). position (λ b. same_var b.0 c.args.variable) (take FEW l)) (sym c.deref-2.ensures.value) ∙ sym c.place_among-2.ensures ∙ c.in-Some.is)))
+returns-in-Some c = rw (← c.self.view_is) (sym (place_in-take FEW c.self.inside.list c.args.variable c.in-Some.place
+    (place_in-position (take FEW c.self.inside.list) c.args.variable
+    ∙ ap (λ (l : List (Var × Term)). position (λ b. same_var b.0 c.args.variable) (take FEW l)) (sym c.as_slice-2.ensures) ∙ sym c.place_among-2.ensures ∙ c.in-Some.is)))
 
 pub returns-in-None : goal.returns-in-None
 returns-in-None c = rw (← c.self.view_is) (c.copied.ensures ∙ c.get.ensures.value ∙ c.self.invariant.each c.args.variable
-    ∙ sym (place_in-drop FEW c.self.inside.list.items c.args.variable (place_in-position (take FEW c.self.inside.list.items) c.args.variable
-    ∙ ap (λ (l : List (Var × Term)). position (λ b. same_var b.0 c.args.variable) (take FEW l)) (sym c.deref-2.ensures.value) ∙ sym c.place_among-2.ensures ∙ c.in-None.is)))
+    ∙ sym (place_in-drop FEW c.self.inside.list c.args.variable (place_in-position (take FEW c.self.inside.list) c.args.variable
+    ∙ ap (λ (l : List (Var × Term)). position (λ b. same_var b.0 c.args.variable) (take FEW l)) (sym c.as_slice-2.ensures) ∙ sym c.place_among-2.ensures ∙ c.in-None.is)))

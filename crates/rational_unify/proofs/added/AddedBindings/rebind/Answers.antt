@@ -1,23 +1,22 @@
-use Rattle.std.proofs.Common.{◌≡◌, Some, sym, ◌∙◌, ap, arith, ◌<◌, length}
+use Rattle.std.proofs.Common.{◌≡◌, Some, sym, ◌∙◌, ap, arith}
 use Rattle.std.proofs.lemmas.Option.{slice_get_within}
 use Rattle.rational_unify.specs.Indexes.{place_in}
 use Rattle.rational_unify.specs.declared.added.TheConstants.{FEW}
 use Rattle.rational_unify.proofs.Indexing.{place_in-found, place_in-none, rebinds-set, rebinds-nothing, IsIndex-set}
 use Rattle.rational_unify.proofs.added.AddedBindings.rebind.Goals as goal
 
-pub index_mut-requires : goal.index_mut-requires
-index_mut-requires c =
-    let p : place_in c.self.inside.list.items c.args.variable ≡ Some c.in-Some.place = ap (λ l. place_in l c.args.variable) c.self.view_is ∙ sym c.in-Some.ensures in
-    let w = place_in-found c.self.inside.list.items c.args.variable c.in-Some.place p in
-    let l : c.in-Some.place < length c.self.inside.list.items = slice_get_within c.self.inside.list.items c.in-Some.place w.0 w.1 in
-    omega (arith, c.self.inside.list.ok, l)
+pub set-requires : goal.set-requires
+set-requires c =
+    let p : place_in c.self.inside.list c.args.variable ≡ Some c.in-Some.place = ap (λ l. place_in l c.args.variable) c.self.view_is ∙ sym c.in-Some.ensures in
+    let w = place_in-found c.self.inside.list c.args.variable c.in-Some.place p in
+    (omega arith, slice_get_within c.self.inside.list c.in-Some.place w.0 w.1)
 
 pub invariant_of-self : goal.invariant_of-self
-invariant_of-self c = IsIndex-set FEW c.self.inside.places.entries c.self.inside.list.items c.args.variable c.in-Some.place c.args.term c.self.invariant
-    (ap (λ l. place_in l c.args.variable) c.self.view_is ∙ sym c.in-Some.ensures)
+invariant_of-self c = rw c.set.ensures (IsIndex-set FEW c.self.inside.places.entries c.self.inside.list c.args.variable c.in-Some.place c.args.term c.self.invariant
+    (ap (λ l. place_in l c.args.variable) c.self.view_is ∙ sym c.in-Some.ensures))
 
 pub returns-in-Some : goal.returns-in-Some
-returns-in-Some c = rw (← c.self.view_is) (rebinds-set c.self.inside.list.items c.args.variable c.in-Some.place c.args.term
+returns-in-Some c = rw (c.set.ensures, ← c.self.view_is) (rebinds-set c.self.inside.list c.args.variable c.in-Some.place c.args.term
     (ap (λ l. place_in l c.args.variable) c.self.view_is ∙ sym c.in-Some.ensures))
 
 pub returns-in_default : goal.returns-in_default

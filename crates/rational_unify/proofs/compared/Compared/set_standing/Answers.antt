@@ -4,7 +4,7 @@ use Rattle.rational_unify.proofs.compared.Compared.set_standing.Goals.{in-Ok, in
 
 pub invariant_of-self : goal.invariant_of-self
 invariant_of-self c = elim c.match-insert.branch [
-  | in-Ok w ↦ AreStandings-set c.self.inside.standings.entries c.insert.new.self.entries c.self.inside.pairs.items (record { node = c.in-Mol.node; frame = c.in-Mol.frame }) c.args.standing c.self.invariant
+  | in-Ok w ↦ AreStandings-set c.self.inside.standings.entries c.insert.new.self.entries c.self.inside.pairs (record { node = c.in-Mol.node; frame = c.in-Mol.frame }) c.args.standing c.self.invariant
       (rw c.self.view_is (rw c.in-Mol.is at c.requires)) w.in-Ok.ensures.updates.0
   | in-Err w ↦ rw w.in-Err.ensures.err c.self.invariant
 ]
