@@ -20,6 +20,13 @@ pub enum Term {
     Port(Name),
 }
 
+impl Default for Term {
+    /// The integer 0.
+    fn default() -> Term {
+        Term::Int(0)
+    }
+}
+
 /// What a term begins with, with its frame where it goes on.
 #[derive(Clone, Copy, Debug, PartialEq, Eq)]
 pub enum Seen {
@@ -36,7 +43,7 @@ pub enum Seen {
 }
 
 /// An equation between two terms.
-#[derive(Clone, Copy)]
+#[derive(Clone, Copy, Default)]
 pub struct Equation {
     pub left: Term,
     pub right: Term,
