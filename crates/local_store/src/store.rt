@@ -7,7 +7,7 @@ ghost use Rattle.local_store.specs.Stored.{nothing, unbound, is_named, with_fram
 
 use akl_terms::{Name, Term, Var};
 use persist_map::BufferedMap;
-use rational_unify::{NO_BINDING, ShortList};
+use smallvec::SmallVec;
 use std::alloc::{AllocError, Global};
 use std::marker::Model;
 
@@ -204,11 +204,11 @@ impl Store {
     }
 
     /// The bindings in increasing order of variables, those of one variable in the order in which they were added.
-    pub fn bindings(&self) -> Result<ShortList<(Var, Term), 4>, AllocError>
-        ensures { IfOk result (λ list. list ≡ self.now.bindings) }
+    pub fn bindings(&self) -> Result<SmallVec<(Var, Term), 4>, AllocError>
+        ensures { IfOk result (λ list. list.items ≡ self.now.bindings) }
     {
         let entries = self.bindings.entries()?;
-        let mut list = ShortList::with_capacity(self.alloc, NO_BINDING, entries.len())?;
+        let mut list = SmallVec::with_capacity(self.alloc, entries.len())?;
         for entry in &entries {
             list.push((entry.0.0, entry.1))?;
         }

@@ -14,4 +14,3 @@ pub mod Following
 pub mod Taking
 pub mod FormLaws
 pub mod FromNothing
-pub mod Short

@@ -60,4 +60,4 @@ SolvesAlong nodes known es followed solved = (other : List (Var × Term)) → Is
 
 -- the answer holds too over any other solved form that gives each followed variable what the known bindings give it
 abbrev pub SolvesAlso : List Node → List (Var × Term) → List code.Equation → Solution → Type 0
-SolvesAlso nodes known es s = SolvesAlong nodes known es s.followed s.solved
+SolvesAlso nodes known es s = SolvesAlong nodes known es s.followed.items s.solved

@@ -6,4 +6,3 @@ pub mod Forms
 pub mod Shortened
 pub mod Followed
 pub mod Meeting
-pub mod Short

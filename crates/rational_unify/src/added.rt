@@ -8,8 +8,8 @@ ghost use Rattle.rational_unify.specs.Shortened.{Rebinds};
 ghost use Rattle.rational_unify.specs.declared.added.TheConstants.{FEW};
 
 use crate::known::place_among;
-use crate::short_list::{NO_BINDING, ShortList};
 use akl_terms::{Term, Var};
+use smallvec::SmallVec;
 use std::alloc::{AllocError, Global};
 use std::collections::HashMap;
 use std::marker::Model;
@@ -21,7 +21,7 @@ pub const FEW: usize = 8;
 /// are found by looking through them, and the rest by an index of their places.
 #[derive(Drop)]
 pub struct AddedBindings {
-    list: ShortList<(Var, Term), 4>,
+    list: SmallVec<(Var, Term), 4>,
     places: HashMap<Var, usize>,
 }
 
@@ -34,9 +34,9 @@ impl Model for AddedBindings {
 
     ghost Value = { List (Var × Term) };
 
-    ghost view = { λ a. a.list };
+    ghost view = { λ a. a.list.items };
 
-    ghost invariant = { λ a. IsIndex FEW a.places.entries a.list };
+    ghost invariant = { λ a. IsIndex FEW a.places.entries a.list.items };
 }
 
 impl AddedBindings {
@@ -45,7 +45,7 @@ impl AddedBindings {
         ensures { result ≡ [] }
     {
         AddedBindings {
-            list: ShortList::new(alloc, NO_BINDING),
+            list: SmallVec::new(alloc),
             places: HashMap::new(alloc),
         }
     }
@@ -54,11 +54,8 @@ impl AddedBindings {
     pub fn get(&self, variable: Var) -> Option<Term>
         ensures { result ≡ found_in self.now variable }
     {
-        let Some(place) = self.place_of(variable) else {
-            return None;
-        };
-        match self.list.get(place) {
-            Some((_, term)) => Some(term),
+        match self.place_of(variable) {
+            Some(place) => Some(self.list[place].1),
             None => None,
         }
     }
@@ -69,8 +66,8 @@ impl AddedBindings {
         ensures list { IfOk result (λ _. self.new ≡ self.old ++ (variable, term) ∷ []) }
         ensures small { IfOk result (λ _. length self.new < 2 ^ 64) }
     {
-        let place = self.list.len();
         self.list.push((variable, term))?;
+        let place = self.list.len() - 1;
         if place < FEW {
             return Ok(());
         }
@@ -88,7 +85,7 @@ impl AddedBindings {
         ensures { Rebinds self.old self.new variable term }
     {
         if let Some(place) = self.place_of(variable) {
-            self.list.set(place, (variable, term));
+            self.list[place] = (variable, term);
         }
     }
 

@@ -8,12 +8,12 @@ ghost use Rattle.rational_unify.specs.Followed.{Leads, Follows, ReboundAll};
 
 use crate::added::AddedBindings;
 use crate::known::Lookup;
-use crate::short_list::ShortList;
 use akl_terms::{Seen, Templates, Term, Var};
+use smallvec::SmallVec;
 use std::alloc::AllocError;
 
 /// Variables whose bindings were read.
-pub type Followed = ShortList<Var, 12>;
+pub type Followed = SmallVec<Var, 6>;
 
 /// The end of a term's chain: the term itself, where it is no variable that is bound.
 pub fn chain_end<K: Lookup>(templates: &Templates, known: &K, term: Term) -> Term
@@ -87,7 +87,7 @@ fn path_of<K: Lookup>(
     variables: &mut Followed,
 ) -> Result<Term, AllocError>
     requires { IsSolved templates.now.nodes (K.bindings known.now) }
-    ensures { IfOk result (λ end. Leads templates.now.nodes (K.bindings known.now) term variables.old variables.new end) }
+    ensures { IfOk result (λ end. Leads templates.now.nodes (K.bindings known.now) term variables.old.items variables.new.items end) }
 {
     let mut last = term;
     while let Seen::Free(variable) = templates.look(last) {
@@ -110,7 +110,7 @@ pub fn follow<K: Lookup>(
     term: Term,
 ) -> Result<Term, AllocError>
     requires { IsSolved templates.now.nodes (K.bindings known.now ++ added.old) }
-    ensures { IfOk result (λ end. Follows templates.now.nodes (K.bindings known.now) term added.old added.new followed.old followed.new end) }
+    ensures { IfOk result (λ end. Follows templates.now.nodes (K.bindings known.now) term added.old added.new followed.old.items followed.new.items end) }
 {
     let start = followed.len();
     let end = path_of(templates, &Together { known, added }, term, followed)?;

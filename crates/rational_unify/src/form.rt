@@ -9,9 +9,9 @@ ghost use Rattle.rational_unify.specs.Forms.{Takes, IsClashOfBindings, OneTaken}
 use crate::added::AddedBindings;
 use crate::chain::{Together, chain_end};
 use crate::known::Lookup;
-use crate::short_list::{NO_PAIR, ShortList};
 use crate::solver::{Solution, Solved, solve};
 use akl_terms::{Equation, Seen, Templates, Term, Var};
+use smallvec::SmallVec;
 use std::alloc::{AllocError, Global};
 
 /// Known bindings with others that were added.
@@ -54,7 +54,7 @@ impl<'a, K: Lookup> Form<'a, K> {
             (LeadOlder templates.now.nodes (K.bindings self.old.known.now ++ self.old.added) → EachOlder templates.now.nodes bindings.now
             → LeadOlder templates.now.nodes (K.bindings self.old.known.now ++ self.new.added))) }
     {
-        let mut pending = ShortList::new(alloc, NO_PAIR);
+        let mut pending = SmallVec::new(alloc);
         for binding in bindings {
             self.take_one(templates, binding.0, binding.1, &mut pending)?;
         }
@@ -81,12 +81,12 @@ impl<'a, K: Lookup> Form<'a, K> {
         templates: &Templates,
         variable: Var,
         term: Term,
-        pending: &mut ShortList<Equation, 2>,
+        pending: &mut SmallVec<Equation, 2>,
     ) -> Result<(), AllocError>
         requires { IsSolved templates.now.nodes (K.bindings self.old.known.now ++ self.old.added) }
         ensures known { self.new.known ≡ self.old.known }
         ensures taken { IfOk result (λ _. OneTaken templates.now.nodes (K.bindings self.old.known.now ++ self.old.added) self.old.added self.new.added
-            pending.old pending.new variable term) }
+            pending.old.items pending.new.items variable term) }
         ensures older { IfOk result (λ _. IsToOlder templates.now.nodes (variable, term)
             → KeepsOlder templates.now.nodes (K.bindings self.old.known.now ++ self.old.added) (K.bindings self.old.known.now ++ self.new.added)) }
     {

@@ -9,7 +9,6 @@ mod known;
 mod meet;
 mod older;
 mod pending;
-mod short_list;
 mod solver;
 
 pub use added::AddedBindings;
@@ -17,5 +16,4 @@ pub use chain::{chain_end, end_variable, variable_end};
 pub use form::Form;
 pub use known::{Lookup, Nothing, found};
 pub use older::leads_older;
-pub use short_list::{NO_BINDING, NO_VARIABLE, ShortList};
 pub use solver::{Solution, Solved, solve};

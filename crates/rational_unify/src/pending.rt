@@ -2,8 +2,8 @@
 
 ghost use Rattle.std.specs.Prelude.{◌≡◌, ◌++◌, ◌∷◌, [], IfOk, IfNone, option_to_list};
 
-use crate::short_list::{NO_PAIR, ShortList};
 use akl_terms::Equation;
+use smallvec::SmallVec;
 use std::alloc::{AllocError, Global};
 use std::marker::Model;
 
@@ -11,7 +11,7 @@ use std::marker::Model;
 #[derive(Drop)]
 pub struct Pending<'a> {
     lent: &'a [Equation],
-    more: ShortList<Equation, 4>,
+    more: SmallVec<Equation, 4>,
 }
 
 impl<'a> Model for Pending<'a> {
@@ -20,7 +20,7 @@ impl<'a> Model for Pending<'a> {
 
     ghost Value = { List Equation };
 
-    ghost view = { λ p. p.lent.now ++ p.more };
+    ghost view = { λ p. p.lent.now ++ p.more.items };
 }
 
 impl<'a> Pending<'a> {
@@ -30,7 +30,7 @@ impl<'a> Pending<'a> {
     {
         Pending {
             lent: equations,
-            more: ShortList::new(alloc, NO_PAIR),
+            more: SmallVec::new(alloc),
         }
     }
 
@@ -51,6 +51,7 @@ impl<'a> Pending<'a> {
     pub fn push(&mut self, equation: Equation) -> Result<(), AllocError>
         ensures { IfOk result (λ _. self.new ≡ self.old ++ equation ∷ []) }
     {
-        self.more.push(equation)
+        self.more.push(equation)?;
+        Ok(())
     }
 }

@@ -16,7 +16,6 @@ use crate::compared::Compared;
 use crate::known::Lookup;
 use crate::meet::{Meeting, compare};
 use crate::pending::Pending;
-use crate::short_list::NO_VARIABLE;
 use akl_terms::{Equation, Templates, Term, Var};
 use std::alloc::{AllocError, Global};
 
@@ -59,7 +58,7 @@ pub fn solve<K: Lookup>(
     ensures followed { IfOk result (λ s. SolvesAlso templates.now.nodes (K.bindings known.now) equations.now s) }
     ensures older { IfOk result (λ s. AddsOlder templates.now.nodes (K.bindings known.now) s.solved) }
 {
-    let mut followed = Followed::new(alloc, NO_VARIABLE);
+    let mut followed = Followed::new(alloc);
     let solved = solved_along(alloc, templates, known, equations, &mut followed)?;
     Ok(Solution { solved, followed })
 }
@@ -73,7 +72,7 @@ fn solved_along<K: Lookup>(
     followed: &mut Followed,
 ) -> Result<Solved, AllocError>
     requires known { IsSolved templates.now.nodes (K.bindings known.now) }
-    ensures followed { IfOk result (λ solved. SolvesAlong templates.now.nodes (K.bindings known.now) equations.now followed.new solved) }
+    ensures followed { IfOk result (λ solved. SolvesAlong templates.now.nodes (K.bindings known.now) equations.now followed.new.items solved) }
     ensures older { IfOk result (λ solved. AddsOlder templates.now.nodes (K.bindings known.now) solved) }
 {
     let mut work = Work::of(alloc, equations);
@@ -155,7 +154,7 @@ fn settle<K: Lookup>(
 ) -> Result<(), AllocError>
     requires solved { IsSolved templates.now.nodes (K.bindings known.now ++ added.old) }
     requires fresh { BindNew (K.bindings known.now) added.old }
-    ensures settles { IfOk result (λ _. Settles templates.now.nodes (K.bindings known.now) added.old added.new followed.old followed.new) }
+    ensures settles { IfOk result (λ _. Settles templates.now.nodes (K.bindings known.now) added.old added.new followed.old.items followed.new.items) }
     ensures older { IfOk result (λ _. KeepsOlder templates.now.nodes (K.bindings known.now ++ added.old) (K.bindings known.now ++ added.new)) }
 {
     // The last binding leads to an end, as none was added after it.
