@@ -5,7 +5,6 @@ ghost use Rattle.class_members.specs.Listed.{candidates_of, inner_keys, unbound_
 
 use akl_terms::{Term, Var};
 use local_store::{Shared, Store};
-use rational_unify::{NO_VARIABLE, ShortList};
 use std::alloc::{AllocError, Global};
 
 /// Of stores that are solved together the variables that the inner ones bind and the outermost doesn't, and those of
@@ -14,8 +13,8 @@ pub fn candidates_of(
     alloc: Global,
     solved: &[Shared<Store>],
     added: &[(Var, Term)],
-) -> Result<ShortList<Var, 4>, AllocError>
-    ensures { IfOk result (λ list. list ≡ candidates_of solved.now added.now) }
+) -> Result<Vec<Var>, AllocError>
+    ensures { IfOk result (λ list. list.items ≡ candidates_of solved.now added.now) }
 {
     let mut list = inner_keys(alloc, solved)?;
     for binding in added {
@@ -25,10 +24,10 @@ pub fn candidates_of(
 }
 
 // The variables that the inner stores bind and the outermost doesn't.
-fn inner_keys(alloc: Global, stores: &[Shared<Store>]) -> Result<ShortList<Var, 4>, AllocError>
-    ensures { IfOk result (λ list. list ≡ inner_keys stores.now) }
+fn inner_keys(alloc: Global, stores: &[Shared<Store>]) -> Result<Vec<Var>, AllocError>
+    ensures { IfOk result (λ list. list.items ≡ inner_keys stores.now) }
 {
-    let mut list = ShortList::new(alloc, NO_VARIABLE);
+    let mut list = Vec::new(alloc);
     let Some((outermost, inner)) = stores.split_first() else {
         return Ok(list);
     };
@@ -41,11 +40,11 @@ fn inner_keys(alloc: Global, stores: &[Shared<Store>]) -> Result<ShortList<Var, 
 
 // Puts the variables of these bindings that a store doesn't bind at the end of a list.
 fn push_unbound(
-    list: &mut ShortList<Var, 4>,
+    list: &mut Vec<Var>,
     outermost: &Store,
     bindings: &[(Var, Term)],
 ) -> Result<(), AllocError>
-    ensures { IfOk result (λ _. list.new ≡ list.old ++ unbound_keys outermost.now bindings.now) }
+    ensures { IfOk result (λ _. list.new.items ≡ list.old.items ++ unbound_keys outermost.now bindings.now) }
 {
     for binding in bindings {
         if outermost.first_binding(binding.0).is_none() {

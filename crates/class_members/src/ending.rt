@@ -6,7 +6,7 @@ ghost use Rattle.rational_unify.specs.Known.{IsSolved};
 ghost use Rattle.class_members.specs.Listed.{AreEnds, EndsAmong};
 
 use akl_terms::{Templates, Var};
-use rational_unify::{Lookup, NO_VARIABLE, ShortList, variable_end};
+use rational_unify::{Lookup, variable_end};
 use std::alloc::{AllocError, Global};
 use std::collections::HashSet;
 use std::marker::Model;
@@ -18,7 +18,7 @@ pub const FEW: usize = 8;
 /// the rest by a set.
 #[derive(Drop)]
 pub struct Ends {
-    list: ShortList<Var, 4>,
+    list: Vec<Var>,
     rest: HashSet<Var>,
 }
 
@@ -30,9 +30,9 @@ impl Model for Ends {
 
     ghost Value = { List Var };
 
-    ghost view = { λ e. e.list };
+    ghost view = { λ e. e.list.items };
 
-    ghost invariant = { λ e. IsRest FEW e.rest.keys e.list };
+    ghost invariant = { λ e. IsRest FEW e.rest.keys e.list.items };
 }
 
 impl Ends {
@@ -68,11 +68,11 @@ impl Ends {
         }
     }
 
-    /// The ends in order.
-    pub fn as_slice(&self) -> &[Var]
-        ensures { result.now ≡ self.now }
+    /// The ends in order. It takes no memory.
+    pub fn into_vec(self) -> Vec<Var>
+        ensures { result.items ≡ self }
     {
-        self.list.as_slice()
+        self.list
     }
 
     // No ends.
@@ -80,7 +80,7 @@ impl Ends {
         ensures { result ≡ [] }
     {
         Ends {
-            list: ShortList::new(alloc, NO_VARIABLE),
+            list: Vec::new(alloc),
             rest: HashSet::new(alloc),
         }
     }
@@ -90,9 +90,9 @@ impl Ends {
         ensures { IsTrue result ↔ IsAmong end self.now }
     {
         if self.list.len() <= FEW {
-            return self.list.as_slice().contains(&end);
+            return self.list.contains(&end);
         }
-        self.list.as_slice()[..FEW].contains(&end) || self.rest.contains(&end)
+        self.list[..FEW].contains(&end) || self.rest.contains(&end)
     }
 
     // Adds an end.

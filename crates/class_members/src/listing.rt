@@ -11,7 +11,7 @@ use crate::candidates::candidates_of;
 use crate::ending::Ends;
 use akl_terms::{Templates, Var};
 use local_store::{Chain, take_stores};
-use rational_unify::{AddedBindings, Form, Lookup, NO_VARIABLE, ShortList};
+use rational_unify::{AddedBindings, Form, Lookup};
 use std::alloc::{AllocError, Global};
 
 /// Members of the classes of these variables, enough of them that each other member is equal to one by the outermost
@@ -52,15 +52,13 @@ fn members_among<W: Lookup>(
     ensures { IfOk result (λ list. AreListed templates.now.nodes (W.bindings whole.now) of.now candidates.now list.items) }
 {
     let ends = Ends::of_all(alloc, templates, whole, of)?;
-    let mut others: ShortList<Var, 4> = ShortList::new(alloc, NO_VARIABLE);
+    let mut others = Vec::new(alloc);
     for candidate in candidates {
         if ends.has_end_of(templates, whole, *candidate) {
             others.push(*candidate)?;
         }
     }
-    let ends = ends.as_slice();
-    let mut list = Vec::with_capacity(alloc, ends.len().saturating_add(others.len()))?;
-    list.extend_from_slice(ends)?;
-    list.extend_from_slice(others.as_slice())?;
+    let mut list = ends.into_vec();
+    list.extend_from_slice(&others)?;
     Ok(list)
 }

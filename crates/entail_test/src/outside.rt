@@ -7,7 +7,7 @@ ghost use Rattle.entail_test.specs.Asked.{Reads, KeepsApartAt, AreCandidates, Sh
 use crate::reading::touched;
 use akl_terms::{Name, Templates, Term, Var};
 use local_store::{Chain, Shared, Store, take_stores};
-use rational_unify::{AddedBindings, Form, Lookup, variable_end};
+use rational_unify::{AddedBindings, Form, Lookup, NO_BINDING, ShortList, variable_end};
 use std::alloc::{AllocError, Global};
 
 /// What is told to the variables from outside.
@@ -69,10 +69,13 @@ fn told_in(alloc: Global, chain: &Chain, depth: usize) -> Result<Outside, AllocE
 }
 
 // All bindings of stores, those of inner ones first.
-fn bindings_of(alloc: Global, stores: &[Shared<Store>]) -> Result<Vec<(Var, Term)>, AllocError>
-    ensures { IfOk result (λ list. list.items ≡ bindings_from stores.now) }
+fn bindings_of(
+    alloc: Global,
+    stores: &[Shared<Store>],
+) -> Result<ShortList<(Var, Term), 4>, AllocError>
+    ensures { IfOk result (λ list. list ≡ bindings_from stores.now) }
 {
-    let mut list = Vec::new(alloc);
+    let mut list = ShortList::new(alloc, NO_BINDING);
     let mut left = stores.len();
     while left > 0 {
         left -= 1;
@@ -82,8 +85,8 @@ fn bindings_of(alloc: Global, stores: &[Shared<Store>]) -> Result<Vec<(Var, Term
 }
 
 // Also lists the bindings of a store.
-fn add_bindings(store: &Store, list: &mut Vec<(Var, Term)>) -> Result<(), AllocError>
-    ensures { IfOk result (λ _. list.new.items ≡ list.old.items ++ store.now.bindings) }
+fn add_bindings(store: &Store, list: &mut ShortList<(Var, Term), 4>) -> Result<(), AllocError>
+    ensures { IfOk result (λ _. list.new ≡ list.old ++ store.now.bindings) }
 {
     let bindings = store.bindings()?;
     list.extend_from_slice(bindings.as_slice())

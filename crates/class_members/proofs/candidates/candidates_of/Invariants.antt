@@ -6,4 +6,4 @@ use Rattle.class_members.specs.Listed.{inner_keys}
 use Rattle.class_members.proofs.candidates.candidates_of.Given as goal
 
 abbrev pub invariant-loop-binding : goal.invariant-loop-binding
-invariant-loop-binding l = l.list ≡ inner_keys l.solved ++ map (λ (b : Var × Term). b.0) (take l.binding-index l.added)
+invariant-loop-binding l = l.list.items ≡ inner_keys l.solved ++ map (λ (b : Var × Term). b.0) (take l.binding-index l.added)

@@ -19,7 +19,7 @@ returns-in-Some-clause-members c =
 pub returns-clause-members : goal.returns-clause-members
 returns-clause-members c =
     let t = rw (c.in-None.is, c.new.ensures, c.templates-templates.ensures.nodes, c.outer-base.ensures.stores, c.stores.ensures) at c.in_ok-take_stores.ensures.taken in
-    let l = rw (c.templates-templates.ensures.nodes, c.in_ok-take_stores.ensures.known, c.as_slice-in-None.ensures, c.in_ok-candidates-in-None.ensures, c.stores-in-None.ensures, c.as_slice.ensures, c.outer-base.ensures.stores) at c.members_among.ensures in
+    let l = rw (c.templates-templates.ensures.nodes, c.in_ok-take_stores.ensures.known, c.as_slice-in-None.ensures.value, c.in_ok-candidates-in-None.ensures, c.stores-in-None.ensures, c.as_slice.ensures, c.outer-base.ensures.stores) at c.members_among.ensures in
     IfOk-weaker c.members_among.result _ _ (λ list h. are_members c.args.chain.now.nodes c.args.chain.now.stores c.known-known.result c.known-known.ensures.solved c.take_stores.new.form.added
     (subst (λ (ss : List Stored). Takes c.args.chain.now.nodes (bindings_from (take c.known-known.result c.args.chain.now.stores)) [] c.take_stores.new.form.added (bindings_from ss)) (drop-whole c.args.chain.now.stores c.known-known.result) t)
     c.args.of.now list.items h) l
@@ -27,7 +27,7 @@ returns-clause-members c =
 pub returns-clause-unbound : goal.returns-clause-unbound
 returns-clause-unbound c =
     let t = rw (c.in-None.is, c.new.ensures, c.templates-templates.ensures.nodes, c.outer-base.ensures.stores, c.stores.ensures) at c.in_ok-take_stores.ensures.taken in
-    let l = rw (c.templates-templates.ensures.nodes, c.in_ok-take_stores.ensures.known, c.as_slice-in-None.ensures, c.in_ok-candidates-in-None.ensures, c.stores-in-None.ensures, c.as_slice.ensures, c.outer-base.ensures.stores) at c.members_among.ensures in
+    let l = rw (c.templates-templates.ensures.nodes, c.in_ok-take_stores.ensures.known, c.as_slice-in-None.ensures.value, c.in_ok-candidates-in-None.ensures, c.stores-in-None.ensures, c.as_slice.ensures, c.outer-base.ensures.stores) at c.members_among.ensures in
     IfOk-weaker c.members_among.result _ _ (λ list h some y m. members_unbound c.args.chain.now.nodes c.args.chain.now.stores c.known-known.result c.known-known.ensures.solved c.take_stores.new.form.added
     (subst (λ (ss : List Stored). Takes c.args.chain.now.nodes (bindings_from (take c.known-known.result c.args.chain.now.stores)) [] c.take_stores.new.form.added (bindings_from ss)) (drop-whole c.args.chain.now.stores c.known-known.result) t)
     c.args.of.now list.items h (omega (arith, some, c.known-known.ensures.known)) y m) l

@@ -14,10 +14,10 @@ loop-candidate-preserved g c =
     let r : IsTrue c.has_end_of.result ↔ EndsAmong c.args.templates.now.nodes (g.W.Lookup.bindings c.args.whole.now) c.in_ok-ends.ends y = c.has_end_of.ensures in
     rw (take-next c.args.candidates.now c.loop-candidate.candidate-index (c.loop-candidate.candidate-index + 1) (record { frame = record { worker = 0; number = 0 }; index = 0 }) c.loop-candidate-test.true (omega arith))
     (elim c.if-has_end_of.branch [
-      | then-has_end_of+in_ok-push w ↦ rw (w.others-is, w.in_ok-push.ensures.list, ← append_assoc c.ends.inside.list c.loop-candidate.others (y ∷ []))
+      | then-has_end_of+in_ok-push w ↦ rw (w.others-is, w.in_ok-push.ensures.items, ← append_assoc c.ends.inside.list.items c.loop-candidate.others.items (y ∷ []))
           (listed_more c.args.templates.now.nodes (g.W.Lookup.bindings c.args.whole.now) c.args.of.now (take c.loop-candidate.candidate-index c.args.candidates.now)
-          (c.ends.inside.list ++ c.loop-candidate.others) c.loop-candidate.invariant y c.in_ok-ends.ends c.in_ok-ends.ensures (r.0 w.if-has_end_of.true))
+          (c.ends.inside.list.items ++ c.loop-candidate.others.items) c.loop-candidate.invariant y c.in_ok-ends.ends c.in_ok-ends.ensures (r.0 w.if-has_end_of.true))
       | else-has_end_of w ↦ rw w.others-is
           (listed_same c.args.templates.now.nodes (g.W.Lookup.bindings c.args.whole.now) c.args.of.now (take c.loop-candidate.candidate-index c.args.candidates.now)
-          (c.ends.inside.list ++ c.loop-candidate.others) c.loop-candidate.invariant y c.in_ok-ends.ends c.in_ok-ends.ensures (λ e. (let z : false ≡ true = sym w.if-has_end_of.false ∙ r.1 e in cc)))
+          (c.ends.inside.list.items ++ c.loop-candidate.others.items) c.loop-candidate.invariant y c.in_ok-ends.ends c.in_ok-ends.ensures (λ e. (let z : false ≡ true = sym w.if-has_end_of.false ∙ r.1 e in cc)))
     ])

@@ -5,11 +5,11 @@ use Rattle.class_members.proofs.Gathered.{rest_few, rest_push}
 use Rattle.class_members.proofs.ending.Ends.push.Goals as goal
 
 pub invariant_of-self-then-place-lt-FEW : goal.invariant_of-self-then-place-lt-FEW
-invariant_of-self-then-place-lt-FEW c = rw c.in_ok-push.ensures.list
-    (rest_few FEW c.self.inside.rest.keys c.self.inside.list c.self.invariant c.args.end
-    (omega (arith, c.len-place.ensures, length-append {A = Var})))
+invariant_of-self-then-place-lt-FEW c = rw c.in_ok-push.ensures.items
+    (rest_few FEW c.self.inside.rest.keys c.self.inside.list.items c.self.invariant c.args.end
+    (omega (arith, c.len-place.ensures, c.self.inside.list.ok, length-append {A = Var})))
 
 pub invariant_of-self-in-Ok : goal.invariant_of-self-in-Ok
-invariant_of-self-in-Ok c = rw c.in_ok-push.ensures.list
-    (rest_push FEW c.self.inside.rest.keys c.self.inside.list c.self.invariant c.insert.new.self.keys c.args.end
-    (omega (arith, c.len-place.ensures)) c.in-Ok.ensures.updates.0)
+invariant_of-self-in-Ok c = rw c.in_ok-push.ensures.items
+    (rest_push FEW c.self.inside.rest.keys c.self.inside.list.items c.self.invariant c.insert.new.self.keys c.args.end
+    (omega (arith, c.len-place.ensures, c.self.inside.list.ok)) c.in-Ok.ensures.updates.0)
