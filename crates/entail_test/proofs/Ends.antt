@@ -1,20 +1,17 @@
 -- What solved forms of an environment and of the whole tell the variables from outside.
-use Rattle.std.proofs.Common.{◌≡◌, ◌≢◌, List, [], ◌∷◌, Option, Some, None, Bool, true, false, cond, refl, sym, ap, subst, ◌∙◌, ◌⊎◌, inl, inr, length}
-use Rattle.std.specs.Prelude.{filter, map, option_map}
+use Rattle.std.proofs.Common.{◌≡◌, ◌≢◌, List, [], ◌∷◌, Option, Some, None, Bool, true, false, cond, refl, sym, ap, subst, ◌∙◌, ◌⊎◌, inl, inr}
+use Rattle.std.specs.Prelude.{filter, map}
 use Rattle.akl_terms.specs.declared.name.Name.{Name}
 use Rattle.akl_terms.specs.declared.name.Var.{Var}
 use Rattle.akl_terms.specs.declared.term.Node.{Node}
 use Rattle.akl_terms.specs.declared.term.Term.{Term}
-use Rattle.akl_terms.specs.Tree.{Tree, variable, integer, port, symbol, integer_head, port_head, symbol_head, head_of, list_of}
+use Rattle.akl_terms.specs.Tree.{Tree, variable, head_of}
 use Rattle.akl_terms.specs.Equal.{Equations, IsTold, Equal, IsStructured}
 use Rattle.akl_terms.specs.Touching.{IsOutside, IsUnbound, IsTied, Touches}
-use Rattle.akl_terms.specs.Template.{tree}
-use Rattle.akl_terms.specs.Solved.{walk, follow}
-use Rattle.rational_unify.specs.Known.{found_in, bound_in, end_of}
+use Rattle.rational_unify.specs.Known.{end_of}
 use Rattle.rational_unify.specs.Forms.{IsFormOf}
 use Rattle.rational_unify.specs.Shortened.{IsEndOf}
-use Rattle.rational_unify.proofs.Stands.{HasHead, structured-end, unstructured-end, equal-end}
-use Rattle.rational_unify.proofs.FormLaws.{form-holds, form-follows, form-stays}
+use Rattle.rational_unify.proofs.Stands.{HasHead}
 use Rattle.entail_test.specs.declared.reading.Class.{Class}
 use Rattle.entail_test.specs.Touched.{AreApart, AreTouched}
 use Rattle.constraint_laws.specs.Touched.{IsAmong}

@@ -8,6 +8,7 @@ use crate::reading::touched;
 use akl_terms::{Name, Templates, Term, Var};
 use local_store::{Chain, Shared, Store, take_stores};
 use rational_unify::{AddedBindings, Form, Lookup, variable_end};
+use smallvec::SmallVec;
 use std::alloc::{AllocError, Global};
 
 /// What is told to the variables from outside.
@@ -69,10 +70,13 @@ fn told_in(alloc: Global, chain: &Chain, depth: usize) -> Result<Outside, AllocE
 }
 
 // All bindings of stores, those of inner ones first.
-fn bindings_of(alloc: Global, stores: &[Shared<Store>]) -> Result<Vec<(Var, Term)>, AllocError>
+fn bindings_of(
+    alloc: Global,
+    stores: &[Shared<Store>],
+) -> Result<SmallVec<(Var, Term), 4>, AllocError>
     ensures { IfOk result (λ list. list.items ≡ bindings_from stores.now) }
 {
-    let mut list = Vec::new(alloc);
+    let mut list = SmallVec::new(alloc);
     let mut left = stores.len();
     while left > 0 {
         left -= 1;
@@ -82,7 +86,7 @@ fn bindings_of(alloc: Global, stores: &[Shared<Store>]) -> Result<Vec<(Var, Term
 }
 
 // Also lists the bindings of a store.
-fn add_bindings(store: &Store, list: &mut Vec<(Var, Term)>) -> Result<(), AllocError>
+fn add_bindings(store: &Store, list: &mut SmallVec<(Var, Term), 4>) -> Result<(), AllocError>
     ensures { IfOk result (λ _. list.new.items ≡ list.old.items ++ store.now.bindings) }
 {
     let bindings = store.bindings()?;

@@ -1,5 +1,5 @@
 //! What solved forms tell variables from outside.
-ghost use Rattle.std.specs.Prelude.{◌≡◌, IfOk, filter, map, not, ◌||◌, Some, is_some, cond};
+ghost use Rattle.std.specs.Prelude.{◌≡◌, ◌∷◌, [], IfOk, filter, map, not, ◌||◌, Some, is_some, cond};
 ghost use Rattle.std.specs.Option.{unwrap_or};
 ghost use Rattle.std.specs.Map.{lookup};
 ghost use Rattle.akl_terms.specs.Names.{same_var};
@@ -22,6 +22,48 @@ pub struct Class {
 
 /// The candidates, one of each class that the whole makes structured, or equal to another class.
 pub fn touched<K: Lookup, W: Lookup>(
+    alloc: Global,
+    templates: &Templates,
+    known: &K,
+    whole: &W,
+    candidates: &[Var],
+) -> Result<Vec<Var>, AllocError>
+    requires known { IsSolved templates.now.nodes (K.bindings known.now) }
+    requires whole { IsSolved templates.now.nodes (W.bindings whole.now) }
+    ensures { IfOk result (λ on. (cs : _) × AreClasses templates.now.nodes (K.bindings known.now) (W.bindings whole.now) candidates.now cs
+        × (on.items ≡ map (λ c. c.member) (filter (λ c. is_noisy cs c) cs))) }
+{
+    match *candidates {
+        [] => Ok(Vec::new(alloc)),
+        [member] => touched_alone(alloc, templates, known, whole, member),
+        _ => touched_among(alloc, templates, known, whole, candidates),
+    }
+}
+
+// As `touched`, of one candidate: its class ends where no other one does.
+fn touched_alone<K: Lookup, W: Lookup>(
+    alloc: Global,
+    templates: &Templates,
+    known: &K,
+    whole: &W,
+    member: Var,
+) -> Result<Vec<Var>, AllocError>
+    requires known { IsSolved templates.now.nodes (K.bindings known.now) }
+    requires whole { IsSolved templates.now.nodes (W.bindings whole.now) }
+    ensures { IfOk result (λ on. (cs : _) × AreClasses templates.now.nodes (K.bindings known.now) (W.bindings whole.now) (member ∷ []) cs
+        × (on.items ≡ map (λ c. c.member) (filter (λ c. is_noisy cs c) cs))) }
+{
+    let Some(_) = variable_end(templates, known, member) else {
+        return Ok(Vec::new(alloc));
+    };
+    match variable_end(templates, whole, member) {
+        Some(_) => Ok(Vec::new(alloc)),
+        None => Vec::from_slice(alloc, &[member]),
+    }
+}
+
+// As `touched`, of any candidates.
+fn touched_among<K: Lookup, W: Lookup>(
     alloc: Global,
     templates: &Templates,
     known: &K,

@@ -1,7 +1,6 @@
 -- A solved chain in two parts: the one, as it stands, is what is taken in over the other.
-use Rattle.std.proofs.Common.{◌≡◌, ℕ, zero, suc, ◌+◌, List, [], ◌∷◌, ◌++◌, length, take, drop, None, Some, refl, sym, ap, subst, ◌∙◌, ◌⊎◌, inl, inr, arith, append_assoc, append-nil}
+use Rattle.std.proofs.Common.{◌≡◌, ℕ, zero, suc, ◌+◌, List, [], ◌∷◌, ◌++◌, length, take, drop, refl, sym, ap, subst, ◌∙◌, inl, inr, arith, append_assoc, append-nil}
 use Rattle.std.specs.Prelude.{option_map}
-use Rattle.std.specs.List.{AllByRecursion}
 use Rattle.akl_terms.specs.declared.name.Var.{Var}
 use Rattle.akl_terms.specs.declared.term.Node.{Node}
 use Rattle.akl_terms.specs.declared.term.Term.{Term}
@@ -12,7 +11,7 @@ use Rattle.akl_terms.specs.Template.{tree}
 use Rattle.rational_unify.specs.Known.{found_in, bound_in, end_of}
 use Rattle.rational_unify.specs.Solving.{bindings_in, BindNew}
 use Rattle.rational_unify.specs.Older.{LeadOlder, EachOlder}
-use Rattle.rational_unify.specs.Forms.{IsFormOf, TellsBindings, Takes}
+use Rattle.rational_unify.specs.Forms.{TellsBindings, Takes}
 use Rattle.rational_unify.proofs.Chains.{BindNew-found, BindNew-bound}
 use Rattle.rational_unify.proofs.FormLaws.{bound-either}
 use Rattle.local_store.specs.Stored.{Stored}

@@ -1,6 +1,6 @@
 //! The store of one box.
 ghost use Rattle.std.specs.Prelude.{◌≡◌, ◌+◌, IfOk, IfErr};
-ghost use Rattle.std.specs.Map.{lookup};
+ghost use Rattle.std.specs.Map.{keys_of, lookup};
 ghost use Rattle.akl_terms.specs.Names.{same_name};
 ghost use Rattle.rational_unify.specs.Known.{found_in};
 ghost use Rattle.local_store.specs.Stored.{nothing, unbound, is_named, with_frame, with_port, with_binding, with_bindings};
@@ -201,6 +201,13 @@ impl Store {
             list.push(entry.0)?;
         }
         Ok(list)
+    }
+
+    /// The frames in increasing order of names, as they are kept.
+    pub(crate) fn frame_entries(&self) -> Result<Vec<(Name, ())>, AllocError>
+        ensures { IfOk result (λ list. keys_of list.items ≡ self.now.frames) }
+    {
+        self.frames.entries()
     }
 
     /// The bindings in increasing order of variables, those of one variable in the order in which they were added.

@@ -3,10 +3,11 @@
 ghost use Rattle.std.specs.Prelude.{◌≡◌, ◌<◌, ◌^◌, ◌++◌, ◌∷◌, [], IfOk, None, length, slice_get};
 ghost use Rattle.rational_unify.specs.Known.{found_in};
 ghost use Rattle.rational_unify.specs.Solving.{BindNew};
-ghost use Rattle.rational_unify.specs.Indexes.{IsIndex, place_in};
+ghost use Rattle.rational_unify.specs.Indexes.{place_in};
 ghost use Rattle.rational_unify.specs.Shortened.{Rebinds};
 ghost use Rattle.rational_unify.specs.declared.added.TheConstants.{FEW};
 
+use crate::index::or_new;
 use crate::known::place_among;
 use akl_terms::{Term, Var};
 use smallvec::SmallVec;
@@ -21,22 +22,24 @@ pub const FEW: usize = 8;
 /// are found by looking through them, and the rest by an index of their places.
 #[derive(Drop)]
 pub struct AddedBindings {
+    alloc: Global,
     list: SmallVec<(Var, Term), 4>,
-    places: HashMap<Var, usize>,
+    // Made for the first binding behind these.
+    places: Option<HashMap<Var, usize>>,
 }
 
 impl Model for AddedBindings {
     ghost use Rattle.std.specs.Prelude.{List};
     ghost use Rattle.akl_terms.specs.declared.name.Var.{Var};
     ghost use Rattle.akl_terms.specs.declared.term.Term.{Term};
-    ghost use Rattle.rational_unify.specs.Indexes.{IsIndex};
+    ghost use Rattle.rational_unify.specs.Indexes.{IsIndex, entries_in};
     ghost use Rattle.rational_unify.specs.declared.added.TheConstants.{FEW};
 
     ghost Value = { List (Var × Term) };
 
     ghost view = { λ a. a.list.items };
 
-    ghost invariant = { λ a. IsIndex FEW a.places.entries a.list.items };
+    ghost invariant = { λ a. IsIndex FEW (entries_in a.places) a.list.items };
 }
 
 impl AddedBindings {
@@ -45,8 +48,9 @@ impl AddedBindings {
         ensures { result ≡ [] }
     {
         AddedBindings {
+            alloc,
             list: SmallVec::new(alloc),
-            places: HashMap::new(alloc),
+            places: None,
         }
     }
 
@@ -71,7 +75,10 @@ impl AddedBindings {
         if place < FEW {
             return Ok(());
         }
-        match self.places.insert(variable, place) {
+        let mut places = or_new(self.alloc, self.places.take());
+        let inserted = places.insert(variable, place);
+        self.places = Some(places);
+        match inserted {
             Ok(_) => Ok(()),
             Err(_) => {
                 let _ = self.list.pop();
@@ -98,7 +105,10 @@ impl AddedBindings {
         }
         match place_among(&self.list.as_slice()[..FEW], variable) {
             Some(place) => Some(place),
-            None => self.places.get(&variable).copied(),
+            None => match &self.places {
+                Some(places) => places.get(&variable).copied(),
+                None => None,
+            },
         }
     }
 

@@ -5,6 +5,7 @@ mod added;
 mod chain;
 mod compared;
 mod form;
+mod index;
 mod known;
 mod meet;
 mod older;

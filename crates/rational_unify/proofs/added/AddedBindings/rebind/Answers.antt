@@ -1,6 +1,6 @@
 use Rattle.std.proofs.Common.{◌≡◌, Some, sym, ◌∙◌, ap, arith}
 use Rattle.std.proofs.lemmas.Option.{slice_get_within}
-use Rattle.rational_unify.specs.Indexes.{place_in}
+use Rattle.rational_unify.specs.Indexes.{place_in, entries_in}
 use Rattle.rational_unify.specs.declared.added.TheConstants.{FEW}
 use Rattle.rational_unify.proofs.Indexing.{place_in-found, place_in-none, rebinds-set, rebinds-nothing, IsIndex-set}
 use Rattle.rational_unify.proofs.added.AddedBindings.rebind.Goals as goal
@@ -12,7 +12,7 @@ set-requires c =
     (omega arith, slice_get_within c.self.inside.list c.in-Some.place w.0 w.1)
 
 pub invariant_of-self : goal.invariant_of-self
-invariant_of-self c = rw c.set.ensures (IsIndex-set FEW c.self.inside.places.entries c.self.inside.list c.args.variable c.in-Some.place c.args.term c.self.invariant
+invariant_of-self c = rw c.set.ensures (IsIndex-set FEW (entries_in c.self.inside.places) c.self.inside.list c.args.variable c.in-Some.place c.args.term c.self.invariant
     (ap (λ l. place_in l c.args.variable) c.self.view_is ∙ sym c.in-Some.ensures))
 
 pub returns-in-Some : goal.returns-in-Some
