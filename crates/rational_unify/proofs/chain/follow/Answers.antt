@@ -11,7 +11,7 @@ returns g c = record {
   leads = c.in_ok-end.ensures.leads;
   first = take many behind;
   others = drop many behind;
-  parts = sym (drops c.len-start.result c.as_slice.result.now c.args.followed.now c.in_ok-end.ensures.path (c.as_slice.ensures ∙ c.in_ok-end.ensures.followed_by) c.len-start.ensures) ∙ sym (take-append-drop many behind);
+  parts = sym (drops c.len-start.result c.as_slice.result.now c.args.followed.now.items c.in_ok-end.ensures.path (c.as_slice.ensures ∙ c.in_ok-end.ensures.followed_by) c.len-start.ensures.value) ∙ sym (take-append-drop many behind);
   rebound_by = c.rebind_all.ensures;
 }
   where

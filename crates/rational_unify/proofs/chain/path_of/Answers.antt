@@ -17,14 +17,14 @@ loop-variable-smaller g c = next_falls _ _ _ _ c.requires (ap (next_seen (g.K.Lo
 pub loop-variable-preserved : goal.loop-variable-preserved
 loop-variable-preserved g c = (
   c.loop-variable.invariant.0 ++ c.in-Free.variable ∷ [],
-  one_more _ _ _ _ _ c.in_ok-push.ensures.list c.loop-variable.invariant.1,
+  one_more _ _ _ _ _ c.in_ok-push.ensures.ok c.loop-variable.invariant.1,
   on c.loop-variable.invariant.2 c.in-Free.ensures.seen (sym c.in-Some.ensures),
 )
 
 pub returns-in-None : goal.returns-in-None
 returns-in-None g c = record {
   path = c.loop-variable.invariant.0 ++ c.in-Free.variable ∷ [];
-  followed_by = one_more _ _ _ _ _ c.in_ok-push.ensures.list c.loop-variable.invariant.1;
+  followed_by = one_more _ _ _ _ _ c.in_ok-push.ensures.ok c.loop-variable.invariant.1;
   leads = free c.loop-variable.invariant.2 c.in-Free.ensures.seen (sym c.in-None.ensures);
 }
 

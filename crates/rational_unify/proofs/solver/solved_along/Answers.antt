@@ -95,9 +95,9 @@ pub returns-clause-followed : goal.returns-clause-followed
 returns-clause-followed g c = λ other h a.
     let known = g.K.Lookup.bindings c.args.known.now in
     let s = c.in_ok-settle.ensures.settles in
-    let b : AgreeOn (c.loop-pair.followed ++ s.path) known other = subst (λ (xs : List Var). AgreeOn xs known other) s.followed_by a in
-    let before = c.loop-pair.invariant.0 other h (AgreeOn-left c.loop-pair.followed s.path known other b) in
-    let k = s.keeps other (work-solved _ _ _ _ _ _ before.kept) before.fresh (AgreeOn-right c.loop-pair.followed s.path known other b) in
+    let b : AgreeOn (c.loop-pair.followed.items ++ s.path) known other = subst (λ (xs : List Var). AgreeOn xs known other) s.followed_by a in
+    let before = c.loop-pair.invariant.0 other h (AgreeOn-left c.loop-pair.followed.items s.path known other b) in
+    let k = s.keeps other (work-solved _ _ _ _ _ _ before.kept) before.fresh (AgreeOn-right c.loop-pair.followed.items s.path known other b) in
     turn-ends _ _ _ _ c.loop-pair.work.compared
     (turn-shorter _ _ _ _ _ [] c.loop-pair.work.compared k (rw c.in_default.ensures.none at before.kept)) (KeepsEnds-new _ _ _ _ k before.fresh)
 

@@ -8,7 +8,7 @@ use Rattle.rational_unify.proofs.Turns.{GoesOn, turns_left}
 use Rattle.rational_unify.proofs.solver.solved_along.Given as goal
 
 abbrev pub invariant-loop-pair : goal.invariant-loop-pair
-invariant-loop-pair g l = ((other : List (Var × Term)) → IsSolved l.templates.nodes other → AgreeOn l.followed (g.K.Lookup.bindings l.known) other → GoesOn l.templates.nodes other l.equations l.work)
+invariant-loop-pair g l = ((other : List (Var × Term)) → IsSolved l.templates.nodes other → AgreeOn l.followed.items (g.K.Lookup.bindings l.known) other → GoesOn l.templates.nodes other l.equations l.work)
     × KeepsOlder l.templates.nodes (g.K.Lookup.bindings l.known) (g.K.Lookup.bindings l.known ++ l.work.added)
 
 -- each turn takes a pair away, or takes memory for a binding or a comparison

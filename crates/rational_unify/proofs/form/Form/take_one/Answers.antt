@@ -10,7 +10,7 @@ use Rattle.rational_unify.proofs.form.Form.take_one.Goals as goal
 use Rattle.rational_unify.proofs.form.Form.take_one.Goals.{in_default-look-via-in-Free+else-eq, in_default-look-via-in_default-look}
 
 pub returns-in-Some-clause-taken : goal.returns-in-Some-clause-taken
-returns-in-Some-clause-taken g c = made_equation c.in-Some.other (sym c.in-Some.ensures) refl c.in_ok-push.ensures.list
+returns-in-Some-clause-taken g c = made_equation c.in-Some.other (sym c.in-Some.ensures) refl c.in_ok-push.ensures.ok
 
 pub push-requires-in_default-look : goal.push-requires-in_default-look
 push-requires-in_default-look g c = (found-none (g.K.Lookup.bindings c.args.self.now.known.now) c.args.self.now.added c.args.variable (sym c.get.ensures ∙ c.in_default.is)).1
