@@ -3,4 +3,4 @@ use Rattle.local_store.specs.Kept.{bindings_of}
 use Rattle.local_store.proofs.store.Store.bindings.Given as goal
 
 abbrev pub invariant-loop-entry : goal.invariant-loop-entry
-invariant-loop-entry l = l.list ≡ bindings_of (take l.entry-index l.entry-items)
+invariant-loop-entry l = l.list.items ≡ bindings_of (take l.entry-index l.entry-items)
