@@ -19,4 +19,4 @@ pub use form::Form;
 pub use known::{Lookup, Nothing, found};
 pub use older::leads_older;
 pub use short_list::{NO_BINDING, NO_VARIABLE, ShortList};
-pub use solver::{Solution, Solved, solve};
+pub use solver::{Solution, Solved, solve, solve_only};

@@ -68,6 +68,7 @@ impl<T: Copy + Drop, const N: usize> ShortList<T, N> {
     }
 
     /// The elements.
+    #[inline(always)]
     pub fn as_slice(&self) -> &[T]
         ensures { result.now ≡ self.now }
     {
@@ -78,6 +79,7 @@ impl<T: Copy + Drop, const N: usize> ShortList<T, N> {
     }
 
     /// How many elements there are.
+    #[inline(always)]
     pub fn len(&self) -> usize
         ensures { result ≡ length self.now }
     {
@@ -88,6 +90,7 @@ impl<T: Copy + Drop, const N: usize> ShortList<T, N> {
     }
 
     /// Whether there are none.
+    #[inline(always)]
     pub fn is_empty(&self) -> bool
         ensures { result ≡ (length self.now == 0) }
     {
@@ -95,6 +98,7 @@ impl<T: Copy + Drop, const N: usize> ShortList<T, N> {
     }
 
     /// Puts an element at the end.
+    #[inline(always)]
     pub fn push(&mut self, element: T) -> Result<(), AllocError>
         ensures list { IfOk result (λ _. self.new ≡ self.old ++ element ∷ []) }
         ensures small { IfOk result (λ _. length self.new < 2 ^ 64) }
@@ -131,6 +135,7 @@ impl<T: Copy + Drop, const N: usize> ShortList<T, N> {
     }
 
     /// Takes the last element.
+    #[inline(always)]
     pub fn pop(&mut self) -> Option<T>
         ensures items { self.old ≡ self.new ++ option_to_list result }
         ensures none { IfNone result (self.old ≡ []) }
