@@ -178,6 +178,7 @@ impl Store {
     }
 
     /// What the first binding of the variable binds it to; `None` exactly where it has no binding.
+    #[inline(always)]
     pub fn first_binding(&self, variable: Var) -> Option<Term>
         ensures { result ≡ found_in self.now.bindings variable }
     {

@@ -13,7 +13,7 @@ use crate::chain::Chain;
 use crate::shared::Shared;
 use crate::store::Store;
 use akl_terms::{Equation, Name, Templates, Term, Var};
-use rational_unify::{AddedBindings, Form, Lookup, Solution, Solved, solve};
+use rational_unify::{AddedBindings, Form, Lookup, Solved, solve_only};
 use std::alloc::{AllocError, Global};
 
 /// What `told` answers.
@@ -188,11 +188,7 @@ fn tell<K: Lookup>(
     requires untold { IsUntold told.old }
     ensures { IfOk result (λ _. Adds templates.now.nodes (K.bindings known.now) equations.now told.old.store told.new.store told.new.solved told.new.bound.items) }
 {
-    let Solution {
-        solved,
-        followed: _,
-    } = solve(alloc, templates, known, equations)?;
-    match solved {
+    match solve_only(alloc, templates, known, equations)? {
         Solved::Clash { left, right } => told.add_clash(left, right),
         Solved::Added(added) => {
             told.solved = true;

@@ -97,6 +97,7 @@ impl AddedBindings {
     }
 
     /// The place of a variable's binding; `None` exactly where it has none.
+    #[inline(always)]
     fn place_of(&self, variable: Var) -> Option<usize>
         ensures { result ≡ place_in self.now variable }
     {
@@ -113,6 +114,7 @@ impl AddedBindings {
     }
 
     /// The bindings in order.
+    #[inline(always)]
     pub fn as_slice(&self) -> &[(Var, Term)]
         ensures { result.now ≡ self.now }
     {

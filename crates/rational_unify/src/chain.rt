@@ -121,6 +121,7 @@ pub fn follow<K: Lookup>(
 }
 
 /// Binds each of these variables that is bound to a term.
+#[inline(always)]
 fn rebind_all(added: &mut AddedBindings, variables: &[Var], term: Term)
     ensures { ReboundAll term added.old variables.now added.new }
 {

@@ -9,7 +9,7 @@ ghost use Rattle.rational_unify.specs.Forms.{Takes, IsClashOfBindings, OneTaken}
 use crate::added::AddedBindings;
 use crate::chain::{Together, chain_end};
 use crate::known::Lookup;
-use crate::solver::{Solution, Solved, solve};
+use crate::solver::{Solved, solve_only};
 use akl_terms::{Equation, Seen, Templates, Term, Var};
 use smallvec::SmallVec;
 use std::alloc::{AllocError, Global};
@@ -61,11 +61,7 @@ impl<'a, K: Lookup> Form<'a, K> {
         if pending.is_empty() {
             return Ok(None);
         }
-        let Solution {
-            solved,
-            followed: _,
-        } = solve(alloc, templates, &*self, pending.as_slice())?;
-        match solved {
+        match solve_only(alloc, templates, &*self, pending.as_slice())? {
             Solved::Clash { left, right } => Ok(Some(Equation { left, right })),
             Solved::Added(more) => {
                 self.add(more.as_slice())?;

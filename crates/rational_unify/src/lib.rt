@@ -17,4 +17,4 @@ pub use chain::{chain_end, end_variable, variable_end};
 pub use form::Form;
 pub use known::{Lookup, Nothing, found};
 pub use older::leads_older;
-pub use solver::{Solution, Solved, solve};
+pub use solver::{Solution, Solved, solve, solve_only};

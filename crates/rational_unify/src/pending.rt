@@ -35,6 +35,7 @@ impl<'a> Pending<'a> {
     }
 
     /// Takes the last equation.
+    #[inline(always)]
     pub fn pop(&mut self) -> Option<Equation>
         ensures items { self.old ≡ self.new ++ option_to_list result }
         ensures none { IfNone result (self.old ≡ []) }

@@ -63,6 +63,21 @@ pub fn solve<K: Lookup>(
     Ok(Solution { solved, followed })
 }
 
+/// As `solve`, without the variables that were followed.
+pub fn solve_only<K: Lookup>(
+    alloc: Global,
+    templates: &Templates,
+    known: &K,
+    equations: &[Equation],
+) -> Result<Solved, AllocError>
+    requires known { IsSolved templates.now.nodes (K.bindings known.now) }
+    ensures solves { IfOk result (Solves templates.now.nodes (K.bindings known.now) equations.now) }
+    ensures older { IfOk result (AddsOlder templates.now.nodes (K.bindings known.now)) }
+{
+    let mut followed = Followed::new(alloc);
+    solved_along(alloc, templates, known, equations, &mut followed)
+}
+
 /// What is found for equations. All variables whose known bindings are read are put at the end of a list.
 fn solved_along<K: Lookup>(
     alloc: Global,

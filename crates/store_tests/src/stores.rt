@@ -64,7 +64,7 @@ fn has_ports(store: &Store, words: &mut SplitWhitespace<'_>) -> Result<bool, All
 }
 
 fn has_bindings(store: &Store, words: &mut SplitWhitespace<'_>) -> Result<bool, AllocError> {
-    for binding in store.bindings()?.iter() {
+    for binding in store.bindings()?.as_slice() {
         if !is_next(words, (term_of(binding.0), binding.1)) {
             return Ok(false);
         }

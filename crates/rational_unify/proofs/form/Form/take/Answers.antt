@@ -27,7 +27,7 @@ returns-in-Clash-clause-taken g c =
     (let a = c.loop-binding.auto.binding-index-end in let b = c.loop-binding-test.false in omega arith) in
     half-clashes c.args.templates.now.nodes (g.K.Lookup.bindings c.args.self.now.known.now) c.args.self.now.added c.loop-binding.self.added c.loop-binding.pending.items c.args.bindings.now
     (rw all at c.loop-binding.invariant.1) c.in-Clash.left c.in-Clash.right
-    (rw (c.loop-binding.invariant.0, c.in-Clash.is, c.as_slice.ensures) at c.in_ok-solved.ensures.solves)
+    (rw (c.loop-binding.invariant.0, c.in-Clash.is, c.as_slice.ensures) at c.in_ok-left.ensures.solves)
 
 pub returns-clause-taken : goal.returns-clause-taken
 returns-clause-taken g c =
@@ -36,7 +36,7 @@ returns-clause-taken g c =
     rw (c.in_ok-add-in-Added.ensures.added, c.as_slice-in-Added.ensures)
     (half-ends c.args.templates.now.nodes (g.K.Lookup.bindings c.args.self.now.known.now) c.args.self.now.added c.loop-binding.self.added c.loop-binding.pending.items c.args.bindings.now
     (rw all at c.loop-binding.invariant.1) c.in-Added.more
-    (rw (c.loop-binding.invariant.0, c.in-Added.is, c.as_slice.ensures) at c.in_ok-solved.ensures.solves))
+    (rw (c.loop-binding.invariant.0, c.in-Added.is, c.as_slice.ensures) at c.in_ok-left.ensures.solves))
 
 pub returns-then-is_empty-clause-taken : goal.returns-then-is_empty-clause-taken
 returns-then-is_empty-clause-taken g c =
