@@ -120,7 +120,7 @@ impl Table {
             solving,
         } = self.way_to(alloc, home)?;
         let (known, latest) = self.known_of(path.as_slice(), solving);
-        let Some(whole) = path.len().checked_add(1) else {
+        let Some(whole) = path.as_slice().len().checked_add(1) else {
             return Err(AllocError);
         };
         let names = self.names_seen(place, sight);
@@ -252,7 +252,7 @@ impl Table {
             Step::Fail => {
                 let name = box_at(label.place);
                 let inside = self.inside(alloc, name)?;
-                self.fail(name, &inside, number);
+                self.fail(name, inside.as_slice(), number);
                 Ok(())
             }
             Step::Cut => {

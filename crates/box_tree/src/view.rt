@@ -3,6 +3,7 @@
 ghost use Rattle.std.specs.Prelude.{◌≡◌, length};
 ghost use Rattle.box_tree.specs.Views.{IsViewOf};
 
+use crate::short::ShortList;
 use crate::table::Table;
 use akl_model::Label;
 use akl_terms::{Goal, Name, Op, Place, Program, Query, Templates};
@@ -50,8 +51,8 @@ pub struct View {
     pub(crate) worker: u32,
     pub(crate) seen: u64,
     pub(crate) next: u64,
-    pub(crate) path: Vec<Name>,
-    pub(crate) stores: Vec<Shared<Store>>,
+    pub(crate) path: ShortList<Name>,
+    pub(crate) stores: ShortList<Shared<Store>>,
     pub(crate) known: usize,
     pub(crate) sight: Sight,
     pub(crate) alternatives: Vec<Alternative>,
