@@ -2,7 +2,6 @@
 use Rattle.std.proofs.Common.{◌≡◌, ℕ, zero, suc, ◌+◌, ◌<◌, ◌≤◌, List, [], ◌∷◌, ◌++◌, length, take, drop, slice_index_or, Bool, true, false, Option, Some, None, refl, sym, ap, subst, ◌∙◌, ◌⊎◌, inl, inr, arith}
 use Rattle.std.specs.Prelude.{IsSome, IfNone, nat_le, option_map, option_and_then}
 use Rattle.std.proofs.lemmas.Bool.Decides.{nat_tests}
-use Rattle.std.proofs.lemmas.List.{length-append}
 use Rattle.akl_terms.specs.declared.name.Name.{Name}
 use Rattle.akl_terms.specs.declared.program.Program.{Program}
 use Rattle.akl_terms.specs.declared.program.Query.{Query}
@@ -23,7 +22,7 @@ use Rattle.table_laws.proofs.Insides.{spot_held}
 use Rattle.box_tree.specs.Tables.{all_rules, TableValue, table_of}
 use Rattle.box_tree.specs.Views.{run_of}
 use Rattle.box_tree.specs.Plans.{PlanValue, IsRead, IsRight}
-use Rattle.step_commit.specs.Cores.{CoreValue, IsCore, run_by, MayCommit, IsUnchanged, IsFresh, IsStale, is_within, AllWithin, IsFirstUnseen}
+use Rattle.step_commit.specs.Cores.{CoreValue, IsCore, run_by, MayCommit, IsUnchanged, IsStale, is_within, AllWithin, IsFirstUnseen}
 use Rattle.step_commit.proofs.LastChanges.{IsPart, last_change}
 use Rattle.step_commit.proofs.Committed.{planned, goes, stamp_last, some_of}
 
@@ -181,20 +180,6 @@ module _ (p : Program) (q : Query) (journal further : List Label) (S T : Table) 
     where
       under : (k n : ℕ) → nat_le k n ≡ true → k ≤ n
       under k n e = grind (arith, nat_tests)
-
--- a label that changed an item is one of the journal
-last_in : (run : Run) (i : Item) (k : ℕ) → LastChange all_rules run i k → k ≤ length run.journal
-last_in run i k l = elim l.changed [
-  | inl z ↦ omega arith
-  | inr w ↦
-      let a : length run.journal ≡ length w.earlier + length (w.label ∷ w.later) = ap length w.is_journal ∙ length-append w.earlier (w.label ∷ w.later) in
-      let b : k ≡ length w.earlier + 1 = w.is_number in
-      omega arith
-]
-
--- so a plan that has seen all labels is fresh
-pub all_seen : (c : CoreValue) (p : PlanValue) → length c.journal < c.budget → length c.journal ≡ length p.journal → IsFresh c p
-all_seen c p less seen = record { unspent = less; unchanged = λ i r k l. let a : k ≤ length c.journal = last_in (run_by c) i k l in omega arith }
 
 -- what was looked at over a front of a core's journal, with the items that were read, each there
 pub record IsLooked (c : CoreValue) (table : TableValue) (journal : List Label) (reads : List Item) : Type 0 where
