@@ -51,8 +51,7 @@ impl Table {
         requires { IsOfRun self.now }
         ensures { IfOk result (λ v. ListsInside (table_of self.now) name v.items) }
     {
-        let mut names = ShortList::new();
-        names.push(alloc, name)?;
+        let mut names = ShortList::of(name);
         let mut at = 0;
         while at < names.as_slice().len() {
             let here = names.as_slice()[at];

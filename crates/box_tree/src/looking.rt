@@ -78,8 +78,7 @@ impl Table {
         requires { HasPath self.now name }
         ensures { IfOk result (λ path. IsPath (table_of self.now) name path.items) }
     {
-        let mut path = ShortList::new();
-        path.push(alloc, name)?;
+        let mut path = ShortList::of(name);
         let mut at = name;
         while let Some(home) = self.outside(at) {
             path.push(alloc, home)?;

@@ -64,6 +64,15 @@ impl<T: Drop> ShortList<T> {
         ShortList { kept: Kept::None }
     }
 
+    /// One value.
+    pub fn of(value: T) -> ShortList<T>
+        ensures { result.items ≡ value ∷ [] }
+    {
+        ShortList {
+            kept: Kept::One([value]),
+        }
+    }
+
     /// A value comes to the end. An `Err` comes for want of memory, and then the list is empty.
     pub fn push(&mut self, alloc: Global, value: T) -> Result<(), AllocError>
         ensures { OnOk result (self.new.items ≡ self.old.items ++ value ∷ []) }

@@ -21,6 +21,16 @@ pub enum LookError {
     Memory(AllocError),
 }
 
+impl From<AllocError> for LookError {
+    ghost use Rattle.box_tree.specs.declared.view.LookError.TheVariants as variants;
+
+    ghost from_gives = { λ cause error. error ≡ variants.Memory cause };
+
+    fn from(error: AllocError) -> Self {
+        LookError::Memory(error)
+    }
+}
+
 /// What stands at a place.
 #[derive(Clone, Copy)]
 pub enum Sight {

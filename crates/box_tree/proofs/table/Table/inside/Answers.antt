@@ -1,4 +1,4 @@
-use Rattle.std.proofs.Common.{◌≡◌, ℕ, zero, suc, ◌+◌, ◌<◌, List, [], ◌∷◌, ◌++◌, length, get_or, Some, refl, sym, ap, subst, ◌∙◌, arith}
+use Rattle.std.proofs.Common.{◌≡◌, ℕ, zero, suc, ◌+◌, ◌<◌, List, [], ◌∷◌, length, get_or, Some, refl, sym, ap, subst, ◌∙◌, arith}
 use Rattle.std.specs.Prelude.{IsSome}
 use Rattle.std.specs.Map.{lookup}
 use Rattle.akl_terms.specs.declared.name.Name.{Name}
@@ -17,7 +17,7 @@ keyed t m r e =
     is_some_if (lookup (same_name m) t.boxes) w.0 w.1
 
 pub loop-at-init : goal.loop-at-init
-loop-at-init c = subst (λ (ns : List Name). Walk (table_of c.args.self.now) c.args.name ns 0) (sym (c.in_ok-push.ensures ∙ ap (λ (ns : List Name). ns ++ c.args.name ∷ []) c.new-names.ensures)) (first_walk (table_of c.args.self.now) c.args.name)
+loop-at-init c = subst (λ (ns : List Name). Walk (table_of c.args.self.now) c.args.name ns 0) (sym c.of-names.ensures) (first_walk (table_of c.args.self.now) c.args.name)
 
 pub loop-at-smaller : goal.loop-at-smaller
 loop-at-smaller c =
