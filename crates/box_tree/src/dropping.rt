@@ -21,10 +21,7 @@ impl Table {
     ) -> Result<(), AllocError>
         ensures { OnOk result (names.new.items ≡ names.old.items ++ alternatives_of ((table_of self.now).goal_of goal)) }
     {
-        for alternative in self.alternatives_of(goal) {
-            names.push(alloc, *alternative)?;
-        }
-        Ok(())
+        names.extend(alloc, self.alternatives_of(goal))
     }
 
     // The alternatives of all choices directly in a box come to the end of the names.
