@@ -11,6 +11,8 @@ use Rattle.akl_terms.specs.Names.{is_before}
 use Rattle.akl_terms.specs.contracts.name.NameOrd.TheImpl.{cmp-value}
 use Rattle.akl_model.specs.Ordered.{IsBeforeAll, IsIncreasing}
 use Rattle.akl_model.specs.Derivations.{raised}
+use Rattle.box_tree.specs.declared.drawing.Raised.{Raised}
+use Rattle.box_tree.specs.Numbers.{IsRaised}
 use Rattle.box_tree.proofs.News.{firsts, firsts_append}
 
 raised-own : (w k : ℕ) (ms : List ℕ) → slice_index (raised w k ms) w ≡ slice_index ms w + k
@@ -56,6 +58,16 @@ raised_by w worker drawn x next padded same room e = on (eqb w worker) refl
         let n : w ≡ worker → ⊥ = λ q. grind (arith, nat_tests) in
         let a : slice_index (set padded worker x) w ≡ slice_index padded w = get_or-set_other padded worker w x 0 n in
         a ∙ same w ∙ sym (raised-other worker drawn w next n)
+
+-- what was found of next numbers that are the same still
+pub raised_later : (worker count : ℕ) (r : Raised) (before next after : List ℕ) → next ≡ before → IsRaised before worker count r → ((d : ℕ) → IsRaised next worker d r → (w : ℕ) → slice_index after w ≡ slice_index (raised worker d next) w)
+    → (w : ℕ) → slice_index after w ≡ slice_index (raised worker count before) w
+raised_later worker count r before next after same is all w =
+    all count (subst (λ (ns : List ℕ). IsRaised ns worker count r) (sym same) is) w ∙ ap (λ (ns : List ℕ). slice_index (raised worker count ns) w) same
+
+-- a worker has drawn some more
+pub own_raised : (worker drawn x : ℕ) (next : List ℕ) → worker < length next → x ≡ slice_index next worker + drawn → (w : ℕ) → slice_index (set next worker x) w ≡ slice_index (raised worker drawn next) w
+own_raised worker drawn x next room e w = raised_by w worker drawn x next next (λ v. refl) room e
 
 -- a name that comes after all others goes to the end
 

@@ -11,3 +11,5 @@ pub mod Places
 pub mod Splits
 pub mod Choices
 pub mod Kinds
+pub mod Shorts
+pub mod Numbers

@@ -8,6 +8,7 @@ ghost use Rattle.box_tree.specs.Edits.{keeps};
 ghost use Rattle.box_tree.specs.Choices.{IsChoiceBy};
 ghost use Rattle.box_tree.specs.Drops.{IsOfRun};
 
+use crate::short::ShortList;
 use crate::table::Table;
 use crate::view::Sight;
 use akl_terms::{Name, Op, Place};
@@ -69,7 +70,7 @@ impl Table {
         goal: Name,
         op: Op,
         name: Name,
-    ) -> Result<(Vec<Name>, Vec<Name>), AllocError>
+    ) -> Result<(Vec<Name>, ShortList<Name>), AllocError>
         requires { IsOfRun self.now }
         ensures kept { IfOk result (λ p. p.0.items ≡ names_kept op name (alternatives_of ((table_of self.now).goal_of goal))) }
         ensures gone { IfOk result (λ p. ListsEach (table_of self.now) (names_cut op name (alternatives_of ((table_of self.now).goal_of goal))) p.1.items) }
@@ -98,7 +99,7 @@ impl Table {
         let op = self.op_of(goal)?;
         let (kept, gone) = self.kept_and_gone(alloc, goal, op, name)?;
         self.make_choice(goal, op, kept, number);
-        self.drop_boxes(&gone);
+        self.drop_boxes(gone.as_slice());
         self.steps = number;
         Ok(())
     }

@@ -100,9 +100,9 @@ impl Table {
     }
 
     /// A box goes with the boxes inside it, which are listed, and with all their goals. It takes no memory.
-    pub(crate) fn fail(&mut self, name: Name, names: &Vec<Name>, number: u64)
+    pub(crate) fn fail(&mut self, name: Name, names: &[Name], number: u64)
         requires number { number ≡ self.old.steps + 1 }
-        requires listed { ListsInside (table_of self.old) name names.now.items }
+        requires listed { ListsInside (table_of self.old) name names.now }
         ensures program { self.new.program ≡ self.old.program }
         ensures query { self.new.query ≡ self.old.query }
         ensures fails { Fails (table_of self.old) (table_of self.new) name }

@@ -1,15 +1,15 @@
 //! A goal becomes a choice of new boxes.
 
-ghost use Rattle.std.specs.Prelude.{◌≡◌, ◌+◌, ◌<◌, ◌∷◌, ◌++◌, ℕ, List, [], length, map, None, Some, option_map, IfOk, IfErr, OnOk, slice_index};
+ghost use Rattle.std.specs.Prelude.{◌≡◌, ◌+◌, ◌∷◌, List, [], map, None, Some, option_map, IfOk, IfErr, OnOk};
 ghost use Rattle.akl_terms.specs.declared.term.Node.{Node};
 ghost use Rattle.akl_model.specs.Ordered.{IsIncreasing};
-ghost use Rattle.akl_model.specs.Derivations.{raised};
 ghost use Rattle.table_laws.specs.Writes.{set, first_fail, failing_by, forked_row, failing_row, names_drawn, IsFresh, after_fork, changed_box};
 ghost use Rattle.box_tree.specs.Tables.{table_of, box_row, goal_row, new_box, AreInOrder};
 ghost use Rattle.box_tree.specs.Edits.{is_fail, SetsBoxes, SetsGoals, SetsRows, AddsOnly, Becomes, Clears, named_atoms, named_shapes, boxes_with, goals_with, shapes_with, choice_row, home_if_empty};
 
 use crate::entries::{BoxEntry, GoalEntry, Held};
 use crate::named::{IntoHeld, goal_set, push_names};
+use crate::short::ShortList;
 use crate::step::NewBox;
 use crate::table::Table;
 use crate::telling::solved_when;
@@ -28,13 +28,13 @@ fn box_names(alloc: Global, news: &[NewBox]) -> Result<Vec<Name>, AllocError>
 }
 
 // The names of boxes and of their goals.
-fn drawn_names(alloc: Global, news: &[NewBox]) -> Result<Vec<Name>, AllocError>
+fn drawn_names(alloc: Global, news: &[NewBox]) -> Result<ShortList<Name>, AllocError>
     ensures { IfOk result (λ names. (nodes : List Node) → names.items ≡ names_drawn (map (new_box nodes) news.now)) }
 {
-    let mut names = Vec::new(alloc);
+    let mut names = ShortList::new();
     for new in news {
-        names.push(new.name)?;
-        push_names(new.goals.as_slice(), &mut names)?;
+        names.push(alloc, new.name)?;
+        push_names(alloc, new.goals.as_slice(), &mut names)?;
     }
     Ok(names)
 }
@@ -60,17 +60,6 @@ pub(crate) fn first_fail(goals: &[(Name, Goal)]) -> Option<Name>
     None
 }
 
-// Numbers with zeros behind them, up to a worker's own.
-fn pad(next: &mut Vec<u64>, worker: usize) -> Result<(), AllocError>
-    ensures same { OnOk result ((w : ℕ) → slice_index next.new.items w ≡ slice_index next.old.items w) }
-    ensures room { OnOk result (worker < length next.new.items) }
-{
-    while next.len() <= worker {
-        next.push(0)?;
-    }
-    Ok(())
-}
-
 // The box that fails by a choice of these boxes.
 fn home_if_empty(home: Name, news: &[NewBox]) -> Option<Name>
     ensures { result ≡ home_if_empty home news.now }
@@ -79,25 +68,6 @@ fn home_if_empty(home: Name, news: &[NewBox]) -> Option<Name>
 }
 
 impl Table {
-    /// The next numbers after a worker has drawn so many names.
-    pub(crate) fn raised(
-        &self,
-        alloc: Global,
-        worker: u32,
-        drawn: u64,
-    ) -> Result<Vec<u64>, AllocError>
-        ensures { IfOk result (λ next. (w : ℕ) → slice_index next.items w ≡ slice_index (raised worker drawn self.now.next) w) }
-    {
-        let mut next = Vec::from_slice(alloc, self.next.as_slice())?;
-        let at = worker as usize;
-        pad(&mut next, at)?;
-        let Some(number) = next[at].checked_add(drawn) else {
-            return Err(AllocError);
-        };
-        next[at] = number;
-        Ok(next)
-    }
-
     /// A goal's entry comes.
     pub(crate) fn put_goal(&mut self, name: Name, entry: GoalEntry) -> Result<(), AllocError>
         ensures put { OnOk result (SetsGoals self.old self.new (set name (Some (goal_row self.old.program.templates.nodes entry)) (table_of self.old).goal_of)) }
@@ -283,7 +253,7 @@ impl Table {
         };
         self.make_choice(goal, op, names, number);
         self.fail_by(failing, goal);
-        self.next = next;
+        self.raise(worker, next);
         self.steps = number;
         Ok(())
     }

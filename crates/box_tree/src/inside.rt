@@ -184,7 +184,9 @@ impl Table {
         let Some((home, sight)) = self.sight_of(place) else {
             return Err(AllocError);
         };
-        let view = self.view_of(alloc, journal, place, worker, home, sight)?;
+        let Ok(view) = self.view_of(alloc, journal, place, worker, home, sight) else {
+            return Err(AllocError);
+        };
         Ok(view)
     }
 

@@ -6,6 +6,7 @@ ghost use Rattle.box_tree.specs.Tables.{table_of, goals_in};
 ghost use Rattle.box_tree.specs.Paths.{home_at, outside_of, IsPath, HasPath, sight_held, sight_in, is_at_least, solving_in, known_in, latest_in};
 
 use crate::entries::Held;
+use crate::short::ShortList;
 use crate::table::Table;
 use crate::view::Sight;
 use akl_terms::{Name, Place};
@@ -73,15 +74,14 @@ impl Table {
     }
 
     /// The boxes down to a box, outermost first. It takes as long as they are many. An `Err` comes for want of memory.
-    pub fn path_to(&self, alloc: Global, name: Name) -> Result<Vec<Name>, AllocError>
+    pub fn path_to(&self, alloc: Global, name: Name) -> Result<ShortList<Name>, AllocError>
         requires { HasPath self.now name }
         ensures { IfOk result (λ path. IsPath (table_of self.now) name path.items) }
     {
-        let mut path = Vec::new(alloc);
-        path.push(name)?;
+        let mut path = ShortList::of(name);
         let mut at = name;
         while let Some(home) = self.outside(at) {
-            path.push(home)?;
+            path.push(alloc, home)?;
             at = home;
         }
         path.reverse();

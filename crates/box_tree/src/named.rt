@@ -5,6 +5,7 @@ ghost use Rattle.akl_model.specs.Ordered.{IsIncreasing};
 ghost use Rattle.box_tree.specs.declared.entries.Held.{Held};
 
 use crate::entries::Held;
+use crate::short::ShortList;
 use akl_terms::{Goal, Name};
 use std::alloc::{AllocError, Global};
 use std::collections::BTreeSet;
@@ -35,11 +36,15 @@ impl IntoHeld for Held {
 }
 
 /// The names of goals come to the end of the names.
-pub(crate) fn push_names<T>(goals: &[(Name, T)], names: &mut Vec<Name>) -> Result<(), AllocError>
+pub(crate) fn push_names<T>(
+    alloc: Global,
+    goals: &[(Name, T)],
+    names: &mut ShortList<Name>,
+) -> Result<(), AllocError>
     ensures { OnOk result (names.new.items ≡ names.old.items ++ map (λ x. x.0) goals.now) }
 {
     for (name, _) in goals {
-        names.push(*name)?;
+        names.push(alloc, *name)?;
     }
     Ok(())
 }

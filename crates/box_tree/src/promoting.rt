@@ -10,6 +10,7 @@ ghost use Rattle.box_tree.specs.Drops.{IsOfRun};
 
 use crate::forking::first_fail;
 use crate::named::push_names;
+use crate::short::ShortList;
 use crate::table::Table;
 use akl_terms::{Goal, Name};
 use local_store::{Shared, Store};
@@ -17,11 +18,11 @@ use std::alloc::{AllocError, Global};
 use std::collections::BTreeSet;
 
 // The names of goals.
-fn goal_names(alloc: Global, goals: &[(Name, Goal)]) -> Result<Vec<Name>, AllocError>
+fn goal_names(alloc: Global, goals: &[(Name, Goal)]) -> Result<ShortList<Name>, AllocError>
     ensures { IfOk result (λ names. names.items ≡ map (λ x. x.0) goals.now) }
 {
-    let mut names = Vec::new(alloc);
-    push_names(goals, &mut names)?;
+    let mut names = ShortList::new();
+    push_names(alloc, goals, &mut names)?;
     Ok(names)
 }
 
@@ -132,7 +133,7 @@ impl Table {
         self.tell_box(Some(home), goal, store, solved_at, number);
         let _ = self.drop_goal(goal);
         self.drop_alternative(name);
-        self.next = next;
+        self.raise(worker, next);
         self.steps = number;
         Ok(())
     }

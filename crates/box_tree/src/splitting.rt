@@ -12,6 +12,7 @@ ghost use Rattle.box_tree.specs.Splits.{copies_with, copied_goals_with, IsHolder
 
 use crate::entries::BoxEntry;
 use crate::named::{goal_set, push_names};
+use crate::short::ShortList;
 use crate::starting::after;
 use crate::step::BoxCopy;
 use crate::table::Table;
@@ -75,13 +76,13 @@ fn one_later(at: Option<u64>) -> Result<Option<u64>, AllocError>
 }
 
 // The names of copies and of their goals.
-fn copied_names(alloc: Global, copies: &[BoxCopy]) -> Result<Vec<Name>, AllocError>
+fn copied_names(alloc: Global, copies: &[BoxCopy]) -> Result<ShortList<Name>, AllocError>
     ensures { IfOk result (λ names. (nodes : List Node) → names.items ≡ names_copied (map (box_copy nodes) copies.now)) }
 {
-    let mut names = Vec::new(alloc);
+    let mut names = ShortList::new();
     for copy in copies {
-        names.push(copy.name)?;
-        push_names(copy.goals.as_slice(), &mut names)?;
+        names.push(alloc, copy.name)?;
+        push_names(alloc, copy.goals.as_slice(), &mut names)?;
     }
     Ok(names)
 }
@@ -239,8 +240,8 @@ impl Table {
         self.add_copies(alloc, holder, copies, later, number)?;
         self.make_choice(choice, op, alone, number);
         self.hold(held, number);
-        self.drop_boxes(&gone);
-        self.next = next;
+        self.drop_boxes(gone.as_slice());
+        self.raise(worker, next);
         self.steps = number;
         Ok(())
     }

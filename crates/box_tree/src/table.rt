@@ -90,13 +90,10 @@ impl Table {
         let Some((home, sight)) = self.sight_of(place) else {
             return Err(LookError::Gone);
         };
-        match self.view_of(alloc, journal, place, worker, home, sight) {
-            Ok(view) => Ok(view),
-            Err(error) => Err(LookError::Memory(error)),
-        }
+        self.view_of(alloc, journal, place, worker, home, sight)
     }
 
-    /// What a worker sees of a place, where this stands in this box.
+    /// What a worker sees of a place, where this stands in this box. An `Err` comes for want of memory.
     pub(crate) fn view_of(
         &self,
         alloc: Global,
@@ -105,7 +102,7 @@ impl Table {
         worker: u32,
         home: Name,
         sight: Sight,
-    ) -> Result<View, AllocError>
+    ) -> Result<View, LookError>
         requires table { IsTableOf all_rules (run_of self.now journal.now.items) (table_of self.now) }
         requires sight { sight_in self.now place ≡ Some (home, sight) }
         ensures table { IfOk result (λ v. v.table ≡ self.now) }
@@ -113,6 +110,8 @@ impl Table {
         ensures place { IfOk result (λ v. v.place ≡ place) }
         ensures worker { IfOk result (λ v. v.worker ≡ worker) }
         ensures seen { IfOk result IsViewOf }
+        ensures there { IfOk result (λ _. is_there (table_of self.now) place ≡ true) }
+        ensures unseen { IfErr result (IsUnseen (table_of self.now) place) }
     {
         let Way {
             path,
@@ -120,8 +119,8 @@ impl Table {
             solving,
         } = self.way_to(alloc, home)?;
         let (known, latest) = self.known_of(path.as_slice(), solving);
-        let Some(whole) = path.len().checked_add(1) else {
-            return Err(AllocError);
+        let Some(whole) = path.as_slice().len().checked_add(1) else {
+            return Err(LookError::Memory(AllocError));
         };
         let names = self.names_seen(place, sight);
         let alternatives = self.alternatives_seen(alloc, names, known, latest, whole)?;
@@ -252,7 +251,7 @@ impl Table {
             Step::Fail => {
                 let name = box_at(label.place);
                 let inside = self.inside(alloc, name)?;
-                self.fail(name, &inside, number);
+                self.fail(name, inside.as_slice(), number);
                 Ok(())
             }
             Step::Cut => {

@@ -3,7 +3,7 @@
 ghost use Rattle.std.specs.Prelude.{◌≡◌, ◌+◌, None, IfErr, OnOk};
 ghost use Rattle.table_laws.specs.Writes.{set, home_in, changed_box, told_row, solved_when, after_tell};
 ghost use Rattle.box_tree.specs.Tables.{table_of};
-ghost use Rattle.box_tree.specs.Edits.{DrawsNames, SetsBoxes, SetsGoals, Becomes};
+ghost use Rattle.box_tree.specs.Edits.{SetsBoxes, SetsGoals, Becomes};
 
 use crate::table::Table;
 use akl_terms::Name;
@@ -18,17 +18,6 @@ pub(crate) fn solved_when(at: Option<u64>, solved: bool) -> Option<u64>
 }
 
 impl Table {
-    // A worker draws so many names. An `Err` leaves the table as it was.
-    fn draw(&mut self, alloc: Global, worker: u32, count: u64) -> Result<(), AllocError>
-        ensures drawn { OnOk result (DrawsNames self.old self.new worker count) }
-        ensures unchanged { IfErr result (λ _. self.new ≡ self.old) }
-    {
-        if count > 0 {
-            self.next = self.raised(alloc, worker, count)?;
-        }
-        Ok(())
-    }
-
     /// The goal's box gets a store, for which a worker draws so many names, and the goal goes. An `Err` leaves the table
     /// as it was; none comes where no name is drawn.
     pub(crate) fn tell(

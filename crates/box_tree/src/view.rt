@@ -3,6 +3,7 @@
 ghost use Rattle.std.specs.Prelude.{◌≡◌, length};
 ghost use Rattle.box_tree.specs.Views.{IsViewOf};
 
+use crate::short::ShortList;
 use crate::table::Table;
 use akl_model::Label;
 use akl_terms::{Goal, Name, Op, Place, Program, Query, Templates};
@@ -18,6 +19,16 @@ pub enum LookError {
     Gone,
     /// There was no memory.
     Memory(AllocError),
+}
+
+impl From<AllocError> for LookError {
+    ghost use Rattle.box_tree.specs.declared.view.LookError.TheVariants as variants;
+
+    ghost from_gives = { λ cause error. error ≡ variants.Memory cause };
+
+    fn from(error: AllocError) -> Self {
+        LookError::Memory(error)
+    }
 }
 
 /// What stands at a place.
@@ -50,8 +61,8 @@ pub struct View {
     pub(crate) worker: u32,
     pub(crate) seen: u64,
     pub(crate) next: u64,
-    pub(crate) path: Vec<Name>,
-    pub(crate) stores: Vec<Shared<Store>>,
+    pub(crate) path: ShortList<Name>,
+    pub(crate) stores: ShortList<Shared<Store>>,
     pub(crate) known: usize,
     pub(crate) sight: Sight,
     pub(crate) alternatives: Vec<Alternative>,

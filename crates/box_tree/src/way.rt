@@ -5,6 +5,7 @@ ghost use Rattle.box_tree.specs.Tables.{table_of};
 ghost use Rattle.box_tree.specs.Paths.{HasPath};
 ghost use Rattle.box_tree.specs.Ways.{Passes, IsWay};
 
+use crate::short::ShortList;
 use crate::table::Table;
 use akl_terms::Name;
 use local_store::{Shared, Store};
@@ -13,8 +14,8 @@ use std::alloc::{AllocError, Global};
 /// The boxes down to a box with their stores, outermost first; while they are passed, innermost first.
 #[derive(Drop)]
 pub(crate) struct Way {
-    pub path: Vec<Name>,
-    pub stores: Vec<Shared<Store>>,
+    pub path: ShortList<Name>,
+    pub stores: ShortList<Shared<Store>>,
     /// When the store of the box that was passed last, the outermost, was solved, and the number of the last label that
     /// changed it.
     pub solving: (Option<u64>, u64),
@@ -22,15 +23,15 @@ pub(crate) struct Way {
 
 impl Way {
     // A box is passed: the box around it. An `Err` comes for want of memory, and where the box isn't there.
-    fn pass(&mut self, table: &Table, name: Name) -> Result<Option<Name>, AllocError>
+    fn pass(&mut self, alloc: Global, table: &Table, name: Name) -> Result<Option<Name>, AllocError>
         ensures { IfOk result (λ outside. Passes (table_of table.now) name self.old outside self.new) }
     {
         let Some(entry) = table.boxes.get(&name) else {
             return Err(AllocError);
         };
-        self.path.push(name)?;
+        self.path.push(alloc, name)?;
         let store = entry.store.share()?;
-        self.stores.push(store)?;
+        self.stores.push(alloc, store)?;
         self.solving = (entry.solved_at, entry.changed);
         Ok(table.home_around(entry.holder))
     }
@@ -44,13 +45,13 @@ impl Table {
         ensures { IfOk result (IsWay (table_of self.now) name) }
     {
         let mut way = Way {
-            path: Vec::new(alloc),
-            stores: Vec::new(alloc),
+            path: ShortList::new(),
+            stores: ShortList::new(),
             solving: (None, 0),
         };
         let mut at = Some(name);
         while let Some(here) = at {
-            at = way.pass(self, here)?;
+            at = way.pass(alloc, self, here)?;
         }
         way.path.reverse();
         way.stores.reverse();

@@ -78,10 +78,10 @@ pub fn placed_at(alloc: Global, table: &Table, place: Place) -> Result<Option<Pl
     };
     let path = table.path_to(alloc, home)?;
     match place {
-        Place::Goal(_) => Ok(Some(Placed {
-            place,
-            around: NameList::from_vec(path),
-        })),
+        Place::Goal(_) => {
+            let around = NameList::from_slice(alloc, path.as_slice())?;
+            Ok(Some(Placed { place, around }))
+        }
         Place::Box(_) => {
             let around = NameList::from_slice(alloc, all_but_last(path.as_slice()))?;
             Ok(Some(Placed { place, around }))

@@ -154,6 +154,10 @@ impl Core {
                 budget: self.budget,
             });
         }
+        // A plan that has seen all labels can't be stale.
+        if self.journal.len() as u64 == plan.seen() {
+            return None;
+        }
         let (item, stamp) = self.stale(plan.reads(), plan.seen())?;
         Some(CommitError::Stale { item, stamp })
     }

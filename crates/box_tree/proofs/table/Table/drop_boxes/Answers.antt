@@ -7,7 +7,7 @@ use Rattle.box_tree.proofs.table.Table.drop_boxes.Goals as goal
 
 pub loop-name-preserved : goal.loop-name-preserved
 loop-name-preserved c =
-    let items = c.deref-name-items.result.now in
+    let items = c.args.names.now in
     let i = c.loop-name.name-index in
     let next : Name = get_or items i (record { worker = 0; number = 0 }) in
     subst (DropsBoxes c.args.self.now c.drop_box.new.self) (sym (take_more items i (record { worker = 0; number = 0 }) c.loop-name-test.true))

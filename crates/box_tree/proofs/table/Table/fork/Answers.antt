@@ -6,6 +6,7 @@ use Rattle.box_tree.specs.Tables.{TableValue, table_of, new_box}
 use Rattle.box_tree.specs.Edits.{SetsBoxes, Becomes, Clears, home_if_empty}
 use Rattle.box_tree.proofs.Adding.{undone}
 use Rattle.box_tree.proofs.Forked.{forked, fresh_boxes, fresh_goals}
+use Rattle.box_tree.proofs.Numbers.{raised_later}
 use Rattle.box_tree.proofs.table.Table.fork.Goals as goal
 
 pub returns-in_default-put_news-clause-unchanged : goal.returns-in_default-put_news-clause-unchanged
@@ -19,8 +20,10 @@ returns-in_default-put_news-clause-unchanged c =
 pub returns-clause-made : goal.returns-clause-made
 returns-clause-made c =
     let same = c.home_if_empty-failing.ensures ∙ ap (home_if_empty c.in-Some.home) c.as_slice.ensures.value in
-    subst (λ (w : TableValue). Becomes c.args.self.now (record w { next = c.in_ok-next.next.items; steps = c.args.number }) (after_fork c.args.goal c.args.op (map (new_box c.args.self.now.program.templates.nodes) c.args.news.items) c.args.at c.args.worker c.args.count (table_of c.args.self.now)))
-    (sym c.self.view_is)
-    (forked c.args.self.now c.put_news.new.self c.make_choice.new.self c.fail_by.new.self c.args.goal c.in-Some.home c.args.op c.args.news.items c.args.at c.args.number c.args.worker c.args.count c.in_ok-names.names.items c.in_ok-next.next.items
-    c.requires.number c.requires.fresh c.in-Some.ensures (c.in_ok-names.ensures ∙ ap (map (λ (n : NewBox). n.name)) c.as_slice-2.ensures.value) c.in_ok-next.ensures c.in-Ok.ensures.put c.make_choice.ensures
+    let kept = ap (λ (x : TableValue). x.next) c.fail_by.ensures.rest ∙ ap (λ (x : TableValue). x.next) c.make_choice.ensures.rest ∙ ap (λ (x : TableValue). x.next) c.in-Ok.ensures.put.rest in
+    let raises = raised_later c.args.worker c.args.count c.in_ok-next.next c.args.self.now.next c.fail_by.new.self.next c.raise.new.self.next kept c.in_ok-next.ensures c.raise.ensures.numbers in
+    subst (λ (w : TableValue). Becomes c.args.self.now (record w { steps = c.args.number }) (after_fork c.args.goal c.args.op (map (new_box c.args.self.now.program.templates.nodes) c.args.news.items) c.args.at c.args.worker c.args.count (table_of c.args.self.now)))
+    (sym (c.self.view_is ∙ c.raise.ensures.rest))
+    (forked c.args.self.now c.put_news.new.self c.make_choice.new.self c.fail_by.new.self c.args.goal c.in-Some.home c.args.op c.args.news.items c.args.at c.args.number c.args.worker c.args.count c.in_ok-names.names.items c.raise.new.self.next
+    c.requires.number c.requires.fresh c.in-Some.ensures (c.in_ok-names.ensures ∙ ap (map (λ (n : NewBox). n.name)) c.as_slice-2.ensures.value) raises c.in-Ok.ensures.put c.make_choice.ensures
     (subst (λ o. SetsBoxes c.make_choice.new.self c.fail_by.new.self (changed_box o (failing_row c.args.goal) (table_of c.make_choice.new.self).box_of)) same c.fail_by.ensures))

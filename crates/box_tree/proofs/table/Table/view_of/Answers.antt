@@ -19,7 +19,7 @@ invariant_of-result-2 c =
     let path : List Name = way.path.items in
     let known : c.known_of-known.result.0 ≡ known_in T 0 path = c.known_of-known.ensures.known ∙ ap (known_in T 0) c.as_slice.ensures.value in
     let latest : c.known_of-known.result.1 ≡ latest_in T 0 path = c.known_of-known.ensures.latest ∙ ap (latest_in T 0) c.as_slice.ensures.value in
-    let whole : c.in-Some.whole ≡ length path + 1 = omega (arith, c.in-Some.ensures, c.len.ensures, way.path.ok.0) in
+    let whole : c.in-Some.whole ≡ length path + 1 = omega (arith, c.in-Some.ensures, c.len.ensures, ap length c.as_slice-2.ensures.value) in
     let names : c.names_seen-names.result.now ≡ names_at T c.args.place = c.names_seen-names.ensures c.args.home c.requires.sight in
     rw (c.of.ensures, c.of-2.ensures) (view_of c.args.self.now c.args.journal.now.items c.requires.table c.args.place c.args.worker c.args.home c.args.sight path way.stores.items c.known_of-known.result.0 c.next_of.result
     c.in_ok-alternatives.alternatives.items c.in_ok-body.body.items c.requires.sight c.in_ok-path.ensures.path c.in_ok-path.ensures.stores known c.next_of.ensures
@@ -32,7 +32,7 @@ returns-clause-seen c =
     let path : List Name = way.path.items in
     let known : c.known_of-known.result.0 ≡ known_in T 0 path = c.known_of-known.ensures.known ∙ ap (known_in T 0) c.as_slice.ensures.value in
     let latest : c.known_of-known.result.1 ≡ latest_in T 0 path = c.known_of-known.ensures.latest ∙ ap (latest_in T 0) c.as_slice.ensures.value in
-    let whole : c.in-Some.whole ≡ length path + 1 = omega (arith, c.in-Some.ensures, c.len.ensures, way.path.ok.0) in
+    let whole : c.in-Some.whole ≡ length path + 1 = omega (arith, c.in-Some.ensures, c.len.ensures, ap length c.as_slice-2.ensures.value) in
     let names : c.names_seen-names.result.now ≡ names_at T c.args.place = c.names_seen-names.ensures c.args.home c.requires.sight in
     rw (c.of.ensures, c.of-2.ensures) (view_of c.args.self.now c.args.journal.now.items c.requires.table c.args.place c.args.worker c.args.home c.args.sight path way.stores.items c.known_of-known.result.0 c.next_of.result
     c.in_ok-alternatives.alternatives.items c.in_ok-body.body.items c.requires.sight c.in_ok-path.ensures.path c.in_ok-path.ensures.stores known c.next_of.ensures

@@ -13,8 +13,8 @@ returns c =
     let t : TableValue = c.args.table.now in
     let row = ap (option_map (box_row t.program.templates.nodes)) (found_at c.args.name c.table.inside.boxes t.boxes c.in-Some.entry.now (ap (λ (v : TableValue). v.boxes) c.table.view_is) c.in-Some.ensures.value) in
     record {
-      path = c.in_ok-push.ensures.items;
-      stores = c.in_ok-push-2.ensures.items ∙ ap (λ (s : Stored). c.args.self.now.stores.items ++ s ∷ []) (c.in_ok-store.ensures ∙ sym (ap store_in row));
+      path = c.in_ok-push.ensures;
+      stores = c.in_ok-push-2.ensures ∙ ap (λ (s : Stored). c.args.self.now.stores.items ++ s ∷ []) (c.in_ok-store.ensures ∙ sym (ap store_in row));
       solving = sym (ap solving_in row);
       around = c.home_around.ensures ∙ sym (ap (λ (o : Option BoxRow). home_at (table_of t) (holder_in_row o)) row);
     }

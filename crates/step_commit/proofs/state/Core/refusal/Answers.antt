@@ -17,7 +17,7 @@ returns-in_err-item-clause-fresh c =
     let most : c.self.inside.budget ≡ c.args.self.now.budget = ap (λ (k : CoreValue). k.budget) c.self.view_is in
     let less : length c.args.self.now.journal < c.args.self.now.budget = let f : _ = c.if-len-self.false in grind (arith, nat_tests) in
     let none = fresh c.args.self.now core c.args.plan.now right c.requires less
-    (found_as (table_of c.args.self.now.table) c.reads.result.now c.args.plan.now.reads c.seen.result (length c.args.plan.now.journal) c.stale.result None c.reads.ensures.reads c.seen.ensures c.in_err-item.was c.stale.ensures) in
+    (found_as (table_of c.args.self.now.table) c.reads.result.now c.args.plan.now.reads c.seen-2.result (length c.args.plan.now.journal) c.stale.result None c.reads.ensures.reads c.seen-2.ensures c.in_err-item.was c.stale.ensures) in
     if_none c.from_residual.result none
 
 pub returns-clause-refused : goal.returns-clause-refused
@@ -31,5 +31,5 @@ returns-clause-refused c =
     let less : length c.args.self.now.journal < c.args.self.now.budget = let f : _ = c.if-len-self.false in grind (arith, nat_tests) in (
       less,
       not_fresh c.args.self.now core c.args.plan.now right c.requires c.in_ok-item.item c.in_ok-item.stamp
-          (found_as (table_of c.args.self.now.table) c.reads.result.now c.args.plan.now.reads c.seen.result (length c.args.plan.now.journal) c.stale.result (Some (c.in_ok-item.item, c.in_ok-item.stamp)) c.reads.ensures.reads c.seen.ensures c.in_ok-item.was c.stale.ensures),
+          (found_as (table_of c.args.self.now.table) c.reads.result.now c.args.plan.now.reads c.seen-2.result (length c.args.plan.now.journal) c.stale.result (Some (c.in_ok-item.item, c.in_ok-item.stamp)) c.reads.ensures.reads c.seen-2.ensures c.in_ok-item.was c.stale.ensures),
     )

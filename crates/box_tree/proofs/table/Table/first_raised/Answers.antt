@@ -2,7 +2,7 @@ use Rattle.std.proofs.Common.{◌≡◌, ◌+◌, ℕ, List, slice_index, ap, �
 use Rattle.std.proofs.lemmas.List.{get_or_read}
 use Rattle.box_tree.specs.Tables.{TableValue}
 use Rattle.box_tree.proofs.Numbers.{raised_by}
-use Rattle.box_tree.proofs.table.Table.raised.Goals as goal
+use Rattle.box_tree.proofs.table.Table.first_raised.Goals as goal
 
 pub returns : goal.returns
 returns c = λ w.

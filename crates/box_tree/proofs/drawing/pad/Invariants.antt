@@ -1,5 +1,5 @@
 use Rattle.std.proofs.Common.{◌≡◌, ℕ, ◌+◌, ◌-◌, vec_len, slice_index}
-use Rattle.box_tree.proofs.forking.pad.Given as goal
+use Rattle.box_tree.proofs.drawing.pad.Given as goal
 
 abbrev pub invariant-loop-next : goal.invariant-loop-next
 invariant-loop-next l = (w : ℕ) → slice_index l.next.items w ≡ slice_index l.fn.next.items w
