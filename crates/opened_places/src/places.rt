@@ -36,20 +36,20 @@ pub(crate) fn push_goals<T>(
     Ok(())
 }
 
-// A new box comes with its goals, where these boxes are around it.
+// A new box comes with its goals, where these boxes are around it; the path is as before then.
 fn push_new_box(
     alloc: Global,
     made: &NewBox,
-    around: &[Name],
+    path: &mut Vec<Name>,
     places: &mut Vec<Placed>,
 ) -> Result<(), AllocError>
-    ensures { OnOk result (places.new.items ≡ places.old.items ++ (placed (Place.Box made.now.name) around.now ∷ goals_placed (around.now ++ made.now.name ∷ []) (map (λ x. x.0) made.now.goals.items))) }
+    ensures placed { OnOk result (places.new.items ≡ places.old.items ++ (placed (Place.Box made.now.name) path.old.items ∷ goals_placed (path.old.items ++ made.now.name ∷ []) (map (λ x. x.0) made.now.goals.items))) }
+    ensures path { OnOk result (path.new.items ≡ path.old.items) }
 {
-    push_placed(alloc, Place::Box(made.name), around, places)?;
-    let mut path = Vec::with_capacity(alloc, around.len() + 1)?;
-    path.extend_from_slice(around)?;
+    push_placed(alloc, Place::Box(made.name), path.as_slice(), places)?;
     path.push(made.name)?;
     push_goals(alloc, made.goals.as_slice(), path.as_slice(), places)?;
+    path.pop();
     Ok(())
 }
 
@@ -62,8 +62,10 @@ fn push_new(
 ) -> Result<(), AllocError>
     ensures { OnOk result ((nodes : List Node) → places.new.items ≡ places.old.items ++ new_placed around.now (map (new_box nodes) boxes.now)) }
 {
+    let mut path = Vec::with_capacity(alloc, around.len() + 1)?;
+    path.extend_from_slice(around)?;
     for made in boxes {
-        push_new_box(alloc, made, around, places)?;
+        push_new_box(alloc, made, &mut path, places)?;
     }
     Ok(())
 }

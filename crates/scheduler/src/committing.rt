@@ -11,7 +11,7 @@ ghost use Rattle.scheduler.specs.Work.{TakesSteps};
 ghost use Rattle.scheduler.specs.Counting.{TakesLabelSteps};
 
 use crate::counting::{count, count_contents};
-use crate::dropping::{drop_gone, drop_opened, leave_gone};
+use crate::dropping::{drop_gone, drop_opened, leave_gone, place_under};
 use crate::effects::{gone_once, opened_by};
 use crate::opening::{close_all, open_all};
 use crate::scheduler::Scheduler;
@@ -20,7 +20,7 @@ use crate::turns::TurnHints;
 use akl_model::Receipt;
 use akl_terms::{Place, Steps};
 use box_tree::Plan;
-use opened_places::Placed;
+use opened_places::{Placed, around_of};
 use std::alloc::{AllocError, Global};
 use std::marker::Brand;
 use std::sync::ledger::{Blank, Ledger};
@@ -131,8 +131,11 @@ impl Scheduler {
         ensures unchanged { IfErr result (λ _. self.new ≡ self.old) }
         ensures steps { TakesLabelSteps self.old plan steps.old steps.new }
     {
-        let places = opened_by(alloc, self.core.table(), &self.waits, &plan, gone)?;
-        let hints = TurnHints::of(alloc, self.core.table(), &plan)?;
+        let Some(around) = around_of(self.core.table(), plan.label()) else {
+            return Err(AllocError);
+        };
+        let places = opened_by(alloc, self.core.table(), &self.waits, &plan, around, gone)?;
+        let hints = TurnHints::of(alloc, around.home, &plan)?;
         let mut committed = self.commit_opening(alloc, plan, places.as_slice(), gone, steps)?;
         committed.hurried = self.set_turns(places.as_slice(), gone, &hints);
         Ok(committed)
@@ -167,8 +170,8 @@ impl Scheduler {
             Ok(receipt) => {
                 // By this call it is known that the core is one still.
                 let _ = self.core.table();
-                drop_opened(&mut self.waits, places, steps);
-                drop_gone(&mut self.waits, gone, steps);
+                drop_opened(&mut self.waits, &self.open, opened.as_slice(), steps);
+                drop_gone(&mut self.waits, place_under(own, place), gone, steps);
                 leave_gone(&mut self.open, own, place, gone);
                 self.splits.remove_all(ended.as_slice());
                 Ok(Committed {

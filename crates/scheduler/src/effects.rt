@@ -20,7 +20,7 @@ use crate::placing::push_those;
 use akl_terms::{Name, Place, Var};
 use box_tree::{Plan, Step, Table};
 use local_store::Store;
-use opened_places::{Around, Placed, around_of, changed_places, gone_places, places_inside};
+use opened_places::{Around, Placed, changed_places, gone_places, places_inside};
 use std::alloc::{AllocError, Global};
 use wake_lists::Waits;
 
@@ -34,22 +34,22 @@ pub(crate) fn gone_once(alloc: Global, table: &Table, plan: &Plan) -> Result<Vec
     each_once(alloc, gone)
 }
 
-/// The places that the label of a plan opens, where these go, each with the boxes around it; one that the label changes may
-/// be listed twice. It takes as long as they are many, times their depth. An `Err` comes for want of memory, and where the label's
-/// place isn't there, as it is for each plan that may be committed.
+/// The places that the label of a plan opens, where these go, each with the boxes around it, by what stands about the label's
+/// place; one that the label changes may be listed twice. It takes as long as they are many, times their depth. An `Err` comes
+/// for want of memory.
 pub(crate) fn opened_by(
     alloc: Global,
     table: &Table,
     waits: &Waits,
     plan: &Plan,
+    around: Around,
     gone: &[Place],
 ) -> Result<Vec<Placed>, AllocError>
-    requires { IsOfRun table.now }
+    requires run { IsOfRun table.now }
+    requires there { is_there (table_of table.now) plan.now.label.place ≡ true }
+    requires around { IsAround (table_of table.now) plan.now.label around }
     ensures { IfOk result (λ places. AreListedFor table.now waits.now plan.now gone.now places.items) }
 {
-    let Some(around) = around_of(table, plan.label()) else {
-        return Err(AllocError);
-    };
     let others = opened_others(alloc, table, waits, plan, around.home, gone)?;
     opened_with(alloc, table, plan, around, others.as_slice())
 }

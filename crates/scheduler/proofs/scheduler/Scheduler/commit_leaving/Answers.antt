@@ -8,6 +8,9 @@ use Rattle.scheduler.proofs.Hurrying.{failing_urgent, still_among}
 use Rattle.scheduler.proofs.WorkBound.{label_within}
 use Rattle.scheduler.proofs.scheduler.Scheduler.commit_leaving.Goals as goal
 
+pub returns-in_default-clause-steps : goal.returns-in_default-clause-steps
+returns-in_default-clause-steps g c = label_within c.args.self.now c.args.plan c.args.steps.now
+
 pub returns-in_err-places-clause-steps : goal.returns-in_err-places-clause-steps
 returns-in_err-places-clause-steps g c = label_within c.args.self.now c.args.plan c.args.steps.now
 
