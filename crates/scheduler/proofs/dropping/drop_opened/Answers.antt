@@ -1,7 +1,5 @@
-use Rattle.std.proofs.Common.{◌≡◌, ◌+◌, ℕ, take, List, sym, ap, subst, ◌∙◌}
-use Rattle.std.specs.Prelude.{Option, Some, option_map}
+use Rattle.std.proofs.Common.{◌+◌, ℕ, take, List, sym, ap, subst, ◌∙◌}
 use Rattle.akl_terms.specs.declared.name.Place.{Place}
-use Rattle.wake_lists.specs.Open.{Opening, opening_at}
 use Rattle.scheduler.specs.Dropping.{DropsWaits, places_under}
 use Rattle.scheduler.specs.Counting.{DropBySteps}
 use Rattle.scheduler.proofs.DroppedWaits.{Waiting}

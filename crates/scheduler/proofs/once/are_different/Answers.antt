@@ -1,4 +1,4 @@
-use Rattle.std.proofs.Common.{List, ◌∷◌, sym, subst, ◌∙◌}
+use Rattle.std.proofs.Common.{List, sym, subst, ◌∙◌}
 use Rattle.akl_terms.specs.declared.name.Place.{Place}
 use Rattle.scheduler.specs.Once.{IsEachPlaceOnce}
 use Rattle.scheduler.proofs.CommitFacts.{not_both, place_listed}

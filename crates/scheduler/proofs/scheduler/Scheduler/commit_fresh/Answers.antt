@@ -5,8 +5,6 @@ use Rattle.opened_places.specs.Gone.{AreGone}
 use Rattle.opened_places.specs.Placed.{PlacedValue, places_of}
 use Rattle.scheduler.specs.Once.{IsEachPlaceOnce}
 use Rattle.scheduler.specs.Schedulers.{SchedulerValue}
-use Rattle.scheduler.specs.Turns.{AreUrgent}
-use Rattle.scheduler.specs.Committed.{OpensAmong}
 use Rattle.scheduler.proofs.Untimed.{untimed_commits}
 use Rattle.scheduler.proofs.Hurrying.{failing_urgent, still_among}
 use Rattle.scheduler.proofs.WorkBound.{label_within}
