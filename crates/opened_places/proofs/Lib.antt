@@ -27,4 +27,5 @@ pub mod PlacesListed
 pub mod OldAround
 pub mod NewAround
 pub mod CopyAround
+pub mod AroundPath
 pub mod AroundSteps

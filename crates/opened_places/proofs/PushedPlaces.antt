@@ -1,5 +1,5 @@
 -- Places as they are pushed one after another.
-use Rattle.std.proofs.Common.{◌≡◌, ℕ, ◌+◌, ◌<◌, List, [], ◌∷◌, ◌++◌, length, map, take, get_or, refl, sym, ◌∙◌, ap, append_assoc}
+use Rattle.std.proofs.Common.{◌≡◌, ℕ, ◌+◌, ◌<◌, List, [], ◌∷◌, ◌++◌, length, map, take, get_or, refl, sym, ◌∙◌, ap, subst, append_assoc}
 use Rattle.std.proofs.lemmas.List.{take_more}
 use Rattle.akl_terms.specs.declared.name.Name.{Name}
 use Rattle.akl_terms.specs.declared.name.Place.{Place}
@@ -8,13 +8,15 @@ use Rattle.akl_terms.specs.declared.program.Goal.{Goal}
 use Rattle.akl_model.specs.Config.{Atom}
 use Rattle.akl_model.specs.Changes.{Shape}
 use Rattle.table_laws.specs.Rows.{Table}
+use Rattle.table_laws.specs.Walks.{ListsInside}
 use Rattle.table_laws.specs.Steps as laws
+use Rattle.table_laws.proofs.Drops.{each_none, each_more}
 use Rattle.box_tree.specs.declared.entries.Held.{Held}
 use Rattle.box_tree.specs.declared.step.NewBox.{NewBox}
 use Rattle.box_tree.specs.declared.step.BoxCopy.{BoxCopy}
 use Rattle.box_tree.specs.Tables.{goal_atom, shape_held, goals_in, new_box, box_copy}
 use Rattle.opened_places.specs.Placed.{PlacedValue, placed, goals_placed}
-use Rattle.opened_places.specs.Gone.{goals_named, places_at}
+use Rattle.opened_places.specs.Gone.{goals_named, places_at, AddsInsideEach}
 use Rattle.opened_places.specs.Listed.{new_placed, law_part}
 use Rattle.opened_places.specs.Copies.{parts_of}
 use Rattle.opened_places.proofs.Members.{firsts}
@@ -49,6 +51,23 @@ box_next T boxes i n before at now goals more at_is goals_are now_is =
         nothing : (qs : List Place) → qs ++ [] ≡ qs
         nothing [] = refl
         nothing (q ∷ qs) = ap (λ (rs : List Place). q ∷ rs) (nothing qs)
+
+-- boxes with all that stands in them
+
+nothing_else : (ps : List Place) → ps ≡ ps ++ []
+nothing_else [] = refl
+nothing_else (p ∷ ps) = ap (λ (qs : List Place). p ∷ qs) (nothing_else ps)
+
+pub inside_none : (T : Table) (places : List Place) → AddsInsideEach T [] places places
+inside_none T places = record { boxes = []; lists = each_none T; comes = nothing_else places }
+
+pub inside_next : (T : Table) (tops : List Name) (i : ℕ) (n : Name) (before at now : List Place) (inner : List Name) → take (i + 1) tops ≡ take i tops ++ n ∷ [] → AddsInsideEach T (take i tops) before at → ListsInside T n inner
+    → now ≡ at ++ places_at T inner → AddsInsideEach T (take (i + 1) tops) before now
+inside_next T tops i n before at now inner more adds lists e = subst (λ (ns : List Name). AddsInsideEach T ns before now) (sym more) (record {
+  boxes = adds.boxes ++ inner;
+  lists = each_more T (take i tops) adds.boxes n inner adds.lists lists;
+  comes = e ∙ ap (λ (ps : List Place). ps ++ places_at T inner) adds.comes ∙ append_assoc before (places_at T adds.boxes) (places_at T inner) ∙ ap (λ (ps : List Place). before ++ ps) (sym (places_join T adds.boxes inner));
+})
 
 -- names of goals, whatever they hold
 

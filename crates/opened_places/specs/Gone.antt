@@ -1,5 +1,5 @@
 -- The places that go with a step.
-use Rattle.std.specs.Prelude.{List, [], ◌∷◌, ◌++◌, map, slice_index}
+use Rattle.std.specs.Prelude.{◌≡◌, List, [], ◌∷◌, ◌++◌, map, slice_index}
 use Rattle.akl_terms.specs.declared.name.Name.{Name}
 use Rattle.akl_terms.specs.declared.name.Place.{Place}
 use Rattle.akl_model.specs.declared.label.Label.{Label}
@@ -7,6 +7,7 @@ use Rattle.akl_model.specs.Config.{Config}
 use Rattle.akl_model.specs.Derivations.{Applies}
 use Rattle.akl_model.specs.Wakes.{IsOneOf}
 use Rattle.table_laws.specs.Rows.{Table}
+use Rattle.table_laws.specs.Walks.{ListsEach}
 use Rattle.table_laws.specs.Stamped.{IsTableOf}
 use Rattle.table_laws.specs.Steps as laws
 use Rattle.table_laws.specs.Going.{IsGone}
@@ -42,3 +43,9 @@ goals_named names = map (λ (g : Name). Place.Goal g) names
 abbrev pub places_at : Table → List Name → List Place
 places_at T [] = []
 places_at T (n ∷ ns) = Place.Box n ∷ (goals_named (goals_in (T.box_of n)) ++ places_at T ns)
+
+-- these boxes, and all that stands in them, come to the end of the places
+pub record AddsInsideEach (T : Table) (tops : List Name) (before now : List Place) : Type 0 where
+  pub boxes : List Name
+  pub lists : ListsEach T tops boxes
+  pub comes : now ≡ before ++ places_at T boxes

@@ -7,11 +7,12 @@ ghost use Rattle.table_laws.specs.Writes.{cut_from, others_beside};
 ghost use Rattle.table_laws.specs.Going.{boxes_going};
 ghost use Rattle.box_tree.specs.Tables.{table_of, step_of};
 ghost use Rattle.box_tree.specs.Drops.{IsOfRun};
-ghost use Rattle.opened_places.specs.Gone.{goals_named, own_places, places_at, AreGone};
+ghost use Rattle.opened_places.specs.Gone.{goals_named, own_places, places_at, AddsInsideEach, AreGone};
 
 use akl_model::Label;
 use akl_terms::{Name, Op, Place};
 use box_tree::{Sight, Step, Table, parted};
+use name_list::NameList;
 use std::alloc::{AllocError, Global};
 
 // The goal of the label's place, where it goes by itself.
@@ -27,42 +28,40 @@ fn own_places(alloc: Global, place: Place, step: &Step) -> Result<Vec<Place>, Al
 }
 
 // The alternatives that go where a choice is cut at one of them.
-fn cut_from(alloc: Global, table: &Table, goal: Name, name: Name) -> Result<Vec<Name>, AllocError>
-    ensures { IfOk result (λ gone. gone.items ≡ cut_from name ((table_of table.now).goal_of goal)) }
+fn cut_from(alloc: Global, table: &Table, goal: Name, name: Name) -> Result<NameList, AllocError>
+    ensures { IfOk result (λ gone. gone ≡ cut_from name ((table_of table.now).goal_of goal)) }
 {
     let Some((_, sight)) = table.sight_of(Place::Goal(goal)) else {
-        return Ok(Vec::new(alloc));
+        return Ok(NameList::new());
     };
     match sight {
         Sight::Choice { op } => {
             let (_, gone) = parted(alloc, op, name, table.alternatives_of(goal))?;
-            Ok(gone)
+            Ok(NameList::from_vec(gone))
         }
-        Sight::Atom(_) | Sight::Box { .. } => Ok(Vec::new(alloc)),
+        Sight::Atom(_) | Sight::Box { .. } => Ok(NameList::new()),
     }
 }
 
 // The other alternatives of the choice that holds one.
-fn others_beside(alloc: Global, table: &Table, name: Name) -> Result<Vec<Name>, AllocError>
-    ensures { IfOk result (λ others. others.items ≡ others_beside (table_of table.now) name) }
+fn others_beside(alloc: Global, table: &Table, name: Name) -> Result<NameList, AllocError>
+    ensures { IfOk result (λ others. others ≡ others_beside (table_of table.now) name) }
 {
     match table.holder_of(name) {
         Some(choice) => {
             let alternatives = table.alternatives_of(choice);
             let (_, others) = parted(alloc, Op::Commit, name, alternatives)?;
-            Ok(others)
+            Ok(NameList::from_vec(others))
         }
-        None => Ok(Vec::new(alloc)),
+        None => Ok(NameList::new()),
     }
 }
 
 // One name.
-fn one(alloc: Global, name: Name) -> Result<Vec<Name>, AllocError>
-    ensures { IfOk result (λ names. names.items ≡ name ∷ []) }
+fn one(alloc: Global, name: Name) -> Result<NameList, AllocError>
+    ensures { IfOk result (λ names. names ≡ name ∷ []) }
 {
-    let mut names = Vec::new(alloc);
-    names.push(name)?;
-    Ok(names)
+    NameList::from_slice(alloc, &[name])
 }
 
 // The boxes that go with all that stands in them, by a label of this goal.
@@ -72,17 +71,17 @@ fn going_at_goal(
     goal: Name,
     alternative: Option<Name>,
     step: &Step,
-) -> Result<Vec<Name>, AllocError>
-    ensures { IfOk result (λ boxes. (nodes : List Node) → boxes.items ≡ boxes_going (table_of table.now) (step_of nodes step.now) (Place.Goal goal) alternative) }
+) -> Result<NameList, AllocError>
+    ensures { IfOk result (λ boxes. (nodes : List Node) → boxes ≡ boxes_going (table_of table.now) (step_of nodes step.now) (Place.Goal goal) alternative) }
 {
     let Some(name) = alternative else {
-        return Ok(Vec::new(alloc));
+        return Ok(NameList::new());
     };
     match step {
         Step::Cut => cut_from(alloc, table, goal, name),
         Step::Promote { .. } => one(alloc, name),
-        Step::Tell { .. } | Step::Fork { .. } | Step::Fail => Ok(Vec::new(alloc)),
-        Step::Refute | Step::Confirm | Step::Split { .. } => Ok(Vec::new(alloc)),
+        Step::Tell { .. } | Step::Fork { .. } | Step::Fail => Ok(NameList::new()),
+        Step::Refute | Step::Confirm | Step::Split { .. } => Ok(NameList::new()),
     }
 }
 
@@ -93,23 +92,23 @@ fn going_at_box(
     name: Name,
     alternative: Option<Name>,
     step: &Step,
-) -> Result<Vec<Name>, AllocError>
-    ensures { IfOk result (λ boxes. (nodes : List Node) → boxes.items ≡ boxes_going (table_of table.now) (step_of nodes step.now) (Place.Box name) alternative) }
+) -> Result<NameList, AllocError>
+    ensures { IfOk result (λ boxes. (nodes : List Node) → boxes ≡ boxes_going (table_of table.now) (step_of nodes step.now) (Place.Box name) alternative) }
 {
     match step {
         Step::Fail => one(alloc, name),
         Step::Split { .. } => match alternative {
             Some(other) => others_beside(alloc, table, other),
-            None => Ok(Vec::new(alloc)),
+            None => Ok(NameList::new()),
         },
-        Step::Tell { .. } | Step::Fork { .. } | Step::Cut => Ok(Vec::new(alloc)),
-        Step::Promote { .. } | Step::Refute | Step::Confirm => Ok(Vec::new(alloc)),
+        Step::Tell { .. } | Step::Fork { .. } | Step::Cut => Ok(NameList::new()),
+        Step::Promote { .. } | Step::Refute | Step::Confirm => Ok(NameList::new()),
     }
 }
 
 // The boxes that go with all that stands in them.
-fn going(alloc: Global, table: &Table, label: Label, step: &Step) -> Result<Vec<Name>, AllocError>
-    ensures { IfOk result (λ boxes. (nodes : List Node) → boxes.items ≡ boxes_going (table_of table.now) (step_of nodes step.now) label.place label.alternative) }
+fn going(alloc: Global, table: &Table, label: Label, step: &Step) -> Result<NameList, AllocError>
+    ensures { IfOk result (λ boxes. (nodes : List Node) → boxes ≡ boxes_going (table_of table.now) (step_of nodes step.now) label.place label.alternative) }
 {
     match label.place {
         Place::Goal(goal) => going_at_goal(alloc, table, goal, label.alternative, step),
@@ -144,6 +143,23 @@ fn push_boxes(
     Ok(())
 }
 
+// Boxes come, each with all that stands in it.
+fn push_inside_each(
+    alloc: Global,
+    table: &Table,
+    tops: &[Name],
+    places: &mut Vec<Place>,
+) -> Result<(), AllocError>
+    requires { IsOfRun table.now }
+    ensures { OnOk result (AddsInsideEach (table_of table.now) tops.now places.old.items places.new.items) }
+{
+    for name in tops {
+        let boxes = table.inside(alloc, *name)?;
+        push_boxes(alloc, table, boxes.as_slice(), places)?;
+    }
+    Ok(())
+}
+
 /// The places that are there before a label's step is made and aren't afterwards, wherever the label applies in the
 /// configuration of the table and the step is what it makes there: the goal that it takes away, the alternative that is
 /// promoted, and each box that fails or is cut off with all that stands in it. It takes as long as they are many, and the
@@ -158,8 +174,7 @@ pub fn gone_places(
     ensures { IfOk result (λ places. AreGone table.now label step.now places.items) }
 {
     let tops = going(alloc, table, label, step)?;
-    let boxes = table.inside_each(alloc, tops.as_slice())?;
     let mut places = own_places(alloc, label.place, step)?;
-    push_boxes(alloc, table, boxes.as_slice(), &mut places)?;
+    push_inside_each(alloc, table, tops.as_slice(), &mut places)?;
     Ok(places)
 }

@@ -1,10 +1,11 @@
 //! The places that a step changes.
 
-ghost use Rattle.std.specs.Prelude.{◌≡◌, ◌++◌, List, [], ◌∷◌, map, true, IfOk, OnOk};
+ghost use Rattle.std.specs.Prelude.{◌≡◌, ◌++◌, List, [], ◌∷◌, map, true, option_map, IfOk, OnOk};
 ghost use Rattle.akl_terms.specs.declared.name.Place.{Place};
 ghost use Rattle.akl_terms.specs.declared.term.Node.{Node};
 ghost use Rattle.box_tree.specs.Tables.{table_of, new_box, step_of};
 ghost use Rattle.box_tree.specs.Drops.{IsOfRun};
+ghost use Rattle.box_tree.specs.Paths.{outside_of, HasPath, IsPath};
 ghost use Rattle.box_tree.specs.Views.{is_there};
 ghost use Rattle.opened_places.specs.Placed.{placed, all_but_last, goals_placed};
 ghost use Rattle.opened_places.specs.Exact.{IsAround, AreChanged};
@@ -16,6 +17,7 @@ use crate::placed::{Placed, all_but_last, push_placed};
 use akl_model::Label;
 use akl_terms::{Name, Place};
 use box_tree::{NewBox, Step, Table};
+use name_list::NameList;
 use std::alloc::{AllocError, Global};
 
 // Most labels change no more places than this.
@@ -36,20 +38,20 @@ pub(crate) fn push_goals<T>(
     Ok(())
 }
 
-// A new box comes with its goals, where these boxes are around it.
+// A new box comes with its goals, where these boxes are around it; the path is as before then.
 fn push_new_box(
     alloc: Global,
     made: &NewBox,
-    around: &[Name],
+    path: &mut Vec<Name>,
     places: &mut Vec<Placed>,
 ) -> Result<(), AllocError>
-    ensures { OnOk result (places.new.items ≡ places.old.items ++ (placed (Place.Box made.now.name) around.now ∷ goals_placed (around.now ++ made.now.name ∷ []) (map (λ x. x.0) made.now.goals.items))) }
+    ensures placed { OnOk result (places.new.items ≡ places.old.items ++ (placed (Place.Box made.now.name) path.old.items ∷ goals_placed (path.old.items ++ made.now.name ∷ []) (map (λ x. x.0) made.now.goals.items))) }
+    ensures path { OnOk result (path.new.items ≡ path.old.items) }
 {
-    push_placed(alloc, Place::Box(made.name), around, places)?;
-    let mut path = Vec::with_capacity(alloc, around.len() + 1)?;
-    path.extend_from_slice(around)?;
+    push_placed(alloc, Place::Box(made.name), path.as_slice(), places)?;
     path.push(made.name)?;
     push_goals(alloc, made.goals.as_slice(), path.as_slice(), places)?;
+    path.pop();
     Ok(())
 }
 
@@ -62,8 +64,10 @@ fn push_new(
 ) -> Result<(), AllocError>
     ensures { OnOk result ((nodes : List Node) → places.new.items ≡ places.old.items ++ new_placed around.now (map (new_box nodes) boxes.now)) }
 {
+    let mut path = Vec::with_capacity(alloc, around.len() + 1)?;
+    path.extend_from_slice(around)?;
     for made in boxes {
-        push_new_box(alloc, made, around, places)?;
+        push_new_box(alloc, made, &mut path, places)?;
     }
     Ok(())
 }
@@ -205,6 +209,25 @@ fn listed(
     }
 }
 
+// The boxes down to the box of a label's place; those around it are looked up from the box that its holder stands in.
+fn path_around(alloc: Global, table: &Table, around: Around) -> Result<NameList, AllocError>
+    requires path { HasPath table.now around.home }
+    requires outside { outside_of (table_of table.now) around.home ≡ option_map (λ h. h.home) around.holder }
+    ensures { IfOk result (λ path. IsPath (table_of table.now) around.home path) }
+{
+    match around.holder {
+        Some(holder) => {
+            let mut path = table.path_to(alloc, holder.home)?;
+            path.push(around.home)?;
+            Ok(NameList::from_vec(path))
+        }
+        None => {
+            let path = NameList::from_slice(alloc, &[around.home])?;
+            Ok(path)
+        }
+    }
+}
+
 /// The places that a label changes by its step, so that it opens them, each with the boxes around it once the step is
 /// made: what is new, a goal that changes with its box, a box whose constraint or set of goals changes, and the choice
 /// that holds a box whose set of goals changes. They are exactly these wherever the label applies in the configuration of
@@ -222,7 +245,7 @@ pub fn changed_places(
     requires around { IsAround (table_of table.now) label around }
     ensures { IfOk result (λ places. AreChanged table.now label step.now places.items) }
 {
-    let path = table.path_to(alloc, around.home)?;
+    let path = path_around(alloc, table, around)?;
     let places = listed(alloc, label.place, step, around, path.as_slice())?;
     Ok(places)
 }

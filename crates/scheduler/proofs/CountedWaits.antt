@@ -3,7 +3,7 @@ use Rattle.std.proofs.Common.{◌≡◌, ℕ, ◌+◌, ◌<◌, get_or, take, le
 use Rattle.std.proofs.lemmas.Bool.Decides.{nat_tests}
 use Rattle.std.proofs.lemmas.List.{take_more}
 use Rattle.std.proofs.lemmas.Map.Keys.{IsDistinct-head, IsDistinct-tail}
-use Rattle.std.specs.Prelude.{◌||◌, ◌&&◌, not}
+use Rattle.std.specs.Prelude.{◌||◌, ◌&&◌, not, Some, option_map}
 use Rattle.std.specs.List.{AllByRecursion, IsDistinct}
 use Rattle.akl_terms.specs.declared.name.Var.{Var}
 use Rattle.akl_terms.specs.declared.name.Place.{Place}
@@ -13,11 +13,13 @@ use Rattle.akl_model.specs.Wakes.{Wait, IsKept, IsOneOf}
 use Rattle.wake_lists.specs.Waits.{waits_on, is_variable_in}
 use Rattle.opened_places.specs.Placed.{PlacedValue, places_of}
 use Rattle.opened_places.proofs.Members.{one_left, one_right, one_either}
-use Rattle.scheduler.specs.Dropping.{is_place_in, DropsWaits}
+use Rattle.wake_lists.specs.Open.{Opening, Openings, opening_at}
+use Rattle.scheduler.specs.Dropping.{is_place_in, DropsWaits, places_under}
 use Rattle.scheduler.specs.Work.{IsEachWaitOnce}
 use Rattle.scheduler.specs.Counting.{DropBySteps}
 use Rattle.scheduler.proofs.CommitFacts.{not_both, or_left, or_right, place_listed, listed_place}
 use Rattle.scheduler.proofs.DroppedWaits.{Waiting, places_end}
+use Rattle.scheduler.proofs.UnderTokens.{under_next, place_listed_by}
 
 and_left : (a b : Bool) → (a && b) ≡ true → a ≡ true
 and_left true b e = refl
@@ -143,6 +145,13 @@ pub drop_placed : (ps : List PlacedValue) (i : ℕ) (d : PlacedValue) (q : Place
 drop_placed ps i d q old mid xs n m k h e w are o b c =
     subst (λ (l : List Place). DropBySteps old l n k) (sym (ap places_of (take_more ps i d h) ∙ places_end (take i ps) (get_or ps i d)))
     (subst (λ (r : Place). DropBySteps old (places_of (take i ps) ++ r ∷ []) n k) e (drop_more old mid (places_of (take i ps)) q xs w are o n m k b c))
+
+-- by tokens
+pub drop_under : (ts : List ℕ) (i : ℕ) (os : Openings) (q : Place) (old mid : Waiting) (xs : List Var) (n m k : ℕ) → i < length ts → Some q ≡ option_map (λ (o : Opening). o.place) (opening_at (get_or ts i 0) os)
+    → DropsWaits old (places_under (take i ts) os) mid → ((x : Var) → is_variable_in x xs ≡ waits_on mid q x) → IsDistinct same_var xs → DropBySteps old (places_under (take i ts) os) n m → k ≡ m + length xs
+    → DropBySteps old (places_under (take (i + 1) ts) os) n k
+drop_under ts i os q old mid xs n m k h e w are o b c = subst (λ (l : List Place). DropBySteps old l n k) (sym (under_next ts i os h ∙ ap (λ (l : List Place). places_under (take i ts) os ++ l) (place_listed_by (opening_at (get_or ts i 0) os) q e)))
+    (drop_more old mid (places_under (take i ts) os) q xs w are o n m k b c)
 
 -- with a step for each of the places
 moved : (old : Waiting) (ps : List Place) (n m k : ℕ) → DropBySteps old ps n m → k ≡ m + 1 → DropBySteps old ps (n + 1) k

@@ -8,6 +8,7 @@ use Rattle.akl_terms.specs.declared.name.Var.{Var}
 use Rattle.akl_terms.specs.declared.name.Place.{Place}
 use Rattle.wake_lists.specs.Open.{Openings, after_one, after_leave}
 use Rattle.wake_lists.specs.Waits.{same_place, waits_on}
+use Rattle.wake_lists.proofs.Both.{same_place-equal}
 use Rattle.opened_places.specs.Placed.{PlacedValue, places_of}
 use Rattle.scheduler.specs.Dropping.{is_place_in, DropsWaits, boxes_among}
 
@@ -33,6 +34,25 @@ dropped_more old mid new ps q h s p x = s p x ∙ ap (λ (b : Bool). b && not (s
     both true true c = refl
     both true false c = refl
     both false b c = refl
+
+-- of a place that didn't wait nothing is to be dropped
+pub silent : (old mid : Waiting) (ps : List Place) (q : Place) → DropsWaits old ps mid → ((x : Var) → waits_on old q x ≡ false) → (x : Var) → waits_on mid q x ≡ false
+silent old mid ps q h s x = h q x ∙ ap (λ (b : Bool). b && not (is_place_in q ps)) (s x)
+
+pub silent_more : (mid : Waiting) (q : Place) → ((x : Var) → waits_on mid q x ≡ false) → (p : Place) (x : Var) → waits_on mid p x ≡ (waits_on mid p x && not (same_place p q))
+silent_more mid q s p x = on (same_place p q) refl
+  where
+    kept : (a : Bool) → a ≡ (a && not false)
+    kept true = refl
+    kept false = refl
+
+    none : (a : Bool) → (a && not true) ≡ false
+    none true = refl
+    none false = refl
+
+    on : (b : Bool) → same_place p q ≡ b → waits_on mid p x ≡ (waits_on mid p x && not b)
+    on true e = ap (λ (r : Place). waits_on mid r x) (same_place-equal p q e) ∙ s x ∙ sym (none (waits_on mid p x))
+    on false e = kept (waits_on mid p x)
 
 pub places_end : (ps : List PlacedValue) (p : PlacedValue) → places_of (ps ++ p ∷ []) ≡ places_of ps ++ p.place ∷ []
 places_end [] p = refl

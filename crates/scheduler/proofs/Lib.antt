@@ -23,6 +23,7 @@ pub mod SettleCalls
 pub mod Outwards
 pub mod Weights
 pub mod AtRest
+pub mod UnderTokens
 pub mod Untimed
 pub mod SeenOnce
 pub mod CountedContents

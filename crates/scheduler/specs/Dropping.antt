@@ -1,10 +1,10 @@
 -- What a commit leaves of places that opened or went.
-use Rattle.std.specs.Prelude.{◌≡◌, ℕ, List, [], ◌∷◌, ◌&&◌, not, Bool, Option, Some, None, if◌then◌else◌}
+use Rattle.std.specs.Prelude.{◌≡◌, ℕ, List, [], ◌∷◌, ◌++◌, ◌&&◌, not, Bool, Option, Some, None, if◌then◌else◌}
 use Rattle.std.specs.List.{list_any}
 use Rattle.akl_terms.specs.declared.name.Name.{Name}
 use Rattle.akl_terms.specs.declared.name.Var.{Var}
 use Rattle.akl_terms.specs.declared.name.Place.{Place}
-use Rattle.wake_lists.specs.Open.{Openings, closed, after_leave}
+use Rattle.wake_lists.specs.Open.{Opening, Openings, opening_at, closed, after_leave}
 use Rattle.wake_lists.specs.Waits.{same_place, waits_on}
 
 abbrev pub is_place_in : Place → List Place → Bool
@@ -18,6 +18,15 @@ abbrev pub boxes_among : List Place → List Name
 boxes_among [] = []
 boxes_among (Place.Goal g ∷ ps) = boxes_among ps
 boxes_among (Place.Box n ∷ ps) = n ∷ boxes_among ps
+
+-- the places that are open under tokens
+abbrev pub place_list : Option Opening → List Place
+place_list None = []
+place_list (Some o) = o.place ∷ []
+
+abbrev pub places_under : List ℕ → Openings → List Place
+places_under [] os = []
+places_under (t ∷ ts) os = place_list (opening_at t os) ++ places_under ts os
 
 -- what was open under a token is closed, where the place is one of these
 abbrev pub closed_one : Option ℕ → Openings → Openings

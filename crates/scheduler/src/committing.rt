@@ -11,12 +11,11 @@ ghost use Rattle.scheduler.specs.Work.{TakesSteps};
 ghost use Rattle.scheduler.specs.Counting.{TakesLabelSteps};
 
 use crate::counting::{count, count_contents};
-use crate::dropping::{drop_gone, drop_opened, leave_gone};
-use crate::effects::{gone_once, opened_by};
+use crate::dropping::{drop_gone, drop_opened, leave_gone, place_under};
+use crate::effects::Effects;
 use crate::opening::{close_all, open_all};
 use crate::scheduler::Scheduler;
 use crate::splits::splits_of;
-use crate::turns::TurnHints;
 use akl_model::Receipt;
 use akl_terms::{Place, Steps};
 use box_tree::Plan;
@@ -111,34 +110,15 @@ impl Scheduler {
         ensures unchanged { IfErr result (λ _. self.new ≡ self.old) }
         ensures steps { TakesLabelSteps self.old plan steps.old steps.new }
     {
-        let gone = gone_once(alloc, self.core.table(), &plan)?;
-        self.commit_leaving(alloc, plan, gone.as_slice(), steps)
-    }
-
-    // The same where these places go.
-    fn commit_leaving<L: Ledger>(
-        &mut self,
-        alloc: Global,
-        plan: Plan,
-        gone: &[Place],
-        steps: &mut Steps<L>,
-    ) -> Result<Committed, AllocError>
-        requires may { MayCommit self.old.core plan }
-        requires fresh { IsFresh self.old.core plan }
-        requires gone { AreGone self.old.core.table plan.label plan.step gone.now }
-        requires once { IsEachPlaceOnce gone.now }
-        ensures committed { IfOk result (CommitsAndOpens self.old plan self.new) }
-        ensures unchanged { IfErr result (λ _. self.new ≡ self.old) }
-        ensures steps { TakesLabelSteps self.old plan steps.old steps.new }
-    {
-        let places = opened_by(alloc, self.core.table(), &self.waits, &plan, gone)?;
-        let hints = TurnHints::of(alloc, self.core.table(), &plan)?;
-        let mut committed = self.commit_opening(alloc, plan, places.as_slice(), gone, steps)?;
-        committed.hurried = self.set_turns(places.as_slice(), gone, &hints);
+        let effects = Effects::of(alloc, self.core.table(), &self.waits, &plan)?;
+        let opened = effects.opened.as_slice();
+        let gone = effects.gone.as_slice();
+        let mut committed = self.commit_opening(alloc, plan, opened, gone, steps)?;
+        committed.hurried = self.set_turns(opened, gone, &effects.hints);
         Ok(committed)
     }
 
-    // The same where these places open, too; when each comes is left open. The choices among all these places by which boxes
+    // The same where these places go and these open; when each comes is left open. The choices among all these places by which boxes
     // could be split are kept no more.
     fn commit_opening<L: Ledger>(
         &mut self,
@@ -167,8 +147,8 @@ impl Scheduler {
             Ok(receipt) => {
                 // By this call it is known that the core is one still.
                 let _ = self.core.table();
-                drop_opened(&mut self.waits, places, steps);
-                drop_gone(&mut self.waits, gone, steps);
+                drop_opened(&mut self.waits, &self.open, opened.as_slice(), steps);
+                drop_gone(&mut self.waits, place_under(own, place), gone, steps);
                 leave_gone(&mut self.open, own, place, gone);
                 self.splits.remove_all(ended.as_slice());
                 Ok(Committed {

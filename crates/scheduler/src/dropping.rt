@@ -1,35 +1,50 @@
 //! What a commit leaves of places that opened or went.
 
-ghost use Rattle.std.specs.Prelude.{◌≡◌, ◌+◌, length};
-ghost use Rattle.opened_places.specs.Placed.{places_of};
-ghost use Rattle.scheduler.specs.Dropping.{DropsWaits, boxes_among, closed_one, closed_among, after_going, is_place_in};
+ghost use Rattle.std.specs.Prelude.{◌≡◌, ◌+◌, true, false, Some, length, option_map, IfSome};
+ghost use Rattle.scheduler.specs.Dropping.{DropsWaits, boxes_among, closed_one, closed_among, after_going, is_place_in, places_under};
 ghost use Rattle.scheduler.specs.Counting.{DropBySteps};
 ghost use Rattle.wake_lists.specs.Open.{after_leave};
+ghost use Rattle.wake_lists.specs.Waits.{waits_on};
 
 use crate::counting::count;
 use akl_terms::{Place, Steps};
-use opened_places::Placed;
 use std::sync::ledger::Ledger;
 use wake_lists::{Open, Waits};
 
-/// Places that opened wait no more. It counts a step for each of their waits.
-pub(crate) fn drop_opened<L: Ledger>(waits: &mut Waits, places: &[Placed], steps: &mut Steps<L>)
-    ensures waits { DropsWaits waits.old (places_of places.now) waits.new }
-    ensures steps { DropBySteps waits.old (places_of places.now) steps.old steps.new }
+/// The places that are open under these tokens wait no more. It counts a step for each of their waits.
+pub(crate) fn drop_opened<L: Ledger>(
+    waits: &mut Waits,
+    open_places: &Open,
+    tokens: &[u64],
+    steps: &mut Steps<L>,
+)
+    ensures waits { DropsWaits waits.old (places_under tokens.now open_places.now) waits.new }
+    ensures steps { DropBySteps waits.old (places_under tokens.now open_places.now) steps.old steps.new }
 {
-    for placed in places {
-        count(waits.drop_place(placed.place()).len(), steps);
+    for token in tokens {
+        if let Some(place) = open_places.place_of(*token) {
+            count(waits.drop_place(place).len(), steps);
+        }
     }
 }
 
-/// Places that went wait no more. It counts a step for each of them, and for each of their waits.
-pub(crate) fn drop_gone<L: Ledger>(waits: &mut Waits, places: &[Place], steps: &mut Steps<L>)
+/// Places that went wait no more; this one among them, where there is one, waits on nothing. It counts a step for each of
+/// them, and for each of their waits.
+pub(crate) fn drop_gone<L: Ledger>(
+    waits: &mut Waits,
+    awake: Option<Place>,
+    places: &[Place],
+    steps: &mut Steps<L>,
+)
+    requires { IfSome awake (λ place. (x : _) → waits_on waits.old place x ≡ false) }
     ensures waits { DropsWaits waits.old places.now waits.new }
     ensures steps { DropBySteps waits.old places.now (steps.old + length places.now) steps.new }
 {
     for place in places {
         steps.tick();
-        count(waits.drop_place(*place).len(), steps);
+        if !is_awake(awake, *place) {
+            count(waits.drop_place(*place).len(), steps);
+        }
     }
 }
 
@@ -53,6 +68,26 @@ fn leave_boxes(open_places: &mut Open, gone: &[Place])
             Place::Box(name) => open_places.leave(&[*name]),
             Place::Goal(_) => {}
         }
+    }
+}
+
+// Whether the place is this one.
+fn is_awake(awake: Option<Place>, place: Place) -> bool
+    ensures { result ≡ true → awake ≡ Some place }
+{
+    match awake {
+        Some(other) => other == place,
+        None => false,
+    }
+}
+
+/// A place, where it has a token.
+pub(crate) fn place_under(token: Option<u64>, place: Place) -> Option<Place>
+    ensures { result ≡ option_map (λ _. place) token }
+{
+    match token {
+        Some(_) => Some(place),
+        None => None,
     }
 }
 

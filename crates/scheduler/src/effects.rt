@@ -17,6 +17,7 @@ ghost use Rattle.scheduler.specs.Listing.{waiting_on, places_but, has_outer, bin
 use crate::dropping::is_among;
 use crate::once::each_once;
 use crate::placing::push_those;
+use crate::turns::TurnHints;
 use akl_terms::{Name, Place, Var};
 use box_tree::{Plan, Step, Table};
 use local_store::Store;
@@ -24,8 +25,47 @@ use opened_places::{Around, Placed, around_of, changed_places, gone_places, plac
 use std::alloc::{AllocError, Global};
 use wake_lists::Waits;
 
-/// The places that go with the label of a plan, each once. An `Err` comes for want of memory.
-pub(crate) fn gone_once(alloc: Global, table: &Table, plan: &Plan) -> Result<Vec<Place>, AllocError>
+/// What the label of a plan does to places.
+#[derive(Drop)]
+pub(crate) struct Effects {
+    /// The places that go with it, each once.
+    pub gone: Vec<Place>,
+    /// The places that it opens, each with the boxes around it; one that it changes may be listed twice.
+    pub opened: Vec<Placed>,
+    /// What it tells of their turns.
+    pub hints: TurnHints,
+}
+
+impl Effects {
+    /// What the label of a plan does. It takes as long as the places are many, times their depth. An `Err` comes for want of
+    /// memory, and where the label's place isn't there, as it is for each plan that may be committed.
+    pub(crate) fn of(
+        alloc: Global,
+        table: &Table,
+        waits: &Waits,
+        plan: &Plan,
+    ) -> Result<Effects, AllocError>
+        requires { IsOfRun table.now }
+        ensures gone { IfOk result (λ e. AreGone table.now plan.now.label plan.now.step e.gone.items) }
+        ensures once { IfOk result (λ e. IsEachPlaceOnce e.gone.items) }
+        ensures opened { IfOk result (λ e. AreListedFor table.now waits.now plan.now e.gone.items e.opened.items) }
+    {
+        let Some(around) = around_of(table, plan.label()) else {
+            return Err(AllocError);
+        };
+        let gone = gone_once(alloc, table, plan)?;
+        let opened = opened_by(alloc, table, waits, plan, around, gone.as_slice())?;
+        let hints = TurnHints::of(alloc, around.home, plan)?;
+        Ok(Effects {
+            gone,
+            opened,
+            hints,
+        })
+    }
+}
+
+// The places that go with the label of a plan, each once. An `Err` comes for want of memory.
+fn gone_once(alloc: Global, table: &Table, plan: &Plan) -> Result<Vec<Place>, AllocError>
     requires { IsOfRun table.now }
     ensures gone { IfOk result (λ gone. AreGone table.now plan.now.label plan.now.step gone.items) }
     ensures once { IfOk result (λ gone. IsEachPlaceOnce gone.items) }
@@ -34,22 +74,21 @@ pub(crate) fn gone_once(alloc: Global, table: &Table, plan: &Plan) -> Result<Vec
     each_once(alloc, gone)
 }
 
-/// The places that the label of a plan opens, where these go, each with the boxes around it; one that the label changes may
-/// be listed twice. It takes as long as they are many, times their depth. An `Err` comes for want of memory, and where the label's
-/// place isn't there, as it is for each plan that may be committed.
-pub(crate) fn opened_by(
+// The places that the label of a plan opens, where these go, each with the boxes around it, by what stands about the label's
+// place; one that the label changes may be listed twice.
+fn opened_by(
     alloc: Global,
     table: &Table,
     waits: &Waits,
     plan: &Plan,
+    around: Around,
     gone: &[Place],
 ) -> Result<Vec<Placed>, AllocError>
-    requires { IsOfRun table.now }
+    requires run { IsOfRun table.now }
+    requires there { is_there (table_of table.now) plan.now.label.place ≡ true }
+    requires around { IsAround (table_of table.now) plan.now.label around }
     ensures { IfOk result (λ places. AreListedFor table.now waits.now plan.now gone.now places.items) }
 {
-    let Some(around) = around_of(table, plan.label()) else {
-        return Err(AllocError);
-    };
     let others = opened_others(alloc, table, waits, plan, around.home, gone)?;
     opened_with(alloc, table, plan, around, others.as_slice())
 }

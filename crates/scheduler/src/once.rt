@@ -1,21 +1,39 @@
 //! Places, each once.
 
-ghost use Rattle.std.specs.Prelude.{IfOk, OnOk};
-ghost use Rattle.scheduler.specs.Once.{AreSameOnce, AddsNew};
+ghost use Rattle.std.specs.Prelude.{◌≡◌, true, IfOk, OnOk};
+ghost use Rattle.scheduler.specs.Once.{IsEachPlaceOnce, AreSameOnce, AddsNew};
 
+use crate::dropping::is_among;
 use akl_terms::Place;
 use std::alloc::{AllocError, Global};
 use std::collections::BTreeSet;
+
+// In a list with no more places than this each is compared with each.
+const FEW: usize = 8;
 
 /// These places, each once, in the order in which they first come.
 pub(crate) fn each_once(alloc: Global, places: Vec<Place>) -> Result<Vec<Place>, AllocError>
     ensures { IfOk result (λ once. AreSameOnce places.items once.items) }
 {
-    if places.len() > 1 {
-        first_of_each(alloc, places.as_slice())
-    } else {
+    if places.len() <= FEW && are_different(places.as_slice()) {
         Ok(places)
+    } else {
+        first_of_each(alloc, places.as_slice())
     }
+}
+
+// Whether no place stands twice among these.
+fn are_different(places: &[Place]) -> bool
+    ensures { result ≡ true → IsEachPlaceOnce places.now }
+{
+    let mut left = places;
+    while let Some((place, others)) = left.split_first() {
+        if is_among(*place, others) {
+            return false;
+        }
+        left = others;
+    }
+    true
 }
 
 // Each of these places where it first comes.

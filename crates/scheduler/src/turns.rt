@@ -1,6 +1,6 @@
 //! When open places come, once a label was made.
 
-ghost use Rattle.std.specs.Prelude.{◌≡◌, true, Some, IfOk};
+ghost use Rattle.std.specs.Prelude.{◌≡◌, true, IfOk};
 ghost use Rattle.akl_terms.specs.declared.name.Place.{Place};
 ghost use Rattle.box_tree.specs.Paths.{sight_in};
 ghost use Rattle.opened_places.specs.Placed.{places_of};
@@ -24,28 +24,28 @@ pub(crate) struct TurnHints {
     told: Option<Name>,
     /// The call that it forks, where no alternative is solved from the start, so that no rule applies to it yet.
     forked: Option<Place>,
+    /// The place of the label.
+    own: Place,
 }
 
 impl TurnHints {
     /// What the label of a plan tells.
-    pub(crate) fn of(alloc: Global, table: &Table, plan: &Plan) -> Result<TurnHints, AllocError> {
-        let told = told_by(table, plan);
+    pub(crate) fn of(alloc: Global, home: Name, plan: &Plan) -> Result<TurnHints, AllocError> {
+        let told = told_by(home, plan);
         let unsolved = unsolved_by(alloc, plan.step(), told)?;
         Ok(TurnHints {
             unsolved,
             told,
             forked: forked_by(plan),
+            own: plan.label().place,
         })
     }
 }
 
 // The box that a plan's step tells something.
-fn told_by(table: &Table, plan: &Plan) -> Option<Name> {
+fn told_by(home: Name, plan: &Plan) -> Option<Name> {
     match plan.step() {
-        Step::Tell { .. } | Step::Promote { .. } => {
-            let (home, _) = table.sight_of(plan.label().place)?;
-            Some(home)
-        }
+        Step::Tell { .. } | Step::Promote { .. } => Some(home),
         Step::Fork { .. }
         | Step::Fail
         | Step::Cut
@@ -158,7 +158,7 @@ fn order_all(
     ensures places { untimed open_places.new ≡ untimed open_places.old }
 {
     delay(open_places, hints.forked)?;
-    hurry_gone(open_places, gone)?;
+    hurry_gone(open_places, hints.own, gone)?;
     hurry_unsolved(open_places, hints.unsolved.as_slice())?;
     hurry_opened(open_places, table, places, hints.told)
 }
@@ -176,12 +176,14 @@ fn delay(open_places: &mut Open, place: Option<Place>) -> Result<(), AllocError>
     }
 }
 
-// These places aren't late.
-fn hurry_gone(open_places: &mut Open, gone: &[Place]) -> Result<(), AllocError>
+// These places aren't late; but this one of them is closed.
+fn hurry_gone(open_places: &mut Open, own: Place, gone: &[Place]) -> Result<(), AllocError>
     ensures { untimed open_places.new ≡ untimed open_places.old }
 {
     for place in gone {
-        hurry(open_places, *place, Urgency::Ordinary)?;
+        if *place != own {
+            hurry(open_places, *place, Urgency::Ordinary)?;
+        }
     }
     Ok(())
 }
@@ -207,43 +209,78 @@ fn hurry_opened(
     ensures places { untimed open_places.new ≡ untimed open_places.old }
 {
     for placed in places {
-        let place = placed.place();
-        if let Some(urgency) = urgency_of(table, place, told) {
-            hurry(open_places, place, urgency)?;
-        }
+        hurry_place(open_places, table, placed.place(), told)?;
     }
     Ok(())
 }
 
-// How soon a place is to come at least by what is seen of it, where this box was told something; `None` where any turn is
-// soon enough.
-fn urgency_of(table: &Table, place: Place, told: Option<Name>) -> Option<Urgency>
-    ensures { urgency_seen (sight_in table.now place) ≡ Urgency.Urgent → result ≡ Some Urgency.Urgent }
+// A place comes no later than it is to, by what is seen of it, where this box was told something.
+fn hurry_place(
+    open_places: &mut Open,
+    table: &Table,
+    place: Place,
+    told: Option<Name>,
+) -> Result<(), AllocError>
+    ensures now { IfOk result (λ _. urgency_seen (sight_in table.now place) ≡ Urgency.Urgent → IsUrgentAt open_places.new place) }
+    ensures still { IfOk result (λ _. (other : _) → IsUrgentAt open_places.old other → IsUrgentAt open_places.new other) }
+    ensures places { untimed open_places.new ≡ untimed open_places.old }
 {
     match place {
-        Place::Box(name) => urgency_of_box(table, name, told),
-        Place::Goal(goal) => urgency_of_goal(table, goal),
+        Place::Box(name) => hurry_box(open_places, table, name, told),
+        Place::Goal(goal) => hurry_goal(open_places, table, goal),
     }
 }
 
 // A box is urgent that has a goal by which it fails, or may clash with what another one was told.
-fn urgency_of_box(table: &Table, name: Name, told: Option<Name>) -> Option<Urgency>
-    ensures { urgency_seen (sight_in table.now (Place.Box name)) ≡ Urgency.Urgent → result ≡ Some Urgency.Urgent }
+fn hurry_box(
+    open_places: &mut Open,
+    table: &Table,
+    name: Name,
+    told: Option<Name>,
+) -> Result<(), AllocError>
+    ensures now { IfOk result (λ _. urgency_seen (sight_in table.now (Place.Box name)) ≡ Urgency.Urgent → IsUrgentAt open_places.new (Place.Box name)) }
+    ensures still { IfOk result (λ _. (other : _) → IsUrgentAt open_places.old other → IsUrgentAt open_places.new other) }
+    ensures places { untimed open_places.new ≡ untimed open_places.old }
 {
-    let (_, sight) = table.sight_of(Place::Box(name))?;
-    match (sight, told) {
-        (Sight::Box { failing: Some(_) }, _) => Some(Urgency::Urgent),
-        (_, Some(home)) if home != name => Some(Urgency::Urgent),
-        _ => None,
+    if is_elsewhere(told, name) || is_failing(table, name) {
+        hurry(open_places, Place::Box(name), Urgency::Urgent)
+    } else {
+        Ok(())
+    }
+}
+
+// Whether another box than this was told something.
+fn is_elsewhere(told: Option<Name>, name: Name) -> bool {
+    match told {
+        Some(home) => home != name,
+        None => false,
+    }
+}
+
+// Whether a box has a goal by which it fails.
+fn is_failing(table: &Table, name: Name) -> bool
+    ensures { urgency_seen (sight_in table.now (Place.Box name)) ≡ Urgency.Urgent → result ≡ true }
+{
+    match table.sight_of(Place::Box(name)) {
+        Some((_, Sight::Box { failing: Some(_) })) => true,
+        _ => false,
     }
 }
 
 // A choice isn't late once an alternative is solved.
-fn urgency_of_goal(table: &Table, goal: Name) -> Option<Urgency> {
-    if has_solved(table, table.alternatives_of(goal)) {
-        Some(Urgency::Ordinary)
+fn hurry_goal(open_places: &mut Open, table: &Table, goal: Name) -> Result<(), AllocError>
+    ensures still { IfOk result (λ _. (other : _) → IsUrgentAt open_places.old other → IsUrgentAt open_places.new other) }
+    ensures places { untimed open_places.new ≡ untimed open_places.old }
+{
+    let Some(token) = open_places.token_of(Place::Goal(goal)) else {
+        return Ok(());
+    };
+    if open_places.urgency_of(token) == Some(Urgency::Late)
+        && has_solved(table, table.alternatives_of(goal))
+    {
+        open_places.hurry(token, Urgency::Ordinary)
     } else {
-        None
+        Ok(())
     }
 }
 

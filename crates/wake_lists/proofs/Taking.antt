@@ -114,6 +114,14 @@ module _ (bound capacity : ℕ) (xs ys : List (Reverse ℕ)) (x : Reverse ℕ) (
       above [] u k below = refl
       above (z ∷ zs) u k below = let differs : eqb k z.0 ≡ false = let h : x.0 ≤ z.0 = at_least z.0 x.0 u.0 in grind (arith, nat_tests) in rw differs (above zs u.1 k below)
 
+-- no number is free that is below all of some
+pub all_taken : (bound : ℕ) (xs : List (Reverse ℕ)) (x : Reverse ℕ) → IsUpperBound least_first x xs → (n : ℕ) → n ≤ x.0 → (k : ℕ) → k < n → k < bound → is_taken (record { bound = bound; free = numbers_of xs }) k ≡ true
+all_taken bound xs x u n le k below small = rw (none xs u) (grind (arith, nat_tests))
+  where
+    none : (zs : List (Reverse ℕ)) → IsUpperBound least_first x zs → list_any (eqb k) (numbers_of zs) ≡ false
+    none [] u = refl
+    none (z ∷ zs) u = let differs : eqb k z.0 ≡ false = let h : x.0 ≤ z.0 = at_least z.0 x.0 u.0 in grind (arith, nat_tests) in rw differs (none zs u.1)
+
 -- a number that was taken is free
 module _ (bound capacity : ℕ) (xs : List (Reverse ℕ)) (x : Reverse ℕ) (kept : AreKept bound xs capacity)
     (taken : is_taken (record { bound = bound; free = numbers_of xs }) x.0 ≡ true) where

@@ -1,5 +1,5 @@
 -- Numbers that are taken and given back.
-use Rattle.std.specs.Prelude.{◌≡◌, ℕ, ◌<◌, ◌≤◌, List, map, Bool, true, false, ◌&&◌, ◌||◌, ◌==◌, not, nat_lt}
+use Rattle.std.specs.Prelude.{◌≡◌, ℕ, ◌<◌, ◌≤◌, List, ◌∷◌, Option, None, Some, ⊤, map, Bool, true, false, ◌&&◌, ◌||◌, ◌==◌, not, nat_lt}
 use Rattle.std.specs.List.{list_any, IsDistinct}
 use Rattle.std.specs.BinaryHeap.{IsHeap}
 use Rattle.std.specs.declared.cmp.Reverse.{Reverse}
@@ -41,3 +41,17 @@ pub record AreKept (bound : ℕ) (free : List (Reverse ℕ)) (capacity : ℕ) : 
   pub distinct : IsDistinct eqb (numbers_of free)
   pub below : (k : ℕ) → list_any (eqb k) (numbers_of free) ≡ true → k < bound
   pub room : bound ≤ capacity
+
+-- one more that is free
+abbrev pub with_spare : Option ℕ → Numbers → Numbers
+with_spare None s = s
+with_spare (Some n) s = record { bound = s.bound; free = n ∷ s.free }
+
+-- a number that is taken, as all below it are
+pub record IsLeast (s : Numbers) (n : ℕ) : Type 0 where
+  pub taken : is_taken s n ≡ true
+  pub least : (k : ℕ) → k < n → is_taken s k ≡ true
+
+abbrev pub IsSpareOf : Option ℕ → Numbers → Type 0
+IsSpareOf None s = ⊤
+IsSpareOf (Some n) s = IsLeast s n

@@ -1,6 +1,7 @@
 //! Which places are open, in the order in which they come, and which places wait on which variables.
 #![tactic(auto)]
 
+mod heap_tokens;
 mod inside;
 mod line;
 mod lines;

@@ -3,28 +3,26 @@
 ghost use Rattle.std.specs.Prelude.{◌≡◌, [], true, IfOk, OnErr};
 ghost use Rattle.wake_lists.specs.Tokens.{is_taken, IsLeastFree, Takes, GivesBack};
 
+use crate::heap_tokens::HeapTokens;
 use std::alloc::{AllocError, Global};
-use std::cmp::Reverse;
-use std::collections::BinaryHeap;
 use std::marker::Model;
 
 /// Which numbers are taken. Contracts see it as a bound on these, and the numbers below the bound that are free.
 #[derive(Drop)]
 pub(crate) struct Tokens {
-    // Has room for all numbers below the bound.
-    free: BinaryHeap<Reverse<u64>>,
-    bound: u64,
+    heap: HeapTokens,
+    // The least free number, which the heap holds as taken; one that is given back and soon taken again stays out of the heap.
+    spare: Option<u64>,
 }
 
 impl Model for Tokens {
-    ghost use Rattle.std.specs.BinaryHeap.{heap_items, heap_capacity};
-    ghost use Rattle.wake_lists.specs.Tokens.{Numbers, numbers_of, AreKept};
+    ghost use Rattle.wake_lists.specs.Tokens.{Numbers, with_spare, IsSpareOf};
 
     ghost Value = { Numbers };
 
-    ghost view = { λ t. record { bound = t.bound; free = numbers_of (heap_items t.free) } };
+    ghost view = { λ t. with_spare t.spare t.heap };
 
-    ghost invariant = { λ t. AreKept t.bound (heap_items t.free) (heap_capacity t.free) };
+    ghost invariant = { λ t. IsSpareOf t.spare t.heap };
 }
 
 impl Tokens {
@@ -32,8 +30,8 @@ impl Tokens {
         ensures { result ≡ record { bound = 0; free = [] } }
     {
         Tokens {
-            free: BinaryHeap::new(alloc),
-            bound: 0,
+            heap: HeapTokens::new(alloc),
+            spare: None,
         }
     }
 
@@ -43,14 +41,10 @@ impl Tokens {
         ensures takes { IfOk result (Takes self.old self.new) }
         ensures unchanged { OnErr result (self.new ≡ self.old) }
     {
-        if let Some(Reverse(number)) = self.free.pop() {
-            return Ok(number);
+        match self.spare.take() {
+            Some(number) => Ok(number),
+            None => self.heap.take(),
         }
-        let number = self.bound;
-        let bound = number.checked_add(1).ok_or(AllocError)?;
-        self.free.reserve(bound as usize)?;
-        self.bound = bound;
-        Ok(number)
     }
 
     /// Gives a number back.
@@ -58,6 +52,22 @@ impl Tokens {
         requires { is_taken self.old number ≡ true }
         ensures { GivesBack self.old self.new number }
     {
-        let _ = self.free.push(Reverse(number));
+        match self.spare {
+            Some(spare) => {
+                if number < spare {
+                    self.heap.give_back(spare);
+                    self.spare = Some(number);
+                } else {
+                    self.heap.give_back(number);
+                }
+            }
+            None => {
+                if self.heap.is_least(number) {
+                    self.spare = Some(number);
+                } else {
+                    self.heap.give_back(number);
+                }
+            }
+        }
     }
 }

@@ -1,19 +1,30 @@
-use Rattle.std.proofs.Common.{List, sym, ap, subst, ◌∙◌}
+use Rattle.std.proofs.Common.{List, refl, sym, ap, subst, ◌∙◌}
 use Rattle.akl_terms.specs.declared.name.Place.{Place}
 use Rattle.box_tree.specs.Tables.{TableValue}
 use Rattle.opened_places.specs.Gone.{AreGone}
+use Rattle.opened_places.specs.Placed.{PlacedValue, places_of}
 use Rattle.scheduler.specs.Once.{IsEachPlaceOnce}
 use Rattle.scheduler.specs.Schedulers.{SchedulerValue}
+use Rattle.scheduler.proofs.Untimed.{untimed_commits}
+use Rattle.scheduler.proofs.Hurrying.{failing_urgent, still_among}
 use Rattle.scheduler.proofs.WorkBound.{label_within}
 use Rattle.scheduler.proofs.scheduler.Scheduler.commit_fresh.Goals as goal
 
-pub returns-in_err-gone-clause-steps : goal.returns-in_err-gone-clause-steps
-returns-in_err-gone-clause-steps g c = label_within c.args.self.now c.args.plan c.args.steps.now
+pub returns-in_err-effects-clause-steps : goal.returns-in_err-effects-clause-steps
+returns-in_err-effects-clause-steps g c = label_within c.args.self.now c.args.plan c.args.steps.now
 
-pub commit_leaving-requires-clause-gone : goal.commit_leaving-requires-clause-gone
-commit_leaving-requires-clause-gone g c =
-    subst (λ (v : TableValue). AreGone v c.args.plan.label c.args.plan.step c.as_slice.result.now) (c.table.ensures.table ∙ ap (λ (x : SchedulerValue). x.core.table) c.self.view_is)
-    (subst (λ (ps : List Place). AreGone c.table.result.now c.args.plan.label c.args.plan.step ps) (sym c.as_slice.ensures.value) c.in_ok-gone.ensures.gone)
+pub commit_opening-requires-clause-gone : goal.commit_opening-requires-clause-gone
+commit_opening-requires-clause-gone g c =
+    subst (λ (v : TableValue). AreGone v c.args.plan.label c.args.plan.step c.as_slice-gone.result.now) (c.table.ensures.table ∙ ap (λ (x : SchedulerValue). x.core.table) c.self.view_is)
+    (subst (λ (ps : List Place). AreGone c.table.result.now c.args.plan.label c.args.plan.step ps) (sym c.as_slice-gone.ensures.value) c.in_ok-effects.ensures.gone)
 
-pub commit_leaving-requires-clause-once : goal.commit_leaving-requires-clause-once
-commit_leaving-requires-clause-once g c = subst (λ (ps : List Place). IsEachPlaceOnce ps) (sym c.as_slice.ensures.value) c.in_ok-gone.ensures.once
+pub commit_opening-requires-clause-once : goal.commit_opening-requires-clause-once
+commit_opening-requires-clause-once g c = subst (λ (ps : List Place). IsEachPlaceOnce ps) (sym c.as_slice-gone.ensures.value) c.in_ok-effects.ensures.once
+
+pub returns-clause-committed : goal.returns-clause-committed
+returns-clause-committed g c =
+    let d : SchedulerValue = c.commit_opening.new.self in
+    let e : SchedulerValue = c.set_turns.new.self in
+    let places : List PlacedValue = c.as_slice-opened.result.now in
+    untimed_commits c.args.self.now c.args.plan d e c.in_ok-committed.committed _ c.in_ok-committed.ensures.committed c.set_turns.ensures.places c.set_turns.ensures.core c.set_turns.ensures.waits refl refl
+    (λ k. failing_urgent c.args.self.now e (places_of places) (still_among c.args.self.now d e (places_of places) c.set_turns.ensures.core c.in_ok-committed.ensures.opened) (c.set_turns.ensures.urgent k))

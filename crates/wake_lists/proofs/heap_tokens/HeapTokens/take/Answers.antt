@@ -2,7 +2,7 @@ use Rattle.std.proofs.Common.{subst}
 use Rattle.std.specs.BinaryHeap.{heap_items}
 use Rattle.wake_lists.specs.Tokens.{Numbers, IsLeastFree, Takes, numbers_of}
 use Rattle.wake_lists.proofs.Taking.{fewer_kept, fewer_takes, fewer_least}
-use Rattle.wake_lists.proofs.tokens.Tokens.take.Goals as goal
+use Rattle.wake_lists.proofs.heap_tokens.HeapTokens.take.Goals as goal
 
 pub invariant_of-self : goal.invariant_of-self
 invariant_of-self c = rw c.pop.ensures.capacity (fewer_kept c.self.inside.bound _ _ _ c.in-Some.field-0 c.self.invariant c.in-Some.ensures.permutation (c.in-Some.ensures.heap_order c.self.invariant.heap).0)

@@ -3,7 +3,7 @@ use Rattle.std.specs.BinaryHeap.{heap_items, heap_capacity}
 use Rattle.std.specs.declared.cmp.Reverse.{Reverse}
 use Rattle.wake_lists.specs.Tokens.{Numbers, is_taken, GivesBack, numbers_of}
 use Rattle.wake_lists.proofs.Taking.{on_ok, has_room, more_kept, more_gives}
-use Rattle.wake_lists.proofs.tokens.Tokens.give_back.Goals as goal
+use Rattle.wake_lists.proofs.heap_tokens.HeapTokens.give_back.Goals as goal
 
 pub invariant_of-self : goal.invariant_of-self
 invariant_of-self c =
