@@ -11,6 +11,7 @@ pub mod SendRight
 pub mod FailRight
 pub mod Framed
 pub mod NewBoxes
+pub mod NewStores
 pub mod ForkRight
 pub mod FramesAndPorts
 pub mod Solving

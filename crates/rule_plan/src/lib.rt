@@ -9,6 +9,7 @@ mod forking;
 mod heads;
 mod labels;
 mod names;
+mod new_stores;
 mod opening;
 mod planning;
 mod sending;
