@@ -9,6 +9,7 @@ pub mod EvalRight
 pub mod OpenRight
 pub mod SendRight
 pub mod FailRight
+pub mod Clashing
 pub mod Framed
 pub mod NewBoxes
 pub mod NewStores

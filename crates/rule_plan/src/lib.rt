@@ -3,6 +3,7 @@
 
 mod at_goals;
 mod boxes;
+mod clashes;
 mod evaluating;
 mod failing;
 mod forking;

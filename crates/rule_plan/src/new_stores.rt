@@ -3,9 +3,9 @@
 ghost use Rattle.std.specs.Prelude.{◌≡◌, ◌∷◌, [], ◌++◌, IfOk};
 ghost use Rattle.local_store.specs.Chained.{IsSolvedChain};
 ghost use Rattle.local_store.specs.Stored.{with_bindings};
-ghost use Rattle.local_store.specs.Telling.{clashed};
 ghost use Rattle.rule_plan.specs.Made.{store_with, with_solved, is_added, IsNewStore};
 
+use crate::clashes::add_clash;
 use akl_terms::{Equation, Name, Term, Var};
 use guard_plan::shared;
 use local_store::{Chain, Shared, Store, ToldStore, told};
@@ -70,19 +70,6 @@ fn add_bindings(store: &mut Store, bindings: &[(Var, Term)]) -> Result<(), Alloc
         store.add_binding(binding.0, binding.1)?;
     }
     Ok(())
-}
-
-// A store also has a variable that is bound to both terms.
-fn add_clash(store: &mut Store, left: Term, right: Term) -> Result<(), AllocError>
-    ensures { IfOk result (λ _. store.new ≡ clashed store.old left right) }
-{
-    let frame = Name {
-        worker: 0,
-        number: 0,
-    };
-    let variable = Var { frame, index: 0 };
-    store.add_binding(variable, left)?;
-    store.add_binding(variable, right)
 }
 
 // The same over any stores.
