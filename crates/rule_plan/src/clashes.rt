@@ -10,8 +10,8 @@ use akl_terms::{Name, Seen, Term, Var};
 use local_store::{Chain, Store};
 use std::alloc::AllocError;
 
-// A variable that no frame has.
-const NOWHERE: Var = Var {
+// The variable that a clash binds to both terms, as `local_store` has it.
+const CLASHING: Var = Var {
     frame: Name {
         worker: 0,
         number: 0,
@@ -23,8 +23,8 @@ const NOWHERE: Var = Var {
 pub(crate) fn add_clash(store: &mut Store, left: Term, right: Term) -> Result<(), AllocError>
     ensures { IfOk result (λ _. store.new ≡ clashed store.old left right) }
 {
-    store.add_binding(NOWHERE, left)?;
-    store.add_binding(NOWHERE, right)
+    store.add_binding(CLASHING, left)?;
+    store.add_binding(CLASHING, right)
 }
 
 // Whether the innermost store of a chain has a clash that was told to it, which needs no solution.
@@ -35,7 +35,7 @@ pub(crate) fn has_clash(chain: &Chain) -> Result<bool, AllocError>
         return Ok(false);
     };
     let store = own.get();
-    if store.first_binding(NOWHERE).is_none() {
+    if store.first_binding(CLASHING).is_none() {
         return Ok(false);
     }
     clash_among(chain, store)

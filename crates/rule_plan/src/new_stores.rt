@@ -23,13 +23,13 @@ pub(crate) fn new_store(
     ensures { IfOk result (λ r. IsNewStore chain.now.nodes chain.now.stores frame equations.now r.0 r.1) }
 {
     if chain.known() == chain.stores().len() {
-        return solved_store(alloc, chain, frame, equations);
+        return over_solved(alloc, chain, frame, equations);
     }
-    told_store(alloc, chain, frame, equations)
+    over_any(alloc, chain, frame, equations)
 }
 
 // The same over stores that are known to be solved together.
-fn solved_store(
+fn over_solved(
     alloc: Global,
     chain: &Chain,
     frame: Name,
@@ -73,7 +73,7 @@ fn add_bindings(store: &mut Store, bindings: &[(Var, Term)]) -> Result<(), Alloc
 }
 
 // The same over any stores.
-fn told_store(
+fn over_any(
     alloc: Global,
     chain: &Chain,
     frame: Name,

@@ -2,7 +2,7 @@ use Rattle.std.proofs.Common.{◌≡◌, ◌∙◌, ap}
 use Rattle.local_store.specs.Stored.{Stored}
 use Rattle.rule_plan.specs.Made.{store_with, with_solved}
 use Rattle.rule_plan.proofs.NewStores.{new_solved}
-use Rattle.rule_plan.proofs.new_stores.solved_store.Goals as goal
+use Rattle.rule_plan.proofs.new_stores.over_solved.Goals as goal
 
 pub returns : goal.returns
 returns c =
