@@ -13,7 +13,7 @@ use std::alloc::{AllocError, Global};
 pub fn goal_and_stores(alloc: Global, goal: Name, boxes: &[Name]) -> Result<Vec<Item>, AllocError>
     ensures { IfOk result (λ items. items.items ≡ Item.Goal goal ∷ map Item.Store boxes.now) }
 {
-    let mut items = Vec::new(alloc);
+    let mut items = Vec::with_capacity(alloc, boxes.len().saturating_add(1))?;
     items.push(Item::Goal(goal))?;
     for name in boxes {
         items.push(Item::Store(*name))?;

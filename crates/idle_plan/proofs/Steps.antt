@@ -1,5 +1,8 @@
 -- The steps by which lists are gathered: box by box, alternative by alternative, view by view.
-use Rattle.std.proofs.Common.{◌≡◌, ℕ, zero, suc, ◌+◌, ◌-◌, ◌≤◌, ◌<◌, List, [], ◌∷◌, ◌++◌, length, take, true, refl, sym, ◌∙◌, ap, subst, ◌⊎◌, inl, inr, slice_index_or, arith}
+use Rattle.std.proofs.Common.{◌≡◌, ℕ, zero, suc, ◌+◌, ◌-◌, ◌≤◌, ◌<◌, List, [], ◌∷◌, ◌++◌, length, take, Bool, true, false, refl, sym, ◌∙◌, ap, subst, ◌⊎◌, inl, inr, slice_index_or, arith}
+use Rattle.std.specs.Prelude.{◌||◌}
+use Rattle.std.specs.List.{list_any}
+use Rattle.std.proofs.lemmas.Bool.{false≢true}
 use Rattle.std.proofs.lemmas.List.{length-take-le}
 use Rattle.akl_terms.specs.declared.name.Var.{Var}
 use Rattle.akl_terms.specs.declared.term.Node.{Node}
@@ -37,6 +40,15 @@ lt_or_not d zero = inr (omega arith)
 lt_or_not zero (suc k) = inl (omega arith)
 lt_or_not (suc d) (suc k) = elim (lt_or_not d k) [ inl h ↦ inl (omega arith) | inr h ↦ inr (omega arith) ]
 
+or_true : (t : Bool) → (t || true) ≡ true
+or_true true = refl
+or_true false = refl
+
+one_solved : (a : Alternative) (seen : List Alternative) → IsOne Alternative a seen → a.solved ≡ true → list_any (λ (b : Alternative). b.solved) seen ≡ true
+one_solved a [] h s = absurd h
+one_solved a (b ∷ seen) (inl e) s = ap (λ (t : Bool). t || list_any (λ (b : Alternative). b.solved) seen) (sym (ap (λ (x : Alternative). x.solved) e) ∙ s)
+one_solved a (b ∷ seen) (inr h) s = ap (λ (t : Bool). b.solved || t) (one_solved a seen h s) ∙ or_true b.solved
+
 module _ (nodes : List Node) (ss : List Stored) where
   fewer_consistent : (j k : ℕ) → j ≤ k → IsConsistent (equations_of nodes (take k ss)) → IsConsistent (equations_of nodes (take j ss))
   fewer_consistent j k l c = subst (λ (A : List Stored). IsConsistent (equations_of nodes A)) (take_less j k ss l) (before_consistent nodes (take k ss) j c)
@@ -63,6 +75,10 @@ module _ (nodes : List Node) (ss : List Stored) where
 
   abbrev SolvedIn : List Alternative → Alternative → Type 0
   SolvedIn seen a = IsOne Alternative a seen × (a.solved ≡ true)
+
+  pub by_none : (seen : List Alternative) → list_any (λ (a : Alternative). a.solved) seen ≡ false → AreToldBy nodes ss seen []
+  by_none seen e = gathered_none Alternative (λ (a : Alternative). IsConsistent (equations_of nodes (ss ++ a.store ∷ []))) (λ (a : Alternative). ListsTold nodes (ss ++ a.store ∷ [])) (SolvedIn seen)
+      (λ a h c. false≢true (sym e ∙ one_solved a seen h.0 h.1))
 
   pub by_clash : (seen : List Alternative) → (IsConsistent (equations_of nodes ss) → ⊥) → AreToldBy nodes ss seen []
   by_clash seen n = gathered_none Alternative (λ (a : Alternative). IsConsistent (equations_of nodes (ss ++ a.store ∷ []))) (λ (a : Alternative). ListsTold nodes (ss ++ a.store ∷ [])) (SolvedIn seen)

@@ -1,7 +1,7 @@
 //! What a goal waits on by itself.
 
 ghost use Rattle.std.specs.Prelude.{◌≡◌, ◌++◌, ◌∷◌, [], IfOk, OnOk, MatchOption};
-ghost use Rattle.std.specs.List.{AllByRecursion};
+ghost use Rattle.std.specs.List.{AllByRecursion, list_any};
 ghost use Rattle.akl_terms.specs.Equal.{IsConsistent};
 ghost use Rattle.guard_plan.specs.Guards.{IsTestable};
 ghost use Rattle.local_store.specs.Chained.{equations_of};
@@ -46,13 +46,24 @@ pub(crate) fn waits_of_choice(
     requires program { program.now ≡ view.now.table.program }
     ensures { IfOk result (λ list. AreToldBy program.now.templates.nodes view.now.stores view.now.alternatives list.items) }
 {
+    let alternatives = view.alternatives();
+    if !is_one_solved(alternatives) {
+        return Ok(Vec::new(alloc));
+    }
     match consistent(alloc, &view.chain(&program.templates))? {
         Consistency::Clash { .. } => Ok(Vec::new(alloc)),
         Consistency::Consistent => {
             let mut stores = shared(alloc, view.stores())?;
-            told_by_all(alloc, &program.templates, &mut stores, view.alternatives())
+            told_by_all(alloc, &program.templates, &mut stores, alternatives)
         }
     }
+}
+
+// Whether one of these alternatives is solved.
+fn is_one_solved(alternatives: &[Alternative]) -> bool
+    ensures { result ≡ list_any (λ a. a.solved) alternatives.now }
+{
+    alternatives.iter().any(|alternative| alternative.solved)
 }
 
 // The same under the stores of a path, which stay.

@@ -81,16 +81,15 @@ pub fails_by_goal : (v : ViewValue) (i : IsViewOf v) (n g : Name) → v.place �
 fails_by_goal v i n g p s = let w : FailsBy i.site.goals (Some g) = shows_at v i (Place.Box n) (Sight.Box (Some g)) p s in
     record { seen = i; name = n; is_place = p; reads = inr (g, w.0, w.1, w.2, refl) }
 
--- a box whose stores clash
+-- a box whose stores are inconsistent
+pub fails_told : (v : ViewValue) (i : IsViewOf v) (n : Name) → v.place ≡ Place.Box n → (IsConsistentBy (ToldBy v.table.program.templates.nodes v.stores) → ⊥) → FailsFor v (Item.Store n)
+fails_told v i n p bad = record { seen = i; name = n; is_place = p; reads = inl (λ c. bad ((told_stands v.table.program.templates.nodes v.stores).back ((whole_stands v i).back c)), refl) }
+
+-- as two terms show
 pub fails_by_clash : (v : ViewValue) (i : IsViewOf v) (n : Name) (left right : Term) → v.place ≡ Place.Box n
     → EqualBy (ToldBy v.table.program.templates.nodes v.stores) (tree v.table.program.templates.nodes left) (tree v.table.program.templates.nodes right)
     → DifferInHead (tree v.table.program.templates.nodes left) (tree v.table.program.templates.nodes right) → FailsFor v (Item.Store n)
-fails_by_clash v i n left right p e d = record { seen = i; name = n; is_place = p; reads = inl (bad, refl) }
-  where
-    bad : IsConsistent (whole i.site) → ⊥
-    bad c =
-        let k : IsConsistentBy (ToldBy v.table.program.templates.nodes v.stores) = (told_stands v.table.program.templates.nodes v.stores).back ((whole_stands v i).back c) in
-        d.differ (k.heads e d.is_left d.is_right)
+fails_by_clash v i n left right p e d = fails_told v i n p (λ k. d.differ (k.heads e d.is_left d.is_right))
 
 pub consistent_none : (v : ViewValue) (i : IsViewOf v) (n : Name) → v.place ≡ Place.Box n → v.sight ≡ Sight.Box None
     → IsConsistentBy (ToldBy v.table.program.templates.nodes v.stores) → HasNoRule v

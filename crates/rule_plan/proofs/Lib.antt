@@ -9,8 +9,10 @@ pub mod EvalRight
 pub mod OpenRight
 pub mod SendRight
 pub mod FailRight
+pub mod Clashing
 pub mod Framed
 pub mod NewBoxes
+pub mod NewStores
 pub mod ForkRight
 pub mod FramesAndPorts
 pub mod Solving

@@ -1,15 +1,20 @@
 -- The boxes that are made for a call are the instances of its clauses.
-use Rattle.std.proofs.Common.{◌≡◌, ℕ, zero, suc, ◌+◌, ◌<◌, List, [], ◌∷◌, ◌++◌, map, length, Bool, true, false, cond, refl, sym, ◌∙◌, ap, subst, append-nil, arith}
+use Rattle.std.proofs.Common.{◌≡◌, ℕ, zero, suc, ◌+◌, ◌<◌, List, [], ◌∷◌, ◌++◌, map, length, Bool, true, false, cond, refl, sym, ◌∙◌, ap, subst, inl, inr, append-nil, arith}
 use Rattle.std.proofs.lemmas.Bool.Decides.{nat_tests}
+use Rattle.std.proofs.lemmas.List.{map-append}
 use Rattle.akl_terms.specs.declared.name.Name.{Name}
 use Rattle.akl_terms.specs.declared.term.Node.{Node}
 use Rattle.akl_terms.specs.declared.program.Code.{Code}
 use Rattle.akl_terms.specs.declared.program.Goal.{Goal}
 use Rattle.akl_terms.specs.declared.program.Clause.{Clause}
 use Rattle.akl_terms.specs.Names.{is_before}
-use Rattle.akl_terms.specs.Equal.{Equations, IsTold}
+use Rattle.akl_terms.specs.Equal.{Equations, IsTold, told}
 use Rattle.akl_terms.specs.Standing.{StandFor}
-use Rattle.akl_terms.proofs.StandingLaws.{StandFor-back, StandFor-on}
+use Rattle.akl_terms.specs.Template.{equation_of}
+use Rattle.akl_terms.specs.Tree.{Tree}
+use Rattle.akl_terms.specs.declared.term.Term.TheVariants.{Mol}
+use Rattle.akl_terms.proofs.EqualLaws.{IsTold-left, IsTold-right, IsTold-either}
+use Rattle.akl_terms.proofs.StandingLaws.{StandFor-back, StandFor-follows, StandFor-on}
 use Rattle.akl_model.specs.Config.{Atom, Boxes, Goals, no_goals, atom, an_atom, with_goal}
 use Rattle.akl_model.specs.Instances.{term_at, terms_from, atom_of, atoms_of, with_atoms, head_equations, instances}
 use Rattle.rational_unify.specs.Solving.{bindings_in, equations_in}
@@ -21,16 +26,45 @@ use Rattle.table_laws.proofs.Stores.{told_join}
 use Rattle.box_tree.specs.declared.step.NewBox.{NewBox}
 use Rattle.box_tree.specs.Tables.{goal_atom, new_box}
 use Rattle.rule_plan.specs.declared.heads.Call.{Call}
-use Rattle.rule_plan.specs.Made.{heads, heads_of, goals_under, named_under, store_with, IsHeadStore, IsMade, AreMade}
+use Rattle.rule_plan.specs.Made.{heads, heads_of, goals_under, named_under, store_with, IsNewStore, IsMade, AreMade}
 use Rattle.guard_plan.proofs.Chains.{around_push, innermost_push}
 use Rattle.rule_plan.proofs.Storing.{tells_stands, told_over}
 
--- equations of arguments with head arguments
-pub heads_equations : (nodes : List Node) (f : Name) (i n : ℕ) (g : Name) (j m : ℕ) → equations_in nodes (heads f i n g j m) ≡ head_equations (terms_from nodes f i n) (terms_from nodes g j m)
-heads_equations nodes f i zero g j zero = refl
-heads_equations nodes f i zero g j (suc m) = refl
-heads_equations nodes f i (suc n) g j zero = refl
-heads_equations nodes f i (suc n) g j (suc m) = ap (λ (E : Equations). record { left = term_at nodes f i; right = term_at nodes g j } ∷ E) (heads_equations nodes f (suc i) n g (suc j) m)
+-- equations of arguments with head arguments, in another order
+
+heads_told : (nodes : List Node) (f : Name) (i n : ℕ) (g : Name) (j m : ℕ) (s t : Tree) → IsTold (equations_in nodes (heads f i n g j m)) s t → IsTold (head_equations (terms_from nodes f i n) (terms_from nodes g j m)) s t
+heads_told nodes f i zero g j zero s t x = x
+heads_told nodes f i zero g j (suc m) s t x = x
+heads_told nodes f i (suc n) g j zero s t x = x
+heads_told nodes f i (suc n) g j (suc m) s t x =
+    elim (IsTold-either (equations_in nodes (heads f (suc i) n g (suc j) m)) (record { left = term_at nodes f i; right = term_at nodes g j } ∷ []) s t
+    (subst (λ (E : Equations). IsTold E s t) (map-append (equation_of nodes) (heads f (suc i) n g (suc j) m) (record { left = Mol i f; right = Mol j g } ∷ [])) x)) [
+      | inl y ↦ inr (heads_told nodes f (suc i) n g (suc j) m s t y)
+      | inr y ↦ elim y [ inl p ↦ inl p | inr z ↦ absurd z ]
+    ]
+
+told_heads : (nodes : List Node) (f : Name) (i n : ℕ) (g : Name) (j m : ℕ) (s t : Tree) → IsTold (head_equations (terms_from nodes f i n) (terms_from nodes g j m)) s t → IsTold (equations_in nodes (heads f i n g j m)) s t
+told_heads nodes f i zero g j zero s t x = x
+told_heads nodes f i zero g j (suc m) s t x = x
+told_heads nodes f i (suc n) g j zero s t x = x
+told_heads nodes f i (suc n) g j (suc m) s t (inl p) =
+    subst (λ (E : Equations). IsTold E s t) (sym (map-append (equation_of nodes) (heads f (suc i) n g (suc j) m) (record { left = Mol i f; right = Mol j g } ∷ [])))
+    (IsTold-right (equations_in nodes (heads f (suc i) n g (suc j) m)) (record { left = term_at nodes f i; right = term_at nodes g j } ∷ []) s t (inl p))
+told_heads nodes f i (suc n) g j (suc m) s t (inr y) =
+    subst (λ (E : Equations). IsTold E s t) (sym (map-append (equation_of nodes) (heads f (suc i) n g (suc j) m) (record { left = Mol i f; right = Mol j g } ∷ [])))
+    (IsTold-left (equations_in nodes (heads f (suc i) n g (suc j) m)) (record { left = term_at nodes f i; right = term_at nodes g j } ∷ []) s t (told_heads nodes f (suc i) n g (suc j) m s t y))
+
+heads_stand : (nodes : List Node) (W : Equations) (f : Name) (i n : ℕ) (g : Name) (j m : ℕ)
+    → StandFor (IsTold (W ++ equations_in nodes (heads f i n g j m))) (IsTold (W ++ head_equations (terms_from nodes f i n) (terms_from nodes g j m)))
+heads_stand nodes W f i n g j m = StandFor-follows
+    (λ s t x. told (elim (IsTold-either W (equations_in nodes (heads f i n g j m)) s t x) [
+      | inl y ↦ IsTold-left W (head_equations (terms_from nodes f i n) (terms_from nodes g j m)) s t y
+      | inr y ↦ IsTold-right W (head_equations (terms_from nodes f i n) (terms_from nodes g j m)) s t (heads_told nodes f i n g j m s t y)
+    ]))
+    (λ s t x. told (elim (IsTold-either W (head_equations (terms_from nodes f i n) (terms_from nodes g j m)) s t x) [
+      | inl y ↦ IsTold-left W (equations_in nodes (heads f i n g j m)) s t y
+      | inr y ↦ IsTold-right W (equations_in nodes (heads f i n g j m)) s t (told_heads nodes f i n g j m s t y)
+    ]))
 
 -- goals under names that are drawn in order
 
@@ -71,12 +105,12 @@ told_frame : (nodes : List Node) (path : List Stored) (frame : Name) → told_in
 told_frame nodes path frame = told_join nodes path (store_with frame ∷ []) ∙ append-nil (told_in nodes path)
 
 module _ (nodes : List Node) (path : List Stored) (W : Equations) (stands : StandFor (IsTold (told_in nodes path)) (IsTold W)) (call : Call) (w : ℕ) where
-  head_stands : (frame : Name) (c : Clause) (store : Stored) (solved : Bool) → IsHeadStore nodes path call frame c store solved
+  head_stands : (frame : Name) (c : Clause) (store : Stored) (solved : Bool) → IsNewStore nodes path frame (heads_of call frame c) store solved
       → (D : Equations) → StandFor (IsTold D) (IsTold W)
       → StandFor (IsTold (D ++ bindings_in nodes store.bindings)) (IsTold (W ++ head_equations (terms_from nodes call.frame call.first call.count) (terms_from nodes frame c.first c.count)))
-  head_stands frame c store solved h D d = subst (λ (E : Equations). StandFor (IsTold (D ++ bindings_in nodes store.bindings)) (IsTold (W ++ E)))
-      (heads_equations nodes call.frame call.first call.count frame c.first c.count)
+  head_stands frame c store solved h D d = StandFor-on
       (told_over D (told_in nodes path) (told_in nodes path) W (bindings_in nodes store.bindings) (equations_in nodes (heads_of call frame c)) (StandFor-on d (StandFor-back stands)) stands tells)
+      (heads_stand nodes W call.frame call.first call.count frame c.first c.count)
     where
       tells : StandFor (IsTold (told_in nodes path ++ equations_in nodes (heads_of call frame c))) (IsTold (told_in nodes path ++ bindings_in nodes store.bindings))
       tells = subst (λ (E : Equations). StandFor (IsTold (E ++ equations_in nodes (heads_of call frame c))) (IsTold (told_in nodes path ++ bindings_in nodes store.bindings))) (told_frame nodes path frame)
@@ -111,7 +145,7 @@ module _ (nodes : List Node) (path : List Stored) (W : Equations) (stands : Stan
       (one_made n c b m.0 (instances nodes w (n + (2 + length c.guard)) (terms_from nodes call.frame call.first call.count) cs), all_made (n + (2 + length c.guard)) cs bs m.1)
 
 -- solved, where a box says so
-one_solved : (nodes : List Node) (path : List Stored) (call : Call) (frame : Name) (c : Clause) (store : Stored) (t : Bool) → IsHeadStore nodes path call frame c store t
+one_solved : (nodes : List Node) (path : List Stored) (call : Call) (frame : Name) (c : Clause) (store : Stored) (t : Bool) → IsNewStore nodes path frame (heads_of call frame c) store t
     → t ≡ true → IsSolvedChain nodes (path ++ store ∷ [])
 one_solved nodes path call frame c store t h e =
     let k : _ = h.is_solved.0 e in

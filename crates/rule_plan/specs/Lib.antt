@@ -1,5 +1,6 @@
 pub mod Made
 pub mod Failed
+pub mod Clashes
 pub mod AtGoals
 pub mod Solving
 pub mod Sent

@@ -1,5 +1,5 @@
 -- What the parts of a new box are made of.
-use Rattle.std.specs.Prelude.{◌≡◌, ℕ, suc, ◌+◌, List, [], ◌∷◌, ◌++◌, map, length, Bool, ◌⊎◌, ⊤, ◌↔◌, IsTrue}
+use Rattle.std.specs.Prelude.{◌≡◌, ℕ, suc, ◌+◌, List, [], ◌∷◌, ◌++◌, map, length, Bool, true, false, ⊤, ◌↔◌, IsTrue}
 use Rattle.akl_terms.specs.declared.name.Name.{Name}
 use Rattle.akl_terms.specs.declared.term.Node.{Node}
 use Rattle.akl_terms.specs.declared.term.Term.TheVariants.{Mol}
@@ -8,14 +8,15 @@ use Rattle.akl_terms.specs.declared.program.Code.{Code}
 use Rattle.akl_terms.specs.declared.program.Goal.{Goal}
 use Rattle.akl_terms.specs.declared.program.Clause.{Clause}
 use Rattle.akl_terms.specs.Equal.{IsConsistentBy}
-use Rattle.local_store.specs.Stored.{Stored, nothing, with_frame}
-use Rattle.local_store.specs.Telling.{ToldAlso, Tells}
+use Rattle.rational_unify.specs.declared.solver.Solved.{Solved}
+use Rattle.local_store.specs.Stored.{Stored, nothing, with_frame, with_bindings}
+use Rattle.local_store.specs.Telling.{ToldAlso, Tells, clashed}
 use Rattle.box_tree.specs.declared.step.NewBox.{NewBox}
 use Rattle.rule_plan.specs.declared.heads.Call.{Call}
 
--- equations between so many neighbouring nodes under one frame and so many under another, as far as both go
+-- equations between so many neighbouring nodes under one frame and so many under another, as far as both go, the last first
 abbrev pub heads : Name → ℕ → ℕ → Name → ℕ → ℕ → List code.Equation
-heads f i (suc n) g j (suc m) = record { left = Mol i f; right = Mol j g } ∷ heads f (suc i) n g (suc j) m
+heads f i (suc n) g j (suc m) = heads f (suc i) n g (suc j) m ++ record { left = Mol i f; right = Mol j g } ∷ []
 heads f i n g j m = []
 
 -- the equations between the arguments of a call and those of a clause's head under a frame
@@ -35,21 +36,26 @@ named_under frame n (c ∷ cs) = (record { worker = frame.worker; number = n }, 
 abbrev pub store_with : Name → Stored
 store_with frame = with_frame nothing frame
 
--- one more where all are known
-abbrev pub MoreKnown : ℕ → ℕ → ℕ → Type 0
-MoreKnown known long more = (more ≡ known) ⊎ ((known ≡ long) × (more ≡ suc known))
-
--- the frame's store over the stores of a path, to which the equations of a call's arguments with a head's are told, and whether the chain is known
--- to be solved with it
-pub record IsHeadStore (nodes : List Node) (path : List Stored) (call : Call) (frame : Name) (c : Clause) (store : Stored) (solved : Bool) : Type 0 where
+-- the frame's store over the stores of a path, to which equations are told, and whether the chain is known to be solved with it
+pub record IsNewStore (nodes : List Node) (path : List Stored) (frame : Name) (es : List code.Equation) (store : Stored) (solved : Bool) : Type 0 where
   pub known : ℕ
-  pub tells : Tells nodes (path ++ store_with frame ∷ []) known (heads_of call frame c) store
-  pub is_solved : IsTrue solved ↔ ((length (path ++ store_with frame ∷ []) ≡ known) × IsConsistentBy (ToldAlso nodes (path ++ store_with frame ∷ []) (heads_of call frame c)))
+  pub tells : Tells nodes (path ++ store_with frame ∷ []) known es store
+  pub is_solved : IsTrue solved ↔ ((length (path ++ store_with frame ∷ []) ≡ known) × IsConsistentBy (ToldAlso nodes (path ++ store_with frame ∷ []) es))
+
+-- a store also has what was found for equations
+abbrev pub with_solved : Stored → Solved → Stored
+with_solved s (Solved.Added bindings) = with_bindings s bindings.items
+with_solved s (Solved.Clash left right) = clashed s left right
+
+-- whether they are consistent
+abbrev pub is_added : Solved → Bool
+is_added (Solved.Added bindings) = true
+is_added (Solved.Clash left right) = false
 
 -- the box that a clause makes of a call, where a worker draws its names from a number on
 pub record IsMade (nodes : List Node) (path : List Stored) (call : Call) (w n : ℕ) (c : Clause) (b : NewBox) : Type 0 where
   pub name : b.name ≡ record { worker = w; number = n }
-  pub store : IsHeadStore nodes path call (record { worker = w; number = n + 1 }) c b.store b.solved
+  pub store : IsNewStore nodes path (record { worker = w; number = n + 1 }) (heads_of call (record { worker = w; number = n + 1 }) c) b.store b.solved
   pub goals : b.goals.items ≡ named_under (record { worker = w; number = n + 1 }) (n + 2) c.guard
   pub body : b.body.items ≡ goals_under (record { worker = w; number = n + 1 }) c.body
 

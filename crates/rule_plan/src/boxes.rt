@@ -2,12 +2,13 @@
 
 ghost use Rattle.std.specs.Prelude.{◌≡◌, ◌+◌, ◌<◌, ◌^◌, length, IfOk};
 ghost use Rattle.akl_model.specs.Instances.{drawn_by};
-ghost use Rattle.rule_plan.specs.Made.{goals_under, named_under, IsMade, AreMade};
+ghost use Rattle.rule_plan.specs.Made.{goals_under, heads_of, named_under, IsMade, IsNewStore, AreMade};
 
-use crate::heads::{Call, head_store};
+use crate::heads::{Call, head_equations};
+use crate::new_stores::new_store;
 use akl_terms::{Clause, Code, Goal, Name};
 use box_tree::NewBox;
-use local_store::{Chain, Shared, ToldStore};
+use local_store::{Chain, Shared, Store};
 use std::alloc::{AllocError, Global};
 
 // The boxes of these clauses in order, with names from this one on.
@@ -21,7 +22,7 @@ pub(crate) fn new_boxes(
     requires { first.number + drawn_by clauses.now < 2 ^ 64 }
     ensures { IfOk result (λ boxes. AreMade chain.now.nodes chain.now.stores call first.worker first.number clauses.now boxes.items) }
 {
-    let mut boxes = Vec::new(alloc);
+    let mut boxes = Vec::with_capacity(alloc, clauses.len())?;
     let mut number = first.number;
     for clause in clauses {
         let name = Name {
@@ -51,7 +52,7 @@ fn new_box(
     };
     let goals = named_goals(alloc, frame, clause.guard.as_slice())?;
     let body = goals_of(alloc, frame, clause.body.as_slice())?;
-    let ToldStore { store, solved, .. } = head_store(alloc, chain, call, frame, clause)?;
+    let (store, solved) = head_store(alloc, chain, call, frame, clause)?;
     let store = Shared::new(alloc, store)?;
     Ok(NewBox {
         name,
@@ -60,6 +61,21 @@ fn new_box(
         goals,
         body,
     })
+}
+
+// The store of a clause's box, which has its frame, and to which the arguments of the call are told with those of its head;
+// and whether the chain is known to be solved with it.
+fn head_store(
+    alloc: Global,
+    chain: &Chain,
+    call: Call,
+    frame: Name,
+    clause: &Clause,
+) -> Result<(Store, bool), AllocError>
+    ensures { IfOk result (λ r. IsNewStore chain.now.nodes chain.now.stores frame (heads_of call frame clause.now) r.0 r.1) }
+{
+    let equations = head_equations(alloc, call, frame, clause)?;
+    new_store(alloc, chain, frame, equations.as_slice())
 }
 
 // Atoms under a frame.

@@ -1,12 +1,13 @@
 //! Plans of Fail.
 
-ghost use Rattle.std.specs.Prelude.{◌≡◌, IfOk};
+ghost use Rattle.std.specs.Prelude.{◌≡◌, None, IfOk};
 ghost use Rattle.akl_terms.specs.declared.name.Place.{Place};
 ghost use Rattle.box_tree.specs.declared.view.Sight.{Sight};
 ghost use Rattle.box_tree.specs.Views.{IsViewOf};
 ghost use Rattle.guard_plan.specs.Planned.{IsPlannedBy};
 ghost use Rattle.rule_plan.specs.Failed.{FailsFor};
 
+use crate::clashes::has_clash;
 use crate::labels::{label_of, one_item};
 use akl_model::{Item, Rule};
 use akl_terms::{Name, Program};
@@ -30,10 +31,30 @@ pub(crate) fn fail(
 {
     match failing {
         Some(goal) => fail_by(alloc, view, Item::Goal(goal)),
-        None => match consistent(alloc, &view.chain(&program.templates))? {
-            Consistency::Consistent => Ok(None),
-            Consistency::Clash { .. } => fail_by(alloc, view, Item::Store(name)),
-        },
+        None => fail_told(alloc, program, view, name),
+    }
+}
+
+// The plan by which a box goes where what it knows is inconsistent.
+fn fail_told(
+    alloc: Global,
+    program: &Program,
+    view: &View,
+    name: Name,
+) -> Result<Option<Plan>, AllocError>
+    requires program { program.now ≡ view.now.table.program }
+    requires place { view.now.place ≡ Place.Box name }
+    requires sight { view.now.sight ≡ Sight.Box None }
+    requires seen { IsViewOf view.now }
+    ensures { IfOk result (IsPlannedBy view.now) }
+{
+    let chain = view.chain(&program.templates);
+    if has_clash(&chain)? {
+        return fail_by(alloc, view, Item::Store(name));
+    }
+    match consistent(alloc, &chain)? {
+        Consistency::Consistent => Ok(None),
+        Consistency::Clash { .. } => fail_by(alloc, view, Item::Store(name)),
     }
 }
 

@@ -3,12 +3,14 @@
 
 mod at_goals;
 mod boxes;
+mod clashes;
 mod evaluating;
 mod failing;
 mod forking;
 mod heads;
 mod labels;
 mod names;
+mod new_stores;
 mod opening;
 mod planning;
 mod sending;

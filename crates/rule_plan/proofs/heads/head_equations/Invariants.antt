@@ -1,6 +1,10 @@
-use Rattle.std.proofs.Common.{◌≡◌, ◌+◌, ◌-◌, ◌++◌}
-use Rattle.rule_plan.specs.Made.{heads, heads_of}
+use Rattle.std.proofs.Common.{◌≡◌, ◌+◌, ◌-◌, ◌≤◌, min}
+use Rattle.rule_plan.specs.Made.{heads}
 use Rattle.rule_plan.proofs.heads.head_equations.Given as goal
 
-abbrev pub invariant-loop-index : goal.invariant-loop-index
-invariant-loop-index l = l.list.items ++ heads l.call.frame (l.call.first + l.index) (l.call.count - l.index) l.frame (l.clause.first + l.index) (l.clause.count - l.index) ≡ heads_of l.call l.frame l.clause
+abbrev pub invariant-loop-left : goal.invariant-loop-left
+invariant-loop-left l = (l.left ≤ min l.call.count l.clause.count)
+    × (l.list.items ≡ heads l.call.frame (l.call.first + l.left) (l.call.count - l.left) l.frame (l.clause.first + l.left) (l.clause.count - l.left))
+
+abbrev pub decreases-loop-left : goal.decreases-loop-left
+decreases-loop-left l = l.left

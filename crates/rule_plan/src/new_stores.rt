@@ -1,0 +1,108 @@
+//! New stores over a chain, to which equations are told.
+
+ghost use Rattle.std.specs.Prelude.{◌≡◌, ◌∷◌, [], ◌++◌, IfOk};
+ghost use Rattle.local_store.specs.Chained.{IsSolvedChain};
+ghost use Rattle.local_store.specs.Stored.{with_bindings};
+ghost use Rattle.rule_plan.specs.Made.{store_with, with_solved, is_added, IsNewStore};
+
+use crate::clashes::add_clash;
+use akl_terms::{Equation, Name, Term, Var};
+use guard_plan::shared;
+use local_store::{Chain, Shared, Store, ToldStore, told};
+use rational_unify::{Solved, solve};
+use std::alloc::{AllocError, Global};
+
+// A new store with the frame over the stores of a chain, to which the equations are told, and whether the chain is known
+// to be solved with it.
+pub(crate) fn new_store(
+    alloc: Global,
+    chain: &Chain,
+    frame: Name,
+    equations: &[Equation],
+) -> Result<(Store, bool), AllocError>
+    ensures { IfOk result (λ r. IsNewStore chain.now.nodes chain.now.stores frame equations.now r.0 r.1) }
+{
+    if chain.known() == chain.stores().len() {
+        return over_solved(alloc, chain, frame, equations);
+    }
+    over_any(alloc, chain, frame, equations)
+}
+
+// The same over stores that are known to be solved together.
+fn over_solved(
+    alloc: Global,
+    chain: &Chain,
+    frame: Name,
+    equations: &[Equation],
+) -> Result<(Store, bool), AllocError>
+    requires { IsSolvedChain chain.now.nodes chain.now.stores }
+    ensures { IfOk result (λ r. IsNewStore chain.now.nodes chain.now.stores frame equations.now r.0 r.1) }
+{
+    let solution = solve(alloc, chain.templates(), chain, equations)?;
+    let mut store = Store::new(alloc);
+    store.add_frame(frame)?;
+    let solved = add_solved(&mut store, &solution.solved)?;
+    Ok((store, solved))
+}
+
+// A store also has what was found for equations. Answers whether they are consistent.
+fn add_solved(store: &mut Store, solved: &Solved) -> Result<bool, AllocError>
+    ensures store { IfOk result (λ _. store.new ≡ with_solved store.old solved.now) }
+    ensures consistent { IfOk result (λ consistent. consistent ≡ is_added solved.now) }
+{
+    match solved {
+        Solved::Added(bindings) => {
+            add_bindings(store, bindings.as_slice())?;
+            Ok(true)
+        }
+        Solved::Clash { left, right } => {
+            add_clash(store, *left, *right)?;
+            Ok(false)
+        }
+    }
+}
+
+// A store also has these bindings, added one after another.
+fn add_bindings(store: &mut Store, bindings: &[(Var, Term)]) -> Result<(), AllocError>
+    ensures { IfOk result (λ _. store.new ≡ with_bindings store.old bindings.now) }
+{
+    for binding in bindings {
+        store.add_binding(binding.0, binding.1)?;
+    }
+    Ok(())
+}
+
+// The same over any stores.
+fn over_any(
+    alloc: Global,
+    chain: &Chain,
+    frame: Name,
+    equations: &[Equation],
+) -> Result<(Store, bool), AllocError>
+    ensures { IfOk result (λ r. IsNewStore chain.now.nodes chain.now.stores frame equations.now r.0 r.1) }
+{
+    let stores = path_with(alloc, chain.stores(), frame)?;
+    let inner = Chain::of_solved(chain.templates(), stores.as_slice(), chain.known());
+    let ToldStore { store, solved, .. } = told(alloc, &inner, equations)?;
+    Ok((store, solved))
+}
+
+// The stores of a path, and behind them one that has the frame alone.
+fn path_with(
+    alloc: Global,
+    path: &[Shared<Store>],
+    frame: Name,
+) -> Result<Vec<Shared<Store>>, AllocError>
+    ensures { IfOk result (λ stores. stores.items ≡ path.now ++ store_with frame ∷ []) }
+{
+    let mut stores = shared(alloc, path)?;
+    stores.push(frame_store(alloc, frame)?)?;
+    Ok(stores)
+}
+
+// A store that has the frame alone.
+fn frame_store(alloc: Global, frame: Name) -> Result<Shared<Store>, AllocError>
+    ensures { IfOk result (λ s. s ≡ store_with frame) }
+{
+    Shared::new(alloc, Store::new(alloc).with_frame(frame)?)
+}
