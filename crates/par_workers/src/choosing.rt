@@ -22,10 +22,10 @@ pub enum Sight {
     Tried(View),
 }
 
-/// What a worker saw of a place, and the token that led it there, where this is its own.
+/// What a worker saw of a place, and the token that led it there.
 #[derive(Drop)]
 pub struct Look {
-    pub token: Option<u64>,
+    pub token: u64,
     pub sight: Sight,
 }
 
@@ -34,21 +34,21 @@ pub struct Look {
 pub enum Chosen {
     /// It plans at a place.
     At(Look),
-    /// It waits: it has no token, and some place is open.
+    /// It waits: the places of all its tokens are put off, and some place is open.
     Wait,
     /// It ends: no place is open, or all workers are to stop.
     End,
 }
 
 impl SharedRun {
-    /// Looks at the place of the first of a worker's tokens whose place is there, and isn't put off. Without one the worker
-    /// waits, or, where it `has_waited`, seeks a place itself. Want of memory stops all workers.
+    /// Looks at the place of the first of a worker's tokens whose place is there, and isn't put off; the first of all is the
+    /// one that it has drawn. Want of memory stops all workers.
     pub(crate) fn choose(
         &mut self,
         alloc: Global,
         worker: u32,
+        drawn: Option<u64>,
         tokens: &mut VecDeque<u64>,
-        has_waited: bool,
     ) -> Chosen
         ensures same { self.new ≡ self.old }
         ensures chosen { IsChosenIn self.old worker result }
@@ -56,7 +56,7 @@ impl SharedRun {
         if self.stops {
             return Chosen::End;
         }
-        match self.try_choose(alloc, worker, tokens, has_waited) {
+        match self.try_choose(alloc, worker, drawn, tokens) {
             Ok(chosen) => chosen,
             Err(_) => {
                 self.stops = true;
@@ -70,20 +70,20 @@ impl SharedRun {
         &mut self,
         alloc: Global,
         worker: u32,
+        drawn: Option<u64>,
         tokens: &mut VecDeque<u64>,
-        has_waited: bool,
     ) -> Result<Chosen, AllocError>
         ensures same { self.new ≡ self.old }
         ensures chosen { IfOk result (IsChosenIn self.old worker) }
     {
+        if let Some(token) = drawn {
+            tokens.push_front(token)?;
+        }
         if let Some(look) = self.look_through(alloc, worker, tokens)? {
             return Ok(Chosen::At(look));
         }
-        let Some(token) = self.scheduler.first_open() else {
-            return Ok(Chosen::End);
-        };
-        if has_waited {
-            self.seek(alloc, worker, token)
+        if self.scheduler.is_quiet() {
+            Ok(Chosen::End)
         } else {
             Ok(Chosen::Wait)
         }
@@ -109,34 +109,11 @@ impl SharedRun {
                 continue;
             }
             if let Some(sight) = self.see_at(alloc, worker, token)? {
-                return Ok(Some(Look {
-                    token: Some(token),
-                    sight,
-                }));
+                return Ok(Some(Look { token, sight }));
             }
             self.held.remove(&token);
         }
         Ok(None)
-    }
-
-    // Looks at the first open place, whose token another worker may have. One that is put off comes after all others, so that
-    // whoever seeks next finds another.
-    fn seek(&mut self, alloc: Global, worker: u32, token: u64) -> Result<Chosen, AllocError>
-        ensures same { self.new ≡ self.old }
-        ensures chosen { IfOk result (IsChosenIn self.old worker) }
-    {
-        if self.is_put_off(token) {
-            self.scheduler.postpone(token)?;
-            return Ok(Chosen::Wait);
-        }
-        let is_new = self.held.insert(token)?;
-        match self.see_at(alloc, worker, token)? {
-            Some(sight) => Ok(Chosen::At(Look {
-                token: if is_new { Some(token) } else { None },
-                sight,
-            })),
-            None => Ok(Chosen::Wait),
-        }
     }
 
     // Looks at the open place with this token, if there is one. Where it has gone, it is closed.

@@ -16,10 +16,10 @@ use std::alloc::Global;
 use std::collections::VecDeque;
 use step_commit::CommitError;
 
-/// What comes next at a place, where this is known, and the token that led there, where this is the worker's own.
+/// What comes next at a place, where this is known, and the token that led there.
 #[derive(Drop)]
 pub struct Planned {
-    pub token: Option<u64>,
+    pub token: u64,
     pub next: Option<Next>,
 }
 
@@ -115,9 +115,7 @@ impl SharedRun {
     {
         for token in opened {
             match self.held.insert(*token) {
-                Ok(true) => {
-                    let _ = tokens.push_back(*token);
-                }
+                Ok(true) => self.keep(*token, tokens),
                 Ok(false) => {}
                 Err(_) => self.stops = true,
             }
@@ -125,27 +123,31 @@ impl SharedRun {
     }
 
     // A busy box in which no rule was found is late.
-    fn put_off(&mut self, token: Option<u64>)
+    fn put_off(&mut self, token: u64)
         ensures { self.new ≡ self.old }
     {
-        if let Some(own) = token {
-            if self.scheduler.postpone(own).is_err() {
-                self.stops = true;
-            }
+        if self.scheduler.postpone(token).is_err() {
+            self.stops = true;
         }
     }
 
     // The token of a place that was planned comes back to the worker's, if the place is still open.
-    fn take_back(&mut self, token: Option<u64>, tokens: &mut VecDeque<u64>)
+    fn take_back(&mut self, token: u64, tokens: &mut VecDeque<u64>)
         ensures { self.new ≡ self.old }
     {
-        let Some(own) = token else {
-            return;
-        };
-        if self.scheduler.place_of(own).is_some() {
-            let _ = tokens.push_back(own);
+        if self.scheduler.place_of(token).is_some() {
+            self.keep(token, tokens);
         } else {
-            self.held.remove(&own);
+            self.held.remove(&token);
+        }
+    }
+
+    // A token comes to a worker's. Were it lost, its place would stay open, so then all workers are to stop.
+    fn keep(&mut self, token: u64, tokens: &mut VecDeque<u64>)
+        ensures { self.new ≡ self.old }
+    {
+        if tokens.push_back(token).is_err() {
+            self.stops = true;
         }
     }
 }

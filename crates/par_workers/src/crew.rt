@@ -12,29 +12,34 @@ use akl_terms::Program;
 use std::alloc::{AllocError, Global};
 use std::collections::VecDeque;
 use std::sync::Wait;
+use std::sync::atomic::AtomicBool;
 use std::thread;
 use std::thread::Threads;
 use task_pool::{Hand, push};
 use turn_lock::{Pass, TurnLock};
 
-/// Puts the tokens below this number into the deques of the hands in turn. One that is refused is of an open place, which is
-/// sought.
-pub(crate) fn deal(hands: &mut Vec<Hand>, count: usize)
+/// Puts the tokens below this number into the deques of the hands in turn, up to the first that is refused: whether none
+/// is.
+pub(crate) fn deal(hands: &mut Vec<Hand>, count: usize) -> bool
     requires { 1 ≤ length hands.old.items }
     ensures { length hands.new.items ≡ length hands.old.items }
 {
     for token in 0..count {
         let number = token % hands.len();
-        deal_one(hands, number, token as u64);
+        if !deal_one(hands, number, token as u64) {
+            return false;
+        }
     }
+    true
 }
 
-// Puts a token into the deque of the hand of this number, if there is one.
-fn deal_one(hands: &mut Vec<Hand>, number: usize, token: u64)
+// Puts a token into the deque of the hand of this number: whether it isn't refused.
+fn deal_one(hands: &mut Vec<Hand>, number: usize, token: u64) -> bool
     ensures { length hands.new.items ≡ length hands.old.items }
 {
-    if let Some(hand) = hands.get_mut(number) {
-        let _ = push(hand, token);
+    match hands.get_mut(number) {
+        Some(hand) => push(hand, token).is_ok(),
+        None => false,
     }
 }
 
@@ -71,13 +76,14 @@ pub(crate) fn hire(
     Ok(workers)
 }
 
-/// Each worker works in a thread of its own, where one can be made.
+/// Each worker works in a thread of its own, where one can be made, until the run has `ended`.
 pub(crate) fn set_to_work<R: Threads + Wait + Sync, G: Gate>(
     rt: &R,
     alloc: Global,
     program: &Program,
     lock: &TurnLock<SharedRun>,
     gate: &G,
+    ended: &AtomicBool,
     workers: &mut [Worker],
 )
     requires lock { All (λ w. IsPassOf lock.now w.pass) workers.old }
@@ -90,7 +96,7 @@ pub(crate) fn set_to_work<R: Threads + Wait + Sync, G: Gate>(
     let work = |_: usize, w: &mut Worker|
         requires { IsPassOf lock.now w.now.pass × (program.now ≡ program_of w.now) }
         ensures { IsPassOf lock.entry.now w.exit.now.pass × (w.exit.now.number ≡ w.entry.now.number) }
-    { w.work(rt, alloc, program, lock, gate) };
+    { w.work(rt, alloc, program, lock, gate, ended) };
     thread::for_each_mut(rt, workers, 16, &work);
 }
 

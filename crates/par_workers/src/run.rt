@@ -13,6 +13,7 @@ use seq_engine::{End, run_on};
 use std::alloc::{AllocError, Global};
 use std::mem;
 use std::sync::Wait;
+use std::sync::atomic::AtomicBool;
 use std::thread::Threads;
 use step_commit::Core;
 use task_pool::Pool;
@@ -48,7 +49,7 @@ pub fn run_many<R: Threads + Wait + Sync, G: Gate>(
     finish(alloc, program, scheduler, receipts)
 }
 
-// The part of a run that the workers share.
+// The part of a run that the workers share. It has ended as it begins where a deque refuses a token.
 fn run_workers<R: Threads + Wait + Sync, G: Gate>(
     rt: &R,
     alloc: Global,
@@ -64,10 +65,10 @@ fn run_workers<R: Threads + Wait + Sync, G: Gate>(
 {
     let mut hands = Pool::new(alloc, workers)?;
     let shared = SharedRun::new(alloc, core)?;
-    deal(&mut hands, shared.held_count());
+    let ended = AtomicBool::new(!deal(&mut hands, shared.held_count()));
     let (lock, mut first) = TurnLock::new(alloc, shared)?;
     let mut crew = hire(alloc, &lock, &mut first, hands)?;
-    set_to_work(rt, alloc, program, &lock, gate, crew.as_mut_slice());
+    set_to_work(rt, alloc, program, &lock, gate, &ended, crew.as_mut_slice());
     let mut receipts = Vec::new(alloc);
     dismiss(&lock, &mut first, crew, &mut receipts)?;
     Ok((lock.close(first).into_scheduler(), receipts))

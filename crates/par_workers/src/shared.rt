@@ -33,8 +33,9 @@ impl Made {
     }
 }
 
-/// The state of a run with its open places, which of their tokens a worker has, in its deque or out of it, and whether all
-/// workers are to stop. It remembers in no bytes the core with which the run began, and what was made since.
+/// The state of a run with its open places, which tokens a worker has, in its deque or out of it, and whether all workers
+/// are to stop. Each token of an open place is one of these, and no two workers have the same. It remembers in no bytes the
+/// core with which the run began, and what was made since.
 #[derive(Drop)]
 pub struct SharedRun {
     begun: Snapshot<Core>,
@@ -89,13 +90,6 @@ impl SharedRun {
     /// How many tokens are held.
     pub(crate) fn held_count(&self) -> usize {
         self.held.len()
-    }
-
-    /// All workers are to stop.
-    pub(crate) fn stop(&mut self)
-        ensures { self.new ≡ self.old }
-    {
-        self.stops = true;
     }
 
     /// The state of the run.

@@ -2,14 +2,11 @@
 
 use crossbeam_utils::Backoff;
 
-// After so many vain turns a worker seeks a place itself.
-const ENOUGH: u32 = 8;
-
 // A worker waits for at most so many rounds before its next turn.
 const MOST: u32 = 16;
 
-/// The turns of a worker that found nothing to do, since it last found something, and how long it waits for them
-/// outside of the lock: the longer, the more they are.
+/// How often a worker found nothing to do since it last found something, and how long it waits for that outside of the
+/// lock: the longer, the more often.
 #[derive(Drop)]
 pub(crate) struct VainTurns {
     backoff: Backoff,
@@ -33,11 +30,6 @@ impl VainTurns {
         self.rounds > 0
     }
 
-    /// Whether they are so many that the worker seeks a place itself.
-    pub(crate) fn are_many(&self) -> bool {
-        self.count >= ENOUGH
-    }
-
     /// Waits for a moment.
     pub(crate) fn wait(&mut self) {
         self.backoff.snooze();
@@ -54,7 +46,7 @@ impl VainTurns {
         self.backoff.reset();
     }
 
-    /// One more. A worker that has a token waits for a round alone.
+    /// It found nothing once more. A worker that has a token waits for a round alone.
     pub(crate) fn add(&mut self, has_token: bool) {
         self.count = self.count.saturating_add(1);
         self.rounds = if has_token { 1 } else { self.count.min(MOST) };

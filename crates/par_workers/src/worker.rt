@@ -19,6 +19,7 @@ use rule_plan::plan;
 use std::alloc::{AllocError, Global};
 use std::collections::VecDeque;
 use std::sync::Wait;
+use std::sync::atomic::{AtomicBool, Ordering};
 use task_pool::{Hand, push, take};
 use turn_lock::{Pass, TurnLock};
 
@@ -38,10 +39,10 @@ pub struct Worker {
 }
 
 impl Worker {
-    /// Takes turns, and plans between them, until no place is open or all workers are to stop.
+    /// Takes turns, and plans between them, until the run has `ended`: no place is open, or all workers are to stop.
     ///
-    /// A worker that has nothing to conclude and finds no token waits outside of the lock. Only once it found none again and
-    /// again it seeks an open place itself, since another worker may be planning there.
+    /// A worker that has nothing to conclude and finds no token waits outside of the lock: other workers have the tokens of all
+    /// open places.
     pub(crate) fn work<R: Wait, G: Gate>(
         &mut self,
         rt: &R,
@@ -49,6 +50,7 @@ impl Worker {
         program: &Program,
         lock: &TurnLock<SharedRun>,
         gate: &G,
+        ended: &AtomicBool,
     )
         requires lock { IsPassOf lock.now self.old.pass }
         requires program { program.now ≡ (view self.old.pass).fixed.table.program }
@@ -58,18 +60,21 @@ impl Worker {
         let mut vain = VainTurns::new();
         let mut planned = None;
         for _ in rt.forever() {
+            if ended.load(Ordering::SeqCst) {
+                return;
+            }
             if planned.is_none() && vain.is_waiting() {
                 vain.wait();
                 continue;
             }
-            let has_token = self.draw(rt);
-            let has_waited = vain.are_many();
-            if planned.is_none() && !has_token && !has_waited {
+            let drawn = self.draw(rt);
+            let has_token = drawn.is_some() || !self.tokens.is_empty();
+            if planned.is_none() && !has_token {
                 vain.add(has_token);
                 continue;
             }
-            match self.turn(rt, alloc, lock, planned, has_waited) {
-                Chosen::End => return,
+            match self.turn(rt, alloc, lock, planned, drawn) {
+                Chosen::End => break,
                 Chosen::Wait => {
                     vain.add(has_token);
                     planned = None;
@@ -77,25 +82,25 @@ impl Worker {
                 Chosen::At(look) => {
                     gate.before_plan(self.number);
                     let Ok(found) = plan_at(alloc, program, look) else {
-                        self.stop(rt, lock);
-                        return;
+                        break;
                     };
                     end_if_found(&mut vain, &found);
                     planned = Some(found);
                 }
             }
         }
+        ended.store(true, Ordering::SeqCst);
     }
 
-    // One turn: what was planned is committed or settled, and the next place is chosen. The tokens that are left go into the
-    // deque.
+    // One turn: what was planned is committed or settled, and the next place is chosen, that of the token that was drawn
+    // before all others. The tokens that are left go into the deque.
     fn turn<R: Wait>(
         &mut self,
         rt: &R,
         alloc: Global,
         lock: &TurnLock<SharedRun>,
         planned: Option<Planned>,
-        has_waited: bool,
+        drawn: Option<u64>,
     ) -> Chosen
         requires lock { IsPassOf lock.now self.old.pass }
         requires planned { IfSome planned (λ p. IfSome p.next (IsFoundIn (run_seen (view self.old.pass)) self.old.number)) }
@@ -104,50 +109,38 @@ impl Worker {
         ensures chosen { IsChosenIn (run_seen (view self.new.pass)) self.new.number result }
     {
         if self.receipts.reserve(1).is_err() {
-            self.stop(rt, lock);
             return Chosen::End;
         }
         let (turn, mut run) = lock.lock(rt, &mut self.pass);
         let worker = self.number;
         run.conclude(alloc, worker, planned, &mut self.receipts, &mut self.tokens);
-        let chosen = run.choose(alloc, worker, &mut self.tokens, has_waited);
+        let chosen = run.choose(alloc, worker, drawn, &mut self.tokens);
         lock.unlock(turn, run, &mut self.pass);
         self.lay_down();
         chosen
     }
 
-    // One turn, after which all workers stop.
-    fn stop<R: Wait>(&mut self, rt: &R, lock: &TurnLock<SharedRun>)
-        requires lock { IsPassOf lock.now self.old.pass }
-        ensures lock { IsPassOf lock.now self.new.pass }
-        ensures number { self.new.number ≡ self.old.number }
-    {
-        let (turn, mut run) = lock.lock(rt, &mut self.pass);
-        run.stop();
-        lock.unlock(turn, run, &mut self.pass);
-    }
-
-    // Takes a token, its deque's first or else another's: whether there is one. A token that is lost for want of memory is of
-    // an open place, which is sought.
-    fn draw<R: Wait>(&mut self, rt: &R) -> bool
+    // Takes a token, its deque's first or else another's.
+    fn draw<R: Wait>(&mut self, rt: &R) -> Option<u64>
         ensures pass { self.new.pass ≡ self.old.pass }
         ensures number { self.new.number ≡ self.old.number }
     {
-        match take(rt, &mut self.hand) {
-            Some(token) => self.tokens.push_back(token).is_ok(),
-            None => false,
-        }
+        take(rt, &mut self.hand)
     }
 
-    // Puts its tokens into its deque. One that is refused is of an open place, which is sought.
+    // Puts its tokens into its deque, up to the first that is refused.
     fn lay_down(&mut self)
         ensures pass { self.new.pass ≡ self.old.pass }
         ensures number { self.new.number ≡ self.old.number }
     {
         for _ in 0..self.tokens.len() {
-            if let Some(token) = self.tokens.pop_front() {
-                let _ = push(&mut self.hand, token);
+            let Some(token) = self.tokens.front() else {
+                return;
+            };
+            if push(&mut self.hand, *token).is_err() {
+                return;
             }
+            let _ = self.tokens.pop_front();
         }
     }
 }
