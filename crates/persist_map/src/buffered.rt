@@ -3,8 +3,9 @@ ghost use Rattle.std.specs.Prelude.{◌≡◌, List, [], Some, cond, IfOk, IfErr
 ghost use Rattle.std.specs.Option.{option_or};
 ghost use Rattle.std.specs.BTreeMap.{insert_entry};
 ghost use Rattle.persist_map.specs.Entries.{value_at, ChangesOnly, ClonesAreEqual, is_above};
-ghost use Rattle.persist_map.specs.Newest.{with_entries, place_of};
+ghost use Rattle.persist_map.specs.Newest.{with_entries, place_of, HasNoneAbove};
 
+use crate::behind::{append, come_behind};
 use crate::map::PMap;
 use crate::walk::is_above;
 use std::alloc::{AllocError, Global};
@@ -113,12 +114,18 @@ impl<K: Ord + Copy, V: Copy> BufferedMap<K, V> {
         self.empty_list()
     }
 
-    // Brings the list into the tree, from the oldest entry on.
+    // Brings the list into the tree: as a whole where it comes behind the tree's entries, else from the oldest entry on.
     fn empty_list(&mut self) -> Result<(), AllocError>
         requires keys { ClonesAreEqual K.is_clone }
         requires values { ClonesAreEqual V.is_clone }
         ensures { self.new ≡ self.old }
     {
+        if come_behind(&self.newest, self.greatest.as_ref()) {
+            append(self.alloc, &mut self.settled, &self.newest)?;
+            self.greatest = greatest_of(self.greatest, &self.newest);
+            self.newest.clear();
+            return Ok(());
+        }
         while self.newest.len() > 0 {
             let (key, value) = self.newest[0];
             self.settled.insert(key, value)?;
@@ -150,6 +157,17 @@ fn greatest_with<K: Ord + Copy>(greatest: Option<K>, key: K) -> Option<K>
     } else {
         greatest
     }
+}
+
+// A key above which no key stands where these entries are set too.
+fn greatest_of<K: Ord + Copy, V>(greatest: Option<K>, entries: &[(K, V)]) -> Option<K>
+    ensures { (older : List (K × V)) → HasNoneAbove K.cmp greatest older → HasNoneAbove K.cmp result (with_entries K.cmp older entries.now) }
+{
+    let mut greatest = greatest;
+    for entry in entries {
+        greatest = greatest_with(greatest, entry.0);
+    }
+    greatest
 }
 
 // The entries of a tree.

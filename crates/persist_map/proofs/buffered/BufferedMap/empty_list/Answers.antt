@@ -1,5 +1,6 @@
 use Rattle.std.proofs.Common.{rules}
 use Rattle.persist_map.proofs.Greatest.{HasNoneAbove-insert_entry}
+use Rattle.persist_map.proofs.Following.{MayFollow-from_greatest}
 use Rattle.persist_map.proofs.buffered.BufferedMap.empty_list.Goals as goal
 
 pub loop-self-preserved : goal.loop-self-preserved
@@ -8,3 +9,9 @@ loop-self-preserved g c = (
   HasNoneAbove-insert_entry g.K.Ord.cmp g.met.K.Ord.total c.loop-self.self-inside.greatest c.index.result.now.0 c.greatest_with-self-inside.result c.greatest_with-self-inside.ensures
       c.loop-self.self-inside.settled c.index.result.now.1 c.insert.new.self c.in_ok-insert.ensures.entries c.loop-self.invariant.1,
 )
+
+pub append-requires-clause-behind : goal.append-requires-clause-behind
+append-requires-clause-behind g c =
+    let behind = c.come_behind.ensures c.if-come_behind.true in
+    MayFollow-from_greatest g.K.Ord.cmp g.met.K.Ord.total c.self.inside.greatest c.self.inside.settled c.deref-then-come_behind.result.now c.self.invariant
+    (rw (← c.as_ref.ensures.value, c.deref-then-come_behind.ensures.value, ← c.deref.ensures.value) behind)
