@@ -24,7 +24,7 @@ HasNoneAbove {K} cmp greatest entries = (k : K) → is_above cmp k greatest ≡ 
 
 -- the key of the first entry is above `greatest`, and those of the others are above it
 abbrev pub ComeBehind : {K V : Type 0} → (K → K → Ordering) → Option K → List (K × V) → Type 0
-ComeBehind cmp greatest [] = ⊥
+ComeBehind cmp greatest [] = Unit {0}
 ComeBehind cmp greatest (first ∷ others) = (is_above cmp first.0 greatest ≡ true) × AllByRecursion (λ k. cmp first.0 k ≡ Less) (keys_of others)
 
 -- the key of the first of the newest entries is above those of the older ones, and those of the others are above it

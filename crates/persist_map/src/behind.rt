@@ -1,5 +1,5 @@
 //! Entries that come behind those of a map.
-ghost use Rattle.std.specs.Prelude.{◌≡◌, true, List, Option, IfOk, IfErr, option_copied};
+ghost use Rattle.std.specs.Prelude.{◌≡◌, ◌<◌, true, false, length, List, Option, IfOk, IfErr, option_copied};
 ghost use Rattle.std.specs.declared.cmp.Ordering.TheVariants.{Less};
 ghost use Rattle.std.specs.List.{AllByRecursion};
 ghost use Rattle.std.specs.Map.{keys_of};
@@ -10,12 +10,14 @@ use crate::map::PMap;
 use crate::walk::is_above;
 use std::alloc::{AllocError, Global};
 
-/// Whether there are several entries, the key of the first is above `greatest`, and those of the others are above it.
+/// Whether the key of the first entry is above `greatest`, and those of several others are above it. Where there are no
+/// entries, nothing is in the way.
 pub(crate) fn come_behind<K: Ord, V>(entries: &[(K, V)], greatest: Option<&K>) -> bool
-    ensures { result ≡ true → ComeBehind K.cmp (option_copied greatest.entry) entries.now }
+    ensures behind { result ≡ true → ComeBehind K.cmp (option_copied greatest.entry) entries.now }
+    ensures some { result ≡ false → 0 < length entries.now }
 {
     let Some((first, others)) = entries.split_first() else {
-        return false;
+        return true;
     };
     others.len() > 0 && is_above(&first.0, greatest) && are_above(others, &first.0)
 }

@@ -114,24 +114,21 @@ impl<K: Ord + Copy, V: Copy> BufferedMap<K, V> {
         self.empty_list()
     }
 
-    // Brings the list into the tree: as a whole where it comes behind the tree's entries, else from the oldest entry on.
+    // Brings the list into the tree, from the oldest entry on, and as a whole what comes behind all that is there.
     fn empty_list(&mut self) -> Result<(), AllocError>
         requires keys { ClonesAreEqual K.is_clone }
         requires values { ClonesAreEqual V.is_clone }
         ensures { self.new ≡ self.old }
     {
-        if come_behind(&self.newest, self.greatest.as_ref()) {
-            append(self.alloc, &mut self.settled, &self.newest)?;
-            self.greatest = greatest_of(self.greatest, &self.newest);
-            self.newest.clear();
-            return Ok(());
-        }
-        while self.newest.len() > 0 {
+        while !come_behind(&self.newest, self.greatest.as_ref()) {
             let (key, value) = self.newest[0];
             self.settled.insert(key, value)?;
             self.greatest = greatest_with(self.greatest, key);
             self.newest.remove(0);
         }
+        append(self.alloc, &mut self.settled, &self.newest)?;
+        self.greatest = greatest_of(self.greatest, &self.newest);
+        self.newest.clear();
         Ok(())
     }
 

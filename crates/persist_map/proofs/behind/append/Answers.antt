@@ -17,7 +17,7 @@ pub append-requires-clause-after : goal.append-requires-clause-after
 append-requires-clause-after g c =
     let behind = subst (MayFollow g.K.Ord.cmp c.args.map.now) c.in-Some.ensures.cases.0 c.requires.behind in
     rw (c.loop-entry.invariant, take_all c.loop-entry.entry-index c.in-Some.others.now c.loop-entry-test.false)
-        (all_with_entries g.K.Ord.cmp g.met.K.Ord.total (λ k. g.K.Ord.cmp c.in-Some.first.now.0 k ≡ Less) [] c.in-Some.others.now tt behind.1)
+    (all_with_entries g.K.Ord.cmp g.met.K.Ord.total (λ k. g.K.Ord.cmp c.in-Some.first.now.0 k ≡ Less) [] c.in-Some.others.now tt behind.1)
 
 pub returns-clause-entries : goal.returns-clause-entries
 returns-clause-entries g c =

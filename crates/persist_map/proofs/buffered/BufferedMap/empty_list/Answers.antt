@@ -1,6 +1,6 @@
 use Rattle.std.proofs.Common.{rules}
-use Rattle.persist_map.proofs.Greatest.{HasNoneAbove-insert_entry}
 use Rattle.persist_map.proofs.Following.{MayFollow-from_greatest}
+use Rattle.persist_map.proofs.Greatest.{HasNoneAbove-insert_entry}
 use Rattle.persist_map.proofs.buffered.BufferedMap.empty_list.Goals as goal
 
 pub loop-self-preserved : goal.loop-self-preserved
@@ -12,6 +12,6 @@ loop-self-preserved g c = (
 
 pub append-requires-clause-behind : goal.append-requires-clause-behind
 append-requires-clause-behind g c =
-    let behind = c.come_behind.ensures c.if-come_behind.true in
-    MayFollow-from_greatest g.K.Ord.cmp g.met.K.Ord.total c.self.inside.greatest c.self.inside.settled c.deref-then-come_behind.result.now c.self.invariant
-    (rw (← c.as_ref.ensures.value, c.deref-then-come_behind.ensures.value, ← c.deref.ensures.value) behind)
+    let behind = c.come_behind.ensures.behind c.loop-self-test.false in
+    MayFollow-from_greatest g.K.Ord.cmp g.met.K.Ord.total c.loop-self.self-inside.greatest c.loop-self.self-inside.settled c.deref-2.result.now c.loop-self.invariant.1
+    (rw (← c.as_ref.ensures.value, c.deref-2.ensures.value, ← c.deref.ensures.value) behind)
