@@ -10,7 +10,7 @@ use crate::map::PMap;
 use crate::walk::is_above;
 use std::alloc::{AllocError, Global};
 
-/// Whether the key of the first entry is above `greatest`, and those of several others are above it. Where there are no
+/// Whether the key of the first entry is above `greatest`, and those of the others are above it. Where there are no
 /// entries, nothing is in the way.
 pub(crate) fn come_behind<K: Ord, V>(entries: &[(K, V)], greatest: Option<&K>) -> bool
     ensures behind { result ≡ true → ComeBehind K.cmp (option_copied greatest.entry) entries.now }
@@ -19,7 +19,7 @@ pub(crate) fn come_behind<K: Ord, V>(entries: &[(K, V)], greatest: Option<&K>) -
     let Some((first, others)) = entries.split_first() else {
         return true;
     };
-    others.len() > 0 && is_above(&first.0, greatest) && are_above(others, &first.0)
+    is_above(&first.0, greatest) && are_above(others, &first.0)
 }
 
 // Whether all keys are above this one.

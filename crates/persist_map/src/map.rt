@@ -127,7 +127,7 @@ impl<K: Ord + Clone + Drop, V: Clone + Drop> PMap<K, V> {
     /// Puts the pair and then the entries of another map behind those of this one, along one side of the higher tree, in
     /// time of the order of the difference of the heights. Entries of this map that no other map shares change in place,
     /// but for those below a place that would have to turn. An `Err`, for want of memory, leaves the map as it was.
-    pub fn append(&mut self, key: K, value: V, after: &PMap<K, V>) -> Result<(), AllocError>
+    pub(crate) fn append(&mut self, key: K, value: V, after: &PMap<K, V>) -> Result<(), AllocError>
         requires keys { ClonesAreEqual K.is_clone }
         requires values { ClonesAreEqual V.is_clone }
         requires own { AllByRecursion (λ k. K.cmp k key ≡ Less) (keys_of self.old) }
