@@ -22,12 +22,12 @@ place_of cmp (e ∷ entries) k = match_ordering (cmp k e.0) 0 0 (suc (place_of c
 abbrev pub HasNoneAbove : {K V : Type 0} → (K → K → Ordering) → Option K → List (K × V) → Type 0
 HasNoneAbove {K} cmp greatest entries = (k : K) → is_above cmp k greatest ≡ true → value_at cmp entries k ≡ None
 
--- the key of the first entry is above `greatest`, and those of the others are above it
+-- the key of the first entry, where there is one, is above `greatest`, and those of the others are above it
 abbrev pub ComeBehind : {K V : Type 0} → (K → K → Ordering) → Option K → List (K × V) → Type 0
 ComeBehind cmp greatest [] = Unit {0}
 ComeBehind cmp greatest (first ∷ others) = (is_above cmp first.0 greatest ≡ true) × AllByRecursion (λ k. cmp first.0 k ≡ Less) (keys_of others)
 
--- the key of the first of the newest entries is above those of the older ones, and those of the others are above it
+-- the key of the first of the newest entries, where there is one, is above those of the older ones, and those of the others are above it
 abbrev pub MayFollow : {K V : Type 0} → (K → K → Ordering) → List (K × V) → List (K × V) → Type 0
 MayFollow cmp older [] = Unit {0}
 MayFollow cmp older (first ∷ others) = AllByRecursion (λ k. cmp k first.0 ≡ Less) (keys_of older) × AllByRecursion (λ k. cmp first.0 k ≡ Less) (keys_of others)

@@ -18,8 +18,8 @@ const FEW: usize = 8;
 ///
 /// The entries that were set last, at most eight, stand in a list beside a `PMap`. To set one is to push it onto the
 /// list: no node of the tree is copied for it. The list goes into the tree when it is full, or at a call of `settle`,
-/// which is best made once the copies are gone that share the tree, since what nothing shares changes in place. A map in
-/// which at most eight entries were set has no tree.
+/// which is best made once the copies are gone that share the tree, since what nothing shares changes in place. The part
+/// of it whose keys come behind all others goes in as a whole. A map in which at most eight entries were set has no tree.
 ///
 /// Contracts see it as the list of its entries in the order of their keys, wherever they stand.
 #[derive(Drop)]
