@@ -149,6 +149,43 @@ fn newest_entries_are_seen_wherever_they_stand(rt: HostRuntime) -> Result<(), Al
     Ok(())
 }
 
+/// Whether a map has these keys and no other, each as its own value.
+fn has_keys(map: &BufferedMap<u32, u32>, keys: Range<u32>) -> Result<bool, AllocError> {
+    let mut expected = keys;
+    for (key, value) in map.entries()?.iter() {
+        if expected.next() != Some(*key) || map.get(key) != Some(value) {
+            return Ok(false);
+        }
+    }
+    Ok(expected.next().is_none())
+}
+
+/// Sets keys in their order.
+fn add_keys(map: &mut BufferedMap<u32, u32>, keys: Range<u32>) -> Result<(), AllocError> {
+    for key in keys {
+        map.insert(key, key)?;
+    }
+    Ok(())
+}
+
+/// Whether further keys, which are not the next ones of the map, are seen.
+fn goes_on(map: &mut BufferedMap<u32, u32>) -> Result<bool, AllocError> {
+    add_keys(map, 55..60)?;
+    add_keys(map, 50..55)?;
+    map.settle()?;
+    has_keys(map, 0..60)
+}
+
+#[test]
+fn keys_that_come_in_order_are_seen(rt: HostRuntime) -> Result<(), AllocError> {
+    let mut map = BufferedMap::new(rt.alloc());
+    add_keys(&mut map, 0..50)?;
+    let other = map.share()?;
+    assert!(rt; goes_on(&mut map)?);
+    assert!(rt; has_keys(&other, 0..50)?);
+    Ok(())
+}
+
 #[test]
 fn other_threads_read_and_drop(rt: HostRuntime) -> Result<(), AllocError> {
     let map = PMap::new(rt.alloc()).with(1, 'a')?.with(2, 'b')?;

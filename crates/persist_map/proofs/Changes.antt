@@ -51,7 +51,7 @@ cond-cond_swap false true x y z both = refl
 cond-cond_swap false false x y z both = refl
 
 module _ {K V : Type 0} (cmp : K → K → Ordering) where
-  all_insert_entry : (P : K → Type 0) (es : List (K × V)) (k : K) (v : V) → AllByRecursion P (keys_of es) → P k → AllByRecursion P (keys_of (insert_entry cmp es k v))
+  pub all_insert_entry : (P : K → Type 0) (es : List (K × V)) (k : K) (v : V) → AllByRecursion P (keys_of es) → P k → AllByRecursion P (keys_of (insert_entry cmp es k v))
   all_insert_entry P [] k v h p = (p, tt)
   all_insert_entry P (e ∷ es) k v h p =
       elim (cmp k e.0) as (λ a. AllByRecursion P (keys_of (match_ordering a ((k, v) ∷ e ∷ es) ((e.0, v) ∷ es) (e ∷ insert_entry cmp es k v)))) [

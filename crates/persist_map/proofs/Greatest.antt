@@ -11,7 +11,7 @@ use Rattle.persist_map.specs.Newest.{HasNoneAbove}
 use Rattle.persist_map.proofs.Changes.{value_at-insert_entry}
 use Rattle.persist_map.proofs.Later.{Less-from_is_lt, is_above-above}
 
-is_above-equal : {K : Type 0} (cmp : K → K → Ordering) → IsTotalOrder cmp → (last : Option K) (k q : K) → cmp k q ≡ Equal → is_above cmp k last ≡ is_above cmp q last
+pub is_above-equal : {K : Type 0} (cmp : K → K → Ordering) → IsTotalOrder cmp → (last : Option K) (k q : K) → cmp k q ≡ Equal → is_above cmp k last ≡ is_above cmp q last
 is_above-equal cmp o None k q same = refl
 is_above-equal cmp o (Some last) k q same = ap is_lt (alike_right o k q last same)
 

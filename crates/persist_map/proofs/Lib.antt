@@ -1,5 +1,6 @@
 pub mod Bounds
 pub mod Changes
+pub mod Following
 pub mod Forks
 pub mod Greatest
 pub mod Heights

@@ -85,7 +85,7 @@ module _ {K V : Type 0} where
     remove_entry-above_front q (e ∷ l) r h =
         ap (λ (a : Ordering). cond (is_eq a) (l ++ r) (e ∷ remove_entry (is_at (cmp q)) (l ++ r))) h.0 ∙ ap (λ x. e ∷ x) (remove_entry-above_front q l r h.1)
 
-    insert_entry-above_front : (q : K) (w : V) (l r : List (K × V)) → AllByRecursion (λ y. cmp q y ≡ Greater) (keys_of l) → insert_entry cmp (l ++ r) q w ≡ l ++ insert_entry cmp r q w
+    pub insert_entry-above_front : (q : K) (w : V) (l r : List (K × V)) → AllByRecursion (λ y. cmp q y ≡ Greater) (keys_of l) → insert_entry cmp (l ++ r) q w ≡ l ++ insert_entry cmp r q w
     insert_entry-above_front q w [] r h = refl
     insert_entry-above_front q w (e ∷ l) r h =
         ap (λ (a : Ordering). match_ordering a ((q, w) ∷ e ∷ (l ++ r)) ((e.0, w) ∷ (l ++ r)) (e ∷ insert_entry cmp (l ++ r) q w)) h.0 ∙ ap (λ x. e ∷ x) (insert_entry-above_front q w l r h.1)

@@ -61,6 +61,12 @@ pub record IsTurned {K V : Type 0} (cmp : K → K → Ordering) (k : K) (old new
   pub height : new.height ≡ old.height
   pub grows : fork_grows cmp k new ≡ fork_grows cmp k old
 
+-- new is old in another shape, or in the same: the same entries at the same height
+pub record IsReshapedFork {K V : Type 0} (old new : Fork K V) : Type 0 where
+  pub entries : entries_of new.left ++ (new.key, new.value) ∷ entries_of new.right ≡ entries_of old.left ++ (old.key, old.value) ∷ entries_of old.right
+  pub balanced : IsBalancedFork new
+  pub height : new.height ≡ old.height
+
 -- no side of f that is higher already gets higher where k is set in it
 pub record HasRoom {K V : Type 0} (cmp : K → K → Ordering) (k : K) (f : Fork K V) : Type 0 where
   pub left : cmp k f.key ≡ Less → (ltb (height_of f.right) (height_of f.left) && grows cmp k f.left) ≡ false
@@ -91,6 +97,13 @@ pub record IsSplit {K V : Type 0} (f : Fork K V) (e : K × V) (t : Tree K V) : T
 -- t has the entries of l and then those of r, the sides of one fork
 pub record IsTogether {K V : Type 0} (l r : Tree K V) (t : Tree K V) : Type 0 where
   pub entries : entries_of t ≡ entries_of l ++ entries_of r
+  pub balanced : IsBalanced t
+  pub not_lower : max (height_of l) (height_of r) ≤ height_of t
+  pub at_most_one_higher : height_of t ≤ max (height_of l) (height_of r) + 1
+
+-- t has the entry (k, v) between those of l and those of r, whose heights may differ by any number
+pub record IsBetween {K V : Type 0} (l : Tree K V) (k : K) (v : V) (r : Tree K V) (t : Tree K V) : Type 0 where
+  pub entries : entries_of t ≡ entries_of l ++ (k, v) ∷ entries_of r
   pub balanced : IsBalanced t
   pub not_lower : max (height_of l) (height_of r) ≤ height_of t
   pub at_most_one_higher : height_of t ≤ max (height_of l) (height_of r) + 1

@@ -3,8 +3,9 @@ ghost use Rattle.std.specs.Prelude.{◌≡◌, List, [], Some, cond, IfOk, IfErr
 ghost use Rattle.std.specs.Option.{option_or};
 ghost use Rattle.std.specs.BTreeMap.{insert_entry};
 ghost use Rattle.persist_map.specs.Entries.{value_at, ChangesOnly, ClonesAreEqual, is_above};
-ghost use Rattle.persist_map.specs.Newest.{with_entries, place_of};
+ghost use Rattle.persist_map.specs.Newest.{with_entries, place_of, HasNoneAbove};
 
+use crate::behind::{append, come_behind};
 use crate::map::PMap;
 use crate::walk::is_above;
 use std::alloc::{AllocError, Global};
@@ -17,8 +18,8 @@ const FEW: usize = 8;
 ///
 /// The entries that were set last, at most eight, stand in a list beside a `PMap`. To set one is to push it onto the
 /// list: no node of the tree is copied for it. The list goes into the tree when it is full, or at a call of `settle`,
-/// which is best made once the copies are gone that share the tree, since what nothing shares changes in place. A map in
-/// which at most eight entries were set has no tree.
+/// which is best made once the copies are gone that share the tree, since what nothing shares changes in place. The part
+/// of it whose keys come behind all others goes in as a whole. A map in which at most eight entries were set has no tree.
 ///
 /// Contracts see it as the list of its entries in the order of their keys, wherever they stand.
 #[derive(Drop)]
@@ -113,18 +114,21 @@ impl<K: Ord + Copy, V: Copy> BufferedMap<K, V> {
         self.empty_list()
     }
 
-    // Brings the list into the tree, from the oldest entry on.
+    // Brings the list into the tree, from the oldest entry on, and as a whole what comes behind all that is there.
     fn empty_list(&mut self) -> Result<(), AllocError>
         requires keys { ClonesAreEqual K.is_clone }
         requires values { ClonesAreEqual V.is_clone }
         ensures { self.new ≡ self.old }
     {
-        while self.newest.len() > 0 {
+        while !come_behind(&self.newest, self.greatest.as_ref()) {
             let (key, value) = self.newest[0];
             self.settled.insert(key, value)?;
             self.greatest = greatest_with(self.greatest, key);
             self.newest.remove(0);
         }
+        append(self.alloc, &mut self.settled, &self.newest)?;
+        self.greatest = greatest_of(self.greatest, &self.newest);
+        self.newest.clear();
         Ok(())
     }
 
@@ -150,6 +154,17 @@ fn greatest_with<K: Ord + Copy>(greatest: Option<K>, key: K) -> Option<K>
     } else {
         greatest
     }
+}
+
+// A key above which no key stands where these entries are set too.
+fn greatest_of<K: Ord + Copy, V>(greatest: Option<K>, entries: &[(K, V)]) -> Option<K>
+    ensures { (older : List (K × V)) → HasNoneAbove K.cmp greatest older → HasNoneAbove K.cmp result (with_entries K.cmp older entries.now) }
+{
+    let mut greatest = greatest;
+    for entry in entries {
+        greatest = greatest_with(greatest, entry.0);
+    }
+    greatest
 }
 
 // The entries of a tree.

@@ -150,8 +150,8 @@ impl<K: Ord + Clone + Drop, V: Clone + Drop> Tree<K, V> {
 }
 
 impl<K, V> Fork<K, V> {
-    // Takes the height anew from those of the sides.
-    fn measure(&mut self)
+    /// Takes the height anew from those of the sides.
+    pub fn measure(&mut self)
         requires left { IsBalanced self.old.left }
         requires right { IsBalanced self.old.right }
         requires room { max (height_of self.old.left) (height_of self.old.right) + 1 < 2 ^ 32 }

@@ -10,6 +10,8 @@
 #![tactic(auto)]
 
 mod balance;
+mod behind;
+mod between;
 mod buffered;
 mod change;
 mod map;

@@ -1,7 +1,9 @@
 //! The map.
-ghost use Rattle.std.specs.Prelude.{◌≡◌, ◌+◌, ◌/◌, ◌^◌, ◌<◌, ◌≤◌, [], length, Some, None, IfOk, IfErr, option_copied};
+ghost use Rattle.std.specs.Prelude.{◌≡◌, ◌+◌, ◌/◌, ◌^◌, ◌<◌, ◌≤◌, ◌∷◌, ◌++◌, [], length, Some, None, IfOk, IfErr, option_copied};
 ghost use Rattle.std.specs.BTreeMap.{is_at, insert_entry};
-ghost use Rattle.std.specs.Map.{remove_entry};
+ghost use Rattle.std.specs.Map.{remove_entry, keys_of};
+ghost use Rattle.std.specs.List.{AllByRecursion};
+ghost use Rattle.std.specs.declared.cmp.Ordering.TheVariants.{Less};
 ghost use Rattle.persist_map.specs.Entries.{IsOrdered, value_at, ChangesOnly, ClonesAreEqual};
 
 use crate::tree::Tree;
@@ -120,6 +122,24 @@ impl<K: Ord + Clone + Drop, V: Clone + Drop> PMap<K, V> {
             return Err(AllocError);
         }
         self.tree.insert(self.alloc, &key, &value)
+    }
+
+    /// Puts the pair and then the entries of another map behind those of this one, along one side of the higher tree, in
+    /// time of the order of the difference of the heights. Entries of this map that no other map shares change in place,
+    /// but for those below a place that would have to turn. An `Err`, for want of memory, leaves the map as it was.
+    pub(crate) fn append(&mut self, key: K, value: V, after: &PMap<K, V>) -> Result<(), AllocError>
+        requires keys { ClonesAreEqual K.is_clone }
+        requires values { ClonesAreEqual V.is_clone }
+        requires own { AllByRecursion (λ k. K.cmp k key ≡ Less) (keys_of self.old) }
+        requires after { AllByRecursion (λ k. K.cmp key k ≡ Less) (keys_of after.now) }
+        ensures entries { IfOk result (λ _. self.new ≡ self.old ++ (key, value) ∷ after.now) }
+        ensures unchanged { IfErr result (λ _. self.new ≡ self.old) }
+    {
+        // No memory holds a map of this height.
+        if self.tree.height() == u32::MAX {
+            return Err(AllocError);
+        }
+        self.tree.append(self.alloc, &key, &value, &after.tree)
     }
 
     /// Takes the key out of this map. Entries that no other map shares change in place, but for those below a place that

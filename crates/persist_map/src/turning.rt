@@ -1,7 +1,7 @@
 //! Turns in place, of nodes that nothing else holds. A tree that turns keeps its entries and its height.
-ghost use Rattle.std.specs.Prelude.{◌≡◌, ◌+◌, true, IfSome};
+ghost use Rattle.std.specs.Prelude.{◌≡◌, ◌+◌, ◌≤◌, true, IfSome};
 ghost use Rattle.persist_map.specs.Contents.{height_of, IsBalancedFork};
-ghost use Rattle.persist_map.specs.Changes.{grows, HasRoom, IsTurned};
+ghost use Rattle.persist_map.specs.Changes.{grows, HasRoom, IsTurned, IsReshapedFork};
 
 use crate::tree::{Fork, Tree};
 use std::cmp::Ordering;
@@ -92,6 +92,32 @@ impl<K: Ord, V> Fork<K, V> {
         middle.pass_left(&mut self.left, &mut self.key, &mut self.value);
         middle.height = top.height;
         mem::swap(&mut self.left, &mut top.left);
+        true
+    }
+}
+
+impl<K, V> Fork<K, V> {
+    /// Turns the fork where its right side is the higher one, so that its left side is at least as high then. `false` says
+    /// that it has to stay: something else holds a node that would change, or the right side is higher at its left.
+    pub fn lean_left(&mut self) -> bool
+        requires { IsBalancedFork self.old }
+        ensures turned { IsReshapedFork self.old self.new }
+        ensures leans { result ≡ true → height_of self.new.right ≤ height_of self.new.left }
+    {
+        if self.right.height() <= self.left.height() {
+            return true;
+        }
+        let Tree::Fork(shared) = &mut self.right else {
+            return false;
+        };
+        let Some(top) = Arc::get_mut(shared) else {
+            return false;
+        };
+        if top.left.height() > top.right.height() {
+            return false;
+        }
+        top.pass_left(&mut self.left, &mut self.key, &mut self.value);
+        mem::swap(&mut self.left, &mut self.right);
         true
     }
 
