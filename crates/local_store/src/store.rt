@@ -4,12 +4,22 @@ ghost use Rattle.std.specs.Map.{keys_of, lookup};
 ghost use Rattle.akl_terms.specs.Names.{same_name};
 ghost use Rattle.rational_unify.specs.Known.{found_in};
 ghost use Rattle.local_store.specs.Stored.{nothing, unbound, is_named, with_frame, with_port, with_binding, with_bindings};
+ghost use Rattle.local_store.specs.Telling.{clashed};
 
 use akl_terms::{Name, Term, Var};
 use persist_map::BufferedMap;
 use smallvec::SmallVec;
 use std::alloc::{AllocError, Global};
 use std::marker::Model;
+
+/// The variable that a store binds to two terms whose heads differ, where a clash is told to it. No frame has it.
+pub const CLASHING: Var = Var {
+    frame: Name {
+        worker: 0,
+        number: 0,
+    },
+    index: 0,
+};
 
 /// The frames, bindings and ports of one box.
 ///
@@ -148,13 +158,22 @@ impl Store {
     }
 
     /// Also has these bindings, added one after another. After an `Err` it may have some of them.
-    pub(crate) fn add_all(&mut self, bindings: &[(Var, Term)]) -> Result<(), AllocError>
+    pub fn add_all(&mut self, bindings: &[(Var, Term)]) -> Result<(), AllocError>
         ensures { IfOk result (λ _. self.new ≡ with_bindings self.old bindings.now) }
     {
         for binding in bindings {
             self.add_binding(binding.0, binding.1)?;
         }
         Ok(())
+    }
+
+    /// Also has `CLASHING` bound to both terms, behind what it is bound to, so that it is inconsistent where their heads
+    /// differ. After an `Err` it may be bound to the first of them alone.
+    pub fn add_clash(&mut self, left: Term, right: Term) -> Result<(), AllocError>
+        ensures { IfOk result (λ _. self.new ≡ clashed self.old left right) }
+    {
+        self.add_binding(CLASHING, left)?;
+        self.add_binding(CLASHING, right)
     }
 
     // The frames and ports alone.

@@ -12,7 +12,7 @@ use crate::binding::bound_by;
 use crate::chain::Chain;
 use crate::shared::Shared;
 use crate::store::Store;
-use akl_terms::{Equation, Name, Templates, Term, Var};
+use akl_terms::{Equation, Templates, Term, Var};
 use rational_unify::{AddedBindings, Form, Lookup, Solved, solve_only};
 use std::alloc::{AllocError, Global};
 
@@ -65,13 +65,7 @@ impl ToldStore {
         ensures solved { self.new.solved ≡ self.old.solved }
         ensures bound { self.new.bound ≡ self.old.bound }
     {
-        let frame = Name {
-            worker: 0,
-            number: 0,
-        };
-        let variable = Var { frame, index: 0 };
-        self.store.add_binding(variable, left)?;
-        self.store.add_binding(variable, right)
+        self.store.add_clash(left, right)
     }
 }
 

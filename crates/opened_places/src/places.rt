@@ -218,8 +218,9 @@ fn path_around(alloc: Global, table: &Table, around: Around) -> Result<NameList,
     match around.holder {
         Some(holder) => {
             let mut path = table.path_to(alloc, holder.home)?;
-            path.push(around.home)?;
-            Ok(NameList::from_vec(path))
+            path.push(alloc, around.home)?;
+            let path = NameList::from_slice(alloc, path.as_slice())?;
+            Ok(path)
         }
         None => {
             let path = NameList::from_slice(alloc, &[around.home])?;

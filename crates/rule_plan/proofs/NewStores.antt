@@ -23,7 +23,7 @@ use Rattle.rule_plan.proofs.Framed.{framed}
 -- what is found for equations comes to a store
 solved_adds : (nodes : List Node) (known : List (Var × Term)) (es : List code.Equation) (old : Stored) (s : Solved) → Solves nodes known es s → AddsOlder nodes known s
     → (bound : List Var) × Adds nodes known es old (with_solved old s) (is_added s) bound
-solved_adds nodes known es old (Solved.Added bindings) h o = (bound_by nodes (known ++ bindings.items) bindings.items, added bindings.items h o refl refl refl)
+solved_adds nodes known es old (Solved.Added bindings) h o = (bound_by nodes (known ++ bindings) bindings, added bindings h o refl refl refl)
 solved_adds nodes known es old (Solved.Clash left right) h o = ([], clash left right h refl refl refl)
 
 module _ (nodes : List Node) (path : List Stored) (frame : Name) (es : List code.Equation) (s : Solved) (whole : IsSolvedChain nodes path) (solves : Solves nodes (bindings_from path) es s) (older : AddsOlder nodes (bindings_from path) s) where

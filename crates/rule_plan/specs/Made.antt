@@ -44,7 +44,7 @@ pub record IsNewStore (nodes : List Node) (path : List Stored) (frame : Name) (e
 
 -- a store also has what was found for equations
 abbrev pub with_solved : Stored → Solved → Stored
-with_solved s (Solved.Added bindings) = with_bindings s bindings.items
+with_solved s (Solved.Added bindings) = with_bindings s bindings
 with_solved s (Solved.Clash left right) = clashed s left right
 
 -- whether they are consistent

@@ -3,29 +3,11 @@
 ghost use Rattle.std.specs.Prelude.{◌≡◌, IfOk, IsTrue};
 ghost use Rattle.akl_terms.specs.Equal.{IsConsistentBy};
 ghost use Rattle.local_store.specs.Chained.{ToldBy, innermost};
-ghost use Rattle.local_store.specs.Telling.{clashed};
 ghost use Rattle.rule_plan.specs.Clashes.{differ_in_head};
 
-use akl_terms::{Name, Seen, Term, Var};
-use local_store::{Chain, Store};
+use akl_terms::Seen;
+use local_store::{CLASHING, Chain, Store};
 use std::alloc::AllocError;
-
-// The variable that a clash binds to both terms, as `local_store` has it.
-const CLASHING: Var = Var {
-    frame: Name {
-        worker: 0,
-        number: 0,
-    },
-    index: 0,
-};
-
-// A store also has a variable that is bound to both terms.
-pub(crate) fn add_clash(store: &mut Store, left: Term, right: Term) -> Result<(), AllocError>
-    ensures { IfOk result (λ _. store.new ≡ clashed store.old left right) }
-{
-    store.add_binding(CLASHING, left)?;
-    store.add_binding(CLASHING, right)
-}
 
 // Whether the innermost store of a chain has a clash that was told to it, which needs no solution.
 pub(crate) fn has_clash(chain: &Chain) -> Result<bool, AllocError>

@@ -2,11 +2,9 @@
 
 ghost use Rattle.std.specs.Prelude.{◌≡◌, ◌∷◌, [], ◌++◌, IfOk};
 ghost use Rattle.local_store.specs.Chained.{IsSolvedChain};
-ghost use Rattle.local_store.specs.Stored.{with_bindings};
 ghost use Rattle.rule_plan.specs.Made.{store_with, with_solved, is_added, IsNewStore};
 
-use crate::clashes::add_clash;
-use akl_terms::{Equation, Name, Term, Var};
+use akl_terms::{Equation, Name};
 use guard_plan::shared;
 use local_store::{Chain, Shared, Store, ToldStore, told};
 use rational_unify::{Solved, solve};
@@ -52,24 +50,14 @@ fn add_solved(store: &mut Store, solved: &Solved) -> Result<bool, AllocError>
 {
     match solved {
         Solved::Added(bindings) => {
-            add_bindings(store, bindings.as_slice())?;
+            store.add_all(bindings.as_slice())?;
             Ok(true)
         }
         Solved::Clash { left, right } => {
-            add_clash(store, *left, *right)?;
+            store.add_clash(*left, *right)?;
             Ok(false)
         }
     }
-}
-
-// A store also has these bindings, added one after another.
-fn add_bindings(store: &mut Store, bindings: &[(Var, Term)]) -> Result<(), AllocError>
-    ensures { IfOk result (λ _. store.new ≡ with_bindings store.old bindings.now) }
-{
-    for binding in bindings {
-        store.add_binding(binding.0, binding.1)?;
-    }
-    Ok(())
 }
 
 // The same over any stores.
