@@ -34,6 +34,9 @@ pub fn consistent(alloc: Global, chain: &Chain) -> Result<Consistency, AllocErro
     ensures { IfOk result (λ answer. Decides chain.now.nodes chain.now.stores answer) }
 {
     let known = chain.known();
+    if known == chain.stores().len() {
+        return Ok(Consistency::Consistent);
+    }
     let base = chain.outer(known);
     let mut form = Form {
         known: &base,

@@ -9,6 +9,7 @@ use crate::chain::Chain;
 use crate::telling::take_stores;
 use akl_terms::{Templates, Term, Var};
 use rational_unify::{AddedBindings, Form, Lookup, end_variable};
+use smallvec::SmallVec;
 use std::alloc::{AllocError, Global};
 
 // Lists the variables of these bindings, each with the one in which its chain ends, where it ends in one.
@@ -16,7 +17,7 @@ pub(crate) fn bound_by<W: Lookup>(
     templates: &Templates,
     whole: &W,
     bindings: &[(Var, Term)],
-    list: &mut Vec<Var>,
+    list: &mut SmallVec<Var, 4>,
 ) -> Result<(), AllocError>
     requires solved { IsSolved templates.now.nodes (W.bindings whole.now) }
     requires found { AreFound (W.bindings whole.now) bindings.now }
@@ -38,7 +39,7 @@ fn binds_over<K: Lookup>(
     templates: &Templates,
     known: &K,
     bindings: &[(Var, Term)],
-    list: &mut Vec<Var>,
+    list: &mut SmallVec<Var, 4>,
 ) -> Result<(), AllocError>
     requires solved { IsSolved templates.now.nodes (K.bindings known.now) }
     requires empty { list.old.items ≡ [] }
@@ -59,7 +60,7 @@ pub(crate) fn bound_over(
     alloc: Global,
     chain: &Chain,
     bindings: &[(Var, Term)],
-    list: &mut Vec<Var>,
+    list: &mut SmallVec<Var, 4>,
 ) -> Result<(), AllocError>
     requires { list.old.items ≡ [] }
     ensures { IfOk result (λ _. AreNewlyBound (equations_of chain.now.nodes chain.now.stores) (equations_of chain.now.nodes chain.now.stores)

@@ -14,6 +14,7 @@ use crate::shared::Shared;
 use crate::store::Store;
 use akl_terms::{Equation, Templates, Term, Var};
 use rational_unify::{AddedBindings, Form, Lookup, Solved, solve_only};
+use smallvec::SmallVec;
 use std::alloc::{AllocError, Global};
 
 /// What `told` answers.
@@ -25,7 +26,7 @@ pub struct ToldStore {
     pub solved: bool,
     /// Variables that the equations bind or make equal, and of each class with such variables at least one; none where
     /// all together is inconsistent. One may be listed more than once.
-    pub bound: Vec<Var>,
+    pub bound: SmallVec<Var, 4>,
 }
 
 impl ToldStore {
@@ -37,7 +38,7 @@ impl ToldStore {
         ToldStore {
             store,
             solved: false,
-            bound: Vec::new(alloc),
+            bound: SmallVec::new(alloc),
         }
     }
 
