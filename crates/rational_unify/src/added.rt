@@ -101,10 +101,11 @@ impl AddedBindings {
     fn place_of(&self, variable: Var) -> Option<usize>
         ensures { result ≡ place_in self.now variable }
     {
-        if self.list.len() <= FEW {
-            return place_among(self.list.as_slice(), variable);
+        let list = self.list.as_slice();
+        if list.len() <= FEW {
+            return place_among(list, variable);
         }
-        match place_among(&self.list.as_slice()[..FEW], variable) {
+        match place_among(&list[..FEW], variable) {
             Some(place) => Some(place),
             None => match &self.places {
                 Some(places) => places.get(&variable).copied(),
