@@ -8,7 +8,7 @@ ghost use Rattle.rational_unify.specs.Shortened.{Rebinds};
 ghost use Rattle.rational_unify.specs.declared.added.TheConstants.{FEW};
 
 use crate::index::or_new;
-use crate::known::place_among;
+use crate::known::{found, place_among};
 use akl_terms::{Term, Var};
 use smallvec::SmallVec;
 use std::alloc::{AllocError, Global};
@@ -58,8 +58,12 @@ impl AddedBindings {
     pub fn get(&self, variable: Var) -> Option<Term>
         ensures { result ≡ found_in self.now variable }
     {
+        let list = self.list.as_slice();
+        if list.len() <= FEW {
+            return found(list, variable);
+        }
         match self.place_of(variable) {
-            Some(place) => Some(self.list[place].1),
+            Some(place) => Some(list[place].1),
             None => None,
         }
     }
