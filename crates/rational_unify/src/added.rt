@@ -8,7 +8,7 @@ ghost use Rattle.rational_unify.specs.Shortened.{Rebinds};
 ghost use Rattle.rational_unify.specs.declared.added.TheConstants.{FEW};
 
 use crate::index::or_new;
-use crate::known::place_among;
+use crate::known::{found, place_among};
 use akl_terms::{Term, Var};
 use smallvec::SmallVec;
 use std::alloc::{AllocError, Global};
@@ -58,8 +58,12 @@ impl AddedBindings {
     pub fn get(&self, variable: Var) -> Option<Term>
         ensures { result ≡ found_in self.now variable }
     {
+        let list = self.list.as_slice();
+        if list.len() <= FEW {
+            return found(list, variable);
+        }
         match self.place_of(variable) {
-            Some(place) => Some(self.list[place].1),
+            Some(place) => Some(list[place].1),
             None => None,
         }
     }
@@ -101,10 +105,11 @@ impl AddedBindings {
     fn place_of(&self, variable: Var) -> Option<usize>
         ensures { result ≡ place_in self.now variable }
     {
-        if self.list.len() <= FEW {
-            return place_among(self.list.as_slice(), variable);
+        let list = self.list.as_slice();
+        if list.len() <= FEW {
+            return place_among(list, variable);
         }
-        match place_among(&self.list.as_slice()[..FEW], variable) {
+        match place_among(&list[..FEW], variable) {
             Some(place) => Some(place),
             None => match &self.places {
                 Some(places) => places.get(&variable).copied(),

@@ -13,7 +13,7 @@ use smallvec::SmallVec;
 use std::alloc::AllocError;
 
 /// Variables whose bindings were read.
-pub type Followed = SmallVec<Var, 6>;
+pub type Followed = SmallVec<Var, 12>;
 
 /// The end of a term's chain: the term itself, where it is no variable that is bound.
 pub fn chain_end<K: Lookup>(templates: &Templates, known: &K, term: Term) -> Term
