@@ -40,7 +40,7 @@ new-requires-2 c =
     let says = rw (c.of_solved-chain.ensures, c.as_slice.ensures.value, c.in_ok-push.ensures.items, c.in_ok-stores.ensures, c.in_ok-share.ensures, c.stores.ensures, c.requires.program) at c.in_ok-guard_holds.ensures in
     let answer = rw (c.of_solved-chain.ensures, c.as_slice.ensures.value, c.in_ok-push.ensures.items, c.in_ok-stores.ensures, c.in_ok-share.ensures, c.stores.ensures, c.requires.program) at c.in_ok-store.ensures in
     let goals = rw (c.worker.ensures, c.next-next.ensures, c.body-2.ensures) at c.in_ok-goals.ensures in
-    let members = rw (c.chain.ensures.nodes, c.chain.ensures.stores, c.as_slice-2.ensures.value, c.requires.program) at c.in_ok-binds.ensures.members in
+    let members = rw (c.chain.ensures.nodes, c.chain.ensures.stores, c.as_slice-2.ensures, c.requires.program) at c.in_ok-binds.ensures.members in
     let few : length c.args.view.now.body < 2 ^ 32 = omega (arith, c.if-names-gt-MOST.false, ap (λ (l : List Goal). length l) c.body.ensures) in
     rw (c.label_for-label.ensures.label, c.in_ok-reads.ensures, c.path.ensures, c.body.ensures)
     (only_planned c.args.view.now c.label_for-label.ensures.seen c.args.goal c.args.op c.requires.place c.requires.sight c.args.only.now c.requires.only
