@@ -7,7 +7,7 @@ ghost use Rattle.rational_unify.specs.Indexes.{place_in};
 ghost use Rattle.rational_unify.specs.Shortened.{Rebinds};
 ghost use Rattle.rational_unify.specs.declared.added.TheConstants.{FEW};
 
-use crate::index::or_new;
+use crate::index::note;
 use crate::known::{found, place_among};
 use akl_terms::{Term, Var};
 use smallvec::SmallVec;
@@ -79,14 +79,11 @@ impl AddedBindings {
         if place < FEW {
             return Ok(());
         }
-        let mut places = or_new(self.alloc, self.places.take());
-        let inserted = places.insert(variable, place);
-        self.places = Some(places);
-        match inserted {
-            Ok(_) => Ok(()),
-            Err(_) => {
+        match note(self.alloc, &mut self.places, variable, place) {
+            Ok(()) => Ok(()),
+            Err(refused) => {
                 let _ = self.list.pop();
-                Err(AllocError)
+                Err(refused)
             }
         }
     }

@@ -1,18 +1,34 @@
 //! Indexes that are made once something stands in them.
 
-ghost use Rattle.std.specs.Prelude.{◌≡◌};
+ghost use Rattle.std.specs.Prelude.{◌≡◌, Some, cond, OnOk, OnErr};
+ghost use Rattle.std.specs.Map.{lookup};
 ghost use Rattle.rational_unify.specs.Indexes.{entries_in};
 
-use std::alloc::Global;
+use std::alloc::{AllocError, Global};
 use std::collections::HashMap;
 use std::hash::Hash;
 
-/// The index, or one that has nothing where there is none yet.
-pub fn or_new<K: Eq + Hash, V>(alloc: Global, index: Option<HashMap<K, V>>) -> HashMap<K, V>
-    ensures { result.entries ≡ entries_in index }
+/// Notes a value under a key, in an index that is made where there is none yet. An `Err`, for want of memory, leaves what
+/// the index has as it was.
+pub fn note<K: Eq + Hash + Drop, V: Drop>(
+    alloc: Global,
+    index: &mut Option<HashMap<K, V>>,
+    key: K,
+    value: V,
+) -> Result<(), AllocError>
+    ensures noted { OnOk result ((k : K) → lookup (K.eq k) (entries_in index.new) ≡ cond (K.eq key k) (Some value) (lookup (K.eq k) (entries_in index.old))) }
+    ensures unchanged { OnErr result (entries_in index.new ≡ entries_in index.old) }
 {
     match index {
-        Some(index) => index,
-        None => HashMap::new(alloc),
+        Some(made) => {
+            made.insert(key, value)?;
+            Ok(())
+        }
+        None => {
+            let mut made = HashMap::new(alloc);
+            made.insert(key, value)?;
+            *index = Some(made);
+            Ok(())
+        }
     }
 }

@@ -7,7 +7,7 @@ ghost use Rattle.rule_plan.specs.Made.{store_with, with_solved, is_added, IsNewS
 use akl_terms::{Equation, Name};
 use guard_plan::shared;
 use local_store::{Chain, Shared, Store, ToldStore, told};
-use rational_unify::{Solved, solve};
+use rational_unify::{Solved, solve_only};
 use std::alloc::{AllocError, Global};
 
 // A new store with the frame over the stores of a chain, to which the equations are told, and whether the chain is known
@@ -36,11 +36,11 @@ fn over_solved(
     requires { IsSolvedChain chain.now.nodes chain.now.stores }
     ensures { IfOk result (λ r. IsNewStore chain.now.nodes chain.now.stores frame equations.now r.0 r.1) }
 {
-    let solution = solve(alloc, chain.templates(), chain, equations)?;
+    let solved = solve_only(alloc, chain.templates(), chain, equations)?;
     let mut store = Store::new(alloc);
     store.add_frame(frame)?;
-    let solved = add_solved(&mut store, &solution.solved)?;
-    Ok((store, solved))
+    let consistent = add_solved(&mut store, &solved)?;
+    Ok((store, consistent))
 }
 
 // A store also has what was found for equations. Answers whether they are consistent.
