@@ -1,5 +1,5 @@
 -- A climb from a box to its root box.
-use Rattle.std.proofs.Common.{◌≡◌, ◌+◌, ◌<◌, List, [], ◌∷◌, ◌++◌, length, reverse, Some, None, refl, sym, ap, subst, ◌∙◌, arith, append_assoc, append-nil}
+use Rattle.std.proofs.Common.{◌≡◌, ◌+◌, ◌<◌, List, [], ◌∷◌, ◌++◌, length, reverse, Option, Some, None, refl, sym, ap, subst, ◌∙◌, arith, append_assoc, append-nil}
 use Rattle.std.proofs.lemmas.List.{length-append}
 use Rattle.std.specs.Prelude.{option_map}
 use Rattle.std.specs.Map.{lookup}
@@ -7,12 +7,15 @@ use Rattle.akl_terms.specs.declared.name.Name.{Name}
 use Rattle.akl_model.proofs.Options.{some_value}
 use Rattle.local_store.specs.Stored.{Stored}
 use Rattle.table_laws.specs.Rows.{Table, store_in, stores_along}
+use Rattle.table_laws.specs.Walks.{alternatives_in, alternatives_of}
 use Rattle.akl_terms.specs.declared.name.Place.{Place}
 use Rattle.akl_terms.specs.Names.{same_name}
 use Rattle.box_tree.specs.declared.entries.BoxEntry.{BoxEntry}
 use Rattle.box_tree.specs.declared.entries.GoalEntry.{GoalEntry}
 use Rattle.box_tree.specs.declared.view.Sight.{Sight}
-use Rattle.box_tree.specs.Tables.{TableValue, table_of}
+use Rattle.box_tree.specs.declared.standing.Standing.{Standing}
+use Rattle.box_tree.specs.Tables.{TableValue, table_of, goal_row, shape_held}
+use Rattle.box_tree.specs.Standings.{IsStandingAt}
 use Rattle.box_tree.specs.Paths.{outside_of, Deep, HasPath, IsPath, sight_held, sight_in}
 
 -- the names so far, innermost first, and those that are still around
@@ -62,6 +65,15 @@ module _ (t : TableValue) (n : Name) where
 
   pub box_sight : (e : BoxEntry) → lookup (same_name n) t.boxes ≡ Some e → Some (n, Sight.Box e.failing) ≡ sight_in t (Place.Box n)
   box_sight e i = sym (ap (option_map (λ (e : BoxEntry). (n, Sight.Box e.failing))) i)
+
+-- a goal stands in its box
+pub goal_standing : (t : TableValue) (n : Name) (e : GoalEntry) (s : Standing) → lookup (same_name n) t.goals ≡ Some e → s.sight ≡ sight_held e.held → lookup (same_name s.home) t.boxes ≡ Some s.entry.now → s.home ≡ e.home
+    → s.alternatives.now ≡ alternatives_in (shape_held t.program.templates.nodes e.held) → IsStandingAt t (Place.Goal n) s
+goal_standing t n e s there sight home named names = record {
+  sight = sym (goal_sight t n e s.sight sight there) ∙ ap (λ (h : Name). Some (h, s.sight)) (sym named);
+  entry = home;
+  alternatives = names ∙ sym (ap (λ (o : Option GoalEntry). alternatives_of (option_map (goal_row t.program.templates.nodes) o)) there);
+}
 
 -- stores along a path
 

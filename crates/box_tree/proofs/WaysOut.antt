@@ -4,11 +4,16 @@ use Rattle.std.proofs.lemmas.List.{length-append, reverse-append}
 use Rattle.akl_terms.specs.declared.name.Name.{Name}
 use Rattle.akl_model.proofs.Options.{some_value}
 use Rattle.local_store.specs.Stored.{Stored}
-use Rattle.table_laws.specs.Rows.{Table, store_in, stores_along}
+use Rattle.std.specs.Prelude.{option_map}
+use Rattle.std.specs.Map.{lookup}
+use Rattle.akl_terms.specs.Names.{same_name}
+use Rattle.table_laws.specs.Writes.{holder_in_row}
+use Rattle.box_tree.specs.declared.entries.BoxEntry.{BoxEntry}
+use Rattle.table_laws.specs.Rows.{BoxRow, Table, store_in, stores_along}
 use Rattle.box_tree.specs.declared.way.Way.{Way}
-use Rattle.box_tree.specs.Tables.{TableValue, table_of}
-use Rattle.box_tree.specs.Paths.{outside_of, Deep, HasPath, solving_in}
-use Rattle.box_tree.specs.Ways.{Passes, IsWay}
+use Rattle.box_tree.specs.Tables.{TableValue, table_of, box_row}
+use Rattle.box_tree.specs.Paths.{home_at, outside_of, Deep, HasPath, solving_in}
+use Rattle.box_tree.specs.Ways.{Begins, Passes, IsWay}
 use Rattle.box_tree.proofs.Looks.{last_end, stores_append}
 
 -- a box, if there is one, and those around it, innermost first
@@ -37,7 +42,7 @@ pub record HasPassed (t : TableValue) (n : Name) (at : Option Name) (w : Way) : 
   pub stores : w.stores.items ≡ stores_along (table_of t) w.path.items
   pub last : (m : Name) (ms : List Name) → reverse w.path.items ≡ m ∷ ms → w.solving ≡ solving_in ((table_of t).box_of m)
 
-pub way_begin : (t : TableValue) (n : Name) (w : Way) → w.path.items ≡ [] → w.stores.items ≡ [] → HasPath t n → HasPassed t n (Some n) w
+way_begin : (t : TableValue) (n : Name) (w : Way) → w.path.items ≡ [] → w.stores.items ≡ [] → HasPath t n → HasPassed t n (Some n) w
 way_begin t n w p s h =
     let l : length h.0 < length t.boxes = h.2 in
     let none : length w.path.items ≡ 0 = ap length p in
@@ -83,6 +88,21 @@ module _ (t : TableValue) (n at : Name) (before now : Way) (outside : Option Nam
               },
               omega arith,
             )
+
+-- the first box was passed
+pub way_first : (t : TableValue) (n : Name) (e : BoxEntry) (outside : Option Name) (w : Way) → HasPath t n → lookup (same_name n) t.boxes ≡ Some e → Begins n (box_row t.program.templates.nodes e) w → outside ≡ home_at (table_of t) e.holder
+    → HasPassed t n outside w
+way_first t n e outside w h there b around =
+    let row : (table_of t).box_of n ≡ Some (box_row t.program.templates.nodes e) = ap (option_map (box_row t.program.templates.nodes)) there in
+    (way_step t n n none w outside (record {
+      path = b.path;
+      stores = b.stores ∙ sym (ap (λ (o : Option BoxRow). store_in o ∷ []) row);
+      solving = b.solving ∙ sym (ap solving_in row);
+      around = around ∙ sym (ap (λ (o : Option BoxRow). home_at (table_of t) (holder_in_row o)) row);
+    }) (way_begin t n none refl refl h)).0
+  where
+    none : Way
+    none = record { path = record { items = [] }; stores = record { items = [] }; solving = (None, 0) }
 
 pub way_end : (t : TableValue) (n : Name) (before now : Way) → HasPassed t n None before → now.path.items ≡ reverse before.path.items → now.stores.items ≡ reverse before.stores.items → now.solving ≡ before.solving → IsWay (table_of t) n now
 way_end t n before now h p s v = on h.rest h.left h.parts

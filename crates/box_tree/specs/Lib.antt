@@ -4,6 +4,7 @@ pub mod Starts
 pub mod Views
 pub mod Paths
 pub mod Ways
+pub mod Standings
 pub mod Plans
 pub mod Drops
 pub mod Insides

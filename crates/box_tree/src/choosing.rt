@@ -1,22 +1,24 @@
 //! What is seen of the alternatives of a choice.
 
-ghost use Rattle.std.specs.Prelude.{◌≡◌, List, map, Some, IfOk};
-ghost use Rattle.akl_terms.specs.declared.name.Name.{Name};
+ghost use Rattle.std.specs.Prelude.{◌≡◌, ◌∷◌, [], List, map, Some, IfOk};
+ghost use Rattle.std.specs.Map.{lookup};
 ghost use Rattle.akl_terms.specs.declared.term.Node.{Node};
+ghost use Rattle.akl_terms.specs.Names.{same_name};
 ghost use Rattle.table_laws.specs.Walks.{alternatives_in, alternatives_of};
-ghost use Rattle.box_tree.specs.Tables.{table_of, goal_atom, shape_held};
-ghost use Rattle.box_tree.specs.Paths.{sight_in, names_at, known_with, seen_as, body_in, body_of_only};
+ghost use Rattle.box_tree.specs.Tables.{TableValue, table_of, goal_atom, shape_held};
+ghost use Rattle.box_tree.specs.Paths.{known_with, seen_as, body_in, body_of_only};
 
-use crate::entries::Held;
+use crate::entries::{BoxEntry, Held};
 use crate::looking::is_at_least;
+use crate::starting::only;
 use crate::table::Table;
-use crate::view::{Alternative, Sight};
-use akl_terms::{Goal, Name, Place};
+use crate::view::Alternative;
+use akl_terms::{Goal, Name};
 use std::alloc::{AllocError, Global};
 
 impl Held {
     // The alternatives of a choice.
-    fn alternatives(&self) -> &[Name]
+    pub(crate) fn alternatives(&self) -> &[Name]
         ensures { (nodes : List Node) → result.now ≡ alternatives_in (shape_held nodes self.now) }
     {
         match self {
@@ -37,6 +39,27 @@ fn known_with(solved_at: Option<u64>, known: usize, latest: Option<u64>, whole: 
     }
 }
 
+impl BoxEntry {
+    // What is seen of an alternative, of which this is the entry. An `Err` comes for want of memory.
+    fn seen(
+        &self,
+        name: Name,
+        known: usize,
+        latest: Option<u64>,
+        whole: usize,
+    ) -> Result<Alternative, AllocError>
+        ensures { (t : TableValue) → lookup (same_name name) t.boxes ≡ Some self.now → IfOk result (λ a. a ≡ seen_as (table_of t) known latest whole name) }
+    {
+        let store = self.store.share()?;
+        Ok(Alternative {
+            name,
+            solved: self.goals.is_empty(),
+            store,
+            known: known_with(self.solved_at, known, latest, whole),
+        })
+    }
+}
+
 impl Table {
     /// The alternatives of a goal in order, where it is a choice; none of another, and where it isn't there.
     pub fn alternatives_of(&self, goal: Name) -> &[Name]
@@ -45,26 +68,6 @@ impl Table {
         match self.goals.get(&goal) {
             Some(entry) => entry.held.alternatives(),
             None => &[],
-        }
-    }
-
-    // The alternatives of the choice at a place.
-    fn names_at(&self, place: Place) -> &[Name]
-        ensures { result.now ≡ names_at (table_of self.now) place }
-    {
-        match place {
-            Place::Goal(goal) => self.alternatives_of(goal),
-            Place::Box(_) => &[],
-        }
-    }
-
-    /// The alternatives of the choice at a place, of which this is seen. Nothing is looked up where it is no choice.
-    pub(crate) fn names_seen(&self, place: Place, sight: Sight) -> &[Name]
-        ensures { (home : Name) → sight_in self.now place ≡ Some (home, sight) → result.now ≡ names_at (table_of self.now) place }
-    {
-        match sight {
-            Sight::Choice { op: _ } => self.names_at(place),
-            Sight::Atom(_) | Sight::Box { failing: _ } => &[],
         }
     }
 
@@ -81,19 +84,11 @@ impl Table {
         let Some(entry) = self.boxes.get(&name) else {
             return Err(AllocError);
         };
-        let store = entry.store.share()?;
-        Ok(Alternative {
-            name,
-            solved: entry.goals.is_empty(),
-            store,
-            known: known_with(entry.solved_at, known, latest, whole),
-        })
+        entry.seen(name, known, latest, whole)
     }
 
-    /// What is seen of alternatives. So many of the stores around them are known to be solved together; where these are all,
-    /// the latest change of one of them is given. The whole is how many stores there are down to each, with its own. An
-    /// `Err` comes for want of memory, and where one of them isn't there.
-    pub(crate) fn alternatives_seen(
+    // What is seen of alternatives, of which none is looked at for its body.
+    fn alternatives_seen(
         &self,
         alloc: Global,
         names: &[Name],
@@ -111,30 +106,48 @@ impl Table {
         Ok(seen)
     }
 
-    // The body of a box; no goals of one that isn't there.
-    fn body_of(&self, alloc: Global, name: Name) -> Result<Vec<Goal>, AllocError>
-        ensures { IfOk result (λ v. map (goal_atom self.now.program.templates.nodes) v.items ≡ body_in ((table_of self.now).box_of name)) }
+    // What is seen of the only alternative of a choice, and its body.
+    fn only_seen(
+        &self,
+        alloc: Global,
+        name: Name,
+        known: usize,
+        latest: Option<u64>,
+        whole: usize,
+    ) -> Result<(Vec<Alternative>, Vec<Goal>), AllocError>
+        ensures alternatives { IfOk result (λ p. p.0.items ≡ seen_as (table_of self.now) known latest whole name ∷ []) }
+        ensures body { IfOk result (λ p. map (goal_atom self.now.program.templates.nodes) p.1.items ≡ body_in ((table_of self.now).box_of name)) }
     {
-        match self.boxes.get(&name) {
-            Some(entry) => {
-                let body = Vec::from_slice(alloc, entry.body.as_slice())?;
-                Ok(body)
-            }
-            None => Ok(Vec::new(alloc)),
-        }
+        let Some(entry) = self.boxes.get(&name) else {
+            return Err(AllocError);
+        };
+        let alternative = entry.seen(name, known, latest, whole)?;
+        let alternatives = only(alloc, alternative)?;
+        let body = Vec::from_slice(alloc, entry.body.as_slice())?;
+        Ok((alternatives, body))
     }
 
-    /// The body of the only one of these boxes; no goals where there is none or more than one.
-    pub(crate) fn body_of_only(
+    /// What is seen of the alternatives of a choice, and the body of the only one; no goals where there is none or more
+    /// than one. So many of the stores around them are known to be solved together; where these are all, the latest change
+    /// of one of them is given. The whole is how many stores there are down to each, with its own. An `Err` comes for want
+    /// of memory, and where one of them isn't there.
+    pub(crate) fn choice_seen(
         &self,
         alloc: Global,
         names: &[Name],
-    ) -> Result<Vec<Goal>, AllocError>
-        ensures { IfOk result (λ v. map (goal_atom self.now.program.templates.nodes) v.items ≡ body_of_only (table_of self.now) names.now) }
+        known: usize,
+        latest: Option<u64>,
+        whole: usize,
+    ) -> Result<(Vec<Alternative>, Vec<Goal>), AllocError>
+        ensures alternatives { IfOk result (λ p. p.0.items ≡ map (seen_as (table_of self.now) known latest whole) names.now) }
+        ensures body { IfOk result (λ p. map (goal_atom self.now.program.templates.nodes) p.1.items ≡ body_of_only (table_of self.now) names.now) }
     {
         match names {
-            [name] => self.body_of(alloc, *name),
-            _ => Ok(Vec::new(alloc)),
+            [name] => self.only_seen(alloc, *name, known, latest, whole),
+            _ => {
+                let seen = self.alternatives_seen(alloc, names, known, latest, whole)?;
+                Ok((seen, Vec::new(alloc)))
+            }
         }
     }
 }

@@ -1,14 +1,14 @@
 //! A box goes with all that stands in it.
 
-ghost use Rattle.std.specs.Prelude.{◌≡◌, ◌+◌, List, option_map};
+ghost use Rattle.std.specs.Prelude.{◌≡◌, ◌+◌, List, Some, option_map};
 ghost use Rattle.akl_terms.specs.declared.term.Node.{Node};
 ghost use Rattle.table_laws.specs.Writes.{set, less_name, less_alternative, none_left, left_row, held_without, holder_in_row, Fails};
 ghost use Rattle.table_laws.specs.Walks.{ListsInside};
-ghost use Rattle.box_tree.specs.Tables.{table_of, shape_held};
+ghost use Rattle.box_tree.specs.Tables.{table_of, goal_row, shape_held};
 ghost use Rattle.box_tree.specs.Edits.{SetsGoals};
 ghost use Rattle.box_tree.specs.Drops.{emptied_home, HasRows};
 
-use crate::entries::Held;
+use crate::entries::{GoalEntry, Held};
 use crate::table::Table;
 use akl_terms::Name;
 
@@ -47,6 +47,19 @@ impl Held {
     }
 }
 
+impl GoalEntry {
+    // The home of a choice without alternatives.
+    fn emptied_home(&self) -> Option<Name>
+        ensures { (nodes : List Node) → result ≡ emptied_home (Some (goal_row nodes self.now)) }
+    {
+        if self.held.has_none() {
+            Some(self.home)
+        } else {
+            None
+        }
+    }
+}
+
 impl Table {
     /// The choice that holds a box; `None` of a root box, and where it isn't there.
     pub fn holder_of(&self, name: Name) -> Option<Name>
@@ -58,30 +71,17 @@ impl Table {
         }
     }
 
-    // A choice loses an alternative.
-    fn lose_alternative(&mut self, goal: Name, name: Name, number: u64)
-        ensures { SetsGoals self.old self.new (set goal (option_map (left_row name number) ((table_of self.old).goal_of goal)) (table_of self.old).goal_of) }
+    // A choice loses an alternative: its home, where it has none left.
+    fn lose_alternative(&mut self, goal: Name, name: Name, number: u64) -> Option<Name>
+        ensures lost { SetsGoals self.old self.new (set goal (option_map (left_row name number) ((table_of self.old).goal_of goal)) (table_of self.old).goal_of) }
+        ensures home { result ≡ emptied_home ((table_of self.new).goal_of goal) }
     {
-        if let Some(entry) = self.goals.get_mut(&goal) {
-            entry.held.lose(name);
-            entry.changed = number;
-        }
-    }
-
-    // The home of a choice without alternatives.
-    fn emptied_home(&self, goal: Name) -> Option<Name>
-        ensures { result ≡ emptied_home ((table_of self.now).goal_of goal) }
-    {
-        match self.goals.get(&goal) {
-            Some(entry) => {
-                if entry.held.has_none() {
-                    Some(entry.home)
-                } else {
-                    None
-                }
-            }
-            None => None,
-        }
+        let Some(entry) = self.goals.get_mut(&goal) else {
+            return None;
+        };
+        entry.held.lose(name);
+        entry.changed = number;
+        entry.emptied_home()
     }
 
     // What holds a box loses it: a choice, whose home may fail by it then, or the list of root boxes.
@@ -94,8 +94,7 @@ impl Table {
             self.roots_changed = number;
             return;
         };
-        self.lose_alternative(goal, name, number);
-        let home = self.emptied_home(goal);
+        let home = self.lose_alternative(goal, name, number);
         self.fail_by(home, goal);
     }
 

@@ -181,10 +181,7 @@ impl Table {
         ensures place { IfOk result (λ v. v.place ≡ place) }
         ensures seen { IfOk result (IsSeenBy self.now journal.now.items worker) }
     {
-        let Some((home, sight)) = self.sight_of(place) else {
-            return Err(AllocError);
-        };
-        let Ok(view) = self.view_of(alloc, journal, place, worker, home, sight) else {
+        let Ok(view) = self.look(alloc, journal, place, worker) else {
             return Err(AllocError);
         };
         Ok(view)

@@ -17,6 +17,7 @@ mod plan;
 mod promoting;
 mod short;
 mod splitting;
+mod standing;
 mod starting;
 mod step;
 mod table;

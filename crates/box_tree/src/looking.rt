@@ -1,18 +1,19 @@
 //! What is seen of a place.
 
-ghost use Rattle.std.specs.Prelude.{◌≡◌, List, ◌∷◌, IfOk, slice_index};
+ghost use Rattle.std.specs.Prelude.{◌≡◌, List, ◌∷◌, Some, IfOk, slice_index};
 ghost use Rattle.akl_terms.specs.declared.name.Name.{Name};
-ghost use Rattle.box_tree.specs.Tables.{table_of, goals_in};
+ghost use Rattle.akl_terms.specs.declared.term.Node.{Node};
+ghost use Rattle.box_tree.specs.Tables.{table_of, box_row, goals_in};
 ghost use Rattle.box_tree.specs.Paths.{home_at, outside_of, IsPath, HasPath, sight_held, sight_in, is_at_least, solving_in, known_in, latest_in};
 
-use crate::entries::Held;
+use crate::entries::{BoxEntry, Held};
 use crate::short::ShortList;
 use crate::table::Table;
 use crate::view::Sight;
 use akl_terms::{Name, Place};
 use std::alloc::{AllocError, Global};
 
-fn sight_held(held: &Held) -> Sight
+pub(crate) fn sight_held(held: &Held) -> Sight
     ensures { result ≡ sight_held held.now }
 {
     match held {
@@ -28,6 +29,15 @@ pub(crate) fn is_at_least(solved_at: Option<u64>, latest: u64) -> bool
     match solved_at {
         Some(at) => !(at < latest),
         None => false,
+    }
+}
+
+impl BoxEntry {
+    /// When its store was solved, and the number of the last label that changed it.
+    pub(crate) fn solving(&self) -> (Option<u64>, u64)
+        ensures { (nodes : List Node) → result ≡ solving_in (Some (box_row nodes self.now)) }
+    {
+        (self.solved_at, self.changed)
     }
 }
 
@@ -103,13 +113,17 @@ impl Table {
     }
 
     /// How many of the outermost boxes were solved when no box around them was changed later; where all were, also the
-    /// number of the last label that changed one of them. When the outermost was solved and last changed is known.
+    /// number of the last label that changed one of them. When the outermost was solved and last changed is known, and so
+    /// it is of the box with this name.
     pub(crate) fn known_of(
         &self,
         path: &[Name],
         outermost: (Option<u64>, u64),
+        home: Name,
+        solving: (Option<u64>, u64),
     ) -> (usize, Option<u64>)
-        requires { (n : Name) (ns : List Name) → path.now ≡ n ∷ ns → outermost ≡ solving_in ((table_of self.now).box_of n) }
+        requires home { solving ≡ solving_in ((table_of self.now).box_of home) }
+        requires outermost { (n : Name) (ns : List Name) → path.now ≡ n ∷ ns → outermost ≡ solving_in ((table_of self.now).box_of n) }
         ensures known { result.0 ≡ known_in (table_of self.now) 0 path.now }
         ensures latest { result.1 ≡ latest_in (table_of self.now) 0 path.now }
     {
@@ -123,7 +137,7 @@ impl Table {
         let mut known = 1;
         let mut latest = first_changed;
         for name in inner {
-            let (solved_at, changed) = self.solving_of(*name);
+            let (solved_at, changed) = self.solving_by(*name, home, solving);
             if !is_at_least(solved_at, latest) {
                 return (known, None);
             }
@@ -133,13 +147,30 @@ impl Table {
         (known, Some(latest))
     }
 
+    // When a box's store was solved, and the number of the last label that changed it, where this is known of one box.
+    fn solving_by(
+        &self,
+        name: Name,
+        home: Name,
+        solving: (Option<u64>, u64),
+    ) -> (Option<u64>, u64)
+        requires { solving ≡ solving_in ((table_of self.now).box_of home) }
+        ensures { result ≡ solving_in ((table_of self.now).box_of name) }
+    {
+        if name == home {
+            solving
+        } else {
+            self.solving_of(name)
+        }
+    }
+
     /// When a box's store was solved, and the number of the last label that changed it; `None` and 0 of a box that isn't
     /// there.
     pub(crate) fn solving_of(&self, name: Name) -> (Option<u64>, u64)
         ensures { result ≡ solving_in ((table_of self.now).box_of name) }
     {
         match self.boxes.get(&name) {
-            Some(entry) => (entry.solved_at, entry.changed),
+            Some(entry) => entry.solving(),
             None => (None, 0),
         }
     }

@@ -111,8 +111,8 @@ fn first_entry(
     })
 }
 
-// A list of one.
-fn only<T: Drop>(alloc: Global, value: T) -> Result<Vec<T>, AllocError>
+/// A list of one.
+pub(crate) fn only<T: Drop>(alloc: Global, value: T) -> Result<Vec<T>, AllocError>
     ensures { IfOk result (λ list. list.items ≡ value ∷ []) }
 {
     let mut list = Vec::new(alloc);

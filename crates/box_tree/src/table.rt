@@ -7,14 +7,13 @@ ghost use Rattle.table_laws.specs.Laws.{started};
 ghost use Rattle.table_laws.specs.Stamped.{IsTableOf, stamp_in};
 ghost use Rattle.box_tree.specs.Tables.{all_rules, table_of, MayApply, Applied, HasVariables, HasShownVariables, goals_in, is_empty, shown_in, shown_trees_of};
 ghost use Rattle.box_tree.specs.Kinds.{IsGoal, IsBox};
-ghost use Rattle.box_tree.specs.Paths.{sight_in};
 ghost use Rattle.box_tree.specs.Views.{run_of, is_there, IsUnseen, IsViewOf, AreAllPlaces};
 
 use crate::entries::{BoxEntry, GoalEntry};
 use crate::starting::after;
 use crate::step::Step;
 use crate::telling::solved_when;
-use crate::view::{LookError, Sight, View};
+use crate::view::{LookError, View};
 use crate::way::Way;
 use akl_model::{Item, Label};
 use akl_terms::{Name, Place, Program, Query, ShownTerm};
@@ -84,47 +83,27 @@ impl Table {
         ensures journal { IfOk result (λ v. v.journal ≡ journal.now.items) }
         ensures place { IfOk result (λ v. v.place ≡ place) }
         ensures worker { IfOk result (λ v. v.worker ≡ worker) }
-        ensures there { IfOk result (λ _. is_there (table_of self.now) place ≡ true) }
-        ensures unseen { IfErr result (IsUnseen (table_of self.now) place) }
-    {
-        let Some((home, sight)) = self.sight_of(place) else {
-            return Err(LookError::Gone);
-        };
-        self.view_of(alloc, journal, place, worker, home, sight)
-    }
-
-    /// What a worker sees of a place, where this stands in this box. An `Err` comes for want of memory.
-    pub(crate) fn view_of(
-        &self,
-        alloc: Global,
-        journal: &Vec<Label>,
-        place: Place,
-        worker: u32,
-        home: Name,
-        sight: Sight,
-    ) -> Result<View, LookError>
-        requires table { IsTableOf all_rules (run_of self.now journal.now.items) (table_of self.now) }
-        requires sight { sight_in self.now place ≡ Some (home, sight) }
-        ensures table { IfOk result (λ v. v.table ≡ self.now) }
-        ensures journal { IfOk result (λ v. v.journal ≡ journal.now.items) }
-        ensures place { IfOk result (λ v. v.place ≡ place) }
-        ensures worker { IfOk result (λ v. v.worker ≡ worker) }
         ensures seen { IfOk result IsViewOf }
         ensures there { IfOk result (λ _. is_there (table_of self.now) place ≡ true) }
         ensures unseen { IfErr result (IsUnseen (table_of self.now) place) }
     {
+        let standing = self.standing_at(place)?;
         let Way {
             path,
             stores,
             solving,
-        } = self.way_to(alloc, home)?;
-        let (known, latest) = self.known_of(path.as_slice(), solving);
+        } = self.way_to(alloc, standing.home, standing.entry)?;
+        let (known, latest) = self.known_of(
+            path.as_slice(),
+            solving,
+            standing.home,
+            standing.entry.solving(),
+        );
         let Some(whole) = path.as_slice().len().checked_add(1) else {
             return Err(LookError::Memory(AllocError));
         };
-        let names = self.names_seen(place, sight);
-        let alternatives = self.alternatives_seen(alloc, names, known, latest, whole)?;
-        let body = self.body_of_only(alloc, names)?;
+        let (alternatives, body) =
+            self.choice_seen(alloc, standing.alternatives, known, latest, whole)?;
         Ok(View {
             table: Snapshot::of(self),
             journal: Snapshot::of(journal),
@@ -135,7 +114,7 @@ impl Table {
             path,
             stores,
             known,
-            sight,
+            sight: standing.sight,
             alternatives,
             body,
         })

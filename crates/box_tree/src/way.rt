@@ -1,10 +1,14 @@
 //! The way from a box out to its root box.
 
-ghost use Rattle.std.specs.Prelude.{IfOk};
-ghost use Rattle.box_tree.specs.Tables.{table_of};
+ghost use Rattle.std.specs.Prelude.{◌≡◌, List, Some, IfOk};
+ghost use Rattle.std.specs.Map.{lookup};
+ghost use Rattle.akl_terms.specs.declared.term.Node.{Node};
+ghost use Rattle.akl_terms.specs.Names.{same_name};
+ghost use Rattle.box_tree.specs.Tables.{table_of, box_row};
 ghost use Rattle.box_tree.specs.Paths.{HasPath};
-ghost use Rattle.box_tree.specs.Ways.{Passes, IsWay};
+ghost use Rattle.box_tree.specs.Ways.{Begins, Passes, IsWay};
 
+use crate::entries::BoxEntry;
 use crate::short::ShortList;
 use crate::table::Table;
 use akl_terms::Name;
@@ -22,6 +26,18 @@ pub(crate) struct Way {
 }
 
 impl Way {
+    // The way that passed one box. An `Err` comes for want of memory.
+    fn of(name: Name, entry: &BoxEntry) -> Result<Way, AllocError>
+        ensures { IfOk result (λ way. (nodes : List Node) → Begins name (box_row nodes entry.now) way) }
+    {
+        let store = entry.store.share()?;
+        Ok(Way {
+            path: ShortList::of(name),
+            stores: ShortList::of(store),
+            solving: entry.solving(),
+        })
+    }
+
     // A box is passed: the box around it. An `Err` comes for want of memory, and where the box isn't there.
     fn pass(&mut self, alloc: Global, table: &Table, name: Name) -> Result<Option<Name>, AllocError>
         ensures { IfOk result (λ outside. Passes (table_of table.now) name self.old outside self.new) }
@@ -32,24 +48,26 @@ impl Way {
         self.path.push(alloc, name)?;
         let store = entry.store.share()?;
         self.stores.push(alloc, store)?;
-        self.solving = (entry.solved_at, entry.changed);
+        self.solving = entry.solving();
         Ok(table.home_around(entry.holder))
     }
 }
 
 impl Table {
-    /// The way from a box out to its root box, which looks up each box and each choice around it once. An `Err` comes for
-    /// want of memory, and where the box isn't there.
-    pub(crate) fn way_to(&self, alloc: Global, name: Name) -> Result<Way, AllocError>
-        requires { HasPath self.now name }
+    /// The way from a box, of which this is the entry, out to its root box, which looks up each choice and each box around
+    /// it once. An `Err` comes for want of memory, and where one of them isn't there.
+    pub(crate) fn way_to(
+        &self,
+        alloc: Global,
+        name: Name,
+        entry: &BoxEntry,
+    ) -> Result<Way, AllocError>
+        requires path { HasPath self.now name }
+        requires entry { lookup (same_name name) self.now.boxes ≡ Some entry.now }
         ensures { IfOk result (IsWay (table_of self.now) name) }
     {
-        let mut way = Way {
-            path: ShortList::new(),
-            stores: ShortList::new(),
-            solving: (None, 0),
-        };
-        let mut at = Some(name);
+        let mut way = Way::of(name, entry)?;
+        let mut at = self.home_around(entry.holder);
         while let Some(here) = at {
             at = way.pass(alloc, self, here)?;
         }

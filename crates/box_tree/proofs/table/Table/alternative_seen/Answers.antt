@@ -1,17 +1,7 @@
-use Rattle.std.proofs.Common.{◌≡◌, Option, ap, sym, ◌∙◌, rules}
-use Rattle.std.specs.Prelude.{option_map}
-use Rattle.table_laws.specs.Rows.{BoxRow, store_in}
-use Rattle.box_tree.specs.Tables.{TableValue, box_row, goals_in, is_empty}
-use Rattle.box_tree.specs.Paths.{solving_in, known_with}
+use Rattle.std.proofs.Common.{ap}
+use Rattle.box_tree.specs.Tables.{TableValue}
 use Rattle.box_tree.proofs.Maps.{found_at}
 use Rattle.box_tree.proofs.table.Table.alternative_seen.Goals as goal
 
 pub returns : goal.returns
-returns c =
-    let t : TableValue = c.args.self.now in
-    let row = ap (option_map (box_row t.program.templates.nodes)) (found_at c.args.name c.self.inside.boxes t.boxes c.in-Some.entry.now (ap (λ (v : TableValue). v.boxes) c.self.view_is) c.in-Some.ensures.value) in
-    let empty : c.is_empty.result ≡ is_empty c.in-Some.entry.now.goals.keys = search rules in
-    let solved = empty ∙ sym (ap (λ (o : Option BoxRow). is_empty (goals_in o)) row) in
-    let store = c.in_ok-store.ensures ∙ sym (ap store_in row) in
-    let known = c.known_with.ensures ∙ sym (ap (λ (o : Option BoxRow). known_with (solving_in o).0 c.args.known c.args.latest c.args.whole) row) in
-    λ i. record { name = c.args.name; solved = solved i; store = store i; known = known i }
+returns c = c.seen.ensures c.args.self.now (found_at c.args.name c.self.inside.boxes c.args.self.now.boxes c.in-Some.entry.now (ap (λ (v : TableValue). v.boxes) c.self.view_is) c.in-Some.ensures.value)

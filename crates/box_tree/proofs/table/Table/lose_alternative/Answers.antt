@@ -1,25 +1,20 @@
-use Rattle.std.proofs.Common.{refl, sym, ap, ◌∙◌}
+use Rattle.std.proofs.Common.{◌≡◌, Option, Some, refl, sym, ap, ◌∙◌, subst}
+use Rattle.std.specs.Prelude.{option_map}
 use Rattle.std.specs.Option.{option_copied_mut}
+use Rattle.std.specs.BTreeMap.{get}
+use Rattle.akl_terms.specs.contracts.name.NameOrd.TheImpl.{cmp-value}
 use Rattle.akl_model.specs.Changes.{Shape}
-use Rattle.table_laws.specs.Writes.{left_row}
+use Rattle.table_laws.specs.Writes.{set, left_row}
 use Rattle.box_tree.specs.declared.entries.GoalEntry.{GoalEntry}
-use Rattle.box_tree.specs.Tables.{TableValue, goal_row}
+use Rattle.box_tree.specs.Tables.{TableValue, table_of, goal_row}
+use Rattle.box_tree.specs.Edits.{SetsGoals}
+use Rattle.box_tree.specs.Drops.{emptied_home}
 use Rattle.box_tree.proofs.Maps.{is_some_if}
-use Rattle.box_tree.proofs.Written.{writes_goal, writes_no_goal}
+use Rattle.box_tree.proofs.Written.{writes_goal}
 use Rattle.box_tree.proofs.table.Table.lose_alternative.Goals as goal
-use Rattle.box_tree.proofs.table.Table.lose_alternative.Goals.{in-Some, in_default}
 
-pub returns : goal.returns
-returns c =
-    let t : TableValue = record { program = c.self.inside.program.value; query = c.self.inside.query.value; boxes = c.self.inside.boxes.entries; goals = c.self.inside.goals.entries; roots = c.self.inside.roots.items; roots_changed = c.self.inside.roots_changed; next = c.self.inside.next.items; steps = c.self.inside.steps } in
-    elim c.match-get_mut.branch [
-      | in-Some w ↦
-          let old : GoalEntry = w.in-Some.entry.now in
-          let is = sym c.get_mut.follows.claims.0 ∙ ap option_copied_mut w.in-Some.is in
-          let new : GoalEntry = record { home = old.home; held = w.lose.new.self; changed = c.args.number } in
-          rw w.self-inside-is (rw (sym c.self.view_is) (writes_goal t (left_row c.args.name c.args.number) c.args.goal c.self.inside.goals (c.get_mut.follows.lender new) old new refl is (((c.get_mut.follows.holds new).3 (is_some_if _ old is)).0)
-          (ap (λ (s : Shape). record (goal_row t.program.templates.nodes new) { shape = s }) (w.lose.ensures t.program.templates.nodes))))
-      | in_default w ↦
-          let none = sym c.get_mut.follows.claims.0 ∙ ap option_copied_mut w.in_default.is in
-          rw w.self-inside-is (rw (sym c.self.view_is) (writes_no_goal t (left_row c.args.name c.args.number) c.args.goal c.self.inside.goals c.get_mut.follows.lender-at-none refl none c.get_mut.follows.holds-at-none))
-    ]
+pub returns-clause-lost : goal.returns-clause-lost
+returns-clause-lost c = ?
+
+pub returns-clause-home : goal.returns-clause-home
+returns-clause-home c = ?

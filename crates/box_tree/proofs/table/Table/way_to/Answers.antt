@@ -1,10 +1,10 @@
-use Rattle.std.proofs.Common.{Option, None, refl, subst}
+use Rattle.std.proofs.Common.{Option, refl, subst}
 use Rattle.akl_terms.specs.declared.name.Name.{Name}
-use Rattle.box_tree.proofs.WaysOut.{HasPassed, way_begin, way_step, way_end}
+use Rattle.box_tree.proofs.WaysOut.{HasPassed, way_first, way_step, way_end}
 use Rattle.box_tree.proofs.table.Table.way_to.Goals as goal
 
 pub loop-at-init : goal.loop-at-init
-loop-at-init c = way_begin c.args.self.now c.args.name (record { path = c.new.result; stores = c.new-2.result; solving = (None, 0) }) c.new.ensures c.new-2.ensures c.requires
+loop-at-init c = way_first c.args.self.now c.args.name c.args.entry.now c.home_around-at.result c.in_ok-way.way c.requires.path c.requires.entry (c.in_ok-way.ensures c.args.self.now.program.templates.nodes) c.home_around-at.ensures
 
 pub loop-at-preserved : goal.loop-at-preserved
 loop-at-preserved c =
