@@ -10,7 +10,7 @@ use Rattle.std.specs.declared.cmp.Ordering.{Ordering}
 use Rattle.akl_terms.specs.declared.name.Name.{Name}
 use Rattle.akl_terms.specs.contracts.name.NameOrd.TheImpl.{cmp-value}
 use Rattle.akl_terms.specs.Names.{same_name}
-use Rattle.akl_terms.proofs.SameNames.{same_name-equal}
+use Rattle.akl_terms.proofs.SameNames.{same_name-equal, same_name-refl}
 use Rattle.akl_model.proofs.Options.{some_value}
 use Rattle.table_laws.specs.Writes.{set, less_name}
 
@@ -78,6 +78,10 @@ module _ {X Y : Type 0} (f : X → Y) (change : Y → Y) (n : Name) (t u : BTree
           → option_map f (lookup (same_name m) t.entries) ≡ (if s then option_map change (option_map f (lookup (same_name n) t.entries)) else option_map f (lookup (same_name m) t.entries))
       on false e h = refl
       on true e h = ap (λ (k : Name). option_map f (lookup (same_name k) t.entries)) (same_name-equal m n e) ∙ ap (option_map f) h ∙ sym (ap (λ (o : Option X). option_map change (option_map f o)) h)
+
+-- what was put is found
+pub put_there : {X : Type 0} (n : Name) (t u : BTreeMap Name X) (w : Option X) → ((q : Name) → get cmp-value.it u q ≡ cond (is_at (cmp-value.it n) q) w (get cmp-value.it t q)) → lookup (same_name n) u.entries ≡ w
+put_there n t u w puts = sym (get_is n u) ∙ puts n ∙ ap (λ (b : Bool). cond b w (get cmp-value.it t n)) (same_is n n ∙ same_name-refl n)
 
 pub is_some_if : {A : Type 0} (o : Option A) (x : A) → o ≡ Some x → IsSome o
 is_some_if None x e = cc

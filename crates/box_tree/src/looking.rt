@@ -148,12 +148,7 @@ impl Table {
     }
 
     // When a box's store was solved, and the number of the last label that changed it, where this is known of one box.
-    fn solving_by(
-        &self,
-        name: Name,
-        home: Name,
-        solving: (Option<u64>, u64),
-    ) -> (Option<u64>, u64)
+    fn solving_by(&self, name: Name, home: Name, solving: (Option<u64>, u64)) -> (Option<u64>, u64)
         requires { solving ≡ solving_in ((table_of self.now).box_of home) }
         ensures { result ≡ solving_in ((table_of self.now).box_of name) }
     {

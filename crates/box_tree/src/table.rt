@@ -102,8 +102,13 @@ impl Table {
         let Some(whole) = path.as_slice().len().checked_add(1) else {
             return Err(LookError::Memory(AllocError));
         };
-        let (alternatives, body) =
-            self.choice_seen(alloc, standing.alternatives, known, latest, whole)?;
+        let (alternatives, body) = self.choice_seen(
+            alloc,
+            standing.alternatives,
+            known,
+            latest,
+            whole,
+        )?;
         Ok(View {
             table: Snapshot::of(self),
             journal: Snapshot::of(journal),

@@ -30,7 +30,7 @@ invariant_of-result-2 c =
     let whole : c.in-Some.whole ≡ length path + 1 = omega (arith, c.in-Some.ensures, c.len.ensures, ap length c.as_slice-2.ensures.value) in
     let names : standing.alternatives.now ≡ names_at T c.args.place = c.in_ok-standing.ensures.standing.alternatives in
     rw (c.of.ensures, c.of-2.ensures) (view_of c.args.self.now c.args.journal.now.items c.requires c.args.place c.args.worker standing.home standing.sight path way.stores.items c.known_of-known.result.0 c.next_of.result
-    c.in_ok-alternatives.field-0.items c.in_ok-alternatives.field-1.items c.in_ok-standing.ensures.standing.sight c.in_ok-path.ensures.path c.in_ok-path.ensures.stores known c.next_of.ensures
+    c.in_ok-alternatives.alternatives.items c.in_ok-alternatives.body.items c.in_ok-standing.ensures.standing.sight c.in_ok-path.ensures.path c.in_ok-path.ensures.stores known c.next_of.ensures
     (c.in_ok-alternatives.ensures.alternatives ∙ (λ i. map (seen_as T (known i) (latest i) (whole i)) (names i))) (c.in_ok-alternatives.ensures.body ∙ ap (body_of_only T) names))
 
 pub returns-clause-seen : goal.returns-clause-seen
@@ -44,5 +44,5 @@ returns-clause-seen c =
     let whole : c.in-Some.whole ≡ length path + 1 = omega (arith, c.in-Some.ensures, c.len.ensures, ap length c.as_slice-2.ensures.value) in
     let names : standing.alternatives.now ≡ names_at T c.args.place = c.in_ok-standing.ensures.standing.alternatives in
     rw (c.of.ensures, c.of-2.ensures) (view_of c.args.self.now c.args.journal.now.items c.requires c.args.place c.args.worker standing.home standing.sight path way.stores.items c.known_of-known.result.0 c.next_of.result
-    c.in_ok-alternatives.field-0.items c.in_ok-alternatives.field-1.items c.in_ok-standing.ensures.standing.sight c.in_ok-path.ensures.path c.in_ok-path.ensures.stores known c.next_of.ensures
+    c.in_ok-alternatives.alternatives.items c.in_ok-alternatives.body.items c.in_ok-standing.ensures.standing.sight c.in_ok-path.ensures.path c.in_ok-path.ensures.stores known c.next_of.ensures
     (c.in_ok-alternatives.ensures.alternatives ∙ (λ i. map (seen_as T (known i) (latest i) (whole i)) (names i))) (c.in_ok-alternatives.ensures.body ∙ ap (body_of_only T) names))

@@ -9,12 +9,25 @@ use Rattle.box_tree.specs.declared.entries.GoalEntry.{GoalEntry}
 use Rattle.box_tree.specs.Tables.{TableValue, table_of, goal_row}
 use Rattle.box_tree.specs.Edits.{SetsGoals}
 use Rattle.box_tree.specs.Drops.{emptied_home}
-use Rattle.box_tree.proofs.Maps.{is_some_if}
+use Rattle.box_tree.proofs.Maps.{is_some_if, put_there}
 use Rattle.box_tree.proofs.Written.{writes_goal}
 use Rattle.box_tree.proofs.table.Table.lose_alternative.Goals as goal
 
 pub returns-clause-lost : goal.returns-clause-lost
-returns-clause-lost c = ?
+returns-clause-lost c =
+    let t : TableValue = record { program = c.self.inside.program.value; query = c.self.inside.query.value; boxes = c.self.inside.boxes.entries; goals = c.self.inside.goals.entries; roots = c.self.inside.roots.items; roots_changed = c.self.inside.roots_changed; next = c.self.inside.next.items; steps = c.self.inside.steps } in
+    let old : GoalEntry = c.in-Some.entry.now in
+    let is : get cmp-value.it c.self.inside.goals c.args.goal ≡ Some old = sym c.get_mut.follows.claims.0 ∙ ap option_copied_mut c.in-Some.is in
+    let new : GoalEntry = record { home = old.home; held = c.lose.new.self; changed = c.args.number } in
+    subst (λ (v : TableValue). SetsGoals v (record t { goals = (c.get_mut.follows.lender new).entries }) (set c.args.goal (option_map (left_row c.args.name c.args.number) ((table_of v).goal_of c.args.goal)) (table_of v).goal_of)) c.self.view_is
+    (writes_goal t (left_row c.args.name c.args.number) c.args.goal c.self.inside.goals (c.get_mut.follows.lender new) old new refl is (((c.get_mut.follows.holds new).3 (is_some_if _ old is)).0)
+    (ap (λ (s : Shape). record (goal_row t.program.templates.nodes new) { shape = s }) (c.lose.ensures t.program.templates.nodes)))
 
 pub returns-clause-home : goal.returns-clause-home
-returns-clause-home c = ?
+returns-clause-home c =
+    let old : GoalEntry = c.in-Some.entry.now in
+    let is : get cmp-value.it c.self.inside.goals c.args.goal ≡ Some old = sym c.get_mut.follows.claims.0 ∙ ap option_copied_mut c.in-Some.is in
+    let new : GoalEntry = record { home = old.home; held = c.lose.new.self; changed = c.args.number } in
+    c.emptied_home.ensures c.self.inside.program.value.templates.nodes
+    ∙ sym (ap (λ (o : Option GoalEntry). emptied_home (option_map (goal_row c.self.inside.program.value.templates.nodes) o))
+    (put_there c.args.goal c.self.inside.goals (c.get_mut.follows.lender new) (Some new) (((c.get_mut.follows.holds new).3 (is_some_if _ old is)).0)))

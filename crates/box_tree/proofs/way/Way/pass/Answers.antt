@@ -15,6 +15,6 @@ returns c =
     record {
       path = c.in_ok-push.ensures;
       stores = c.in_ok-push-2.ensures ∙ ap (λ (s : Stored). c.args.self.now.stores.items ++ s ∷ []) (c.in_ok-store.ensures ∙ sym (ap store_in row));
-      solving = sym (ap solving_in row);
+      solving = c.solving-self.ensures t.program.templates.nodes ∙ sym (ap solving_in row);
       around = c.home_around.ensures ∙ sym (ap (λ (o : Option BoxRow). home_at (table_of t) (holder_in_row o)) row);
     }
