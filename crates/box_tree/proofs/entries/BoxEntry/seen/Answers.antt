@@ -1,7 +1,7 @@
 use Rattle.std.proofs.Common.{◌≡◌, Option, ap, sym, ◌∙◌, rules}
 use Rattle.std.specs.Prelude.{option_map}
 use Rattle.table_laws.specs.Rows.{BoxRow, store_in}
-use Rattle.box_tree.specs.Tables.{TableValue, box_row, goals_in, is_empty}
+use Rattle.box_tree.specs.Tables.{box_row, goals_in, is_empty}
 use Rattle.box_tree.specs.Paths.{solving_in, known_with}
 use Rattle.box_tree.proofs.entries.BoxEntry.seen.Goals as goal
 
