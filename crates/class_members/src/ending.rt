@@ -7,6 +7,7 @@ ghost use Rattle.class_members.specs.Listed.{AreEnds, EndsAmong};
 
 use akl_terms::{Templates, Var};
 use rational_unify::{Lookup, variable_end};
+use smallvec::SmallVec;
 use std::alloc::{AllocError, Global};
 use std::collections::HashSet;
 use std::marker::Model;
@@ -18,8 +19,10 @@ pub const FEW: usize = 8;
 /// the rest by a set.
 #[derive(Drop)]
 pub struct Ends {
-    list: Vec<Var>,
-    rest: HashSet<Var>,
+    alloc: Global,
+    list: SmallVec<Var, 4>,
+    // Made for the first end behind these.
+    rest: Option<HashSet<Var>>,
 }
 
 impl Model for Ends {
@@ -68,11 +71,11 @@ impl Ends {
         }
     }
 
-    /// The ends in order. It takes no memory.
-    pub fn into_vec(self) -> Vec<Var>
-        ensures { result.items ≡ self }
+    /// The ends in order.
+    pub fn as_slice(&self) -> &[Var]
+        ensures { result.now ≡ self.now }
     {
-        self.list
+        self.list.as_slice()
     }
 
     // No ends.
@@ -80,8 +83,9 @@ impl Ends {
         ensures { result ≡ [] }
     {
         Ends {
-            list: Vec::new(alloc),
-            rest: HashSet::new(alloc),
+            alloc,
+            list: SmallVec::new(alloc),
+            rest: None,
         }
     }
 
@@ -89,10 +93,11 @@ impl Ends {
     fn contains(&self, end: Var) -> bool
         ensures { IsTrue result ↔ IsAmong end self.now }
     {
-        if self.list.len() <= FEW {
-            return self.list.contains(&end);
+        let list = self.list.as_slice();
+        if list.len() <= FEW {
+            return list.contains(&end);
         }
-        self.list[..FEW].contains(&end) || self.rest.contains(&end)
+        list[..FEW].contains(&end) || has(&self.rest, end)
     }
 
     // Adds an end.
@@ -104,12 +109,40 @@ impl Ends {
         if place < FEW {
             return Ok(());
         }
-        match self.rest.insert(end) {
-            Ok(_) => Ok(()),
-            Err(_) => {
+        match note(self.alloc, &mut self.rest, end) {
+            Ok(()) => Ok(()),
+            Err(refused) => {
                 let _ = self.list.pop();
-                Err(AllocError)
+                Err(refused)
             }
+        }
+    }
+}
+
+// Whether a set, of which there may be none yet, has a variable.
+fn has(set: &Option<HashSet<Var>>, variable: Var) -> bool {
+    match set {
+        Some(made) => made.contains(&variable),
+        None => false,
+    }
+}
+
+// Notes a variable in a set, which is made where there is none yet.
+fn note(
+    alloc: Global,
+    set: &mut Option<HashSet<Var>>,
+    variable: Var,
+) -> Result<(), AllocError> {
+    match set {
+        Some(made) => {
+            made.insert(variable)?;
+            Ok(())
+        }
+        None => {
+            let mut made = HashSet::new(alloc);
+            made.insert(variable)?;
+            *set = Some(made);
+            Ok(())
         }
     }
 }

@@ -52,13 +52,11 @@ fn members_among<W: Lookup>(
     ensures { IfOk result (λ list. AreListed templates.now.nodes (W.bindings whole.now) of.now candidates.now list.items) }
 {
     let ends = Ends::of_all(alloc, templates, whole, of)?;
-    let mut others = Vec::new(alloc);
+    let mut list = Vec::from_slice(alloc, ends.as_slice())?;
     for candidate in candidates {
         if ends.has_end_of(templates, whole, *candidate) {
-            others.push(*candidate)?;
+            list.push(*candidate)?;
         }
     }
-    let mut list = ends.into_vec();
-    list.extend_from_slice(&others)?;
     Ok(list)
 }

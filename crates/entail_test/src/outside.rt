@@ -76,6 +76,9 @@ fn bindings_of(
 ) -> Result<SmallVec<(Var, Term), 4>, AllocError>
     ensures { IfOk result (λ list. list.items ≡ bindings_from stores.now) }
 {
+    if let [store] = stores {
+        return store.get().bindings();
+    }
     let mut list = SmallVec::new(alloc);
     let mut left = stores.len();
     while left > 0 {
@@ -150,11 +153,11 @@ fn candidates_of<W: Lookup>(
     whole: &W,
     added: &[(Var, Term)],
     inner: &[Shared<Store>],
-) -> Result<Vec<Var>, AllocError>
+) -> Result<SmallVec<Var, 4>, AllocError>
     requires { IsSolved templates.now.nodes (W.bindings whole.now) }
     ensures { IfOk result (λ list. AreCandidates templates.now.nodes (W.bindings whole.now) (frames_from inner.now) added.now list.items) }
 {
-    let mut list = Vec::new(alloc);
+    let mut list = SmallVec::new(alloc);
     for binding in added {
         if !is_inner(inner, binding.0.frame) {
             list.push(binding.0)?;
