@@ -5,7 +5,6 @@ ghost use Rattle.class_members.specs.Listed.{candidates_of, inner_keys, unbound_
 
 use akl_terms::{Term, Var};
 use local_store::{Shared, Store};
-use smallvec::SmallVec;
 use std::alloc::{AllocError, Global};
 
 /// Of stores that are solved together the variables that the inner ones bind and the outermost doesn't, and those of
@@ -14,7 +13,7 @@ pub fn candidates_of(
     alloc: Global,
     solved: &[Shared<Store>],
     added: &[(Var, Term)],
-) -> Result<SmallVec<Var, 4>, AllocError>
+) -> Result<Vec<Var>, AllocError>
     ensures { IfOk result (λ list. list.items ≡ candidates_of solved.now added.now) }
 {
     let mut list = inner_keys(alloc, solved)?;
@@ -25,10 +24,10 @@ pub fn candidates_of(
 }
 
 // The variables that the inner stores bind and the outermost doesn't.
-fn inner_keys(alloc: Global, stores: &[Shared<Store>]) -> Result<SmallVec<Var, 4>, AllocError>
+fn inner_keys(alloc: Global, stores: &[Shared<Store>]) -> Result<Vec<Var>, AllocError>
     ensures { IfOk result (λ list. list.items ≡ inner_keys stores.now) }
 {
-    let mut list = SmallVec::new(alloc);
+    let mut list = Vec::new(alloc);
     let Some((outermost, inner)) = stores.split_first() else {
         return Ok(list);
     };
@@ -41,7 +40,7 @@ fn inner_keys(alloc: Global, stores: &[Shared<Store>]) -> Result<SmallVec<Var, 4
 
 // Puts the variables of these bindings that a store doesn't bind at the end of a list.
 fn push_unbound(
-    list: &mut SmallVec<Var, 4>,
+    list: &mut Vec<Var>,
     outermost: &Store,
     bindings: &[(Var, Term)],
 ) -> Result<(), AllocError>

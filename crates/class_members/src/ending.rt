@@ -7,7 +7,6 @@ ghost use Rattle.class_members.specs.Listed.{AreEnds, EndsAmong};
 
 use akl_terms::{Templates, Var};
 use rational_unify::{Lookup, variable_end};
-use smallvec::SmallVec;
 use std::alloc::{AllocError, Global};
 use std::collections::HashSet;
 use std::marker::Model;
@@ -19,10 +18,8 @@ pub const FEW: usize = 8;
 /// the rest by a set.
 #[derive(Drop)]
 pub struct Ends {
-    alloc: Global,
-    list: SmallVec<Var, 4>,
-    // Made for the first end behind these.
-    rest: Option<HashSet<Var>>,
+    list: Vec<Var>,
+    rest: HashSet<Var>,
 }
 
 impl Model for Ends {
@@ -71,11 +68,11 @@ impl Ends {
         }
     }
 
-    /// The ends in order.
-    pub fn as_slice(&self) -> &[Var]
-        ensures { result.now ≡ self.now }
+    /// The ends in order. It takes no memory.
+    pub fn into_vec(self) -> Vec<Var>
+        ensures { result.items ≡ self }
     {
-        self.list.as_slice()
+        self.list
     }
 
     // No ends.
@@ -83,9 +80,8 @@ impl Ends {
         ensures { result ≡ [] }
     {
         Ends {
-            alloc,
-            list: SmallVec::new(alloc),
-            rest: None,
+            list: Vec::new(alloc),
+            rest: HashSet::new(alloc),
         }
     }
 
@@ -93,11 +89,10 @@ impl Ends {
     fn contains(&self, end: Var) -> bool
         ensures { IsTrue result ↔ IsAmong end self.now }
     {
-        let list = self.list.as_slice();
-        if list.len() <= FEW {
-            return list.contains(&end);
+        if self.list.len() <= FEW {
+            return self.list.contains(&end);
         }
-        list[..FEW].contains(&end) || has(&self.rest, end)
+        self.list[..FEW].contains(&end) || self.rest.contains(&end)
     }
 
     // Adds an end.
@@ -109,40 +104,12 @@ impl Ends {
         if place < FEW {
             return Ok(());
         }
-        match note(self.alloc, &mut self.rest, end) {
-            Ok(()) => Ok(()),
-            Err(refused) => {
+        match self.rest.insert(end) {
+            Ok(_) => Ok(()),
+            Err(_) => {
                 let _ = self.list.pop();
-                Err(refused)
+                Err(AllocError)
             }
-        }
-    }
-}
-
-// Whether a set, of which there may be none yet, has a variable.
-fn has(set: &Option<HashSet<Var>>, variable: Var) -> bool {
-    match set {
-        Some(made) => made.contains(&variable),
-        None => false,
-    }
-}
-
-// Notes a variable in a set, which is made where there is none yet.
-fn note(
-    alloc: Global,
-    set: &mut Option<HashSet<Var>>,
-    variable: Var,
-) -> Result<(), AllocError> {
-    match set {
-        Some(made) => {
-            made.insert(variable)?;
-            Ok(())
-        }
-        None => {
-            let mut made = HashSet::new(alloc);
-            made.insert(variable)?;
-            *set = Some(made);
-            Ok(())
         }
     }
 }

@@ -52,11 +52,13 @@ fn members_among<W: Lookup>(
     ensures { IfOk result (λ list. AreListed templates.now.nodes (W.bindings whole.now) of.now candidates.now list.items) }
 {
     let ends = Ends::of_all(alloc, templates, whole, of)?;
-    let mut list = Vec::from_slice(alloc, ends.as_slice())?;
+    let mut others = Vec::new(alloc);
     for candidate in candidates {
         if ends.has_end_of(templates, whole, *candidate) {
-            list.push(*candidate)?;
+            others.push(*candidate)?;
         }
     }
+    let mut list = ends.into_vec();
+    list.extend_from_slice(&others)?;
     Ok(list)
 }

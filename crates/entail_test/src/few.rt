@@ -1,8 +1,8 @@
 //! Classes of few candidates, which are found by looking through them.
-ghost use Rattle.std.specs.Prelude.{◌≡◌, IfOk, filter, map};
+ghost use Rattle.std.specs.Prelude.{◌≡◌, IfOk, false, filter, map};
 ghost use Rattle.std.specs.Option.{unwrap_or};
 ghost use Rattle.rational_unify.specs.Known.{IsSolved};
-ghost use Rattle.entail_test.specs.Classes.{AreClasses, has_root, ends_in, is_noisy, noisy_end};
+ghost use Rattle.entail_test.specs.Classes.{AreClasses, has_root, ends_in, same_end, is_noisy, noisy_end};
 
 use crate::reading::Class;
 use akl_terms::{Templates, Var};
@@ -47,10 +47,7 @@ fn has_root(classes: &[Class], root: Var) -> bool
 }
 
 /// The members of the classes that are noisy.
-pub(crate) fn few_noisy_members(
-    alloc: Global,
-    classes: &[Class],
-) -> Result<Vec<Var>, AllocError>
+pub(crate) fn few_noisy_members(alloc: Global, classes: &[Class]) -> Result<Vec<Var>, AllocError>
     ensures { IfOk result (λ on. on.items ≡ map (λ c. c.member) (filter (λ c. is_noisy classes.now c) classes.now)) }
 {
     let mut on = Vec::new(alloc);
@@ -78,9 +75,19 @@ fn is_shared(classes: &[Class], end: Var) -> bool
 {
     let mut shared = None;
     for class in classes {
-        if class.end == Some(end) {
+        if ends_in(class, end) {
             shared = Some(shared.is_some());
         }
     }
     shared.unwrap_or(false)
+}
+
+// Whether a class ends in a variable.
+fn ends_in(class: &Class, end: Var) -> bool
+    ensures { result ≡ same_end class.now.end end }
+{
+    match class.end {
+        Some(last) => last == end,
+        None => false,
+    }
 }

@@ -36,6 +36,9 @@ pub fn outside_of(alloc: Global, chain: &Chain, depth: usize) -> Result<Outside,
     let templates = chain.templates();
     let environment = chain.outer(depth);
     let known = environment.known();
+    if known == environment.stores().len() {
+        return told_by(alloc, templates, &environment, &chain.stores()[depth..]);
+    }
     let base = environment.outer(known);
     let mut form = Form {
         known: &base,
@@ -153,11 +156,11 @@ fn candidates_of<W: Lookup>(
     whole: &W,
     added: &[(Var, Term)],
     inner: &[Shared<Store>],
-) -> Result<SmallVec<Var, 4>, AllocError>
+) -> Result<Vec<Var>, AllocError>
     requires { IsSolved templates.now.nodes (W.bindings whole.now) }
     ensures { IfOk result (λ list. AreCandidates templates.now.nodes (W.bindings whole.now) (frames_from inner.now) added.now list.items) }
 {
-    let mut list = SmallVec::new(alloc);
+    let mut list = Vec::new(alloc);
     for binding in added {
         if !is_inner(inner, binding.0.frame) {
             list.push(binding.0)?;

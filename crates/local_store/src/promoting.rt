@@ -12,7 +12,6 @@ use crate::store::Store;
 use crate::telling::ToldStore;
 use akl_terms::{Name, Templates, Term, Var};
 use rational_unify::{AddedBindings, Form, Lookup, leads_older};
-use smallvec::SmallVec;
 use std::alloc::{AllocError, Global};
 
 /// The store of the box around the innermost one, with all that the innermost store has: frames, ports and bindings.
@@ -124,7 +123,7 @@ fn add_names(store: &mut Store, other: &Store) -> Result<(), AllocError>
 }
 
 // The store also has these frames.
-fn add_frames(store: &mut Store, mut frames: SmallVec<(Name, ()), 4>) -> Result<(), AllocError>
+fn add_frames(store: &mut Store, mut frames: Vec<(Name, ())>) -> Result<(), AllocError>
     ensures { IfOk result (λ _. store.new ≡ with_frames store.old (keys_of frames.items)) }
 {
     while let Some(frame) = frames.pop() {

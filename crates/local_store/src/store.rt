@@ -217,14 +217,14 @@ impl Store {
     {
         let entries = self.frames.entries()?;
         let mut list = Vec::with_capacity(self.alloc, entries.len())?;
-        for entry in entries.as_slice() {
+        for entry in &entries {
             list.push(entry.0)?;
         }
         Ok(list)
     }
 
     /// The frames in increasing order of names, as they are kept.
-    pub(crate) fn frame_entries(&self) -> Result<SmallVec<(Name, ()), 4>, AllocError>
+    pub(crate) fn frame_entries(&self) -> Result<Vec<(Name, ())>, AllocError>
         ensures { IfOk result (λ list. keys_of list.items ≡ self.now.frames) }
     {
         self.frames.entries()
@@ -236,7 +236,7 @@ impl Store {
     {
         let entries = self.bindings.entries()?;
         let mut list = SmallVec::with_capacity(self.alloc, entries.len())?;
-        for entry in entries.as_slice() {
+        for entry in &entries {
             list.push((entry.0.0, entry.1))?;
         }
         Ok(list)
@@ -246,7 +246,7 @@ impl Store {
     pub fn ports(&self) -> Result<Vec<(Name, Term)>, AllocError>
         ensures { IfOk result (λ list. list.items ≡ self.now.ports) }
     {
-        Vec::from_slice(self.alloc, self.ports.entries()?.as_slice())
+        self.ports.entries()
     }
 }
 

@@ -8,7 +8,6 @@ ghost use Rattle.persist_map.specs.Newest.{with_entries, place_of, HasNoneAbove}
 use crate::behind::{append, come_behind};
 use crate::map::PMap;
 use crate::walk::is_above;
-use smallvec::SmallVec;
 use std::alloc::{AllocError, Global};
 use std::marker::Model;
 
@@ -135,10 +134,7 @@ impl<K: Ord + Copy, V: Copy> BufferedMap<K, V> {
 
     /// The entries, in the order of their keys. No node is made: each entry of the list is put in at its place among
     /// those of the tree, which is sought from the front.
-    pub fn entries(&self) -> Result<SmallVec<(K, V), 4>, AllocError>
-    where
-        K: Default,
-        V: Default,
+    pub fn entries(&self) -> Result<Vec<(K, V)>, AllocError>
         ensures { IfOk result (λ list. list.items ≡ self.now) }
     {
         let mut list = entries_in(self.alloc, &self.settled)?;
@@ -172,13 +168,13 @@ fn greatest_of<K: Ord + Copy, V>(greatest: Option<K>, entries: &[(K, V)]) -> Opt
 }
 
 // The entries of a tree.
-fn entries_in<K: Ord + Copy + Default, V: Copy + Default>(
+fn entries_in<K: Ord + Copy, V: Copy>(
     alloc: Global,
     map: &PMap<K, V>,
-) -> Result<SmallVec<(K, V), 4>, AllocError>
+) -> Result<Vec<(K, V)>, AllocError>
     ensures { IfOk result (λ list. list.items ≡ map.now) }
 {
-    let mut list = SmallVec::new(alloc);
+    let mut list = Vec::new(alloc);
     for (key, value) in map.walk() {
         list.push((*key, *value))?;
     }
@@ -201,14 +197,10 @@ fn newest_at<'a, K: Ord, V>(newest: &'a [(K, V)], key: &K) -> Option<&'a V>
 }
 
 // Sets the pair in entries that are in the order of their keys.
-fn put<K: Ord + Copy + Default, V: Copy + Default>(
-    list: &mut SmallVec<(K, V), 4>,
-    key: K,
-    value: V,
-) -> Result<(), AllocError>
+fn put<K: Ord + Copy, V: Copy>(list: &mut Vec<(K, V)>, key: K, value: V) -> Result<(), AllocError>
     ensures { IfOk result (λ _. list.new.items ≡ insert_entry K.cmp list.old.items key value) }
 {
-    let place = place_of(list.as_slice(), &key);
+    let place = place_of(list, &key);
     if place >= list.len() {
         list.push((key, value))?;
         return Ok(());
