@@ -1,4 +1,5 @@
 pub mod Gathered
 pub mod BoundKeys
 pub mod Enough
+pub mod Whole
 pub mod BoundMembers

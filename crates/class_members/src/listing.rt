@@ -1,9 +1,9 @@
 //! Members of classes.
 
-ghost use Rattle.std.specs.Prelude.{◌≡◌, ◌≤◌, IfOk, None, take};
+ghost use Rattle.std.specs.Prelude.{◌≡◌, ◌≤◌, IfOk, None, length, take};
 ghost use Rattle.constraint_laws.specs.Touched.{IsAmong};
 ghost use Rattle.rational_unify.specs.Known.{IsSolved, found_in};
-ghost use Rattle.local_store.specs.Chained.{bindings_from};
+ghost use Rattle.local_store.specs.Chained.{bindings_from, IsKnown};
 ghost use Rattle.class_members.specs.Members.{AreMembers};
 ghost use Rattle.class_members.specs.Listed.{AreListed};
 
@@ -26,6 +26,9 @@ pub fn members(alloc: Global, chain: &Chain, of: &[Var]) -> Result<Vec<Var>, All
 {
     let templates = chain.templates();
     let known = chain.known();
+    if known == chain.stores().len() {
+        return members_in(alloc, chain, of);
+    }
     let base = chain.outer(known);
     let mut form = Form {
         known: &base,
@@ -38,6 +41,16 @@ pub fn members(alloc: Global, chain: &Chain, of: &[Var]) -> Result<Vec<Var>, All
             members_among(alloc, templates, &form, of, candidates.as_slice())
         }
     }
+}
+
+// As `members`, where the whole chain is known to be solved.
+fn members_in(alloc: Global, chain: &Chain, of: &[Var]) -> Result<Vec<Var>, AllocError>
+    requires { IsKnown chain.now.nodes chain.now.stores (length chain.now.stores) }
+    ensures members { IfOk result (λ list. AreMembers chain.now.nodes chain.now.stores of.now list.items) }
+    ensures unbound { IfOk result (λ list. 1 ≤ length chain.now.stores → (y : _) → IsAmong y list.items → found_in (bindings_from (take 1 chain.now.stores)) y ≡ None) }
+{
+    let candidates = candidates_of(alloc, chain.stores(), &[])?;
+    members_among(alloc, chain.templates(), chain, of, candidates.as_slice())
 }
 
 // The ends of the chains of these variables, and of the candidates those whose chains end in one of them.

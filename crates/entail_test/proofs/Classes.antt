@@ -157,7 +157,7 @@ filter-push p (d ∷ cs) c = on (p d) (p c) (filter-push p cs c)
 
 -- where classes end, one by one
 module _ (cs : List Class) (c : Class) (x : Var) where
-  ends-push : ends_in (cs ++ c ∷ []) x ≡ (if same_end c.end x then Some (is_some (ends_in cs x)) else ends_in cs x)
+  pub ends-push : ends_in (cs ++ c ∷ []) x ≡ (if same_end c.end x then Some (is_some (ends_in cs x)) else ends_in cs x)
   ends-push = go cs
     where
       step : (k l : Bool) (o p : Option Bool) → o ≡ (if l then Some (is_some p) else p) → (if k then Some (is_some o) else o) ≡ (if l then Some (is_some (if k then Some (is_some p) else p)) else (if k then Some (is_some p) else p))

@@ -2,12 +2,13 @@
 ghost use Rattle.std.specs.Prelude.{◌≡◌, ◌≤◌, ◌++◌, IfOk, length, take, drop};
 ghost use Rattle.rational_unify.specs.Known.{IsSolved};
 ghost use Rattle.local_store.specs.Chained.{bindings_from, IsKnown};
+ghost use Rattle.local_store.specs.Bound.{AreFound};
 ghost use Rattle.entail_test.specs.Asked.{Reads, KeepsApartAt, AreCandidates, Shows, frames_from, named_in, AnswersOver};
 
 use crate::reading::touched;
 use akl_terms::{Name, Templates, Term, Var};
 use local_store::{Chain, Shared, Store, take_stores};
-use rational_unify::{AddedBindings, Form, Lookup, variable_end};
+use rational_unify::{AddedBindings, Form, Lookup, end_variable};
 use smallvec::SmallVec;
 use std::alloc::{AllocError, Global};
 
@@ -36,6 +37,9 @@ pub fn outside_of(alloc: Global, chain: &Chain, depth: usize) -> Result<Outside,
     let templates = chain.templates();
     let environment = chain.outer(depth);
     let known = environment.known();
+    if known == environment.stores().len() {
+        return told_by(alloc, templates, &environment, &chain.stores()[depth..]);
+    }
     let base = environment.outer(known);
     let mut form = Form {
         known: &base,
@@ -76,6 +80,9 @@ fn bindings_of(
 ) -> Result<SmallVec<(Var, Term), 4>, AllocError>
     ensures { IfOk result (λ list. list.items ≡ bindings_from stores.now) }
 {
+    if let [store] = stores {
+        return store.get().bindings();
+    }
     let mut list = SmallVec::new(alloc);
     let mut left = stores.len();
     while left > 0 {
@@ -137,6 +144,7 @@ fn shown<K: Lookup, W: Lookup>(
 ) -> Result<Vec<Var>, AllocError>
     requires known { IsSolved templates.now.nodes (K.bindings known.now) }
     requires whole { IsSolved templates.now.nodes (W.bindings whole.now) }
+    requires found { AreFound (W.bindings whole.now) added.now }
     ensures { IfOk result (λ on. Shows templates.now.nodes (K.bindings known.now) (W.bindings whole.now) (frames_from inner.now) added.now on.items) }
 {
     let candidates = candidates_of(alloc, templates, whole, added, inner)?;
@@ -151,14 +159,16 @@ fn candidates_of<W: Lookup>(
     added: &[(Var, Term)],
     inner: &[Shared<Store>],
 ) -> Result<Vec<Var>, AllocError>
-    requires { IsSolved templates.now.nodes (W.bindings whole.now) }
+    requires solved { IsSolved templates.now.nodes (W.bindings whole.now) }
+    requires found { AreFound (W.bindings whole.now) added.now }
     ensures { IfOk result (λ list. AreCandidates templates.now.nodes (W.bindings whole.now) (frames_from inner.now) added.now list.items) }
 {
     let mut list = Vec::new(alloc);
     for binding in added {
         if !is_inner(inner, binding.0.frame) {
             list.push(binding.0)?;
-            if let Some(end) = variable_end(templates, whole, binding.0) {
+            // A bound variable's chain ends where its term's does.
+            if let Some(end) = end_variable(templates, whole, binding.1) {
                 if !is_inner(inner, end.frame) {
                     list.push(end)?;
                 }

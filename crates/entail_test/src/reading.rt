@@ -6,6 +6,7 @@ ghost use Rattle.akl_terms.specs.Names.{same_var};
 ghost use Rattle.rational_unify.specs.Known.{IsSolved};
 ghost use Rattle.entail_test.specs.Classes.{AreClasses, AreEnds, is_noisy, noisy_end};
 
+use crate::few::{FEW, few_classes_of, few_noisy_members};
 use akl_terms::{Templates, Var};
 use rational_unify::{Lookup, variable_end};
 use std::alloc::{AllocError, Global};
@@ -75,6 +76,10 @@ fn touched_among<K: Lookup, W: Lookup>(
     ensures { IfOk result (λ on. (cs : _) × AreClasses templates.now.nodes (K.bindings known.now) (W.bindings whole.now) candidates.now cs
         × (on.items ≡ map (λ c. c.member) (filter (λ c. is_noisy cs c) cs))) }
 {
+    if candidates.len() <= FEW {
+        let classes = few_classes_of(alloc, templates, known, whole, candidates)?;
+        return few_noisy_members(alloc, classes.as_slice());
+    }
     let classes = classes_of(alloc, templates, known, whole, candidates)?;
     let ends = ends_of(alloc, classes.as_slice())?;
     noisy_members(alloc, classes.as_slice(), &ends)
