@@ -1,18 +1,18 @@
 -- What tests of alternatives find, one after another.
-use Rattle.std.proofs.Common.{◌≡◌, ◌≢◌, ℕ, ◌+◌, ◌-◌, ◌<◌, List, [], ◌∷◌, ◌++◌, length, take, true, false, refl, sym, ◌∙◌, subst, ◌⊎◌, inl, inr, slice_index_or, arith}
+use Rattle.std.proofs.Common.{◌≡◌, ◌≢◌, ℕ, ◌+◌, ◌<◌, List, [], ◌∷◌, ◌++◌, length, take, true, false, refl, sym, ◌∙◌, subst, inl, inr, slice_index_or, arith}
 use Rattle.std.proofs.lemmas.Bool.{false≢true}
 use Rattle.akl_terms.specs.declared.term.Node.{Node}
 use Rattle.akl_terms.specs.declared.term.Term.{Term}
 use Rattle.akl_terms.specs.declared.program.Op.{Op}
 use Rattle.local_store.specs.Stored.{Stored}
 use Rattle.entail_test.specs.declared.noise.Quietness.{Quietness}
-use Rattle.entail_test.specs.Asked.{IsClashAt}
 use Rattle.box_tree.specs.declared.view.Alternative.{Alternative}
 use Rattle.box_tree.specs.declared.view.Sight.{Sight}
 use Rattle.box_tree.specs.Views.{ViewValue}
 use Rattle.guard_plan.specs.declared.guards.Noise.{Noise}
-use Rattle.guard_plan.specs.Guards.{IsQuietInside, cutting}
-use Rattle.guard_plan.specs.Noisy.{AnswersInside, IsConsistentInside, IsNoiseInside, AddsNoise, AddsGuardNoise, IsOne, HasNoise, tested, IsNoiseAt}
+use Rattle.guard_plan.specs.Guards.{IsQuietInside, IsNoisyOver, cutting}
+use Rattle.guard_plan.specs.Noisy.{AnswersInside, IsConsistentInside, IsNoiseInside, AddsNoise, AddsGuardNoise, HasNoise, AreNoisy, tested, IsNoiseAt}
+use Rattle.guard_plan.proofs.Tested.{all_next}
 use Rattle.guard_plan.proofs.OneOf.{one_push, one_last, one_pushed, still_one, also_one, one_or_last}
 
 -- by what a test answers
@@ -26,17 +26,15 @@ module _ (nodes : List Node) (ss : List Stored) (old : List Noise) where
   pub clash_adds : (left right : Term) → AnswersInside nodes ss (Quietness.Inconsistent left right) → AddsNoise nodes ss old old
   clash_adds left right a = inr (λ c. absurd (a.1.differ (c.heads a.0 a.1.is_left a.1.is_right)), refl)
 
-module _ (nodes : List Node) (path : List Stored) where
-  abbrev pub over : Alternative → List Stored
-  over a = path ++ a.store ∷ []
+-- of a guard that asks for consistency alone nothing is said
+pub unasked : (o : Op) → o ≡ Op.Choice → (nodes : List Node) (ss : List Stored) (old new : List Noise) → AddsGuardNoise o nodes ss old new
+unasked o e nodes ss old new = subst (λ (p : Op). AddsGuardNoise p nodes ss old new) (sym e) tt
 
+module _ (nodes : List Node) (path : List Stored) where
   pub none_heard : HasNoise nodes path [] []
   none_heard = record { each = λ n m. absurd m; every = λ a m s c. absurd m }
 
   module _ (seen : List Alternative) (k : ℕ) (d : Alternative) (l : k < length seen) (old : List Noise) (h : HasNoise nodes path (take k seen) old) where
-    abbrev one : Alternative
-    one = slice_index_or seen k d
-
     -- one more that isn't solved
     pub unsolved_next : ((slice_index_or seen k d).solved ≡ true → ⊥) → HasNoise nodes path (take (k + 1) seen) old
     unsolved_next n = record {
@@ -66,6 +64,15 @@ module _ (nodes : List Node) (path : List Stored) where
         | inr q ↦ inl (subst (λ (b : Alternative). IsQuietInside nodes (path ++ b.store ∷ [])) (sym q) (quiet (subst (λ (b : Alternative). IsConsistentInside nodes (path ++ b.store ∷ [])) q c)))
       ];
     })
+
+  -- and one more that isn't quiet
+  pub noisy_next : (seen : List Alternative) (k : ℕ) (d : Alternative) → k < length seen → (old : List Noise) → AreNoisy nodes path (take k seen) old → (slice_index_or seen k d).solved ≡ true
+      → (IsQuietInside nodes (path ++ (slice_index_or seen k d).store ∷ []) → ⊥) → (new : List Noise) → AddsNoise nodes (path ++ (slice_index_or seen k d).store ∷ []) old new → AreNoisy nodes path (take (k + 1) seen) new
+  noisy_next seen k d l old h s n new x = (all_next nodes path (IsNoisyOver nodes path) seen k d l h.0 (λ _. n), tested_next seen k d l old h.1 s new x)
+
+  pub unsolved_noisy : (seen : List Alternative) (k : ℕ) (d : Alternative) → k < length seen → (old : List Noise) → AreNoisy nodes path (take k seen) old → (slice_index_or seen k d).solved ≡ false → AreNoisy nodes path (take (k + 1) seen) old
+  unsolved_noisy seen k d l old h n =
+      (all_next nodes path (IsNoisyOver nodes path) seen k d l h.0 (λ s. absurd (false≢true (sym n ∙ s))), unsolved_next seen k d l old h.1 (λ s. false≢true (sym n ∙ s)))
 
   -- one that stands alone
 

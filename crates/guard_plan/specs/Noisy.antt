@@ -1,7 +1,6 @@
 -- What tests of guards found of alternatives that aren't quiet.
 use Rattle.std.specs.Prelude.{◌≡◌, ◌-◌, List, [], ◌∷◌, ◌++◌, length, ◌⊎◌, true, Option, Some, None}
 use Rattle.std.specs.List.{AllByRecursion}
-use Rattle.akl_terms.specs.declared.name.Var.{Var}
 use Rattle.akl_terms.specs.declared.term.Node.{Node}
 use Rattle.akl_terms.specs.declared.program.Op.{Op}
 use Rattle.akl_terms.specs.Equal.{IsConsistent}

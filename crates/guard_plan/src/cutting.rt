@@ -31,13 +31,7 @@ pub(crate) fn cut(
     ensures { IfOk result (IsTriedBy view.now noise.new.items) }
 {
     let candidates = candidates(op, view.alternatives());
-    let found = first_quiet(
-        alloc,
-        &program.templates,
-        view.stores(),
-        candidates,
-        noise,
-    )?;
+    let found = first_quiet(alloc, &program.templates, view.stores(), candidates, noise)?;
     let Some(alternative) = found else {
         return Ok(None);
     };
