@@ -11,3 +11,5 @@ pub mod CutRight
 pub mod PromoteRight
 pub mod Chosen
 pub mod Tested
+pub mod OneOf
+pub mod Noises

@@ -13,36 +13,27 @@ use Rattle.rational_unify.proofs.Taking.{take-next}
 use Rattle.local_store.specs.Stored.{Stored}
 use Rattle.local_store.specs.Chained.{ToldBy}
 use Rattle.local_store.proofs.Resolved.{around-take}
-use Rattle.entail_test.specs.declared.noise.Quietness.{Quietness}
-use Rattle.entail_test.specs.declared.noise.Quietness.TheVariants.{Quiet, Noisy, Inconsistent}
-use Rattle.entail_test.specs.Asked.{environment_at, own_at, KeepsApartAt, IsQuietAt, Answers}
+use Rattle.entail_test.specs.Asked.{environment_at, own_at, KeepsApartAt, IsClashAt}
 use Rattle.box_tree.specs.declared.view.Alternative.{Alternative}
 use Rattle.guard_plan.specs.Guards.{KeepsApartInside, IsQuietInside, HasQuiet}
 
 module _ (nodes : List Node) (ss : List Stored) where
   -- two terms of different heads that are equal in the environment
   pub clash_outside : (left right : Term) → EqualBy (ToldBy nodes (take (length ss - 1) ss)) (tree nodes left) (tree nodes right) → DifferInHead (tree nodes left) (tree nodes right)
-      → IsTrue false ↔ IsQuietInside nodes ss
-  clash_outside left right e d = (
-    λ h. absurd (false≢true h),
-    λ q. absurd (d.differ (q.consistent.heads
-        (EqualBy-follows (λ a b m. told (IsTold-left (environment_at nodes ss (length ss - 1)) (own_at nodes ss (length ss - 1)) a b m)) e) d.is_left d.is_right)),
-  )
+      → IsClashAt nodes ss (length ss - 1) left right
+  clash_outside left right e d = (EqualBy-follows (λ a b m. told (IsTold-left (environment_at nodes ss (length ss - 1)) (own_at nodes ss (length ss - 1)) a b m)) e, d)
 
-  kept : KeepsApartInside nodes ss → IsConsistentBy (ToldBy nodes (take (length ss - 1) ss)) → KeepsApartAt nodes ss (length ss - 1)
+  pub kept : KeepsApartInside nodes ss → IsConsistentBy (ToldBy nodes (take (length ss - 1) ss)) → KeepsApartAt nodes ss (length ss - 1)
   kept h c = h (subst (λ (o : List Stored). IsConsistentBy (ToldBy nodes o)) (around-take ss) c)
 
-  not_quiet : (a : Quietness) → (a ≡ Quiet → ⊥) → Answers nodes ss (length ss - 1) a → IsQuietAt nodes ss (length ss - 1) → ⊥
-  not_quiet Quiet n a q = n refl
-  not_quiet (Noisy on) n a q = a.1 q
-  not_quiet (Inconsistent left right) n a q = a.1.differ (q.consistent.heads a.0 a.1.is_left a.1.is_right)
+  pub says_quiet : IsQuietInside nodes ss → IsTrue true ↔ IsQuietInside nodes ss
+  says_quiet q = (λ _. q, λ _. refl)
 
-  pub answered_quiet : KeepsApartInside nodes ss → IsConsistentBy (ToldBy nodes (take (length ss - 1) ss)) → (KeepsApartAt nodes ss (length ss - 1) → IsQuietAt nodes ss (length ss - 1)) → IsTrue true ↔ IsQuietInside nodes ss
-  answered_quiet h c a = (λ _. a (kept h c), λ _. refl)
+  pub says_other : (IsQuietInside nodes ss → ⊥) → IsTrue false ↔ IsQuietInside nodes ss
+  says_other n = (λ e. absurd (false≢true e), λ q. absurd (n q))
 
-  pub answered_other : KeepsApartInside nodes ss → IsConsistentBy (ToldBy nodes (take (length ss - 1) ss)) → (a : Quietness) → (a ≡ Quiet → ⊥)
-      → (KeepsApartAt nodes ss (length ss - 1) → Answers nodes ss (length ss - 1) a) → IsTrue false ↔ IsQuietInside nodes ss
-  answered_other h c a n b = (λ e. absurd (false≢true e), λ q. absurd (not_quiet a n (b (kept h c)) q))
+  pub clash_other : (left right : Term) → IsClashAt nodes ss (length ss - 1) left right → IsQuietInside nodes ss → ⊥
+  clash_other left right k q = k.1.differ (q.consistent.heads k.0 k.1.is_left k.1.is_right)
 
 -- the alternatives that were passed by
 module _ (nodes : List Node) (path : List Stored) where

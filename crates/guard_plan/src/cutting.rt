@@ -1,12 +1,12 @@
 //! Plans of Cut.
 
-ghost use Rattle.std.specs.Prelude.{◌≡◌, ◌≢◌, IfOk, length};
+ghost use Rattle.std.specs.Prelude.{◌≡◌, ◌≢◌, [], IfOk, length};
 ghost use Rattle.akl_terms.specs.declared.name.Place.{Place};
 ghost use Rattle.box_tree.specs.declared.view.Sight.{Sight};
-ghost use Rattle.guard_plan.specs.Planned.{IsPlannedBy};
+ghost use Rattle.guard_plan.specs.Noisy.{IsTriedBy};
 ghost use Rattle.guard_plan.specs.Guards.{cutting};
 
-use crate::guards::first_quiet;
+use crate::guards::{Noise, first_quiet};
 use crate::labels::{goal_and_stores, label_for};
 use akl_model::Rule;
 use akl_terms::{Name, Op, Program};
@@ -14,22 +14,24 @@ use box_tree::{Alternative, Plan, Step, View};
 use std::alloc::{AllocError, Global};
 
 // The plan by which a choice that hasn't one alternative alone loses those for which a solved and quiet one leaves no
-// room.
+// room. What those touch that were tested comes to the noise.
 pub(crate) fn cut(
     alloc: Global,
     program: &Program,
     view: &View,
     goal: Name,
     op: Op,
+    noise: &mut Vec<Noise>,
 ) -> Result<Option<Plan>, AllocError>
     requires program { program.now ≡ view.now.table.program }
     requires place { view.now.place ≡ Place.Goal goal }
     requires sight { view.now.sight ≡ Sight.Choice op }
     requires not_one { length view.now.alternatives ≢ 1 }
-    ensures { IfOk result (IsPlannedBy view.now) }
+    requires silent { noise.old.items ≡ [] }
+    ensures { IfOk result (IsTriedBy view.now noise.new.items) }
 {
     let candidates = candidates(op, view.alternatives());
-    let found = first_quiet(alloc, &program.templates, view.stores(), candidates)?;
+    let found = first_quiet(alloc, &program.templates, view.stores(), candidates, noise)?;
     let Some(alternative) = found else {
         return Ok(None);
     };

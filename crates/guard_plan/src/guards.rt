@@ -1,60 +1,94 @@
 //! Whether guards hold, by the stores down to an alternative.
 
-ghost use Rattle.std.specs.Prelude.{◌≡◌, ◌++◌, ◌∷◌, [], IfOk, IsTrue, ◌↔◌, MatchOption};
+ghost use Rattle.std.specs.Prelude.{◌≡◌, ◌-◌, ◌++◌, ◌∷◌, [], IfOk, IsTrue, ◌↔◌, MatchOption, length};
 ghost use Rattle.std.specs.List.{AllByRecursion};
-ghost use Rattle.guard_plan.specs.Guards.{KeepsApartInside, IsQuietInside, HoldsInside, IsTestable, IsNoisyOver, HasQuiet};
+ghost use Rattle.entail_test.specs.Asked.{Answers};
+ghost use Rattle.guard_plan.specs.Guards.{KeepsApartInside, IsQuietInside, HoldsInside, IsTestable, HasQuiet};
+ghost use Rattle.guard_plan.specs.Noisy.{AddsNoise, AddsGuardNoise, AreNoisy};
 
-use akl_terms::{Name, Op, Templates};
+use akl_terms::{Name, Op, Templates, Var};
 use box_tree::Alternative;
 use entail_test::{Quietness, quiet};
 use local_store::{Chain, Consistency, Shared, Store, consistent};
 use std::alloc::{AllocError, Global};
 
-// Whether the guard of a solved alternative holds, whose store is the innermost of a chain.
-pub(crate) fn guard_holds(alloc: Global, op: Op, chain: &Chain) -> Result<bool, AllocError>
+/// What a solved alternative touches that is consistent with the stores around it, but isn't quiet: one variable from
+/// outside of each class.
+#[derive(Drop)]
+pub struct Noise {
+    pub on: Vec<Var>,
+}
+
+// Whether the guard of a solved alternative holds, whose store is the innermost of a chain. What it touches otherwise
+// comes to the end of the noise.
+pub(crate) fn guard_holds(
+    alloc: Global,
+    op: Op,
+    chain: &Chain,
+    noise: &mut Vec<Noise>,
+) -> Result<bool, AllocError>
     requires { KeepsApartInside chain.now.nodes chain.now.stores }
-    ensures { IfOk result (λ holds. IsTrue holds ↔ HoldsInside op chain.now.nodes chain.now.stores) }
+    ensures holds { IfOk result (λ holds. IsTrue holds ↔ HoldsInside op chain.now.nodes chain.now.stores) }
+    ensures noise { IfOk result (λ _. AddsGuardNoise op chain.now.nodes chain.now.stores noise.old.items noise.new.items) }
 {
     match op {
         Op::Choice => match consistent(alloc, chain)? {
             Consistency::Consistent => Ok(true),
             Consistency::Clash { .. } => Ok(false),
         },
-        Op::Condition | Op::Commit => is_quiet(alloc, chain),
+        Op::Condition | Op::Commit => is_quiet(alloc, chain, noise),
     }
 }
 
-// Whether the innermost store of a chain is quiet under the others. Where these are inconsistent, it isn't.
-fn is_quiet(alloc: Global, chain: &Chain) -> Result<bool, AllocError>
+// Whether the innermost store of a chain is quiet under the others. What it touches otherwise comes to the end of the
+// noise.
+fn is_quiet(alloc: Global, chain: &Chain, noise: &mut Vec<Noise>) -> Result<bool, AllocError>
     requires { KeepsApartInside chain.now.nodes chain.now.stores }
-    ensures { IfOk result (λ holds. IsTrue holds ↔ IsQuietInside chain.now.nodes chain.now.stores) }
+    ensures holds { IfOk result (λ holds. IsTrue holds ↔ IsQuietInside chain.now.nodes chain.now.stores) }
+    ensures noise { IfOk result (λ _. AddsNoise chain.now.nodes chain.now.stores noise.old.items noise.new.items) }
+{
+    match quietness(alloc, chain)? {
+        Quietness::Quiet => Ok(true),
+        Quietness::Noisy { on } => {
+            noise.push(Noise { on })?;
+            Ok(false)
+        }
+        Quietness::Inconsistent { .. } => Ok(false),
+    }
+}
+
+/// What the innermost store of a chain tells the variables from outside of it, also where those around it are
+/// inconsistent.
+pub fn quietness(alloc: Global, chain: &Chain) -> Result<Quietness, AllocError>
+    requires { KeepsApartInside chain.now.nodes chain.now.stores }
+    ensures { IfOk result (Answers chain.now.nodes chain.now.stores (length chain.now.stores - 1)) }
 {
     let depth = chain.stores().len().saturating_sub(1);
     match consistent(alloc, &chain.outer(depth))? {
-        Consistency::Clash { .. } => Ok(false),
-        Consistency::Consistent => match quiet(alloc, chain)? {
-            Quietness::Quiet => Ok(true),
-            _ => Ok(false),
-        },
+        Consistency::Clash { left, right } => Ok(Quietness::Inconsistent { left, right }),
+        Consistency::Consistent => quiet(alloc, chain),
     }
 }
 
-// The first of these alternatives that is solved and quiet under the stores of a path.
+// The first of these alternatives that is solved and quiet under the stores of a path. What the others touch comes to
+// the noise.
 pub(crate) fn first_quiet(
     alloc: Global,
     templates: &Templates,
     path: &[Shared<Store>],
     candidates: &[Alternative],
+    noise: &mut Vec<Noise>,
 ) -> Result<Option<Name>, AllocError>
-    requires { AllByRecursion (IsTestable templates.now.nodes path.now) candidates.now }
+    requires testable { AllByRecursion (IsTestable templates.now.nodes path.now) candidates.now }
+    requires silent { noise.old.items ≡ [] }
     ensures { IfOk result (λ found. MatchOption found
-        (AllByRecursion (IsNoisyOver templates.now.nodes path.now) candidates.now)
+        (AreNoisy templates.now.nodes path.now candidates.now noise.new.items)
         (HasQuiet templates.now.nodes path.now candidates.now)) }
 {
     let mut stores = shared(alloc, path)?;
     for candidate in candidates {
         if candidate.solved {
-            if is_quiet_over(alloc, templates, &mut stores, candidate)? {
+            if is_quiet_over(alloc, templates, &mut stores, candidate, noise)? {
                 return Ok(Some(candidate.name));
             }
         }
@@ -62,20 +96,23 @@ pub(crate) fn first_quiet(
     Ok(None)
 }
 
-// Whether an alternative is quiet under the stores of a path, which stay.
+// Whether an alternative is quiet under the stores of a path, which stay. What it touches otherwise comes to the end of
+// the noise.
 fn is_quiet_over(
     alloc: Global,
     templates: &Templates,
     path: &mut Vec<Shared<Store>>,
     candidate: &Alternative,
+    noise: &mut Vec<Noise>,
 ) -> Result<bool, AllocError>
     requires { IsTestable templates.now.nodes path.old.items candidate.now }
     ensures path { IfOk result (λ _. path.new.items ≡ path.old.items) }
     ensures holds { IfOk result (λ holds. IsTrue holds ↔ IsQuietInside templates.now.nodes (path.old.items ++ candidate.now.store ∷ [])) }
+    ensures noise { IfOk result (λ _. AddsNoise templates.now.nodes (path.old.items ++ candidate.now.store ∷ []) noise.old.items noise.new.items) }
 {
     path.push(candidate.store.share()?)?;
     let chain = Chain::of_solved(templates, path.as_slice(), candidate.known);
-    let holds = is_quiet(alloc, &chain)?;
+    let holds = is_quiet(alloc, &chain, noise)?;
     path.pop();
     Ok(holds)
 }

@@ -7,6 +7,6 @@ mod labels;
 mod planning;
 mod promoting;
 
-pub use guards::shared;
+pub use guards::{Noise, quietness, shared};
 pub use labels::{goal_and_stores, label_for};
 pub use planning::plan_guard;

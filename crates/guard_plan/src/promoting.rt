@@ -3,10 +3,10 @@
 ghost use Rattle.std.specs.Prelude.{◌≡◌, ◌+◌, ◌<◌, ◌^◌, ◌∷◌, [], IfOk, length};
 ghost use Rattle.akl_terms.specs.declared.name.Place.{Place};
 ghost use Rattle.box_tree.specs.declared.view.Sight.{Sight};
-ghost use Rattle.guard_plan.specs.Planned.{IsPlannedBy};
+ghost use Rattle.guard_plan.specs.Noisy.{IsTriedBy};
 ghost use Rattle.guard_plan.specs.Guards.{numbered_goals};
 
-use crate::guards::{guard_holds, shared};
+use crate::guards::{Noise, guard_holds, shared};
 use crate::labels::{goal_and_stores, label_for};
 use akl_model::Rule;
 use akl_terms::{Goal, Name, Op, Program};
@@ -18,7 +18,8 @@ use std::alloc::{AllocError, Global};
 // One less than the number of names that are too many for one label.
 const MOST: u64 = 4294967295;
 
-// The plan by which the only alternative of a choice joins the box, where it is solved and its guard holds.
+// The plan by which the only alternative of a choice joins the box, where it is solved and its guard holds. What it
+// touches otherwise comes to the noise.
 pub(crate) fn promote(
     alloc: Global,
     program: &Program,
@@ -26,22 +27,24 @@ pub(crate) fn promote(
     goal: Name,
     op: Op,
     only: &Alternative,
+    noise: &mut Vec<Noise>,
 ) -> Result<Option<Plan>, AllocError>
     requires program { program.now ≡ view.now.table.program }
     requires place { view.now.place ≡ Place.Goal goal }
     requires sight { view.now.sight ≡ Sight.Choice op }
     requires only { view.now.alternatives ≡ only.now ∷ [] }
-    ensures { IfOk result (IsPlannedBy view.now) }
+    requires silent { noise.old.items ≡ [] }
+    ensures { IfOk result (IsTriedBy view.now noise.new.items) }
 {
     let label = label_for(view, Rule::Promote, only.name);
-    let names = view.body().len() as u64;
-    if !only.solved || names > MOST {
+    if !only.solved {
         return Ok(None);
     }
     let mut stores = shared(alloc, view.stores())?;
     stores.push(only.store.share()?)?;
     let chain = Chain::of_solved(&program.templates, stores.as_slice(), only.known);
-    if !guard_holds(alloc, op, &chain)? {
+    let names = view.body().len() as u64;
+    if !guard_holds(alloc, op, &chain, noise)? || names > MOST {
         return Ok(None);
     }
     let ToldStore {

@@ -35,12 +35,13 @@ use Rattle.box_tree.specs.Tables.{all_rules, table_of}
 use Rattle.box_tree.specs.Views.{ViewValue, IsViewOf, AreSeen, alternatives_held, alternatives_at}
 use Rattle.table_laws.specs.Rows.{told_in}
 use Rattle.guard_plan.specs.Guards.{IsTestable}
+use Rattle.guard_plan.specs.Noisy.{IsOne}
 use Rattle.guard_plan.proofs.Chains.{told_stands, take_push, drop_push}
 use Rattle.guard_plan.proofs.ChoiceNone.{inside_of}
 use Rattle.guard_plan.proofs.CutRight.{empty_solved}
 use Rattle.guard_plan.proofs.Placed.{IsPlaced, ArePlaced, placed, all_placed, frames_are, environment_is, all_stand, all_testable}
 use Rattle.guard_plan.proofs.Sites.{shows_at, whole_stands}
-use Rattle.idle_plan.specs.Told.{ListsTold, IsOne}
+use Rattle.idle_plan.specs.Told.{ListsTold}
 use Rattle.idle_plan.specs.Waits.{AreToldBy}
 use Rattle.idle_plan.proofs.Listed.{AreStoresOf, around_consistent, touched_unstructured, listed_touches, listed_unstructured, touched_listed}
 use Rattle.idle_plan.proofs.Needed.{NeedsOwn, Suffices}

@@ -1,5 +1,5 @@
 -- What stores tell variables from outside of them.
-use Rattle.std.specs.Prelude.{◌≡◌, ◌-◌, List, [], ◌∷◌, length, take, ◌⊎◌}
+use Rattle.std.specs.Prelude.{◌-◌, List, length, take}
 use Rattle.akl_terms.specs.declared.name.Var.{Var}
 use Rattle.akl_terms.specs.declared.term.Node.{Node}
 use Rattle.akl_terms.specs.Equal.{IsConsistent}
@@ -20,8 +20,3 @@ pub record ListsTold (nodes : List Node) (ss : List Stored) (list : List Var) : 
 pub record AreGathered (I : Type 0) (In : I → Type 0) (Asked : I → Type 0) (Lists : I → List Var → Type 0) (list : List Var) : Type 0 where
   pub each : (y : Var) → IsAmong y list → (i : I) × (own : List Var) × In i × Lists i own × IsAmong y own × ((z : Var) → IsAmong z own → IsAmong z list)
   pub every : (i : I) → In i → Asked i → (own : List Var) × Lists i own × ((y : Var) → IsAmong y own → IsAmong y list)
-
--- one of a list
-abbrev pub IsOne : (A : Type 0) → A → List A → Type 0
-IsOne A a [] = ⊥
-IsOne A a (b ∷ bs) = (a ≡ b) ⊎ IsOne A a bs

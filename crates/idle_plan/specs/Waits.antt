@@ -19,7 +19,9 @@ use Rattle.box_tree.specs.Views.{ViewValue}
 use Rattle.stable_test.specs.Inner.{AreTouchedInside}
 use Rattle.local_store.specs.Chained.{equations_of}
 use Rattle.class_members.specs.Members.{outermost_of, IsMember, AreMembers}
-use Rattle.idle_plan.specs.Told.{ListsTold, AreGathered, IsOne}
+use Rattle.guard_plan.specs.declared.guards.Noise.{Noise}
+use Rattle.guard_plan.specs.Noisy.{IsOne}
+use Rattle.idle_plan.specs.Told.{ListsTold, AreGathered}
 
 -- what the boxes from the second one inwards touch, up to this many, each in the stores down to it
 abbrev pub AreToldAround : List Node → List Stored → ℕ → List Var → Type 0
@@ -34,6 +36,10 @@ AreToldBy nodes ss alternatives = AreGathered Alternative (λ (a : Alternative).
 abbrev pub AddsTold : List Node → List Stored → Alternative → List Var → List Var → Type 0
 AddsTold nodes ss a old new = ((own : List Var) × (a.solved ≡ true) × ListsTold nodes (ss ++ a.store ∷ []) own × (new ≡ old ++ own))
     ⊎ ((a.solved ≡ true → IsConsistent (equations_of nodes (ss ++ a.store ∷ [])) → ⊥) × (new ≡ old))
+
+-- members of the classes that alternatives touch, in the stores around them, enough for each
+abbrev pub AreMembersOfAll : List Node → List Stored → List Noise → List Var → Type 0
+AreMembersOfAll nodes ss noise list = AreGathered Noise (λ (n : Noise). IsOne Noise n noise) (λ (n : Noise). Unit {0}) (λ (n : Noise). AreMembers nodes ss n.on.items) list
 
 -- the class on which an atom waits
 pub record AreAwaited (p : Program) (ss : List Stored) (atom : Goal) (list : List Var) : Type 0 where

@@ -1,19 +1,17 @@
 //! What a goal waits on by itself.
 
-ghost use Rattle.std.specs.Prelude.{◌≡◌, ◌++◌, ◌∷◌, [], IfOk, OnOk, MatchOption};
-ghost use Rattle.std.specs.List.{AllByRecursion, list_any};
-ghost use Rattle.akl_terms.specs.Equal.{IsConsistent};
+ghost use Rattle.std.specs.Prelude.{◌≡◌, ◌≢◌, ◌++◌, ◌∷◌, [], IfOk, OnOk};
+ghost use Rattle.akl_terms.specs.declared.program.Op.{Op};
 ghost use Rattle.guard_plan.specs.Guards.{IsTestable};
-ghost use Rattle.local_store.specs.Chained.{equations_of};
-ghost use Rattle.idle_plan.specs.Told.{ListsTold};
-ghost use Rattle.idle_plan.specs.Waits.{AddsTold, AreAwaited, AreToldBy};
+ghost use Rattle.guard_plan.specs.Noisy.{AnswersInside, HasNoise, tested};
+ghost use Rattle.idle_plan.specs.Waits.{AddsTold, AreAwaited, AreMembersOfAll, AreToldBy};
 
-use crate::told::told_outside;
-use akl_terms::{Goal, Program, Templates, Var};
+use akl_terms::{Goal, Op, Program, Var};
 use box_tree::{Alternative, View};
 use class_members::members;
-use guard_plan::shared;
-use local_store::{Chain, Consistency, Shared, Store, consistent};
+use entail_test::Quietness;
+use guard_plan::{Noise, quietness, shared};
+use local_store::{Chain, Consistency, consistent};
 use stable_test::awaited;
 use std::alloc::{AllocError, Global};
 
@@ -37,49 +35,42 @@ pub(crate) fn waits_of_atom(
     }
 }
 
-// Members of the classes that the solved alternatives of a choice touch.
+// Members of the classes that the solved alternatives of a choice other than `?` touch, by what the tests of its guards
+// found.
 pub(crate) fn waits_of_choice(
     alloc: Global,
     program: &Program,
     view: &View,
+    op: Op,
+    noise: &[Noise],
 ) -> Result<Vec<Var>, AllocError>
     requires program { program.now ≡ view.now.table.program }
+    requires guarded { op ≢ Op.Choice }
+    requires noise { HasNoise program.now.templates.nodes view.now.stores (tested op view.now.alternatives) noise.now }
     ensures { IfOk result (λ list. AreToldBy program.now.templates.nodes view.now.stores view.now.alternatives list.items) }
 {
+    let mut list = members_of_all(alloc, &view.chain(&program.templates), noise)?;
     let alternatives = view.alternatives();
-    if !is_one_solved(alternatives) {
-        return Ok(Vec::new(alloc));
+    if op == Op::Condition && alternatives.len() > 1 {
+        // The last one cuts none off, so its guard wasn't tested.
+        let last = &alternatives[alternatives.len() - 1];
+        push_told(alloc, program, view, last, &mut list)?;
     }
-    match consistent(alloc, &view.chain(&program.templates))? {
-        Consistency::Clash { .. } => Ok(Vec::new(alloc)),
-        Consistency::Consistent => {
-            let mut stores = shared(alloc, view.stores())?;
-            told_by_all(alloc, &program.templates, &mut stores, alternatives)
-        }
-    }
+    Ok(list)
 }
 
-// Whether one of these alternatives is solved.
-fn is_one_solved(alternatives: &[Alternative]) -> bool
-    ensures { result ≡ list_any (λ a. a.solved) alternatives.now }
-{
-    alternatives.iter().any(|alternative| alternative.solved)
-}
-
-// The same under the stores of a path, which stay.
-fn told_by_all(
+// Members of the classes that alternatives touch in the box of a chain, for one after another.
+fn members_of_all(
     alloc: Global,
-    templates: &Templates,
-    path: &mut Vec<Shared<Store>>,
-    alternatives: &[Alternative],
+    chain: &Chain,
+    noise: &[Noise],
 ) -> Result<Vec<Var>, AllocError>
-    requires testable { AllByRecursion (IsTestable templates.now.nodes path.old.items) alternatives.now }
-    requires consistent { IsConsistent (equations_of templates.now.nodes path.old.items) }
-    ensures { IfOk result (λ list. AreToldBy templates.now.nodes path.old.items alternatives.now list.items) }
+    ensures { IfOk result (λ list. AreMembersOfAll chain.now.nodes chain.now.stores noise.now list.items) }
 {
     let mut list = Vec::new(alloc);
-    for alternative in alternatives {
-        push_told(alloc, templates, path, alternative, &mut list)?;
+    for one in noise {
+        let own = members(alloc, chain, one.on.as_slice())?;
+        list.extend_from_slice(own.as_slice())?;
     }
     Ok(list)
 }
@@ -87,43 +78,40 @@ fn told_by_all(
 // What an alternative touches comes to the end of a list, where it is solved.
 fn push_told(
     alloc: Global,
-    templates: &Templates,
-    path: &mut Vec<Shared<Store>>,
+    program: &Program,
+    view: &View,
     alternative: &Alternative,
     list: &mut Vec<Var>,
 ) -> Result<(), AllocError>
-    requires testable { IsTestable templates.now.nodes path.old.items alternative.now }
-    requires consistent { IsConsistent (equations_of templates.now.nodes path.old.items) }
-    ensures path { OnOk result (path.new.items ≡ path.old.items) }
-    ensures list { OnOk result (AddsTold templates.now.nodes path.old.items alternative.now list.old.items list.new.items) }
+    requires program { program.now ≡ view.now.table.program }
+    requires testable { IsTestable program.now.templates.nodes view.now.stores alternative.now }
+    ensures { OnOk result (AddsTold program.now.templates.nodes view.now.stores alternative.now list.old.items list.new.items) }
 {
     if !alternative.solved {
         return Ok(());
     }
-    match told_over(alloc, templates, path, alternative)? {
-        Some(own) => list.extend_from_slice(own.as_slice()),
-        None => Ok(()),
+    match quietness_of(alloc, program, view, alternative)? {
+        Quietness::Noisy { on } => {
+            let own = members(alloc, &view.chain(&program.templates), on.as_slice())?;
+            list.extend_from_slice(own.as_slice())
+        }
+        Quietness::Quiet | Quietness::Inconsistent { .. } => Ok(()),
     }
 }
 
-// Members of the classes that an alternative touches under the stores of a path, which stay; `None` exactly where all
-// together is inconsistent.
-fn told_over(
+// What an alternative tells the variables from outside of it.
+fn quietness_of(
     alloc: Global,
-    templates: &Templates,
-    path: &mut Vec<Shared<Store>>,
+    program: &Program,
+    view: &View,
     alternative: &Alternative,
-) -> Result<Option<Vec<Var>>, AllocError>
-    requires testable { IsTestable templates.now.nodes path.old.items alternative.now }
-    requires consistent { IsConsistent (equations_of templates.now.nodes path.old.items) }
-    ensures path { IfOk result (λ _. path.new.items ≡ path.old.items) }
-    ensures told { IfOk result (λ found. MatchOption found
-        (IsConsistent (equations_of templates.now.nodes (path.old.items ++ alternative.now.store ∷ [])) → ⊥)
-        (λ list. ListsTold templates.now.nodes (path.old.items ++ alternative.now.store ∷ []) list.items)) }
+) -> Result<Quietness, AllocError>
+    requires program { program.now ≡ view.now.table.program }
+    requires testable { IsTestable program.now.templates.nodes view.now.stores alternative.now }
+    ensures { IfOk result (AnswersInside program.now.templates.nodes (view.now.stores ++ alternative.now.store ∷ [])) }
 {
-    path.push(alternative.store.share()?)?;
-    let chain = Chain::of_solved(templates, path.as_slice(), alternative.known);
-    let found = told_outside(alloc, &chain)?;
-    path.pop();
-    Ok(found)
+    let mut stores = shared(alloc, view.stores())?;
+    stores.push(alternative.store.share()?)?;
+    let chain = Chain::of_solved(&program.templates, stores.as_slice(), alternative.known);
+    quietness(alloc, &chain)
 }

@@ -3,6 +3,7 @@
 ghost use Rattle.std.specs.Prelude.{◌≡◌, true, false, IfOk};
 ghost use Rattle.akl_terms.specs.declared.name.Place.{Place};
 ghost use Rattle.box_copies.specs.Copies.{IsInsideOfBox};
+ghost use Rattle.guard_plan.specs.Noisy.{IsNoiseAt};
 ghost use Rattle.idle_plan.specs.Idling.{IsAtRootBox, IsUnready, IsIdleBy};
 ghost use Rattle.idle_plan.specs.Waits.{AreOwnWaits};
 
@@ -12,28 +13,32 @@ use crate::inside::waits_inside;
 use crate::reading::{box_reads, goal_reads, item_of};
 use akl_terms::{Name, Op, Program, Var};
 use box_tree::{Inside, Sight, View};
+use guard_plan::Noise;
 use idle_places::Idle;
 use std::alloc::{AllocError, Global};
 
-/// What a goal that isn't ready waits on, by a view of it. An `Err` is want of memory.
+/// What a goal that isn't ready waits on, by a view of it, and by what the tests of guards found at a choice. An `Err` is
+/// want of memory.
 ///
-/// This costs a solution of the stores down to it, and to each of its solved alternatives, as far as they aren't known
-/// to be solved.
+/// This costs a solution of the stores down to it, as far as they aren't known to be solved, and of a choice by `->` a test
+/// of its last alternative.
 pub fn idle_goal(
     alloc: Global,
     program: &Program,
     view: &View,
     goal: Name,
+    noise: &[Noise],
 ) -> Result<Idle, AllocError>
     requires program { program.now ≡ view.now.table.program }
     requires place { view.now.place ≡ Place.Goal goal }
+    requires noise { IsNoiseAt view.now view.now.sight noise.now }
     requires unready { IsUnready view.now }
     ensures idle { IfOk result (IsIdleBy view.now) }
     ensures inside { IfOk result (λ idle. idle.inside ≡ true) }
 {
     let alternatives = view.alternatives();
     let path = view.path();
-    let own = waits_of_goal(alloc, program, view)?;
+    let own = waits_of_goal(alloc, program, view, noise)?;
     let mut on = waits_of_boxes_around(alloc, program, view, path.len())?;
     on.extend_from_slice(own.as_slice())?;
     let reads = goal_reads(alloc, goal, path, alternatives)?;
@@ -85,15 +90,21 @@ pub fn idle_root(alloc: Global, view: &View) -> Result<Idle, AllocError>
 }
 
 // What a goal waits on by itself.
-fn waits_of_goal(alloc: Global, program: &Program, view: &View) -> Result<Vec<Var>, AllocError>
+fn waits_of_goal(
+    alloc: Global,
+    program: &Program,
+    view: &View,
+    noise: &[Noise],
+) -> Result<Vec<Var>, AllocError>
     requires program { program.now ≡ view.now.table.program }
+    requires noise { IsNoiseAt view.now view.now.sight noise.now }
     ensures { IfOk result (λ list. AreOwnWaits program.now view.now view.now.sight list.items) }
 {
     match view.sight() {
         Sight::Atom(atom) => waits_of_atom(alloc, program, view, atom),
         Sight::Choice { op } => match op {
             Op::Choice => Ok(Vec::new(alloc)),
-            Op::Condition | Op::Commit => waits_of_choice(alloc, program, view),
+            Op::Condition | Op::Commit => waits_of_choice(alloc, program, view, op, noise),
         },
         Sight::Box { .. } => Ok(Vec::new(alloc)),
     }

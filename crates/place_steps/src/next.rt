@@ -3,6 +3,7 @@
 ghost use Rattle.std.specs.Prelude.{◌≡◌, IfOk};
 ghost use Rattle.akl_terms.specs.declared.name.Place.{Place};
 ghost use Rattle.guard_plan.specs.Planned.{HasNoRule};
+ghost use Rattle.guard_plan.specs.Noisy.{IsNoiseAt};
 ghost use Rattle.split_plan.specs.Split.{IsSplitBy};
 ghost use Rattle.place_steps.specs.Seen.{view_in, IsSeen, IsBareRoot, IsSeenInside};
 ghost use Rattle.place_steps.specs.Next.{IsNext};
@@ -10,9 +11,10 @@ ghost use Rattle.place_steps.specs.Next.{IsNext};
 use crate::seen::Seen;
 use akl_terms::{Name, Program};
 use box_tree::{Inside, Plan, View};
+use guard_plan::Noise;
 use idle_places::Idle;
 use idle_plan::{idle_box, idle_goal, idle_root};
-use rule_plan::plan;
+use rule_plan::plan_with_noise;
 use split_plan::plan_split;
 use std::alloc::{AllocError, Global};
 
@@ -32,11 +34,12 @@ pub fn next_of(alloc: Global, program: &Program, seen: &Seen) -> Result<Next, Al
     requires seen { IsSeen seen.now }
     ensures { IfOk result (IsNext (view_in seen.now)) }
 {
-    if let Some(found) = plan(alloc, program, seen.view())? {
+    let mut noise = Vec::new(alloc);
+    if let Some(found) = plan_with_noise(alloc, program, seen.view(), &mut noise)? {
         return Ok(Next::Plan(found));
     }
     match seen {
-        Seen::Goal { goal, view } => goal_next(alloc, program, view, *goal),
+        Seen::Goal { goal, view } => goal_next(alloc, program, view, *goal, noise.as_slice()),
         Seen::Root { view } => root_next(alloc, view),
         Seen::Box {
             view,
@@ -47,13 +50,20 @@ pub fn next_of(alloc: Global, program: &Program, seen: &Seen) -> Result<Next, Al
 }
 
 // What a goal at which no rule applies waits on.
-fn goal_next(alloc: Global, program: &Program, view: &View, goal: Name) -> Result<Next, AllocError>
+fn goal_next(
+    alloc: Global,
+    program: &Program,
+    view: &View,
+    goal: Name,
+    noise: &[Noise],
+) -> Result<Next, AllocError>
     requires program { program.now ≡ view.now.table.program }
     requires place { view.now.place ≡ Place.Goal goal }
+    requires noise { IsNoiseAt view.now view.now.sight noise.now }
     requires none { HasNoRule view.now }
     ensures { IfOk result (IsNext view.now) }
 {
-    let idle = idle_goal(alloc, program, view, goal)?;
+    let idle = idle_goal(alloc, program, view, goal, noise)?;
     Ok(Next::Idle(idle))
 }
 

@@ -1,6 +1,7 @@
 pub mod Storing
 pub mod InForce
 pub mod NoRule
+pub mod Silent
 pub mod AtomNone
 pub mod GoalRight
 pub mod ToldGoals

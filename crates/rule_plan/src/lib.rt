@@ -17,4 +17,4 @@ mod sending;
 mod stores;
 mod telling;
 
-pub use planning::plan;
+pub use planning::{plan, plan_with_noise};

@@ -1,10 +1,11 @@
 //! Plans by what stands at a place.
 
-ghost use Rattle.std.specs.Prelude.{◌≡◌, IfOk};
+ghost use Rattle.std.specs.Prelude.{◌≡◌, [], IfOk};
 ghost use Rattle.akl_terms.specs.declared.name.Place.{Place};
 ghost use Rattle.box_tree.specs.declared.view.Sight.{Sight};
 ghost use Rattle.box_tree.specs.Views.{IsViewOf};
 ghost use Rattle.guard_plan.specs.Planned.{IsPlannedBy};
+ghost use Rattle.guard_plan.specs.Noisy.{IsTriedBy};
 
 use crate::evaluating::{Arithmetic, eval};
 use crate::failing::fail;
@@ -15,7 +16,7 @@ use crate::sending::{Message, send};
 use crate::telling::tell;
 use akl_terms::{Code, Goal, Name, Place, Program};
 use box_tree::{Plan, Sight, View};
-use guard_plan::plan_guard;
+use guard_plan::{Noise, plan_guard};
 use std::alloc::{AllocError, Global};
 
 /// A right plan of a rule other than Split for the place of a view, by its worker; `None` exactly where no such rule
@@ -24,10 +25,25 @@ pub fn plan(alloc: Global, program: &Program, view: &View) -> Result<Option<Plan
     requires { program.now ≡ view.now.table.program }
     ensures { IfOk result (IsPlannedBy view.now) }
 {
+    let mut noise = Vec::new(alloc);
+    plan_with_noise(alloc, program, view, &mut noise)
+}
+
+/// The same. Where no rule applies at a choice, what those of its alternatives touch that were tested comes to the noise.
+pub fn plan_with_noise(
+    alloc: Global,
+    program: &Program,
+    view: &View,
+    noise: &mut Vec<Noise>,
+) -> Result<Option<Plan>, AllocError>
+    requires program { program.now ≡ view.now.table.program }
+    requires silent { noise.old.items ≡ [] }
+    ensures { IfOk result (IsTriedBy view.now noise.new.items) }
+{
     match view.place() {
         Place::Goal(goal) => match view.sight() {
             Sight::Atom(atom) => plan_atom(alloc, program, view, goal, atom),
-            Sight::Choice { op } => plan_guard(alloc, program, view, goal, op),
+            Sight::Choice { op } => plan_guard(alloc, program, view, goal, op, noise),
             Sight::Box { .. } => Ok(None),
         },
         Place::Box(name) => match view.sight() {

@@ -1,16 +1,29 @@
-use Rattle.guard_plan.proofs.Tested.{clash_outside, answered_quiet, answered_other}
+use Rattle.guard_plan.proofs.Noises.{quiet_adds, noisy_adds, clash_adds}
+use Rattle.guard_plan.proofs.Tested.{says_quiet, says_other, clash_other}
 use Rattle.guard_plan.proofs.guards.is_quiet.Goals as goal
-use Rattle.guard_plan.proofs.guards.is_quiet.Goals.{in-Quiet, in_default}
 
-pub returns-in-Clash : goal.returns-in-Clash
-returns-in-Clash c =
-    let d = rw (c.in-Clash.is, c.outer.ensures.nodes, c.outer.ensures.stores, c.saturating_sub-depth.ensures, c.stores.ensures) at c.in_ok-consistent.ensures in
-    clash_outside c.args.chain.now.nodes c.args.chain.now.stores c.in-Clash.left c.in-Clash.right d.0 d.1
+pub returns-in-Quiet-clause-holds : goal.returns-in-Quiet-clause-holds
+returns-in-Quiet-clause-holds c = says_quiet c.args.chain.now.nodes c.args.chain.now.stores (rw c.in-Quiet.is at c.in_ok-quietness.ensures)
 
-pub returns-after-branch-4 : goal.returns-after-branch-4
-returns-after-branch-4 c =
-    let d = rw (c.in-Consistent.is, c.outer.ensures.nodes, c.outer.ensures.stores, c.saturating_sub-depth.ensures, c.stores.ensures) at c.in_ok-consistent.ensures in
-    elim c.match-branch-4.branch [
-      | in-Quiet w ↦ rw w.result-is (answered_quiet c.args.chain.now.nodes c.args.chain.now.stores c.requires d (rw w.in-Quiet.is at c.in_ok-quiet-in-Consistent.ensures))
-      | in_default w ↦ rw w.result-is (answered_other c.args.chain.now.nodes c.args.chain.now.stores c.requires d c.in_ok-quiet-in-Consistent.field-0 w.in_default.not-Quiet c.in_ok-quiet-in-Consistent.ensures)
-    ]
+pub returns-in-Quiet-clause-noise : goal.returns-in-Quiet-clause-noise
+returns-in-Quiet-clause-noise c = quiet_adds c.args.chain.now.nodes c.args.chain.now.stores c.args.noise.now.items (rw c.in-Quiet.is at c.in_ok-quietness.ensures)
+
+pub returns-in_ok-push-in-Noisy-clause-holds : goal.returns-in_ok-push-in-Noisy-clause-holds
+returns-in_ok-push-in-Noisy-clause-holds c =
+    let a = rw c.in-Noisy.is at c.in_ok-quietness.ensures in
+    says_other c.args.chain.now.nodes c.args.chain.now.stores a.1
+
+pub returns-in_ok-push-in-Noisy-clause-noise : goal.returns-in_ok-push-in-Noisy-clause-noise
+returns-in_ok-push-in-Noisy-clause-noise c =
+    let a = rw c.in-Noisy.is at c.in_ok-quietness.ensures in
+    rw c.in_ok-push-in-Noisy.ensures.items (noisy_adds c.args.chain.now.nodes c.args.chain.now.stores c.args.noise.now.items (record { on = c.in-Noisy.on }) a)
+
+pub returns-in-Inconsistent-clause-holds : goal.returns-in-Inconsistent-clause-holds
+returns-in-Inconsistent-clause-holds c =
+    let a = rw c.in-Inconsistent.is at c.in_ok-quietness.ensures in
+    says_other c.args.chain.now.nodes c.args.chain.now.stores (clash_other c.args.chain.now.nodes c.args.chain.now.stores c.in-Inconsistent.left c.in-Inconsistent.right a)
+
+pub returns-in-Inconsistent-clause-noise : goal.returns-in-Inconsistent-clause-noise
+returns-in-Inconsistent-clause-noise c =
+    let a = rw c.in-Inconsistent.is at c.in_ok-quietness.ensures in
+    clash_adds c.args.chain.now.nodes c.args.chain.now.stores c.args.noise.now.items c.in-Inconsistent.left c.in-Inconsistent.right a

@@ -1,4 +1,4 @@
-use Rattle.std.proofs.Common.{List, length, sym, ◌∙◌, ap, inl, inr, arith}
+use Rattle.std.proofs.Common.{List, length, sym, ◌∙◌, ap, arith}
 use Rattle.std.proofs.lemmas.Bool.{false≢true}
 use Rattle.std.specs.Prelude.{◌^◌, ◌<◌}
 use Rattle.akl_terms.specs.declared.name.Name.{Name}
@@ -8,14 +8,15 @@ use Rattle.local_store.specs.Stored.{Stored}
 use Rattle.box_tree.specs.Edits.{named_atoms}
 use Rattle.table_laws.specs.Steps as laws
 use Rattle.guard_plan.proofs.Chosen.{only_testable, only_deep, only_unsolved, only_many, only_unheld, only_planned}
+use Rattle.guard_plan.proofs.Noises.{noise_unsolved, noise_of_promote}
 use Rattle.guard_plan.proofs.promoting.promote.Goals as goal
+use Rattle.guard_plan.proofs.promoting.promote.Goals.{then-not-branch-via-then-not-branch, then-not-branch-via-else-not-branch+then-names-gt-MOST}
 
 pub returns-then-not-only : goal.returns-then-not-only
-returns-then-not-only c = elim c.then-not-only.either [
-  | inl e ↦ only_unsolved c.args.view.now c.label_for-label.ensures.seen c.args.goal c.args.op c.requires.place c.requires.sight c.args.only.now c.requires.only e
-  | inr w ↦ only_many c.args.view.now c.label_for-label.ensures.seen c.args.goal c.args.op c.requires.place c.requires.sight c.args.only.now c.requires.only
-      (omega (arith, w.1, ap (λ (l : List Goal). length l) c.body.ensures))
-]
+returns-then-not-only c = (
+  only_unsolved c.args.view.now c.label_for-label.ensures.seen c.args.goal c.args.op c.requires.place c.requires.sight c.args.only.now c.requires.only c.if-not-only.true,
+  noise_unsolved c.args.view.now c.args.op c.requires.sight c.args.noise.now.items c.args.only.now c.requires.only c.if-not-only.true c.requires.silent,
+)
 
 pub of_solved-chain-requires : goal.of_solved-chain-requires
 of_solved-chain-requires c = rw (c.as_slice.ensures.value, c.in_ok-push.ensures.items, c.in_ok-stores.ensures, c.in_ok-share.ensures, c.stores.ensures, c.requires.program)
@@ -27,9 +28,16 @@ guard_holds-requires c = rw (c.of_solved-chain.ensures, c.as_slice.ensures.value
 
 pub returns-then-not-branch : goal.returns-then-not-branch
 returns-then-not-branch c =
-    let says = rw (c.of_solved-chain.ensures, c.as_slice.ensures.value, c.in_ok-push.ensures.items, c.in_ok-stores.ensures, c.in_ok-share.ensures, c.stores.ensures, c.requires.program) at c.in_ok-guard_holds.ensures in
-    only_unheld c.args.view.now c.label_for-label.ensures.seen c.args.goal c.args.op c.requires.place c.requires.sight c.args.only.now c.requires.only
-    (λ h. false≢true (sym c.if-not-branch.true ∙ says.1 h))
+    let says = rw (c.of_solved-chain.ensures, c.as_slice.ensures.value, c.in_ok-push.ensures.items, c.in_ok-stores.ensures, c.in_ok-share.ensures, c.stores.ensures, c.requires.program) at c.in_ok-guard_holds.ensures.holds in
+    let noise = rw (c.of_solved-chain.ensures, c.as_slice.ensures.value, c.in_ok-push.ensures.items, c.in_ok-stores.ensures, c.in_ok-share.ensures, c.stores.ensures, c.requires.program) at c.in_ok-guard_holds.ensures.noise in (
+      elim c.then-not-branch.branch [
+        | then-not-branch-via-then-not-branch w ↦ only_unheld c.args.view.now c.label_for-label.ensures.seen c.args.goal c.args.op c.requires.place c.requires.sight c.args.only.now c.requires.only
+            (λ h. false≢true (sym w.if-not-branch.true ∙ says.1 h))
+        | then-not-branch-via-else-not-branch+then-names-gt-MOST w ↦ only_many c.args.view.now c.label_for-label.ensures.seen c.args.goal c.args.op c.requires.place c.requires.sight c.args.only.now c.requires.only
+            (omega (arith, w.if-names-gt-MOST.true, ap (λ (l : List Goal). length l) c.body.ensures))
+      ],
+      noise_of_promote c.args.view.now c.args.op c.requires.sight c.guard_holds.new.noise.items c.args.only.now c.requires.only c.if-not-only.false c.args.noise.now.items c.requires.silent noise,
+    )
 
 pub promoted-requires : goal.promoted-requires
 promoted-requires c = rw (c.of_solved-chain.ensures, c.as_slice.ensures.value, c.in_ok-push.ensures.items, c.in_ok-stores.ensures, c.in_ok-share.ensures, c.stores.ensures)
@@ -37,7 +45,7 @@ promoted-requires c = rw (c.of_solved-chain.ensures, c.as_slice.ensures.value, c
 
 pub new-requires-2 : goal.new-requires-2
 new-requires-2 c =
-    let says = rw (c.of_solved-chain.ensures, c.as_slice.ensures.value, c.in_ok-push.ensures.items, c.in_ok-stores.ensures, c.in_ok-share.ensures, c.stores.ensures, c.requires.program) at c.in_ok-guard_holds.ensures in
+    let says = rw (c.of_solved-chain.ensures, c.as_slice.ensures.value, c.in_ok-push.ensures.items, c.in_ok-stores.ensures, c.in_ok-share.ensures, c.stores.ensures, c.requires.program) at c.in_ok-guard_holds.ensures.holds in
     let answer = rw (c.of_solved-chain.ensures, c.as_slice.ensures.value, c.in_ok-push.ensures.items, c.in_ok-stores.ensures, c.in_ok-share.ensures, c.stores.ensures, c.requires.program) at c.in_ok-store.ensures in
     let goals = rw (c.worker.ensures, c.next-next.ensures, c.body-2.ensures) at c.in_ok-goals.ensures in
     let members = rw (c.chain.ensures.nodes, c.chain.ensures.stores, c.as_slice-2.ensures, c.requires.program) at c.in_ok-binds.ensures.members in

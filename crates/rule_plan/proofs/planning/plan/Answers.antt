@@ -1,6 +1,6 @@
-use Rattle.std.proofs.Common.{◌∙◌, sym}
-use Rattle.rule_plan.proofs.NoRule.{box_unseen}
+use Rattle.std.proofs.lemmas.Result.{IfOk-weaker}
+use Rattle.rule_plan.proofs.Silent.{planned}
 use Rattle.rule_plan.proofs.planning.plan.Goals as goal
 
-pub returns-in-Box-sight : goal.returns-in-Box-sight
-returns-in-Box-sight c = box_unseen c.args.view.now c.place.ensures.seen c.in-Goal.goal c.in-Box-sight.failing (sym c.place.ensures.place ∙ c.in-Goal.is) (sym c.sight.ensures ∙ c.in-Box-sight.is)
+pub returns : goal.returns
+returns c = IfOk-weaker c.plan_with_noise.result _ _ (planned c.args.view.now c.plan_with_noise.new.noise.items) c.plan_with_noise.ensures

@@ -1,0 +1,70 @@
+-- What tests of guards found of alternatives that aren't quiet.
+use Rattle.std.specs.Prelude.{◌≡◌, ◌-◌, List, [], ◌∷◌, ◌++◌, length, ◌⊎◌, true, Option, Some, None}
+use Rattle.std.specs.List.{AllByRecursion}
+use Rattle.akl_terms.specs.declared.term.Node.{Node}
+use Rattle.akl_terms.specs.declared.program.Op.{Op}
+use Rattle.akl_terms.specs.Equal.{IsConsistent}
+use Rattle.akl_model.specs.declared.label.Rule.{Rule}
+use Rattle.local_store.specs.Stored.{Stored}
+use Rattle.entail_test.specs.declared.noise.Quietness.{Quietness}
+use Rattle.entail_test.specs.Asked.{whole_at, AreTouchedAt, Answers}
+use Rattle.box_tree.specs.declared.view.Alternative.{Alternative}
+use Rattle.box_tree.specs.declared.view.Sight.{Sight}
+use Rattle.box_tree.specs.Views.{ViewValue}
+use Rattle.box_tree.specs.Plans.{PlanValue}
+use Rattle.guard_plan.specs.declared.guards.Noise.{Noise}
+use Rattle.guard_plan.specs.Guards.{IsQuietInside, IsNoisyOver, cutting}
+use Rattle.guard_plan.specs.Planned.{IsPlanOf, HasNoRule}
+
+-- the answer for the innermost store
+abbrev pub AnswersInside : List Node → List Stored → Quietness → Type 0
+AnswersInside nodes ss = Answers nodes ss (length ss - 1)
+
+-- all together is consistent
+abbrev pub IsConsistentInside : List Node → List Stored → Type 0
+IsConsistentInside nodes ss = IsConsistent (whole_at nodes ss (length ss - 1))
+
+-- and these are one variable of each class that the innermost store touches
+abbrev pub IsNoiseInside : List Node → List Stored → Noise → Type 0
+IsNoiseInside nodes ss n = IsConsistentInside nodes ss × AreTouchedAt nodes ss (length ss - 1) n.on.items
+
+-- what the innermost store touches comes to a list: nothing, where it is quiet or all together is inconsistent
+abbrev pub AddsNoise : List Node → List Stored → List Noise → List Noise → Type 0
+AddsNoise nodes ss old new = ((n : Noise) × IsNoiseInside nodes ss n × (new ≡ old ++ n ∷ [])) ⊎ ((IsConsistentInside nodes ss → IsQuietInside nodes ss) × (new ≡ old))
+
+-- the same of the innermost store's guard, unless it asks for consistency alone
+abbrev pub AddsGuardNoise : Op → List Node → List Stored → List Noise → List Noise → Type 0
+AddsGuardNoise Op.Choice nodes ss old new = Unit {0}
+AddsGuardNoise Op.Condition nodes ss old new = AddsNoise nodes ss old new
+AddsGuardNoise Op.Commit nodes ss old new = AddsNoise nodes ss old new
+
+-- one of a list
+abbrev pub IsOne : (A : Type 0) → A → List A → Type 0
+IsOne A a [] = ⊥
+IsOne A a (b ∷ bs) = (a ≡ b) ⊎ IsOne A a bs
+
+-- what solved alternatives touch under the stores of a path, of all of them that are neither quiet nor inconsistent with it
+pub record HasNoise (nodes : List Node) (path : List Stored) (seen : List Alternative) (noise : List Noise) : Type 0 where
+  pub each : (n : Noise) → IsOne Noise n noise → (a : Alternative) × IsOne Alternative a seen × (a.solved ≡ true) × IsNoiseInside nodes (path ++ a.store ∷ []) n
+  pub every : (a : Alternative) → IsOne Alternative a seen → a.solved ≡ true → IsConsistentInside nodes (path ++ a.store ∷ [])
+      → IsQuietInside nodes (path ++ a.store ∷ []) ⊎ ((n : Noise) × IsOne Noise n noise × IsNoiseInside nodes (path ++ a.store ∷ []) n)
+
+-- none of them is both solved and quiet
+abbrev pub AreNoisy : List Node → List Stored → List Alternative → List Noise → Type 0
+AreNoisy nodes path seen noise = AllByRecursion (IsNoisyOver nodes path) seen × HasNoise nodes path seen noise
+
+-- the alternatives whose guards are tested: one that stands alone, or those that may cut others off
+abbrev pub tested : Op → List Alternative → List Alternative
+tested op (only ∷ []) = only ∷ []
+tested op seen = cutting op seen
+
+-- what the tests of guards found of what is seen at the place of a view: nothing is said but of a choice by `->` or `|`
+abbrev pub IsNoiseAt : ViewValue → Sight → List Noise → Type 0
+IsNoiseAt v (Sight.Choice Op.Condition) noise = HasNoise v.table.program.templates.nodes v.stores (tested Op.Condition v.alternatives) noise
+IsNoiseAt v (Sight.Choice Op.Commit) noise = HasNoise v.table.program.templates.nodes v.stores (tested Op.Commit v.alternatives) noise
+IsNoiseAt v sight noise = Unit {0}
+
+-- a right plan of a rule other than Split, or none where no such rule applies, with what the tests of guards found
+abbrev pub IsTriedBy : ViewValue → List Noise → Option PlanValue → Type 0
+IsTriedBy v noise None = HasNoRule v × IsNoiseAt v v.sight noise
+IsTriedBy v noise (Some p) = IsPlanOf v p × (p.label.rule ≡ Rule.Split → ⊥)
