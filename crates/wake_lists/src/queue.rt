@@ -10,6 +10,7 @@ use crate::schedule::Schedule;
 use crate::turn::{Opened, Urgency};
 use akl_terms::Place;
 use std::alloc::{AllocError, Global};
+use std::cmp::Reverse;
 use std::collections::BTreeMap;
 use std::marker::Model;
 
@@ -17,7 +18,8 @@ use std::marker::Model;
 #[derive(Drop)]
 pub(crate) struct Queue {
     schedule: Schedule,
-    tokens: BTreeMap<Place, u64>,
+    // Younger places stand first, as most look-ups are for them.
+    tokens: BTreeMap<Reverse<Place>, u64>,
 }
 
 impl Model for Queue {
@@ -59,7 +61,7 @@ impl Queue {
     pub(crate) fn token_of(&self, place: Place) -> Option<u64>
         ensures { IsTokenOf self.now place result }
     {
-        self.tokens.get(&place).copied()
+        self.tokens.get(&Reverse(place)).copied()
     }
 
     /// The token of the place whose turn comes before all others.
@@ -87,9 +89,9 @@ impl Queue {
         ensures entered { OnOk result (GetsLast self.old self.new token place urgency) }
         ensures unchanged { OnErr result (self.new ≡ self.old) }
     {
-        self.tokens.insert(place, token)?;
+        self.tokens.insert(Reverse(place), token)?;
         if self.schedule.insert(token, place, urgency).is_err() {
-            self.tokens.remove(&place);
+            self.tokens.remove(&Reverse(place));
             return Err(AllocError);
         }
         Ok(())
@@ -116,7 +118,7 @@ impl Queue {
         ensures gone { IsTakenOut self.old self.new token }
     {
         let opened = self.schedule.remove(token)?;
-        self.tokens.remove(&opened.place);
+        self.tokens.remove(&Reverse(opened.place));
         Some(opened)
     }
 }
