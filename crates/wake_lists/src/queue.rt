@@ -10,7 +10,6 @@ use crate::schedule::Schedule;
 use crate::turn::{Opened, Urgency};
 use akl_terms::Place;
 use std::alloc::{AllocError, Global};
-use std::cmp::Reverse;
 use std::collections::BTreeMap;
 use std::marker::Model;
 
@@ -18,8 +17,7 @@ use std::marker::Model;
 #[derive(Drop)]
 pub(crate) struct Queue {
     schedule: Schedule,
-    // Younger places stand first, as most look-ups are for them.
-    tokens: BTreeMap<Reverse<Place>, u64>,
+    tokens: BTreeMap<Place, u64>,
 }
 
 impl Model for Queue {
@@ -61,7 +59,7 @@ impl Queue {
     pub(crate) fn token_of(&self, place: Place) -> Option<u64>
         ensures { IsTokenOf self.now place result }
     {
-        self.tokens.get(&Reverse(place)).copied()
+        self.tokens.get(&place).copied()
     }
 
     /// The token of the place whose turn comes before all others.
@@ -89,9 +87,9 @@ impl Queue {
         ensures entered { OnOk result (GetsLast self.old self.new token place urgency) }
         ensures unchanged { OnErr result (self.new ≡ self.old) }
     {
-        self.tokens.insert(Reverse(place), token)?;
+        self.tokens.insert(place, token)?;
         if self.schedule.insert(token, place, urgency).is_err() {
-            self.tokens.remove(&Reverse(place));
+            self.tokens.remove(&place);
             return Err(AllocError);
         }
         Ok(())
@@ -118,7 +116,7 @@ impl Queue {
         ensures gone { IsTakenOut self.old self.new token }
     {
         let opened = self.schedule.remove(token)?;
-        self.tokens.remove(&Reverse(opened.place));
+        self.tokens.remove(&opened.place);
         Some(opened)
     }
 }
