@@ -11,20 +11,20 @@ ghost use Rattle.opened_places.specs.Gone.{goals_named, own_places, places_at, A
 
 use akl_model::Label;
 use akl_terms::{Name, Op, Place};
-use box_tree::{Sight, Step, Table, parted};
+use box_tree::{ShortList, Sight, Step, Table, parted};
 use name_list::NameList;
 use std::alloc::{AllocError, Global};
 
 // The goal of the label's place, where it goes by itself.
-fn own_places(alloc: Global, place: Place, step: &Step) -> Result<Vec<Place>, AllocError>
-    ensures { IfOk result (λ places. (nodes : List Node) → places.items ≡ own_places place (step_of nodes step.now)) }
+fn own_places(place: Place, step: &Step) -> ShortList<Place>
+    ensures { (nodes : List Node) → result.items ≡ own_places place (step_of nodes step.now) }
 {
-    let mut places = Vec::new(alloc);
     match step {
-        Step::Tell { .. } | Step::Promote { .. } | Step::Confirm => places.push(place)?,
-        Step::Fork { .. } | Step::Fail | Step::Cut | Step::Refute | Step::Split { .. } => {}
+        Step::Tell { .. } | Step::Promote { .. } | Step::Confirm => ShortList::of(place),
+        Step::Fork { .. } | Step::Fail | Step::Cut | Step::Refute | Step::Split { .. } => {
+            ShortList::new()
+        }
     }
-    Ok(places)
 }
 
 // The alternatives that go where a choice is cut at one of them.
@@ -117,11 +117,15 @@ fn going(alloc: Global, table: &Table, label: Label, step: &Step) -> Result<Name
 }
 
 // Goals come to the end of the places.
-fn push_goals(goals: &[Name], places: &mut Vec<Place>) -> Result<(), AllocError>
+fn push_goals(
+    alloc: Global,
+    goals: &[Name],
+    places: &mut ShortList<Place>,
+) -> Result<(), AllocError>
     ensures { OnOk result (places.new.items ≡ places.old.items ++ goals_named goals.now) }
 {
     for goal in goals {
-        places.push(Place::Goal(*goal))?;
+        places.push(alloc, Place::Goal(*goal))?;
     }
     Ok(())
 }
@@ -131,14 +135,14 @@ fn push_boxes(
     alloc: Global,
     table: &Table,
     boxes: &[Name],
-    places: &mut Vec<Place>,
+    places: &mut ShortList<Place>,
 ) -> Result<(), AllocError>
     ensures { OnOk result (places.new.items ≡ places.old.items ++ places_at (table_of table.now) boxes.now) }
 {
     for name in boxes {
-        places.push(Place::Box(*name))?;
+        places.push(alloc, Place::Box(*name))?;
         let goals = table.goals_of(alloc, *name)?;
-        push_goals(goals.as_slice(), places)?;
+        push_goals(alloc, goals.as_slice(), places)?;
     }
     Ok(())
 }
@@ -148,7 +152,7 @@ fn push_inside_each(
     alloc: Global,
     table: &Table,
     tops: &[Name],
-    places: &mut Vec<Place>,
+    places: &mut ShortList<Place>,
 ) -> Result<(), AllocError>
     requires { IsOfRun table.now }
     ensures { OnOk result (AddsInsideEach (table_of table.now) tops.now places.old.items places.new.items) }
@@ -169,12 +173,12 @@ pub fn gone_places(
     table: &Table,
     label: Label,
     step: &Step,
-) -> Result<Vec<Place>, AllocError>
+) -> Result<ShortList<Place>, AllocError>
     requires { IsOfRun table.now }
     ensures { IfOk result (λ places. AreGone table.now label step.now places.items) }
 {
     let tops = going(alloc, table, label, step)?;
-    let mut places = own_places(alloc, label.place, step)?;
+    let mut places = own_places(label.place, step);
     push_inside_each(alloc, table, tops.as_slice(), &mut places)?;
     Ok(places)
 }

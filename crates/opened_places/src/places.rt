@@ -18,6 +18,7 @@ use akl_model::Label;
 use akl_terms::{Name, Place};
 use box_tree::{NewBox, Step, Table};
 use name_list::NameList;
+use smallvec::SmallVec;
 use std::alloc::{AllocError, Global};
 
 // Most labels change no more places than this.
@@ -42,7 +43,7 @@ pub(crate) fn push_goals<T>(
 fn push_new_box(
     alloc: Global,
     made: &NewBox,
-    path: &mut Vec<Name>,
+    path: &mut SmallVec<Name, 4>,
     places: &mut Vec<Placed>,
 ) -> Result<(), AllocError>
     ensures placed { OnOk result (places.new.items ≡ places.old.items ++ (placed (Place.Box made.now.name) path.old.items ∷ goals_placed (path.old.items ++ made.now.name ∷ []) (map (λ x. x.0) made.now.goals.items))) }
@@ -64,8 +65,7 @@ fn push_new(
 ) -> Result<(), AllocError>
     ensures { OnOk result ((nodes : List Node) → places.new.items ≡ places.old.items ++ new_placed around.now (map (new_box nodes) boxes.now)) }
 {
-    let mut path = Vec::with_capacity(alloc, around.len() + 1)?;
-    path.extend_from_slice(around)?;
+    let mut path = SmallVec::from_slice(alloc, around)?;
     for made in boxes {
         push_new_box(alloc, made, &mut path, places)?;
     }

@@ -9,8 +9,8 @@ use Rattle.akl_terms.specs.contracts.name.PlaceOrd.TheImpl as places
 use Rattle.akl_model.specs.Wakes.{IsOneOf}
 use Rattle.wake_lists.specs.Waits.{same_place}
 use Rattle.wake_lists.proofs.Both.{same_place-equal}
-use Rattle.wake_lists.proofs.Keys.{place_is}
-use Rattle.wake_lists.proofs.WaitsKept.{has_is, or_is, place_back}
+use Rattle.wake_lists.proofs.Keys.{place_is, place_back}
+use Rattle.wake_lists.proofs.WaitsKept.{has_is, or_is}
 use Rattle.opened_places.proofs.Members.{one_left, one_right, one_either}
 use Rattle.scheduler.specs.Dropping.{is_place_in}
 use Rattle.scheduler.specs.Once.{IsEachPlaceOnce, AreSameOnce, AddsNew}

@@ -1,6 +1,5 @@
 -- When open places come doesn't count for what a scheduler is, nor for what a commit makes of it.
 use Rattle.std.proofs.Common.{◌≡◌, ℕ, Bool, true, false, List, [], ◌∷◌, Option, Some, None, refl, sym, ap, subst, ◌∙◌}
-use Rattle.std.specs.Global.{Vec}
 use Rattle.std.specs.Prelude.{cond, option_map, ⊤, Result, Ok, Err, IfOk, IfErr}
 use Rattle.akl_terms.specs.declared.name.Name.{Name}
 use Rattle.akl_terms.specs.declared.name.Place.{Place}
@@ -123,7 +122,7 @@ commits_untimed s p d r q h os e f g u = record {
         is_open = λ place. (λ i. (x.is_open place).0 (untimed_open d.openings os e place i), λ i. untimed_open os d.openings (sym e) place ((x.is_open place).1 i));
         waits = x.waits;
       };
-  tokens = untimed_tokens s.openings d.openings os e q.opened.items (subst (λ (v : Vec ℕ). AreNewTokens s.openings d.openings v.items) (sym g) h.tokens);
+  tokens = untimed_tokens s.openings d.openings os e q.opened.items (subst (λ (ts : List ℕ). AreNewTokens s.openings d.openings ts) (sym (ap (λ v. v.items) g)) h.tokens);
   hurried = u;
 }
 

@@ -20,6 +20,7 @@ use akl_model::Receipt;
 use akl_terms::{Place, Steps};
 use box_tree::Plan;
 use opened_places::Placed;
+use smallvec::SmallVec;
 use std::alloc::{AllocError, Global};
 use std::marker::Brand;
 use std::sync::ledger::{Blank, Ledger};
@@ -30,7 +31,7 @@ use step_commit::CommitError;
 pub struct Committed {
     pub receipt: Receipt,
     /// The tokens of the places that it opened and that weren't open before, each once.
-    pub opened: Vec<u64>,
+    pub opened: SmallVec<u64, 4>,
     /// Whether memory sufficed for the boxes that fail to come first.
     pub hurried: bool,
 }

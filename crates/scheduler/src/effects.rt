@@ -19,7 +19,7 @@ use crate::once::each_once;
 use crate::placing::push_those;
 use crate::turns::TurnHints;
 use akl_terms::{Name, Place, Var};
-use box_tree::{Plan, Step, Table};
+use box_tree::{Plan, ShortList, Step, Table};
 use local_store::Store;
 use opened_places::{Around, Placed, around_of, changed_places, gone_places, places_inside};
 use std::alloc::{AllocError, Global};
@@ -29,7 +29,7 @@ use wake_lists::Waits;
 #[derive(Drop)]
 pub(crate) struct Effects {
     /// The places that go with it, each once.
-    pub gone: Vec<Place>,
+    pub gone: ShortList<Place>,
     /// The places that it opens, each with the boxes around it; one that it changes may be listed twice.
     pub opened: Vec<Placed>,
     /// What it tells of their turns.
@@ -65,7 +65,7 @@ impl Effects {
 }
 
 // The places that go with the label of a plan, each once. An `Err` comes for want of memory.
-fn gone_once(alloc: Global, table: &Table, plan: &Plan) -> Result<Vec<Place>, AllocError>
+fn gone_once(alloc: Global, table: &Table, plan: &Plan) -> Result<ShortList<Place>, AllocError>
     requires { IsOfRun table.now }
     ensures gone { IfOk result (λ gone. AreGone table.now plan.now.label plan.now.step gone.items) }
     ensures once { IfOk result (λ gone. IsEachPlaceOnce gone.items) }
@@ -119,7 +119,7 @@ fn opened_others(
     plan: &Plan,
     home: Name,
     gone: &[Place],
-) -> Result<Vec<Place>, AllocError>
+) -> Result<ShortList<Place>, AllocError>
     requires run { IsOfRun table.now }
     requires there { is_there (table_of table.now) (Place.Box home) ≡ true }
     ensures { IfOk result (λ others. AreOthersOnce table.now waits.now plan.now home gone.now others.items) }
@@ -137,13 +137,13 @@ fn all_others(
     plan: &Plan,
     home: Name,
     gone: &[Place],
-) -> Result<Vec<Place>, AllocError>
+) -> Result<ShortList<Place>, AllocError>
     requires run { IsOfRun table.now }
     requires there { is_there (table_of table.now) (Place.Box home) ≡ true }
     ensures { IfOk result (λ others. AreOthers table.now waits.now plan.now home gone.now others.items) }
 {
-    let mut places = Vec::new(alloc);
-    push_woken(waits, plan.binds(), &mut places)?;
+    let mut places = ShortList::new();
+    push_woken(alloc, waits, plan.binds(), &mut places)?;
     if binds_outer(plan.step(), plan.binds()) {
         push_inner(alloc, table, home, gone, &mut places)?;
     }
@@ -151,21 +151,31 @@ fn all_others(
 }
 
 // The places that wait on these variables come to the end of the places.
-fn push_woken(waits: &Waits, binds: &[Var], places: &mut Vec<Place>) -> Result<(), AllocError>
+fn push_woken(
+    alloc: Global,
+    waits: &Waits,
+    binds: &[Var],
+    places: &mut ShortList<Place>,
+) -> Result<(), AllocError>
     ensures { OnOk result (places.new.items ≡ places.old.items ++ waiting_on waits.now binds.now) }
 {
     for variable in binds {
-        push_waiting(waits, *variable, places)?;
+        push_waiting(alloc, waits, *variable, places)?;
     }
     Ok(())
 }
 
 // The places that wait on a variable come.
-fn push_waiting(waits: &Waits, variable: Var, places: &mut Vec<Place>) -> Result<(), AllocError>
+fn push_waiting(
+    alloc: Global,
+    waits: &Waits,
+    variable: Var,
+    places: &mut ShortList<Place>,
+) -> Result<(), AllocError>
     ensures { OnOk result (places.new.items ≡ places.old.items ++ places_at variable waits.now) }
 {
     for place in waits.woken_by(variable) {
-        places.push(place)?;
+        places.push(alloc, place)?;
     }
     Ok(())
 }
@@ -200,27 +210,28 @@ fn push_inner(
     table: &Table,
     home: Name,
     gone: &[Place],
-    places: &mut Vec<Place>,
+    places: &mut ShortList<Place>,
 ) -> Result<(), AllocError>
     requires run { IsOfRun table.now }
     requires there { is_there (table_of table.now) (Place.Box home) ≡ true }
     ensures { OnOk result (AreInner table.now home gone.now places.old.items places.new.items) }
 {
     let inside = places_inside(alloc, table, home)?;
-    push_staying(inside.as_slice(), gone, places)
+    push_staying(alloc, inside.as_slice(), gone, places)
 }
 
 // Places come that aren't among those that go.
 fn push_staying(
+    alloc: Global,
     inside: &[Placed],
     gone: &[Place],
-    places: &mut Vec<Place>,
+    places: &mut ShortList<Place>,
 ) -> Result<(), AllocError>
     ensures { OnOk result (places.new.items ≡ places.old.items ++ places_but gone.now (places_of inside.now)) }
 {
     for placed in inside {
         if !is_among(placed.place(), gone) {
-            places.push(placed.place())?;
+            places.push(alloc, placed.place())?;
         }
     }
     Ok(())

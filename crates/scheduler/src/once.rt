@@ -5,6 +5,7 @@ ghost use Rattle.scheduler.specs.Once.{IsEachPlaceOnce, AreSameOnce, AddsNew};
 
 use crate::dropping::is_among;
 use akl_terms::Place;
+use box_tree::ShortList;
 use std::alloc::{AllocError, Global};
 use std::collections::BTreeSet;
 
@@ -12,10 +13,10 @@ use std::collections::BTreeSet;
 const FEW: usize = 8;
 
 /// These places, each once, in the order in which they first come.
-pub(crate) fn each_once(alloc: Global, places: Vec<Place>) -> Result<Vec<Place>, AllocError>
+pub(crate) fn each_once(alloc: Global, places: ShortList<Place>) -> Result<ShortList<Place>, AllocError>
     ensures { IfOk result (λ once. AreSameOnce places.items once.items) }
 {
-    if places.len() <= FEW && are_different(places.as_slice()) {
+    if places.as_slice().len() <= FEW && are_different(places.as_slice()) {
         Ok(places)
     } else {
         first_of_each(alloc, places.as_slice())
@@ -37,27 +38,28 @@ fn are_different(places: &[Place]) -> bool
 }
 
 // Each of these places where it first comes.
-fn first_of_each(alloc: Global, places: &[Place]) -> Result<Vec<Place>, AllocError>
+fn first_of_each(alloc: Global, places: &[Place]) -> Result<ShortList<Place>, AllocError>
     ensures { IfOk result (λ once. AreSameOnce places.now once.items) }
 {
     let mut seen = BTreeSet::new(alloc);
-    let mut once = Vec::new(alloc);
+    let mut once = ShortList::new();
     for place in places {
-        push_new(*place, &mut seen, &mut once)?;
+        push_new(alloc, *place, &mut seen, &mut once)?;
     }
     Ok(once)
 }
 
 // A place that wasn't seen yet comes to the end of the places.
 fn push_new(
+    alloc: Global,
     place: Place,
     seen: &mut BTreeSet<Place>,
-    places: &mut Vec<Place>,
+    places: &mut ShortList<Place>,
 ) -> Result<(), AllocError>
     ensures { OnOk result (AddsNew place seen.old.keys places.old.items seen.new.keys places.new.items) }
 {
     if seen.insert(place)? {
-        places.push(place)?;
+        places.push(alloc, place)?;
     }
     Ok(())
 }

@@ -7,6 +7,7 @@ ghost use Rattle.scheduler.specs.Counting.{OpensBySteps, OpenSomeBySteps};
 use crate::counting::count;
 use akl_terms::{Place, Steps};
 use opened_places::Placed;
+use smallvec::SmallVec;
 use std::alloc::{AllocError, Global};
 use std::sync::ledger::Ledger;
 use wake_lists::{Open, Urgency};
@@ -18,12 +19,12 @@ pub(crate) fn open_all<L: Ledger>(
     open_places: &mut Open,
     places: &[Placed],
     steps: &mut Steps<L>,
-) -> Result<Vec<u64>, AllocError>
+) -> Result<SmallVec<u64, 4>, AllocError>
     ensures opened { IfOk result (λ tokens. AreOpened open_places.old places.now open_places.new tokens.items) }
     ensures unchanged { IfErr result (λ _. open_places.new ≡ open_places.old) }
     ensures steps { OpenSomeBySteps places.now steps.old steps.new }
 {
-    let mut tokens = Vec::new(alloc);
+    let mut tokens = SmallVec::new(alloc);
     for placed in places {
         if let Err(error) = open_one(open_places, placed, &mut tokens, steps) {
             close_all(open_places, tokens);
@@ -37,7 +38,7 @@ pub(crate) fn open_all<L: Ledger>(
 fn open_one<L: Ledger>(
     open_places: &mut Open,
     placed: &Placed,
-    tokens: &mut Vec<u64>,
+    tokens: &mut SmallVec<u64, 4>,
     steps: &mut Steps<L>,
 ) -> Result<(), AllocError>
     ensures opened { IfOk result (λ _. IsOpenedBy open_places.old tokens.old.items placed.now open_places.new tokens.new.items) }
@@ -68,7 +69,7 @@ fn urgency_at_first(place: Place) -> Urgency {
 }
 
 /// Closes the places with these tokens, the last one first.
-pub(crate) fn close_all(open_places: &mut Open, tokens: Vec<u64>)
+pub(crate) fn close_all(open_places: &mut Open, tokens: SmallVec<u64, 4>)
     ensures { open_places.new ≡ closed_back tokens.items open_places.old }
 {
     let mut left = tokens;

@@ -12,6 +12,7 @@ use crate::scheduler::Scheduler;
 use akl_terms::{Name, Place};
 use box_tree::{NewBox, Plan, Sight, Step, Table};
 use opened_places::Placed;
+use smallvec::SmallVec;
 use std::alloc::{AllocError, Global};
 use wake_lists::{Open, Urgency};
 
@@ -19,7 +20,7 @@ use wake_lists::{Open, Urgency};
 #[derive(Drop)]
 pub(crate) struct TurnHints {
     /// The boxes whose stores it leaves unsolved, as it does one with a clash.
-    unsolved: Vec<Name>,
+    unsolved: SmallVec<Name, 2>,
     /// The box that it tells something; the stores of other boxes that it opens may clash with that.
     told: Option<Name>,
     /// The call that it forks, where no alternative is solved from the start, so that no rule applies to it yet.
@@ -56,8 +57,8 @@ fn told_by(home: Name, plan: &Plan) -> Option<Name> {
 }
 
 // The boxes whose stores a step leaves unsolved, which tells this box something.
-fn unsolved_by(alloc: Global, step: &Step, told: Option<Name>) -> Result<Vec<Name>, AllocError> {
-    let mut unsolved = Vec::new(alloc);
+fn unsolved_by(alloc: Global, step: &Step, told: Option<Name>) -> Result<SmallVec<Name, 2>, AllocError> {
+    let mut unsolved = SmallVec::new(alloc);
     match step {
         Step::Tell { solved, .. } | Step::Promote { solved, .. } => {
             if !solved {
@@ -73,7 +74,7 @@ fn unsolved_by(alloc: Global, step: &Step, told: Option<Name>) -> Result<Vec<Nam
 }
 
 // The box that was told something comes.
-fn push_told(told: Option<Name>, unsolved: &mut Vec<Name>) -> Result<(), AllocError> {
+fn push_told(told: Option<Name>, unsolved: &mut SmallVec<Name, 2>) -> Result<(), AllocError> {
     if let Some(name) = told {
         unsolved.push(name)?;
     }
@@ -81,7 +82,7 @@ fn push_told(told: Option<Name>, unsolved: &mut Vec<Name>) -> Result<(), AllocEr
 }
 
 // Those of these new boxes come whose stores are unsolved.
-fn push_unsolved(boxes: &[NewBox], unsolved: &mut Vec<Name>) -> Result<(), AllocError> {
+fn push_unsolved(boxes: &[NewBox], unsolved: &mut SmallVec<Name, 2>) -> Result<(), AllocError> {
     for new in boxes {
         if !new.solved {
             unsolved.push(new.name)?;

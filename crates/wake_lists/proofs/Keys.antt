@@ -6,6 +6,7 @@ use Rattle.std.specs.Map.{lookup}
 use Rattle.std.specs.BTreeMap.{BTreeMap, is_at, get}
 use Rattle.std.specs.Ordering.{is_eq, nat_cmp, ordering_then, partial_lt}
 use Rattle.std.specs.declared.cmp.Ordering.{Ordering}
+use Rattle.std.specs.declared.cmp.Reverse.{Reverse}
 use Rattle.akl_terms.specs.declared.name.Name.{Name}
 use Rattle.akl_terms.specs.declared.name.Var.{Var}
 use Rattle.akl_terms.specs.declared.name.Place.{Place}
@@ -17,7 +18,7 @@ use Rattle.wake_lists.specs.declared.inside.Stand.{Stand}
 use Rattle.wake_lists.specs.declared.turn.Urgency.{Urgency}
 use Rattle.wake_lists.specs.declared.turn.Turn.{Turn}
 use Rattle.akl_terms.specs.Names.{same_name, same_var, name_cmp, var_cmp}
-use Rattle.wake_lists.specs.Waits.{same_place}
+use Rattle.wake_lists.specs.Waits.{same_place, is_key, is_variable_key}
 use Rattle.wake_lists.specs.Standing.{is_stand}
 use Rattle.wake_lists.specs.Queue.{same_turn, same_urgency, is_sooner}
 use lib.Dec.{eqb}
@@ -97,3 +98,39 @@ module _ {K X : Type 0} (cmp : K → K → Ordering) (same : K → K → Bool) (
   -- what it has once a key was set or taken out
   pub puts : (k : K) (m n : BTreeMap K X) (w : Option X) → ((q : K) → get cmp n q ≡ cond (is_at (cmp k) q) w (get cmp m q)) → (l : K) → lookup (same l) n.entries ≡ (if same k l then w else lookup (same l) m.entries)
   puts k m n w h l = sym (found n l) ∙ h l ∙ (λ i. cond (is k l i) w (found m l i))
+
+pub variable_back : (x y : Var) → same_var x y ≡ same_var y x
+variable_back x y = grind (arith, nat_tests)
+
+pub place_back : (p q : Place) → same_place p q ≡ same_place q p
+place_back (Place.Goal m) (Place.Goal n) = name_back m n
+place_back (Place.Goal m) (Place.Box n) = refl
+place_back (Place.Box m) (Place.Goal n) = refl
+place_back (Place.Box m) (Place.Box n) = name_back m n
+
+-- a key in a map in which the greater ones stand first
+abbrev pub key : {K : Type 0} → K → Reverse K
+key k = record { 0 = k }
+
+abbrev pub places_back : Reverse Place → Reverse Place → Ordering
+places_back k l = places.cmp-value.it l.0 k.0
+
+abbrev pub variables_back : Reverse Var → Reverse Var → Ordering
+variables_back k l = variables.cmp-value.it l.0 k.0
+
+pub key_is : (k l : Reverse Place) → is_at (places_back k) l ≡ is_key k.0 l
+key_is k l = place_is l.0 k.0 ∙ place_back l.0 k.0
+
+pub variable_key_is : (k l : Reverse Var) → is_at (variables_back k) l ≡ is_variable_key k.0 l
+variable_key_is k l = variable_is l.0 k.0 ∙ variable_back l.0 k.0
+
+-- what a map has at places once one was set or taken out
+module _ {X : Type 0} where
+  pub found_key : (m : BTreeMap (Reverse Place) X) (p : Place) → get places_back m (key p) ≡ lookup (is_key p) m.entries
+  found_key m p = found places_back (λ k l. is_key k.0 l) key_is m (key p)
+
+  abbrev pub PutsKey : Place → BTreeMap (Reverse Place) X → BTreeMap (Reverse Place) X → Option X → Type 0
+  PutsKey p m n w = (q : Reverse Place) → get places_back n q ≡ cond (is_at (places_back (key p)) q) w (get places_back m q)
+
+  pub puts_key : (p : Place) (m n : BTreeMap (Reverse Place) X) (w : Option X) → PutsKey p m n w → (q : Place) → lookup (is_key q) n.entries ≡ (if same_place p q then w else lookup (is_key q) m.entries)
+  puts_key p m n w h q = puts places_back (λ k l. is_key k.0 l) key_is (key p) m n w h (key q)

@@ -10,70 +10,61 @@ use Rattle.std.specs.Map.{lookup}
 use Rattle.std.specs.BTreeMap.{BTreeMap, is_at}
 use Rattle.std.specs.BTreeMap as map
 use Rattle.std.specs.BTreeSet.{BTreeSet, contains}
+use Rattle.std.specs.declared.cmp.Reverse.{Reverse}
 use Rattle.akl_terms.specs.declared.name.Var.{Var}
 use Rattle.akl_terms.specs.declared.name.Place.{Place}
-use Rattle.akl_terms.specs.contracts.name.VarOrd.TheImpl as variables
 use Rattle.akl_terms.specs.contracts.name.PlaceOrd.TheImpl as places
 use Rattle.akl_terms.specs.Names.{same_var}
 use Rattle.akl_terms.proofs.SameNames.{same_var-equal}
-use Rattle.wake_lists.specs.Waits.{same_place, listed, waits_on, places_at, waits_of}
-use Rattle.wake_lists.proofs.Keys.{variable_is, place_is}
+use Rattle.wake_lists.specs.Waits.{same_place, is_variable_key, listed, waits_on, places_at, waits_of}
+use Rattle.wake_lists.proofs.Keys.{place_is, place_back, variable_back, key, variables_back, variable_key_is}
 use Rattle.wake_lists.proofs.Growing as growing
-
-pub variable_back : (x y : Var) → same_var x y ≡ same_var y x
-variable_back x y = grind (arith, nat_tests)
-
-pub place_back : (p q : Place) → same_place p q ≡ same_place q p
-place_back (Place.Goal m) (Place.Goal n) = grind (arith, nat_tests)
-place_back (Place.Goal m) (Place.Box n) = refl
-place_back (Place.Box m) (Place.Goal n) = refl
-place_back (Place.Box m) (Place.Box n) = grind (arith, nat_tests)
 
 -- the place is in a set, where there is one
 abbrev pub on_set : Place → Option (BTreeSet Place) → Bool
 on_set p None = false
 on_set p (Some s) = list_any (same_place p) s.keys
 
-pub waits_is : (es : List (Var × BTreeSet Place)) (p : Place) (x : Var) → waits_on (waits_of es) p x ≡ on_set p (lookup (same_var x) es)
+pub waits_is : (es : List (Reverse Var × BTreeSet Place)) (p : Place) (x : Var) → waits_on (waits_of es) p x ≡ on_set p (lookup (is_variable_key x) es)
 waits_is [] p x = refl
-waits_is (e ∷ es) p x = on (same_var x e.0) (waits_is es p x)
+waits_is (e ∷ es) p x = on (same_var x e.0.0) (waits_is es p x)
   where
-    on : (s : Bool) → waits_on (waits_of es) p x ≡ on_set p (lookup (same_var x) es)
-        → list_any (same_place p) (listed (cond s (Some e.1.keys) (lookup (same_var x) (waits_of es)))) ≡ on_set p (cond s (Some e.1) (lookup (same_var x) es))
+    on : (s : Bool) → waits_on (waits_of es) p x ≡ on_set p (lookup (is_variable_key x) es)
+        → list_any (same_place p) (listed (cond s (Some e.1.keys) (lookup (same_var x) (waits_of es)))) ≡ on_set p (cond s (Some e.1) (lookup (is_variable_key x) es))
     on true r = refl
     on false r = r
 
-known_is : (x : Var) (t : BTreeMap Var (BTreeSet Place)) → map.get variables.cmp-value.it t x ≡ lookup (same_var x) t.entries
-known_is x t = λ i. lookup (λ k. variable_is x k i) t.entries
+known_is : (x : Var) (t : BTreeMap (Reverse Var) (BTreeSet Place)) → map.get variables_back t (key x) ≡ lookup (is_variable_key x) t.entries
+known_is x t = λ i. lookup (λ k. variable_key_is (key x) k i) t.entries
 
 pub has_is : (p : Place) (s : BTreeSet Place) → contains places.cmp-value.it s p ≡ list_any (same_place p) s.keys
 has_is p s = λ i. list_any (λ k. place_is p k i) s.keys
 
-placed_is : (es : List (Var × BTreeSet Place)) (x : Var) → places_at x (waits_of es) ≡ listed (option_map (λ (s : BTreeSet Place). s.keys) (lookup (same_var x) es))
+placed_is : (es : List (Reverse Var × BTreeSet Place)) (x : Var) → places_at x (waits_of es) ≡ listed (option_map (λ (s : BTreeSet Place). s.keys) (lookup (is_variable_key x) es))
 placed_is [] x = refl
-placed_is (e ∷ es) x = on (same_var x e.0) (placed_is es x)
+placed_is (e ∷ es) x = on (same_var x e.0.0) (placed_is es x)
   where
-    on : (s : Bool) → places_at x (waits_of es) ≡ listed (option_map (λ (s : BTreeSet Place). s.keys) (lookup (same_var x) es))
-        → listed (cond s (Some e.1.keys) (lookup (same_var x) (waits_of es))) ≡ listed (option_map (λ (s : BTreeSet Place). s.keys) (cond s (Some e.1) (lookup (same_var x) es)))
+    on : (s : Bool) → places_at x (waits_of es) ≡ listed (option_map (λ (s : BTreeSet Place). s.keys) (lookup (is_variable_key x) es))
+        → listed (cond s (Some e.1.keys) (lookup (same_var x) (waits_of es))) ≡ listed (option_map (λ (s : BTreeSet Place). s.keys) (cond s (Some e.1) (lookup (is_variable_key x) es)))
     on true r = refl
     on false r = r
 
 -- what a search for a variable says
-module _ (v : Var) (t : BTreeMap Var (BTreeSet Place)) where
-  pub places_are : (s : BTreeSet Place) → map.get variables.cmp-value.it t v ≡ Some s → places_at v (waits_of t.entries) ≡ s.keys
+module _ (v : Var) (t : BTreeMap (Reverse Var) (BTreeSet Place)) where
+  pub places_are : (s : BTreeSet Place) → map.get variables_back t (key v) ≡ Some s → places_at v (waits_of t.entries) ≡ s.keys
   places_are s e = placed_is t.entries v ∙ ap (λ (o : Option (BTreeSet Place)). listed (option_map (λ (k : BTreeSet Place). k.keys) o)) (sym (known_is v t) ∙ e)
 
-  pub places_none : map.get variables.cmp-value.it t v ≡ None → places_at v (waits_of t.entries) ≡ []
+  pub places_none : map.get variables_back t (key v) ≡ None → places_at v (waits_of t.entries) ≡ []
   places_none e = placed_is t.entries v ∙ ap (λ (o : Option (BTreeSet Place)). listed (option_map (λ (k : BTreeSet Place). k.keys) o)) (sym (known_is v t) ∙ e)
 
-  pub waits_are : (s : BTreeSet Place) → map.get variables.cmp-value.it t v ≡ Some s → (p : Place) → waits_on (waits_of t.entries) p v ≡ contains places.cmp-value.it s p
+  pub waits_are : (s : BTreeSet Place) → map.get variables_back t (key v) ≡ Some s → (p : Place) → waits_on (waits_of t.entries) p v ≡ contains places.cmp-value.it s p
   waits_are s e p = ap (list_any (same_place p)) (places_are s e) ∙ sym (has_is p s)
 
-  pub waits_none : map.get variables.cmp-value.it t v ≡ None → (p : Place) → waits_on (waits_of t.entries) p v ≡ false
+  pub waits_none : map.get variables_back t (key v) ≡ None → (p : Place) → waits_on (waits_of t.entries) p v ≡ false
   waits_none e p = ap (list_any (same_place p)) (places_none e)
 
   -- on a variable on which none waits, none waits less
-  pub parted_none : map.get variables.cmp-value.it t v ≡ None → (place : Place) (p : Place) (x : Var)
+  pub parted_none : map.get variables_back t (key v) ≡ None → (place : Place) (p : Place) (x : Var)
       → waits_on (waits_of t.entries) p x ≡ (waits_on (waits_of t.entries) p x && not (same_place p place && same_var x v))
   parted_none e place p x = on (same_var v x) refl
     where
@@ -93,13 +84,13 @@ module _ (v : Var) (t : BTreeMap Var (BTreeSet Place)) where
       on false f = other (waits_on (waits_of t.entries) p x) (same_place p place) ∙ (λ i. waits_on (waits_of t.entries) p x && not (same_place p place && (sym (variable_back x v ∙ f)) i))
 
 -- the places of one variable become others
-module _ (v : Var) (t u : BTreeMap Var (BTreeSet Place)) (w : Option (BTreeSet Place))
-    (puts : (q : Var) → map.get variables.cmp-value.it u q ≡ cond (is_at (variables.cmp-value.it v) q) w (map.get variables.cmp-value.it t q)) where
+module _ (v : Var) (t u : BTreeMap (Reverse Var) (BTreeSet Place)) (w : Option (BTreeSet Place))
+    (puts : (q : Reverse Var) → map.get variables_back u q ≡ cond (is_at (variables_back (key v)) q) w (map.get variables_back t q)) where
   changed : (p : Place) (x : Var) → waits_on (waits_of u.entries) p x ≡ (if same_var v x then on_set p w else waits_on (waits_of t.entries) p x)
   changed p x =
-      waits_is u.entries p x ∙ ap (on_set p) (sym (known_is x u) ∙ puts x ∙ (λ i. cond (variable_is v x i) w (known_is x t i))) ∙ on (same_var v x)
+      waits_is u.entries p x ∙ ap (on_set p) (sym (known_is x u) ∙ puts (key x) ∙ (λ i. cond (variable_key_is (key v) (key x) i) w (known_is x t i))) ∙ on (same_var v x)
     where
-      on : (s : Bool) → on_set p (cond s w (lookup (same_var x) t.entries)) ≡ (if s then on_set p w else waits_on (waits_of t.entries) p x)
+      on : (s : Bool) → on_set p (cond s w (lookup (is_variable_key x) t.entries)) ≡ (if s then on_set p w else waits_on (waits_of t.entries) p x)
       on true = refl
       on false = sym (waits_is t.entries p x)
 

@@ -6,6 +6,7 @@ ghost use Rattle.akl_terms.specs.Names.{same_var};
 
 use akl_terms::{Place, Var};
 use std::alloc::{AllocError, Global};
+use std::cmp::Reverse;
 use std::collections::{BTreeMap, BTreeSet, btree_set};
 use std::marker::Model;
 
@@ -13,7 +14,8 @@ use std::marker::Model;
 #[derive(Drop)]
 pub(crate) struct Waiting {
     alloc: Global,
-    places: BTreeMap<Var, BTreeSet<Place>>,
+    // Younger variables stand first, as most look-ups are for them.
+    places: BTreeMap<Reverse<Var>, BTreeSet<Place>>,
 }
 
 impl Model for Waiting {
@@ -61,7 +63,7 @@ impl Waiting {
     pub(crate) fn places(&self, variable: Var) -> Option<btree_set::Iter<'_, Place>>
         ensures { listed result ≡ places_at variable self.now }
     {
-        match self.places.get(&variable) {
+        match self.places.get(&Reverse(variable)) {
             Some(places) => Some(places.iter()),
             None => None,
         }
@@ -72,13 +74,13 @@ impl Waiting {
         ensures added { OnOk result ((p : _) (x : _) → waits_on self.new p x ≡ (waits_on self.old p x || (same_place p place && same_var x variable))) }
         ensures unchanged { OnErr result ((p : _) (x : _) → waits_on self.new p x ≡ waits_on self.old p x) }
     {
-        if let Some(places) = self.places.get_mut(&variable) {
+        if let Some(places) = self.places.get_mut(&Reverse(variable)) {
             places.insert(place)?;
             return Ok(());
         }
         let mut places = BTreeSet::new(self.alloc);
         places.insert(place)?;
-        self.places.insert(variable, places)?;
+        self.places.insert(Reverse(variable), places)?;
         Ok(())
     }
 
@@ -86,12 +88,12 @@ impl Waiting {
     fn remove(&mut self, place: Place, variable: Var)
         ensures { (p : _) (x : _) → waits_on self.new p x ≡ (waits_on self.old p x && not (same_place p place && same_var x variable)) }
     {
-        let Some(places) = self.places.get_mut(&variable) else {
+        let Some(places) = self.places.get_mut(&Reverse(variable)) else {
             return;
         };
         places.remove(&place);
         if places.is_empty() {
-            self.places.remove(&variable);
+            self.places.remove(&Reverse(variable));
         }
     }
 }

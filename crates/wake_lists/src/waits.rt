@@ -8,6 +8,7 @@ ghost use Rattle.wake_lists.specs.Waits.{same_place, waits_on, places_at, is_var
 use crate::waiting::Waiting;
 use akl_terms::{Place, Var};
 use std::alloc::{AllocError, Global};
+use std::cmp::Reverse;
 use std::collections::{BTreeMap, btree_set};
 use std::marker::Model;
 
@@ -19,8 +20,8 @@ use std::marker::Model;
 pub struct Waits {
     alloc: Global,
     by_variable: Waiting,
-    // Each variable of a place once.
-    by_place: BTreeMap<Place, Vec<Var>>,
+    // Each variable of a place once. Younger places stand first, as most look-ups are for them.
+    by_place: BTreeMap<Reverse<Place>, Vec<Var>>,
 }
 
 impl Model for Waits {
@@ -60,7 +61,7 @@ impl Waits {
             self.by_variable.remove_all(place, on);
             return Err(refused);
         }
-        if self.by_place.insert(place, variables).is_err() {
+        if self.by_place.insert(Reverse(place), variables).is_err() {
             self.by_variable.remove_all(place, on);
             return Err(AllocError);
         }
@@ -74,10 +75,10 @@ impl Waits {
         ensures once { IsDistinct same_var result.items }
     {
         // Most places have no waits; to remove a key that isn't there takes longer than to look for it.
-        if !self.by_place.contains_key(&place) {
+        if !self.by_place.contains_key(&Reverse(place)) {
             return Vec::new(self.alloc);
         }
-        match self.by_place.remove(&place) {
+        match self.by_place.remove(&Reverse(place)) {
             Some(variables) => {
                 self.by_variable.remove_all(place, variables.as_slice());
                 variables

@@ -14,4 +14,4 @@ loop-name-preserved c =
     let n : Name = get_or boxes at (record { worker = 0; number = 0 }) in
     let old : List Place = c.loop-name.places.items in
     box_next (table_of c.args.table.now) boxes at n c.args.places.now.items old c.push_goals.new.places.items c.in_ok-goals.goals.items (take_more boxes at (record { worker = 0; number = 0 }) c.loop-name-test.true) c.loop-name.invariant c.in_ok-goals.ensures
-    (c.in_ok-push_goals.ensures ∙ ap (λ (ps : List Place). ps ++ goals_named c.as_slice.result.now) c.in_ok-push.ensures.items ∙ ap (λ (gs : List Name). (old ++ Place.Box n ∷ []) ++ goals_named gs) c.as_slice.ensures.value)
+    (c.in_ok-push_goals.ensures ∙ ap (λ (ps : List Place). ps ++ goals_named c.as_slice.result.now) c.in_ok-push.ensures ∙ ap (λ (gs : List Name). (old ++ Place.Box n ∷ []) ++ goals_named gs) c.as_slice.ensures.value)

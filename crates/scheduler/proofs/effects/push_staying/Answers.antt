@@ -13,7 +13,7 @@ loop-placed-preserved c =
       | then-not-is_among+in_ok-push w ↦
           ap (λ v. v.items) w.places-is ∙ staying_comes c.args.gone.now c.args.inside.now at c.placed-item.result c.place.result c.args.places.now.items c.loop-placed.places.items w.push.new.self.items c.loop-placed-test.true is
           (sym c.is_among.ensures ∙ w.if-not-is_among.true) c.loop-placed.invariant
-          (w.in_ok-push.ensures.items ∙ ap (λ (q : Place). c.loop-placed.places.items ++ q ∷ []) (w.place-then-not-is_among.ensures ∙ sym c.place.ensures))
+          (w.in_ok-push.ensures ∙ ap (λ (q : Place). c.loop-placed.places.items ++ q ∷ []) (w.place-then-not-is_among.ensures ∙ sym c.place.ensures))
       | else-not-is_among w ↦
           ap (λ v. v.items) w.places-is ∙ staying_goes c.args.gone.now c.args.inside.now at c.placed-item.result c.place.result c.args.places.now.items c.loop-placed.places.items c.loop-placed-test.true is
           (sym c.is_among.ensures ∙ w.if-not-is_among.false) c.loop-placed.invariant

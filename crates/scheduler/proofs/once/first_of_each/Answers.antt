@@ -5,7 +5,7 @@ use Rattle.scheduler.proofs.once.first_of_each.Goals as goal
 
 pub loop-place-init : goal.loop-place-init
 loop-place-init c =
-    subst (λ (l : List Place). IsSeenOnce [] l c.new-seen.result.keys) (sym c.new-once.ensures.items) (subst (λ (k : List Place). IsSeenOnce [] [] k) (sym c.new-seen.ensures.empty) none_seen)
+    subst (λ (l : List Place). IsSeenOnce [] l c.new-seen.result.keys) (sym c.new-once.ensures) (subst (λ (k : List Place). IsSeenOnce [] [] k) (sym c.new-seen.ensures.empty) none_seen)
 
 pub loop-place-preserved : goal.loop-place-preserved
 loop-place-preserved c =

@@ -33,7 +33,7 @@ pub invariant_of-self-in-Ok : goal.invariant_of-self-in-Ok
 invariant_of-self-in-Ok g c =
     let s : SchedulerValue = record { core = c.self.inside.core; openings = c.self.inside.open; waits = c.self.inside.waits } in
     let dropped : DropsWaits s.waits (places_of c.args.places.now) c.drop_opened.new.waits = drops_opened s c.self.invariant.scheduler c.args.places.now c.open_all.new.open_places c.in_ok-opened.opened.items c.in_ok-opened.ensures.opened c.drop_opened.new.waits
-    (subst (λ (ts : List ℕ). DropsWaits s.waits (places_under ts c.open_all.new.open_places) c.drop_opened.new.waits) c.as_slice.ensures.value c.drop_opened.ensures.waits) in
+    (subst (λ (ts : List ℕ). DropsWaits s.waits (places_under ts c.open_all.new.open_places) c.drop_opened.new.waits) c.as_slice.ensures c.drop_opened.ensures.waits) in
     let right : IsRight c.args.plan = subst IsRight c.plan.view_is c.plan.invariant in
     let may : MayCommit s.core c.args.plan = subst (λ (x : SchedulerValue). MayCommit x.core c.args.plan) (sym c.self.view_is) c.requires.may in
     let fresh : IsFresh s.core c.args.plan = subst (λ (x : SchedulerValue). IsFresh x.core c.args.plan) (sym c.self.view_is) c.requires.fresh in
@@ -59,7 +59,7 @@ pub returns-in-Ok-clause-committed : goal.returns-in-Ok-clause-committed
 returns-in-Ok-clause-committed g c =
     let s : SchedulerValue = record { core = c.self.inside.core; openings = c.self.inside.open; waits = c.self.inside.waits } in
     let dropped : DropsWaits s.waits (places_of c.args.places.now) c.drop_opened.new.waits = drops_opened s c.self.invariant.scheduler c.args.places.now c.open_all.new.open_places c.in_ok-opened.opened.items c.in_ok-opened.ensures.opened c.drop_opened.new.waits
-    (subst (λ (ts : List ℕ). DropsWaits s.waits (places_under ts c.open_all.new.open_places) c.drop_opened.new.waits) c.as_slice.ensures.value c.drop_opened.ensures.waits) in
+    (subst (λ (ts : List ℕ). DropsWaits s.waits (places_under ts c.open_all.new.open_places) c.drop_opened.new.waits) c.as_slice.ensures c.drop_opened.ensures.waits) in
     let right : IsRight c.args.plan = subst IsRight c.plan.view_is c.plan.invariant in
     let may : MayCommit s.core c.args.plan = subst (λ (x : SchedulerValue). MayCommit x.core c.args.plan) (sym c.self.view_is) c.requires.may in
     let fresh : IsFresh s.core c.args.plan = subst (λ (x : SchedulerValue). IsFresh x.core c.args.plan) (sym c.self.view_is) c.requires.fresh in
@@ -105,9 +105,9 @@ pub returns-in-Ok-clause-steps : goal.returns-in-Ok-clause-steps
 returns-in-Ok-clause-steps g c =
     let s : SchedulerValue = record { core = c.self.inside.core; openings = c.self.inside.open; waits = c.self.inside.waits } in
     let dropped : DropsWaits s.waits (places_of c.args.places.now) c.drop_opened.new.waits = drops_opened s c.self.invariant.scheduler c.args.places.now c.open_all.new.open_places c.in_ok-opened.opened.items c.in_ok-opened.ensures.opened c.drop_opened.new.waits
-    (subst (λ (ts : List ℕ). DropsWaits s.waits (places_under ts c.open_all.new.open_places) c.drop_opened.new.waits) c.as_slice.ensures.value c.drop_opened.ensures.waits) in
+    (subst (λ (ts : List ℕ). DropsWaits s.waits (places_under ts c.open_all.new.open_places) c.drop_opened.new.waits) c.as_slice.ensures c.drop_opened.ensures.waits) in
     let counted : DropBySteps s.waits (places_of c.args.places.now) c.open_all.new.steps c.drop_opened.new.steps = counts_opened s c.self.invariant.scheduler c.args.places.now c.open_all.new.open_places c.in_ok-opened.opened.items c.in_ok-opened.ensures.opened c.open_all.new.steps c.drop_opened.new.steps
-    (subst (λ (ts : List ℕ). DropBySteps s.waits (places_under ts c.open_all.new.open_places) c.open_all.new.steps c.drop_opened.new.steps) c.as_slice.ensures.value c.drop_opened.ensures.steps) in
+    (subst (λ (ts : List ℕ). DropBySteps s.waits (places_under ts c.open_all.new.open_places) c.open_all.new.steps c.drop_opened.new.steps) c.as_slice.ensures c.drop_opened.ensures.steps) in
     let right : IsRight c.args.plan = subst IsRight c.plan.view_is c.plan.invariant in
     let may : MayCommit s.core c.args.plan = subst (λ (x : SchedulerValue). MayCommit x.core c.args.plan) (sym c.self.view_is) c.requires.may in
     let fresh : IsFresh s.core c.args.plan = subst (λ (x : SchedulerValue). IsFresh x.core c.args.plan) (sym c.self.view_is) c.requires.fresh in
@@ -123,7 +123,7 @@ pub returns-in-Ok-clause-opened : goal.returns-in-Ok-clause-opened
 returns-in-Ok-clause-opened g c =
     let s : SchedulerValue = record { core = c.self.inside.core; openings = c.self.inside.open; waits = c.self.inside.waits } in
     let dropped : DropsWaits s.waits (places_of c.args.places.now) c.drop_opened.new.waits = drops_opened s c.self.invariant.scheduler c.args.places.now c.open_all.new.open_places c.in_ok-opened.opened.items c.in_ok-opened.ensures.opened c.drop_opened.new.waits
-    (subst (λ (ts : List ℕ). DropsWaits s.waits (places_under ts c.open_all.new.open_places) c.drop_opened.new.waits) c.as_slice.ensures.value c.drop_opened.ensures.waits) in
+    (subst (λ (ts : List ℕ). DropsWaits s.waits (places_under ts c.open_all.new.open_places) c.drop_opened.new.waits) c.as_slice.ensures c.drop_opened.ensures.waits) in
     let right : IsRight c.args.plan = subst IsRight c.plan.view_is c.plan.invariant in
     let may : MayCommit s.core c.args.plan = subst (λ (x : SchedulerValue). MayCommit x.core c.args.plan) (sym c.self.view_is) c.requires.may in
     let fresh : IsFresh s.core c.args.plan = subst (λ (x : SchedulerValue). IsFresh x.core c.args.plan) (sym c.self.view_is) c.requires.fresh in
@@ -143,4 +143,4 @@ drop_gone-requires g c =
     let s : SchedulerValue = record { core = c.self.inside.core; openings = c.self.inside.open; waits = c.self.inside.waits } in
     subst (λ (o : Option Place). IfSome o (λ (p : Place). (x : Var) → waits_on c.drop_opened.new.waits p x ≡ false)) (sym c.place_under.ensures)
     (own_silent s c.self.invariant.scheduler c.args.places.now c.open_all.new.open_places c.in_ok-opened.opened.items c.in_ok-opened.ensures.opened c.drop_opened.new.waits
-    (subst (λ (ts : List ℕ). DropsWaits s.waits (places_under ts c.open_all.new.open_places) c.drop_opened.new.waits) c.as_slice.ensures.value c.drop_opened.ensures.waits) c.label-place.result.place c.token_of-own.result c.token_of-own.ensures)
+    (subst (λ (ts : List ℕ). DropsWaits s.waits (places_under ts c.open_all.new.open_places) c.drop_opened.new.waits) c.as_slice.ensures c.drop_opened.ensures.waits) c.label-place.result.place c.token_of-own.result c.token_of-own.ensures)

@@ -7,7 +7,8 @@ use Rattle.akl_terms.specs.declared.name.Var.{Var}
 use Rattle.akl_terms.specs.declared.name.Place.{Place}
 use Rattle.wake_lists.specs.Waits.{same_place, waits_on}
 use Rattle.wake_lists.proofs.WaitsKept.{PartedBy}
-use Rattle.wake_lists.proofs.Both.{dropped, dropped_both, listed_so, once_kept, found_is}
+use Rattle.wake_lists.proofs.Keys.{found_key}
+use Rattle.wake_lists.proofs.Both.{dropped, dropped_both, listed_so, once_kept}
 use Rattle.wake_lists.proofs.EachOnce.{none_once}
 use Rattle.wake_lists.proofs.waits.Waits.drop_place.Goals as goal
 
@@ -38,7 +39,7 @@ returns-in-Some-clause-variables c =
     ∙ ap (λ (ws : List (Var × List Place)). waits_on ws c.args.place x) c.self.view_is
 
 pub returns-in-Some-clause-once : goal.returns-in-Some-clause-once
-returns-in-Some-clause-once c = c.self.invariant.once c.args.place c.in-Some.variables (sym (found_is c.args.place c.self.inside.by_place) ∙ sym c.remove.ensures.value ∙ c.in-Some.is)
+returns-in-Some-clause-once c = c.self.invariant.once c.args.place c.in-Some.variables (sym (found_key c.self.inside.by_place c.args.place) ∙ sym c.remove.ensures.value ∙ c.in-Some.is)
 
 pub returns-then-not-contains_key-clause-once : goal.returns-then-not-contains_key-clause-once
 returns-then-not-contains_key-clause-once c = subst (λ (xs : List Var). IsDistinct same_var xs) (sym c.new.ensures.items) none_once
