@@ -5,6 +5,7 @@ ghost use Rattle.akl_terms.specs.declared.term.Term.{Term};
 ghost use Rattle.rule_plan.specs.Made.{heads_of};
 
 use akl_terms::{Clause, Equation, Name, Term};
+use smallvec::SmallVec;
 use std::alloc::{AllocError, Global};
 
 /// The arguments of a call: so many neighbouring nodes under a frame.
@@ -22,11 +23,11 @@ pub(crate) fn head_equations(
     call: Call,
     frame: Name,
     clause: &Clause,
-) -> Result<Vec<Equation>, AllocError>
+) -> Result<SmallVec<Equation, 4>, AllocError>
     ensures { IfOk result (λ list. list.items ≡ heads_of call frame clause.now) }
 {
     let mut left = call.count.min(clause.count);
-    let mut list = Vec::with_capacity(alloc, left as usize)?;
+    let mut list = SmallVec::with_capacity(alloc, left as usize)?;
     while left > 0 {
         left -= 1;
         list.push(head_equation(call, frame, clause, left)?)?;
