@@ -46,7 +46,7 @@ impl Ends {
         requires { IsSolved templates.now.nodes (W.bindings whole.now) }
         ensures { IfOk result (λ ends. AreEnds templates.now.nodes (W.bindings whole.now) variables.now ends) }
     {
-        let mut ends = Ends::new(alloc);
+        let mut ends = Ends::with_room_for(alloc, variables.len())?;
         for variable in variables {
             if let Some(end) = variable_end(templates, whole, *variable) {
                 if !ends.contains(end) {
@@ -75,14 +75,14 @@ impl Ends {
         self.list
     }
 
-    // No ends.
-    fn new(alloc: Global) -> Self
-        ensures { result ≡ [] }
+    // No ends, with room for so many.
+    fn with_room_for(alloc: Global, count: usize) -> Result<Self, AllocError>
+        ensures { IfOk result (λ ends. ends ≡ []) }
     {
-        Ends {
-            list: Vec::new(alloc),
+        Ok(Ends {
+            list: Vec::with_capacity(alloc, count)?,
             rest: HashSet::new(alloc),
-        }
+        })
     }
 
     // Whether a variable is one of the ends.
