@@ -13,7 +13,10 @@ use std::collections::BTreeSet;
 const FEW: usize = 8;
 
 /// These places, each once, in the order in which they first come.
-pub(crate) fn each_once(alloc: Global, places: ShortList<Place>) -> Result<ShortList<Place>, AllocError>
+pub(crate) fn each_once(
+    alloc: Global,
+    places: ShortList<Place>,
+) -> Result<ShortList<Place>, AllocError>
     ensures { IfOk result (λ once. AreSameOnce places.items once.items) }
 {
     if places.as_slice().len() <= FEW && are_different(places.as_slice()) {

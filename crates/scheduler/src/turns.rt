@@ -57,7 +57,11 @@ fn told_by(home: Name, plan: &Plan) -> Option<Name> {
 }
 
 // The boxes whose stores a step leaves unsolved, which tells this box something.
-fn unsolved_by(alloc: Global, step: &Step, told: Option<Name>) -> Result<SmallVec<Name, 2>, AllocError> {
+fn unsolved_by(
+    alloc: Global,
+    step: &Step,
+    told: Option<Name>,
+) -> Result<SmallVec<Name, 2>, AllocError> {
     let mut unsolved = SmallVec::new(alloc);
     match step {
         Step::Tell { solved, .. } | Step::Promote { solved, .. } => {
