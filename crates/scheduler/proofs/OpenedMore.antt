@@ -1,9 +1,6 @@
 -- One more place is opened, and none of them.
 use Rattle.std.proofs.Common.{◌≡◌, ℕ, ◌+◌, ◌<◌, length, take, get_or, Bool, true, false, List, [], ◌∷◌, ◌++◌, Option, Some, None, refl, sym, ap, subst, ◌∙◌, ◌⊎◌, inl, inr}
 use Rattle.std.specs.Prelude.{cond, is_some, IsSome}
-use Rattle.std.specs.Result.{is_ok, is_err}
-use Rattle.std.specs.declared.result.Result.{Result}
-use Rattle.std.specs.declared.result.Result.TheVariants.{Ok, Err}
 use Rattle.std.proofs.lemmas.List.{take_more}
 use Rattle.std.specs.BTreeMap.{insert_entry}
 use Rattle.std.specs.Ordering.{nat_cmp}
@@ -176,11 +173,6 @@ module _ (before now : Openings) (place : Place) (around : List Name) (t : ℕ) 
   pub one_more : (how : Urgency) (p : PlacedValue) (ts ts_now : List ℕ) → place ≡ p.place → around ≡ p.around → ts_now ≡ ts ++ t ∷ [] → IsOpened before now place around how t → IsOpenedBy before ts p now ts_now
   one_more how p ts ts_now i j k (IsOpened.was_open o e f h) = absurd (other o t e f)
   one_more how p ts ts_now i j k (IsOpened.is_new u n least g last a) = is_new t (record { place = place; turn = u; boxes = around }) (λ w. not_open before place none (record { token = w.token; opening = w.opening; is_open = w.is_open; of_place = w.of_place ∙ sym i })) least.free (λ m. record { place = i m; around = j m }) a k
-
--- a call that didn't fail
-pub ok_of : {T E : Type 0} (r : Result T E) → is_err r ≡ false → is_ok r ≡ true
-ok_of (Ok x) e = refl
-ok_of (Err y) e = cc
 
 -- by an index
 pub opened_next : (places : List PlacedValue) (i : ℕ) (d p : PlacedValue) (before cur now : Openings) (ts ts_now : List ℕ) → i < length places → p ≡ get_or places i d → AreOpened before (take i places) cur ts → IsOpenedBy cur ts p now ts_now
