@@ -71,11 +71,7 @@ pub(crate) fn waits_of_condition(
 }
 
 // Members of the classes that alternatives touch in the box of a chain, for one after another.
-fn members_of_all(
-    alloc: Global,
-    chain: &Chain,
-    noise: &[Noise],
-) -> Result<Vec<Var>, AllocError>
+fn members_of_all(alloc: Global, chain: &Chain, noise: &[Noise]) -> Result<Vec<Var>, AllocError>
     ensures { IfOk result (λ list. AreMembersOfAll chain.now.nodes chain.now.stores noise.now list.items) }
 {
     let mut list = Vec::new(alloc);

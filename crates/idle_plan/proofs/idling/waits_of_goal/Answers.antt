@@ -1,5 +1,4 @@
 use Rattle.std.proofs.Common.{sym, ◌∙◌, ap, subst}
-use Rattle.akl_terms.specs.declared.program.Op.{Op}
 use Rattle.box_tree.specs.declared.view.Sight.{Sight}
 use Rattle.guard_plan.specs.Noisy.{IsNoiseAt}
 use Rattle.idle_plan.proofs.idling.waits_of_goal.Goals as goal
