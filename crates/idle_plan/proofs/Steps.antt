@@ -127,14 +127,15 @@ module _ (nodes : List Node) (ss : List Stored) where
 
   -- all alternatives
 
-  pub all_tested : (o : Op) (seen : List Alternative) → (o ≡ Op.Choice → ⊥) → (o ≡ Op.Condition → 1 < length seen → ⊥) → tested o seen ≡ seen
-  all_tested o (a ∷ []) g n = refl
-  all_tested Op.Condition [] g n = refl
-  all_tested Op.Condition (a ∷ b ∷ rest) g n = absurd (n refl (omega arith))
-  all_tested Op.Commit [] g n = refl
-  all_tested Op.Commit (a ∷ b ∷ rest) g n = refl
-  all_tested Op.Choice [] g n = absurd (g refl)
-  all_tested Op.Choice (a ∷ b ∷ rest) g n = absurd (g refl)
+  pub all_tested : (seen : List Alternative) → tested Op.Commit seen ≡ seen
+  all_tested [] = refl
+  all_tested (a ∷ []) = refl
+  all_tested (a ∷ b ∷ rest) = refl
+
+  pub few_tested : (seen : List Alternative) → length seen < 2 → tested Op.Condition seen ≡ seen
+  few_tested [] l = refl
+  few_tested (a ∷ []) l = refl
+  few_tested (a ∷ b ∷ rest) l = absurd (omega (arith, l))
 
   -- of several by `->` all but the last are tested
   front_tested : (seen : List Alternative) → 1 < length seen → tested Op.Condition seen ≡ take (length seen - 1) seen

@@ -1,12 +1,12 @@
 //! What a goal waits on by itself.
 
-ghost use Rattle.std.specs.Prelude.{◌≡◌, ◌≢◌, ◌++◌, ◌∷◌, [], IfOk, OnOk};
+ghost use Rattle.std.specs.Prelude.{◌≡◌, ◌++◌, ◌∷◌, [], IfOk, OnOk};
 ghost use Rattle.akl_terms.specs.declared.program.Op.{Op};
 ghost use Rattle.guard_plan.specs.Guards.{IsTestable};
 ghost use Rattle.guard_plan.specs.Noisy.{AnswersInside, HasNoise, tested};
 ghost use Rattle.idle_plan.specs.Waits.{AddsTold, AreAwaited, AreMembersOfAll, AreToldBy};
 
-use akl_terms::{Goal, Op, Program, Var};
+use akl_terms::{Goal, Program, Var};
 use box_tree::{Alternative, View};
 use class_members::members;
 use entail_test::Quietness;
@@ -35,36 +35,43 @@ pub(crate) fn waits_of_atom(
     }
 }
 
-// Members of the classes that the solved alternatives of a choice other than `?` touch, by what the tests of its guards
-// found.
-pub(crate) fn waits_of_choice(
+// Members of the classes that the solved alternatives of a `|` choice touch, by what the tests of their guards found.
+pub(crate) fn waits_of_commit(
     alloc: Global,
     program: &Program,
     view: &View,
-    op: Op,
     noise: &[Noise],
 ) -> Result<Vec<Var>, AllocError>
     requires program { program.now ≡ view.now.table.program }
-    requires guarded { op ≢ Op.Choice }
-    requires noise { HasNoise program.now.templates.nodes view.now.stores (tested op view.now.alternatives) noise.now }
+    requires noise { HasNoise program.now.templates.nodes view.now.stores (tested Op.Commit view.now.alternatives) noise.now }
+    ensures { IfOk result (λ list. AreToldBy program.now.templates.nodes view.now.stores view.now.alternatives list.items) }
+{
+    members_of_all(alloc, &view.chain(&program.templates), noise)
+}
+
+// The same of a `->` choice. The last of several alternatives cuts none off, so its guard wasn't tested.
+pub(crate) fn waits_of_condition(
+    alloc: Global,
+    program: &Program,
+    view: &View,
+    noise: &[Noise],
+) -> Result<Vec<Var>, AllocError>
+    requires program { program.now ≡ view.now.table.program }
+    requires noise { HasNoise program.now.templates.nodes view.now.stores (tested Op.Condition view.now.alternatives) noise.now }
     ensures { IfOk result (λ list. AreToldBy program.now.templates.nodes view.now.stores view.now.alternatives list.items) }
 {
     let mut list = members_of_all(alloc, &view.chain(&program.templates), noise)?;
     let alternatives = view.alternatives();
-    if op == Op::Condition && alternatives.len() > 1 {
-        // The last one cuts none off, so its guard wasn't tested.
-        let last = &alternatives[alternatives.len() - 1];
-        push_told(alloc, program, view, last, &mut list)?;
+    if alternatives.len() < 2 {
+        return Ok(list);
     }
+    let last = alternatives.len() - 1;
+    push_told(alloc, program, view, &alternatives[last], &mut list)?;
     Ok(list)
 }
 
 // Members of the classes that alternatives touch in the box of a chain, for one after another.
-fn members_of_all(
-    alloc: Global,
-    chain: &Chain,
-    noise: &[Noise],
-) -> Result<Vec<Var>, AllocError>
+fn members_of_all(alloc: Global, chain: &Chain, noise: &[Noise]) -> Result<Vec<Var>, AllocError>
     ensures { IfOk result (λ list. AreMembersOfAll chain.now.nodes chain.now.stores noise.now list.items) }
 {
     let mut list = Vec::new(alloc);
@@ -93,9 +100,11 @@ fn push_told(
     match quietness_of(alloc, program, view, alternative)? {
         Quietness::Noisy { on } => {
             let own = members(alloc, &view.chain(&program.templates), on.as_slice())?;
-            list.extend_from_slice(own.as_slice())
+            list.extend_from_slice(own.as_slice())?;
+            Ok(())
         }
-        Quietness::Quiet | Quietness::Inconsistent { .. } => Ok(()),
+        Quietness::Quiet => Ok(()),
+        Quietness::Inconsistent { .. } => Ok(()),
     }
 }
 

@@ -8,7 +8,7 @@ ghost use Rattle.idle_plan.specs.Idling.{IsAtRootBox, IsUnready, IsIdleBy};
 ghost use Rattle.idle_plan.specs.Waits.{AreOwnWaits};
 
 use crate::around::waits_of_boxes_around;
-use crate::goals::{waits_of_atom, waits_of_choice};
+use crate::goals::{waits_of_atom, waits_of_commit, waits_of_condition};
 use crate::inside::waits_inside;
 use crate::reading::{box_reads, goal_reads, item_of};
 use akl_terms::{Name, Op, Program, Var};
@@ -104,7 +104,8 @@ fn waits_of_goal(
         Sight::Atom(atom) => waits_of_atom(alloc, program, view, atom),
         Sight::Choice { op } => match op {
             Op::Choice => Ok(Vec::new(alloc)),
-            Op::Condition | Op::Commit => waits_of_choice(alloc, program, view, op, noise),
+            Op::Condition => waits_of_condition(alloc, program, view, noise),
+            Op::Commit => waits_of_commit(alloc, program, view, noise),
         },
         Sight::Box { .. } => Ok(Vec::new(alloc)),
     }
