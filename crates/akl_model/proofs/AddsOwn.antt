@@ -15,13 +15,14 @@ use Rattle.akl_model.specs.declared.label.Label.{Label}
 use Rattle.akl_model.specs.Derivations.{Applies, Replays}
 use Rattle.akl_model.specs.Stable.{only}
 use Rattle.akl_model.specs.Scopes.{nowhere}
-use Rattle.akl_model.specs.Config.{IsIn, Atom, Content, Boxes, no_boxes, box, Goals, no_goals, Config, an_atom, a_choice, with_content, without_goal, with_name, with_names, with_tail, with_port, Found, box_at}
+use Rattle.akl_model.specs.Config.{IsIn, Atom, Operator, Content, Boxes, no_boxes, box, Goals, no_goals, Config, an_atom, a_choice, with_content, without_goal, with_name, with_names, with_tail, with_port, Found, box_at}
 use Rattle.akl_model.specs.Instances.{term_at, with_atoms, instances, drawn_by}
-use Rattle.akl_model.specs.Rules.{Change, becomes, telling, kept_by, joining}
+use Rattle.akl_model.specs.Rules.{Change, becomes, telling, kept_by, count_of, joining}
 use Rattle.constraint_laws.specs.Growth.{IsOver, AreOver, TellsOver}
 use Rattle.akl_model.specs.Scopes.{Scope, scope_in, IsScoped, AreScoped, EquationsScoped}
 use Rattle.akl_model.proofs.Options.{some_value}
-use Rattle.akl_model.proofs.RuleCases.{Makes-case, PlainCase, tells, forks, evaluates, opens, sends, fails, cuts, promotes, SplitCase}
+use Rattle.akl_model.proofs.Gathered.{gathered_owned}
+use Rattle.akl_model.proofs.RuleCases.{Makes-case, PlainCase, tells, forks, evaluates, opens, sends, fails, cuts, promotes, collects, SplitCase}
 use Rattle.akl_model.proofs.Scoped.{IsIn-either, Within, scoped_wider, equations_wider, term_scoped}
 use Rattle.akl_model.specs.Owned.{own_in, ContentOwned, BoxesOwned, GoalsOwned, AddsOwn}
 use Rattle.akl_model.proofs.Owned.{held_owned}
@@ -62,12 +63,27 @@ module _ (p : Program) (w next : ℕ) (f : Found) (s : Scope) (here : ContentOwn
   adds_nothing : AddsOwn f f.content
   adds_nothing = record { added = []; equations = sym (append-nil f.content.equations); over = record { each = λ a b m. absurd m } }
 
+  joining_adds : (a : Content) → ContentOwned (own_in s f.content) a → AddsOwn f (joining a f.content)
+  joining_adds a inner_owned = record { added = a.equations; equations = refl; over = told_local wide a.equations (equations_wider (scope_in (own_in s f.content) a) wide wider a.equations inner_owned.equations) }
+    where
+      wide : Scope
+      wide = record { frames = with_names a.frames f.content.frames; ports = (scope_in (own_in s f.content) a).ports }
+
+      wider : Within (scope_in (own_in s f.content) a) (record { frames = with_names a.frames f.content.frames; ports = (scope_in (own_in s f.content) a).ports })
+      wider = record {
+        frames = λ n y. elim (IsIn-either n a.frames f.content.frames y) [
+          | inl z ↦ in_with_names n a.frames f.content.frames (inl z)
+          | inr z ↦ in_with_names n a.frames f.content.frames (inr z)
+        ];
+        ports = λ n y. y;
+      }
+
   plain_adds : {place : Place} (c : Change) → PlainCase p w next f c place → (b : Content) (gs : Goals) (rest : Boxes) → c.boxes ≡ box b gs rest → AddsOwn f b
   plain_adds c (tells g l r i e) b gs rest j =
       let h : IsScoped t l × IsScoped t r = held_owned t g (an_atom (Atom.equation l r)) f.goals goals i in
       by (telling l r f.content) (without_goal g f.goals) 0 c e (record { added = record { left = l; right = r } ∷ []; equations = refl; over = told_local t (record { left = l; right = r } ∷ []) (h.0, h.1, tt) }) b gs rest j
-  plain_adds c (forks g d ts k i u e) b gs rest j =
-      by f.content (with_content g (a_choice k.op (instances p.templates.nodes w next ts k.clauses)) f.goals) (drawn_by k.clauses) c e adds_nothing b gs rest j
+  plain_adds c (forks g d ts r k o i u v e) b gs rest j =
+      by f.content (with_content g (a_choice o (instances p.templates.nodes w next ts k.clauses)) f.goals) (drawn_by k.clauses) c e adds_nothing b gs rest j
   plain_adds c (evaluates g test l r (value z) i u v e) b gs rest j =
       let h : IsScoped t l × IsScoped t r = held_owned t g (an_atom (Atom.arithmetic test l r)) f.goals goals i in
       by (telling l (integer z) f.content) (without_goal g f.goals) 0 c e (record { added = record { left = l; right = integer z } ∷ []; equations = refl; over = told_local t (record { left = l; right = integer z } ∷ []) (h.0, tt, tt) }) b gs rest j
@@ -100,33 +116,15 @@ module _ (p : Program) (w next : ℕ) (f : Found) (s : Scope) (here : ContentOwn
       }) b gs rest j
   plain_adds c (fails m x e) b gs rest j = let r : no_boxes ≡ box b gs rest = sym (ap (λ (k : Change). k.boxes) e) ∙ j in cc
   plain_adds c (cuts g m o bs i x e) b gs rest j = by f.content (with_content g (a_choice o (kept_by o m bs)) f.goals) 0 c e adds_nothing b gs rest j
+  plain_adds c (collects g r bs a i x z e) b gs rest j =
+      let h : BoxesOwned t bs × IsScoped t r = held_owned t g (a_choice (Operator.collecting r) bs) f.goals goals i in
+      by (joining a f.content) (without_goal g f.goals) (count_of bs) c e (joining_adds a (gathered_owned p w next f.content.name r bs a t h.0 h.1 z)) b gs rest j
   plain_adds c (promotes g m o a i r x e) b gs rest j = on (same_name m a.name) r e
     where
-      inner_owned : ContentOwned (own_in s f.content) a
-      inner_owned = (held_owned (own_in s f.content) g (a_choice o (box a no_goals no_boxes)) f.goals goals i).0
-
-      inner_scope : Scope
-      inner_scope = scope_in (own_in s f.content) a
-
-      wide : Scope
-      wide = record { frames = with_names a.frames f.content.frames; ports = (scope_in (own_in s f.content) a).ports }
-
-      wider : Within (scope_in (own_in s f.content) a) (record { frames = with_names a.frames f.content.frames; ports = (scope_in (own_in s f.content) a).ports })
-      wider = record {
-        frames = λ n y. elim (IsIn-either n a.frames f.content.frames y) [
-          | inl z ↦ in_with_names n a.frames f.content.frames (inl z)
-          | inr z ↦ in_with_names n a.frames f.content.frames (inr z)
-        ];
-        ports = λ n y. y;
-      }
-
       on : (v : Bool) → v ≡ true → (if v then Some (becomes (joining a f.content) (with_atoms w next a.body (without_goal g f.goals)) (length a.body)) else None) ≡ Some c → AddsOwn f b
       on false q d = cc
-      on true q d = by (joining a f.content) (with_atoms w next a.body (without_goal g f.goals)) (length a.body) c d (record {
-        added = a.equations;
-        equations = refl;
-        over = told_local wide a.equations (equations_wider inner_scope wide wider a.equations inner_owned.equations);
-      }) b gs rest j
+      on true q d = by (joining a f.content) (with_atoms w next a.body (without_goal g f.goals)) (length a.body) c d
+          (joining_adds a (held_owned (own_in s f.content) g (a_choice o (box a no_goals no_boxes)) f.goals goals i).0.0) b gs rest j
 
   split_adds : {place : Place} {alternative : Option Name} (c : Change) → SplitCase p w next f c place alternative → (b : Content) (gs : Goals) (rest : Boxes) → c.boxes ≡ box b gs rest → AddsOwn f b
   split_adds c x b gs rest j = subst (AddsOwn f) (ap (first_content f.content) (ap (λ (k : Change). k.boxes) (some_value x.change) ∙ j)) adds_nothing

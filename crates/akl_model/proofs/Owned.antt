@@ -3,7 +3,7 @@ use Rattle.std.proofs.Common.{◌≡◌, ℕ, ◌+◌, List, [], ◌∷◌, leng
 use Rattle.std.specs.Prelude.{if◌then◌else◌}
 use Rattle.akl_terms.specs.declared.name.Name.{Name}
 use Rattle.akl_terms.specs.declared.term.Node.{Node}
-use Rattle.akl_terms.specs.declared.program.Op.{Op}
+use Rattle.akl_model.specs.Config.{Operator}
 use Rattle.akl_terms.specs.declared.program.Clause.{Clause}
 use Rattle.akl_terms.specs.Tree.{Tree}
 use Rattle.akl_terms.specs.Names.{same_name, is_before}
@@ -11,8 +11,8 @@ use Rattle.akl_model.specs.Config.{IsIn, Atom, Content, Boxes, no_boxes, box, Go
 use Rattle.akl_model.specs.Instances.{terms_from, atoms_of, with_atoms, instances}
 use Rattle.akl_model.specs.Renaming.{renamed_content, renamed, renamed_goals}
 use Rattle.akl_model.specs.Rules.{up_to, alone, others, kept_by}
-use Rattle.akl_model.specs.Scopes.{Scope, scope_in, TermsScoped, AtomScoped, AtomsScoped, BoxesScoped, GoalsScoped}
-use Rattle.akl_model.proofs.Scoped.{IsIn-left, Goes, Goes-in, IsIn-map, equations_renamed, atom_renamed, atoms_renamed, tails_renamed, shown_renamed, Within, Within-in, terms_wider, equations_wider, atom_wider, atoms_wider, tails_wider, shown_wider, atoms_scoped, terms_scoped, heads_scoped}
+use Rattle.akl_model.specs.Scopes.{Scope, scope_in, TermsScoped, AtomScoped, AtomsScoped, OperatorScoped, BoxesScoped, GoalsScoped}
+use Rattle.akl_model.proofs.Scoped.{IsIn-left, Goes, Goes-in, IsIn-map, equations_renamed, atom_renamed, atoms_renamed, tails_renamed, shown_renamed, if_renamed, operator_renamed, Within, Within-in, terms_wider, equations_wider, atom_wider, atoms_wider, tails_wider, shown_wider, if_wider, operator_wider, atoms_scoped, terms_scoped, if_scoped, heads_scoped}
 use Rattle.akl_model.specs.Owned.{own_in, ContentOwned, BoxesOwned, GoalsOwned}
 
 Goes-own : (f : Name → Name) (s t : Scope) (b : Content) → Goes f s t → Goes f (own_in s b) (own_in t (renamed_content f b))
@@ -25,6 +25,7 @@ module _ (f : Name → Name) where
     tails = tails_renamed f (own_in s b) (own_in t (renamed_content f b)) (Goes-own f s t b g) b.ports h.tails;
     body = atoms_renamed f (own_in s b) (own_in t (renamed_content f b)) (Goes-own f s t b g) b.body h.body;
     shown = shown_renamed f (own_in s b) (own_in t (renamed_content f b)) (Goes-own f s t b g) b.shown h.shown;
+    collected = if_renamed f (own_in s b) (own_in t (renamed_content f b)) (Goes-own f s t b g) b.collected h.collected;
   }
 
   mutual
@@ -39,7 +40,7 @@ module _ (f : Name → Name) where
     goals_renamed : (s t : Scope) → Goes f s t → (gs : Goals) → GoalsOwned s gs → GoalsOwned t (renamed_goals f gs)
     goals_renamed s t g no_goals h = tt
     goals_renamed s t g (atom k a gs) h = (atom_renamed f s t g a h.0, goals_renamed s t g gs h.1)
-    goals_renamed s t g (choice k o bs gs) h = (boxes_renamed s t g bs h.0, goals_renamed s t g gs h.1)
+    goals_renamed s t g (choice k o bs gs) h = (boxes_renamed s t g bs h.0, goals_renamed s t g gs h.1, operator_renamed f s t g o h.2)
 
 Within-own : (s t : Scope) (b : Content) → Within s t → Within (own_in s b) (own_in t b)
 Within-own s t b g = record { frames = λ n h. h; ports = (Within-in s t b g).ports }
@@ -56,6 +57,7 @@ content_wider s t g b h = record {
   tails = tails_wider (own_in s b) (own_in t b) (Within-own s t b g) b.ports h.tails;
   body = atoms_wider (own_in s b) (own_in t b) (Within-own s t b g) b.body h.body;
   shown = shown_wider (own_in s b) (own_in t b) (Within-own s t b g) b.shown h.shown;
+  collected = if_wider (own_in s b) (own_in t b) (Within-own s t b g) b.collected h.collected;
 }
 
 mutual
@@ -66,17 +68,17 @@ mutual
   pub goals_wider : (s t : Scope) → Within s t → (gs : Goals) → GoalsOwned s gs → GoalsOwned t gs
   goals_wider s t g no_goals h = tt
   goals_wider s t g (atom k a gs) h = (atom_wider s t g a h.0, goals_wider s t g gs h.1)
-  goals_wider s t g (choice k o bs gs) h = (boxes_wider s t g bs h.0, goals_wider s t g gs h.1)
+  goals_wider s t g (choice k o bs gs) h = (boxes_wider s t g bs h.0, goals_wider s t g gs h.1, operator_wider s t g o h.2)
 
 -- goals
 
 abbrev pub HeldOwned : Scope → Held → Type 0
 HeldOwned s (an_atom a) = AtomScoped s a
-HeldOwned s (a_choice o bs) = BoxesOwned s bs
+HeldOwned s (a_choice o bs) = BoxesOwned s bs × OperatorScoped s o
 
 goal_owned : (s : Scope) (g : Name) (k : Held) (gs : Goals) → HeldOwned s k → GoalsOwned s gs → GoalsOwned s (goal g k gs)
 goal_owned s g (an_atom a) gs h i = (h, i)
-goal_owned s g (a_choice o bs) gs h i = (h, i)
+goal_owned s g (a_choice o bs) gs h i = (h.0, i, h.1)
 
 pub held_owned : (s : Scope) (g : Name) (k : Held) (gs : Goals) → GoalsOwned s gs → held_in g gs ≡ Some k → HeldOwned s k
 held_owned s g k no_goals h e = cc
@@ -88,7 +90,7 @@ held_owned s g k (atom i a gs) h e = on (same_name g i) e (λ j. held_owned s g 
 held_owned s g k (choice i o bs gs) h e = on (same_name g i) e (λ j. held_owned s g k gs h.1 j)
   where
     on : (t : Bool) → (if t then Some (a_choice o bs) else held_in g gs) ≡ Some k → (held_in g gs ≡ Some k → HeldOwned s k) → HeldOwned s k
-    on true j f = let q : a_choice o bs ≡ k = cc in subst (HeldOwned s) q h.0
+    on true j f = let q : a_choice o bs ≡ k = cc in subst (HeldOwned s) q (h.0, h.2)
     on false j f = f j
 
 pub without_owned : (s : Scope) (g : Name) (gs : Goals) → GoalsOwned s gs → GoalsOwned s (without_goal g gs)
@@ -102,7 +104,7 @@ without_owned s g (choice i o bs gs) h = on (same_name g i) (without_owned s g g
   where
     on : (t : Bool) → GoalsOwned s (without_goal g gs) → GoalsOwned s (if t then gs else choice i o bs (without_goal g gs))
     on true k = h.1
-    on false k = (h.0, k)
+    on false k = (h.0, k, h.2)
 
 pub with_content_owned : (s : Scope) (g : Name) (k : Held) (gs : Goals) → HeldOwned s k → GoalsOwned s gs → GoalsOwned s (with_content g k gs)
 with_content_owned s g k no_goals h i = tt
@@ -115,7 +117,7 @@ with_content_owned s g k (choice j o bs gs) h i = on (same_name g j) (with_conte
   where
     on : (t : Bool) → GoalsOwned s (with_content g k gs) → GoalsOwned s (if t then goal g k gs else choice j o bs (with_content g k gs))
     on true x = goal_owned s g k gs h i.1
-    on false x = (i.0, x)
+    on false x = (i.0, x, i.2)
 
 with_goal_owned : (s : Scope) (g : Name) (k : Held) (gs : Goals) → HeldOwned s k → GoalsOwned s gs → GoalsOwned s (with_goal g k gs)
 with_goal_owned s g k no_goals h i = goal_owned s g k no_goals h tt
@@ -128,7 +130,7 @@ with_goal_owned s g k (choice j o bs gs) h i = on (is_before g j) (with_goal_own
   where
     on : (t : Bool) → GoalsOwned s (with_goal g k gs) → GoalsOwned s (if t then goal g k (choice j o bs gs) else choice j o bs (with_goal g k gs))
     on true x = goal_owned s g k (choice j o bs gs) h i
-    on false x = (i.0, x)
+    on false x = (i.0, x, i.2)
 
 pub with_atoms_owned : (s : Scope) (w n : ℕ) (rs : List Atom) (gs : Goals) → AtomsScoped s rs → GoalsOwned s gs → GoalsOwned s (with_atoms w n rs gs)
 with_atoms_owned s w n [] gs h i = i
@@ -136,9 +138,10 @@ with_atoms_owned s w n (a ∷ rs) gs h i = with_atoms_owned s w (n + 1) rs (with
 
 -- alternatives
 
-pub kept_owned : (s : Scope) (o : Op) (n : Name) (bs : Boxes) → BoxesOwned s bs → BoxesOwned s (kept_by o n bs)
-kept_owned s Op.Choice n bs h = h
-kept_owned s Op.Condition n bs h = go bs h
+pub kept_owned : (s : Scope) (o : Operator) (n : Name) (bs : Boxes) → BoxesOwned s bs → BoxesOwned s (kept_by o n bs)
+kept_owned s Operator.nondeterminate n bs h = h
+kept_owned s (Operator.collecting r) n bs h = h
+kept_owned s Operator.condition n bs h = go bs h
   where
     go : (bs : Boxes) → BoxesOwned s bs → BoxesOwned s (up_to n bs)
     go no_boxes h = tt
@@ -147,7 +150,7 @@ kept_owned s Op.Condition n bs h = go bs h
         on : (t : Bool) → BoxesOwned s (up_to n bs) → BoxesOwned s (if t then box b gs no_boxes else box b gs (up_to n bs))
         on true k = (h.0, h.1, tt)
         on false k = (h.0, h.1, k)
-kept_owned s Op.Commit n bs h = alone_owned s n bs h
+kept_owned s Operator.commit n bs h = alone_owned s n bs h
   where
     alone_owned : (s : Scope) (n : Name) (bs : Boxes) → BoxesOwned s bs → BoxesOwned s (alone n bs)
     alone_owned s n no_boxes h = tt
@@ -158,7 +161,7 @@ kept_owned s Op.Commit n bs h = alone_owned s n bs h
         on false k = k
 
 pub alone_owned : (s : Scope) (n : Name) (bs : Boxes) → BoxesOwned s bs → BoxesOwned s (alone n bs)
-alone_owned s n bs h = kept_owned s Op.Commit n bs h
+alone_owned s n bs h = kept_owned s Operator.commit n bs h
 
 pub others_owned : (s : Scope) (n : Name) (bs : Boxes) → BoxesOwned s bs → BoxesOwned s (others n bs)
 others_owned s n no_boxes h = tt
@@ -176,6 +179,7 @@ instances_owned s nodes w n arguments (c ∷ cs) h = (
     tails = tt;
     body = atoms_scoped there nodes frame c.body own;
     shown = tt;
+    collected = if_scoped there nodes frame c.collected own;
   },
   with_atoms_owned there w (n + 2) (atoms_of nodes frame c.guard) no_goals (atoms_scoped there nodes frame c.guard own) tt,
   instances_owned s nodes w (n + (2 + length c.guard)) arguments cs h,
@@ -206,6 +210,7 @@ mutual
       tails = tails_wider (own_in s b) (scope_in t b) (own_within_in s t b g) b.ports h.0.tails;
       body = atoms_wider (own_in s b) (scope_in t b) (own_within_in s t b g) b.body h.0.body;
       shown = shown_wider (own_in s b) (scope_in t b) (own_within_in s t b g) b.shown h.0.shown;
+      collected = if_wider (own_in s b) (scope_in t b) (own_within_in s t b g) b.collected h.0.collected;
     },
     goals_scoped (own_in s b) (scope_in t b) (own_within_in s t b g) gs h.1,
     owned_scoped s t g bs h.2,
@@ -214,4 +219,4 @@ mutual
   goals_scoped : (s t : Scope) → Within s t → (gs : Goals) → GoalsOwned s gs → GoalsScoped t gs
   goals_scoped s t g no_goals h = tt
   goals_scoped s t g (atom k a gs) h = (atom_wider s t g a h.0, goals_scoped s t g gs h.1)
-  goals_scoped s t g (choice k o bs gs) h = (owned_scoped s t g bs h.0, goals_scoped s t g gs h.1)
+  goals_scoped s t g (choice k o bs gs) h = (owned_scoped s t g bs h.0, goals_scoped s t g gs h.1, operator_wider s t g o h.2)

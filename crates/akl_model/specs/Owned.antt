@@ -10,7 +10,7 @@ use Rattle.akl_terms.specs.Equal.{Equations}
 use Rattle.akl_terms.specs.Touching.{IsLocal}
 use Rattle.constraint_laws.specs.Growth.{TellsOver}
 use Rattle.akl_model.specs.Derivations.{Applies, Replays}
-use Rattle.akl_model.specs.Scopes.{Scope, nowhere, scope_in, EquationsScoped, AtomScoped, AtomsScoped, TailsScoped, ShownScoped}
+use Rattle.akl_model.specs.Scopes.{Scope, nowhere, scope_in, TermScopedIf, OperatorScoped, EquationsScoped, AtomScoped, AtomsScoped, TailsScoped, ShownScoped}
 
 -- the frames of a box alone, and the ports of it and of the boxes around it
 abbrev pub own_in : Scope → Content → Scope
@@ -22,6 +22,7 @@ pub record ContentOwned (s : Scope) (b : Content) : Type 0 where
   pub tails : TailsScoped (own_in s b) b.ports
   pub body : AtomsScoped (own_in s b) b.body
   pub shown : ShownScoped (own_in s b) b.shown
+  pub collected : TermScopedIf (own_in s b) b.collected
 
 -- so for each box, and goals use the frames of their box alone
 abbrev mutual
@@ -32,7 +33,7 @@ abbrev mutual
   pub GoalsOwned : Scope → Goals → Type 0
   GoalsOwned s no_goals = ⊤
   GoalsOwned s (atom g a gs) = AtomScoped s a × GoalsOwned s gs
-  GoalsOwned s (choice g o bs gs) = BoxesOwned s bs × GoalsOwned s gs
+  GoalsOwned s (choice g o bs gs) = BoxesOwned s bs × GoalsOwned s gs × OperatorScoped s o
 
 -- so it is in the replay of every journal
 abbrev pub OwnedLaw : Type 0

@@ -22,9 +22,9 @@ operation_named text =
     else if bytes_eq text (codes "mod") then Some modulus
     else None
 
--- the integers that a program can hold, of 64 bits
+-- the integers that a program can hold, of 128 bits
 abbrev pub in_range : ℤ → Bool
-in_range z = int_le (neg_ℤ (pos (2 ^ 63))) z && int_lt z (pos (2 ^ 63))
+in_range z = int_le (neg_ℤ (pos (2 ^ 127))) z && int_lt z (pos (2 ^ 127))
 
 abbrev pub where_in_range : ℤ → Option ℤ
 where_in_range z = if in_range z then Some z else None

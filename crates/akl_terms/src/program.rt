@@ -6,12 +6,13 @@ use crate::templates::Templates;
 use crate::term::Term;
 use crate::text::Text;
 
-/// The operator of a guard: conditional `->`, commit `|`, nondeterminate `?`.
+/// The operator of a guard: conditional `->`, commit `|`, nondeterminate `?`; and that of a definition which collects.
 #[derive(Clone, Copy, PartialEq, Eq)]
 pub enum Op {
     Condition,
     Commit,
     Choice,
+    Collect,
 }
 
 /// What an arithmetic goal asks: `is`, `<`, `>`, `=<`, `>=`, `=:=`, `=\=`.
@@ -52,6 +53,13 @@ pub enum Code {
         first: u32,
         count: u32,
     },
+    /// A collecting goal: a call of a definition that collects, and the node of its result.
+    Collect {
+        definition: u32,
+        first: u32,
+        count: u32,
+        result: u32,
+    },
     Fail,
 }
 
@@ -70,6 +78,8 @@ pub struct Clause {
     pub count: u32,
     pub guard: Items<Code>,
     pub body: Items<Code>,
+    /// The node of the term that a collecting definition's only clause collects.
+    pub collected: Option<u32>,
 }
 
 /// What names a definition: a symbol with a number of arguments.

@@ -7,7 +7,7 @@ use crate::name::{Name, Var};
 pub enum Node {
     /// The frame's variable of this index.
     Var(u32),
-    Int(i64),
+    Int(i128),
     /// A symbol over the `count` neighbouring nodes from `first` on.
     Struct { symbol: u32, first: u32, count: u32 },
 }
@@ -16,7 +16,7 @@ pub enum Node {
 #[derive(Clone, Copy, Debug, PartialEq, Eq)]
 pub enum Term {
     Mol { node: u32, frame: Name },
-    Int(i64),
+    Int(i128),
     Port(Name),
 }
 
@@ -31,7 +31,7 @@ impl Default for Term {
 #[derive(Clone, Copy, Debug, PartialEq, Eq)]
 pub enum Seen {
     Free(Var),
-    Int(i64),
+    Int(i128),
     Port(Name),
     /// A symbol over the `count` neighbouring nodes from `first` on, under the frame.
     Struct {

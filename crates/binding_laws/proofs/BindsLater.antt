@@ -1,5 +1,5 @@
 -- A step that is right still binds what it bound.
-use Rattle.std.proofs.Common.{◌≡◌, List, [], ◌∷◌, ◌++◌, length, sym, ◌∙◌, subst}
+use Rattle.std.proofs.Common.{inr, inl, ◌≡◌, List, [], ◌∷◌, ◌++◌, length, sym, ◌∙◌, subst}
 use Rattle.std.specs.Prelude.{slice_index}
 use Rattle.akl_terms.specs.declared.name.Name.{Name}
 use Rattle.akl_terms.specs.declared.name.Var.{Var}
@@ -26,7 +26,7 @@ use Rattle.plan_laws.specs.Stamps as stamps
 use Rattle.plan_laws.specs.BoundAgain.{AddsNone, BindsAlike}
 use Rattle.plan_laws.proofs.StampLaws.{stamped, stamped_right}
 use Rattle.plan_laws.proofs.BoundAgain.{binds_none, binds_again}
-use Rattle.table_laws.specs.Steps.{Step, tells, forks, fails, cuts, promotes, refutes, confirms, splits, Makes, ReadsFor}
+use Rattle.table_laws.specs.Steps.{Step, tells, forks, fails, cuts, joins, refutes, confirms, splits, Makes, ReadsFor}
 use Rattle.step_laws.specs.Bound.{first_equations, outermost_equations, AreBoundIn}
 
 -- of boxes with the same contents down to them the outermost one's equations are the same
@@ -87,7 +87,7 @@ module _ (rules : List Rule) (p : Program) (q : Query) (journal further : List L
   by_step (forks op news) u m = by_none (subst AddsNone (sym m.0) tt)
   by_step fails u m = by_none (subst AddsNone (sym m) tt)
   by_step cuts u m = by_none (subst AddsNone (sym m.0) tt)
-  by_step (promotes new solved goals) u m = by_stores (right u) (reads_as Rule.Promote m.1.0 m.0 m.1.2 u).1
+  by_step (joins new solved goals) u m = by_stores (right u) (elim m.2.origin [ inl y ↦ (reads_as Rule.Promote m.0 y.rule m.1 u).1 | inr y ↦ (reads_as Rule.Collect m.0 y.rule m.1 u).1 ])
   by_step refutes u m = by_stores (right u) (reads_as Rule.Eval m.1.0 m.0 m.1.1 u).1
   by_step confirms u m = by_stores (right u) (reads_as Rule.Eval m.1.0 m.0 m.1.1 u).1
   by_step (splits copy copies) u m = by_none (subst AddsNone (sym m.0) tt)

@@ -1,5 +1,5 @@
 -- Whether a label binds a variable that is external to its box is seen by the store that its step gives the box.
-use Rattle.std.proofs.Common.{◌≡◌, ℕ, List, Bool, Some, length, refl, sym, ◌∙◌, ap, subst, inl, inr}
+use Rattle.std.proofs.Common.{◌≡◌, ℕ, List, Bool, Some, refl, sym, ◌∙◌, ap, subst, inl, inr}
 use Rattle.std.specs.Prelude.{slice_index}
 use Rattle.akl_terms.specs.declared.name.Name.{Name}
 use Rattle.akl_terms.specs.declared.name.Var.{Var}
@@ -19,9 +19,9 @@ use Rattle.plan_laws.specs.BoundAgain.{AddsNone}
 use Rattle.plan_laws.proofs.BoundAgain.{binds_none}
 use Rattle.table_laws.specs.Rows.{Table}
 use Rattle.table_laws.specs.Stamped.{Run, IsTableOf}
-use Rattle.table_laws.specs.Steps.{Step, tells, forks, fails, cuts, promotes, refutes, confirms, splits, TellsGoal, PromotesGoal, Makes}
+use Rattle.table_laws.specs.Steps.{Step, tells, forks, fails, cuts, joins, refutes, confirms, splits, TellsGoal, JoinsGoal, Makes}
 use Rattle.table_laws.proofs.Reduced.{by_change}
-use Rattle.table_laws.proofs.Promoting.{promoted_change}
+use Rattle.table_laws.proofs.Promoting.{joined_change}
 use Rattle.step_laws.specs.Bound.{AreBoundIn}
 use Rattle.binding_laws.specs.Bindings.{BindsOutside, HasOuter, HasOuterIn}
 use Rattle.binding_laws.proofs.ListedOutside.{listed_outside}
@@ -79,19 +79,19 @@ module _ (rules : List Rule) (r : Run) (T : Table) (l : Label) (d : Config) (t :
           binds_outside change m.reduces.makes m.content (without_goal makes.0 a.site.goals) no_boxes refl list bound new.frames m.frames,
         )
 
-    promote_seen : (new : Stored) (solved : Bool) (goals : List (Name × Atom)) → Makes r.program l (slice_index t.config.next l.worker) a.site (promotes new solved goals) → IsSeen list (promotes new solved goals)
-    promote_seen new solved goals makes =
-        let m : PromotesGoal r.program.templates.nodes l.worker next a.site makes.1.0 makes.1.1 new goals = makes.1.4 in
-        let made : Goals = with_atoms l.worker next m.alternative.body (without_goal makes.1.0 a.site.goals) in
-        let change : a.change ≡ becomes (joining m.alternative a.site.content) made (length m.alternative.body) =
-        promoted_change r.program a.makes.reading l.worker next makes.1.0 makes.1.1 l.rule l.place l.alternative a.site a.change m.operator m.alternative makes.0 makes.1.2 makes.1.3 m.named m.held a.makes.change in (
-          has_outer a.change a.makes (joining m.alternative a.site.content) made no_boxes (ap (λ (k : Change). k.boxes) change) list bound new.frames m.frames,
-          binds_outside a.change a.makes (joining m.alternative a.site.content) made no_boxes (ap (λ (k : Change). k.boxes) change) list bound new.frames m.frames,
+    join_seen : (new : Stored) (solved : Bool) (goals : List (Name × Atom)) → Makes r.program l (slice_index t.config.next l.worker) a.site (joins new solved goals) → IsSeen list (joins new solved goals)
+    join_seen new solved goals makes =
+        let m : JoinsGoal r.program l next a.site makes.0 new goals = makes.2 in
+        let made : Goals = with_atoms l.worker next m.joined.body (without_goal makes.0 a.site.goals) in
+        let change : (drawn : ℕ) × (a.change ≡ becomes (joining m.joined a.site.content) made drawn) =
+        joined_change r.program a.makes.reading next makes.0 l a.site a.change m.operator m.alternatives m.joined makes.1 m.held m.origin a.makes.change in (
+          has_outer a.change a.makes (joining m.joined a.site.content) made no_boxes (ap (λ (k : Change). k.boxes) change.1) list bound new.frames m.frames,
+          binds_outside a.change a.makes (joining m.joined a.site.content) made no_boxes (ap (λ (k : Change). k.boxes) change.1) list bound new.frames m.frames,
         )
 
     pub seen : (step : Step) → Makes r.program l (slice_index t.config.next l.worker) a.site step → IsSeen list step
     seen (tells new solved) makes = tell_seen new solved makes
-    seen (promotes new solved goals) makes = promote_seen new solved goals makes
+    seen (joins new solved goals) makes = join_seen new solved goals makes
     seen (forks op news) makes = (none (subst AddsNone (sym makes.0) tt), λ z. absurd z)
     seen fails makes = (none (subst AddsNone (sym makes) tt), λ z. absurd z)
     seen cuts makes = (none (subst AddsNone (sym makes.0) tt), λ z. absurd z)

@@ -16,7 +16,7 @@ use Rattle.plan_laws.specs.Right.{NoneBy}
 use Rattle.plan_laws.specs.Stamps as stamps
 use Rattle.table_laws.specs.Rows.{Table}
 use Rattle.table_laws.specs.Stamped.{Run, IsTableOf}
-use Rattle.table_laws.specs.Steps.{Step, tells, promotes, Makes, ReadsFor}
+use Rattle.table_laws.specs.Steps.{Step, tells, joins, Makes, ReadsFor}
 use Rattle.step_laws.specs.Bound.{AreBoundIn}
 
 -- variables that a step's label binds for a prefix of a run, enough of them, are so for the whole of it, where what the step reads was changed by no
@@ -48,7 +48,7 @@ ListedOutsideLaw = (rules : List Rule) (p : Program) (q : Query) (journal : List
 -- the step gives its box a store, and one of the variables is of none of this store's frames
 abbrev pub HasOuterIn : List Var → Step → Type 0
 HasOuterIn list (tells new solved) = HasOuter list new.frames
-HasOuterIn list (promotes new solved goals) = HasOuter list new.frames
+HasOuterIn list (joins new solved goals) = HasOuter list new.frames
 HasOuterIn list step = ⊥
 
 -- so it is seen by the step alone

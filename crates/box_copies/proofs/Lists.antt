@@ -6,7 +6,7 @@ use Rattle.akl_terms.specs.declared.name.Name.{Name}
 use Rattle.akl_terms.specs.declared.term.Node.{Node}
 use Rattle.akl_terms.specs.Names.{same_name}
 use Rattle.akl_terms.proofs.SameNames.{same_name-equal, same_name-refl}
-use Rattle.akl_model.specs.Config.{IsIn}
+use Rattle.akl_model.specs.Config.{Operator, IsIn}
 use Rattle.akl_model.specs.Names.{one_if, times_in}
 use Rattle.akl_model.specs.Changes.{Shape, of_atom, of_choice}
 use Rattle.akl_model.proofs.Options.{some_value}
@@ -23,11 +23,11 @@ use Rattle.box_tree.specs.declared.entries.Held.{Held}
 use Rattle.box_tree.specs.declared.inside.InnerGoal.{InnerGoal}
 use Rattle.box_tree.specs.declared.inside.InnerBox.{InnerBox}
 use Rattle.box_tree.specs.declared.step.BoxCopy.{BoxCopy}
-use Rattle.box_tree.specs.Tables.{goal_atom, shape_held, box_copy}
+use Rattle.box_tree.specs.Tables.{op_held, goal_atom, shape_held, box_copy}
 use Rattle.box_copies.specs.declared.names.NewNames.{NewNames}
 use Rattle.box_copies.specs.Renamer.{swapped_name}
 use Rattle.box_copies.specs.Made.{own_names, kept, kept_names, without, IsHeldAs, AreGoalsAs, IsBoxBy, AreBoxesBy}
-use Rattle.box_copies.proofs.Terms.{goal_atom_by}
+use Rattle.box_copies.proofs.Terms.{op_by_names, goal_atom_by}
 
 abbrev pub Among : InnerBox → List InnerBox → Type 0
 Among b [] = ⊥
@@ -152,7 +152,7 @@ without_less a (n ∷ ns) once = on (same_name a n) refl (same_name n a) refl (w
 module _ (f : Name → Name) (nodes : List Node) (a : Name) where
   held_copied : (x y : Held) → times_in a (alternatives_in (shape_held nodes x)) ≤ 1 → IsHeldAs f a x y → shape_held nodes y ≡ copied_shape a f (shape_held nodes x)
   held_copied (Held.Atom g) (Held.Atom h) once r = ap of_atom (ap (goal_atom nodes) r ∙ goal_atom_by f nodes g)
-  held_copied (Held.Choice o v) (Held.Choice p w) once r = let e : w.items ≡ map f (less_name a v.items) = r.1 ∙ ap (map f) (without_less a v.items once) in λ i. of_choice (r.0 i) (e i)
+  held_copied (Held.Choice o v) (Held.Choice p w) once r = let e : w.items ≡ map f (less_name a v.items) = r.1 ∙ ap (map f) (without_less a v.items once) in (λ i. of_choice (op_held nodes (r.0 i)) (e i)) ∙ ap (λ (z : Operator). of_choice z (map f (less_name a v.items))) (op_by_names f nodes o)
   held_copied (Held.Atom g) (Held.Choice p w) once r = absurd r
   held_copied (Held.Choice o v) (Held.Atom h) once r = absurd r
 

@@ -1,6 +1,7 @@
 -- The copies that are made of what stands in a box are copies of the table's rows.
 use Rattle.std.proofs.Common.{◌≡◌, ℕ, ◌≤◌, ◌<◌, List, [], ◌∷◌, ◌++◌, length, map, Option, Some, None, refl, sym, ap, ◌∙◌, subst, ◌⊎◌, inl, inr, arith}
 use Rattle.std.specs.Prelude.{if◌then◌else◌, option_map, slice_index}
+use Rattle.akl_terms.specs.Template.{tree}
 use Rattle.akl_terms.specs.declared.name.Name.{Name}
 use Rattle.akl_terms.specs.declared.name.Var.{Var}
 use Rattle.akl_terms.specs.declared.name.Place.{Place}
@@ -10,7 +11,7 @@ use Rattle.akl_terms.specs.Names.{same_name}
 use Rattle.akl_model.specs.Config.{IsIn, Found, box_at}
 use Rattle.akl_model.specs.Names.{times_in}
 use Rattle.akl_model.specs.Ordered.{IsIncreasing}
-use Rattle.akl_model.specs.Renaming.{port_names, renaming, renamed_atom, renamed_equation, renamed_port, renamed_shown}
+use Rattle.akl_model.specs.Renaming.{renamed_tree, port_names, renaming, renamed_atom, renamed_equation, renamed_port, renamed_shown}
 use Rattle.akl_model.specs.Changes.{goal_names}
 use Rattle.akl_model.proofs.Options.{some_value}
 use Rattle.akl_model.proofs.Finds.{zero_or, times}
@@ -44,7 +45,7 @@ use Rattle.box_copies.specs.Copies.{IsInsideOfBox, IsSplitInto}
 use Rattle.box_copies.specs.Swaps.{AreBelow}
 use Rattle.box_copies.specs.Renamer.{swapped_name, port_by, binding_by, with_frames, with_ports}
 use Rattle.box_copies.specs.Made.{Adds, own_names, kept, kept_names, IsBoxBy, AreBoxesBy}
-use Rattle.box_copies.proofs.Terms.{body_by, shown_trees_by, ports_by, bindings_by}
+use Rattle.box_copies.proofs.Terms.{collected_by, body_by, shown_trees_by, ports_by, bindings_by}
 use Rattle.box_copies.proofs.Orders.{increasing_once, increasing_renamed}
 use Rattle.box_copies.proofs.Ordered.{found_ordered, own, owned_counted}
 use Rattle.box_copies.proofs.Stored.{frames_are, frames_ports, frames_bindings, ports_are, ports_frames, ports_bindings, joins_told, told_joins}
@@ -257,6 +258,7 @@ module _ (v : ViewValue) (seen : IsViewOf v) (i : Inside) (n a : Name) (inside :
         goals = goals_copied swap nodes a T b.goals.items k.goals.items x.held alternatives_once is.goals ∙ ap (copied_goals T a swap) x.goals;
         body = ap (map (goal_atom nodes)) is.body ∙ body_by swap nodes b.body.items ∙ ap (map (renamed_atom swap)) x.body;
         shown = ap (map (shown_tree nodes)) is.shown ∙ shown_trees_by swap nodes b.shown.items ∙ ap (map (renamed_shown swap)) x.shown;
+        collected = ap (option_map (tree nodes)) is.collected ∙ collected_by swap nodes b.collected ∙ ap (option_map (renamed_tree swap)) x.collected;
       }
 
     abbrev HasCopy : Name → Type 0

@@ -1,6 +1,6 @@
 -- Terms and atoms under other names.
 use Rattle.std.proofs.Common.{◌≡◌, ℕ, zero, suc, List, [], ◌∷◌, map, Option, Some, None, refl, ap}
-use Rattle.std.specs.Prelude.{slice_get}
+use Rattle.std.specs.Prelude.{slice_get, option_map}
 use Rattle.akl_terms.specs.declared.name.Name.{Name}
 use Rattle.akl_terms.specs.declared.name.Var.{Var}
 use Rattle.akl_terms.specs.declared.term.Node.{Node}
@@ -10,13 +10,14 @@ use Rattle.akl_terms.specs.declared.program.Goal.{Goal}
 use Rattle.akl_terms.specs.declared.program.ShownTerm.{ShownTerm}
 use Rattle.akl_terms.specs.Tree.{Tree, variable, symbol, more}
 use Rattle.akl_terms.specs.Template.{seen_node, trees_from, tree_seen, tree_at, tree}
-use Rattle.akl_model.specs.Config.{Atom}
+use Rattle.akl_model.specs.Config.{Operator, Atom}
 use Rattle.akl_model.specs.Instances.{terms_from, atom_of}
-use Rattle.akl_model.specs.Renaming.{renamed_tree, renamed_trees, renamed_atom, renamed_equation, renamed_port, renamed_shown}
+use Rattle.akl_model.specs.Renaming.{renamed_operator, renamed_tree, renamed_trees, renamed_atom, renamed_equation, renamed_port, renamed_shown}
 use Rattle.rational_unify.specs.Solving.{bindings_in}
 use Rattle.table_laws.specs.Rows.{ports_in}
-use Rattle.box_tree.specs.Tables.{goal_atom, shown_tree}
-use Rattle.box_copies.specs.Renamer.{term_by, goal_by, shown_by, binding_by, port_by}
+use Rattle.box_tree.specs.declared.entries.HeldOp.{HeldOp}
+use Rattle.box_tree.specs.Tables.{op_held, goal_atom, shown_tree}
+use Rattle.box_copies.specs.Renamer.{op_by, term_by, goal_by, shown_by, binding_by, port_by}
 
 module _ (f : Name → Name) (nodes : List Node) where
   trees_by : (go to : ℕ → Tree) → ((i : ℕ) → to i ≡ renamed_tree f (go i)) → (first n : ℕ) → trees_from to first n ≡ renamed_trees f (trees_from go first n)
@@ -47,8 +48,19 @@ module _ (f : Name → Name) (nodes : List Node) where
   atom_by frame (Code.Arith test l r) = λ i. Atom.arithmetic test (at_by (suc l) frame l i) (at_by (suc r) frame r i)
   atom_by frame (Code.OpenPort p s) = λ i. Atom.open_port (at_by (suc p) frame p i) (at_by (suc s) frame s i)
   atom_by frame (Code.Send m p) = λ i. Atom.send (at_by (suc m) frame m i) (at_by (suc p) frame p i)
-  atom_by frame (Code.Call d first n) = ap (Atom.call d) (terms_by frame first n)
+  atom_by frame (Code.Call d first n) = ap (λ (ts : List Tree). Atom.call d ts None) (terms_by frame first n)
+  atom_by frame (Code.Collect d first n r) = λ i. Atom.call d (terms_by frame first n i) (Some (at_by (suc r) frame r i))
   atom_by frame Code.Fail = refl
+
+  pub op_by_names : (op : HeldOp) → op_held nodes (op_by f op) ≡ renamed_operator f (op_held nodes op)
+  op_by_names HeldOp.Condition = refl
+  op_by_names HeldOp.Commit = refl
+  op_by_names HeldOp.Choice = refl
+  op_by_names (HeldOp.Collect t) = ap Operator.collecting (tree_by t)
+
+  pub collected_by : (o : Option Term) → option_map (tree nodes) (option_map (term_by f) o) ≡ option_map (renamed_tree f) (option_map (tree nodes) o)
+  collected_by None = refl
+  collected_by (Some t) = ap Some (tree_by t)
 
   pub goal_atom_by : (g : Goal) → goal_atom nodes (goal_by f g) ≡ renamed_atom f (goal_atom nodes g)
   goal_atom_by g = atom_by g.frame g.code

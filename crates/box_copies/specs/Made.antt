@@ -9,7 +9,7 @@ use Rattle.box_tree.specs.declared.inside.InnerGoal.{InnerGoal}
 use Rattle.box_tree.specs.declared.inside.InnerBox.{InnerBox}
 use Rattle.box_tree.specs.declared.step.BoxCopy.{BoxCopy}
 use Rattle.box_copies.specs.declared.names.NewNames.{NewNames}
-use Rattle.box_copies.specs.Renamer.{swapped_name, goal_by, shown_by, store_by}
+use Rattle.box_copies.specs.Renamer.{term_by, op_by, swapped_name, goal_by, shown_by, store_by}
 
 -- names that come to others
 pub record Adds (old more new : List Name) : Type 0 where
@@ -38,7 +38,7 @@ without a (n ∷ ns) = if same_name n a then without a ns else n ∷ without a n
 -- what a goal holds under other names, without the alternative
 abbrev pub IsHeldAs : (Name → Name) → Name → Held → Held → Type 0
 IsHeldAs f a (Held.Atom g) (Held.Atom h) = h ≡ goal_by f g
-IsHeldAs f a (Held.Choice op alternatives) (Held.Choice new others) = (new ≡ op) × (others.items ≡ map f (without a alternatives.items))
+IsHeldAs f a (Held.Choice op alternatives) (Held.Choice new others) = (new ≡ op_by f op) × (others.items ≡ map f (without a alternatives.items))
 IsHeldAs f a held other = ⊥
 
 abbrev pub AreGoalsAs : (Name → Name) → Name → List InnerGoal → List (Name × Held) → Type 0
@@ -59,6 +59,7 @@ pub record IsBoxBy (s : NewNames) (top a : Name) (b : InnerBox) (k : BoxCopy) : 
   pub goals : AreGoalsAs (swapped_name s) a b.goals.items k.goals.items
   pub body : k.body.items ≡ map (goal_by (swapped_name s)) b.body.items
   pub shown : k.shown.items ≡ map (shown_by (swapped_name s)) b.shown.items
+  pub collected : k.collected ≡ option_map (term_by (swapped_name s)) b.collected
 
 abbrev pub AreBoxesBy : NewNames → Name → Name → List InnerBox → List BoxCopy → Type 0
 AreBoxesBy s top a [] [] = ⊤

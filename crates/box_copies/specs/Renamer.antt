@@ -5,6 +5,7 @@ use Rattle.akl_terms.specs.declared.name.Var.{Var}
 use Rattle.akl_terms.specs.declared.term.Term.{Term}
 use Rattle.akl_terms.specs.declared.program.Goal.{Goal}
 use Rattle.akl_terms.specs.declared.program.ShownTerm.{ShownTerm}
+use Rattle.box_tree.specs.declared.entries.HeldOp.{HeldOp}
 use Rattle.local_store.specs.Stored.{Stored, with_frame, with_port, with_bindings, nothing}
 use Rattle.table_laws.specs.Copying.{swapping}
 use Rattle.box_copies.specs.declared.names.NewNames.{NewNames}
@@ -18,6 +19,12 @@ abbrev pub term_by : (Name → Name) → Term → Term
 term_by f (Term.Mol node frame) = Term.Mol node (f frame)
 term_by f (Term.Int z) = Term.Int z
 term_by f (Term.Port p) = Term.Port (f p)
+
+abbrev pub op_by : (Name → Name) → HeldOp → HeldOp
+op_by f HeldOp.Condition = HeldOp.Condition
+op_by f HeldOp.Commit = HeldOp.Commit
+op_by f HeldOp.Choice = HeldOp.Choice
+op_by f (HeldOp.Collect t) = HeldOp.Collect (term_by f t)
 
 abbrev pub goal_by : (Name → Name) → Goal → Goal
 goal_by f g = record { code = g.code; frame = f g.frame }

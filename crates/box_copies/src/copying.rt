@@ -6,7 +6,7 @@ ghost use Rattle.box_copies.specs.Made.{holder_by, kept, IsBoxBy, AreBoxesBy};
 ghost use Rattle.box_copies.specs.Copies.{IsInsideOfBox, IsSplitInto};
 
 use crate::gathering::copied_names;
-use crate::goals::{copied_body, copied_goals, copied_shown};
+use crate::goals::{copied_body, copied_goals, copied_shown, swapped_collected};
 use crate::names::NewNames;
 use crate::stores::copied_store;
 use akl_terms::{Name, Place};
@@ -57,6 +57,7 @@ fn copied_box(
         goals: copied_goals(alloc, names, inner.goals.as_slice(), alternative)?,
         body: copied_body(alloc, names, inner.body.as_slice())?,
         shown: copied_shown(alloc, names, inner.shown.as_slice())?,
+        collected: swapped_collected(names, inner.collected),
     })
 }
 

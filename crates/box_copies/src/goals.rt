@@ -1,14 +1,14 @@
 //! The goals, the body and the shown terms of a copy.
 
-ghost use Rattle.std.specs.Prelude.{◌≡◌, IfOk, map};
+ghost use Rattle.std.specs.Prelude.{◌≡◌, IfOk, map, option_map};
 ghost use Rattle.box_tree.specs.declared.inside.InnerGoal.{InnerGoal};
-ghost use Rattle.box_copies.specs.Renamer.{swapped_name, goal_by, shown_by};
+ghost use Rattle.box_copies.specs.Renamer.{swapped_name, term_by, op_by, goal_by, shown_by};
 ghost use Rattle.box_copies.specs.Made.{without, IsHeldAs, AreGoalsAs};
 
 use crate::names::NewNames;
 use crate::stores::swapped_term;
-use akl_terms::{Goal, Name, ShownTerm};
-use box_tree::{Held, InnerGoal};
+use akl_terms::{Goal, Name, ShownTerm, Term};
+use box_tree::{Held, HeldOp, InnerGoal};
 use std::alloc::{AllocError, Global};
 
 fn swapped_goal(names: &NewNames, goal: Goal) -> Goal
@@ -38,6 +38,28 @@ fn swapped_others(
     Ok(others)
 }
 
+// The operator of a choice, under new names.
+fn swapped_op(names: &NewNames, op: HeldOp) -> HeldOp
+    ensures { result ≡ op_by (swapped_name names.now) op }
+{
+    match op {
+        HeldOp::Condition => HeldOp::Condition,
+        HeldOp::Commit => HeldOp::Commit,
+        HeldOp::Choice => HeldOp::Choice,
+        HeldOp::Collect(result) => HeldOp::Collect(swapped_term(names, result)),
+    }
+}
+
+/// What is collected of a box, under new names.
+pub(crate) fn swapped_collected(names: &NewNames, collected: Option<Term>) -> Option<Term>
+    ensures { result ≡ option_map (term_by (swapped_name names.now)) collected }
+{
+    match collected {
+        Some(term) => Some(swapped_term(names, term)),
+        None => None,
+    }
+}
+
 // What a goal holds, without the alternative.
 fn copied_held(
     alloc: Global,
@@ -52,7 +74,7 @@ fn copied_held(
         Held::Choice { op, alternatives } => {
             let others = swapped_others(alloc, names, alternatives.as_slice(), alternative)?;
             Ok(Held::Choice {
-                op: *op,
+                op: swapped_op(names, *op),
                 alternatives: others,
             })
         }

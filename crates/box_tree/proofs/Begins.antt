@@ -128,6 +128,7 @@ module _ (p : Program) (q : Query) (goals : List (Name × Goal)) (shown : List S
     failing = (entry.failing p.templates.nodes ∙ ap first_fail atoms) i;
     body = ap (map (goal_atom p.templates.nodes)) entry.body i;
     shown = (ap (map (shown_tree p.templates.nodes)) entry.shows ∙ shows) i;
+    collected = ap (option_map (tree p.templates.nodes)) entry.collects i;
   }
 
   row_is : Some (box_row t.program.templates.nodes e) ≡ Some (first_row p q)

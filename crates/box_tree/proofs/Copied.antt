@@ -1,6 +1,7 @@
 -- Copies and their goals come one after another, the last first.
 use Rattle.std.proofs.Common.{◌≡◌, ℕ, Bool, true, false, List, [], ◌∷◌, ◌++◌, map, Option, Some, None, refl, sym, ap, ◌∙◌, subst, inl, inr, append_assoc, append-nil}
 use Rattle.std.specs.Prelude.{if◌then◌else◌, option_map}
+use Rattle.akl_terms.specs.Template.{tree}
 use Rattle.akl_terms.specs.declared.name.Name.{Name}
 use Rattle.akl_terms.specs.declared.term.Node.{Node}
 use Rattle.akl_terms.specs.Names.{same_name}
@@ -40,11 +41,12 @@ pub record IsEntryOfCopy (holder : Option Name) (at : Option ℕ) (number : ℕ)
   pub failing : e.failing ≡ None
   pub body : e.body ≡ k.body
   pub shown : e.shown ≡ k.shown
+  pub collected : e.collected ≡ k.collected
 
 copy_row : (nodes : List Node) (holder : Option Name) (at : Option ℕ) (number : ℕ) (k : BoxCopy) (e : BoxEntry) → IsEntryOfCopy holder at number k e → box_row nodes e ≡ copied_row holder at number (box_copy nodes k)
 copy_row nodes holder at number k e i =
     let g : e.goals.keys ≡ map (λ (x : Name × Shape). x.0) (named_shapes as_held nodes k.goals.items) = i.goals ∙ sym (names_shapes nodes k.goals.items) in
-    λ j. record { holder = i.holder_is j; store = i.store j; changed = i.changed j; solved_at = i.solved j; goals = g j; goals_changed = i.goals_changed j; failing = i.failing j; body = map (goal_atom nodes) (i.body j).items; shown = map (shown_tree nodes) (i.shown j).items }
+    λ j. record { holder = i.holder_is j; store = i.store j; changed = i.changed j; solved_at = i.solved j; goals = g j; goals_changed = i.goals_changed j; failing = i.failing j; body = map (goal_atom nodes) (i.body j).items; shown = map (shown_tree nodes) (i.shown j).items; collected = option_map (tree nodes) (i.collected j) }
 
 -- what is put for one copy
 or_copy : {A B : Type 0} (f : A → B) (s : Bool) (a : A) (rest : Option A) (z : Option B) → (if s then Some (f a) else or_else (option_map f rest) z) ≡ or_else (option_map f (if s then Some a else rest)) z

@@ -4,7 +4,7 @@ use Rattle.std.specs.Prelude.{if◌then◌else◌, option_map}
 use Rattle.std.specs.Map.{lookup}
 use Rattle.akl_terms.specs.declared.name.Name.{Name}
 use Rattle.akl_terms.specs.declared.term.Node.{Node}
-use Rattle.akl_terms.specs.declared.program.Op.{Op}
+use Rattle.box_tree.specs.declared.entries.HeldOp.{HeldOp}
 use Rattle.akl_terms.specs.Names.{same_name}
 use Rattle.akl_terms.proofs.SameNames.{same_name-equal}
 use Rattle.akl_model.specs.Config.{IsIn, Atom, or_else}
@@ -14,7 +14,7 @@ use Rattle.table_laws.specs.Rows.{BoxRow, GoalRow, Table}
 use Rattle.table_laws.specs.Steps as laws
 use Rattle.table_laws.specs.Writes.{failing_row, set, home_in, changed_box, failing_by, forked_row, names_drawn, new_box_of, new_goal_of, atom_among, after_fork, IsFresh}
 use Rattle.box_tree.specs.declared.step.NewBox.{NewBox}
-use Rattle.box_tree.specs.Tables.{TableValue, table_of, new_box}
+use Rattle.box_tree.specs.Tables.{op_held, TableValue, table_of, new_box}
 use Rattle.box_tree.specs.Edits.{SetsBoxes, SetsGoals, SetsRows, Becomes, boxes_with, goals_with, choice_row, home_if_empty}
 use Rattle.box_tree.proofs.News.{in_append, in_left}
 
@@ -70,37 +70,45 @@ same_row at home m = on (same_name m home) refl
     on true q = same (at home) ∙ ap at (sym (same_name-equal m home q))
     on false q = refl
 
-box_made : (T : Table) (g home : Name) (at : Option ℕ) (number : ℕ) (nodes : List Node) (news : List NewBox) (now : Name → Option BoxRow) → ((m : Name) → now m ≡ boxes_with g at number (map (new_box nodes) news) T m) → (m : Name)
-    → changed_box (home_if_empty home news) (failing_row g) now m ≡ or_else (new_box_of g at number (map (new_box nodes) news) m) (changed_box (Some home) (failing_by g (map (new_box nodes) news)) T.box_of m)
-box_made T g home at number nodes [] now is m = λ i. if same_name m home then option_map (failing_row g) (is home i) else is m i
-box_made T g home at number nodes (n ∷ ns) now is m = is m ∙ ap (or_else (new_box_of g at number (map (new_box nodes) (n ∷ ns)) m)) (sym (same_row T.box_of home m))
+box_made : (T : Table) (g home : Name) (op : HeldOp) (at : Option ℕ) (number : ℕ) (nodes : List Node) (news : List NewBox) (now : Name → Option BoxRow) → ((m : Name) → now m ≡ boxes_with g at number (map (new_box nodes) news) T m) → (m : Name)
+    → changed_box (home_if_empty home op news) (failing_row g) now m ≡ or_else (new_box_of g at number (map (new_box nodes) news) m) (changed_box (Some home) (failing_by g (op_held nodes op) (map (new_box nodes) news)) T.box_of m)
+box_made T g home HeldOp.Condition at number nodes [] now is m = λ i. if same_name m home then option_map (failing_row g) (is home i) else is m i
+box_made T g home HeldOp.Commit at number nodes [] now is m = λ i. if same_name m home then option_map (failing_row g) (is home i) else is m i
+box_made T g home HeldOp.Choice at number nodes [] now is m = λ i. if same_name m home then option_map (failing_row g) (is home i) else is m i
+box_made T g home (HeldOp.Collect t) at number nodes [] now is m = is m ∙ sym (same_row T.box_of home m)
+box_made T g home HeldOp.Condition at number nodes (n ∷ ns) now is m = is m ∙ ap (or_else (new_box_of g at number (map (new_box nodes) (n ∷ ns)) m)) (sym (same_row T.box_of home m))
+box_made T g home HeldOp.Commit at number nodes (n ∷ ns) now is m = is m ∙ ap (or_else (new_box_of g at number (map (new_box nodes) (n ∷ ns)) m)) (sym (same_row T.box_of home m))
+box_made T g home HeldOp.Choice at number nodes (n ∷ ns) now is m = is m ∙ ap (or_else (new_box_of g at number (map (new_box nodes) (n ∷ ns)) m)) (sym (same_row T.box_of home m))
+box_made T g home (HeldOp.Collect t) at number nodes (n ∷ ns) now is m = is m ∙ ap (or_else (new_box_of g at number (map (new_box nodes) (n ∷ ns)) m)) (sym (same_row T.box_of home m))
 
-module _ (t u v w : TableValue) (g home : Name) (op : Op) (news : List NewBox) (at : Option ℕ) (number worker count : ℕ) (names : List Name) (next : List ℕ) where
+module _ (t u v w : TableValue) (g home : Name) (op : HeldOp) (news : List NewBox) (at : Option ℕ) (number worker count : ℕ) (names : List Name) (next : List ℕ) where
   pub forked : number ≡ t.steps + 1 → IsFresh (table_of t) (names_drawn (map (new_box t.program.templates.nodes) news)) → Some home ≡ home_in ((table_of t).goal_of g)
       → names ≡ map (λ (n : NewBox). n.name) news → ((k : ℕ) → slice_index next k ≡ slice_index (raised worker count t.next) k)
       → SetsRows t u (boxes_with g at number (map (new_box t.program.templates.nodes) news) (table_of t)) (goals_with number (map (new_box t.program.templates.nodes) news) (table_of t))
-      → SetsGoals u v (set g (option_map (choice_row op names number) ((table_of u).goal_of g)) (table_of u).goal_of)
-      → SetsBoxes v w (changed_box (home_if_empty home news) (failing_row g) (table_of v).box_of)
-      → Becomes t (record w { next = next; steps = number }) (after_fork g op (map (new_box t.program.templates.nodes) news) at worker count (table_of t))
+      → SetsGoals u v (set g (option_map (choice_row (op_held u.program.templates.nodes op) names number) ((table_of u).goal_of g)) (table_of u).goal_of)
+      → SetsBoxes v w (changed_box (home_if_empty home op news) (failing_row g) (table_of v).box_of)
+      → Becomes t (record w { next = next; steps = number }) (after_fork g (op_held t.program.templates.nodes op) (map (new_box t.program.templates.nodes) news) at worker count (table_of t))
   forked n f h ns nx a b d =
       let nodes : List Node = t.program.templates.nodes in
       let all : List laws.NewBox = map (new_box t.program.templates.nodes) news in
       let k : v ≡ record t { boxes = u.boxes; goals = v.goals } = b.rest ∙ ap (λ (x : TableValue). record x { goals = v.goals }) a.rest in
       let r : w ≡ record t { boxes = w.boxes; goals = v.goals } = d.rest ∙ ap (λ (x : TableValue). record x { boxes = w.boxes }) k in
       let boxes_v : (m : Name) → (table_of v).box_of m ≡ boxes_with g at number all (table_of t) m = λ m. ap (λ (x : TableValue). (table_of x).box_of m) b.rest ∙ a.boxes m in
-      let row : choice_row op names number ≡ forked_row op all number = ap (λ (xs : List Name). choice_row op xs number) (ns ∙ names_of nodes news) in
+      let alike : u.program ≡ t.program = ap (λ (x : TableValue). x.program) a.rest in
+      let row : choice_row (op_held u.program.templates.nodes op) names number ≡ forked_row (op_held t.program.templates.nodes op) all number =
+      (λ i. choice_row (op_held (alike i).templates.nodes op) ((ns ∙ names_of nodes news) i) number) in
       record {
         program = ap (λ (x : TableValue). x.program) r;
         query = ap (λ (x : TableValue). x.query) r;
         table = record {
           nodes = ap (λ (x : TableValue). x.program.templates.nodes) r;
-          boxes = λ m. d.rows m ∙ box_made (table_of t) g home at number nodes news (table_of v).box_of boxes_v m
-              ∙ ap (λ (o : Option Name). or_else (new_box_of g at number all m) (changed_box o (failing_by g all) (table_of t).box_of m)) h
-              ∙ ap (λ (x : ℕ). or_else (new_box_of g at x all m) (changed_box (home_in ((table_of t).goal_of g)) (failing_by g all) (table_of t).box_of m)) n;
+          boxes = λ m. d.rows m ∙ box_made (table_of t) g home op at number nodes news (table_of v).box_of boxes_v m
+              ∙ ap (λ (o : Option Name). or_else (new_box_of g at number all m) (changed_box o (failing_by g (op_held nodes op) all) (table_of t).box_of m)) h
+              ∙ ap (λ (x : ℕ). or_else (new_box_of g at x all m) (changed_box (home_in ((table_of t).goal_of g)) (failing_by g (op_held nodes op) all) (table_of t).box_of m)) n;
           goals = λ m. ap (λ (x : TableValue). (table_of x).goal_of m) d.rest ∙ b.rows m
-              ∙ set_beneath (new_goal_of number all) (table_of t).goal_of (table_of u).goal_of g (choice_row op names number) (not_new (table_of t) number all g home f (sym h)) a.goals m
+              ∙ set_beneath (new_goal_of number all) (table_of t).goal_of (table_of u).goal_of g (choice_row (op_held u.program.templates.nodes op) names number) (not_new (table_of t) number all g home f (sym h)) a.goals m
               ∙ ap (λ (change : GoalRow → GoalRow). or_else (new_goal_of number all m) (set g (option_map change ((table_of t).goal_of g)) (table_of t).goal_of m)) row
-              ∙ ap (λ (x : ℕ). or_else (new_goal_of x all m) (set g (option_map (forked_row op all x) ((table_of t).goal_of g)) (table_of t).goal_of m)) n;
+              ∙ ap (λ (x : ℕ). or_else (new_goal_of x all m) (set g (option_map (forked_row (op_held t.program.templates.nodes op) all x) ((table_of t).goal_of g)) (table_of t).goal_of m)) n;
           roots = ap (λ (x : TableValue). x.roots) r;
           roots_changed = ap (λ (x : TableValue). x.roots_changed) r;
           next = nx;

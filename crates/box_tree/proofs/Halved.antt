@@ -4,7 +4,8 @@ use Rattle.std.specs.Prelude.{if◌then◌else◌, option_map}
 use Rattle.std.specs.Map.{lookup}
 use Rattle.akl_terms.specs.declared.name.Name.{Name}
 use Rattle.akl_terms.specs.declared.name.Place.{Place}
-use Rattle.akl_terms.specs.declared.program.Op.{Op}
+use Rattle.akl_model.specs.Config.{Operator}
+use Rattle.box_tree.specs.declared.entries.HeldOp.{HeldOp}
 use Rattle.akl_terms.specs.declared.program.Program.{Program}
 use Rattle.akl_terms.specs.Names.{same_name}
 use Rattle.akl_terms.proofs.SameNames.{same_name-equal}
@@ -31,7 +32,7 @@ use Rattle.box_tree.specs.declared.entries.Held.{Held}
 use Rattle.box_tree.specs.declared.entries.GoalEntry.{GoalEntry}
 use Rattle.box_tree.specs.declared.splitting.Holder.{Holder}
 use Rattle.box_tree.specs.declared.view.Sight.{Sight}
-use Rattle.box_tree.specs.Tables.{all_rules, TableValue, table_of, goal_row, shape_held}
+use Rattle.box_tree.specs.Tables.{op_held, all_rules, TableValue, table_of, goal_row, shape_held}
 use Rattle.box_tree.specs.Edits.{SetsGoals, SetsRows, choice_row}
 use Rattle.box_tree.specs.Drops.{IsOfRun, DropsBoxes}
 use Rattle.box_tree.specs.Paths.{sight_held, sight_in}
@@ -100,22 +101,22 @@ module _ (T : Table) (ks : List laws.BoxCopy) (fresh : IsFresh T (names_copied k
 
 -- the row of a choice that is seen, and what becomes of it
 
-choice_there : (t : TableValue) (g home : Name) (op : Op) → sight_in t (Place.Goal g) ≡ Some (home, Sight.Choice op) → (r : GoalRow) × ((table_of t).goal_of g ≡ Some r) × (r.shape ≡ of_choice op (alternatives_in r.shape))
+choice_there : (t : TableValue) (g home : Name) (op : HeldOp) → sight_in t (Place.Goal g) ≡ Some (home, Sight.Choice op) → (r : GoalRow) × ((table_of t).goal_of g ≡ Some r) × (r.shape ≡ of_choice (op_held t.program.templates.nodes op) (alternatives_in r.shape))
 choice_there t g home op e = on (lookup (same_name g) t.goals) e
   where
-    of_held : (h : Held) → sight_held h ≡ Sight.Choice op → shape_held t.program.templates.nodes h ≡ of_choice op (alternatives_in (shape_held t.program.templates.nodes h))
+    of_held : (h : Held) → sight_held h ≡ Sight.Choice op → shape_held t.program.templates.nodes h ≡ of_choice (op_held t.program.templates.nodes op) (alternatives_in (shape_held t.program.templates.nodes h))
     of_held (Held.Atom a) q = cc
-    of_held (Held.Choice o names) q = let same : o ≡ op = cc in ap (λ (x : Op). of_choice x names.items) same
+    of_held (Held.Choice o names) q = let same : o ≡ op = cc in ap (λ (x : HeldOp). of_choice (op_held t.program.templates.nodes x) names.items) same
 
     on : (o : Option GoalEntry) → option_map {U = Name × Sight} (λ (x : GoalEntry). (x.home, sight_held x.held)) o ≡ Some (home, Sight.Choice op)
-        → (r : GoalRow) × (option_map (goal_row t.program.templates.nodes) o ≡ Some r) × (r.shape ≡ of_choice op (alternatives_in r.shape))
+        → (r : GoalRow) × (option_map (goal_row t.program.templates.nodes) o ≡ Some r) × (r.shape ≡ of_choice (op_held t.program.templates.nodes op) (alternatives_in r.shape))
     on None q = cc
     on (Some x) q = (goal_row t.program.templates.nodes x, refl, of_held x.held (ap (λ (p : Name × Sight). p.1) (some_value q)))
 
-alone_is : (r : GoalRow) (op : Op) (a : Name) (number : ℕ) (alone : List Name) → r.shape ≡ of_choice op (alternatives_in r.shape) → alone ≡ name_alone a (alternatives_in r.shape) → choice_row op alone number r ≡ alone_row a number r
+alone_is : (r : GoalRow) (op : Operator) (a : Name) (number : ℕ) (alone : List Name) → r.shape ≡ of_choice op (alternatives_in r.shape) → alone ≡ name_alone a (alternatives_in r.shape) → choice_row op alone number r ≡ alone_row a number r
 alone_is r op a number alone e k = ap (λ (s : Shape). record r { shape = s; changed = number }) (ap (of_choice op) k ∙ sym (ap (alone_shape a) e))
 
-beside_is : (r : GoalRow) (op : Op) (n copy : Name) (number : ℕ) (names : List Name) → r.shape ≡ of_choice op (alternatives_in r.shape) → names ≡ name_after n copy (alternatives_in r.shape) → choice_row op names number r ≡ beside_row n copy number r
+beside_is : (r : GoalRow) (op : Operator) (n copy : Name) (number : ℕ) (names : List Name) → r.shape ≡ of_choice op (alternatives_in r.shape) → names ≡ name_after n copy (alternatives_in r.shape) → choice_row op names number r ≡ beside_row n copy number r
 beside_is r op n copy number names e k = ap (λ (s : Shape). record r { shape = s; changed = number }) (ap (of_choice op) k ∙ sym (ap (beside_shape n copy) e))
 
 others_are : (a : Name) (o : Option GoalRow) → others_from a o ≡ less_name a (alternatives_of o)
@@ -141,10 +142,16 @@ record IsHalved (t w : TableValue) (n a choice copy : Name) (copies : List laws.
   roots : w.roots ≡ if_root (holder_in_row ((table_of t).box_of n)) (name_after n copy t.roots) t.roots
   roots_changed : w.roots_changed ≡ if_root (holder_in_row ((table_of t).box_of n)) number t.roots_changed
 
-module _ (t u v w : TableValue) (n a choice copy home : Name) (op : Op) (copies : List laws.BoxCopy) (holder : Option Name) (later : Option ℕ) (number : ℕ) (alone : List Name) (fresh : IsFresh (table_of t) (names_copied copies))
-    (seen : sight_in t (Place.Goal choice) ≡ Some (home, Sight.Choice op)) (kept : alone ≡ name_alone a (alternatives_of ((table_of t).goal_of choice)))
+module _ (t u v w : TableValue) (n a choice copy home : Name) (held_op : HeldOp) (copies : List laws.BoxCopy) (holder : Option Name) (later : Option ℕ) (number : ℕ) (alone : List Name) (fresh : IsFresh (table_of t) (names_copied copies))
+    (seen : sight_in t (Place.Goal choice) ≡ Some (home, Sight.Choice held_op)) (kept : alone ≡ name_alone a (alternatives_of ((table_of t).goal_of choice)))
     (puts : SetsRows t u (copies_with holder later number copies (table_of t)) (copied_goals_with number copies (table_of t)))
-    (makes : SetsGoals u v (set choice (option_map (choice_row op alone number) ((table_of u).goal_of choice)) (table_of u).goal_of)) where
+    (makes : SetsGoals u v (set choice (option_map (choice_row (op_held u.program.templates.nodes held_op) alone number) ((table_of u).goal_of choice)) (table_of u).goal_of)) where
+  abbrev op : Operator
+  op = op_held t.program.templates.nodes held_op
+
+  alike_u : u.program ≡ t.program
+  alike_u = ap (λ (k : TableValue). k.program) puts.rest
+
   abbrev alone_goals : Name → Option GoalRow
   alone_goals = set choice (option_map (alone_row a number) ((table_of t).goal_of choice)) (table_of t).goal_of
 
@@ -155,7 +162,7 @@ module _ (t u v w : TableValue) (n a choice copy home : Name) (op : Op) (copies 
   boxes_v m = ap (λ (k : TableValue). (table_of k).box_of m) makes.rest ∙ puts.boxes m
 
   chosen : (r : GoalRow) × ((table_of t).goal_of choice ≡ Some r) × (r.shape ≡ of_choice op (alternatives_in r.shape))
-  chosen = choice_there t choice home op seen
+  chosen = choice_there t choice home held_op seen
 
   row_alone : option_map (choice_row op alone number) ((table_of t).goal_of choice) ≡ option_map (alone_row a number) ((table_of t).goal_of choice)
   row_alone = ap (option_map (choice_row op alone number)) chosen.1 ∙ ap (λ (r : GoalRow). Some r) (alone_is chosen.0 op a number alone chosen.2 (kept ∙ ap (λ (o : Option GoalRow). name_alone a (alternatives_of o)) chosen.1))
@@ -163,6 +170,7 @@ module _ (t u v w : TableValue) (n a choice copy home : Name) (op : Op) (copies 
 
   goals_v : (m : Name) → (table_of v).goal_of m ≡ or_else (copied_goal_of number copies m) (alone_goals m)
   goals_v m = makes.rows m
+      ∙ ap (λ (k : Program). set choice (option_map (choice_row (op_held k.templates.nodes held_op) alone number) ((table_of u).goal_of choice)) (table_of u).goal_of m) alike_u
       ∙ set_beneath (copied_goal_of number copies) (table_of t).goal_of (table_of u).goal_of choice (choice_row op alone number) (not_copied (table_of t) copies fresh number choice chosen.0 chosen.1) puts.goals m
       ∙ ap (λ (o : Option GoalRow). or_else (copied_goal_of number copies m) (set choice o (table_of t).goal_of m)) row_alone
 
@@ -175,16 +183,18 @@ module _ (t u v w : TableValue) (n a choice copy home : Name) (op : Op) (copies 
     roots_changed = ap (λ (k : TableValue). k.roots_changed) h ∙ ap (λ (o : Option Name). if_root o number t.roots_changed) (sym i.0);
   }
   halved (Holder.Choice g kind names) i differs h =
-      let r : (r : GoalRow) × ((table_of t).goal_of g ≡ Some r) × (r.shape ≡ of_choice kind (alternatives_in r.shape)) = choice_there t g i.1.0 kind i.1.1 in
+      let r : (r : GoalRow) × ((table_of t).goal_of g ≡ Some r) × (r.shape ≡ of_choice (op_held t.program.templates.nodes kind) (alternatives_in r.shape)) = choice_there t g i.1.0 kind i.1.1 in
       let same : alone_goals g ≡ Some r.0 = set_other choice g (option_map (alone_row a number) ((table_of t).goal_of choice)) (table_of t).goal_of differs ∙ r.1 in
       let none : copied_goal_of number copies g ≡ None = not_copied (table_of t) copies fresh number g r.0 r.1 in
-      let beside : option_map (choice_row kind names.items number) (alone_goals g) ≡ option_map (beside_row n copy number) (alone_goals g) =
-      ap (option_map (choice_row kind names.items number)) same
-      ∙ ap (λ (x : GoalRow). Some x) (beside_is r.0 kind n copy number names.items r.2 (i.2 ∙ ap (λ (o : Option GoalRow). name_after n copy (alternatives_of o)) r.1)) ∙ sym (ap (option_map (beside_row n copy number)) same) in
+      let beside : option_map (choice_row (op_held t.program.templates.nodes kind) names.items number) (alone_goals g) ≡ option_map (beside_row n copy number) (alone_goals g) =
+      ap (option_map (choice_row (op_held t.program.templates.nodes kind) names.items number)) same
+      ∙ ap (λ (x : GoalRow). Some x) (beside_is r.0 (op_held t.program.templates.nodes kind) n copy number names.items r.2 (i.2 ∙ ap (λ (o : Option GoalRow). name_after n copy (alternatives_of o)) r.1)) ∙ sym (ap (option_map (beside_row n copy number)) same) in
       record {
         program = ap (λ (k : TableValue). k.program) h.rest ∙ ap (λ (k : TableValue). k.program) rest_v;
         boxes = λ m. ap (λ (k : TableValue). (table_of k).box_of m) h.rest ∙ boxes_v m;
-        goals = λ m. h.rows m ∙ set_beneath (copied_goal_of number copies) alone_goals (table_of v).goal_of g (choice_row kind names.items number) none goals_v m
+        goals = λ m. h.rows m
+            ∙ ap (λ (k : Program). set g (option_map (choice_row (op_held k.templates.nodes kind) names.items number) ((table_of v).goal_of g)) (table_of v).goal_of m) (ap (λ (k : TableValue). k.program) rest_v)
+            ∙ set_beneath (copied_goal_of number copies) alone_goals (table_of v).goal_of g (choice_row (op_held t.program.templates.nodes kind) names.items number) none goals_v m
             ∙ ap (λ (o : Option GoalRow). or_else (copied_goal_of number copies m) (set g o alone_goals m)) beside
             ∙ ap (λ (o : Option Name). or_else (copied_goal_of number copies m) (changed_goal o (beside_row n copy number) alone_goals m)) (sym i.0);
         roots = ap (λ (k : TableValue). k.roots) h.rest ∙ ap (λ (k : TableValue). k.roots) rest_v ∙ ap (λ (o : Option Name). if_root o (name_after n copy t.roots) t.roots) (sym i.0);

@@ -1,6 +1,7 @@
--- The only alternative of a choice joins the box in which the choice stands.
-use Rattle.std.proofs.Common.{◌≡◌, ℕ, ◌+◌, ◌≤◌, Bool, true, false, List, map, slice_index, Option, Some, None, refl, sym, ap, subst, ◌∙◌}
+-- The alternatives of a choice join the box in which the choice stands.
+use Rattle.std.proofs.Common.{◌≡◌, ℕ, ◌+◌, ◌≤◌, Bool, true, false, ◌<◌, List, [], ◌∷◌, length, drop, get_or, map, slice_index, Option, Some, None, refl, sym, ap, subst, ◌∙◌}
 use Rattle.std.specs.Prelude.{if◌then◌else◌, option_map}
+use Rattle.std.proofs.lemmas.List.{drop_more, drop_all}
 use Rattle.std.specs.Option.{option_or}
 use Rattle.akl_terms.specs.declared.name.Name.{Name}
 use Rattle.akl_terms.specs.declared.program.Goal.{Goal}
@@ -16,8 +17,9 @@ use Rattle.akl_model.proofs.OrdersKept.{replay_ordered}
 use Rattle.step_laws.proofs.Whereabouts.{found_in, in_home}
 use Rattle.local_store.specs.Stored.{Stored}
 use Rattle.table_laws.specs.Rows.{BoxRow, GoalRow, Table}
+use Rattle.table_laws.specs.Walks.{alternatives_of}
 use Rattle.table_laws.specs.Unfolds.{IsBoxRow}
-use Rattle.table_laws.specs.Writes.{set, home_in, home_or, less_name, changed_box, told_row, promoted_row, first_fail, or_fails, atom_among, after_promote, IsFresh}
+use Rattle.table_laws.specs.Writes.{set, unset, home_in, home_or, less_name, changed_box, told_row, joined_row, first_fail, or_fails, atom_among, after_join, IsFresh}
 use Rattle.table_laws.proofs.Frame.{found_of}
 use Rattle.table_laws.proofs.Insides.{goal_row, held_directly}
 use Rattle.box_tree.specs.Tables.{TableValue, table_of, goals_in, all_rules}
@@ -92,9 +94,39 @@ goal_rows T home number goals g m none = on (same_name m g) refl
     on true q = sym (ap (λ (o : Option GoalRow). or_else o None) (ap (atom_among home number goals) (same_name-equal m g q) ∙ none))
     on false q = refl
 
-module _ (t u v w x : TableValue) (g n home : Name) (store : Stored) (solved_at : Option ℕ) (goals : List (Name × Goal)) (failing : Option Name) (number worker count : ℕ) (names : List Name) (next : List ℕ) where
+unset_alike : (ns : List Name) (at now : Name → Option BoxRow) → ((m : Name) → at m ≡ now m) → (m : Name) → unset ns at m ≡ unset ns now m
+unset_alike [] at now h m = h m
+unset_alike (n ∷ ns) at now h m = ap (λ (r : Option BoxRow). if same_name m n then None else r) (unset_alike ns at now h m)
+
+-- what is left to do comes to the same where the first one goes
+pub unset_first : (n : Name) (ns : List Name) (at : Name → Option BoxRow) (m : Name) → unset ns (set n None at) m ≡ unset (n ∷ ns) at m
+unset_first n [] at m = refl
+unset_first n (k ∷ ks) at m = ap (λ (r : Option BoxRow). if same_name m k then None else r) (unset_first n ks at m) ∙ turn (same_name m k) (same_name m n)
+  where
+    turn : (a b : Bool) → (if a then None else (if b then None else unset ks at m)) ≡ (if b then None else (if a then None else unset ks at m))
+    turn true true = refl
+    turn true false = refl
+    turn false true = refl
+    turn false false = refl
+
+-- from t to u the first of these boxes have gone, those before the rest
+pub record IsUnsetBy (t u : TableValue) (names left : List Name) : Type 0 where
+  pub rows : (m : Name) → unset left (table_of u).box_of m ≡ unset names (table_of t).box_of m
+  pub rest : u ≡ record t { boxes = u.boxes }
+
+pub unset_more : (t u v : TableValue) (names : List Name) (at : ℕ) (d : Name) → at < length names → IsUnsetBy t u names (drop at names) → SetsBoxes u v (set (get_or names at d) None (table_of u).box_of) → IsUnsetBy t v names (drop (at + 1) names)
+unset_more t u v names at d l a b = record {
+  rows = λ m. unset_alike (drop (at + 1) names) (table_of v).box_of (set (get_or names at d) None (table_of u).box_of) b.rows m ∙ unset_first (get_or names at d) (drop (at + 1) names) (table_of u).box_of m
+      ∙ ap (λ (ns : List Name). unset ns (table_of u).box_of m) (sym (drop_more names at d l)) ∙ a.rows m;
+  rest = b.rest ∙ ap (λ (k : TableValue). record k { boxes = v.boxes }) a.rest;
+}
+
+pub unset_all : (t u : TableValue) (names : List Name) (at : ℕ) → length names ≤ at → IsUnsetBy t u names (drop at names) → SetsBoxes t u (unset names (table_of t).box_of)
+unset_all t u names at l a = record { rows = λ m. ap (λ (ns : List Name). unset ns (table_of u).box_of m) (sym (drop_all at names l)) ∙ a.rows m; rest = a.rest }
+
+module _ (t u v w x : TableValue) (g home : Name) (store : Stored) (solved_at : Option ℕ) (goals : List (Name × Goal)) (failing : Option Name) (number worker count : ℕ) (names : List Name) (next : List ℕ) where
   row_joins : IsFresh (table_of t) (map (λ (y : Name × Atom). y.0) (named_atoms t.program.templates.nodes goals)) → Some home ≡ home_in ((table_of t).goal_of g) → names ≡ firsts goals → failing ≡ first_fail (named_atoms t.program.templates.nodes goals)
-      → (r : BoxRow) → IsIncreasing r.goals → told_row g store solved_at number (named_row names failing r) ≡ promoted_row g store solved_at (named_atoms t.program.templates.nodes goals) number r
+      → (r : BoxRow) → IsIncreasing r.goals → told_row g store solved_at number (named_row names failing r) ≡ joined_row g store solved_at (named_atoms t.program.templates.nodes goals) number r
   row_joins f h ns fs r o =
       let same : names ≡ map (λ (y : Name × Atom). y.0) (named_atoms t.program.templates.nodes goals) = ns ∙ sym (names_atoms t.program.templates.nodes goals) in
       let gs : less_name g (with_names names r.goals) ≡ with_names (map (λ (y : Name × Atom). y.0) (named_atoms t.program.templates.nodes goals)) (less_name g r.goals) =
@@ -109,9 +141,9 @@ module _ (t u v w x : TableValue) (g n home : Name) (store : Stored) (solved_at 
       → ((r : BoxRow) → (table_of t).box_of home ≡ Some r → IsIncreasing r.goals) → names ≡ firsts goals → failing ≡ first_fail (named_atoms t.program.templates.nodes goals)
       → ((k : ℕ) → slice_index next k ≡ slice_index (raised worker count t.next) k)
       → SetsRows t u (changed_box (Some home) (named_row names failing) (table_of t).box_of) (atoms_with home number (named_atoms t.program.templates.nodes goals) (table_of t))
-      → SetsBoxes u v (changed_box (Some home) (told_row g store solved_at number) (table_of u).box_of) → SetsGoals v w (set g None (table_of v).goal_of) → SetsBoxes w x (set n None (table_of w).box_of)
-      → Becomes t (record x { next = next; steps = number }) (after_promote g n store solved_at (named_atoms t.program.templates.nodes goals) worker count (table_of t))
-  joined nb f h o ns fs nx a b d e =
+      → SetsBoxes u v (changed_box (Some home) (told_row g store solved_at number) (table_of u).box_of) → SetsGoals v w (set g None (table_of v).goal_of) → (alternatives : List Name) → alternatives ≡ alternatives_of ((table_of t).goal_of g) → SetsBoxes w x (unset alternatives (table_of w).box_of)
+      → Becomes t (record x { next = next; steps = number }) (after_join g store solved_at (named_atoms t.program.templates.nodes goals) worker count (table_of t))
+  joined nb f h o ns fs nx a b d alternatives known e =
       let all : List (Name × Atom) = named_atoms t.program.templates.nodes goals in
       let vu : v ≡ record t { boxes = v.boxes; goals = u.goals } = b.rest ∙ ap (λ (k : TableValue). record k { boxes = v.boxes }) a.rest in
       let wt : w ≡ record t { boxes = v.boxes; goals = w.goals } = d.rest ∙ ap (λ (k : TableValue). record k { goals = w.goals }) vu in
@@ -121,11 +153,12 @@ module _ (t u v w x : TableValue) (g n home : Name) (store : Stored) (solved_at 
         query = ap (λ (k : TableValue). k.query) rest;
         table = record {
           nodes = ap (λ (k : TableValue). k.program.templates.nodes) rest;
-          boxes = λ m. e.rows m ∙ ap (λ (r : Option BoxRow). if same_name m n then None else r) (
-              ap (λ (k : TableValue). (table_of k).box_of m) d.rest ∙ b.rows m
-              ∙ changed_twice home (told_row g store solved_at number) (named_row names failing) (promoted_row g store solved_at all number) (table_of t).box_of (table_of u).box_of a.boxes (λ r i. row_joins f h ns fs r (o r i)) m
-              ∙ ap (λ (k : Option Name). changed_box k (promoted_row g store solved_at all number) (table_of t).box_of m) h
-              ∙ ap (λ (k : ℕ). changed_box (home_in ((table_of t).goal_of g)) (promoted_row g store solved_at all k) (table_of t).box_of m) nb);
+          boxes = λ m. e.rows m ∙ ap (λ (ks : List Name). unset ks (table_of w).box_of m) known ∙ unset_alike (alternatives_of ((table_of t).goal_of g)) (table_of w).box_of
+              (changed_box (home_in ((table_of t).goal_of g)) (joined_row g store solved_at all (t.steps + 1)) (table_of t).box_of) (λ i.
+              ap (λ (k : TableValue). (table_of k).box_of i) d.rest ∙ b.rows i
+              ∙ changed_twice home (told_row g store solved_at number) (named_row names failing) (joined_row g store solved_at all number) (table_of t).box_of (table_of u).box_of a.boxes (λ r q. row_joins f h ns fs r (o r q)) i
+              ∙ ap (λ (k : Option Name). changed_box k (joined_row g store solved_at all number) (table_of t).box_of i) h
+              ∙ ap (λ (k : ℕ). changed_box (home_in ((table_of t).goal_of g)) (joined_row g store solved_at all k) (table_of t).box_of i) nb) m;
           goals = λ m. ap (λ (k : TableValue). (table_of k).goal_of m) e.rest ∙ d.rows m
               ∙ ap (λ (r : Option GoalRow). if same_name m g then None else r) (ap (λ (k : TableValue). (table_of k).goal_of m) b.rest ∙ a.goals m)
               ∙ goal_rows (table_of t) home number all g m (not_among (table_of t) home home number all g f h)

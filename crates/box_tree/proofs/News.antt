@@ -1,6 +1,7 @@
 -- New boxes and goals come one after another, the last first.
 use Rattle.std.proofs.Common.{◌≡◌, ℕ, Bool, true, false, List, [], ◌∷◌, ◌++◌, map, Option, Some, None, refl, sym, ap, ◌∙◌, subst, inl, inr, append_assoc, append-nil}
-use Rattle.std.specs.Prelude.{if◌then◌else◌}
+use Rattle.std.specs.Prelude.{option_map, if◌then◌else◌}
+use Rattle.akl_terms.specs.Template.{tree}
 use Rattle.akl_terms.specs.declared.name.Name.{Name}
 use Rattle.akl_terms.specs.declared.term.Node.{Node}
 use Rattle.akl_terms.specs.declared.program.Goal.{Goal}
@@ -136,6 +137,7 @@ pub record IsEntryOf (holder : Name) (at : Option ℕ) (number : ℕ) (n : NewBo
   pub failing : (nodes : List Node) → e.failing ≡ first_fail (named_atoms nodes n.goals.items)
   pub body : e.body.items ≡ n.body.items
   pub shown : e.shown.items ≡ []
+  pub collected : e.collected ≡ n.collected
 
 entry_row : (nodes : List Node) (holder : Name) (at : Option ℕ) (number : ℕ) (n : NewBox) (e : BoxEntry) → IsEntryOf holder at number n e → box_row nodes e ≡ new_row holder at number (new_box nodes n)
 entry_row nodes holder at number n e i =
@@ -143,7 +145,7 @@ entry_row nodes holder at number n e i =
     let b : map (goal_atom nodes) e.body.items ≡ map (goal_atom nodes) n.body.items = ap (map (goal_atom nodes)) i.body in
     let s : map (shown_tree nodes) e.shown.items ≡ [] = ap (map (shown_tree nodes)) i.shown in
     let f : e.failing ≡ first_fail (named_atoms nodes n.goals.items) = i.failing nodes in
-    λ k. record { holder = i.holder_is k; store = i.store k; changed = i.changed k; solved_at = i.solved k; goals = g k; goals_changed = i.goals_changed k; failing = f k; body = b k; shown = s k }
+    λ k. record { holder = i.holder_is k; store = i.store k; changed = i.changed k; solved_at = i.solved k; goals = g k; goals_changed = i.goals_changed k; failing = f k; body = b k; shown = s k; collected = option_map (tree nodes) (i.collected k) }
 
 module _ (t v : TableValue) (holder : Name) (at : Option ℕ) (number : ℕ) (n : NewBox) (e : BoxEntry) where
   pub box_comes : IsEntryOf holder at number n e

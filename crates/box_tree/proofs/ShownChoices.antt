@@ -2,7 +2,7 @@
 use Rattle.std.proofs.Common.{◌≡◌, ℕ, ◌≤◌, List, [], ◌∷◌, ◌++◌, length, Bool, true, false, ◌&&◌, ◌||◌, Option, Some, None, refl, sym, ◌∙◌, ap, inl, inr, arith}
 use Rattle.std.specs.Prelude.{if◌then◌else◌, is_some, nat_lt, ⊤}
 use Rattle.akl_terms.specs.declared.name.Name.{Name}
-use Rattle.akl_terms.specs.declared.program.Op.{Op}
+use Rattle.akl_model.specs.Config.{Operator}
 use Rattle.akl_model.specs.Config.{or_else, Content, Boxes, no_boxes, box, Goals, no_goals, atom, choice, Config, Held, an_atom, a_choice, held_in, Found, box_at, home_of}
 use Rattle.akl_model.specs.Rules.{count_of}
 use Rattle.akl_model.specs.Stable.{first_solved}
@@ -63,18 +63,19 @@ if_is false (Some a) = refl
 pub candidate_shown : (T : Table) (gs : Goals) → EachGoal (IsShown T) gs → is_some (candidate_among T (goal_names gs)) ≡ has_candidate gs
 candidate_shown T no_goals rows = refl
 candidate_shown T (atom g x gs) rows = ap (λ (o : Option Name). is_some (or_else o (candidate_among T (goal_names gs)))) (candidate_is T g (an_atom x) rows.0) ∙ candidate_shown T gs rows.1
-candidate_shown T (choice g Op.Condition bs gs) rows = ap (λ (o : Option Name). is_some (or_else o (candidate_among T (goal_names gs)))) (candidate_is T g (a_choice Op.Condition bs) rows.0) ∙ candidate_shown T gs rows.1
-candidate_shown T (choice g Op.Commit bs gs) rows = ap (λ (o : Option Name). is_some (or_else o (candidate_among T (goal_names gs)))) (candidate_is T g (a_choice Op.Commit bs) rows.0) ∙ candidate_shown T gs rows.1
-candidate_shown T (choice g Op.Choice bs gs) rows =
+candidate_shown T (choice g Operator.condition bs gs) rows = ap (λ (o : Option Name). is_some (or_else o (candidate_among T (goal_names gs)))) (candidate_is T g (a_choice Operator.condition bs) rows.0) ∙ candidate_shown T gs rows.1
+candidate_shown T (choice g Operator.commit bs gs) rows = ap (λ (o : Option Name). is_some (or_else o (candidate_among T (goal_names gs)))) (candidate_is T g (a_choice Operator.commit bs) rows.0) ∙ candidate_shown T gs rows.1
+candidate_shown T (choice g (Operator.collecting result) bs gs) rows = ap (λ (o : Option Name). is_some (or_else o (candidate_among T (goal_names gs)))) (candidate_is T g (a_choice (Operator.collecting result) bs) rows.0) ∙ candidate_shown T gs rows.1
+candidate_shown T (choice g Operator.nondeterminate bs gs) rows =
     either_is (candidate_at T (T.goal_of g)) (candidate_among T (goal_names gs))
-    ∙ ap (λ (o : Option Name). is_some o || is_some (candidate_among T (goal_names gs))) (candidate_is T g (a_choice Op.Choice bs) rows.0)
+    ∙ ap (λ (o : Option Name). is_some o || is_some (candidate_among T (goal_names gs))) (candidate_is T g (a_choice Operator.nondeterminate bs) rows.0)
     ∙ ap (λ (b : Bool). b || is_some (candidate_among T (goal_names gs))) (if_is (nat_lt 1 (length (box_names bs))) (first_solved_in T (box_names bs)))
     ∙ ap (λ (o : Option Name). (is_some o && nat_lt 1 (length (box_names bs))) || is_some (candidate_among T (goal_names gs))) (first_alike T bs rows.0.3)
     ∙ ap (λ (k : ℕ). (is_some (first_solved bs) && nat_lt 1 k) || is_some (candidate_among T (goal_names gs))) (counted bs)
     ∙ ap (λ (b : Bool). (is_some (first_solved bs) && nat_lt 1 (count_of bs)) || b) (candidate_shown T gs rows.1)
 
 module _ (t : TableValue) (c : Config) (u : Unfolds (table_of t) c) (once : (m : Name) → times m c.roots ≤ 1) (n : Name) (f : Found) (e : box_at n c.roots ≡ Some f) where
-  have_rows : (g : Name) (o : Op) (bs : Boxes) → home_of g c.roots ≡ Some f → held_in g f.goals ≡ Some (a_choice o bs) → (cs : Boxes) → ((b : Content) (gs : Goals) → BoxIn [] b gs cs → BoxIn [] b gs bs) → HaveRows (table_of t) cs
+  have_rows : (g : Name) (o : Operator) (bs : Boxes) → home_of g c.roots ≡ Some f → held_in g f.goals ≡ Some (a_choice o bs) → (cs : Boxes) → ((b : Content) (gs : Goals) → BoxIn [] b gs cs → BoxIn [] b gs bs) → HaveRows (table_of t) cs
   have_rows g o bs home held no_boxes among = tt
   have_rows g o bs home held (box b gs cs) among = (here, have_rows g o bs home held cs (λ k hs x. among k hs (inr (inr x))))
     where

@@ -2,11 +2,12 @@
 use Rattle.std.proofs.Common.{◌≡◌, ℕ, ◌+◌, ◌<◌, ◌≤◌, true, List, [], ◌∷◌, ◌++◌, length, reverse, map, Option, Some, None, refl, sym, ap, subst, ◌∙◌, inl, inr, arith}
 use Rattle.std.specs.Prelude.{option_map, option_and_then, IsSome, is_some, slice_index}
 use Rattle.std.specs.Map.{lookup}
+use Rattle.akl_terms.specs.Template.{tree}
 use Rattle.akl_terms.specs.declared.name.Name.{Name}
 use Rattle.akl_terms.specs.declared.name.Place.{Place}
 use Rattle.akl_terms.specs.declared.term.Node.{Node}
 use Rattle.akl_terms.specs.declared.program.Goal.{Goal}
-use Rattle.akl_terms.specs.declared.program.Op.{Op}
+use Rattle.akl_model.specs.Config.{Operator}
 use Rattle.akl_terms.specs.Names.{same_name}
 use Rattle.akl_model.specs.declared.label.Label.{Label}
 use Rattle.akl_model.specs.Config.{Atom, Content, Boxes, no_boxes, box, Goals, Config, Held, an_atom, a_choice, held_in, Found, box_at, home_of, site_of}
@@ -33,9 +34,9 @@ use Rattle.box_tree.specs.declared.entries.GoalEntry.{GoalEntry}
 use Rattle.box_tree.specs.declared.view.Alternative.{Alternative}
 use Rattle.box_tree.specs.declared.view.Sight.{Sight}
 use Rattle.box_tree.specs.Tables as tables
-use Rattle.box_tree.specs.Tables.{all_rules, TableValue, table_of, goal_atom, shape_held, goals_in, is_empty}
+use Rattle.box_tree.specs.Tables.{op_held, all_rules, TableValue, table_of, goal_atom, shape_held, goals_in, is_empty}
 use Rattle.box_tree.specs.Views.{run_of, Shows, alternatives_held, alternatives_at, IsSeen, AreSeen, only_body, IsViewOf, is_there}
-use Rattle.box_tree.specs.Paths.{IsPath, HasPath, sight_held, sight_in, known_in, latest_in, names_at, seen_as, body_in, body_of_only}
+use Rattle.box_tree.specs.Paths.{IsPath, HasPath, sight_held, sight_in, known_in, latest_in, names_at, seen_as, collected_in, body_in, body_of_only}
 use Rattle.box_tree.proofs.Looks.{stores_append}
 use Rattle.box_tree.proofs.Seen.{known_end, PathOf, path_found, known_is, path_few, deep_one}
 
@@ -67,11 +68,15 @@ pub record StandsAt (t : TableValue) (c : Config) (place : Place) (home : Name) 
   pub shows : Shows t.program.templates.nodes place found sight
   pub there : is_there (table_of t) place ≡ true
 
+collected_shown : (nodes : List Node) (o : Option BoxEntry) (r : BoxRow) → option_map (tables.box_row nodes) o ≡ Some r → option_map (tree nodes) (collected_in o) ≡ r.collected
+collected_shown nodes None r e = cc
+collected_shown nodes (Some x) r e = ap (λ (y : BoxRow). y.collected) (some_value e)
+
 held_shows : (nodes : List Node) (g : Name) (f : Found) (h : Held) (e : Stands) → held_in g f.goals ≡ Some h → shape_of h ≡ shape_held nodes e → Shows nodes (Place.Goal g) f (sight_held e)
 held_shows nodes g f (an_atom a) (Stands.Atom x) i j = let q : a ≡ goal_atom nodes x = cc in i ∙ ap (λ (y : Atom). Some (an_atom y)) q
 held_shows nodes g f (an_atom a) (Stands.Choice op alternatives) i j = cc
 held_shows nodes g f (a_choice o bs) (Stands.Atom x) i j = cc
-held_shows nodes g f (a_choice o bs) (Stands.Choice op alternatives) i j = let q : o ≡ op = cc in (bs, i ∙ ap (λ (y : Op). Some (a_choice y bs)) q)
+held_shows nodes g f (a_choice o bs) (Stands.Choice op alternatives) i j = let q : o ≡ op_held nodes op = cc in (bs, i ∙ ap (λ (y : Operator). Some (a_choice y bs)) q)
 
 module _ (t : TableValue) (c : Config) (u : Unfolds (table_of t) c) (once : (m : Name) → times m c.roots ≤ 1) where
   pub seen : (place : Place) (home : Name) (sight : Sight) → sight_in t place ≡ Some (home, sight) → StandsAt t c place home sight
@@ -119,11 +124,11 @@ module _ (t : TableValue) (c : Config) (u : Unfolds (table_of t) c) (once : (m :
 
   names_there : (place : Place) (sight : Sight) (f : Found) → site_of place c.roots ≡ Some f → Shows t.program.templates.nodes place f sight → names_at (table_of t) place ≡ box_names (alternatives_at place f)
   names_there (Place.Goal g) (Sight.Atom a) f e h = named_at g f (an_atom (goal_atom t.program.templates.nodes a)) e h
-  names_there (Place.Goal g) (Sight.Choice op) f e h = named_at g f (a_choice op h.0) e h.1
+  names_there (Place.Goal g) (Sight.Choice op) f e h = named_at g f (a_choice (op_held t.program.templates.nodes op) h.0) e h.1
   names_there (Place.Goal g) (Sight.Box o) f e h = absurd h
   names_there (Place.Box n) sight f e h = refl
 
-  module _ (g : Name) (f : Found) (op : Op) (bs : Boxes) (e : home_of g c.roots ≡ Some f) (h : held_in g f.goals ≡ Some (a_choice op bs)) where
+  module _ (g : Name) (f : Found) (op : Operator) (bs : Boxes) (e : home_of g c.roots ≡ Some f) (h : held_in g f.goals ≡ Some (a_choice op bs)) where
     abbrev inner : Content → Goals → Found
     inner b gs = record { around = f.around ++ f.content ∷ []; content = b; goals = gs }
 
@@ -137,7 +142,7 @@ module _ (t : TableValue) (c : Config) (u : Unfolds (table_of t) c) (once : (m :
     path = names_down_to f
 
     seen_one : (b : Content) (gs : Goals) → BoxIn [] b gs bs
-        → IsSeen (table_of t) (stores_along (table_of t) path) b gs (seen_as (table_of t) (known_in (table_of t) 0 path) (latest_in (table_of t) 0 path) (length path + 1) b.name)
+        → IsSeen (table_of t) (stores_along (table_of t) path) b gs (seen_as t (known_in (table_of t) 0 path) (latest_in (table_of t) 0 path) (length path + 1) b.name)
     seen_one b gs x =
         let r : (r : BoxRow) × ((table_of t).box_of b.name ≡ Some r) × IsBoxRow (table_of t) c.roots (inner b gs) r = row b gs x in
         let down : names_down_to (inner b gs) ≡ path ++ b.name ∷ [] = ap (λ (ns : List Name). ns ++ b.name ∷ []) (names_snoc f.around f.content) in
@@ -147,11 +152,12 @@ module _ (t : TableValue) (c : Config) (u : Unfolds (table_of t) c) (once : (m :
           name = refl;
           solved = ap (λ (o : Option BoxRow). is_empty (goals_in o)) r.1 ∙ ap is_empty r.2.goals;
           store = refl;
+          collected = collected_shown t.program.templates.nodes (lookup (same_name b.name) t.boxes) r.0 r.1 ∙ r.2.collected;
           known = subst (λ (z : List Stored × ℕ). IsKnown t.program.templates.nodes z.0 z.1) (λ j. ((stores_append (table_of t) path (b.name ∷ [])) j, (known_end (table_of t) path b.name 0) j)) known;
         }
 
     seen_all : (cs : Boxes) → ((b : Content) (gs : Goals) → BoxIn [] b gs cs → BoxIn [] b gs bs)
-        → AreSeen (table_of t) (stores_along (table_of t) path) cs (map (seen_as (table_of t) (known_in (table_of t) 0 path) (latest_in (table_of t) 0 path) (length path + 1)) (box_names cs))
+        → AreSeen (table_of t) (stores_along (table_of t) path) cs (map (seen_as t (known_in (table_of t) 0 path) (latest_in (table_of t) 0 path) (length path + 1)) (box_names cs))
     seen_all no_boxes s = tt
     seen_all (box b gs cs) s = (seen_one b gs (s b gs (inl (refl, refl, refl))), seen_all cs (λ k hs x. s k hs (inr (inr x))))
 
@@ -162,12 +168,12 @@ module _ (t : TableValue) (c : Config) (u : Unfolds (table_of t) c) (once : (m :
 
   -- what is seen from a path, and the body of the only one
   abbrev pub AreSeenFrom : List Name → Boxes → Type 0
-  AreSeenFrom path bs = AreSeen (table_of t) (stores_along (table_of t) path) bs (map (seen_as (table_of t) (known_in (table_of t) 0 path) (latest_in (table_of t) 0 path) (length path + 1)) (box_names bs))
+  AreSeenFrom path bs = AreSeen (table_of t) (stores_along (table_of t) path) bs (map (seen_as t (known_in (table_of t) 0 path) (latest_in (table_of t) 0 path) (length path + 1)) (box_names bs))
       × (body_of_only (table_of t) (box_names bs) ≡ only_body bs)
 
   seen_at : (place : Place) (sight : Sight) (f : Found) → site_of place c.roots ≡ Some f → Shows t.program.templates.nodes place f sight → AreSeenFrom (names_down_to f) (alternatives_at place f)
   seen_at (Place.Goal g) (Sight.Atom a) f e h = subst (AreSeenFrom (names_down_to f)) (sym (ap alternatives_held h)) (tt, refl)
-  seen_at (Place.Goal g) (Sight.Choice op) f e h = subst (AreSeenFrom (names_down_to f)) (sym (ap alternatives_held h.1)) (seen_all g f op h.0 e h.1 h.0 (λ b gs x. x), only_seen g f op h.0 e h.1 h.0 (λ b gs x. x))
+  seen_at (Place.Goal g) (Sight.Choice op) f e h = subst (AreSeenFrom (names_down_to f)) (sym (ap alternatives_held h.1)) (seen_all g f (op_held t.program.templates.nodes op) h.0 e h.1 h.0 (λ b gs x. x), only_seen g f (op_held t.program.templates.nodes op) h.0 e h.1 h.0 (λ b gs x. x))
   seen_at (Place.Goal g) (Sight.Box o) f e h = absurd h
   seen_at (Place.Box n) sight f e h = (tt, refl)
 
@@ -192,7 +198,7 @@ module _ (t : TableValue) (journal : List Label) (i : IsTableOf all_rules (run_o
 
   pub view_of : (place : Place) (worker : ℕ) (home : Name) (sight : Sight) (path : List Name) (stores : List Stored) (known next : ℕ) (alternatives : List Alternative) (body : List Goal) → sight_in t place ≡ Some (home, sight)
       → IsPath (table_of t) home path → stores ≡ stores_along (table_of t) path → known ≡ known_in (table_of t) 0 path → next ≡ slice_index t.next worker
-      → alternatives ≡ map (seen_as (table_of t) (known_in (table_of t) 0 path) (latest_in (table_of t) 0 path) (length path + 1)) (names_at (table_of t) place)
+      → alternatives ≡ map (seen_as t (known_in (table_of t) 0 path) (latest_in (table_of t) 0 path) (length path + 1)) (names_at (table_of t) place)
       → map (goal_atom t.program.templates.nodes) body ≡ body_of_only (table_of t) (names_at (table_of t) place)
       → IsViewOf (record { table = t; journal = journal; place = place; worker = worker; next = next; path = path; stores = stores; known = known; sight = sight; alternatives = alternatives; body = body })
   view_of place worker home sight path stores known next alternatives body e p ss k n al bd =
@@ -214,6 +220,6 @@ module _ (t : TableValue) (journal : List Label) (i : IsTableOf all_rules (run_o
             (λ j. ((sym (ss ∙ ap (stores_along (table_of t)) same)) j, (sym (k ∙ ap (known_in (table_of t) 0) same)) j)) known_here;
         shows = s.shows;
         alternatives = subst (λ (z : List Stored × List Alternative). AreSeen (table_of t) z.0 (alternatives_at place s.found) z.1)
-            (λ j. ((sym ss) j, (sym (al ∙ ap (map (seen_as (table_of t) (known_in (table_of t) 0 path) (latest_in (table_of t) 0 path) (length path + 1))) names)) j)) all.0;
+            (λ j. ((sym ss) j, (sym (al ∙ ap (map (seen_as t (known_in (table_of t) 0 path) (latest_in (table_of t) 0 path) (length path + 1))) names)) j)) all.0;
         body = bd ∙ ap (body_of_only (table_of t)) names ∙ all.1;
       }

@@ -7,15 +7,15 @@ use Rattle.akl_terms.specs.declared.term.Node.{Node}
 use Rattle.akl_terms.specs.declared.program.Goal.{Goal}
 use Rattle.akl_terms.specs.declared.program.Code.{Code}
 use Rattle.akl_terms.specs.Names.{same_name}
-use Rattle.akl_model.specs.Config.{IsIn, Atom, or_else, with_names}
+use Rattle.akl_model.specs.Config.{IsIn, Operator, Atom, or_else, with_names}
 use Rattle.akl_model.specs.Names.{times_in}
-use Rattle.akl_terms.specs.declared.program.Op.{Op}
 use Rattle.akl_model.specs.Changes.{Shape, of_choice}
 use Rattle.akl_model.specs.Derivations.{raised}
 use Rattle.table_laws.specs.Rows.{BoxRow, GoalRow, Table}
 use Rattle.table_laws.specs.Steps as laws
 use Rattle.table_laws.specs.Writes.{IsTable, less_name, new_box_of, new_goal_of, atom_among, shape_among}
 use Rattle.box_tree.specs.declared.entries.Held.{Held}
+use Rattle.box_tree.specs.declared.entries.HeldOp.{HeldOp}
 use Rattle.box_tree.specs.declared.step.NewBox.{NewBox}
 use Rattle.box_tree.specs.Tables.{TableValue, table_of, goal_atom, shape_held}
 
@@ -94,19 +94,26 @@ pub record Clears (t u : TableValue) (own : List Name) : Type 0 where
   pub goals : (m : Name) → IsIn m own → lookup (same_name m) u.goals ≡ None
   pub goals_stay : (m : Name) → lookup (same_name m) t.goals ≡ None → lookup (same_name m) u.goals ≡ None
 
-abbrev pub choice_row : Op → List Name → ℕ → GoalRow → GoalRow
+abbrev pub choice_row : Operator → List Name → ℕ → GoalRow → GoalRow
 choice_row op names number r = record r { shape = of_choice op names; changed = number }
 
--- the box that fails by a choice of these boxes: its home, where there are none
-abbrev pub home_if_empty : Name → List NewBox → Option Name
-home_if_empty home [] = Some home
-home_if_empty home (n ∷ ns) = None
+-- the box that fails by a choice of these boxes: its home, where there are none, unless the choice collects
+abbrev pub if_empty : Name → List NewBox → Option Name
+if_empty home [] = Some home
+if_empty home (n ∷ ns) = None
+
+abbrev pub home_if_empty : Name → HeldOp → List NewBox → Option Name
+home_if_empty home (HeldOp.Collect t) news = None
+home_if_empty home HeldOp.Condition news = if_empty home news
+home_if_empty home HeldOp.Commit news = if_empty home news
+home_if_empty home HeldOp.Choice news = if_empty home news
 
 -- whether an alternative is kept, by whether the solved one was passed before it, and whether it is that one
-abbrev pub keeps : Op → Bool → Bool → Bool
-keeps Op.Condition passed here = not passed
-keeps Op.Commit passed here = here
-keeps Op.Choice passed here = true
+abbrev pub keeps : HeldOp → Bool → Bool → Bool
+keeps HeldOp.Condition passed here = not passed
+keeps HeldOp.Commit passed here = here
+keeps HeldOp.Choice passed here = true
+keeps (HeldOp.Collect t) passed here = true
 
 -- names that stand once each, and not among others
 pub record AreNew (names others : List Name) : Type 0 where

@@ -3,9 +3,10 @@ use Rattle.std.specs.Prelude.{◌≡◌, ℕ, nat_lt, if◌then◌else◌, List,
 use Rattle.std.specs.List.{AllByRecursion}
 use Rattle.akl_terms.specs.declared.name.Name.{Name}
 use Rattle.akl_terms.specs.declared.name.Place.{Place}
-use Rattle.akl_terms.specs.declared.program.Op.{Op}
+use Rattle.akl_model.specs.Config.{Operator}
 use Rattle.akl_model.specs.declared.label.Label.{Label}
 use Rattle.akl_model.specs.Config.{or_else}
+use Rattle.akl_terms.specs.Template.{tree}
 use Rattle.akl_model.specs.Changes.{Shape, of_choice}
 use Rattle.table_laws.specs.Rows.{BoxRow, GoalRow, Table}
 use Rattle.table_laws.specs.Inside.{IsInside, IsGoalInside}
@@ -20,7 +21,7 @@ use Rattle.box_tree.specs.Views.{ViewValue, IsViewOf}
 abbrev pub IsInnerGoal : TableValue → InnerGoal → Type 0
 IsInnerGoal t g = option_map (λ (r : GoalRow). r.shape) ((table_of t).goal_of g.name) ≡ Some (shape_held t.program.templates.nodes g.held)
 
--- a box has this holder, store, goals, body and shown terms
+-- a box has this holder, store, goals, body, shown terms and collected term
 pub record IsInnerBox (t : TableValue) (b : InnerBox) : Type 0 where
   pub row : BoxRow
   pub there : (table_of t).box_of b.name ≡ Some row
@@ -30,6 +31,7 @@ pub record IsInnerBox (t : TableValue) (b : InnerBox) : Type 0 where
   pub held : AllByRecursion (IsInnerGoal t) b.goals.items
   pub body : map (goal_atom t.program.templates.nodes) b.body.items ≡ row.body
   pub shown : map (shown_tree t.program.templates.nodes) b.shown.items ≡ row.shown
+  pub collected : option_map (tree t.program.templates.nodes) b.collected ≡ row.collected
 
 -- a place in a box or inside it, or the box itself
 abbrev pub IsPlaceInside : Table → Name → Place → Type 0
@@ -63,7 +65,7 @@ first_solved_in T (n ∷ ns) = if is_empty (goals_in (T.box_of n)) then Some n e
 
 -- the alternative at which a box could be split by this choice: the first solved one of a `?` choice that has others
 abbrev pub candidate_of : Table → Shape → Option Name
-candidate_of T (of_choice Op.Choice alternatives) = if nat_lt 1 (length alternatives) then first_solved_in T alternatives else None
+candidate_of T (of_choice Operator.nondeterminate alternatives) = if nat_lt 1 (length alternatives) then first_solved_in T alternatives else None
 candidate_of T s = None
 
 abbrev pub candidate_at : Table → Option GoalRow → Option Name

@@ -3,6 +3,7 @@ use Rattle.std.specs.Prelude.{◌≡◌, ℕ, ◌+◌, ◌<◌, Bool, false, not
 use Rattle.std.specs.Map.{lookup}
 use Rattle.akl_terms.specs.declared.name.Name.{Name}
 use Rattle.akl_terms.specs.declared.name.Place.{Place}
+use Rattle.akl_terms.specs.declared.term.Term.{Term}
 use Rattle.akl_terms.specs.Names.{same_name}
 use Rattle.akl_model.specs.Config.{Atom}
 use Rattle.table_laws.specs.Rows.{BoxRow, Table, store_in}
@@ -76,12 +77,17 @@ known_with solved_at known None whole = known
 known_with solved_at known (Some latest) whole = if is_at_least solved_at latest then whole else known
 
 -- what is seen of an alternative
-abbrev pub seen_as : Table → ℕ → Option ℕ → ℕ → Name → Alternative
-seen_as T known latest whole n = record {
+abbrev pub collected_in : Option BoxEntry → Option Term
+collected_in None = None
+collected_in (Some e) = e.collected
+
+abbrev pub seen_as : TableValue → ℕ → Option ℕ → ℕ → Name → Alternative
+seen_as t known latest whole n = record {
   name = n;
-  solved = is_empty (goals_in (T.box_of n));
-  store = store_in (T.box_of n);
-  known = known_with (solving_in (T.box_of n)).0 known latest whole;
+  solved = is_empty (goals_in ((table_of t).box_of n));
+  store = store_in ((table_of t).box_of n);
+  known = known_with (solving_in ((table_of t).box_of n)).0 known latest whole;
+  collected = collected_in (lookup (same_name n) t.boxes);
 }
 
 -- the body of the only one of some boxes

@@ -10,7 +10,7 @@ use Rattle.table_laws.specs.Walks.{alternatives_of}
 use Rattle.table_laws.specs.Writes.{set, holder_in_row, name_after, copied_row, copied_goal_of}
 use Rattle.box_tree.specs.declared.splitting.Holder.{Holder}
 use Rattle.box_tree.specs.declared.view.Sight.{Sight}
-use Rattle.box_tree.specs.Tables.{TableValue, table_of}
+use Rattle.box_tree.specs.Tables.{TableValue, table_of, op_held}
 use Rattle.box_tree.specs.Edits.{SetsGoals, choice_row}
 use Rattle.box_tree.specs.Paths.{sight_in}
 
@@ -30,7 +30,7 @@ IsHolderOf t n copy (Holder.Choice g op names) = (holder_in_row ((table_of t).bo
 -- it gets these names
 abbrev pub Holds : TableValue → TableValue → ℕ → Holder → Type 0
 Holds t u number (Holder.Roots names) = u ≡ record t { roots = names.items; roots_changed = number }
-Holds t u number (Holder.Choice g op names) = SetsGoals t u (set g (option_map (choice_row op names.items number) ((table_of t).goal_of g)) (table_of t).goal_of)
+Holds t u number (Holder.Choice g op names) = SetsGoals t u (set g (option_map (choice_row (op_held t.program.templates.nodes op) names.items number) ((table_of t).goal_of g)) (table_of t).goal_of)
 
 -- whether it is this choice
 abbrev pub is_choice : Holder → Name → Bool

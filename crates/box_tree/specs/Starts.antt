@@ -36,6 +36,7 @@ pub record IsFirstEntry (goals : List (Name × Goal)) (shown : List ShownTerm) (
   pub failing : (nodes : List Node) → e.failing ≡ first_fail (named_atoms nodes goals)
   pub body : e.body.items ≡ []
   pub shows : e.shown.items ≡ shown
+  pub collects : e.collected ≡ None
 
 -- the table of no box
 pub record IsEmpty (p : Program) (q : Query) (goals : ℕ) (t : TableValue) : Type 0 where

@@ -12,7 +12,7 @@ use Rattle.akl_model.specs.Ordered.{IsIncreasing}
 use Rattle.akl_terms.specs.Template.{tree}
 use Rattle.akl_terms.specs.Names.{same_name}
 use Rattle.akl_model.specs.declared.label.Rule.{Rule}
-use Rattle.akl_model.specs.Config.{Atom, ShownTree}
+use Rattle.akl_model.specs.Config.{Operator, Atom, ShownTree}
 use Rattle.akl_model.specs.Instances.{atom_of}
 use Rattle.akl_model.specs.Changes.{Shape, of_atom, of_choice}
 use Rattle.akl_terms.specs.declared.name.Place.{Place}
@@ -22,6 +22,7 @@ use Rattle.table_laws.specs.Stamped.{Run, IsTableOf}
 use Rattle.table_laws.specs.Writes.{DrawsFresh, Leads}
 use Rattle.table_laws.specs.Steps as laws
 use Rattle.box_tree.specs.declared.entries.Held.{Held}
+use Rattle.box_tree.specs.declared.entries.HeldOp.{HeldOp}
 use Rattle.box_tree.specs.declared.entries.BoxEntry.{BoxEntry}
 use Rattle.box_tree.specs.declared.entries.GoalEntry.{GoalEntry}
 use Rattle.box_tree.specs.declared.step.NewBox.{NewBox}
@@ -30,7 +31,7 @@ use Rattle.box_tree.specs.declared.step.Step.{Step}
 
 -- all rules of the language
 abbrev pub all_rules : List Rule
-all_rules = Rule.Tell ∷ Rule.Fork ∷ Rule.Fail ∷ Rule.Cut ∷ Rule.Promote ∷ Rule.Eval ∷ Rule.Open ∷ Rule.Send ∷ Rule.Split ∷ []
+all_rules = Rule.Tell ∷ Rule.Fork ∷ Rule.Fail ∷ Rule.Cut ∷ Rule.Promote ∷ Rule.Eval ∷ Rule.Open ∷ Rule.Send ∷ Rule.Split ∷ Rule.Collect ∷ []
 
 -- the atom of a goal
 abbrev pub goal_atom : List Node → Goal → Atom
@@ -39,9 +40,15 @@ goal_atom nodes g = atom_of nodes g.frame g.code
 abbrev pub shown_tree : List Node → ShownTerm → ShownTree
 shown_tree nodes s = record { text = s.name; tree = tree nodes s.term }
 
+abbrev pub op_held : List Node → HeldOp → Operator
+op_held nodes HeldOp.Condition = Operator.condition
+op_held nodes HeldOp.Commit = Operator.commit
+op_held nodes HeldOp.Choice = Operator.nondeterminate
+op_held nodes (HeldOp.Collect t) = Operator.collecting (tree nodes t)
+
 abbrev pub shape_held : List Node → Held → Shape
 shape_held nodes (Held.Atom g) = of_atom (goal_atom nodes g)
-shape_held nodes (Held.Choice op alternatives) = of_choice op alternatives.items
+shape_held nodes (Held.Choice op alternatives) = of_choice (op_held nodes op) alternatives.items
 
 abbrev pub box_row : List Node → BoxEntry → BoxRow
 box_row nodes e = record {
@@ -54,6 +61,7 @@ box_row nodes e = record {
   failing = e.failing;
   body = map (goal_atom nodes) e.body.items;
   shown = map (shown_tree nodes) e.shown.items;
+  collected = option_map (tree nodes) e.collected;
 }
 
 abbrev pub goal_row : List Node → GoalEntry → GoalRow
@@ -88,6 +96,7 @@ new_box nodes n = record {
   solved = n.solved;
   goals = map (λ (x : Name × Goal). (x.0, goal_atom nodes x.1)) n.goals.items;
   body = map (goal_atom nodes) n.body.items;
+  collected = option_map (tree nodes) n.collected;
 }
 
 abbrev pub box_copy : List Node → BoxCopy → laws.BoxCopy
@@ -99,14 +108,15 @@ box_copy nodes k = record {
   goals = map (λ (x : Name × Held). (x.0, shape_held nodes x.1)) k.goals.items;
   body = map (goal_atom nodes) k.body.items;
   shown = map (shown_tree nodes) k.shown.items;
+  collected = option_map (tree nodes) k.collected;
 }
 
 abbrev pub step_of : List Node → Step → laws.Step
 step_of nodes (Step.Tell store solved) = laws.tells store solved
-step_of nodes (Step.Fork op alternatives) = laws.forks op (map (new_box nodes) alternatives.items)
+step_of nodes (Step.Fork op alternatives) = laws.forks (op_held nodes op) (map (new_box nodes) alternatives.items)
 step_of nodes Step.Fail = laws.fails
 step_of nodes Step.Cut = laws.cuts
-step_of nodes (Step.Promote store solved goals) = laws.promotes store solved (map (λ (x : Name × Goal). (x.0, goal_atom nodes x.1)) goals.items)
+step_of nodes (Step.Join store solved goals) = laws.joins store solved (map (λ (x : Name × Goal). (x.0, goal_atom nodes x.1)) goals.items)
 step_of nodes Step.Refute = laws.refutes
 step_of nodes Step.Confirm = laws.confirms
 step_of nodes (Step.Split copy copies) = laws.splits copy (map (box_copy nodes) copies.items)
@@ -146,7 +156,7 @@ abbrev pub FitsPlace : Place → laws.Step → Option Name → Type 0
 FitsPlace (Place.Goal g) (laws.tells new solved) alternative = ⊤
 FitsPlace (Place.Goal g) (laws.forks op news) alternative = ⊤
 FitsPlace (Place.Goal g) laws.cuts (Some n) = ⊤
-FitsPlace (Place.Goal g) (laws.promotes new solved goals) (Some n) = ⊤
+FitsPlace (Place.Goal g) (laws.joins new solved goals) alternative = ⊤
 FitsPlace (Place.Goal g) laws.refutes alternative = ⊤
 FitsPlace (Place.Goal g) laws.confirms alternative = ⊤
 FitsPlace (Place.Box n) laws.fails alternative = ⊤
@@ -166,7 +176,7 @@ DrawsInOrder (laws.tells new solved) = ⊤
 DrawsInOrder (laws.forks op news) = AreInOrder news
 DrawsInOrder laws.fails = ⊤
 DrawsInOrder laws.cuts = ⊤
-DrawsInOrder (laws.promotes new solved goals) = IsIncreasing (map (λ (x : Name × Atom). x.0) goals)
+DrawsInOrder (laws.joins new solved goals) = IsIncreasing (map (λ (x : Name × Atom). x.0) goals)
 DrawsInOrder laws.refutes = ⊤
 DrawsInOrder laws.confirms = ⊤
 DrawsInOrder (laws.splits copy copies) = AreCopiesInOrder copies

@@ -1,8 +1,9 @@
 -- What is seen of a place.
-use Rattle.std.specs.Prelude.{◌≡◌, ℕ, Bool, true, false, List, [], ◌∷◌, ◌++◌, map, Option, Some, None, is_some, ⊤, slice_index}
+use Rattle.std.specs.Prelude.{◌≡◌, ℕ, Bool, true, false, List, [], ◌∷◌, ◌++◌, map, Option, Some, None, is_some, option_map, ⊤, slice_index}
 use Rattle.akl_terms.specs.declared.name.Name.{Name}
 use Rattle.akl_terms.specs.declared.name.Place.{Place}
 use Rattle.akl_terms.specs.declared.term.Node.{Node}
+use Rattle.akl_terms.specs.Template.{tree}
 use Rattle.akl_terms.specs.declared.program.Goal.{Goal}
 use Rattle.akl_model.specs.declared.label.Label.{Label}
 use Rattle.akl_model.specs.Config.{Atom, Content, Boxes, no_boxes, box, Goals, Held, an_atom, a_choice, held_in, Found, site_of}
@@ -16,7 +17,7 @@ use Rattle.table_laws.specs.Stamped.{Run, IsTableOf}
 use Rattle.box_tree.specs.declared.view.Alternative.{Alternative}
 use Rattle.box_tree.specs.declared.view.Sight.{Sight}
 use Rattle.box_tree.specs.declared.view.LookError.{LookError}
-use Rattle.box_tree.specs.Tables.{all_rules, goal_atom, is_empty, TableValue, table_of}
+use Rattle.box_tree.specs.Tables.{all_rules, op_held, goal_atom, is_empty, TableValue, table_of}
 
 -- what a view was taken of, the place and the worker; the worker's next number; the boxes down to the place's box, with their stores, and
 -- how many of the outermost are known to be solved together; and what stands at the place, of a choice with its alternatives and the body of
@@ -41,7 +42,7 @@ run_of t journal = record { program = t.program; query = t.query; journal = jour
 -- at a goal an atom or a choice, and at a box one of the goals by which it fails, where there is one
 abbrev pub Shows : List Node → Place → Found → Sight → Type 0
 Shows nodes (Place.Goal g) f (Sight.Atom goal) = held_in g f.goals ≡ Some (an_atom (goal_atom nodes goal))
-Shows nodes (Place.Goal g) f (Sight.Choice op) = (bs : Boxes) × (held_in g f.goals ≡ Some (a_choice op bs))
+Shows nodes (Place.Goal g) f (Sight.Choice op) = (bs : Boxes) × (held_in g f.goals ≡ Some (a_choice (op_held nodes op) bs))
 Shows nodes (Place.Box n) f (Sight.Box failing) = FailsBy f.goals failing
 Shows nodes place f sight = ⊥
 
@@ -55,13 +56,14 @@ abbrev pub alternatives_at : Place → Found → Boxes
 alternatives_at (Place.Goal g) f = alternatives_held (held_in g f.goals)
 alternatives_at (Place.Box n) f = no_boxes
 
--- an alternative with these stores around it: its name, whether it is solved, its store, and how many of the stores down to it are known to
+-- an alternative with these stores around it: its name, whether it is solved, its store, what is collected of it, and how many of the stores down to it are known to
 -- be solved together
 pub record IsSeen (T : Table) (stores : List Stored) (b : Content) (gs : Goals) (a : Alternative) : Type 0 where
   pub name : a.name ≡ b.name
   pub solved : a.solved ≡ is_empty (goal_names gs)
   pub store : a.store ≡ store_in (T.box_of b.name)
   pub known : IsKnown T.nodes (stores ++ a.store ∷ []) a.known
+  pub collected : option_map (tree T.nodes) a.collected ≡ b.collected
 
 abbrev pub AreSeen : Table → List Stored → Boxes → List Alternative → Type 0
 AreSeen T stores no_boxes [] = ⊤

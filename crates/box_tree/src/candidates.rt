@@ -4,9 +4,9 @@ ghost use Rattle.std.specs.Prelude.{◌≡◌};
 ghost use Rattle.box_tree.specs.Tables.{table_of};
 ghost use Rattle.box_tree.specs.Insides.{first_solved_in, candidate_at};
 
-use crate::entries::Held;
+use crate::entries::{Held, HeldOp};
 use crate::table::Table;
-use akl_terms::{Name, Op};
+use akl_terms::Name;
 
 impl Table {
     // The first solved one of boxes.
@@ -30,14 +30,14 @@ impl Table {
             Some(entry) => match &entry.held {
                 Held::Atom(_) => None,
                 Held::Choice { op, alternatives } => match op {
-                    Op::Choice => {
+                    HeldOp::Choice => {
                         if alternatives.len() > 1 {
                             self.first_solved(alternatives.as_slice())
                         } else {
                             None
                         }
                     }
-                    Op::Condition | Op::Commit => None,
+                    HeldOp::Condition | HeldOp::Commit | HeldOp::Collect(_) => None,
                 },
             },
             None => None,

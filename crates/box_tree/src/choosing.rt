@@ -48,7 +48,7 @@ impl BoxEntry {
         latest: Option<u64>,
         whole: usize,
     ) -> Result<Alternative, AllocError>
-        ensures { (t : TableValue) → lookup (same_name name) t.boxes ≡ Some self.now → IfOk result (λ a. a ≡ seen_as (table_of t) known latest whole name) }
+        ensures { (t : TableValue) → lookup (same_name name) t.boxes ≡ Some self.now → IfOk result (λ a. a ≡ seen_as t known latest whole name) }
     {
         let store = self.store.share()?;
         Ok(Alternative {
@@ -56,6 +56,7 @@ impl BoxEntry {
             solved: self.goals.is_empty(),
             store,
             known: known_with(self.solved_at, known, latest, whole),
+            collected: self.collected,
         })
     }
 }
@@ -79,7 +80,7 @@ impl Table {
         latest: Option<u64>,
         whole: usize,
     ) -> Result<Alternative, AllocError>
-        ensures { IfOk result (λ a. a ≡ seen_as (table_of self.now) known latest whole name) }
+        ensures { IfOk result (λ a. a ≡ seen_as self.now known latest whole name) }
     {
         let Some(entry) = self.boxes.get(&name) else {
             return Err(AllocError);
@@ -96,7 +97,7 @@ impl Table {
         latest: Option<u64>,
         whole: usize,
     ) -> Result<Vec<Alternative>, AllocError>
-        ensures { IfOk result (λ v. v.items ≡ map (seen_as (table_of self.now) known latest whole) names.now) }
+        ensures { IfOk result (λ v. v.items ≡ map (seen_as self.now known latest whole) names.now) }
     {
         let mut seen = Vec::new(alloc);
         for name in names {
@@ -115,7 +116,7 @@ impl Table {
         latest: Option<u64>,
         whole: usize,
     ) -> Result<(Vec<Alternative>, Vec<Goal>), AllocError>
-        ensures alternatives { IfOk result (λ p. p.0.items ≡ seen_as (table_of self.now) known latest whole name ∷ []) }
+        ensures alternatives { IfOk result (λ p. p.0.items ≡ seen_as self.now known latest whole name ∷ []) }
         ensures body { IfOk result (λ p. map (goal_atom self.now.program.templates.nodes) p.1.items ≡ body_in ((table_of self.now).box_of name)) }
     {
         let Some(entry) = self.boxes.get(&name) else {
@@ -139,7 +140,7 @@ impl Table {
         latest: Option<u64>,
         whole: usize,
     ) -> Result<(Vec<Alternative>, Vec<Goal>), AllocError>
-        ensures alternatives { IfOk result (λ p. p.0.items ≡ map (seen_as (table_of self.now) known latest whole) names.now) }
+        ensures alternatives { IfOk result (λ p. p.0.items ≡ map (seen_as self.now known latest whole) names.now) }
         ensures body { IfOk result (λ p. map (goal_atom self.now.program.templates.nodes) p.1.items ≡ body_of_only (table_of self.now) names.now) }
     {
         match names {

@@ -1,27 +1,28 @@
 //! A choice loses the alternatives for which a solved one leaves no room.
 
-ghost use Rattle.std.specs.Prelude.{◌≡◌, ◌+◌, ◌&&◌, not, IfOk, IfErr, OnOk};
+ghost use Rattle.std.specs.Prelude.{◌≡◌, ◌+◌, ◌&&◌, not, [], IfOk, IfErr, OnOk};
 ghost use Rattle.table_laws.specs.Walks.{alternatives_of, ListsEach};
 ghost use Rattle.table_laws.specs.Writes.{names_kept, names_cut, Cuts};
-ghost use Rattle.box_tree.specs.Tables.{table_of};
+ghost use Rattle.box_tree.specs.Tables.{table_of, op_held};
 ghost use Rattle.box_tree.specs.Edits.{keeps};
 ghost use Rattle.box_tree.specs.Choices.{IsChoiceBy};
 ghost use Rattle.box_tree.specs.Drops.{IsOfRun};
 
+use crate::entries::HeldOp;
 use crate::short::ShortList;
 use crate::table::Table;
 use crate::view::Sight;
-use akl_terms::{Name, Op, Place};
+use akl_terms::{Name, Place};
 use std::alloc::{AllocError, Global};
 
 // Whether an alternative is kept, by whether the solved one was passed before it, and whether it has the name of that one.
-fn keeps(op: Op, passed: bool, same: bool) -> bool
+fn keeps(op: HeldOp, passed: bool, same: bool) -> bool
     ensures { result ≡ keeps op passed (not passed && same) }
 {
     match op {
-        Op::Condition => !passed,
-        Op::Commit => !passed && same,
-        Op::Choice => true,
+        HeldOp::Condition => !passed,
+        HeldOp::Commit => !passed && same,
+        HeldOp::Choice | HeldOp::Collect(_) => true,
     }
 }
 
@@ -29,12 +30,12 @@ fn keeps(op: Op, passed: bool, same: bool) -> bool
 /// of memory.
 pub fn parted(
     alloc: Global,
-    op: Op,
+    op: HeldOp,
     name: Name,
     names: &[Name],
 ) -> Result<(Vec<Name>, Vec<Name>), AllocError>
-    ensures kept { IfOk result (λ p. p.0.items ≡ names_kept op name names.now) }
-    ensures gone { IfOk result (λ p. p.1.items ≡ names_cut op name names.now) }
+    ensures kept { IfOk result (λ p. p.0.items ≡ names_kept (op_held [] op) name names.now) }
+    ensures gone { IfOk result (λ p. p.1.items ≡ names_cut (op_held [] op) name names.now) }
 {
     let mut kept = Vec::new(alloc);
     let mut gone = Vec::new(alloc);
@@ -53,7 +54,7 @@ pub fn parted(
 
 impl Table {
     /// The operator of a choice. An `Err` comes where the goal isn't one.
-    pub(crate) fn op_of(&self, goal: Name) -> Result<Op, AllocError>
+    pub(crate) fn op_of(&self, goal: Name) -> Result<HeldOp, AllocError>
         ensures { IfOk result (IsChoiceBy self.now goal) }
     {
         let Some((_, Sight::Choice { op })) = self.sight_of(Place::Goal(goal)) else {
@@ -68,12 +69,12 @@ impl Table {
         &self,
         alloc: Global,
         goal: Name,
-        op: Op,
+        op: HeldOp,
         name: Name,
     ) -> Result<(Vec<Name>, ShortList<Name>), AllocError>
         requires { IsOfRun self.now }
-        ensures kept { IfOk result (λ p. p.0.items ≡ names_kept op name (alternatives_of ((table_of self.now).goal_of goal))) }
-        ensures gone { IfOk result (λ p. ListsEach (table_of self.now) (names_cut op name (alternatives_of ((table_of self.now).goal_of goal))) p.1.items) }
+        ensures kept { IfOk result (λ p. p.0.items ≡ names_kept (op_held self.now.program.templates.nodes op) name (alternatives_of ((table_of self.now).goal_of goal))) }
+        ensures gone { IfOk result (λ p. ListsEach (table_of self.now) (names_cut (op_held self.now.program.templates.nodes op) name (alternatives_of ((table_of self.now).goal_of goal))) p.1.items) }
     {
         let (kept, others) = parted(alloc, op, name, self.alternatives_of(goal))?;
         let gone = self.inside_each(alloc, others.as_slice())?;

@@ -1,15 +1,24 @@
 //! What a table has under the names of boxes and goals.
 
-use akl_terms::{Goal, Name, Op, ShownTerm};
+use akl_terms::{Goal, Name, ShownTerm, Term};
 use local_store::{Shared, Store};
 use std::collections::BTreeSet;
+
+/// The operator of a choice: `->`, `|`, `?`, or that it collects, with the result.
+#[derive(Clone, Copy)]
+pub enum HeldOp {
+    Condition,
+    Commit,
+    Choice,
+    Collect(Term),
+}
 
 /// The content of a goal.
 #[derive(Drop)]
 pub enum Held {
     Atom(Goal),
     /// A choice, with its alternatives in order.
-    Choice { op: Op, alternatives: Vec<Name> },
+    Choice { op: HeldOp, alternatives: Vec<Name> },
 }
 
 /// What a table has under the name of a box.
@@ -33,6 +42,8 @@ pub struct BoxEntry {
     pub body: Vec<Goal>,
     /// What an answer shows of a root box.
     pub shown: Vec<ShownTerm>,
+    /// What is collected of an alternative of a choice that collects.
+    pub collected: Option<Term>,
 }
 
 /// What a table has under the name of a goal.

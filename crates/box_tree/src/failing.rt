@@ -2,13 +2,13 @@
 
 ghost use Rattle.std.specs.Prelude.{◌≡◌, ◌+◌, List, Some, option_map};
 ghost use Rattle.akl_terms.specs.declared.term.Node.{Node};
-ghost use Rattle.table_laws.specs.Writes.{set, less_name, less_alternative, none_left, left_row, held_without, holder_in_row, Fails};
+ghost use Rattle.table_laws.specs.Writes.{set, less_name, less_alternative, none_left, fails_empty, left_row, held_without, holder_in_row, Fails};
 ghost use Rattle.table_laws.specs.Walks.{ListsInside};
-ghost use Rattle.box_tree.specs.Tables.{table_of, goal_row, shape_held};
+ghost use Rattle.box_tree.specs.Tables.{table_of, goal_row, shape_held, op_held};
 ghost use Rattle.box_tree.specs.Edits.{SetsGoals};
 ghost use Rattle.box_tree.specs.Drops.{emptied_home, HasRows};
 
-use crate::entries::{GoalEntry, Held};
+use crate::entries::{GoalEntry, Held, HeldOp};
 use crate::table::Table;
 use akl_terms::Name;
 
@@ -26,6 +26,16 @@ fn remove_name(names: &mut Vec<Name>, name: Name)
     }
 }
 
+// Whether a choice by the operator that has no alternatives makes its box fail.
+fn fails_empty(op: HeldOp) -> bool
+    ensures { (nodes : List Node) → result ≡ fails_empty (op_held nodes op) }
+{
+    match op {
+        HeldOp::Collect(_) => false,
+        HeldOp::Condition | HeldOp::Commit | HeldOp::Choice => true,
+    }
+}
+
 impl Held {
     // A choice loses an alternative.
     fn lose(&mut self, name: Name)
@@ -36,13 +46,13 @@ impl Held {
         }
     }
 
-    // Whether it is a choice without alternatives.
+    // Whether it is a choice without alternatives that makes its box fail.
     fn has_none(&self) -> bool
         ensures { (nodes : List Node) → result ≡ none_left (shape_held nodes self.now) }
     {
         match self {
             Held::Atom(_) => false,
-            Held::Choice { alternatives, .. } => alternatives.is_empty(),
+            Held::Choice { op, alternatives } => alternatives.is_empty() && fails_empty(*op),
         }
     }
 }

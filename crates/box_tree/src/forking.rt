@@ -4,16 +4,16 @@ ghost use Rattle.std.specs.Prelude.{◌≡◌, ◌+◌, ◌∷◌, List, [], map
 ghost use Rattle.akl_terms.specs.declared.term.Node.{Node};
 ghost use Rattle.akl_model.specs.Ordered.{IsIncreasing};
 ghost use Rattle.table_laws.specs.Writes.{set, first_fail, failing_by, forked_row, failing_row, names_drawn, IsFresh, after_fork, changed_box};
-ghost use Rattle.box_tree.specs.Tables.{table_of, box_row, goal_row, new_box, AreInOrder};
+ghost use Rattle.box_tree.specs.Tables.{table_of, op_held, box_row, goal_row, new_box, AreInOrder};
 ghost use Rattle.box_tree.specs.Edits.{is_fail, SetsBoxes, SetsGoals, SetsRows, AddsOnly, Becomes, Clears, named_atoms, named_shapes, boxes_with, goals_with, shapes_with, choice_row, home_if_empty};
 
-use crate::entries::{BoxEntry, GoalEntry, Held};
+use crate::entries::{BoxEntry, GoalEntry, Held, HeldOp};
 use crate::named::{IntoHeld, goal_set, push_names};
 use crate::short::ShortList;
 use crate::step::NewBox;
 use crate::table::Table;
 use crate::telling::solved_when;
-use akl_terms::{Code, Goal, Name, Op};
+use akl_terms::{Code, Goal, Name};
 use std::alloc::{AllocError, Global};
 
 // The names of boxes.
@@ -60,11 +60,16 @@ pub(crate) fn first_fail(goals: &[(Name, Goal)]) -> Option<Name>
     None
 }
 
-// The box that fails by a choice of these boxes.
-fn home_if_empty(home: Name, news: &[NewBox]) -> Option<Name>
-    ensures { result ≡ home_if_empty home news.now }
+// The box that fails by a choice of these boxes by the operator.
+fn home_if_empty(home: Name, op: HeldOp, news: &[NewBox]) -> Option<Name>
+    ensures { result ≡ home_if_empty home op news.now }
 {
-    if news.is_empty() { Some(home) } else { None }
+    match op {
+        HeldOp::Collect(_) => None,
+        HeldOp::Condition | HeldOp::Commit | HeldOp::Choice => {
+            if news.is_empty() { Some(home) } else { None }
+        }
+    }
 }
 
 impl Table {
@@ -144,6 +149,7 @@ impl Table {
             solved,
             goals,
             body,
+            collected,
         } = new;
         let entry = BoxEntry {
             holder: Some(holder),
@@ -155,6 +161,7 @@ impl Table {
             failing,
             body,
             shown: Vec::new(alloc),
+            collected,
         };
         self.put_entry(name, entry, goals, number)
     }
@@ -197,8 +204,8 @@ impl Table {
     }
 
     /// A goal becomes the choice of these boxes.
-    pub(crate) fn make_choice(&mut self, goal: Name, op: Op, names: Vec<Name>, number: u64)
-        ensures { SetsGoals self.old self.new (set goal (option_map (choice_row op names.items number) ((table_of self.old).goal_of goal)) (table_of self.old).goal_of) }
+    pub(crate) fn make_choice(&mut self, goal: Name, op: HeldOp, names: Vec<Name>, number: u64)
+        ensures { SetsGoals self.old self.new (set goal (option_map (choice_row (op_held self.old.program.templates.nodes op) names.items number) ((table_of self.old).goal_of goal)) (table_of self.old).goal_of) }
     {
         if let Some(entry) = self.goals.get_mut(&goal) {
             entry.held = Held::Choice {
@@ -227,7 +234,7 @@ impl Table {
         &mut self,
         alloc: Global,
         goal: Name,
-        op: Op,
+        op: HeldOp,
         news: Vec<NewBox>,
         at: Option<u64>,
         number: u64,
@@ -237,13 +244,13 @@ impl Table {
         requires number { number ≡ self.old.steps + 1 }
         requires fresh { IsFresh (table_of self.old) (names_drawn (map (new_box self.old.program.templates.nodes) news.items)) }
         requires ordered { AreInOrder (map (new_box self.old.program.templates.nodes) news.items) }
-        ensures made { OnOk result (Becomes self.old self.new (after_fork goal op (map (new_box self.old.program.templates.nodes) news.items) at worker count (table_of self.old))) }
+        ensures made { OnOk result (Becomes self.old self.new (after_fork goal (op_held self.old.program.templates.nodes op) (map (new_box self.old.program.templates.nodes) news.items) at worker count (table_of self.old))) }
         ensures unchanged { IfErr result (λ _. self.new ≡ self.old) }
     {
         let Some(home) = self.home_of(goal) else {
             return Err(AllocError);
         };
-        let failing = home_if_empty(home, news.as_slice());
+        let failing = home_if_empty(home, op, news.as_slice());
         let names = box_names(alloc, news.as_slice())?;
         let drawn = drawn_names(alloc, news.as_slice())?;
         let next = self.raised(alloc, worker, count)?;

@@ -14,7 +14,7 @@ use crate::entries::Held;
 use crate::table::Table;
 use crate::view::View;
 use akl_model::Label;
-use akl_terms::{Goal, Name, Place, ShownTerm};
+use akl_terms::{Goal, Name, Place, ShownTerm, Term};
 use local_store::{Shared, Store};
 use std::alloc::{AllocError, Global};
 use std::collections::BTreeSet;
@@ -38,6 +38,7 @@ pub struct InnerBox {
     pub body: Vec<Goal>,
     /// What an answer shows of a root box.
     pub shown: Vec<ShownTerm>,
+    pub collected: Option<Term>,
 }
 
 /// All that stands in a box and inside it.
@@ -153,6 +154,7 @@ impl Table {
             goals,
             body,
             shown,
+            collected: entry.collected,
         })
     }
 

@@ -26,7 +26,7 @@ mod view;
 mod way;
 
 pub use cutting::parted;
-pub use entries::{BoxEntry, GoalEntry, Held};
+pub use entries::{BoxEntry, GoalEntry, Held, HeldOp};
 pub use inside::{InnerBox, InnerGoal, Inside};
 pub use plan::Plan;
 pub use short::ShortList;

@@ -1,9 +1,10 @@
-//! The only alternative of a choice joins the box in which the choice stands.
+//! The alternatives of a choice join the box in which the choice stands.
 
 ghost use Rattle.std.specs.Prelude.{◌≡◌, ◌+◌, Some, map, IfOk, IfErr, OnOk, OnErr};
 ghost use Rattle.akl_model.specs.Config.{with_names};
 ghost use Rattle.akl_model.specs.Ordered.{IsIncreasing};
-ghost use Rattle.table_laws.specs.Writes.{set, changed_box, IsFresh, after_promote};
+ghost use Rattle.table_laws.specs.Writes.{set, changed_box, unset, IsFresh, after_join};
+ghost use Rattle.table_laws.specs.Walks.{alternatives_of};
 ghost use Rattle.box_tree.specs.Tables.{table_of, goals_in};
 ghost use Rattle.box_tree.specs.Edits.{SetsBoxes, SetsRows, AddsOnly, Becomes, AreNew, less_names, named_row, named_atoms, atoms_with};
 ghost use Rattle.box_tree.specs.Drops.{IsOfRun};
@@ -93,6 +94,15 @@ impl Table {
         self.name_goals(home, names, failing)
     }
 
+    // Boxes' entries go.
+    fn drop_alternatives(&mut self, names: &[Name])
+        ensures { SetsBoxes self.old self.new (unset names.now (table_of self.old).box_of) }
+    {
+        for name in names {
+            self.drop_alternative(*name);
+        }
+    }
+
     // A box's entry goes.
     fn drop_alternative(&mut self, name: Name)
         ensures { SetsBoxes self.old self.new (set name None (table_of self.old).box_of) }
@@ -100,13 +110,19 @@ impl Table {
         self.boxes.remove(&name);
     }
 
-    /// The only alternative of a choice, which is solved, joins the box in which the choice stands. This gets a store
-    /// and new goals, for which a worker draws so many names. An `Err` leaves the table as it was.
-    pub(crate) fn promote(
+    // The alternatives of a goal.
+    fn names_of(&self, alloc: Global, goal: Name) -> Result<Vec<Name>, AllocError>
+        ensures { IfOk result (λ names. names.items ≡ alternatives_of ((table_of self.now).goal_of goal)) }
+    {
+        Vec::from_slice(alloc, self.alternatives_of(goal))
+    }
+
+    /// All alternatives of a choice, which are solved, join the box in which the choice stands. This gets a store and new
+    /// goals, for which a worker draws so many names. An `Err` leaves the table as it was.
+    pub(crate) fn join(
         &mut self,
         alloc: Global,
         goal: Name,
-        name: Name,
         store: Shared<Store>,
         solved_at: Option<u64>,
         goals: Vec<(Name, Goal)>,
@@ -117,12 +133,13 @@ impl Table {
         requires number { number ≡ self.old.steps + 1 }
         requires run { IsOfRun self.old }
         requires fresh { IsFresh (table_of self.old) (map (λ x. x.0) (named_atoms self.old.program.templates.nodes goals.items)) }
-        ensures made { OnOk result (Becomes self.old self.new (after_promote goal name store solved_at (named_atoms self.old.program.templates.nodes goals.items) worker count (table_of self.old))) }
+        ensures made { OnOk result (Becomes self.old self.new (after_join goal store solved_at (named_atoms self.old.program.templates.nodes goals.items) worker count (table_of self.old))) }
         ensures unchanged { IfErr result (λ _. self.new ≡ self.old) }
     {
         let Some(home) = self.home_of(goal) else {
             return Err(AllocError);
         };
+        let alternatives = self.names_of(alloc, goal)?;
         let names = goal_names(alloc, goals.as_slice())?;
         let failing = first_fail(goals.as_slice());
         let next = self.raised(alloc, worker, count)?;
@@ -132,7 +149,7 @@ impl Table {
         };
         self.tell_box(Some(home), goal, store, solved_at, number);
         let _ = self.drop_goal(goal);
-        self.drop_alternative(name);
+        self.drop_alternatives(alternatives.as_slice());
         self.raise(worker, next);
         self.steps = number;
         Ok(())

@@ -10,14 +10,14 @@ ghost use Rattle.box_tree.specs.Edits.{SetsRows, AddsOnly};
 ghost use Rattle.box_tree.specs.Drops.{IsOfRun};
 ghost use Rattle.box_tree.specs.Splits.{copies_with, copied_goals_with, IsHolderOf, Holds, is_choice};
 
-use crate::entries::BoxEntry;
+use crate::entries::{BoxEntry, HeldOp};
 use crate::named::{goal_set, push_names};
 use crate::short::ShortList;
 use crate::starting::after;
 use crate::step::BoxCopy;
 use crate::table::Table;
 use crate::telling::solved_when;
-use akl_terms::{Name, Op};
+use akl_terms::Name;
 use std::alloc::{AllocError, Global};
 
 /// What holds a box, with the names that it has once a copy stands after the box.
@@ -26,7 +26,7 @@ pub(crate) enum Holder {
     Roots(Vec<Name>),
     Choice {
         goal: Name,
-        op: Op,
+        op: HeldOp,
         names: Vec<Name>,
     },
 }
@@ -110,6 +110,7 @@ impl Table {
             goals,
             body,
             shown,
+            collected,
         } = copy;
         let entry = BoxEntry {
             holder: holder_or(own, holder),
@@ -121,6 +122,7 @@ impl Table {
             failing: None,
             body,
             shown,
+            collected,
         };
         self.put_entry(name, entry, goals, number)
     }
@@ -235,7 +237,7 @@ impl Table {
         let later = one_later(at)?;
         let next = self.raised(alloc, worker, count)?;
         let held = self.held_beside(alloc, name, copy, choice)?;
-        let (alone, gone) = self.kept_and_gone(alloc, choice, Op::Commit, alternative)?;
+        let (alone, gone) = self.kept_and_gone(alloc, choice, HeldOp::Commit, alternative)?;
         let holder = self.holder_of(name);
         self.add_copies(alloc, holder, copies, later, number)?;
         self.make_choice(choice, op, alone, number);

@@ -108,6 +108,7 @@ fn first_entry(
         failing: first_fail(goals),
         body: Vec::new(alloc),
         shown,
+        collected: None,
     })
 }
 

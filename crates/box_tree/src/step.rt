@@ -1,7 +1,7 @@
 //! What a plan makes of the box of its place.
 
-use crate::entries::Held;
-use akl_terms::{Goal, Name, Op, ShownTerm};
+use crate::entries::{Held, HeldOp};
+use akl_terms::{Goal, Name, ShownTerm, Term};
 use local_store::{Shared, Store};
 
 /// A box that a plan makes. Its goals are atoms, in increasing order of names.
@@ -13,6 +13,7 @@ pub struct NewBox {
     pub solved: bool,
     pub goals: Vec<(Name, Goal)>,
     pub body: Vec<Goal>,
+    pub collected: Option<Term>,
 }
 
 /// The copy of a box that is split, or of a box inside it, under new names.
@@ -29,6 +30,7 @@ pub struct BoxCopy {
     pub body: Vec<Goal>,
     /// What an answer shows of a root box.
     pub shown: Vec<ShownTerm>,
+    pub collected: Option<Term>,
 }
 
 /// What a plan makes of the box of its place.
@@ -42,16 +44,16 @@ pub enum Step {
     },
     /// The goal becomes the choice of these boxes.
     Fork {
-        op: Op,
+        op: HeldOp,
         alternatives: Vec<NewBox>,
     },
     /// The box goes, with all that stands in it.
     Fail,
     /// The choice loses the alternatives for which a solved one, that of the label, leaves no room.
     Cut,
-    /// The only alternative of the choice, that of the label, joins the box. This gets a store, which may be solved over
-    /// the stores around it, and new goals, atoms in increasing order of names.
-    Promote {
+    /// All alternatives of the choice, which are solved, join the box. This gets a store, which may be solved over the
+    /// stores around it, and new goals, atoms in increasing order of names.
+    Join {
         store: Shared<Store>,
         solved: bool,
         goals: Vec<(Name, Goal)>,

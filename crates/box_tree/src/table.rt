@@ -206,7 +206,7 @@ impl Table {
 
     /// Makes the step of a label that draws so many names. `at` is how many labels there are, where the step was
     /// planned over this very table. An `Err` leaves the table as it was; it comes for want of memory, where a count
-    /// would pass its word, from a fork, a cut or a promotion of a goal that isn't there, and from a split where no choice
+    /// would pass its word, from a fork, a cut or a join of a goal that isn't there, and from a split where no choice
     /// holds the alternative or the same one holds the box.
     pub fn apply(
         &mut self,
@@ -243,17 +243,14 @@ impl Table {
                 let name = label.alternative.unwrap();
                 self.cut(alloc, goal, name, number)
             }
-            Step::Promote {
+            Step::Join {
                 store,
                 solved,
                 goals,
             } => {
                 let goal = goal_at(label.place);
-                let name = label.alternative.unwrap();
                 let solved_at = solved_when(at, solved);
-                self.promote(
-                    alloc, goal, name, store, solved_at, goals, number, worker, names,
-                )
+                self.join(alloc, goal, store, solved_at, goals, number, worker, names)
             }
             Step::Refute => {
                 self.refute(goal_at(label.place), number);

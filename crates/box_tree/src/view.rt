@@ -3,10 +3,11 @@
 ghost use Rattle.std.specs.Prelude.{◌≡◌, length};
 ghost use Rattle.box_tree.specs.Views.{IsViewOf};
 
+use crate::entries::HeldOp;
 use crate::short::ShortList;
 use crate::table::Table;
 use akl_model::Label;
-use akl_terms::{Goal, Name, Op, Place, Program, Query, Templates};
+use akl_terms::{Goal, Name, Place, Program, Query, Templates, Term};
 use local_store::{Chain, Shared, Store};
 use std::alloc::AllocError;
 use std::marker::Model;
@@ -35,7 +36,7 @@ impl From<AllocError> for LookError {
 #[derive(Clone, Copy)]
 pub enum Sight {
     Atom(Goal),
-    Choice { op: Op },
+    Choice { op: HeldOp },
     /// A box, with a goal by which it fails, where it has one.
     Box { failing: Option<Name> },
 }
@@ -49,6 +50,8 @@ pub struct Alternative {
     pub store: Shared<Store>,
     /// How many of the outermost stores, from the root box down to its own, are known to be solved together.
     pub known: usize,
+    /// What is collected of it, where the choice collects.
+    pub collected: Option<Term>,
 }
 
 /// What is seen of a place: all that a plan for it needs. It remembers in no bytes the table and the journal of which

@@ -13,7 +13,7 @@ use Rattle.akl_model.specs.Wakes.{names_down_to, IsOneOf, IsThere}
 use Rattle.akl_model.proofs.Options.{some_value}
 use Rattle.table_laws.specs.Rows.{Table}
 use Rattle.table_laws.specs.Stamped.{Run, IsTableOf}
-use Rattle.table_laws.specs.Steps.{Step, tells, forks, fails, cuts, promotes, refutes, confirms, splits, Makes}
+use Rattle.table_laws.specs.Steps.{Step, tells, forks, fails, cuts, joins, refutes, confirms, splits, Makes}
 use Rattle.box_tree.specs.declared.step.Step as declared
 use Rattle.box_tree.specs.Tables.{all_rules, TableValue, table_of, step_of}
 use Rattle.box_tree.specs.Views.{run_of}
@@ -71,8 +71,8 @@ module _ (rules : List Rule) (r : Run) (T : Table) (l : Label) (d : Config) (t :
       (still_part (forks op news) makes ps e (goal_turns l.place x path) (new_placed path news) e (old.turns_stand rules r T l d t a x k makes.1.0 makes.1.1)) (new.forked_all rules r T l d t a op news makes)))
   all_around fails makes ps e = changed_to fails makes ps e (still_whole fails makes ps e (holder_both (all_but_last path) x.holder) e (old.both_stand rules r T l d t a x k))
   all_around cuts makes ps e = changed_to cuts makes ps e (still_whole cuts makes ps e (goal_turns l.place x path) e (old.turns_stand rules r T l d t a x k makes.1.0 makes.1.2))
-  all_around (promotes s b goals) makes ps e = changed_to (promotes s b goals) makes ps e (subst All (sym e) (all_append (StandsSo d.roots) (goal_goes x path) (goals_placed path (map (λ (y : Name × Atom). y.0) goals))
-      (still_part (promotes s b goals) makes ps e (goal_goes x path) (goals_placed path (map (λ (y : Name × Atom). y.0) goals)) e (old.goes_stand rules r T l d t a x k)) (new.promoted_all rules r T l d t a s b goals makes)))
+  all_around (joins s b goals) makes ps e = changed_to (joins s b goals) makes ps e (subst All (sym e) (all_append (StandsSo d.roots) (goal_goes x path) (goals_placed path (map (λ (y : Name × Atom). y.0) goals))
+      (still_part (joins s b goals) makes ps e (goal_goes x path) (goals_placed path (map (λ (y : Name × Atom). y.0) goals)) e (old.goes_stand rules r T l d t a x k)) (new.promoted_all rules r T l d t a s b goals makes)))
   all_around refutes makes ps e = changed_to refutes makes ps e (still_whole refutes makes ps e (goal_turns l.place x path) e (old.turns_stand rules r T l d t a x k makes.1.0 makes.1.1))
   all_around confirms makes ps e = changed_to confirms makes ps e (still_whole confirms makes ps e (goal_goes x path) e (old.goes_stand rules r T l d t a x k))
   all_around (splits copy copies) makes ps e = changed_to (splits copy copies) makes ps e (copied.split_all rules r T l d t a copy copies makes (box_parts x path) ps

@@ -2,7 +2,7 @@
 use Rattle.std.proofs.Common.{◌≡◌, List, Option, Some, None, refl, sym, ◌∙◌, ap, subst, ◌⊎◌, inl, inr}
 use Rattle.akl_terms.specs.declared.name.Name.{Name}
 use Rattle.akl_terms.specs.declared.name.Place.{Place}
-use Rattle.akl_terms.specs.declared.program.Op.{Op}
+use Rattle.akl_model.specs.Config.{Operator}
 use Rattle.akl_terms.specs.declared.program.Program.{Program}
 use Rattle.akl_terms.specs.declared.program.Query.{Query}
 use Rattle.akl_model.specs.declared.item.Item.{Item}
@@ -22,7 +22,7 @@ use Rattle.opened_places.specs.Changed.{IsChanged}
 pub record HoldsSite {rules : List Rule} {p : Program} {c : Config} {l : Label} {d : Config} (a : Applies rules p c l d) (g : Name) : Type 0 where
   pub home : Found
   pub is_home : home_of g c.roots ≡ Some home
-  pub op : Op
+  pub op : Operator
   pub alternatives : Boxes
   pub replaced : IsReplaced a
   pub held : held_in g home.goals ≡ Some (a_choice op alternatives)

@@ -3,7 +3,7 @@ use Rattle.std.proofs.Common.{◌≡◌, ℕ, List, [], ◌∷◌, Option, Some,
 use Rattle.std.specs.Prelude.{option_map, slice_index}
 use Rattle.akl_terms.specs.declared.name.Name.{Name}
 use Rattle.akl_terms.specs.declared.name.Place.{Place}
-use Rattle.akl_terms.specs.declared.program.Op.{Op}
+use Rattle.akl_model.specs.Config.{Operator}
 use Rattle.akl_terms.specs.declared.program.Program.{Program}
 use Rattle.akl_model.specs.declared.label.Rule.{Rule}
 use Rattle.akl_model.specs.declared.label.Label.{Label}
@@ -23,12 +23,12 @@ use Rattle.opened_places.specs.declared.around.Around.{Around}
 use Rattle.opened_places.proofs.ListedPlaces.{listed}
 use Rattle.opened_places.specs.Exact.{IsAround, AreExactly}
 use Rattle.opened_places.proofs.SetRows.{some_none}
-use Rattle.opened_places.proofs.GoalTurns.{Comes, AreHolders, no_holders}
+use Rattle.opened_places.proofs.GoalTurns.{Comes, no_holders}
 use Rattle.opened_places.proofs.GoalTurns as turns
 use Rattle.opened_places.proofs.AtSite as site
 
 -- what a cut makes of its box, and Fail of its own
-cut_change : (p : Program) (v : Reading) (w next : ℕ) (r : Rule) (place : Place) (alternative : Option Name) (g n : Name) (f : Found) (c : Change) (o : Op) (bs : Boxes) → r ≡ Rule.Cut → place ≡ Place.Goal g
+cut_change : (p : Program) (v : Reading) (w next : ℕ) (r : Rule) (place : Place) (alternative : Option Name) (g n : Name) (f : Found) (c : Change) (o : Operator) (bs : Boxes) → r ≡ Rule.Cut → place ≡ Place.Goal g
     → alternative ≡ Some n → change_by p v w next r place alternative f ≡ Some c → held_in g f.goals ≡ Some (a_choice o bs) → c.boxes ≡ box f.content (with_content g (a_choice o (kept_by o n bs)) f.goals) no_boxes
 cut_change p v w next r place alternative g n f c o bs q e x h is_held = ap (λ (k : Change). k.boxes) (sym (some_value (subst (λ (k : Option Held). cut g n f k ≡ Some c) is_held cuts_it)))
   where

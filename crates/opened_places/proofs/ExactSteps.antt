@@ -7,7 +7,7 @@ use Rattle.akl_model.specs.Config.{Config}
 use Rattle.akl_model.specs.Derivations.{Applies}
 use Rattle.table_laws.specs.Rows.{Table}
 use Rattle.table_laws.specs.Stamped.{Run, IsTableOf}
-use Rattle.table_laws.specs.Steps.{Step, tells, forks, fails, cuts, promotes, refutes, confirms, splits, Makes}
+use Rattle.table_laws.specs.Steps.{Step, tells, forks, fails, cuts, joins, refutes, confirms, splits, Makes}
 use Rattle.opened_places.specs.declared.around.Around.{Around}
 use Rattle.opened_places.proofs.ListedPlaces.{listed}
 use Rattle.opened_places.specs.Exact.{IsAround, AreExactly}
@@ -25,7 +25,7 @@ exact rules r T l d t a x k (tells new solved) makes = rows.told rules r T l d t
 exact rules r T l d t a x k (forks op news) makes = fork.forked rules r T l d t a op news makes x k
 exact rules r T l d t a x k fails makes = fail.failed rules r T l d t a x k makes
 exact rules r T l d t a x k cuts makes = cut.was_cut rules r T l d t a x k makes
-exact rules r T l d t a x k (promotes new solved goals) makes = promote.promoted rules r T l d t a new solved goals makes x k
+exact rules r T l d t a x k (joins new solved goals) makes = promote.promoted rules r T l d t a new solved goals makes x k
 exact rules r T l d t a x k refutes makes = refute.refuted rules r T l d t a x k makes
 exact rules r T l d t a x k confirms makes = rows.confirmed rules r T l d t a x k makes
 exact rules r T l d t a x k (splits copy copies) makes = split.was_split rules r T l d t a copy copies makes x k

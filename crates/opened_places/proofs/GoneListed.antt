@@ -5,7 +5,7 @@ use Rattle.akl_terms.specs.declared.name.Place.{Place}
 use Rattle.akl_terms.specs.declared.term.Node.{Node}
 use Rattle.akl_model.specs.declared.label.Label.{Label}
 use Rattle.akl_model.specs.Wakes.{IsOneOf}
-use Rattle.table_laws.specs.Steps.{Step, tells, forks, fails, cuts, promotes, refutes, confirms, splits}
+use Rattle.table_laws.specs.Steps.{Step, tells, forks, fails, cuts, joins, refutes, confirms, splits}
 use Rattle.table_laws.specs.Walks.{ListsEach}
 use Rattle.table_laws.specs.Going.{OwnGoalGoes, boxes_going}
 use Rattle.table_laws.proofs.GoneSteps.{gone_listed_law}
@@ -20,7 +20,7 @@ use Rattle.opened_places.proofs.PlacesAt.{of_listed, listed_of}
 
 own_in : (place own : Place) (step : Step) → OwnGoalGoes step → place ≡ own → IsOneOf place (own_places own step)
 own_in place own (tells new solved) o e = inl e
-own_in place own (promotes new solved goals) o e = inl e
+own_in place own (joins new solved goals) o e = inl e
 own_in place own confirms o e = inl e
 own_in place own (forks op news) o e = o
 own_in place own fails o e = o
@@ -30,7 +30,7 @@ own_in place own (splits copy copies) o e = o
 
 in_own : (place own : Place) (step : Step) → IsOneOf place (own_places own step) → OwnGoalGoes step × (place ≡ own)
 in_own place own (tells new solved) i = elim i [ inl e ↦ (tt, e) | inr z ↦ absurd z ]
-in_own place own (promotes new solved goals) i = elim i [ inl e ↦ (tt, e) | inr z ↦ absurd z ]
+in_own place own (joins new solved goals) i = elim i [ inl e ↦ (tt, e) | inr z ↦ absurd z ]
 in_own place own confirms i = elim i [ inl e ↦ (tt, e) | inr z ↦ absurd z ]
 in_own place own (forks op news) i = absurd i
 in_own place own fails i = absurd i

@@ -4,7 +4,7 @@ use Rattle.std.specs.Prelude.{option_map, slice_index}
 use Rattle.std.specs.List.{AllByRecursion}
 use Rattle.akl_terms.specs.declared.name.Name.{Name}
 use Rattle.akl_terms.specs.declared.name.Place.{Place}
-use Rattle.akl_terms.specs.declared.program.Op.{Op}
+use Rattle.akl_model.specs.Config.{Operator}
 use Rattle.akl_model.specs.declared.label.Rule.{Rule}
 use Rattle.akl_model.specs.declared.label.Label.{Label}
 use Rattle.akl_model.specs.Config.{IsIn, Atom, Config, Found, box_at, home_of}
@@ -27,7 +27,7 @@ use Rattle.local_store.specs.Stored.{Stored}
 use Rattle.table_laws.specs.Rows.{BoxRow, GoalRow, Table}
 use Rattle.table_laws.specs.Unfolds.{IsBoxRow, Unfolds}
 use Rattle.table_laws.specs.Stamped.{Run, IsTableOf}
-use Rattle.table_laws.specs.Steps.{NewBox, forks, promotes, Makes}
+use Rattle.table_laws.specs.Steps.{NewBox, forks, joins, Makes}
 use Rattle.table_laws.specs.Writes.{IsFresh, set, changed_box, home_in as home_in_row, new_box_of, new_goal_of, new_row, names_drawn, atom_among, home_or, failing_by, forked_row}
 use Rattle.table_laws.proofs.Frame.{found_of}
 use Rattle.table_laws.proofs.Fresh.{fresh_step}
@@ -147,9 +147,9 @@ module _ (rules : List Rule) (r : Run) (T : Table) (l : Label) (d : Config) (t :
       k.1 ∙ sym found ∙ j
 
   -- promoted goals stand in the box of the place
-  module _ (new : Stored) (solved : Bool) (goals : List (Name × Atom)) (makes : Makes r.program l (slice_index t.config.next l.worker) a.site (promotes new solved goals)) where
+  module _ (new : Stored) (solved : Bool) (goals : List (Name × Atom)) (makes : Makes r.program l (slice_index t.config.next l.worker) a.site (joins new solved goals)) where
     abbrev g : Name
-    g = makes.1.0
+    g = makes.0
 
     U : Table
     U = promote.U rules r T l d t a new solved goals makes
@@ -160,20 +160,20 @@ module _ (rules : List Rule) (r : Run) (T : Table) (l : Label) (d : Config) (t :
     promoted_at : (i : Name) → IsIn i (firsts goals) → StandsSo d.roots (placed (Place.Goal i) (names_down_to a.site))
     unfolding U
     promoted_at i j =
-        let row : (row : GoalRow) × (T.goal_of g ≡ Some row) × (row.home ≡ a.site.content.name) = home_row g makes.1.2 in
+        let row : (row : GoalRow) × (T.goal_of g ≡ Some row) × (row.home ≡ a.site.content.name) = home_row g makes.1 in
         let w : (w : GoalRow) × (atom_among (promote.home rules r T l d t a new solved goals makes) (T.steps + 1) goals i ≡ Some w) = in_atom_row (promote.home rules r T l d t a new solved goals makes) (T.steps + 1) goals i j in
         let home : w.0.home ≡ a.site.content.name =
         atom_home (promote.home rules r T l d t a new solved goals makes) (T.steps + 1) goals i w.0 w.1 ∙ ap (λ (o : Option GoalRow). home_or o g) row.1 ∙ row.2 in
         let there : U.goal_of i ≡ Some w.0 = left_some (atom_among (promote.home rules r T l d t a new solved goals makes) (T.steps + 1) goals i) (set g None T.goal_of i) w.0 w.1 in
-        let f : Found = now g makes.1.2 in
-        let found : box_at w.0.home d.roots ≡ Some f = ap (λ (n : Name). box_at n d.roots) home ∙ now_there g makes.1.2 in
-        ap (option_map names_down_to) (goal_in U (promote.v rules r T l d t a new solved goals makes) i w.0 f there found) ∙ ap Some (like f (now_there g makes.1.2))
+        let f : Found = now g makes.1 in
+        let found : box_at w.0.home d.roots ≡ Some f = ap (λ (n : Name). box_at n d.roots) home ∙ now_there g makes.1 in
+        ap (option_map names_down_to) (goal_in U (promote.v rules r T l d t a new solved goals makes) i w.0 f there found) ∙ ap Some (like f (now_there g makes.1))
 
     pub promoted_all : AllByRecursion (StandsSo d.roots) (goals_placed (names_down_to a.site) (firsts goals))
     promoted_all = all_goals (StandsSo d.roots) (names_down_to a.site) (firsts goals) promoted_at
 
   -- the boxes of a fork
-  module _ (op : Op) (news : List NewBox) (makes : Makes r.program l (slice_index t.config.next l.worker) a.site (forks op news)) where
+  module _ (op : Operator) (news : List NewBox) (makes : Makes r.program l (slice_index t.config.next l.worker) a.site (forks op news)) where
     abbrev h : Name
     h = makes.1.0
 
@@ -194,7 +194,7 @@ module _ (rules : List Rule) (r : Run) (T : Table) (l : Label) (d : Config) (t :
     new_at : (n : NewBox) → IsNewOf n news → IsNewAt n
     new_at n i =
         let w : (w : BoxRow) × (new_box_of h None (T.steps + 1) news n.name ≡ Some w) = in_new_box h None (T.steps + 1) news n.name (new_part n news i) in
-        let there : V.box_of n.name ≡ Some w.0 = left_some (new_box_of h None (T.steps + 1) news n.name) (changed_box (home_in_row (T.goal_of h)) (failing_by h news) T.box_of n.name) w.0 w.1 in
+        let there : V.box_of n.name ≡ Some w.0 = left_some (new_box_of h None (T.steps + 1) news n.name) (changed_box (home_in_row (T.goal_of h)) (failing_by h op news) T.box_of n.name) w.0 w.1 in
         let f : (f : Found) × (box_at n.name d.roots ≡ Some f) × IsBoxRow V d.roots f w.0 = found_of V d v n.name w.0 there in
         let held : holder_in n.name d.roots ≡ Some h = ap (λ (m : Name). holder_in m d.roots) (box-itself n.name d.roots f.0 f.1) ∙ sym f.2.holder ∙ new_holder h None (T.steps + 1) news n.name w.0 w.1 in
         let by : IsHeldBy n.name h f.0 d.roots = held_around d.roots later.once n.name h f.0 f.1 held in

@@ -4,7 +4,7 @@ use Rattle.akl_terms.specs.declared.name.Name.{Name}
 use Rattle.akl_terms.specs.declared.name.Place.{Place}
 use Rattle.akl_model.specs.Config.{Atom}
 use Rattle.akl_model.specs.Changes.{Shape}
-use Rattle.table_laws.specs.Steps.{NewBox, BoxCopy, Step, tells, forks, fails, cuts, promotes, refutes, confirms, splits}
+use Rattle.table_laws.specs.Steps.{NewBox, BoxCopy, Step, tells, forks, fails, cuts, joins, refutes, confirms, splits}
 use Rattle.opened_places.specs.declared.around.Holder.{Holder}
 use Rattle.opened_places.specs.declared.around.Around.{Around}
 use Rattle.opened_places.specs.Placed.{PlacedValue, placed, places_of, all_but_last, goals_placed}
@@ -64,7 +64,7 @@ listed_places place x path (forks op news) ps e =
     ap places_of e ∙ places_append (goal_turns place x path) (new_placed path news) ∙ ap (λ (qs : List Place). place ∷ Place.Box x.home ∷ qs) (new_are path news)
 listed_places place x path fails ps e = ap places_of e ∙ both_is (all_but_last path) x.holder
 listed_places place x path cuts ps e = ap places_of e
-listed_places place x path (promotes new solved goals) ps e =
+listed_places place x path (joins new solved goals) ps e =
     ap places_of e ∙ places_append (goal_goes x path) (goals_placed path (map (λ (y : Name × Atom). y.0) goals))
     ∙ (λ i. Place.Box x.home ∷ ((holder_is (all_but_last path) x.holder i) ++ (goals_places path (map (λ (y : Name × Atom). y.0) goals) i)))
 listed_places place x path refutes ps e = ap places_of e

@@ -17,7 +17,7 @@ use Rattle.table_laws.specs.Unfolds.{IsBoxRow, Unfolds}
 use Rattle.table_laws.specs.Stamped.{Run, followed_by, IsTableOf}
 use Rattle.table_laws.specs.Steps.{Step, tells, confirms, Makes}
 use Rattle.table_laws.specs.Writes as writes
-use Rattle.table_laws.specs.Writes.{IsTable, IsFresh, Leads, set, changed_box, home_in, new_box_of, new_goal_of, atom_among, home_or, names_drawn, after_tell, after_fork, after_promote, after_refute, after_confirm, told_row, confirmed_row, promoted_row, failing_by, failing_row, forked_row, refuted_row}
+use Rattle.table_laws.specs.Writes.{IsTable, Leads, set, changed_box, home_in, after_tell, after_confirm, told_row, confirmed_row}
 use Rattle.table_laws.proofs.Frame.{row_of, found_of}
 use Rattle.table_laws.proofs.StepMakes.{step_law}
 use Rattle.opened_places.specs.declared.around.Around.{Around}

@@ -3,7 +3,7 @@ use Rattle.std.proofs.Common.{◌≡◌, ℕ, ◌≤◌, List, [], ◌∷◌, �
 use Rattle.std.specs.Prelude.{option_map, slice_index}
 use Rattle.akl_terms.specs.declared.name.Name.{Name}
 use Rattle.akl_terms.specs.declared.name.Place.{Place}
-use Rattle.akl_terms.specs.declared.program.Op.{Op}
+use Rattle.akl_model.specs.Config.{Operator}
 use Rattle.akl_model.specs.declared.label.Rule.{Rule}
 use Rattle.akl_model.specs.declared.label.Label.{Label}
 use Rattle.akl_model.specs.Config.{IsIn, Content, Boxes, no_boxes, box, Goals, Config, a_choice, held_in, with_content, Found, environment, box_at, home_of, edited}
@@ -28,7 +28,7 @@ use Rattle.table_laws.specs.Unfolds.{IsBoxRow}
 use Rattle.table_laws.specs.Stamped.{Run, IsTableOf}
 use Rattle.table_laws.specs.Steps.{BoxCopy, copy_among, IsCopy, SplitsBox, second_of, splits, Makes}
 use Rattle.table_laws.specs.Writes as writes
-use Rattle.table_laws.specs.Writes.{copied_goal_of, name_after}
+use Rattle.table_laws.specs.Writes.{copied_goal_of}
 use Rattle.table_laws.proofs.Frame.{row_of}
 use Rattle.table_laws.proofs.Splitting as splitting
 use Rattle.table_laws.proofs.Cutting as cutting
@@ -65,7 +65,7 @@ module _ (rules : List Rule) (r : Run) (T : Table) (l : Label) (d : Config) (t :
   abbrev g : Name
   g = is_split.choice.name
 
-  abbrev o : Op
+  abbrev o : Operator
   o = is_split.choice.op
 
   abbrev bs : Boxes
@@ -104,18 +104,18 @@ module _ (rules : List Rule) (r : Run) (T : Table) (l : Label) (d : Config) (t :
       not_none e = cc
 
   abbrev b : Becomes l.worker (slice_index t.config.next l.worker) a.site a.change
-  b = cutting.cuts_to rules r.program r.query r.journal t.config l d t.replays a g al o Op.Commit bs second is_goal held boxes_are
+  b = cutting.cuts_to rules r.program r.query r.journal t.config l d t.replays a g al o Operator.commit bs second is_goal held boxes_are
 
   pub home_was : home_of g t.config.roots ≡ Some a.site
-  home_was = cutting.home_was rules r.program r.query r.journal t.config l d t.replays a g al o Op.Commit bs second is_goal held boxes_are
+  home_was = cutting.home_was rules r.program r.query r.journal t.config l d t.replays a g al o Operator.commit bs second is_goal held boxes_are
 
   there : (f : Found) × (home_of g d.roots ≡ Some f)
-  there = (site_now b, cutting.home_now rules r.program r.query r.journal t.config l d t.replays a g al o Op.Commit bs second is_goal held boxes_are)
+  there = (site_now b, cutting.home_now rules r.program r.query r.journal t.config l d t.replays a g al o Operator.commit bs second is_goal held boxes_are)
 
   same : goals_at a.site.content.name t.config.roots ≡ goals_at a.site.content.name d.roots
   same = ap (option_map (λ (f : Found). goal_names f.goals)) was_there
-      ∙ ap Some (sym (cutting.names_now rules r.program r.query r.journal t.config l d t.replays a g al o Op.Commit bs second is_goal held boxes_are))
-      ∙ sym (ap (option_map (λ (f : Found). goal_names f.goals)) (cutting.now_there rules r.program r.query r.journal t.config l d t.replays a g al o Op.Commit bs second is_goal held boxes_are))
+      ∙ ap Some (sym (cutting.names_now rules r.program r.query r.journal t.config l d t.replays a g al o Operator.commit bs second is_goal held boxes_are))
+      ∙ sym (ap (option_map (λ (f : Found). goal_names f.goals)) (cutting.now_there rules r.program r.query r.journal t.config l d t.replays a g al o Operator.commit bs second is_goal held boxes_are))
 
   -- the choice is what holds the alternative
 
@@ -135,16 +135,16 @@ module _ (rules : List Rule) (r : Run) (T : Table) (l : Label) (d : Config) (t :
   -- what comes
 
   pub second_once : (m : Name) → times m second ≤ 1
-  second_once = cutting.copy_once rules r.program r.query r.journal t.config l d t.replays a g al o Op.Commit bs second is_goal held boxes_are
+  second_once = cutting.copy_once rules r.program r.query r.journal t.config l d t.replays a g al o Operator.commit bs second is_goal held boxes_are
 
   nowhere : (m : Name) → 1 ≤ times m second → times m t.config.roots ≡ 0
-  nowhere = cutting.copy_nowhere rules r.program r.query r.journal t.config l d t.replays a g al o Op.Commit bs second is_goal held boxes_are
+  nowhere = cutting.copy_nowhere rules r.program r.query r.journal t.config l d t.replays a g al o Operator.commit bs second is_goal held boxes_are
 
   abbrev under : Found → Found
   under f = record f { around = a.site.around ++ f.around }
 
   pub copy_there : (f : Found) → Stands f second → Stands (under f) d.roots
-  copy_there f = cutting.copy_stands rules r.program r.query r.journal t.config l d t.replays a g al o Op.Commit bs second is_goal held boxes_are f.around f.content f.goals
+  copy_there f = cutting.copy_stands rules r.program r.query r.journal t.config l d t.replays a g al o Operator.commit bs second is_goal held boxes_are f.around f.content f.goals
 
   abbrev Copied : Name → ℕ → Type 0
   Copied i number = IsGoalCopied r.program.templates.nodes (environment a.site) second second_once copies is_split.copied number i (copied_goal_of number copies i)
@@ -153,7 +153,7 @@ module _ (rules : List Rule) (r : Run) (T : Table) (l : Label) (d : Config) (t :
   comes = record { box_in = box_in; in_box = in_box; goal_in = goal_in; in_goal = in_goal }
     where
       box_in : (m : Name) (f : Found) → box_at m t.config.roots ≡ None → box_at m d.roots ≡ Some f → IsIn m (part_boxes (copy_parts copies))
-      box_in m f i j = elim (cutting.was_there rules r.program r.query r.journal t.config l d t.replays a g al o Op.Commit bs second is_goal held boxes_are m f j) [
+      box_in m f i j = elim (cutting.was_there rules r.program r.query r.journal t.config l d t.replays a g al o Operator.commit bs second is_goal held boxes_are m f j) [
         | inl w ↦ absurd (some_none i w.1)
         | inr c ↦
             let e : box_at m second ≡ Some (record f { around = c.rest }) = named_found second second_once m (record f { around = c.rest }) c.stands (box-itself m d.roots f j) in
@@ -172,7 +172,7 @@ module _ (rules : List Rule) (r : Run) (T : Table) (l : Label) (d : Config) (t :
           (box_at-none m t.config.roots (nowhere m z), (under w.0, named_found d.roots later.once m (under w.0) (copy_there w.0 (found_in m second w.0 w.1)) e))
 
       goal_in : (i : Name) (f : Found) → home_of i t.config.roots ≡ None → home_of i d.roots ≡ Some f → IsIn i (part_goals (copy_parts copies))
-      goal_in i f y z = elim (cutting.was_home rules r.program r.query r.journal t.config l d t.replays a g al o Op.Commit bs second is_goal held boxes_are i f z) [
+      goal_in i f y z = elim (cutting.was_home rules r.program r.query r.journal t.config l d t.replays a g al o Operator.commit bs second is_goal held boxes_are i f z) [
         | inl w ↦ absurd (some_none y w.1)
         | inr c ↦
             let h : HasGoal i f.goals = (home_in i d.roots f z).1 in

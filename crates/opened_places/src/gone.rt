@@ -10,8 +10,8 @@ ghost use Rattle.box_tree.specs.Drops.{IsOfRun};
 ghost use Rattle.opened_places.specs.Gone.{goals_named, own_places, places_at, AddsInsideEach, AreGone};
 
 use akl_model::Label;
-use akl_terms::{Name, Op, Place};
-use box_tree::{ShortList, Sight, Step, Table, parted};
+use akl_terms::{Name, Place};
+use box_tree::{HeldOp, ShortList, Sight, Step, Table, parted};
 use name_list::NameList;
 use std::alloc::{AllocError, Global};
 
@@ -20,7 +20,7 @@ fn own_places(place: Place, step: &Step) -> ShortList<Place>
     ensures { (nodes : List Node) → result.items ≡ own_places place (step_of nodes step.now) }
 {
     match step {
-        Step::Tell { .. } | Step::Promote { .. } | Step::Confirm => ShortList::of(place),
+        Step::Tell { .. } | Step::Join { .. } | Step::Confirm => ShortList::of(place),
         Step::Fork { .. } | Step::Fail | Step::Cut | Step::Refute | Step::Split { .. } => {
             ShortList::new()
         }
@@ -50,7 +50,7 @@ fn others_beside(alloc: Global, table: &Table, name: Name) -> Result<NameList, A
     match table.holder_of(name) {
         Some(choice) => {
             let alternatives = table.alternatives_of(choice);
-            let (_, others) = parted(alloc, Op::Commit, name, alternatives)?;
+            let (_, others) = parted(alloc, HeldOp::Commit, name, alternatives)?;
             Ok(NameList::from_vec(others))
         }
         None => Ok(NameList::new()),
@@ -74,12 +74,12 @@ fn going_at_goal(
 ) -> Result<NameList, AllocError>
     ensures { IfOk result (λ boxes. (nodes : List Node) → boxes ≡ boxes_going (table_of table.now) (step_of nodes step.now) (Place.Goal goal) alternative) }
 {
-    let Some(name) = alternative else {
-        return Ok(NameList::new());
-    };
     match step {
-        Step::Cut => cut_from(alloc, table, goal, name),
-        Step::Promote { .. } => one(alloc, name),
+        Step::Cut => match alternative {
+            Some(name) => cut_from(alloc, table, goal, name),
+            None => Ok(NameList::new()),
+        },
+        Step::Join { .. } => NameList::from_slice(alloc, table.alternatives_of(goal)),
         Step::Tell { .. } | Step::Fork { .. } | Step::Fail => Ok(NameList::new()),
         Step::Refute | Step::Confirm | Step::Split { .. } => Ok(NameList::new()),
     }
@@ -102,7 +102,7 @@ fn going_at_box(
             None => Ok(NameList::new()),
         },
         Step::Tell { .. } | Step::Fork { .. } | Step::Cut => Ok(NameList::new()),
-        Step::Promote { .. } | Step::Refute | Step::Confirm => Ok(NameList::new()),
+        Step::Join { .. } | Step::Refute | Step::Confirm => Ok(NameList::new()),
     }
 }
 

@@ -196,7 +196,7 @@ fn listed(
             let places = goal_turns(alloc, place, around, path)?;
             Ok(places)
         }
-        Step::Promote { goals, .. } => {
+        Step::Join { goals, .. } => {
             let mut places = goal_goes(alloc, around, path)?;
             push_goals(alloc, goals.as_slice(), path, &mut places)?;
             Ok(places)

@@ -4,6 +4,8 @@ use Rattle.std.specs.Prelude.{slice_get, slice_index}
 use Rattle.akl_terms.specs.declared.name.Name.{Name}
 use Rattle.akl_terms.specs.declared.name.Var.{Var}
 use Rattle.akl_terms.specs.declared.name.Place.{Place}
+use Rattle.akl_terms.specs.declared.program.Clause.{Clause}
+use Rattle.akl_model.specs.Config.{Operator}
 use Rattle.akl_terms.specs.declared.program.Definition.{Definition}
 use Rattle.akl_terms.specs.declared.program.Program.{Program}
 use Rattle.akl_terms.specs.declared.program.Query.{Query}
@@ -15,7 +17,7 @@ use Rattle.akl_model.specs.declared.label.Rule.{Rule}
 use Rattle.akl_model.specs.declared.label.Label.{Label}
 use Rattle.akl_model.specs.Config.{IsIn, Atom, Content, Boxes, no_boxes, box, Goals, Config, Held, an_atom, a_choice, held_in, Found, equations_of, whole}
 use Rattle.akl_model.specs.Instances.{with_atoms}
-use Rattle.akl_model.specs.Rules.{Reading, Change, fork_by, fork, cut, ChoiceIn, choice_with, split_at, change_by}
+use Rattle.akl_model.specs.Rules.{Reading, Change, operator_of, fork_as, fork_by, fork, cut, ChoiceIn, choice_with, split_at, change_by}
 use Rattle.akl_model.specs.Derivations.{Applies, Replays}
 use Rattle.akl_model.specs.Changes.{Binds}
 use Rattle.akl_model.specs.Wakes.{names_down_to}
@@ -39,12 +41,16 @@ KeepsContent f ch = (b : Content) (gs : Goals) (rest : Boxes) → ch.boxes ≡ b
 keeps : (f : Found) (hs : Goals) (more : Boxes) (k : ℕ) (ch : Change) → Some (record { boxes = box f.content hs more; drawn = k }) ≡ Some ch → KeepsContent f ch
 keeps f hs more k ch e b gs rest q = let r : box f.content hs more ≡ box b gs rest = ap (λ (z : Change). z.boxes) (some_value e) ∙ q in cc
 
-fork_by_keeps : (p : Program) (w next : ℕ) (g : Name) (ts : List Tree) (f : Found) (ch : Change) (o : Option Definition) → fork_by p w next g ts f o ≡ Some ch → KeepsContent f ch
-fork_by_keeps p w next g ts f ch None e = absurd cc
-fork_by_keeps p w next g ts f ch (Some d) e = keeps f _ no_boxes _ ch e
+fork_as_keeps : (p : Program) (w next : ℕ) (g : Name) (ts : List Tree) (cs : List Clause) (f : Found) (ch : Change) (o : Option Operator) → fork_as p w next g ts cs f o ≡ Some ch → KeepsContent f ch
+fork_as_keeps p w next g ts cs f ch None e = absurd cc
+fork_as_keeps p w next g ts cs f ch (Some o) e = keeps f _ no_boxes _ ch e
+
+fork_by_keeps : (p : Program) (w next : ℕ) (g : Name) (ts : List Tree) (r : Option Tree) (f : Found) (ch : Change) (o : Option Definition) → fork_by p w next g ts r f o ≡ Some ch → KeepsContent f ch
+fork_by_keeps p w next g ts r f ch None e = absurd cc
+fork_by_keeps p w next g ts r f ch (Some d) e = fork_as_keeps p w next g ts d.clauses f ch (operator_of d.op r) e
 
 fork_keeps : (p : Program) (w next : ℕ) (g : Name) (f : Found) (ch : Change) (h : Option Held) → fork p w next g f h ≡ Some ch → KeepsContent f ch
-fork_keeps p w next g f ch (Some (an_atom (Atom.call d ts))) e = fork_by_keeps p w next g ts f ch (slice_get p.definitions d) e
+fork_keeps p w next g f ch (Some (an_atom (Atom.call d ts r))) e = fork_by_keeps p w next g ts r f ch (slice_get p.definitions d) e
 fork_keeps p w next g f ch _ e = absurd cc
 
 cut_keeps : (g n : Name) (f : Found) (ch : Change) (h : Option Held) → cut g n f h ≡ Some ch → KeepsContent f ch
@@ -77,6 +83,7 @@ keeps_content p v w next Rule.Eval place a f ch x e = absurd x
 keeps_content p v w next Rule.Open place a f ch x e = absurd x
 keeps_content p v w next Rule.Send place a f ch x e = absurd x
 keeps_content p v w next Rule.Promote place a f ch x e = absurd x
+keeps_content p v w next Rule.Collect place a f ch x e = absurd x
 
 pub binds_none : (rules : List Rule) (p : Program) (q : Query) (journal : List Label) (c : Config) (l : Label) (d : Config) → Replays rules p q journal c → (a : Applies rules p c l d) → AddsNone l.rule
     → (x : Var) → Binds c d a.site.content.name x → ⊥

@@ -24,7 +24,7 @@ use Rattle.plan_laws.proofs.Right.{reads_map}
 use Rattle.plan_laws.proofs.StampLaws.{stamped_right}
 use Rattle.table_laws.specs.Rows.{BoxRow, GoalRow, Table, stores_along}
 use Rattle.table_laws.specs.Stamped.{Run, LastChange, IsStamped, IsTableOf, store_stamp, goals_stamp, goal_stamp, stamp_in}
-use Rattle.table_laws.specs.Steps.{Step, tells, forks, fails, cuts, promotes, refutes, confirms, splits, Makes, ReadsFor, IsSolvedIf, IsSolvedIn, IsSolvedWhen}
+use Rattle.table_laws.specs.Steps.{Step, tells, forks, fails, cuts, joins, refutes, confirms, splits, Makes, ReadsFor, IsSolvedIf, IsSolvedIn, IsSolvedWhen}
 use Rattle.table_laws.specs.Writes.{IsTable}
 use Rattle.table_laws.proofs.Later.{later_law}
 use Rattle.table_laws.specs.Laws.{started}
@@ -68,7 +68,7 @@ reads_for U V h l f refutes r = reads_map U V h l.rule l.place l.alternative f r
 reads_for U V h l f confirms r = reads_map U V h l.rule l.place l.alternative f r
 reads_for U V h l f (splits copy copies) r = reads_map U V h l.rule l.place l.alternative f r
 reads_for U V h l f cuts r = reads_map U V h l.rule l.place l.alternative f r
-reads_for U V h l f (promotes new solved goals) r = reads_map U V h l.rule l.place l.alternative f r
+reads_for U V h l f (joins new solved goals) r = reads_map U V h l.rule l.place l.alternative f r
 
 -- and of these what its label reads
 label_reads : (U : Item → Type 0) (l : Label) (f : Found) (step : Step) → ReadsFor U l f step → Reads U l.rule l.place l.alternative f
@@ -79,7 +79,7 @@ label_reads U l f refutes r = r
 label_reads U l f confirms r = r
 label_reads U l f (splits copy copies) r = r
 label_reads U l f cuts r = r
-label_reads U l f (promotes new solved goals) r = r
+label_reads U l f (joins new solved goals) r = r
 
 -- all that a plan's type keeps, over a program and a query
 pub record IsPlanned (p : Program) (q : Query) (journal : List Label) (T : Table) (l : Label) (reads : List Item) (names : ℕ) (step : Step) : Type 0 where
@@ -160,7 +160,7 @@ module _ (p : Program) (q : Query) (journal further : List Label) (S T : Table) 
 
       on : (made : Step) → GivesStore made → IsSolvedIn S x.applies.site made → IsSolvedIn T w.applies.site made
       on (tells new solved) g h = alone solved new h
-      on (promotes new solved goals) g h = alone solved new h
+      on (joins new solved goals) g h = alone solved new h
       on (forks op news) g h = absurd g
       on fails g h = absurd g
       on cuts g h = absurd g

@@ -13,7 +13,7 @@ use Rattle.akl_model.specs.Ordered.{IsIncreasing, BoxesOrdered}
 use Rattle.akl_model.proofs.OrdersKept.{instances_ordered}
 use Rattle.table_laws.specs.Rows.{Table}
 use Rattle.table_laws.specs.Stamped.{Run, IsTableOf}
-use Rattle.table_laws.specs.Steps.{NewBox, BoxCopy, Step, tells, forks, fails, cuts, promotes, refutes, confirms, splits, AreNewBoxes, Makes}
+use Rattle.table_laws.specs.Steps.{NewBox, BoxCopy, Step, tells, forks, fails, cuts, joins, refutes, confirms, splits, AreNewBoxes, Makes}
 use Rattle.table_laws.proofs.Copies.{IsAmong, goals_copied}
 use Rattle.table_laws.proofs.CopyOrder.{copies_increase}
 use Rattle.table_laws.proofs.Atoms.{atom_names}
@@ -45,5 +45,5 @@ makes_ordered rules r T l d t a cuts m = tt
 makes_ordered rules r T l d t a refutes m = tt
 makes_ordered rules r T l d t a confirms m = tt
 makes_ordered rules r T l d t a (splits copy copies) m = each_in_order copies (copies_increase rules r T l d t a copy copies m)
-makes_ordered rules r T l d t a (promotes new solved goals) m =
-    subst (λ (xs : List (Name × Atom)). IsIncreasing (map (λ (x : Name × Atom). x.0) xs)) (sym m.1.4.body) (numbered_increase l.worker (slice_index t.config.next l.worker) m.1.4.alternative.body)
+makes_ordered rules r T l d t a (joins new solved goals) m =
+    subst (λ (xs : List (Name × Atom)). IsIncreasing (map (λ (x : Name × Atom). x.0) xs)) (sym m.2.body) (numbered_increase l.worker (slice_index t.config.next l.worker) m.2.joined.body)

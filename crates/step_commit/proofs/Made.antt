@@ -52,7 +52,7 @@ fits : (rules : List Rule) (p : Program) (c : Config) (l : Label) (d : Config) (
 fits rules p c l d n a (laws.tells new solved) m = fits_goal l.place l.alternative m.0 (laws.tells new solved) m.1 tt
 fits rules p c l d n a (laws.forks op news) m = fits_goal l.place l.alternative m.1.0 (laws.forks op news) m.1.1 tt
 fits rules p c l d n a laws.cuts m = fits_alternative l.place l.alternative m.1.0 m.1.1 laws.cuts m.1.2 m.1.3 tt
-fits rules p c l d n a (laws.promotes new solved goals) m = fits_alternative l.place l.alternative m.1.0 m.1.1 (laws.promotes new solved goals) m.1.2 m.1.3 tt
+fits rules p c l d n a (laws.joins new solved goals) m = fits_goal l.place l.alternative m.0 (laws.joins new solved goals) m.1 tt
 fits rules p c l d n a laws.refutes m = fits_goal l.place l.alternative m.1.0 laws.refutes m.1.1 tt
 fits rules p c l d n a laws.confirms m = fits_goal l.place l.alternative m.1.0 laws.confirms m.1.1 tt
 fits rules p c l d n a (laws.splits copy copies) m = fits_box l.place l.alternative m.1.0 m.1.1 (laws.splits copy copies) m.1.2 m.1.3 tt

@@ -3,7 +3,7 @@ use Rattle.std.specs.Prelude.{◌≡◌, ℕ, Option, Some, None, length, ◌⊎
 use Rattle.akl_terms.specs.declared.name.Name.{Name}
 use Rattle.akl_terms.specs.declared.name.Place.{Place}
 use Rattle.table_laws.specs.Rows.{Table}
-use Rattle.table_laws.specs.Steps.{Step, tells, promotes}
+use Rattle.table_laws.specs.Steps.{Step, tells, joins}
 use Rattle.table_laws.specs.Writes.{home_in}
 use Rattle.box_tree.specs.Tables.{table_of, step_of}
 use Rattle.box_tree.specs.Paths.{outside_of}
@@ -13,7 +13,7 @@ use Rattle.step_commit.specs.Cores.{CoreValue}
 -- the step gives the box of its goal a store
 abbrev pub GivesStore : Step → Type 0
 GivesStore (tells new solved) = ⊤
-GivesStore (promotes new solved goals) = ⊤
+GivesStore (joins new solved goals) = ⊤
 GivesStore step = ⊥
 
 -- a goal stands in a root box

@@ -226,7 +226,7 @@ fn gives_root_store(table: &Table, plan: &Plan) -> bool
     ensures { result ≡ true → GivesRootStore (table_of table.now) plan.now.label.place (step_of table.now.program.templates.nodes plan.now.step) }
 {
     match plan.step() {
-        Step::Tell { .. } | Step::Promote { .. } => is_in_root(table, plan.label().place),
+        Step::Tell { .. } | Step::Join { .. } => is_in_root(table, plan.label().place),
         Step::Fork { .. }
         | Step::Fail
         | Step::Cut

@@ -2,7 +2,7 @@
 use Rattle.std.proofs.Common.{◌≡◌, ◌+◌, ◌≤◌, ◌<◌, List, Bool, true, false, Some, refl, sym, subst, ◌⊎◌, inl, inr, arith}
 use Rattle.std.specs.Prelude.{if◌then◌else◌}
 use Rattle.akl_terms.specs.declared.name.Name.{Name}
-use Rattle.akl_terms.specs.declared.program.Op.{Op}
+use Rattle.akl_model.specs.Config.{Operator}
 use Rattle.akl_terms.specs.Names.{same_name}
 use Rattle.akl_model.specs.Config.{Atom, Boxes, no_boxes, box, Goals, no_goals, atom, choice, Held, an_atom, a_choice, held_in}
 use Rattle.akl_model.specs.Conditions.{IsFailing, HasFailed}
@@ -21,7 +21,7 @@ pub failing_shape : (h k : Held) → shape_of h ≡ shape_of k → IsFailing h �
 failing_shape (an_atom a) (an_atom b) e x = let q : a ≡ b = cc in subst (λ (c : Atom). IsFailing (an_atom c)) q x
 failing_shape (an_atom a) (a_choice o bs) e x = cc
 failing_shape (a_choice o bs) (an_atom a) e x = cc
-failing_shape (a_choice o bs) (a_choice q cs) e x = let i : o ≡ q = cc in let n : box_names bs ≡ box_names cs = cc in subst (λ (r : Op). IsFailing (a_choice r cs)) i (named bs cs n x)
+failing_shape (a_choice o bs) (a_choice q cs) e x = let i : o ≡ q = cc in let n : box_names bs ≡ box_names cs = cc in subst (λ (r : Operator). IsFailing (a_choice r cs)) i (named bs cs n x)
   where
     named : (bs cs : Boxes) → box_names bs ≡ box_names cs → IsFailing (a_choice o bs) → IsFailing (a_choice o cs)
     named no_boxes no_boxes n x = x
@@ -70,10 +70,11 @@ failing_or (an_atom (Atom.equation s t)) = inr (λ x. x)
 failing_or (an_atom (Atom.arithmetic test l r)) = inr (λ x. x)
 failing_or (an_atom (Atom.open_port p s)) = inr (λ x. x)
 failing_or (an_atom (Atom.send m p)) = inr (λ x. x)
-failing_or (an_atom (Atom.call n ts)) = inr (λ x. x)
-failing_or (a_choice Op.Condition no_boxes) = inl tt
-failing_or (a_choice Op.Commit no_boxes) = inl tt
-failing_or (a_choice Op.Choice no_boxes) = inl tt
+failing_or (an_atom (Atom.call n ts r)) = inr (λ x. x)
+failing_or (a_choice Operator.condition no_boxes) = inl tt
+failing_or (a_choice Operator.commit no_boxes) = inl tt
+failing_or (a_choice Operator.nondeterminate no_boxes) = inl tt
+failing_or (a_choice (Operator.collecting r) no_boxes) = inr (λ x. x)
 failing_or (a_choice o (box b hs bs)) = inr (λ x. x)
 
 either : {A B : Type 0} → Either A → Either B → Either (A ⊎ B)

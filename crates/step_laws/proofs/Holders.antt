@@ -2,7 +2,7 @@
 use Rattle.std.proofs.Common.{◌≡◌, ◌+◌, ◌≤◌, ◌<◌, List, [], ◌∷◌, ◌++◌, Bool, true, false, Option, Some, None, refl, sym, ◌∙◌, ap, subst, ◌⊎◌, inl, inr, arith}
 use Rattle.std.specs.Prelude.{if◌then◌else◌, option_map, is_some}
 use Rattle.akl_terms.specs.declared.name.Name.{Name}
-use Rattle.akl_terms.specs.declared.program.Op.{Op}
+use Rattle.akl_model.specs.Config.{Operator}
 use Rattle.akl_terms.specs.Names.{same_name}
 use Rattle.akl_model.specs.Config.{IsIn, Content, Boxes, no_boxes, box, Goals, no_goals, atom, choice, Held, an_atom, a_choice, held_in, Found, environment, or_else, within, box_at, box_inside, when_held, home_of, home_inside}
 use Rattle.akl_model.specs.Renaming.{names_of}
@@ -31,7 +31,7 @@ names_less n no_boxes = omega arith
 names_less n (box b gs bs) = let e : times_in n (box_names bs) ≤ times n bs = names_less n bs in omega arith
 
 -- the boxes of a choice are counted in its home
-pub choice_less : (n g : Name) (o : Op) (bs : Boxes) (gs : Goals) → held_in g gs ≡ Some (a_choice o bs) → times n bs ≤ times_inside n gs
+pub choice_less : (n g : Name) (o : Operator) (bs : Boxes) (gs : Goals) → held_in g gs ≡ Some (a_choice o bs) → times n bs ≤ times_inside n gs
 choice_less n g o bs no_goals e = cc
 choice_less n g o bs (atom h a gs) e = on (same_name g h) e (λ q. choice_less n g o bs gs q)
   where
@@ -84,7 +84,7 @@ mutual
       on true r x y = cc
       on false r x y = both_none (holder_in n bs) (holder_inside n gs) x y
 
-held_holder : (n g : Name) (o : Op) (bs : Boxes) (gs : Goals) → times_inside n gs ≤ 1 → held_in g gs ≡ Some (a_choice o bs) → 1 ≤ times_in n (box_names bs) → holder_inside n gs ≡ Some g
+held_holder : (n g : Name) (o : Operator) (bs : Boxes) (gs : Goals) → times_inside n gs ≤ 1 → held_in g gs ≡ Some (a_choice o bs) → 1 ≤ times_in n (box_names bs) → holder_inside n gs ≡ Some g
 held_holder n g o bs no_goals k e l = cc
 held_holder n g o bs (atom h a gs) k e l = on (same_name g h) e (λ q. held_holder n g o bs gs (omega arith) q l)
   where
@@ -111,7 +111,7 @@ held_holder n g o bs (choice h p cs gs) k e l = on (same_name g h) refl e (λ q.
         passed (is_some (box_among n cs)) (among_none n cs z) (holder-none n cs z) (x q)
 
 mutual
-  pub holder_found : (n g : Name) (o : Op) (alts : Boxes) (bs : Boxes) (f : Found) → times n bs ≤ 1 → home_of g bs ≡ Some f → held_in g f.goals ≡ Some (a_choice o alts) → 1 ≤ times_in n (box_names alts) → (holder_in n bs ≡ Some g) × (times_in n (box_names bs) + 1 ≤ times n bs)
+  pub holder_found : (n g : Name) (o : Operator) (alts : Boxes) (bs : Boxes) (f : Found) → times n bs ≤ 1 → home_of g bs ≡ Some f → held_in g f.goals ≡ Some (a_choice o alts) → 1 ≤ times_in n (box_names alts) → (holder_in n bs ≡ Some g) × (times_in n (box_names bs) + 1 ≤ times n bs)
   holder_found n g o alts no_boxes f k e i l = cc
   holder_found n g o alts (box b gs bs) f k e i l = on (or_some (when_held (held_in g gs) (record { around = []; content = b; goals = gs })) (or_else (option_map (within b) (home_inside g gs)) (home_of g bs)) f e)
       (λ j q r. holder_found_inside n g o alts gs j (omega arith) q r l) (λ q. holder_found n g o alts bs f (omega arith) q i l)
@@ -138,7 +138,7 @@ mutual
             (right_some (holder_inside n gs) (holder_in n bs) g (holder_inside-none n gs (omega (arith, k, t))) r.0, omega (arith, t))
       ]
 
-  holder_found_inside : (n g : Name) (o : Op) (alts : Boxes) (gs : Goals) (f : Found) → times_inside n gs ≤ 1 → home_inside g gs ≡ Some f → held_in g f.goals ≡ Some (a_choice o alts) → 1 ≤ times_in n (box_names alts)
+  holder_found_inside : (n g : Name) (o : Operator) (alts : Boxes) (gs : Goals) (f : Found) → times_inside n gs ≤ 1 → home_inside g gs ≡ Some f → held_in g f.goals ≡ Some (a_choice o alts) → 1 ≤ times_in n (box_names alts)
       → (holder_inside n gs ≡ Some g) × (1 ≤ times_inside n gs)
   holder_found_inside n g o alts no_goals f k e i l = cc
   holder_found_inside n g o alts (atom h a gs) f k e i l = let r : (holder_inside n gs ≡ Some g) × (1 ≤ times_inside n gs) = holder_found_inside n g o alts gs f (omega arith) e i l in (r.0, let t : 1 ≤ times_inside n gs = r.1 in omega (arith, t))
@@ -223,7 +223,7 @@ unheld k hs (box b gs bs) o (inr (inr x)) =
 
 module _ (roots : Boxes) (once : (m : Name) → times m roots ≤ 1) where
   -- a box whose name is among a choice's alternatives
-  pub alternative_at : (n g : Name) (e : Found) (o : Op) (bs : Boxes) → home_of g roots ≡ Some e → held_in g e.goals ≡ Some (a_choice o bs) → IsIn n (box_names bs) → IsAlternativeAt n g e roots
+  pub alternative_at : (n g : Name) (e : Found) (o : Operator) (bs : Boxes) → home_of g roots ≡ Some e → held_in g e.goals ≡ Some (a_choice o bs) → IsIn n (box_names bs) → IsAlternativeAt n g e roots
   alternative_at n g e o bs h i m =
       let w : (k : Content) × (hs : Goals) × (n ≡ k.name) × BoxIn [] k hs bs = named_in n bs m in
       let x : BoxIn (e.around ++ e.content ∷ []) w.0 w.1 roots = in_deeper e.around e.content e.goals [] w.0 w.1 roots (home_in g roots e h).0 (held_inside g o bs [] w.0 w.1 e.goals i w.3) in

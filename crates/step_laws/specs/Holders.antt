@@ -1,7 +1,7 @@
 -- The boxes around a box go by the choice that holds it.
 use Rattle.std.specs.Prelude.{◌≡◌, ◌≤◌, [], ◌∷◌, ◌++◌, Some, None}
 use Rattle.akl_terms.specs.declared.name.Name.{Name}
-use Rattle.akl_terms.specs.declared.program.Op.{Op}
+use Rattle.akl_model.specs.Config.{Operator}
 use Rattle.akl_model.specs.Config.{IsIn, Boxes, a_choice, held_in, Found, environment, whole, box_at, home_of}
 use Rattle.akl_model.specs.Renaming.{names_of}
 use Rattle.akl_model.specs.Names.{times_in}
@@ -15,7 +15,7 @@ NamesOnce roots = (m : Name) → times_in m (names_of roots) ≤ 1
 -- the choice stands in its home, the box n is one of its alternatives, and around it are the home and the boxes around the home
 pub record IsHeldBy (n g : Name) (f : Found) (roots : Boxes) : Type 0 where
   pub home : Found
-  pub op : Op
+  pub op : Operator
   pub alternatives : Boxes
   pub is_home : home_of g roots ≡ Some home
   pub held : held_in g home.goals ≡ Some (a_choice op alternatives)
@@ -44,7 +44,7 @@ HeldLaw = (roots : Boxes) → NamesOnce roots → (n : Name) (f : Found) → box
 
 -- a choice holds each box that is named among its alternatives
 abbrev pub AlternativeLaw : Type 0
-AlternativeLaw = (roots : Boxes) → NamesOnce roots → (n g : Name) (home : Found) (op : Op) (alternatives : Boxes) → home_of g roots ≡ Some home
+AlternativeLaw = (roots : Boxes) → NamesOnce roots → (n g : Name) (home : Found) (op : Operator) (alternatives : Boxes) → home_of g roots ≡ Some home
     → held_in g home.goals ≡ Some (a_choice op alternatives) → IsIn n (box_names alternatives) → IsAlternativeAt n g home roots
 
 -- a root box's name is one that is found with no boxes around it

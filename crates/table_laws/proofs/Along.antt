@@ -3,7 +3,7 @@ use Rattle.std.proofs.Common.{◌≡◌, ℕ, ◌+◌, ◌≤◌, List, [], ◌�
 use Rattle.std.specs.Prelude.{if◌then◌else◌, slice_index}
 use Rattle.std.proofs.lemmas.List.{append_cancel_left}
 use Rattle.akl_terms.specs.declared.name.Name.{Name}
-use Rattle.akl_terms.specs.declared.program.Op.{Op}
+use Rattle.akl_model.specs.Config.{Operator}
 use Rattle.akl_terms.specs.declared.program.Program.{Program}
 use Rattle.akl_terms.specs.declared.program.Query.{Query}
 use Rattle.akl_terms.specs.Names.{same_name}
@@ -45,7 +45,7 @@ root_path n no_boxes i = absurd i
 root_path n (box b gs bs) (inl e) = inl (e, refl)
 root_path n (box b gs bs) (inr i) = inr (inr (root_path n bs i))
 
-held_path : (n g : Name) (o : Op) (alternatives : Boxes) (gs : Goals) → held_in g gs ≡ Some (a_choice o alternatives) → IsIn n (box_names alternatives) → StandsInside n (g ∷ []) gs
+held_path : (n g : Name) (o : Operator) (alternatives : Boxes) (gs : Goals) → held_in g gs ≡ Some (a_choice o alternatives) → IsIn n (box_names alternatives) → StandsInside n (g ∷ []) gs
 held_path n g o alternatives no_goals e i = cc
 held_path n g o alternatives (atom h a gs) e i = on (same_name g h) e (λ q. held_path n g o alternatives gs q i)
   where
@@ -66,7 +66,7 @@ EndsIn n g bs = (path : List Name) × StandsAt n (path ++ g ∷ []) bs
 abbrev EndsInside : Name → Name → Goals → Type 0
 EndsInside n g gs = (path : List Name) × StandsInside n (path ++ g ∷ []) gs
 
-module _ (n g : Name) (o : Op) (alternatives : Boxes) (i : IsIn n (box_names alternatives)) where
+module _ (n g : Name) (o : Operator) (alternatives : Boxes) (i : IsIn n (box_names alternatives)) where
   mutual
     ends_in : (r : List Content) (k : Content) (hs : Goals) (bs : Boxes) → BoxIn r k hs bs → held_in g hs ≡ Some (a_choice o alternatives) → EndsIn n g bs
     ends_in r k hs no_boxes x e = absurd x

@@ -100,7 +100,7 @@ not_first g (Atom.equation s t) o = inr (refl, λ x. x)
 not_first g (Atom.arithmetic test l r) o = inr (refl, λ x. x)
 not_first g (Atom.open_port p s) o = inr (refl, λ x. x)
 not_first g (Atom.send m p) o = inr (refl, λ x. x)
-not_first g (Atom.call d ts) o = inr (refl, λ x. x)
+not_first g (Atom.call d ts r) o = inr (refl, λ x. x)
 not_first g Atom.fail o = inl refl
 
 pub atoms_failing : (xs : List (Name × Atom)) (gs : Goals) → AreAtoms xs gs → ((g : Name) → times_inside g gs ≤ 1) → FailsBy gs (first_fail xs)

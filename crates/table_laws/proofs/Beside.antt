@@ -108,7 +108,7 @@ module _ (rules : List Rule) (p : Program) (q : Query) (journal : List Label) (c
 
       on : Moved l.worker (slice_index c.next l.worker) m.site m.change e f → FailsBy f.goals o
       on (aside x) = subst (λ (gs : Goals). FailsBy gs o) (sym x.goals)
-          (fails_by_kept n new e.goals o (λ g. subst (λ (gs : Goals). times_inside g gs ≤ 1) x.goals (once g)) (λ g v bs z empty. never_empty bs empty) fails)
+          (fails_by_kept n new e.goals o (λ g. subst (λ (gs : Goals). times_inside g gs ≤ 1) x.goals (once g)) (λ g v bs z u empty. never_empty bs empty) fails)
       on (at_site b x y) =
           let z : same_name n k ≡ true = subst (λ (v : Name). same_name n v ≡ true) (sym (box-itself k c.roots e i ∙ ap (λ (v : Found). v.content.name) x)) (same_name-refl n) in
           absurd (not_true z apart)

@@ -14,7 +14,7 @@ use Rattle.akl_terms.proofs.StandingLaws.{StandFor-back, StandFor-on}
 use Rattle.akl_model.specs.declared.label.Rule.{Rule}
 use Rattle.akl_model.specs.declared.label.Label.{Label}
 use Rattle.akl_model.specs.Config.{IsIn, Content, Boxes, Goals, no_goals, atom, choice, Config, Held, a_choice, held_in, Found, equations_of, environment, whole, box_at, site_of}
-use Rattle.akl_model.specs.Renaming.{port_names, names_of, sorted_names, renaming, renamed_atom, renamed_equation, renamed_port, renamed_shown, renamed, renamed_goals}
+use Rattle.akl_model.specs.Renaming.{port_names, names_of, sorted_names, renaming, renamed_tree, renamed_atom, renamed_operator, renamed_equation, renamed_port, renamed_shown, renamed, renamed_goals}
 use Rattle.akl_model.specs.Rules.{Change, alone, others, ChoiceIn, choice_with, with_alternatives, second_copy, first_of}
 use Rattle.akl_model.specs.Stable.{only, first_solved, IsStable, IsSplitPoint}
 use Rattle.akl_model.specs.Scopes.{Scope, nowhere, scope_in, EquationsScoped}
@@ -55,7 +55,7 @@ use Rattle.table_laws.proofs.Copies.{home_counted}
 use Rattle.table_laws.proofs.Sorted.{IsOwn, sorted_by}
 use Rattle.table_laws.proofs.Renamed.{equations_append, equations_twice, stands_renamed}
 use Rattle.table_laws.proofs.RenamedBoxes.{names_renamed, renamed_found, environment_renamed, found_renamed, found_was, holder_renamed}
-use Rattle.table_laws.proofs.Swapping.{IsBelow, swap_renames, swap_other, swap_twice, equations_alike, atom_alike, atoms_alike, ports_alike, shown_alike, names_alike, equations_itself, frames_stand, ports_stand}
+use Rattle.table_laws.proofs.Swapping.{IsBelow, swap_renames, swap_other, swap_twice, equations_alike, atom_alike, atoms_alike, ports_alike, shown_alike, if_alike, operator_alike, names_alike, equations_itself, frames_stand, ports_stand}
 use Rattle.table_laws.proofs.RestBoxes.{others_names, less_among, EachGoal, each_goal, less_goals, less_goal_names}
 use Rattle.table_laws.proofs.RestBoxes as rests
 use Rattle.table_laws.proofs.Splitting.{split_choice}
@@ -84,7 +84,7 @@ goals_of_rows T al f (atom g x gs) each = ap (λ (o : Option GoalRow). copied_go
     ∙ (λ i. (f g, copied_shape al f (each.0.2 i)) ∷ goals_of_rows T al f gs each.1 i)
 goals_of_rows T al f (choice g o bs gs) each = ap (λ (v : Option GoalRow). copied_goal al f g v ++ copied_goals T al f (goal_names gs)) each.0.1
     ∙ (λ i. (f g, copied_shape al f (each.0.2 i)) ∷ goals_of_rows T al f gs each.1 i)
-    ∙ ap (λ (ns : List Name). (f g, of_choice o ns) ∷ shapes_in (renamed_goals f (less_goals al gs))) (sym (names_renamed f (others al bs) ∙ ap (map f) (others_names al bs)))
+    ∙ ap (λ (ns : List Name). (f g, of_choice (renamed_operator f o) ns) ∷ shapes_in (renamed_goals f (less_goals al gs))) (sym (names_renamed f (others al bs) ∙ ap (map f) (others_names al bs)))
 
 goals_alike : (f h : Name → Name) (s : Scope) → ((n : Name) → IsIn n s.frames → f n ≡ h n) → ((n : Name) → IsIn n s.ports → f n ≡ h n) → (al : Name) (gs : Goals) → GoalsOwned s gs
     → ((n : Name) → 0 < times_inside n gs → f n ≡ h n) → shapes_in (renamed_goals f (less_goals al gs)) ≡ shapes_in (renamed_goals h (less_goals al gs))
@@ -99,7 +99,7 @@ goals_alike f h s frames ports al (choice g o bs gs) owned same =
     let a : 0 < times_in n (box_names bs) = counted_in n (box_names bs) (less_among al n (box_names bs) (subst (IsIn n) (others_names al bs) i)) in
     let b : times_in n (box_names bs) ≤ times n bs = names_less n bs in
     omega arith)) ∙ sym (names_renamed h (others al bs)) in
-    λ i. (e i, of_choice o (names i)) ∷ goals_alike f h s frames ports al gs owned.1 (λ n k. same n (omega arith)) i
+    λ i. (e i, of_choice (operator_alike f h s frames ports o owned.2 i) (names i)) ∷ goals_alike f h s frames ports al gs owned.1 (λ n k. same n (omega arith)) i
 
 -- a stable box that may be split at an alternative of a choice, however many names that would draw
 module _ (rules : List Rule) (r : Run) (T : Table) (t : IsTableOf rules r T) (worker : ℕ) (n al : Name) (site : Found) (choice : ChoiceIn) (is_site : box_at n t.config.roots ≡ Some site)
@@ -345,6 +345,8 @@ module _ (rules : List Rule) (r : Run) (T : Table) (t : IsTableOf rules r T) (wo
           ∙ ap (λ (b : Content). map (renamed_atom to) b.body) x.content;
       shown = made.shown ∙ ap (map (renamed_shown swap)) (is_row row j).shown ∙ sym (shown_alike to swap own_scope own_frames own_ports x.whole_box.content.shown own_content.shown)
           ∙ ap (λ (b : Content). map (renamed_shown to) b.shown) x.content;
+      collected = made.collected ∙ ap (option_map (renamed_tree swap)) (is_row row j).collected ∙ sym (if_alike to swap own_scope own_frames own_ports x.whole_box.content.collected own_content.collected)
+          ∙ ap (λ (b : Content). option_map (renamed_tree to) b.collected) x.content;
     }
 
     -- by rows the split copies it

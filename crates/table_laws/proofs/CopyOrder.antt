@@ -3,7 +3,7 @@ use Rattle.std.proofs.Common.{◌≡◌, List, [], ◌∷◌, ◌++◌, ◌≤�
 use Rattle.std.specs.Prelude.{slice_index}
 use Rattle.akl_terms.specs.declared.name.Name.{Name}
 use Rattle.akl_terms.specs.declared.name.Place.{Place}
-use Rattle.akl_terms.specs.declared.program.Op.{Op}
+use Rattle.akl_model.specs.Config.{Operator}
 use Rattle.akl_model.specs.declared.label.Label.{Label}
 use Rattle.akl_model.specs.declared.label.Rule.{Rule}
 use Rattle.akl_model.specs.Config.{Content, Boxes, no_boxes, box, Goals, no_goals, atom, choice, Config, Found, environment, box_at}
@@ -54,10 +54,10 @@ copies_increase rules r T l d t a copy copies makes k i = by makes.1.0 makes.1.1
     by : (n al : Name) → l.rule ≡ Rule.Split → l.place ≡ Place.Box n → l.alternative ≡ Some al → SplitsBox r.program.templates.nodes l.worker (slice_index t.config.next l.worker) a.site al copy copies
         → IsIncreasing (goals_copied k)
     by n al rule place names made = subst IsIncreasing (sym (goals_are r.program.templates.nodes (environment a.site) (second_of l.worker (slice_index t.config.next l.worker) al a.site made.choice) few copies made.copied w.0 k w.2))
-        (names_increase w.0.goals (in_ordered (a.site.around ++ w.0.around) w.0.content w.0.goals d.roots ordered (cutting.copy_stands rules r.program r.query r.journal t.config l d t.replays a made.choice.name al made.choice.op Op.Commit made.choice.alternatives (second_of l.worker (slice_index t.config.next l.worker) al a.site made.choice) (splitting.at_choice r.program (slice_index t.config.next l.worker) l a.site a.change a.makes n al made.choice rule place names made.is_choice) (splitting.choice_held r.program (slice_index t.config.next l.worker) l a.site a.change a.makes n al made.choice rule place names made.is_choice (site_once rules r.program t.config l d (replay-stands rules r.program r.query r.journal t.config t.replays) a)) (splitting.boxes_are r.program (slice_index t.config.next l.worker) l a.site a.change a.makes n al made.choice rule place names made.is_choice) w.0.around w.0.content w.0.goals (found_in k.name (second_of l.worker (slice_index t.config.next l.worker) al a.site made.choice) w.0 w.1))))
+        (names_increase w.0.goals (in_ordered (a.site.around ++ w.0.around) w.0.content w.0.goals d.roots ordered (cutting.copy_stands rules r.program r.query r.journal t.config l d t.replays a made.choice.name al made.choice.op Operator.commit made.choice.alternatives (second_of l.worker (slice_index t.config.next l.worker) al a.site made.choice) (splitting.at_choice r.program (slice_index t.config.next l.worker) l a.site a.change a.makes n al made.choice rule place names made.is_choice) (splitting.choice_held r.program (slice_index t.config.next l.worker) l a.site a.change a.makes n al made.choice rule place names made.is_choice (site_once rules r.program t.config l d (replay-stands rules r.program r.query r.journal t.config t.replays) a)) (splitting.boxes_are r.program (slice_index t.config.next l.worker) l a.site a.change a.makes n al made.choice rule place names made.is_choice) w.0.around w.0.content w.0.goals (found_in k.name (second_of l.worker (slice_index t.config.next l.worker) al a.site made.choice) w.0 w.1))))
       where
         few : (m : Name) → times m (second_of l.worker (slice_index t.config.next l.worker) al a.site made.choice) ≤ 1
-        few = cutting.copy_once rules r.program r.query r.journal t.config l d t.replays a made.choice.name al made.choice.op Op.Commit made.choice.alternatives (second_of l.worker (slice_index t.config.next l.worker) al a.site made.choice) (splitting.at_choice r.program (slice_index t.config.next l.worker) l a.site a.change a.makes n al made.choice rule place names made.is_choice) (splitting.choice_held r.program (slice_index t.config.next l.worker) l a.site a.change a.makes n al made.choice rule place names made.is_choice (site_once rules r.program t.config l d (replay-stands rules r.program r.query r.journal t.config t.replays) a)) (splitting.boxes_are r.program (slice_index t.config.next l.worker) l a.site a.change a.makes n al made.choice rule place names made.is_choice)
+        few = cutting.copy_once rules r.program r.query r.journal t.config l d t.replays a made.choice.name al made.choice.op Operator.commit made.choice.alternatives (second_of l.worker (slice_index t.config.next l.worker) al a.site made.choice) (splitting.at_choice r.program (slice_index t.config.next l.worker) l a.site a.change a.makes n al made.choice rule place names made.is_choice) (splitting.choice_held r.program (slice_index t.config.next l.worker) l a.site a.change a.makes n al made.choice rule place names made.is_choice (site_once rules r.program t.config l d (replay-stands rules r.program r.query r.journal t.config t.replays) a)) (splitting.boxes_are r.program (slice_index t.config.next l.worker) l a.site a.change a.makes n al made.choice rule place names made.is_choice)
 
         w : (f : Found) × (box_at k.name (second_of l.worker (slice_index t.config.next l.worker) al a.site made.choice) ≡ Some f)
             × IsCopy r.program.templates.nodes (environment a.site) (second_of l.worker (slice_index t.config.next l.worker) al a.site made.choice) f k

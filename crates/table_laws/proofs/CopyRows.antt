@@ -135,4 +135,5 @@ module _ (nodes : List Node) (A : List Content) (bs : Boxes) (once : (m : Name) 
     failing = unfailed;
     body = is.body;
     shown = is.shown;
+    collected = is.collected;
   }

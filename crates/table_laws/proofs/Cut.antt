@@ -3,7 +3,7 @@ use Rattle.std.proofs.Common.{◌≡◌, ℕ, ◌+◌, ◌≤◌, List, Bool, tr
 use Rattle.std.specs.Prelude.{option_map, option_and_then, slice_index}
 use Rattle.akl_terms.specs.declared.name.Name.{Name}
 use Rattle.akl_terms.specs.declared.name.Place.{Place}
-use Rattle.akl_terms.specs.declared.program.Op.{Op}
+use Rattle.akl_model.specs.Config.{Operator}
 use Rattle.akl_terms.specs.declared.program.Program.{Program}
 use Rattle.akl_terms.specs.Names.{same_name}
 use Rattle.akl_terms.proofs.SameNames.{same_name-equal, same_name-refl}
@@ -40,7 +40,7 @@ use Rattle.table_laws.proofs.Going.{AreGoing}
 use Rattle.table_laws.proofs.CutAway as away
 
 -- the change of a cut
-cut_change : (p : Program) (v : Reading) (w next : ℕ) (r : Rule) (place : Place) (alternative : Option Name) (g n : Name) (f : Found) (c : Change) (o : Op) (bs : Boxes) → r ≡ Rule.Cut → place ≡ Place.Goal g
+cut_change : (p : Program) (v : Reading) (w next : ℕ) (r : Rule) (place : Place) (alternative : Option Name) (g n : Name) (f : Found) (c : Change) (o : Operator) (bs : Boxes) → r ≡ Rule.Cut → place ≡ Place.Goal g
     → alternative ≡ Some n → change_by p v w next r place alternative f ≡ Some c → held_in g f.goals ≡ Some (a_choice o bs) → c ≡ becomes f.content (with_content g (a_choice o (kept_by o n bs)) f.goals) 0
 cut_change p v w next r place alternative g n f c o bs q e x h held = sym (some_value (subst (λ (k : Option Held). cut g n f k ≡ Some c) held made))
   where
@@ -49,7 +49,7 @@ cut_change p v w next r place alternative g n f c o bs q e x h held = sym (some_
 
 module _ (rules : List Rule) (r : Run) (T : Table) (l : Label) (d : Config) (t : IsTableOf rules r T) (a : Applies rules r.program t.config l d) (g n : Name) (rule : l.rule ≡ Rule.Cut) (place : l.place ≡ Place.Goal g)
     (names : l.alternative ≡ Some n) (made : CutsGoal a.site g n) where
-  abbrev o : Op
+  abbrev o : Operator
   o = made.operator
 
   abbrev bs : Boxes

@@ -1,7 +1,7 @@
 -- What goes by a table's rows where a choice has lost alternatives.
 use Rattle.std.proofs.Common.{◌≡◌, List, Some, None, sym, subst, inl, inr}
 use Rattle.akl_terms.specs.declared.name.Name.{Name}
-use Rattle.akl_terms.specs.declared.program.Op.{Op}
+use Rattle.akl_model.specs.Config.{Operator}
 use Rattle.akl_terms.specs.declared.program.Program.{Program}
 use Rattle.akl_terms.specs.declared.program.Query.{Query}
 use Rattle.akl_model.specs.declared.label.Rule.{Rule}
@@ -21,7 +21,7 @@ use Rattle.table_laws.proofs.Insides.{inside, not_inside, not_inside_none, goal_
 use Rattle.table_laws.proofs.Going.{GoesIf, AreGoing}
 use Rattle.table_laws.proofs.Cutting as cutting
 
-module _ (rules : List Rule) (p : Program) (q : Query) (journal : List Label) (c : Config) (l : Label) (d : Config) (replays : Replays rules p q journal c) (m : Applies rules p c l d) (g n : Name) (v o : Op)
+module _ (rules : List Rule) (p : Program) (q : Query) (journal : List Label) (c : Config) (l : Label) (d : Config) (replays : Replays rules p q journal c) (m : Applies rules p c l d) (g n : Name) (v o : Operator)
     (bs copy : Boxes) (at_goal : goal_of l.place l.alternative m.site ≡ Some g) (held : held_in g m.site.goals ≡ Some (a_choice v bs))
     (is_change : m.change.boxes ≡ box m.site.content (with_content g (a_choice v (kept_by o n bs)) m.site.goals) copy)
     (T : Table) (u : Unfolds T c) (names : List Name) (are_cut : names ≡ names_cut o n (box_names bs)) where

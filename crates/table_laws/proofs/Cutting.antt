@@ -2,7 +2,7 @@
 use Rattle.std.proofs.Common.{◌≡◌, ◌≤◌, List, [], ◌∷◌, ◌++◌, map, Bool, true, false, Some, None, refl, sym, ◌∙◌, ap, subst, ◌⊎◌, inl, inr, arith}
 use Rattle.std.specs.Prelude.{slice_index}
 use Rattle.akl_terms.specs.declared.name.Name.{Name}
-use Rattle.akl_terms.specs.declared.program.Op.{Op}
+use Rattle.akl_model.specs.Config.{Operator}
 use Rattle.akl_terms.specs.declared.program.Program.{Program}
 use Rattle.akl_terms.specs.declared.program.Query.{Query}
 use Rattle.akl_terms.specs.Names.{same_name}
@@ -44,7 +44,7 @@ use Rattle.table_laws.proofs.Fresh.{drawn_nowhere}
 use Rattle.table_laws.proofs.Forking.{same_goal_names}
 use Rattle.table_laws.proofs.Kept.{cut_named, kept_apart, kept_names, IsUnderOne, kept_inside}
 
-module _ (rules : List Rule) (p : Program) (q : Query) (journal : List Label) (c : Config) (l : Label) (d : Config) (replays : Replays rules p q journal c) (m : Applies rules p c l d) (g n : Name) (v o : Op)
+module _ (rules : List Rule) (p : Program) (q : Query) (journal : List Label) (c : Config) (l : Label) (d : Config) (replays : Replays rules p q journal c) (m : Applies rules p c l d) (g n : Name) (v o : Operator)
     (bs copy : Boxes) (at_goal : goal_of l.place l.alternative m.site ≡ Some g) (held : held_in g m.site.goals ≡ Some (a_choice v bs))
     (is_change : m.change.boxes ≡ box m.site.content (with_content g (a_choice v (kept_by o n bs)) m.site.goals) copy) where
   s : Stand c
@@ -310,7 +310,7 @@ module _ (rules : List Rule) (p : Program) (q : Query) (journal : List Label) (c
   -- another goal that stays, and doesn't hold the box where that becomes two, isn't changed
 
   abbrev Unheld : Name → Type 0
-  Unheld i = (e : Found) (w : Op) (cs : Boxes) → IsReplaced m → home_of i c.roots ≡ Some e → held_in i e.goals ≡ Some (a_choice w cs) → IsIn m.site.content.name (box_names cs) → ⊥
+  Unheld i = (e : Found) (w : Operator) (cs : Boxes) → IsReplaced m → home_of i c.roots ≡ Some e → held_in i e.goals ≡ Some (a_choice w cs) → IsIn m.site.content.name (box_names cs) → ⊥
 
   same_goal : (item : Item) (i : Name) (e f : Found) → item ≡ Item.Goal i → same_name i g ≡ false → Unheld i → home_of i c.roots ≡ Some e → home_of i d.roots ≡ Some f → MayChange m item → ⊥
   same_goal item i e f z other h x y (store) = cc

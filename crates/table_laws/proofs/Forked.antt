@@ -4,7 +4,7 @@ use Rattle.std.specs.Prelude.{if◌then◌else◌, option_map, option_and_then, 
 use Rattle.akl_terms.specs.declared.name.Name.{Name}
 use Rattle.akl_terms.specs.declared.name.Place.{Place}
 use Rattle.akl_terms.specs.declared.term.Node.{Node}
-use Rattle.akl_terms.specs.declared.program.Op.{Op}
+use Rattle.akl_model.specs.Config.{Operator}
 use Rattle.akl_terms.specs.Equal.{Equations}
 use Rattle.akl_terms.specs.Names.{same_name}
 use Rattle.akl_terms.proofs.SameNames.{same_name-equal, same_name-refl}
@@ -36,7 +36,7 @@ use Rattle.table_laws.specs.Rows.{BoxRow, GoalRow, Table, store_in, stores_along
 use Rattle.table_laws.specs.Unfolds.{FailsBy, IsBoxRow, Spot, spot_in, spot_of}
 use Rattle.table_laws.specs.Stamped.{Run, followed_by, IsTableOf}
 use Rattle.table_laws.specs.Steps.{NewBox, forks, IsNewBox, AreNewBoxes, ForksGoal, IsSolvedIf, IsSolvedWhen, Makes}
-use Rattle.table_laws.specs.Writes.{IsTable, set, solved_when, home_in, changed_box, new_row, new_box_of, new_goal_of, forked_row, failing_by, after_fork, Leads}
+use Rattle.table_laws.specs.Writes.{IsTable, set, solved_when, home_in, changed_box, new_row, new_box_of, new_goal_of, forked_row, failing_by, fails_empty, after_fork, Leads}
 use Rattle.table_laws.proofs.Stores.{IsAsTold, same_stores}
 use Rattle.table_laws.proofs.Frame.{row_of, neither, KeepsRows, KeepsBoxes, site_around}
 use Rattle.table_laws.proofs.Onward.{GoalGoes, LeadsOn, site_same, fails_as}
@@ -45,7 +45,7 @@ use Rattle.table_laws.proofs.Fresh.{drawn_nowhere}
 use Rattle.table_laws.proofs.NewRows.{new_box_names, only_alternatives, shows_none, EachNew, IsOfNew, new_box_or, new_goal_or, IsSolvedNew, new_is_row}
 use Rattle.table_laws.proofs.Forking as forking
 use Rattle.table_laws.proofs.Along as along
-use Rattle.table_laws.proofs.Gone.{empty_fails}
+use Rattle.table_laws.proofs.Gone.{empty_or, empty_fails}
 use Rattle.table_laws.proofs.Sets.{turned}
 
 -- next numbers that read the same are raised alike
@@ -68,22 +68,22 @@ raised_same (suc w) k (suc v) (x ∷ xs) [] h = raised_same w k v xs [] (λ i. h
 raised_same (suc w) k (suc v) (x ∷ xs) (y ∷ ys) h = raised_same w k v xs ys (λ i. h (suc i))
 
 -- by what the box fails afterwards
-abbrev failing_of : Name → List NewBox → BoxRow → Option Name
-failing_of g [] r = Some g
-failing_of g (n ∷ ns) r = r.failing
+abbrev failing_of : Name → Operator → List NewBox → BoxRow → Option Name
+failing_of g op [] r = if fails_empty op then Some g else r.failing
+failing_of g op (n ∷ ns) r = r.failing
 
-failing_is : (g : Name) (news : List NewBox) (r : BoxRow) → failing_by g news r ≡ record r { failing = failing_of g news r }
-failing_is g [] r = refl
-failing_is g (n ∷ ns) r = refl
+failing_is : (g : Name) (op : Operator) (news : List NewBox) (r : BoxRow) → failing_by g op news r ≡ record r { failing = failing_of g op news r }
+failing_is g op [] r = on (fails_empty op)
+  where
+    on : (t : Bool) → (if t then record r { failing = Some g } else r) ≡ record r { failing = if t then Some g else r.failing }
+    on true = refl
+    on false = refl
+failing_is g op (n ∷ ns) r = refl
 
--- a call has become a choice of the new boxes
-choice_fails : (nodes : List Node) (E : Equations) (g : Name) (op : Op) (news : List NewBox) (bs : Boxes) (a : Atom) (gs hs : Goals) (r : BoxRow) → AreNewBoxes nodes E news bs
-    → ((i : Name) → times_inside i hs ≤ 1) → held_in g gs ≡ Some (an_atom a) → (IsFailing (an_atom a) → ⊥) → held_in g hs ≡ Some (a_choice op bs) → ((i : Name) → same_name i g ≡ false → held_in i hs ≡ held_in i gs)
-    → FailsBy gs r.failing → FailsBy hs (failing_of g news r)
-choice_fails nodes E g op [] no_boxes a gs hs r new once was call held others fails = (a_choice op no_boxes, held, empty_fails op)
-choice_fails nodes E g op [] (box b is bs) a gs hs r new once was call held others fails = absurd new
-choice_fails nodes E g op (n ∷ ns) no_boxes a gs hs r new once was call held others fails = absurd new
-choice_fails nodes E g op (n ∷ ns) (box b is bs) a gs hs r new once was call held others fails = by r.failing fails
+-- an atom that doesn't fail has become what doesn't fail
+other_fails : (g : Name) (now : Held) (a : Atom) (gs hs : Goals) (r : BoxRow) → ((i : Name) → times_inside i hs ≤ 1) → held_in g gs ≡ Some (an_atom a) → (IsFailing (an_atom a) → ⊥) → held_in g hs ≡ Some now
+    → ((i : Name) → same_name i g ≡ false → held_in i hs ≡ held_in i gs) → (IsFailing now → ⊥) → FailsBy gs r.failing → FailsBy hs r.failing
+other_fails g now a gs hs r once was call held others unfailing fails = by r.failing fails
   where
     name_is : (i : Name) → (i ≡ g) ⊎ (same_name i g ≡ false)
     name_is i = on (same_name i g) refl
@@ -97,8 +97,8 @@ choice_fails nodes E g op (n ∷ ns) (box b is bs) a gs hs r new once was call h
         let w : (i : Name) × (h : Held) × (held_in i hs ≡ Some h) × IsFailing h = failed_goal hs once x in
         elim (name_is w.0) [
           | inl e ↦
-              let h : w.1 ≡ a_choice op (box b is bs) = some_value (sym w.2 ∙ ap (λ (i : Name). held_in i hs) e ∙ held) in
-              subst IsFailing h w.3
+              let h : w.1 ≡ now = some_value (sym w.2 ∙ ap (λ (i : Name). held_in i hs) e ∙ held) in
+              absurd (unfailing (subst IsFailing h w.3))
           | inr e ↦ none (failing_found w.0 gs w.1 (sym (others w.0 e) ∙ w.2) w.3)
         ]
     by (Some i) (h, e, x) = elim (name_is i) [
@@ -108,7 +108,20 @@ choice_fails nodes E g op (n ∷ ns) (box b is bs) a gs hs r new once was call h
       | inr q ↦ (h, others i q ∙ e, x)
     ]
 
-module _ (rules : List Rule) (r : Run) (T U : Table) (l : Label) (d : Config) (t : IsTableOf rules r T) (a : Applies rules r.program t.config l d) (g : Name) (op : Op) (news : List NewBox) (at : Option ℕ)
+-- a call has become a choice of the new boxes
+choice_fails : (nodes : List Node) (E : Equations) (g : Name) (op : Operator) (news : List NewBox) (bs : Boxes) (a : Atom) (gs hs : Goals) (r : BoxRow) → AreNewBoxes nodes E news bs
+    → ((i : Name) → times_inside i hs ≤ 1) → held_in g gs ≡ Some (an_atom a) → (IsFailing (an_atom a) → ⊥) → held_in g hs ≡ Some (a_choice op bs) → ((i : Name) → same_name i g ≡ false → held_in i hs ≡ held_in i gs)
+    → FailsBy gs r.failing → FailsBy hs (failing_of g op news r)
+choice_fails nodes E g op [] no_boxes a gs hs r new once was call held others fails = on (fails_empty op) refl
+  where
+    on : (t : Bool) → fails_empty op ≡ t → FailsBy hs (if t then Some g else r.failing)
+    on true e = (a_choice op no_boxes, held, empty_fails op e)
+    on false e = other_fails g (a_choice op no_boxes) a gs hs r once was call held others (λ x. let z : fails_empty op ≡ true = empty_or op x in let y : true ≡ false = sym z ∙ e in cc) fails
+choice_fails nodes E g op [] (box b is bs) a gs hs r new once was call held others fails = absurd new
+choice_fails nodes E g op (n ∷ ns) no_boxes a gs hs r new once was call held others fails = absurd new
+choice_fails nodes E g op (n ∷ ns) (box b is bs) a gs hs r new once was call held others fails = other_fails g (a_choice op (box b is bs)) a gs hs r once was call held others (λ x. x) fails
+
+module _ (rules : List Rule) (r : Run) (T U : Table) (l : Label) (d : Config) (t : IsTableOf rules r T) (a : Applies rules r.program t.config l d) (g : Name) (op : Operator) (news : List NewBox) (at : Option ℕ)
     (rule : l.rule ≡ Rule.Fork) (place : l.place ≡ Place.Goal g) (fork : ForksGoal r.program l.worker (slice_index t.config.next l.worker) a.site g op news)
     (solved : IsSolvedWhen at T a.site (forks op news)) (is : IsTable U (after_fork g op news at l.worker a.change.drawn T)) where
   abbrev c : Config
@@ -124,7 +137,7 @@ module _ (rules : List Rule) (r : Run) (T U : Table) (l : Label) (d : Config) (t
   bs = instances r.program.templates.nodes l.worker (slice_index t.config.next l.worker) fork.arguments fork.definition.clauses
 
   abbrev was : Atom
-  was = Atom.call fork.number fork.arguments
+  was = Atom.call fork.number fork.arguments fork.result
 
   abbrev number : ℕ
   number = T.steps + 1
@@ -136,10 +149,9 @@ module _ (rules : List Rule) (r : Run) (T U : Table) (l : Label) (d : Config) (t
   sd = stands_after rules r.program t.config l d s a
 
   change_is : a.change ≡ becomes a.site.content (with_content g (a_choice op bs) a.site.goals) (drawn_by fork.definition.clauses)
-  change_is = subst (λ (o : Op). a.change ≡ becomes a.site.content (with_content g (a_choice o bs) a.site.goals) (drawn_by fork.definition.clauses)) (sym fork.operator)
-      (forking.forked_change r.program a.makes.reading l.worker (slice_index t.config.next l.worker) g l.alternative a.site a.change fork.number fork.arguments fork.definition
+  change_is = (forking.forked_change r.program a.makes.reading l.worker (slice_index t.config.next l.worker) g l.alternative a.site a.change fork.number fork.arguments fork.result fork.definition op
       (subst (λ (u : Rule). change_by r.program a.makes.reading l.worker (slice_index t.config.next l.worker) u (Place.Goal g) l.alternative a.site ≡ Some a.change) rule
-      (subst (λ (u : Place). change_by r.program a.makes.reading l.worker (slice_index t.config.next l.worker) l.rule u l.alternative a.site ≡ Some a.change) place a.makes.change)) fork.held fork.is_definition)
+      (subst (λ (u : Place). change_by r.program a.makes.reading l.worker (slice_index t.config.next l.worker) l.rule u l.alternative a.site ≡ Some a.change) place a.makes.change)) fork.held fork.is_definition fork.operator)
 
   boxes_are : a.change.boxes ≡ box a.site.content (with_content g (a_choice op bs) a.site.goals) no_boxes
   boxes_are = ap (λ (k : Change). k.boxes) change_is
@@ -186,16 +198,16 @@ module _ (rules : List Rule) (r : Run) (T U : Table) (l : Label) (d : Config) (t
 
   -- the rows of the next table
 
-  box_rows : (n : Name) → U.box_of n ≡ or_else (new_box_of g at number news n) (set a.site.content.name (option_map (failing_by g news) (T.box_of a.site.content.name)) T.box_of n)
-  box_rows n = is.boxes n ∙ ap (λ (o : Option Name). or_else (new_box_of g at number news n) (changed_box o (failing_by g news) T.box_of n))
+  box_rows : (n : Name) → U.box_of n ≡ or_else (new_box_of g at number news n) (set a.site.content.name (option_map (failing_by g op news) (T.box_of a.site.content.name)) T.box_of n)
+  box_rows n = is.boxes n ∙ ap (λ (o : Option Name). or_else (new_box_of g at number news n) (changed_box o (failing_by g op news) T.box_of n))
       (ap home_in its_row.1 ∙ ap (λ (k : Spot). Some k.home) its_row.2)
 
   abbrev NoNewBox : Name → Type 0
   NoNewBox n = (new_box_of g at (T.steps + 1) news n ≡ None) × ((k : Content) (hs : Goals) → BoxIn [] k hs bs → n ≡ k.name → ⊥)
 
   other_row : (n : Name) → NoNewBox n → same_name n a.site.content.name ≡ false → U.box_of n ≡ T.box_of n
-  other_row n none apart = box_rows n ∙ ap (λ (o : Option BoxRow). or_else o (set a.site.content.name (option_map (failing_by g news) (T.box_of a.site.content.name)) T.box_of n)) none.0
-      ∙ ap (λ (v : Bool). if v then option_map (failing_by g news) (T.box_of a.site.content.name) else T.box_of n) apart
+  other_row n none apart = box_rows n ∙ ap (λ (o : Option BoxRow). or_else o (set a.site.content.name (option_map (failing_by g op news) (T.box_of a.site.content.name)) T.box_of n)) none.0
+      ∙ ap (λ (v : Bool). if v then option_map (failing_by g op news) (T.box_of a.site.content.name) else T.box_of n) apart
 
   new_or : (Q : NewBox → Type 0) → EachNew Q news → (n : Name)
       → NoNewBox n ⊎ ((new : NewBox) × (new_box_of g at number news n ≡ Some (new_row g at number new)) × IsOfNew r.program.templates.nodes (whole a.site) Q bs n new)
@@ -236,13 +248,13 @@ module _ (rules : List Rule) (r : Run) (T U : Table) (l : Label) (d : Config) (t
   site_was = row_of T t.config t.unfolds a.site.content.name a.site (found rules r.program t.config l d s a)
 
   abbrev site_is : BoxRow
-  site_is = record site_was.0 { failing = failing_of g news site_was.0 }
+  site_is = record site_was.0 { failing = failing_of g op news site_was.0 }
 
   site_has : U.box_of a.site.content.name ≡ Some site_is
-  site_has = box_rows a.site.content.name ∙ ap (λ (o : Option BoxRow). or_else o (set a.site.content.name (option_map (failing_by g news) (T.box_of a.site.content.name)) T.box_of a.site.content.name))
+  site_has = box_rows a.site.content.name ∙ ap (λ (o : Option BoxRow). or_else o (set a.site.content.name (option_map (failing_by g op news) (T.box_of a.site.content.name)) T.box_of a.site.content.name))
       (old_box a.site.content.name a.site (found rules r.program t.config l d s a)).0
-      ∙ ap (λ (v : Bool). if v then option_map (failing_by g news) (T.box_of a.site.content.name) else T.box_of a.site.content.name) (same_name-refl a.site.content.name)
-      ∙ ap (option_map (failing_by g news)) site_was.1 ∙ ap Some (failing_is g news site_was.0)
+      ∙ ap (λ (v : Bool). if v then option_map (failing_by g op news) (T.box_of a.site.content.name) else T.box_of a.site.content.name) (same_name-refl a.site.content.name)
+      ∙ ap (option_map (failing_by g op news)) site_was.1 ∙ ap Some (failing_is g op news site_was.0)
 
   few : (i : Name) → times_inside i b.goals ≤ 1
   few i =
@@ -251,7 +263,7 @@ module _ (rules : List Rule) (r : Run) (T U : Table) (l : Label) (d : Config) (t
       omega arith
 
   site_row : IsBoxRow U d.roots (site_now b) site_is × IsAsTold T U a.site.content.name
-  site_row = site_same rules r.program r.query r.journal t.config l d t.replays a T U t.unfolds keeps b forked.content forked.names site_was.0 (failing_of g news site_was.0) site_was.1 site_has
+  site_row = site_same rules r.program r.query r.journal t.config l d t.replays a T U t.unfolds keeps b forked.content forked.names site_was.0 (failing_of g op news site_was.0) site_was.1 site_has
       (choice_fails r.program.templates.nodes (whole a.site) g op news bs was a.site.goals b.goals site_was.0 fork.boxes few fork.held (λ x. x) forked.choice_held forked.others site_was.2.failing)
 
   boxes : KeepsBoxes a T U
@@ -300,7 +312,7 @@ module _ (rules : List Rule) (r : Run) (T U : Table) (l : Label) (d : Config) (t
         let k : Found = record { around = a.site.around ++ b.content ∷ []; content = of.content; goals = of.goals } in
         let there : box_at n d.roots ≡ Some k = new_there n of.content of.goals of.named of.alternative in
         let has : U.box_of n ≡ Some (new_row g at number new) =
-        box_rows n ∙ ap (λ (o : Option BoxRow). or_else o (set a.site.content.name (option_map (failing_by g news) (T.box_of a.site.content.name)) T.box_of n)) row in
+        box_rows n ∙ ap (λ (o : Option BoxRow). or_else o (set a.site.content.name (option_map (failing_by g op news) (T.box_of a.site.content.name)) T.box_of n)) row in
         let is_new : IsNewBox U.nodes (whole (site_now b)) new of.content of.goals =
         subst (λ (E : Equations). IsNewBox U.nodes E new of.content of.goals) (ap (λ (v : Content). whole (record a.site { content = v })) (sym forked.content))
         (subst (λ (ms : List Node). IsNewBox ms (whole a.site) new of.content of.goals) (sym (is.nodes ∙ t.nodes)) of.is_new) in
@@ -415,7 +427,7 @@ module _ (rules : List Rule) (r : Run) (T U : Table) (l : Label) (d : Config) (t
   }
 
 -- the step of a fork leads to a table of the run that goes on with the label
-pub fork_step : (rules : List Rule) (r : Run) (T U : Table) (l : Label) (d : Config) (t : IsTableOf rules r T) (a : Applies rules r.program t.config l d) (op : Op) (news : List NewBox) (at : Option ℕ)
+pub fork_step : (rules : List Rule) (r : Run) (T U : Table) (l : Label) (d : Config) (t : IsTableOf rules r T) (a : Applies rules r.program t.config l d) (op : Operator) (news : List NewBox) (at : Option ℕ)
     → Makes r.program l (slice_index t.config.next l.worker) a.site (forks op news) → IsSolvedWhen at T a.site (forks op news) → Leads T l at a.change.drawn (forks op news) U
     → (u : IsTableOf rules (followed_by r l) U) × (u.config ≡ d)
 fork_step rules r T U l d t a op news at makes solved leads = led rules r T U l d t a (leads_on rules r T U l d t a makes.1.0 op news at makes.0 makes.1.1 makes.1.2 solved

@@ -3,7 +3,7 @@ use Rattle.std.proofs.Common.{◌≡◌, ℕ, ◌+◌, ◌≤◌, List, [], ◌�
 use Rattle.std.specs.Prelude.{if◌then◌else◌, slice_index, slice_get}
 use Rattle.akl_terms.specs.declared.name.Name.{Name}
 use Rattle.akl_terms.specs.declared.name.Place.{Place}
-use Rattle.akl_terms.specs.declared.program.Op.{Op}
+use Rattle.akl_model.specs.Config.{Operator}
 use Rattle.akl_terms.specs.declared.program.Definition.{Definition}
 use Rattle.akl_terms.specs.declared.program.Program.{Program}
 use Rattle.akl_terms.specs.Names.{same_name}
@@ -14,7 +14,7 @@ use Rattle.akl_model.specs.declared.label.Rule.{Rule}
 use Rattle.akl_model.specs.declared.label.Label.{Label}
 use Rattle.akl_model.specs.Config.{IsIn, Atom, Content, Boxes, no_boxes, box, Goals, no_goals, atom, choice, Config, Held, an_atom, a_choice, goal, held_in, with_content, Found, box_at, home_of, site_of}
 use Rattle.akl_model.specs.Instances.{instances, drawn_by}
-use Rattle.akl_model.specs.Rules.{Reading, Change, becomes, fork, fork_by, change_by}
+use Rattle.akl_model.specs.Rules.{Reading, Change, becomes, operator_of, fork_as, fork, fork_by, change_by}
 use Rattle.akl_model.specs.Derivations.{Applies}
 use Rattle.akl_model.specs.Changes.{Shape, shape_at, box_names, goal_names}
 use Rattle.akl_model.proofs.Options.{some_value}
@@ -38,11 +38,12 @@ fork_change : (p : Program) (v : Reading) (w next : ℕ) (g : Name) (alternative
 fork_change p v w next g None f c e = e
 fork_change p v w next g (Some n) f c e = cc
 
-pub forked_change : (p : Program) (v : Reading) (w next : ℕ) (g : Name) (alternative : Option Name) (f : Found) (c : Change) (number : ℕ) (arguments : List Tree) (definition : Definition)
-    → change_by p v w next Rule.Fork (Place.Goal g) alternative f ≡ Some c → held_in g f.goals ≡ Some (an_atom (Atom.call number arguments)) → slice_get p.definitions number ≡ Some definition
-    → c ≡ becomes f.content (with_content g (a_choice definition.op (instances p.templates.nodes w next arguments definition.clauses)) f.goals) (drawn_by definition.clauses)
-forked_change p v w next g alternative f c number arguments definition e h i = some_value (sym (subst (λ (o : Option Definition). fork_by p w next g arguments f o ≡ Some c) i
-    (subst (λ (o : Option Held). fork p w next g f o ≡ Some c) h (fork_change p v w next g alternative f c e))))
+pub forked_change : (p : Program) (v : Reading) (w next : ℕ) (g : Name) (alternative : Option Name) (f : Found) (c : Change) (number : ℕ) (arguments : List Tree) (result : Option Tree) (definition : Definition) (op : Operator)
+    → change_by p v w next Rule.Fork (Place.Goal g) alternative f ≡ Some c → held_in g f.goals ≡ Some (an_atom (Atom.call number arguments result)) → slice_get p.definitions number ≡ Some definition → operator_of definition.op result ≡ Some op
+    → c ≡ becomes f.content (with_content g (a_choice op (instances p.templates.nodes w next arguments definition.clauses)) f.goals) (drawn_by definition.clauses)
+forked_change p v w next g alternative f c number arguments result definition op e h i j = some_value (sym (subst (λ (o : Option Operator). fork_as p w next g arguments definition.clauses f o ≡ Some c) j
+    (subst (λ (o : Option Definition). fork_by p w next g arguments result f o ≡ Some c) i
+    (subst (λ (o : Option Held). fork p w next g f o ≡ Some c) h (fork_change p v w next g alternative f c e)))))
 
 -- an atom becomes a goal of another content
 
@@ -91,7 +92,7 @@ first_named k hs (box b gs bs) (inl e) = inl (ap (λ (c : Content). c.name) e.1)
 first_named k hs (box b gs bs) (inr (inl w)) = let r : [] ≡ b ∷ w.0 = w.1 in cc
 first_named k hs (box b gs bs) (inr (inr x)) = inr (first_named k hs bs x)
 
-module _ (rules : List Rule) (p : Program) (c : Config) (l : Label) (d : Config) (s : Stand c) (m : Applies rules p c l d) (g : Name) (place : l.place ≡ Place.Goal g) (op : Op) (bs : Boxes) (was : Atom)
+module _ (rules : List Rule) (p : Program) (c : Config) (l : Label) (d : Config) (s : Stand c) (m : Applies rules p c l d) (g : Name) (place : l.place ≡ Place.Goal g) (op : Operator) (bs : Boxes) (was : Atom)
     (held : held_in g m.site.goals ≡ Some (an_atom was)) (is_change : m.change.boxes ≡ box m.site.content (with_content g (a_choice op bs) m.site.goals) no_boxes)
     (drawn : (n : Name) → 1 ≤ times n bs → times n c.roots ≡ 0) (flat : (r : List Content) (k : Content) (hs : Goals) → BoxIn r k hs bs → r ≡ []) where
   t : Stand d

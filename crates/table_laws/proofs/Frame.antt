@@ -203,6 +203,7 @@ module _ (rules : List Rule) (p : Program) (q : Query) (journal : List Label) (c
         failing = fails;
         body = row.body ∙ ap (λ (z : Content). z.body) content;
         shown = row.shown ∙ ap (λ (z : Content). z.shown) content;
+        collected = row.collected ∙ ap (λ (z : Content). z.collected) content;
       }
 
       solved : ((z : Name) → IsIn z (names_around e) → IsAsTold T U z) → StaysSolved U f (record r { failing = o })

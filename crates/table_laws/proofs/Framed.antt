@@ -20,7 +20,7 @@ use Rattle.akl_model.specs.Stable.{only}
 use Rattle.akl_model.specs.Derivations.{Applies, Derives, Replays}
 use Rattle.akl_model.proofs.Options.{some_value}
 use Rattle.akl_model.proofs.Finds.{times}
-use Rattle.akl_model.proofs.RuleCases.{PlainCase, tells, forks, evaluates, opens, sends, fails, cuts, promotes, SplitCase, Makes-case}
+use Rattle.akl_model.proofs.RuleCases.{PlainCase, tells, forks, evaluates, opens, sends, fails, cuts, promotes, collects, SplitCase, Makes-case}
 use Rattle.akl_model.proofs.NamesKept.{Stand, start-stands, stands_after, split_held}
 use Rattle.step_laws.specs.Whereabouts.{BoxIn, InGoals, Stands}
 use Rattle.step_laws.proofs.Deeper.{in_deeper}
@@ -109,8 +109,8 @@ module _ (p : Program) (w next : ℕ) (f : Found) (own : HasFrame f.content) (in
 
   plain_framed : (place : Place) (c : Change) → PlainCase p w next f c place → AreFramed c.boxes
   plain_framed place c (tells g s t i e) = by _ c e (gone _ g own)
-  plain_framed place c (forks g d arguments definition i j e) =
-      by _ c e (one_framed f.content _ own (content_framed g (a_choice definition.op (instances p.templates.nodes w next arguments definition.clauses)) f.goals (λ r k hs x. instances_framed p.templates.nodes w next arguments definition.clauses r k hs x) inner))
+  plain_framed place c (forks g d arguments r definition o i j u e) =
+      by _ c e (one_framed f.content _ own (content_framed g (a_choice o (instances p.templates.nodes w next arguments definition.clauses)) f.goals (λ r k hs x. instances_framed p.templates.nodes w next arguments definition.clauses r k hs x) inner))
   plain_framed place c (evaluates g test s t (value z) i x y e) = by _ c e (gone _ g own)
   plain_framed place c (evaluates g test s t (truth true) i x y e) = by _ c e (gone f.content g own)
   plain_framed place c (evaluates g test s t (truth false) i x y e) = by _ c e (one_framed f.content _ own (content_framed g (an_atom Atom.fail) f.goals (λ r k hs z. absurd z) inner))
@@ -124,6 +124,7 @@ module _ (p : Program) (w next : ℕ) (f : Found) (own : HasFrame f.content) (in
       on : (t : Bool) → t ≡ true → (if t then Some (becomes (joining a f.content) (with_atoms w next a.body (without_goal g f.goals)) (length a.body)) else None) ≡ Some c → AreFramed c.boxes
       on true r j = by _ c j (one_framed (joining a f.content) _ (with_names_some a.frames f.content.frames own) (atoms_framed w next a.body (without_goal g f.goals) (λ r k hs x. inner r k hs (without_in g r k hs f.goals x))))
       on false r j = cc
+  plain_framed place c (collects g r bs a i x z e) = by _ c e (gone _ g (with_names_some a.frames f.content.frames own))
 
   split_framed : (place : Place) (alternative : Option Name) (c : Change) → ((m : Name) → times m (only f) ≤ 1) → SplitCase p w next f c place alternative → AreFramed c.boxes
   split_framed place alternative c once s = by _ c s.change parts

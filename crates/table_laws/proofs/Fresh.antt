@@ -23,7 +23,7 @@ use Rattle.step_laws.proofs.Steps.{site_once}
 use Rattle.table_laws.specs.Rows.{BoxRow, Table}
 use Rattle.table_laws.specs.Unfolds.{IsBoxRow, AreBoth, spot_of, Unfolds}
 use Rattle.table_laws.specs.Stamped.{Run, IsTableOf}
-use Rattle.table_laws.specs.Steps.{ForksGoal, NewBox, Step, tells, forks, fails, cuts, promotes, splits, numbered, PromotesGoal, AreNewBoxes, SplitsBox, rest_of, second_of, Makes, refutes, confirms}
+use Rattle.table_laws.specs.Steps.{ForksGoal, NewBox, Step, tells, forks, fails, cuts, joins, splits, numbered, JoinsGoal, AreNewBoxes, SplitsBox, rest_of, second_of, Makes, refutes, confirms}
 use Rattle.table_laws.specs.Writes.{names_drawn, names_copied, IsFresh, DrawsFresh}
 use Rattle.table_laws.proofs.Insides.{goal_names_less}
 use Rattle.table_laws.proofs.Copies.{copied_once, copied_counted}
@@ -94,10 +94,10 @@ fresh_step rules r T l d t a fails makes = tt
 fresh_step rules r T l d t a cuts makes = tt
 fresh_step rules r T l d t a refutes makes = tt
 fresh_step rules r T l d t a confirms makes = tt
-fresh_step rules r T l d t a (promotes new solved goals) makes =
-    let m : PromotesGoal r.program.templates.nodes l.worker (slice_index t.config.next l.worker) a.site makes.1.0 makes.1.1 new goals = makes.1.4 in
+fresh_step rules r T l d t a (joins new solved goals) makes =
+    let m : JoinsGoal r.program l (slice_index t.config.next l.worker) a.site makes.0 new goals = makes.2 in
     subst (λ (xs : List (Name × Atom)). IsFresh T (map (λ (x : Name × Atom). x.0) xs)) (sym m.body)
-    (numbered_fresh T t.config t.unfolds (replay-stands rules r.program r.query r.journal t.config t.replays) l.worker m.alternative.body)
+    (numbered_fresh T t.config t.unfolds (replay-stands rules r.program r.query r.journal t.config t.replays) l.worker m.joined.body)
 fresh_step rules r T l d t a (splits copy copies) makes = record {
   once = λ m. copied_once r.program.templates.nodes (environment a.site) second second_once copies made.copied m;
   no_box = λ m i. no_row_box T t.config m t.unfolds (nowhere m i);

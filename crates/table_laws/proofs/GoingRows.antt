@@ -1,14 +1,14 @@
 -- What goes with the steps that change the row of a goal, by the rows of the next table.
-use Rattle.std.proofs.Common.{◌≡◌, List, [], ◌∷◌, Bool, true, false, Option, Some, None, refl, sym, ◌∙◌, ap, subst, ◌⊎◌, inl, inr}
+use Rattle.std.proofs.Common.{◌≡◌, List, [], Bool, true, false, Option, Some, None, refl, sym, ◌∙◌, ap, subst, ◌⊎◌, inl, inr}
 use Rattle.std.specs.Prelude.{option_map}
 use Rattle.akl_terms.specs.declared.name.Name.{Name}
 use Rattle.akl_terms.specs.Names.{same_name}
 use Rattle.akl_terms.proofs.SameNames.{same_name-equal}
 use Rattle.akl_model.specs.Config.{IsIn, or_else}
 use Rattle.table_laws.specs.Rows.{BoxRow, GoalRow, Table}
-use Rattle.table_laws.specs.Inside.{IsInside, itself, further}
+use Rattle.table_laws.specs.Inside.{IsDirectlyIn, IsInside, itself, further}
 use Rattle.table_laws.specs.Writes.{set, changed_box, IsInsideOne, IsGoalInsideOne}
-use Rattle.table_laws.proofs.Sets.{other_name, set_here, set_other}
+use Rattle.table_laws.proofs.Sets.{other_name, set_here, set_other, in_or}
 use Rattle.table_laws.proofs.Going.{GoesIf, RowsGo}
 use Rattle.akl_model.proofs.Options.{some_value}
 
@@ -59,28 +59,27 @@ module _ (T U : Table) (g : Name) (Own : Name → Type 0) (own : Own g) (only : 
   pub one_goes : BoxesStay T U → RowsGo T U [] Own
   one_goes boxes = record { box = λ k v e. inr (none_inside T k, boxes k v e); goal = goal_goes [] (none_goal_inside T) }
 
-  -- and a box in which there are no goals
-  module _ (n : Name) (row : BoxRow) (there : T.box_of n ≡ Some row) (empty : row.goals ≡ []) where
-    alone : (m : Name) → IsInside T n m → m ≡ n
-    alone m itself = refl
-    alone m (further {m = h} x d y) =
-        let r : d.row ≡ row = some_value (sym d.there ∙ ap (λ (k : Name). T.box_of k) (alone h x) ∙ there) in
-        absurd (subst (IsIn _) (ap (λ (k : BoxRow). k.goals) r ∙ empty) d.named)
+  -- and boxes in which there are no goals
+  module _ (names : List Name) (empty : (n : Name) → IsIn n names → (row : BoxRow) × (T.box_of n ≡ Some row) × (row.goals ≡ [])) where
+    no_goal_in : (n m h : Name) → IsIn n names → m ≡ n → IsDirectlyIn T m h → ⊥
+    no_goal_in n m h i q x =
+        let e : (row : BoxRow) × (T.box_of n ≡ Some row) × (row.goals ≡ []) = empty n i in
+        let r : x.row ≡ e.0 = some_value (sym x.there ∙ ap (λ (k : Name). T.box_of k) q ∙ e.1) in
+        subst (IsIn h) (ap (λ (k : BoxRow). k.goals) r ∙ e.2) x.named
 
-    one_inside : (k : Name) → IsInsideOne T (n ∷ []) k → k ≡ n
-    one_inside k x = elim x.goes [ inl q ↦ alone k (subst (λ (m : Name). IsInside T m k) q x.inside) | inr z ↦ absurd z ]
+    alone : (n m : Name) → IsIn n names → IsInside T n m → m ≡ n
+    alone n m i itself = refl
+    alone n m i (further {m = h} {g = j} x d y) = absurd (no_goal_in n h j i (alone n h i x) d)
 
-    no_goal_inside : (i : Name) → IsGoalInsideOne T (n ∷ []) i → ⊥
-    no_goal_inside i x =
-        let h : x.inside.box ≡ n = one_inside x.inside.box (record { alternative = x.alternative; goes = x.goes; inside = x.inside.inside }) in
-        let r : x.inside.goal.row ≡ row = some_value (sym x.inside.goal.there ∙ ap (λ (k : Name). T.box_of k) h ∙ there) in
-        subst (IsIn i) (ap (λ (k : BoxRow). k.goals) r ∙ empty) x.inside.goal.named
+    one_of : (k : Name) → IsInsideOne T names k → IsIn k names
+    one_of k x = subst (λ (m : Name). IsIn m names) (sym (alone x.alternative k x.goes x.inside)) x.goes
 
-    pub both_go : U.box_of n ≡ None → ((k : Name) (v : BoxRow) → same_name k n ≡ false → T.box_of k ≡ Some v → (w : BoxRow) × (U.box_of k ≡ Some w)) → RowsGo T U (n ∷ []) Own
-    both_go gone others = record { box = λ k v e. on k v e (same_name k n) refl; goal = goal_goes (n ∷ []) no_goal_inside }
+    no_goal_inside : (i : Name) → IsGoalInsideOne T names i → ⊥
+    no_goal_inside i x = no_goal_in x.alternative x.inside.box i x.goes (alone x.alternative x.inside.box x.goes x.inside.inside) x.inside.goal
+
+    pub all_go : ((n : Name) → IsIn n names → U.box_of n ≡ None) → ((k : Name) (v : BoxRow) → (IsIn k names → ⊥) → T.box_of k ≡ Some v → (w : BoxRow) × (U.box_of k ≡ Some w)) → RowsGo T U names Own
+    all_go gone others = record { box = λ k v e. on k v e (in_or k names); goal = goal_goes names no_goal_inside }
       where
-        on : (k : Name) (v : BoxRow) → T.box_of k ≡ Some v → (t : Bool) → same_name k n ≡ t → GoesIf (IsInsideOne T (n ∷ []) k) (U.box_of k)
-        on k v e true q =
-            let r : k ≡ n = same_name-equal k n q in
-            inl (record { alternative = n; goes = inl refl; inside = subst (IsInside T n) (sym r) itself }, ap (λ (m : Name). U.box_of m) r ∙ gone)
-        on k v e false q = inr (λ x. other_name k n q (one_inside k x), others k v q e)
+        on : (k : Name) (v : BoxRow) → T.box_of k ≡ Some v → IsIn k names ⊎ (IsIn k names → ⊥) → GoesIf (IsInsideOne T names k) (U.box_of k)
+        on k v e (inl i) = inl (record { alternative = k; goes = i; inside = itself }, gone k i)
+        on k v e (inr q) = inr (λ x. q (one_of k x), others k v q e)

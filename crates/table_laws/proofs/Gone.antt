@@ -2,11 +2,12 @@
 use Rattle.std.proofs.Common.{◌≡◌, ◌+◌, ◌≤◌, List, [], ◌∷◌, Bool, true, false, Option, Some, None, refl, sym, ◌∙◌, ap, subst, inl, inr, arith}
 use Rattle.std.specs.Prelude.{option_map, if◌then◌else◌}
 use Rattle.akl_terms.specs.declared.name.Name.{Name}
-use Rattle.akl_terms.specs.declared.program.Op.{Op}
+use Rattle.akl_model.specs.Config.{Operator}
 use Rattle.akl_terms.specs.Names.{same_name}
 use Rattle.akl_terms.proofs.SameNames.{same_name-equal}
 use Rattle.akl_model.specs.Config.{IsIn, Boxes, no_boxes, box, Goals, joined_boxes, Held, an_atom, a_choice, held_in, Found, box_at, home_of, edited, edited_inside}
 use Rattle.akl_model.specs.Conditions.{IsFailing}
+use Rattle.table_laws.specs.Writes.{fails_empty}
 use Rattle.akl_model.specs.Names.{one_if, times_in}
 use Rattle.akl_model.specs.Changes.{box_names}
 use Rattle.akl_model.specs.Wakes.{names_around, names_down_to}
@@ -57,21 +58,27 @@ names_gone n (box b gs bs) i = on (same_name n b.name) refl i (names_gone n bs)
 
 -- the goals by which a box fails
 
--- where a choice has no alternative after the edit, it had none
+-- where a choice has no alternative after the edit, and fails so, it had none
 abbrev pub KeepsAlternatives : Name → Boxes → Goals → Type 0
-KeepsAlternatives n new gs = (g : Name) (o : Op) (bs : Boxes) → held_in g gs ≡ Some (a_choice o bs) → edited n new bs ≡ no_boxes → bs ≡ no_boxes
+KeepsAlternatives n new gs = (g : Name) (o : Operator) (bs : Boxes) → held_in g gs ≡ Some (a_choice o bs) → fails_empty o ≡ true → edited n new bs ≡ no_boxes → bs ≡ no_boxes
+
+pub empty_or : (o : Operator) → IsFailing (a_choice o no_boxes) → fails_empty o ≡ true
+empty_or Operator.condition x = refl
+empty_or Operator.commit x = refl
+empty_or Operator.nondeterminate x = refl
+empty_or (Operator.collecting r) x = absurd x
 
 failing_edited : (n : Name) (new : Boxes) (h : Held) → IsFailing h → IsFailing (edited_held n new h)
 failing_edited n new (an_atom a) x = x
 failing_edited n new (a_choice o no_boxes) x = x
 failing_edited n new (a_choice o (box b gs bs)) x = absurd x
 
-failing_was : (n : Name) (new : Boxes) (h : Held) → ((o : Op) (bs : Boxes) → h ≡ a_choice o bs → edited n new bs ≡ no_boxes → bs ≡ no_boxes) → IsFailing (edited_held n new h) → IsFailing h
+failing_was : (n : Name) (new : Boxes) (h : Held) → ((o : Operator) (bs : Boxes) → h ≡ a_choice o bs → fails_empty o ≡ true → edited n new bs ≡ no_boxes → bs ≡ no_boxes) → IsFailing (edited_held n new h) → IsFailing h
 failing_was n new (an_atom a) k x = x
 failing_was n new (a_choice o bs) k x = on (edited n new bs) refl x
   where
     on : (cs : Boxes) → edited n new bs ≡ cs → IsFailing (a_choice o cs) → IsFailing (a_choice o bs)
-    on no_boxes e y = subst (λ (cs : Boxes). IsFailing (a_choice o cs)) (sym (k o bs refl e)) y
+    on no_boxes e y = subst (λ (cs : Boxes). IsFailing (a_choice o cs)) (sym (k o bs refl (empty_or o y) e)) y
     on (box b gs cs) e y = absurd y
 
 pub fails_by_kept : (n : Name) (new : Boxes) (gs : Goals) (o : Option Name) → ((g : Name) → times_inside g (edited_inside n new gs) ≤ 1) → KeepsAlternatives n new gs → FailsBy gs o → FailsBy (edited_inside n new gs) o
@@ -80,24 +87,25 @@ fails_by_kept n new gs None once k x = λ y. on (failed_goal (edited_inside n ne
     on : ((g : Name) × (h : Held) × (held_in g (edited_inside n new gs) ≡ Some h) × IsFailing h) → ⊥
     on w =
         let v : (h : Held) × (held_in w.0 gs ≡ Some h) × (edited_held n new h ≡ w.1) = map_some (edited_held n new) (held_in w.0 gs) w.1 (sym (held_edited n new w.0 gs) ∙ w.2) in
-        x (failing_found w.0 gs v.0 v.1 (failing_was n new v.0 (λ o bs q e. k w.0 o bs (v.1 ∙ ap Some q) e) (subst IsFailing (sym v.2) w.3)))
+        x (failing_found w.0 gs v.0 v.1 (failing_was n new v.0 (λ o bs q f e. k w.0 o bs (v.1 ∙ ap Some q) f e) (subst IsFailing (sym v.2) w.3)))
 fails_by_kept n new gs (Some g) once k x = (edited_held n new x.0, held_edited n new g gs ∙ ap (option_map (edited_held n new)) x.1, failing_edited n new x.0 x.2)
 
 no_names : (bs : Boxes) → box_names bs ≡ [] → bs ≡ no_boxes
 no_names no_boxes e = refl
 no_names (box b gs bs) e = cc
 
-pub empty_fails : (o : Op) → IsFailing (a_choice o no_boxes)
-empty_fails Op.Condition = tt
-empty_fails Op.Commit = tt
-empty_fails Op.Choice = tt
+pub empty_fails : (o : Operator) → fails_empty o ≡ true → IsFailing (a_choice o no_boxes)
+empty_fails Operator.condition e = tt
+empty_fails Operator.commit e = tt
+empty_fails Operator.nondeterminate e = tt
+empty_fails (Operator.collecting r) e = cc
 
 -- a choice that has no alternative left makes its box fail
-pub fails_by_empty : (n g : Name) (o : Op) (bs : Boxes) (gs : Goals) → held_in g gs ≡ Some (a_choice o bs) → box_names (edited n no_boxes bs) ≡ [] → FailsBy (edited_inside n no_boxes gs) (Some g)
-fails_by_empty n g o bs gs e z = (
+pub fails_by_empty : (n g : Name) (o : Operator) (bs : Boxes) (gs : Goals) → held_in g gs ≡ Some (a_choice o bs) → fails_empty o ≡ true → box_names (edited n no_boxes bs) ≡ [] → FailsBy (edited_inside n no_boxes gs) (Some g)
+fails_by_empty n g o bs gs e f z = (
   a_choice o (edited n no_boxes bs),
   held_edited n no_boxes g gs ∙ ap (option_map (edited_held n no_boxes)) e,
-  subst (λ (cs : Boxes). IsFailing (a_choice o cs)) (sym (no_names (edited n no_boxes bs) z)) (empty_fails o),
+  subst (λ (cs : Boxes). IsFailing (a_choice o cs)) (sym (no_names (edited n no_boxes bs) z)) (empty_fails o f),
 )
 
 -- boxes of which none goes

@@ -1,16 +1,17 @@
 -- Which places go with each step.
-use Rattle.std.proofs.Common.{◌≡◌, ℕ, ◌+◌, List, [], ◌∷◌, ◌++◌, length, Bool, Option, Some, None, refl, sym, ◌∙◌, ap, subst, ◌⊎◌, inl, inr}
+use Rattle.std.proofs.Common.{◌≡◌, ℕ, ◌+◌, List, [], Bool, Option, Some, None, refl, sym, ◌∙◌, ap, subst, ◌⊎◌, inl, inr}
 use Rattle.std.specs.Prelude.{option_map, slice_index}
 use Rattle.akl_terms.specs.declared.name.Name.{Name}
 use Rattle.akl_terms.specs.declared.name.Place.{Place}
-use Rattle.akl_terms.specs.declared.program.Op.{Op}
+use Rattle.akl_model.specs.Config.{Operator}
 use Rattle.akl_terms.specs.declared.program.Program.{Program}
 use Rattle.akl_terms.proofs.SameNames.{same_name-refl}
 use Rattle.akl_model.specs.declared.label.Rule.{Rule}
 use Rattle.akl_model.specs.declared.label.Label.{Label}
-use Rattle.akl_model.specs.Config.{IsIn, Atom, no_goals, without_goal, Config, Found, box_at, home_of, site_of}
+use Rattle.akl_model.specs.Config.{IsIn, Atom, no_goals, without_goal, Config, a_choice, Found, box_at, home_of, site_of}
 use Rattle.akl_model.specs.Instances.{with_atoms}
 use Rattle.akl_model.specs.Rules.{Reading, Change, becomes, joining, change_by}
+use Rattle.akl_model.specs.Changes.{shape_of, box_names, goal_names}
 use Rattle.akl_model.specs.Derivations.{Applies}
 use Rattle.akl_model.proofs.Options.{map_none}
 use Rattle.akl_model.proofs.NamesKept.{Stand, replay-stands, stands_after}
@@ -19,16 +20,17 @@ use Rattle.table_laws.specs.Rows.{BoxRow, GoalRow, Table}
 use Rattle.table_laws.specs.Unfolds.{IsBoxRow, Unfolds, spot_of}
 use Rattle.table_laws.specs.Stamped.{Run, followed_by, IsTableOf}
 use Rattle.table_laws.specs.Inside.{IsInside}
-use Rattle.table_laws.specs.Walks.{ListsEach}
-use Rattle.table_laws.specs.Steps.{NewBox, Step, tells, forks, fails, cuts, promotes, refutes, confirms, splits, PromotesGoal, Makes}
-use Rattle.table_laws.specs.Writes.{set, solved_when, home_in, changed_box, told_row, after_tell, new_box_of, new_goal_of, failing_by, forked_row, after_fork, promoted_row, home_or, atom_among, after_promote, refuted_row, failing_row, after_refute, confirmed_row, after_confirm, IsInsideOne, Leads}
+use Rattle.table_laws.specs.Walks.{alternatives_in, alternatives_of, ListsEach}
+use Rattle.table_laws.specs.Steps.{NewBox, Step, tells, forks, fails, cuts, joins, refutes, confirms, splits, JoinsGoal, Makes}
+use Rattle.table_laws.specs.Writes.{set, solved_when, home_in, changed_box, told_row, after_tell, new_box_of, new_goal_of, failing_by, forked_row, after_fork, joined_row, home_or, atom_among, after_join, refuted_row, failing_row, after_refute, confirmed_row, after_confirm, IsInsideOne, Leads}
 use Rattle.table_laws.specs.Going.{IsGone, OwnGoalGoes, boxes_going, GoesWith, IsOfBoxes}
-use Rattle.table_laws.proofs.Sets.{not_some, set_here, set_other}
+use Rattle.table_laws.proofs.Sets.{not_some, set_here, set_other, unset_here, unset_other}
 use Rattle.table_laws.proofs.Frame.{row_of}
+use Rattle.table_laws.proofs.Insides.{goal_row}
 use Rattle.table_laws.proofs.StepMakes.{same_table, step_law}
 use Rattle.table_laws.proofs.Promoting as promoting
 use Rattle.table_laws.proofs.Going.{AreGoing, box_gone, gone_box, goal_gone, gone_goal, RowsGo, by_rows}
-use Rattle.table_laws.proofs.GoingRows.{changed_there, box_changed_there, or_there, all_stay, one_goes, both_go}
+use Rattle.table_laws.proofs.GoingRows.{changed_there, box_changed_there, or_there, all_stay, one_goes, all_go}
 use Rattle.table_laws.proofs.Failed.{fail_going}
 use Rattle.table_laws.proofs.Cut.{cut_going}
 use Rattle.table_laws.proofs.SplitRows.{split_going}
@@ -104,14 +106,14 @@ module _ (rules : List Rule) (r : Run) (T : Table) (l : Label) (d : Config) (t :
 
   -- nothing goes
 
-  module _ (op : Op) (news : List NewBox) (makes : Makes r.program l (slice_index t.config.next l.worker) a.site (forks op news)) where
+  module _ (op : Operator) (news : List NewBox) (makes : Makes r.program l (slice_index t.config.next l.worker) a.site (forks op news)) where
     abbrev forked : Table
     forked = after_fork makes.1.0 op news None l.worker drawn T
 
     fork_rows : RowsGo T forked [] (Own (forks op news))
     fork_rows = all_stay T forked (Own (forks op news)) (λ i x. x.0)
-        (λ k v e. let w : (w : BoxRow) × (changed_box (home_in (T.goal_of makes.1.0)) (failing_by makes.1.0 news) T.box_of k ≡ Some w) = box_changed_there (home_in (T.goal_of makes.1.0)) (failing_by makes.1.0 news) T.box_of k v e in
-        or_there (new_box_of makes.1.0 None (T.steps + 1) news k) (changed_box (home_in (T.goal_of makes.1.0)) (failing_by makes.1.0 news) T.box_of k) w.0 w.1)
+        (λ k v e. let w : (w : BoxRow) × (changed_box (home_in (T.goal_of makes.1.0)) (failing_by makes.1.0 op news) T.box_of k ≡ Some w) = box_changed_there (home_in (T.goal_of makes.1.0)) (failing_by makes.1.0 op news) T.box_of k v e in
+        or_there (new_box_of makes.1.0 None (T.steps + 1) news k) (changed_box (home_in (T.goal_of makes.1.0)) (failing_by makes.1.0 op news) T.box_of k) w.0 w.1)
         (λ i v e. let w : (w : GoalRow) × (set makes.1.0 (option_map (forked_row op news (T.steps + 1)) (T.goal_of makes.1.0)) T.goal_of i ≡ Some w) = changed_there makes.1.0 (forked_row op news (T.steps + 1)) T.goal_of i v e in
         or_there (new_goal_of (T.steps + 1) news i) (set makes.1.0 (option_map (forked_row op news (T.steps + 1)) (T.goal_of makes.1.0)) T.goal_of i) w.0 w.1)
 
@@ -129,57 +131,66 @@ module _ (rules : List Rule) (r : Run) (T : Table) (l : Label) (d : Config) (t :
     refute_going : AreGoing T t.config d [] (Own refutes)
     refute_going = by_next refutes makes refuted (at_goal refutes refuted makes.1.0 makes.1.1 (same_table refuted)) [] refute_rows (λ n i. absurd i)
 
-  -- the only alternative and its choice go
+  -- the alternatives and their choice go
 
-  module _ (new : Stored) (solved : Bool) (goals : List (Name × Atom)) (makes : Makes r.program l (slice_index t.config.next l.worker) a.site (promotes new solved goals)) where
+  module _ (new : Stored) (solved : Bool) (goals : List (Name × Atom)) (makes : Makes r.program l (slice_index t.config.next l.worker) a.site (joins new solved goals)) where
     abbrev step : Step
-    step = promotes new solved goals
+    step = joins new solved goals
 
     abbrev g : Name
-    g = makes.1.0
+    g = makes.0
 
-    abbrev n : Name
-    n = makes.1.1
-
-    abbrev made : PromotesGoal r.program.templates.nodes l.worker (slice_index t.config.next l.worker) a.site g n new goals
-    made = makes.1.4
+    abbrev made : JoinsGoal r.program l (slice_index t.config.next l.worker) a.site g new goals
+    made = makes.2
 
     abbrev its_box : BoxRow → BoxRow
-    its_box = promoted_row g new (solved_when None solved) goals (T.steps + 1)
+    its_box = joined_row g new (solved_when None solved) goals (T.steps + 1)
 
-    abbrev promoted : Table
-    promoted = after_promote g n new (solved_when None solved) goals l.worker drawn T
+    abbrev joined : Table
+    joined = after_join g new (solved_when None solved) goals l.worker drawn T
 
-    leads : Leads T l None a.change.drawn step promoted
-    leads = subst (λ (p : Place). Leads T (record l { place = p }) None drawn step promoted) (sym makes.1.2)
-        (subst (λ (x : Option Name). Leads T (record l { place = Place.Goal g; alternative = x }) None drawn step promoted) (sym makes.1.3) (same_table promoted))
+    leads : Leads T l None a.change.drawn step joined
+    leads = at_goal step joined g makes.1 (same_table joined)
 
-    change : a.change ≡ becomes (joining made.alternative a.site.content) (with_atoms l.worker next made.alternative.body (without_goal g a.site.goals)) (length made.alternative.body)
-    change = promoting.promoted_change r.program a.makes.reading l.worker next g n l.rule l.place l.alternative a.site a.change made.operator made.alternative makes.0 makes.1.2 makes.1.3 made.named made.held a.makes.change
+    change : (drawn : ℕ) × (a.change ≡ becomes (joining made.joined a.site.content) (with_atoms l.worker next made.joined.body (without_goal g a.site.goals)) drawn)
+    change = promoting.joined_change r.program a.makes.reading next g l a.site a.change made.operator made.alternatives made.joined makes.1 made.held made.origin a.makes.change
 
-    abbrev alt : Found
-    alt = record { around = a.site.around ++ a.site.content ∷ []; content = made.alternative; goals = no_goals }
+    shape : alternatives_of (T.goal_of g) ≡ box_names made.alternatives
+    shape =
+        let home : home_of g t.config.roots ≡ Some a.site = subst (λ (p : Place). site_of p t.config.roots ≡ Some a.site) makes.1 a.is_site in
+        let row : (v : GoalRow) × (T.goal_of g ≡ Some v) × (v.home ≡ a.site.content.name) × (v.shape ≡ shape_of (a_choice made.operator made.alternatives)) =
+        goal_row T t.config t.unfolds s.once g a.site (a_choice made.operator made.alternatives) home made.held in
+        ap alternatives_of row.1 ∙ ap alternatives_in row.3
 
-    alt_there : box_at n t.config.roots ≡ Some alt
-    alt_there = ap (λ (x : Name). box_at x t.config.roots) made.named
-        ∙ promoting.alt_there rules r.program r.query r.journal t.config l d t.replays s a g makes.1.2 made.operator made.alternative made.held change
+    is_alternative : (n : Name) → IsIn n (alternatives_of (T.goal_of g)) → IsIn n (box_names made.alternatives)
+    is_alternative n i = subst (IsIn n) shape i
 
-    alt_row : (row : BoxRow) × (T.box_of n ≡ Some row) × IsBoxRow T t.config.roots alt row
-    alt_row = row_of T t.config t.unfolds n alt alt_there
+    there : (n : Name) → IsIn n (alternatives_of (T.goal_of g)) → (e : Found) × (box_at n t.config.roots ≡ Some e) × (e.goals ≡ no_goals)
+    there n i = (
+      promoting.alt_was rules r.program r.query r.journal t.config l d t.replays s a g makes.1 made.operator made.alternatives made.joined made.held made.origin change.0 change.1 n (is_alternative n i),
+      promoting.alt_there rules r.program r.query r.journal t.config l d t.replays s a g makes.1 made.operator made.alternatives made.joined made.held made.origin change.0 change.1 n (is_alternative n i),
+      refl,
+    )
 
-    choice_goes : promoted.goal_of g ≡ None
-    choice_goes = map_none spot_of (promoted.goal_of g)
-        ((now step makes promoted leads).goals g ∙ promoting.spot_gone rules r.program r.query r.journal t.config l d t.replays s a g makes.1.2 made.operator made.alternative made.held change)
+    empty : (n : Name) → IsIn n (alternatives_of (T.goal_of g)) → (row : BoxRow) × (T.box_of n ≡ Some row) × (row.goals ≡ [])
+    empty n i =
+        let e : (e : Found) × (box_at n t.config.roots ≡ Some e) × (e.goals ≡ no_goals) = there n i in
+        let row : (row : BoxRow) × (T.box_of n ≡ Some row) × IsBoxRow T t.config.roots e.0 row = row_of T t.config t.unfolds n e.0 e.1 in
+        (row.0, row.1, row.2.goals ∙ ap goal_names e.2)
 
-    promote_rows : RowsGo T promoted (n ∷ []) (Own step)
-    promote_rows = both_go T promoted g (Own step) (tt, makes.1.2) (λ i x. same_goal l.place g i makes.1.2 x.1) choice_goes
-        (λ i v q e. or_there (atom_among (home_or (T.goal_of g) g) (T.steps + 1) goals i) (set g None T.goal_of i) v (set_other g i None T.goal_of q ∙ e)) n alt_row.0 alt_row.1 alt_row.2.goals
-        (set_here n n None (changed_box (home_in (T.goal_of g)) its_box T.box_of) (same_name-refl n))
+    choice_goes : joined.goal_of g ≡ None
+    choice_goes = map_none spot_of (joined.goal_of g)
+        ((now step makes joined leads).goals g ∙ promoting.spot_gone rules r.program r.query r.journal t.config l d t.replays s a g makes.1 made.operator made.alternatives made.joined made.held made.origin change.0 change.1)
+
+    join_rows : RowsGo T joined (alternatives_of (T.goal_of g)) (Own step)
+    join_rows = all_go T joined g (Own step) (tt, makes.1) (λ i x. same_goal l.place g i makes.1 x.1) choice_goes
+        (λ i v q e. or_there (atom_among (home_or (T.goal_of g) g) (T.steps + 1) goals i) (set g None T.goal_of i) v (set_other g i None T.goal_of q ∙ e)) (alternatives_of (T.goal_of g)) empty
+        (λ n i. unset_here (alternatives_of (T.goal_of g)) (changed_box (home_in (T.goal_of g)) its_box T.box_of) n i)
         (λ k v q e. let w : (w : BoxRow) × (changed_box (home_in (T.goal_of g)) its_box T.box_of k ≡ Some w) = box_changed_there (home_in (T.goal_of g)) its_box T.box_of k v e in
-        (w.0, set_other n k None (changed_box (home_in (T.goal_of g)) its_box T.box_of) q ∙ w.1))
+        (w.0, unset_other (alternatives_of (T.goal_of g)) (changed_box (home_in (T.goal_of g)) its_box T.box_of) k q ∙ w.1))
 
-    promote_going : AreGoing T t.config d (n ∷ []) (Own step)
-    promote_going = by_next step makes promoted leads (n ∷ []) promote_rows (λ k i. elim i [ inl q ↦ (alt, ap (λ (x : Name). box_at x t.config.roots) q ∙ alt_there) | inr z ↦ absurd z ])
+    join_going : AreGoing T t.config d (alternatives_of (T.goal_of g)) (Own step)
+    join_going = by_next step makes joined leads (alternatives_of (T.goal_of g)) join_rows (λ n i. let e : (e : Found) × (box_at n t.config.roots ≡ Some e) × (e.goals ≡ no_goals) = there n i in (e.0, e.1))
 
   -- each step
   going : (step : Step) → Makes r.program l (slice_index t.config.next l.worker) a.site step → AreGoing T t.config d (boxes_going T step l.place l.alternative) (Own step)
@@ -193,9 +204,8 @@ module _ (rules : List Rule) (r : Run) (T : Table) (l : Label) (d : Config) (t :
   going cuts makes = subst (λ (p : Place). AreGoing T t.config d (boxes_going T cuts p l.alternative) (Own cuts)) (sym makes.1.2)
       (subst (λ (x : Option Name). AreGoing T t.config d (boxes_going T cuts (Place.Goal makes.1.0) x) (Own cuts)) (sym makes.1.3)
       (cut_going rules r T l d t a makes.1.0 makes.1.1 makes.0 makes.1.2 makes.1.3 makes.1.4 (Own cuts) (λ i y. y.0)))
-  going (promotes new solved goals) makes = subst (λ (p : Place). AreGoing T t.config d (boxes_going T (promotes new solved goals) p l.alternative) (Own (promotes new solved goals))) (sym makes.1.2)
-      (subst (λ (x : Option Name). AreGoing T t.config d (boxes_going T (promotes new solved goals) (Place.Goal makes.1.0) x) (Own (promotes new solved goals))) (sym makes.1.3)
-      (promote_going new solved goals makes))
+  going (joins new solved goals) makes = subst (λ (p : Place). AreGoing T t.config d (boxes_going T (joins new solved goals) p l.alternative) (Own (joins new solved goals))) (sym makes.1)
+      (join_going new solved goals makes)
   going (splits copy copies) makes = subst (λ (p : Place). AreGoing T t.config d (boxes_going T (splits copy copies) p l.alternative) (Own (splits copy copies))) (sym makes.1.2)
       (subst (λ (x : Option Name). AreGoing T t.config d (boxes_going T (splits copy copies) (Place.Box makes.1.0) x) (Own (splits copy copies))) (sym makes.1.3)
       (split_going rules r T l d t a makes.1.0 makes.1.1 copy copies makes.0 makes.1.2 makes.1.3 makes.1.4 (Own (splits copy copies)) (λ i y. y.0)))
@@ -211,7 +221,7 @@ module _ (rules : List Rule) (r : Run) (T : Table) (l : Label) (d : Config) (t :
   -- a step whose goal goes stands at a goal
   goal_place : (step : Step) → Makes r.program l (slice_index t.config.next l.worker) a.site step → OwnGoalGoes step → (n : Name) → Place.Box n ≡ l.place → ⊥
   goal_place (tells new solved) makes o n e = not_goal l.place makes.0 n makes.1 e
-  goal_place (promotes new solved goals) makes o n e = not_goal l.place makes.1.0 n makes.1.2 e
+  goal_place (joins new solved goals) makes o n e = not_goal l.place makes.0 n makes.1 e
   goal_place confirms makes o n e = not_goal l.place makes.1.0 n makes.1.1 e
   goal_place (forks op news) makes o n e = o
   goal_place fails makes o n e = o

@@ -3,7 +3,7 @@ use Rattle.std.proofs.Common.{◌≡◌, ℕ, zero, suc, ◌+◌, ◌≤◌, ◌
 use Rattle.std.specs.Prelude.{option_map, option_and_then}
 use Rattle.std.proofs.lemmas.List.{length-append}
 use Rattle.akl_terms.specs.declared.name.Name.{Name}
-use Rattle.akl_terms.specs.declared.program.Op.{Op}
+use Rattle.akl_model.specs.Config.{Operator}
 use Rattle.akl_terms.specs.Names.{same_name}
 use Rattle.akl_terms.proofs.SameNames.{same_name-equal}
 use Rattle.akl_model.specs.Config.{IsIn, Content, Boxes, Goals, no_goals, atom, choice, Config, Held, an_atom, a_choice, held_in, Found, box_at, home_of}
@@ -47,9 +47,9 @@ spot_held g roots f h e i =
 pub spot_none : (g : Name) (roots : Boxes) → home_of g roots ≡ None → spot_in g roots ≡ None
 spot_none g roots e = ap (option_and_then (λ (k : Found). option_map (λ (x : Held). record { home = k.content.name; shape = shape_of x }) (held_in g k.goals))) e
 
-pub choice_of : (h : Held) (o : Op) (ns : List Name) → shape_of h ≡ of_choice o ns → (bs : Boxes) × (h ≡ a_choice o bs) × (box_names bs ≡ ns)
+pub choice_of : (h : Held) (o : Operator) (ns : List Name) → shape_of h ≡ of_choice o ns → (bs : Boxes) × (h ≡ a_choice o bs) × (box_names bs ≡ ns)
 choice_of (an_atom a) o ns e = cc
-choice_of (a_choice q bs) o ns e = let r : q ≡ o = cc in (bs, ap (λ (x : Op). a_choice x bs) r, cc)
+choice_of (a_choice q bs) o ns e = let r : q ≡ o = cc in (bs, ap (λ (x : Operator). a_choice x bs) r, cc)
 
 -- what is around a box or is it is around the boxes directly in it
 named_down : (n : Name) (f a : Found) → a.around ≡ f.around ++ f.content ∷ [] → IsIn n (names_down_to f) → IsIn n (names_down_to a)
@@ -77,13 +77,13 @@ module _ (T : Table) (c : Config) (u : Unfolds T c) (once : (m : Name) → times
       let q : w.0 ≡ f = some_value (sym w.1 ∙ e) in
       named_held g f.goals (counted_in g (goal_names f.goals) (subst (IsIn g) (w.2.goals ∙ ap (λ (k : Found). goal_names k.goals) q) d.named))
 
-  pub alternative : (g a : Name) (f : Found) (op : Op) (bs : Boxes) → home_of g c.roots ≡ Some f → held_in g f.goals ≡ Some (a_choice op bs) → IsIn a (box_names bs) → IsAlternativeOf T g a
+  pub alternative : (g a : Name) (f : Found) (op : Operator) (bs : Boxes) → home_of g c.roots ≡ Some f → held_in g f.goals ≡ Some (a_choice op bs) → IsIn a (box_names bs) → IsAlternativeOf T g a
   alternative g a f op bs e h i =
       let w : (r : GoalRow) × (T.goal_of g ≡ Some r) × (r.home ≡ f.content.name) × (r.shape ≡ of_choice op (box_names bs)) = goal_row g f (a_choice op bs) e h in
       record { row = w.0; there = w.1; op = op; alternatives = box_names bs; choice = w.3; named = i }
 
   pub held_alternative : (g a : Name) (f : Found) (h : Held) → home_of g c.roots ≡ Some f → held_in g f.goals ≡ Some h → IsAlternativeOf T g a
-      → (op : Op) × (bs : Boxes) × (held_in g f.goals ≡ Some (a_choice op bs)) × IsIn a (box_names bs)
+      → (op : Operator) × (bs : Boxes) × (held_in g f.goals ≡ Some (a_choice op bs)) × IsIn a (box_names bs)
   held_alternative g a f h e i x =
       let w : (r : GoalRow) × (T.goal_of g ≡ Some r) × (r.home ≡ f.content.name) × (r.shape ≡ shape_of h) = goal_row g f h e i in
       let q : w.0 ≡ x.row = some_value (sym w.1 ∙ x.there) in
@@ -108,7 +108,7 @@ module _ (T : Table) (c : Config) (u : Unfolds T c) (once : (m : Name) → times
       on v =
           let h : (k : Held) × (held_in g v.found.goals ≡ Some k) = held_directly m g v.found v.is_found d in
           let at : home_of g c.roots ≡ Some v.found = home_found c.roots once g m v.found h.0 v.is_found h.1 in
-          let w : (op : Op) × (bs : Boxes) × (held_in g v.found.goals ≡ Some (a_choice op bs)) × IsIn a (box_names bs) = held_alternative g a v.found h.0 at h.1 y in
+          let w : (op : Operator) × (bs : Boxes) × (held_in g v.found.goals ≡ Some (a_choice op bs)) × IsIn a (box_names bs) = held_alternative g a v.found h.0 at h.1 y in
           let z : IsAlternativeAt a g v.found c.roots = alternative_at c.roots once a g v.found w.0 w.1 at w.2 w.3 in
           record {
             found = z.found;

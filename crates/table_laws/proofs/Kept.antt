@@ -2,7 +2,7 @@
 use Rattle.std.proofs.Common.{◌≡◌, ◌+◌, ◌≤◌, List, [], ◌∷◌, ◌++◌, map, Bool, true, false, Option, Some, None, refl, sym, ◌∙◌, ap, subst, ◌⊎◌, inl, inr, arith}
 use Rattle.std.specs.Prelude.{if◌then◌else◌}
 use Rattle.akl_terms.specs.declared.name.Name.{Name}
-use Rattle.akl_terms.specs.declared.program.Op.{Op}
+use Rattle.akl_model.specs.Config.{Operator}
 use Rattle.akl_terms.specs.Names.{same_name}
 use Rattle.akl_terms.proofs.SameNames.{same_name-equal}
 use Rattle.akl_model.specs.Config.{IsIn, Content, Boxes, no_boxes, box, Goals, no_goals, atom, choice, Held, an_atom, a_choice, held_in, with_content}
@@ -42,15 +42,16 @@ alone_less m n (k ∷ ns) = on (same_name n k) (alone_less m n ns)
     on false e = omega arith
 
 -- each alternative is kept or goes
-pub parted : (o : Op) (n m : Name) (ns : List Name) → times_in m (names_kept o n ns) + times_in m (names_cut o n ns) ≡ times_in m ns
-parted Op.Condition n m ns = up_to_after m n ns
-parted Op.Commit n m ns = alone_less m n ns
-parted Op.Choice n m ns = omega arith
+pub parted : (o : Operator) (n m : Name) (ns : List Name) → times_in m (names_kept o n ns) + times_in m (names_cut o n ns) ≡ times_in m ns
+parted Operator.condition n m ns = up_to_after m n ns
+parted Operator.commit n m ns = alone_less m n ns
+parted Operator.nondeterminate n m ns = omega arith
+parted (Operator.collecting r) n m ns = omega arith
 
-pub cut_named : (o : Op) (n m : Name) (ns : List Name) → IsIn m (names_cut o n ns) → IsIn m ns
+pub cut_named : (o : Operator) (n m : Name) (ns : List Name) → IsIn m (names_cut o n ns) → IsIn m ns
 cut_named o n m ns i = named_counted m ns (let a : 1 ≤ times_in m (names_cut o n ns) = counted_in m (names_cut o n ns) i in let e : times_in m (names_kept o n ns) + times_in m (names_cut o n ns) ≡ times_in m ns = parted o n m ns in omega arith)
 
-pub kept_apart : (o : Op) (n m : Name) (ns : List Name) → times_in m ns ≤ 1 → IsIn m (names_kept o n ns) → IsIn m (names_cut o n ns) → ⊥
+pub kept_apart : (o : Operator) (n m : Name) (ns : List Name) → times_in m ns ≤ 1 → IsIn m (names_kept o n ns) → IsIn m (names_cut o n ns) → ⊥
 kept_apart o n m ns once i j =
     let a : 1 ≤ times_in m (names_kept o n ns) = counted_in m (names_kept o n ns) i in
     let b : 1 ≤ times_in m (names_cut o n ns) = counted_in m (names_cut o n ns) j in
@@ -76,10 +77,11 @@ alone_itself n (k ∷ ns) i = on (same_name n k) refl i (alone_itself n ns)
     on false r (inr j) f = f j
 
 -- the solved one is kept
-kept_itself : (o : Op) (n : Name) (ns : List Name) → IsIn n ns → IsIn n (names_kept o n ns)
-kept_itself Op.Condition n ns i = up_to_itself n ns i
-kept_itself Op.Commit n ns i = alone_itself n ns i
-kept_itself Op.Choice n ns i = i
+kept_itself : (o : Operator) (n : Name) (ns : List Name) → IsIn n ns → IsIn n (names_kept o n ns)
+kept_itself Operator.condition n ns i = up_to_itself n ns i
+kept_itself Operator.commit n ns i = alone_itself n ns i
+kept_itself Operator.nondeterminate n ns i = i
+kept_itself (Operator.collecting r) n ns i = i
 
 -- by boxes
 
@@ -101,10 +103,11 @@ alone_names n (box b gs bs) = on (same_name n b.name) (alone_names n bs)
     on true e = refl
     on false e = e
 
-pub kept_names : (o : Op) (n : Name) (bs : Boxes) → box_names (kept_by o n bs) ≡ names_kept o n (box_names bs)
-kept_names Op.Condition n bs = up_to_names n bs
-kept_names Op.Commit n bs = alone_names n bs
-kept_names Op.Choice n bs = refl
+pub kept_names : (o : Operator) (n : Name) (bs : Boxes) → box_names (kept_by o n bs) ≡ names_kept o n (box_names bs)
+kept_names Operator.condition n bs = up_to_names n bs
+kept_names Operator.commit n bs = alone_names n bs
+kept_names Operator.nondeterminate n bs = refl
+kept_names (Operator.collecting r) n bs = refl
 
 -- the names down to a box in goals
 abbrev pub down_to : List Content → Content → List Name
@@ -152,13 +155,14 @@ alone_or n r k hs (box b gs bs) x = on (same_name n b.name) x (alone_or n r k hs
     on false (inr (inl w)) f = inr (b.name, inl refl, below_name r w.0 k b w.1)
     on false (inr (inr y)) f = elim (f y) [ inl z ↦ inl z | inr z ↦ inr (z.0, inr z.1, z.2) ]
 
-kept_or : (o : Op) (n : Name) (r : List Content) (k : Content) (hs : Goals) (bs : Boxes) → BoxIn r k hs bs → BoxIn r k hs (kept_by o n bs) ⊎ IsUnderOne (names_cut o n (box_names bs)) r k
-kept_or Op.Condition n r k hs bs x = up_to_or n r k hs bs x
-kept_or Op.Commit n r k hs bs x = alone_or n r k hs bs x
-kept_or Op.Choice n r k hs bs x = inl x
+kept_or : (o : Operator) (n : Name) (r : List Content) (k : Content) (hs : Goals) (bs : Boxes) → BoxIn r k hs bs → BoxIn r k hs (kept_by o n bs) ⊎ IsUnderOne (names_cut o n (box_names bs)) r k
+kept_or Operator.condition n r k hs bs x = up_to_or n r k hs bs x
+kept_or Operator.commit n r k hs bs x = alone_or n r k hs bs x
+kept_or Operator.nondeterminate n r k hs bs x = inl x
+kept_or (Operator.collecting t) n r k hs bs x = inl x
 
 -- what stands in goals does so where a choice keeps some alternatives, or is in one that goes
-pub kept_inside : (g : Name) (v o : Op) (n : Name) (bs : Boxes) (r : List Content) (k : Content) (hs gs : Goals) → held_in g gs ≡ Some (a_choice v bs) → InGoals r k hs gs
+pub kept_inside : (g : Name) (v o : Operator) (n : Name) (bs : Boxes) (r : List Content) (k : Content) (hs gs : Goals) → held_in g gs ≡ Some (a_choice v bs) → InGoals r k hs gs
     → InGoals r k hs (with_content g (a_choice v (kept_by o n bs)) gs) ⊎ IsUnderOne (names_cut o n (box_names bs)) r k
 kept_inside g v o n bs r k hs no_goals e x = absurd x
 kept_inside g v o n bs r k hs (atom i a gs) e x = on (same_name g i) e (λ q. kept_inside g v o n bs r k hs gs q x)
@@ -179,12 +183,12 @@ kept_inside g v o n bs r k hs (choice i p cs gs) e x = on (same_name g i) e x (�
     on false q (inr y) f = elim (f q y) [ inl u ↦ inl (inr u) | inr u ↦ inr u ]
 
 -- a choice with an alternative doesn't make its box fail
-not_failing : (n : Name) (o : Op) (bs : Boxes) → IsIn n (box_names bs) → IsFailing (a_choice o bs) → ⊥
+not_failing : (n : Name) (o : Operator) (bs : Boxes) → IsIn n (box_names bs) → IsFailing (a_choice o bs) → ⊥
 not_failing n o no_boxes i x = i
 not_failing n o (box b gs bs) i x = x
 
 -- so what fails the box does so still
-pub kept_fails : (g : Name) (v o : Op) (n : Name) (bs : Boxes) (gs hs : Goals) (w : Option Name) → ((i : Name) → times_inside i hs ≤ 1) → IsIn n (box_names bs) → held_in g gs ≡ Some (a_choice v bs)
+pub kept_fails : (g : Name) (v o : Operator) (n : Name) (bs : Boxes) (gs hs : Goals) (w : Option Name) → ((i : Name) → times_inside i hs ≤ 1) → IsIn n (box_names bs) → held_in g gs ≡ Some (a_choice v bs)
     → held_in g hs ≡ Some (a_choice v (kept_by o n bs)) → ((i : Name) → same_name i g ≡ false → held_in i hs ≡ held_in i gs) → FailsBy gs w → FailsBy hs w
 kept_fails g v o n bs gs hs w once named was held others fails = by w fails
   where

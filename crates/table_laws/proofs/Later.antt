@@ -1,10 +1,10 @@
 -- A step that was made for a prefix of a run is right for the whole of it, where by its stamps what it reads is unchanged.
-use Rattle.std.proofs.Common.{◌≡◌, ℕ, List, [], ◌∷◌, ◌++◌, length, Bool, true, false, Option, Some, None, refl, sym, ◌∙◌, ap, subst}
-use Rattle.std.specs.Prelude.{if◌then◌else◌, slice_index}
+use Rattle.std.proofs.Common.{◌≡◌, ℕ, List, [], ◌∷◌, ◌++◌, length, Option, Some, None, refl, sym, ◌∙◌, ap, subst, ◌⊎◌, inl, inr}
+use Rattle.std.specs.Prelude.{slice_index}
 use Rattle.akl_terms.specs.declared.name.Name.{Name}
 use Rattle.akl_terms.specs.declared.name.Place.{Place}
 use Rattle.akl_terms.specs.declared.term.Node.{Node}
-use Rattle.akl_terms.specs.declared.program.Op.{Op}
+use Rattle.akl_model.specs.Config.{Operator}
 use Rattle.akl_terms.specs.declared.program.Program.{Program}
 use Rattle.akl_terms.specs.declared.program.Query.{Query}
 use Rattle.akl_terms.specs.Equal.{Equations, IsTold}
@@ -12,11 +12,9 @@ use Rattle.akl_terms.specs.Standing.{StandFor}
 use Rattle.akl_model.specs.declared.item.Item.{Item}
 use Rattle.akl_model.specs.declared.label.Rule.{Rule}
 use Rattle.akl_model.specs.declared.label.Label.{Label}
-use Rattle.akl_terms.specs.Names.{same_name}
-use Rattle.akl_terms.proofs.SameNames.{same_name-refl}
 use Rattle.akl_model.specs.Changes.{box_names}
-use Rattle.akl_model.specs.Rules.{alternative_of}
-use Rattle.akl_model.specs.Config.{IsIn, Atom, Content, Boxes, no_boxes, box, no_goals, with_names, with_ports, equations_of, Config, Held, an_atom, a_choice, held_in, Found, whole, box_at, home_of, site_of}
+use Rattle.akl_model.specs.Rules.{gathered}
+use Rattle.akl_model.specs.Config.{IsIn, Atom, Content, Boxes, no_boxes, box, with_names, with_ports, Config, Held, an_atom, a_choice, held_in, Found, whole, box_at, home_of, site_of}
 use Rattle.akl_model.specs.Instances.{instances}
 use Rattle.akl_model.specs.Derivations.{Applies, Derives, Replays}
 use Rattle.akl_model.specs.Stable.{only}
@@ -27,24 +25,22 @@ use Rattle.constraint_laws.specs.StandingGrows.{AreToldIn}
 use Rattle.constraint_laws.proofs.StandsGrow.{same_told_stands, stands_over, stands_within}
 use Rattle.rational_unify.specs.Solving.{bindings_in}
 use Rattle.local_store.specs.Stored.{Stored}
-use Rattle.akl_model.proofs.RuleCases.{inner}
-use Rattle.step_laws.specs.Stays.{GoesOn, Leaves, HaveShape, IsSameBox, HaveSameEquations}
+use Rattle.step_laws.specs.Stays.{GoesOn, Leaves, HaveShape, HaveSameEquations}
 use Rattle.step_laws.specs.Likeness.{IsLike}
 use Rattle.step_laws.specs.Inside.{EachItem}
 use Rattle.step_laws.proofs.Whereabouts.{found_in}
 use Rattle.step_laws.proofs.Inside.{each_map}
 use Rattle.step_laws.proofs.Steps.{Later, later}
-use Rattle.step_laws.proofs.Same.{IsSame}
-use Rattle.step_laws.proofs.Same as untouched
-use Rattle.step_laws.proofs.Stays.{solved_alternative_stays}
 use Rattle.step_laws.proofs.StaysLaws.{goal_stays, goal_place, around_stays, inside_stays, equations_grow}
 use Rattle.plan_laws.specs.Right.{Reads, NoneBy, IsRightOn}
 use Rattle.plan_laws.specs.Stamps as stamps
+use Rattle.akl_model.proofs.Gathered.{AllSolved, gathered_solved}
+use Rattle.plan_laws.proofs.AllSolved.{each_stands, all_stay}
 use Rattle.plan_laws.proofs.Right.{fresh}
 use Rattle.plan_laws.proofs.StampLaws.{stamped, stamped_right}
 use Rattle.step_laws.proofs.Whereabouts.{home_in}
 use Rattle.table_laws.proofs.Insides.{choice_of}
-use Rattle.table_laws.specs.Steps.{NewBox, Step, tells, forks, fails, cuts, promotes, splits, CutsGoal, numbered, PromotesGoal, SplitsBox, TellsGoal, AreNewBoxes, ForksGoal, Makes, ReadsFor, refutes, confirms, ReducesAtom}
+use Rattle.table_laws.specs.Steps.{NewBox, Step, tells, forks, fails, cuts, joins, splits, CutsGoal, numbered, JoinsGoal, IsPromoted, IsGathered, SplitsBox, TellsGoal, AreNewBoxes, ForksGoal, Makes, ReadsFor, refutes, confirms, ReducesAtom}
 use Rattle.table_laws.proofs.Gone.{goals_once}
 use Rattle.table_laws.proofs.Reducing.{reduced}
 use Rattle.table_laws.proofs.SameAtom.{same_atom}
@@ -56,7 +52,7 @@ atom_shape a (Some (an_atom b)) e = let r : a ≡ b = cc in ap (λ (x : Atom). S
 atom_shape a (Some (a_choice o bs)) e = cc
 
 -- a choice by its shape
-choice_shape : (o : Op) (bs : Boxes) (h : Option Held) → HaveShape (Some (a_choice o bs)) h → (cs : Boxes) × (h ≡ Some (a_choice o cs)) × (box_names bs ≡ box_names cs)
+choice_shape : (o : Operator) (bs : Boxes) (h : Option Held) → HaveShape (Some (a_choice o bs)) h → (cs : Boxes) × (h ≡ Some (a_choice o cs)) × (box_names bs ≡ box_names cs)
 choice_shape o bs None e = cc
 choice_shape o bs (Some h) e =
     let w : (cs : Boxes) × (h ≡ a_choice o cs) × (box_names cs ≡ box_names bs) = choice_of h o (box_names bs) (sym (some_value e)) in
@@ -75,19 +71,10 @@ more_around nodes E G (n ∷ ns) (box b gs bs) f a = (
     stands = λ D d. stands_over D G (bindings_in nodes n.store.bindings) b.equations d (stands_within E (bindings_in nodes n.store.bindings) b.equations G f (a.0.stands E (same_told_stands E E (record { each = λ s t m. m }) (record { each = λ s t m. m }))));
     goals = a.0.goals;
     body = a.0.body;
+    collected = a.0.collected;
   },
   more_around nodes E G ns bs f a.1,
 )
-
--- a choice of one alternative, by its name and what it has
-only_alternative : (f : Found) (n : Name) (b : Content) (cs : Boxes) (a : Found) → b.name ∷ [] ≡ box_names cs → alternative_of f n cs ≡ Some a → b ≡ a.content → a.goals ≡ no_goals → cs ≡ box b no_goals no_boxes
-only_alternative f n b no_boxes a names found content goals = cc
-only_alternative f n b (box k hs (box i is js)) a names found content goals = cc
-only_alternative f n b (box k hs no_boxes) a names found content goals = on (same_name n k.name) found
-  where
-    on : (t : Bool) → (if t then Some (record { around = f.around ++ f.content ∷ []; content = k; goals = hs }) else None) ≡ Some a → box k hs no_boxes ≡ box b no_goals no_boxes
-    on true e = λ i. box ((ap (λ (x : Found). x.content) (some_value e) ∙ sym content) i) ((ap (λ (x : Found). x.goals) (some_value e) ∙ goals) i) no_boxes
-    on false e = cc
 
 -- what is read of a goal, by any rule
 goal_read : (U : Item → Type 0) (r : Rule) (alternative : Option Name) (g : Name) (f : Found) → Reads U r (Place.Goal g) alternative f → U (Item.Goal g)
@@ -98,6 +85,7 @@ goal_read U Rule.Eval n g f x = x.0
 goal_read U Rule.Send n g f x = x.0
 goal_read U Rule.Cut n g f x = x.0
 goal_read U Rule.Promote n g f x = x.0
+goal_read U Rule.Collect n g f x = x.0
 goal_read U Rule.Fail n g f x = absurd x
 goal_read U Rule.Split n g f x = absurd x
 
@@ -175,12 +163,13 @@ module _ (rules : List Rule) (p : Program) (q : Query) (journal further : List L
           (subst (λ (n : Name). box_at n d.roots ≡ Some right.applies.site) (sym right.same_site) (site-box l.place d.roots right.applies.site t.once right.applies.is_site));
     }
 
-    still_forks : (g : Name) (op : Op) (news : List NewBox) → l.place ≡ Place.Goal g → Stamped (Item.Goal g) → ForksGoal p l.worker (slice_index c.next l.worker) a.site g op news
+    still_forks : (g : Name) (op : Operator) (news : List NewBox) → l.place ≡ Place.Goal g → Stamped (Item.Goal g) → ForksGoal p l.worker (slice_index c.next l.worker) a.site g op news
         → ForksGoal p l.worker (slice_index d.next l.worker) right.applies.site g op news
     still_forks g op news i u m = record {
       number = m.number;
       arguments = m.arguments;
-      held = still_held g (Atom.call m.number m.arguments) i u m.held;
+      result = m.result;
+      held = still_held g (Atom.call m.number m.arguments m.result) i u m.held;
       definition = m.definition;
       is_definition = m.is_definition;
       operator = m.operator;
@@ -197,42 +186,59 @@ module _ (rules : List Rule) (p : Program) (q : Query) (journal further : List L
         (subst (λ (v : Found). HaveShape (Some (a_choice m.operator m.alternatives)) (held_in g v.goals)) f (subst (λ (o : Option Held). HaveShape o (held_in g k.0.goals)) m.held k.3)) in
         record { operator = m.operator; alternatives = v.0; held = v.1; named = subst (IsIn n) v.2 m.named }
 
-    still_promotes : (g n : Name) (new : Stored) (xs : List (Name × Atom)) → l.place ≡ Place.Goal g → Stamped (Item.Goal g) → ((m : Name) → IsIn m (names_down_to a.site) → Stamped (Item.Store m))
-        → PromotesGoal p.templates.nodes l.worker (slice_index c.next l.worker) a.site g n new xs → PromotesGoal p.templates.nodes l.worker (slice_index d.next l.worker) right.applies.site g n new xs
-    still_promotes g n new xs i u v m = record {
+    still_joins : (g : Name) (new : Stored) (xs : List (Name × Atom)) → l.place ≡ Place.Goal g → Stamped (Item.Goal g) → ((m : Name) → IsIn m (names_down_to a.site) → Stamped (Item.Store m))
+        → JoinsGoal p l (slice_index c.next l.worker) a.site g new xs → JoinsGoal p l (slice_index d.next l.worker) right.applies.site g new xs
+    still_joins g new xs i u v m = record {
       operator = m.operator;
-      alternative = m.alternative;
-      held = subst (λ (k : Found). held_in g k.goals ≡ Some (a_choice m.operator (box m.alternative no_goals no_boxes))) f
-          (k.4 ∙ ap (λ (cs : Boxes). Some (a_choice m.operator cs)) (only_alternative k.0 n m.alternative k.2 k.1 k.5 k.6 k.9.content k.10));
-      named = m.named;
-      frames = m.frames ∙ ap (λ (b : Content). with_names m.alternative.frames b.frames) same.content;
-      ports = m.ports ∙ ap (λ (b : Content). with_ports m.alternative.ports b.ports) same.content;
-      stands = λ D h. subst (λ (E : Equations). StandFor (IsTold (D ++ bindings_in p.templates.nodes new.bindings)) (IsTold (E ++ m.alternative.equations)))
-          (λ j. equations_of (same.around j) ++ (same.content j).equations)
-          (m.stands D (subst (λ (E : Equations). StandFor (IsTold D) (IsTold E)) (sym (ap equations_of same.around)) h));
-      body = m.body ∙ ap (λ (k : ℕ). numbered l.worker k m.alternative.body) (sym (fresh rules p c further d w l none).0);
+      alternatives = m.alternatives;
+      held = there.1 ∙ ap (λ (cs : Boxes). Some (a_choice m.operator cs)) (sym stay);
+      joined = m.joined;
+      origin = elim m.origin [
+        | inl y ↦ inl y
+        | inr y ↦ inr (record {
+          rule = y.rule;
+          alternative = y.alternative;
+          result = y.result;
+          collects = y.collects;
+          is_content = (λ j. gathered p l.worker (next_same j) (name_same j) y.result m.alternatives) ∙ y.is_content;
+        })
+      ];
+      frames = m.frames ∙ ap (λ (b : Content). with_names m.joined.frames b.frames) same.same.content;
+      ports = m.ports ∙ ap (λ (b : Content). with_ports m.joined.ports b.ports) same.same.content;
+      stands = λ D h. subst (λ (E : Equations). StandFor (IsTold (D ++ bindings_in p.templates.nodes new.bindings)) (IsTold (E ++ m.joined.equations))) same.whole
+          (m.stands D (subst (λ (E : Equations). StandFor (IsTold D) (IsTold E)) (sym same.environment) h));
+      body = m.body ∙ ap (λ (k : ℕ). numbered l.worker k m.joined.body) (sym next_same);
     }
       where
         z : Later c d
         z = later rules p c d further s derives
 
-        unchanged : (item : Item) → Stamped item → IsSame c d item
-        unchanged item x = untouched.same rules p c further d derives item (leaves item x)
+        same : HaveSameEquations a.site right.applies.site
+        same = same_site g i u v
 
-        found : alternative_of a.site n (box m.alternative no_goals no_boxes) ≡ Some (inner a.site m.alternative)
-        found = subst (λ (b : Bool). (if b then Some (inner a.site m.alternative) else None) ≡ Some (inner a.site m.alternative))
-            (sym (subst (λ (b : Name). same_name n b ≡ true) m.named (same_name-refl n))) refl
+        next_same : slice_index d.next l.worker ≡ slice_index c.next l.worker
+        next_same = (fresh rules p c further d w l none).0
 
-        k : (f : Found) × (b : Found) × (cs : Boxes) × (home_of g d.roots ≡ Some f) × (held_in g f.goals ≡ Some (a_choice m.operator cs)) × (box_names (box m.alternative no_goals no_boxes) ≡ box_names cs)
-            × (alternative_of f n cs ≡ Some b) × IsLike a.site f × IsSameBox a.site f × IsSameBox (inner a.site m.alternative) b × (b.goals ≡ no_goals)
-        k = solved_alternative_stays c d s t z g n a.site m.operator (box m.alternative no_goals no_boxes) (inner a.site m.alternative) (was_home g i) m.held found refl
-            (unchanged (Item.Goal g) u) (λ b j. unchanged (Item.Store b) (v b j))
+        name_same : right.applies.site.content.name ≡ a.site.content.name
+        name_same = sym right.same_site
 
-        f : k.0 ≡ right.applies.site
-        f = some_value (sym k.3 ∙ at_home g i)
+        there : (cs : Boxes) × (held_in g right.applies.site.goals ≡ Some (a_choice m.operator cs)) × (box_names m.alternatives ≡ box_names cs)
+        there =
+            let k : _ = goal_stays rules p c further d w g a.site (was_home g i) (leaves (Item.Goal g) u) in
+            let f : k.0 ≡ right.applies.site = some_value (sym k.1 ∙ at_home g i) in
+            choice_shape m.operator m.alternatives (held_in g right.applies.site.goals)
+            (subst (λ (v : Found). HaveShape (Some (a_choice m.operator m.alternatives)) (held_in g v.goals)) f (subst (λ (o : Option Held). HaveShape o (held_in g k.0.goals)) m.held k.3))
 
-        same : IsSameBox a.site right.applies.site
-        same = subst (IsSameBox a.site) f k.8
+        solved : AllSolved m.alternatives
+        solved = elim m.origin [
+          | inl y ↦ subst AllSolved (sym y.only) (refl, tt)
+          | inr y ↦ gathered_solved p l.worker (slice_index c.next l.worker) a.site.content.name y.result m.alternatives m.joined y.is_content
+        ]
+
+        stay : m.alternatives ≡ there.0
+        stay = all_stay c d s t z (a.site.around ++ a.site.content ∷ []) (right.applies.site.around ++ right.applies.site.content ∷ []) m.alternatives there.0 there.2 solved
+            (each_stands g m.operator m.alternatives c.roots a.site (home_in g c.roots a.site (was_home g i)).0 m.held)
+            (each_stands g m.operator there.0 d.roots right.applies.site (home_in g d.roots right.applies.site (at_home g i)).0 there.1)
 
     -- a box of which no item inside is changed, under unchanged constraints, is the same
     same_box : EachItem Stamped (only a.site) → ((m : Name) → IsIn m (names_around a.site) → Stamped (Item.Store m)) → a.site ≡ right.applies.site
@@ -260,9 +266,14 @@ module _ (rules : List Rule) (p : Program) (q : Query) (journal further : List L
     made_still cuts u m =
         let r : Reads Stamped Rule.Cut (Place.Goal m.1.0) l.alternative a.site = subst (λ (x : Rule). Reads Stamped x (Place.Goal m.1.0) l.alternative a.site) m.0 (subst (λ (x : Place). Reads Stamped l.rule x l.alternative a.site) m.1.2 u) in
         (m.0, (m.1.0, m.1.1, m.1.2, m.1.3, still_cuts m.1.0 m.1.1 m.1.2 r.0 m.1.4))
-    made_still (promotes new solved goals) u m =
-        let r : Reads Stamped Rule.Promote (Place.Goal m.1.0) l.alternative a.site = subst (λ (x : Rule). Reads Stamped x (Place.Goal m.1.0) l.alternative a.site) m.0 (subst (λ (x : Place). Reads Stamped l.rule x l.alternative a.site) m.1.2 u) in
-        (m.0, (m.1.0, m.1.1, m.1.2, m.1.3, still_promotes m.1.0 m.1.1 new goals m.1.2 r.0 r.1 m.1.4))
+    made_still (joins new solved goals) u m =
+        let r : Stamped (Item.Goal m.0) × ((n : Name) → IsIn n (names_down_to a.site) → Stamped (Item.Store n)) = joined_reads m.2.origin (subst (λ (x : Place). Reads Stamped l.rule x l.alternative a.site) m.1 u) in
+        (m.0, m.1, still_joins m.0 new goals m.1 r.0 r.1 m.2)
+      where
+        joined_reads : {g : Name} {op : Operator} {bs : Boxes} {k : Content} → IsPromoted l bs k ⊎ IsGathered p l (slice_index c.next l.worker) a.site.content.name op bs k → Reads Stamped l.rule (Place.Goal g) l.alternative a.site
+            → Stamped (Item.Goal g) × ((n : Name) → IsIn n (names_down_to a.site) → Stamped (Item.Store n))
+        joined_reads {g = g} (inl y) x = subst (λ (z : Rule). Reads Stamped z (Place.Goal g) l.alternative a.site) y.rule x
+        joined_reads {g = g} (inr y) x = subst (λ (z : Rule). Reads Stamped z (Place.Goal g) l.alternative a.site) y.rule x
     made_still refutes u m = (m.0, (m.1.0, m.1.1, still_decides m.1.0 (Some (an_atom Atom.fail)) m.0 m.1.1 u m.1.2))
     made_still confirms u m = (m.0, (m.1.0, m.1.1, still_decides m.1.0 None m.0 m.1.1 u m.1.2))
     made_still (splits copy copies) u m =
@@ -283,7 +294,7 @@ module _ (rules : List Rule) (p : Program) (q : Query) (journal further : List L
   only_reads (forks op news) u = u
   only_reads fails u = u
   only_reads cuts u = u
-  only_reads (promotes new solved goals) u = u
+  only_reads (joins new solved goals) u = u
   only_reads refutes u = u
   only_reads confirms u = u
   only_reads (splits copy copies) u = u

@@ -2,7 +2,7 @@
 use Rattle.std.proofs.Common.{◌≡◌, ◌+◌, ◌≤◌, List, [], ◌∷◌, Bool, true, false, Option, Some, None, refl, sym, ◌∙◌, ap, subst, ◌⊎◌, inl, inr, arith}
 use Rattle.std.specs.Prelude.{option_map, if◌then◌else◌}
 use Rattle.akl_terms.specs.declared.name.Name.{Name}
-use Rattle.akl_terms.specs.declared.program.Op.{Op}
+use Rattle.akl_model.specs.Config.{Operator}
 use Rattle.akl_terms.specs.Names.{same_name}
 use Rattle.akl_terms.proofs.SameNames.{same_name-equal}
 use Rattle.akl_model.specs.Config.{IsIn, Boxes, no_boxes, Config, Held, an_atom, a_choice, held_in, Found, box_at, home_of, edited, edited_inside}
@@ -21,7 +21,7 @@ use Rattle.step_laws.proofs.Holders.{alternative_at, held_or, unheld_around, roo
 use Rattle.table_laws.specs.Rows.{BoxRow, GoalRow, Table}
 use Rattle.table_laws.specs.Unfolds.{FailsBy, IsBoxRow, spot_of, Unfolds}
 use Rattle.table_laws.specs.Inside.{IsInside, IsGoalInside}
-use Rattle.table_laws.specs.Writes.{less_name, set, home_in as home_of_row, changed_box, less_alternative, left_row, none_left, left_by, held_without, holder_in_row, Fails}
+use Rattle.table_laws.specs.Writes.{less_name, set, home_in as home_of_row, changed_box, less_alternative, left_row, none_left, fails_empty, left_by, held_without, holder_in_row, Fails}
 use Rattle.table_laws.proofs.Sets.{not_some, other_by, other_name, set_here, set_other}
 use Rattle.table_laws.proofs.Frame.{neither, row_of}
 use Rattle.table_laws.proofs.Onward.{IsMark}
@@ -45,17 +45,20 @@ pub record IsLeft (T U : Table) (c : Config) (n : Name) : Type 0 where
   pub root_mark : IsMark T.steps (box_names c.roots ≡ box_names (edited n no_boxes c.roots) → ⊥) T.roots_changed U.roots_changed
 
 -- a shape of which no alternative goes
-same_shape : (n : Name) (h : Held) → ((o : Op) (bs : Boxes) → h ≡ a_choice o bs → IsIn n (box_names bs) → ⊥) → shape_of h ≡ shape_of (edited_held n no_boxes h)
+same_shape : (n : Name) (h : Held) → ((o : Operator) (bs : Boxes) → h ≡ a_choice o bs → IsIn n (box_names bs) → ⊥) → shape_of h ≡ shape_of (edited_held n no_boxes h)
 same_shape n (an_atom a) x = refl
 same_shape n (a_choice o bs) x = ap (of_choice o) (sym (same_names n no_boxes bs (x o bs refl)))
 
-other_shape : (n : Name) (o : Op) (bs : Boxes) → IsIn n (box_names bs) → shape_of (a_choice o bs) ≡ shape_of (a_choice o (edited n no_boxes bs)) → ⊥
+other_shape : (n : Name) (o : Operator) (bs : Boxes) → IsIn n (box_names bs) → shape_of (a_choice o bs) ≡ shape_of (a_choice o (edited n no_boxes bs)) → ⊥
 other_shape n o bs i e = let q : box_names bs ≡ box_names (edited n no_boxes bs) = cc in names_gone n bs (subst (IsIn n) q i)
 
-left_empty : (g : Name) (r : BoxRow) (row : GoalRow) (o : Op) → row.shape ≡ of_choice o [] → left_by g (Some row) r ≡ record r { failing = Some g }
-left_empty g r row o e = ap (λ (s : Shape). if none_left s then record r { failing = Some g } else r) e
+left_empty : (g : Name) (r : BoxRow) (row : GoalRow) (o : Operator) → fails_empty o ≡ true → row.shape ≡ of_choice o [] → left_by g (Some row) r ≡ record r { failing = Some g }
+left_empty g r row o f e = ap (λ (s : Shape). if none_left s then record r { failing = Some g } else r) e ∙ ap (λ (t : Bool). if t then record r { failing = Some g } else r) f
 
-left_some : (g : Name) (r : BoxRow) (row : GoalRow) (o : Op) (m : Name) (ms : List Name) → row.shape ≡ of_choice o (m ∷ ms) → left_by g (Some row) r ≡ r
+left_collecting : (g : Name) (r : BoxRow) (row : GoalRow) (o : Operator) → fails_empty o ≡ false → row.shape ≡ of_choice o [] → left_by g (Some row) r ≡ r
+left_collecting g r row o f e = ap (λ (s : Shape). if none_left s then record r { failing = Some g } else r) e ∙ ap (λ (t : Bool). if t then record r { failing = Some g } else r) f
+
+left_some : (g : Name) (r : BoxRow) (row : GoalRow) (o : Operator) (m : Name) (ms : List Name) → row.shape ≡ of_choice o (m ∷ ms) → left_by g (Some row) r ≡ r
 left_some g r row o m ms e = ap (λ (s : Shape). if none_left s then record r { failing = Some g } else r) e
 
 nothing : (m : Name) (ms : List Name) → [] ≡ m ∷ ms → ⊥
@@ -88,7 +91,7 @@ module _ (T U : Table) (c : Config) (u : Unfolds T c) (once : (m : Name) → tim
   no_goal g e = not_goal_inside_none T c u once n g site there e
 
   -- the choice with the box among its alternatives holds it
-  holds : (g : Name) (e : Found) (o : Op) (bs : Boxes) → home_of g c.roots ≡ Some e → held_in g e.goals ≡ Some (a_choice o bs) → IsIn n (box_names bs) → holder_in n c.roots ≡ Some g
+  holds : (g : Name) (e : Found) (o : Operator) (bs : Boxes) → home_of g c.roots ≡ Some e → held_in g e.goals ≡ Some (a_choice o bs) → IsIn n (box_names bs) → holder_in n c.roots ≡ Some g
   holds g e o bs i h j = (alternative_at c.roots once n g e o bs i h j).holder
 
   -- a row that stays as it was
@@ -104,13 +107,13 @@ module _ (T U : Table) (c : Config) (u : Unfolds T c) (once : (m : Name) → tim
   root_left z = record {
     box_none = λ k e. let w : (T.box_of k ≡ None) × (IsInside T n k → ⊥) = no_box k e in box_stays None z k w.1 ∙ w.0;
     goal_none = λ g e. goal_stays None z g (no_goal g e);
-    box_left = λ k e r i h x y. as_it_was k e r i h y (box_stays None z k (not_inside T c u once n k site e there i h) ∙ x) (λ g o bs j q. kept_where n bs (unheld g e o bs (home_found c.roots once g k e (a_choice o bs) i j) j) q);
+    box_left = λ k e r i h x y. as_it_was k e r i h y (box_stays None z k (not_inside T c u once n k site e there i h) ∙ x) (λ g o bs j u q. kept_where n bs (unheld g e o bs (home_found c.roots once g k e (a_choice o bs) i j) j) q);
     goal_left = λ g e h i k j. inl (goal_stays None z g (not_goal_inside T c u once n g site e there i k), same_shape n h (λ o bs q. unheld g e o bs i (j ∙ ap Some q)));
     roots = roots_are None z ∙ ap (less_name n) u.roots ∙ sym (names_left n c.roots few);
     root_mark = inr (roots_number None z, λ e. names_gone n c.roots (subst (IsIn n) e named));
   }
     where
-      unheld : (g : Name) (e : Found) (o : Op) (bs : Boxes) → home_of g c.roots ≡ Some e → held_in g e.goals ≡ Some (a_choice o bs) → IsIn n (box_names bs) → ⊥
+      unheld : (g : Name) (e : Found) (o : Operator) (bs : Boxes) → home_of g c.roots ≡ Some e → held_in g e.goals ≡ Some (a_choice o bs) → IsIn n (box_names bs) → ⊥
       unheld g e o bs i h j = let q : holder_in n c.roots ≡ Some g = holds g e o bs i h j in cc
 
       few : times_in n (box_names c.roots) ≤ 1
@@ -134,7 +137,7 @@ module _ (T U : Table) (c : Config) (u : Unfolds T c) (once : (m : Name) → tim
     goal_now k h = goal_stays (Some g) held k h ∙ ap (λ (o : Option GoalRow). set g (option_map (left_row n (T.steps + 1)) o) T.goal_of k) goal.1
 
     -- the choice is the only one with the box among its alternatives
-    only_holder : (i : Name) (e : Found) (o : Op) (bs : Boxes) → home_of i c.roots ≡ Some e → held_in i e.goals ≡ Some (a_choice o bs) → IsIn n (box_names bs) → i ≡ g
+    only_holder : (i : Name) (e : Found) (o : Operator) (bs : Boxes) → home_of i c.roots ≡ Some e → held_in i e.goals ≡ Some (a_choice o bs) → IsIn n (box_names bs) → i ≡ g
     only_holder i e o bs y h j = some_value (sym (holds i e o bs y h j) ∙ held)
 
     home_is : (e : Found) → home_of g c.roots ≡ Some e → e ≡ x.home
@@ -172,11 +175,26 @@ module _ (T U : Table) (c : Config) (u : Unfolds T c) (once : (m : Name) → tim
             ∙ ap (option_map (left_by g (Some now))) (ap T.box_of (sym is_home) ∙ y)
 
         on : (ns : List Name) → less_name n (box_names x.alternatives) ≡ ns → (o : Option Name) × (U.box_of k ≡ Some (record r { failing = o })) × FailsBy (edited_inside n no_boxes e.goals) o
-        on [] q = (Some g, row ∙ ap Some (left_empty g r now x.op (shape_now ∙ ap (of_choice x.op) q)), fails_by_empty n g x.op x.alternatives e.goals held_here (names_now ∙ q))
+        on [] q = empty (fails_empty x.op) refl
+          where
+            empty : (t : Bool) → fails_empty x.op ≡ t → (o : Option Name) × (U.box_of k ≡ Some (record r { failing = o })) × FailsBy (edited_inside n no_boxes e.goals) o
+            empty true f = (Some g, row ∙ ap Some (left_empty g r now x.op f (shape_now ∙ ap (of_choice x.op) q)), fails_by_empty n g x.op x.alternatives e.goals held_here f (names_now ∙ q))
+            empty false f = as_it_was k e r i h v (row ∙ ap Some (left_collecting g r now x.op f (shape_now ∙ ap (of_choice x.op) q))) keeps
+              where
+                keeps : KeepsAlternatives n no_boxes e.goals
+                keeps j o bs z u w = elim (in_or n (box_names bs)) [
+                  | inr apart ↦ kept_where n bs apart w
+                  | inl among ↦
+                      let is_it : j ≡ g = only_holder j e o bs (home_found c.roots once j k e (a_choice o bs) i z) z among in
+                      let both : a_choice o bs ≡ a_choice x.op x.alternatives = some_value (sym z ∙ ap (λ (y : Name). held_in y e.goals) is_it ∙ held_here) in
+                      let op : o ≡ x.op = cc in
+                      let no : true ≡ false = sym u ∙ ap fails_empty op ∙ f in
+                      cc
+                ]
         on (m ∷ ms) q = as_it_was k e r i h v (row ∙ ap Some (left_some g r now x.op m ms (shape_now ∙ ap (of_choice x.op) q))) keeps
           where
             keeps : KeepsAlternatives n no_boxes e.goals
-            keeps j o bs z w = elim (in_or n (box_names bs)) [
+            keeps j o bs z u w = elim (in_or n (box_names bs)) [
               | inr apart ↦ kept_where n bs apart w
               | inl among ↦
                   let is_it : j ≡ g = only_holder j e o bs (home_found c.roots once j k e (a_choice o bs) i z) z among in
@@ -207,9 +225,9 @@ module _ (T U : Table) (c : Config) (u : Unfolds T c) (once : (m : Name) → tim
         of_box k e r i h y v true t = home_left k e r i h y v t
         of_box k e r i h y v false t =
             as_it_was k e r i h v (box_now k (not_inside T c u once n k site e there i h) ∙ set_other goal.0.home k (option_map (left_by g (Some now)) (T.box_of goal.0.home)) T.box_of t ∙ y)
-            (λ j o bs z w. kept_where n bs (λ among. elsewhere j o bs z among) w)
+            (λ j o bs z u w. kept_where n bs (λ among. elsewhere j o bs z among) w)
           where
-            elsewhere : (j : Name) (o : Op) (bs : Boxes) → held_in j e.goals ≡ Some (a_choice o bs) → IsIn n (box_names bs) → ⊥
+            elsewhere : (j : Name) (o : Operator) (bs : Boxes) → held_in j e.goals ≡ Some (a_choice o bs) → IsIn n (box_names bs) → ⊥
             elsewhere j o bs z among =
                 let at : home_of j c.roots ≡ Some e = home_found c.roots once j k e (a_choice o bs) i z in
                 let is_it : j ≡ g = only_holder j e o bs at z among in

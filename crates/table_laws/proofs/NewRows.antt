@@ -3,7 +3,7 @@ use Rattle.std.proofs.Common.{◌≡◌, ℕ, ◌+◌, ◌≤◌, List, [], ◌�
 use Rattle.std.specs.Prelude.{if◌then◌else◌, option_map, ⊤}
 use Rattle.akl_terms.specs.declared.name.Name.{Name}
 use Rattle.akl_terms.specs.declared.term.Node.{Node}
-use Rattle.akl_terms.specs.declared.program.Op.{Op}
+use Rattle.akl_model.specs.Config.{Operator}
 use Rattle.akl_terms.specs.declared.program.Clause.{Clause}
 use Rattle.akl_terms.specs.Equal.{Equations, IsTold}
 use Rattle.akl_terms.specs.Standing.{StandFor}
@@ -131,7 +131,7 @@ module _ (nodes : List Node) (around : Equations) where
           none k hs (inr (inr x)) h = w.1 k hs x h
 
 -- the row of a new box among the alternatives of a choice
-module _ (U : Table) (roots : Boxes) (once : (m : Name) → times m roots ≤ 1) (g : Name) (home : Found) (op : Op) (alternatives : Boxes) (is_home : home_of g roots ≡ Some home)
+module _ (U : Table) (roots : Boxes) (once : (m : Name) → times m roots ≤ 1) (g : Name) (home : Found) (op : Operator) (alternatives : Boxes) (is_home : home_of g roots ≡ Some home)
     (held : held_in g home.goals ≡ Some (a_choice op alternatives)) (told : StandFor (IsTold (told_along U (names_down_to home))) (IsTold (whole home))) (at : Option ℕ) (number : ℕ) where
   -- the stores were solved when the step was made, where they say so
   pub record IsSolvedNew (new : NewBox) : Type 0 where
@@ -154,6 +154,7 @@ module _ (U : Table) (roots : Boxes) (once : (m : Name) → times m roots ≤ 1)
     failing = atoms_failing new.goals f.goals is_new.goals few;
     body = is_new.body;
     shown = sym shown;
+    collected = is_new.collected;
   }
     where
       place : IsAlternativeAt n g home roots

@@ -3,7 +3,7 @@ use Rattle.std.proofs.Common.{◌≡◌, ℕ, ◌+◌, ◌≤◌, List, [], ◌�
 use Rattle.std.specs.Prelude.{slice_index, option_map, option_and_then}
 use Rattle.akl_terms.specs.declared.name.Name.{Name}
 use Rattle.akl_terms.specs.declared.term.Node.{Node}
-use Rattle.akl_terms.specs.declared.program.Op.{Op}
+use Rattle.akl_model.specs.Config.{Operator}
 use Rattle.akl_terms.specs.declared.program.Program.{Program}
 use Rattle.akl_terms.specs.declared.program.Query.{Query}
 use Rattle.akl_terms.specs.Equal.{Equations, IsTold}
@@ -95,8 +95,8 @@ module _ (rules : List Rule) (p : Program) (q : Query) (journal : List Label) (c
   pub site_row : KeepsRows a T U → (b : Becomes l.worker (slice_index c.next l.worker) a.site a.change) → (r k : BoxRow) → T.box_of a.site.content.name ≡ Some r → U.box_of a.site.content.name ≡ Some k
       → k.holder ≡ r.holder → k.store.frames ≡ b.content.frames → ports_in T.nodes k.store.ports ≡ b.content.ports
       → StandFor (IsTold (told_along T (names_around a.site) ++ bindings_in T.nodes k.store.bindings)) (IsTold (whole (site_now b)))
-      → StaysSolved U (site_now b) k → k.goals ≡ goal_names b.goals → FailsBy b.goals k.failing → k.body ≡ r.body → k.shown ≡ r.shown → IsBoxRow U d.roots (site_now b) k
-  site_row keeps b r k i j holder frames ports stands solved goals fails body shown = record {
+      → StaysSolved U (site_now b) k → k.goals ≡ goal_names b.goals → FailsBy b.goals k.failing → k.body ≡ r.body → k.shown ≡ r.shown → k.collected ≡ r.collected → IsBoxRow U d.roots (site_now b) k
+  site_row keeps b r k i j holder frames ports stands solved goals fails body shown collected = record {
     holder = holder ∙ was.holder ∙ holder_stays rules p q journal c l d replays a a.site.content.name a.site (site_now b) (found rules p c l d s a) (site_there rules p c l d s a b)
         ∙ ap (λ (z : Name). holder_in z d.roots) (sym b.keeps.name);
     frames = frames;
@@ -107,6 +107,7 @@ module _ (rules : List Rule) (p : Program) (q : Query) (journal : List Label) (c
     failing = fails;
     body = body ∙ was.body ∙ sym b.keeps.body;
     shown = shown ∙ was.shown ∙ sym b.keeps.shown;
+    collected = collected ∙ was.collected ∙ sym b.keeps.collected;
   }
     where
       was : IsBoxRow T c.roots a.site r
@@ -131,7 +132,7 @@ module _ (rules : List Rule) (p : Program) (q : Query) (journal : List Label) (c
           | inl v ↦ site_around rules p q journal c l d replays a T U u keeps b z v
           | inr v ↦ elim v [ inl e ↦ subst (IsAsTold T U) (sym e) told | inr e ↦ absurd e ]
         ]) refl was.stays_solved)
-        names fails refl refl,
+        names fails refl refl refl,
     told,
   )
     where
@@ -156,7 +157,7 @@ module _ (rules : List Rule) (p : Program) (q : Query) (journal : List Label) (c
 
   -- a box other than that of the place fails by the same goal, unless it holds this, and this goes or becomes two
   pub fails_as : (m : Name) (e f : Found) (o : Option Name) → same_name a.site.content.name m ≡ false → box_at m c.roots ≡ Some e → box_at m d.roots ≡ Some f
-      → ((g : Name) (k : Op) (bs : Boxes) → IsReplaced a → held_in g e.goals ≡ Some (a_choice k bs) → IsIn a.site.content.name (box_names bs) → ⊥)
+      → ((g : Name) (k : Operator) (bs : Boxes) → IsReplaced a → held_in g e.goals ≡ Some (a_choice k bs) → IsIn a.site.content.name (box_names bs) → ⊥)
       → FailsBy e.goals o → FailsBy f.goals o
   fails_as m e f o apart i j unheld = by o
     where

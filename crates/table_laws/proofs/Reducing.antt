@@ -3,7 +3,7 @@ use Rattle.std.proofs.Common.{◌≡◌, ℕ, ◌+◌, ◌≤◌, List, [], ◌�
 use Rattle.std.specs.Prelude.{if◌then◌else◌, slice_index, option_map, option_and_then}
 use Rattle.akl_terms.specs.declared.name.Name.{Name}
 use Rattle.akl_terms.specs.declared.name.Place.{Place}
-use Rattle.akl_terms.specs.declared.program.Op.{Op}
+use Rattle.akl_model.specs.Config.{Operator}
 use Rattle.akl_terms.specs.declared.program.Program.{Program}
 use Rattle.akl_terms.specs.Names.{same_name}
 use Rattle.akl_terms.proofs.SameNames.{same_name-equal}
@@ -17,7 +17,7 @@ use Rattle.akl_model.specs.Changes.{shape_of, shape_at, box_names, goal_names, g
 use Rattle.akl_model.proofs.Finds.{times, times_inside}
 use Rattle.akl_model.proofs.NamesKept.{Stand, stands_after, box-itself}
 use Rattle.akl_model.proofs.Options.{none_or, none_where, some_value, map_some}
-use Rattle.akl_model.proofs.RuleCases.{PlainCase, tells, forks, evaluates, opens, sends, fails, cuts, promotes, Makes-case}
+use Rattle.akl_model.proofs.RuleCases.{PlainCase, tells, forks, evaluates, opens, sends, fails, cuts, promotes, collects, Makes-case}
 use Rattle.akl_model.proofs.ScopesAlong.{times_path}
 use Rattle.step_laws.specs.ChangedItems.{IsReplaced}
 use Rattle.step_laws.specs.Whereabouts.{BoxIn, InGoals, Stands}
@@ -130,7 +130,7 @@ unfailing p w next f c place g was q held x fail = on x q
         let j : i ≡ g = cc in
         not (subst IsFailing (some_value (sym held ∙ ap (λ (n : Name). held_in n f.goals) (sym j) ∙ e)) fail)
 
-    chosen : (i : Name) (o : Op) (bs : Boxes) → held_in i f.goals ≡ Some (a_choice o bs) → Place.Goal i ≡ Place.Goal g → ⊥
+    chosen : (i : Name) (o : Operator) (bs : Boxes) → held_in i f.goals ≡ Some (a_choice o bs) → Place.Goal i ≡ Place.Goal g → ⊥
     chosen i o bs e r =
         let j : i ≡ g = cc in
         let z : an_atom was ≡ a_choice o bs = some_value (sym held ∙ ap (λ (n : Name). held_in n f.goals) (sym j) ∙ e) in
@@ -138,13 +138,14 @@ unfailing p w next f c place g was q held x fail = on x q
 
     on : {u : Place} → PlainCase p w next f c u → u ≡ Place.Goal g → ⊥
     on (tells i s t e z) r = by i (an_atom (Atom.equation s t)) (λ y. y) e r
-    on (forks i n ts k e y z) r = by i (an_atom (Atom.call n ts)) (λ y. y) e r
+    on (forks i n ts q k o e y u z) r = by i (an_atom (Atom.call n ts q)) (λ y. y) e r
     on (evaluates i test l r a e y v z) u = by i (an_atom (Atom.arithmetic test l r)) (λ y. y) e u
     on (opens i s t e z) r = by i (an_atom (Atom.open_port s t)) (λ y. y) e r
     on (sends i s t n k e y v u z) r = by i (an_atom (Atom.send s t)) (λ y. y) e r
     on (fails n y z) r = cc
     on (cuts i n o bs e y z) r = chosen i o bs e r
     on (promotes i n o b e y v z) r = chosen i o (box b no_goals no_boxes) e r
+    on (collects i q bs b e y v z) r = chosen i (Operator.collecting q) bs e r
 
 module _ (rules : List Rule) (p : Program) (c : Config) (l : Label) (d : Config) (s : Stand c) (m : Applies rules p c l d) (g : Name) (place : l.place ≡ Place.Goal g) (was : Atom)
     (held : held_in g m.site.goals ≡ Some (an_atom was)) (now : Content) (o : Option Atom) (is_change : m.change.boxes ≡ box now (reduced (held_atom o) g m.site.goals) no_boxes) where

@@ -6,7 +6,7 @@ use Rattle.akl_terms.specs.Equal.{Equations}
 use Rattle.akl_terms.specs.Names.{same_name}
 use Rattle.akl_terms.proofs.SameNames.{same_name-equal, same_name-refl}
 use Rattle.akl_model.specs.Config.{IsIn, Content, Boxes, no_boxes, box, Goals, no_goals, atom, choice, Held, an_atom, a_choice, held_in, Found, equations_of, environment, whole, box_at, home_of}
-use Rattle.akl_model.specs.Renaming.{renamed_atom, renamed_equation, renamed_content, renamed, renamed_goals}
+use Rattle.akl_model.specs.Renaming.{renamed_atom, renamed_operator, renamed_equation, renamed_content, renamed, renamed_goals}
 use Rattle.akl_model.specs.Names.{one_if}
 use Rattle.akl_model.specs.Changes.{box_names}
 use Rattle.akl_model.specs.Wakes.{holder_in}
@@ -56,7 +56,7 @@ module _ (f : Name → Name) where
 
   abbrev renamed_held : Held → Held
   renamed_held (an_atom a) = an_atom (renamed_atom f a)
-  renamed_held (a_choice o bs) = a_choice o (renamed f bs)
+  renamed_held (a_choice o bs) = a_choice (renamed_operator f o) (renamed f bs)
 
   equations_around : (bs : List Content) → equations_of (map (renamed_content f) bs) ≡ map (renamed_equation f) (equations_of bs)
   equations_around [] = refl
@@ -99,13 +99,13 @@ module _ (f : Name → Name) where
       on (same_name g i) refl e (λ q. held_renamed g h gs (λ m. let w : one_if (same_name m (f i)) + (times m (renamed f bs) + times_inside m (renamed_goals f gs)) ≤ 1 = once m in omega arith) q)
     where
       on : (t : Bool) → same_name g i ≡ t → (if t then Some (a_choice o bs) else held_in g gs) ≡ Some h → (held_in g gs ≡ Some h → held_in (f g) (renamed_goals f gs) ≡ Some (renamed_held h))
-          → (if same_name (f g) (f i) then Some (a_choice o (renamed f bs)) else held_in (f g) (renamed_goals f gs)) ≡ Some (renamed_held h)
+          → (if same_name (f g) (f i) then Some (a_choice (renamed_operator f o) (renamed f bs)) else held_in (f g) (renamed_goals f gs)) ≡ Some (renamed_held h)
       on true q z k =
           let t : same_name (f g) (f i) ≡ true = subst (λ (m : Name). same_name (f g) (f m) ≡ true) (same_name-equal g i q) (same_name-refl (f g)) in
-          ap (λ (v : Bool). if v then Some (a_choice o (renamed f bs)) else held_in (f g) (renamed_goals f gs)) t ∙ ap (option_map renamed_held) z
+          ap (λ (v : Bool). if v then Some (a_choice (renamed_operator f o) (renamed f bs)) else held_in (f g) (renamed_goals f gs)) t ∙ ap (option_map renamed_held) z
       on false q z k = past (same_name (f g) (f i)) refl
         where
-          past : (v : Bool) → same_name (f g) (f i) ≡ v → (if v then Some (a_choice o (renamed f bs)) else held_in (f g) (renamed_goals f gs)) ≡ Some (renamed_held h)
+          past : (v : Bool) → same_name (f g) (f i) ≡ v → (if v then Some (a_choice (renamed_operator f o) (renamed f bs)) else held_in (f g) (renamed_goals f gs)) ≡ Some (renamed_held h)
           past true p =
               let x : one_if (same_name (f g) (f i)) ≡ 1 = ap one_if p in
               let y : 1 ≤ times_inside (f g) (renamed_goals f gs) = held_counted (f g) (renamed_held h) (renamed_goals f gs) (k z) in
@@ -137,7 +137,7 @@ module _ (f : Name → Name) where
         on : ((e.around ≡ []) × (holder_in m bs ≡ None)) ⊎ ((g : Name) × (holder_in m bs ≡ Some g) × IsHeldBy m g e bs) → holder_in (f m) (renamed f bs) ≡ option_map f (holder_in m bs)
         on (inl x) = (root_box (renamed f bs) still (f m) (root_named (renamed f bs) still (f m) (renamed_found e) (found_renamed m e i) (ap (map (renamed_content f)) x.0))).holder ∙ sym (ap (option_map f) x.1)
         on (inr (g, x, y)) =
-            let w : (home_of (f g) (renamed f bs) ≡ Some (renamed_found y.home)) × (held_in (f g) (renamed_goals f y.home.goals) ≡ Some (a_choice y.op (renamed f y.alternatives))) =
+            let w : (home_of (f g) (renamed f bs) ≡ Some (renamed_found y.home)) × (held_in (f g) (renamed_goals f y.home.goals) ≡ Some (a_choice (renamed_operator f y.op) (renamed f y.alternatives))) =
             home_renamed g y.home (a_choice y.op y.alternatives) y.is_home y.held in
-            (alternative_at (renamed f bs) still (f m) (f g) (renamed_found y.home) y.op (renamed f y.alternatives) w.0 w.1
+            (alternative_at (renamed f bs) still (f m) (f g) (renamed_found y.home) (renamed_operator f y.op) (renamed f y.alternatives) w.0 w.1
             (subst (IsIn (f m)) (sym (names_renamed y.alternatives)) (in_map m (box_names y.alternatives) y.among))).holder ∙ sym (ap (option_map f) x)

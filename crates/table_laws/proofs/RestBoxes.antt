@@ -3,7 +3,7 @@ use Rattle.std.proofs.Common.{◌≡◌, ◌+◌, ◌≤◌, List, [], ◌∷◌
 use Rattle.std.proofs.lemmas.List.{length-append}
 use Rattle.std.specs.Prelude.{if◌then◌else◌, ⊤}
 use Rattle.akl_terms.specs.declared.name.Name.{Name}
-use Rattle.akl_terms.specs.declared.program.Op.{Op}
+use Rattle.akl_model.specs.Config.{Operator}
 use Rattle.akl_terms.specs.Names.{same_name}
 use Rattle.akl_terms.proofs.SameNames.{same_name-equal, same_name-refl}
 use Rattle.akl_model.specs.Config.{IsIn, Content, Boxes, no_boxes, box, Goals, no_goals, atom, choice, Config, Held, an_atom, a_choice, held_in, with_content, Found, box_at, home_of}
@@ -80,7 +80,7 @@ others_or a r k hs (box b gs bs) x = on (same_name a b.name) refl x (others_or a
     on false q (inr (inl w)) f = inl (inr (inl w))
     on false q (inr (inr y)) f = elim (f y) [ inl z ↦ inl (inr (inr z)) | inr z ↦ inr z ]
 
-others_inside : (g a : Name) (o : Op) (bs : Boxes) (r : List Content) (k : Content) (hs gs : Goals) → held_in g gs ≡ Some (a_choice o bs) → InGoals r k hs gs
+others_inside : (g a : Name) (o : Operator) (bs : Boxes) (r : List Content) (k : Content) (hs gs : Goals) → held_in g gs ≡ Some (a_choice o bs) → InGoals r k hs gs
     → InGoals r k hs (with_content g (a_choice o (others a bs)) gs) ⊎ IsIn a (down_to r k)
 others_inside g a o bs r k hs no_goals e x = absurd x
 others_inside g a o bs r k hs (atom i b gs) e x = on (same_name g i) e (λ q. others_inside g a o bs r k hs gs q x)
@@ -158,7 +158,7 @@ less_goal_names a no_goals = refl
 less_goal_names a (atom i x gs) = ap (λ (ns : List Name). i ∷ ns) (less_goal_names a gs)
 less_goal_names a (choice i p cs gs) = ap (λ (ns : List Name). i ∷ ns) (less_goal_names a gs)
 
-module _ (c : Config) (s : Stand c) (f : Found) (there : box_at f.content.name c.roots ≡ Some f) (g a : Name) (o : Op) (bs : Boxes) (held : held_in g f.goals ≡ Some (a_choice o bs)) (first : first_solved bs ≡ Some a)
+module _ (c : Config) (s : Stand c) (f : Found) (there : box_at f.content.name c.roots ≡ Some f) (g a : Name) (o : Operator) (bs : Boxes) (held : held_in g f.goals ≡ Some (a_choice o bs)) (first : first_solved bs ≡ Some a)
     (few : (m : Name) → times m (box f.content (with_content g (a_choice o (others a bs)) f.goals) no_boxes) ≤ 1) where
   abbrev rest : Boxes
   rest = box f.content (with_content g (a_choice o (others a bs)) f.goals) no_boxes

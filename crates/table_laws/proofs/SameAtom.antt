@@ -1,5 +1,5 @@
 -- What a label makes of the box of an atom, it makes of one of the same content that has the same atom.
-use Rattle.std.proofs.Common.{◌≡◌, ℕ, ◌≤◌, true, false, Option, Some, None, sym, ◌∙◌, ap, subst}
+use Rattle.std.proofs.Common.{◌≡◌, ℕ, List, ◌≤◌, true, false, Option, Some, None, sym, ◌∙◌, ap, subst}
 use Rattle.std.specs.Prelude.{slice_get}
 use Rattle.akl_terms.specs.declared.name.Name.{Name}
 use Rattle.akl_terms.specs.declared.name.Place.{Place}
@@ -8,10 +8,11 @@ use Rattle.akl_terms.specs.declared.program.Program.{Program}
 use Rattle.akl_terms.specs.Arithmetic.{value, truth}
 use Rattle.akl_model.specs.declared.label.Rule.{Rule}
 use Rattle.akl_model.specs.declared.label.Label.{Label}
-use Rattle.akl_model.specs.Config.{Atom, Content, no_boxes, box, Goals, Held, an_atom, a_choice, held_in, Port, port_in, Found}
+use Rattle.akl_model.specs.Config.{Atom, Operator, Content, no_boxes, box, Goals, Held, an_atom, a_choice, held_in, Port, port_in, Found}
 use Rattle.akl_model.specs.Instances.{instances}
-use Rattle.akl_model.specs.Rules.{Reading, answer, receiver, Change, becomes, tell, fork, fork_by, eval, open_new, send_to, send_by, cut, promote, change_by}
-use Rattle.akl_model.specs.Conditions.{ComesTo, GoesTo, MayCut, MayPromote}
+use Rattle.akl_model.specs.Rules.{Reading, answer, receiver, Change, becomes, tell, fork, operator_of, fork_as, fork_by, eval, open_new, send_to, send_by, cut, promote, collect, change_by}
+use Rattle.akl_terms.specs.declared.program.Clause.{Clause}
+use Rattle.akl_model.specs.Conditions.{ComesTo, GoesTo, MayCut, MayPromote, MayCollect}
 use Rattle.akl_model.specs.Stable.{Allows}
 use Rattle.akl_model.proofs.Finds.{times_inside}
 use Rattle.akl_model.proofs.Options.{some_value}
@@ -46,11 +47,15 @@ module _ (p : Program) (w next : ℕ) (g : Name) (f : Found) (hs : Goals) (a : A
     tell_same x e = cc
 
     fork_same : (x : Atom) → Given b u n (fork p w next g f (Some (an_atom x))) → Result b u n (fork p w next g k (Some (an_atom x)))
-    fork_same (Atom.call d ts) e = on (slice_get p.definitions d) e
+    fork_same (Atom.call d ts r) e = on (slice_get p.definitions d) e
       where
-        on : (o : Option Definition) → Given b u n (fork_by p w next g ts f o) → Result b u n (fork_by p w next g ts k o)
+        by_op : (cs : List Clause) (o : Option Operator) → Given b u n (fork_as p w next g ts cs f o) → Result b u n (fork_as p w next g ts cs k o)
+        by_op cs None i = cc
+        by_op cs (Some o) i = same_change f.content b (Some (a_choice o (instances p.templates.nodes w next ts cs))) u _ n i
+
+        on : (o : Option Definition) → Given b u n (fork_by p w next g ts r f o) → Result b u n (fork_by p w next g ts r k o)
         on None i = cc
-        on (Some v) i = same_change f.content b (Some (a_choice v.op (instances p.templates.nodes w next ts v.clauses))) u _ n i
+        on (Some v) i = by_op v.clauses (operator_of v.op r) i
     fork_same x e = cc
 
     eval_same : (v : Reading) (x : Atom) → Given b u n (eval v g f (Some (an_atom x))) → Result b u n (eval v g k (Some (an_atom x)))
@@ -82,6 +87,7 @@ module _ (p : Program) (w next : ℕ) (g : Name) (f : Found) (hs : Goals) (a : A
     change_same v Rule.Send None e = ap (send_by p w next v g k) is ∙ send_same v a (sym (ap (send_by p w next v g f) was) ∙ e)
     change_same v Rule.Cut (Some m) e = absurd (no_choice (sym (ap (cut g m f) was) ∙ e))
     change_same v Rule.Promote (Some m) e = absurd (no_choice (sym (ap (promote w next g m f) was) ∙ e))
+    change_same v Rule.Collect None e = absurd (no_choice (sym (ap (collect p w next g f) was) ∙ e))
     change_same v r alternative e = cc
 
   comes_same : (v : Reading) (x : Atom) → ComesTo p v f (Some (an_atom x)) → ComesTo p v k (Some (an_atom x))
@@ -100,6 +106,7 @@ module _ (p : Program) (w next : ℕ) (g : Name) (f : Found) (hs : Goals) (a : A
   allowed_same v Rule.Send alternative x = subst (GoesTo v k) (sym is) (goes_same v a (subst (GoesTo v f) was x))
   allowed_same v Rule.Cut (Some m) x = absurd (subst (MayCut m f) was x)
   allowed_same v Rule.Promote (Some m) x = absurd (subst (MayPromote m f) was x)
+  allowed_same v Rule.Collect None x = absurd (subst (MayCollect f) was x)
   allowed_same v r alternative x = absurd x
 
 -- with other goals beside it

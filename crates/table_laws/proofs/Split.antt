@@ -3,7 +3,7 @@ use Rattle.std.proofs.Common.{◌≡◌, ℕ, ◌+◌, ◌≤◌, List, [], ◌�
 use Rattle.std.specs.Prelude.{option_map, option_and_then, slice_index}
 use Rattle.akl_terms.specs.declared.name.Name.{Name}
 use Rattle.akl_terms.specs.declared.name.Place.{Place}
-use Rattle.akl_terms.specs.declared.program.Op.{Op}
+use Rattle.akl_model.specs.Config.{Operator}
 use Rattle.akl_terms.specs.Names.{same_name}
 use Rattle.akl_terms.proofs.SameNames.{same_name-equal, same_name-refl}
 use Rattle.akl_model.specs.declared.label.Rule.{Rule}
@@ -49,7 +49,7 @@ module _ (rules : List Rule) (r : Run) (T U : Table) (l : Label) (d : Config) (t
   abbrev g : Name
   g = made.choice.name
 
-  abbrev o : Op
+  abbrev o : Operator
   o = made.choice.op
 
   abbrev bs : Boxes
@@ -91,7 +91,7 @@ module _ (rules : List Rule) (r : Run) (T U : Table) (l : Label) (d : Config) (t
   name = split.name rules r T l d t a n al copy copies rule place names made
 
   abbrev b : Becomes l.worker (slice_index t.config.next l.worker) a.site a.change
-  b = cutting.cuts_to rules r.program r.query r.journal t.config l d t.replays a g al o Op.Commit bs second at_goal held boxes_are
+  b = cutting.cuts_to rules r.program r.query r.journal t.config l d t.replays a g al o Operator.commit bs second at_goal held boxes_are
 
   was_there : box_at site t.config.roots ≡ Some a.site
   was_there = split.was_there rules r T l d t a n al copy copies rule place names made
@@ -115,7 +115,7 @@ module _ (rules : List Rule) (r : Run) (T U : Table) (l : Label) (d : Config) (t
   held_now = split.held_now rules r T l d t a n al copy copies rule place names made
 
   abbrev IsUnderCut : Found → Type 0
-  IsUnderCut e = cutting.IsUnderCut rules r.program r.query r.journal t.config l d t.replays a g al o Op.Commit bs second at_goal held boxes_are e
+  IsUnderCut e = cutting.IsUnderCut rules r.program r.query r.journal t.config l d t.replays a g al o Operator.commit bs second at_goal held boxes_are e
 
   abbrev under : Found → Found
   under e = record e { around = a.site.around ++ e.around }
@@ -182,7 +182,7 @@ module _ (rules : List Rule) (r : Run) (T U : Table) (l : Label) (d : Config) (t
 
   itself : copied_goal_of number copies g ≡ None → GoalGoes T U t.config d g
   itself none = changed g (alone_row al number its_row.0) a.site (site_now b) (a_choice o bs) (a_choice o (alone al bs)) (goal_rows g (not_goal_cut g a.site (site_now b) home_was home_now) none ∙ row_now) refl
-      (its_row.2 ∙ ap (λ (k : Content). k.name) (sym content_now)) (ap (alone_shape al) its_row.3 ∙ ap (of_choice o) (sym (kept_names Op.Commit al bs))) home_was held home_now held_now (cutting.differs rules r.program r.query r.journal t.config l d t.replays a g al o Op.Commit bs second at_goal held boxes_are)
+      (its_row.2 ∙ ap (λ (k : Content). k.name) (sym content_now)) (ap (alone_shape al) its_row.3 ∙ ap (of_choice o) (sym (kept_names Operator.commit al bs))) home_was held home_now held_now (cutting.differs rules r.program r.query r.journal t.config l d t.replays a g al o Operator.commit bs second at_goal held boxes_are)
     where
       alone_now : set g (option_map (alone_row al number) (T.goal_of g)) T.goal_of g ≡ Some (alone_row al number its_row.0)
       alone_now = set_here g g (option_map (alone_row al number) (T.goal_of g)) T.goal_of (same_name-refl g) ∙ ap (option_map (alone_row al number)) its_row.1
@@ -230,13 +230,13 @@ module _ (rules : List Rule) (r : Run) (T U : Table) (l : Label) (d : Config) (t
           after = copied_home i x.home x.held x.is_home x.is_held
 
           before : home_of i t.config.roots ≡ None
-          before = home_of-none i t.config.roots (cutting.copy_nowhere rules r.program r.query r.journal t.config l d t.replays a g al o Op.Commit bs second at_goal held boxes_are i (home_counted i x.held x.home.around x.home.content x.home.goals second (home_in i second x.home x.is_home).0 x.is_held))
+          before = home_of-none i t.config.roots (cutting.copy_nowhere rules r.program r.query r.journal t.config l d t.replays a g al o Operator.commit bs second at_goal held boxes_are i (home_counted i x.held x.home.around x.home.content x.home.goals second (home_in i second x.home x.is_home).0 x.is_held))
 
           row_is : U.goal_of i ≡ Some x.row
           row_is = f.goal_stays i (not_goal_cut_none i before) ∙ ap (λ (v : Option GoalRow). or_else v (now i)) x.there
 
       absent : home_of i second ≡ None → home_of i t.config.roots ≡ None → home_of i d.roots ≡ None
-      absent none x = none_where (home_of i d.roots) (λ h y. elim (cutting.was_home rules r.program r.query r.journal t.config l d t.replays a g al o Op.Commit bs second at_goal held boxes_are i h y) [
+      absent none x = none_where (home_of i d.roots) (λ h y. elim (cutting.was_home rules r.program r.query r.journal t.config l d t.replays a g al o Operator.commit bs second at_goal held boxes_are i h y) [
         | inl w ↦ not_some (sym x ∙ w.1)
         | inr w ↦
             let v : (k : Held) × (held_in i h.goals ≡ Some k) = (home_in i d.roots h y).1 in
@@ -254,7 +254,7 @@ module _ (rules : List Rule) (r : Run) (T U : Table) (l : Label) (d : Config) (t
       under_cut e x y = inr (ap (option_map spot_of) gone ∙ sym (spot_none i d.roots none), λ row z. absurd (not_some (sym gone ∙ z)))
         where
           none : home_of i d.roots ≡ None
-          none = none_where (home_of i d.roots) (λ h z. cutting.home_apart rules r.program r.query r.journal t.config l d t.replays a g al o Op.Commit bs second at_goal held boxes_are i e h x z y.one y.goes y.down)
+          none = none_where (home_of i d.roots) (λ h z. cutting.home_apart rules r.program r.query r.journal t.config l d t.replays a g al o Operator.commit bs second at_goal held boxes_are i e h x z y.one y.goes y.down)
 
           gone : U.goal_of i ≡ None
           gone = f.goal_goes i (split.is_goal_cut rules r T l d t a n al copy copies rule place names made i e x y)
@@ -266,7 +266,7 @@ module _ (rules : List Rule) (r : Run) (T U : Table) (l : Label) (d : Config) (t
           same : (holder_in site t.config.roots ≡ Some i → ⊥) → GoalGoes T U t.config d i
           same not = inl (
             goal_rows i (not_goal_cut i e h x y) none ∙ now_other i z not,
-            cutting.same_shape rules r.program r.query r.journal t.config l d t.replays a g al o Op.Commit bs second at_goal held boxes_are i e h z (λ k w cs replaced u v j. not (alternative_at t.config.roots s.once site i k w cs u v j).holder) x y,
+            cutting.same_shape rules r.program r.query r.journal t.config l d t.replays a g al o Operator.commit bs second at_goal held boxes_are i e h z (λ k w cs replaced u v j. not (alternative_at t.config.roots s.once site i k w cs u v j).holder) x y,
           )
 
           on : ((a.site.around ≡ []) × (holder_in site t.config.roots ≡ None)) ⊎ ((h : Name) × (holder_in site t.config.roots ≡ Some h) × IsHeldBy site h a.site t.config.roots) → GoalGoes T U t.config d i
@@ -282,7 +282,7 @@ module _ (rules : List Rule) (r : Run) (T U : Table) (l : Label) (d : Config) (t
         goal_rows i (not_goal_cut_none i x) none ∙ now_other i (other_by i g (λ q. not_some (sym x ∙ ap (λ (k : Name). home_of k t.config.roots) q ∙ home_was))) (unheld x),
         no_shape i t.config.roots x ∙ sym (no_shape i d.roots (absent nowhere x)),
       )
-      old none nowhere (inr (e, x)) = elim (cutting.home_or rules r.program r.query r.journal t.config l d t.replays a g al o Op.Commit bs second at_goal held boxes_are i e x) [
+      old none nowhere (inr (e, x)) = elim (cutting.home_or rules r.program r.query r.journal t.config l d t.replays a g al o Operator.commit bs second at_goal held boxes_are i e x) [
         | inl w ↦ stays none e w.0 x w.1 (same_name i g) refl
         | inr y ↦ under_cut e x y
       ]

@@ -4,7 +4,7 @@ use Rattle.std.specs.Prelude.{option_map, slice_index}
 use Rattle.akl_terms.specs.declared.name.Name.{Name}
 use Rattle.akl_terms.specs.declared.name.Place.{Place}
 use Rattle.akl_terms.specs.declared.term.Node.{Node}
-use Rattle.akl_terms.specs.declared.program.Op.{Op}
+use Rattle.akl_model.specs.Config.{Operator}
 use Rattle.akl_terms.specs.Equal.{IsTold}
 use Rattle.akl_terms.specs.Standing.{StandFor}
 use Rattle.akl_model.specs.declared.label.Rule.{Rule}
@@ -48,7 +48,6 @@ use Rattle.table_laws.proofs.Cutting as cutting
 use Rattle.table_laws.proofs.Going.{AreGoing}
 use Rattle.table_laws.proofs.CutAway as away
 use Rattle.table_laws.proofs.CopyRows as rows
-use Rattle.table_laws.proofs.Beside.{after_differs}
 use Rattle.table_laws.proofs.Beside as beside
 
 module _ (rules : List Rule) (r : Run) (T : Table) (l : Label) (d : Config) (t : IsTableOf rules r T) (a : Applies rules r.program t.config l d) (n al copy : Name) (copies : List BoxCopy)
@@ -57,7 +56,7 @@ module _ (rules : List Rule) (r : Run) (T : Table) (l : Label) (d : Config) (t :
   abbrev pub g : Name
   g = made.choice.name
 
-  abbrev pub o : Op
+  abbrev pub o : Operator
   o = made.choice.op
 
   abbrev pub bs : Boxes
@@ -93,7 +92,7 @@ module _ (rules : List Rule) (r : Run) (T : Table) (l : Label) (d : Config) (t :
   two = ap box_names boxes_are ∙ ap (λ (ns : List Name). site ∷ ns) made.named
 
   pub second_once : (m : Name) → times m second ≤ 1
-  second_once = cutting.copy_once rules r.program r.query r.journal t.config l d t.replays a g al o Op.Commit bs second at_goal held boxes_are
+  second_once = cutting.copy_once rules r.program r.query r.journal t.config l d t.replays a g al o Operator.commit bs second at_goal held boxes_are
 
   al_named : IsIn al (box_names bs)
   al_named = first_named al bs (splitting.point r.program (slice_index t.config.next l.worker) l a.site a.change a.makes n al made.choice rule place names made.is_choice).first
@@ -104,48 +103,48 @@ module _ (rules : List Rule) (r : Run) (T : Table) (l : Label) (d : Config) (t :
   -- where boxes stand
 
   abbrev pub b : Becomes l.worker (slice_index t.config.next l.worker) a.site a.change
-  b = cutting.cuts_to rules r.program r.query r.journal t.config l d t.replays a g al o Op.Commit bs second at_goal held boxes_are
+  b = cutting.cuts_to rules r.program r.query r.journal t.config l d t.replays a g al o Operator.commit bs second at_goal held boxes_are
 
   pub was_there : box_at site t.config.roots ≡ Some a.site
   was_there = found rules r.program t.config l d s a
 
   pub now_there : box_at site d.roots ≡ Some (site_now b)
-  now_there = cutting.now_there rules r.program r.query r.journal t.config l d t.replays a g al o Op.Commit bs second at_goal held boxes_are
+  now_there = cutting.now_there rules r.program r.query r.journal t.config l d t.replays a g al o Operator.commit bs second at_goal held boxes_are
 
   pub home_was : home_of g t.config.roots ≡ Some a.site
-  home_was = cutting.home_was rules r.program r.query r.journal t.config l d t.replays a g al o Op.Commit bs second at_goal held boxes_are
+  home_was = cutting.home_was rules r.program r.query r.journal t.config l d t.replays a g al o Operator.commit bs second at_goal held boxes_are
 
   pub home_now : home_of g d.roots ≡ Some (site_now b)
-  home_now = cutting.home_now rules r.program r.query r.journal t.config l d t.replays a g al o Op.Commit bs second at_goal held boxes_are
+  home_now = cutting.home_now rules r.program r.query r.journal t.config l d t.replays a g al o Operator.commit bs second at_goal held boxes_are
 
   pub content_now : b.content ≡ a.site.content
-  content_now = cutting.content_now rules r.program r.query r.journal t.config l d t.replays a g al o Op.Commit bs second at_goal held boxes_are
+  content_now = cutting.content_now rules r.program r.query r.journal t.config l d t.replays a g al o Operator.commit bs second at_goal held boxes_are
 
   pub names_now : goal_names b.goals ≡ goal_names a.site.goals
-  names_now = cutting.names_now rules r.program r.query r.journal t.config l d t.replays a g al o Op.Commit bs second at_goal held boxes_are
+  names_now = cutting.names_now rules r.program r.query r.journal t.config l d t.replays a g al o Operator.commit bs second at_goal held boxes_are
 
   pub held_now : held_in g b.goals ≡ Some (a_choice o (alone al bs))
-  held_now = cutting.held_now rules r.program r.query r.journal t.config l d t.replays a g al o Op.Commit bs second at_goal held boxes_are
+  held_now = cutting.held_now rules r.program r.query r.journal t.config l d t.replays a g al o Operator.commit bs second at_goal held boxes_are
 
   abbrev pub IsUnderCut : Found → Type 0
-  IsUnderCut e = cutting.IsUnderCut rules r.program r.query r.journal t.config l d t.replays a g al o Op.Commit bs second at_goal held boxes_are e
+  IsUnderCut e = cutting.IsUnderCut rules r.program r.query r.journal t.config l d t.replays a g al o Operator.commit bs second at_goal held boxes_are e
 
   abbrev IsCopied : Found → Type 0
-  IsCopied e = cutting.IsCopied rules r.program r.query r.journal t.config l d t.replays a g al o Op.Commit bs second at_goal held boxes_are e
+  IsCopied e = cutting.IsCopied rules r.program r.query r.journal t.config l d t.replays a g al o Operator.commit bs second at_goal held boxes_are e
 
   -- a box of the copy is new, and stands afterwards
 
   copied_new : (k : Name) (e : Found) → box_at k second ≡ Some e → box_at k t.config.roots ≡ None
-  copied_new k e i = box_at-none k t.config.roots (cutting.copy_nowhere rules r.program r.query r.journal t.config l d t.replays a g al o Op.Commit bs second at_goal held boxes_are k (box_at-some k second e i))
+  copied_new k e i = box_at-none k t.config.roots (cutting.copy_nowhere rules r.program r.query r.journal t.config l d t.replays a g al o Operator.commit bs second at_goal held boxes_are k (box_at-some k second e i))
 
   abbrev pub under : Found → Found
   under e = record e { around = a.site.around ++ e.around }
 
   copied_there : (k : Name) (e : Found) → box_at k second ≡ Some e → box_at k d.roots ≡ Some (under e)
-  copied_there k e i = named_found d.roots later.once k (under e) (cutting.copy_stands rules r.program r.query r.journal t.config l d t.replays a g al o Op.Commit bs second at_goal held boxes_are e.around e.content e.goals (found_in k second e i)) (box-itself k second e i)
+  copied_there k e i = named_found d.roots later.once k (under e) (cutting.copy_stands rules r.program r.query r.journal t.config l d t.replays a g al o Operator.commit bs second at_goal held boxes_are e.around e.content e.goals (found_in k second e i)) (box-itself k second e i)
 
   pub copied_home : (k : Name) (e : Found) (h : Held) → home_of k second ≡ Some e → held_in k e.goals ≡ Some h → home_of k d.roots ≡ Some (under e)
-  copied_home k e h i j = in_home k h d.roots (under e) later.once (cutting.copy_stands rules r.program r.query r.journal t.config l d t.replays a g al o Op.Commit bs second at_goal held boxes_are e.around e.content e.goals (home_in k second e i).0) j
+  copied_home k e h i j = in_home k h d.roots (under e) later.once (cutting.copy_stands rules r.program r.query r.journal t.config l d t.replays a g al o Operator.commit bs second at_goal held boxes_are e.around e.content e.goals (home_in k second e i).0) j
 
   copied_found : (k : Name) (h : Found) → k ≡ h.content.name → (x : IsCopied h) → box_at k second ≡ Some (record h { around = x.rest })
   copied_found k h e x = named_found second second_once k (record h { around = x.rest }) x.stands e
@@ -170,26 +169,26 @@ module _ (rules : List Rule) (r : Run) (T : Table) (l : Label) (d : Config) (t :
   other_names = ap (λ (h : Option Name). others_from al (goal_at h T.goal_of)) al_holder ∙ ap (others_from al) its_row.1 ∙ ap (others_in al) its_row.3
 
   is_cut : (k : Name) (e : Found) → box_at k t.config.roots ≡ Some e → IsUnderCut e → IsInsideOne T (others_beside T al) k
-  is_cut = away.is_cut rules r.program r.query r.journal t.config l d t.replays a g al o Op.Commit bs second at_goal held boxes_are T t.unfolds (others_beside T al) other_names
+  is_cut = away.is_cut rules r.program r.query r.journal t.config l d t.replays a g al o Operator.commit bs second at_goal held boxes_are T t.unfolds (others_beside T al) other_names
 
   not_cut : (k : Name) (e h : Found) → box_at k t.config.roots ≡ Some e → box_at k d.roots ≡ Some h → IsInsideOne T (others_beside T al) k → ⊥
-  not_cut = away.not_cut rules r.program r.query r.journal t.config l d t.replays a g al o Op.Commit bs second at_goal held boxes_are T t.unfolds (others_beside T al) other_names
+  not_cut = away.not_cut rules r.program r.query r.journal t.config l d t.replays a g al o Operator.commit bs second at_goal held boxes_are T t.unfolds (others_beside T al) other_names
 
   not_cut_none : (k : Name) → box_at k t.config.roots ≡ None → IsInsideOne T (others_beside T al) k → ⊥
-  not_cut_none = away.not_cut_none rules r.program r.query r.journal t.config l d t.replays a g al o Op.Commit bs second at_goal held boxes_are T t.unfolds (others_beside T al) other_names
+  not_cut_none = away.not_cut_none rules r.program r.query r.journal t.config l d t.replays a g al o Operator.commit bs second at_goal held boxes_are T t.unfolds (others_beside T al) other_names
 
   pub is_goal_cut : (i : Name) (e : Found) → home_of i t.config.roots ≡ Some e → IsUnderCut e → IsGoalInsideOne T (others_beside T al) i
-  is_goal_cut = away.is_goal_cut rules r.program r.query r.journal t.config l d t.replays a g al o Op.Commit bs second at_goal held boxes_are T t.unfolds (others_beside T al) other_names
+  is_goal_cut = away.is_goal_cut rules r.program r.query r.journal t.config l d t.replays a g al o Operator.commit bs second at_goal held boxes_are T t.unfolds (others_beside T al) other_names
 
   pub not_goal_cut : (i : Name) (e h : Found) → home_of i t.config.roots ≡ Some e → home_of i d.roots ≡ Some h → IsGoalInsideOne T (others_beside T al) i → ⊥
-  not_goal_cut = away.not_goal_cut rules r.program r.query r.journal t.config l d t.replays a g al o Op.Commit bs second at_goal held boxes_are T t.unfolds (others_beside T al) other_names
+  not_goal_cut = away.not_goal_cut rules r.program r.query r.journal t.config l d t.replays a g al o Operator.commit bs second at_goal held boxes_are T t.unfolds (others_beside T al) other_names
 
   pub not_goal_cut_none : (i : Name) → home_of i t.config.roots ≡ None → IsGoalInsideOne T (others_beside T al) i → ⊥
-  not_goal_cut_none = away.not_goal_cut_none rules r.program r.query r.journal t.config l d t.replays a g al o Op.Commit bs second at_goal held boxes_are T t.unfolds (others_beside T al) other_names
+  not_goal_cut_none = away.not_goal_cut_none rules r.program r.query r.journal t.config l d t.replays a g al o Operator.commit bs second at_goal held boxes_are T t.unfolds (others_beside T al) other_names
 
   -- the other alternatives go with all inside them, and nothing else
   pub split_going : (Own : Name → Type 0) → ((i : Name) → Own i → ⊥) → AreGoing T t.config d (others_beside T al) Own
-  split_going = away.cut_away rules r.program r.query r.journal t.config l d t.replays a g al o Op.Commit bs second at_goal held boxes_are T t.unfolds (others_beside T al) other_names
+  split_going = away.cut_away rules r.program r.query r.journal t.config l d t.replays a g al o Operator.commit bs second at_goal held boxes_are T t.unfolds (others_beside T al) other_names
 
   module _ (U : Table) (at : Option ℕ) (solved : IsSolvedWhen at T a.site (splits copy copies)) (f : Splits T U n al copy copies at l.worker a.change.drawn) where
     -- rows of boxes that were there
@@ -227,7 +226,7 @@ module _ (rules : List Rule) (r : Run) (T : Table) (l : Label) (d : Config) (t :
 
     site_row : IsBoxRow U d.roots (site_now b) site_was.0 × IsAsTold T U site
     site_row = site_same rules r.program r.query r.journal t.config l d t.replays a T U t.unfolds keeps b content_now names_now site_was.0 site_was.0.failing site_was.1 site_has
-        (kept_fails g o Op.Commit al bs a.site.goals b.goals site_was.0.failing few al_named held held_now (cutting.others_now rules r.program r.query r.journal t.config l d t.replays a g al o Op.Commit bs second at_goal held boxes_are) site_was.2.failing)
+        (kept_fails g o Operator.commit al bs a.site.goals b.goals site_was.0.failing few al_named held held_now (cutting.others_now rules r.program r.query r.journal t.config l d t.replays a g al o Operator.commit bs second at_goal held boxes_are) site_was.2.failing)
 
     pub boxes : KeepsBoxes a T U
     boxes = record {
@@ -304,7 +303,7 @@ module _ (rules : List Rule) (r : Run) (T : Table) (l : Label) (d : Config) (t :
 
     pub new_box : (k : Name) (h : Found) → box_at k t.config.roots ≡ None → box_at k d.roots ≡ Some h
         → (row : BoxRow) × (U.box_of k ≡ Some row) × IsBoxRow U d.roots h row × (row.changed ≡ T.steps + 1) × (row.goals_changed ≡ T.steps + 1)
-    new_box k h i j = elim (cutting.was_there rules r.program r.query r.journal t.config l d t.replays a g al o Op.Commit bs second at_goal held boxes_are k h j) [
+    new_box k h i j = elim (cutting.was_there rules r.program r.query r.journal t.config l d t.replays a g al o Operator.commit bs second at_goal held boxes_are k h j) [
       | inl w ↦ absurd (not_some (sym i ∙ w.1))
       | inr x ↦ by x
     ]
@@ -343,7 +342,7 @@ module _ (rules : List Rule) (r : Run) (T : Table) (l : Label) (d : Config) (t :
 
         on : (box_at k t.config.roots ≡ None) ⊎ ((e : Found) × (box_at k t.config.roots ≡ Some e)) → U.box_of k ≡ None
         on (inl i) = old_row k (not_cut_none k i) none ∙ neither (IsBoxRow T t.config.roots) (box_at k t.config.roots) (T.box_of k) (t.unfolds.boxes k) i
-        on (inr (e, i)) = elim (cutting.stays_or rules r.program r.query r.journal t.config l d t.replays a g al o Op.Commit bs second at_goal held boxes_are k e i) [
+        on (inr (e, i)) = elim (cutting.stays_or rules r.program r.query r.journal t.config l d t.replays a g al o Operator.commit bs second at_goal held boxes_are k e i) [
           | inl w ↦ absurd (not_some (sym j ∙ w.1))
           | inr x ↦ f.box_goes k (is_cut k e i x)
         ]

@@ -69,7 +69,7 @@ module _ (rules : List Rule) (p : Program) (q : Query) (T : Table) (is : IsTable
   atoms = atoms_of p.templates.nodes frame q.goals
 
   abbrev content : Content
-  content = record { name = root; frames = frame ∷ []; equations = []; ports = []; body = []; shown = map (shown_of frame) q.shown }
+  content = record { name = root; frames = frame ∷ []; equations = []; ports = []; body = []; shown = map (shown_of frame) q.shown; collected = None }
 
   abbrev goals : Goals
   goals = with_atoms 0 2 atoms no_goals
@@ -101,6 +101,7 @@ module _ (rules : List Rule) (p : Program) (q : Query) (T : Table) (is : IsTable
         (λ g. let o : times g (start p q).roots ≤ 1 = (start-stands p q).once g in let k : times g (start p q).roots ≡ times_of g content + (times_inside g goals + 0) = refl in omega arith);
     body = refl;
     shown = refl;
+    collected = refl;
   }
 
   boxes : (n : Name) → AreBoth (IsBoxRow T (start p q).roots) (box_at n (start p q).roots) (T.box_of n)

@@ -1,15 +1,15 @@
 -- Names that are swapped with those that a worker draws next, and terms over names that two renamings rename alike.
 use Rattle.std.proofs.Common.{◌≡◌, ℕ, ◌+◌, ◌≤◌, ◌<◌, List, [], ◌∷◌, ◌++◌, map, Bool, true, false, refl, sym, ◌∙◌, ap, ◌⊎◌, inl, inr, arith}
-use Rattle.std.specs.Prelude.{if◌then◌else◌}
+use Rattle.std.specs.Prelude.{if◌then◌else◌, Option, Some, None, option_map}
 use Rattle.akl_terms.specs.declared.name.Name.{Name}
 use Rattle.akl_terms.specs.Names.{same_name}
 use Rattle.akl_terms.specs.Tree.{Tree, Trees, variable, integer, port, symbol, none, more}
 use Rattle.akl_terms.specs.Equal.{Equations}
 use Rattle.akl_terms.proofs.SameNames.{same_name-equal, same_name-refl}
-use Rattle.akl_model.specs.Config.{IsIn, Atom, Port, ShownTree, Content}
-use Rattle.akl_model.specs.Renaming.{port_names, renaming, renamed_tree, renamed_trees, renamed_atom, renamed_equation, renamed_port, renamed_shown}
+use Rattle.akl_model.specs.Config.{IsIn, Atom, Operator, Port, ShownTree, Content}
+use Rattle.akl_model.specs.Renaming.{port_names, renaming, renamed_tree, renamed_trees, renamed_atom, renamed_operator, renamed_equation, renamed_port, renamed_shown}
 use Rattle.akl_model.specs.Names.{one_if, times_in}
-use Rattle.akl_model.specs.Scopes.{Scope, nowhere, scope_in, IsScoped, AreScoped, TermsScoped, EquationsScoped, AtomScoped, AtomsScoped, TailsScoped, ShownScoped}
+use Rattle.akl_model.specs.Scopes.{Scope, nowhere, scope_in, IsScoped, AreScoped, TermsScoped, EquationsScoped, AtomScoped, AtomsScoped, TailsScoped, ShownScoped, TermScopedIf, OperatorScoped}
 use Rattle.akl_model.proofs.Finds.{zero_or}
 use Rattle.akl_model.proofs.Scoped.{IsIn-either}
 use Rattle.akl_model.proofs.ScopesAlong.{scope_along, times_path, counted_in, along_ports}
@@ -131,12 +131,22 @@ module _ (f h : Name → Name) (s : Scope) (frames : (n : Name) → IsIn n s.fra
   list_alike [] i = refl
   list_alike (t ∷ ts) i = λ k. tree_alike t i.0 k ∷ list_alike ts i.1 k
 
+  pub if_alike : (r : Option Tree) → TermScopedIf s r → option_map (renamed_tree f) r ≡ option_map (renamed_tree h) r
+  if_alike None i = refl
+  if_alike (Some r) i = ap Some (tree_alike r i)
+
+  pub operator_alike : (o : Operator) → OperatorScoped s o → renamed_operator f o ≡ renamed_operator h o
+  operator_alike Operator.condition i = refl
+  operator_alike Operator.commit i = refl
+  operator_alike Operator.nondeterminate i = refl
+  operator_alike (Operator.collecting r) i = ap Operator.collecting (tree_alike r i)
+
   pub atom_alike : (a : Atom) → AtomScoped s a → renamed_atom f a ≡ renamed_atom h a
   atom_alike (Atom.equation l r) i = λ k. Atom.equation (tree_alike l i.0 k) (tree_alike r i.1 k)
   atom_alike (Atom.arithmetic test l r) i = λ k. Atom.arithmetic test (tree_alike l i.0 k) (tree_alike r i.1 k)
   atom_alike (Atom.open_port p t) i = λ k. Atom.open_port (tree_alike p i.0 k) (tree_alike t i.1 k)
   atom_alike (Atom.send m p) i = λ k. Atom.send (tree_alike m i.0 k) (tree_alike p i.1 k)
-  atom_alike (Atom.call d ts) i = ap (Atom.call d) (list_alike ts i)
+  atom_alike (Atom.call d ts r) i = λ k. Atom.call d (list_alike ts i.0 k) (if_alike r i.1 k)
   atom_alike Atom.fail i = refl
 
   pub atoms_alike : (rest : List Atom) → AtomsScoped s rest → map (renamed_atom f) rest ≡ map (renamed_atom h) rest

@@ -119,7 +119,7 @@ module _ (rules : List Rule) (r : Run) (T U : Table) (l : Label) (d : Config) (t
       (ap (less_name g) old.2.goals ∙ sym (names_without g a.site.goals) ∙ ap goal_names (sym goals))
       (subst (λ (gs : Goals). FailsBy gs old.0.failing) (sym goals)
       (fails_without g (an_atom was) a.site.goals old.0.failing held (not_fail rules r.program t.config l d s a g place was held makes.content None is_change) old.2.failing))
-      refl refl
+      refl refl refl
 
   store_changes : constraint_at a.site.content.name t.config.roots ≡ constraint_at a.site.content.name d.roots → ⊥
   store_changes e =

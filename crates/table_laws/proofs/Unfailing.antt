@@ -3,7 +3,7 @@ use Rattle.std.proofs.Common.{◌≡◌, ◌≤◌, ◌<◌, List, ◌∷◌, �
 use Rattle.std.specs.Prelude.{if◌then◌else◌, option_map}
 use Rattle.akl_terms.specs.declared.name.Name.{Name}
 use Rattle.akl_terms.specs.declared.name.Place.{Place}
-use Rattle.akl_terms.specs.declared.program.Op.{Op}
+use Rattle.akl_model.specs.Config.{Operator}
 use Rattle.akl_terms.specs.declared.program.Program.{Program}
 use Rattle.akl_terms.specs.Equal.{Equations}
 use Rattle.akl_terms.specs.Names.{same_name}
@@ -38,15 +38,18 @@ module _ (f : Name → Name) where
   failing_renamed (Atom.arithmetic test l r) x = x
   failing_renamed (Atom.open_port p s) x = x
   failing_renamed (Atom.send m p) x = x
-  failing_renamed (Atom.call d ts) x = x
+  failing_renamed (Atom.call d ts r) x = x
   failing_renamed Atom.fail x = x
 
   pub failed_renamed : (gs : Goals) → HasFailed (renamed_goals f gs) → HasFailed gs
   failed_renamed no_goals x = x
   failed_renamed (atom g a gs) (inl x) = inl (failing_renamed a x)
   failed_renamed (atom g a gs) (inr x) = inr (failed_renamed gs x)
-  failed_renamed (choice g o no_boxes gs) (inl x) = inl x
-  failed_renamed (choice g o (box b hs bs) gs) (inl x) = inl x
+  failed_renamed (choice g Operator.condition no_boxes gs) (inl x) = inl x
+  failed_renamed (choice g Operator.commit no_boxes gs) (inl x) = inl x
+  failed_renamed (choice g Operator.nondeterminate no_boxes gs) (inl x) = inl x
+  failed_renamed (choice g (Operator.collecting r) no_boxes gs) (inl x) = absurd x
+  failed_renamed (choice g o (box b hs bs) gs) (inl x) = absurd x
   failed_renamed (choice g o bs gs) (inr x) = inr (failed_renamed gs x)
 
 -- the alternatives but one
@@ -70,7 +73,7 @@ others_there a (box b gs (box c hs bs)) h e = on (same_name a b.name) e
     on true q = cc
     on false q = cc
 
-not_failing : (o : Op) (bs : Boxes) → (bs ≡ no_boxes → ⊥) → IsFailing (a_choice o bs) → ⊥
+not_failing : (o : Operator) (bs : Boxes) → (bs ≡ no_boxes → ⊥) → IsFailing (a_choice o bs) → ⊥
 not_failing o no_boxes h x = h refl
 not_failing o (box b gs bs) h x = x
 
@@ -90,7 +93,7 @@ module _ (p : Program) (c : Config) (s : Stand c) (n : Name) (f : Found) (e : bo
   itself_unfailed : HasFailed f.goals → ⊥
   itself_unfailed = unfailed p (frames_of (only f)) (environment f) f stable.each.0
 
-  module _ (g a : Name) (o : Op) (bs : Boxes) (held : held_in g f.goals ≡ Some (a_choice o bs)) (more : 1 < count_of bs)
+  module _ (g a : Name) (o : Operator) (bs : Boxes) (held : held_in g f.goals ≡ Some (a_choice o bs)) (more : 1 < count_of bs)
       (once : (i : Name) → times_inside i (with_content g (a_choice o (others a bs)) f.goals) ≤ 1) where
     less_unfailed : HasFailed (with_content g (a_choice o (others a bs)) f.goals) → ⊥
     less_unfailed x = on (same_name w.0 g) refl

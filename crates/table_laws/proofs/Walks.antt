@@ -4,7 +4,7 @@ use Rattle.std.specs.Prelude.{if◌then◌else◌, cond, IsSome}
 use Rattle.std.specs.Map.{lookup}
 use Rattle.std.proofs.lemmas.List.{length-append}
 use Rattle.akl_terms.specs.declared.name.Name.{Name}
-use Rattle.akl_terms.specs.declared.program.Op.{Op}
+use Rattle.akl_model.specs.Config.{Operator}
 use Rattle.akl_terms.specs.Names.{same_name}
 use Rattle.akl_terms.proofs.SameNames.{same_name-equal, same_name-refl}
 use Rattle.akl_model.specs.declared.label.Rule.{Rule}
@@ -211,7 +211,7 @@ module _ (T : Table) (c : Config) (u : Unfolds T c) (once : (m : Name) → times
       let v : IsUnder T c u once n h = under T c u once n h e there i in
       let k : (x : Held) × (held_in w.0 v.found.goals ≡ Some x) = held_directly T c u once h w.0 v.found v.is_found w.1 in
       let at : home_of w.0 c.roots ≡ Some v.found = home_found c.roots once w.0 h v.found k.0 v.is_found k.1 in
-      let a : (op : Op) × (bs : Boxes) × (held_in w.0 v.found.goals ≡ Some (a_choice op bs)) × IsIn m (box_names bs) = held_alternative T c u once w.0 m v.found k.0 at k.1 w.2 in
+      let a : (op : Operator) × (bs : Boxes) × (held_in w.0 v.found.goals ≡ Some (a_choice op bs)) × IsIn m (box_names bs) = held_alternative T c u once w.0 m v.found k.0 at k.1 w.2 in
       record { outer = v.found; is_outer = v.is_found; is_home = at; inner = alternative_at c.roots once m w.0 v.found a.0 a.1 at a.2 a.3 }
 
   -- a box is directly in one other

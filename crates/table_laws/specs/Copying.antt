@@ -4,7 +4,7 @@ use Rattle.akl_terms.specs.declared.name.Name.{Name}
 use Rattle.akl_terms.specs.declared.term.Term.{Term}
 use Rattle.akl_terms.specs.Names.{same_name}
 use Rattle.akl_model.specs.Config.{IsIn}
-use Rattle.akl_model.specs.Renaming.{renamed_atom, renamed_equation, renamed_port, renamed_shown}
+use Rattle.akl_model.specs.Renaming.{renamed_tree, renamed_atom, renamed_operator, renamed_equation, renamed_port, renamed_shown}
 use Rattle.akl_model.specs.Names.{times_in}
 use Rattle.akl_model.specs.Ordered.{IsIncreasing}
 use Rattle.akl_model.specs.Changes.{Shape, of_atom, of_choice}
@@ -43,7 +43,7 @@ swapping (m ∷ ms) w next n =
 -- goals under other names, and without the alternative
 abbrev pub copied_shape : Name → (Name → Name) → Shape → Shape
 copied_shape al swap (of_atom a) = of_atom (renamed_atom swap a)
-copied_shape al swap (of_choice op alternatives) = of_choice op (map swap (less_name al alternatives))
+copied_shape al swap (of_choice op alternatives) = of_choice (renamed_operator swap op) (map swap (less_name al alternatives))
 
 abbrev pub copied_goal : Name → (Name → Name) → Name → Option GoalRow → List (Name × Shape)
 copied_goal al swap g None = []
@@ -64,6 +64,7 @@ pub record IsMadeOf (T : Table) (n al : Name) (swap : Name → Name) (m : Name) 
   pub goals : k.goals ≡ copied_goals T al swap row.goals
   pub body : k.body ≡ map (renamed_atom swap) row.body
   pub shown : k.shown ≡ map (renamed_shown swap) row.shown
+  pub collected : k.collected ≡ option_map (renamed_tree swap) row.collected
 
 -- each box that a split copies has one copy, made of its row, and there are no other copies
 pub record AreMade (T : Table) (n al : Name) (swap : Name → Name) (copies : List BoxCopy) : Type 0 where

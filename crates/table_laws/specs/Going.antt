@@ -10,8 +10,8 @@ use Rattle.akl_model.specs.Wakes.{IsThere}
 use Rattle.table_laws.specs.Rows.{Table}
 use Rattle.table_laws.specs.Stamped.{Run, IsTableOf}
 use Rattle.table_laws.specs.Inside.{IsDirectlyIn}
-use Rattle.table_laws.specs.Walks.{ListsEach}
-use Rattle.table_laws.specs.Steps.{Step, tells, forks, fails, cuts, promotes, refutes, confirms, splits, Makes}
+use Rattle.table_laws.specs.Walks.{alternatives_of, ListsEach}
+use Rattle.table_laws.specs.Steps.{Step, tells, forks, fails, cuts, joins, refutes, confirms, splits, Makes}
 use Rattle.table_laws.specs.Writes.{cut_from, others_beside, IsInsideOne, IsGoalInsideOne}
 
 -- a place was there, and isn't any more
@@ -22,12 +22,12 @@ pub record IsGone (c d : Config) (place : Place) : Type 0 where
 -- the goal of the place goes with the step
 abbrev pub OwnGoalGoes : Step → Type 0
 OwnGoalGoes (tells new solved) = ⊤
-OwnGoalGoes (promotes new solved goals) = ⊤
+OwnGoalGoes (joins new solved goals) = ⊤
 OwnGoalGoes confirms = ⊤
 OwnGoalGoes step = ⊥
 
--- the boxes that go, each with all that stands inside it: that of the place; the alternatives for which a solved one leaves no room; the alternative
--- that joins its box, inside which nothing stands; and the others beside the alternative of a split
+-- the boxes that go, each with all that stands inside it: that of the place; the alternatives for which a solved one leaves no room; the alternatives
+-- that join their box, inside which nothing stands; and the others beside the alternative of a split
 abbrev pub boxes_going : Table → Step → Place → Option Name → List Name
 boxes_going T (tells new solved) place alternative = []
 boxes_going T (forks op news) place alternative = []
@@ -35,7 +35,7 @@ boxes_going T refutes place alternative = []
 boxes_going T confirms place alternative = []
 boxes_going T fails (Place.Box n) alternative = n ∷ []
 boxes_going T cuts (Place.Goal g) (Some n) = cut_from n (T.goal_of g)
-boxes_going T (promotes new solved goals) (Place.Goal g) (Some n) = n ∷ []
+boxes_going T (joins new solved goals) (Place.Goal g) alternative = alternatives_of (T.goal_of g)
 boxes_going T (splits copy copies) (Place.Box n) (Some a) = others_beside T a
 boxes_going T step place alternative = []
 

@@ -1,7 +1,7 @@
 -- What stands inside a box, by a table's rows.
 use Rattle.std.specs.Prelude.{◌≡◌, List, Some}
 use Rattle.akl_terms.specs.declared.name.Name.{Name}
-use Rattle.akl_terms.specs.declared.program.Op.{Op}
+use Rattle.akl_model.specs.Config.{Operator}
 use Rattle.akl_model.specs.Config.{IsIn}
 use Rattle.akl_model.specs.Changes.{of_choice}
 use Rattle.table_laws.specs.Rows.{BoxRow, GoalRow, Table}
@@ -16,7 +16,7 @@ pub record IsDirectlyIn (T : Table) (n g : Name) : Type 0 where
 pub record IsAlternativeOf (T : Table) (g n : Name) : Type 0 where
   pub row : GoalRow
   pub there : T.goal_of g ≡ Some row
-  pub op : Op
+  pub op : Operator
   pub alternatives : List Name
   pub choice : row.shape ≡ of_choice op alternatives
   pub named : IsIn n alternatives

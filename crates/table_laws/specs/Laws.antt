@@ -64,6 +64,7 @@ first_row p q =
       failing = first_fail goals;
       body = [];
       shown = map (shown_of frame) q.shown;
+      collected = None;
     }
 
 -- the table of a query's one box, to which nothing was told

@@ -3,6 +3,7 @@ use Rattle.std.specs.Prelude.{ℕ, List, [], ◌∷◌, ◌++◌, Option, Some, 
 use Rattle.akl_terms.specs.declared.name.Name.{Name}
 use Rattle.akl_terms.specs.declared.term.Node.{Node}
 use Rattle.akl_terms.specs.declared.term.Term.{Term}
+use Rattle.akl_terms.specs.Tree.{Tree}
 use Rattle.akl_terms.specs.Template.{tree}
 use Rattle.akl_terms.specs.Equal.{Equations}
 use Rattle.akl_model.specs.Config.{Atom, Port, ShownTree}
@@ -12,7 +13,7 @@ use Rattle.local_store.specs.Stored.{Stored, nothing}
 
 -- a box: the choice that holds it, none for a root box; its store, with the number of the last label that changed its constraint, and how
 -- many labels there were when the store was solved over the stores around it, where it was; the names of its goals, with the number of the
--- last label that changed them; one of them by which the box fails, where there is one; its body, and the terms that it shows
+-- last label that changed them; one of them by which the box fails, where there is one; its body, the terms that it shows, and its collected term
 pub record BoxRow : Type 0 where
   pub holder : Option Name
   pub store : Stored
@@ -23,6 +24,7 @@ pub record BoxRow : Type 0 where
   pub failing : Option Name
   pub body : List Atom
   pub shown : List ShownTree
+  pub collected : Option Tree
 
 -- a goal: the box in which it stands, and an atom or a choice with the names of its alternatives; the number of the last label that changed it
 pub record GoalRow : Type 0 where

@@ -1,9 +1,9 @@
 -- What a plan makes of the box of its place: a step, right for the box that was found.
-use Rattle.std.specs.Prelude.{◌≡◌, ℕ, ◌+◌, ◌≤◌, Bool, true, false, List, [], ◌∷◌, ◌++◌, map, Option, Some, None, if◌then◌else◌, ⊤, slice_get}
+use Rattle.std.specs.Prelude.{◌≡◌, ℕ, ◌+◌, ◌≤◌, Bool, true, false, List, [], ◌∷◌, ◌++◌, map, Option, Some, None, if◌then◌else◌, ◌⊎◌, ⊤, slice_get}
 use Rattle.akl_terms.specs.declared.name.Name.{Name}
 use Rattle.akl_terms.specs.declared.name.Place.{Place}
 use Rattle.akl_terms.specs.declared.term.Node.{Node}
-use Rattle.akl_terms.specs.declared.program.Op.{Op}
+use Rattle.akl_model.specs.Config.{Operator}
 use Rattle.akl_terms.specs.declared.program.Definition.{Definition}
 use Rattle.akl_terms.specs.declared.program.Program.{Program}
 use Rattle.akl_terms.specs.Names.{same_name}
@@ -15,7 +15,7 @@ use Rattle.akl_model.specs.declared.label.Rule.{Rule}
 use Rattle.akl_model.specs.declared.label.Label.{Label}
 use Rattle.akl_model.specs.Config.{IsIn, Atom, ShownTree, Content, Boxes, no_boxes, box, Goals, no_goals, atom, choice, an_atom, a_choice, held_in, with_names, with_ports, Found, environment, whole, box_at, with_content, without_goal}
 use Rattle.akl_model.specs.Instances.{instances}
-use Rattle.akl_model.specs.Rules.{ChoiceIn, choice_with, others, with_alternatives, second_copy, becomes}
+use Rattle.akl_model.specs.Rules.{operator_of, gathered, ChoiceIn, choice_with, others, with_alternatives, second_copy, becomes}
 use Rattle.akl_model.specs.Names.{times_in}
 use Rattle.akl_model.specs.Changes.{Shape, of_atom, of_choice, box_names}
 use Rattle.akl_model.specs.Wakes.{names_around, names_down_to, holder_in}
@@ -35,6 +35,7 @@ pub record NewBox : Type 0 where
   pub solved : Bool
   pub goals : List (Name × Atom)
   pub body : List Atom
+  pub collected : Option Tree
 
 -- a copy of a box, or of one inside it: the choice that holds it, none for the copy of the box itself; its store, and whether this was solved
 -- over the stores around it; its goals, each an atom or a choice; its body, and the terms that it shows
@@ -46,17 +47,18 @@ pub record BoxCopy : Type 0 where
   pub goals : List (Name × Shape)
   pub body : List Atom
   pub shown : List ShownTree
+  pub collected : Option Tree
 
 -- a box gets a store, which may be solved over those around it, and the goal goes; the goal becomes a choice of new boxes; the box goes; a
--- choice loses the alternatives that a solved one leaves no room for; its only alternative joins the box, which gets a store and new goals;
+-- choice loses the alternatives that a solved one leaves no room for; all its alternatives join the box, which gets a store and new goals;
 -- the goal becomes `fail`; it goes, and the box keeps its store; or the box becomes two, the second of this name: the copies, in any order, of
 -- the box and of all boxes inside it
 pub data Step : Type 0 where
   tells : Stored → Bool → Step
-  forks : Op → List NewBox → Step
+  forks : Operator → List NewBox → Step
   fails : Step
   cuts : Step
-  promotes : Stored → Bool → List (Name × Atom) → Step
+  joins : Stored → Bool → List (Name × Atom) → Step
   refutes : Step
   confirms : Step
   splits : Name → List BoxCopy → Step
@@ -93,6 +95,7 @@ pub record IsNewBox (nodes : List Node) (around : Equations) (n : NewBox) (b : C
   pub stands : (D : Equations) → StandFor (IsTold D) (IsTold around) → StandFor (IsTold (D ++ bindings_in nodes n.store.bindings)) (IsTold (around ++ b.equations))
   pub goals : AreAtoms n.goals gs
   pub body : n.body ≡ b.body
+  pub collected : n.collected ≡ b.collected
 
 abbrev pub AreNewBoxes : List Node → Equations → List NewBox → Boxes → Type 0
 AreNewBoxes nodes around [] no_boxes = ⊤
@@ -100,18 +103,19 @@ AreNewBoxes nodes around (n ∷ ns) (box b gs bs) = IsNewBox nodes around n b gs
 AreNewBoxes nodes around ns bs = ⊥
 
 -- a call becomes the choice of its definition's clauses, with names of a worker from a number on
-pub record ForksGoal (p : Program) (worker next : ℕ) (f : Found) (g : Name) (op : Op) (news : List NewBox) : Type 0 where
+pub record ForksGoal (p : Program) (worker next : ℕ) (f : Found) (g : Name) (op : Operator) (news : List NewBox) : Type 0 where
   pub number : ℕ
   pub arguments : List Tree
-  pub held : held_in g f.goals ≡ Some (an_atom (Atom.call number arguments))
+  pub result : Option Tree
+  pub held : held_in g f.goals ≡ Some (an_atom (Atom.call number arguments result))
   pub definition : Definition
   pub is_definition : slice_get p.definitions number ≡ Some definition
-  pub operator : op ≡ definition.op
+  pub operator : operator_of definition.op result ≡ Some op
   pub boxes : AreNewBoxes p.templates.nodes (whole f) news (instances p.templates.nodes worker next arguments definition.clauses)
 
 -- a solved alternative of a choice cuts others
 pub record CutsGoal (f : Found) (g n : Name) : Type 0 where
-  pub operator : Op
+  pub operator : Operator
   pub alternatives : Boxes
   pub held : held_in g f.goals ≡ Some (a_choice operator alternatives)
   pub named : IsIn n (box_names alternatives)
@@ -121,17 +125,32 @@ abbrev pub numbered : ℕ → ℕ → List Atom → List (Name × Atom)
 numbered worker n [] = []
 numbered worker n (a ∷ rest) = (record { worker = worker; number = n }, a) ∷ numbered worker (n + 1) rest
 
--- the only alternative of a choice joins the box: under all that stands for the equations around it, the store stands for the box's
--- equations and the alternative's; the goals of its body come
-pub record PromotesGoal (nodes : List Node) (worker next : ℕ) (f : Found) (g n : Name) (new : Stored) (goals : List (Name × Atom)) : Type 0 where
-  pub operator : Op
-  pub alternative : Content
-  pub held : held_in g f.goals ≡ Some (a_choice operator (box alternative no_goals no_boxes))
-  pub named : n ≡ alternative.name
-  pub frames : new.frames ≡ with_names alternative.frames f.content.frames
-  pub ports : ports_in nodes new.ports ≡ with_ports alternative.ports f.content.ports
-  pub stands : (D : Equations) → StandFor (IsTold D) (IsTold (environment f)) → StandFor (IsTold (D ++ bindings_in nodes new.bindings)) (IsTold (whole f ++ alternative.equations))
-  pub body : goals ≡ numbered worker next alternative.body
+-- the only alternative of a choice, which has no goals, is what joins the box
+pub record IsPromoted (l : Label) (bs : Boxes) (k : Content) : Type 0 where
+  pub rule : l.rule ≡ Rule.Promote
+  pub alternative : l.alternative ≡ Some k.name
+  pub only : bs ≡ box k no_goals no_boxes
+
+-- what all alternatives of a choice that collects have together is what joins it
+pub record IsGathered (p : Program) (l : Label) (next : ℕ) (n : Name) (op : Operator) (bs : Boxes) (k : Content) : Type 0 where
+  pub rule : l.rule ≡ Rule.Collect
+  pub alternative : l.alternative ≡ None
+  pub result : Tree
+  pub collects : op ≡ Operator.collecting result
+  pub is_content : gathered p l.worker next n result bs ≡ Some k
+
+-- all alternatives of a choice, which have no goals, join the box: under all that stands for the equations around it, the store stands for
+-- the box's equations and those that come; the goals of what comes are new
+pub record JoinsGoal (p : Program) (l : Label) (next : ℕ) (f : Found) (g : Name) (new : Stored) (goals : List (Name × Atom)) : Type 0 where
+  pub operator : Operator
+  pub alternatives : Boxes
+  pub held : held_in g f.goals ≡ Some (a_choice operator alternatives)
+  pub joined : Content
+  pub origin : IsPromoted l alternatives joined ⊎ IsGathered p l next f.content.name operator alternatives joined
+  pub frames : new.frames ≡ with_names joined.frames f.content.frames
+  pub ports : ports_in p.templates.nodes new.ports ≡ with_ports joined.ports f.content.ports
+  pub stands : (D : Equations) → StandFor (IsTold D) (IsTold (environment f)) → StandFor (IsTold (D ++ bindings_in p.templates.nodes new.bindings)) (IsTold (whole f ++ joined.equations))
+  pub body : goals ≡ numbered l.worker next joined.body
 
 -- the goals of a box, with their shapes
 abbrev pub shapes_in : Goals → List (Name × Shape)
@@ -154,6 +173,7 @@ pub record IsCopy (nodes : List Node) (around : Equations) (bs : Boxes) (f : Fou
   pub goals : k.goals ≡ shapes_in f.goals
   pub body : k.body ≡ f.content.body
   pub shown : k.shown ≡ f.content.shown
+  pub collected : k.collected ≡ f.content.collected
 
 -- each box that is found among these has one copy, and there are no other copies
 pub record AreCopies (nodes : List Node) (around : Equations) (bs : Boxes) (copies : List BoxCopy) : Type 0 where
@@ -180,8 +200,7 @@ Makes p l next f (tells new solved) = (g : Name) × (l.place ≡ Place.Goal g) �
 Makes p l next f (forks op news) = (l.rule ≡ Rule.Fork) × ((g : Name) × (l.place ≡ Place.Goal g) × ForksGoal p l.worker next f g op news)
 Makes p l next f fails = l.rule ≡ Rule.Fail
 Makes p l next f cuts = (l.rule ≡ Rule.Cut) × ((g : Name) × (n : Name) × (l.place ≡ Place.Goal g) × (l.alternative ≡ Some n) × CutsGoal f g n)
-Makes p l next f (promotes new solved goals) = (l.rule ≡ Rule.Promote)
-    × ((g : Name) × (n : Name) × (l.place ≡ Place.Goal g) × (l.alternative ≡ Some n) × PromotesGoal p.templates.nodes l.worker next f g n new goals)
+Makes p l next f (joins new solved goals) = (g : Name) × (l.place ≡ Place.Goal g) × JoinsGoal p l next f g new goals
 Makes p l next f refutes = (l.rule ≡ Rule.Eval) × ((g : Name) × (l.place ≡ Place.Goal g) × ReducesAtom p l next f g f.content (with_content g (an_atom Atom.fail) f.goals) 0)
 Makes p l next f confirms = (l.rule ≡ Rule.Eval) × ((g : Name) × (l.place ≡ Place.Goal g) × ReducesAtom p l next f g f.content (without_goal g f.goals) 0)
 Makes p l next f (splits copy copies) = (l.rule ≡ Rule.Split)
@@ -214,7 +233,7 @@ IsSolvedIn T f (tells new solved) = IsSolvedIf solved T (names_around f) new
 IsSolvedIn T f (forks op news) = AreSolvedIf T (names_down_to f) news
 IsSolvedIn T f fails = ⊤
 IsSolvedIn T f cuts = ⊤
-IsSolvedIn T f (promotes new solved goals) = IsSolvedIf solved T (names_around f) new
+IsSolvedIn T f (joins new solved goals) = IsSolvedIf solved T (names_around f) new
 IsSolvedIn T f refutes = ⊤
 IsSolvedIn T f confirms = ⊤
 IsSolvedIn T f (splits copy copies) = (k : BoxCopy) (stores : List Stored) → copy_among copies k.name ≡ Some k → AreAround copies k.holder stores

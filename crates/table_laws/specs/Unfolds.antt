@@ -36,6 +36,7 @@ pub record IsBoxRow (T : Table) (roots : Boxes) (f : Found) (r : BoxRow) : Type 
   pub failing : FailsBy f.goals r.failing
   pub body : r.body ≡ f.content.body
   pub shown : r.shown ≡ f.content.shown
+  pub collected : r.collected ≡ f.content.collected
 
 -- a fact of what stands under a name in a configuration and of its row: both are there, or neither is
 abbrev pub AreBoth : {A B : Type 0} → (A → B → Type 0) → Option A → Option B → Type 0

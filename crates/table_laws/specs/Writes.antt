@@ -2,7 +2,7 @@
 use Rattle.std.specs.Prelude.{◌≡◌, ℕ, ◌+◌, ◌≤◌, Bool, true, false, List, [], ◌∷◌, ◌++◌, map, Option, Some, None, option_map, if◌then◌else◌, ⊤, slice_index}
 use Rattle.akl_terms.specs.declared.name.Name.{Name}
 use Rattle.akl_terms.specs.declared.name.Place.{Place}
-use Rattle.akl_terms.specs.declared.program.Op.{Op}
+use Rattle.akl_model.specs.Config.{Operator}
 use Rattle.akl_terms.specs.Names.{same_name}
 use Rattle.akl_model.specs.declared.label.Label.{Label}
 use Rattle.akl_model.specs.Config.{IsIn, Atom, or_else, with_names}
@@ -12,7 +12,8 @@ use Rattle.akl_model.specs.Derivations.{raised}
 use Rattle.local_store.specs.Stored.{Stored}
 use Rattle.table_laws.specs.Rows.{BoxRow, GoalRow, Table}
 use Rattle.table_laws.specs.Inside.{IsInside, IsGoalInside}
-use Rattle.table_laws.specs.Steps.{NewBox, BoxCopy, copy_among, Step, tells, forks, fails, cuts, promotes, splits, refutes, confirms}
+use Rattle.table_laws.specs.Walks.{alternatives_of}
+use Rattle.table_laws.specs.Steps.{NewBox, BoxCopy, copy_among, Step, tells, forks, fails, cuts, joins, splits, refutes, confirms}
 
 -- the same table
 pub record IsTable (U T : Table) : Type 0 where
@@ -80,6 +81,7 @@ new_row g at number n = record {
   failing = first_fail n.goals;
   body = n.body;
   shown = [];
+  collected = n.collected;
 }
 
 abbrev pub new_box_of : Name → Option ℕ → ℕ → List NewBox → Name → Option BoxRow
@@ -94,17 +96,23 @@ abbrev pub new_goal_of : ℕ → List NewBox → Name → Option GoalRow
 new_goal_of number [] m = None
 new_goal_of number (n ∷ ns) m = or_else (atom_among n.name number n.goals m) (new_goal_of number ns m)
 
-abbrev pub forked_row : Op → List NewBox → ℕ → GoalRow → GoalRow
+abbrev pub forked_row : Operator → List NewBox → ℕ → GoalRow → GoalRow
 forked_row op news number r = record r { shape = of_choice op (map (λ (n : NewBox). n.name) news); changed = number }
 
--- a choice without alternatives makes its box fail
-abbrev pub failing_by : Name → List NewBox → BoxRow → BoxRow
-failing_by g [] r = record r { failing = Some g }
-failing_by g news r = r
+-- a choice without alternatives makes its box fail, unless it collects
+abbrev pub fails_empty : Operator → Bool
+fails_empty (Operator.collecting r) = false
+fails_empty Operator.condition = true
+fails_empty Operator.commit = true
+fails_empty Operator.nondeterminate = true
 
-abbrev pub after_fork : Name → Op → List NewBox → Option ℕ → ℕ → ℕ → Table → Table
+abbrev pub failing_by : Name → Operator → List NewBox → BoxRow → BoxRow
+failing_by g op [] r = if fails_empty op then record r { failing = Some g } else r
+failing_by g op news r = r
+
+abbrev pub after_fork : Name → Operator → List NewBox → Option ℕ → ℕ → ℕ → Table → Table
 after_fork g op news at worker drawn T = record T {
-  box_of = λ m. or_else (new_box_of g at (T.steps + 1) news m) (changed_box (home_in (T.goal_of g)) (failing_by g news) T.box_of m);
+  box_of = λ m. or_else (new_box_of g at (T.steps + 1) news m) (changed_box (home_in (T.goal_of g)) (failing_by g op news) T.box_of m);
   goal_of = λ m. or_else (new_goal_of (T.steps + 1) news m) (set g (option_map (forked_row op news (T.steps + 1)) (T.goal_of g)) T.goal_of m);
   next = raised worker drawn T.next;
   steps = T.steps + 1;
@@ -120,10 +128,10 @@ abbrev pub left_row : Name → ℕ → GoalRow → GoalRow
 left_row n number r = record r { shape = less_alternative n r.shape; changed = number }
 
 abbrev pub none_left : Shape → Bool
-none_left (of_choice op []) = true
+none_left (of_choice op []) = fails_empty op
 none_left s = false
 
--- where no alternative is left, the box of the choice fails by it
+-- where no alternative is left, the box of the choice fails by it, unless it collects
 abbrev pub left_by : Name → Option GoalRow → BoxRow → BoxRow
 left_by g None r = r
 left_by g (Some row) r = if none_left row.shape then record r { failing = Some g } else r
@@ -165,15 +173,17 @@ name_alone n [] = []
 name_alone n (m ∷ ms) = if same_name n m then m ∷ [] else name_alone n ms
 
 -- the alternatives that are kept, and those that go: with `->` those to the right go, with `|` all others, with `?` none
-abbrev pub names_kept : Op → Name → List Name → List Name
-names_kept Op.Condition n ns = names_up_to n ns
-names_kept Op.Commit n ns = name_alone n ns
-names_kept Op.Choice n ns = ns
+abbrev pub names_kept : Operator → Name → List Name → List Name
+names_kept Operator.condition n ns = names_up_to n ns
+names_kept Operator.commit n ns = name_alone n ns
+names_kept Operator.nondeterminate n ns = ns
+names_kept (Operator.collecting r) n ns = ns
 
-abbrev pub names_cut : Op → Name → List Name → List Name
-names_cut Op.Condition n ns = names_after n ns
-names_cut Op.Commit n ns = less_name n ns
-names_cut Op.Choice n ns = []
+abbrev pub names_cut : Operator → Name → List Name → List Name
+names_cut Operator.condition n ns = names_after n ns
+names_cut Operator.commit n ns = less_name n ns
+names_cut Operator.nondeterminate n ns = []
+names_cut (Operator.collecting r) n ns = []
 
 abbrev pub cut_shape : Name → Shape → Shape
 cut_shape n (of_atom a) = of_atom a
@@ -218,14 +228,14 @@ pub record Cuts (T U : Table) (g n : Name) : Type 0 where
   pub next : (w : ℕ) → slice_index U.next w ≡ slice_index T.next w
   pub steps : U.steps ≡ T.steps + 1
 
--- the only alternative of a choice joins the box in which the choice stands
+-- the alternatives of a choice join the box in which the choice stands
 
 abbrev pub or_fails : Option Name → List (Name × Atom) → Option Name
 or_fails None goals = first_fail goals
 or_fails (Some g) goals = Some g
 
-abbrev pub promoted_row : Name → Stored → Option ℕ → List (Name × Atom) → ℕ → BoxRow → BoxRow
-promoted_row g new solved_at goals number r = record r {
+abbrev pub joined_row : Name → Stored → Option ℕ → List (Name × Atom) → ℕ → BoxRow → BoxRow
+joined_row g new solved_at goals number r = record r {
   store = new;
   changed = number;
   solved_at = solved_at;
@@ -238,9 +248,14 @@ abbrev pub home_or : Option GoalRow → Name → Name
 home_or None n = n
 home_or (Some r) n = r.home
 
-abbrev pub after_promote : Name → Name → Stored → Option ℕ → List (Name × Atom) → ℕ → ℕ → Table → Table
-after_promote g n new solved_at goals worker drawn T = record T {
-  box_of = set n None (changed_box (home_in (T.goal_of g)) (promoted_row g new solved_at goals (T.steps + 1)) T.box_of);
+-- these boxes go
+abbrev pub unset : List Name → (Name → Option BoxRow) → Name → Option BoxRow
+unset [] at = at
+unset (n ∷ ns) at = set n None (unset ns at)
+
+abbrev pub after_join : Name → Stored → Option ℕ → List (Name × Atom) → ℕ → ℕ → Table → Table
+after_join g new solved_at goals worker drawn T = record T {
+  box_of = unset (alternatives_of (T.goal_of g)) (changed_box (home_in (T.goal_of g)) (joined_row g new solved_at goals (T.steps + 1)) T.box_of);
   goal_of = λ m. or_else (atom_among (home_or (T.goal_of g) g) (T.steps + 1) goals m) (set g None T.goal_of m);
   next = raised worker drawn T.next;
   steps = T.steps + 1;
@@ -324,6 +339,7 @@ copied_row holder at number k = record {
   failing = None;
   body = k.body;
   shown = k.shown;
+  collected = k.collected;
 }
 
 abbrev pub shape_among : Name → ℕ → List (Name × Shape) → Name → Option GoalRow
@@ -378,7 +394,7 @@ DrawsFresh T (tells new solved) = ⊤
 DrawsFresh T (forks op news) = IsFresh T (names_drawn news)
 DrawsFresh T fails = ⊤
 DrawsFresh T cuts = ⊤
-DrawsFresh T (promotes new solved goals) = IsFresh T (map (λ (x : Name × Atom). x.0) goals)
+DrawsFresh T (joins new solved goals) = IsFresh T (map (λ (x : Name × Atom). x.0) goals)
 DrawsFresh T refutes = ⊤
 DrawsFresh T confirms = ⊤
 DrawsFresh T (splits copy copies) = IsFresh T (names_copied copies)
@@ -405,11 +421,11 @@ Leads T l at drawn cuts U = of_place l.place l.alternative
     of_place : Place → Option Name → Type 0
     of_place (Place.Goal g) (Some n) = Cuts T U g n
     of_place place alternative = ⊥
-Leads T l at drawn (promotes new solved goals) U = of_place l.place l.alternative
+Leads T l at drawn (joins new solved goals) U = of_place l.place
   where
-    of_place : Place → Option Name → Type 0
-    of_place (Place.Goal g) (Some n) = IsTable U (after_promote g n new (solved_when at solved) goals l.worker drawn T)
-    of_place place alternative = ⊥
+    of_place : Place → Type 0
+    of_place (Place.Goal g) = IsTable U (after_join g new (solved_when at solved) goals l.worker drawn T)
+    of_place (Place.Box n) = ⊥
 Leads T l at drawn refutes U = of_place l.place
   where
     of_place : Place → Type 0

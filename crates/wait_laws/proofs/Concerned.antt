@@ -65,7 +65,7 @@ module _ (c : Config) (w : Good c) (n : Name) (f : Found) (e : box_at n c.roots 
           over_equal (InScope c w n f e) (whole f) (whole_over c w n f e) r (variable y) (in_scope c w n f e r s.1) k.0
       on (Atom.equation s t) held k = absurd k
       on (Atom.open_port s t) held k = absurd k
-      on (Atom.call d ts) held k = absurd k
+      on (Atom.call d ts r) held k = absurd k
       on Atom.fail held k = absurd k
 
   -- and so is what it touches

@@ -11,10 +11,10 @@ use Rattle.akl_model.specs.declared.label.Rule.{Rule}
 use Rattle.akl_model.specs.declared.label.Label.{Label}
 use Rattle.akl_model.specs.Config.{IsIn, Atom, Content, Boxes, no_boxes, box, Goals, Config, an_atom, a_choice, with_content, without_goal, with_name, with_tail, with_port, Found}
 use Rattle.akl_model.specs.Instances.{term_at, with_atoms, instances, drawn_by}
-use Rattle.akl_model.specs.Rules.{Change, becomes, telling, kept_by, joining}
+use Rattle.akl_model.specs.Rules.{Change, becomes, telling, kept_by, count_of, joining}
 use Rattle.akl_model.specs.Derivations.{Applies}
 use Rattle.akl_model.proofs.Options.{some_value}
-use Rattle.akl_model.proofs.RuleCases.{Makes-case, PlainCase, tells, forks, evaluates, opens, sends, fails, cuts, promotes, SplitCase}
+use Rattle.akl_model.proofs.RuleCases.{Makes-case, PlainCase, tells, forks, evaluates, opens, sends, fails, cuts, promotes, collects, SplitCase}
 use Rattle.akl_model.proofs.ScopesKept.{in_with_name, in_with_names}
 
 abbrev first_content : Content → Boxes → Content
@@ -33,7 +33,7 @@ module _ (p : Program) (w next : ℕ) (f : Found) where
 
   plain_frames : {place : Place} (c : Change) → PlainCase p w next f c place → (b : Content) (gs : Goals) (rest : Boxes) → c.boxes ≡ box b gs rest → HasFrames b
   plain_frames c (tells g l r i e) b gs rest j = by (telling l r f.content) (without_goal g f.goals) 0 c e same_frames b gs rest j
-  plain_frames c (forks g d ts k i u e) b gs rest j = by f.content (with_content g (a_choice k.op (instances p.templates.nodes w next ts k.clauses)) f.goals) (drawn_by k.clauses) c e same_frames b gs rest j
+  plain_frames c (forks g d ts r k o i u l e) b gs rest j = by f.content (with_content g (a_choice o (instances p.templates.nodes w next ts k.clauses)) f.goals) (drawn_by k.clauses) c e same_frames b gs rest j
   plain_frames c (evaluates g test l r (value z) i u v e) b gs rest j = by (telling l (integer z) f.content) (without_goal g f.goals) 0 c e same_frames b gs rest j
   plain_frames c (evaluates g test l r (truth true) i u v e) b gs rest j = by f.content (without_goal g f.goals) 0 c e same_frames b gs rest j
   plain_frames c (evaluates g test l r (truth false) i u v e) b gs rest j = by f.content (with_content g (an_atom Atom.fail) f.goals) 0 c e same_frames b gs rest j
@@ -46,6 +46,7 @@ module _ (p : Program) (w next : ℕ) (f : Found) where
       (without_goal g f.goals) 1 c e (λ n h. in_with_name n frame f.content.frames (inr h)) b gs rest j
   plain_frames c (fails m x e) b gs rest j = let r : no_boxes ≡ box b gs rest = sym (ap (λ (k : Change). k.boxes) e) ∙ j in cc
   plain_frames c (cuts g m o bs i x e) b gs rest j = by f.content (with_content g (a_choice o (kept_by o m bs)) f.goals) 0 c e same_frames b gs rest j
+  plain_frames c (collects g r bs a i x z e) b gs rest j = by (joining a f.content) (without_goal g f.goals) (count_of bs) c e (λ n h. in_with_names n a.frames f.content.frames (inr h)) b gs rest j
   plain_frames c (promotes g m o a i r x e) b gs rest j = on (same_name m a.name) r e
     where
       on : (v : Bool) → v ≡ true → (if v then Some (becomes (joining a f.content) (with_atoms w next a.body (without_goal g f.goals)) (length a.body)) else None) ≡ Some c → HasFrames b

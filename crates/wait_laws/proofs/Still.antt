@@ -1,10 +1,10 @@
 -- A place of which labels leave what it watches needs afterwards what it needed before.
-use Rattle.std.proofs.Common.{◌≡◌, List, ◌++◌, Option, Some, None, sym, ◌∙◌, ap, subst, inr}
+use Rattle.std.proofs.Common.{◌≡◌, List, [], ◌∷◌, ◌++◌, Option, Some, None, sym, ◌∙◌, ap, subst, inr}
 use Rattle.std.specs.Prelude.{option_map, IsSomeAnd}
 use Rattle.akl_terms.specs.declared.name.Name.{Name}
 use Rattle.akl_terms.specs.declared.name.Var.{Var}
 use Rattle.akl_terms.specs.declared.name.Place.{Place}
-use Rattle.akl_terms.specs.declared.program.Op.{Op}
+use Rattle.akl_model.specs.Config.{Operator}
 use Rattle.akl_terms.specs.declared.program.Program.{Program}
 use Rattle.akl_terms.specs.Tree.{variable}
 use Rattle.akl_terms.specs.Equal.{Equations, Equal, IsConsistent}
@@ -16,7 +16,7 @@ use Rattle.akl_model.specs.Instances.{start}
 use Rattle.akl_model.specs.Rules.{alternative_of}
 use Rattle.akl_model.specs.Conditions.{IsSolved}
 use Rattle.akl_model.specs.Stable.{only, frames_of, AtomWaitsOn, TouchesFrom}
-use Rattle.akl_model.specs.Changes.{of_atom, shape_of, goal_names}
+use Rattle.akl_model.specs.Changes.{of_atom, shape_of, box_names, goal_names}
 use Rattle.akl_model.specs.Wakes.{StandsIn, TellsOutside, SomeBox}
 use Rattle.akl_model.proofs.Options.{some_value}
 use Rattle.akl_model.proofs.NamesKept.{box-itself}
@@ -36,12 +36,14 @@ use Rattle.plan_laws.specs.ByGoals.{by_goals}
 use Rattle.plan_laws.proofs.Right.{Solved}
 use Rattle.plan_laws.proofs.Idle.{watches_map, WasSolved, was_solved}
 use Rattle.plan_laws.proofs.ByGoals.{same_by_goals}
-use Rattle.sleep_laws.specs.Sleeps.{Needs, of_box_around, of_alternative, of_box, IsAliasAt, IsEnough}
+use Rattle.sleep_laws.specs.Sleeps.{Matters, Needs, of_box_around, of_alternative, of_box, IsAliasAt, IsEnough}
 use Rattle.sleep_laws.specs.Sleeps as sleeps
 use Rattle.sleep_laws.proofs.InScope.{Good}
 use Rattle.sleep_laws.proofs.Moves.{same_touched}
 use Rattle.sleep_laws.proofs.Replayed.{good_replay}
 use Rattle.wait_laws.specs.Waits.{IsScopedAt, HasOldestAt}
+use Rattle.sleep_laws.proofs.ChoiceReady.{are_solved, all_solved}
+use Rattle.plan_laws.proofs.AllSolved.{each_stands, were_solved}
 use Rattle.wait_laws.proofs.SameSites.{HasSameSite, turned_site, whole_same, boxes_same, box_same, scoped_same, alias_same, oldest_same}
 
 -- an atom of the same shape
@@ -68,7 +70,16 @@ module _ (p : Program) (c d : Config) (w : Good c) (v : Good d) (z : Later c d) 
     atom_back a x y held still k q = sleeps.of_atom s.was (atom_shape a (held_in g s.before.goals) (sym (shape ∙ ap (option_map shape_of) held))) (subst IsConsistent (whole_same s.afterwards s.before same_back) still)
         (subst (λ (E : Equations). AtomWaitsOn p E a y) (whole_same s.afterwards s.before same_back) k) (subst (λ (E : Equations). Equal E (variable x) (variable y)) (whole_same s.afterwards s.before same_back) q)
 
-    alternative_back : (n : Name) (o : Op) (bs : Boxes) (m : Found) (x : Var) → (o ≡ Op.Choice → ⊥) → held_in g s.afterwards.goals ≡ Some (a_choice o bs) → alternative_of s.afterwards n bs ≡ Some m → IsSolved m.goals
+    -- alternatives that are all solved were so
+    matters_back : (o : Operator) (bs cs : Boxes) → Matters o bs → held_in g s.afterwards.goals ≡ Some (a_choice o bs) → held_in g s.before.goals ≡ Some (a_choice o cs) → box_names bs ≡ box_names cs → Matters o cs
+    matters_back Operator.condition bs cs x i j q = tt
+    matters_back Operator.commit bs cs x i j q = tt
+    matters_back Operator.nondeterminate bs cs x i j q = absurd x
+    matters_back (Operator.collecting r) bs cs x i j q = are_solved cs (were_solved c d w.stand v.stand z (s.before.around ++ s.before.content ∷ []) (s.afterwards.around ++ s.afterwards.content ∷ []) cs bs (sym q) (all_solved bs x)
+        (each_stands g (Operator.collecting r) cs c.roots s.before (home_in g c.roots s.before s.was).0 j) (each_stands g (Operator.collecting r) bs d.roots s.afterwards (home_in g d.roots s.afterwards s.is).0 i)
+        (subst (OfAlternatives (IsSame c d)) j watched))
+
+    alternative_back : (n : Name) (o : Operator) (bs : Boxes) (m : Found) (x : Var) → Matters o bs → held_in g s.afterwards.goals ≡ Some (a_choice o bs) → alternative_of s.afterwards n bs ≡ Some m → IsSolved m.goals
         → IsConsistent (whole m) → TellsOutside m x → Needs p c (Place.Goal g) x
     alternative_back n o bs m x not_choice held a solved still t =
         let y : Solved n s.afterwards (held_in g s.afterwards.goals) = record { op = o; alternatives = bs; is_choice = held; alternative = m; found = a; solved = solved_none m.goals solved } in
@@ -76,7 +87,7 @@ module _ (p : Program) (c d : Config) (w : Good c) (v : Good d) (z : Later c d) 
         let none : b.alternative.goals ≡ no_goals = no_goals_names b.alternative.goals (sym (ap goal_names (solved_none m.goals solved)) ∙ b.goals) in
         let was : Stands b.alternative c.roots = alternative_stands g n o b.alternatives c.roots s.before b.alternative (home_in g c.roots s.before s.was).0 b.held b.found in
         let is : Stands m d.roots = alternative_stands g n o bs d.roots s.afterwards m (home_in g d.roots s.afterwards s.is).0 held a in
-        of_alternative n not_choice s.was b.held b.found (subst IsSolved (sym none) tt) (subst IsConsistent (whole_same m b.alternative b.same) still)
+        of_alternative n (matters_back o bs b.alternatives not_choice held b.held b.names) s.was b.held b.found (subst IsSolved (sym none) tt) (subst IsConsistent (whole_same m b.alternative b.same) still)
         (same_touched c d w v m.content.name b.alternative m (subst (λ (k : Content). box_at k.name c.roots ≡ Some b.alternative) (sym b.same.content) (in_found c.roots b.alternative w.stand.once was)) (in_found d.roots m v.stand.once is)
         b.same.around b.same.content x t)
 

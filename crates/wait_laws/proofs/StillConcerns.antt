@@ -4,7 +4,7 @@ use Rattle.std.specs.Prelude.{option_map, IsSomeAnd}
 use Rattle.akl_terms.specs.declared.name.Name.{Name}
 use Rattle.akl_terms.specs.declared.name.Var.{Var}
 use Rattle.akl_terms.specs.declared.name.Place.{Place}
-use Rattle.akl_terms.specs.declared.program.Op.{Op}
+use Rattle.akl_model.specs.Config.{Operator}
 use Rattle.akl_terms.specs.declared.program.Program.{Program}
 use Rattle.akl_terms.specs.Tree.{variable}
 use Rattle.akl_terms.specs.Equal.{Equations, Equal, IsStructured}
@@ -82,7 +82,7 @@ module _ (rules : List Rule) (p : Program) (c : Config) (ls : List Label) (d : C
     same : IsSameBox f at.afterwards
     same = subst (λ (k : Found). IsSameBox k at.afterwards) (some_value (sym at.was ∙ e)) at.same
 
-    alternative_still : (n : Name) (o : Op) (bs : Boxes) (m : Found) (x : Var) → held_in g f.goals ≡ Some (a_choice o bs) → alternative_of f n bs ≡ Some m → TouchesOutside p m x → Concerns p d x (Place.Goal g)
+    alternative_still : (n : Name) (o : Operator) (bs : Boxes) (m : Found) (x : Var) → held_in g f.goals ≡ Some (a_choice o bs) → alternative_of f n bs ≡ Some m → TouchesOutside p m x → Concerns p d x (Place.Goal g)
     alternative_still n o bs m x held a y =
         let k : HasAlternative c d g n f at.afterwards o bs m = has_alternative c d g n f at.afterwards o bs m (home_in g c.roots f e).0 (home_in g d.roots at.afterwards at.is).0 held a shape in
         let was : box_at m.content.name c.roots ≡ Some m = in_found c.roots m s.stand.once k.stood in

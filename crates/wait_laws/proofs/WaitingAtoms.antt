@@ -4,7 +4,7 @@ use Rattle.std.specs.Prelude.{option_map, slice_index}
 use Rattle.akl_terms.specs.declared.name.Name.{Name}
 use Rattle.akl_terms.specs.declared.name.Var.{Var}
 use Rattle.akl_terms.specs.declared.name.Place.{Place}
-use Rattle.akl_terms.specs.declared.program.Op.{Op}
+use Rattle.akl_model.specs.Config.{Operator}
 use Rattle.akl_terms.specs.declared.program.Program.{Program}
 use Rattle.akl_terms.specs.declared.program.Query.{Query}
 use Rattle.akl_terms.specs.declared.program.Test.{Test}
@@ -16,7 +16,7 @@ use Rattle.akl_model.specs.declared.item.Item.{Item}
 use Rattle.akl_model.specs.declared.label.Rule.{Rule}
 use Rattle.akl_model.specs.declared.label.Label.{Label}
 use Rattle.akl_model.specs.Config.{IsIn, Atom, Content, Boxes, Config, Held, an_atom, a_choice, held_in, Found, whole, box_at, home_of, site_of}
-use Rattle.akl_model.specs.Rules.{Reading, answer, receiver, Change, ChoiceIn, choice_with, tell, fork, open_new, cut, promote, change_by}
+use Rattle.akl_model.specs.Rules.{Reading, answer, receiver, Change, ChoiceIn, choice_with, tell, fork, open_new, cut, promote, collect, change_by}
 use Rattle.akl_model.specs.Conditions.{ComesTo, GoesTo}
 use Rattle.akl_model.specs.Stable.{Allows, AtomWaitsOn}
 use Rattle.akl_model.specs.Derivations.{Applies, Replays}
@@ -72,7 +72,7 @@ module _ (p : Program) (g : Name) (f : Found) (t : Atom) (x : Var) (k : AtomWait
   no_tell ch (Atom.arithmetic test l r) z w = cc
   no_tell ch (Atom.open_port l r) z w = cc
   no_tell ch (Atom.send l r) z w = cc
-  no_tell ch (Atom.call n ts) z w = cc
+  no_tell ch (Atom.call n ts r) z w = cc
   no_tell ch Atom.fail z w = cc
 
   no_fork : (w next : ℕ) (ch : Change) (u : Atom) → fork p w next g f (Some (an_atom u)) ≡ Some ch → AtomWaitsOn p (whole f) u x → ⊥
@@ -80,7 +80,7 @@ module _ (p : Program) (g : Name) (f : Found) (t : Atom) (x : Var) (k : AtomWait
   no_fork w next ch (Atom.arithmetic test l r) z y = cc
   no_fork w next ch (Atom.open_port l r) z y = y
   no_fork w next ch (Atom.send l r) z y = cc
-  no_fork w next ch (Atom.call n ts) z y = y
+  no_fork w next ch (Atom.call n ts r) z y = y
   no_fork w next ch Atom.fail z y = y
 
   no_open : (w next : ℕ) (ch : Change) (u : Atom) → open_new w next g f (Some (an_atom u)) ≡ Some ch → AtomWaitsOn p (whole f) u x → ⊥
@@ -88,7 +88,7 @@ module _ (p : Program) (g : Name) (f : Found) (t : Atom) (x : Var) (k : AtomWait
   no_open w next ch (Atom.arithmetic test l r) z y = cc
   no_open w next ch (Atom.open_port l r) z y = y
   no_open w next ch (Atom.send l r) z y = cc
-  no_open w next ch (Atom.call n ts) z y = y
+  no_open w next ch (Atom.call n ts r) z y = y
   no_open w next ch Atom.fail z y = y
 
   no_rule : (held : held_in g f.goals ≡ Some (an_atom t)) (v : Reading) (w next : ℕ) (r : Rule) (alternative : Option Name) (ch : Change) → change_by p v w next r (Place.Goal g) alternative f ≡ Some ch
@@ -106,6 +106,8 @@ module _ (p : Program) (g : Name) (f : Found) (t : Atom) (x : Var) (k : AtomWait
   no_rule held v w next Rule.Fail alternative ch e i = cc
   no_rule held v w next Rule.Cut None ch e i = cc
   no_rule held v w next Rule.Cut (Some n) ch e i = let z : cut g n f (Some (an_atom t)) ≡ Some ch = subst (λ (h : Option Held). cut g n f h ≡ Some ch) held e in cc
+  no_rule held v w next Rule.Collect None ch e i = let z : collect p w next g f (Some (an_atom t)) ≡ Some ch = subst (λ (h : Option Held). collect p w next g f h ≡ Some ch) held e in cc
+  no_rule held v w next Rule.Collect (Some n) ch e i = cc
   no_rule held v w next Rule.Promote None ch e i = cc
   no_rule held v w next Rule.Promote (Some n) ch e i = let z : promote w next g n f (Some (an_atom t)) ≡ Some ch = subst (λ (h : Option Held). promote w next g n f h ≡ Some ch) held e in cc
   no_rule held v w next Rule.Split alternative ch e i = cc
@@ -113,7 +115,7 @@ module _ (p : Program) (g : Name) (f : Found) (t : Atom) (x : Var) (k : AtomWait
 -- so a label leaves it, while its goal is there
 module _ (rules : List Rule) (p : Program) (q : Query) (journal : List Label) (c : Config) (l : Label) (d : Config) (r : Replays rules p q journal c) (a : Applies rules p c l d) (g : Name) (e f : Found)
     (i : home_of g c.roots ≡ Some e) (j : home_of g d.roots ≡ Some f) (t : Atom) (x : Var) (held : held_in g e.goals ≡ Some (an_atom t)) (k : AtomWaitsOn p (whole e) t x) where
-  no_choice : (o : Op) (bs : Boxes) → held_in g e.goals ≡ Some (a_choice o bs) → ⊥
+  no_choice : (o : Operator) (bs : Boxes) → held_in g e.goals ≡ Some (a_choice o bs) → ⊥
   no_choice o bs h = let z : Some (an_atom t) ≡ Some (a_choice o bs) = sym held ∙ h in cc
 
   site : (place : Place) → l.place ≡ place → site_of place c.roots ≡ Some a.site

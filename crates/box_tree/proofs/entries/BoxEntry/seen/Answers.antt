@@ -2,7 +2,7 @@ use Rattle.std.proofs.Common.{◌≡◌, Option, ap, sym, ◌∙◌, rules}
 use Rattle.std.specs.Prelude.{option_map}
 use Rattle.table_laws.specs.Rows.{BoxRow, store_in}
 use Rattle.box_tree.specs.Tables.{box_row, goals_in, is_empty}
-use Rattle.box_tree.specs.Paths.{solving_in, known_with}
+use Rattle.box_tree.specs.Paths.{solving_in, known_with, collected_in}
 use Rattle.box_tree.proofs.entries.BoxEntry.seen.Goals as goal
 
 pub returns : goal.returns
@@ -12,4 +12,4 @@ returns c = λ t there.
     let solved = empty ∙ sym (ap (λ (o : Option BoxRow). is_empty (goals_in o)) row) in
     let store = c.in_ok-store.ensures ∙ sym (ap store_in row) in
     let known = c.known_with.ensures ∙ sym (ap (λ (o : Option BoxRow). known_with (solving_in o).0 c.args.known c.args.latest c.args.whole) row) in
-    λ i. record { name = c.args.name; solved = solved i; store = store i; known = known i }
+    λ i. record { name = c.args.name; solved = solved i; store = store i; known = known i; collected = sym (ap collected_in there) i }

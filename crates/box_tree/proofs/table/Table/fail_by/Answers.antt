@@ -15,7 +15,7 @@ returns c =
       | in-Some-get_mut w ↦
           let old : BoxEntry = w.in-Some-get_mut.entry.now in
           let is = sym c.get_mut.follows.claims.0 ∙ ap option_copied_mut w.in-Some-get_mut.is in
-          let new : BoxEntry = record { holder = old.holder; store = old.store; changed = old.changed; solved_at = old.solved_at; goals = old.goals; goals_changed = old.goals_changed; failing = Some c.args.goal; body = old.body; shown = old.shown } in
+          let new : BoxEntry = record { holder = old.holder; store = old.store; changed = old.changed; solved_at = old.solved_at; goals = old.goals; goals_changed = old.goals_changed; failing = Some c.args.goal; body = old.body; shown = old.shown; collected = old.collected } in
           rw w.self-inside-is (rw (sym c.self.view_is) (writes_box t (failing_row c.args.goal) c.in-Some.name c.self.inside.boxes (c.get_mut.follows.lender new) old new refl is (((c.get_mut.follows.holds new).3 (is_some_if _ old is)).0) refl))
       | in_default-get_mut w ↦
           let none = sym c.get_mut.follows.claims.0 ∙ ap option_copied_mut w.in_default-get_mut.is in

@@ -2,7 +2,7 @@ use Rattle.std.proofs.Common.{◌≡◌, List, map, sym, ap, ◌∙◌, subst}
 use Rattle.akl_terms.specs.declared.name.Name.{Name}
 use Rattle.table_laws.specs.Writes.{failing_row, names_drawn, changed_box, after_fork}
 use Rattle.box_tree.specs.declared.step.NewBox.{NewBox}
-use Rattle.box_tree.specs.Tables.{TableValue, table_of, new_box}
+use Rattle.box_tree.specs.Tables.{TableValue, table_of, op_held, new_box}
 use Rattle.box_tree.specs.Edits.{SetsBoxes, Becomes, Clears, home_if_empty}
 use Rattle.box_tree.proofs.Adding.{undone}
 use Rattle.box_tree.proofs.Forked.{forked, fresh_boxes, fresh_goals}
@@ -19,10 +19,10 @@ returns-in_default-put_news-clause-unchanged c =
 
 pub returns-clause-made : goal.returns-clause-made
 returns-clause-made c =
-    let same = c.home_if_empty-failing.ensures ∙ ap (home_if_empty c.in-Some.home) c.as_slice.ensures.value in
+    let same = c.home_if_empty-failing.ensures ∙ ap (home_if_empty c.in-Some.home c.args.op) c.as_slice.ensures.value in
     let kept = ap (λ (x : TableValue). x.next) c.fail_by.ensures.rest ∙ ap (λ (x : TableValue). x.next) c.make_choice.ensures.rest ∙ ap (λ (x : TableValue). x.next) c.in-Ok.ensures.put.rest in
     let raises = raised_later c.args.worker c.args.count c.in_ok-next.next c.args.self.now.next c.fail_by.new.self.next c.raise.new.self.next kept c.in_ok-next.ensures c.raise.ensures.numbers in
-    subst (λ (w : TableValue). Becomes c.args.self.now (record w { steps = c.args.number }) (after_fork c.args.goal c.args.op (map (new_box c.args.self.now.program.templates.nodes) c.args.news.items) c.args.at c.args.worker c.args.count (table_of c.args.self.now)))
+    subst (λ (w : TableValue). Becomes c.args.self.now (record w { steps = c.args.number }) (after_fork c.args.goal (op_held c.args.self.now.program.templates.nodes c.args.op) (map (new_box c.args.self.now.program.templates.nodes) c.args.news.items) c.args.at c.args.worker c.args.count (table_of c.args.self.now)))
     (sym (c.self.view_is ∙ c.raise.ensures.rest))
     (forked c.args.self.now c.put_news.new.self c.make_choice.new.self c.fail_by.new.self c.args.goal c.in-Some.home c.args.op c.args.news.items c.args.at c.args.number c.args.worker c.args.count c.in_ok-names.names.items c.raise.new.self.next
     c.requires.number c.requires.fresh c.in-Some.ensures (c.in_ok-names.ensures ∙ ap (map (λ (n : NewBox). n.name)) c.as_slice-2.ensures.value) raises c.in-Ok.ensures.put c.make_choice.ensures

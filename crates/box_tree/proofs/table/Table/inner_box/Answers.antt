@@ -16,5 +16,6 @@ returns-clause-row c =
       goals = c.in_ok-goals.ensures.names;
       held = c.in_ok-goals.ensures.held;
       body = ap (map (goal_atom t.program.templates.nodes)) (c.in_ok-body.ensures.items ∙ c.as_slice.ensures.value);
+      collected = refl;
       shown = ap (map (shown_tree t.program.templates.nodes)) (c.in_ok-shown.ensures ∙ c.as_slice-2.ensures.value);
     }

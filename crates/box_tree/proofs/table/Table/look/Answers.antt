@@ -31,7 +31,7 @@ invariant_of-result-2 c =
     let names : standing.alternatives.now ≡ names_at T c.args.place = c.in_ok-standing.ensures.standing.alternatives in
     rw (c.of.ensures, c.of-2.ensures) (view_of c.args.self.now c.args.journal.now.items c.requires c.args.place c.args.worker standing.home standing.sight path way.stores.items c.known_of-known.result.0 c.next_of.result
     c.in_ok-alternatives.alternatives.items c.in_ok-alternatives.body.items c.in_ok-standing.ensures.standing.sight c.in_ok-path.ensures.path c.in_ok-path.ensures.stores known c.next_of.ensures
-    (c.in_ok-alternatives.ensures.alternatives ∙ (λ i. map (seen_as T (known i) (latest i) (whole i)) (names i))) (c.in_ok-alternatives.ensures.body ∙ ap (body_of_only T) names))
+    (c.in_ok-alternatives.ensures.alternatives ∙ (λ i. map (seen_as c.args.self.now (known i) (latest i) (whole i)) (names i))) (c.in_ok-alternatives.ensures.body ∙ ap (body_of_only T) names))
 
 pub returns-clause-seen : goal.returns-clause-seen
 returns-clause-seen c =
@@ -45,4 +45,4 @@ returns-clause-seen c =
     let names : standing.alternatives.now ≡ names_at T c.args.place = c.in_ok-standing.ensures.standing.alternatives in
     rw (c.of.ensures, c.of-2.ensures) (view_of c.args.self.now c.args.journal.now.items c.requires c.args.place c.args.worker standing.home standing.sight path way.stores.items c.known_of-known.result.0 c.next_of.result
     c.in_ok-alternatives.alternatives.items c.in_ok-alternatives.body.items c.in_ok-standing.ensures.standing.sight c.in_ok-path.ensures.path c.in_ok-path.ensures.stores known c.next_of.ensures
-    (c.in_ok-alternatives.ensures.alternatives ∙ (λ i. map (seen_as T (known i) (latest i) (whole i)) (names i))) (c.in_ok-alternatives.ensures.body ∙ ap (body_of_only T) names))
+    (c.in_ok-alternatives.ensures.alternatives ∙ (λ i. map (seen_as c.args.self.now (known i) (latest i) (whole i)) (names i))) (c.in_ok-alternatives.ensures.body ∙ ap (body_of_only T) names))

@@ -16,7 +16,7 @@ returns c =
       | in-Some-get_mut w ↦
           let old : BoxEntry = w.in-Some-get_mut.entry.now in
           let is = sym c.get_mut.follows.claims.0 ∙ ap option_copied_mut w.in-Some-get_mut.is in
-          let new : BoxEntry = record { holder = old.holder; store = old.store; changed = old.changed; solved_at = old.solved_at; goals = w.remove.new.self; goals_changed = c.args.number; failing = old.failing; body = old.body; shown = old.shown } in
+          let new : BoxEntry = record { holder = old.holder; store = old.store; changed = old.changed; solved_at = old.solved_at; goals = w.remove.new.self; goals_changed = c.args.number; failing = old.failing; body = old.body; shown = old.shown; collected = old.collected } in
           rw w.self-inside-is (rw (sym c.self.view_is) (writes_box t (confirmed_row c.args.goal c.args.number) c.in-Some.name c.self.inside.boxes (c.get_mut.follows.lender new) old new refl is
           (((c.get_mut.follows.holds new).3 (is_some_if _ old is)).0)
           (ap (λ (ks : List Name). record (box_row t.program.templates.nodes new) { goals = ks }) (w.remove.ensures.keys ∙ removed_is c.args.goal old.goals.keys))))

@@ -2,7 +2,7 @@ use Rattle.std.proofs.Common.{refl, sym, ap, ◌∙◌}
 use Rattle.std.specs.Option.{option_copied_mut}
 use Rattle.box_tree.specs.declared.entries.Held.{Held}
 use Rattle.box_tree.specs.declared.entries.GoalEntry.{GoalEntry}
-use Rattle.box_tree.specs.Tables.{TableValue}
+use Rattle.box_tree.specs.Tables.{TableValue, op_held}
 use Rattle.box_tree.specs.Edits.{choice_row}
 use Rattle.box_tree.proofs.Maps.{is_some_if}
 use Rattle.box_tree.proofs.Written.{writes_goal, writes_no_goal}
@@ -17,8 +17,8 @@ returns c =
           let old : GoalEntry = w.in-Some.entry.now in
           let is = sym c.get_mut.follows.claims.0 ∙ ap option_copied_mut w.in-Some.is in
           let new : GoalEntry = record { home = old.home; held = Held.Choice c.args.op c.args.names; changed = c.args.number } in
-          rw w.self-inside-is (rw (sym c.self.view_is) (writes_goal t (choice_row c.args.op c.args.names.items c.args.number) c.args.goal c.self.inside.goals (c.get_mut.follows.lender new) old new refl is (((c.get_mut.follows.holds new).3 (is_some_if _ old is)).0) refl))
+          rw w.self-inside-is (rw (sym c.self.view_is) (writes_goal t (choice_row (op_held t.program.templates.nodes c.args.op) c.args.names.items c.args.number) c.args.goal c.self.inside.goals (c.get_mut.follows.lender new) old new refl is (((c.get_mut.follows.holds new).3 (is_some_if _ old is)).0) refl))
       | in_default w ↦
           let none = sym c.get_mut.follows.claims.0 ∙ ap option_copied_mut w.in_default.is in
-          rw w.self-inside-is (rw (sym c.self.view_is) (writes_no_goal t (choice_row c.args.op c.args.names.items c.args.number) c.args.goal c.self.inside.goals c.get_mut.follows.lender-at-none refl none c.get_mut.follows.holds-at-none))
+          rw w.self-inside-is (rw (sym c.self.view_is) (writes_no_goal t (choice_row (op_held t.program.templates.nodes c.args.op) c.args.names.items c.args.number) c.args.goal c.self.inside.goals c.get_mut.follows.lender-at-none refl none c.get_mut.follows.holds-at-none))
     ]

@@ -10,7 +10,7 @@ use Rattle.box_tree.proofs.table.Table.put_new.Goals as goal
 
 pub returns-clause-put : goal.returns-clause-put
 returns-clause-put c =
-    let e : BoxEntry = record { holder = Some c.args.holder; store = c.args.new.store; changed = c.args.number; solved_at = c.solved_when.result; goals = c.in_ok-names.names; goals_changed = c.args.number; failing = c.first_fail-failing.result; body = c.args.new.body; shown = c.new.result } in
+    let e : BoxEntry = record { holder = Some c.args.holder; store = c.args.new.store; changed = c.args.number; solved_at = c.solved_when.result; goals = c.in_ok-names.names; goals_changed = c.args.number; failing = c.first_fail-failing.result; body = c.args.new.body; shown = c.new.result; collected = c.args.new.collected } in
     on_ok_weaker c.put_entry.result (box_comes c.args.self.now c.put_entry.new.self c.args.holder c.args.at c.args.number c.args.new e
     (record {
       holder_is = refl;
@@ -22,4 +22,5 @@ returns-clause-put c =
       failing = λ nodes. c.first_fail-failing.ensures nodes ∙ ap (λ (xs : List (Name × Goal)). first_fail (named_atoms nodes xs)) c.as_slice-2.ensures.value;
       body = refl;
       shown = c.new.ensures.items;
+      collected = refl;
     })) c.put_entry.ensures.put

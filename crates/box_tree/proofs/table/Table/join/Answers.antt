@@ -2,7 +2,7 @@ use Rattle.std.proofs.Common.{List, map, sym, ap, ◌∙◌, subst}
 use Rattle.akl_terms.specs.declared.name.Name.{Name}
 use Rattle.akl_terms.specs.declared.program.Goal.{Goal}
 use Rattle.akl_model.specs.Config.{Atom}
-use Rattle.table_laws.specs.Writes.{first_fail, after_promote, IsFresh}
+use Rattle.table_laws.specs.Writes.{first_fail, after_join, IsFresh}
 use Rattle.box_tree.specs.Tables.{TableValue, table_of, goals_in}
 use Rattle.box_tree.specs.Edits.{Becomes, AddsOnly, Clears, AreNew, named_atoms}
 use Rattle.box_tree.proofs.Adding.{undone}
@@ -10,7 +10,7 @@ use Rattle.box_tree.proofs.News.{firsts, names_atoms}
 use Rattle.box_tree.proofs.Forked.{fresh_boxes, fresh_goals}
 use Rattle.box_tree.proofs.Joined.{goals_increase, fresh_new, joined}
 use Rattle.box_tree.proofs.Numbers.{raised_later}
-use Rattle.box_tree.proofs.table.Table.promote.Goals as goal
+use Rattle.box_tree.proofs.table.Table.join.Goals as goal
 
 pub put_body-requires-clause-new : goal.put_body-requires-clause-new
 put_body-requires-clause-new c =
@@ -33,9 +33,9 @@ returns-clause-made c =
     let t : TableValue = c.args.self.now in
     let names = c.as_slice-3.ensures.value ∙ c.in_ok-names.ensures ∙ ap firsts c.as_slice.ensures.value in
     let failing = c.first_fail-failing.ensures t.program.templates.nodes ∙ ap (λ (xs : List (Name × Goal)). first_fail (named_atoms t.program.templates.nodes xs)) c.as_slice-2.ensures.value in
-    let kept = ap (λ (x : TableValue). x.next) c.drop_alternative.ensures.rest ∙ ap (λ (x : TableValue). x.next) c.drop_goal.ensures.dropped.rest ∙ ap (λ (x : TableValue). x.next) c.tell_box.ensures.rest ∙ ap (λ (x : TableValue). x.next) c.in-Ok.ensures.put.rest in
-    let raises = raised_later c.args.worker c.args.count c.in_ok-next.next t.next c.drop_alternative.new.self.next c.raise.new.self.next kept c.in_ok-next.ensures c.raise.ensures.numbers in
+    let kept = ap (λ (x : TableValue). x.next) c.drop_alternatives.ensures.rest ∙ ap (λ (x : TableValue). x.next) c.drop_goal.ensures.dropped.rest ∙ ap (λ (x : TableValue). x.next) c.tell_box.ensures.rest ∙ ap (λ (x : TableValue). x.next) c.in-Ok.ensures.put.rest in
+    let raises = raised_later c.args.worker c.args.count c.in_ok-next.next t.next c.drop_alternatives.new.self.next c.raise.new.self.next kept c.in_ok-next.ensures c.raise.ensures.numbers in
     subst (λ (x : TableValue). Becomes t (record x { steps = c.args.number })
-    (after_promote c.args.goal c.args.name c.args.store c.args.solved_at (named_atoms t.program.templates.nodes c.args.goals.items) c.args.worker c.args.count (table_of t))) (sym (c.self.view_is ∙ c.raise.ensures.rest))
-    (joined t c.put_body.new.self c.tell_box.new.self c.drop_goal.new.self c.drop_alternative.new.self c.args.goal c.args.name c.in-Some.home c.args.store c.args.solved_at c.args.goals.items c.first_fail-failing.result c.args.number c.args.worker c.args.count
-    c.as_slice-3.result.now c.raise.new.self.next c.requires.number c.requires.fresh c.in-Some.ensures (goals_increase t c.requires.run c.in-Some.home) names failing raises c.in-Ok.ensures.put c.tell_box.ensures c.drop_goal.ensures.dropped c.drop_alternative.ensures)
+    (after_join c.args.goal c.args.store c.args.solved_at (named_atoms t.program.templates.nodes c.args.goals.items) c.args.worker c.args.count (table_of t))) (sym (c.self.view_is ∙ c.raise.ensures.rest))
+    (joined t c.put_body.new.self c.tell_box.new.self c.drop_goal.new.self c.drop_alternatives.new.self c.args.goal c.in-Some.home c.args.store c.args.solved_at c.args.goals.items c.first_fail-failing.result c.args.number c.args.worker c.args.count
+    c.as_slice-3.result.now c.raise.new.self.next c.requires.number c.requires.fresh c.in-Some.ensures (goals_increase t c.requires.run c.in-Some.home) names failing raises c.in-Ok.ensures.put c.tell_box.ensures c.drop_goal.ensures.dropped c.as_slice-4.result.now (c.as_slice-4.ensures.value ∙ c.in_ok-alternatives.ensures) c.drop_alternatives.ensures)
