@@ -11,7 +11,7 @@ pub enum SyntaxError {
     Syntax { at: usize },
     /// The bracket at this byte is the first with which more than 200 are open.
     TooDeep { at: usize },
-    /// The integer at this byte is the first that is no signed number of 64 bits.
+    /// The integer at this byte is the first that is no signed number of 128 bits.
     IntRange { at: usize },
     /// The text has so many bytes, which is too many.
     TooLong { count: usize },

@@ -10,7 +10,7 @@ pub enum Lexeme {
     Symbol(Text),
     /// A variable, by its number in the clause or query.
     Variable(u32),
-    Integer(i64),
+    Integer(i128),
     /// Any other token, by its kind.
     Mark(Kind),
 }

@@ -3,7 +3,7 @@
 use Rattle.std.proofs.Common.{◌≡◌, ℕ, ◌<◌, Bool, true, false, List, [], ◌∷◌, refl, subst, arith, Result, Err}
 use Rattle.std.specs.Prelude.{ℤ, pos, negsuc, ◌^◌}
 use mir.Val.{SFits}
-use mir.Syntax.{w64}
+use mir.Syntax.{w128}
 use Rattle.std.specs.List.{list_all}
 use Rattle.std.specs.Char.{digit_value}
 use Rattle.std.specs.Str.{IsAscii}
@@ -50,9 +50,9 @@ not_true : (x : Bool) → (x ≡ true → ⊥) → x ≡ false
 not_true true f = absurd (f refl)
 not_true false f = refl
 
-range_fits : (z : ℤ) → in_range z ≡ true → SFits w64 z
-range_fits (pos n) e = let h : n < 2 ^ 63 = grind (arith, nat_tests) in record { sfits = h }
-range_fits (negsuc n) e = let h : n < 2 ^ 63 = grind (arith, nat_tests) in record { sfits = h }
+range_fits : (z : ℤ) → in_range z ≡ true → SFits w128 z
+range_fits (pos n) e = let h : n < 2 ^ 127 = grind (arith, nat_tests) in record { sfits = h }
+range_fits (negsuc n) e = let h : n < 2 ^ 127 = grind (arith, nat_tests) in record { sfits = h }
 
-pub integer_refused : {E : Type 0} (w : List ℕ) (r : Result ℤ E) (e : E) → r ≡ Err e → ParsesSigned w64 10 w r → Spells Integer w → in_range (integer_value w) ≡ false
+pub integer_refused : {E : Type 0} (w : List ℕ) (r : Result ℤ E) (e : E) → r ≡ Err e → ParsesSigned w128 10 w r → Spells Integer w → in_range (integer_value w) ≡ false
 integer_refused w r e h p s = not_true _ (λ x. (let q = rw h at p in q (integer_numeral s, range_fits (integer_value w) x)))

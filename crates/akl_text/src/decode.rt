@@ -85,15 +85,15 @@ pub fn text_of(alloc: Global, bytes: &[u8], token: &Token) -> Result<Text, Alloc
     Text::from_str(alloc, as_text(spelling))
 }
 
-/// The value of an integer token of these bytes, where it is a signed number of 64 bits.
-pub fn integer_of(bytes: &[u8], token: &Token) -> Option<i64>
+/// The value of an integer token of these bytes, where it is a signed number of 128 bits.
+pub fn integer_of(bytes: &[u8], token: &Token) -> Option<i128>
     requires of_bytes { IsTokenOf bytes.now token.now }
     requires integer { token.now.kind ≡ Integer }
     ensures value { IfSome result (λ n. n ≡ integer_value (spelling bytes.now token.now)) }
     ensures some { IfSome result (λ _. in_range (integer_value (spelling bytes.now token.now)) ≡ true) }
     ensures none { IfNone result (in_range (integer_value (spelling bytes.now token.now)) ≡ false) }
 {
-    match as_text(&bytes[token.start..token.end]).parse::<i64>() {
+    match as_text(&bytes[token.start..token.end]).parse::<i128>() {
         Ok(value) => Some(value),
         Err(_) => None,
     }

@@ -1,8 +1,9 @@
 -- Keys tell how nodes begin.
-use Rattle.std.proofs.Common.{◌≡◌, ℕ, ℤ, pos, negsuc, zero, suc, ◌<◌, List, [], ◌∷◌, length, map, Some, None, Bool, true, false, cond, refl, sym, ◌∙◌, ap, inl, inr, arith}
+use Rattle.std.proofs.Common.{◌≡◌, ℕ, ℤ, pos, negsuc, zero, suc, ◌+◌, ◌*◌, ◌/◌, ◌%◌, ◌^◌, ◌<◌, List, [], ◌∷◌, length, map, Some, None, Bool, true, false, cond, refl, sym, ◌∙◌, ap, inl, inr, arith}
 use Rattle.std.specs.Prelude.{slice_get, get_or, option_map, bytes_eq}
 use Rattle.std.proofs.lemmas.Slice.Eq.{bytes_eq-Decides}
 use Rattle.std.proofs.lemmas.List.{length-map}
+use Rattle.std.proofs.lemmas.Nat.{div-add-mod'}
 use Rattle.std.proofs.lemmas.Option.{slice_get-map, slice_get_within, slice_get-get_or, get_or_from_slice_get}
 use Rattle.akl_terms.specs.declared.name.Name.{Name}
 use Rattle.akl_terms.specs.declared.name.Var.{Var}
@@ -18,13 +19,23 @@ use Rattle.tree_parts.specs.Firsts.{AreFirsts}
 use Rattle.tree_parts.specs.Parts.{AreEven}
 use Rattle.term_graph.specs.Building.{seen_tree, BeginsSo, IsTermGraph, count_of}
 use Rattle.term_graph.specs.Built.{TellBeginnings}
-use Rattle.answer_lines.specs.Keys.{top_key, integer_key}
+use Rattle.answer_lines.specs.Keys.{top_key, integer_key, size_key}
+
+-- two words tell a size
+same-words : (n m : ℕ) → n / 2 ^ 64 ≡ m / 2 ^ 64 → n % 2 ^ 64 ≡ m % 2 ^ 64 → n ≡ m
+same-words n m high low = sym (div-add-mod' n (2 ^ 64)) ∙ (λ i. high i * 2 ^ 64 + low i) ∙ div-add-mod' m (2 ^ 64)
+
+same-size : (sign n m : ℕ) → size_key sign n ≡ size_key sign m → n ≡ m
+same-size sign n m e =
+    let high : n / 2 ^ 64 ≡ m / 2 ^ 64 = cc in
+    let low : n % 2 ^ 64 ≡ m % 2 ^ 64 = cc in
+    same-words n m high low
 
 same-integer : (z y : ℤ) → integer_key z ≡ integer_key y → z ≡ y
-same-integer (pos n) (pos m) e = let o : n ≡ m = cc in ap (λ (k : ℕ). pos k) o
+same-integer (pos n) (pos m) e = ap (λ (k : ℕ). pos k) (same-size 0 n m e)
 same-integer (pos n) (negsuc m) e = absurd cc
 same-integer (negsuc n) (pos m) e = absurd cc
-same-integer (negsuc n) (negsuc m) e = let o : n ≡ m = cc in ap (λ (k : ℕ). negsuc k) o
+same-integer (negsuc n) (negsuc m) e = ap (λ (k : ℕ). negsuc k) (same-size 1 n m e)
 
 -- the first of an integer's key is 1
 abbrev first_of_key : List ℕ → ℕ

@@ -1,11 +1,15 @@
 -- What tells how nodes begin.
-use Rattle.std.specs.Prelude.{ℕ, ℤ, pos, negsuc, List, [], ◌∷◌}
+use Rattle.std.specs.Prelude.{ℕ, ℤ, pos, negsuc, ◌/◌, ◌%◌, ◌^◌, List, [], ◌∷◌}
 use Rattle.akl_terms.specs.declared.term.Seen.{Seen}
 use Rattle.akl_terms.specs.declared.term.Seen.TheVariants.{Free}
 
+-- a sign, and a size of two words
+abbrev pub size_key : ℕ → ℕ → List ℕ
+size_key sign n = 1 ∷ sign ∷ n / 2 ^ 64 ∷ n % 2 ^ 64 ∷ []
+
 abbrev pub integer_key : ℤ → List ℕ
-integer_key (pos n) = 1 ∷ 0 ∷ n ∷ []
-integer_key (negsuc n) = 1 ∷ 1 ∷ n ∷ []
+integer_key (pos n) = size_key 0 n
+integer_key (negsuc n) = size_key 1 n
 
 -- a variable by itself, an integer and a port by their values, a symbol with its number of arguments
 abbrev pub top_key : Seen → List ℕ

@@ -233,7 +233,7 @@ impl Printer {
         Ok(())
     }
 
-    fn print_integer(&mut self, value: i64) -> Result<(), AllocError>
+    fn print_integer(&mut self, value: i128) -> Result<(), AllocError>
         ensures printed { OnOk result (self.new ≡ with_bytes (signed_decimal value) self.old) }
         ensures grows { OnOk result (Grows self.old self.new) }
     {

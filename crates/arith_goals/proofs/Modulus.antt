@@ -1,18 +1,18 @@
 -- The rest of the division that rounds down.
-use Rattle.std.proofs.Common.{◌≡◌, ℕ, zero, suc, ℤ, pos, negsuc, ◌+ℤ◌, ◌-ℤ◌, ◌*ℤ◌, ◌<ℤ◌, ◌+◌, ◌*◌, ◌/◌, ◌%◌, ◌<◌, ◌^◌, Bool, true, false, cond, ltb, Some, None, refl, mul_comm, sym, ◌∙◌, ap, arith, ◌⊎◌, inl, inr, FitsSigned, w64}
+use Rattle.std.proofs.Common.{◌≡◌, ℕ, zero, suc, ℤ, pos, negsuc, ◌+ℤ◌, ◌-ℤ◌, ◌*ℤ◌, ◌<ℤ◌, ◌+◌, ◌*◌, ◌/◌, ◌%◌, ◌<◌, ◌^◌, Bool, true, false, cond, ltb, Some, None, refl, mul_comm, sym, ◌∙◌, ap, arith, ◌⊎◌, inl, inr, FitsSigned}
 use Rattle.std.proofs.lemmas.Int.{ints}
 use Rattle.std.proofs.lemmas.Nat.{div-add-mod', mod_below, mod-mul-add}
 use Rattle.std.proofs.lemmas.Bool.Decides.{nat_tests}
-use Rattle.std.specs.Int.{int_rem_euclid}
+use Rattle.std.specs.Int.{w128, int_rem_euclid}
 use Rattle.akl_terms.specs.Arithmetic.{floor_of, in_range, where_in_range, calculated, modulus}
 
-pub in_range-fits : (z : ℤ) → FitsSigned w64 z → where_in_range z ≡ Some z
+pub in_range-fits : (z : ℤ) → FitsSigned w128 z → where_in_range z ≡ Some z
 in_range-fits (pos n) f =
-    let h : n < 2 ^ 63 = f.sfits in
+    let h : n < 2 ^ 127 = f.sfits in
     let e : in_range (pos n) ≡ true = grind (arith, nat_tests) in
     ap (λ (b : Bool). cond b (Some (pos n)) None) e
 in_range-fits (negsuc n) f =
-    let h : n < 2 ^ 63 = f.sfits in
+    let h : n < 2 ^ 127 = f.sfits in
     let e : in_range (negsuc n) ≡ true = grind (arith, nat_tests) in
     ap (λ (b : Bool). cond b (Some (negsuc n)) None) e
 
@@ -99,14 +99,14 @@ rest-negative (negsuc k) n = elim (suc-rest k n) [
       inr (omega (arith, ints), omega (arith, ints))
 ]
 
-pub modulus-low : (a b : ℤ) → b <ℤ pos 0 → pos 0 <ℤ int_rem_euclid a b → FitsSigned w64 (int_rem_euclid a b +ℤ b) → Some (int_rem_euclid a b +ℤ b) ≡ calculated modulus a b
+pub modulus-low : (a b : ℤ) → b <ℤ pos 0 → pos 0 <ℤ int_rem_euclid a b → FitsSigned w128 (int_rem_euclid a b +ℤ b) → Some (int_rem_euclid a b +ℤ b) ≡ calculated modulus a b
 modulus-low a (pos n) l h f = absurd (omega (arith, ints))
 modulus-low a (negsuc n) l h f = elim (rest-negative a n) [
   | inl w ↦ sym (ap where_in_range w.1 ∙ in_range-fits (int_rem_euclid a (negsuc n) +ℤ negsuc n) f)
   | inr w ↦ absurd (let z : int_rem_euclid a (negsuc n) ≡ pos 0 = w.0 in omega (arith, ints))
 ]
 
-pub modulus-rest : (a b : ℤ) → (b ≡ pos 0 → ⊥) → (b <ℤ pos 0 → pos 0 <ℤ int_rem_euclid a b → ⊥) → FitsSigned w64 (int_rem_euclid a b) → Some (int_rem_euclid a b) ≡ calculated modulus a b
+pub modulus-rest : (a b : ℤ) → (b ≡ pos 0 → ⊥) → (b <ℤ pos 0 → pos 0 <ℤ int_rem_euclid a b → ⊥) → FitsSigned w128 (int_rem_euclid a b) → Some (int_rem_euclid a b) ≡ calculated modulus a b
 modulus-rest a (pos zero) n m f = absurd (n refl)
 modulus-rest a (pos (suc k)) n m f = sym (ap where_in_range (rest-positive a k) ∙ in_range-fits (int_rem_euclid a (pos (suc k))) f)
 modulus-rest a (negsuc k) n m f = elim (rest-negative a k) [

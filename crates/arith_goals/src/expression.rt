@@ -29,7 +29,7 @@ pub struct Application {
 /// What the end of an expression's chain is.
 #[derive(Clone, Copy)]
 pub enum Expression {
-    Number(i64),
+    Number(i128),
     Free(Var),
     Apply(Application),
     /// No expression of arithmetic.

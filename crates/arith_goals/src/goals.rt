@@ -19,7 +19,7 @@ use std::alloc::{AllocError, Global};
 #[derive(Clone, Copy, Debug, PartialEq, Eq)]
 pub enum ArithValue {
     /// The value of the right side of `is`.
-    Is(i64),
+    Is(i128),
     /// The comparison holds.
     Holds,
     /// The comparison doesn't hold.
@@ -115,7 +115,7 @@ fn compare<K: Lookup>(
 }
 
 /// Whether a comparison holds of two values.
-fn holds(test: Test, left: i64, right: i64) -> bool
+fn holds(test: Test, left: i128, right: i128) -> bool
     requires { test ≡ Test.Is → ⊥ }
     ensures { compares test left right ≡ Some result }
 {

@@ -39,8 +39,8 @@ pub fn operation_of(templates: &Templates, symbol: u32) -> Option<Operation>
 
 impl Operation {
     /// The operation's value; `None` exactly where it is undefined: over a divisor that is 0, or
-    /// beyond 64 bits.
-    pub fn calculate(self, left: i64, right: i64) -> Option<i64>
+    /// beyond 128 bits.
+    pub fn calculate(self, left: i128, right: i128) -> Option<i128>
         ensures { result ≡ calculated (meaning self) left right }
     {
         match self {
@@ -54,7 +54,7 @@ impl Operation {
 }
 
 /// The rest of the division that rounds down; `None` exactly where the divisor is 0.
-fn modulus_of(left: i64, right: i64) -> Option<i64>
+fn modulus_of(left: i128, right: i128) -> Option<i128>
     ensures { result ≡ calculated modulus left right }
 {
     if right == 0 {

@@ -17,7 +17,7 @@ use std::collections::HashMap;
 /// What the walk of an expression comes to.
 #[derive(Clone, Copy)]
 pub enum Walked {
-    Is(i64),
+    Is(i128),
     /// The first obstacle is a variable that isn't structured.
     Waits(Var),
     /// The first obstacle stays.
@@ -29,7 +29,7 @@ pub enum Walked {
 pub enum Walking {
     Left(Application),
     /// The left operand has this value.
-    Right(Application, i64),
+    Right(Application, i128),
 }
 
 /// What the walk does next.
@@ -37,7 +37,7 @@ pub enum Walking {
 pub enum Step {
     Enter(Term),
     /// What was entered last has this value.
-    Leave(i64),
+    Leave(i128),
 }
 
 /// Whether the walk goes on.
@@ -80,7 +80,7 @@ pub enum Progress {
     Ahead,
     /// It is being walked.
     Begun,
-    Value(i64),
+    Value(i128),
 }
 
 /// A walk that has begun.
@@ -156,7 +156,7 @@ impl Walk {
     }
 
     /// Goes on from an operand with its value: to the right operand, or out of the operation.
-    fn leave(&mut self, value: i64) -> Result<Turn, AllocError>
+    fn leave(&mut self, value: i128) -> Result<Turn, AllocError>
         ensures { IfOk result (λ turn. Leaves self.old self.new value turn) }
     {
         let Some(innermost) = self.walking.pop() else {

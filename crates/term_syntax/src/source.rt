@@ -10,7 +10,7 @@ use akl_terms::Text;
 pub enum SourceTerm {
     /// A variable, by its number: variables are numbered by first occurrence.
     Var(u32),
-    Int(i64),
+    Int(i128),
     /// A symbol with its arguments.
     Struct {
         symbol: Text,

@@ -1,7 +1,7 @@
 use Rattle.std.proofs.Common.{◌≡◌, sym, ◌∙◌, rules, arith}
 use Rattle.std.proofs.lemmas.Int.{to_z-of_z}
 use mir.Val.{SFits}
-use mir.Syntax.{w64}
+use mir.Syntax.{w128}
 use Rattle.akl_text.specs.Spelling.{spelling, integer_value}
 use Rattle.akl_lexemes.specs.Lexemes.{symbol, integer, mark}
 use Rattle.akl_lexemes.proofs.LexemeTurns.{mark_kind, other_no_integer, not_integer, variable_text, variable_lexeme, one_more}
@@ -19,9 +19,9 @@ returns-in_ok-number-in-Variable-clause-more c = one_more c.in_ok-number-in-Vari
 
 pub returns-in-Some-clause-lexeme : goal.returns-in-Some-clause-lexeme
 returns-in-Some-clause-lexeme c =
-    let f : SFits w64 c.in-Some.value = search rules in
+    let f : SFits w128 c.in-Some.value = search rules in
     let e : c.in-Some.value ≡ integer_value (spelling c.args.bytes.now c.args.token.now) = c.in-Some.ensures.value in
-    rw (to_z-of_z w64 c.in-Some.value f, e) (integer c.in-Integer.is)
+    rw (to_z-of_z w128 c.in-Some.value f, e) (integer c.in-Integer.is)
 
 pub returns-in_default : goal.returns-in_default
 returns-in_default c = record {

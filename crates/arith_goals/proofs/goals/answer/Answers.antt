@@ -1,4 +1,5 @@
-use Rattle.std.proofs.Common.{FitsSigned, w64, rules}
+use Rattle.std.proofs.Common.{FitsSigned, rules}
+use Rattle.std.specs.Int.{w128}
 use Rattle.std.proofs.lemmas.Int.{to_z-of_z}
 use Rattle.akl_terms.specs.declared.term.Term.TheVariants.{Mol}
 use Rattle.akl_terms.specs.Template.{tree}
@@ -8,8 +9,8 @@ use Rattle.arith_goals.proofs.goals.answer.Goals as goal
 
 pub returns-in-Is-2 : goal.returns-in-Is-2
 returns-in-Is-2 g c = λ E f.
-    let v : FitsSigned w64 c.in-Is-2.value = search rules in
-    rw (c.in-Arith.is, c.in-Is.is, to_z-of_z w64 c.in-Is-2.value v) (gives ((rw c.in-Is-2.is at c.in_ok-value-in-Is.ensures) E f))
+    let v : FitsSigned w128 c.in-Is-2.value = search rules in
+    rw (c.in-Arith.is, c.in-Is.is, to_z-of_z w128 c.in-Is-2.value v) (gives ((rw c.in-Is-2.is at c.in_ok-value-in-Is.ensures) E f))
 
 pub returns-in-Waits : goal.returns-in-Waits
 returns-in-Waits g c = λ E f. rw (c.in-Arith.is, c.in-Is.is) (right_of_is ((rw c.in-Waits.is at c.in_ok-value-in-Is.ensures) E f))

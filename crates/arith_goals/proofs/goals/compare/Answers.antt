@@ -1,4 +1,5 @@
-use Rattle.std.proofs.Common.{FitsSigned, w64, rules}
+use Rattle.std.proofs.Common.{FitsSigned, rules}
+use Rattle.std.specs.Int.{w128}
 use Rattle.std.proofs.lemmas.Int.{to_z-of_z}
 use Rattle.akl_terms.specs.Equal.{IsTold}
 use Rattle.akl_terms.specs.Template.{tree}
@@ -24,14 +25,14 @@ returns-in-Never-2 g c = λ E f. right-stuck c.args.templates.now.symbols E (tre
 
 pub returns-then-holds : goal.returns-then-holds
 returns-then-holds g c = λ E f.
-    let x : FitsSigned w64 c.in-Is.value = search rules in
-    let y : FitsSigned w64 c.in-Is-2.value = search rules in
+    let x : FitsSigned w128 c.in-Is.value = search rules in
+    let y : FitsSigned w128 c.in-Is-2.value = search rules in
     compared ((rw c.in-Is.is at c.in_ok-value.ensures) E f) ((rw c.in-Is-2.is at c.in_ok-value-2.ensures) E f)
-    (rw (to_z-of_z w64 c.in-Is.value x, to_z-of_z w64 c.in-Is-2.value y, c.if-holds.true) at c.holds.ensures)
+    (rw (to_z-of_z w128 c.in-Is.value x, to_z-of_z w128 c.in-Is-2.value y, c.if-holds.true) at c.holds.ensures)
 
 pub returns-else-holds : goal.returns-else-holds
 returns-else-holds g c = λ E f.
-    let x : FitsSigned w64 c.in-Is.value = search rules in
-    let y : FitsSigned w64 c.in-Is-2.value = search rules in
+    let x : FitsSigned w128 c.in-Is.value = search rules in
+    let y : FitsSigned w128 c.in-Is-2.value = search rules in
     compared ((rw c.in-Is.is at c.in_ok-value.ensures) E f) ((rw c.in-Is-2.is at c.in_ok-value-2.ensures) E f)
-    (rw (to_z-of_z w64 c.in-Is.value x, to_z-of_z w64 c.in-Is-2.value y, c.if-holds.false) at c.holds.ensures)
+    (rw (to_z-of_z w128 c.in-Is.value x, to_z-of_z w128 c.in-Is-2.value y, c.if-holds.false) at c.holds.ensures)

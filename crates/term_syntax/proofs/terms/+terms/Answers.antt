@@ -1,7 +1,7 @@
 use Rattle.std.proofs.Common.{◌≡◌, ◌<◌, ◌∷◌, ◌++◌, [], length, map, refl, sym, ap, ◌∙◌, arith, rules}
 use Rattle.std.proofs.lemmas.Int.{to_z-of_z}
 use mir.Val.{SFits}
-use mir.Syntax.{w64}
+use mir.Syntax.{w128}
 use Rattle.std.proofs.lemmas.Bool.{eqb-true, eqb-false}
 use Rattle.term_syntax.specs.declared.source.SourceStep.{SourceStep}
 use Rattle.std.proofs.lemmas.Result.{err_from_is_err_and}
@@ -138,8 +138,8 @@ primary-returns-in-Variable t c = rw (tree_var c.in-Variable.number, c.in-Some.e
 
 pub primary-returns-in-Integer : goal.primary-returns-in-Integer
 primary-returns-in-Integer t c =
-    let f : SFits w64 c.in-Integer.value = search rules in
-    rw (to_z-of_z w64 c.in-Integer.value f, tree_int c.in-Integer.value, c.in-Some.ensures.some, c.in-Integer.is) (integer_is, refl)
+    let f : SFits w128 c.in-Integer.value = search rules in
+    rw (to_z-of_z w128 c.in-Integer.value f, tree_int c.in-Integer.value, c.in-Some.ensures.some, c.in-Integer.is) (integer_is, refl)
 
 pub primary-returns-in_ok-arguments-in-Symbol : goal.primary-returns-in_ok-arguments-in-Symbol
 primary-returns-in_ok-arguments-in-Symbol t c = rw (tree_struct c.in_ok-symbol-in-Symbol.symbol c.in_ok-arguments-in-Symbol.arguments, c.in-Some.ensures.some, c.in-Symbol.is, c.in_ok-symbol-in-Symbol.ensures) (atom c.in_ok-arguments-in-Symbol.ensures.0, refl)

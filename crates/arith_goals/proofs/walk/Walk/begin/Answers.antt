@@ -1,12 +1,13 @@
-use Rattle.std.proofs.Common.{refl, sym, FitsSigned, w64, rules, arith}
+use Rattle.std.proofs.Common.{refl, sym, FitsSigned, rules, arith}
+use Rattle.std.specs.Int.{w128}
 use Rattle.std.proofs.lemmas.Int.{to_z-of_z}
 use Rattle.arith_goals.specs.Walking.{known, inside_itself, begins}
 use Rattle.arith_goals.proofs.walk.Walk.begin.Goals as goal
 
 pub returns-in-Value : goal.returns-in-Value
 returns-in-Value c =
-    let f : FitsSigned w64 c.in-Value.value = search rules in
-    rw (to_z-of_z w64 c.in-Value.value f) (known (sym c.in-Value.ensures) (record { walking = refl; kept = λ p. refl; begun = refl }))
+    let f : FitsSigned w128 c.in-Value.value = search rules in
+    rw (to_z-of_z w128 c.in-Value.value f) (known (sym c.in-Value.ensures) (record { walking = refl; kept = λ p. refl; begun = refl }))
 
 pub returns-in-Begun : goal.returns-in-Begun
 returns-in-Begun c = inside_itself (sym c.in-Begun.ensures)

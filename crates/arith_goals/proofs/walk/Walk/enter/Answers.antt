@@ -1,4 +1,5 @@
-use Rattle.std.proofs.Common.{refl, FitsSigned, w64, rules}
+use Rattle.std.proofs.Common.{refl, FitsSigned, rules}
+use Rattle.std.specs.Int.{w128}
 use Rattle.std.proofs.lemmas.Int.{to_z-of_z}
 use Rattle.std.proofs.lemmas.Result.{IfOk-weaker}
 use Rattle.arith_goals.specs.Walking.{number, free, other, operation}
@@ -6,8 +7,8 @@ use Rattle.arith_goals.proofs.walk.Walk.enter.Goals as goal
 
 pub returns-in-Number : goal.returns-in-Number
 returns-in-Number g c =
-    let f : FitsSigned w64 c.in-Number.n = search rules in
-    rw (to_z-of_z w64 c.in-Number.n f) (number c.in-Number.ensures (record { walking = refl; kept = λ p. refl; begun = refl }))
+    let f : FitsSigned w128 c.in-Number.n = search rules in
+    rw (to_z-of_z w128 c.in-Number.n f) (number c.in-Number.ensures (record { walking = refl; kept = λ p. refl; begun = refl }))
 
 pub returns-in-Free : goal.returns-in-Free
 returns-in-Free g c = free c.in-Free.ensures
