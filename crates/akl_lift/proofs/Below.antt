@@ -4,10 +4,12 @@ use Rattle.std.specs.Prelude.{◌==◌, nat_lt}
 use Rattle.std.specs.List.{filter}
 use Rattle.std.proofs.lemmas.Bool.Decides.{nat_tests}
 use Rattle.akl_lexemes.specs.Occurrences.{Occurs}
-use Rattle.akl_syntax.specs.Goals.{Goals, Parts}
+use Rattle.term_syntax.specs.Tree.{Tree}
+use Rattle.term_syntax.specs.Variables.{tree_variables}
+use Rattle.akl_syntax.specs.Goals.{Goals, collect}
 use Rattle.akl_syntax.specs.Clauses.{Clause}
-use Rattle.akl_syntax.specs.Variables.{goals_variables, parts_variables, clause_variables, IsClauseNumbered}
-use Rattle.akl_lift.specs.Lifting.{times, seen_from, numbers_from, shared, is_shared, occurrences, part_order, part_shares, clause_order, clause_shares}
+use Rattle.akl_syntax.specs.Variables.{goal_variables, goals_variables, clause_variables, IsClauseNumbered}
+use Rattle.akl_lift.specs.Lifting.{times, seen_from, numbers_from, collect_variables, shared, is_shared, made_order, made_shares, part_variables, part_order, part_shares, clause_order, clause_shares}
 use Rattle.akl_lift.specs.Noting.{distinct}
 use Rattle.akl_lift.proofs.FirstSeen.{has, added, times-cons, times-distinct}
 
@@ -116,27 +118,35 @@ length-distinct n vs a =
     let f : total n (distinct vs) ≤ n = total_few n (distinct vs) (λ v. times-distinct v vs) in
     omega arith
 
--- ---- the arguments of the choices in a clause
+-- ---- the arguments of what is lifted in a clause
 -- there are at most 256, and each is below this number
-pub record Fits (n : ℕ) (shares : Parts → List ℕ) : Type 0 where
-  pub below : (ps : Parts) → Below n (shares ps)
-  pub few : (ps : Parts) → length (shares ps) ≤ 256
+pub record Fits (n : ℕ) (shares : List ℕ → List ℕ) : Type 0 where
+  pub below : (inside : List ℕ) → Below n (shares inside)
+  pub few : (inside : List ℕ) → length (shares inside) ≤ 256
 
 pub order_fits : (n : ℕ) (order all : List ℕ) → Below n order → length order ≤ 256 → Fits n (shared order all)
 order_fits n order all a h = record {
-  below = λ ps. below_filter n (is_shared all (parts_variables ps)) order a;
-  few = λ ps. omega (arith, h, length-filter-le (is_shared all (parts_variables ps)) order);
+  below = λ inside. below_filter n (is_shared all inside) order a;
+  few = λ inside. omega (arith, h, length-filter-le (is_shared all inside) order);
 }
 
-pub part_below : (n : ℕ) (args : List ℕ) (gs hs : Goals) → Below n args → Below n (goals_variables gs) → Below n (goals_variables hs) → Below n (occurrences args gs hs)
-part_below n args gs hs a b c = below_both n args (goals_variables gs ++ goals_variables hs) a (below_both n (goals_variables gs) (goals_variables hs) b c)
+pub made_few : (n : ℕ) (args inside : List ℕ) → n ≤ 256 → Below n args → Below n inside → length (made_order args inside) ≤ 256
+made_few n args inside k a b = let e : length (distinct (args ++ inside)) ≤ n = length-distinct n (args ++ inside) (below_both n args inside a b) in omega arith
+
+pub made_fits : (n : ℕ) (args inside : List ℕ) → n ≤ 256 → Below n args → Below n inside → Fits n (made_shares args inside)
+made_fits n args inside k a b = order_fits n (made_order args inside) (args ++ inside) (below_seen n [] (args ++ inside) tt (below_both n args inside a b)) (made_few n args inside k a b)
 
 pub part_few : (n : ℕ) (args : List ℕ) (gs hs : Goals) → n ≤ 256 → Below n args → Below n (goals_variables gs) → Below n (goals_variables hs) → length (part_order args gs hs) ≤ 256
-part_few n args gs hs k a b c = let e : length (distinct (occurrences args gs hs)) ≤ n = length-distinct n (occurrences args gs hs) (part_below n args gs hs a b c) in omega arith
+part_few n args gs hs k a b c = made_few n args (part_variables gs hs) k a (below_both n (goals_variables gs) (goals_variables hs) b c)
 
 pub part_fits : (n : ℕ) (args : List ℕ) (gs hs : Goals) → n ≤ 256 → Below n args → Below n (goals_variables gs) → Below n (goals_variables hs) → Fits n (part_shares args gs hs)
-part_fits n args gs hs k a b c =
-    order_fits n (part_order args gs hs) (occurrences args gs hs) (below_seen n [] (occurrences args gs hs) tt (part_below n args gs hs a b c)) (part_few n args gs hs k a b c)
+part_fits n args gs hs k a b c = made_fits n args (part_variables gs hs) k a (below_both n (goals_variables gs) (goals_variables hs) b c)
+
+-- what is inside of a collecting goal
+pub collect_below : (n : ℕ) (t : Tree) (gs : Goals) (r : Tree) → Below n (goal_variables (collect t gs r)) → Below n (collect_variables t gs)
+collect_below n t gs r b =
+    below_both n (tree_variables t) (goals_variables gs) (below_front n (tree_variables t) (goals_variables gs ++ tree_variables r) b)
+    (below_front n (goals_variables gs) (tree_variables r) (below_back n (tree_variables t) (goals_variables gs ++ tree_variables r) b))
 
 -- ---- written clauses
 pub variables_below : (c : Clause) → IsClauseNumbered c → Below (length c.names) (clause_variables c)

@@ -3,6 +3,7 @@ pub mod FirstSeen
 pub mod Outer
 pub mod Shares
 pub mod Slots
+pub mod Within
 pub mod Notes
 pub mod Turns
 pub mod Programs
@@ -18,4 +19,6 @@ pub mod Reading
 pub mod Loadable
 pub mod Unmixed
 pub mod Numbers
+pub mod Hiding
 pub mod Asked
+pub mod Alone

@@ -20,7 +20,7 @@ use Rattle.akl_lift.proofs.Turns.{GoalsSoFar, goals_step, PartsSoFar, parts_step
 use Rattle.akl_lift.proofs.Programs.{ClausesSoFar, clauses_step}
 
 -- ---- goals
-module _ {w : Origin} {noted : List Inside} {order : List ℕ} {shares : Parts → List ℕ} {first : ℕ} {before : List (List Clause)} {gs : Goals} where
+module _ {w : Origin} {noted : List Inside} {order : List ℕ} {shares : List ℕ → List ℕ} {first : ℕ} {before : List (List Clause)} {gs : Goals} where
   pub goals_turn : {next next' : ℕ} {after after' : List (List Clause)} (xs : List SourceGoal) (i : ℕ) (x y : SourceGoal) (found : List SourceGoal) → i < length xs → x ≡ get_or xs i x
       → GoalsSoFar w noted order shares first before gs next (map goal found) after (goals (map goal (drop i xs))) → next' ≡ next + choices_in (goal x) → goal y ≡ without order shares next (goal x) → after' ≡ after ++ made w shares next (goal x)
       → GoalsSoFar w noted order shares first before gs next' (map goal (found ++ y ∷ [])) after' (goals (map goal (drop (i + 1) xs)))
@@ -42,12 +42,12 @@ module _ {w : Origin} {noted : List Inside} {order : List ℕ} {shares : Parts �
       let t = rw dropped at s in
       noted_front (insides (goal x)) (insides_all (goals (map goal (drop (i + 1) xs)))) t.noted_are
 
-pub record GoalsDone (w : Origin) (order : List ℕ) (shares : Parts → List ℕ) (first : ℕ) (before : List (List Clause)) (gs : Goals) (next : ℕ) (found : List Goal) (after : List (List Clause)) : Type 0 where
+pub record GoalsDone (w : Origin) (order : List ℕ) (shares : List ℕ → List ℕ) (first : ℕ) (before : List (List Clause)) (gs : Goals) (next : ℕ) (found : List Goal) (after : List (List Clause)) : Type 0 where
   pub next_is : next ≡ first + choices_in_all gs
   pub found_are : found ≡ without_all order shares first gs
   pub made_are : after ≡ before ++ made_all w shares first gs
 
-pub goals_done : {w : Origin} {noted : List Inside} {order : List ℕ} {shares : Parts → List ℕ} {first next : ℕ} {before after : List (List Clause)} {gs : Goals} {found : List Goal} (xs : List SourceGoal) (i : ℕ) → length xs ≤ i
+pub goals_done : {w : Origin} {noted : List Inside} {order : List ℕ} {shares : List ℕ → List ℕ} {first next : ℕ} {before after : List (List Clause)} {gs : Goals} {found : List Goal} (xs : List SourceGoal) (i : ℕ) → length xs ≤ i
     → GoalsSoFar w noted order shares first before gs next found after (goals (map goal (drop i xs))) → GoalsDone w order shares first before gs next found after
 goals_done {after = after} {found = found} xs i h s =
     let dropped : drop i xs ≡ [] = drop_all i xs h in

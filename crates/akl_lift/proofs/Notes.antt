@@ -6,8 +6,10 @@ use Rattle.std.specs.List.{concat}
 use Rattle.akl_syntax.specs.declared.source.SourceGoal.TheVariants as source
 use Rattle.akl_syntax.specs.declared.source.SourceGoal.TheOpen as open_goals
 use Rattle.akl_syntax.specs.declared.source.SourceGoal.TheFolds.{fold-roll-SourceGoal}
-use Rattle.akl_syntax.specs.Goals.{Goal, Goals, Part, Parts, call, choice, lifted, no_goals, more_goals, no_parts, more_parts, goals, parts}
+use Rattle.akl_syntax.specs.Goals.{Goal, Goals, Part, Parts, call, choice, lifted, collect, lifted_collect, no_goals, more_goals, no_parts, more_parts, goals, parts}
 use Rattle.akl_syntax.specs.GoalView.{goal, part, goal_step, part_step}
+use Rattle.term_syntax.specs.declared.source.SourceTerm.{SourceTerm}
+use Rattle.term_syntax.specs.View.{tree}
 use Rattle.akl_syntax.specs.declared.source.SourceGoal.{SourceGoal}
 use Rattle.akl_syntax.specs.declared.source.SourcePart.{SourcePart}
 use Rattle.akl_syntax.proofs.PartTurns.{part_is}
@@ -23,6 +25,9 @@ outer_part x = outer_all (goals (map goal x.guard.items)) ++ outer_all (goals (m
 
 abbrev pub insides_part : SourcePart → List Noted
 insides_part x = insides_all (goals (map goal x.guard.items)) ++ insides_all (goals (map goal x.body.items))
+
+pub goal_lifted_collect : (n : ℕ) (v : Vec ℕ Global) (t : SourceTerm) → goal (source.LiftedCollect n v t) ≡ lifted_collect n v.items (tree t)
+goal_lifted_collect n v t = ap goal (sym (source.rolls-LiftedCollect n v t)) ∙ fold-roll-SourceGoal Goal Part goal_step part_step (open_goals.LiftedCollect n v t)
 
 pub goal_lifted : (n : ℕ) (v : Vec ℕ Global) → goal (source.Lifted n v) ≡ lifted n v.items
 goal_lifted n v = ap goal (sym (source.rolls-Lifted n v)) ∙ fold-roll-SourceGoal Goal Part goal_step part_step (open_goals.Lifted n v)
@@ -77,17 +82,19 @@ noted_at {noted} {at} {e} {es} x q n =
 abbrev noted_by : List ℕ → List (List ℕ) → Noted
 noted_by vs ls = record { variables = vs; parts = ls }
 
-pub noted_same : (x : Inside) (ps : Parts) → map (λ v. v.items) x.parts.items ≡ outer_parts ps → x.variables.items ≡ distinct (concat (map (λ v. v.items) x.parts.items)) → inside_view x ≡ noted_of ps
-noted_same x ps e f =
-    let all : x.variables.items ≡ distinct (concat (outer_parts ps)) = f ∙ ap (λ (ls : List (List ℕ)). distinct (concat ls)) e in
-    ap (noted_by x.variables.items) e ∙ ap (λ (vs : List ℕ). noted_by vs (outer_parts ps)) all
+pub noted_same : (x : Inside) (lists : List (List ℕ)) → map (λ v. v.items) x.parts.items ≡ lists → x.variables.items ≡ distinct (concat (map (λ v. v.items) x.parts.items)) → inside_view x ≡ noted_of lists
+noted_same x lists e f =
+    let all : x.variables.items ≡ distinct (concat lists) = f ∙ ap (λ (ls : List (List ℕ)). distinct (concat ls)) e in
+    ap (noted_by x.variables.items) e ∙ ap (λ (vs : List ℕ). noted_by vs lists) all
 
--- ---- there is a note for each choice
+-- ---- there is a note for each choice and each collecting goal
 mutual
   pub length-insides : (g : Goal) → length (insides g) ≡ choices_in g
   length-insides (call s ts) = refl
   length-insides (choice ps) = omega (arith, length-insides_parts ps)
   length-insides (lifted n ns) = refl
+  length-insides (collect t gs r) = omega (arith, length-insides_all gs)
+  length-insides (lifted_collect n ns r) = refl
 
   pub length-insides_all : (gs : Goals) → length (insides_all gs) ≡ choices_in_all gs
   length-insides_all no_goals = refl

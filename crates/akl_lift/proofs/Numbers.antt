@@ -1,34 +1,33 @@
 -- The numbers of a program's lifted definitions are below how many choices it has.
-use Rattle.std.proofs.Common.{◌≡◌, ℕ, ◌+◌, ◌<◌, ◌≤◌, List, [], ◌∷◌, length, sym, ◌∙◌, arith}
+use Rattle.std.proofs.Common.{◌≡◌, ℕ, ◌+◌, ◌<◌, ◌≤◌, List, [], ◌∷◌, length, Some, sym, ◌∙◌, arith}
 use Rattle.std.specs.List.{All}
 use Rattle.std.proofs.lemmas.List.Elements.{All-nil, All-cons, All-append}
 use Rattle.std.proofs.lemmas.Option.{slice_get_within}
 use Rattle.akl_terms.specs.declared.program.Op.{Op}
 use Rattle.akl_syntax.specs.Clauses.{Clause}
 use Rattle.clause_keys.specs.declared.callee.Callee.{Callee}
-use Rattle.clause_keys.specs.declared.callee.Callee.TheVariants.{Lifted}
 use Rattle.clause_keys.specs.Keys.{defined_by}
 use Rattle.clause_keys.specs.Conditions.{IsClauseLiftable}
+use Rattle.clause_keys.proofs.Defined.{lifted_number}
 use Rattle.akl_lift.specs.Lifting.{clause_choices, choices_of, clause_without, clauses_without, made_of_all, lifted_clauses}
 use Rattle.akl_lift.specs.Whole.{IsNamed}
 use Rattle.akl_lift.proofs.Reading.{AreRead}
 use Rattle.akl_lift.proofs.Operators.{IsMadeOf, program_operators, length-program_operators, program_made}
-use Rattle.akl_lift.proofs.Unmixed.{made_callee, apart_if}
+use Rattle.akl_lift.proofs.Unmixed.{made_number, named_apart}
 
 -- what the clause defines has a number below this one, if any
 abbrev pub DefinesBelow : ℕ → Clause → Type 0
-DefinesBelow m c = (number k : ℕ) → defined_by c ≡ Lifted number k → number < m
+DefinesBelow m c = (number : ℕ) → lifted_number (defined_by c) ≡ Some number → number < m
 
 made_below : (os : List Op) (m : ℕ) → length os ≤ m → (c : Clause) → IsMadeOf os 0 c → DefinesBelow m c
-made_below os m few c d = λ number k e. (
+made_below os m few c d = λ number e. (
     let within : d.at < length os = slice_get_within os d.at c.part.op d.op_is in
-    let same : Lifted (0 + d.at) (length c.arguments) ≡ Lifted number k = sym (made_callee os 0 c d) ∙ e in
+    let same : Some (0 + d.at) ≡ Some number = sym (made_number os 0 c d) ∙ e in
     let number_is : 0 + d.at ≡ number = cc in
     omega (arith, within, few, number_is))
 
 named_below : (m : ℕ) (c : Clause) → IsNamed c.head → DefinesBelow m c
-unfolding defined_by
-named_below m c i = λ number k e. absurd (apart_if c.head (length c.arguments) number k i e)
+named_below m c i = λ number e. absurd (named_apart c number i e)
 
 written_below : (m next : ℕ) (cs : List Clause) → AreRead cs → All (DefinesBelow m) (clauses_without next cs)
 written_below m next [] r = All-nil (DefinesBelow m)

@@ -1,6 +1,6 @@
 -- Which clauses have been lifted, and which are left.
 use Rattle.std.proofs.Common.{◌≡◌, ℕ, ◌+◌, ◌≤◌, List, [], ◌∷◌, ◌++◌, refl, ◌∙◌, arith, append_assoc}
-use Rattle.akl_syntax.specs.Goals.{Goal, Goals, Parts, call, choice, lifted, no_goals, more_goals, no_parts, more_parts, goals}
+use Rattle.akl_syntax.specs.Goals.{Goal, Goals, Parts, call, choice, lifted, collect, lifted_collect, no_goals, more_goals, no_parts, more_parts, goals}
 use Rattle.akl_syntax.specs.Clauses.{Clause}
 use Rattle.akl_syntax.specs.Sizes.{goal_size, goals_size, parts_size, clauses_size}
 use Rattle.akl_lift.specs.Lifting.{choices_in, choices_in_all, choices_in_parts, clause_choices, choices_of, clause_without, clauses_without, made_of, made_of_all, joined}
@@ -26,6 +26,8 @@ mutual
   goal_choices_size : (g : Goal) → choices_in g ≤ goal_size g
   goal_choices_size (call s ts) = omega arith
   goal_choices_size (lifted n ns) = omega arith
+  goal_choices_size (lifted_collect n ns r) = omega arith
+  goal_choices_size (collect t gs r) = omega (arith, goals_choices_size gs)
   goal_choices_size (choice ps) = omega (arith, parts_choices_size ps)
 
   pub goals_choices_size : (gs : Goals) → choices_in_all gs ≤ goals_size gs

@@ -1,9 +1,10 @@
--- What one walk notes of each choice. No public clause speaks of it.
+-- What one walk notes of each choice and each collecting goal. No public clause speaks of it.
 use Rattle.std.specs.Prelude.{◌≡◌, ℕ, List, [], ◌∷◌, ◌++◌, map}
 use Rattle.std.specs.List.{concat}
 use Rattle.std.proofs.Common.{drop}
-use Rattle.term_syntax.specs.Variables.{trees_variables}
-use Rattle.akl_syntax.specs.Goals.{Goal, Goals, Parts, call, choice, lifted, no_goals, more_goals, no_parts, more_parts}
+use Rattle.term_syntax.specs.Tree.{Tree}
+use Rattle.term_syntax.specs.Variables.{tree_variables, trees_variables}
+use Rattle.akl_syntax.specs.Goals.{Goal, Goals, Parts, call, choice, lifted, collect, lifted_collect, no_goals, more_goals, no_parts, more_parts}
 use Rattle.akl_lift.specs.Lifting.{seen_from}
 use Rattle.akl_lift.specs.declared.noting.Inside.{Inside}
 
@@ -11,12 +12,14 @@ use Rattle.akl_lift.specs.declared.noting.Inside.{Inside}
 abbrev pub distinct : List ℕ → List ℕ
 distinct vs = seen_from [] vs
 
--- the variables of goals, where those of a choice count once for the choice
+-- the variables of goals, where those inside of a choice or a collecting goal count once
 abbrev mutual
   pub outer : Goal → List ℕ
   outer (call s ts) = trees_variables ts
   outer (choice ps) = distinct (concat (outer_parts ps))
   outer (lifted n ns) = ns
+  outer (collect t gs r) = distinct (concat ((tree_variables t ++ outer_all gs) ∷ [])) ++ tree_variables r
+  outer (lifted_collect n ns r) = ns ++ tree_variables r
 
   pub outer_all : Goals → List ℕ
   outer_all no_goals = []
@@ -27,20 +30,27 @@ abbrev mutual
   outer_parts no_parts = []
   outer_parts (more_parts gs op hs ps) = (outer_all gs ++ outer_all hs) ∷ outer_parts ps
 
+-- those inside of a collecting goal, which is noted as a choice of one part
+abbrev pub outer_collected : Tree → Goals → List (List ℕ)
+outer_collected t gs = (tree_variables t ++ outer_all gs) ∷ []
+
 -- the variables of a choice, each once, and those of each of its parts
 pub record Noted : Type 0 where
   pub variables : List ℕ
   pub parts : List (List ℕ)
 
-abbrev pub noted_of : Parts → Noted
-noted_of ps = record { variables = distinct (concat (outer_parts ps)); parts = outer_parts ps }
+-- of a choice whose parts have these variables
+abbrev pub noted_of : List (List ℕ) → Noted
+noted_of lists = record { variables = distinct (concat lists); parts = lists }
 
--- what is noted of the choices in goals, in the order of their opening brackets
+-- what is noted of the choices and the collecting goals in goals, in the order of their opening brackets
 abbrev mutual
   pub insides : Goal → List Noted
   insides (call s ts) = []
-  insides (choice ps) = noted_of ps ∷ insides_parts ps
+  insides (choice ps) = noted_of (outer_parts ps) ∷ insides_parts ps
   insides (lifted n ns) = []
+  insides (collect t gs r) = noted_of (outer_collected t gs) ∷ insides_all gs
+  insides (lifted_collect n ns r) = []
 
   pub insides_all : Goals → List Noted
   insides_all no_goals = []

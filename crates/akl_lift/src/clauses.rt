@@ -1,11 +1,12 @@
 //! Programs.
 
-ghost use Rattle.std.specs.Prelude.{◌≡◌, ◌≤◌, ◌+◌, ◌++◌, [], map, IfOk, OnOk};
+ghost use Rattle.std.specs.Prelude.{◌≡◌, ◌≤◌, ◌+◌, ◌++◌, [], map, option_map, IfOk, OnOk};
 ghost use Rattle.term_syntax.specs.View.{tree};
 ghost use Rattle.akl_syntax.specs.Goals.{goals};
 ghost use Rattle.akl_syntax.specs.GoalView.{goal, part};
 ghost use Rattle.akl_syntax.specs.Answers.{clause_view, clauses_view};
 ghost use Rattle.akl_syntax.specs.Sizes.{clauses_size};
+ghost use Rattle.akl_syntax.specs.Variables.{collected_variables};
 ghost use Rattle.term_syntax.specs.Tree.{trees};
 ghost use Rattle.term_syntax.specs.Variables.{trees_variables};
 ghost use Rattle.clause_keys.specs.Keys.{key_of};
@@ -16,7 +17,7 @@ ghost use Rattle.akl_lift.specs.Scopes.{IsScope, IsTally, chosen_of, origin_view
 use crate::lifting::{Made, Origin, lift_guard_and_body};
 use crate::noting::{Inside, note_part};
 use crate::scope::{Scope, written_scope};
-use crate::variables::add_terms;
+use crate::variables::{add_collected, add_terms};
 use akl_syntax::{Head, SourceClause, SourcePart};
 use akl_terms::{Key, Text};
 use std::alloc::{AllocError, Global};
@@ -75,19 +76,20 @@ fn origin(alloc: Global, clause: &SourceClause) -> Result<Origin, AllocError>
     })
 }
 
-/// The variables of a written clause. The choices in it are noted.
+/// The variables of a written clause. The choices and collecting goals in it are noted.
 fn clause_scope(
     alloc: Global,
     noted: &mut Vec<Inside>,
     clause: &SourceClause,
 ) -> Result<Scope, AllocError>
     ensures order { IfOk result (λ s. s.order.items ≡ clause_order (clause_view clause.now)) }
-    ensures counts { IfOk result (λ s. IsTally (trees_variables (trees (map tree clause.now.arguments.items)) ++ (outer_all (goals (map goal clause.now.part.guard.items)) ++ outer_all (goals (map goal clause.now.part.body.items)))) s.counts) }
+    ensures counts { IfOk result (λ s. IsTally (trees_variables (trees (map tree clause.now.arguments.items)) ++ (collected_variables (option_map tree clause.now.collected) ++ (outer_all (goals (map goal clause.now.part.guard.items)) ++ outer_all (goals (map goal clause.now.part.body.items))))) s.counts) }
     ensures scope { IfOk result IsScope }
     ensures noted { OnOk result (map inside_view noted.new.items ≡ map inside_view noted.old.items ++ (insides_all (goals (map goal clause.now.part.guard.items)) ++ insides_all (goals (map goal clause.now.part.body.items)))) }
 {
     let mut found = Vec::new(alloc);
     add_terms(&mut found, &clause.arguments)?;
+    add_collected(&mut found, &clause.collected)?;
     note_part(alloc, noted, &mut found, &clause.part)?;
     written_scope(alloc, clause.names.len(), &found)
 }
@@ -105,8 +107,7 @@ pub fn add_definitions(
     Ok(())
 }
 
-/// Takes the inline choices out of the part of a written clause. Behind the clauses that were made come those of its
-/// choices.
+/// Lifts the part of a written clause. Behind the clauses that were made come those of its choices and collecting goals.
 fn lift_part(
     alloc: Global,
     origin: &Origin,
@@ -131,7 +132,7 @@ fn lift_part(
     add_definitions(&mut out.clauses, &mut made.definitions)
 }
 
-/// Takes the inline choices out of a clause. Behind the clauses that were made come those of its choices.
+/// Lifts a clause. Behind the clauses that were made come those of its choices and collecting goals.
 fn lift_clause(alloc: Global, out: &mut Lifted, clause: &mut SourceClause) -> Result<(), AllocError>
     requires { out.old.next + clause_choices (clause_view clause.old) ≤ 4294967295 }
     ensures next { OnOk result (out.new.next ≡ out.old.next + clause_choices (clause_view clause.old)) }
@@ -143,7 +144,7 @@ fn lift_clause(alloc: Global, out: &mut Lifted, clause: &mut SourceClause) -> Re
     lift_part(alloc, &origin, &scope, out, &mut clause.part)
 }
 
-/// Takes the inline choices out of clauses.
+/// Lifts clauses.
 fn lift_each(
     alloc: Global,
     out: &mut Lifted,
@@ -159,13 +160,14 @@ fn lift_each(
     Ok(())
 }
 
-/// The clauses without their inline choices, and behind them the clauses of the definitions that are made of these, in
-/// the order of their numbers, which begin with 0.
+/// The clauses without their inline choices and collecting goals, and behind them the clauses of the definitions that
+/// are made of these, in the order of their numbers, which begin with 0.
 ///
-/// Each inline choice becomes a call of a definition, and each of its parts a clause of it. Numbers go by the places of
-/// the opening brackets in the text. The arguments are the variables that occur in the choice and also outside it in its
-/// clause, in order of their numbers there. A clause that is made numbers its variables by first occurrence, beginning
-/// with its arguments. It is an error only where memory runs out.
+/// Each inline choice becomes a call of a definition, and each of its parts a clause of it. A collecting goal becomes a
+/// collecting call of a definition with one clause: its goals are the guard, and it collects the goal's term. Numbers go
+/// by the places of the opening brackets in the text. The arguments are the variables that occur inside and also outside
+/// in the clause, in order of their numbers there; the result of a collecting goal is outside. A clause that is made
+/// numbers its variables by first occurrence, beginning with its arguments. It is an error only where memory runs out.
 pub fn lift(alloc: Global, mut clauses: Vec<SourceClause>) -> Result<Vec<SourceClause>, AllocError>
     requires { clauses_size (clauses_view clauses) ≤ 1000000 }
     ensures { IfOk result (λ v. clauses_view v ≡ lifted_clauses (clauses_view clauses)) }

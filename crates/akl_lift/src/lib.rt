@@ -1,8 +1,9 @@
-//! Lifting: inline choices become calls of definitions.
+//! Lifting: inline choices and collecting goals become calls of definitions.
 #![tactic(auto)]
 
 mod clauses;
 mod lifting;
+mod locals;
 mod noting;
 mod places;
 mod query;

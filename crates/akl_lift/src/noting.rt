@@ -1,18 +1,20 @@
-//! What one walk notes of each inline choice, so that none is walked through again for each choice around it.
+//! What one walk notes of each inline choice and each collecting goal, so that none is walked through again for each
+//! one around it.
 
 ghost use Rattle.std.specs.Prelude.{◌≡◌, ◌++◌, map, IfOk, OnOk};
-ghost use Rattle.akl_syntax.specs.Goals.{choice, goals, parts};
+ghost use Rattle.term_syntax.specs.View.{tree};
+ghost use Rattle.akl_syntax.specs.Goals.{choice, collect, goals, parts};
 ghost use Rattle.akl_syntax.specs.GoalView.{goal, part};
 ghost use Rattle.std.specs.List.{concat};
-ghost use Rattle.akl_lift.specs.Noting.{distinct, outer, outer_all, outer_parts, insides, insides_all, insides_parts, inside_view};
+ghost use Rattle.akl_lift.specs.Noting.{distinct, outer, outer_all, outer_parts, outer_collected, insides, insides_all, insides_parts, inside_view};
 
 use crate::seen::seen_in_all;
-use crate::variables::{add_all, add_terms};
-use akl_syntax::{SourceGoal, SourcePart};
+use crate::variables::{add_all, add_term, add_terms};
+use akl_syntax::{SourceGoal, SourcePart, SourceTerm};
 use std::alloc::{AllocError, Global};
 
 /// The variables of an inline choice, each once, and those of each of its parts, where a choice in it counts as the
-/// variables that are noted of it.
+/// variables that are noted of it. A collecting goal is noted as a choice of one part.
 #[derive(Drop)]
 pub struct Inside {
     pub variables: Vec<u32>,
@@ -42,7 +44,20 @@ fn note_goal(
     match written {
         SourceGoal::Call { arguments, .. } => add_terms(found, arguments),
         SourceGoal::Choice(parts) => note_choice(alloc, noted, found, parts),
+        SourceGoal::Collect {
+            collected,
+            goals,
+            result: list,
+        } => note_collecting(alloc, noted, found, goals, collected, list),
         SourceGoal::Lifted { arguments, .. } => add_all(found, arguments),
+        SourceGoal::LiftedCollect {
+            arguments,
+            result: list,
+            ..
+        } => {
+            add_all(found, arguments)?;
+            add_term(found, list)
+        }
     }
 }
 
@@ -84,6 +99,50 @@ fn note_choice(
     add_all(found, &inside.variables)?;
     noted[at] = inside;
     Ok(())
+}
+
+/// Notes a collecting goal and what is inside of it, and adds its variables.
+#[cycle(noting)]
+fn note_collecting(
+    alloc: Global,
+    noted: &mut Vec<Inside>,
+    found: &mut Vec<u32>,
+    written: &[SourceGoal],
+    collected: &SourceTerm,
+    list: &SourceTerm,
+) -> Result<(), AllocError>
+    ensures found { OnOk result (found.new.items ≡ found.old.items ++ outer (collect (tree collected.now) (goals (map goal written.now)) (tree list.now))) }
+    ensures noted { OnOk result (map inside_view noted.new.items ≡ map inside_view noted.old.items ++ insides (collect (tree collected.now) (goals (map goal written.now)) (tree list.now))) }
+{
+    let at = noted.len();
+    noted.push(Inside {
+        variables: Vec::new(alloc),
+        parts: Vec::new(alloc),
+    })?;
+    let parts = note_collected(alloc, noted, written, collected)?;
+    let inside = inside_of(alloc, parts)?;
+    add_all(found, &inside.variables)?;
+    noted[at] = inside;
+    add_term(found, list)
+}
+
+/// Notes what is inside of a collecting goal, and gives its variables, as of one part.
+#[cycle(noting)]
+fn note_collected(
+    alloc: Global,
+    noted: &mut Vec<Inside>,
+    written: &[SourceGoal],
+    collected: &SourceTerm,
+) -> Result<Vec<Vec<u32>>, AllocError>
+    ensures parts { IfOk result (λ v. map (λ l. l.items) v.items ≡ outer_collected (tree collected.now) (goals (map goal written.now))) }
+    ensures noted { OnOk result (map inside_view noted.new.items ≡ map inside_view noted.old.items ++ insides_all (goals (map goal written.now))) }
+{
+    let mut found = Vec::new(alloc);
+    add_term(&mut found, collected)?;
+    note_goals(alloc, noted, &mut found, written)?;
+    let mut lists = Vec::new(alloc);
+    lists.push(found)?;
+    Ok(lists)
 }
 
 /// Notes the choices in the parts of a choice, and gives each part's variables.

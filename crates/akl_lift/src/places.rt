@@ -56,7 +56,11 @@ pub fn placed_variables(
 
 /// A copy of a term in which variables go by their places.
 #[cycle(terms)]
-fn placed_term(alloc: Global, order: &[u32], term: &SourceTerm) -> Result<SourceTerm, AllocError>
+pub fn placed_term(
+    alloc: Global,
+    order: &[u32],
+    term: &SourceTerm,
+) -> Result<SourceTerm, AllocError>
     requires { length order.now ≤ 4294967295 }
     ensures { IfOk result (λ t. tree t ≡ placed_tree order.now (tree term.now)) }
 {

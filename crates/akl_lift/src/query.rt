@@ -5,12 +5,13 @@ ghost use Rattle.akl_syntax.specs.Goals.{goals};
 ghost use Rattle.akl_syntax.specs.GoalView.{goal};
 ghost use Rattle.akl_syntax.specs.Answers.{clauses_view, query_view};
 ghost use Rattle.akl_syntax.specs.Sizes.{query_size};
-ghost use Rattle.akl_lift.specs.Lifting.{made_all, query_origin, query_order, query_shares, query_without, made_of_query, shown_from};
+ghost use Rattle.akl_lift.specs.Lifting.{made_all, query_origin, query_order, query_shares, query_without, made_of_query, shown_from, hidden_locals};
 ghost use Rattle.akl_lift.specs.Noting.{outer_all, insides_all, inside_view};
 ghost use Rattle.akl_lift.specs.Scopes.{IsScope, IsTally, origin_view, definitions_view};
 
 use crate::clauses::{add_definitions, copied};
 use crate::lifting::{Made, Origin, lift_goals};
+use crate::locals::{add_locals, hidden_names};
 use crate::noting::{Inside, note_goals};
 use crate::scope::{Scope, add_shown, written_scope};
 use akl_syntax::{SourceClause, SourceQuery};
@@ -32,7 +33,19 @@ fn origin(alloc: Global, query: &SourceQuery) -> Result<Origin, AllocError>
     })
 }
 
-/// The variables of a query. The choices in it are noted.
+/// Hides the names of the variables that are local to collecting goals.
+fn hide_locals(alloc: Global, query: &mut SourceQuery) -> Result<(), AllocError>
+    ensures query { OnOk result (query_view query.new ≡ hidden_locals (query_view query.old)) }
+    ensures goals { OnOk result (query.new.goals ≡ query.old.goals) }
+{
+    let mut locals = Vec::new(alloc);
+    add_locals(&mut locals, &query.goals)?;
+    let names = hidden_names(alloc, &locals, &query.names)?;
+    query.names = names;
+    Ok(())
+}
+
+/// The variables of a query. The choices and collecting goals in it are noted.
 fn query_scope(
     alloc: Global,
     noted: &mut Vec<Inside>,
@@ -49,25 +62,27 @@ fn query_scope(
     written_scope(alloc, query.names.len(), &found)
 }
 
-/// Takes the inline choices out of a query, where no definition was made yet.
+/// Takes the inline choices and collecting goals out of a query, where no definition was made yet.
 fn lift_asked(alloc: Global, out: &mut Made, query: &mut SourceQuery) -> Result<(), AllocError>
     requires room { out.old.next + query_size (query_view query.old) ≤ 4294967295 }
     requires none { out.old.definitions.items ≡ [] }
     ensures query { OnOk result (query_view query.new ≡ query_without out.old.next (query_view query.old)) }
-    ensures made { OnOk result (definitions_view out.new ≡ made_all (query_origin (query_view query.old)) (query_shares (query_view query.old)) out.old.next (goals (map goal query.old.goals.items))) }
+    ensures made { OnOk result (definitions_view out.new ≡ made_all (query_origin (query_view query.old)) (query_shares (hidden_locals (query_view query.old))) out.old.next (goals (map goal query.old.goals.items))) }
 {
     let mut origin = origin(alloc, query)?;
+    hide_locals(alloc, query)?;
     let scope = query_scope(alloc, &mut origin.noted, query)?;
     let goals = lift_goals(alloc, &origin, &scope, out, &query.goals)?;
     query.goals = goals;
     Ok(())
 }
 
-/// The query without its inline choices, and the clauses of the definitions that are made of these, in the order of
+/// The query without its inline choices and collecting goals, and the clauses of the definitions that are made of these, in the order of
 /// their numbers, which begin with `next`.
 ///
-/// They are made as [`lift`](crate::lift) makes them. Every variable whose name doesn't begin with `_` counts as
-/// occurring outside of each choice. It is an error only where memory runs out.
+/// They are made as [`lift`](crate::lift) makes them. Every variable whose name doesn't begin with `_`, and which isn't
+/// local to a collecting goal, counts as occurring outside. The names of local variables become `_`. It is an error only
+/// where memory runs out.
 pub fn lift_query(
     alloc: Global,
     mut query: SourceQuery,

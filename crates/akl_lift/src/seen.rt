@@ -6,7 +6,8 @@ ghost use Rattle.akl_lift.specs.Lifting.{seen_from};
 
 use std::alloc::{AllocError, Global};
 
-fn is_known(order: &[u32], number: u32) -> bool
+/// Whether the variable is among these.
+pub fn is_known(order: &[u32], number: u32) -> bool
     ensures { result ≡ list_any (λ n. n == number) order.now }
 {
     order.iter().any(|n| *n == number)

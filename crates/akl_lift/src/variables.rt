@@ -1,16 +1,17 @@
 //! The variables that occur in terms, in the order of the text.
 
-ghost use Rattle.std.specs.Prelude.{◌≡◌, ◌++◌, map, OnOk};
+ghost use Rattle.std.specs.Prelude.{◌≡◌, ◌++◌, map, option_map, OnOk};
 ghost use Rattle.term_syntax.specs.Tree.{trees, steps};
 ghost use Rattle.term_syntax.specs.View.{tree, step};
 ghost use Rattle.term_syntax.specs.Variables.{tree_variables, trees_variables, steps_variables};
+ghost use Rattle.akl_syntax.specs.Variables.{collected_variables};
 
 use akl_syntax::{SourceStep, SourceTerm};
 use std::alloc::AllocError;
 
 /// Adds the variables of a term.
 #[cycle(terms)]
-fn add_term(found: &mut Vec<u32>, term: &SourceTerm) -> Result<(), AllocError>
+pub fn add_term(found: &mut Vec<u32>, term: &SourceTerm) -> Result<(), AllocError>
     ensures { OnOk result (found.new.items ≡ found.old.items ++ tree_variables (tree term.now)) }
 {
     match term {
@@ -64,4 +65,14 @@ pub fn add_all(found: &mut Vec<u32>, numbers: &[u32]) -> Result<(), AllocError>
         found.push(*number)?;
     }
     Ok(())
+}
+
+/// Adds the variables of what a clause collects.
+pub fn add_collected(found: &mut Vec<u32>, collected: &Option<SourceTerm>) -> Result<(), AllocError>
+    ensures { OnOk result (found.new.items ≡ found.old.items ++ collected_variables (option_map tree collected.now)) }
+{
+    match collected {
+        Some(term) => add_term(found, term),
+        None => Ok(()),
+    }
 }

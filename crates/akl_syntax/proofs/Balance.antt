@@ -13,7 +13,7 @@ use Rattle.term_syntax.specs.Tree.{Tree, Step}
 use Rattle.term_syntax.specs.Grammar.{begins_call, operator_of, Expr, More, Operand, Arguments, operands, done, next, product, primary, atom, brackets, plain, call}
 use Rattle.term_syntax.proofs.Unique.{some_is}
 use Rattle.term_syntax.proofs.Balance.{stays_is, expr_even, items_even, arguments_even}
-use Rattle.akl_syntax.specs.Goals.{Goal, Part, GoalIs, Conj, Conjs, PartIs, PartsAre, atom_goal, test, conj, no_conjs, and, unguarded, guarded, no_parts_more, or, relation_of, kind_relation, guard_of, kind_guard}
+use Rattle.akl_syntax.specs.Goals.{Goal, Part, GoalIs, Conj, Conjs, PartIs, PartsAre, collecting, atom_goal, test, conj, no_conjs, and, unguarded, guarded, no_parts_more, or, relation_of, kind_relation, guard_of, kind_guard}
 use Rattle.akl_syntax.specs.Goals as made
 use Rattle.akl_syntax.specs.Ahead.{joins, begins_join, behind_word, is_test}
 
@@ -31,8 +31,9 @@ guard_stays (Lexeme.Mark m) w e = (elim m as (λ x. kind_guard x ≡ Some w → 
 
 mutual
   pub goal_even : {a b : List Lexeme} {gs : List Goal} → GoalIs a gs b → (n : ℕ) → behind_close n a ≡ behind_close n b
-  goal_even (atom_goal p) n = arguments_even p n
-  goal_even (test {o = o} {b = b} {w = w} p e q) n = expr_even p n ∙ stays_is o n b (relation_stays o w e) ∙ expr_even q n
+  goal_even (collecting w p g q) n = expr_even p (suc n) ∙ goal_even g (suc n) ∙ expr_even q (suc n)
+  goal_even (atom_goal n' p) n = arguments_even p n
+  goal_even (test {o = o} {b = b} {w = w} n' p e q) n = expr_even p n ∙ stays_is o n b (relation_stays o w e) ∙ expr_even q n
   goal_even (made.brackets p q) n = part_even p (suc n) ∙ parts_even q (suc n)
 
   pub conj_even : {a b : List Lexeme} {gs : List Goal} → Conj a gs b → (n : ℕ) → behind_close n a ≡ behind_close n b
@@ -120,3 +121,7 @@ atom_is s p e = rw (behind_arguments p) e
 
 pub brackets_is : {a b c : List Lexeme} {x : Part} {xs : List Part} → PartIs a x b → PartsAre b xs (Lexeme.Mark kinds.Close ∷ c) → begins_join c ≡ false → is_test (Lexeme.Mark kinds.Open ∷ a) ≡ false
 brackets_is p q e = rw (part_even p 0, parts_even q 0) e
+
+pub collecting_is : (s : List ℕ) {a b c d : List Lexeme} {t u : Tree} {gs : List Goal} → Expr Sum a t (Lexeme.Mark kinds.Comma ∷ b) → GoalIs b gs (Lexeme.Mark kinds.Comma ∷ c) → Expr Sum c u (Lexeme.Mark kinds.Close ∷ d) → begins_join d ≡ false
+    → is_test (Symbol s ∷ Lexeme.Mark kinds.OpenCall ∷ a) ≡ false
+collecting_is s p g q e = rw (expr_even p 0, goal_even g 0, expr_even q 0) e

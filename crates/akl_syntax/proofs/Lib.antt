@@ -1,5 +1,6 @@
 pub mod Balance
 pub mod ClauseTurns
+pub mod CollectTurns
 pub mod OneGoal
 pub mod OneVerdict
 pub mod PartTurns

@@ -9,7 +9,7 @@ use Rattle.term_syntax.specs.declared.level.Level.TheVariants.{Sum}
 use Rattle.akl_terms.specs.declared.program.Op.{Op}
 use Rattle.term_syntax.specs.Tree.{Tree}
 use Rattle.term_syntax.specs.Grammar.{Expr, Operand, operands, product, primary, atom, brackets, whole_list, empty_list, variable_is, integer_is}
-use Rattle.akl_syntax.specs.Goals.{Goal, Part, GoalIs, Conj, Conjs, PartIs, PartsAre, atom_goal, test, conj, no_conjs, and, unguarded, guarded, no_parts_more, or, relation_of, kind_relation, guard_of, kind_guard, inlined, plain_part}
+use Rattle.akl_syntax.specs.Goals.{Goal, Part, GoalIs, Conj, Conjs, PartIs, PartsAre, collecting, atom_goal, test, conj, no_conjs, and, unguarded, guarded, no_parts_more, or, relation_of, kind_relation, guard_of, kind_guard, plain_part}
 use Rattle.akl_syntax.specs.Goals as made
 use Rattle.akl_lexemes.specs.Parsed.{is_comma}
 use Rattle.term_syntax.specs.Ends.{ends_chain}
@@ -21,8 +21,9 @@ use Rattle.akl_syntax.proofs.Balance.{test_is, atom_is, brackets_is}
 -- ---- each takes a lexeme
 mutual
   pub goal_takes : {a b : List Lexeme} {gs : List Goal} → GoalIs a gs b → length b < length a
-  goal_takes (atom_goal p) = omega (arith, arguments_takes p)
-  goal_takes (test p e q) = omega (arith, expr_takes p, expr_takes q)
+  goal_takes (collecting w p g q) = omega (arith, expr_takes p, goal_takes g, expr_takes q)
+  goal_takes (atom_goal n p) = omega (arith, arguments_takes p)
+  goal_takes (test n p e q) = omega (arith, expr_takes p, expr_takes q)
   goal_takes (made.brackets p q) = omega (arith, part_takes p, parts_take q)
 
   pub conj_takes : {a b : List Lexeme} {gs : List Goal} → Conj a gs b → length b < length a
@@ -106,8 +107,9 @@ mutual
   operand_no_guard e (primary (brackets p)) = absurd cc
 
 goal_no_guard : {o : Lexeme} {a b : List Lexeme} {gs : List Goal} {op : Op} → guard_of o ≡ Some op → GoalIs (o ∷ a) gs b → ⊥
-goal_no_guard e (atom_goal p) = absurd cc
-goal_no_guard e (test p x q) = expr_no_guard e p
+goal_no_guard e (collecting w p g q) = absurd cc
+goal_no_guard e (atom_goal n p) = absurd cc
+goal_no_guard e (test n p x q) = expr_no_guard e p
 goal_no_guard e (made.brackets p q) = absurd cc
 
 pub conj_no_guard : {o : Lexeme} {a b : List Lexeme} {gs : List Goal} {op : Op} → guard_of o ≡ Some op → Conj (o ∷ a) gs b → ⊥
@@ -121,17 +123,26 @@ opposite x e f = absurd cc
 
 mutual
   pub goal_one : {a b b' : List Lexeme} {gs gs' : List Goal} → GoalIs a gs b → GoalIs a gs' b' → ends_goal b ≡ true → ends_goal b' ≡ true → (gs ≡ gs') × (b ≡ b')
-  goal_one (atom_goal {ts = ts} p) (atom_goal {ts = ts'} q) s s' = let h = arguments_one p q in ((let e : ts ≡ ts' = h.0 in cc), h.1)
-  goal_one {b = b} (atom_goal {s = w} p) (test q e r) s s' = absurd (opposite _ (test_is _ q e) (atom_is w p (no_join b s)))
-  goal_one {b' = b'} (test q e r) (atom_goal {s = w} p) s s' = absurd (opposite _ (test_is _ q e) (atom_is w p (no_join b' s')))
-  goal_one {b = b} {b' = b'} (test {o = o} {b = c} {w = w} {t = t} {u = u} p e q) (test {o = o'} {b = c'} {w = w'} {t = t'} {u = u'} p' e' q') s s' =
+  goal_one (collecting {b = c} {c = d} {d = b} {t = t} {u = u} {gs = hs} w p g q) (collecting {b = c'} {c = d'} {d = b'} {t = t'} {u = u'} {gs = hs'} w' p' g' q') s s' =
+      let h = expr_one p p' refl refl in
+      let k = goal_one g (subst (λ (z : List Lexeme). GoalIs z hs' (Lexeme.Mark kinds.Comma ∷ d')) (sym (tail_is _ _ c c' h.1)) g') refl refl in
+      let l = expr_one q (subst (λ (z : List Lexeme). Expr Sum z u' (Lexeme.Mark kinds.Close ∷ b')) (sym (tail_is _ _ d d' k.1)) q') refl refl in
+      ((let x : t ≡ t' = h.0 in let y : hs ≡ hs' = k.0 in let z : u ≡ u' = l.0 in cc), tail_is _ _ b b' l.1)
+  goal_one (collecting w p g q) (atom_goal n r) s s' = absurd (opposite _ w n)
+  goal_one (collecting w p g q) (test n r e x) s s' = absurd (opposite _ w n)
+  goal_one (atom_goal n r) (collecting w p g q) s s' = absurd (opposite _ w n)
+  goal_one (test n r e x) (collecting w p g q) s s' = absurd (opposite _ w n)
+  goal_one (atom_goal {ts = ts} n p) (atom_goal {ts = ts'} n' q) s s' = let h = arguments_one p q in ((let e : ts ≡ ts' = h.0 in cc), h.1)
+  goal_one {b = b} (atom_goal {s = w} n p) (test n' q e r) s s' = absurd (opposite _ (test_is _ q e) (atom_is w p (no_join b s)))
+  goal_one {b' = b'} (test n' q e r) (atom_goal {s = w} n p) s s' = absurd (opposite _ (test_is _ q e) (atom_is w p (no_join b' s')))
+  goal_one {b = b} {b' = b'} (test {o = o} {b = c} {w = w} {t = t} {u = u} n p e q) (test {o = o'} {b = c'} {w = w'} {t = t'} {u = u'} n' p' e' q') s s' =
       let h = expr_one p p' (relation_stops o c w e) (relation_stops o' c' w' e') in
       let k = expr_one q (subst (λ (z : List Lexeme). Expr Sum z u' b') (sym (tail_is o o' c c' h.1)) q') (sum_ends b s) (sum_ends b' s') in
       let eo : o ≡ o' = head_is o o' c c' h.1 in
       let ew : w ≡ w' = cc in
       ((let x : t ≡ t' = h.0 in let y : u ≡ u' = k.0 in cc), k.1)
-  goal_one {b = b} (made.brackets p q) (test r e x) s s' = absurd (opposite _ (test_is _ r e) (brackets_is p q (no_join b s)))
-  goal_one {b' = b'} (test r e x) (made.brackets p q) s s' = absurd (opposite _ (test_is _ r e) (brackets_is p q (no_join b' s')))
+  goal_one {b = b} (made.brackets p q) (test n r e x) s s' = absurd (opposite _ (test_is _ r e) (brackets_is p q (no_join b s)))
+  goal_one {b' = b'} (test n r e x) (made.brackets p q) s s' = absurd (opposite _ (test_is _ r e) (brackets_is p q (no_join b' s')))
   goal_one (made.brackets {c = c} {p = x} {ps = xs} p q) (made.brackets {c = c'} {p = x'} {ps = xs'} p' q') s s' =
       let h = part_one p p' (parts_end q refl) (parts_end q' refl) in
       let k = parts_one q q' h.1 refl refl in

@@ -14,7 +14,7 @@ use Rattle.akl_syntax.specs.declared.source.SourceGoal.TheOpen as open_goals
 use Rattle.akl_syntax.specs.declared.source.SourceGoal.TheFolds.{fold-roll-SourceGoal, fold-roll-SourcePart}
 use Rattle.term_syntax.specs.Tree.{Tree}
 use Rattle.term_syntax.specs.Grammar.{Arguments}
-use Rattle.akl_syntax.specs.Goals.{Goal, Part, GoalIs, Conj, Conjs, PartIs, PartsAre, atom_goal, test, conj, no_conjs, and, unguarded, guarded, no_parts_more, or, guard_of, inlined, plain_part, written, choice, parts, call}
+use Rattle.akl_syntax.specs.Goals.{Goal, Part, GoalIs, Conj, Conjs, PartIs, PartsAre, collecting, atom_goal, test, conj, no_conjs, and, unguarded, guarded, no_parts_more, or, guard_of, begins_collect, inlined, written, choice, parts}
 use Rattle.akl_syntax.specs.Goals as made
 use Rattle.akl_syntax.specs.GoalView.{goal, part, goal_step, part_step}
 use Rattle.akl_syntax.specs.Parts.{guard_at, Guarded, body_of, Alternatives, behind_first}
@@ -35,9 +35,10 @@ pub part_is : (p : SourcePart) → part p ≡ record { guard = map goal p.guard.
 part_is p = ap part (is-SourcePart' p) ∙ fold-roll-SourcePart Goal Part goal_step part_step (record { guard = p.guard; op = p.op; body = p.body })
 
 -- ---- calls
-pub no_call : (s : List ℕ) (a : List Lexeme) → is_test (Symbol s ∷ a) ≡ false → Nothing (Arguments a) anywhere → Nothing (GoalIs (Symbol s ∷ a)) ends_goal
-no_call s a f none _ b (atom_goal p) e = none _ b p refl
-no_call s a f none _ b (test q e r) k = opposite _ (test_is _ q e) f
+pub no_call : (s : List ℕ) (a : List Lexeme) → is_test (Symbol s ∷ a) ≡ false → begins_collect (Symbol s ∷ a) ≡ false → Nothing (Arguments a) anywhere → Nothing (GoalIs (Symbol s ∷ a)) ends_goal
+no_call s _ f n none _ b (collecting w p g q) e = opposite _ w n
+no_call s a f n none _ b (atom_goal n' p) e = none _ b p refl
+no_call s a f n none _ b (test n' q e r) k = opposite _ (test_is _ q e) f
 
 pub call_edge : (s : List ℕ) (a b : List Lexeme) (ts : List Tree) → is_test (Symbol s ∷ a) ≡ false → Arguments a ts b → ends_goal b ≡ true
 call_edge s a b ts f p = goal_edge b (subst (λ (z : List Lexeme). begins_join z ≡ false) (behind_arguments p) f)
@@ -245,7 +246,7 @@ no_semicolon_ends (Lexeme.Mark m ∷ a) none s =
 -- ---- brackets
 module _ (a : List Lexeme) (f : is_test (Lexeme.Mark kinds.Open ∷ a) ≡ false) where
   pub no_part : Nothing (PartIs a) ends_part → Nothing (GoalIs (Lexeme.Mark kinds.Open ∷ a)) ends_goal
-  no_part none _ b (test q e r) s = opposite _ (test_is _ q e) f
+  no_part none _ b (test n q e r) s = opposite _ (test_is _ q e) f
   no_part none _ b (made.brackets p q) s = none _ _ p (parts_end q refl)
 
   pub bracket_edge : (b c : List Lexeme) (p : Part) (ps : List Part) → PartIs a p b → PartsAre b ps (Lexeme.Mark kinds.Close ∷ c) → ends_goal c ≡ true
@@ -255,13 +256,13 @@ module _ (a : List Lexeme) (f : is_test (Lexeme.Mark kinds.Open ∷ a) ≡ false
   choice_edge b c p q _ x (behind_first {ps = ps} y) = bracket_edge b c p ps x y
 
   pub no_alternatives : (b : List Lexeme) (p : Part) → PartIs a p b → ends_part b ≡ true → Nothing (Alternatives (written p) b) ends_parts → Nothing (GoalIs (Lexeme.Mark kinds.Open ∷ a)) ends_goal
-  no_alternatives b p x k none _ c (test q e r) s = opposite _ (test_is _ q e) f
+  no_alternatives b p x k none _ c (test n q e r) s = opposite _ (test_is _ q e) f
   no_alternatives b p x k none _ c (made.brackets {ps = ps} x' y) s =
       none _ (Lexeme.Mark kinds.Close ∷ c) (behind_first (subst (λ (z : List Lexeme). PartsAre z ps (Lexeme.Mark kinds.Close ∷ c)) (sym (part_one x x' k (parts_end y refl)).1) y)) refl
 
   pub not_closed_parts : (b r : List Lexeme) (p : Part) (qs : List Part) → PartIs a p b → ends_part b ≡ true → Alternatives (written p) b qs r → ends_parts r ≡ true
       → ((c : List Lexeme) → r ≡ Lexeme.Mark kinds.Close ∷ c → ⊥) → Nothing (GoalIs (Lexeme.Mark kinds.Open ∷ a)) ends_goal
-  not_closed_parts b r p qs x k y l none _ d (test q e z) s = opposite _ (test_is _ q e) f
+  not_closed_parts b r p qs x k y l none _ d (test n q e z) s = opposite _ (test_is _ q e) f
   not_closed_parts b r p _ x k (behind_first y) l none _ d (made.brackets {ps = ps} x' y') s =
       let y'' : PartsAre b ps (Lexeme.Mark kinds.Close ∷ d) = subst (λ (z : List Lexeme). PartsAre z ps (Lexeme.Mark kinds.Close ∷ d)) (sym (part_one x x' k (parts_end y' refl)).1) y' in
       none d (parts_one y y'' refl l refl).1

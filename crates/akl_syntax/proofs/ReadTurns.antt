@@ -11,7 +11,7 @@ use Rattle.akl_syntax.specs.Answers.{Answers, ending_view, clauses_view, query_v
 use Rattle.akl_syntax.specs.Clauses.{Clause}
 use Rattle.akl_syntax.specs.Faults.{IsTokenFault, ReadsTokens}
 use Rattle.akl_lexemes.specs.Faults.{IsLimitFault}
-use Rattle.akl_syntax.specs.Verdicts.{Verdict, accepted, refused, Tests, NotEnded, ReadsClause, ReadsClauses, with_clause, ReadsProgram, ReadsQuery}
+use Rattle.akl_syntax.specs.Verdicts.{Verdict, accepted, refused, Tests, ReadsClause, ReadsClauses, with_clause, ReadsProgram, ReadsQuery}
 use Rattle.akl_text.specs.Layout.{SkipsFrom}
 use Rattle.akl_syntax.specs.Verdicts as verdicts
 use Rattle.akl_text.proofs.TokenBounds.{are_bound, last_behind, AreBound}

@@ -4,7 +4,7 @@ use Rattle.std.proofs.lemmas.List.{length-append, length-drop}
 use Rattle.akl_text.specs.declared.token.Token.{Token}
 use Rattle.akl_lexemes.specs.declared.lexeme.Lexeme.{Lexeme}
 use Rattle.term_syntax.proofs.SizeLaws.{expr_size, arguments_size}
-use Rattle.akl_syntax.specs.Goals.{Goal, Part, GoalIs, Conj, Conjs, PartIs, PartsAre, atom_goal, test, conj, no_conjs, and, unguarded, guarded, no_parts_more, or, inlined, written, goals, parts}
+use Rattle.akl_syntax.specs.Goals.{Goal, Part, GoalIs, Conj, Conjs, PartIs, PartsAre, collecting, atom_goal, test, conj, no_conjs, and, unguarded, guarded, no_parts_more, or, inlined, written, goals, parts}
 use Rattle.akl_syntax.specs.Goals as made
 use Rattle.akl_syntax.specs.Clauses.{Clause, Query, HasPart, IsClause, IsQuery, no_neck, neck, clause, query}
 use Rattle.akl_lexemes.specs.Lexemes.{Lexemes}
@@ -31,8 +31,9 @@ inlined_size true p (q ∷ ps) = omega arith
 
 mutual
   one_goal_size : {a b : List Lexeme} {gs : List Goal} → GoalIs a gs b → goals_size (goals gs) + length b ≤ length a
-  one_goal_size (atom_goal p) = omega (arith, arguments_size p)
-  one_goal_size (test p e q) = omega (arith, expr_size p, expr_size q)
+  one_goal_size (collecting w p g q) = omega (arith, expr_size p, one_goal_size g, expr_size q)
+  one_goal_size (atom_goal n p) = omega (arith, arguments_size p)
+  one_goal_size (test n p e q) = omega (arith, expr_size p, expr_size q)
   one_goal_size (made.brackets {p = x} {ps = xs} p q) = omega (arith, inlined_size x.is_written (written x) xs, part_size p, alternatives_size q)
 
   conj_size : {a b : List Lexeme} {gs : List Goal} → Conj a gs b → goals_size (goals gs) + length b ≤ length a

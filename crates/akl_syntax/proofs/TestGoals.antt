@@ -9,7 +9,7 @@ use Rattle.akl_syntax.specs.declared.source.SourceGoal.TheFolds.{fold-roll-Sourc
 use Rattle.term_syntax.specs.Tree.{Tree, trees}
 use Rattle.term_syntax.specs.View.{tree}
 use Rattle.term_syntax.specs.Grammar.{Expr}
-use Rattle.akl_syntax.specs.Goals.{Goal, Part, GoalIs, atom_goal, test, relation_of, call}
+use Rattle.akl_syntax.specs.Goals.{Goal, Part, GoalIs, collecting, atom_goal, test, relation_of, call}
 use Rattle.akl_syntax.specs.Goals as made
 use Rattle.akl_syntax.specs.GoalView.{goal, goal_step, part_step}
 use Rattle.akl_lexemes.specs.Parsed.{Nothing}
@@ -17,7 +17,7 @@ use Rattle.term_syntax.specs.Ends.{ends_chain}
 use Rattle.akl_syntax.specs.Ahead.{begins_join, is_test}
 use Rattle.akl_syntax.specs.Ends.{ends_goal}
 use Rattle.term_syntax.proofs.Unique.{expr_one, tail_is}
-use Rattle.akl_syntax.proofs.Balance.{atom_is, brackets_is}
+use Rattle.akl_syntax.proofs.Balance.{atom_is, brackets_is, collecting_is}
 use Rattle.akl_syntax.proofs.OneGoal.{no_join, relation_stops, sum_ends, opposite}
 
 pub goal_call : (s : List ℕ) (v : Vec SourceTerm Global) → goal (written.Call s v) ≡ call s (trees (map tree v.items))
@@ -35,8 +35,9 @@ pub record TestIs (a b : List Lexeme) : Type 0 where
 
 -- a goal that looks like a test is one
 pub the_test : (a b : List Lexeme) (gs : List Goal) → is_test a ≡ true → GoalIs a gs b → ends_goal b ≡ true → TestIs a b
-the_test _ b gs h (atom_goal {s = w} p) s = absurd (opposite _ h (atom_is w p (no_join b s)))
-the_test a b gs h (test {o = o} {b = c} {w = w} {t = t} {u = u} p e q) s = record { o = o; c = c; w = w; t = t; u = u; left = p; is = e; right = q }
+the_test _ b gs h (collecting {s = w} x p g q) s = absurd (opposite _ h (collecting_is w p g q (no_join b s)))
+the_test _ b gs h (atom_goal {s = w} n p) s = absurd (opposite _ h (atom_is w p (no_join b s)))
+the_test a b gs h (test {o = o} {b = c} {w = w} {t = t} {u = u} n p e q) s = record { o = o; c = c; w = w; t = t; u = u; left = p; is = e; right = q }
 the_test _ b gs h (made.brackets p q) s = absurd (opposite _ h (brackets_is p q (no_join b s)))
 
 module _ (a : List Lexeme) (h : is_test a ≡ true) where

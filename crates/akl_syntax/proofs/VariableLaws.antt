@@ -9,7 +9,7 @@ use Rattle.term_syntax.specs.Tree.{trees}
 use Rattle.akl_terms.specs.declared.program.Op.{Op}
 use Rattle.akl_lexemes.proofs.NumberedLexemes.{lexeme_variables, numbered, are_numbered}
 use Rattle.term_syntax.proofs.VariableLaws.{expr_variables, arguments_variables, joined}
-use Rattle.akl_syntax.specs.Goals.{Goal, Part, GoalIs, Conj, Conjs, PartIs, PartsAre, atom_goal, test, conj, no_conjs, and, unguarded, guarded, no_parts_more, or, inlined, written, goals, parts, relation_of, guard_of}
+use Rattle.akl_syntax.specs.Goals.{Goal, Part, GoalIs, Conj, Conjs, PartIs, PartsAre, collecting, atom_goal, test, conj, no_conjs, and, unguarded, guarded, no_parts_more, or, inlined, written, goals, parts, relation_of, guard_of}
 use Rattle.akl_syntax.specs.Goals as made
 use Rattle.akl_syntax.specs.Clauses.{Clause, Query, HasPart, IsClause, IsQuery, no_neck, neck, clause, query}
 use Rattle.akl_syntax.specs.Variables.{goal_variables, goals_variables, parts_variables, clause_variables, query_variables, IsClauseNumbered, AreClausesNumbered, IsQueryNumbered}
@@ -54,8 +54,12 @@ with_nil x b e = e ∙ ap (λ (z : List ℕ). z ++ b) (sym (append-nil x))
 
 mutual
   one_goal_variables : {a b : List Lexeme} {gs : List Goal} → GoalIs a gs b → lexeme_variables a ≡ goals_variables (goals gs) ++ lexeme_variables b
-  one_goal_variables {b = b} (atom_goal {ts = ts} p) = with_nil (trees_variables (trees ts)) (lexeme_variables b) (arguments_variables p)
-  one_goal_variables (test {o = o} {b = b} {c = c} {w = w} {t = t} {u = u} p e q) =
+  one_goal_variables (collecting {d = d} {t = t} {u = u} {gs = gs} w p g q) =
+      let inside = joined (goals_variables (goals gs)) (tree_variables u) (lexeme_variables d) (one_goal_variables g) (expr_variables q) in
+      let whole = joined (tree_variables t) (goals_variables (goals gs) ++ tree_variables u) (lexeme_variables d) (expr_variables p) inside in
+      with_nil (tree_variables t ++ (goals_variables (goals gs) ++ tree_variables u)) (lexeme_variables d) whole
+  one_goal_variables {b = b} (atom_goal {ts = ts} n p) = with_nil (trees_variables (trees ts)) (lexeme_variables b) (arguments_variables p)
+  one_goal_variables (test {o = o} {b = b} {c = c} {w = w} {t = t} {u = u} n p e q) =
       let right = with_nil (tree_variables u) (lexeme_variables c) (expr_variables q) in
       let both = joined (tree_variables t) (tree_variables u ++ []) (lexeme_variables c) (expr_variables p) (relation_variables o b w e ∙ right) in
       with_nil (tree_variables t ++ (tree_variables u ++ [])) (lexeme_variables c) both

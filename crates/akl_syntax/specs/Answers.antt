@@ -1,5 +1,5 @@
 -- What a reader of programs and queries answers.
-use Rattle.std.specs.Prelude.{ℕ, List, map, Result, Ok, Err, ⊤}
+use Rattle.std.specs.Prelude.{ℕ, List, map, option_map, Result, Ok, Err, ⊤}
 use Rattle.std.proofs.Common.{Vec, Global}
 use Rattle.term_syntax.specs.View.{tree}
 use Rattle.akl_syntax.specs.GoalView.{goal, part}
@@ -12,7 +12,7 @@ use Rattle.akl_lexemes.specs.declared.error.SyntaxError.TheVariants.{Syntax, Too
 
 -- what a source clause stands for
 abbrev pub clause_view : SourceClause → Clause
-clause_view c = record { head = c.head; arguments = map tree c.arguments.items; part = part c.part; names = c.names.items; start = c.start }
+clause_view c = record { head = c.head; arguments = map tree c.arguments.items; part = part c.part; collected = option_map tree c.collected; names = c.names.items; start = c.start }
 
 -- a clause with the place where it ends
 abbrev pub ending_view : SourceClause × ℕ → Clause × ℕ

@@ -1,5 +1,5 @@
 -- What lexemes derive as a clause and as a query, without its end token.
-use Rattle.std.specs.Prelude.{ℕ, List, [], ◌∷◌}
+use Rattle.std.specs.Prelude.{ℕ, List, [], ◌∷◌, Option, None}
 use Rattle.akl_text.specs.declared.token.Kind.TheVariants as kinds
 use Rattle.akl_lexemes.specs.declared.lexeme.Lexeme.{Lexeme}
 use Rattle.akl_lexemes.specs.declared.lexeme.Lexeme.TheVariants.{Symbol}
@@ -13,6 +13,7 @@ pub record Clause : Type 0 where
   pub head : Head
   pub arguments : List Tree
   pub part : Part
+  pub collected : Option Tree
   pub names : List (List ℕ)
   pub start : ℕ
 
@@ -22,7 +23,7 @@ pub record Query : Type 0 where
 
 -- the clause of a symbol that begins at a place
 abbrev pub clause_of : ℕ → List (List ℕ) → List ℕ → List Tree → Part → Clause
-clause_of start names s ts p = record { head = Named s; arguments = ts; part = written p; names = names; start = start }
+clause_of start names s ts p = record { head = Named s; arguments = ts; part = written p; collected = None; names = names; start = start }
 
 -- what stands behind a head: nothing, or a neck and a part
 pub data HasPart : List Lexeme → Part → Type 0 where

@@ -1,5 +1,5 @@
 -- What lexemes derive as goals.
-use Rattle.std.specs.Prelude.{◌≡◌, ℕ, List, [], ◌∷◌, ◌++◌, Option, Some, None, Bool, true, false, codes}
+use Rattle.std.specs.Prelude.{◌≡◌, ℕ, List, [], ◌∷◌, ◌++◌, Option, Some, None, Bool, true, false, ◌&&◌, codes, bytes_eq}
 use Rattle.akl_lexemes.specs.declared.lexeme.Lexeme.{Lexeme}
 use Rattle.akl_lexemes.specs.declared.lexeme.Lexeme.TheVariants.{Symbol}
 use Rattle.akl_text.specs.declared.token.Kind.{Kind}
@@ -8,14 +8,17 @@ use Rattle.term_syntax.specs.declared.level.Level.TheVariants.{Sum}
 use Rattle.akl_terms.specs.declared.program.Op.{Op}
 use Rattle.akl_terms.specs.declared.program.Op.TheVariants as ops
 use Rattle.term_syntax.specs.Tree.{Tree, Trees, trees}
-use Rattle.term_syntax.specs.Grammar.{Expr, Arguments}
+use Rattle.term_syntax.specs.Grammar.{Expr, Arguments, begins_call}
 
--- a call of a symbol, an inline choice, and a call of a definition that was made of one
+-- a call of a symbol, an inline choice, a call of a definition that was made of one, a collecting goal with what it
+-- collects and its result, and a call of a definition that was made of one, with the result
 mutual
   pub data Goal : Type 0 where
     call : List ℕ → Trees → Goal
     choice : Parts → Goal
     lifted : ℕ → List ℕ → Goal
+    collect : Tree → Goals → Tree → Goal
+    lifted_collect : ℕ → List ℕ → Tree → Goal
 
   pub data Goals : Type 0 where
     no_goals : Goals
@@ -77,11 +80,23 @@ abbrev pub guard_of : Lexeme → Option Op
 guard_of (Lexeme.Mark m) = kind_guard m
 guard_of _ = None
 
+-- the symbol of a collecting goal
+abbrev pub collecting_symbol : List ℕ
+collecting_symbol = codes "bagof"
+
+-- a goal that begins so is a collecting goal and nothing else
+abbrev pub begins_collect : List Lexeme → Bool
+begins_collect (Symbol s ∷ a) = begins_call a && bytes_eq s collecting_symbol
+begins_collect _ = false
+
 mutual
   -- a goal in brackets may stand for several
   pub data GoalIs : List Lexeme → List Goal → List Lexeme → Type 0 where
-    atom_goal : {s : List ℕ} {a b : List Lexeme} {ts : List Tree} → Arguments a ts b → GoalIs (Symbol s ∷ a) (call s (trees ts) ∷ []) b
-    test : {o : Lexeme} {a b c : List Lexeme} {w : List ℕ} {t u : Tree} → Expr Sum a t (o ∷ b) → relation_of o ≡ Some w → Expr Sum b u c
+    collecting : {s : List ℕ} {a b c d : List Lexeme} {t u : Tree} {gs : List Goal} → bytes_eq s collecting_symbol ≡ true
+        → Expr Sum a t (Lexeme.Mark kinds.Comma ∷ b) → GoalIs b gs (Lexeme.Mark kinds.Comma ∷ c) → Expr Sum c u (Lexeme.Mark kinds.Close ∷ d)
+        → GoalIs (Symbol s ∷ Lexeme.Mark kinds.OpenCall ∷ a) (collect t (goals gs) u ∷ []) d
+    atom_goal : {s : List ℕ} {a b : List Lexeme} {ts : List Tree} → begins_collect (Symbol s ∷ a) ≡ false → Arguments a ts b → GoalIs (Symbol s ∷ a) (call s (trees ts) ∷ []) b
+    test : {o : Lexeme} {a b c : List Lexeme} {w : List ℕ} {t u : Tree} → begins_collect a ≡ false → Expr Sum a t (o ∷ b) → relation_of o ≡ Some w → Expr Sum b u c
         → GoalIs a (call w (trees (t ∷ u ∷ [])) ∷ []) c
     brackets : {a b c : List Lexeme} {p : Part} {ps : List Part} → PartIs a p b → PartsAre b ps (Lexeme.Mark kinds.Close ∷ c) → GoalIs (Lexeme.Mark kinds.Open ∷ a) (inlined p.is_written (written p) ps) c
 

@@ -1,7 +1,9 @@
-//! Looking ahead behind the bracket that closes.
+//! Looking ahead.
 
-ghost use Rattle.std.specs.Prelude.{◌≡◌};
+ghost use Rattle.std.specs.Prelude.{◌≡◌, false, IfSome, IfNone};
 ghost use Rattle.akl_syntax.specs.Ahead.{joins, begins_join, is_test};
+ghost use Rattle.akl_syntax.specs.Goals.{begins_collect};
+ghost use Rattle.akl_syntax.specs.Parts.{IsCollecting};
 ghost use Rattle.akl_lexemes.specs.Brackets.{IsTable};
 
 use crate::relation::relation;
@@ -25,6 +27,25 @@ pub fn joined(lexemes: &[Lexeme]) -> bool
     match front(lexemes) {
         Some((first, _)) => joining(first),
         None => false,
+    }
+}
+
+/// The symbol of a collecting goal.
+const COLLECTING: &str = "bagof";
+
+/// What stands behind the opening bracket, where the lexemes begin a collecting goal.
+pub fn collecting(lexemes: &[Lexeme]) -> Option<&[Lexeme]>
+    ensures some { IfSome result (λ rest. IsCollecting lexemes.now rest.now) }
+    ensures none { IfNone result (begins_collect lexemes.now ≡ false) }
+{
+    let (first, rest) = front(lexemes)?;
+    let Lexeme::Symbol(symbol) = first else {
+        return None;
+    };
+    if symbol.as_str() == COLLECTING {
+        skip(Kind::OpenCall, rest)
+    } else {
+        None
     }
 }
 

@@ -66,6 +66,7 @@ pub fn clause(alloc: Global, start: usize, lexed: Lexed) -> Result<SourceClause,
         head,
         arguments,
         part,
+        collected: None,
         names,
         start,
     })

@@ -4,16 +4,19 @@ ghost use Rattle.std.specs.Prelude.{◌≡◌, ◌∷◌, [], List, map, true, f
 ghost use Rattle.akl_text.specs.declared.token.Kind.TheVariants.{Open, Close};
 ghost use Rattle.akl_lexemes.specs.declared.lexeme.Lexeme.{Lexeme};
 ghost use Rattle.akl_lexemes.specs.declared.lexeme.Lexeme.TheVariants.{Symbol};
-ghost use Rattle.akl_syntax.specs.Goals.{GoalIs, Conj, PartIs, written};
+ghost use Rattle.akl_syntax.specs.Goals.{GoalIs, Conj, PartIs, begins_collect, written};
 ghost use Rattle.akl_syntax.specs.GoalView.{goal, part};
-ghost use Rattle.akl_syntax.specs.Parts.{guard_at, Guarded, Alternatives};
+ghost use Rattle.akl_syntax.specs.Parts.{guard_at, Guarded, Alternatives, Ended, Collected};
 ghost use Rattle.akl_syntax.specs.PartView.{part_of};
 ghost use Rattle.akl_syntax.specs.Ahead.{is_test};
+ghost use Rattle.term_syntax.specs.declared.level.Level.TheVariants.{Sum};
+ghost use Rattle.term_syntax.specs.Ends.{ends_chain};
+ghost use Rattle.term_syntax.specs.View.{tree};
 ghost use Rattle.akl_lexemes.specs.Brackets.{IsTable};
-ghost use Rattle.akl_lexemes.specs.Parsed.{Parsed};
+ghost use Rattle.akl_lexemes.specs.Parsed.{Parsed, anywhere};
 ghost use Rattle.akl_syntax.specs.Ends.{ends_goal, ends_conj, ends_part, ends_parts};
 
-use crate::ahead::{joined, looks_tested};
+use crate::ahead::{collecting, joined, looks_tested};
 use crate::relation::{guard_op, relation};
 use crate::source::{SourceGoal, SourcePart};
 use akl_lexemes::{Brackets, Fault, Lexeme, behind, front, skip};
@@ -66,7 +69,8 @@ fn pair(alloc: Global, left: SourceTerm, right: SourceTerm) -> Result<Vec<Source
 
 /// A term, a relation and a term.
 fn test(alloc: Global, lexemes: &[Lexeme]) -> Result<(Vec<SourceGoal>, &[Lexeme]), Fault>
-    requires { is_test lexemes.now ≡ true }
+    requires test { is_test lexemes.now ≡ true }
+    requires plain { begins_collect lexemes.now ≡ false }
     ensures { Parsed (λ x. (map goal x.0.items, x.1.now)) (GoalIs lexemes.now) ends_goal result }
 {
     let (left, rest) = expr(alloc, Level::Sum, lexemes)?;
@@ -92,12 +96,23 @@ fn called<'a>(
     symbol: &Text,
     lexemes: &'a [Lexeme],
 ) -> Result<(Vec<SourceGoal>, &'a [Lexeme]), Fault>
-    requires { is_test (Symbol symbol.now ∷ lexemes.now) ≡ false }
+    requires call { is_test (Symbol symbol.now ∷ lexemes.now) ≡ false }
+    requires plain { begins_collect (Symbol symbol.now ∷ lexemes.now) ≡ false }
     ensures { Parsed (λ x. (map goal x.0.items, x.1.now)) (GoalIs (Symbol symbol.now ∷ lexemes.now)) ends_goal result }
 {
     let symbol = symbol.duplicate()?;
     let (arguments, rest) = arguments(alloc, lexemes)?;
     let found = alone(alloc, SourceGoal::Call { symbol, arguments })?;
+    Ok((found, rest))
+}
+
+/// An expression and the mark that ends it.
+fn ended(alloc: Global, kind: Kind, lexemes: &[Lexeme]) -> Result<(SourceTerm, &[Lexeme]), Fault>
+    requires { (a : List Lexeme) → ends_chain Sum (Lexeme.Mark kind ∷ a) ≡ true }
+    ensures { Parsed (λ x. (tree x.0, x.1.now)) (Ended kind lexemes.now) anywhere result }
+{
+    let (found, rest) = expr(alloc, Level::Sum, lexemes)?;
+    let rest = behind(kind, rest)?;
     Ok((found, rest))
 }
 
@@ -132,6 +147,9 @@ fn goal<'a>(
     requires { IsTable brackets.now lexemes.now }
     ensures { Parsed (λ x. (map goal x.0.items, x.1.now)) (GoalIs lexemes.now) ends_goal result }
 {
+    if let Some(rest) = collecting(lexemes) {
+        return collected(alloc, brackets, rest);
+    }
     if looks_tested(brackets, lexemes) {
         return test(alloc, lexemes);
     }
@@ -143,6 +161,34 @@ fn goal<'a>(
         Lexeme::Mark(_) => bracketed(alloc, brackets, rest),
         _ => Err(Fault::Syntax),
     }
+}
+
+/// A collecting goal, whose symbol and opening bracket were read.
+#[cycle(goals)]
+fn collected<'a>(
+    alloc: Global,
+    brackets: &Brackets,
+    lexemes: &'a [Lexeme],
+) -> Result<(Vec<SourceGoal>, &'a [Lexeme]), Fault>
+    requires { IsTable brackets.now lexemes.now }
+    ensures { Parsed (λ x. (map goal x.0.items, x.1.now)) (Collected lexemes.now) ends_goal result }
+{
+    let (collected, rest) = ended(alloc, Kind::Comma, lexemes)?;
+    let (goals, rest) = goal(alloc, brackets, rest)?;
+    let rest = behind(Kind::Comma, rest)?;
+    let (result, rest) = ended(alloc, Kind::Close, rest)?;
+    if joined(rest) {
+        return Err(Fault::Syntax);
+    }
+    let found = alone(
+        alloc,
+        SourceGoal::Collect {
+            collected,
+            goals,
+            result,
+        },
+    )?;
+    Ok((found, rest))
 }
 
 /// Goals with commas between.

@@ -123,7 +123,7 @@ fn read_clause(
 /// clause's start that isn't an accepted clause decides, after whole clauses:
 /// - `Syntax` where a byte before the first end token begins no token, or where no end token follows;
 /// - else `TooDeep` at the first bracket with which more than 200 are open;
-/// - else `IntRange` at the first integer that is no signed number of 64 bits;
+/// - else `IntRange` at the first integer that is no signed number of 128 bits;
 /// - else `Syntax` where the tokens are no clause.
 ///
 /// The place of `Syntax` is the clause's first byte after layout. There are at most as many terms, goals and clauses

@@ -14,10 +14,22 @@ pub enum SourceGoal {
     },
     /// An inline choice. A part without an operator counts as one with `?` and an empty guard.
     Choice(Vec<SourcePart>),
+    /// A collecting goal: the terms that `collected` stands for in the solutions of `goals` make the list `result`.
+    Collect {
+        collected: SourceTerm,
+        goals: Vec<SourceGoal>,
+        result: SourceTerm,
+    },
     /// A call of the definition that was made of an inline choice. None is read from a text.
     Lifted {
         number: u32,
         arguments: Vec<u32>,
+    },
+    /// A call of the definition that was made of a collecting goal. None is read from a text.
+    LiftedCollect {
+        number: u32,
+        arguments: Vec<u32>,
+        result: SourceTerm,
     },
 }
 
@@ -35,7 +47,7 @@ pub struct SourcePart {
 pub enum Head {
     /// The symbol that is written.
     Named(Text),
-    /// A definition that was made of an inline choice in a clause of the definition `inside`.
+    /// A definition that was made of an inline choice or a collecting goal in a clause of the definition `inside`.
     Lifted { number: u32, inside: Key },
 }
 
@@ -46,6 +58,8 @@ pub struct SourceClause {
     pub arguments: Vec<SourceTerm>,
     /// A clause without a neck has `?`, an empty guard and an empty body.
     pub part: SourcePart,
+    /// The term that the definition of a collecting goal collects. A clause that is read from a text has none.
+    pub collected: Option<SourceTerm>,
     /// The spelling of each variable, by its number.
     pub names: Vec<Text>,
     /// The place of the clause's first byte in the text.

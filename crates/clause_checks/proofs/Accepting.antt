@@ -1,4 +1,4 @@
--- Clauses and queries that aren't refused keep the limits, and can be loaded once their inline choices are taken out.
+-- Clauses and queries that aren't refused keep the limits, and can be loaded once they are lifted.
 use Rattle.std.proofs.Common.{◌≡◌, ◌≤◌, ◌<◌, ℕ, zero, suc, Bool, true, false, ◌||◌, cond, List, [], ◌∷◌, ◌++◌, length, map, Option, Some, None, is_some, Result, Ok, Err, refl, sym, ap, subst, ◌∙◌, get_or, arith, append_assoc, append-nil, length-append}
 use Rattle.std.specs.Prelude.{nat_le, option_map, OnOk}
 use Rattle.std.specs.List.{list_any, All, Contains}
@@ -8,19 +8,19 @@ use Rattle.akl_terms.specs.declared.program.Key.{Key}
 use Rattle.akl_terms.specs.declared.program.Op.{Op}
 use Rattle.akl_terms.specs.declared.program.Op.TheVariants as ops
 use Rattle.akl_terms.specs.declared.program.Program.{Program}
-use Rattle.akl_syntax.specs.Goals.{Goal, Goals, Parts, call, choice, lifted, no_goals, more_goals, no_parts, more_parts, goals}
+use Rattle.akl_syntax.specs.Goals.{Goal, Goals, Parts, call, choice, lifted, collect, lifted_collect, no_goals, more_goals, no_parts, more_parts, goals}
 use Rattle.akl_syntax.specs.Clauses.{Clause, Query}
 use Rattle.clause_keys.specs.declared.callee.Callee.{Callee}
-use Rattle.clause_keys.specs.declared.callee.Callee.TheVariants.{Lifted}
+use Rattle.clause_keys.specs.declared.callee.Callee.TheVariants.{Lifted, Collecting}
 use Rattle.clause_keys.specs.declared.reserved.Reserved as reserved
 use Rattle.clause_keys.specs.Keys.{named, defined_by, called_by}
 use Rattle.clause_keys.specs.Reserved.{reserved_of}
-use Rattle.clause_keys.specs.Conditions.{count, count_parts, IsChoice, HasNoChoice, MayCall, IsLoadable, IsClauseLoadable, IsLiftable, a_goal, a_choice, AreLiftable, none_liftable, more_liftable, HaveLiftable, no_part, a_part, IsClauseLiftable}
+use Rattle.clause_keys.specs.Conditions.{count, count_parts, IsNested, HasNoNested, MayCall, IsLoadable, MayCollect, IsClauseLoadable, IsLiftable, a_goal, a_choice, a_collect, AreLiftable, none_liftable, more_liftable, HaveLiftable, no_part, a_part, IsClauseLiftable}
 use Rattle.clause_checks.specs.declared.error.LoadError.{LoadError}
 use Rattle.clause_checks.specs.declared.error.Limit.TheVariants.{Clauses, PerDefinition, Variables, Arity}
 use Rattle.clause_checks.specs.declared.error.LoadError.TheVariants.{TooMany, Reserved, MixedGuards, Undefined}
 use Rattle.clause_checks.specs.Within.{goals_of, goals_of_all, goals_of_parts, goals_in, goals_asked}
-use Rattle.clause_checks.specs.Rows.{first, above, own, with_before, is_callee, is_defined, goal_key, too_many_parts, too_many_clauses, first_crowded_in_clause, mixed_parts, mixed_choice, mixed_definition, key_if_mixed, clause_key, key_if_reserved, key_if_undefined, first_wide_in_goal, first_wide_in_clause}
+use Rattle.clause_checks.specs.Rows.{first, above, own, with_before, is_callee, is_defined, goal_key, too_many_parts, too_many_clauses, first_crowded_in_clause, mixed_parts, mixed_choice, mixed_definition, key_if_mixed, clause_key, key_if_reserved, key_if_undefined, first_wide_in_goals, first_wide_in_clause}
 use Rattle.clause_checks.specs.Refusals.{Answers, too_many, refusal_of_few, refusal_of, goals_refusal, query_refusal_of}
 use Rattle.clause_checks.specs.Accepted.{AreAccepted, IsAccepted}
 use Rattle.clause_checks.specs.Tallies.{clauses_of}
@@ -82,6 +82,8 @@ module _ (ks : List Callee) where
     liftable : (g : Goal) → AreFine (goals_of g) → IsLiftable ks g
     liftable (call s ts) f = a_goal (may_call (named s (count ts)) (reserved_of s (count ts)) (defined_by_test (is_defined ks (call s ts)) (goal_key (call s ts)) f.0.defined))
     liftable (lifted n ns) f = a_goal (contained ks (Lifted n (length ns)) (defined_by_test (is_defined ks (lifted n ns)) (goal_key (lifted n ns)) f.0.defined))
+    liftable (lifted_collect n ns r) f = a_goal (contained ks (Collecting n (length ns)) (defined_by_test (is_defined ks (lifted_collect n ns r)) (goal_key (lifted_collect n ns r)) f.0.defined))
+    liftable (collect t gs r) f = a_collect (all_liftable gs f.1)
     liftable (choice ps) f = (let p = first_part ps f.0.unmixed f.1 in a_choice (within 256 (count_parts ps) f.0.few) p.1)
 
     all_liftable : (gs : Goals) → AreFine (goals_of_all gs) → AreLiftable ks gs
@@ -110,11 +112,12 @@ module _ (ks : List Callee) where
   }
 
   -- ---- without inline choices
-  loadable_at : (g : Goal) → (IsChoice g → ⊥) → IsLiftable ks g → IsLoadable ks g
+  loadable_at : (g : Goal) → (IsNested g → ⊥) → IsLiftable ks g → IsLoadable ks g
   loadable_at g h (a_goal p) = p
   loadable_at g h (a_choice l p) = absurd (h tt)
+  loadable_at g h (a_collect p) = absurd (h tt)
 
-  pub plain_loadable : (gs : List Goal) → HasNoChoice gs → AreLiftable ks (goals gs) → All (IsLoadable ks) gs
+  pub plain_loadable : (gs : List Goal) → HasNoNested gs → AreLiftable ks (goals gs) → All (IsLoadable ks) gs
   plain_loadable [] h a = All-nil (IsLoadable ks)
   plain_loadable (g ∷ gs) h (more_liftable p a) = All-cons (IsLoadable ks) g gs (loadable_at g (h zero g (omega arith)) p) (plain_loadable gs (λ i d l. h (suc i) d (omega (arith, l))) a)
 
@@ -181,10 +184,10 @@ accepted cs e =
       unreserved = λ i d l. none_of key_if_reserved cs (no_error Reserved (first key_if_reserved cs) five.0) i d l;
     }
 
-pub clauses_loadable : (cs : List Clause) → AreAccepted cs → All (λ c. HasNoChoice c.part.guard → HasNoChoice c.part.body → IsClauseLoadable (map defined_by cs) c) cs
+pub clauses_loadable : (cs : List Clause) → AreAccepted cs → All (λ c. HasNoNested c.part.guard → HasNoNested c.part.body → MayCollect c.part.op c.head c.collected c.part.body → IsClauseLoadable (map defined_by cs) c) cs
 clauses_loadable cs a = λ i d l.
     let p : IsClauseLiftable (map defined_by cs) (get_or cs i d) = a.liftable i d l in
-    λ g b. record { guard = plain_loadable (map defined_by cs) (get_or cs i d).part.guard g p.guard; body = plain_loadable (map defined_by cs) (get_or cs i d).part.body b p.body; few = p.few }
+    λ g b m. record { guard = plain_loadable (map defined_by cs) (get_or cs i d).part.guard g p.guard; body = plain_loadable (map defined_by cs) (get_or cs i d).part.body b p.body; collected = m; few = p.few }
 
 -- ---- a query
 no_mixed : (b : Bool) (e : LoadError) → cond b (Some e) None ≡ None → b ≡ false
@@ -198,12 +201,12 @@ query_accepted p q e =
     let gs : List Goal = goals_asked q in
     let one = left_none (too_many PerDefinition (first too_many_parts gs)) _ e in
     let two = left_none (too_many Variables (above 256 (length q.names))) _ one.1 in
-    let three = left_none (too_many Arity (first first_wide_in_goal gs)) _ two.1 in
+    let three = left_none (too_many Arity (first_wide_in_goals (goals q.goals))) _ two.1 in
     let four = left_none (cond (list_any mixed_choice gs) (Some _) None) _ three.1 in
     record {
       few = within ks 256 (length q.names) (no_error (TooMany Variables) (above 256 (length q.names)) two.0);
       liftable = all_liftable ks (goals q.goals) (are_fine ks gs (no_error Undefined (first (key_if_undefined ks) gs) four.1) (no_error (TooMany PerDefinition) (first too_many_parts gs) one.0) (no_mixed (list_any mixed_choice gs) _ four.0));
-      narrow = λ i d l. none_of first_wide_in_goal gs (no_error (TooMany Arity) (first first_wide_in_goal gs) three.0) i d l;
+      narrow = no_error (TooMany Arity) (first_wide_in_goals (goals q.goals)) three.0;
     }
 
 -- ---- answers
@@ -213,11 +216,11 @@ checked_clauses cs ds n r e f g h =
     let rest : refusal_of cs ≡ refusal_of_few cs = rw (sym (ap (too_many Clauses) f) ∙ g) refl in
     subst (λ o. Answers o r) (sym rest) (subst (λ x. Answers (refusal_of_few x) r) e h)
 
-pub checked_query : (p : Program) (q : Query) (ks : List Callee) (n : ℕ) (gs : List Goal) (r : Result (Unit {0}) LoadError) → ks ≡ map called_by p.definitions → n ≡ length q.names → gs ≡ goals_asked q
-    → Answers (goals_refusal ks n gs) r → Answers (query_refusal_of p q) r
+pub checked_query : (p : Program) (q : Query) (ks : List Callee) (n : ℕ) (asked : Goals) (gs : List Goal) (r : Result (Unit {0}) LoadError) → ks ≡ map called_by p.definitions → n ≡ length q.names → asked ≡ goals q.goals
+    → gs ≡ goals_asked q → Answers (goals_refusal ks n asked gs) r → Answers (query_refusal_of p q) r
 unfolding query_refusal_of
-checked_query p q ks n gs r e f g h =
-    let same : goals_refusal ks n gs ≡ goals_refusal (map called_by p.definitions) (length q.names) (goals_asked q) = rw (e, f, g) refl in
+checked_query p q ks n asked gs r e f a g h =
+    let same : goals_refusal ks n asked gs ≡ goals_refusal (map called_by p.definitions) (length q.names) (goals q.goals) (goals_asked q) = rw (e, f, a, g) refl in
     subst (λ o. Answers o r) same h
 
 pub on_ok : {P : Type 0} (o : Option LoadError) (r : Result (Unit {0}) LoadError) → Answers o r → (o ≡ None → P) → OnOk r P

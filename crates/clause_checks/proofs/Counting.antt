@@ -3,7 +3,7 @@ use Rattle.std.proofs.Common.{◌≡◌, ◌≤◌, ℕ, suc, List, [], ◌∷�
 use Rattle.std.proofs.lemmas.List.{length-map}
 use Rattle.term_syntax.specs.Tree.{Tree, Trees, variable, integer, compound, list, chain, trees, no_trees, more_trees}
 use Rattle.term_syntax.specs.View.{tree}
-use Rattle.akl_syntax.specs.Goals.{Goal, Part, call, lifted, parts}
+use Rattle.akl_syntax.specs.Goals.{Goal, Part, call, lifted, lifted_collect, parts}
 use Rattle.akl_syntax.specs.GoalView.{goal, goal_step, part_step}
 use Rattle.akl_syntax.specs.Sizes.{goal_size}
 use Rattle.term_syntax.specs.Sizes.{tree_size, trees_size}
@@ -50,3 +50,9 @@ call_bound g s v n e h =
 
 pub lifted_bound : (g : SourceGoal) (m : ℕ) (v : Vec ℕ Global) (n : ℕ) → g ≡ written.Lifted m v → goal_size (goal g) ≤ n → length v.items ≤ n
 lifted_bound g m v n e h = (let k : goal_size (lifted m v.items) ≤ n = rw (ap goal e ∙ lifted_is m v) at h in omega (arith, k))
+
+pub lifted_collect_is : (n : ℕ) (v : Vec ℕ Global) (r : SourceTerm) → goal (written.LiftedCollect n v r) ≡ lifted_collect n v.items (tree r)
+lifted_collect_is n v r = ap goal (sym (written.rolls-LiftedCollect n v r)) ∙ fold-roll-SourceGoal Goal Part goal_step part_step (open_goals.LiftedCollect n v r)
+
+pub lifted_collect_bound : (g : SourceGoal) (m : ℕ) (v : Vec ℕ Global) (r : SourceTerm) (n : ℕ) → g ≡ written.LiftedCollect m v r → goal_size (goal g) ≤ n → length v.items ≤ n
+lifted_collect_bound g m v r n e h = (let k : goal_size (lifted_collect m v.items (tree r)) ≤ n = rw (ap goal e ∙ lifted_collect_is m v r) at h in omega (arith, k))

@@ -1,6 +1,6 @@
--- A clause's goals, those inside of inline choices too, are no larger than the clause.
+-- A clause's goals, those inside of others too, are no larger than the clause.
 use Rattle.std.proofs.Common.{◌<◌, ◌≤◌, ℕ, zero, suc, List, [], ◌∷◌, ◌++◌, length, map, arith, get_or}
-use Rattle.akl_syntax.specs.Goals.{Goal, Goals, Parts, call, choice, lifted, no_goals, more_goals, no_parts, more_parts, goals}
+use Rattle.akl_syntax.specs.Goals.{Goal, Goals, Parts, call, choice, lifted, collect, lifted_collect, no_goals, more_goals, no_parts, more_parts, goals}
 use Rattle.akl_syntax.specs.Clauses.{Clause, Query}
 use Rattle.akl_syntax.specs.Sizes.{goal_size, goals_size, parts_size, clause_size, query_size}
 use Rattle.clause_checks.specs.Within.{goals_of, goals_of_all, goals_of_parts, goals_in, goals_asked}
@@ -18,6 +18,8 @@ mutual
   small_goal n (call s ts) h = (h, tt)
   small_goal n (choice ps) h = (h, small_parts n ps (omega (arith, h)))
   small_goal n (lifted m ms) h = (h, tt)
+  small_goal n (collect t gs r) h = (h, small_all n gs (omega (arith, h)))
+  small_goal n (lifted_collect m ms r) h = (h, tt)
 
   small_all : (n : ℕ) (gs : Goals) → goals_size gs ≤ n → AreSmall n (goals_of_all gs)
   small_all n no_goals h = tt

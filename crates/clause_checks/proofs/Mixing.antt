@@ -22,17 +22,25 @@ op_itself : (op : Op) → same_op op op ≡ true
 op_itself ops.Condition = refl
 op_itself ops.Commit = refl
 op_itself ops.Choice = refl
+op_itself ops.Collect = refl
 
 pub equal_ops : (op o : Op) → not (same_op op o) ≡ false → op ≡ o
 equal_ops ops.Condition ops.Condition e = refl
 equal_ops ops.Commit ops.Commit e = refl
 equal_ops ops.Choice ops.Choice e = refl
+equal_ops ops.Collect ops.Collect e = refl
 equal_ops ops.Condition ops.Commit e = absurd cc
 equal_ops ops.Condition ops.Choice e = absurd cc
 equal_ops ops.Commit ops.Condition e = absurd cc
 equal_ops ops.Commit ops.Choice e = absurd cc
 equal_ops ops.Choice ops.Condition e = absurd cc
 equal_ops ops.Choice ops.Commit e = absurd cc
+equal_ops ops.Condition ops.Collect e = absurd cc
+equal_ops ops.Commit ops.Collect e = absurd cc
+equal_ops ops.Choice ops.Collect e = absurd cc
+equal_ops ops.Collect ops.Condition e = absurd cc
+equal_ops ops.Collect ops.Commit e = absurd cc
+equal_ops ops.Collect ops.Choice e = absurd cc
 
 -- all have the operator
 abbrev pub HaveOp : Op → List Clause → Type 0

@@ -1,19 +1,24 @@
 -- The test whether two callees are the same, and an index of callees.
-use Rattle.std.proofs.Common.{◌≡◌, ◌⊎◌, inl, inr, ℕ, zero, suc, Bool, true, false, ◌&&◌, ◌||◌, ◌==◌, List, [], ◌∷◌, ◌++◌, length, Option, Some, None, is_some, refl, sym, ap, ◌∙◌}
+use Rattle.std.proofs.Common.{◌≡◌, ◌⊎◌, inl, inr, ℕ, zero, suc, Bool, true, false, not, ◌&&◌, ◌||◌, ◌==◌, List, [], ◌∷◌, ◌++◌, length, map, Option, Some, None, is_some, refl, sym, ap, ◌∙◌}
 use Rattle.std.specs.List.{list_any, slice_get}
 use Rattle.std.specs.Prelude.{IfSome, IfNone}
 use Rattle.std.specs.Str.{bytes_eq}
 use Rattle.std.proofs.lemmas.List.{length-map}
 use Rattle.std.proofs.lemmas.Slice.Eq.{bytes_eq-Decides}
 use Rattle.std.proofs.lemmas.Bool.Decides.{Decides-eqb}
+use mathlib.Core.Bool.{beq}
+use Rattle.akl_terms.specs.declared.program.Op.{Op}
+use Rattle.akl_terms.specs.declared.program.Op.TheVariants as ops
 use Rattle.term_syntax.specs.View.{tree}
 use Rattle.akl_syntax.specs.Answers.{clause_view}
+use Rattle.akl_syntax.specs.Goals.{Part}
+use Rattle.akl_syntax.proofs.PartTurns.{part_is}
 use Rattle.akl_syntax.specs.declared.source.SourceClause.{SourceClause}
 use Rattle.clause_keys.specs.declared.callee.Callee.{Callee}
-use Rattle.clause_keys.specs.declared.callee.Callee.TheVariants.{Named, Lifted}
-use Rattle.clause_keys.specs.Keys.{by_head, defined_by, Adds, IsAbsent, known, next}
+use Rattle.clause_keys.specs.declared.callee.Callee.TheVariants.{Named, Lifted, Collecting}
+use Rattle.clause_keys.specs.Keys.{named, lifted_by, by_head, defined_by, Adds, IsAbsent, known, next}
 use Rattle.clause_keys.proofs.Places.{get_front, get_last, get_split}
-use Rattle.clause_checks.specs.Rows.{is_callee}
+use Rattle.clause_checks.specs.Rows.{is_callee, same_op}
 use Rattle.clause_checks.specs.Tallies.{SameCallees}
 use Rattle.clause_checks.proofs.Lists.{list_any-push, neither, not_true, or_cases, or_true}
 
@@ -35,19 +40,70 @@ same_callee (Lifted m k) (Lifted n l) e =
     let x : m ≡ n = (Decides-eqb m n).0 p.0 in
     let y : k ≡ l = (Decides-eqb k l).0 p.1 in
     ap (λ z. Lifted z k) x ∙ ap (Lifted n) y
+same_callee (Collecting m k) (Collecting n l) e =
+    let p = and_true (m == n) (k == l) e in
+    let x : m ≡ n = (Decides-eqb m n).0 p.0 in
+    let y : k ≡ l = (Decides-eqb k l).0 p.1 in
+    ap (λ z. Collecting z k) x ∙ ap (Collecting n) y
 same_callee (Named k) (Lifted n l) e = absurd cc
 same_callee (Lifted m k) (Named l) e = absurd cc
+same_callee (Named k) (Collecting n l) e = absurd cc
+same_callee (Collecting m k) (Named l) e = absurd cc
+same_callee (Lifted m k) (Collecting n l) e = absurd cc
+same_callee (Collecting m k) (Lifted n l) e = absurd cc
 
 pub is_itself : (k : Callee) → is_callee k k ≡ true
 is_itself (Named k) = both (bytes_eq k.symbol k.symbol) (k.arity == k.arity) ((bytes_eq-Decides k.symbol k.symbol).1 refl) ((Decides-eqb k.arity k.arity).1 refl)
+is_itself (Collecting n k) = both (n == n) (k == k) ((Decides-eqb n n).1 refl) ((Decides-eqb k k).1 refl)
 is_itself (Lifted n k) = both (n == n) (k == k) ((Decides-eqb n n).1 refl) ((Decides-eqb k k).1 refl)
 
 pub other_callee : (k l : Callee) → (k ≡ l → ⊥) → is_callee k l ≡ false
 other_callee k l h = not_true (is_callee k l) (λ e. h (same_callee k l e))
 
-pub defines : (c : SourceClause) → defined_by (clause_view c) ≡ by_head c.head (length c.arguments.items)
+pub defines : (c : SourceClause) → defined_by (clause_view c) ≡ by_head c.part.op c.head (length c.arguments.items)
 unfolding defined_by
-defines c = ap (by_head c.head) (length-map c.arguments.items tree)
+defines c = ap (λ (p : Part). by_head p.op c.head (length (map tree c.arguments.items))) (part_is c.part) ∙ ap (by_head c.part.op c.head) (length-map c.arguments.items tree)
+
+-- ---- lifted definitions, by whether they collect
+abbrev by_kind : Bool → ℕ → ℕ → Callee
+by_kind true n k = Collecting n k
+by_kind false n k = Lifted n k
+
+lifted_kind : (op : Op) (n k : ℕ) → lifted_by op n k ≡ by_kind (same_op ops.Collect op) n k
+lifted_kind ops.Condition n k = refl
+lifted_kind ops.Commit n k = refl
+lifted_kind ops.Choice n k = refl
+lifted_kind ops.Collect n k = refl
+
+kinds_same : (a b : Bool) (m k n l : ℕ) → is_callee (by_kind a m k) (by_kind b n l) ≡ beq a b && (m == n && k == l)
+kinds_same true true m k n l = refl
+kinds_same true false m k n l = refl
+kinds_same false true m k n l = refl
+kinds_same false false m k n l = refl
+
+pub same_lifted : (o p : Op) (m k n l : ℕ) → is_callee (lifted_by o m k) (lifted_by p n l) ≡ beq (same_op ops.Collect o) (same_op ops.Collect p) && (m == n && k == l)
+same_lifted o p m k n l =
+    ap (λ (c : Callee). is_callee c (lifted_by p n l)) (lifted_kind o m k) ∙ ap (is_callee (by_kind (same_op ops.Collect o) m k)) (lifted_kind p n l) ∙ kinds_same (same_op ops.Collect o) (same_op ops.Collect p) m k n l
+
+not_swap : (c t : Bool) → not c ≡ t → c ≡ not t
+not_swap true t g = ap not g
+not_swap false t g = ap not g
+
+-- by the test whether both collect, or neither
+pub kinds_by_test : (a b x y t : Bool) → x ≡ a → y ≡ b → not (beq x y) ≡ t → beq a b ≡ not t
+kinds_by_test a b x y t e f g = not_swap (beq a b) t (ap (λ (z : Bool). not (beq z b)) (sym e) ∙ ap (λ (z : Bool). not (beq x z)) (sym f) ∙ g)
+
+pub lifted_not_named : (o : Op) (m k : ℕ) (s : List ℕ) (n : ℕ) → is_callee (lifted_by o m k) (named s n) ≡ false
+lifted_not_named ops.Condition m k s n = refl
+lifted_not_named ops.Commit m k s n = refl
+lifted_not_named ops.Choice m k s n = refl
+lifted_not_named ops.Collect m k s n = refl
+
+pub named_not_lifted : (o : Op) (s : List ℕ) (n m k : ℕ) → is_callee (named s n) (lifted_by o m k) ≡ false
+named_not_lifted ops.Condition s n m k = refl
+named_not_lifted ops.Commit s n m k = refl
+named_not_lifted ops.Choice s n m k = refl
+named_not_lifted ops.Collect s n m k = refl
 
 -- ---- an index has what is in the list, and nothing else
 pub record IsIndexOf (list callees : List Callee) : Type 0 where

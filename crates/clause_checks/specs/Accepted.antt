@@ -6,10 +6,9 @@ use Rattle.akl_syntax.specs.Clauses.{Clause, Query}
 use Rattle.clause_keys.specs.declared.callee.Callee.{Callee}
 use Rattle.clause_keys.specs.Keys.{defined_by}
 use Rattle.clause_keys.specs.Conditions.{AreLiftable, IsClauseLiftable}
-use Rattle.clause_checks.specs.Within.{goals_asked}
-use Rattle.clause_checks.specs.Rows.{own, first_wide_in_goal, first_wide_in_clause, key_if_reserved}
+use Rattle.clause_checks.specs.Rows.{own, first_wide_in_goals, first_wide_in_clause, key_if_reserved}
 
--- the clauses keep the limits, and can be loaded once their inline choices are taken out
+-- the clauses keep the limits, and can be loaded once they are lifted
 pub record AreAccepted (cs : List Clause) : Type 0 where
   pub few : length cs ≤ 10000
   -- of each definition there are at most 256
@@ -19,8 +18,8 @@ pub record AreAccepted (cs : List Clause) : Type 0 where
   pub narrow : All (λ c. first_wide_in_clause c ≡ None) cs
   pub unreserved : All (λ c. key_if_reserved c ≡ None) cs
 
--- the query keeps the limits, and can be loaded over these callees once its inline choices are taken out
+-- the query keeps the limits, and can be loaded over these callees once it is lifted
 pub record IsAccepted (callees : List Callee) (q : Query) : Type 0 where
   pub few : length q.names ≤ 256
   pub liftable : AreLiftable callees (goals q.goals)
-  pub narrow : All (λ g. first_wide_in_goal g ≡ None) (goals_asked q)
+  pub narrow : first_wide_in_goals (goals q.goals) ≡ None

@@ -3,7 +3,7 @@ use Rattle.std.specs.Prelude.{◌≡◌, ℕ, List, [], length, map, codes, Opti
 use Rattle.std.specs.List.{list_any}
 use Rattle.std.specs.Option.{option_or}
 use Rattle.akl_terms.specs.declared.program.Program.{Program}
-use Rattle.akl_syntax.specs.Goals.{Goal}
+use Rattle.akl_syntax.specs.Goals.{Goal, Goals, goals}
 use Rattle.akl_syntax.specs.Clauses.{Clause, Query}
 use Rattle.clause_keys.specs.declared.callee.Callee.{Callee}
 use Rattle.clause_keys.specs.Keys.{defined_by, called_by}
@@ -12,7 +12,7 @@ use Rattle.clause_checks.specs.declared.error.Limit.TheVariants.{Clauses, PerDef
 use Rattle.clause_checks.specs.declared.error.LoadError.{LoadError}
 use Rattle.clause_checks.specs.declared.error.LoadError.TheVariants.{MixedGuards, Undefined, Reserved, TooMany, Memory}
 use Rattle.clause_checks.specs.Within.{goals_in, goals_asked}
-use Rattle.clause_checks.specs.Rows.{first, above, with_before, too_many_parts, first_crowded_in_clause, first_wide_in_goal, first_wide_in_clause, key_if_reserved, mixed_choice, key_if_mixed, key_if_undefined, key}
+use Rattle.clause_checks.specs.Rows.{first, above, with_before, too_many_parts, first_crowded_in_clause, first_wide_in_goals, first_wide_in_clause, key_if_reserved, mixed_choice, key_if_mixed, key_if_undefined, key}
 
 abbrev pub too_many : Limit → Option ℕ → Option LoadError
 too_many what n = option_map (λ count. TooMany what count) n
@@ -46,7 +46,7 @@ refusal_of_few cs =
 unfoldable pub refusal_of : List Clause → Option LoadError
 refusal_of cs = option_or (too_many Clauses (above 10000 (length cs))) (refusal_of_few cs)
 
--- the tests of goals, those inside of inline choices too
+-- the tests of goals, those inside of others too
 abbrev pub parts_refusal : List Goal → Option LoadError
 parts_refusal gs = too_many PerDefinition (first too_many_parts gs)
 
@@ -54,8 +54,8 @@ parts_refusal gs = too_many PerDefinition (first too_many_parts gs)
 abbrev pub names_refusal : ℕ → Option LoadError
 names_refusal variables = too_many Variables (above 256 variables)
 
-abbrev pub wide_goals_refusal : List Goal → Option LoadError
-wide_goals_refusal gs = too_many Arity (first first_wide_in_goal gs)
+abbrev pub wide_goals_refusal : Goals → Option LoadError
+wide_goals_refusal gs = too_many Arity (first_wide_in_goals gs)
 
 abbrev pub mixed_goals_refusal : List Goal → Option LoadError
 mixed_goals_refusal gs = if list_any mixed_choice gs then Some (MixedGuards (key (codes "") 0)) else None
@@ -63,13 +63,13 @@ mixed_goals_refusal gs = if list_any mixed_choice gs then Some (MixedGuards (key
 abbrev pub undefined_goals_refusal : List Callee → List Goal → Option LoadError
 undefined_goals_refusal callees gs = option_map Undefined (first (key_if_undefined callees) gs)
 
--- why goals with so many variables aren't loaded over these callees, where they aren't
-unfoldable pub goals_refusal : List Callee → ℕ → List Goal → Option LoadError
-goals_refusal callees variables gs = option_or (parts_refusal gs) (option_or (names_refusal variables) (option_or (wide_goals_refusal gs) (option_or (mixed_goals_refusal gs) (undefined_goals_refusal callees gs))))
+-- why goals with so many variables aren't loaded over these callees, where they aren't; the second are these and those inside of them
+unfoldable pub goals_refusal : List Callee → ℕ → Goals → List Goal → Option LoadError
+goals_refusal callees variables asked gs = option_or (parts_refusal gs) (option_or (names_refusal variables) (option_or (wide_goals_refusal asked) (option_or (mixed_goals_refusal gs) (undefined_goals_refusal callees gs))))
 
 -- why a query isn't loaded over a program, where it isn't
 unfoldable pub query_refusal_of : Program → Query → Option LoadError
-query_refusal_of p q = goals_refusal (map called_by p.definitions) (length q.names) (goals_asked q)
+query_refusal_of p q = goals_refusal (map called_by p.definitions) (length q.names) (goals q.goals) (goals_asked q)
 
 -- the answer is this refusal, or none where there is none; want of memory is free
 abbrev pub Answers : Option LoadError → Result (Unit {0}) LoadError → Type 0

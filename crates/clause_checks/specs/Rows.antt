@@ -8,11 +8,12 @@ use Rattle.akl_terms.specs.declared.program.Op.TheVariants as ops
 use Rattle.akl_syntax.specs.declared.source.Head.{Head}
 use Rattle.akl_syntax.specs.declared.source.Head.TheVariants as heads
 use Rattle.term_syntax.specs.Tree.{Tree, Trees, Tail, Steps, variable, integer, compound, list, chain, no_trees, more_trees, no_tail, tail, no_steps, more_steps, trees}
-use Rattle.akl_syntax.specs.Goals.{Goal, Parts, call, choice, lifted, no_parts, more_parts}
+use Rattle.akl_syntax.specs.Goals.{Goal, Goals, Parts, call, choice, lifted, collect, lifted_collect, goals, no_goals, more_goals, no_parts, more_parts}
 use Rattle.akl_syntax.specs.Clauses.{Clause}
 use Rattle.clause_keys.specs.declared.callee.Callee.{Callee}
-use Rattle.clause_keys.specs.declared.callee.Callee.TheVariants.{Named, Lifted}
+use Rattle.clause_keys.specs.declared.callee.Callee.TheVariants.{Named, Lifted, Collecting}
 use Rattle.clause_keys.specs.Reserved.{reserved_of}
+use Rattle.clause_keys.specs.Reserved as keys
 use Rattle.clause_keys.specs.Keys.{named, key_of, defined_by}
 use Rattle.clause_keys.specs.Conditions.{count, count_parts}
 use Rattle.clause_checks.specs.Within.{goals_in}
@@ -29,6 +30,7 @@ above limit n = if nat_lt limit n then Some n else None
 abbrev pub is_callee : Callee → Callee → Bool
 is_callee (Named k) (Named l) = bytes_eq k.symbol l.symbol && k.arity == l.arity
 is_callee (Lifted m k) (Lifted n l) = m == n && k == l
+is_callee (Collecting m k) (Collecting n l) = m == n && k == l
 is_callee _ _ = false
 
 -- the clauses of the clause's definition among some
@@ -78,17 +80,35 @@ abbrev mutual
 abbrev pub first_wide_in_arguments : Trees → Option ℕ
 first_wide_in_arguments ts = option_or (above 32 (count ts)) (first_wide_in_terms ts)
 
--- an inline choice has no arguments of its own, and those of a lifted goal aren't written
-abbrev pub first_wide_in_goal : Goal → Option ℕ
-first_wide_in_goal (call s ts) = first_wide_in_arguments ts
-first_wide_in_goal g = None
+-- goals inside of others come in the order of the text; the arguments of a lifted goal aren't written
+abbrev mutual
+  pub first_wide_in_goal : Goal → Option ℕ
+  first_wide_in_goal (call s ts) = first_wide_in_arguments ts
+  first_wide_in_goal (choice ps) = first_wide_in_parts ps
+  first_wide_in_goal (lifted n ns) = None
+  first_wide_in_goal (collect t gs r) = option_or (first_wide_in_term t) (option_or (first_wide_in_goals gs) (first_wide_in_term r))
+  first_wide_in_goal (lifted_collect n ns r) = first_wide_in_term r
+
+  pub first_wide_in_goals : Goals → Option ℕ
+  first_wide_in_goals no_goals = None
+  first_wide_in_goals (more_goals g gs) = option_or (first_wide_in_goal g) (first_wide_in_goals gs)
+
+  pub first_wide_in_parts : Parts → Option ℕ
+  first_wide_in_parts no_parts = None
+  first_wide_in_parts (more_parts gs op hs ps) = option_or (option_or (first_wide_in_goals gs) (first_wide_in_goals hs)) (first_wide_in_parts ps)
+
+abbrev pub first_wide_in_collected : Option Tree → Option ℕ
+first_wide_in_collected None = None
+first_wide_in_collected (Some t) = first_wide_in_term t
 
 abbrev pub wide_head_arity : Head → ℕ → Option ℕ
 wide_head_arity (heads.Named s) n = above 32 n
 wide_head_arity (heads.Lifted number inside) n = None
 
 abbrev pub first_wide_in_clause : Clause → Option ℕ
-first_wide_in_clause c = option_or (wide_head_arity c.head (length c.arguments)) (option_or (first_wide_in_terms (trees c.arguments)) (first first_wide_in_goal (goals_in c)))
+first_wide_in_clause c =
+    option_or (wide_head_arity c.head (length c.arguments))
+    (option_or (first_wide_in_terms (trees c.arguments)) (option_or (first_wide_in_collected c.collected) (option_or (first_wide_in_goals (goals c.part.guard)) (first_wide_in_goals (goals c.part.body)))))
 
 -- ---- keys, and reserved heads
 
@@ -99,7 +119,7 @@ abbrev pub clause_key : Clause → Key
 clause_key c = key_of c.head (length c.arguments)
 
 abbrev pub is_reserved : Head → ℕ → Bool
-is_reserved (heads.Named s) n = is_some (reserved_of s n)
+is_reserved (heads.Named s) n = keys.is_reserved s n
 is_reserved (heads.Lifted number inside) n = false
 
 abbrev pub key_if_reserved : Clause → Option Key
@@ -111,6 +131,7 @@ abbrev pub same_op : Op → Op → Bool
 same_op ops.Condition ops.Condition = true
 same_op ops.Commit ops.Commit = true
 same_op ops.Choice ops.Choice = true
+same_op ops.Collect ops.Collect = true
 same_op _ _ = false
 
 -- an earlier clause of the definition has another operator
@@ -134,13 +155,17 @@ key_if_mixed x = if mixed_definition x || list_any mixed_choice (goals_in x.1) t
 abbrev pub is_defined : List Callee → Goal → Bool
 is_defined callees (call s ts) = is_some (reserved_of s (count ts)) || list_any (is_callee (named s (count ts))) callees
 is_defined callees (lifted n ns) = list_any (is_callee (Lifted n (length ns))) callees
+is_defined callees (lifted_collect n ns r) = list_any (is_callee (Collecting n (length ns))) callees
 is_defined callees (choice ps) = true
+is_defined callees (collect t gs r) = true
 
--- the key that a refusal names: a definition that was made of an inline choice has no symbol
+-- the key that a refusal names: a lifted definition has no symbol
 abbrev pub goal_key : Goal → Key
 goal_key (call s ts) = key s (count ts)
 goal_key (lifted n ns) = key [] (length ns)
+goal_key (lifted_collect n ns r) = key [] (length ns)
 goal_key (choice ps) = key [] 0
+goal_key (collect t gs r) = key [] 0
 
 abbrev pub key_if_undefined : List Callee → Goal → Option Key
 key_if_undefined callees g = if is_defined callees g then None else Some (goal_key g)

@@ -1,6 +1,6 @@
--- The goals of a clause or a query in the order of the text, those inside of inline choices too.
+-- The goals of a clause or a query in the order of the text, those inside of others too.
 use Rattle.std.specs.Prelude.{List, [], ◌∷◌, ◌++◌}
-use Rattle.akl_syntax.specs.Goals.{Goal, Goals, Parts, call, choice, lifted, no_goals, more_goals, no_parts, more_parts, goals}
+use Rattle.akl_syntax.specs.Goals.{Goal, Goals, Parts, call, choice, lifted, collect, lifted_collect, no_goals, more_goals, no_parts, more_parts, goals}
 use Rattle.akl_syntax.specs.Clauses.{Clause, Query}
 
 abbrev mutual
@@ -8,6 +8,8 @@ abbrev mutual
   goals_of (call s ts) = call s ts ∷ []
   goals_of (choice ps) = choice ps ∷ goals_of_parts ps
   goals_of (lifted n ns) = lifted n ns ∷ []
+  goals_of (collect t gs r) = collect t gs r ∷ goals_of_all gs
+  goals_of (lifted_collect n ns r) = lifted_collect n ns r ∷ []
 
   pub goals_of_all : Goals → List Goal
   goals_of_all no_goals = []

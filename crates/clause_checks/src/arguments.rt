@@ -1,16 +1,18 @@
 //! Terms and atoms with too many arguments.
 
-ghost use Rattle.std.specs.Prelude.{◌≡◌, map, length};
-ghost use Rattle.std.specs.List.{All};
+ghost use Rattle.std.specs.Prelude.{◌≡◌, map, length, option_map};
+ghost use Rattle.std.specs.Option.{option_or};
 ghost use Rattle.term_syntax.specs.Tree.{trees, steps};
 ghost use Rattle.term_syntax.specs.View.{tree, step};
-ghost use Rattle.akl_syntax.specs.GoalView.{goal};
-ghost use Rattle.clause_checks.specs.Rows.{first, first_wide_in_term, first_wide_in_terms, first_wide_in_steps, first_wide_in_arguments, first_wide_in_goal, wide_head_arity, first_wide_in_clause};
-ghost use Rattle.clause_checks.specs.Tallies.{HasGoals, clause_of};
+ghost use Rattle.akl_syntax.specs.Answers.{clause_view};
+ghost use Rattle.akl_syntax.specs.Goals.{goals, parts};
+ghost use Rattle.akl_syntax.specs.GoalView.{goal, part};
+ghost use Rattle.clause_checks.specs.Rows.{first, first_wide_in_term, first_wide_in_terms, first_wide_in_steps, first_wide_in_arguments, first_wide_in_goal, first_wide_in_goals, first_wide_in_parts, first_wide_in_collected, wide_head_arity, first_wide_in_clause};
+ghost use Rattle.clause_checks.specs.Tallies.{clause_of};
 
 use crate::limits::{ARGUMENTS, above};
 use crate::listed::Listed;
-use akl_syntax::{Head, SourceClause, SourceGoal, SourceStep, SourceTerm};
+use akl_syntax::{Head, SourceClause, SourceGoal, SourcePart, SourceStep, SourceTerm};
 
 /// How many arguments the first term with too many has, the outer one first.
 #[cycle(terms)]
@@ -77,21 +79,36 @@ fn first_wide_in_steps(operands: &[SourceStep]) -> Option<usize>
     None
 }
 
-/// How many arguments a call or the first term in it with too many has. The goals of an inline choice
-/// aren't looked at.
+/// How many arguments the first atom or term in the goal with too many has, in the order of the text.
+#[cycle(goals)]
 fn first_wide_in_goal(written: &SourceGoal) -> Option<usize>
     ensures { result ≡ first_wide_in_goal (goal written.now) }
 {
     match written {
         SourceGoal::Call { arguments, .. } => first_wide_in_arguments(arguments),
-        SourceGoal::Choice(_) => None,
+        SourceGoal::Choice(parts) => first_wide_in_parts(parts),
+        SourceGoal::Collect {
+            collected,
+            goals,
+            result: list,
+        } => {
+            if let Some(count) = first_wide_in_term(collected) {
+                return Some(count);
+            }
+            if let Some(count) = first_wide_in_goals(goals) {
+                return Some(count);
+            }
+            first_wide_in_term(list)
+        }
         SourceGoal::Lifted { .. } => None,
+        SourceGoal::LiftedCollect { result: list, .. } => first_wide_in_term(list),
     }
 }
 
 /// How many arguments the first atom or term in the goals with too many has.
-pub fn first_wide_in_goals(written: &[&SourceGoal]) -> Option<usize>
-    ensures { result ≡ first first_wide_in_goal (map (λ g. goal g.now) written.now) }
+#[cycle(goals)]
+pub fn first_wide_in_goals(written: &[SourceGoal]) -> Option<usize>
+    ensures { result ≡ first_wide_in_goals (goals (map goal written.now)) }
 {
     for goal in written {
         if let Some(count) = first_wide_in_goal(goal) {
@@ -101,8 +118,32 @@ pub fn first_wide_in_goals(written: &[&SourceGoal]) -> Option<usize>
     None
 }
 
-/// How many arguments the head has, where it has too many. Those of a definition that was made of an
-/// inline choice aren't written.
+/// How many arguments the first atom or term in the parts with too many has.
+#[cycle(goals)]
+fn first_wide_in_parts(written: &[SourcePart]) -> Option<usize>
+    ensures { result ≡ first_wide_in_parts (parts (map part written.now)) }
+{
+    for part in written {
+        if let Some(count) = first_wide_in_part(part) {
+            return Some(count);
+        }
+    }
+    None
+}
+
+/// How many arguments the first atom or term in the part with too many has.
+#[cycle(goals)]
+fn first_wide_in_part(written: &SourcePart) -> Option<usize>
+    ensures { result ≡ option_or (first_wide_in_goals (goals (map goal written.now.guard.items))) (first_wide_in_goals (goals (map goal written.now.body.items))) }
+{
+    if let Some(count) = first_wide_in_goals(&written.guard) {
+        return Some(count);
+    }
+    first_wide_in_goals(&written.body)
+}
+
+/// How many arguments the head has, where it has too many. Those of a lifted definition aren't
+/// written.
 fn wide_head_arity(clause: &SourceClause) -> Option<usize>
     ensures { result ≡ wide_head_arity clause.now.head (length clause.now.arguments.items) }
 {
@@ -112,27 +153,38 @@ fn wide_head_arity(clause: &SourceClause) -> Option<usize>
     }
 }
 
-/// How many arguments the first atom or term in the clause with too many has.
-fn first_wide_in_clause(listed: &Listed) -> Option<usize>
-    requires { HasGoals listed.now }
-    ensures { result ≡ first_wide_in_clause (clause_of listed.now) }
+/// How many arguments the first term in what the clause collects with too many has.
+fn first_wide_in_collected(collected: &Option<SourceTerm>) -> Option<usize>
+    ensures { result ≡ first_wide_in_collected (option_map tree collected.now) }
 {
-    if let Some(count) = wide_head_arity(listed.clause) {
+    match collected {
+        Some(term) => first_wide_in_term(term),
+        None => None,
+    }
+}
+
+/// How many arguments the first atom or term in the clause with too many has.
+fn first_wide_in_clause(clause: &SourceClause) -> Option<usize>
+    ensures { result ≡ first_wide_in_clause (clause_view clause.now) }
+{
+    if let Some(count) = wide_head_arity(clause) {
         return Some(count);
     }
-    if let Some(count) = first_wide_in_terms(&listed.clause.arguments) {
+    if let Some(count) = first_wide_in_terms(&clause.arguments) {
         return Some(count);
     }
-    first_wide_in_goals(&listed.goals)
+    if let Some(count) = first_wide_in_collected(&clause.collected) {
+        return Some(count);
+    }
+    first_wide_in_part(&clause.part)
 }
 
 /// How many arguments the first atom or term with too many has.
 pub fn first_wide(listed: &[Listed]) -> Option<usize>
-    requires { All HasGoals listed.now }
     ensures { result ≡ first first_wide_in_clause (map clause_of listed.now) }
 {
     for clause in listed {
-        if let Some(count) = first_wide_in_clause(clause) {
+        if let Some(count) = first_wide_in_clause(clause.clause) {
             return Some(count);
         }
     }

@@ -12,8 +12,7 @@ use crate::listed::Listed;
 use akl_syntax::SourceGoal;
 use clause_keys::{Callees, meaning_of};
 
-/// Whether the goal is reserved, calls one of the callees, or is an inline choice. The goals in an inline
-/// choice aren't looked at.
+/// Whether the goal is reserved, calls one of the callees, or has others inside, which aren't looked at.
 fn is_defined(callees: &Callees, written: &SourceGoal) -> bool
     requires { goal_size (goal written.now) ≤ 1000000 }
     ensures { result ≡ is_defined callees.now (goal written.now) }
@@ -25,9 +24,17 @@ fn is_defined(callees: &Callees, written: &SourceGoal) -> bool
                 || callees.named(symbol, arguments.len() as u32).is_some()
         }
         SourceGoal::Choice(_) => true,
+        SourceGoal::Collect { .. } => true,
         SourceGoal::Lifted { number, arguments } => {
             callees.lifted(*number, arguments.len() as u32).is_some()
         }
+        SourceGoal::LiftedCollect {
+            number,
+            arguments,
+            ..
+        } => callees
+            .collecting(*number, arguments.len() as u32)
+            .is_some(),
     }
 }
 

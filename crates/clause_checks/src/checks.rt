@@ -3,10 +3,11 @@
 ghost use Rattle.std.specs.Prelude.{◌≡◌, ◌<◌, ◌≤◌, [], map, length, option_map, OnOk, IfSome};
 ghost use Rattle.std.specs.List.{All};
 ghost use Rattle.akl_syntax.specs.Answers.{clause_view, query_view};
+ghost use Rattle.akl_syntax.specs.Goals.{goals};
 ghost use Rattle.akl_syntax.specs.GoalView.{goal};
 ghost use Rattle.akl_syntax.specs.Sizes.{clause_size, clauses_size, goal_size, query_size};
 ghost use Rattle.clause_keys.specs.Keys.{defined_by, called_by, AreUnique};
-ghost use Rattle.clause_keys.specs.Conditions.{HasNoChoice, IsLoadable, IsClauseLoadable, AreUnmixed};
+ghost use Rattle.clause_keys.specs.Conditions.{HasNoNested, IsLoadable, MayCollect, IsClauseLoadable, AreUnmixed};
 ghost use Rattle.clause_checks.specs.declared.error.LoadError.TheVariants.{Undefined};
 ghost use Rattle.clause_checks.specs.Rows.{first, above, goal_key};
 ghost use Rattle.clause_checks.specs.Tallies.{AreListed, HasGoals, SameCallees, clause_of};
@@ -57,7 +58,6 @@ fn few_variables(listed: &[Listed]) -> Result<(), LoadError>
 
 /// Refuses an atom or a term with too many arguments.
 fn none_wide(listed: &[Listed]) -> Result<(), LoadError>
-    requires { All HasGoals listed.now }
     ensures { Answers (wide_refusal (map clause_of listed.now)) result }
 {
     none_above(Limit::Arity, first_wide(listed))
@@ -136,8 +136,8 @@ fn few_names(variables: usize) -> Result<(), LoadError>
 }
 
 /// Refuses an atom or a term with too many arguments.
-fn no_wide_goal(written: &[&SourceGoal]) -> Result<(), LoadError>
-    ensures { Answers (wide_goals_refusal (map (λ g. goal g.now) written.now)) result }
+fn no_wide_goal(written: &[SourceGoal]) -> Result<(), LoadError>
+    ensures { Answers (wide_goals_refusal (goals (map goal written.now))) result }
 {
     none_above(Limit::Arity, first_wide_in_goals(written))
 }
@@ -154,24 +154,25 @@ fn no_mixed_goal(alloc: Global, written: &[&SourceGoal]) -> Result<(), LoadError
     Ok(())
 }
 
-/// Makes the tests of goals, those inside of inline choices too, with so many variables.
+/// Makes the tests of goals with so many variables. `written` are these and those inside of them.
 fn check_written(
     alloc: Global,
     callees: &Callees,
     variables: usize,
+    asked: &[SourceGoal],
     written: &[&SourceGoal],
 ) -> Result<(), LoadError>
     requires { All (λ g. goal_size (goal g.now) ≤ 1000000) written.now }
-    ensures { Answers (goals_refusal callees.now variables (map (λ g. goal g.now) written.now)) result }
+    ensures { Answers (goals_refusal callees.now variables (goals (map goal asked.now)) (map (λ g. goal g.now) written.now)) result }
 {
     few_parts(written)?;
     few_names(variables)?;
-    no_wide_goal(written)?;
+    no_wide_goal(asked)?;
     no_mixed_goal(alloc, written)?;
     none_undefined(alloc, first_undefined_goal(callees, written))
 }
 
-/// Whether clauses can be loaded, once their inline choices are taken out.
+/// Whether clauses can be loaded, once they are lifted.
 ///
 /// The tests are made in this order. In each the first clause in the order of the text decides, and in it
 /// the first place from left to right:
@@ -190,7 +191,7 @@ pub fn check_clauses(alloc: Global, clauses: &[SourceClause]) -> Result<(), Load
     requires small { clauses_size (map clause_view clauses.now) ≤ 1000000 }
     ensures checked { Answers (refusal_of (map clause_view clauses.now)) result }
     ensures accepted { OnOk result (AreAccepted (map clause_view clauses.now)) }
-    ensures loadable { OnOk result (All (λ c. HasNoChoice c.part.guard → HasNoChoice c.part.body → IsClauseLoadable (map defined_by (map clause_view clauses.now)) c) (map clause_view clauses.now)) }
+    ensures loadable { OnOk result (All (λ c. HasNoNested c.part.guard → HasNoNested c.part.body → MayCollect c.part.op c.head c.collected c.part.body → IsClauseLoadable (map defined_by (map clause_view clauses.now)) c) (map clause_view clauses.now)) }
     ensures unmixed { OnOk result (AreUnmixed (map clause_view clauses.now)) }
 {
     none_above(Limit::Clauses, above(CLAUSES, clauses.len()))?;
@@ -198,7 +199,7 @@ pub fn check_clauses(alloc: Global, clauses: &[SourceClause]) -> Result<(), Load
     check_listed(alloc, &listing.callees, listing.clauses.as_slice())
 }
 
-/// Whether a query can be loaded over a program, once its inline choices are taken out.
+/// Whether a query can be loaded over a program, once it is lifted.
 ///
 /// The tests are made in this order. In each the first place from left to right decides:
 /// - `TooMany` of `PerDefinition`: an inline choice has more than 256 parts, with their number;
@@ -215,10 +216,16 @@ pub fn check_goals(alloc: Global, program: &Program, query: &SourceQuery) -> Res
     requires unique { AreUnique (map called_by program.now.definitions) }
     ensures checked { Answers (query_refusal_of program.now (query_view query.now)) result }
     ensures accepted { OnOk result (IsAccepted (map called_by program.now.definitions) (query_view query.now)) }
-    ensures loadable { OnOk result (HasNoChoice (query_view query.now).goals → All (IsLoadable (map called_by program.now.definitions)) (query_view query.now).goals) }
+    ensures loadable { OnOk result (HasNoNested (query_view query.now).goals → All (IsLoadable (map called_by program.now.definitions)) (query_view query.now).goals) }
     ensures few { OnOk result (length query.now.names.items ≤ 256) }
 {
-    let goals = goals_asked(alloc, query)?;
+    let written = goals_asked(alloc, query)?;
     let callees = Callees::of_definitions(alloc, program.definitions.as_slice())?;
-    check_written(alloc, &callees, query.names.len(), goals.as_slice())
+    check_written(
+        alloc,
+        &callees,
+        query.names.len(),
+        &query.goals,
+        written.as_slice(),
+    )
 }

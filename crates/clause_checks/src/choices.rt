@@ -17,7 +17,9 @@ fn too_many_parts(written: &SourceGoal) -> Option<usize>
     match written {
         SourceGoal::Choice(parts) => above(ALTERNATIVES, parts.len()),
         SourceGoal::Call { .. } => None,
+        SourceGoal::Collect { .. } => None,
         SourceGoal::Lifted { .. } => None,
+        SourceGoal::LiftedCollect { .. } => None,
     }
 }
 
@@ -55,7 +57,9 @@ fn mixed_choice(written: &SourceGoal) -> bool
             None => false,
         },
         SourceGoal::Call { .. } => false,
+        SourceGoal::Collect { .. } => false,
         SourceGoal::Lifted { .. } => false,
+        SourceGoal::LiftedCollect { .. } => false,
     }
 }
 

@@ -2,6 +2,7 @@
 
 ghost use Rattle.std.specs.Prelude.{◌≡◌, ◌≤◌, ◌||◌, not, [], List, map, length, option_map, IfSome, IfNone};
 ghost use Rattle.std.specs.List.{All, list_any};
+ghost use Rattle.akl_terms.specs.declared.program.Op.TheVariants as ops;
 ghost use Rattle.akl_syntax.specs.Answers.{clause_view};
 ghost use Rattle.akl_syntax.specs.Clauses.{Clause};
 ghost use Rattle.akl_syntax.specs.Sizes.{clause_size};
@@ -15,6 +16,14 @@ use crate::choices::{first_crowded_choice, mixed_goals};
 use crate::limits::ALTERNATIVES;
 use crate::listed::Listed;
 use akl_syntax::{Head, SourceClause};
+use akl_terms::Op;
+
+/// Whether the clause is of a definition that collects.
+fn collects(clause: &SourceClause) -> bool
+    ensures { result ≡ same_op ops.Collect clause.now.part.op }
+{
+    clause.part.op == Op::Collect
+}
 
 /// Whether both clauses are of one definition.
 fn same_definition(clause: &SourceClause, other: &SourceClause) -> bool
@@ -29,6 +38,9 @@ fn same_definition(clause: &SourceClause, other: &SourceClause) -> bool
         },
         Head::Lifted { number, .. } => match &other.head {
             Head::Lifted { number: found, .. } => {
+                if collects(clause) != collects(other) {
+                    return false;
+                }
                 number == found && clause.arguments.len() == other.arguments.len()
             }
             Head::Named(_) => false,

@@ -1,4 +1,4 @@
-//! The goals of a clause or a query in the order of the text, those inside of inline choices too.
+//! The goals of a clause or a query in the order of the text, those inside of others too.
 
 ghost use Rattle.std.specs.Prelude.{◌≡◌, ◌++◌, map, IfOk, OnOk};
 ghost use Rattle.akl_syntax.specs.Goals.{goals, parts};
@@ -17,8 +17,10 @@ fn add_goal<'a>(written: &'a SourceGoal, found: &mut Vec<&'a SourceGoal>) -> Res
     found.push(written)?;
     match written {
         SourceGoal::Choice(parts) => add_parts(parts, found),
+        SourceGoal::Collect { goals, .. } => add_goals(goals, found),
         SourceGoal::Call { .. } => Ok(()),
         SourceGoal::Lifted { .. } => Ok(()),
+        SourceGoal::LiftedCollect { .. } => Ok(()),
     }
 }
 

@@ -9,14 +9,14 @@ ghost use Rattle.clause_checks.specs.Tallies.{clause_of};
 
 use crate::listed::Listed;
 use akl_syntax::{Head, SourceClause};
-use clause_keys::meaning_of;
+use clause_keys::is_reserved as is_reserved_key;
 
 /// Whether the clause's head is reserved.
 fn is_reserved(clause: &SourceClause) -> bool
     ensures { result ≡ is_reserved clause.now.head (length clause.now.arguments.items) }
 {
     match &clause.head {
-        Head::Named(symbol) => meaning_of(symbol.as_str(), clause.arguments.len()).is_some(),
+        Head::Named(symbol) => is_reserved_key(symbol.as_str(), clause.arguments.len()),
         Head::Lifted { .. } => false,
     }
 }

@@ -10,8 +10,7 @@ use akl_syntax::{Head, SourceClause, SourceGoal};
 use akl_terms::{Key, Text};
 use std::alloc::{AllocError, Global};
 
-/// The key of what the clause defines. Of a definition that was made of an inline choice it is that of
-/// the definition around it.
+/// The key of what the clause defines. Of a lifted definition it is that of the definition around it.
 pub fn clause_key(clause: &SourceClause) -> Result<Key, AllocError>
     requires { clause_size (clause_view clause.now) ≤ 1000000 }
     ensures { IfOk result (λ k. k ≡ clause_key (clause_view clause.now)) }
@@ -28,8 +27,8 @@ pub fn clause_key(clause: &SourceClause) -> Result<Key, AllocError>
     }
 }
 
-/// The key of what the goal calls. An inline choice, and a definition that was made of one, have the
-/// empty symbol.
+/// The key of what the goal calls. An inline choice, a collecting goal and what was made of one have
+/// the empty symbol.
 pub fn goal_key(alloc: Global, written: &SourceGoal) -> Result<Key, AllocError>
     requires { goal_size (goal written.now) ≤ 1000000 }
     ensures { IfOk result (λ k. k ≡ goal_key (goal written.now)) }
@@ -40,7 +39,9 @@ pub fn goal_key(alloc: Global, written: &SourceGoal) -> Result<Key, AllocError>
             arity: arguments.len() as u32,
         }),
         SourceGoal::Choice(_) => Ok(no_key(alloc, 0)),
+        SourceGoal::Collect { .. } => Ok(no_key(alloc, 0)),
         SourceGoal::Lifted { arguments, .. } => Ok(no_key(alloc, arguments.len() as u32)),
+        SourceGoal::LiftedCollect { arguments, .. } => { Ok(no_key(alloc, arguments.len() as u32)) }
     }
 }
 

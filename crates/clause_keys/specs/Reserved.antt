@@ -1,5 +1,5 @@
 -- The goals that have a meaning of their own.
-use Rattle.std.specs.Prelude.{ℕ, ◌==◌, List, Option, Some, None, if◌then◌else◌, bytes_eq, codes}
+use Rattle.std.specs.Prelude.{ℕ, ◌==◌, ◌&&◌, ◌||◌, Bool, List, Option, Some, None, is_some, if◌then◌else◌, bytes_eq, codes}
 use Rattle.akl_terms.specs.declared.program.Test.TheVariants as tests
 use Rattle.clause_keys.specs.declared.reserved.Reserved.{Reserved}
 use Rattle.clause_keys.specs.declared.reserved.Reserved.TheVariants.{True, Fail, Equal, Arith, OpenPort, Send}
@@ -29,3 +29,7 @@ with_two s =
 -- the reserved meaning of a goal of this symbol with so many arguments
 unfoldable pub reserved_of : List ℕ → ℕ → Option Reserved
 reserved_of s n = if n == 0 then without_arguments s else if n == 2 then with_two s else None
+
+-- no clause may define this: a goal of it is reserved, or it would be a collecting goal
+abbrev pub is_reserved : List ℕ → ℕ → Bool
+is_reserved s n = is_some (reserved_of s n) || bytes_eq s (codes "bagof") && n == 3

@@ -3,12 +3,12 @@
 ghost use Rattle.std.specs.Prelude.{◌≡◌, ◌<◌, ◌≤◌, ◌+◌, IfOk, OnErr, IfSome, IfNone, Some, length, map, slice_get, []};
 ghost use Rattle.akl_syntax.specs.Answers.{clause_view};
 ghost use Rattle.akl_syntax.specs.Sizes.{clause_size};
-ghost use Rattle.clause_keys.specs.Keys.{named, IsAbsent, AreUnique, Adds, defined_by, called_by, arity_of};
-ghost use Rattle.clause_keys.specs.declared.callee.Callee.TheVariants.{Lifted};
+ghost use Rattle.clause_keys.specs.Keys.{named, lifted_by, IsAbsent, AreUnique, Adds, defined_by, called_by, arity_of};
+ghost use Rattle.clause_keys.specs.declared.callee.Callee.TheVariants.{Lifted, Collecting};
 
 use crate::callee::Callee;
 use akl_syntax::{Head, SourceClause};
-use akl_terms::{Clause, Definition, Key, Templates, Text};
+use akl_terms::{Clause, Definition, Key, Op, Templates, Text};
 use std::alloc::{AllocError, Global};
 use std::collections::BTreeMap;
 use std::marker::Model;
@@ -22,6 +22,8 @@ pub struct Callees {
     named: BTreeMap<(u32, u32), u32>,
     /// The numbers by the number of the definition and its number of arguments.
     lifted: BTreeMap<(u32, u32), u32>,
+    /// The same of definitions that collect.
+    collecting: BTreeMap<(u32, u32), u32>,
 }
 
 impl Model for Callees {
@@ -56,6 +58,7 @@ impl Callees {
             symbols: Templates::new(alloc),
             named: BTreeMap::new(alloc),
             lifted: BTreeMap::new(alloc),
+            collecting: BTreeMap::new(alloc),
         }
     }
 
@@ -89,6 +92,14 @@ impl Callees {
         self.lifted.get(&(number, arity)).copied()
     }
 
+    /// The number of the definition that was made of a collecting goal, with so many arguments, where it has one.
+    pub fn collecting(&self, number: u32, arity: u32) -> Option<u32>
+        ensures found { IfSome result (λ d. slice_get self.now d ≡ Some (Collecting number arity)) }
+        ensures absent { IfNone result (IsAbsent self.now (Collecting number arity)) }
+    {
+        self.collecting.get(&(number, arity)).copied()
+    }
+
     /// The number of the symbol with so many arguments: the one that it has, else the next.
     pub fn add_named(&mut self, symbol: &str, arity: u32) -> Result<u32, AllocError>
         requires { length self.old < 4294967295 }
@@ -116,6 +127,33 @@ impl Callees {
         }
     }
 
+    /// The number of the definition that was made of a collecting goal, with so many arguments: the one that it has,
+    /// else the next.
+    pub fn add_collecting(&mut self, number: u32, arity: u32) -> Result<u32, AllocError>
+        requires { length self.old < 4294967295 }
+        ensures ok { IfOk result (λ d. Adds self.old (Collecting number arity) self.new d) }
+        ensures grown { length self.new ≤ length self.old + 1 }
+        ensures err { OnErr result (self.new ≡ self.old) }
+    {
+        match self.collecting(number, arity) {
+            Some(found) => Ok(found),
+            None => self.append_collecting(number, arity),
+        }
+    }
+
+    // The number of the lifted definition that has this operator and so many arguments.
+    fn add_lifted_by(&mut self, op: Op, number: u32, arity: u32) -> Result<u32, AllocError>
+        requires { length self.old < 4294967295 }
+        ensures ok { IfOk result (λ d. Adds self.old (lifted_by op number arity) self.new d) }
+        ensures grown { length self.new ≤ length self.old + 1 }
+        ensures err { OnErr result (self.new ≡ self.old) }
+    {
+        match op {
+            Op::Collect => self.add_collecting(number, arity),
+            Op::Condition | Op::Commit | Op::Choice => self.add_lifted(number, arity),
+        }
+    }
+
     /// The number of what a clause defines: the one that it has, else the next.
     pub fn add_clause(&mut self, clause: &SourceClause) -> Result<u32, AllocError>
         requires room { length self.old < 4294967295 }
@@ -127,7 +165,7 @@ impl Callees {
         let arity = clause.arguments.len() as u32;
         match &clause.head {
             Head::Named(symbol) => self.add_named(symbol.as_str(), arity),
-            Head::Lifted { number, .. } => self.add_lifted(*number, arity),
+            Head::Lifted { number, .. } => self.add_lifted_by(clause.part.op, *number, arity),
         }
     }
 
@@ -139,7 +177,10 @@ impl Callees {
         ensures err { OnErr result (self.new ≡ self.old) }
     {
         match definition.lifted {
-            Some(number) => self.add_lifted(number, arity_of(definition.clauses.as_slice())),
+            Some(number) => {
+                let arity = arity_of(definition.clauses.as_slice());
+                self.add_lifted_by(definition.op, number, arity)
+            }
             None => self.add_named(definition.key.symbol.as_str(), definition.key.arity),
         }
     }
@@ -183,6 +224,25 @@ impl Callees {
         let found = self.list.len() as u32;
         self.list.push(Callee::Lifted { number, arity })?;
         match self.lifted.insert((number, arity), found) {
+            Ok(_) => Ok(found),
+            Err(_) => {
+                let _ = self.list.pop();
+                Err(AllocError)
+            }
+        }
+    }
+
+    // A definition of a collecting goal that has no number gets the next.
+    fn append_collecting(&mut self, number: u32, arity: u32) -> Result<u32, AllocError>
+        requires room { length self.old < 4294967295 }
+        requires absent { IsAbsent self.old (Collecting number arity) }
+        ensures ok { IfOk result (λ d. Adds self.old (Collecting number arity) self.new d) }
+        ensures grown { length self.new ≤ length self.old + 1 }
+        ensures err { OnErr result (self.new ≡ self.old) }
+    {
+        let found = self.list.len() as u32;
+        self.list.push(Callee::Collecting { number, arity })?;
+        match self.collecting.insert((number, arity), found) {
             Ok(_) => Ok(found),
             Err(_) => {
                 let _ = self.list.pop();

@@ -7,4 +7,4 @@ mod reserved;
 
 pub use callee::Callee;
 pub use callees::Callees;
-pub use reserved::{Reserved, meaning_of};
+pub use reserved::{Reserved, is_reserved, meaning_of};

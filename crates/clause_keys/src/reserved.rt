@@ -1,7 +1,7 @@
 //! The goals that have a meaning of their own.
 
 ghost use Rattle.std.specs.Prelude.{◌≡◌};
-ghost use Rattle.clause_keys.specs.Reserved.{without_arguments, with_two, reserved_of};
+ghost use Rattle.clause_keys.specs.Reserved.{without_arguments, with_two, reserved_of, is_reserved};
 
 use akl_terms::Test;
 
@@ -63,4 +63,12 @@ pub fn meaning_of(symbol: &str, arity: usize) -> Option<Reserved>
         2 => with_two(symbol),
         _ => None,
     }
+}
+
+/// Whether no clause may define this symbol with so many arguments: a goal of it is reserved, or it would be a
+/// collecting goal.
+pub fn is_reserved(symbol: &str, arity: usize) -> bool
+    ensures { result ≡ is_reserved symbol.now arity }
+{
+    meaning_of(symbol, arity).is_some() || symbol == "bagof" && arity == 3
 }

@@ -9,10 +9,10 @@ use Rattle.akl_terms.specs.declared.program.Test.TheVariants as tests
 use Rattle.akl_terms.specs.Template.{Template}
 use Rattle.term_syntax.specs.Tree.{Tree, Trees, no_trees, more_trees, trees}
 use Rattle.akl_syntax.specs.Sizes.{goal_size, goals_size}
-use Rattle.term_syntax.specs.Sizes.{trees_size}
-use Rattle.akl_syntax.specs.Goals.{Goal, call, choice, lifted, goals}
+use Rattle.term_syntax.specs.Sizes.{tree_size, trees_size}
+use Rattle.akl_syntax.specs.Goals.{Goal, call, choice, lifted, collect, lifted_collect, goals}
 use Rattle.clause_keys.specs.declared.callee.Callee.{Callee}
-use Rattle.clause_keys.specs.declared.callee.Callee.TheVariants.{Lifted}
+use Rattle.clause_keys.specs.declared.callee.Callee.TheVariants.{Lifted, Collecting}
 use Rattle.clause_keys.specs.declared.reserved.Reserved.{Reserved}
 use Rattle.clause_keys.specs.declared.reserved.Reserved.TheVariants.{True, Fail, Equal, Arith, OpenPort, Send}
 use Rattle.clause_keys.specs.Reserved.{without_arguments, with_two, reserved_of}
@@ -20,13 +20,13 @@ use Rattle.clause_keys.specs.Keys.{named, IsAbsent}
 use Rattle.clause_keys.specs.Conditions.{count, MayCall}
 use Rattle.clause_store.specs.Plain.{plains}
 use Rattle.clause_store.specs.Nodes.{Extends, AreNodes, no_nodes, a_node}
-use Rattle.clause_store.specs.Codes.{pair, variables, AreCodes, no_codes, true_goal, a_code, fail, equal, arithmetic, open_port, send, calls, calls_lifted}
+use Rattle.clause_store.specs.Codes.{pair, variables, AreCodes, no_codes, true_goal, a_code, fail, equal, arithmetic, open_port, send, calls, calls_lifted, collects}
 use Rattle.clause_store.specs.Standing.{StandAt, stand_more, StandsAt, HasRoom, Gains, ArePut}
 use Rattle.clause_store.specs.Putting.{reserved_code, IsGoalPut, AreGoalsPut}
 use Rattle.clause_store.proofs.Sums.{both, goals_sum}
 use Rattle.clause_store.proofs.Growing.{node_stays, still_stands}
 use Rattle.clause_store.proofs.Room.{gains_none, gains_trans, gains_less, room_left}
-use Rattle.clause_store.proofs.Renamed.{codes_as}
+use Rattle.clause_store.proofs.Renamed.{nodes_as, codes_as}
 use Rattle.clause_store.proofs.VariableNodes.{variables_size}
 
 -- ---- nodes
@@ -111,6 +111,8 @@ some_size : (g : Goal) → 1 ≤ goal_size g
 some_size (call s ts) = omega arith
 some_size (choice ps) = omega arith
 some_size (lifted n ns) = omega arith
+some_size (collect t gs r) = omega arith
+some_size (lifted_collect n ns r) = omega arith
 
 goal_gains : {old new : Template} {first c : ℕ} {ts : Trees} → ArePut old new first c ts → Gains (suc (trees_size ts)) 0 old new
 goal_gains p = gains_less (omega arith) (omega arith) p.gains
@@ -156,6 +158,19 @@ lifted_put ns e h p = record {
   codes = rw e (a_code (calls_lifted h (are_nodes (variables ns) p.stand)) no_codes);
   gains = gains_less (omega (arith, variables_size ns)) (omega (arith, variables_size ns)) p.gains;
 }
+
+pub first_node : {Is : ℕ → Tree → Type 0} {first : ℕ} {s : Tree} {ss : Trees} → AreNodes Is first (more_trees s ss) → Is first s
+first_node (a_node p q) = p
+
+pub collecting_put : {callees : List Callee} {old mid new : Template} {n d first at c : ℕ} (ns : List ℕ) (r : Tree) → c ≡ length ns → slice_get callees d ≡ Some (Collecting n (length ns)) → ArePut old mid first (length ns) (variables ns)
+    → ArePut mid new at 1 (more_trees r no_trees) → IsGoalPut callees old new (lifted_collect n ns r) (Some (made.Collect d first c at))
+collecting_put ns r e h p q = record {
+  codes = rw e (a_code (collects h (nodes_as (still_stands_at q.gains.extends) (are_nodes (variables ns) p.stand)) (first_node (are_nodes (more_trees r no_trees) q.stand))) no_codes);
+  gains = gains_less (omega (arith, variables_size ns)) (omega (arith, variables_size ns)) (gains_trans p.gains q.gains);
+}
+
+pub collecting_room : {old mid : Template} {first : ℕ} (ns : List ℕ) (r : Tree) → HasRoom old (suc (length ns + tree_size r)) → ArePut old mid first (length ns) (variables ns) → HasRoom mid (tree_size r)
+collecting_room ns r room p = room_left room p.gains (omega (arith, variables_size ns))
 
 pub no_such_callee : {callees : List Callee} {callee : Callee} (o : Option Reserved) → MayCall callees callee o → None ≡ o → IsAbsent callees callee → ⊥
 no_such_callee {callees} {callee} o may e h = not_contained (subst (MayCall callees callee) (sym e) may) h

@@ -1,6 +1,6 @@
 -- What the functions that load clauses and definitions have put.
 use Rattle.std.proofs.Common.{◌≡◌, ℕ, zero, suc, ◌+◌, ◌<◌, ◌≤◌, List, [], ◌∷◌, ◌++◌, length, map, take, drop, slice_get, get_or, Option, Some, None, true, refl, sym, ap, subst, ◌∙◌, arith, append_assoc}
-use Rattle.std.specs.Prelude.{All}
+use Rattle.std.specs.Prelude.{All, option_map}
 use Rattle.std.specs.List.{Contains}
 use Rattle.std.proofs.lemmas.List.{length-append, length-map, append-nil, map-append, take_all, take_more}
 use Rattle.std.proofs.lemmas.Option.{slice_get_within}
@@ -9,7 +9,7 @@ use Rattle.akl_terms.specs.declared.program.Clause as program
 use Rattle.akl_terms.specs.declared.program.Definition.{Definition}
 use Rattle.akl_terms.specs.Template.{Template}
 use Rattle.term_syntax.specs.Tree.{Tree, trees}
-use Rattle.akl_syntax.specs.Goals.{Goal, call, choice, lifted, goals}
+use Rattle.akl_syntax.specs.Goals.{Goal, call, choice, lifted, collect, lifted_collect, goals}
 use Rattle.akl_syntax.specs.Clauses.{Clause}
 use Rattle.akl_syntax.specs.Sizes.{goals_size, clauses_size}
 use Rattle.term_syntax.specs.View.{tree}
@@ -23,37 +23,48 @@ use Rattle.clause_keys.specs.declared.reserved.Reserved.{Reserved}
 use Rattle.clause_keys.specs.Reserved.{reserved_of}
 use Rattle.clause_keys.specs.Keys.{key_of, named, defined_by, called, called_by, arity_of, Collects}
 use Rattle.clause_keys.specs.Conditions.{count, MayCall, IsLoadable, IsClauseLoadable, AreUnmixed}
-use Rattle.clause_store.specs.Loaded.{AreLoaded, none_loaded, one_loaded, AreOf, no_clauses, own, other, IsDefinitionOf}
+use Rattle.clause_store.specs.Loaded.{none_collected, a_collected, AreLoaded, none_loaded, one_loaded, AreOf, no_clauses, own, other, IsDefinitionOf}
+use Rattle.clause_store.specs.Nodes.{Extends}
 use Rattle.clause_store.specs.Standing.{StandsAt, HasRoom, Gains, ArePut}
-use Rattle.clause_store.specs.Putting.{AreGoalsPut, IsClausePut, AreClausesPut, IsDefinitionPut, HaveOneOp, IsExtended}
+use Rattle.clause_store.specs.Putting.{AreGoalsPut, IsCollectedPut, IsClausePut, AreClausesPut, IsDefinitionPut, HaveOneOp, IsExtended}
 use Rattle.clause_store.specs.Groups.{AreGroups, no_groups, a_group, groups_size, AreGathered}
 use Rattle.clause_store.proofs.Sums.{both, clauses_sum}
+use Rattle.clause_store.proofs.Growing.{extends_trans}
 use Rattle.clause_store.proofs.Room.{gains_none, gains_trans, gains_less, room_left}
-use Rattle.clause_store.proofs.Renamed.{nodes_as, codes_as, loaded_as, definitions_as}
-use Rattle.clause_store.proofs.Coded.{still_stands_at, are_nodes, contained_at}
+use Rattle.clause_store.proofs.Renamed.{nodes_as, collected_as, codes_as, loaded_as, definitions_as}
+use Rattle.clause_store.proofs.Coded.{still_stands_at, are_nodes, first_node, contained_at}
 use Rattle.clause_store.proofs.Yielded.{IsNext}
 use Rattle.clause_store.proofs.Collected.{place_is, collects_each}
 use Rattle.clause_store.proofs.Gathered.{groups_sum, groups_length}
 
+-- ---- what is collected
+pub collected_put : {old new : Template} {n : ℕ} {t : Tree} → ArePut old new n 1 (trees (t ∷ [])) → IsCollectedPut old new (Some t) (Some n)
+collected_put {t = t} p = record { collected = a_collected (first_node (are_nodes (trees (t ∷ [])) p.stand)); gains = gains_less (omega arith) (omega arith) p.gains }
+
+pub collected_none : (t : Template) → IsCollectedPut t t None None
+collected_none t = record { collected = none_collected; gains = gains_none t }
+
 -- ---- a clause
-pub clause_put : {callees : List Callee} {old u v new : Template} {first n : ℕ} {guard body : List Code} (c : SourceClause) (l : program.Clause) → ArePut old u first n (trees (map tree c.arguments.items))
-    → AreGoalsPut callees u v (map goal c.part.guard.items) guard → AreGoalsPut callees v new (map goal c.part.body.items) body
-    → l.variables ≡ length c.names.items → l.first ≡ first → l.count ≡ length (map tree c.arguments.items) → l.guard ≡ guard → l.body ≡ body → IsClausePut callees old new (clause_view c) l
-clause_put {callees} {old} {u} {v} {new} c l p q r e ef ec eg eb =
+pub clause_put : {callees : List Callee} {old t u v new : Template} {first n : ℕ} {node : Option ℕ} {guard body : List Code} (c : SourceClause) (l : program.Clause) → ArePut old t first n (trees (map tree c.arguments.items))
+    → IsCollectedPut t u (option_map tree c.collected) node → AreGoalsPut callees u v (map goal c.part.guard.items) guard → AreGoalsPut callees v new (map goal c.part.body.items) body
+    → l.variables ≡ length c.names.items → l.first ≡ first → l.count ≡ length (map tree c.arguments.items) → l.guard ≡ guard → l.body ≡ body → l.collected ≡ node → IsClausePut callees old new (clause_view c) l
+clause_put {callees} {old} {t} {u} {v} {new} c l p k q r e ef ec eg eb en =
     let is : part c.part ≡ record { guard = map goal c.part.guard.items; op = c.part.op; body = map goal c.part.body.items; is_written = true } = part_is c.part in
     let guard_is : (part c.part).guard ≡ map goal c.part.guard.items = ap (λ x. x.guard) is in
     let body_is : (part c.part).body ≡ map goal c.part.body.items = ap (λ x. x.body) is in
     let guard_size = ap (λ (z : List Goal). goals_size (goals z)) guard_is in
     let body_size = ap (λ (z : List Goal). goals_size (goals z)) body_is in
+    let behind : Extends u new = extends_trans q.gains.extends r.gains.extends in
     record {
       clause = record {
         variables = e;
         count = ec;
-        arguments = rw ef (nodes_as (λ n s x. still_stands_at r.gains.extends n s (still_stands_at q.gains.extends n s x)) (are_nodes (trees (map tree c.arguments.items)) p.stand));
+        arguments = rw ef (nodes_as (still_stands_at (extends_trans k.gains.extends behind)) (are_nodes (trees (map tree c.arguments.items)) p.stand));
         guard = rw (guard_is, eg) (codes_as (still_stands_at r.gains.extends) q.codes);
         body = rw (body_is, eb) r.codes;
+        collected = rw en (collected_as (still_stands_at behind) k.collected);
       };
-      gains = gains_less (omega (arith, guard_size, body_size)) (omega (arith, guard_size, body_size)) (gains_trans p.gains (gains_trans q.gains r.gains));
+      gains = gains_less (omega (arith, guard_size, body_size)) (omega (arith, guard_size, body_size)) (gains_trans p.gains (gains_trans k.gains (gains_trans q.gains r.gains)));
     }
 
 -- ---- clauses, one after the other
@@ -101,7 +112,9 @@ module _ (known callees : List Callee) (f : (k : Callee) → Contains known k �
   loadable_more : (g : Goal) → IsLoadable known g → IsLoadable callees g
   loadable_more (call s ts) p = may_more (named s (count ts)) (reserved_of s (count ts)) p
   loadable_more (lifted n ns) p = f _ p
+  loadable_more (lifted_collect n ns r) p = f _ p
   loadable_more (choice ps) p = absurd p
+  loadable_more (collect t gs r) p = absurd p
 
 -- what is known or defined is called by its number
 collects_contains : {old all : List Callee} {cs : List Clause} → Collects old cs all → (k : Callee) → Contains (old ++ map defined_by cs) k → Contains all k
@@ -113,7 +126,7 @@ pub all_loadable : {old all : List Callee} {cs : List Clause} → Collects old c
 all_loadable {old} {all} {cs} p gs = All-weaker (IsLoadable (old ++ map defined_by cs)) (IsLoadable all) (loadable_more (old ++ map defined_by cs) all (collects_contains p)) gs
 
 clause_loadable : {old all : List Callee} {cs : List Clause} → Collects old cs all → (c : Clause) → IsClauseLoadable (old ++ map defined_by cs) c → IsClauseLoadable all c
-clause_loadable p c h = record { guard = all_loadable p c.part.guard h.guard; body = all_loadable p c.part.body h.body; few = h.few }
+clause_loadable p c h = record { guard = all_loadable p c.part.guard h.guard; body = all_loadable p c.part.body h.body; collected = h.collected; few = h.few }
 
 -- ---- the group of a number
 pub record GroupAt (cs : List Clause) (ks : List Callee) (n : ℕ) (g : List Clause) : Type 0 where
@@ -228,14 +241,14 @@ first_arity none_loaded e = absurd cc
 first_arity {first = first} (one_loaded {c = c} h p) e = let same : c ≡ first = cc in h.count ∙ ap (λ (z : Clause). length z.arguments) same
 
 pub definition_put : {callees : List Callee} {old new : Template} {cs : List Clause} {ls : List program.Clause} (d : Definition) (first : Clause) (more : List Clause) → cs ≡ first ∷ more → HaveOneOp cs → AreClausesPut callees old new cs ls
-    → d.clauses ≡ ls → d.op ≡ first.part.op → d.key ≡ key_of first.head (length first.arguments) → called d.lifted d.key (length first.arguments) ≡ defined_by first → IsDefinitionPut callees old new cs d
+    → d.clauses ≡ ls → d.op ≡ first.part.op → d.key ≡ key_of first.head (length first.arguments) → called d.op d.lifted d.key (length first.arguments) ≡ defined_by first → IsDefinitionPut callees old new cs d
 definition_put {callees} {new = new} {cs = cs} d first more e one p ec eo ek ed =
     let here : Contains cs first = subst (λ z. Contains z first) (sym e) (0, omega arith, refl) in
     record {
       first = first;
       more = more;
       are = e;
-      called = ap (called d.lifted d.key) (ap arity_of ec ∙ first_arity p.clauses e) ∙ ed;
+      called = ap (called d.op d.lifted d.key) (ap arity_of ec ∙ first_arity p.clauses e) ∙ ed;
       key = ek;
       op = All-weaker (Contains cs) (λ c. c.part.op ≡ d.op) (λ c x. one c first x here ∙ sym eo) cs (All-contains_itself cs);
       clauses = subst (λ z. AreLoaded callees (StandsAt new) cs z) (sym ec) p.clauses;

@@ -15,3 +15,4 @@ pub mod NewLifted
 pub mod Loads
 pub mod Fitting
 pub mod Extended
+pub mod Collecting

@@ -1,5 +1,5 @@
 -- What is said of nodes holds of other words about nodes that it implies.
-use Rattle.std.proofs.Common.{◌≡◌, ℕ, List, Some}
+use Rattle.std.proofs.Common.{◌≡◌, ℕ, List, Option, Some}
 use Rattle.std.specs.Prelude.{All, slice_get}
 use Rattle.std.proofs.lemmas.List.Elements.{All-weaker}
 use Rattle.akl_terms.specs.declared.program.Code.{Code}
@@ -10,13 +10,17 @@ use Rattle.akl_syntax.specs.Goals.{Goal}
 use Rattle.akl_syntax.specs.Clauses.{Clause}
 use Rattle.clause_keys.specs.declared.callee.Callee.{Callee}
 use Rattle.clause_store.specs.Nodes.{AreNodes, no_nodes, a_node}
-use Rattle.clause_store.specs.Codes.{IsCode, fail, equal, arithmetic, open_port, send, calls, calls_lifted, AreCodes, no_codes, true_goal, a_code}
-use Rattle.clause_store.specs.Loaded.{IsClauseOf, AreLoaded, none_loaded, one_loaded, IsDefinitionOf}
+use Rattle.clause_store.specs.Codes.{IsCode, fail, equal, arithmetic, open_port, send, calls, calls_lifted, collects, AreCodes, no_codes, true_goal, a_code}
+use Rattle.clause_store.specs.Loaded.{IsCollected, none_collected, a_collected, IsClauseOf, AreLoaded, none_loaded, one_loaded, IsDefinitionOf}
 
 module _ {P Q : ℕ → Tree → Type 0} (f : (n : ℕ) (s : Tree) → P n s → Q n s) where
   pub nodes_as : {first : ℕ} {ss : Trees} → AreNodes P first ss → AreNodes Q first ss
   nodes_as no_nodes = no_nodes
   nodes_as (a_node p q) = a_node (f _ _ p) (nodes_as q)
+
+  pub collected_as : {o : Option Tree} {n : Option ℕ} → IsCollected P o n → IsCollected Q o n
+  collected_as none_collected = none_collected
+  collected_as (a_collected p) = a_collected (f _ _ p)
 
 -- over more callees
 module _ {P Q : ℕ → Tree → Type 0} {callees more : List Callee} (f : (n : ℕ) (s : Tree) → P n s → Q n s) (g : (d : ℕ) (k : Callee) → slice_get callees d ≡ Some k → slice_get more d ≡ Some k) where
@@ -28,6 +32,7 @@ module _ {P Q : ℕ → Tree → Type 0} {callees more : List Callee} (f : (n : 
   code_over (send e p q) = send e (f _ _ p) (f _ _ q)
   code_over (calls e d p) = calls e (g _ _ d) (nodes_as f p)
   code_over (calls_lifted d p) = calls_lifted (g _ _ d) (nodes_as f p)
+  code_over (collects d p q) = collects (g _ _ d) (nodes_as f p) (f _ _ q)
 
   codes_over : {gs : List Goal} {cs : List Code} → AreCodes callees P gs cs → AreCodes more Q gs cs
   codes_over no_codes = no_codes
@@ -35,7 +40,7 @@ module _ {P Q : ℕ → Tree → Type 0} {callees more : List Callee} (f : (n : 
   codes_over (a_code p q) = a_code (code_over p) (codes_over q)
 
   clause_over : {c : Clause} {l : program.Clause} → IsClauseOf callees P c l → IsClauseOf more Q c l
-  clause_over p = record { variables = p.variables; count = p.count; arguments = nodes_as f p.arguments; guard = codes_over p.guard; body = codes_over p.body }
+  clause_over p = record { variables = p.variables; count = p.count; arguments = nodes_as f p.arguments; guard = codes_over p.guard; body = codes_over p.body; collected = collected_as f p.collected }
 
   pub loaded_over : {cs : List Clause} {ls : List program.Clause} → AreLoaded callees P cs ls → AreLoaded more Q cs ls
   loaded_over none_loaded = none_loaded

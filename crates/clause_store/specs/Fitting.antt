@@ -3,6 +3,7 @@ use Rattle.std.specs.Prelude.{◌≡◌, ℕ, List, ◌++◌, slice_get, Some}
 use Rattle.std.specs.List.{All}
 use Rattle.akl_terms.specs.declared.program.Code.{Code}
 use Rattle.akl_terms.specs.declared.program.Code.TheVariants as codes
+use Rattle.akl_terms.specs.declared.program.Op.TheVariants as ops
 use Rattle.akl_terms.specs.declared.program.Clause as program
 use Rattle.akl_terms.specs.declared.program.Definition.{Definition}
 use Rattle.akl_terms.specs.declared.program.Program.{Program}
@@ -16,9 +17,15 @@ pub record HasArguments (ds : List Definition) (number count : ℕ) : Type 0 whe
   pub there : slice_get ds number ≡ Some definition
   pub clauses : All (λ c. c.count ≡ count) definition.clauses
 
--- the code calls nothing, or a definition whose clauses have as many arguments as the call
+-- so it is, and the definition collects
+pub record IsCollectedBy (ds : List Definition) (number count : ℕ) : Type 0 where
+  pub called : HasArguments ds number count
+  pub collects : called.definition.op ≡ ops.Collect
+
+-- the code calls nothing, or a definition whose clauses have as many arguments as the call, and which collects where the code does
 abbrev pub IsFitting : List Definition → Code → Type 0
 IsFitting ds (codes.Call number first count) = HasArguments ds number count
+IsFitting ds (codes.Collect number first count result) = IsCollectedBy ds number count
 IsFitting ds code = Unit {0}
 
 pub record IsFittingClause (ds : List Definition) (c : program.Clause) : Type 0 where

@@ -3,6 +3,7 @@ pub mod Nodes
 pub mod Codes
 pub mod Loaded
 pub mod Fitting
+pub mod Collecting
 pub mod Conditions
 pub mod Standing
 pub mod Putting

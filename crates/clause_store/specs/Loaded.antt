@@ -1,5 +1,5 @@
 -- The programs and queries that written ones stand for.
-use Rattle.std.specs.Prelude.{◌≡◌, ◌<◌, ℕ, suc, ◌+◌, ◌==◌, Bool, false, List, [], ◌∷◌, ◌++◌, length, map, slice_get, Some, if◌then◌else◌, codes}
+use Rattle.std.specs.Prelude.{◌≡◌, ◌<◌, ℕ, suc, ◌+◌, ◌==◌, Bool, false, List, [], ◌∷◌, ◌++◌, length, map, slice_get, Option, Some, None, if◌then◌else◌, codes}
 use Rattle.std.specs.List.{All}
 use Rattle.akl_terms.specs.declared.term.Node.{Node}
 use Rattle.akl_terms.specs.declared.program.Clause as program
@@ -15,6 +15,11 @@ use Rattle.clause_keys.specs.Keys.{key_of, defined_by, called_by, Collects}
 use Rattle.clause_store.specs.Nodes.{IsNodeOf, AreNodes, Extends}
 use Rattle.clause_store.specs.Codes.{AreCodes}
 
+-- the node is that of the term that is collected, where one is
+pub data IsCollected (Is : ℕ → Tree → Type 0) : Option Tree → Option ℕ → Type 0 where
+  none_collected : IsCollected Is None None
+  a_collected : {t : Tree} {n : ℕ} → Is n t → IsCollected Is (Some t) (Some n)
+
 -- the loaded clause is the written one
 pub record IsClauseOf (callees : List Callee) (Is : ℕ → Tree → Type 0) (c : Clause) (loaded : program.Clause) : Type 0 where
   pub variables : loaded.variables ≡ length c.names
@@ -22,6 +27,7 @@ pub record IsClauseOf (callees : List Callee) (Is : ℕ → Tree → Type 0) (c 
   pub arguments : AreNodes Is loaded.first (trees c.arguments)
   pub guard : AreCodes callees Is c.part.guard loaded.guard
   pub body : AreCodes callees Is c.part.body loaded.body
+  pub collected : IsCollected Is c.collected loaded.collected
 
 -- loaded clauses are the written ones, one for one and in order
 pub data AreLoaded (callees : List Callee) (Is : ℕ → Tree → Type 0) : List Clause → List program.Clause → Type 0 where

@@ -6,9 +6,10 @@ use Rattle.akl_terms.specs.declared.program.Code.TheVariants as codes
 use Rattle.akl_terms.specs.declared.program.Clause as program
 use Rattle.akl_terms.specs.declared.program.Definition.{Definition}
 use Rattle.akl_terms.specs.Template.{Template}
+use Rattle.term_syntax.specs.Tree.{Tree}
 use Rattle.akl_syntax.specs.Goals.{Goal, goals}
 use Rattle.akl_syntax.specs.Clauses.{Clause}
-use Rattle.akl_syntax.specs.Sizes.{goal_size, goals_size, clause_size, clauses_size}
+use Rattle.akl_syntax.specs.Sizes.{goal_size, goals_size, collected_size, clause_size, clauses_size}
 use Rattle.clause_keys.specs.declared.callee.Callee.{Callee}
 use Rattle.clause_keys.specs.declared.reserved.Reserved.{Reserved}
 use Rattle.clause_keys.specs.declared.reserved.Reserved.TheVariants.{True, Fail, Equal, Arith, OpenPort, Send}
@@ -16,7 +17,7 @@ use Rattle.clause_keys.specs.Keys.{key_of, defined_by, called_by, Collects}
 use Rattle.clause_store.specs.Standing.{StandsAt, Gains}
 use Rattle.clause_store.specs.Codes.{AreCodes}
 use Rattle.clause_store.specs.Nodes.{Extends}
-use Rattle.clause_store.specs.Loaded.{IsClauseOf, AreLoaded, IsDefinitionOf, IsCell}
+use Rattle.clause_store.specs.Loaded.{IsCollected, IsClauseOf, AreLoaded, IsDefinitionOf, IsCell}
 
 -- the code of a reserved goal over the neighbouring nodes from the first on
 abbrev pub reserved_code : Reserved → ℕ → Option Code
@@ -41,6 +42,11 @@ pub record IsGoalPut (callees : List Callee) (old new : Template) (g : Goal) (o 
 pub record AreGoalsPut (callees : List Callee) (old new : Template) (gs : List Goal) (found : List Code) : Type 0 where
   pub codes : AreCodes callees (StandsAt new) gs found
   pub gains : Gains (goals_size (goals gs)) 0 old new
+
+-- what the collected term needs was put, and this is its node, where there is one
+pub record IsCollectedPut (old new : Template) (o : Option Tree) (n : Option ℕ) : Type 0 where
+  pub collected : IsCollected (StandsAt new) o n
+  pub gains : Gains (collected_size o) 0 old new
 
 -- what the clause needs was put, and this is it loaded
 pub record IsClausePut (callees : List Callee) (old new : Template) (c : Clause) (loaded : program.Clause) : Type 0 where

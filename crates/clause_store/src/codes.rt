@@ -4,14 +4,14 @@ ghost use Rattle.std.specs.Prelude.{◌≡◌, ◌<◌, IfOk, map};
 ghost use Rattle.std.specs.List.{All};
 ghost use Rattle.term_syntax.specs.Tree.{trees};
 ghost use Rattle.term_syntax.specs.View.{tree};
-ghost use Rattle.akl_syntax.specs.Goals.{call, lifted, goals};
+ghost use Rattle.akl_syntax.specs.Goals.{call, lifted, lifted_collect, goals};
 ghost use Rattle.akl_syntax.specs.GoalView.{goal};
 ghost use Rattle.akl_syntax.specs.Sizes.{goal_size, goals_size};
 ghost use Rattle.clause_keys.specs.Conditions.{IsLoadable};
 ghost use Rattle.clause_store.specs.Standing.{HasRoom};
 ghost use Rattle.clause_store.specs.Putting.{reserved_code, IsGoalPut, AreGoalsPut};
 
-use crate::nodes::put_terms;
+use crate::nodes::{put_term, put_terms};
 use crate::variables::put_variables;
 use akl_syntax::{SourceGoal, SourceTerm};
 use akl_terms::{Code, Templates};
@@ -97,6 +97,33 @@ fn lifted_code(
     }))
 }
 
+/// Puts the arguments and the result of a call of a definition that was made of a collecting goal, and gives its code.
+fn collecting_code(
+    alloc: Global,
+    callees: &Callees,
+    templates: &mut Templates,
+    number: u32,
+    arguments: &[u32],
+    list: &SourceTerm,
+) -> Result<Option<Code>, AllocError>
+    requires loadable { IsLoadable callees.now (lifted_collect number arguments.now (tree list.now)) }
+    requires room { HasRoom templates.old (goal_size (lifted_collect number arguments.now (tree list.now))) }
+    ensures { IfOk result (λ o. IsGoalPut callees.now templates.old templates.new (lifted_collect number arguments.now (tree list.now)) o) }
+{
+    let first = put_variables(alloc, templates, arguments)?;
+    let node = put_term(alloc, templates, list)?;
+    let count = arguments.len() as u32;
+    let Some(definition) = callees.collecting(number, count) else {
+        unreachable!();
+    };
+    Ok(Some(Code::Collect {
+        definition,
+        first,
+        count,
+        result: node,
+    }))
+}
+
 /// Puts what a goal needs, and gives its code. `true` has none.
 fn goal_code(
     alloc: Global,
@@ -115,7 +142,13 @@ fn goal_code(
         SourceGoal::Lifted { number, arguments } => {
             lifted_code(alloc, callees, templates, *number, arguments)
         }
+        SourceGoal::LiftedCollect {
+            number,
+            arguments,
+            result: list,
+        } => collecting_code(alloc, callees, templates, *number, arguments, list),
         SourceGoal::Choice(_) => unreachable!(),
+        SourceGoal::Collect { .. } => unreachable!(),
     }
 }
 

@@ -1,21 +1,41 @@
 //! Clauses and definitions.
 
-ghost use Rattle.std.specs.Prelude.{◌≡◌, ◌<◌, ◌≤◌, ◌+◌, ◌++◌, IfOk, OnOk, length, map};
+ghost use Rattle.std.specs.Prelude.{◌≡◌, ◌<◌, ◌≤◌, ◌+◌, ◌++◌, IfOk, OnOk, length, map, option_map};
 ghost use Rattle.std.specs.List.{All};
+ghost use Rattle.akl_terms.specs.declared.program.Op.{Op};
+ghost use Rattle.term_syntax.specs.View.{tree};
 ghost use Rattle.akl_syntax.specs.Answers.{clause_view, clauses_view};
-ghost use Rattle.akl_syntax.specs.Sizes.{clause_size, clauses_size};
+ghost use Rattle.akl_syntax.specs.Sizes.{collected_size, clause_size, clauses_size};
 ghost use Rattle.clause_keys.specs.Keys.{key_of, defined_by, called_by, called, by_head, IsAbsent, AreUnique};
 ghost use Rattle.clause_keys.specs.Conditions.{IsClauseLoadable, AreUnmixed};
 ghost use Rattle.clause_store.specs.Standing.{HasRoom};
-ghost use Rattle.clause_store.specs.Putting.{IsClausePut, AreClausesPut, IsDefinitionPut, IsExtended, HaveOneOp};
+ghost use Rattle.clause_store.specs.Putting.{IsCollectedPut, IsClausePut, AreClausesPut, IsDefinitionPut, IsExtended, HaveOneOp};
 
 use crate::codes::goal_codes;
 use crate::groups::gather;
-use crate::nodes::put_terms;
-use akl_syntax::{Head, SourceClause};
+use crate::nodes::{put_term, put_terms};
+use akl_syntax::{Head, SourceClause, SourceTerm};
 use akl_terms::{Clause, Definition, Items, Key, Templates};
 use clause_keys::Callees;
 use std::alloc::{AllocError, Global};
+
+/// Puts what a clause collects, and gives its node.
+fn put_collected(
+    alloc: Global,
+    templates: &mut Templates,
+    collected: &Option<SourceTerm>,
+) -> Result<Option<u32>, AllocError>
+    requires { HasRoom templates.old (collected_size (option_map tree collected.now)) }
+    ensures { IfOk result (λ o. IsCollectedPut templates.old templates.new (option_map tree collected.now) o) }
+{
+    match collected {
+        Some(term) => {
+            let node = put_term(alloc, templates, term)?;
+            Ok(Some(node))
+        }
+        None => Ok(None),
+    }
+}
 
 /// Puts what a clause needs, and loads it.
 fn load_clause(
@@ -29,6 +49,7 @@ fn load_clause(
     ensures { IfOk result (λ l. IsClausePut callees.now templates.old templates.new (clause_view clause.now) l) }
 {
     let (first, count) = put_terms(alloc, templates, &clause.arguments)?;
+    let collected = put_collected(alloc, templates, &clause.collected)?;
     let guard = goal_codes(alloc, callees, templates, &clause.part.guard)?;
     let body = goal_codes(alloc, callees, templates, &clause.part.body)?;
     Ok(Clause {
@@ -37,6 +58,7 @@ fn load_clause(
         count,
         guard: Items::new(guard),
         body: Items::new(body),
+        collected,
     })
 }
 
@@ -59,10 +81,10 @@ fn load_clauses(
     Ok(loaded)
 }
 
-/// The key of a head with so many arguments, and the number of what was made of an inline choice.
+/// The key of a head with so many arguments, and the number of a lifted definition.
 fn key(head: Head, arity: u32) -> (Key, Option<u32>)
     ensures key { result.0 ≡ key_of head arity }
-    ensures called { called result.1 result.0 arity ≡ by_head head arity }
+    ensures called { (op : Op) → called op result.1 result.0 arity ≡ by_head op head arity }
 {
     match head {
         Head::Named(symbol) => (Key { symbol, arity }, None),

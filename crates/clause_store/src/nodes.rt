@@ -59,6 +59,20 @@ pub fn put_terms(
     Ok((first, group.len() as u32))
 }
 
+/// Puts the node of a term, and gives it.
+pub fn put_term(
+    alloc: Global,
+    templates: &mut Templates,
+    term: &SourceTerm,
+) -> Result<u32, AllocError>
+    requires { HasRoom templates.old (tree_size (tree term.now)) }
+    ensures { IfOk result (λ n. ArePut templates.old templates.new n 1 (trees (tree term.now ∷ []))) }
+{
+    let node = term_node(alloc, templates, term)?;
+    let first = templates.push(&[node])?;
+    Ok(first)
+}
+
 /// A symbol over two operands, whose nodes it puts.
 fn pair_node(
     templates: &mut Templates,

@@ -6,9 +6,10 @@ ghost use Rattle.akl_terms.specs.Template.{IsArranged, AreDistinct};
 ghost use Rattle.akl_syntax.specs.Answers.{clauses_view};
 ghost use Rattle.akl_syntax.specs.Sizes.{clauses_size};
 ghost use Rattle.clause_keys.specs.Keys.{called_by, defined_by, AreUnique};
-ghost use Rattle.clause_keys.specs.Conditions.{IsClauseLoadable, AreUnmixed};
+ghost use Rattle.clause_keys.specs.Conditions.{IsClauseLoadable, AreUnmixed, AreAlone};
 ghost use Rattle.clause_store.specs.Loaded.{IsProgramOf};
 ghost use Rattle.clause_store.specs.Fitting.{HasFittingCalls};
+ghost use Rattle.clause_store.specs.Collecting.{HasCollecting};
 ghost use Rattle.clause_store.specs.Putting.{IsCellPut};
 
 use crate::definitions::extend;
@@ -53,13 +54,16 @@ fn put_cell(templates: &mut Templates) -> Result<u32, AllocError>
 /// Loads the clauses of a program.
 ///
 /// Definitions are in order of first occurrence, and the clauses of each in the order in which they are written. Each
-/// call has as many arguments as the clauses that it calls. It is an error only where memory runs out.
+/// call has as many arguments as the clauses that it calls. A definition that collects has one clause. It is an error
+/// only where memory runs out.
 pub fn load(alloc: Global, clauses: Vec<SourceClause>) -> Result<Program, AllocError>
     requires loadable { All (IsClauseLoadable (map defined_by (clauses_view clauses))) (clauses_view clauses) }
     requires unmixed { AreUnmixed (clauses_view clauses) }
+    requires alone { AreAlone (clauses_view clauses) }
     requires small { clauses_size (clauses_view clauses) ≤ 700000000 }
     ensures program { IfOk result (λ p. IsProgramOf (clauses_view clauses) p) }
     ensures calls { IfOk result HasFittingCalls }
+    ensures collecting { IfOk result HasCollecting }
     ensures unique { IfOk result (λ p. AreUnique (map called_by p.definitions)) }
     ensures nodes { IfOk result (λ p. length p.templates.nodes ≤ 4 * clauses_size (clauses_view clauses) + 4) }
     ensures symbols { IfOk result (λ p. length p.templates.symbols ≤ 4 * clauses_size (clauses_view clauses) + 2) }

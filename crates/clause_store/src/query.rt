@@ -8,12 +8,13 @@ ghost use Rattle.akl_syntax.specs.Goals.{goals};
 ghost use Rattle.akl_syntax.specs.GoalView.{goal};
 ghost use Rattle.akl_syntax.specs.Sizes.{clauses_size, goals_size, query_size};
 ghost use Rattle.clause_keys.specs.Keys.{called_by, defined_by, AreUnique, IsAbsent};
-ghost use Rattle.clause_keys.specs.Conditions.{IsLoadable, IsClauseLoadable, AreUnmixed};
+ghost use Rattle.clause_keys.specs.Conditions.{IsLoadable, IsClauseLoadable, AreUnmixed, AreAlone};
 ghost use Rattle.clause_store.specs.Conditions.{IsNewLifted};
 ghost use Rattle.clause_store.specs.Standing.{HasRoom};
 ghost use Rattle.clause_store.specs.Putting.{AreAllPut};
 ghost use Rattle.clause_store.specs.Loaded.{IsProgramOf, IsQueryOf};
 ghost use Rattle.clause_store.specs.Fitting.{IsOver};
+ghost use Rattle.clause_store.specs.Collecting.{HasCollecting};
 
 use crate::codes::goal_codes;
 use crate::definitions::extend;
@@ -47,7 +48,8 @@ fn put_all(
     goal_codes(alloc, &callees, templates, written)
 }
 
-/// Loads a query over a program, with the clauses of the definitions that were made of its inline choices.
+/// Loads a query over a program, with the clauses of the definitions that were made of its inline choices and collecting
+/// goals.
 ///
 /// The program keeps all that it has and gains what the query needs: first a node for each of its variables, in order,
 /// so that what an answer shows is a term. A program of some clauses becomes that of these clauses with the lifted ones
@@ -62,6 +64,7 @@ pub fn load_query(
     requires names { length query.names.items ≤ 256 }
     requires loadable { All (IsClauseLoadable (map called_by program.definitions ++ map defined_by (clauses_view lifted))) (clauses_view lifted) }
     requires unmixed { AreUnmixed (clauses_view lifted) }
+    requires alone { AreAlone (clauses_view lifted) }
     requires lifted { All (λ c. IsNewLifted program.definitions c.head) (clauses_view lifted) }
     requires unique { AreUnique (map called_by program.definitions) }
     requires small { query_size (query_view query) + clauses_size (clauses_view lifted) ≤ 7000000 }
@@ -69,6 +72,7 @@ pub fn load_query(
     requires few_symbols { length program.templates.symbols < 4000000000 }
     requires few_definitions { length program.definitions < 4000000000 }
     ensures over { IfOk result (λ x. (cs : List Clause) → IsProgramOf cs program → IsOver cs (clauses_view lifted) x.0 x.1) }
+    ensures collecting { IfOk result (λ x. HasCollecting program → HasCollecting x.0) }
     ensures query { IfOk result (λ x. IsQueryOf program (clauses_view lifted) (query_view query) x.0 x.1) }
     ensures unique { IfOk result (λ x. AreUnique (map called_by x.0.definitions)) }
     ensures goals { IfOk result (λ x. length x.1.goals ≤ query_size (query_view query)) }

@@ -1,4 +1,5 @@
 use Rattle.std.proofs.Common.{◌++◌, map, sym, ap, ◌∙◌}
+use Rattle.std.specs.Prelude.{option_map}
 use Rattle.std.proofs.lemmas.Result.{on_ok_weaker}
 use Rattle.term_syntax.specs.View.{tree}
 use Rattle.akl_syntax.specs.Goals.{goals}
@@ -30,7 +31,7 @@ returns-clause-clause c =
     let hs = goals (map goal c.args.clause.now.part.body.items) in
     let scoped = clause_scoped s d c.in_ok-scope.ensures.order c.in_ok-scope.ensures.counts in
     on_ok_weaker c.lift_part.result
-    (λ e. ap (λ p. clause_by x.head (map tree x.arguments.items) p x.names.items x.start) (e ∙ part_same (clause_origin d) s (clause_order d) (clause_shares d) gs hs scoped next c.args.clause.now.part.op)
+    (λ e. ap (λ p. clause_by x.head (map tree x.arguments.items) p (option_map tree x.collected) x.names.items x.start) (e ∙ part_same (clause_origin d) s (clause_order d) (clause_shares d) gs hs scoped next c.args.clause.now.part.op)
     ∙ ap (clause_without next) (sym (clause_seen c.args.clause.now))) c.lift_part.ensures.part
 
 pub returns-clause-made : given.returns-clause-made

@@ -7,11 +7,14 @@ use Rattle.akl_syntax.specs.Goals.{PartIs, no_parts_more, written}
 use Rattle.akl_syntax.specs.Goals as made
 use Rattle.akl_syntax.specs.GoalView.{goal, part}
 use Rattle.akl_syntax.specs.PartView.{part_of}
-use Rattle.akl_syntax.specs.Parts.{Alternatives, body_of}
+use Rattle.akl_lexemes.specs.Parsed.{anywhere}
+use Rattle.akl_syntax.specs.Parts.{Alternatives, body_of, parts_of}
 use Rattle.akl_syntax.specs.Ends.{ends_goal, ends_conj, ends_part, ends_parts}
 use Rattle.akl_syntax.proofs.OneGoal.{goal_takes, conj_takes, part_takes}
 use Rattle.akl_lexemes.proofs.Refusals.{refused, a_fault}
 use Rattle.akl_syntax.proofs.PartTurns.{goal_choice, goals_start, goals_step, goals_end, goals_none, no_first_goal, no_comma_ends, guard_takes, no_guard_ends, part_behind_guard, part_no_conj, part_behind_goals, no_body, second_guard, seen_guard, unseen_guard, parts_start, parts_step, parts_all, parts_none, no_semicolon_ends, no_part, bracket_edge, choice_edge, no_alternatives, not_closed_parts, choice_read, goals_read}
+use Rattle.akl_syntax.proofs.TestGoals.{goal_edge}
+use Rattle.akl_syntax.proofs.CollectTurns.{goal_collect, ended_takes, table_ended, no_term, no_goals, no_comma, no_result, joined_result, goal_collects}
 use Rattle.akl_syntax.proofs.Tables.{table_conj, table_part, table_alternatives, table_guard}
 use Rattle.akl_lexemes.proofs.BracketTable.{table_behind}
 use Rattle.akl_syntax.proofs.goals.+goals.Goals as given
@@ -136,3 +139,38 @@ pub conj-goal-requires-in-Some : given.conj-goal-requires-in-Some
 conj-goal-requires-in-Some t c =
     let told = table_conj c.args.brackets.now (goals_end c.loop-after.invariant) c.requires in
     (omega (arith, c.loop-after.invariant.within, ap length c.in-Some.ensures.some), table_behind c.args.brackets.now (lexemes.Mark Comma) _ (rw c.in-Some.ensures.some at told))
+
+pub goal-returns-in-Some : given.goal-returns-in-Some
+goal-returns-in-Some t c = goal_collects _ c.collected.result _ _ c.in-Some.ensures.some c.collected.ensures
+
+pub collected-goal-requires : given.collected-goal-requires
+collected-goal-requires t c = (omega (arith, ended_takes c.in_ok-collected.ensures.0), table_ended c.args.brackets.now c.in_ok-collected.ensures.0 c.requires)
+
+pub collected-returns-in_err-collected : given.collected-returns-in_err-collected
+collected-returns-in_err-collected t c =
+    let p = err_from_is_err_and c.from_residual.result c.from_residual.ensures.1 in
+    rw (p.1, p.2) (refused anywhere ends_goal _ (no_term _) c.in_err-collected.ensures)
+
+pub collected-returns-in_err-goals : given.collected-returns-in_err-goals
+collected-returns-in_err-goals t c =
+    let p = err_from_is_err_and c.from_residual-in_err-goals.result c.from_residual-in_err-goals.ensures.1 in
+    rw (p.1, p.2) (refused ends_goal ends_goal _ (no_goals _ _ _ c.in_ok-collected.ensures.0) c.in_err-goals.ensures)
+
+pub collected-returns-in_err-rest : given.collected-returns-in_err-rest
+collected-returns-in_err-rest t c =
+    let p = err_from_is_err_and c.from_residual-in_err-rest.result c.from_residual-in_err-rest.ensures.1 in
+    rw (p.1, p.2) (a_fault ends_goal _ _ c.in_err-rest.ensures.none (no_comma _ _ _ c.in_ok-collected.ensures.0 _ _ c.in_ok-goals.ensures.0 c.in_ok-goals.ensures.1 c.in_err-rest.ensures.err))
+
+pub collected-returns-in_err-result : given.collected-returns-in_err-result
+collected-returns-in_err-result t c =
+    let p = err_from_is_err_and c.from_residual-in_err-result.result c.from_residual-in_err-result.ensures.1 in
+    rw (p.1, p.2) (refused anywhere ends_goal _ (no_result _ _ _ c.in_ok-collected.ensures.0 _ _ (rw c.in_ok-rest.ensures.ok at c.in_ok-goals.ensures.0)) c.in_err-result.ensures)
+
+pub collected-returns-then-joined : given.collected-returns-then-joined
+collected-returns-then-joined t c =
+    joined_result _ _ _ c.in_ok-collected.ensures.0 _ _ (rw c.in_ok-rest.ensures.ok at c.in_ok-goals.ensures.0) _ _ c.in_ok-result.ensures.0 (sym c.joined.ensures ∙ c.if-joined.true)
+
+pub collected-returns : given.collected-returns
+collected-returns t c =
+    rw (c.in_ok-found.ensures, goal_collect c.in_ok-collected.collected c.in_ok-result.result c.in_ok-goals.goals)
+    (parts_of c.in_ok-collected.ensures.0 (rw c.in_ok-rest.ensures.ok at c.in_ok-goals.ensures.0) c.in_ok-result.ensures.0, goal_edge _ (sym c.joined.ensures ∙ c.if-joined.false))

@@ -6,6 +6,9 @@ use Rattle.akl_syntax.proofs.goals.+goals.Given as given
 abbrev pub decreases-goal : given.decreases-goal
 decreases-goal l = 10 * length l.lexemes.now + 1
 
+abbrev pub decreases-collected : given.decreases-collected
+decreases-collected l = 10 * length l.lexemes.now + 6
+
 abbrev pub decreases-conj : given.decreases-conj
 decreases-conj l = 10 * length l.lexemes.now + 2
 

@@ -1,8 +1,8 @@
 use Rattle.std.proofs.Common.{◌≡◌, ◌≤◌, length, is_some, refl, ◌∙◌, arith}
 use Rattle.clause_keys.specs.Keys.{named}
-use Rattle.clause_keys.specs.declared.callee.Callee.TheVariants.{Lifted}
+use Rattle.clause_keys.specs.declared.callee.Callee.TheVariants.{Lifted, Collecting}
 use Rattle.clause_keys.specs.Reserved.{reserved_of}
-use Rattle.clause_checks.proofs.Counting.{call_is, call_count, call_bound, lifted_bound, lifted_is}
+use Rattle.clause_checks.proofs.Counting.{call_is, call_count, call_bound, lifted_bound, lifted_is, lifted_collect_bound, lifted_collect_is}
 use Rattle.clause_checks.proofs.SameCallee.{known_callee}
 use Rattle.clause_checks.proofs.calls.is_defined.Goals as goal
 
@@ -32,3 +32,14 @@ returns-in-Lifted c =
     let n : c.len-in-Lifted.result ≡ length c.in-Lifted.arguments.items = omega arith in
     let called = known_callee c.args.callees.now (Lifted c.in-Lifted.number c.len-in-Lifted.result) c.lifted.result c.lifted.ensures.found c.lifted.ensures.absent in
     rw (c.in-Lifted.is, lifted_is c.in-Lifted.number c.in-Lifted.arguments, ← n) (c.is_some-in-Lifted.ensures ∙ called)
+
+pub overflow_cast-len-in-LiftedCollect : goal.overflow_cast-len-in-LiftedCollect
+overflow_cast-len-in-LiftedCollect c = (
+    let b : length c.in-LiftedCollect.arguments.items ≤ 1000000 = lifted_collect_bound c.args.written.now c.in-LiftedCollect.number c.in-LiftedCollect.arguments c.in-LiftedCollect.result 1000000 c.in-LiftedCollect.is c.requires in
+    omega (arith, b))
+
+pub returns-in-LiftedCollect : goal.returns-in-LiftedCollect
+returns-in-LiftedCollect c =
+    let n : c.len-in-LiftedCollect.result ≡ length c.in-LiftedCollect.arguments.items = omega arith in
+    let called = known_callee c.args.callees.now (Collecting c.in-LiftedCollect.number c.len-in-LiftedCollect.result) c.collecting.result c.collecting.ensures.found c.collecting.ensures.absent in
+    rw (c.in-LiftedCollect.is, lifted_collect_is c.in-LiftedCollect.number c.in-LiftedCollect.arguments c.in-LiftedCollect.result, ← n) (c.is_some-in-LiftedCollect.ensures ∙ called)

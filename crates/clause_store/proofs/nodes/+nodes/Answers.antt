@@ -2,7 +2,7 @@ use Rattle.std.proofs.Common.{◌≡◌, suc, ◌-◌, length, map, take, ap, ar
 use Rattle.std.proofs.lemmas.List.{take_all, drop_all, length-map}
 use Rattle.std.proofs.lemmas.Int.{to_z-of_z}
 use mir.Val.{SFits}
-use mir.Syntax.{w64}
+use mir.Syntax.{w128}
 use Rattle.term_syntax.specs.Tree.{Step}
 use Rattle.term_syntax.specs.Sizes.{tree_size}
 use Rattle.term_syntax.specs.View.{tree, step}
@@ -102,8 +102,8 @@ put_terms-returns-clause-put t c =
 
 pub term_node-returns-in-Int : goal.term_node-returns-in-Int
 term_node-returns-in-Int t c =
-    let f : SFits w64 c.in-Int.value = search rules in
-    rw (to_z-of_z w64 c.in-Int.value f, c.in-Int.is, tree_int c.in-Int.value) (integer_put _ _)
+    let f : SFits w128 c.in-Int.value = search rules in
+    rw (to_z-of_z w128 c.in-Int.value f, c.in-Int.is, tree_int c.in-Int.value) (integer_put _ _)
 
 pub term_node-returns-in_ok-first-in-Struct : goal.term_node-returns-in_ok-first-in-Struct
 term_node-returns-in_ok-first-in-Struct t c =

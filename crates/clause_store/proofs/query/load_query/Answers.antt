@@ -9,6 +9,7 @@ use Rattle.clause_store.proofs.NewLifted.{all_absent}
 use Rattle.clause_store.proofs.Growing.{pushed_lengths}
 use Rattle.clause_store.proofs.VariableNodes.{variables_length}
 use Rattle.clause_store.proofs.Extended.{over}
+use Rattle.clause_store.proofs.Collecting.{may_collect, query_collects}
 use Rattle.clause_store.proofs.Loads.{query_put, program_unique, definitions_few}
 use Rattle.clause_store.proofs.query.load_query.Goals as goals
 
@@ -73,3 +74,6 @@ returns-clause-symbols c =
 pub returns-clause-definitions : goals.returns-clause-definitions
 returns-clause-definitions c =
     omega (arith, definitions_few _ c.in_ok-goals.ensures.extended c.new.ensures, ap length c.into_vec-definitions.ensures, length-map c.into_vec-definitions.result.items called_by, length-map c.args.lifted.items clause_view)
+
+pub returns-clause-collecting : goals.returns-clause-collecting
+returns-clause-collecting c = query_collects (returns-clause-query c) c.requires.alone (may_collect _ _ c.requires.loadable)

@@ -7,18 +7,18 @@ use Rattle.clause_keys.proofs.Indexing.{IsIndexed-symbols, IsIndexed-lifted}
 use Rattle.clause_keys.proofs.callees.Callees.append_lifted.Goals as goal
 
 pub invariant_of-self : goal.invariant_of-self
-invariant_of-self c = IsIndexed-symbols c.self.inside _ c.self.invariant (λ i s e. e) c.in_err-push.ensures.items refl refl
+invariant_of-self c = IsIndexed-symbols c.self.inside _ c.self.invariant (λ i s e. e) c.in_err-push.ensures.items refl refl refl
 
 pub invariant_of-self-in-Ok : goal.invariant_of-self-in-Ok
 invariant_of-self-in-Ok c =
     let n : c.len-found.result ≡ length c.self.inside.list.items = search rules in
-    IsIndexed-lifted c.self.inside _ c.args.number c.args.arity c.self.invariant refl c.in_ok-push.ensures.items refl (rw (← n) c.in-Ok.ensures.updates) (rw c.self.view_is c.requires.room) (rw c.self.view_is c.requires.absent)
+    IsIndexed-lifted c.self.inside _ c.args.number c.args.arity c.self.invariant refl c.in_ok-push.ensures.items refl (rw (← n) c.in-Ok.ensures.updates) refl (rw c.self.view_is c.requires.room) (rw c.self.view_is c.requires.absent)
 
 pub invariant_of-self-in-Err : goal.invariant_of-self-in-Err
 invariant_of-self-in-Err c =
     let n : vec_len c.push.new.self ≡ length c.self.inside.list.items + 1 = search rules in
     let list : c.pop.new.self.items ≡ c.self.inside.list.items = popped c.self.inside.list.items _ _ _ _ c.in_ok-push.ensures.items n c.pop.ensures.rest in
-    IsIndexed-symbols c.self.inside _ c.self.invariant (λ i s e. e) list refl c.in-Err.ensures.err
+    IsIndexed-symbols c.self.inside _ c.self.invariant (λ i s e. e) list refl c.in-Err.ensures.err refl
 
 pub returns-in-Ok-clause-ok : goal.returns-in-Ok-clause-ok
 returns-in-Ok-clause-ok c =

@@ -1,0 +1,15 @@
+pub mod OneForm
+pub mod Places
+pub mod Scopes
+pub mod SizeLaws
+pub mod Standing
+pub mod Going
+pub mod ClauseLists
+pub mod ClauseParts
+pub mod Collects
+pub mod GoalLists
+pub mod Numbered
+pub mod Numbers
+pub mod Lists
+pub mod TermShapes
+pub mod Turns
