@@ -1,6 +1,8 @@
 -- What a chain of stores stands for, and its innermost store.
-use Rattle.std.proofs.Common.{◌≡◌, ℕ, ◌-◌, ◌+◌, List, [], ◌∷◌, ◌++◌, length, take, drop, refl, ◌∙◌, ap, inl, inr, arith}
+use Rattle.std.proofs.Common.{◌≡◌, ℕ, ◌-◌, ◌+◌, List, [], ◌∷◌, ◌++◌, length, take, drop, refl, sym, ◌∙◌, ap, subst, inl, inr, arith}
 use Rattle.akl_terms.specs.declared.term.Node.{Node}
+use Rattle.akl_terms.specs.declared.name.Var.{Var}
+use Rattle.akl_terms.specs.declared.term.Term.{Term}
 use Rattle.akl_terms.specs.Tree.{Tree}
 use Rattle.akl_terms.specs.Equal.{IsTold, told}
 use Rattle.akl_terms.specs.Standing.{StandFor}
@@ -8,8 +10,10 @@ use Rattle.akl_terms.proofs.EqualLaws.{IsTold-left, IsTold-right, IsTold-either}
 use Rattle.akl_terms.proofs.StandingLaws.{StandFor-follows}
 use Rattle.rational_unify.specs.Solving.{bindings_in}
 use Rattle.local_store.specs.Stored.{Stored}
-use Rattle.local_store.specs.Chained.{bindings_from, ToldBy, innermost, around}
-use Rattle.local_store.proofs.Layers.{bindings-either, bindings-left, bindings-right}
+use Rattle.rational_unify.specs.Forms.{IsFormOf}
+use Rattle.rational_unify.specs.Older.{LeadOlder}
+use Rattle.local_store.specs.Chained.{bindings_from, ToldBy, innermost, around, BindOnce, IsSolvedChain}
+use Rattle.local_store.proofs.Layers.{bindings-either, bindings-left, bindings-right, from-last}
 use Rattle.table_laws.specs.Rows.{told_in}
 
 -- chains list the bindings of inner stores first, tables those of outer ones
@@ -62,3 +66,14 @@ take_push ss s = ap (λ (k : ℕ). take k (ss ++ s ∷ [])) (less_one ss s) ∙ 
 
 pub drop_push : (ss : List Stored) (s : Stored) → drop (length (ss ++ s ∷ []) - 1) (ss ++ s ∷ []) ≡ s ∷ []
 drop_push ss s = ap (λ (k : ℕ). drop k (ss ++ s ∷ [])) (less_one ss s) ∙ last_dropped ss s
+
+-- with the same bindings a store is solved as well
+pub same_solved : (nodes : List Node) (ss : List Stored) (s k : Stored) → k.bindings ≡ s.bindings → IsSolvedChain nodes (ss ++ s ∷ []) → IsSolvedChain nodes (ss ++ k ∷ [])
+same_solved nodes ss s k e h = record {
+  form = subst (λ (l : List (Var × Term)). IsFormOf nodes l (IsTold (bindings_in nodes l))) same h.form;
+  older = subst (LeadOlder nodes) same h.older;
+  once = subst BindOnce same h.once;
+}
+  where
+    same : bindings_from (ss ++ s ∷ []) ≡ bindings_from (ss ++ k ∷ [])
+    same = from-last ss s ∙ ap (λ (l : List (Var × Term)). l ++ bindings_from ss) (sym e) ∙ sym (from-last ss k)

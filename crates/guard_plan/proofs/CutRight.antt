@@ -4,7 +4,6 @@ use Rattle.std.specs.Prelude.{slice_index, IsSomeAnd, if◌then◌else◌}
 use Rattle.std.specs.List.{AllByRecursion}
 use Rattle.akl_terms.specs.declared.name.Name.{Name}
 use Rattle.akl_terms.specs.declared.name.Place.{Place}
-use Rattle.akl_terms.specs.declared.program.Op.{Op}
 use Rattle.akl_terms.specs.Names.{same_name}
 use Rattle.akl_terms.proofs.SameNames.{same_name-refl}
 use Rattle.akl_model.specs.declared.item.Item.{Item}
@@ -22,9 +21,10 @@ use Rattle.step_laws.proofs.GoalEdits.{count_alone}
 use Rattle.step_laws.proofs.Stays.{alternative_in}
 use Rattle.plan_laws.specs.Right.{Reads}
 use Rattle.table_laws.specs.Steps.{CutsGoal}
+use Rattle.box_tree.specs.declared.entries.HeldOp.{HeldOp}
 use Rattle.box_tree.specs.declared.step.Step.{Step}
 use Rattle.box_tree.specs.declared.view.Alternative.{Alternative}
-use Rattle.box_tree.specs.Tables.{all_rules, is_empty}
+use Rattle.box_tree.specs.Tables.{all_rules, is_empty, op_held}
 use Rattle.box_tree.specs.Views.{ViewValue, IsViewOf}
 use Rattle.box_tree.specs.Plans.{IsRead, IsRight}
 use Rattle.box_tree.proofs.BoundHere.{kept_bound}
@@ -45,10 +45,11 @@ take_whole : (seen : List Alternative) → take (length seen) seen ≡ seen
 take_whole [] = refl
 take_whole (a ∷ rest) = ap (λ (l : List Alternative). a ∷ l) (take_whole rest)
 
-pub all_cutting : (P : Alternative → Type 0) (o : Op) (seen : List Alternative) → AllByRecursion P seen → AllByRecursion P (cutting o seen)
-all_cutting P Op.Condition seen h = all_take P seen (length seen - 1) h
-all_cutting P Op.Commit seen h = h
-all_cutting P Op.Choice seen h = tt
+pub all_cutting : (P : Alternative → Type 0) (o : HeldOp) (seen : List Alternative) → AllByRecursion P seen → AllByRecursion P (cutting o seen)
+all_cutting P HeldOp.Condition seen h = all_take P seen (length seen - 1) h
+all_cutting P HeldOp.Commit seen h = h
+all_cutting P HeldOp.Choice seen h = tt
+all_cutting P (HeldOp.Collect t) seen h = tt
 
 -- a box without names of goals is solved
 pub solved_empty : (gs : Goals) → is_empty (goal_names gs) ≡ true → IsSolved gs
@@ -119,22 +120,24 @@ module _ (v : ViewValue) (i : IsViewOf v) where
   counted (box b gs cs) [] h = absurd h
   counted (box b gs cs) (a ∷ rest) h = let e : count_of cs ≡ length rest = counted cs rest h.1 in omega arith
 
-  leaves_fewer : (o : Op) (bs : Boxes) (seen : List Alternative) → ArePlaced v i bs seen → length seen ≢ 1 → (n : Name) → Has (cutting o seen) n → count_of (kept_by o n bs) < count_of bs
-  leaves_fewer Op.Condition bs seen h many n q =
+  leaves_fewer : (o : HeldOp) (bs : Boxes) (seen : List Alternative) → ArePlaced v i bs seen → length seen ≢ 1 → (n : Name) → Has (cutting o seen) n → count_of (kept_by (op_held v.table.program.templates.nodes o) n bs) < count_of bs
+  leaves_fewer HeldOp.Condition bs seen h many n q =
       let w : (count_of (up_to n bs) ≤ length seen - 1) × (0 < count_of bs) = up_to_few bs seen h (length seen - 1) n q in
       let x : count_of (up_to n bs) ≤ length seen - 1 = w.0 in let y : 0 < count_of bs = w.1 in let e : count_of bs ≡ length seen = counted bs seen h in
       omega arith
-  leaves_fewer Op.Commit bs seen h many n q =
+  leaves_fewer HeldOp.Commit bs seen h many n q =
       let w : (count_of (up_to n bs) ≤ length seen) × (0 < count_of bs) = up_to_few bs seen h (length seen) n (subst (λ (l : List Alternative). Has l n) (sym (take_whole seen)) q) in
       let x : count_of (alone n bs) ≤ 1 = count_alone n bs in let y : 0 < count_of bs = w.1 in let e : count_of bs ≡ length seen = counted bs seen h in
       omega arith
-  leaves_fewer Op.Choice bs seen h many n q = absurd q
+  leaves_fewer HeldOp.Choice bs seen h many n q = absurd q
+  leaves_fewer (HeldOp.Collect t) bs seen h many n q = absurd q
 
-  among_cutting : (o : Op) (bs : Boxes) (seen : List Alternative) → ArePlaced v i bs seen → (n : Name) → Has (cutting o seen) n
+  among_cutting : (o : HeldOp) (bs : Boxes) (seen : List Alternative) → ArePlaced v i bs seen → (n : Name) → Has (cutting o seen) n
       → (b : Content) × (gs : Goals) × BoxIn [] b gs bs × (n ≡ b.name) × IsSolved gs × IsQuietBox (inside_of i.site b gs)
-  among_cutting Op.Condition bs seen h n q = quiet_among bs seen h (length seen - 1) n q
-  among_cutting Op.Commit bs seen h n q = quiet_among bs seen h (length seen) n (subst (λ (l : List Alternative). Has l n) (sym (take_whole seen)) q)
-  among_cutting Op.Choice bs seen h n q = absurd q
+  among_cutting HeldOp.Condition bs seen h n q = quiet_among bs seen h (length seen - 1) n q
+  among_cutting HeldOp.Commit bs seen h n q = quiet_among bs seen h (length seen) n (subst (λ (l : List Alternative). Has l n) (sym (take_whole seen)) q)
+  among_cutting HeldOp.Choice bs seen h n q = absurd q
+  among_cutting (HeldOp.Collect t) bs seen h n q = absurd q
 
   -- none of the first ones is solved and quiet
   none_first : (cs : Boxes) (seen : List Alternative) → ArePlaced v i cs seen → (k : ℕ) → AllByRecursion (IsNoisyOver v.table.program.templates.nodes v.stores) (take k seen)
@@ -155,18 +158,19 @@ module _ (v : ViewValue) (i : IsViewOf v) where
           noisy.0 (h.0.seen.solved ∙ empty_solved gs (subst (λ (f : Found). IsSolved f.goals) (sym s) solved)) (was_quiet v i b gs x h.0 (subst IsQuietBox (sym s) quiet))
       on false (suc k) noisy e few deeper = deeper k noisy.1 e (omega arith)
 
-  pub none_cuts : (o : Op) (bs : Boxes) (seen : List Alternative) → ArePlaced v i bs seen → AllByRecursion (IsNoisyOver v.table.program.templates.nodes v.stores) (cutting o seen) → NoneCuts i.site o bs
-  none_cuts Op.Condition bs seen h noisy n a e solved quiet few =
+  pub none_cuts : (o : HeldOp) (bs : Boxes) (seen : List Alternative) → ArePlaced v i bs seen → AllByRecursion (IsNoisyOver v.table.program.templates.nodes v.stores) (cutting o seen) → NoneCuts i.site (op_held v.table.program.templates.nodes o) bs
+  none_cuts HeldOp.Condition bs seen h noisy n a e solved quiet few =
       let c : count_of bs ≡ length seen = counted bs seen h in
       none_first bs seen h (length seen - 1) noisy n a e (omega arith) solved quiet
-  none_cuts Op.Commit bs seen h noisy n a e solved quiet few =
+  none_cuts HeldOp.Commit bs seen h noisy n a e solved quiet few =
       let c : count_of bs ≡ length seen = counted bs seen h in
       let w : count_of (up_to n bs) ≤ count_of bs = up_to_within n bs in
       none_first bs seen h (length seen) (subst (AllByRecursion (IsNoisyOver v.table.program.templates.nodes v.stores)) (sym (take_whole seen)) noisy) n a e (omega arith) solved quiet
-  none_cuts Op.Choice bs seen h noisy n a e solved quiet few = omega arith
+  none_cuts HeldOp.Choice bs seen h noisy n a e solved quiet few = omega arith
+  none_cuts (HeldOp.Collect t) bs seen h noisy n a e solved quiet few = omega arith
 
   -- the plan
-  module _ (g : Name) (o : Op) (bs : Boxes) (p : v.place ≡ Place.Goal g) (held : held_in g i.site.goals ≡ Some (a_choice o bs)) (seen : ArePlaced v i bs v.alternatives) (many : length v.alternatives ≢ 1)
+  module _ (g : Name) (o : HeldOp) (bs : Boxes) (p : v.place ≡ Place.Goal g) (held : held_in g i.site.goals ≡ Some (a_choice (op_held v.table.program.templates.nodes o) bs)) (seen : ArePlaced v i bs v.alternatives) (many : length v.alternatives ≢ 1)
       (n : Name) (q : HasQuiet v.table.program.templates.nodes v.stores (cutting o v.alternatives) n) where
     one : (b : Content) × (gs : Goals) × BoxIn [] b gs bs × (n ≡ b.name) × IsSolved gs × IsQuietBox (inside_of i.site b gs)
     one = among_cutting o bs v.alternatives seen n q
@@ -177,16 +181,16 @@ module _ (v : ViewValue) (i : IsViewOf v) where
         let w : (a : Found) × (alternative_of i.site n bs ≡ Some a) = named_some i.site n one.0 one.1 bs one.2 one.3 in
         let x : BoxIn [] w.0.content w.0.goals bs × (w.0.around ≡ i.site.around ++ i.site.content ∷ []) × (n ≡ w.0.content.name) = alternative_in i.site n bs w.0 w.1 in
         let y : inside_of i.site w.0.content w.0.goals ≡ inside_of i.site one.0 one.1 =
-        some_value (sym (placed v i g o bs held w.0.content w.0.goals x.0) ∙ ap (λ (m : Name). box_at m i.table.config.roots) (sym x.2 ∙ one.3) ∙ placed v i g o bs held one.0 one.1 one.2) in
+        some_value (sym (placed v i g (op_held v.table.program.templates.nodes o) bs held w.0.content w.0.goals x.0) ∙ ap (λ (m : Name). box_at m i.table.config.roots) (sym x.2 ∙ one.3) ∙ placed v i g (op_held v.table.program.templates.nodes o) bs held one.0 one.1 one.2) in
         w.1 ∙ ap (λ (r : List Content). Some (record { around = r; content = w.0.content; goals = w.0.goals })) x.1 ∙ ap Some y
 
     abbrev pub label : Label
     label = record { rule = Rule.Cut; place = v.place; alternative = Some n; worker = v.worker }
 
     abbrev change : Change
-    change = becomes i.site.content (with_content g (a_choice o (kept_by o n bs)) i.site.goals) 0
+    change = becomes i.site.content (with_content g (a_choice (op_held v.table.program.templates.nodes o) (kept_by (op_held v.table.program.templates.nodes o) n bs)) i.site.goals) 0
 
-    allowed : MayCut n i.site (Some (a_choice o bs))
+    allowed : MayCut n i.site (Some (a_choice (op_held v.table.program.templates.nodes o) bs))
     allowed = (subst (λ (a : Option Found). IsSomeAnd a (λ (f : Found). IsSolved f.goals × IsQuietBox f)) (sym is_one) (one.4, one.5), leaves_fewer o bs v.alternatives seen many n q)
 
     makes : Makes (Allows v.table.program) v.table.program (slice_index i.table.config.next v.worker) label i.site change
@@ -198,7 +202,7 @@ module _ (v : ViewValue) (i : IsViewOf v) where
     }
 
     cuts_goal : CutsGoal i.site g n
-    cuts_goal = record { operator = o; alternatives = bs; held = held; named = named_in one.0 one.1 bs one.2 one.3 }
+    cuts_goal = record { operator = op_held v.table.program.templates.nodes o; alternatives = bs; held = held; named = named_in one.0 one.1 bs one.2 one.3 }
       where
         named_in : (b : Content) (gs : Goals) (cs : Boxes) → BoxIn [] b gs cs → n ≡ b.name → IsIn n (box_names cs)
         named_in b gs no_boxes h e = h
@@ -219,6 +223,6 @@ module _ (v : ViewValue) (i : IsViewOf v) where
       names = refl;
       reads = subst (λ (x : Place). Reads (IsRead (Item.Goal g ∷ map Item.Store v.path)) Rule.Cut x (Some n) i.site) (sym p) (goal_reads v i g);
       binds = kept_bound all_rules v.table.program i.table.config label (after i.table.config label i.site change) (stand v i) applies i.site.content
-          (with_content g (a_choice o (kept_by o n bs)) i.site.goals) no_boxes refl refl;
-      there = items_there v i g (a_choice o bs) held;
+          (with_content g (a_choice (op_held v.table.program.templates.nodes o) (kept_by (op_held v.table.program.templates.nodes o) n bs)) i.site.goals) no_boxes refl refl;
+      there = items_there v i g (a_choice (op_held v.table.program.templates.nodes o) bs) held;
     }

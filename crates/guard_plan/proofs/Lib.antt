@@ -8,8 +8,14 @@ pub mod HasNone
 pub mod ChoiceNone
 pub mod Placed
 pub mod CutRight
+pub mod JoinRight
 pub mod PromoteRight
+pub mod Listed
+pub mod Gathering
+pub mod CollectNone
+pub mod CollectRight
 pub mod Chosen
+pub mod Collected
 pub mod Tested
 pub mod OneOf
 pub mod Noises

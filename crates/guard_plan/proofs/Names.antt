@@ -41,15 +41,15 @@ named_with (m ∷ ms) n = on (name_cmp n m) (same_name n m) (is_before n m) (nam
     on Greater false true e l h = cc
     on Greater false false e l h = ap (λ (l : List Name). m ∷ l) h
 
-frames_with : (s : Stored) (ns : List Name) → (with_frames s ns).frames ≡ with_names ns s.frames
+pub frames_with : (s : Stored) (ns : List Name) → (with_frames s ns).frames ≡ with_names ns s.frames
 frames_with s [] = refl
 frames_with s (n ∷ ns) = named_with (with_frames s ns).frames n ∙ ap (with_name n) (frames_with s ns)
 
-ports_frames : (s : Stored) (ps : List (Name × Term)) → (with_ports s ps).frames ≡ s.frames
+pub ports_frames : (s : Stored) (ps : List (Name × Term)) → (with_ports s ps).frames ≡ s.frames
 ports_frames s [] = refl
 ports_frames s (p ∷ ps) = ports_frames s ps
 
-frames_ports : (s : Stored) (ns : List Name) → (with_frames s ns).ports ≡ s.ports
+pub frames_ports : (s : Stored) (ns : List Name) → (with_frames s ns).ports ≡ s.ports
 frames_ports s [] = refl
 frames_ports s (n ∷ ns) = frames_ports s ns
 
@@ -76,7 +76,7 @@ port_put nodes (p ∷ ps) q t h = on (name_cmp q p.0) (same_name q p.0) (is_befo
     on Greater s true e l f g = cc
     on Greater s false e l f g = ap (λ (l : List Port). record { name = p.0; tail = tree nodes p.1 } ∷ l) g
 
-ports_with : (nodes : List Node) (s : Stored) (ps : List (Name × Term)) → ((n : Name) → times_in n (port_names (ports_in nodes ps)) + times_in n (port_names (ports_in nodes s.ports)) ≤ 1)
+pub ports_with : (nodes : List Node) (s : Stored) (ps : List (Name × Term)) → ((n : Name) → times_in n (port_names (ports_in nodes ps)) + times_in n (port_names (ports_in nodes s.ports)) ≤ 1)
     → ports_in nodes (with_ports s ps).ports ≡ model.with_ports (ports_in nodes ps) (ports_in nodes s.ports)
 ports_with nodes s [] h = refl
 ports_with nodes s (p ∷ ps) h = port_put nodes (with_ports s ps).ports p.0 p.1 (none (ports_with nodes s ps once)) ∙ ap (with_port (record { name = p.0; tail = tree nodes p.1 })) (ports_with nodes s ps once)

@@ -3,14 +3,14 @@ use Rattle.std.proofs.Common.{◌≡◌, ◌≢◌, ℕ, ◌+◌, ◌<◌, List,
 use Rattle.std.proofs.lemmas.Bool.{false≢true}
 use Rattle.akl_terms.specs.declared.term.Node.{Node}
 use Rattle.akl_terms.specs.declared.term.Term.{Term}
-use Rattle.akl_terms.specs.declared.program.Op.{Op}
 use Rattle.local_store.specs.Stored.{Stored}
 use Rattle.entail_test.specs.declared.noise.Quietness.{Quietness}
+use Rattle.box_tree.specs.declared.entries.HeldOp.{HeldOp}
 use Rattle.box_tree.specs.declared.view.Alternative.{Alternative}
 use Rattle.box_tree.specs.declared.view.Sight.{Sight}
 use Rattle.box_tree.specs.Views.{ViewValue}
 use Rattle.guard_plan.specs.declared.guards.Noise.{Noise}
-use Rattle.guard_plan.specs.Guards.{IsQuietInside, IsNoisyOver, cutting}
+use Rattle.guard_plan.specs.Guards.{IsGuarded, IsQuietInside, IsNoisyOver, AreAllSolved, cutting}
 use Rattle.guard_plan.specs.Noisy.{AnswersInside, IsConsistentInside, IsNoiseInside, AddsNoise, AddsGuardNoise, HasNoise, AreNoisy, tested, IsNoiseAt}
 use Rattle.guard_plan.proofs.Tested.{all_next}
 use Rattle.guard_plan.proofs.OneOf.{one_push, one_last, one_pushed, still_one, also_one, one_or_last}
@@ -27,8 +27,8 @@ module _ (nodes : List Node) (ss : List Stored) (old : List Noise) where
   clash_adds left right a = inr (λ c. absurd (a.1.differ (c.heads a.0 a.1.is_left a.1.is_right)), refl)
 
 -- of a guard that asks for consistency alone nothing is said
-pub unasked : (o : Op) → o ≡ Op.Choice → (nodes : List Node) (ss : List Stored) (old new : List Noise) → AddsGuardNoise o nodes ss old new
-unasked o e nodes ss old new = subst (λ (p : Op). AddsGuardNoise p nodes ss old new) (sym e) tt
+pub unasked : (o : HeldOp) → o ≡ HeldOp.Choice → (nodes : List Node) (ss : List Stored) (old new : List Noise) → AddsGuardNoise o nodes ss old new
+unasked o e nodes ss old new = subst (λ (p : HeldOp). AddsGuardNoise p nodes ss old new) (sym e) tt
 
 module _ (nodes : List Node) (path : List Stored) where
   pub none_heard : HasNoise nodes path [] []
@@ -82,35 +82,43 @@ module _ (nodes : List Node) (path : List Stored) where
   pub alone_tested : (a : Alternative) → a.solved ≡ true → (new : List Noise) → AddsNoise nodes (path ++ a.store ∷ []) [] new → HasNoise nodes path (a ∷ []) new
   alone_tested a s = tested_next (a ∷ []) 0 a (omega arith) [] none_heard s
 
-tested_cutting : (o : Op) (seen : List Alternative) → length seen ≢ 1 → tested o seen ≡ cutting o seen
+tested_cutting : (o : HeldOp) (seen : List Alternative) → length seen ≢ 1 → tested o seen ≡ cutting o seen
 tested_cutting o [] n = refl
 tested_cutting o (a ∷ []) n = absurd (n refl)
 tested_cutting o (a ∷ b ∷ rest) n = refl
 
 -- at the place of a view
-module _ (v : ViewValue) (o : Op) (sees : v.sight ≡ Sight.Choice o) (noise : List Noise) where
+module _ (v : ViewValue) (o : HeldOp) (guarded : IsGuarded o) (sees : v.sight ≡ Sight.Choice o) (noise : List Noise) where
   pub noise_of_cut : length v.alternatives ≢ 1 → HasNoise v.table.program.templates.nodes v.stores (cutting o v.alternatives) noise → IsNoiseAt v v.sight noise
-  noise_of_cut many h = subst (λ (s : Sight). IsNoiseAt v s noise) (sym sees) (by o (subst (λ (l : List Alternative). HasNoise v.table.program.templates.nodes v.stores l noise) (sym (tested_cutting o v.alternatives many)) h))
+  noise_of_cut many h = subst (λ (s : Sight). IsNoiseAt v s noise) (sym sees) (by o guarded (subst (λ (l : List Alternative). HasNoise v.table.program.templates.nodes v.stores l noise) (sym (tested_cutting o v.alternatives many)) h))
     where
-      by : (p : Op) → HasNoise v.table.program.templates.nodes v.stores (tested p v.alternatives) noise → IsNoiseAt v (Sight.Choice p) noise
-      by Op.Condition x = x
-      by Op.Commit x = x
-      by Op.Choice x = tt
+      by : (p : HeldOp) → IsGuarded p → HasNoise v.table.program.templates.nodes v.stores (tested p v.alternatives) noise → IsNoiseAt v (Sight.Choice p) noise
+      by HeldOp.Condition q x = x
+      by HeldOp.Commit q x = x
+      by HeldOp.Choice q x = tt
+      by (HeldOp.Collect t) q x = absurd q
 
   module _ (a : Alternative) (only : v.alternatives ≡ a ∷ []) where
-    by_only : (p : Op) → HasNoise v.table.program.templates.nodes v.stores (a ∷ []) noise → IsNoiseAt v (Sight.Choice p) noise
-    by_only Op.Condition x = subst (λ (l : List Alternative). HasNoise v.table.program.templates.nodes v.stores (tested Op.Condition l) noise) (sym only) x
-    by_only Op.Commit x = subst (λ (l : List Alternative). HasNoise v.table.program.templates.nodes v.stores (tested Op.Commit l) noise) (sym only) x
-    by_only Op.Choice x = tt
+    by_only : (p : HeldOp) → IsGuarded p → HasNoise v.table.program.templates.nodes v.stores (a ∷ []) noise → IsNoiseAt v (Sight.Choice p) noise
+    by_only HeldOp.Condition q x = subst (λ (l : List Alternative). HasNoise v.table.program.templates.nodes v.stores (tested HeldOp.Condition l) noise) (sym only) x
+    by_only HeldOp.Commit q x = subst (λ (l : List Alternative). HasNoise v.table.program.templates.nodes v.stores (tested HeldOp.Commit l) noise) (sym only) x
+    by_only HeldOp.Choice q x = tt
+    by_only (HeldOp.Collect t) q x = absurd q
 
     pub noise_unsolved : a.solved ≡ false → noise ≡ [] → IsNoiseAt v v.sight noise
     noise_unsolved n e = subst (λ (s : Sight). IsNoiseAt v s noise) (sym sees)
-        (by_only o (subst (HasNoise v.table.program.templates.nodes v.stores (a ∷ [])) (sym e) (alone_unsolved v.table.program.templates.nodes v.stores a n)))
+        (by_only o guarded (subst (HasNoise v.table.program.templates.nodes v.stores (a ∷ [])) (sym e) (alone_unsolved v.table.program.templates.nodes v.stores a n)))
 
     pub noise_of_promote : a.solved ≡ true → (old : List Noise) → old ≡ [] → AddsGuardNoise o v.table.program.templates.nodes (v.stores ++ a.store ∷ []) old noise → IsNoiseAt v v.sight noise
-    noise_of_promote s old e g = subst (λ (t : Sight). IsNoiseAt v t noise) (sym sees) (by o (subst (λ (l : List Noise). AddsGuardNoise o v.table.program.templates.nodes (v.stores ++ a.store ∷ []) l noise) e g))
+    noise_of_promote s old e g = subst (λ (t : Sight). IsNoiseAt v t noise) (sym sees) (by o guarded (subst (λ (l : List Noise). AddsGuardNoise o v.table.program.templates.nodes (v.stores ++ a.store ∷ []) l noise) e g))
       where
-        by : (p : Op) → AddsGuardNoise p v.table.program.templates.nodes (v.stores ++ a.store ∷ []) [] noise → IsNoiseAt v (Sight.Choice p) noise
-        by Op.Condition x = by_only Op.Condition (alone_tested v.table.program.templates.nodes v.stores a s noise x)
-        by Op.Commit x = by_only Op.Commit (alone_tested v.table.program.templates.nodes v.stores a s noise x)
-        by Op.Choice x = tt
+        by : (p : HeldOp) → IsGuarded p → AddsGuardNoise p v.table.program.templates.nodes (v.stores ++ a.store ∷ []) [] noise → IsNoiseAt v (Sight.Choice p) noise
+        by HeldOp.Condition q x = by_only HeldOp.Condition q (alone_tested v.table.program.templates.nodes v.stores a s noise x)
+        by HeldOp.Commit q x = by_only HeldOp.Commit q (alone_tested v.table.program.templates.nodes v.stores a s noise x)
+        by HeldOp.Choice q x = tt
+        by (HeldOp.Collect t) q x = absurd q
+
+-- of a choice that collects
+module _ (v : ViewValue) (t : Term) (sees : v.sight ≡ Sight.Choice (HeldOp.Collect t)) (noise : List Noise) where
+  pub noise_of_collect : (AreAllSolved v.alternatives → HasNoise v.table.program.templates.nodes v.stores v.alternatives noise) → IsNoiseAt v v.sight noise
+  noise_of_collect h = subst (λ (s : Sight). IsNoiseAt v s noise) (sym sees) h

@@ -3,12 +3,11 @@ use Rattle.std.proofs.Common.{◌≡◌, List, [], ◌∷◌, ◌++◌, Some, re
 use Rattle.std.specs.List.{AllByRecursion}
 use Rattle.akl_terms.specs.declared.name.Name.{Name}
 use Rattle.akl_terms.specs.declared.name.Var.{Var}
-use Rattle.akl_terms.specs.declared.program.Op.{Op}
 use Rattle.akl_terms.specs.Equal.{Equations, IsTold, IsQuiet}
 use Rattle.akl_terms.specs.Standing.{StandFor}
 use Rattle.akl_terms.specs.Touching.{IsLocal, IsOutside}
 use Rattle.constraint_laws.specs.Growth.{TellsOver}
-use Rattle.akl_model.specs.Config.{Content, Boxes, no_boxes, box, Goals, a_choice, held_in, Found, environment, whole, box_at}
+use Rattle.akl_model.specs.Config.{Operator, Content, Boxes, no_boxes, box, Goals, a_choice, held_in, Found, environment, whole, box_at}
 use Rattle.akl_model.specs.Conditions.{IsQuietBox, GuardHolds}
 use Rattle.akl_model.specs.Stable.{only, frames_of, frames_inside}
 use Rattle.akl_model.specs.Wakes.{names_around, names_down_to}
@@ -23,8 +22,9 @@ use Rattle.table_laws.specs.Rows.{BoxRow, store_in, stores_along, told_in, ports
 use Rattle.table_laws.specs.Unfolds.{IsBoxRow}
 use Rattle.table_laws.proofs.Stores.{stores_join}
 use Rattle.table_laws.proofs.Frame.{row_of}
+use Rattle.box_tree.specs.declared.entries.HeldOp.{HeldOp}
 use Rattle.box_tree.specs.declared.view.Alternative.{Alternative}
-use Rattle.box_tree.specs.Tables.{all_rules, table_of}
+use Rattle.box_tree.specs.Tables.{all_rules, op_held, table_of}
 use Rattle.box_tree.specs.Views.{ViewValue, IsViewOf, IsSeen, AreSeen}
 use Rattle.guard_plan.specs.Guards.{IsTestable, IsQuietInside, HoldsInside}
 use Rattle.guard_plan.proofs.ChoiceNone.{inside_of}
@@ -42,14 +42,14 @@ module _ (v : ViewValue) (i : IsViewOf v) where
   ArePlaced (box b gs bs) (a ∷ rest) = IsPlaced b gs a × ArePlaced bs rest
   ArePlaced bs seen = ⊥
 
-  stands_there : (g : Name) (o : Op) (bs : Boxes) → held_in g i.site.goals ≡ Some (a_choice o bs) → (b : Content) (gs : Goals) → BoxIn [] b gs bs → Stands (inside_of i.site b gs) i.table.config.roots
+  stands_there : (g : Name) (o : Operator) (bs : Boxes) → held_in g i.site.goals ≡ Some (a_choice o bs) → (b : Content) (gs : Goals) → BoxIn [] b gs bs → Stands (inside_of i.site b gs) i.table.config.roots
   stands_there g o bs held b gs h = in_deeper i.site.around i.site.content i.site.goals [] b gs i.table.config.roots (found_in i.site.content.name i.table.config.roots i.site (found v i))
       (held_inside g o bs [] b gs i.site.goals held h)
 
-  pub placed : (g : Name) (o : Op) (bs : Boxes) → held_in g i.site.goals ≡ Some (a_choice o bs) → (b : Content) (gs : Goals) → BoxIn [] b gs bs → box_at b.name i.table.config.roots ≡ Some (inside_of i.site b gs)
+  pub placed : (g : Name) (o : Operator) (bs : Boxes) → held_in g i.site.goals ≡ Some (a_choice o bs) → (b : Content) (gs : Goals) → BoxIn [] b gs bs → box_at b.name i.table.config.roots ≡ Some (inside_of i.site b gs)
   placed g o bs held b gs h = named_found i.table.config.roots (stand v i).once b.name (inside_of i.site b gs) (stands_there g o bs held b gs h) refl
 
-  pub all_placed : (g : Name) (o : Op) (bs : Boxes) → held_in g i.site.goals ≡ Some (a_choice o bs) → (cs : Boxes) → ((b : Content) (gs : Goals) → BoxIn [] b gs cs → BoxIn [] b gs bs) → (seen : List Alternative)
+  pub all_placed : (g : Name) (o : Operator) (bs : Boxes) → held_in g i.site.goals ≡ Some (a_choice o bs) → (cs : Boxes) → ((b : Content) (gs : Goals) → BoxIn [] b gs cs → BoxIn [] b gs bs) → (seen : List Alternative)
       → AreSeen (table_of v.table) v.stores cs seen → ArePlaced cs seen
   all_placed g o bs held no_boxes among [] h = tt
   all_placed g o bs held no_boxes among (a ∷ rest) h = h
@@ -114,15 +114,17 @@ module _ (v : ViewValue) (i : IsViewOf v) where
     was_quiet q = quiet_store v.table.program.templates.nodes v.stores a.store (environment (inside_of i.site b gs)) b.equations environment_stands all_stand
         (subst (λ (fs : List Name). IsQuiet (environment (inside_of i.site b gs)) (IsLocal fs) b.equations) (sym frames_are) q)
 
-    pub guard_is : (o : Op) → HoldsInside o v.table.program.templates.nodes (v.stores ++ a.store ∷ []) → GuardHolds o (inside_of i.site b gs)
-    guard_is Op.Choice c = consistent_box v.table.program.templates.nodes v.stores a.store (environment (inside_of i.site b gs)) b.equations environment_stands all_stand c
-    guard_is Op.Condition q = is_quiet q
-    guard_is Op.Commit q = is_quiet q
+    pub guard_is : (o : HeldOp) → HoldsInside o v.table.program.templates.nodes (v.stores ++ a.store ∷ []) → GuardHolds (op_held v.table.program.templates.nodes o) (inside_of i.site b gs)
+    guard_is HeldOp.Choice c = consistent_box v.table.program.templates.nodes v.stores a.store (environment (inside_of i.site b gs)) b.equations environment_stands all_stand c
+    guard_is HeldOp.Condition q = is_quiet q
+    guard_is HeldOp.Commit q = is_quiet q
+    guard_is (HeldOp.Collect t) h = h
 
-    pub guard_was : (o : Op) → GuardHolds o (inside_of i.site b gs) → HoldsInside o v.table.program.templates.nodes (v.stores ++ a.store ∷ [])
-    guard_was Op.Choice c = consistent_store v.table.program.templates.nodes v.stores a.store (environment (inside_of i.site b gs)) b.equations environment_stands all_stand c
-    guard_was Op.Condition q = was_quiet q
-    guard_was Op.Commit q = was_quiet q
+    pub guard_was : (o : HeldOp) → GuardHolds (op_held v.table.program.templates.nodes o) (inside_of i.site b gs) → HoldsInside o v.table.program.templates.nodes (v.stores ++ a.store ∷ [])
+    guard_was HeldOp.Choice c = consistent_store v.table.program.templates.nodes v.stores a.store (environment (inside_of i.site b gs)) b.equations environment_stands all_stand c
+    guard_was HeldOp.Condition q = was_quiet q
+    guard_was HeldOp.Commit q = was_quiet q
+    guard_was (HeldOp.Collect t) h = h
 
   pub all_testable : (cs : Boxes) (seen : List Alternative) → ArePlaced cs seen → AllByRecursion (IsTestable v.table.program.templates.nodes v.stores) seen
   all_testable no_boxes [] h = tt

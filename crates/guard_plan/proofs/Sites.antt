@@ -1,5 +1,5 @@
 -- What a view shows of the box of its place.
-use Rattle.std.proofs.Common.{◌≡◌, List, [], ◌∷◌, ◌++◌, Option, Some, sym, ◌∙◌, ap, subst, inl, inr}
+use Rattle.std.proofs.Common.{◌≡◌, ◌+◌, ◌<◌, List, [], ◌∷◌, ◌++◌, length, Option, Some, sym, ◌∙◌, ap, subst, inl, inr, arith}
 use Rattle.std.specs.Prelude.{option_map, option_and_then, is_some, IsSome}
 use Rattle.akl_terms.specs.declared.name.Name.{Name}
 use Rattle.akl_terms.specs.declared.name.Place.{Place}
@@ -23,6 +23,7 @@ use Rattle.table_laws.proofs.Frame.{row_of, around_stands}
 use Rattle.box_tree.specs.declared.view.Sight.{Sight}
 use Rattle.box_tree.specs.Tables.{all_rules, table_of}
 use Rattle.box_tree.specs.Views.{ViewValue, IsViewOf, Shows}
+use Rattle.guard_plan.proofs.Chains.{long_push}
 
 -- the items of a box that is found have rows
 module _ (T : Table) (c : Config) (s : Stand c) (u : Unfolds T c) (f : Found) (e : box_at f.content.name c.roots ≡ Some f) where
@@ -67,6 +68,13 @@ module _ (v : ViewValue) (i : IsViewOf v) where
   pub stores_split : v.stores ≡ stores_along (table_of v.table) (names_around i.site) ++ row.0.store ∷ []
   stores_split = stores_path ∙ stores_join (table_of v.table) (names_around i.site) (i.site.content.name ∷ [])
       ∙ ap (λ (o : Option BoxRow). stores_along (table_of v.table) (names_around i.site) ++ store_in o ∷ []) row.1
+
+  pub some_stores : 0 < length v.stores
+  some_stores =
+      let k : length v.stores ≡ length (stores_along (table_of v.table) (names_around i.site) ++ row.0.store ∷ []) = ap (λ (ss : List Stored). length ss) stores_split in
+      let m : length (stores_along (table_of v.table) (names_around i.site) ++ row.0.store ∷ []) ≡ length (stores_along (table_of v.table) (names_around i.site)) + 1 =
+      long_push (stores_along (table_of v.table) (names_around i.site)) row.0.store in
+      omega arith
 
   pub shows_at : (place : Place) (sight : Sight) → v.place ≡ place → v.sight ≡ sight → Shows v.table.program.templates.nodes place i.site sight
   shows_at place sight p s = subst (Shows v.table.program.templates.nodes place i.site) s (subst (λ (q : Place). Shows v.table.program.templates.nodes q i.site v.sight) p i.shows)

@@ -1,5 +1,5 @@
 -- What tests of guards answer.
-use Rattle.std.proofs.Common.{◌≡◌, ℕ, zero, suc, ◌+◌, ◌-◌, ◌<◌, inl, inr, List, [], ◌∷◌, ◌++◌, length, take, true, false, refl, sym, subst, arith, slice_index_or}
+use Rattle.std.proofs.Common.{◌≡◌, ℕ, zero, suc, ◌+◌, ◌-◌, ◌<◌, inl, inr, List, [], ◌∷◌, ◌++◌, length, take, Bool, true, false, refl, sym, subst, arith, slice_index_or}
 use Rattle.std.specs.Prelude.{IsTrue, ◌↔◌}
 use Rattle.std.specs.List.{AllByRecursion}
 use Rattle.std.proofs.lemmas.Bool.{false≢true}
@@ -54,3 +54,18 @@ module _ (nodes : List Node) (path : List Stored) where
   all_index P [] k d l h = absurd (omega arith)
   all_index P (x ∷ xs) zero d l h = h.0
   all_index P (x ∷ xs) (suc k) d l h = all_index P xs k d (omega arith) h.1
+
+  -- whether all of them are as one was found to be
+  pub all_but_one : (P : Alternative → Type 0) (xs : List Alternative) (k : ℕ) (d : Alternative) → k < length xs → AllByRecursion P (take (k + 1) xs) → AllByRecursion P (take k xs) × P (slice_index_or xs k d)
+  all_but_one P xs k d l h = pop (take k xs) (subst (AllByRecursion P) (take-next xs k (k + 1) d l (omega arith)) h)
+    where
+      pop : (ys : List Alternative) → AllByRecursion P (ys ++ slice_index_or xs k d ∷ []) → AllByRecursion P ys × P (slice_index_or xs k d)
+      pop [] h = (tt, h.0)
+      pop (y ∷ ys) h = let w : AllByRecursion P ys × P (slice_index_or xs k d) = pop ys h.1 in ((h.0, w.0), w.1)
+
+  pub one_more : (P : Alternative → Type 0) (xs : List Alternative) (k : ℕ) (d : Alternative) → k < length xs → (b : Bool) → IsTrue b ↔ AllByRecursion P (take k xs) → P (slice_index_or xs k d)
+      → IsTrue b ↔ AllByRecursion P (take (k + 1) xs)
+  one_more P xs k d l b h p = (λ e. all_next P xs k d l (h.0 e) p, λ a. h.1 (all_but_one P xs k d l a).0)
+
+  pub one_fails : (P : Alternative → Type 0) (xs : List Alternative) (k : ℕ) (d : Alternative) → k < length xs → (P (slice_index_or xs k d) → ⊥) → IsTrue false ↔ AllByRecursion P (take (k + 1) xs)
+  one_fails P xs k d l n = (λ e. absurd (false≢true e), λ a. absurd (n (all_but_one P xs k d l a).1))

@@ -1,13 +1,14 @@
 -- What is tested of alternatives, by the stores down to them.
-use Rattle.std.specs.Prelude.{◌≡◌, ℕ, ◌+◌, ◌-◌, List, [], ◌∷◌, ◌++◌, length, take, ◌⊎◌, true}
+use Rattle.std.specs.Prelude.{◌≡◌, ℕ, ◌+◌, ◌-◌, List, [], ◌∷◌, ◌++◌, length, take, ◌⊎◌, true, ⊤}
+use Rattle.std.specs.List.{AllByRecursion}
 use Rattle.akl_terms.specs.declared.name.Name.{Name}
 use Rattle.akl_terms.specs.declared.term.Node.{Node}
-use Rattle.akl_terms.specs.declared.program.Op.{Op}
 use Rattle.akl_terms.specs.declared.program.Goal.{Goal}
 use Rattle.akl_terms.specs.Equal.{IsConsistentBy}
 use Rattle.local_store.specs.Stored.{Stored}
 use Rattle.local_store.specs.Chained.{ToldBy, IsKnown, around}
 use Rattle.entail_test.specs.Asked.{KeepsApartAt, IsQuietAt}
+use Rattle.box_tree.specs.declared.entries.HeldOp.{HeldOp}
 use Rattle.box_tree.specs.declared.view.Alternative.{Alternative}
 
 -- the innermost store is quiet under the others
@@ -18,16 +19,36 @@ IsQuietInside nodes ss = IsQuietAt nodes ss (length ss - 1)
 abbrev pub KeepsApartInside : List Node → List Stored → Type 0
 KeepsApartInside nodes ss = IsConsistentBy (ToldBy nodes (around ss)) → KeepsApartAt nodes ss (length ss - 1)
 
+-- a choice goes on by the guard of one of its alternatives, unless it collects them all
+abbrev pub IsGuarded : HeldOp → Type 0
+IsGuarded HeldOp.Condition = ⊤
+IsGuarded HeldOp.Commit = ⊤
+IsGuarded HeldOp.Choice = ⊤
+IsGuarded (HeldOp.Collect t) = ⊥
+
 -- the guard of a solved alternative holds, whose store is the innermost
-abbrev pub HoldsInside : Op → List Node → List Stored → Type 0
-HoldsInside Op.Choice nodes ss = IsConsistentBy (ToldBy nodes ss)
-HoldsInside Op.Condition nodes ss = IsQuietInside nodes ss
-HoldsInside Op.Commit nodes ss = IsQuietInside nodes ss
+abbrev pub HoldsInside : HeldOp → List Node → List Stored → Type 0
+HoldsInside HeldOp.Choice nodes ss = IsConsistentBy (ToldBy nodes ss)
+HoldsInside HeldOp.Condition nodes ss = IsQuietInside nodes ss
+HoldsInside HeldOp.Commit nodes ss = IsQuietInside nodes ss
+HoldsInside (HeldOp.Collect t) nodes ss = ⊥
 
 -- what is known of an alternative under the stores of a path
 pub record IsTestable (nodes : List Node) (path : List Stored) (a : Alternative) : Type 0 where
   pub known : IsKnown nodes (path ++ a.store ∷ []) a.known
   pub apart : KeepsApartInside nodes (path ++ a.store ∷ [])
+
+-- an alternative is quiet
+abbrev pub IsQuietOver : List Node → List Stored → Alternative → Type 0
+IsQuietOver nodes path a = IsQuietInside nodes (path ++ a.store ∷ [])
+
+-- each alternative is solved
+abbrev pub AreAllSolved : List Alternative → Type 0
+AreAllSolved seen = AllByRecursion (λ a. a.solved ≡ true) seen
+
+-- each is quiet
+abbrev pub AreQuietOver : List Node → List Stored → List Alternative → Type 0
+AreQuietOver nodes path seen = AllByRecursion (IsQuietOver nodes path) seen
 
 -- an alternative isn't both solved and quiet
 abbrev pub IsNoisyOver : List Node → List Stored → Alternative → Type 0
@@ -39,10 +60,11 @@ HasQuiet nodes path [] n = ⊥
 HasQuiet nodes path (a ∷ rest) n = ((n ≡ a.name) × (a.solved ≡ true) × IsQuietInside nodes (path ++ a.store ∷ [])) ⊎ HasQuiet nodes path rest n
 
 -- the alternatives that leave fewer than there are, where there isn't one alone
-abbrev pub cutting : Op → List Alternative → List Alternative
-cutting Op.Condition alternatives = take (length alternatives - 1) alternatives
-cutting Op.Commit alternatives = alternatives
-cutting Op.Choice alternatives = []
+abbrev pub cutting : HeldOp → List Alternative → List Alternative
+cutting HeldOp.Condition alternatives = take (length alternatives - 1) alternatives
+cutting HeldOp.Commit alternatives = alternatives
+cutting HeldOp.Choice alternatives = []
+cutting (HeldOp.Collect t) alternatives = []
 
 -- goals under a worker's names from a number on
 abbrev pub numbered_goals : ℕ → ℕ → List Goal → List (Name × Goal)

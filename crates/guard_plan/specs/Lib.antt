@@ -1,3 +1,4 @@
 pub mod Planned
 pub mod Guards
+pub mod Collecting
 pub mod Noisy

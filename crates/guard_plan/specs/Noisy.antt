@@ -2,18 +2,18 @@
 use Rattle.std.specs.Prelude.{◌≡◌, ◌-◌, List, [], ◌∷◌, ◌++◌, length, ◌⊎◌, true, Option, Some, None}
 use Rattle.std.specs.List.{AllByRecursion}
 use Rattle.akl_terms.specs.declared.term.Node.{Node}
-use Rattle.akl_terms.specs.declared.program.Op.{Op}
 use Rattle.akl_terms.specs.Equal.{IsConsistent}
 use Rattle.akl_model.specs.declared.label.Rule.{Rule}
 use Rattle.local_store.specs.Stored.{Stored}
 use Rattle.entail_test.specs.declared.noise.Quietness.{Quietness}
 use Rattle.entail_test.specs.Asked.{whole_at, AreTouchedAt, Answers}
+use Rattle.box_tree.specs.declared.entries.HeldOp.{HeldOp}
 use Rattle.box_tree.specs.declared.view.Alternative.{Alternative}
 use Rattle.box_tree.specs.declared.view.Sight.{Sight}
 use Rattle.box_tree.specs.Views.{ViewValue}
 use Rattle.box_tree.specs.Plans.{PlanValue}
 use Rattle.guard_plan.specs.declared.guards.Noise.{Noise}
-use Rattle.guard_plan.specs.Guards.{IsQuietInside, IsNoisyOver, cutting}
+use Rattle.guard_plan.specs.Guards.{IsQuietInside, IsNoisyOver, AreAllSolved, cutting}
 use Rattle.guard_plan.specs.Planned.{IsPlanOf, HasNoRule}
 
 -- the answer for the innermost store
@@ -33,10 +33,11 @@ abbrev pub AddsNoise : List Node → List Stored → List Noise → List Noise �
 AddsNoise nodes ss old new = ((n : Noise) × IsNoiseInside nodes ss n × (new ≡ old ++ n ∷ [])) ⊎ ((IsConsistentInside nodes ss → IsQuietInside nodes ss) × (new ≡ old))
 
 -- the same of the innermost store's guard, unless it asks for consistency alone
-abbrev pub AddsGuardNoise : Op → List Node → List Stored → List Noise → List Noise → Type 0
-AddsGuardNoise Op.Choice nodes ss old new = Unit {0}
-AddsGuardNoise Op.Condition nodes ss old new = AddsNoise nodes ss old new
-AddsGuardNoise Op.Commit nodes ss old new = AddsNoise nodes ss old new
+abbrev pub AddsGuardNoise : HeldOp → List Node → List Stored → List Noise → List Noise → Type 0
+AddsGuardNoise HeldOp.Choice nodes ss old new = Unit {0}
+AddsGuardNoise HeldOp.Condition nodes ss old new = AddsNoise nodes ss old new
+AddsGuardNoise HeldOp.Commit nodes ss old new = AddsNoise nodes ss old new
+AddsGuardNoise (HeldOp.Collect t) nodes ss old new = Unit {0}
 
 -- one of a list
 abbrev pub IsOne : (A : Type 0) → A → List A → Type 0
@@ -54,14 +55,16 @@ abbrev pub AreNoisy : List Node → List Stored → List Alternative → List No
 AreNoisy nodes path seen noise = AllByRecursion (IsNoisyOver nodes path) seen × HasNoise nodes path seen noise
 
 -- the alternatives whose guards are tested: one that stands alone, or those that may cut others off
-abbrev pub tested : Op → List Alternative → List Alternative
+abbrev pub tested : HeldOp → List Alternative → List Alternative
 tested op (only ∷ []) = only ∷ []
 tested op seen = cutting op seen
 
--- what the tests of guards found of what is seen at the place of a view: nothing is said but of a choice by `->` or `|`
+-- what the tests of guards found of what is seen at the place of a view: of a choice by `->` or `|`, and of one that collects where all
+-- its alternatives are solved. Nothing is said of anything else
 abbrev pub IsNoiseAt : ViewValue → Sight → List Noise → Type 0
-IsNoiseAt v (Sight.Choice Op.Condition) noise = HasNoise v.table.program.templates.nodes v.stores (tested Op.Condition v.alternatives) noise
-IsNoiseAt v (Sight.Choice Op.Commit) noise = HasNoise v.table.program.templates.nodes v.stores (tested Op.Commit v.alternatives) noise
+IsNoiseAt v (Sight.Choice HeldOp.Condition) noise = HasNoise v.table.program.templates.nodes v.stores (tested HeldOp.Condition v.alternatives) noise
+IsNoiseAt v (Sight.Choice HeldOp.Commit) noise = HasNoise v.table.program.templates.nodes v.stores (tested HeldOp.Commit v.alternatives) noise
+IsNoiseAt v (Sight.Choice (HeldOp.Collect t)) noise = AreAllSolved v.alternatives → HasNoise v.table.program.templates.nodes v.stores v.alternatives noise
 IsNoiseAt v sight noise = Unit {0}
 
 -- a right plan of a rule other than Split, or none where no such rule applies, with what the tests of guards found

@@ -4,13 +4,13 @@ ghost use Rattle.std.specs.Prelude.{◌≡◌, ◌≢◌, [], IfOk, length};
 ghost use Rattle.akl_terms.specs.declared.name.Place.{Place};
 ghost use Rattle.box_tree.specs.declared.view.Sight.{Sight};
 ghost use Rattle.guard_plan.specs.Noisy.{IsTriedBy};
-ghost use Rattle.guard_plan.specs.Guards.{cutting};
+ghost use Rattle.guard_plan.specs.Guards.{IsGuarded, cutting};
 
 use crate::guards::{Noise, first_quiet};
 use crate::labels::{goal_and_stores, label_for};
 use akl_model::Rule;
-use akl_terms::{Name, Op, Program};
-use box_tree::{Alternative, Plan, Step, View};
+use akl_terms::{Name, Program};
+use box_tree::{Alternative, HeldOp, Plan, Step, View};
 use std::alloc::{AllocError, Global};
 
 // The plan by which a choice that hasn't one alternative alone loses those for which a solved and quiet one leaves no
@@ -20,12 +20,13 @@ pub(crate) fn cut(
     program: &Program,
     view: &View,
     goal: Name,
-    op: Op,
+    op: HeldOp,
     noise: &mut Vec<Noise>,
 ) -> Result<Option<Plan>, AllocError>
     requires program { program.now ≡ view.now.table.program }
     requires place { view.now.place ≡ Place.Goal goal }
     requires sight { view.now.sight ≡ Sight.Choice op }
+    requires guarded { IsGuarded op }
     requires not_one { length view.now.alternatives ≢ 1 }
     requires silent { noise.old.items ≡ [] }
     ensures { IfOk result (IsTriedBy view.now noise.new.items) }
@@ -41,13 +42,13 @@ pub(crate) fn cut(
 }
 
 // The alternatives that leave fewer than there are, where others stand beside them: with `->` all but the last, with
-// `|` all, and with `?` none.
-fn candidates(op: Op, alternatives: &[Alternative]) -> &[Alternative]
+// `|` all, and else none.
+fn candidates(op: HeldOp, alternatives: &[Alternative]) -> &[Alternative]
     ensures { result.now ≡ cutting op alternatives.now }
 {
     match op {
-        Op::Condition => &alternatives[..alternatives.len().saturating_sub(1)],
-        Op::Commit => alternatives,
-        Op::Choice => &alternatives[..0],
+        HeldOp::Condition => &alternatives[..alternatives.len().saturating_sub(1)],
+        HeldOp::Commit => alternatives,
+        HeldOp::Choice | HeldOp::Collect(_) => &alternatives[..0],
     }
 }

@@ -3,14 +3,17 @@
 ghost use Rattle.std.specs.Prelude.{◌≡◌, ◌-◌, ◌++◌, ◌∷◌, [], IfOk, IsTrue, ◌↔◌, MatchOption, length};
 ghost use Rattle.std.specs.List.{AllByRecursion};
 ghost use Rattle.entail_test.specs.Asked.{Answers};
-ghost use Rattle.guard_plan.specs.Guards.{KeepsApartInside, IsQuietInside, HoldsInside, IsTestable, HasQuiet};
-ghost use Rattle.guard_plan.specs.Noisy.{AddsNoise, AddsGuardNoise, AreNoisy};
+ghost use Rattle.guard_plan.specs.Guards.{KeepsApartInside, IsQuietInside, HoldsInside, IsTestable, HasQuiet, AreAllSolved, AreQuietOver};
+ghost use Rattle.guard_plan.specs.Noisy.{AddsNoise, AddsGuardNoise, AreNoisy, HasNoise};
 
-use akl_terms::{Name, Op, Templates, Var};
-use box_tree::Alternative;
+use akl_terms::{Name, Templates, Var};
+use box_tree::{Alternative, HeldOp};
 use entail_test::{Quietness, quiet};
 use local_store::{Chain, Consistency, Shared, Store, consistent};
 use std::alloc::{AllocError, Global};
+
+// One less than the number of names that are too many for one label.
+pub(crate) const MOST: u64 = 4294967295;
 
 /// What a solved alternative touches that is consistent with the stores around it, but isn't quiet: one variable from
 /// outside of each class.
@@ -23,7 +26,7 @@ pub struct Noise {
 // comes to the end of the noise.
 pub(crate) fn guard_holds(
     alloc: Global,
-    op: Op,
+    op: HeldOp,
     chain: &Chain,
     noise: &mut Vec<Noise>,
 ) -> Result<bool, AllocError>
@@ -32,11 +35,12 @@ pub(crate) fn guard_holds(
     ensures noise { IfOk result (λ _. AddsGuardNoise op chain.now.nodes chain.now.stores noise.old.items noise.new.items) }
 {
     match op {
-        Op::Choice => match consistent(alloc, chain)? {
+        HeldOp::Choice => match consistent(alloc, chain)? {
             Consistency::Consistent => Ok(true),
             Consistency::Clash { .. } => Ok(false),
         },
-        Op::Condition | Op::Commit => is_quiet(alloc, chain, noise),
+        HeldOp::Condition | HeldOp::Commit => is_quiet(alloc, chain, noise),
+        HeldOp::Collect(_) => Ok(false),
     }
 }
 
@@ -115,6 +119,31 @@ fn is_quiet_over(
     let holds = is_quiet(alloc, &chain, noise)?;
     path.pop();
     Ok(holds)
+}
+
+// Whether these alternatives, which are solved, are quiet under the stores of a path. What they touch otherwise comes to
+// the noise.
+pub(crate) fn are_quiet(
+    alloc: Global,
+    templates: &Templates,
+    path: &[Shared<Store>],
+    alternatives: &[Alternative],
+    noise: &mut Vec<Noise>,
+) -> Result<bool, AllocError>
+    requires testable { AllByRecursion (IsTestable templates.now.nodes path.now) alternatives.now }
+    requires solved { AreAllSolved alternatives.now }
+    requires silent { noise.old.items ≡ [] }
+    ensures quiet { IfOk result (λ quiet. IsTrue quiet ↔ AreQuietOver templates.now.nodes path.now alternatives.now) }
+    ensures noise { IfOk result (λ _. HasNoise templates.now.nodes path.now alternatives.now noise.new.items) }
+{
+    let mut stores = shared(alloc, path)?;
+    let mut quiet = true;
+    for alternative in alternatives {
+        if !is_quiet_over(alloc, templates, &mut stores, alternative, noise)? {
+            quiet = false;
+        }
+    }
+    Ok(quiet)
 }
 
 /// The same stores again.

@@ -1,6 +1,6 @@
-//! What plans at goals read, and labels for an alternative.
+//! What plans at goals read, and their labels.
 
-ghost use Rattle.std.specs.Prelude.{◌≡◌, Some, IfOk, ◌∷◌, map};
+ghost use Rattle.std.specs.Prelude.{◌≡◌, Some, None, IfOk, ◌∷◌, map};
 ghost use Rattle.akl_model.specs.declared.item.Item.{Item};
 ghost use Rattle.box_tree.specs.Views.{IsViewOf};
 
@@ -30,6 +30,19 @@ pub fn label_for(view: &View, rule: Rule, alternative: Name) -> Label
         rule,
         place: view.place(),
         alternative: Some(alternative),
+        worker: view.worker(),
+    }
+}
+
+/// The label of a rule at the view's place, by its worker.
+pub fn label_of(view: &View, rule: Rule) -> Label
+    ensures label { result ≡ record { rule = rule; place = view.now.place; alternative = None; worker = view.now.worker } }
+    ensures seen { IsViewOf view.now }
+{
+    Label {
+        rule,
+        place: view.place(),
+        alternative: None,
         worker: view.worker(),
     }
 }

@@ -4,19 +4,16 @@ ghost use Rattle.std.specs.Prelude.{◌≡◌, ◌+◌, ◌<◌, ◌^◌, ◌∷
 ghost use Rattle.akl_terms.specs.declared.name.Place.{Place};
 ghost use Rattle.box_tree.specs.declared.view.Sight.{Sight};
 ghost use Rattle.guard_plan.specs.Noisy.{IsTriedBy};
-ghost use Rattle.guard_plan.specs.Guards.{numbered_goals};
+ghost use Rattle.guard_plan.specs.Guards.{IsGuarded, numbered_goals};
 
-use crate::guards::{Noise, guard_holds, shared};
+use crate::guards::{MOST, Noise, guard_holds, shared};
 use crate::labels::{goal_and_stores, label_for};
 use akl_model::Rule;
-use akl_terms::{Goal, Name, Op, Program};
-use box_tree::{Alternative, Plan, Step, View};
+use akl_terms::{Goal, Name, Program};
+use box_tree::{Alternative, HeldOp, Plan, Step, View};
 use class_members::members;
 use local_store::{Chain, Shared, ToldStore, promoted};
 use std::alloc::{AllocError, Global};
-
-// One less than the number of names that are too many for one label.
-const MOST: u64 = 4294967295;
 
 // The plan by which the only alternative of a choice joins the box, where it is solved and its guard holds. What it
 // touches otherwise comes to the noise.
@@ -25,13 +22,14 @@ pub(crate) fn promote(
     program: &Program,
     view: &View,
     goal: Name,
-    op: Op,
+    op: HeldOp,
     only: &Alternative,
     noise: &mut Vec<Noise>,
 ) -> Result<Option<Plan>, AllocError>
     requires program { program.now ≡ view.now.table.program }
     requires place { view.now.place ≡ Place.Goal goal }
     requires sight { view.now.sight ≡ Sight.Choice op }
+    requires guarded { IsGuarded op }
     requires only { view.now.alternatives ≡ only.now ∷ [] }
     requires silent { noise.old.items ≡ [] }
     ensures { IfOk result (IsTriedBy view.now noise.new.items) }
@@ -62,7 +60,7 @@ pub(crate) fn promote(
     };
     let goals = numbered(alloc, first, view.body())?;
     let reads = goal_and_stores(alloc, goal, view.path())?;
-    let step = Step::Promote {
+    let step = Step::Join {
         store,
         solved,
         goals,

@@ -6,14 +6,14 @@ use Rattle.akl_terms.specs.declared.name.Name.{Name}
 use Rattle.akl_terms.specs.declared.name.Var.{Var}
 use Rattle.akl_terms.specs.declared.name.Place.{Place}
 use Rattle.akl_terms.specs.declared.term.Node.{Node}
-use Rattle.akl_terms.specs.declared.program.Op.{Op}
+use Rattle.akl_terms.specs.declared.term.Term.{Term}
 use Rattle.akl_terms.specs.Names.{same_name}
 use Rattle.akl_terms.specs.Tree.{variable}
 use Rattle.akl_terms.specs.Equal.{Equations, IsTold, Equal, IsConsistent}
 use Rattle.akl_terms.specs.Standing.{StandFor}
 use Rattle.akl_terms.proofs.SameNames.{same_name-refl}
 use Rattle.akl_terms.proofs.StandingLaws.{StandFor-on}
-use Rattle.akl_model.specs.Config.{Content, Boxes, no_boxes, box, Goals, Held, an_atom, a_choice, held_in, Found, environment, whole, box_at, site_of, home_of}
+use Rattle.akl_model.specs.Config.{Operator, Content, Boxes, no_boxes, box, Goals, Held, an_atom, a_choice, held_in, Found, environment, whole, box_at, site_of, home_of}
 use Rattle.akl_model.specs.Conditions.{IsSolved}
 use Rattle.akl_model.specs.Rules.{alternative_of}
 use Rattle.akl_model.specs.Stable.{by_equations}
@@ -22,19 +22,21 @@ use Rattle.akl_model.proofs.Options.{some_value}
 use Rattle.akl_model.proofs.ScopesKept.{around_outside}
 use Rattle.constraint_laws.specs.Oldest.{IsOldest}
 use Rattle.constraint_laws.specs.Touched.{IsAmong}
-use Rattle.sleep_laws.specs.Sleeps.{IsOutermostAt, IsAliasAt}
+use Rattle.sleep_laws.specs.Sleeps.{Matters, IsOutermostAt, IsAliasAt}
+use Rattle.sleep_laws.specs.Sleeps as sleeps
 use Rattle.step_laws.specs.Whereabouts.{BoxIn}
 use Rattle.step_laws.proofs.Stays.{alternative_in}
 use Rattle.local_store.specs.Stored.{Stored}
 use Rattle.entail_test.specs.Asked.{frames_from}
 use Rattle.local_store.specs.Chained.{equations_of}
 use Rattle.class_members.specs.Members.{outermost_of}
+use Rattle.box_tree.specs.declared.entries.HeldOp.{HeldOp}
 use Rattle.box_tree.specs.declared.view.Alternative.{Alternative}
 use Rattle.box_tree.specs.declared.view.Sight.{Sight}
-use Rattle.box_tree.specs.Tables.{all_rules, table_of}
+use Rattle.box_tree.specs.Tables.{all_rules, op_held, table_of}
 use Rattle.box_tree.specs.Views.{ViewValue, IsViewOf, AreSeen, alternatives_held, alternatives_at}
 use Rattle.table_laws.specs.Rows.{told_in}
-use Rattle.guard_plan.specs.Guards.{IsTestable}
+use Rattle.guard_plan.specs.Guards.{IsTestable, AreAllSolved}
 use Rattle.guard_plan.specs.Noisy.{IsOne}
 use Rattle.guard_plan.proofs.Chains.{told_stands, take_push, drop_push}
 use Rattle.guard_plan.proofs.ChoiceNone.{inside_of}
@@ -108,23 +110,26 @@ module _ (v : ViewValue) (i : IsViewOf v) where
   seen_of (box c hs cs) (x ∷ rest) h b gs (inr (inl k)) = let z : [] ≡ c ∷ k.0 = k.1 in cc
   seen_of (box c hs cs) (x ∷ rest) h b gs (inr (inr k)) = let w : (a : Alternative) × IsOne Alternative a rest × IsPlaced v i b gs a = seen_of cs rest h.1 b gs k in (w.0, inr w.1, w.2)
 
-  module _ (g : Name) (o : Op) (at : v.place ≡ Place.Goal g) (sees : v.sight ≡ Sight.Choice o) (list : List Var) (h : AreToldBy v.table.program.templates.nodes v.stores v.alternatives list) where
+  module _ (g : Name) (o : HeldOp) (at : v.place ≡ Place.Goal g) (sees : v.sight ≡ Sight.Choice o) (list : List Var) (h : AreToldBy v.table.program.templates.nodes v.stores v.alternatives list) where
     home : home_of g i.table.config.roots ≡ Some i.site
     home = subst (λ (q : Place). site_of q i.table.config.roots ≡ Some i.site) at i.is_site
 
-    shown : (bs : Boxes) × (held_in g i.site.goals ≡ Some (a_choice o bs))
+    abbrev operator : Operator
+    operator = op_held v.table.program.templates.nodes o
+
+    shown : (bs : Boxes) × (held_in g i.site.goals ≡ Some (a_choice (op_held v.table.program.templates.nodes o) bs))
     shown = shows_at v i (Place.Goal g) (Sight.Choice o) at sees
 
     are_placed : ArePlaced v i shown.0 v.alternatives
-    are_placed = all_placed v i g o shown.0 shown.1 shown.0 (λ b gs k. k) v.alternatives
+    are_placed = all_placed v i g operator shown.0 shown.1 shown.0 (λ b gs k. k) v.alternatives
         (subst (λ (bs : Boxes). AreSeen (table_of v.table) v.stores bs v.alternatives) (ap (λ (q : Place). alternatives_at q i.site) at ∙ ap alternatives_held shown.1) i.alternatives)
 
     named : (b : Content) (gs : Goals) → BoxIn [] b gs shown.0 → alternative_of i.site b.name shown.0 ≡ Some (inside_of i.site b gs)
     named b gs k =
         let w : (a : Found) × (alternative_of i.site b.name shown.0 ≡ Some a) = named_some i.site b gs shown.0 k in
         let u : BoxIn [] w.0.content w.0.goals shown.0 × (w.0.around ≡ i.site.around ++ i.site.content ∷ []) × (b.name ≡ w.0.content.name) = alternative_in i.site b.name shown.0 w.0 w.1 in
-        let x : box_at b.name i.table.config.roots ≡ Some (inside_of i.site b gs) = placed v i g o shown.0 shown.1 b gs k in
-        let y : box_at w.0.content.name i.table.config.roots ≡ Some (inside_of i.site w.0.content w.0.goals) = placed v i g o shown.0 shown.1 w.0.content w.0.goals u.0 in
+        let x : box_at b.name i.table.config.roots ≡ Some (inside_of i.site b gs) = placed v i g operator shown.0 shown.1 b gs k in
+        let y : box_at w.0.content.name i.table.config.roots ≡ Some (inside_of i.site w.0.content w.0.goals) = placed v i g operator shown.0 shown.1 w.0.content w.0.goals u.0 in
         let z : inside_of i.site w.0.content w.0.goals ≡ inside_of i.site b gs = some_value (sym y ∙ sym (ap (λ (m : Name). box_at m i.table.config.roots) u.2) ∙ x) in
         let q : w.0 ≡ inside_of i.site w.0.content w.0.goals = λ j. record { around = u.1 j; content = w.0.content; goals = w.0.goals } in
         w.1 ∙ ap Some (q ∙ z)
@@ -162,7 +167,7 @@ module _ (v : ViewValue) (i : IsViewOf v) where
     enough : (x : Var) → NeedsOwn v.table.program i.table.config (Place.Goal g) x → (y : Var) × IsAmong y list × IsAliasAt i.table.config v.place y x
     enough x (inl n) = absurd (other (sym (subst (λ (f : Found). held_in g f.goals ≡ Some (an_atom n.atom)) (some_value (sym n.is_home ∙ home)) n.is_atom) ∙ shown.1))
       where
-        other : Some (an_atom n.atom) ≡ Some (a_choice o shown.0) → ⊥
+        other : Some (an_atom n.atom) ≡ Some (a_choice operator shown.0) → ⊥
         other e = cc
     enough x (inr n) = enough_placed x n.box.content n.box.goals (subst (BoxIn [] n.box.content n.box.goals) same_boxes u.0) n.solved
         (subst (λ (f : Found). IsConsistent (whole f)) is_inside n.consistent) (subst (λ (f : Found). TellsOutside f x) is_inside n.tells)
@@ -170,11 +175,11 @@ module _ (v : ViewValue) (i : IsViewOf v) where
         same : n.home ≡ i.site
         same = some_value (sym n.is_home ∙ home)
 
-        held : Some (a_choice n.op n.boxes) ≡ Some (a_choice o shown.0)
+        held : Some (a_choice n.op n.boxes) ≡ Some (a_choice operator shown.0)
         held = sym (subst (λ (f : Found). held_in g f.goals ≡ Some (a_choice n.op n.boxes)) same n.is_choice) ∙ shown.1
 
         same_boxes : n.boxes ≡ shown.0
-        same_boxes = let e : Some (a_choice n.op n.boxes) ≡ Some (a_choice o shown.0) = held in cc
+        same_boxes = let e : Some (a_choice n.op n.boxes) ≡ Some (a_choice operator shown.0) = held in cc
 
         u : BoxIn [] n.box.content n.box.goals n.boxes × (n.box.around ≡ n.home.around ++ n.home.content ∷ []) × (n.name ≡ n.box.content.name)
         u = alternative_in n.home n.name n.boxes n.box n.is_box
@@ -189,23 +194,46 @@ module _ (v : ViewValue) (i : IsViewOf v) where
       oldest = record { each = oldest };
     }
 
--- a `?` choice needs nothing by its alternatives
-module _ (v : ViewValue) (i : IsViewOf v) (g : Name) (at : v.place ≡ Place.Goal g) (sees : v.sight ≡ Sight.Choice Op.Choice) where
+-- a choice of which it doesn't matter whether an alternative is quiet needs nothing by its alternatives
+module _ (v : ViewValue) (i : IsViewOf v) (g : Name) (o : HeldOp) (at : v.place ≡ Place.Goal g) (sees : v.sight ≡ Sight.Choice o) where
+  abbrev held_by : Operator
+  held_by = op_held v.table.program.templates.nodes o
+
   own_home : home_of g i.table.config.roots ≡ Some i.site
   own_home = subst (λ (q : Place). site_of q i.table.config.roots ≡ Some i.site) at i.is_site
 
-  own_choice : (bs : Boxes) × (held_in g i.site.goals ≡ Some (a_choice Op.Choice bs))
-  own_choice = shows_at v i (Place.Goal g) (Sight.Choice Op.Choice) at sees
+  own_choice : (bs : Boxes) × (held_in g i.site.goals ≡ Some (a_choice (op_held v.table.program.templates.nodes o) bs))
+  own_choice = shows_at v i (Place.Goal g) (Sight.Choice o) at sees
 
-  none_needed : (x : Var) → NeedsOwn v.table.program i.table.config (Place.Goal g) x → ⊥
-  none_needed x (inl n) = other (sym (subst (λ (f : Found). held_in g f.goals ≡ Some (an_atom n.atom)) (some_value (sym n.is_home ∙ own_home)) n.is_atom) ∙ own_choice.1)
+  none_needed : (Matters held_by own_choice.0 → ⊥) → (x : Var) → NeedsOwn v.table.program i.table.config (Place.Goal g) x → ⊥
+  none_needed not x (inl n) = other (sym (subst (λ (f : Found). held_in g f.goals ≡ Some (an_atom n.atom)) (some_value (sym n.is_home ∙ own_home)) n.is_atom) ∙ own_choice.1)
     where
-      other : Some (an_atom n.atom) ≡ Some (a_choice Op.Choice own_choice.0) → ⊥
+      other : Some (an_atom n.atom) ≡ Some (a_choice held_by own_choice.0) → ⊥
       other e = cc
-  none_needed x (inr n) = n.other (same (sym (subst (λ (f : Found). held_in g f.goals ≡ Some (a_choice n.op n.boxes)) (some_value (sym n.is_home ∙ own_home)) n.is_choice) ∙ own_choice.1))
+  none_needed not x (inr n) = not (matters (sym (subst (λ (f : Found). held_in g f.goals ≡ Some (a_choice n.op n.boxes)) (some_value (sym n.is_home ∙ own_home)) n.is_choice) ∙ own_choice.1))
     where
-      same : Some (a_choice n.op n.boxes) ≡ Some (a_choice Op.Choice own_choice.0) → n.op ≡ Op.Choice
-      same e = cc
+      matters : Some (a_choice n.op n.boxes) ≡ Some (a_choice held_by own_choice.0) → Matters held_by own_choice.0
+      matters e = let q : n.op ≡ held_by = cc in let r : n.boxes ≡ own_choice.0 = cc in subst (Matters held_by) r (subst (λ (u : Operator). Matters u n.boxes) q n.matters)
 
-  pub undecided_suffices : Suffices v.table.program i.table.config v.place (NeedsOwn v.table.program i.table.config v.place) []
-  undecided_suffices = record { concern = λ y m. absurd m; enough = λ x n. absurd (none_needed x (subst (λ (q : Place). NeedsOwn v.table.program i.table.config q x) at n)); oldest = record { each = λ f h x w m k. absurd m } }
+  nothing_suffices : (Matters held_by own_choice.0 → ⊥) → Suffices v.table.program i.table.config v.place (NeedsOwn v.table.program i.table.config v.place) []
+  nothing_suffices not = record {
+    concern = λ y m. absurd m;
+    enough = λ x n. absurd (none_needed not x (subst (λ (q : Place). NeedsOwn v.table.program i.table.config q x) at n));
+    oldest = record { each = λ f h x w m k. absurd m };
+  }
+
+  -- alternatives that are solved are seen so
+  all_seen : (bs : Boxes) (seen : List Alternative) → AreSeen (table_of v.table) v.stores bs seen → sleeps.AreSolved bs → AreAllSolved seen
+  all_seen no_boxes [] s h = tt
+  all_seen no_boxes (a ∷ rest) s h = absurd s
+  all_seen (box b gs bs) [] s h = absurd s
+  all_seen (box b gs bs) (a ∷ rest) s h = (s.0.solved ∙ empty_solved gs h.0, all_seen bs rest s.1 h.1)
+
+  own_seen : AreSeen (table_of v.table) v.stores own_choice.0 v.alternatives
+  own_seen = subst (λ (bs : Boxes). AreSeen (table_of v.table) v.stores bs v.alternatives) (ap (λ (q : Place). alternatives_at q i.site) at ∙ ap alternatives_held own_choice.1) i.alternatives
+
+  pub undecided_suffices : o ≡ HeldOp.Choice → Suffices v.table.program i.table.config v.place (NeedsOwn v.table.program i.table.config v.place) []
+  undecided_suffices e = nothing_suffices (λ m. subst (λ (u : HeldOp). Matters (op_held v.table.program.templates.nodes u) own_choice.0) e m)
+
+  pub unsolved_suffices : (result : Term) → o ≡ HeldOp.Collect result → (AreAllSolved v.alternatives → ⊥) → Suffices v.table.program i.table.config v.place (NeedsOwn v.table.program i.table.config v.place) []
+  unsolved_suffices result e u = nothing_suffices (λ m. u (all_seen own_choice.0 v.alternatives own_seen (subst (λ (h : HeldOp). Matters (op_held v.table.program.templates.nodes h) own_choice.0) e m)))

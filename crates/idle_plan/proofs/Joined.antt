@@ -1,17 +1,17 @@
 -- A place that isn't ready is idle by what was read and listed.
-use Rattle.std.proofs.Common.{◌≡◌, true, ℕ, ◌+◌, ◌-◌, ◌≤◌, List, [], ◌∷◌, ◌++◌, length, map, Some, refl, sym, ◌∙◌, ap, subst, arith, length-append}
+use Rattle.std.proofs.Common.{◌≡◌, true, ℕ, ◌+◌, ◌-◌, ◌≤◌, List, [], ◌∷◌, ◌++◌, length, map, Some, refl, sym, ◌∙◌, ap, subst, inl, inr, arith, length-append}
 use Rattle.std.proofs.lemmas.List.{length-map}
 use Rattle.akl_terms.specs.declared.name.Name.{Name}
 use Rattle.akl_terms.specs.declared.name.Var.{Var}
 use Rattle.akl_terms.specs.declared.name.Place.{Place}
-use Rattle.akl_terms.specs.declared.program.Op.{Op}
 use Rattle.akl_terms.specs.declared.program.Program.{Program}
 use Rattle.akl_model.specs.declared.item.Item.{Item}
 use Rattle.akl_model.specs.Config.{Content, Held, an_atom, a_choice, held_in}
 use Rattle.akl_model.specs.Wakes.{names_around}
 use Rattle.box_tree.specs.declared.inside.Inside.{Inside}
+use Rattle.box_tree.specs.declared.entries.HeldOp.{HeldOp}
 use Rattle.box_tree.specs.declared.view.Sight.{Sight}
-use Rattle.box_tree.specs.Tables.{goal_atom}
+use Rattle.box_tree.specs.Tables.{op_held, goal_atom}
 use Rattle.box_tree.specs.Views.{ViewValue, IsViewOf}
 use Rattle.box_tree.specs.Insides.{IsInsideOf}
 use Rattle.guard_plan.proofs.Sites.{shows_at}
@@ -21,7 +21,7 @@ use Rattle.idle_plan.specs.Read.{sets_in}
 use Rattle.idle_plan.specs.Waits.{AreToldAround, AreOwnWaits, AreReachedInside}
 use Rattle.idle_plan.proofs.Awaiting.{awaited_suffices}
 use Rattle.idle_plan.proofs.BoxesAround.{around_suffices}
-use Rattle.idle_plan.proofs.ChoiceWaits.{choice_suffices, undecided_suffices}
+use Rattle.idle_plan.proofs.ChoiceWaits.{choice_suffices, undecided_suffices, unsolved_suffices}
 use Rattle.idle_plan.proofs.InsideWaits.{inside_suffices}
 use Rattle.idle_plan.proofs.Needed.{NeedsAround, NeedsOwn, Suffices, both_concern, both_enough, both_oldest}
 use Rattle.idle_plan.proofs.Paths.{count_around, stores_long}
@@ -48,14 +48,17 @@ module _ (v : ViewValue) (i : IsViewOf v) where
     -- a goal is an atom or a choice
     held_by : (s : Sight) → v.sight ≡ s → (h : Held) × (held_in g i.site.goals ≡ Some h)
     held_by (Sight.Atom a) e = (an_atom (goal_atom v.table.program.templates.nodes a), shows_at v i (Place.Goal g) (Sight.Atom a) at e)
-    held_by (Sight.Choice o) e = let w : _ = shows_at v i (Place.Goal g) (Sight.Choice o) at e in (a_choice o w.0, w.1)
+    held_by (Sight.Choice o) e = let w : _ = shows_at v i (Place.Goal g) (Sight.Choice o) at e in (a_choice (op_held v.table.program.templates.nodes o) w.0, w.1)
     held_by (Sight.Box failing) e = absurd (shows_at v i (Place.Goal g) (Sight.Box failing) at e)
 
     own_suffices : (s : Sight) → v.sight ≡ s → (own : List Var) → AreOwnWaits v.table.program v s own → Suffices v.table.program i.table.config v.place (NeedsOwn v.table.program i.table.config v.place) own
     own_suffices (Sight.Atom a) e own o = awaited_suffices v i g a at e own o
-    own_suffices (Sight.Choice Op.Choice) e own o = subst (Suffices v.table.program i.table.config v.place (NeedsOwn v.table.program i.table.config v.place)) (sym o) (undecided_suffices v i g at e)
-    own_suffices (Sight.Choice Op.Condition) e own o = choice_suffices v i g Op.Condition at e own o
-    own_suffices (Sight.Choice Op.Commit) e own o = choice_suffices v i g Op.Commit at e own o
+    own_suffices (Sight.Choice HeldOp.Choice) e own o = subst (Suffices v.table.program i.table.config v.place (NeedsOwn v.table.program i.table.config v.place)) (sym o) (undecided_suffices v i g HeldOp.Choice at e refl)
+    own_suffices (Sight.Choice HeldOp.Condition) e own o = choice_suffices v i g HeldOp.Condition at e own o
+    own_suffices (Sight.Choice HeldOp.Commit) e own o = choice_suffices v i g HeldOp.Commit at e own o
+    own_suffices (Sight.Choice (HeldOp.Collect result)) e own (inl o) = choice_suffices v i g (HeldOp.Collect result) at e own o.1
+    own_suffices (Sight.Choice (HeldOp.Collect result)) e own (inr o) =
+        subst (Suffices v.table.program i.table.config v.place (NeedsOwn v.table.program i.table.config v.place)) (sym o.1) (unsolved_suffices v i g (HeldOp.Collect result) at e result refl o.0)
     own_suffices (Sight.Box failing) e own o = absurd (shows_at v i (Place.Goal g) (Sight.Box failing) at e)
 
     pub goal_idle : IsUnready v → (around own : List Var) → AreToldAround v.table.program.templates.nodes v.stores (length v.path) around → AreOwnWaits v.table.program v v.sight own

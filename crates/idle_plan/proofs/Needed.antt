@@ -3,17 +3,16 @@ use Rattle.std.proofs.Common.{◌≡◌, List, ◌++◌, Some, ◌⊎◌, inl, i
 use Rattle.akl_terms.specs.declared.name.Name.{Name}
 use Rattle.akl_terms.specs.declared.name.Var.{Var}
 use Rattle.akl_terms.specs.declared.name.Place.{Place}
-use Rattle.akl_terms.specs.declared.program.Op.{Op}
 use Rattle.akl_terms.specs.declared.program.Program.{Program}
 use Rattle.akl_terms.specs.Tree.{variable}
 use Rattle.akl_terms.specs.Equal.{Equal, IsConsistent}
-use Rattle.akl_model.specs.Config.{Atom, Boxes, Config, an_atom, a_choice, held_in, Found, environment, whole, box_at, home_of}
+use Rattle.akl_model.specs.Config.{Operator, Atom, Boxes, Config, an_atom, a_choice, held_in, Found, environment, whole, box_at, home_of}
 use Rattle.akl_model.specs.Conditions.{IsSolved}
 use Rattle.akl_model.specs.Rules.{alternative_of}
 use Rattle.akl_model.specs.Stable.{only, frames_of, AtomWaitsOn, TouchesFrom}
 use Rattle.akl_model.specs.Wakes.{StandsIn, SomeBox, TellsOutside, Concerns}
 use Rattle.constraint_laws.specs.Touched.{IsAmong}
-use Rattle.sleep_laws.specs.Sleeps.{Needs, of_box_around, of_atom, of_alternative, of_box, IsAliasAt, IsEnough}
+use Rattle.sleep_laws.specs.Sleeps.{Matters, Needs, of_box_around, of_atom, of_alternative, of_box, IsAliasAt, IsEnough}
 use Rattle.wait_laws.specs.Waits.{HasOldestAt}
 use Rattle.idle_plan.proofs.Gathering.{among_left, among_right, among_either}
 
@@ -37,14 +36,14 @@ pub record NeedsAwaited (p : Program) (c : Config) (g : Name) (x : Var) : Type 0
   pub waits : AtomWaitsOn p (whole home) atom on
   pub equal : Equal (whole home) (variable x) (variable on)
 
--- by a solved alternative of a choice
+-- by a solved alternative of a choice, where it matters whether it is quiet
 pub record NeedsAlternative (c : Config) (g : Name) (x : Var) : Type 0 where
   pub home : Found
-  pub op : Op
+  pub op : Operator
   pub boxes : Boxes
   pub name : Name
   pub box : Found
-  pub other : op ≡ Op.Choice → ⊥
+  pub matters : Matters op boxes
   pub is_home : home_of g c.roots ≡ Some home
   pub is_choice : held_in g home.goals ≡ Some (a_choice op boxes)
   pub is_box : alternative_of home name boxes ≡ Some box
@@ -65,8 +64,8 @@ NeedsOwn p c (Place.Box n) x = NeedsInside p c n x
 needs_by : (p : Program) (c : Config) (place : Place) (x : Var) → Needs p c place x → NeedsAround c place x ⊎ NeedsOwn p c place x
 needs_by p c place x (of_box_around n h e still t) = inl (record { name = n; box = _; stands = h; is_box = e; consistent = still; tells = t })
 needs_by p c place x (of_atom e h still k q) = inr (inl (record { home = _; atom = _; on = _; is_home = e; is_atom = h; consistent = still; waits = k; equal = q }))
-needs_by p c place x (of_alternative n not_choice e h a solved still t) =
-    inr (inr (record { home = _; op = _; boxes = _; name = n; box = _; other = not_choice; is_home = e; is_choice = h; is_box = a; solved = solved; consistent = still; tells = t }))
+needs_by p c place x (of_alternative n matters e h a solved still t) =
+    inr (inr (record { home = _; op = _; boxes = _; name = n; box = _; matters = matters; is_home = e; is_choice = h; is_box = a; solved = solved; consistent = still; tells = t }))
 needs_by p c place x (of_box e s) = inr (record { box = _; is_box = e; touches = s })
 
 -- each of a list concerns a place, it is enough for what is needed in one way, and it has the oldest of each class

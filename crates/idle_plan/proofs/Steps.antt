@@ -4,7 +4,6 @@ use Rattle.std.proofs.lemmas.List.{length-take-le}
 use Rattle.akl_terms.specs.declared.name.Var.{Var}
 use Rattle.akl_terms.specs.declared.term.Node.{Node}
 use Rattle.akl_terms.specs.declared.term.Term.{Term}
-use Rattle.akl_terms.specs.declared.program.Op.{Op}
 use Rattle.akl_terms.specs.Equal.{IsConsistent}
 use Rattle.akl_model.specs.Config.{Found}
 use Rattle.local_store.specs.Stored.{Stored}
@@ -12,6 +11,7 @@ use Rattle.entail_test.specs.declared.noise.Quietness.{Quietness}
 use Rattle.entail_test.specs.Asked.{KeepsApartAt, AreTouchedAt}
 use Rattle.local_store.specs.Chained.{equations_of}
 use Rattle.class_members.specs.Members.{AreMembers}
+use Rattle.box_tree.specs.declared.entries.HeldOp.{HeldOp}
 use Rattle.box_tree.specs.declared.view.Alternative.{Alternative}
 use Rattle.box_tree.specs.Views.{ViewValue, IsViewOf}
 use Rattle.guard_plan.specs.declared.guards.Noise.{Noise}
@@ -127,18 +127,18 @@ module _ (nodes : List Node) (ss : List Stored) where
 
   -- all alternatives
 
-  pub all_tested : (seen : List Alternative) → tested Op.Commit seen ≡ seen
+  pub all_tested : (seen : List Alternative) → tested HeldOp.Commit seen ≡ seen
   all_tested [] = refl
   all_tested (a ∷ []) = refl
   all_tested (a ∷ b ∷ rest) = refl
 
-  pub few_tested : (seen : List Alternative) → length seen < 2 → tested Op.Condition seen ≡ seen
+  pub few_tested : (seen : List Alternative) → length seen < 2 → tested HeldOp.Condition seen ≡ seen
   few_tested [] l = refl
   few_tested (a ∷ []) l = refl
   few_tested (a ∷ b ∷ rest) l = absurd (omega (arith, l))
 
   -- of several by `->` all but the last are tested
-  front_tested : (seen : List Alternative) → 1 < length seen → tested Op.Condition seen ≡ take (length seen - 1) seen
+  front_tested : (seen : List Alternative) → 1 < length seen → tested HeldOp.Condition seen ≡ take (length seen - 1) seen
   front_tested [] l = absurd (omega arith)
   front_tested (a ∷ []) l = absurd (omega arith)
   front_tested (a ∷ b ∷ rest) l = refl
@@ -147,7 +147,7 @@ module _ (nodes : List Node) (ss : List Stored) where
   take_whole [] = refl
   take_whole (a ∷ rest) = ap (λ (l : List Alternative). a ∷ l) (take_whole rest)
 
-  pub last_added : (seen : List Alternative) (d : Alternative) → 1 < length seen → (list new : List Var) → AreToldBy nodes ss (tested Op.Condition seen) list → AddsTold nodes ss (slice_index_or seen (length seen - 1) d) list new
+  pub last_added : (seen : List Alternative) (d : Alternative) → 1 < length seen → (list new : List Var) → AreToldBy nodes ss (tested HeldOp.Condition seen) list → AddsTold nodes ss (slice_index_or seen (length seen - 1) d) list new
       → AreToldBy nodes ss seen new
   last_added seen d many list new g h =
       let e : length seen - 1 + 1 ≡ length seen = omega arith in

@@ -3,7 +3,6 @@ use Rattle.std.specs.Prelude.{◌≡◌, ℕ, ◌+◌, ◌≤◌, ◌<◌, List,
 use Rattle.akl_terms.specs.declared.name.Var.{Var}
 use Rattle.akl_terms.specs.declared.term.Node.{Node}
 use Rattle.akl_terms.specs.declared.program.Goal.{Goal}
-use Rattle.akl_terms.specs.declared.program.Op.{Op}
 use Rattle.akl_terms.specs.declared.program.Program.{Program}
 use Rattle.akl_terms.specs.Tree.{variable}
 use Rattle.akl_terms.specs.Equal.{Equal, IsConsistent}
@@ -12,6 +11,7 @@ use Rattle.akl_model.specs.Stable.{AtomWaitsOn}
 use Rattle.constraint_laws.specs.Oldest.{HasOldest}
 use Rattle.constraint_laws.specs.Touched.{IsAmong}
 use Rattle.local_store.specs.Stored.{Stored}
+use Rattle.box_tree.specs.declared.entries.HeldOp.{HeldOp}
 use Rattle.box_tree.specs.declared.view.Alternative.{Alternative}
 use Rattle.box_tree.specs.declared.view.Sight.{Sight}
 use Rattle.box_tree.specs.Tables.{goal_atom}
@@ -20,6 +20,7 @@ use Rattle.stable_test.specs.Inner.{AreTouchedInside}
 use Rattle.local_store.specs.Chained.{equations_of}
 use Rattle.class_members.specs.Members.{outermost_of, IsMember, AreMembers}
 use Rattle.guard_plan.specs.declared.guards.Noise.{Noise}
+use Rattle.guard_plan.specs.Guards.{AreAllSolved}
 use Rattle.guard_plan.specs.Noisy.{IsOne}
 use Rattle.idle_plan.specs.Told.{ListsTold, AreGathered}
 
@@ -41,6 +42,10 @@ AddsTold nodes ss a old new = ((own : List Var) × (a.solved ≡ true) × ListsT
 abbrev pub AreMembersOfAll : List Node → List Stored → List Noise → List Var → Type 0
 AreMembersOfAll nodes ss noise list = AreGathered Noise (λ (n : Noise). IsOne Noise n noise) (λ (n : Noise). Unit {0}) (λ (n : Noise). AreMembers nodes ss n.on.items) list
 
+-- what a choice that collects waits on: what its alternatives touch once all of them are solved, and nothing before
+abbrev pub AreCollectWaits : List Node → List Stored → List Alternative → List Var → Type 0
+AreCollectWaits nodes ss alternatives list = (AreAllSolved alternatives × AreToldBy nodes ss alternatives list) ⊎ ((AreAllSolved alternatives → ⊥) × (list ≡ []))
+
 -- the class on which an atom waits
 pub record AreAwaited (p : Program) (ss : List Stored) (atom : Goal) (list : List Var) : Type 0 where
   pub consistent : (y : Var) → IsAmong y list → IsConsistent (equations_of p.templates.nodes ss)
@@ -52,9 +57,10 @@ pub record AreAwaited (p : Program) (ss : List Stored) (atom : Goal) (list : Lis
 -- what a goal waits on by what stands there: nothing at a `?` choice, nor where a box is seen
 abbrev pub AreOwnWaits : Program → ViewValue → Sight → List Var → Type 0
 AreOwnWaits p v (Sight.Atom atom) list = AreAwaited p v.stores atom list
-AreOwnWaits p v (Sight.Choice Op.Choice) list = list ≡ []
-AreOwnWaits p v (Sight.Choice Op.Condition) list = AreToldBy p.templates.nodes v.stores v.alternatives list
-AreOwnWaits p v (Sight.Choice Op.Commit) list = AreToldBy p.templates.nodes v.stores v.alternatives list
+AreOwnWaits p v (Sight.Choice HeldOp.Choice) list = list ≡ []
+AreOwnWaits p v (Sight.Choice HeldOp.Condition) list = AreToldBy p.templates.nodes v.stores v.alternatives list
+AreOwnWaits p v (Sight.Choice HeldOp.Commit) list = AreToldBy p.templates.nodes v.stores v.alternatives list
+AreOwnWaits p v (Sight.Choice (HeldOp.Collect result)) list = AreCollectWaits p.templates.nodes v.stores v.alternatives list
 AreOwnWaits p v (Sight.Box failing) list = list ≡ []
 
 -- the classes that the box, or a box inside it, touches, in the stores around it

@@ -1,10 +1,10 @@
 //! What a goal waits on by itself.
 
-ghost use Rattle.std.specs.Prelude.{◌≡◌, ◌++◌, ◌∷◌, [], IfOk, OnOk};
-ghost use Rattle.akl_terms.specs.declared.program.Op.{Op};
-ghost use Rattle.guard_plan.specs.Guards.{IsTestable};
+ghost use Rattle.std.specs.Prelude.{◌≡◌, ◌++◌, ◌∷◌, [], IfOk, OnOk, IsTrue, ◌↔◌};
+ghost use Rattle.box_tree.specs.declared.entries.HeldOp.{HeldOp};
+ghost use Rattle.guard_plan.specs.Guards.{IsTestable, AreAllSolved};
 ghost use Rattle.guard_plan.specs.Noisy.{AnswersInside, HasNoise, tested};
-ghost use Rattle.idle_plan.specs.Waits.{AddsTold, AreAwaited, AreMembersOfAll, AreToldBy};
+ghost use Rattle.idle_plan.specs.Waits.{AddsTold, AreAwaited, AreCollectWaits, AreMembersOfAll, AreToldBy};
 
 use akl_terms::{Goal, Program, Var};
 use box_tree::{Alternative, View};
@@ -43,7 +43,7 @@ pub(crate) fn waits_of_commit(
     noise: &[Noise],
 ) -> Result<Vec<Var>, AllocError>
     requires program { program.now ≡ view.now.table.program }
-    requires noise { HasNoise program.now.templates.nodes view.now.stores (tested Op.Commit view.now.alternatives) noise.now }
+    requires noise { HasNoise program.now.templates.nodes view.now.stores (tested HeldOp.Commit view.now.alternatives) noise.now }
     ensures { IfOk result (λ list. AreToldBy program.now.templates.nodes view.now.stores view.now.alternatives list.items) }
 {
     members_of_all(alloc, &view.chain(&program.templates), noise)
@@ -57,7 +57,7 @@ pub(crate) fn waits_of_condition(
     noise: &[Noise],
 ) -> Result<Vec<Var>, AllocError>
     requires program { program.now ≡ view.now.table.program }
-    requires noise { HasNoise program.now.templates.nodes view.now.stores (tested Op.Condition view.now.alternatives) noise.now }
+    requires noise { HasNoise program.now.templates.nodes view.now.stores (tested HeldOp.Condition view.now.alternatives) noise.now }
     ensures { IfOk result (λ list. AreToldBy program.now.templates.nodes view.now.stores view.now.alternatives list.items) }
 {
     let mut list = members_of_all(alloc, &view.chain(&program.templates), noise)?;
@@ -68,6 +68,36 @@ pub(crate) fn waits_of_condition(
     let last = alternatives.len() - 1;
     push_told(alloc, program, view, &alternatives[last], &mut list)?;
     Ok(list)
+}
+
+// The same of a choice that collects, once all its alternatives are solved; nothing before.
+pub(crate) fn waits_of_collecting(
+    alloc: Global,
+    program: &Program,
+    view: &View,
+    noise: &[Noise],
+) -> Result<Vec<Var>, AllocError>
+    requires program { program.now ≡ view.now.table.program }
+    requires noise { AreAllSolved view.now.alternatives → HasNoise program.now.templates.nodes view.now.stores view.now.alternatives noise.now }
+    ensures { IfOk result (λ list. AreCollectWaits program.now.templates.nodes view.now.stores view.now.alternatives list.items) }
+{
+    if are_solved(view.alternatives()) {
+        members_of_all(alloc, &view.chain(&program.templates), noise)
+    } else {
+        Ok(Vec::new(alloc))
+    }
+}
+
+// Whether each of these alternatives is solved.
+fn are_solved(alternatives: &[Alternative]) -> bool
+    ensures { IsTrue result ↔ AreAllSolved alternatives.now }
+{
+    for alternative in alternatives {
+        if !alternative.solved {
+            return false;
+        }
+    }
+    true
 }
 
 // Members of the classes that alternatives touch in the box of a chain, for one after another.

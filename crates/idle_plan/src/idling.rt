@@ -8,11 +8,11 @@ ghost use Rattle.idle_plan.specs.Idling.{IsAtRootBox, IsUnready, IsIdleBy};
 ghost use Rattle.idle_plan.specs.Waits.{AreOwnWaits};
 
 use crate::around::waits_of_boxes_around;
-use crate::goals::{waits_of_atom, waits_of_commit, waits_of_condition};
+use crate::goals::{waits_of_atom, waits_of_collecting, waits_of_commit, waits_of_condition};
 use crate::inside::waits_inside;
 use crate::reading::{box_reads, goal_reads, item_of};
-use akl_terms::{Name, Op, Program, Var};
-use box_tree::{Inside, Sight, View};
+use akl_terms::{Name, Program, Var};
+use box_tree::{HeldOp, Inside, Sight, View};
 use guard_plan::Noise;
 use idle_places::Idle;
 use std::alloc::{AllocError, Global};
@@ -103,9 +103,10 @@ fn waits_of_goal(
     match view.sight() {
         Sight::Atom(atom) => waits_of_atom(alloc, program, view, atom),
         Sight::Choice { op } => match op {
-            Op::Choice => Ok(Vec::new(alloc)),
-            Op::Condition => waits_of_condition(alloc, program, view, noise),
-            Op::Commit => waits_of_commit(alloc, program, view, noise),
+            HeldOp::Choice => Ok(Vec::new(alloc)),
+            HeldOp::Condition => waits_of_condition(alloc, program, view, noise),
+            HeldOp::Commit => waits_of_commit(alloc, program, view, noise),
+            HeldOp::Collect(_) => waits_of_collecting(alloc, program, view, noise),
         },
         Sight::Box { .. } => Ok(Vec::new(alloc)),
     }

@@ -1,5 +1,6 @@
 -- The boxes that are made for a call are the instances of its clauses.
-use Rattle.std.proofs.Common.{◌≡◌, ℕ, zero, suc, ◌+◌, ◌<◌, List, [], ◌∷◌, ◌++◌, map, length, Bool, true, false, cond, refl, sym, ◌∙◌, ap, subst, inl, inr, append-nil, arith}
+use Rattle.std.proofs.Common.{◌≡◌, ℕ, zero, suc, ◌+◌, ◌<◌, List, [], ◌∷◌, ◌++◌, map, length, Bool, true, false, Option, Some, None, cond, refl, sym, ◌∙◌, ap, subst, inl, inr, append-nil, arith}
+use Rattle.std.specs.Prelude.{option_map}
 use Rattle.std.proofs.lemmas.Bool.Decides.{nat_tests}
 use Rattle.std.proofs.lemmas.List.{map-append}
 use Rattle.akl_terms.specs.declared.name.Name.{Name}
@@ -10,7 +11,7 @@ use Rattle.akl_terms.specs.declared.program.Clause.{Clause}
 use Rattle.akl_terms.specs.Names.{is_before}
 use Rattle.akl_terms.specs.Equal.{Equations, IsTold, told}
 use Rattle.akl_terms.specs.Standing.{StandFor}
-use Rattle.akl_terms.specs.Template.{equation_of}
+use Rattle.akl_terms.specs.Template.{equation_of, tree}
 use Rattle.akl_terms.specs.Tree.{Tree}
 use Rattle.akl_terms.specs.declared.term.Term.TheVariants.{Mol}
 use Rattle.akl_terms.proofs.EqualLaws.{IsTold-left, IsTold-right, IsTold-either}
@@ -100,6 +101,10 @@ body_atoms : (nodes : List Node) (frame : Name) (codes : List Code) → map (goa
 body_atoms nodes frame [] = refl
 body_atoms nodes frame (c ∷ codes) = ap (λ (rest : List Atom). atom_of nodes frame c ∷ rest) (body_atoms nodes frame codes)
 
+collected_tree : (nodes : List Node) (frame : Name) (o : Option ℕ) → option_map (tree nodes) (option_map (λ (n : ℕ). Mol n frame) o) ≡ option_map (term_at nodes frame) o
+collected_tree nodes frame None = refl
+collected_tree nodes frame (Some n) = refl
+
 -- a store with a frame alone, innermost, tells nothing
 told_frame : (nodes : List Node) (path : List Stored) (frame : Name) → told_in nodes (path ++ store_with frame ∷ []) ≡ told_in nodes path
 told_frame nodes path frame = told_join nodes path (store_with frame ∷ []) ∙ append-nil (told_in nodes path)
@@ -125,6 +130,7 @@ module _ (nodes : List Node) (path : List Stored) (W : Equations) (stands : Stan
         ports = [];
         body = atoms_of nodes (record { worker = w; number = n + 1 }) c.body;
         shown = [];
+        collected = option_map (term_at nodes (record { worker = w; number = n + 1 })) c.collected;
       }) (with_atoms w (n + 2) (atoms_of nodes (record { worker = w; number = n + 1 }) c.guard) no_goals)
   one_made n c b m rest = record {
     name = m.name;
@@ -134,6 +140,7 @@ module _ (nodes : List Node) (path : List Stored) (W : Equations) (stands : Stan
     goals = subst (λ (l : List (Name × Goal)). AreAtoms (map (λ (x : Name × Goal). (x.0, goal_atom nodes x.1)) l) (with_atoms w (n + 2) (atoms_of nodes (record { worker = w; number = n + 1 }) c.guard) no_goals))
         (sym m.goals) (named_atoms nodes (record { worker = w; number = n + 1 }) (n + 2) c.guard);
     body = ap (map (goal_atom nodes)) m.body ∙ body_atoms nodes (record { worker = w; number = n + 1 }) c.body;
+    collected = ap (option_map (tree nodes)) m.collected ∙ collected_tree nodes (record { worker = w; number = n + 1 }) c.collected;
   }
 
   pub all_made : (n : ℕ) (cs : List Clause) (bs : List NewBox) → AreMade nodes path call w n cs bs

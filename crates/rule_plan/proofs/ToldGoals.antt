@@ -2,7 +2,6 @@
 use Rattle.std.proofs.Common.{◌≡◌, ℕ, List, [], ◌∷◌, ◌++◌, Bool, true, false, sym, ◌∙◌, ap, subst}
 use Rattle.akl_terms.specs.declared.name.Name.{Name}
 use Rattle.akl_terms.specs.declared.name.Var.{Var}
-use Rattle.akl_terms.specs.declared.term.Node.{Node}
 use Rattle.akl_terms.specs.declared.term.Term.{Term}
 use Rattle.akl_terms.specs.declared.term.Equation as code
 use Rattle.akl_terms.specs.Equal.{Equation, Equations, IsTold}
@@ -12,32 +11,18 @@ use Rattle.akl_model.specs.declared.label.Rule.{Rule}
 use Rattle.akl_model.specs.Config.{Content, without_goal, environment, whole}
 use Rattle.akl_model.specs.Wakes.{names_around}
 use Rattle.rational_unify.specs.Solving.{bindings_in, equations_in}
-use Rattle.rational_unify.specs.Forms.{IsFormOf}
-use Rattle.rational_unify.specs.Older.{LeadOlder}
 use Rattle.local_store.specs.declared.telling.ToldStore.{ToldStore}
 use Rattle.local_store.specs.Stored.{Stored}
-use Rattle.local_store.specs.Chained.{bindings_from, innermost, around, BindOnce, IsSolvedChain}
+use Rattle.local_store.specs.Chained.{innermost, around, IsSolvedChain}
 use Rattle.local_store.specs.Telling.{AnswersTold}
-use Rattle.local_store.proofs.Layers.{from-last}
 use Rattle.table_laws.specs.Rows.{stores_along, told_in, ports_in}
 use Rattle.table_laws.specs.Steps.{ReducesAtom, TellsGoal, IsSolvedIf}
 use Rattle.box_tree.specs.Tables.{table_of}
 use Rattle.box_tree.specs.Views.{ViewValue, IsViewOf}
 use Rattle.rule_plan.specs.AtGoals.{label_at}
 use Rattle.guard_plan.proofs.Sites.{row, environment_stands, whole_stands, stores_split}
-use Rattle.guard_plan.proofs.Chains.{around_push, innermost_push}
+use Rattle.guard_plan.proofs.Chains.{around_push, innermost_push, same_solved}
 use Rattle.rule_plan.proofs.Storing.{tells_stands, told_over}
-
--- with the same bindings a store is solved as well
-same_solved : (nodes : List Node) (ss : List Stored) (s k : Stored) → k.bindings ≡ s.bindings → IsSolvedChain nodes (ss ++ s ∷ []) → IsSolvedChain nodes (ss ++ k ∷ [])
-same_solved nodes ss s k e h = record {
-  form = subst (λ (l : List (Var × Term)). IsFormOf nodes l (IsTold (bindings_in nodes l))) same h.form;
-  older = subst (LeadOlder nodes) same h.older;
-  once = subst BindOnce same h.once;
-}
-  where
-    same : bindings_from (ss ++ s ∷ []) ≡ bindings_from (ss ++ k ∷ [])
-    same = from-last ss s ∙ ap (λ (l : List (Var × Term)). l ++ bindings_from ss) (sym e) ∙ sym (from-last ss k)
 
 pub own_store : (v : ViewValue) (i : IsViewOf v) → innermost v.stores ≡ (row v i).0.store
 own_store v i = ap innermost (stores_split v i) ∙ innermost_push (stores_along (table_of v.table) (names_around i.site)) (row v i).0.store

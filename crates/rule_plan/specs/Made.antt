@@ -1,7 +1,8 @@
 -- What the parts of a new box are made of.
-use Rattle.std.specs.Prelude.{◌≡◌, ℕ, suc, ◌+◌, List, [], ◌∷◌, ◌++◌, map, length, Bool, true, false, ⊤, ◌↔◌, IsTrue}
+use Rattle.std.specs.Prelude.{◌≡◌, ℕ, suc, ◌+◌, List, [], ◌∷◌, ◌++◌, map, length, Bool, true, false, Option, Some, None, option_map, ⊤, ◌↔◌, IsTrue}
 use Rattle.akl_terms.specs.declared.name.Name.{Name}
 use Rattle.akl_terms.specs.declared.term.Node.{Node}
+use Rattle.akl_terms.specs.declared.term.Term.{Term}
 use Rattle.akl_terms.specs.declared.term.Term.TheVariants.{Mol}
 use Rattle.akl_terms.specs.declared.term.Equation as code
 use Rattle.akl_terms.specs.declared.program.Code.{Code}
@@ -22,6 +23,18 @@ heads f i n g j m = []
 -- the equations between the arguments of a call and those of a clause's head under a frame
 abbrev pub heads_of : Call → Name → Clause → List code.Equation
 heads_of call frame c = heads call.frame call.first call.count frame c.first c.count
+
+-- the code of a call, which may collect
+abbrev pub called_as : ℕ → ℕ → ℕ → Option ℕ → Code
+called_as d first count None = Code.Call d first count
+called_as d first count (Some r) = Code.Collect d first count r
+
+abbrev pub called : ℕ → Call → Code
+called d call = called_as d call.first call.count call.collects
+
+-- what is collected of a clause's box, under its frame
+abbrev pub collected_by : Name → Clause → Option Term
+collected_by frame c = option_map (λ n. Mol n frame) c.collected
 
 -- atoms under a frame
 abbrev pub goals_under : Name → List Code → List Goal
@@ -58,6 +71,7 @@ pub record IsMade (nodes : List Node) (path : List Stored) (call : Call) (w n : 
   pub store : IsNewStore nodes path (record { worker = w; number = n + 1 }) (heads_of call (record { worker = w; number = n + 1 }) c) b.store b.solved
   pub goals : b.goals.items ≡ named_under (record { worker = w; number = n + 1 }) (n + 2) c.guard
   pub body : b.body.items ≡ goals_under (record { worker = w; number = n + 1 }) c.body
+  pub collected : b.collected ≡ collected_by (record { worker = w; number = n + 1 }) c
 
 -- the boxes of these clauses, in their order
 abbrev pub AreMade : List Node → List Stored → Call → ℕ → ℕ → List Clause → List NewBox → Type 0

@@ -5,12 +5,11 @@ ghost use Rattle.box_tree.specs.Plans.{IsRight};
 ghost use Rattle.rule_plan.specs.AtGoals.{plan_at, IsToldRightly, TellsRightly};
 ghost use Rattle.guard_plan.specs.Planned.{IsPlannedBy};
 
-use crate::labels::label_of;
 use akl_model::Rule;
 use akl_terms::{Equation, Name, Program, Var};
 use box_tree::{Plan, Step, View};
 use class_members::members;
-use guard_plan::goal_and_stores;
+use guard_plan::{goal_and_stores, label_of};
 use local_store::{Shared, ToldStore, told};
 use std::alloc::{AllocError, Global};
 

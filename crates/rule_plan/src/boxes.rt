@@ -2,11 +2,11 @@
 
 ghost use Rattle.std.specs.Prelude.{◌≡◌, ◌+◌, ◌<◌, ◌^◌, length, IfOk};
 ghost use Rattle.akl_model.specs.Instances.{drawn_by};
-ghost use Rattle.rule_plan.specs.Made.{goals_under, heads_of, named_under, IsMade, IsNewStore, AreMade};
+ghost use Rattle.rule_plan.specs.Made.{goals_under, heads_of, named_under, collected_by, IsMade, IsNewStore, AreMade};
 
 use crate::heads::{Call, head_equations};
 use crate::new_stores::new_store;
-use akl_terms::{Clause, Code, Goal, Name};
+use akl_terms::{Clause, Code, Goal, Name, Term};
 use box_tree::NewBox;
 use local_store::{Chain, Shared, Store};
 use std::alloc::{AllocError, Global};
@@ -60,7 +60,18 @@ fn new_box(
         solved,
         goals,
         body,
+        collected: collected_by(frame, clause),
     })
+}
+
+// What is collected of a clause's box, under its frame.
+fn collected_by(frame: Name, clause: &Clause) -> Option<Term>
+    ensures { result ≡ collected_by frame clause.now }
+{
+    let Some(node) = clause.collected else {
+        return None;
+    };
+    Some(Term::Mol { node, frame })
 }
 
 // The store of a clause's box, which has its frame, and to which the arguments of the call are told with those of its head;

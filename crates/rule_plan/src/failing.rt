@@ -8,10 +8,11 @@ ghost use Rattle.guard_plan.specs.Planned.{IsPlannedBy};
 ghost use Rattle.rule_plan.specs.Failed.{FailsFor};
 
 use crate::clashes::has_clash;
-use crate::labels::{label_of, one_item};
+use crate::items::one_item;
 use akl_model::{Item, Rule};
 use akl_terms::{Name, Program};
 use box_tree::{Plan, Step, View};
+use guard_plan::label_of;
 use local_store::{Consistency, consistent};
 use std::alloc::{AllocError, Global};
 

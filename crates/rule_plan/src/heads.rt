@@ -5,15 +5,17 @@ ghost use Rattle.akl_terms.specs.declared.term.Term.{Term};
 ghost use Rattle.rule_plan.specs.Made.{heads_of};
 
 use akl_terms::{Clause, Equation, Name, Term};
+use guard_plan::node_after;
 use smallvec::SmallVec;
 use std::alloc::{AllocError, Global};
 
-/// The arguments of a call: so many neighbouring nodes under a frame.
+/// The arguments of a call: so many neighbouring nodes under a frame; and the node of its result, where it collects.
 #[derive(Clone, Copy)]
 pub(crate) struct Call {
     pub(crate) frame: Name,
     pub(crate) first: u32,
     pub(crate) count: u32,
+    pub(crate) collects: Option<u32>,
 }
 
 // The equations between the arguments of a call and those of a clause's head under a frame, the last first. The solver
@@ -53,11 +55,4 @@ fn head_equation(
         },
         right: Term::Mol { node: right, frame },
     })
-}
-
-// The node so many after the first. No program has as many nodes as there are numbers.
-pub(crate) fn node_after(first: u32, index: u32) -> Result<u32, AllocError>
-    ensures { IfOk result (λ node. node ≡ first + index) }
-{
-    first.checked_add(index).ok_or(AllocError)
 }

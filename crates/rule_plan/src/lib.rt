@@ -8,7 +8,7 @@ mod evaluating;
 mod failing;
 mod forking;
 mod heads;
-mod labels;
+mod items;
 mod names;
 mod new_stores;
 mod opening;

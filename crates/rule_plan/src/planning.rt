@@ -90,6 +90,21 @@ fn plan_atom(
                 frame: atom.frame,
                 first,
                 count,
+                collects: None,
+            };
+            fork(alloc, program, view, goal, definition, call)
+        }
+        Code::Collect {
+            definition,
+            first,
+            count,
+            result: node,
+        } => {
+            let call = Call {
+                frame: atom.frame,
+                first,
+                count,
+                collects: Some(node),
             };
             fork(alloc, program, view, goal, definition, call)
         }

@@ -14,11 +14,11 @@ ghost use Rattle.rule_plan.specs.Solving.{GoesToPort};
 ghost use Rattle.rule_plan.specs.Sent.{list_equations, with_new_tail};
 
 use crate::at_goals::told_plan;
-use crate::heads::node_after;
 use crate::stores::solved_stores;
 use akl_model::Rule;
 use akl_terms::{Code, Equation, Goal, Name, Program, Term};
 use box_tree::{Plan, View};
+use guard_plan::node_after;
 use local_store::{Chain, Consistency, Store, ToldStore, consistent, told};
 use port_goals::{SendState, sendable};
 use std::alloc::{AllocError, Global};

@@ -31,3 +31,4 @@ pub mod CountedOpenings
 pub mod CountedWaits
 pub mod WorkBound
 pub mod Hurrying
+pub mod HasOpen

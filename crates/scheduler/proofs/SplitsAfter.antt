@@ -5,8 +5,7 @@ use Rattle.std.proofs.lemmas.List.Folds.{list_any-append}
 use Rattle.std.specs.Prelude.{option_map, ◌&&◌, not, if◌then◌else◌, nat_lt, length}
 use Rattle.akl_terms.specs.declared.name.Name.{Name}
 use Rattle.akl_terms.specs.declared.name.Place.{Place}
-use Rattle.akl_terms.specs.declared.program.Op.{Op}
-use Rattle.akl_model.specs.Config.{IsIn, Boxes, Config, Held, a_choice, held_in, Found, box_at, home_of}
+use Rattle.akl_model.specs.Config.{IsIn, Operator, Boxes, Config, Held, a_choice, held_in, Found, box_at, home_of}
 use Rattle.akl_model.specs.Changes.{Shape, of_atom, of_choice, shape_of, shape_at, box_names, goal_names, goals_at}
 use Rattle.akl_model.specs.Wakes.{boxes_around, names_around, names_down_to, Wait, IsOneOf, IsThere, Opens, new_goal, changed_goal, holder_of_changed_goals}
 use Rattle.akl_model.proofs.Finds.{times}
@@ -104,11 +103,12 @@ first_same T U (n ∷ ns) h =
     ap (λ (gs : List Name). if is_empty gs then Some n else first_solved_in T ns) (h n (inl refl))
     ∙ ap (λ (o : Option Name). if is_empty (goals_in (U.box_of n)) then Some n else o) (first_same T U ns (λ m i. h m (inr i)))
 
-candidate_same : (T U : Table) (shape : Shape) → ((op : Op) (ns : List Name) → shape ≡ of_choice op ns → (n : Name) → IsIn n ns → goals_in (T.box_of n) ≡ goals_in (U.box_of n)) → candidate_of T shape ≡ candidate_of U shape
+candidate_same : (T U : Table) (shape : Shape) → ((op : Operator) (ns : List Name) → shape ≡ of_choice op ns → (n : Name) → IsIn n ns → goals_in (T.box_of n) ≡ goals_in (U.box_of n)) → candidate_of T shape ≡ candidate_of U shape
 candidate_same T U (of_atom a) h = refl
-candidate_same T U (of_choice Op.Condition ns) h = refl
-candidate_same T U (of_choice Op.Commit ns) h = refl
-candidate_same T U (of_choice Op.Choice ns) h = ap (λ (o : Option Name). if nat_lt 1 (length ns) then o else None) (first_same T U ns (h Op.Choice ns refl))
+candidate_same T U (of_choice Operator.condition ns) h = refl
+candidate_same T U (of_choice Operator.commit ns) h = refl
+candidate_same T U (of_choice (Operator.collecting r) ns) h = refl
+candidate_same T U (of_choice Operator.nondeterminate ns) h = ap (λ (o : Option Name). if nat_lt 1 (length ns) then o else None) (first_same T U ns (h Operator.nondeterminate ns refl))
 
 module _ (T U : Table) (c d : Config) (t : Unfolds T c) (u : Unfolds U d) (once : (m : Name) → times m c.roots ≤ 1) (once_later : (m : Name) → times m d.roots ≤ 1) (kept : List Wait) (g : Name)
     (e f : Found) (was : home_of g c.roots ≡ Some e) (is : home_of g d.roots ≡ Some f) (around : boxes_around (Place.Goal g) c.roots ≡ boxes_around (Place.Goal g) d.roots) (unopened : Opens kept c d (Place.Goal g) → ⊥) where
@@ -159,12 +159,12 @@ module _ (T U : Table) (c d : Config) (t : Unfolds T c) (u : Unfolds U d) (once 
   goals_before : (R : Table) (k : Config) → Unfolds R k → (n : Name) (at : Found) → box_at n k.roots ≡ Some at → goals_in (R.box_of n) ≡ goal_names at.goals
   goals_before R k r n at q = let w : (x : BoxRow) × (R.box_of n ≡ Some x) × IsBoxRow R k.roots at x = row_of R k r n at q in ap goals_in w.1 ∙ w.2.goals
 
-  alternative : (R : Table) (k : Config) → ((m : Name) → times m k.roots ≤ 1) → (at : Found) → home_of g k.roots ≡ Some at → (r : HasRow R k at) (op : Op) (ns : List Name) (n : Name) → r.row.shape ≡ of_choice op ns → IsIn n ns → IsAlternativeAt n g at k.roots
+  alternative : (R : Table) (k : Config) → ((m : Name) → times m k.roots ≤ 1) → (at : Found) → home_of g k.roots ≡ Some at → (r : HasRow R k at) (op : Operator) (ns : List Name) (n : Name) → r.row.shape ≡ of_choice op ns → IsIn n ns → IsAlternativeAt n g at k.roots
   alternative R k one at q r op ns n e i =
       let w : (bs : Boxes) × (r.held ≡ a_choice op bs) × (box_names bs ≡ ns) = choice_of r.held op ns (sym r.shape ∙ e) in
       alternative_at k.roots one n g at op w.0 q (r.is_held ∙ ap Some w.1) (subst (IsIn n) (sym w.2) i)
 
-  same_goals : (op : Op) (ns : List Name) → row_later.row.shape ≡ of_choice op ns → (n : Name) → IsIn n ns → goals_in (T.box_of n) ≡ goals_in (U.box_of n)
+  same_goals : (op : Operator) (ns : List Name) → row_later.row.shape ≡ of_choice op ns → (n : Name) → IsIn n ns → goals_in (T.box_of n) ≡ goals_in (U.box_of n)
   same_goals op ns s n i =
       let x : IsAlternativeAt n g e c.roots = alternative T c once e was row_before op ns n (shapes ∙ s) i in
       let y : IsAlternativeAt n g f d.roots = alternative U d once_later f is row_later op ns n s i in

@@ -17,3 +17,4 @@ pub mod Work
 pub mod Counting
 pub mod Splits
 pub mod Resting
+pub mod Attending

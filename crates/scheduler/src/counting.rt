@@ -22,7 +22,7 @@ pub(crate) fn count_contents<L: Ledger>(step: &Step, steps: &mut Steps<L>)
 {
     match step {
         Step::Tell { .. } | Step::Refute => steps.tick(),
-        Step::Promote { goals, .. } => {
+        Step::Join { goals, .. } => {
             steps.tick();
             count(goals.len(), steps);
         }

@@ -185,7 +185,7 @@ fn binds_outer(step: &Step, binds: &[Var]) -> bool
     ensures { result ≡ binds_outer binds.now step.now }
 {
     match step {
-        Step::Tell { store, .. } | Step::Promote { store, .. } => has_outer(store.get(), binds),
+        Step::Tell { store, .. } | Step::Join { store, .. } => has_outer(store.get(), binds),
         Step::Fork { .. }
         | Step::Fail
         | Step::Cut

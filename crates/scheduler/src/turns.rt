@@ -8,6 +8,7 @@ ghost use Rattle.wake_lists.specs.Open.{untimed};
 ghost use Rattle.wake_lists.specs.declared.turn.Urgency.{Urgency};
 ghost use Rattle.scheduler.specs.Turns.{urgency_seen, IsUrgentAt, AreUrgent};
 
+use crate::attention::collects;
 use crate::scheduler::Scheduler;
 use akl_terms::{Name, Place};
 use box_tree::{NewBox, Plan, Sight, Step, Table};
@@ -46,7 +47,7 @@ impl TurnHints {
 // The box that a plan's step tells something.
 fn told_by(home: Name, plan: &Plan) -> Option<Name> {
     match plan.step() {
-        Step::Tell { .. } | Step::Promote { .. } => Some(home),
+        Step::Tell { .. } | Step::Join { .. } => Some(home),
         Step::Fork { .. }
         | Step::Fail
         | Step::Cut
@@ -64,7 +65,7 @@ fn unsolved_by(
 ) -> Result<SmallVec<Name, 2>, AllocError> {
     let mut unsolved = SmallVec::new(alloc);
     match step {
-        Step::Tell { solved, .. } | Step::Promote { solved, .. } => {
+        Step::Tell { solved, .. } | Step::Join { solved, .. } => {
             if !solved {
                 push_told(told, &mut unsolved)?;
             }
@@ -108,7 +109,7 @@ fn forked_by(plan: &Plan) -> Option<Place> {
         Step::Tell { .. }
         | Step::Fail
         | Step::Cut
-        | Step::Promote { .. }
+        | Step::Join { .. }
         | Step::Refute
         | Step::Confirm
         | Step::Split { .. } => None,
@@ -123,7 +124,7 @@ impl Scheduler {
     ///
     /// Those boxes are urgent that have a goal by which they fail, whose stores the label left unsolved, or may clash with
     /// what it told. Other boxes are late, as no rule but Split may apply to them, and so is a choice without a solved
-    /// alternative. What went isn't late, so that it is forgotten soon. Once sixteen labels were made for each open place, all
+    /// alternative, or one that collects with an alternative that isn't solved. What went isn't late, so that it is forgotten soon. Once sixteen labels were made for each open place, all
     /// late places come as ordinary ones.
     pub(crate) fn set_turns(&mut self, places: &[Placed], gone: &[Place], hints: &TurnHints) -> bool
         ensures urgent { result ≡ true → AreUrgent self.new.core.table (places_of places.now) self.new.openings }
@@ -272,7 +273,7 @@ fn is_failing(table: &Table, name: Name) -> bool
     }
 }
 
-// A choice isn't late once an alternative is solved.
+// A choice isn't late once an alternative is solved, or all are of one that collects.
 fn hurry_goal(open_places: &mut Open, table: &Table, goal: Name) -> Result<(), AllocError>
     ensures still { IfOk result (λ _. (other : _) → IsUrgentAt open_places.old other → IsUrgentAt open_places.new other) }
     ensures places { untimed open_places.new ≡ untimed open_places.old }
@@ -280,13 +281,26 @@ fn hurry_goal(open_places: &mut Open, table: &Table, goal: Name) -> Result<(), A
     let Some(token) = open_places.token_of(Place::Goal(goal)) else {
         return Ok(());
     };
-    if open_places.urgency_of(token) == Some(Urgency::Late)
-        && has_solved(table, table.alternatives_of(goal))
-    {
+    if open_places.urgency_of(token) == Some(Urgency::Late) && may_go_on(table, goal) {
         open_places.hurry(token, Urgency::Ordinary)
     } else {
         Ok(())
     }
+}
+
+// Whether a rule may apply to a choice, by which of its alternatives are solved.
+fn may_go_on(table: &Table, goal: Name) -> bool {
+    let alternatives = table.alternatives_of(goal);
+    if collects(table, goal) {
+        are_solved(table, alternatives)
+    } else {
+        has_solved(table, alternatives)
+    }
+}
+
+// Whether none of these boxes has goals. Where solutions come one after another, the last is solved last.
+fn are_solved(table: &Table, boxes: &[Name]) -> bool {
+    boxes.iter().rev().all(|name| table.is_solved(*name))
 }
 
 // Whether one of these boxes has no goals.

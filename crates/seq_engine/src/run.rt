@@ -34,7 +34,7 @@ pub struct Finished {
 /// Of the open places a box that a label may have made fail comes before all others, and then the place that has been open
 /// longest. Boxes that don't fail come last, and so do choices without a solved alternative; one of them in which
 /// something else is open isn't looked at yet. They come among the others again once sixteen labels were made for each open
-/// place.
+/// place; but a choice that collects is never looked at while something in it is open.
 pub fn run_on(
     alloc: Global,
     program: &Program,

@@ -3,10 +3,9 @@ use Rattle.std.proofs.Common.{◌≡◌, ℕ, ◌+◌, ◌≤◌, ◌<◌, ◌�
 use Rattle.std.proofs.lemmas.Bool.{lt-ltb, ltb-true}
 use Rattle.std.specs.Prelude.{if◌then◌else◌, nat_lt}
 use Rattle.akl_terms.specs.declared.name.Name.{Name}
-use Rattle.akl_terms.specs.declared.program.Op.{Op}
 use Rattle.akl_terms.specs.Names.{same_name}
 use Rattle.akl_terms.proofs.SameNames.{same_name-equal}
-use Rattle.akl_model.specs.Config.{IsIn, or_else, Atom, Boxes, no_boxes, box, Goals, no_goals, atom, choice, an_atom, a_choice}
+use Rattle.akl_model.specs.Config.{IsIn, or_else, Operator, Atom, Boxes, no_boxes, box, Goals, no_goals, atom, choice, an_atom, a_choice}
 use Rattle.akl_model.specs.Rules.{count_of, has_box, ChoiceIn, choice_with}
 use Rattle.akl_model.specs.Stable.{first_solved}
 use Rattle.akl_model.specs.Names.{one_if, times_in}
@@ -47,7 +46,7 @@ named_times a bs i = let x : 0 < times_in a (box_names bs) = counted_in a (box_n
 pub record IsPoint (a : Name) (gs : Goals) : Type 0 where
   pub among : ChoiceIn
   pub is_choice : choice_with a gs ≡ Some among
-  pub op : among.op ≡ Op.Choice
+  pub op : among.op ≡ Operator.nondeterminate
   pub first : first_solved among.alternatives ≡ Some a
   pub others : 1 < count_of among.alternatives
 
@@ -57,12 +56,13 @@ module _ (T : Table) (a : Name) where
     pub stands : 1 ≤ times_inside a gs
 
   -- a choice that is a candidate
-  here : (o : Op) (bs : Boxes) → HaveRows T bs → candidate_of T (of_choice o (box_names bs)) ≡ Some a → (o ≡ Op.Choice) × (first_solved bs ≡ Some a) × (1 < count_of bs)
-  here Op.Condition bs r e = cc
-  here Op.Commit bs r e = cc
-  here Op.Choice bs r e = on (nat_lt 1 (length (box_names bs))) refl e
+  here : (o : Operator) (bs : Boxes) → HaveRows T bs → candidate_of T (of_choice o (box_names bs)) ≡ Some a → (o ≡ Operator.nondeterminate) × (first_solved bs ≡ Some a) × (1 < count_of bs)
+  here Operator.condition bs r e = cc
+  here Operator.commit bs r e = cc
+  here (Operator.collecting t) bs r e = cc
+  here Operator.nondeterminate bs r e = on (nat_lt 1 (length (box_names bs))) refl e
     where
-      on : (t : Bool) → nat_lt 1 (length (box_names bs)) ≡ t → (if t then first_solved_in T (box_names bs) else None) ≡ Some a → (Op.Choice ≡ Op.Choice) × (first_solved bs ≡ Some a) × (1 < count_of bs)
+      on : (t : Bool) → nat_lt 1 (length (box_names bs)) ≡ t → (if t then first_solved_in T (box_names bs) else None) ≡ Some a → (Operator.nondeterminate ≡ Operator.nondeterminate) × (first_solved bs ≡ Some a) × (1 < count_of bs)
       on true q x = (refl, sym (first_alike T bs r) ∙ x, subst (λ (n : ℕ). 1 < n) (counted bs) (ltb-true 1 (length (box_names bs)) q))
       on false q x = cc
 
@@ -72,7 +72,7 @@ module _ (T : Table) (a : Name) where
     stands = let k : 1 ≤ times_inside a gs = p.stands in omega arith;
   }
 
-  at_choice : (g : Name) (o : Op) (bs : Boxes) (gs : Goals) → o ≡ Op.Choice → first_solved bs ≡ Some a → 1 < count_of bs → IsPointIn (choice g o bs gs)
+  at_choice : (g : Name) (o : Operator) (bs : Boxes) (gs : Goals) → o ≡ Operator.nondeterminate → first_solved bs ≡ Some a → 1 < count_of bs → IsPointIn (choice g o bs gs)
   at_choice g o bs gs p q l = record {
     point = record {
       among = record { name = g; op = o; alternatives = bs };
@@ -84,7 +84,7 @@ module _ (T : Table) (a : Name) where
     stands = let k : 1 ≤ times a bs = named_times a bs (first_named a bs q) in omega arith;
   }
 
-  past_choice : (g : Name) (o : Op) (bs : Boxes) (gs : Goals) → times_inside a (choice g o bs gs) ≤ 1 → IsPointIn gs → IsPointIn (choice g o bs gs)
+  past_choice : (g : Name) (o : Operator) (bs : Boxes) (gs : Goals) → times_inside a (choice g o bs gs) ≤ 1 → IsPointIn gs → IsPointIn (choice g o bs gs)
   past_choice g o bs gs once p = record {
     point = record {
       among = p.point.among;
@@ -109,7 +109,7 @@ module _ (T : Table) (a : Name) where
   point_in (atom g x gs) rows once e = past_atom g gs x (point_in gs rows.1 (omega arith) (subst (λ (o : Option Name). or_else o (candidate_among T (goal_names gs)) ≡ Some a) (candidate_is T g (an_atom x) rows.0) e))
   point_in (choice g o bs gs) rows once e = elim (or_some (candidate_of T (of_choice o (box_names bs))) (candidate_among T (goal_names gs)) a
       (subst (λ (x : Option Name). or_else x (candidate_among T (goal_names gs)) ≡ Some a) (candidate_is T g (a_choice o bs) rows.0) e)) [
-        | inl x ↦ let w : (o ≡ Op.Choice) × (first_solved bs ≡ Some a) × (1 < count_of bs) = here o bs rows.0.3 x in at_choice g o bs gs w.0 w.1 w.2
+        | inl x ↦ let w : (o ≡ Operator.nondeterminate) × (first_solved bs ≡ Some a) × (1 < count_of bs) = here o bs rows.0.3 x in at_choice g o bs gs w.0 w.1 w.2
         | inr x ↦ past_choice g o bs gs once (point_in gs rows.1 (let z : one_if (same_name a g) + (times a bs + times_inside a gs) ≤ 1 = once in omega arith) x.1)
       ]
 
@@ -126,10 +126,11 @@ module _ (T : Table) (a : Name) where
       none : (candidate_at T (T.goal_of g) ≡ None) × (candidate_among T (goal_names gs) ≡ None)
       none = or_none (candidate_at T (T.goal_of g)) (candidate_among T (goal_names gs)) e
 
-      at : (r : Op) → r ≡ Op.Choice → candidate_of T (of_choice r (box_names bs)) ≡ None → first_solved bs ≡ Some a → 1 < count_of bs → ⊥
-      at Op.Condition q x f l = cc
-      at Op.Commit q x f l = cc
-      at Op.Choice q x f l =
+      at : (r : Operator) → r ≡ Operator.nondeterminate → candidate_of T (of_choice r (box_names bs)) ≡ None → first_solved bs ≡ Some a → 1 < count_of bs → ⊥
+      at Operator.condition q x f l = cc
+      at Operator.commit q x f l = cc
+      at (Operator.collecting t) q x f l = cc
+      at Operator.nondeterminate q x f l =
           let t : nat_lt 1 (length (box_names bs)) ≡ true = lt-ltb 1 (length (box_names bs)) (subst (λ (n : ℕ). 1 < n) (sym (counted bs)) l) in
           let y : first_solved_in T (box_names bs) ≡ None = subst (λ (b : Bool). (if b then first_solved_in T (box_names bs) else None) ≡ None) t x in
           not_some (sym y ∙ first_alike T bs rows.0.3 ∙ f)

@@ -50,6 +50,7 @@ other_idle p E nodes f (Code.Send m q) a s x w = s m q refl
 other_idle p E nodes f (Code.Equal l r) a s x w = w
 other_idle p E nodes f (Code.OpenPort l r) a s x w = w
 other_idle p E nodes f (Code.Call d first n) a s x w = w
+other_idle p E nodes f (Code.Collect d first n r) a s x w = w
 other_idle p E nodes f Code.Fail a s x w = w
 
 -- a send waits on the end of its port, where that is a variable

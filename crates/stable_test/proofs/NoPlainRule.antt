@@ -12,7 +12,7 @@ use Rattle.akl_model.specs.Conditions.{AllowsPlain, Makes}
 use Rattle.akl_model.specs.Stable.{Allows}
 use Rattle.akl_model.specs.Derivations.{IsInForce, Applies, after}
 use Rattle.akl_model.proofs.NamesKept.{Stand}
-use Rattle.akl_model.proofs.RuleCases.{PlainCase, tells, forks, evaluates, opens, sends, fails, cuts, promotes, Makes-plain}
+use Rattle.akl_model.proofs.RuleCases.{PlainCase, tells, forks, evaluates, opens, sends, fails, cuts, promotes, collects, Makes-plain}
 use Rattle.step_laws.proofs.AgainIn.{other_next}
 use Rattle.step_laws.proofs.Deeper.{home_found}
 use Rattle.box_tree.specs.Tables.{all_rules}
@@ -28,6 +28,7 @@ each_in_force Rule.Eval = inr (inr (inr (inr (inr (inl refl)))))
 each_in_force Rule.Open = inr (inr (inr (inr (inr (inr (inl refl))))))
 each_in_force Rule.Send = inr (inr (inr (inr (inr (inr (inr (inl refl)))))))
 each_in_force Rule.Split = inr (inr (inr (inr (inr (inr (inr (inr (inl refl))))))))
+each_in_force Rule.Collect = inr (inr (inr (inr (inr (inr (inr (inr (inr (inl refl)))))))))
 
 -- no rule in force other than Split applies at a place of a configuration
 abbrev pub NoneAppliesAt : List Rule → Program → Config → Place → Type 0
@@ -46,6 +47,7 @@ allowed_of p v Rule.Send place a f x = x
 allowed_of p v Rule.Fail place a f x = x
 allowed_of p v Rule.Cut place a f x = x
 allowed_of p v Rule.Promote place a f x = x
+allowed_of p v Rule.Collect place a f x = x
 
 pub plain_of : (p : Program) (v : Reading) (r : Rule) (place : Place) (a : Option Name) (f : Found) → (r ≡ Rule.Split → ⊥) → Allows p v r place a f → AllowsPlain p v r place a f
 plain_of p v Rule.Split place a f n x = absurd (n refl)
@@ -57,16 +59,18 @@ plain_of p v Rule.Send place a f n x = x
 plain_of p v Rule.Fail place a f n x = x
 plain_of p v Rule.Cut place a f n x = x
 plain_of p v Rule.Promote place a f n x = x
+plain_of p v Rule.Collect place a f n x = x
 
 -- what a rule found at a goal's place is a goal directly in the box, and at a box's place it found that the box fails
 case_goal : (p : Program) (w next : ℕ) (f : Found) (c : Change) (g : Name) → PlainCase p w next f c (Place.Goal g) → (h : Held) × (held_in g f.goals ≡ Some h)
 case_goal p w next f c g (tells _ s t i e) = (_, i)
-case_goal p w next f c g (forks _ d ts k i e x) = (_, i)
+case_goal p w next f c g (forks _ d ts r k o i e u x) = (_, i)
 case_goal p w next f c g (evaluates _ test l r a i x y e) = (_, i)
 case_goal p w next f c g (opens _ r s i e) = (_, i)
 case_goal p w next f c g (sends _ m r q k i x y z e) = (_, i)
 case_goal p w next f c g (cuts _ n o bs i x e) = (_, i)
 case_goal p w next f c g (promotes _ n o a i x y e) = (_, i)
+case_goal p w next f c g (collects _ r bs a i x y e) = (_, i)
 
 module _ (rules : List Rule) (all : (r : Rule) → IsInForce rules r) (p : Program) (c : Config) (s : Stand c) (f : Found) (there : box_at f.content.name c.roots ≡ Some f) where
   -- at a goal, by the configuration's own next numbers

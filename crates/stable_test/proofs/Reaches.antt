@@ -37,7 +37,7 @@ waits_free p W (Atom.arithmetic test l r) x w = goal_free w
 waits_free p W (Atom.send m r) x w = w.1
 waits_free p W (Atom.equation s t) x w = absurd w
 waits_free p W (Atom.open_port s t) x w = absurd w
-waits_free p W (Atom.call d ts) x w = absurd w
+waits_free p W (Atom.call d ts r) x w = absurd w
 waits_free p W Atom.fail x w = absurd w
 
 pub atom_waits_stand : (p : Program) (V W : Equations) → StandsForConsistent V W → StandsForConsistent W V → (a : Atom) (x : Var) → AtomWaitsOn p V a x → AtomWaitsOn p W a x
@@ -45,7 +45,7 @@ atom_waits_stand p V W s b (Atom.arithmetic test l r) x w = goal_wait_stands p.t
 atom_waits_stand p V W s b (Atom.send m r) x w = (variable_stands V W s r x w.1 w.0, λ k. w.1 (structured_stands W V b x k))
 atom_waits_stand p V W s b (Atom.equation l r) x w = absurd w
 atom_waits_stand p V W s b (Atom.open_port l r) x w = absurd w
-atom_waits_stand p V W s b (Atom.call d ts) x w = absurd w
+atom_waits_stand p V W s b (Atom.call d ts r) x w = absurd w
 atom_waits_stand p V W s b Atom.fail x w = absurd w
 
 -- what is reached is from outside, and not structured there

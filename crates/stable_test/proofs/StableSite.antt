@@ -14,7 +14,7 @@ use Rattle.akl_model.proofs.NamesKept.{Stand}
 use Rattle.akl_model.proofs.StableGrows.{untouched_box}
 use Rattle.constraint_laws.specs.Growth.{TouchesNothing}
 use Rattle.box_tree.specs.declared.view.Sight.{Sight}
-use Rattle.box_tree.specs.Tables.{goal_atom}
+use Rattle.box_tree.specs.Tables.{goal_atom, op_held}
 use Rattle.box_tree.specs.Views.{ViewValue, IsViewOf, Shows}
 use Rattle.guard_plan.specs.Planned.{HasNoRule}
 use Rattle.guard_plan.proofs.HasNone.{has_none}
@@ -100,5 +100,5 @@ module _ (v : ViewValue) (i : IsViewOf v) (f : Found) where
       by : (sight : Sight) → Shows v.table.program.templates.nodes (Place.Goal g) i.site sight → SightReaches sight
           → (on x : Var) → AtomWaitsOn v.table.program (whole i.site) a on → IsReached (frames_of (only f)) (environment f) (whole i.site) on x → ⊥
       by (Sight.Box failing) k r = absurd k
-      by (Sight.Choice op) k r = let z : Some (a_choice op k.0) ≡ Some (an_atom a) = sym k.1 ∙ held in cc
+      by (Sight.Choice op) k r = let z : Some (a_choice (op_held v.table.program.templates.nodes op) k.0) ≡ Some (an_atom a) = sym k.1 ∙ held in cc
       by (Sight.Atom b) k r = λ on x w t. r.1 x (on, subst (λ (y : Atom). AtomWaitsOn v.table.program (whole i.site) y on) (same_atom a (goal_atom v.table.program.templates.nodes b) (sym held ∙ k)) w, t)

@@ -7,7 +7,6 @@ use Rattle.akl_terms.specs.declared.name.Var.{Var}
 use Rattle.akl_terms.specs.declared.term.Node.{Node}
 use Rattle.akl_terms.specs.declared.term.Term.{Term}
 use Rattle.akl_terms.specs.declared.program.Goal.{Goal}
-use Rattle.akl_terms.specs.declared.program.Op.{Op}
 use Rattle.akl_terms.specs.declared.program.Program.{Program}
 use Rattle.akl_terms.specs.Tree.{Tree, variable}
 use Rattle.akl_terms.specs.Equal.{Equations, IsTold, Equal, told, turned, joined, IsConsistent, IsConsistentBy, IsStructured}
@@ -25,6 +24,7 @@ use Rattle.local_store.specs.Asking.{Decides}
 use Rattle.local_store.proofs.Layers.{told-take}
 use Rattle.entail_test.specs.Asked.{frames_from, environment_at, whole_at, KeepsApart, KeepsApartAt, AreTouchedAt}
 use Rattle.entail_test.specs.Touched.{AreTouched}
+use Rattle.box_tree.specs.declared.entries.HeldOp.{HeldOp}
 use Rattle.box_tree.specs.declared.view.Sight.{Sight}
 use Rattle.box_tree.specs.Tables.{goal_atom}
 use Rattle.box_tree.specs.Views.{ViewValue}
@@ -39,7 +39,7 @@ atom_one p W (Atom.arithmetic test l r) x y c u w = waits_one_goal p.templates.s
 atom_one p W (Atom.send m r) x y c u w = joined (turned u.0) w.0
 atom_one p W (Atom.equation s t) x y c u w = absurd u
 atom_one p W (Atom.open_port s t) x y c u w = absurd u
-atom_one p W (Atom.call d ts) x y c u w = absurd u
+atom_one p W (Atom.call d ts r) x y c u w = absurd u
 atom_one p W Atom.fail x y c u w = absurd u
 
 -- what fewer equations touch more do
@@ -111,7 +111,7 @@ module _ (p : Program) (depth : ℕ) (frames : Stored) (v : ViewValue) (t : IsTe
       u = h (keeps c) (plain_consistent c)
 
   -- a choice reaches nothing
-  pub choice_reached : (op : Op) → v.sight ≡ Sight.Choice op → IsConsistentDown p v × AreReachedAt p depth frames v []
+  pub choice_reached : (op : HeldOp) → v.sight ≡ Sight.Choice op → IsConsistentDown p v × AreReachedAt p depth frames v []
   choice_reached op s = subst (λ (q : Sight). IsConsistentAt down q × AreReached p inner around down q []) (sym s) (tt, record { each = λ x m. absurd m; every = λ x r. absurd r })
 
   -- an atom, by the variable on which it waits
@@ -163,7 +163,7 @@ module _ (p : Program) (depth : ℕ) (frames : Stored) (v : ViewValue) (t : IsTe
               (subst (λ (E : Equations). AreTouched (frames_from (drop depth (v.stores ++ with_binding frames on (Term.Int z) ∷ []))) E told_bound list) same_around (h bound_keeps bound_consistent))
 
   -- where all is inconsistent, no box and no atom is as they are asked to be
-  pub inconsistent_down : (IsConsistent down → ⊥) → ((op : Op) → v.sight ≡ Sight.Choice op → ⊥) → IsConsistentDown p v → ⊥
+  pub inconsistent_down : (IsConsistent down → ⊥) → ((op : HeldOp) → v.sight ≡ Sight.Choice op → ⊥) → IsConsistentDown p v → ⊥
   inconsistent_down clash other c = on v.sight refl c
     where
       on : (sight : Sight) → v.sight ≡ sight → IsConsistentAt down sight → ⊥

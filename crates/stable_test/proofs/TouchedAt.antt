@@ -8,7 +8,7 @@ use Rattle.akl_terms.specs.Equal.{Equations, IsConsistent}
 use Rattle.akl_model.specs.Config.{Atom, an_atom, a_choice, held_in, Found, whole}
 use Rattle.akl_model.specs.Stable.{AtomWaitsOn, IsAwaited, TouchesFrom, by_equations, by_waiting}
 use Rattle.box_tree.specs.declared.view.Sight.{Sight}
-use Rattle.box_tree.specs.Tables.{goal_atom}
+use Rattle.box_tree.specs.Tables.{goal_atom, op_held}
 use Rattle.box_tree.specs.Views.{Shows}
 use Rattle.stable_test.specs.Reaching.{Reaches, IsConsistentAt, AreReached}
 use Rattle.stable_test.specs.Inner.{TouchesAt, AreTouchedByPlace}
@@ -36,7 +36,7 @@ module _ (p : Program) (inner : List Name) (outer : Equations) (d : Found) where
   touched_reaches (Place.Box m) (Sight.Choice op) k x t = absurd k
   touched_reaches (Place.Box m) (Sight.Atom a) k x t = absurd k
   touched_reaches (Place.Goal g) (Sight.Box failing) k x t = absurd k
-  touched_reaches (Place.Goal g) (Sight.Choice op) k x t = let z : Some (a_choice op k.0) ≡ Some (an_atom t.1.0.atom) = sym k.1 ∙ waits_there g x t.1.0 t.1.1 in cc
+  touched_reaches (Place.Goal g) (Sight.Choice op) k x t = let z : Some (a_choice (op_held p.templates.nodes op) k.0) ≡ Some (an_atom t.1.0.atom) = sym k.1 ∙ waits_there g x t.1.0 t.1.1 in cc
   touched_reaches (Place.Goal g) (Sight.Atom a) k x t = (
     t.1.0.on,
     subst (λ (b : Atom). AtomWaitsOn p (whole d) b t.1.0.on) (one_atom t.1.0.atom (goal_atom p.templates.nodes a) (sym (waits_there g x t.1.0 t.1.1) ∙ k)) t.1.0.waits,

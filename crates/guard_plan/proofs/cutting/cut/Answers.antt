@@ -9,8 +9,8 @@ first_quiet-requires-clause-testable c = rw (c.stores.ensures, c.candidates-cand
 pub returns-in_default : goal.returns-in_default
 returns-in_default c =
     let noisy = rw (c.in_default.is, c.stores.ensures, c.candidates-candidates.ensures, c.alternatives.ensures.alternatives, c.requires.program) at c.in_ok-found.ensures in (
-      cut_none c.args.view.now c.alternatives.ensures.seen c.args.goal c.args.op c.requires.place c.requires.sight c.requires.not_one noisy.0,
-      noise_of_cut c.args.view.now c.args.op c.requires.sight c.first_quiet.new.noise.items c.requires.not_one noisy.1,
+      cut_none c.args.view.now c.alternatives.ensures.seen c.args.goal c.args.op c.requires.place c.requires.sight c.requires.guarded c.requires.not_one noisy.0,
+      noise_of_cut c.args.view.now c.args.op c.requires.guarded c.requires.sight c.first_quiet.new.noise.items c.requires.not_one noisy.1,
     )
 
 pub new-requires-2 : goal.new-requires-2

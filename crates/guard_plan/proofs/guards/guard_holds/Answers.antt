@@ -1,6 +1,6 @@
 use Rattle.std.proofs.Common.{sym, subst, inl, inr}
 use Rattle.std.specs.Prelude.{IfOk, IsTrue, ◌↔◌}
-use Rattle.akl_terms.specs.declared.program.Op.{Op}
+use Rattle.box_tree.specs.declared.entries.HeldOp.{HeldOp}
 use Rattle.guard_plan.specs.Guards.{HoldsInside}
 use Rattle.guard_plan.specs.Noisy.{AddsGuardNoise}
 use Rattle.guard_plan.proofs.Noises.{unasked}
@@ -14,12 +14,12 @@ returns-in-Clash-clause-noise c = unasked c.args.op c.in-Choice.is c.args.chain.
 
 pub returns-in-Condition-clause-holds : goal.returns-in-Condition-clause-holds
 returns-in-Condition-clause-holds c = elim c.in-Condition.is [
-  | inl e ↦ subst (λ (o : Op). IfOk c.is_quiet.result (λ holds. IsTrue holds ↔ HoldsInside o c.args.chain.now.nodes c.args.chain.now.stores)) (sym e) c.is_quiet.ensures.holds
-  | inr e ↦ subst (λ (o : Op). IfOk c.is_quiet.result (λ holds. IsTrue holds ↔ HoldsInside o c.args.chain.now.nodes c.args.chain.now.stores)) (sym e) c.is_quiet.ensures.holds
+  | inl e ↦ subst (λ (o : HeldOp). IfOk c.is_quiet.result (λ holds. IsTrue holds ↔ HoldsInside o c.args.chain.now.nodes c.args.chain.now.stores)) (sym e) c.is_quiet.ensures.holds
+  | inr e ↦ subst (λ (o : HeldOp). IfOk c.is_quiet.result (λ holds. IsTrue holds ↔ HoldsInside o c.args.chain.now.nodes c.args.chain.now.stores)) (sym e) c.is_quiet.ensures.holds
 ]
 
 pub returns-in-Condition-clause-noise : goal.returns-in-Condition-clause-noise
 returns-in-Condition-clause-noise c = elim c.in-Condition.is [
-  | inl e ↦ subst (λ (o : Op). IfOk c.is_quiet.result (λ _. AddsGuardNoise o c.args.chain.now.nodes c.args.chain.now.stores c.args.noise.now.items c.is_quiet.new.noise.items)) (sym e) c.is_quiet.ensures.noise
-  | inr e ↦ subst (λ (o : Op). IfOk c.is_quiet.result (λ _. AddsGuardNoise o c.args.chain.now.nodes c.args.chain.now.stores c.args.noise.now.items c.is_quiet.new.noise.items)) (sym e) c.is_quiet.ensures.noise
+  | inl e ↦ subst (λ (o : HeldOp). IfOk c.is_quiet.result (λ _. AddsGuardNoise o c.args.chain.now.nodes c.args.chain.now.stores c.args.noise.now.items c.is_quiet.new.noise.items)) (sym e) c.is_quiet.ensures.noise
+  | inr e ↦ subst (λ (o : HeldOp). IfOk c.is_quiet.result (λ _. AddsGuardNoise o c.args.chain.now.nodes c.args.chain.now.stores c.args.noise.now.items c.is_quiet.new.noise.items)) (sym e) c.is_quiet.ensures.noise
 ]

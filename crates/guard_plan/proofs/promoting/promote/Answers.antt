@@ -14,34 +14,34 @@ use Rattle.guard_plan.proofs.promoting.promote.Goals.{then-not-branch-via-then-n
 
 pub returns-then-not-only : goal.returns-then-not-only
 returns-then-not-only c = (
-  only_unsolved c.args.view.now c.label_for-label.ensures.seen c.args.goal c.args.op c.requires.place c.requires.sight c.args.only.now c.requires.only c.if-not-only.true,
-  noise_unsolved c.args.view.now c.args.op c.requires.sight c.args.noise.now.items c.args.only.now c.requires.only c.if-not-only.true c.requires.silent,
+  only_unsolved c.args.view.now c.label_for-label.ensures.seen c.args.goal c.args.op c.requires.place c.requires.sight c.requires.guarded c.args.only.now c.requires.only c.if-not-only.true,
+  noise_unsolved c.args.view.now c.args.op c.requires.guarded c.requires.sight c.args.noise.now.items c.args.only.now c.requires.only c.if-not-only.true c.requires.silent,
 )
 
 pub of_solved-chain-requires : goal.of_solved-chain-requires
 of_solved-chain-requires c = rw (c.as_slice.ensures.value, c.in_ok-push.ensures.items, c.in_ok-stores.ensures, c.in_ok-share.ensures, c.stores.ensures, c.requires.program)
-    (only_testable c.args.view.now c.label_for-label.ensures.seen c.args.goal c.args.op c.requires.place c.requires.sight c.args.only.now c.requires.only).known
+    (only_testable c.args.view.now c.label_for-label.ensures.seen c.args.goal c.args.op c.requires.place c.requires.sight c.requires.guarded c.args.only.now c.requires.only).known
 
 pub guard_holds-requires : goal.guard_holds-requires
 guard_holds-requires c = rw (c.of_solved-chain.ensures, c.as_slice.ensures.value, c.in_ok-push.ensures.items, c.in_ok-stores.ensures, c.in_ok-share.ensures, c.stores.ensures, c.requires.program)
-    (only_testable c.args.view.now c.label_for-label.ensures.seen c.args.goal c.args.op c.requires.place c.requires.sight c.args.only.now c.requires.only).apart
+    (only_testable c.args.view.now c.label_for-label.ensures.seen c.args.goal c.args.op c.requires.place c.requires.sight c.requires.guarded c.args.only.now c.requires.only).apart
 
 pub returns-then-not-branch : goal.returns-then-not-branch
 returns-then-not-branch c =
     let says = rw (c.of_solved-chain.ensures, c.as_slice.ensures.value, c.in_ok-push.ensures.items, c.in_ok-stores.ensures, c.in_ok-share.ensures, c.stores.ensures, c.requires.program) at c.in_ok-guard_holds.ensures.holds in
     let noise = rw (c.of_solved-chain.ensures, c.as_slice.ensures.value, c.in_ok-push.ensures.items, c.in_ok-stores.ensures, c.in_ok-share.ensures, c.stores.ensures, c.requires.program) at c.in_ok-guard_holds.ensures.noise in (
       elim c.then-not-branch.branch [
-        | then-not-branch-via-then-not-branch w ↦ only_unheld c.args.view.now c.label_for-label.ensures.seen c.args.goal c.args.op c.requires.place c.requires.sight c.args.only.now c.requires.only
+        | then-not-branch-via-then-not-branch w ↦ only_unheld c.args.view.now c.label_for-label.ensures.seen c.args.goal c.args.op c.requires.place c.requires.sight c.requires.guarded c.args.only.now c.requires.only
             (λ h. false≢true (sym w.if-not-branch.true ∙ says.1 h))
-        | then-not-branch-via-else-not-branch+then-names-gt-MOST w ↦ only_many c.args.view.now c.label_for-label.ensures.seen c.args.goal c.args.op c.requires.place c.requires.sight c.args.only.now c.requires.only
+        | then-not-branch-via-else-not-branch+then-names-gt-MOST w ↦ only_many c.args.view.now c.label_for-label.ensures.seen c.args.goal c.args.op c.requires.place c.requires.sight c.requires.guarded c.args.only.now c.requires.only
             (omega (arith, w.if-names-gt-MOST.true, ap (λ (l : List Goal). length l) c.body.ensures))
       ],
-      noise_of_promote c.args.view.now c.args.op c.requires.sight c.guard_holds.new.noise.items c.args.only.now c.requires.only c.if-not-only.false c.args.noise.now.items c.requires.silent noise,
+      noise_of_promote c.args.view.now c.args.op c.requires.guarded c.requires.sight c.guard_holds.new.noise.items c.args.only.now c.requires.only c.if-not-only.false c.args.noise.now.items c.requires.silent noise,
     )
 
 pub promoted-requires : goal.promoted-requires
 promoted-requires c = rw (c.of_solved-chain.ensures, c.as_slice.ensures.value, c.in_ok-push.ensures.items, c.in_ok-stores.ensures, c.in_ok-share.ensures, c.stores.ensures)
-    (only_deep c.args.view.now c.label_for-label.ensures.seen c.args.goal c.args.op c.requires.place c.requires.sight c.args.only.now c.requires.only)
+    (only_deep c.args.view.now c.label_for-label.ensures.seen c.args.goal c.args.op c.requires.place c.requires.sight c.requires.guarded c.args.only.now c.requires.only)
 
 pub new-requires-2 : goal.new-requires-2
 new-requires-2 c =
@@ -51,8 +51,8 @@ new-requires-2 c =
     let members = rw (c.chain.ensures.nodes, c.chain.ensures.stores, c.as_slice-2.ensures, c.requires.program) at c.in_ok-binds.ensures.members in
     let few : length c.args.view.now.body < 2 ^ 32 = omega (arith, c.if-names-gt-MOST.false, ap (λ (l : List Goal). length l) c.body.ensures) in
     rw (c.label_for-label.ensures.label, c.in_ok-reads.ensures, c.path.ensures, c.body.ensures)
-    (only_planned c.args.view.now c.label_for-label.ensures.seen c.args.goal c.args.op c.requires.place c.requires.sight c.args.only.now c.requires.only
+    (only_planned c.args.view.now c.label_for-label.ensures.seen c.args.goal c.args.op c.requires.place c.requires.sight c.requires.guarded c.args.only.now c.requires.only
     c.if-not-only.false (says.0 c.if-not-branch.false) few c.in_ok-store.field-0 c.args.only.now.known answer c.in_ok-binds.binds.items members
-    (Step.Promote c.in_ok-store-2.store c.in_ok-store.field-0.solved c.in_ok-goals.goals)
-    (ap (λ (s : Stored). laws.promotes s c.in_ok-store.field-0.solved (named_atoms c.args.view.now.table.program.templates.nodes c.in_ok-goals.goals.items)) c.in_ok-store-2.ensures
-    ∙ ap (λ (l : List (Name × Goal)). laws.promotes c.in_ok-store.field-0.store c.in_ok-store.field-0.solved (named_atoms c.args.view.now.table.program.templates.nodes l)) goals))
+    (Step.Join c.in_ok-store-2.store c.in_ok-store.field-0.solved c.in_ok-goals.goals)
+    (ap (λ (s : Stored). laws.joins s c.in_ok-store.field-0.solved (named_atoms c.args.view.now.table.program.templates.nodes c.in_ok-goals.goals.items)) c.in_ok-store-2.ensures
+    ∙ ap (λ (l : List (Name × Goal)). laws.joins c.in_ok-store.field-0.store c.in_ok-store.field-0.solved (named_atoms c.args.view.now.table.program.templates.nodes l)) goals))

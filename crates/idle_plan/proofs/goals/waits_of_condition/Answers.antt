@@ -1,5 +1,5 @@
 use Rattle.std.proofs.Common.{◌≡◌, ◌-◌, ◌<◌, List, length, slice_index_or, sym, subst, arith}
-use Rattle.akl_terms.specs.declared.program.Op.{Op}
+use Rattle.box_tree.specs.declared.entries.HeldOp.{HeldOp}
 use Rattle.box_tree.specs.declared.view.Alternative.{Alternative}
 use Rattle.guard_plan.specs.Guards.{IsTestable}
 use Rattle.guard_plan.specs.Noisy.{tested}
@@ -14,7 +14,7 @@ returns-then-alternatives-lt2 c =
     let few : length c.args.view.now.alternatives < 2 = rw c.alternatives-alternatives.ensures.alternatives at c.if-alternatives-lt2.true in
     let m = rw (c.chain.ensures.nodes, c.chain.ensures.stores) at c.in_ok-list.ensures in
     subst (λ (l : List Alternative). AreToldBy c.args.program.now.templates.nodes c.args.view.now.stores l c.in_ok-list.list.items) (few_tested c.args.program.now.templates.nodes c.args.view.now.stores c.args.view.now.alternatives few)
-    (by_noise c.args.program.now.templates.nodes c.args.view.now.stores (tested Op.Condition c.args.view.now.alternatives) c.args.noise.now c.in_ok-list.list.items c.requires.noise m)
+    (by_noise c.args.program.now.templates.nodes c.args.view.now.stores (tested HeldOp.Condition c.args.view.now.alternatives) c.args.noise.now c.in_ok-list.list.items c.requires.noise m)
 
 pub push_told-requires-clause-testable : goal.push_told-requires-clause-testable
 push_told-requires-clause-testable c =
@@ -33,5 +33,5 @@ returns c =
     rw c.alternatives-alternatives.ensures.alternatives at c.index-alternatives-last.is in
     let m = rw (c.chain.ensures.nodes, c.chain.ensures.stores) at c.in_ok-list.ensures in
     last_added c.args.program.now.templates.nodes c.args.view.now.stores c.args.view.now.alternatives c.index-alternatives-last.result (omega (arith, more)) c.in_ok-list.list.items c.push_told.new.list.items
-    (by_noise c.args.program.now.templates.nodes c.args.view.now.stores (tested Op.Condition c.args.view.now.alternatives) c.args.noise.now c.in_ok-list.list.items c.requires.noise m)
+    (by_noise c.args.program.now.templates.nodes c.args.view.now.stores (tested HeldOp.Condition c.args.view.now.alternatives) c.args.noise.now c.in_ok-list.list.items c.requires.noise m)
     (subst (λ (a : Alternative). AddsTold c.args.program.now.templates.nodes c.args.view.now.stores a c.in_ok-list.list.items c.push_told.new.list.items) is c.in_ok-push_told.ensures)

@@ -12,3 +12,8 @@ pub waits_of_commit-requires-clause-noise : goal.waits_of_commit-requires-clause
 waits_of_commit-requires-clause-noise c =
     rw c.requires.program
     (subst (λ (s : Sight). IsNoiseAt c.args.view.now s c.args.noise.now) (sym c.sight.ensures ∙ c.in-Choice.is ∙ ap Sight.Choice c.in-Commit.is) c.requires.noise)
+
+pub waits_of_collecting-requires-clause-noise : goal.waits_of_collecting-requires-clause-noise
+waits_of_collecting-requires-clause-noise c =
+    rw c.requires.program
+    (subst (λ (s : Sight). IsNoiseAt c.args.view.now s c.args.noise.now) (sym c.sight.ensures ∙ c.in-Choice.is ∙ ap Sight.Choice c.in-Collect.is) c.requires.noise)

@@ -1,4 +1,5 @@
-use Rattle.std.proofs.Common.{FitsSigned, w64, rules}
+use Rattle.std.proofs.Common.{FitsSigned, rules}
+use Rattle.std.specs.Int.{w128}
 use Rattle.std.proofs.lemmas.Int.{to_z-of_z}
 use Rattle.rule_plan.proofs.EvalRight.{clash_none, value_right, holds_right, fails_right, waits_none, never_none}
 use Rattle.rule_plan.proofs.evaluating.eval.Goals as goal
@@ -7,8 +8,8 @@ pub telling_plan-requires-clause-right : goal.telling_plan-requires-clause-right
 telling_plan-requires-clause-right c =
     let k = rw (c.in-Consistent.is, c.chain-chain.ensures.nodes, c.chain-chain.ensures.stores, c.requires.program) at c.in_ok-consistent.ensures in
     let e = rw (c.in-Is.is, c.chain-chain.ensures.nodes, c.chain-chain.ensures.symbols, c.chain-chain.ensures.stores, c.requires.program) at c.in_ok-value.ensures in
-    let f : FitsSigned w64 c.in-Is.value = search rules in
-    rw (to_z-of_z w64 c.in-Is.value f)
+    let f : FitsSigned w128 c.in-Is.value = search rules in
+    rw (to_z-of_z w128 c.in-Is.value f)
     (value_right c.args.view.now c.requires.seen c.args.goal c.args.arithmetic.frame c.args.arithmetic.test c.args.arithmetic.left c.args.arithmetic.right c.requires.place c.requires.sight k c.in-Is.value e)
 
 pub eval_plan-requires : goal.eval_plan-requires

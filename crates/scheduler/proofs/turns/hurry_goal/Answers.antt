@@ -6,7 +6,7 @@ use Rattle.scheduler.specs.Turns.{IsUrgentAt}
 use Rattle.scheduler.proofs.Hurrying.{urgent_still}
 use Rattle.scheduler.proofs.turns.hurry_goal.Goals as goal
 
-pub returns-then-has_solved-clause-still : goal.returns-then-has_solved-clause-still
-returns-then-has_solved-clause-still c =
+pub returns-then-may_go_on-clause-still : goal.returns-then-may_go_on-clause-still
+returns-then-may_go_on-clause-still c =
     IfOk-weaker c.hurry.result (λ _. IsHurried c.args.open_places.now c.hurry.new.self Urgency.Ordinary c.in-Some.token) (λ _. (q : Place) → IsUrgentAt c.args.open_places.now q → IsUrgentAt c.hurry.new.self q)
     (λ _ h. urgent_still c.args.open_places.now c.hurry.new.self Urgency.Ordinary c.in-Some.token h) c.hurry.ensures.hurried
