@@ -16,6 +16,7 @@ use Rattle.task_pool.proofs.hand.Hand.TheSendSync as hands
 use Rattle.turn_lock.proofs.lock.Pass.TheSendSync as passes
 use Rattle.par_workers.specs.contracts.shared.Made as Made
 use Rattle.par_workers.specs.contracts.shared.SharedRun as SharedRun
+use Rattle.par_workers.specs.contracts.signals.Signals as Signals
 use Rattle.par_workers.specs.contracts.worker.Worker as Worker
 
 -- each step rests on those before it, since a `search` that goes down through all of them runs out of steps
@@ -54,6 +55,9 @@ Made-send = search (owned.crosses, sendable) depth 60 fits 20000
 
 pub SharedRun-send : IsSend SharedRun.the_row
 SharedRun-send = let a = Scheduler-send in let b = Made-send in search (owned.crosses, maps.crosses, sendable) depth 60 fits 20000
+
+pub Signals-sync : IsSync Signals.the_row
+Signals-sync = search (owned.crosses, sendable) depth 60 fits 20000
 
 pub Worker-send : IsSend Worker.the_row
 Worker-send = let a = SharedRun-send in search (passes.the_field_send, hands.the_send, owned.crosses, sendable) depth 60 fits 20000

@@ -4,6 +4,7 @@ ghost use Rattle.std.specs.Prelude.{◌≡◌, IfOk, IfSome};
 ghost use Rattle.scheduler.specs.Resting.{IsAtRest};
 ghost use Rattle.par_workers.specs.Turns.{IsSightBy, IsSeenIn, IsChosenIn};
 
+use crate::late::comes_last;
 use crate::shared::SharedRun;
 use akl_terms::Place;
 use box_tree::{LookError, View};
@@ -12,6 +13,9 @@ use scheduler::{Attention, Scheduler};
 use std::alloc::{AllocError, Global};
 use std::collections::VecDeque;
 use step_commit::Core;
+
+// So many turns in a row may find nothing while no worker plans.
+const MOST_VAIN: u32 = 500;
 
 /// What a worker saw of a place.
 #[derive(Drop)]
@@ -34,20 +38,23 @@ pub struct Look {
 pub enum Chosen {
     /// It plans at a place.
     At(Look),
-    /// It waits: the places of all its tokens are put off, and some place is open.
+    /// It waits: it has no token of a place that is there, the late places are put off, and some place is open.
     Wait,
     /// It ends: no place is open, or all workers are to stop.
     End,
 }
 
 impl SharedRun {
-    /// Looks at the place of the first of a worker's tokens whose place is there, and isn't put off; the first of all is the
-    /// one that it has drawn. Want of memory stops all workers.
+    /// Looks at the place of the first of a worker's tokens whose place is there, and doesn't come last; the first is the one
+    /// that it has drawn. Where there is none, and no worker plans, it looks at a late place that isn't put off: these come
+    /// last of all. A worker that gives way looks at none, unless it has drawn a token. Want of memory stops all workers, and so
+    /// do many turns in a row in which none planned or found a place.
     pub(crate) fn choose(
         &mut self,
         alloc: Global,
         worker: u32,
         drawn: Option<u64>,
+        gives_way: bool,
         tokens: &mut VecDeque<u64>,
     ) -> Chosen
         ensures same { self.new ≡ self.old }
@@ -56,8 +63,21 @@ impl SharedRun {
         if self.stops {
             return Chosen::End;
         }
+        if gives_way && drawn.is_none() {
+            return Chosen::Wait;
+        }
         match self.try_choose(alloc, worker, drawn, tokens) {
-            Ok(chosen) => chosen,
+            Ok(Some(look)) => {
+                self.begin_planning();
+                Chosen::At(look)
+            }
+            Ok(None) => {
+                if self.is_to_wait() {
+                    Chosen::Wait
+                } else {
+                    Chosen::End
+                }
+            }
             Err(_) => {
                 self.stops = true;
                 Chosen::End
@@ -65,32 +85,55 @@ impl SharedRun {
         }
     }
 
-    // The same, where they aren't to stop.
+    // A worker plans from now on.
+    fn begin_planning(&mut self)
+        ensures { self.new ≡ self.old }
+    {
+        self.planning = self.planning.saturating_add(1);
+        self.vain = 0;
+    }
+
+    // Whether a worker that found no place is to wait for one.
+    fn is_to_wait(&mut self) -> bool
+        ensures { self.new ≡ self.old }
+    {
+        self.vain = if self.planning > 0 {
+            0
+        } else {
+            self.vain.saturating_add(1)
+        };
+        if self.vain > MOST_VAIN {
+            self.stops = true;
+        }
+        !self.stops && !self.scheduler.is_quiet()
+    }
+
+    // The look at the next place, if one is found.
     fn try_choose(
         &mut self,
         alloc: Global,
         worker: u32,
         drawn: Option<u64>,
         tokens: &mut VecDeque<u64>,
-    ) -> Result<Chosen, AllocError>
+    ) -> Result<Option<Look>, AllocError>
         ensures same { self.new ≡ self.old }
-        ensures chosen { IfOk result (IsChosenIn self.old worker) }
+        ensures look { IfOk result (λ found. IfSome found (λ look. IsSeenIn self.old worker look.sight)) }
     {
         if let Some(token) = drawn {
             tokens.push_front(token)?;
         }
+        self.sort_late(tokens);
         if let Some(look) = self.look_through(alloc, worker, tokens)? {
-            return Ok(Chosen::At(look));
+            return Ok(Some(look));
         }
-        if self.scheduler.is_quiet() {
-            Ok(Chosen::End)
-        } else {
-            Ok(Chosen::Wait)
+        if self.planning > 0 {
+            return Ok(None);
         }
+        self.look_at_late(alloc, worker)
     }
 
-    // Looks at the place of the first token whose place is there, and isn't put off. Of those before it those go whose place
-    // isn't there.
+    // Looks at the place of the first of a worker's tokens whose place is there. Of those before it those go whose place
+    // isn't there, and those of late places or such as are put off come to the last ones.
     fn look_through(
         &mut self,
         alloc: Global,
@@ -104,8 +147,8 @@ impl SharedRun {
             let Some(token) = tokens.pop_front() else {
                 break;
             };
-            if self.is_put_off(token) {
-                tokens.push_back(token)?;
+            if comes_last(&self.scheduler, token) {
+                self.put_last(token);
                 continue;
             }
             if let Some(sight) = self.see_at(alloc, worker, token)? {
@@ -114,6 +157,39 @@ impl SharedRun {
             self.held.remove(&token);
         }
         Ok(None)
+    }
+
+    // Looks at a late place that isn't put off.
+    fn look_at_late(&mut self, alloc: Global, worker: u32) -> Result<Option<Look>, AllocError>
+        ensures same { self.new ≡ self.old }
+        ensures look { IfOk result (λ found. IfSome found (λ look. IsSeenIn self.old worker look.sight)) }
+    {
+        for _ in 0..self.late.count() {
+            let Some(token) = self.take_late() else {
+                break;
+            };
+            if let Some(sight) = self.see_at(alloc, worker, token)? {
+                return Ok(Some(Look { token, sight }));
+            }
+            self.held.remove(&token);
+        }
+        Ok(None)
+    }
+
+    // The token of the next place among the last comes to the worker's, if it is one of these no more.
+    fn sort_late(&mut self, tokens: &mut VecDeque<u64>)
+        ensures { self.new ≡ self.old }
+    {
+        if let Some(token) = self.late.take_next(&self.scheduler) {
+            self.keep(token, tokens);
+        }
+    }
+
+    // Takes the token of a late place that isn't put off.
+    fn take_late(&mut self) -> Option<u64>
+        ensures { self.new ≡ self.old }
+    {
+        self.late.take_last(&self.scheduler)
     }
 
     // Looks at the open place with this token, if there is one. Where it has gone, it is closed.
@@ -138,14 +214,6 @@ impl SharedRun {
             self.scheduler.forget(token);
         }
         Ok(found)
-    }
-
-    // Whether an open place isn't looked at yet.
-    fn is_put_off(&self, token: u64) -> bool {
-        match self.scheduler.place_of(token) {
-            Some(place) => self.scheduler.attention_at(token, place) == Attention::PutOff,
-            None => false,
-        }
     }
 }
 

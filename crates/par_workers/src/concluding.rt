@@ -15,6 +15,7 @@ use scheduler::Committed;
 use std::alloc::Global;
 use std::collections::VecDeque;
 use step_commit::CommitError;
+use wake_lists::Urgency;
 
 /// What comes next at a place, where this is known, and the token that led there.
 #[derive(Drop)]
@@ -24,9 +25,10 @@ pub struct Planned {
 }
 
 impl SharedRun {
-    /// Commits or settles what a worker planned, if it planned anything; there is room for a receipt. The tokens of the places
-    /// that this opens come to the worker's, and so does that of the place itself where this is still open. Where all labels
-    /// of the budget are made, or memory is wanting, all workers are to stop.
+    /// Commits or settles what a worker planned, if it planned anything; there is room for a receipt. The token of the place
+    /// itself comes back to the worker's where it is still open, before all others, and the tokens of places that this opens
+    /// come too: of urgent ones first, of others last. What is stale comes last. Where all labels of the budget are made, or
+    /// memory is wanting, all workers are to stop.
     pub(crate) fn conclude(
         &mut self,
         alloc: Global,
@@ -44,19 +46,20 @@ impl SharedRun {
             return;
         };
         match next {
-            Some(Next::Plan(plan)) => self.commit(alloc, worker, plan, receipts, tokens),
-            Some(Next::Idle(idle)) => self.settle(alloc, worker, idle, tokens),
-            None => self.put_off(token),
+            Some(Next::Plan(plan)) => self.commit(alloc, worker, plan, token, receipts, tokens),
+            Some(Next::Idle(idle)) => self.settle(alloc, worker, token, idle, tokens),
+            None => self.put_off(token, tokens),
         }
-        self.take_back(token, tokens);
+        self.end_planning();
     }
 
-    // Commits a plan. One that is stale is dropped.
+    // Commits a plan for the place with this token. One that is stale is dropped.
     fn commit(
         &mut self,
         alloc: Global,
         worker: u32,
         plan: Plan,
+        token: u64,
         receipts: &mut Vec<Receipt>,
         tokens: &mut VecDeque<u64>,
     )
@@ -80,24 +83,37 @@ impl SharedRun {
                 let made = Made::of(&receipt.label, self.scheduler.core().table());
                 self.past.push_reserved(made);
                 receipts.push_reserved(receipt);
+                self.take_back(token, tokens);
                 self.hand_out(opened.as_slice(), tokens);
             }
-            Err(CommitError::Stale { item: _, stamp: _ }) => {}
+            Err(CommitError::Stale { item: _, stamp: _ }) => self.keep(token, tokens),
             Err(CommitError::Spent { budget: _ } | CommitError::Memory(_)) => self.stops = true,
         }
     }
 
-    // Settles an idle place. A root box that was found idle without a look inside stays open where labels were made since.
-    fn settle(&mut self, alloc: Global, worker: u32, idle: Idle, tokens: &mut VecDeque<u64>)
+    // Settles the idle place with this token. A root box that was found idle without a look inside stays open where labels were made since.
+    fn settle(
+        &mut self,
+        alloc: Global,
+        worker: u32,
+        token: u64,
+        idle: Idle,
+        tokens: &mut VecDeque<u64>,
+    )
         requires idle { IsFoundBefore self.old worker (next.Idle idle) }
         ensures { self.new ≡ self.old }
     {
         if !self.is_in_time(&idle) {
+            self.keep(token, tokens);
             return;
         }
         match self.scheduler.settle(alloc, &idle) {
-            Ok(Some(token)) => self.hand_out(&[token], tokens),
-            Ok(None) | Err(CommitError::Stale { item: _, stamp: _ }) => {}
+            Ok(Some(opened)) => {
+                self.take_back(token, tokens);
+                self.hand_out(&[opened], tokens);
+            }
+            Ok(None) => self.take_back(token, tokens),
+            Err(CommitError::Stale { item: _, stamp: _ }) => self.keep(token, tokens),
             Err(CommitError::Spent { budget: _ } | CommitError::Memory(_)) => self.stops = true,
         }
     }
@@ -123,30 +139,62 @@ impl SharedRun {
     }
 
     // A busy box in which no rule was found is late.
-    fn put_off(&mut self, token: u64)
+    fn put_off(&mut self, token: u64, tokens: &mut VecDeque<u64>)
         ensures { self.new ≡ self.old }
     {
         if self.scheduler.postpone(token).is_err() {
             self.stops = true;
         }
+        self.keep(token, tokens);
     }
 
-    // The token of a place that was planned comes back to the worker's, if the place is still open.
+    // The token of a place that was planned comes back to the worker's, before all others, if the place is still open.
     fn take_back(&mut self, token: u64, tokens: &mut VecDeque<u64>)
         ensures { self.new ≡ self.old }
     {
-        if self.scheduler.place_of(token).is_some() {
-            self.keep(token, tokens);
-        } else {
-            self.held.remove(&token);
-        }
+        let lost = match self.scheduler.urgency_of(token) {
+            Some(Urgency::Late) => self.late.add(token).is_err(),
+            Some(_) => tokens.push_front(token).is_err(),
+            None => {
+                self.held.remove(&token);
+                false
+            }
+        };
+        self.stop_if(lost);
     }
 
-    // A token comes to a worker's. Were it lost, its place would stay open, so then all workers are to stop.
-    fn keep(&mut self, token: u64, tokens: &mut VecDeque<u64>)
+    /// A token comes to a worker's, that of an urgent place before the others, or to those of late places.
+    pub(crate) fn keep(&mut self, token: u64, tokens: &mut VecDeque<u64>)
         ensures { self.new ≡ self.old }
     {
-        if tokens.push_back(token).is_err() {
+        let lost = match self.scheduler.urgency_of(token) {
+            Some(Urgency::Late) => self.late.add(token).is_err(),
+            Some(Urgency::Urgent) => tokens.push_front(token).is_err(),
+            _ => tokens.push_back(token).is_err(),
+        };
+        self.stop_if(lost);
+    }
+
+    /// A token comes to those of places that come last.
+    pub(crate) fn put_last(&mut self, token: u64)
+        ensures { self.new ≡ self.old }
+    {
+        let lost = self.late.add(token).is_err();
+        self.stop_if(lost);
+    }
+
+    // A worker plans no more.
+    fn end_planning(&mut self)
+        ensures { self.new ≡ self.old }
+    {
+        self.planning = self.planning.saturating_sub(1);
+    }
+
+    // Where a token is lost its place stays open, so all workers are to stop.
+    fn stop_if(&mut self, lost: bool)
+        ensures { self.new ≡ self.old }
+    {
+        if lost {
             self.stops = true;
         }
     }

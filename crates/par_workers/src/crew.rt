@@ -5,6 +5,7 @@ ghost use Rattle.turn_lock.specs.Passes.{view, IsPassOf, HasNoTurn};
 ghost use Rattle.par_workers.specs.Crews.{program_of, AreNumbered, AreOfJoined, lists};
 
 use crate::shared::SharedRun;
+use crate::signals::Signals;
 use crate::worker::Worker;
 use akl_model::Receipt;
 use akl_outside::Gate;
@@ -12,7 +13,6 @@ use akl_terms::Program;
 use std::alloc::{AllocError, Global};
 use std::collections::VecDeque;
 use std::sync::Wait;
-use std::sync::atomic::AtomicBool;
 use std::thread;
 use std::thread::Threads;
 use task_pool::{Hand, push};
@@ -76,14 +76,14 @@ pub(crate) fn hire(
     Ok(workers)
 }
 
-/// Each worker works in a thread of its own, where one can be made, until the run has `ended`.
+/// Each worker works in a thread of its own, where one can be made, until the run has ended.
 pub(crate) fn set_to_work<R: Threads + Wait + Sync, G: Gate>(
     rt: &R,
     alloc: Global,
     program: &Program,
     lock: &TurnLock<SharedRun>,
     gate: &G,
-    ended: &AtomicBool,
+    signals: &Signals,
     workers: &mut [Worker],
 )
     requires lock { All (λ w. IsPassOf lock.now w.pass) workers.old }
@@ -96,7 +96,7 @@ pub(crate) fn set_to_work<R: Threads + Wait + Sync, G: Gate>(
     let work = |_: usize, w: &mut Worker|
         requires { IsPassOf lock.now w.now.pass × (program.now ≡ program_of w.now) }
         ensures { IsPassOf lock.entry.now w.exit.now.pass × (w.exit.now.number ≡ w.entry.now.number) }
-    { w.work(rt, alloc, program, lock, gate, ended) };
+    { w.work(rt, alloc, program, lock, gate, signals) };
     thread::for_each_mut(rt, workers, 16, &work);
 }
 

@@ -4,9 +4,12 @@
 mod choosing;
 mod concluding;
 mod crew;
+mod late;
 mod run;
 mod shared;
+mod signals;
 mod vain_turns;
+mod vain_waits;
 mod worker;
 
 pub use run::{Finished, run_many};

@@ -5,6 +5,7 @@ ghost use Rattle.par_workers.specs.Runs.{HasRunMany, AreShared, HasGoneOn};
 
 use crate::crew::{deal, dismiss, hire, set_to_work};
 use crate::shared::SharedRun;
+use crate::signals::Signals;
 use akl_model::Receipt;
 use akl_outside::Gate;
 use akl_terms::Program;
@@ -13,7 +14,6 @@ use seq_engine::{End, run_on};
 use std::alloc::{AllocError, Global};
 use std::mem;
 use std::sync::Wait;
-use std::sync::atomic::AtomicBool;
 use std::thread::Threads;
 use step_commit::Core;
 use task_pool::Pool;
@@ -65,10 +65,18 @@ fn run_workers<R: Threads + Wait + Sync, G: Gate>(
 {
     let mut hands = Pool::new(alloc, workers)?;
     let shared = SharedRun::new(alloc, core)?;
-    let ended = AtomicBool::new(!deal(&mut hands, shared.held_count()));
+    let signals = Signals::new(!deal(&mut hands, shared.held_count()));
     let (lock, mut first) = TurnLock::new(alloc, shared)?;
     let mut crew = hire(alloc, &lock, &mut first, hands)?;
-    set_to_work(rt, alloc, program, &lock, gate, &ended, crew.as_mut_slice());
+    set_to_work(
+        rt,
+        alloc,
+        program,
+        &lock,
+        gate,
+        &signals,
+        crew.as_mut_slice(),
+    );
     let mut receipts = Vec::new(alloc);
     dismiss(&lock, &mut first, crew, &mut receipts)?;
     Ok((lock.close(first).into_scheduler(), receipts))

@@ -3,6 +3,7 @@
 ghost use Rattle.std.specs.Prelude.{◌≡◌, [], IfOk};
 ghost use Rattle.par_workers.specs.Shared.{core_after, IsShared};
 
+use crate::late::Late;
 use akl_model::Label;
 use box_tree::Table;
 use scheduler::Scheduler;
@@ -33,15 +34,19 @@ impl Made {
     }
 }
 
-/// The state of a run with its open places, which tokens a worker has, in its deque or out of it, and whether all workers
-/// are to stop. Each token of an open place is one of these, and no two workers have the same. It remembers in no bytes the
-/// core with which the run began, and what was made since.
+/// The state of a run with its open places, and which tokens are with a worker, in a deque or among those of late places.
+/// Each token of an open place is one of these, and is in one place alone. It has besides how many workers plan, how many turns
+/// in a row found nothing while none planned, and whether all workers are to stop. It remembers in no bytes the core with which
+/// the run began, and what was made since.
 #[derive(Drop)]
 pub struct SharedRun {
     begun: Snapshot<Core>,
     pub(crate) past: Vec<Made>,
     pub(crate) scheduler: Scheduler,
     pub(crate) held: BTreeSet<u64>,
+    pub(crate) late: Late,
+    pub(crate) planning: u32,
+    pub(crate) vain: u32,
     pub(crate) stops: bool,
 }
 
@@ -83,6 +88,9 @@ impl SharedRun {
             past: Vec::new(alloc),
             scheduler,
             held,
+            late: Late::new(alloc),
+            planning: 0,
+            vain: 0,
             stops: false,
         })
     }

@@ -9,7 +9,9 @@ ghost use Rattle.par_workers.specs.Turns.{run_seen, IsNumber, IsChosenIn, IsFoun
 use crate::choosing::{Chosen, Look, Sight};
 use crate::concluding::Planned;
 use crate::shared::SharedRun;
+use crate::signals::Signals;
 use crate::vain_turns::VainTurns;
+use crate::vain_waits::VainWaits;
 use akl_model::Receipt;
 use akl_outside::Gate;
 use akl_terms::Program;
@@ -19,9 +21,12 @@ use rule_plan::plan;
 use std::alloc::{AllocError, Global};
 use std::collections::VecDeque;
 use std::sync::Wait;
-use std::sync::atomic::{AtomicBool, Ordering};
-use task_pool::{Hand, push, take};
+use task_pool::{Hand, is_bare, push, take};
 use turn_lock::{Pass, TurnLock};
+
+// A worker with so many tokens has enough to give one away. With fewer, labels of two workers would come in turns at one box,
+// and each would have to find out anew what is known of the stores there.
+const ENOUGH: usize = 8;
 
 /// A worker between its turns: its receipts are exactly those of its labels in what its pass has seen.
 #[derive(Drop)]
@@ -39,10 +44,10 @@ pub struct Worker {
 }
 
 impl Worker {
-    /// Takes turns, and plans between them, until the run has `ended`: no place is open, or all workers are to stop.
+    /// Takes turns, and plans between them, until the run has ended: no place is open, or all workers are to stop.
     ///
-    /// A worker that has nothing to conclude and finds no token waits outside of the lock: other workers have the tokens of all
-    /// open places.
+    /// A worker draws a token where it has none. One that finds no place waits outside of the lock, and has no token then. One
+    /// that has waited for the lock longer than it planned, again and again, leaves its tokens to others for a time.
     pub(crate) fn work<R: Wait, G: Gate>(
         &mut self,
         rt: &R,
@@ -50,55 +55,54 @@ impl Worker {
         program: &Program,
         lock: &TurnLock<SharedRun>,
         gate: &G,
-        ended: &AtomicBool,
+        signals: &Signals,
     )
         requires lock { IsPassOf lock.now self.old.pass }
         requires program { program.now ≡ (view self.old.pass).fixed.table.program }
         ensures lock { IsPassOf lock.now self.new.pass }
         ensures number { self.new.number ≡ self.old.number }
     {
+        signals.begin_work();
         let mut vain = VainTurns::new();
+        let mut waits = VainWaits::new();
         let mut planned = None;
         for _ in rt.forever() {
-            if ended.load(Ordering::SeqCst) {
+            if signals.have_ended() {
                 return;
             }
-            if planned.is_none() && vain.is_waiting() {
-                vain.wait();
+            if vain.is_waiting() {
+                vain.wait(rt, signals);
                 continue;
             }
-            let drawn = self.draw(rt);
-            let has_token = drawn.is_some() || !self.tokens.is_empty();
-            if planned.is_none() && !has_token {
-                vain.add(has_token);
-                continue;
-            }
-            match self.turn(rt, alloc, lock, planned, drawn) {
+            let drawn = self.draw_unless(rt, planned.is_some());
+            match self.turn(rt, alloc, lock, signals, &mut waits, planned, drawn) {
                 Chosen::End => break,
                 Chosen::Wait => {
-                    vain.add(has_token);
+                    self.rest(rt, signals, &mut vain, &mut waits);
                     planned = None;
                 }
                 Chosen::At(look) => {
+                    vain.end(signals);
                     gate.before_plan(self.number);
                     let Ok(found) = plan_at(alloc, program, look) else {
                         break;
                     };
-                    end_if_found(&mut vain, &found);
                     planned = Some(found);
                 }
             }
         }
-        ended.store(true, Ordering::SeqCst);
+        signals.end();
     }
 
     // One turn: what was planned is committed or settled, and the next place is chosen, that of the token that was drawn
-    // before all others. The tokens that are left go into the deque.
+    // before all others.
     fn turn<R: Wait>(
         &mut self,
         rt: &R,
         alloc: Global,
         lock: &TurnLock<SharedRun>,
+        signals: &Signals,
+        waits: &mut VainWaits,
         planned: Option<Planned>,
         drawn: Option<u64>,
     ) -> Chosen
@@ -111,21 +115,47 @@ impl Worker {
         if self.receipts.reserve(1).is_err() {
             return Chosen::End;
         }
+        waits.ask(signals);
         let (turn, mut run) = lock.lock(rt, &mut self.pass);
+        waits.have(signals);
         let worker = self.number;
         run.conclude(alloc, worker, planned, &mut self.receipts, &mut self.tokens);
-        let chosen = run.choose(alloc, worker, drawn, &mut self.tokens);
+        let chosen = run.choose(alloc, worker, drawn, waits.are_many(), &mut self.tokens);
+        waits.leave(signals);
         lock.unlock(turn, run, &mut self.pass);
-        self.lay_down();
+        self.offer(signals);
         chosen
     }
 
-    // Takes a token, its deque's first or else another's.
-    fn draw<R: Wait>(&mut self, rt: &R) -> Option<u64>
+    // Takes a token, its deque's first or else another's, where it has none and has planned nothing.
+    fn draw_unless<R: Wait>(&mut self, rt: &R, planned: bool) -> Option<u64>
         ensures pass { self.new.pass ≡ self.old.pass }
         ensures number { self.new.number ≡ self.old.number }
     {
+        if planned || !self.tokens.is_empty() {
+            return None;
+        }
         take(rt, &mut self.hand)
+    }
+
+    // It waits where it found nothing to do. Where it waited for the lock too often, it gives way, and leaves its tokens.
+    fn rest<R: Wait>(
+        &mut self,
+        rt: &R,
+        signals: &Signals,
+        vain: &mut VainTurns,
+        waits: &mut VainWaits,
+    )
+        ensures pass { self.new.pass ≡ self.old.pass }
+        ensures number { self.new.number ≡ self.old.number }
+    {
+        if waits.are_many() {
+            self.lay_down();
+            signals.ring();
+            waits.give_way(rt, signals);
+        } else {
+            vain.add(signals);
+        }
     }
 
     // Puts its tokens into its deque, up to the first that is refused.
@@ -143,12 +173,22 @@ impl Worker {
             let _ = self.tokens.pop_front();
         }
     }
-}
 
-// A worker that planned something waits no longer.
-fn end_if_found(vain: &mut VainTurns, planned: &Planned) {
-    if planned.next.is_some() {
-        vain.end();
+    // Puts the last of its tokens into its deque, where it has enough, another worker has nothing to do and the deque has none.
+    fn offer(&mut self, signals: &Signals)
+        ensures pass { self.new.pass ≡ self.old.pass }
+        ensures number { self.new.number ≡ self.old.number }
+    {
+        if self.tokens.len() < ENOUGH || !signals.is_anyone_idle() || !is_bare(&mut self.hand) {
+            return;
+        }
+        let Some(token) = self.tokens.back() else {
+            return;
+        };
+        if push(&mut self.hand, *token).is_ok() {
+            let _ = self.tokens.pop_back();
+            signals.ring();
+        }
     }
 }
 

@@ -1,8 +1,8 @@
 //! One worker's hand.
-ghost use Rattle.std.specs.Prelude.{◌≡◌, ℕ, ◌<◌, ◌≤◌, [], ◌∷◌, ◌++◌, length, IfErr, IfNone, IfSome, OnErr, OnOk};
-ghost use Rattle.task_pool.specs.Looks.{HasTaken, HasFoundNone};
+ghost use Rattle.std.specs.Prelude.{◌≡◌, ℕ, ◌<◌, true, ◌≤◌, [], ◌∷◌, ◌++◌, length, IfErr, IfNone, IfSome, OnErr, OnOk};
+ghost use Rattle.task_pool.specs.Looks.{HasTaken, HasFoundNone, OwnSeenEmpty};
 
-use crate::rule::{InOrder, Pushes, Rule};
+use crate::rule::{InOrder, Looks, Pushes, Rule};
 use crate::view::View;
 use crate::way::{Way, take_around};
 use crossbeam_deque::Worker;
@@ -74,6 +74,15 @@ pub fn push<P: Rule>(hand: &mut Hand<P>, token: u64) -> Result<(), Refused>
         }
         Err(token) => Err(Refused { token, pushes }),
     }
+}
+
+/// Whether the hand's own deque has no token.
+pub fn is_bare<P: Rule>(hand: &mut Hand<P>) -> bool
+    ensures same { hand.new ≡ hand.old }
+    ensures bare { result ≡ true → OwnSeenEmpty P.holds hand.old }
+{
+    P::laws();
+    hand.deque.len_as::<Looks<P>>() == 0
 }
 
 /// Takes the first token of the hand's own deque, or else of another hand's. It may wait while others take.

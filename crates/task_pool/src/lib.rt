@@ -10,7 +10,7 @@ mod view;
 mod way;
 
 pub use ending::finish;
-pub use hand::{Hand, Refused, push, room, take};
+pub use hand::{Hand, Refused, is_bare, push, room, take};
 pub use pool::Pool;
 pub use rule::{InOrder, Rule};
 pub use view::{Account, View};

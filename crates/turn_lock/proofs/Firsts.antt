@@ -17,16 +17,15 @@ module _ {F E : Type 0} (maker : E → ℕ) where
   pub first_fits-set : (log : List E) (vs : List (Option (Standing F E))) (place : ℕ) (s w t : Standing F E) → get_elem? vs place ≡ some (Some s) → FirstFits maker log vs t → FirstFits maker log (set vs place (Some w)) t
   first_fits-set log vs place s w t at f = (
     length-set vs place (Some w) ∙ f.0,
-    f.1,
-    spent_count-set_live vs place s w at ∙ f.2,
-    f.3,
-    λ p e. f.4 p (spent_before vs place p w e),
+    spent_count-set_live vs place s w at ∙ f.1,
+    f.2,
+    λ p e. f.3 p (spent_before vs place p w e),
     All-weaker
         (λ (j : Joined E). JoinedFits maker log vs j.number j.seen)
         (λ (j : Joined E). JoinedFits maker log (set vs place (Some w)) j.number j.seen)
         (λ j h. (set_else vs place j.number (Some w) (apart_from_spent vs j.number place s h.0 at) ∙ h.0, h.1))
         t.view.joined
-        f.5,
+        f.4,
   )
 
   -- entries of a pass that was not joined follow
@@ -45,15 +44,14 @@ module _ {F E : Type 0} (maker : E → ℕ) where
   first_fits-append log more vs place s t at le of f = (
     f.0,
     f.1,
-    f.2,
-    All-append (λ e. maker e ≤ t.view.split_count) log more f.3 (All-weaker (λ e. maker e ≡ place) (λ e. maker e ≤ t.view.split_count) (λ x is. omega arith) more of),
-    λ p e. goes_on-append maker p place t.view.seen log more (apart_from_spent vs p place s e at) of (f.4 p e),
-    joined_fit-append log more vs place s t.view.joined at of f.5,
+    All-append (λ e. maker e ≤ t.view.split_count) log more f.2 (All-weaker (λ e. maker e ≡ place) (λ e. maker e ≤ t.view.split_count) (λ x is. omega arith) more of),
+    λ p e. goes_on-append maker p place t.view.seen log more (apart_from_spent vs p place s e at) of (f.3 p e),
+    joined_fit-append log more vs place s t.view.joined at of f.4,
   )
 
   -- the first pass has seen the whole history
   pub first_fits-seen : (log : List E) (vs : List (Option (Standing F E))) (t : Standing F E) (seen : List E) (stage : Stage) → log ≡ seen → FirstFits maker log vs t → FirstFits maker log vs (shown t seen stage)
-  first_fits-seen log vs t seen stage is f = (f.0, f.1, f.2, f.3, (λ p _. subst (λ l. GoesOnWithout maker p l log) is (goes_on-refl maker p log)), f.5)
+  first_fits-seen log vs t seen stage is f = (f.0, f.1, f.2, (λ p _. subst (λ l. GoesOnWithout maker p l log) is (goes_on-refl maker p log)), f.4)
 
   -- what the first pass knows, after one view changed
   pub top-set : (log : List E) (vs : List (Option (Standing F E))) (place : ℕ) (s w : Standing F E) → get_elem? vs place ≡ some (Some s) → (place ≡ 0 → FirstFits maker log vs w)

@@ -4,31 +4,10 @@ use Rattle.atomic_table.proofs.Lists.{at_set}
 use lib.ListN.{get_elem?}
 use mathlib.Core.Option.{some, some-injective, some-ne-none}
 use Rattle.turn_lock.specs.declared.view.Standing.{Standing}
-use Rattle.turn_lock.specs.declared.view.Stage.{Stage}
-use Rattle.turn_lock.specs.declared.view.Stage.TheVariants.{Idle, Waiting, Serving}
-use Rattle.turn_lock.specs.Kept.{ticket_count, tickets, total_tickets, spent_count}
+use Rattle.turn_lock.specs.Kept.{spent_count}
 use Rattle.turn_lock.proofs.Places.{at_pushed, Some-injective, Some-ne-None}
 
-one_at_most : (stage : Stage) → ticket_count stage ≤ 1
-one_at_most Idle = omega arith
-one_at_most (Waiting k) = omega arith
-one_at_most (Serving k) = omega arith
-
 module _ {F E : Type 0} where
-  pub total_tickets-set : (vs : List (Option (Standing F E))) (i : ℕ) (v w : Option (Standing F E)) → get_elem? vs i ≡ some v → total_tickets (set vs i w) + tickets v ≡ total_tickets vs + tickets w
-  total_tickets-set [] i v w e = absurd (some-ne-none v (sym e))
-  total_tickets-set (x ∷ xs) zero v w e = let h : tickets x ≡ tickets v = ap tickets (some-injective x v e) in omega arith
-  total_tickets-set (x ∷ xs) (suc i) v w e = let h = total_tickets-set xs i v w e in omega arith
-
-  pub total_tickets-push : (vs : List (Option (Standing F E))) (v : Option (Standing F E)) → total_tickets (vs ++ v ∷ []) ≡ total_tickets vs + tickets v
-  total_tickets-push [] v = omega arith
-  total_tickets-push (x ∷ xs) v = let h = total_tickets-push xs v in omega arith
-
-  pub total_tickets-le : (vs : List (Option (Standing F E))) → total_tickets vs ≤ length vs
-  total_tickets-le [] = omega arith
-  total_tickets-le (None ∷ xs) = let h = total_tickets-le xs in omega arith
-  total_tickets-le (Some s ∷ xs) = let h = total_tickets-le xs in let t : ticket_count s.stage ≤ 1 = one_at_most s.stage in omega arith
-
   pub spent_count-set_live : (vs : List (Option (Standing F E))) (i : ℕ) (s t : Standing F E) → get_elem? vs i ≡ some (Some s) → spent_count (set vs i (Some t)) ≡ spent_count vs
   spent_count-set_live [] i s t h = absurd (some-ne-none (Some s) (sym h))
   spent_count-set_live (x ∷ xs) zero s t h = subst (λ y. spent_count xs ≡ spent_count (y ∷ xs)) (sym (some-injective x (Some s) h)) refl

@@ -1,35 +1,26 @@
 -- What a pass knows and holds between its steps, as its seat at the table carries it.
-use Rattle.std.specs.Prelude.{◌≡◌, ℕ, ◌%◌, ◌^◌, ◌==◌, Bool, true, false, List, [], ◌∷◌, Option, Some, None}
+use Rattle.std.specs.Prelude.{◌≡◌, ℕ, ◌==◌, Bool, true, false, List, [], ◌∷◌, Option, Some, None}
 use Rattle.std.proofs.Common.{true≢false, sym}
 use Rattle.atomic_table.specs.Table.{Me}
 use Rattle.turn_lock.specs.declared.view.View.{View}
 use Rattle.turn_lock.specs.declared.view.Standing.{Standing}
 use Rattle.turn_lock.specs.declared.view.Stage.{Stage}
-use Rattle.turn_lock.specs.declared.view.Stage.TheVariants.{Idle, Waiting, Serving}
+use Rattle.turn_lock.specs.declared.view.Stage.TheVariants.{Idle, Serving}
 use Rattle.turn_lock.specs.Histories.{GoesOnWithout}
 
 -- a view, `None` where the pass was joined, and the slots that are out
 abbrev pub Held : Type 0 → Type 0 → Type 0 → Type 0
 Held T F E = Me (Option T) (Option (Standing F E))
 
--- the ticket that is served, as a word counts it
-abbrev pub ticket_served : Stage → Option ℕ
-ticket_served Idle = None
-ticket_served (Waiting k) = None
-ticket_served (Serving k) = Some (k % 2 ^ 64)
-
 -- no slot is out with an idle pass, and with one whose turn it is the only slot, which is empty
 abbrev pub fits_slots : {T : Type 0} → Stage → List (ℕ × Option T) → Bool
 fits_slots Idle [] = true
-fits_slots (Serving k) ((place, None) ∷ []) = place == 0
+fits_slots Serving ((place, None) ∷ []) = place == 0
 fits_slots _ _ = false
 
 module _ {F E : Type 0} where
   abbrev pub idle : View F E → Standing F E
   idle v = record { view = v; stage = Idle }
-
-  abbrev pub staged : Standing F E → Stage → Standing F E
-  staged s stage = record s { stage = stage }
 
   abbrev pub shown : Standing F E → List E → Stage → Standing F E
   shown s seen stage = record { view = record s.view { seen = seen }; stage = stage }
@@ -44,11 +35,10 @@ module _ {T F E : Type 0} where
   standing_of (None, slots) whole = absurd (true≢false (sym whole))
   standing_of (Some s, slots) whole = s
 
-  -- a seat that has no ticket
+  -- a seat that has no turn
   abbrev pub Idles : Held T F E → Type 0
   Idles m = (s : Standing F E) × (m ≡ (Some s, [])) × (s.stage ≡ Idle)
 
-  -- the seat has the turn of this ticket and its slot is empty, since the value y was taken out
-  abbrev pub Serves : (T → F) → (T → List E) → (E → ℕ) → Held T F E → ℕ → T → Held T F E → Type 0
-  Serves fixed history maker old ticket y new = (s : Standing F E) → old.0 ≡ Some s → (k : ℕ) × (k % 2 ^ 64 ≡ ticket) × (fixed y ≡ s.view.fixed) × GoesOnWithout maker s.view.number s.view.seen (history y)
-      × (new ≡ (Some (shown s (history y) (Serving k)), (0, None) ∷ []))
+  -- the seat has the turn and its slot is empty, since the value y was taken out
+  abbrev pub Serves : (T → F) → (T → List E) → (E → ℕ) → Held T F E → T → Held T F E → Type 0
+  Serves fixed history maker old y new = (s : Standing F E) → old.0 ≡ Some s → (fixed y ≡ s.view.fixed) × GoesOnWithout maker s.view.number s.view.seen (history y) × (new ≡ (Some (shown s (history y) Serving), (0, None) ∷ []))

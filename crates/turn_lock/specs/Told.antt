@@ -1,25 +1,20 @@
 -- What each step of the lock tells. A number is what the step found in its word.
-use Rattle.std.specs.Prelude.{◌≡◌, ◌≢◌, ℕ, ◌+◌, ◌%◌, ◌^◌, [], ◌∷◌, List, Option, Some, None}
+use Rattle.std.specs.Prelude.{◌≡◌, ◌≢◌, ℕ, ◌+◌, [], ◌∷◌, List, Option, Some, None}
 use Rattle.atomic_table.specs.Table.{Step}
 use Rattle.turn_lock.specs.declared.view.Standing.{Standing}
-use Rattle.turn_lock.specs.declared.view.Stage.TheVariants.{Idle, Waiting, Serving}
+use Rattle.turn_lock.specs.declared.view.Stage.TheVariants.{Idle, Serving}
 use Rattle.turn_lock.specs.Histories.{GoesOnWithout}
-use Rattle.turn_lock.specs.Known.{Held, idle, staged, shown}
+use Rattle.turn_lock.specs.Known.{Held, idle, shown}
 use Rattle.turn_lock.specs.Views.{newcomer, with_joined}
 
 module _ {T F E : Type 0} where
-  -- the pass waits with the ticket that was found
-  abbrev pub drew : Step (Option T) → Held T F E → ℕ → Held T F E → Type 0
-  drew step m found m' = (s : Standing F E) → m.0 ≡ Some s → s.stage ≡ Idle → (k : ℕ) × (m' ≡ (Some (staged s (Waiting k)), m.1)) × (k % 2 ^ 64 ≡ found)
-
   -- the pass has the value y, whose history begins with what it had seen and goes on with nothing of its own
-  abbrev pub Took : (T → F) → (T → List E) → (E → ℕ) → Standing F E → ℕ → T → Held T F E → Type 0
-  Took fixed history maker s k y m = (fixed y ≡ s.view.fixed) × GoesOnWithout maker s.view.number s.view.seen (history y) × (m ≡ (Some (shown s (history y) (Serving k)), (0, Some y) ∷ []))
+  abbrev pub Took : (T → F) → (T → List E) → (E → ℕ) → Standing F E → T → Held T F E → Type 0
+  Took fixed history maker s y m = (fixed y ≡ s.view.fixed) × GoesOnWithout maker s.view.number s.view.seen (history y) × (m ≡ (Some (shown s (history y) Serving), (0, Some y) ∷ []))
 
-  -- where the pass's ticket was found, the pass takes the value
-  abbrev pub looked : (T → F) → (T → List E) → (E → ℕ) → Step (Option T) → Held T F E → ℕ → Held T F E → Type 0
-  looked fixed history maker step m found m' = (s : Standing F E) (k : ℕ) → m.0 ≡ Some s → s.stage ≡ Waiting k → m.1 ≡ []
-      → (found ≢ k % 2 ^ 64 → m' ≡ m) × (found ≡ k % 2 ^ 64 → (y : T) × Took fixed history maker s k y m')
+  -- where 0 was found, a pass without a turn takes the value
+  abbrev pub Tried : (T → F) → (T → List E) → (E → ℕ) → Held T F E → ℕ → Held T F E → Type 0
+  Tried fixed history maker m found m' = (s : Standing F E) → m ≡ (Some s, []) → s.stage ≡ Idle → (found ≢ 0 → m' ≡ m) × (found ≡ 0 → (y : T) × Took fixed history maker s y m')
 
   -- the pass puts the value y back, whose history it has then seen
   abbrev pub left : (T → List E) → Step (Option T) → Held T F E → ℕ → Held T F E → Type 0

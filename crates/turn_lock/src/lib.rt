@@ -1,4 +1,7 @@
-//! A ticket lock for a value with a history: each thread's pass knows what it has seen of it.
+//! A lock for a value with a history: each thread's pass knows what it has seen of it.
+//!
+//! The lock is taken by the first pass that finds it free, in no order of arrival, so no pass waits for one whose thread
+//! doesn't run. A pass that has waited for long sleeps until it is woken.
 #![tactic(auto)]
 
 mod booked;

@@ -2,11 +2,12 @@
 ghost use Rattle.std.specs.Prelude.{◌≡◌, ◌<◌, ◌≤◌, ◌+◌, ◌++◌, true, [], ◌∷◌, length, All, IfOk};
 ghost use Rattle.turn_lock.specs.Histories.{GoesOnBy, GoesOnWithout, longer};
 ghost use Rattle.turn_lock.specs.Known.{is_whole, Idles, Serves};
+ghost use Rattle.turn_lock.specs.Told.{Tried};
 ghost use Rattle.turn_lock.specs.Views.{newcomer, with_joined};
 
 use crate::booked::Booked;
 use crate::rule::TurnRule;
-use crate::steps::{Cut, Draw, Leave, Look, Merge};
+use crate::steps::{Cut, Leave, Merge, Try};
 use crate::view::Standing;
 use atomic_table::{Seat, Table};
 use crossbeam_utils::Backoff;
@@ -14,11 +15,18 @@ use std::alloc::{AllocError, Global};
 use std::snapshot::Snapshot;
 use std::sync::Wait;
 
-/// A lock that gives its value to one pass at a time, in the order in which they drew their tickets.
+// What the lock's word is where the value is there to be taken, where a pass has it, and where besides a pass may sleep.
+const FREE: u64 = 0;
+
+const TAKEN: u64 = 1;
+
+const AWAITED: u64 = 2;
+
+/// A lock that gives its value to one pass at a time: to the first that finds it free, whichever waited longest.
 #[derive(Drop)]
 pub struct TurnLock<T: Booked> {
     table: Table<Option<T>, Option<Standing<T::Fixed, T::Entry>>, Snapshot<T>, TurnRule<T>, Global>,
-    ghost shape: { (table.shared.table_id.words ≡ 2) × (table.shared.table_id.slots ≡ 1) },
+    ghost shape: { (table.shared.table_id.words ≡ 1) × (table.shared.table_id.slots ≡ 1) },
 }
 
 /// A thread's right to take turns, and what it has seen of the history.
@@ -29,9 +37,7 @@ pub struct Pass<T: Booked> {
 }
 
 /// The turn of a pass. It can't be dropped: `unlock` takes it back.
-pub struct Turn {
-    ticket: u64,
-}
+pub struct Turn(());
 
 impl<T: Booked> TurnLock<T> {
     ghost use Rattle.turn_lock.specs.Passes.{view, IsPassOf, HasTurn, HasNoTurn, fixed_part};
@@ -52,6 +58,7 @@ impl<T: Booked> TurnLock<T> {
         self.take_turn(rt, &mut pass.seat)
     }
 
+    // A pass that has slept takes the value as one for which others may sleep, since it can't tell whether they do.
     fn take_turn<R: Wait>(
         &self,
         rt: &R,
@@ -60,24 +67,51 @@ impl<T: Booked> TurnLock<T> {
         requires lock { seat.old.table_id ≡ self.now.table.shared.table_id }
         requires idle { Idles seat.old.me }
         ensures lock { seat.new.table_id ≡ seat.old.table_id }
-        ensures value { Serves T.fixed T.history T.maker seat.old.me result.0.ticket result.1 seat.new.me }
+        ensures value { Serves T.fixed T.history T.maker seat.old.me result.1 seat.new.me }
     {
         let shared = &self.table.shared;
-        let ticket = shared.fetch_add::<Draw>(seat, 0, 1);
         let backoff = Backoff::new();
         for _ in rt.forever() {
-            if shared.load::<Look<T>>(seat, 1) == ticket {
+            if self.try_once(seat, backoff.is_completed()) == FREE {
                 let Some(value) = shared.exchange(seat, 0, None) else {
                     unreachable!()
                 };
-                return (Turn { ticket }, value);
+                return (Turn(()), value);
             }
-            backoff.snooze();
+            self.wait(rt, &backoff);
         }
         unreachable!()
     }
 
-    /// Gives the value back, and lets the next ticket be served.
+    // Waits for a moment, or sleeps where there were enough of these and the word says that a pass may sleep.
+    fn wait<R: Wait>(&self, rt: &R, backoff: &Backoff) {
+        if backoff.is_completed() {
+            self.table.shared.park(rt, 0, AWAITED as u32);
+        } else {
+            backoff.snooze();
+        }
+    }
+
+    // Takes the value where it is there, and returns what the word was. Where it isn't, and the pass sleeps, the word tells so.
+    fn try_once(
+        &self,
+        seat: &mut Seat<Option<T>, Option<Standing<T::Fixed, T::Entry>>>,
+        sleeps: bool,
+    ) -> u64
+        requires lock { seat.old.table_id ≡ self.now.table.shared.table_id }
+        requires idle { Idles seat.old.me }
+        ensures lock { seat.new.table_id ≡ seat.old.table_id }
+        ensures told { Tried T.fixed T.history T.maker seat.old.me result seat.new.me }
+    {
+        let shared = &self.table.shared;
+        if sleeps {
+            shared.swap::<Try<T>>(seat, 0, AWAITED)
+        } else {
+            shared.compare_exchange::<Try<T>>(seat, 0, FREE, TAKEN)
+        }
+    }
+
+    /// Gives the value back, and wakes a pass that may sleep.
     ///
     /// The value's history may have gone on, by entries that this pass made.
     pub fn unlock(&self, turn: Turn, value: T, pass: &mut Pass<T>)
@@ -89,11 +123,19 @@ impl<T: Booked> TurnLock<T> {
         ensures turn { HasNoTurn pass.new }
         ensures seen { view pass.new ≡ record (view pass.old) { seen = T.history value } }
     {
-        let Turn { ticket: _ } = turn;
+        let Turn(()) = turn;
         let shared = &self.table.shared;
         let empty = shared.exchange(&mut pass.seat, 0, Some(value));
         let None = empty else { unreachable!() };
-        shared.fetch_add::<Leave<T>>(&mut pass.seat, 1, 1);
+        let found = shared.swap::<Leave<T>>(&mut pass.seat, 0, FREE);
+        self.wake_if_awaited(found);
+    }
+
+    // Wakes a pass that sleeps, if there is one, where the word that was found says that one may.
+    fn wake_if_awaited(&self, found: u64) {
+        if found == AWAITED {
+            self.table.shared.wake_one(0);
+        }
     }
 
     /// A pass of the next number, which has seen what the first has. Only the first pass is split,
@@ -165,7 +207,7 @@ impl<T: Booked + Drop> TurnLock<T> {
         let about = Snapshot::of(&value);
         let mut slots = Vec::new(alloc);
         slots.push(Some(value))?;
-        let Ok((table, seat)) = Table::new(alloc, &[0, 0], slots, &about) else {
+        let Ok((table, seat)) = Table::new(alloc, &[FREE], slots, &about) else {
             return Err(AllocError);
         };
         Ok((TurnLock { table }, Pass { seat }))

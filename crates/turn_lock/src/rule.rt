@@ -5,7 +5,7 @@ use atomic_table::TableRule;
 use std::marker::PhantomData;
 use std::snapshot::Snapshot;
 
-/// Word 0 counts the tickets drawn, word 1 those served, and the slot has the value while no pass has it.
+/// The word is 0 exactly while the slot has the value; else one pass has taken the value out.
 /// The view of a pass that was joined is `None`.
 pub(crate) struct TurnRule<T> {
     of: PhantomData<T>,

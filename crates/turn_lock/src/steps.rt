@@ -4,27 +4,18 @@ use crate::view::Standing;
 use atomic_table::{Join, Play, Split};
 use std::marker::PhantomData;
 
-/// `fetch_add` of the tickets drawn.
-pub(crate) struct Draw;
-
-impl<T: Booked> Play<Option<T>, Option<Standing<T::Fixed, T::Entry>>> for Draw {
-    ghost use Rattle.turn_lock.specs.Told.{drew};
-
-    ghost then = { drew };
-}
-
-/// A load of the tickets served, by a pass that has drawn one.
-pub(crate) struct Look<T> {
+/// A step by which a pass without a turn tries to take the value: it writes another number than 0, at least where it finds 0.
+pub(crate) struct Try<T> {
     of: PhantomData<T>,
 }
 
-impl<T: Booked> Play<Option<T>, Option<Standing<T::Fixed, T::Entry>>> for Look<T> {
-    ghost use Rattle.turn_lock.specs.Told.{looked};
+impl<T: Booked> Play<Option<T>, Option<Standing<T::Fixed, T::Entry>>> for Try<T> {
+    ghost use Rattle.turn_lock.specs.Told.{Tried};
 
-    ghost then = { looked T.fixed T.history T.maker };
+    ghost then = { λ _. Tried T.fixed T.history T.maker };
 }
 
-/// `fetch_add` of the tickets served, by the pass that has the value.
+/// A swap to 0, by the pass that has the value.
 pub(crate) struct Leave<T> {
     of: PhantomData<T>,
 }

@@ -1,14 +1,12 @@
 //! What a pass knows. It exists in proofs alone: no value of these types is made.
 use std::collections::LinkedList;
 
-/// A pass's place in the line.
+/// Whether a pass has the turn.
 pub(crate) enum Stage {
-    /// It has no ticket.
+    /// It has no turn.
     Idle,
-    /// It has drawn this ticket, counted from 0 without end.
-    Waiting(u64),
-    /// This ticket, which it has, is served.
-    Serving(u64),
+    /// It has the turn.
+    Serving,
 }
 
 /// A pass that was joined to the first, and what it had seen by then.

@@ -5,7 +5,7 @@ use Rattle.std.proofs.Crossing as owned
 use Rattle.akl_terms.proofs.program.Program.TheSendSync as programs
 use Rattle.turn_lock.proofs.lock.TurnLock.TheSendSync as locks
 use Rattle.par_workers.proofs.Crews.{numbered-changed}
-use Rattle.par_workers.proofs.Crossing.{SharedRun-send, Worker-send}
+use Rattle.par_workers.proofs.Crossing.{SharedRun-send, Signals-sync, Worker-send}
 use Rattle.par_workers.proofs.crew.set_to_work.Goals as goal
 
 pub returns-clause-numbers : goal.returns-clause-numbers
@@ -20,6 +20,7 @@ for_each_mut-requires-send-T g c κs within = let a = Worker-send in search send
 pub for_each_mut-requires-sync-F : goal.for_each_mut-requires-sync-F
 for_each_mut-requires-sync-F g c κs within =
     let a = SharedRun-send in
+    let b = Signals-sync in
     let r = c.type_bounds.sync-R in
     let s = c.type_bounds.sync-G in
     search (owned.crosses, locks.the_sync, programs.the_sync, sendable) depth 60 fits 20000

@@ -40,5 +40,12 @@ returns-in-Ok c =
     let done = concluded_more s v.scheduler.core c.commit_uncounted.new.self.core c.args.worker c.args.plan c.in-Ok.field-0.receipt c.of-made.result rs c.self.invariant found c.in-Ok.ensures.committed.commits c.of-made.ensures.label in
     let past = c.push_reserved.ensures.items ∙ ap (λ (ms : List Made). ms ++ c.of-made.result ∷ []) c.reserve.ensures.items in
     subst (λ (x : SharedValue). HasConcluded c.args.worker x rs c.hand_out.new.self c.push_reserved-in-Ok.new.self.items) c.self.view_is
-    (subst (λ (x : SharedValue). HasConcluded c.args.worker s rs x c.push_reserved-in-Ok.new.self.items) (sym (c.hand_out.ensures ∙ ap (λ (ms : List Made). record { begun = v.begun.value; past = ms }) past))
+    (subst (λ (x : SharedValue). HasConcluded c.args.worker s rs x c.push_reserved-in-Ok.new.self.items) (sym (c.hand_out.ensures ∙ c.take_back.ensures ∙ ap (λ (ms : List Made). record { begun = v.begun.value; past = ms }) past))
     (subst (λ (ss : List Receipt). HasConcluded c.args.worker s rs (record { begun = s.begun; past = s.past ++ c.of-made.result ∷ [] }) ss) (sym c.push_reserved-in-Ok.ensures.items) done))
+
+pub returns-in-Err-Stale : goal.returns-in-Err-Stale
+returns-in-Err-Stale c =
+    let s = c.args.self.now in
+    let rs = c.args.receipts.now.items in
+    subst (λ (d : SharedValue). HasConcluded c.args.worker s rs d rs)
+    (sym (c.keep.ensures ∙ ap (λ (ms : List Made). record { begun = c.self.inside.begun.value; past = ms }) c.reserve.ensures.items ∙ c.self.view_is)) (concluded_none c.args.worker s rs)

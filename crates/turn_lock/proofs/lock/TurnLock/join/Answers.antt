@@ -10,6 +10,6 @@ join_seat-requires g c =
     let first = c.args.first.now in
     let free = holds_nothing first.seat.me first.whole c.requires.idle.0 in
     let other_free = holds_nothing c.args.other.seat.me c.args.other.whole c.requires.idle.1 in
-    let knows = ap (λ (m : H). m.0) free.0 in
-    let other_knows = ap (λ (m : H). m.0) other_free.0 in
-    (search rules, search rules, ap (λ (m : H). m.1) other_free.0, search rules, rw (knows, other_knows) (joins _ _ _ _ _ _ _ _ c.requires.first free.1 other_free.1))
+    let knows = ap (λ (m : H). m.0) free in
+    let other_knows = ap (λ (m : H). m.0) other_free in
+    (search rules, search rules, ap (λ (m : H). m.1) other_free, search rules, rw (knows, other_knows) (joins _ _ _ _ _ _ _ _ c.requires.first c.requires.idle.0 c.requires.idle.1))

@@ -6,4 +6,4 @@ pub take_turn-requires-clause-idle : goal.take_turn-requires-clause-idle
 take_turn-requires-clause-idle g c =
     let pass = c.args.pass.now in
     let free = holds_nothing pass.seat.me pass.whole c.requires.idle in
-    (standing_of pass.seat.me pass.whole, free.0, free.1)
+    (standing_of pass.seat.me pass.whole, free, c.requires.idle)

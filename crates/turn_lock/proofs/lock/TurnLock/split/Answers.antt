@@ -9,5 +9,5 @@ split_seat-next-requires g c =
     let H : Type 0 = Held g.row.T.Denot g.row.T-Fixed.Denot g.row.T-Entry.Denot in
     let first = c.args.first.now in
     let free = holds_nothing first.seat.me first.whole c.requires.idle in
-    let knows = ap (λ (m : H). m.0) free.0 in
-    (search rules, search rules, rw knows (splits _ _ _ _ _ _ c.requires.first free.1 c.requires.room))
+    let knows = ap (λ (m : H). m.0) free in
+    (search rules, search rules, rw knows (splits _ _ _ _ _ _ c.requires.first c.requires.idle))
