@@ -39,8 +39,9 @@ use Rattle.akl_run.proofs.AllAnswers.{found_none, found_first}
 pub loaded_shown : (program query : List ℕ) (l : Loaded) → IsLoadedFrom program query l → HasShownVariables l.query
 loaded_shown program query l is =
     let stands : IsQueryOf is.base (made_of_query first_asked is.is_query.asked) (query_without first_asked is.is_query.asked) l.program l.query = is.is_query.stands in
-    let count : l.query.variables ≡ length is.is_query.asked.names = stands.variables in
-    subst (AreBelow l.query.variables) (sym stands.shown) (shown-below 0 is.is_query.asked.names l.query.variables (omega (arith, count)))
+    let names : List (List ℕ) = (query_without first_asked is.is_query.asked).names in
+    let count : l.query.variables ≡ length names = stands.variables in
+    subst (AreBelow l.query.variables) (sym stands.shown) (shown-below 0 names l.query.variables (omega (arith, count)))
 
 pub status_of : (e : Ending) → IsStatusOf (status_by e) (outcome_by e)
 status_of Ending.Done = refl

@@ -6,7 +6,7 @@ use Rattle.akl_terms.specs.declared.program.Program.{Program}
 use Rattle.akl_lexemes.specs.declared.error.SyntaxError.{SyntaxError}
 use Rattle.akl_lexemes.specs.declared.error.SyntaxError.TheVariants.{TooLong}
 use Rattle.akl_syntax.specs.Clauses.{Clause, Query}
-use Rattle.akl_syntax.specs.Verdicts.{Verdict, accepted, refused, ReadsProgram, ReadsQuery}
+use Rattle.akl_syntax.specs.Verdicts.{Verdict, accepted, refused}
 use Rattle.akl_syntax.proofs.OneVerdict.{program_one, query_verdict_one}
 use Rattle.clause_keys.specs.declared.callee.Callee.{Callee}
 use Rattle.clause_keys.specs.Keys.{called_by, Adds, known, next, Collects}
@@ -27,6 +27,7 @@ use Rattle.akl_run.specs.Loads.{IsLoadedFrom, IsLoadedProgram, ProgramStops, Que
 use Rattle.akl_run.specs.Commands.{Side, side, Command, HasFaulted, HasWorked, HasProgram, Asks, IsAskedBy, IsRead, IsGiven, Stops, by_words, by_reading, by_program, by_query, by_run, fault, IsFault, WordsEnd, ProgramEnds, QueryEnds, IsOutcome, IsComplete}
 use Rattle.akl_run.specs.Commands as commands
 use Rattle.akl_run.specs.Reports as reports
+use Rattle.akl_run.proofs.Texts.{clauses_one, query_one}
 use Rattle.akl_run.proofs.Explained.{Ended, stopped, ran, status_runs, rose}
 
 -- ---- what was read is the front of what there was
@@ -63,29 +64,22 @@ same_given (Some made) before after program bytes h g = g.1 ∙ sym h
 refused_same : {A : Type 0} {e d : SyntaxError} → ◌≡◌ {A = Verdict A} (refused e) (refused d) → e ≡ d
 refused_same p = cc
 
-accepted_same : {A : Type 0} {x y : A} → accepted x ≡ accepted y → x ≡ y
-accepted_same p = cc
-
 not_both : {A : Type 0} {x : A} {e : SyntaxError} → accepted x ≡ refused e → ⊥
 not_both p = absurd cc
 
 none_some : {X : Type 0} {o : Option X} {x : X} → o ≡ None → o ≡ Some x → ⊥
 none_some p q = let r : None ≡ Some _ = sym p ∙ q in cc
 
--- the clauses of one text are one list
-clauses_one : {text : List ℕ} {cs ds : List Clause} → ReadsProgram text (accepted cs) → ReadsProgram text (accepted ds) → cs ≡ ds
-clauses_one r q = accepted_same (program_one r q)
-
 same_program_stop : {text : List ℕ} {s t : Status} {f g : Refusal} → ProgramStops text s f → ProgramStops text t g → (IsFault s → ⊥) → IsFault t ⊎ ((t ≡ s) × (g ≡ f))
 same_program_stop no_memory q n = absurd (n tt)
 same_program_stop p no_memory n = inl tt
 same_program_stop (by_text r) (by_text q) n = inr (refl, ap Refusal.TextOf (refused_same (program_one q r)))
-same_program_stop (by_text r) (by_loading q e) n = absurd (not_both (program_one q r))
-same_program_stop (by_loading r e) (by_text q) n = absurd (not_both (program_one r q))
+same_program_stop (by_text r) (by_loading q e) n = absurd (not_both (program_one q.reads r))
+same_program_stop (by_loading r e) (by_text q) n = absurd (not_both (program_one r.reads q))
 same_program_stop (by_loading {e = cause} r e) (by_loading q h) n = inr (refl, ap Refusal.Loading (some_same (sym h ∙ subst (λ (z : List Clause). refusal_of z ≡ Some cause) (clauses_one r q) e)))
 
 loaded_or_stopped : {text : List ℕ} {p : Program} {s : Status} {f : Refusal} → IsLoadedProgram text p → ProgramStops text s f → IsFault s
-loaded_or_stopped l (by_text r) = absurd (not_both (program_one l.reads r))
+loaded_or_stopped l (by_text r) = absurd (not_both (program_one l.reads.reads r))
 loaded_or_stopped l (by_loading r e) = absurd (none_some (subst (λ (z : List Clause). refusal_of z ≡ None) (clauses_one l.reads r) l.allowed) e)
 loaded_or_stopped l no_memory = tt
 
@@ -102,14 +96,11 @@ collects_one {other = other} (keys.next {cs = more} a p) (keys.next b q) = colle
 
 same_callees : {text : List ℕ} {p q : Program} → IsLoadedProgram text p → IsLoadedProgram text q → map called_by p.definitions ≡ map called_by q.definitions
 same_callees {text} {p} {q} l k =
-    collects_one l.stands.collected (subst (λ (z : List Clause). Collects [] (lifted_clauses z) (map called_by q.definitions)) (accepted_same (program_one k.reads l.reads)) k.stands.collected)
+    collects_one l.stands.collected (subst (λ (z : List Clause). Collects [] (lifted_clauses z) (map called_by q.definitions)) (clauses_one k.reads l.reads) k.stands.collected)
 
 same_refusal : (p q : Program) (asked : Query) → map called_by p.definitions ≡ map called_by q.definitions → query_refusal_of p asked ≡ query_refusal_of q asked
 unfolding query_refusal_of
 same_refusal p q asked e = rw e refl
-
-query_one : {text : List ℕ} {x y : Query} → ReadsQuery text (accepted x) → ReadsQuery text (accepted y) → x ≡ y
-query_one r q = accepted_same (query_verdict_one r q)
 
 -- a query that isn't refused over one program isn't over the other
 none_other : {program : List ℕ} {p q : Program} (x y : Query) → IsLoadedProgram program p → IsLoadedProgram program q → x ≡ y → query_refusal_of p x ≡ None → query_refusal_of q y ≡ None
@@ -123,12 +114,12 @@ same_query_stop : {program text : List ℕ} {p q : Program} {s t : Status} {f g 
 same_query_stop l k no_memory b n = absurd (n tt)
 same_query_stop l k a no_memory n = inl tt
 same_query_stop l k (by_text r) (by_text q) n = inr (refl, ap Refusal.TextOf (refused_same (query_verdict_one q r)))
-same_query_stop l k (by_text r) (by_loading q e) n = absurd (not_both (query_verdict_one q r))
-same_query_stop l k (by_loading r e) (by_text q) n = absurd (not_both (query_verdict_one r q))
+same_query_stop l k (by_text r) (by_loading q e) n = absurd (not_both (query_verdict_one q.reads r))
+same_query_stop l k (by_loading r e) (by_text q) n = absurd (not_both (query_verdict_one r.reads q))
 same_query_stop l k (by_loading {q = x} r e) (by_loading {q = y} q h) n = inr (refl, ap Refusal.Loading (some_same (sym h ∙ some_other x y l k (query_one r q) e)))
 
 asked_or_stopped : {program text : List ℕ} {p q : Program} {l : Loaded} {s : Status} {f : Refusal} → IsLoadedProgram program p → IsLoadedProgram program q → IsLoadedQuery p text l → QueryStops q text s f → IsFault s
-asked_or_stopped a b l (by_text r) = absurd (not_both (query_verdict_one l.reads r))
+asked_or_stopped a b l (by_text r) = absurd (not_both (query_verdict_one l.reads.reads r))
 asked_or_stopped a b l (by_loading {q = y} r e) = absurd (none_some (none_other l.asked y a b (query_one l.reads r) l.allowed) e)
 asked_or_stopped a b l no_memory = tt
 

@@ -4,6 +4,8 @@ pub mod AllAnswers
 pub mod Evaluated
 pub mod Explained
 pub mod Loading
+pub mod WholeShapes
+pub mod Texts
 pub mod Lifted
 pub mod Reading
 pub mod Exact

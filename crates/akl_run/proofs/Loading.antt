@@ -1,5 +1,5 @@
 -- From what the tests of loading found to why there is no program or query.
-use Rattle.std.proofs.Common.{◌≡◌, ◌≤◌, ℕ, List, [], ◌∷◌, length, refl, sym, subst, Err, arith, Vec, Global}
+use Rattle.std.proofs.Common.{◌≤◌, ℕ, List, [], ◌∷◌, length, sym, subst, Err, arith, Vec, Global}
 use Rattle.std.proofs.lemmas.List.{length-map}
 use Rattle.akl_syntax.specs.declared.source.SourceClause.{SourceClause}
 use Rattle.std.specs.Prelude.{Result, Ok, IfErr}
@@ -8,7 +8,7 @@ use Rattle.akl_terms.specs.declared.program.Program.{Program}
 use Rattle.akl_lexemes.specs.declared.error.SyntaxError.{SyntaxError}
 use Rattle.akl_lexemes.specs.declared.error.SyntaxError.TheVariants as syntax_errors
 use Rattle.akl_syntax.specs.Clauses.{Clause, Query}
-use Rattle.akl_syntax.specs.Verdicts.{Verdict, accepted, ReadsProgram, ReadsQuery, too_long, clauses}
+use Rattle.akl_syntax.specs.Verdicts.{ReadsProgram, ReadsQuery}
 use Rattle.akl_syntax.specs.Answers.{clause_view, clauses_view, query_view}
 use Rattle.akl_syntax.specs.Answers as readers
 use Rattle.akl_syntax.specs.Sizes.{clauses_size}
@@ -25,16 +25,9 @@ use Rattle.akl_args.specs.Table.{reading, IsRefusalOf}
 use Rattle.akl_run.specs.Commands.{WordsStop}
 use Rattle.akl_run.specs.Commands as commands
 use Rattle.akl_run.specs.Stops.{IsStop, IsWordsStop, IsTextStop, IsLoadingStop}
-use Rattle.akl_run.specs.Loads.{ProgramStops, QueryStops, by_text, by_loading, no_memory}
+use Rattle.akl_run.specs.Loads.{IsProgramText, IsQueryText, ProgramStops, QueryStops, by_text, by_loading, no_memory}
 
--- ---- an accepted program is short, and has no more clauses than terms, goals and clauses
-short_of : (bytes : List ℕ) (v : Verdict (List Clause)) (cs : List Clause) → ReadsProgram bytes v → v ≡ accepted cs → length bytes ≤ 1000000
-short_of bytes v cs (too_long h) e = absurd cc
-short_of bytes v cs (clauses h r) e = h
-
-pub accepted_short : (bytes : List ℕ) (cs : List Clause) → ReadsProgram bytes (accepted cs) → length bytes ≤ 1000000
-accepted_short bytes cs r = short_of bytes (accepted cs) cs r refl
-
+-- ---- there are no more clauses than terms, goals and clauses
 clauses_counted : (cs : List Clause) → length cs ≤ clauses_size cs
 clauses_counted [] = omega arith
 clauses_counted (c ∷ cs) = let h : length cs ≤ clauses_size cs = clauses_counted cs in omega (arith, h)
@@ -69,7 +62,7 @@ query_text_stops p bytes (syntax_errors.IntRange at) stop r i = stops_as (QueryS
 query_text_stops p bytes (syntax_errors.TooLong count) stop r i = stops_as (QueryStops p bytes) _ _ stop i (by_text r)
 query_text_stops p bytes (syntax_errors.Memory e) stop r i = stops_as (QueryStops p bytes) _ _ stop i no_memory
 
-pub program_loading_stops : (bytes : List ℕ) (cs : List Clause) (e : LoadError) (stop : Stop) → ReadsProgram bytes (accepted cs) → checks.Answers (refusal_of cs) (Err e)
+pub program_loading_stops : (bytes : List ℕ) (cs : List Clause) (e : LoadError) (stop : Stop) → IsProgramText bytes cs → checks.Answers (refusal_of cs) (Err e)
     → IsLoadingStop Status.Program e stop → ProgramStops bytes stop.status stop.refusal
 program_loading_stops bytes cs (load_errors.MixedGuards key) stop r a i = stops_as (ProgramStops bytes) _ _ stop i (by_loading r a)
 program_loading_stops bytes cs (load_errors.Undefined key) stop r a i = stops_as (ProgramStops bytes) _ _ stop i (by_loading r a)
@@ -77,7 +70,7 @@ program_loading_stops bytes cs (load_errors.Reserved key) stop r a i = stops_as 
 program_loading_stops bytes cs (load_errors.TooMany what count) stop r a i = stops_as (ProgramStops bytes) _ _ stop i (by_loading r a)
 program_loading_stops bytes cs (load_errors.Memory e) stop r a i = stops_as (ProgramStops bytes) _ _ stop i no_memory
 
-pub query_loading_stops : (p : Program) (bytes : List ℕ) (q : Query) (e : LoadError) (stop : Stop) → ReadsQuery bytes (accepted q) → checks.Answers (query_refusal_of p q) (Err e)
+pub query_loading_stops : (p : Program) (bytes : List ℕ) (q : Query) (e : LoadError) (stop : Stop) → IsQueryText bytes q → checks.Answers (query_refusal_of p q) (Err e)
     → IsLoadingStop Status.Query e stop → QueryStops p bytes stop.status stop.refusal
 query_loading_stops p bytes q (load_errors.MixedGuards key) stop r a i = stops_as (QueryStops p bytes) _ _ stop i (by_loading r a)
 query_loading_stops p bytes q (load_errors.Undefined key) stop r a i = stops_as (QueryStops p bytes) _ _ stop i (by_loading r a)

@@ -6,6 +6,7 @@ use Rattle.akl_terms.specs.declared.program.Program.{Program}
 use Rattle.akl_lexemes.specs.declared.error.SyntaxError.{SyntaxError}
 use Rattle.akl_syntax.specs.Clauses.{Clause, Query}
 use Rattle.akl_syntax.specs.Verdicts.{accepted, refused, ReadsProgram, ReadsQuery}
+use Rattle.variable_scopes.specs.Scoped.{AreScoped, IsScopedQuery}
 use Rattle.clause_checks.specs.declared.error.LoadError.{LoadError}
 use Rattle.clause_checks.specs.Refusals.{refusal_of, query_refusal_of}
 use Rattle.clause_keys.specs.Keys.{called_by, AreUnique}
@@ -15,34 +16,46 @@ use Rattle.akl_run.specs.declared.report.Status.{Status}
 use Rattle.akl_run.specs.declared.report.Refusal.{Refusal}
 use Rattle.akl_run.specs.declared.loaded.Loaded.{Loaded}
 
--- the text is a program, nothing of it is refused, and this is what its clauses stand for once their inline choices are taken out
+-- the text reads as clauses, and these are they with their variables by their scopes
+pub record IsProgramText (text : List ℕ) (clauses : List Clause) : Type 0 where
+  pub written : List Clause
+  pub reads : ReadsProgram text (accepted written)
+  pub scoped : AreScoped written clauses
+
+-- the same of a query
+pub record IsQueryText (text : List ℕ) (asked : Query) : Type 0 where
+  pub written : Query
+  pub reads : ReadsQuery text (accepted written)
+  pub scoped : IsScopedQuery written asked
+
+-- the text is a program, nothing of it is refused, and this is what its clauses stand for once they are lifted
 pub record IsLoadedProgram (text : List ℕ) (p : Program) : Type 0 where
   pub clauses : List Clause
-  pub reads : ReadsProgram text (accepted clauses)
+  pub reads : IsProgramText text clauses
   pub allowed : refusal_of clauses ≡ None
   pub stands : IsProgramOf (lifted_clauses clauses) p
 
 -- why a text is no program that is loaded; want of memory is free
 pub data ProgramStops (text : List ℕ) : Status → Refusal → Type 0 where
   by_text : {e : SyntaxError} → ReadsProgram text (refused e) → ProgramStops text Status.Program (Refusal.TextOf e)
-  by_loading : {cs : List Clause} {e : LoadError} → ReadsProgram text (accepted cs) → refusal_of cs ≡ Some e → ProgramStops text Status.Program (Refusal.Loading e)
+  by_loading : {cs : List Clause} {e : LoadError} → IsProgramText text cs → refusal_of cs ≡ Some e → ProgramStops text Status.Program (Refusal.Loading e)
   no_memory : ProgramStops text Status.NoMemory Refusal.Nothing
 
--- the number of a query's first inline choice; a program has no more choices than bytes, so each of its numbers is smaller
+-- the number of the first definition that a query's inline choices and collecting goals become; a program has no more of these than bytes, so each of its numbers is smaller
 abbrev pub first_asked : ℕ
 first_asked = 1000000
 
--- the text is a query, nothing of it is refused over the program, and it is loaded over it with the definitions that are made of its inline choices
+-- the text is a query, nothing of it is refused over the program, and it is loaded over it with the definitions that are made of its inline choices and collecting goals
 pub record IsLoadedQuery (base : Program) (text : List ℕ) (l : Loaded) : Type 0 where
   pub asked : Query
-  pub reads : ReadsQuery text (accepted asked)
+  pub reads : IsQueryText text asked
   pub allowed : query_refusal_of base asked ≡ None
   pub stands : IsQueryOf base (made_of_query first_asked asked) (query_without first_asked asked) l.program l.query
 
 -- why a text is no query that is loaded over a program; want of memory is free
 pub data QueryStops (base : Program) (text : List ℕ) : Status → Refusal → Type 0 where
   by_text : {e : SyntaxError} → ReadsQuery text (refused e) → QueryStops base text Status.Query (Refusal.TextOf e)
-  by_loading : {q : Query} {e : LoadError} → ReadsQuery text (accepted q) → query_refusal_of base q ≡ Some e → QueryStops base text Status.Query (Refusal.Loading e)
+  by_loading : {q : Query} {e : LoadError} → IsQueryText text q → query_refusal_of base q ≡ Some e → QueryStops base text Status.Query (Refusal.Loading e)
   no_memory : QueryStops base text Status.NoMemory Refusal.Nothing
 
 -- the query over the program is that of two texts

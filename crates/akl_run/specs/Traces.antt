@@ -16,6 +16,7 @@ rule_text Rule.Fail = codes "fail"
 rule_text Rule.Cut = codes "cut"
 rule_text Rule.Promote = codes "promote"
 rule_text Rule.Split = codes "split"
+rule_text Rule.Collect = codes "collect"
 
 -- a name: its worker, a dot, its number
 abbrev pub name_text : Name → List ℕ

@@ -12,6 +12,7 @@ use akl_terms::{Program, Query};
 use clause_checks::{check_clauses, check_goals};
 use clause_store::{load, load_query};
 use std::alloc::Global;
+use variable_scopes::{scoped_clauses, scoped_query};
 
 /// The number of a query's first inline choice, which is above those of all programs.
 const FIRST_ASKED: u32 = 1_000_000;
@@ -25,17 +26,18 @@ pub struct Loaded {
     pub first_variable: u32,
 }
 
-/// The program that a text is. Its inline choices are definitions.
+/// The program that a text is. Its inline choices and goals that collect are definitions.
 pub fn load_program(alloc: Global, text: &[u8]) -> Result<Program, Stop>
     requires { length text.now ≤ 1000001 }
     ensures program { IfOk result (IsLoadedProgram text.now) }
     ensures open { IfOk result IsOpen }
     ensures stop { IfErr result (λ stop. ProgramStops text.now stop.status stop.refusal) }
 {
-    let clauses = match read_program(alloc, text) {
-        Ok(clauses) => clauses,
+    let written = match read_program(alloc, text) {
+        Ok(written) => written,
         Err(error) => return Err(Stop::text(Status::Program, error)),
     };
+    let clauses = scoped_clauses(alloc, written)?;
     if let Err(error) = check_clauses(alloc, &clauses) {
         return Err(Stop::loading(Status::Program, error));
     }
@@ -51,15 +53,16 @@ pub fn load_asked(alloc: Global, program: Program, text: &[u8]) -> Result<Loaded
     ensures variables { IfOk result (λ l. HasVariables l.program l.query l.first_variable) }
     ensures stop { IfErr result (λ stop. QueryStops program text.now stop.status stop.refusal) }
 {
-    let query = match read_query(alloc, text) {
-        Ok(query) => query,
+    let written = match read_query(alloc, text) {
+        Ok(written) => written,
         Err(error) => return Err(Stop::text(Status::Query, error)),
     };
-    if let Err(error) = check_goals(alloc, &program, &query) {
+    let asked = scoped_query(alloc, written)?;
+    if let Err(error) = check_goals(alloc, &program, &asked) {
         return Err(Stop::loading(Status::Query, error));
     }
     let first_variable = program.templates.len();
-    let (query, lifted) = lift_query(alloc, query, FIRST_ASKED)?;
+    let (query, lifted) = lift_query(alloc, asked, FIRST_ASKED)?;
     let (program, query) = load_query(alloc, program, query, lifted)?;
     Ok(Loaded {
         program,

@@ -21,6 +21,7 @@ fn rule_text(rule: Rule) -> &'static str
         Rule::Cut => "cut",
         Rule::Promote => "promote",
         Rule::Split => "split",
+        Rule::Collect => "collect",
     }
 }
 
