@@ -1,11 +1,13 @@
-//! Tests of the crates at the bottom, and of open places: what no clause says of them.
+//! Tests of the crates at the bottom, and of those that many workers share: what no clause says of them.
 #![tactic(auto)]
 
+#[cfg(test)]
+mod lock;
 #[cfg(test)]
 mod map;
 #[cfg(test)]
 mod outside;
 #[cfg(test)]
-mod places;
+mod pool;
 #[cfg(test)]
 mod terms;

@@ -11,7 +11,7 @@ use std::sync::Wait;
 use std::thread::Threads;
 
 // Files and queries.
-const RUNS: [(&str, &str); 14] = [
+const RUNS: [(&str, &str); 17] = [
     (
         "counter.akl",
         "open_port(P,S), counter(S,0), send(add(2,A),P), send(add(3,B),P), ask(A,B,P,Sum)",
@@ -35,6 +35,12 @@ const RUNS: [(&str, &str); 14] = [
     ),
     ("proof.akl", "prove(mortal(socrates),Proof)"),
     ("proof.akl", "prove(mortal(Who),_Proof)"),
+    ("ways.akl", "ways(lund,malmo,Ways,Number)"),
+    ("ways.akl", "ways(malmo,lund,Ways,Number)"),
+    (
+        "packing.akl",
+        "best([item(tent,5,9),item(stove,2,4),item(book,1,1),item(rope,3,6)],8,Packing,Worth)",
+    ),
 ];
 
 // What a query over a program answers, or the line of its refusal.

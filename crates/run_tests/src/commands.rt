@@ -25,7 +25,7 @@ const COMMANDS: &str = r"
  => X = a-b-c => 0 / answer 1 / X = '-'('-'(a,b),c) / done
  => X = [a,b|T], T = '[]' => 0 / answer 1 / X = [a,b] / T = [] / done
  => X = '.'(a,'[]'). => 0 / answer 1 / X = [a] / done
- => X = -9223372036854775808 => 0 / answer 1 / X = -9223372036854775808 / done
+ => X = -170141183460469231731687303715884105728 => 0 / answer 1 / X = -170141183460469231731687303715884105728 / done
  => X = a, fail => 1 / failed
  => fail => 1 / failed
  => true, X = 007 % a comment => 0 / answer 1 / X = 7 / done
@@ -35,7 +35,8 @@ const COMMANDS: &str = r"
  => X =  => 6 / akl: query: syntax at 0
  =>   => 6 / akl: query: syntax at 1
  =>  X = a. Y => 6 / akl: query: syntax at 1
- => X = 9223372036854775808 => 6 / akl: query: integer out of range at 4
+ => X = 9223372036854775808 => 0 / answer 1 / X = 9223372036854775808 / done
+ => X = 170141183460469231731687303715884105728 => 6 / akl: query: integer out of range at 4
 p :- send(X,Y), q. => true => 5 / akl: program: undefined q/0
  => (zz ; X = b) => 6 / akl: query: undefined zz/0
  => (X = a -> true ; true) => 6 / akl: query: mixed guards in ''/0
@@ -59,7 +60,7 @@ p(a) :- -> true. p(b) :- | true. => true => 5 / akl: program: mixed guards in p/
 p(a) :- -> true. p(b,c) :- | true. => true => 0 / answer 1 / done
 p(a). q(b => true => 5 / akl: program: syntax at 6
 p(a). q(b. r. => true => 5 / akl: program: syntax at 6
-p(99999999999999999999). => true => 5 / akl: program: integer out of range at 2
+p(9999999999999999999999999999999999999999). => true => 5 / akl: program: integer out of range at 2
 send(a,b). => true => 5 / akl: program: reserved send/2
 'true'. => true => 5 / akl: program: reserved true/0
 send(a,b,c). => true => 0 / answer 1 / done

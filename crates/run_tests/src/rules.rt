@@ -48,7 +48,11 @@ const RULES: &str = r"
 /// Arithmetic and ports.
 const VALUES: &str = r"
  =>  => X is 1+2*3 => 0 / answer 1 / X = 7 / done
- =>  => X is 9223372036854775807 + 1 => 2 / suspended 1
+ =>  => X is 9223372036854775807 + 1 => 0 / answer 1 / X = 9223372036854775808 / done
+ =>  => X is 170141183460469231731687303715884105727 + 1 => 2 / suspended 1
+ =>  => X is -9223372036854775808 // -1 => 0 / answer 1 / X = 9223372036854775808 / done
+ =>  => X is -170141183460469231731687303715884105728 // -1 => 2 / suspended 1
+ =>  => X is -170141183460469231731687303715884105728 mod -1 => 0 / answer 1 / X = 0 / done
  =>  => X is -7 // 2, Y is -7 mod 2 => 0 / answer 1 / X = -3 / Y = 1 / done
  =>  => X is 1 // 0 => 2 / suspended 1
  =>  => X is foo + Y => 2 / suspended 1
@@ -117,6 +121,47 @@ const CHOICES: &str = r"
  => p(X) :- (q(X) -> r(X)). q(X) :- (X = 1 -> true ; X = 2 -> true). r(2). => p(2), (p(1) -> true ; true -> X = b) => 0 / answer 1 / X = b / done
 --trace =>  => (true -> X = a) => 0 / step 1 fork goal 0.2 by 1 / step 2 promote goal 0.2 of 1.0 by 1 / step 3 tell goal 1.2 by 1 / answer 1 / X = a / done
 --trace => p(X) :- (X = a ? true). => p(X) => 0 / step 1 fork goal 0.2 by 1 / step 2 promote goal 0.2 of 1.0 by 1 / step 3 fork goal 1.2 by 1 / step 4 tell goal 1.5 by 1 / step 5 promote goal 1.2 of 1.3 by 1 / answer 1 / X = a / done
+";
+
+/// Goals that collect.
+const COLLECTING: &str = r"
+ => LISTS => bagof(X, member(X,[a,b]), L) => 0 / answer 1 / L = [a,b] / done
+--trace =>  => bagof(X, fail, L) => 0 / step 1 fork goal 0.2 by 1 / step 2 fail box 1.0 by 1 / step 3 collect goal 0.2 by 1 / answer 1 / L = [] / done
+ => LISTS => bagof(Y, (member(Y,[a,b]), Y = Z), L) => 2 / suspended 1
+ => LISTS => bagof(Y, (member(Y,[a,b]), Y = Z), L), Z = b => 0 / answer 1 / Z = b / L = [b] / done
+ =>  => bagof(X, Y, L) => 6 / akl: query: syntax at 0
+ =>  => bagof(X, true) => 6 / akl: query: syntax at 0
+ =>  => bagof(X, true, L, M) => 6 / akl: query: syntax at 0
+ =>  => bagof(X, X = a, X = b, L) => 6 / akl: query: syntax at 0
+ =>  => bagof(X, true, L) = Y => 6 / akl: query: syntax at 0
+ =>  => X = bagof(a,b,c), Y = bagof => 0 / answer 1 / X = bagof(a,b,c) / Y = bagof / done
+ => bagof(a,b,c). => true => 5 / akl: program: reserved bagof/3
+ => bagof(a,b). => true => 0 / answer 1 / done
+ => p :- bagof(X, q(X), L). => true => 5 / akl: program: undefined q/1
+ =>  => bagof(X, (X = 1 -> true ; true | true), L) => 6 / akl: query: mixed guards in ''/0
+ =>  => 'bagof'(X, X = a, L) => 0 / answer 1 / L = [a] / done
+ =>  => bagof(X, true, L) => 0 / answer 1 / L = [_1] / done
+ =>  => bagof(f(X,Y,X), true, L) => 0 / answer 1 / L = [f(_1,_2,_1)] / done
+ => LISTS => bagof(X, member(X,[a,b]), [A|B]) => 0 / answer 1 / A = a / B = [b] / done
+ => LISTS => bagof(X, member(X,[a,b]), [a,c]) => 1 / failed
+ => LISTS => bagof(X, member(X,[a,b]), L), bagof(X, member(X,L), M), bagof(x, member(_,L), N) => 0 / answer 1 / L = [a,b] / M = [a,b] / N = [x,x] / done
+ => LISTS => X = c, bagof(X, member(X,[a,b]), X) => 1 / failed
+ => LISTS => bagof(X, bagof(Y, member(Y,[1,2]), X), L) => 0 / answer 1 / L = [[1,2]] / done
+ => LISTS => bagof(X, bagof(X, member(X,[1,2]), X), L) => 0 / answer 1 / L = [[1,2]] / done
+ => p(a,1). p(b,2). p(c,1). => bagof(X, p(X,M), L) => 2 / suspended 1
+ => p(a,1). p(b,2). p(c,1). => bagof(X, p(X,M), L), M = 1 => 0 / answer 1 / M = 1 / L = [a,c] / done
+ => p(a,1). p(b,2). p(c,1). => bagof(X, p(X,_), L), bagof(X, p(X,_M), N) => 0 / answer 1 / L = [a,b,c] / N = [a,b,c] / done
+ => p(a,1). p(b,2). p(c,1). => bagof(X-M, p(X,M), L) => 0 / answer 1 / L = ['-'(a,1),'-'(b,2),'-'(c,1)] / done
+ => p(a,1). p(b,2). q(X) :- p(X,_). => bagof(X, q(X), L) => 0 / answer 1 / L = [a,b] / done
+ => LISTS => bagof(X, (member(X,[a]) ; member(X,[b,c])), L) => 0 / answer 1 / L = [a,b,c] / done
+ => LISTS => bagof(X, ((X = a -> true ; X = b -> true), member(X,[b])), L), L = [Y] => 0 / answer 1 / L = [b] / Y = b / done
+ => COUNT => bagof(X, (X = a ; X = b ; fail ; X = c), L), count(L,0,N) => 0 / answer 1 / L = [a,b,c] / N = 3 / done
+ => q(X) :- bagof(Y, (Y = X ; Y = X), [_,_]) -> true. => q(a) => 0 / answer 1 / done
+ => q(X,R) :- bagof(Y, (Y = X, X = b), []) -> R = no. q(_,R) :- -> R = yes. => q(a,R), q(b,S) => 0 / answer 1 / R = no / S = yes / done
+ =>  => bagof(Q, open_port(Q,S), L), L = [P], send(a,P) => 0 / answer 1 / S = [a|_1] / L = [port] / P = port / done
+ =>  => bagof(X, (X = f(Y), Y = a), L), bagof(X, X = Z, M), Z = b => 2 / suspended 1
+ =>  => bagof(X, X = f(X), L) => 0 / answer 1 / L = [R1] / R1 = f(R1) / done
+--budget,3 => p(X) :- p(X). => bagof(X, p(X), L) => 3 / budget
 ";
 
 /// The same with traces and budgets.
@@ -218,6 +263,7 @@ fn each_rule_applies_where_it_may(rt: HostRuntime) -> Result<(), AllocError> {
     try_rules(&rt, alloc, VALUES)?;
     try_rules(&rt, alloc, SPLITS)?;
     try_rules(&rt, alloc, CHOICES)?;
+    try_rules(&rt, alloc, COLLECTING)?;
     try_rules(&rt, alloc, TRACES)
 }
 

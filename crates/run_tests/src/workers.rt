@@ -21,9 +21,16 @@ const RUNS: &str = r"
 /// The same without the number of workers. Where the order of two labels is free, there are two replies.
 const BY_EACH: &str = r"
 --budget,10 => p :- -> p. => p => 3 / budget
+ =>  => X = a, X = b => 1 / failed
+ => d(0) :- -> true. d(N) :- M is N - 1, d(M) -> true. => d(9) => 0 / answer 1 / done
+ => q(X) :- X = 1 ? true. q(X) :- X = 2 ? true. => q(X), q(Y), X > Y => 0 / answer 1 / X = 2 / Y = 1 / done
  => LISTS => nrev([1,2,3],R) => 0 / answer 1 / R = [3,2,1] / done
  => MERGE => merge([a],[b],Z) => 0 / answer 1 / Z = [a,b] / done or 0 / answer 1 / Z = [b,a] / done
  => COUNT => open_port(P,S), send(a,P), send(b,P), count(S,0,R) => 2 / suspended 1
+ => LISTS => bagof(X, member(X,[a,b,c]), L), bagof(Y, (member(Y,L), Y = Z), M), Z = b => 0 / answer 1 / L = [a,b,c] / Z = b / M = [b] / done
+ => LISTS => bagof(Y, (member(Y,[a,b]), Y = Z), L) => 2 / suspended 1
+ =>  => bagof(X, fail, L) => 0 / answer 1 / L = [] / done
+ =>  => X is 170141183460469231731687303715884105726 + 1 => 0 / answer 1 / X = 170141183460469231731687303715884105727 / done
  =>  => open_port(P,S), send(a,P), send(b,P) => 0 / answer 1 / P = port / S = [a,b|_1] / done or 0 / answer 1 / P = port / S = [b,a|_1] / done
 ";
 

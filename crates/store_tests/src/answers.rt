@@ -130,7 +130,7 @@ fn term_of(name: &str) -> Option<Term> {
         "[X|Y]" => Some(mol(2)),
         "[]" => Some(mol(3)),
         "[X]" => Some(mol(7)),
-        number => match number.parse::<i64>() {
+        number => match number.parse::<i128>() {
             Ok(number) => Some(Term::Int(number)),
             Err(_) => None,
         },
@@ -249,7 +249,7 @@ Y=[X] / X=-7 => -7 [-7]
 X=Y X=3 => 3 3
 Y=[X] / Y=[X|Y] => clash
 X=1 / X=Y / Y=2 => clash
-X=-9223372036854775808 / Y=[X|Y] => -9223372036854775808 R1 [-9223372036854775808|R1]
+X=-170141183460469231731687303715884105728 / Y=[X|Y] => -170141183460469231731687303715884105728 R1 [-170141183460469231731687303715884105728|R1]
 X=[X] => R1 _1 [R1]
 X=[X|Y] / Y=[X|Y] => R1 R1 [R1|R1]
 ";

@@ -102,7 +102,7 @@ fn operand(text: &str) -> Option<Term> {
         "other" => Some(Term::Port(OTHER)),
         "Y" => node(1),
         "whole" => node(2),
-        number => match number.parse::<i64>() {
+        number => match number.parse::<i128>() {
             Ok(number) => Some(Term::Int(number)),
             Err(_) => None,
         },
@@ -160,7 +160,7 @@ fn wanted_value(text: &str) -> Option<ArithValue> {
         "waits on X" => Some(ArithValue::Waits { on: X }),
         "waits on Y" => Some(ArithValue::Waits { on: Y }),
         "never" => Some(ArithValue::Never),
-        number => match number.parse::<i64>() {
+        number => match number.parse::<i128>() {
             Ok(number) => Some(ArithValue::Is(number)),
             Err(_) => None,
         },
@@ -184,24 +184,24 @@ fn comes_to(
 /// operation Y itself.
 const ARITHMETIC: &str = r"
 2 + 3 => 5
-9223372036854775807 + 1 => never
--9223372036854775808 + -1 => never
--9223372036854775808 - 1 => never
-9223372036854775807 - 9223372036854775807 => 0
-3037000500 * 3037000500 => never
--4294967296 * 2147483648 => -9223372036854775808
+170141183460469231731687303715884105727 + 1 => never
+-170141183460469231731687303715884105728 + -1 => never
+-170141183460469231731687303715884105728 - 1 => never
+170141183460469231731687303715884105727 - 170141183460469231731687303715884105727 => 0
+13043817825332782213 * 13043817825332782213 => never
+-18446744073709551616 * 9223372036854775808 => -170141183460469231731687303715884105728
 7 // 2 => 3
 -7 // 2 => -3
 7 // -2 => -3
 7 // 0 => never
--9223372036854775808 // -1 => never
+-170141183460469231731687303715884105728 // -1 => never
 7 mod 2 => 1
 -7 mod 2 => 1
 7 mod -2 => -1
 -7 mod -2 => -1
 6 mod -2 => 0
 7 mod 0 => never
--9223372036854775808 mod -1 => 0
+-170141183460469231731687303715884105728 mod -1 => 0
 1 ** 1 => never
 _ ** _ => never
 _ + _ => waits on X

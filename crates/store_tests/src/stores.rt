@@ -1,6 +1,6 @@
 //! Stores: what they have, and what a change makes of them.
 
-use crate::words::{cut, frame, is_said, pair, term, term_of};
+use crate::words::{cut, frame_of, is_said, pair, term, term_of};
 use akl_terms::{Term, Var};
 use local_store::Store;
 use std::alloc::{AllocError, Global};
@@ -12,7 +12,7 @@ fn add(store: &mut Store, said: (Term, Term)) -> Result<(), AllocError> {
     match said.0 {
         Term::Mol { node, frame } => store.add_binding(Var { frame, index: node }, said.1),
         Term::Port(port) => store.set_port(port, said.1),
-        Term::Int(number) => store.add_frame(frame(number.unsigned_abs())),
+        Term::Int(number) => store.add_frame(frame_of(number)),
     }
 }
 
@@ -21,7 +21,7 @@ fn with(store: &Store, said: (Term, Term)) -> Result<Store, AllocError> {
     match said.0 {
         Term::Mol { node, frame } => store.with_binding(Var { frame, index: node }, said.1),
         Term::Port(port) => store.with_port(port, said.1),
-        Term::Int(number) => store.with_frame(frame(number.unsigned_abs())),
+        Term::Int(number) => store.with_frame(frame_of(number)),
     }
 }
 
@@ -46,7 +46,7 @@ fn is_next(words: &mut SplitWhitespace<'_>, said: (Term, Term)) -> bool {
 
 fn has_frames(store: &Store, words: &mut SplitWhitespace<'_>) -> Result<bool, AllocError> {
     for frame in store.frames()?.iter() {
-        let number = Term::Int(i64::try_from(frame.number).unwrap_or(-1));
+        let number = Term::Int(i128::try_from(frame.number).unwrap_or(-1));
         if !is_next(words, (number, number)) {
             return Ok(false);
         }
@@ -154,7 +154,7 @@ fn found(store: &Store, word: &str) -> Option<Term> {
         Term::Mol { node, frame } => store.first_binding(Var { frame, index: node }),
         Term::Port(port) => store.port_tail(port),
         Term::Int(number) => {
-            if store.has_frame(frame(number.unsigned_abs())) {
+            if store.has_frame(frame_of(number)) {
                 Some(Term::Int(number))
             } else {
                 None

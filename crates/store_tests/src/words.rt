@@ -15,6 +15,11 @@ pub fn frame(number: u64) -> Name {
     Name { worker: 0, number }
 }
 
+/// The frame that a number says; the first where it is too large or below 0.
+pub fn frame_of(number: i128) -> Name {
+    frame(u64::try_from(number).unwrap_or(0))
+}
+
 /// The nodes: four variables, `f` over each, `f` over each of these, and two atoms.
 pub fn four_variables(alloc: Global) -> Result<Templates, AllocError> {
     let mut templates = Templates::new(alloc);
@@ -50,7 +55,7 @@ pub fn term(word: &str) -> Option<Term> {
     match word {
         "p" => Some(Term::Port(frame(0))),
         "q" => Some(Term::Port(frame(1))),
-        _ => match word.parse::<i64>() {
+        _ => match word.parse::<i128>() {
             Ok(number) => Some(Term::Int(number)),
             Err(_) => None,
         },

@@ -93,6 +93,13 @@ p :- p(a). => undefined p/1
 p :- q. r :- -> true. r :- | true. => mixed guards in r/0
 r :- -> true. r :- | true. 'is'(X,Y). => reserved is/2
 r. r :- -> true. s. s :- | true. r. => mixed guards in r/0
+p(L) :- bagof(X, p(X), L). => loaded
+p(L) :- bagof(X, (p(X), q(X)), L), r. => undefined q/1
+p(L) :- bagof(X, bagof(Y, q(X,Y), X), L). => undefined q/2
+p(L) :- bagof(X, (p(X) -> true ; p(X) | true), L). => mixed guards in p/1
+bagof(X,Y,Z). => reserved bagof/3
+'bagof'(X,Y,Z) :- true. => reserved bagof/3
+bagof(X,Y). bagof. => loaded
 ";
 
 /// Clauses of one definition and parts of an inline choice, variables, all clauses of a definition, arguments, where the
@@ -110,6 +117,10 @@ p :- (p ; X = [a,1+f(@a,*32@b)|Y]). => too many arguments, 33
 f(@a,*32@b). => too many arguments, 33
 p(g(@a,*32@f(@a,*33@b))). => too many arguments, 33
 p :- X = [f(@a,*33@b)|g]. => too many arguments, 34
+p(L) :- bagof(f(@a,*32@b), p(g(@a,*33@b)), L). => too many arguments, 33
+p(L) :- bagof(X, p(g(@a,*33@b)), f(@a,*32@b)). => too many arguments, 34
+p(L) :- bagof(X, p(X), f(@a,*32@b)), p(g(@a,*33@b)). => too many arguments, 33
+p(L) :- bagof(X, (p(a) ; (p(a)@;p(a)*256@)), L). => too many clauses of one definition, 257
 @p# :- p#. *10000@ => loaded
 @p# :- p#. *10001@ => too many clauses, 10001
 ";
@@ -123,6 +134,9 @@ X = a, (X = b ; (true -> true ; true)) => mixed guards in /0
 zz(1) => undefined zz/1
 true(a) => undefined true/1
 X = Y, (fail ; q(X,Y)), r => undefined q/2
+bagof(X, X = a, L) => loaded
+bagof(X, (X = a, q(X)), L), r => undefined q/1
+bagof(X, (true -> true ; true), L) => mixed guards in /0
 ";
 
 /// Parts of an inline choice, variables and arguments.

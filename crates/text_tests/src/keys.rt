@@ -4,7 +4,7 @@ ghost use Rattle.std.specs.Prelude.{◌≡◌, ◌≤◌, [], length};
 
 use crate::lines::each_holds;
 use akl_terms::{Clause, Definition, Items, Key, Op, Text};
-use clause_keys::{Callees, Reserved, meaning_of};
+use clause_keys::{Callees, Reserved, is_reserved, meaning_of};
 use std::alloc::{AllocError, Global};
 use std::str::from_utf8;
 
@@ -38,6 +38,7 @@ fn definition(alloc: Global, lifted: Option<u32>, count: u32) -> Result<Definiti
         count,
         guard: Items::new(Vec::new(alloc)),
         body: Items::new(Vec::new(alloc)),
+        collected: None,
     })?;
     Ok(Definition {
         key: Key {
@@ -68,6 +69,17 @@ fn added(callees: &mut Callees, symbol: &str, arity: u32) -> Result<u32, AllocEr
     }
 }
 
+/// Whether no clause may define it.
+pub fn reserved(alloc: Global, text: &[u8]) -> Result<String, AllocError> {
+    let (symbol, arity) = key(from_utf8(text).unwrap_or(""));
+    let word = if is_reserved(symbol, arity as usize) {
+        " yes"
+    } else {
+        " no"
+    };
+    String::from_str(alloc, word)
+}
+
 /// The number that a definition gets.
 fn defined(
     alloc: Global,
@@ -81,7 +93,7 @@ fn defined(
     callees.add_definition(&definition)
 }
 
-/// What was asked: `find`, `add`, or the number of a definition.
+/// What was asked: `find`, `add`, the same of a definition that collects, or the number of a definition.
 fn asked(alloc: Global, callees: &mut Callees, text: &str) -> Result<Option<u32>, AllocError>
     requires { length callees.old ≤ 3 }
 {
@@ -90,6 +102,8 @@ fn asked(alloc: Global, callees: &mut Callees, text: &str) -> Result<Option<u32>
     match verb {
         "find" => Ok(found(callees, symbol, arity)),
         "add" => Ok(Some(added(callees, symbol, arity)?)),
+        "gather" => Ok(Some(callees.add_collecting(symbol.parse().unwrap_or(0), arity)?)),
+        "gathers" => Ok(callees.collecting(symbol.parse().unwrap_or(0), arity)),
         _ => Ok(Some(defined(alloc, callees, symbol.parse().ok(), arity)?)),
     }
 }
@@ -131,6 +145,17 @@ fail/2 => none
 send/0 => none
 send/3 => none
 append/2 => none
+bagof/3 => none
+";
+
+/// What no clause may define.
+const HEADS: &str = r"heads
+true/0 => yes
+send/2 => yes
+bagof/3 => yes
+bagof/2 => no
+bagof/4 => no
+true/1 => no
 ";
 
 /// What is asked after three numbers were given.
@@ -142,6 +167,8 @@ find r/1 => 0 1 2 None
 find 1/4 => 0 1 2 Some(2)
 find 1/3 => 0 1 2 None
 find 0/4 => 0 1 2 None
+gathers 1/4 => 0 1 2 None
+gather 1/4 => 0 1 2 Some(3)
 define p/1 => 0 1 2 Some(0)
 define 1/4 => 0 1 2 Some(2)
 define 1/2 => 0 1 2 Some(3)
@@ -158,5 +185,5 @@ fn what_is_reserved_has_its_meaning_and_what_is_called_one_number(
     rt: HostRuntime,
 ) -> Result<(), AllocError> {
     assert!(rt; has_none(rt.alloc())?, "no definitions");
-    each_holds(&rt, rt.alloc(), &[RESERVED, NUMBERS])
+    each_holds(&rt, rt.alloc(), &[RESERVED, HEADS, NUMBERS])
 }

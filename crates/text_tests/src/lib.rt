@@ -1,5 +1,5 @@
-//! Tests of what reads texts: of programs, of queries, with their choices in brackets, and of a command line's words; and of
-//! the program and query that are made from a number.
+//! Tests of what reads texts: of programs, of queries, with the scopes of their variables and their choices in brackets,
+//! and of a command line's words; and of the program and query that are made from a number.
 #![tactic(auto)]
 
 #[cfg(test)]
@@ -12,6 +12,8 @@ mod keys;
 mod lifted;
 #[cfg(test)]
 mod lines;
+#[cfg(test)]
+mod scopes;
 #[cfg(test)]
 mod shown;
 #[cfg(test)]

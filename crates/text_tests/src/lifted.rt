@@ -1,4 +1,4 @@
-//! Inline choices, and the definitions that they become.
+//! Inline choices and collecting goals, and the definitions that they become.
 
 use super::shown::{write_clauses, write_goals, write_names};
 use akl_lift::{lift, lift_query};
@@ -33,7 +33,7 @@ fn query(alloc: Global, text: &str) -> Result<String, Fail> {
     Ok(shown)
 }
 
-/// Programs, and what their inline choices become.
+/// Programs, and what their inline choices and collecting goals become.
 const PROGRAMS: &str = r"
 p :- q, r. => p() ?q()r() [].
 p(X) :- (X = 1 ; X = 2). => p(V0,) ?#0(V0,) [X,].#0@p/1(V0,) ?=(V0,1,) [X,].#0@p/1(V0,) ?=(V0,2,) [X,].
@@ -44,13 +44,19 @@ p :- (a ; b) -> (c | d). q :- (e ? f). => p() #0()->#1() [].q() ?#2() [].#0@p/0(
 p(X) :- (q(X) ; r(Y), s(Y)), t(Z). => p(V0,) ?#0(V0,)t(V2,) [X,Y,Z,].#0@p/1(V0,) ?q(V0,) [X,].#0@p/1(V0,) ?r(V1,)s(V1,) [X,Y,].
 p(X) :- (q(A), (r(A,X) ; s(B,f(A)))). => p(V0,) ?q(V1,)#0(V0,V1,) [X,A,B,].#0@p/1(V0,V1,) ?r(V1,V0,) [X,A,].#0@p/1(V0,V1,) ?s(V2,f(V1,),) [X,A,B,].
 p(X) :- (q(A) ; (r(A) ; s(B,X), t(B)), u(C,A)). => p(V0,) ?#0(V0,) [X,A,B,C,].#0@p/1(V0,) ?q(V1,) [X,A,].#0@p/1(V0,) ?#1(V0,V1,)u(V3,V1,) [X,A,B,C,].#1@p/1(V0,V1,) ?r(V1,) [X,A,].#1@p/1(V0,V1,) ?s(V2,V0,)t(V2,) [X,A,B,].
+p(L) :- bagof(X, q(X), L). => p(V0,) ?#0():V0 [L,X,].#0@p/1() q(V0,):V0 [X,].
+p(L,Z) :- bagof(f(X,Y), (q(Z,X), r(A), s(X,Y)), g(L)), t(A). => p(V0,V1,) ?#0(V1,V4,):g(V0,)t(V4,) [L,Z,X,Y,A,].#0@p/2(V0,V1,) q(V0,V2,)r(V1,)s(V2,V3,):f(V2,V3,) [Z,A,X,Y,].
+p(L) :- bagof(X, bagof(Y, q(X,Y), M), L), r(M). => p(V0,) ?#0(V3,):V0r(V3,) [L,X,Y,M,].#0@p/1(V0,) #1(V1,):V0:V1 [M,X,Y,].#1@p/1(V0,) q(V0,V1,):V1 [X,Y,].
+p(L) :- (a ; bagof(X, (b(X) ; c), L)), (d ; e). => p(V0,) ?#0(V0,)#3() [L,X,].#0@p/1(V0,) ?a() [L,].#0@p/1(V0,) ?#1():V0 [L,X,].#1@p/1() #2(V0,):V0 [X,].#2@p/1(V0,) ?b(V0,) [X,].#2@p/1(V0,) ?c() [X,].#3@p/1() ?d() [].#3@p/1() ?e() [].
 ";
 
-/// Queries, and what their inline choices become. Variables that are shown count as occurring outside.
+/// Queries, and what their inline choices and collecting goals become. Variables that are shown count as occurring outside,
+/// and those that are local to a collecting goal aren't shown.
 const QUERIES: &str = r"
 p(X) => p(V0,) [X,].
 ((_X = a -> R = 1) ; _X = b, R = 2) => #7(V1,) [_X,R,].#7@/0(V0,) ?#8(V0,) [R,_X,].#7@/0(V0,) ?=(V1,b,)=(V0,2,) [R,_X,].#8@/0(V0,) =(V1,a,)->=(V0,1,) [R,_X,].
 (p(X,_Y) ; q(_Y,_Z)), r(_Z) => #7(V0,V2,)r(V2,) [X,_Y,_Z,].#7@/0(V0,V1,) ?p(V0,V2,) [X,_Z,_Y,].#7@/0(V0,V1,) ?q(V2,V1,) [X,_Z,_Y,].
+bagof(X, q(X,Y,_Z), L) => #7(V1,):V3 [_,Y,_Z,L,].#7@/0(V0,) q(V1,V0,V2,):V1 [Y,X,_Z,].
 ";
 
 #[test]

@@ -3,7 +3,7 @@
 //!
 //! In both `$` stands for the end of a line, `@a*3@` for `aaa`, `@p#.*3@` for `p0.p1.p2.`, and `@255@` for this byte.
 
-use crate::{checks, keys, store, syntax, tokens};
+use crate::{checks, keys, scopes, store, syntax, tokens};
 use std::alloc::{AllocError, Global};
 use std::process::Abort;
 
@@ -67,7 +67,10 @@ fn answered(alloc: Global, asked: &str, text: &[u8]) -> Result<String, AllocErro
         "clauses" => syntax::program(alloc, text),
         "number of clauses" => syntax::count(alloc, text),
         "goals" => syntax::query(alloc, text),
+        "scoped clauses" => scopes::program(alloc, text),
+        "scoped goals" => scopes::query(alloc, text),
         "meaning" => keys::meaning(alloc, text),
+        "heads" => keys::reserved(alloc, text),
         "numbers" => keys::numbers(alloc, text),
         "checks of a program" => checks::program(alloc, text),
         "checks of a query" => checks::query(alloc, text),

@@ -33,7 +33,17 @@ fn write_terms(shown: &mut String, terms: &[SourceTerm]) -> Result<(), Fail> {
     Ok(())
 }
 
-/// Goals without inline choices.
+/// Variables, each by its number.
+fn write_variables(shown: &mut String, numbers: &[u32]) -> Result<(), Fail> {
+    write!(shown, "(")?;
+    for number in numbers {
+        write!(shown, "V{number},")?;
+    }
+    write!(shown, ")")?;
+    Ok(())
+}
+
+/// Goals without inline choices and collecting goals. A lifted collecting goal has its result behind a colon.
 pub fn write_goals(shown: &mut String, goals: &[SourceGoal]) -> Result<(), Fail> {
     for goal in goals {
         match goal {
@@ -43,12 +53,20 @@ pub fn write_goals(shown: &mut String, goals: &[SourceGoal]) -> Result<(), Fail>
                 write_terms(shown, arguments)?;
             }
             SourceGoal::Choice(_) => return Err("choice".into()),
+            SourceGoal::Collect { .. } => return Err("collect".into()),
             SourceGoal::Lifted { number, arguments } => {
-                write!(shown, "#{number}(")?;
-                for argument in arguments {
-                    write!(shown, "V{argument},")?;
-                }
-                write!(shown, ")")?;
+                write!(shown, "#{number}")?;
+                write_variables(shown, arguments)?;
+            }
+            SourceGoal::LiftedCollect {
+                number,
+                arguments,
+                result: list,
+            } => {
+                write!(shown, "#{number}")?;
+                write_variables(shown, arguments)?;
+                write!(shown, ":")?;
+                write_term(shown, list)?;
             }
         }
     }
@@ -61,6 +79,7 @@ fn write_part(shown: &mut String, part: &SourcePart) -> Result<(), Fail> {
         Op::Condition => write!(shown, "->")?,
         Op::Commit => write!(shown, "|")?,
         Op::Choice => write!(shown, "?")?,
+        Op::Collect => write!(shown, ":")?,
     }
     write_goals(shown, &part.body)
 }
@@ -91,6 +110,9 @@ pub fn write_clauses(shown: &mut String, clauses: &[SourceClause]) -> Result<(),
         write_terms(shown, &clause.arguments)?;
         write!(shown, " ")?;
         write_part(shown, &clause.part)?;
+        if let Some(term) = &clause.collected {
+            write_term(shown, term)?;
+        }
         write_names(shown, &clause.names)?;
     }
     Ok(())

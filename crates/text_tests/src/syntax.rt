@@ -74,7 +74,20 @@ fn write_goal(shown: &mut String, goal: &SourceGoal) -> Result<(), AllocError> {
             }
             shown.push('}')
         }
-        SourceGoal::Lifted { .. } => shown.push_str("lifted"),
+        SourceGoal::Collect {
+            collected,
+            goals,
+            result,
+        } => {
+            shown.push_str("collect(")?;
+            write_term(shown, collected)?;
+            shown.push_str(": ")?;
+            write_goals(shown, goals)?;
+            shown.push_str(": ")?;
+            write_term(shown, result)?;
+            shown.push(')')
+        }
+        SourceGoal::Lifted { .. } | SourceGoal::LiftedCollect { .. } => shown.push_str("lifted"),
     }
 }
 
@@ -85,6 +98,7 @@ fn write_part(shown: &mut String, part: &SourcePart) -> Result<(), AllocError> {
         Op::Condition => "->",
         Op::Commit => "|",
         Op::Choice => "?",
+        Op::Collect => "collect",
     };
     shown.push_str(op)?;
     write_goals(shown, &part.body)
@@ -111,7 +125,8 @@ fn write_clause(shown: &mut String, clause: &SourceClause) -> Result<(), AllocEr
     shown.push('.')
 }
 
-fn clauses(alloc: Global, clauses: &[SourceClause]) -> Result<String, AllocError> {
+/// Clauses, written out.
+pub fn clauses(alloc: Global, clauses: &[SourceClause]) -> Result<String, AllocError> {
     let mut shown = String::new(alloc);
     for clause in clauses {
         write_clause(&mut shown, clause)?;
@@ -120,7 +135,7 @@ fn clauses(alloc: Global, clauses: &[SourceClause]) -> Result<String, AllocError
 }
 
 /// Why a text is refused.
-fn refusal(alloc: Global, error: SyntaxError) -> Result<String, AllocError> {
+pub fn refusal(alloc: Global, error: SyntaxError) -> Result<String, AllocError> {
     let (what, at) = match error {
         SyntaxError::Syntax { at } => (" syntax at ", at),
         SyntaxError::TooDeep { at } => (" too many open brackets at ", at),
@@ -147,7 +162,8 @@ pub fn count(alloc: Global, text: &[u8]) -> Result<String, AllocError> {
     }
 }
 
-fn goals(alloc: Global, query: &SourceQuery) -> Result<String, AllocError> {
+/// The goals of a query, written out.
+pub fn goals(alloc: Global, query: &SourceQuery) -> Result<String, AllocError> {
     let mut shown = String::from_str(alloc, " ")?;
     write_goals(&mut shown, &query.goals)?;
     write_names(&mut shown, &query.names)?;
@@ -201,6 +217,14 @@ p :- [a] = X, 1 = 'A'. => 0: p() ?=(list(a,),V0,)=(1,A,) [X,].
 p :- ((f([a],(b))) = X, (c ; d)). => 0: p() ?=(f(list(a,),b,),V0,){?c();?d();} [X,].
 p :- ((((a))) = b). => 0: p() ?=(a,b,) [].
 p :- (((a) ; b) ; c), d. => 0: p() ?{?{?a();?b();};?c();}d() [].
+p :- bagof(X, q(X), L). => 0: p() ?collect(V0: q(V0,): V1) [X,L,].
+p :- bagof(X, (q(X), r), [X|L]), s. => 0: p() ?collect(V0: q(V0,)r(): list(V0,)|V1)s() [X,L,].
+p :- bagof(f(X,Y), (q(X), r(Y) ; s), L). => 0: p() ?collect(f(V0,V1,): {?q(V0,)r(V1,);?s();}: V2) [X,Y,L,].
+p :- bagof(X+1, X < 3, L) -> q. => 0: p() collect(<V0 + 1>: <(V0,3,): V1)->q() [X,L,].
+p :- bagof(X, bagof(Y, q(X,Y), M), L). => 0: p() ?collect(V0: collect(V1: q(V0,V1,): V2): V3) [X,Y,M,L,].
+p :- 'bagof'(X, q, L). => 0: p() ?collect(V0: q(): V1) [X,L,].
+p :- q(bagof(X)), bagof = Y, f(bagof(a,b)) = Z, bagof. => 0: p() ?q(bagof(V0,),)=(bagof,V1,)=(f(bagof(a,b,),),V2,)bagof() [X,Y,Z,].
+bagof(X,Y,Z) :- q. => 0: bagof(V0,V1,V2,) ?q() [X,Y,Z,].
  p. q => syntax at 4
 p. q :- . r( => syntax at 3
 p. ! q. => syntax at 3
@@ -228,6 +252,7 @@ X = [], Y = [a], Z = [a,b|T] => =(V0,[],)=(V1,list(a,),)=(V2,list(a,b,)|V3,) [X,
 (a ; b), (c) => {?a();?b();}c() []
 (p(X) -> q(_) ; r(_,X)) => {p(V0,)->q(V1,);?r(V2,V0,);} [X,_,_,]
 (p, q) => p()q() []
+bagof(X, p(X), L), q(L) => collect(V0: p(V0,): V1)q(V1,) [X,L,]
 ";
 
 /// Heads, ends, what stands behind a head, arguments and lists, sums and products, goals, and parts.
@@ -304,6 +329,20 @@ ok.$p :- q -> r -> s. => syntax at 4
 ok.$p :- q | r ? s. => syntax at 4
 ok.$p :- -> q -> r. => syntax at 4
 ok.$p :- (q -> r | s ; t). => syntax at 4
+ok.$p :- bagof(a). => syntax at 4
+ok.$p :- bagof(X, q). => syntax at 4
+ok.$p :- bagof(X, q, r, L). => syntax at 4
+ok.$p :- bagof(X, Y, L). => syntax at 4
+ok.$p :- bagof(X, [], L). => syntax at 4
+ok.$p :- bagof(X, q ; r, L). => syntax at 4
+ok.$p :- bagof(X, q -> r, L). => syntax at 4
+ok.$p :- bagof(X = 1, q, L). => syntax at 4
+ok.$p :- bagof((X, Y), q, L). => syntax at 4
+ok.$p :- bagof(X, q, L) = Y. => syntax at 4
+ok.$p :- bagof(X, q, L) + 1 = Y. => syntax at 4
+ok.$p :- 'bagof'(X) = Y. => syntax at 4
+ok.$p :- bagof (X, q, L). => syntax at 4
+ok.$p :- bagof(X, q, L. => syntax at 4
 ";
 
 const NO_QUERIES: &str = r"goals
@@ -318,6 +357,7 @@ const NO_QUERIES: &str = r"goals
  (p => syntax at 1
  p) => syntax at 1
  p :- q => syntax at 1
+ bagof(X, Y, L) => syntax at 1
  p -> q => syntax at 1
  p | q => syntax at 1
  p ? q => syntax at 1
@@ -333,8 +373,8 @@ const NO_QUERIES: &str = r"goals
  f (a) => syntax at 1
  f() => syntax at 1
  'p => syntax at 1
- p ! 9223372036854775808 => syntax at 1
- p. 9223372036854775808 => syntax at 1
+ p ! 170141183460469231731687303715884105728 => syntax at 1
+ p. 170141183460469231731687303715884105728 => syntax at 1
 ";
 
 /// Two hundred brackets may be open. Brackets that were closed, and those of another clause, don't count, and one that
@@ -355,7 +395,7 @@ p. p :- @(*201@a@)*201@. => too many open brackets at 208
 p(((. p :- @(*201@a@)*201@. => syntax at 0
 p)) :- @(*202@a@)*202@. => syntax at 0
 p)) :- @(*203@a@)*203@. => too many open brackets at 209
-p(9223372036854775808, @(*200@a@)*200@). => too many open brackets at 222
+p(170141183460469231731687303715884105728, @(*200@a@)*200@). => too many open brackets at 242
 p :- @(*201@a@)*201@! . => syntax at 0
 ";
 
@@ -367,25 +407,25 @@ p([@[*198@a@]*198@]). => p(list(@list(*198@a@,)*198@,),) []
 p. @(*201@a@)*201@ => syntax at 0
 ";
 
-/// An integer is a signed number of 64 bits. The first one out of range decides, also in a text that is no clause, but
+/// An integer is a signed number of 128 bits. The first one out of range decides, also in a text that is no clause, but
 /// only behind the tokens.
 const INTEGERS: &str = r"clauses
-p(9223372036854775807). => 0: p(9223372036854775807,) ? [].
-p(9223372036854775808). => integer out of range at 2
-p(-9223372036854775808). => 0: p(-9223372036854775808,) ? [].
-p(-9223372036854775809). => integer out of range at 2
-p(0009223372036854775807, -0, 00). => 0: p(9223372036854775807,0,0,) ? [].
-p(1-9223372036854775808). => integer out of range at 4
-p. q(1, 99999999999999999999) 99999999999999999999. => integer out of range at 8
-p. q(9223372036854775808,  => syntax at 3
-p(9223372036854775808!). => syntax at 0
+p(170141183460469231731687303715884105727). => 0: p(170141183460469231731687303715884105727,) ? [].
+p(170141183460469231731687303715884105728). => integer out of range at 2
+p(-170141183460469231731687303715884105728). => 0: p(-170141183460469231731687303715884105728,) ? [].
+p(-170141183460469231731687303715884105729). => integer out of range at 2
+p(000170141183460469231731687303715884105727, -0, 00). => 0: p(170141183460469231731687303715884105727,0,0,) ? [].
+p(1-170141183460469231731687303715884105728). => integer out of range at 4
+p. q(1, 9999999999999999999999999999999999999999) 9999999999999999999999999999999999999999. => integer out of range at 8
+p. q(170141183460469231731687303715884105728,  => syntax at 3
+p(170141183460469231731687303715884105728!). => syntax at 0
 ";
 
 const QUERY_INTEGERS: &str = r"goals
--9223372036854775808 = -0 => =(-9223372036854775808,0,) []
-X = -9223372036854775809 => integer out of range at 4
-p(9223372036854775808 => integer out of range at 2
-p(9223372036854775808). q => integer out of range at 2
+-170141183460469231731687303715884105728 = -0 => =(-170141183460469231731687303715884105728,0,) []
+X = -170141183460469231731687303715884105729 => integer out of range at 4
+p(170141183460469231731687303715884105728 => integer out of range at 2
+p(170141183460469231731687303715884105728). q => integer out of range at 2
 ";
 
 const LONG_PROGRAMS: &str = r"clauses

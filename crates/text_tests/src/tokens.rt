@@ -123,7 +123,7 @@ const LATER: &str = r"tokens from byte 2
 a. -1. ' => Integer -1 End .
 ";
 
-/// Texts and integers, of which some are no signed number of 64 bits.
+/// Texts and integers, of which some are no signed number of 128 bits.
 const VALUES: &str = r#"values
 abC_1 => "abC_1"
 _ => "_"
@@ -134,10 +134,10 @@ _ => "_"
 '''' => "'"
 'né😀 % /* ' => "né😀 % /* "
 -07 => Some(-7)
-9223372036854775807 => Some(9223372036854775807)
-9223372036854775808 => None
--9223372036854775808 => Some(-9223372036854775808)
--9223372036854775809 => None
+170141183460469231731687303715884105727 => Some(170141183460469231731687303715884105727)
+170141183460469231731687303715884105728 => None
+-170141183460469231731687303715884105728 => Some(-170141183460469231731687303715884105728)
+-170141183460469231731687303715884105729 => None
 "#;
 
 /// Where layout ends and something else begins.

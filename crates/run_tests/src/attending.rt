@@ -1,0 +1,257 @@
+//! What comes of a place to which worker 1 attends.
+
+ghost use Rattle.std.specs.Prelude.{◌≡◌, IfOk, false};
+ghost use Rattle.box_tree.specs.Tables.{table_of};
+ghost use Rattle.box_tree.specs.Views.{is_there};
+ghost use Rattle.step_commit.specs.Cores.{MayCommit};
+ghost use Rattle.scheduler.specs.Settled.{MaySettle};
+ghost use Rattle.run_tests.specs.Waking.{GoesOnTo, IsFoundAt, IsFoundNow};
+
+use crate::candidates::candidate_at;
+use crate::listing::{places_under, push_open, push_places, token_of};
+use crate::texts::{push_item, push_place, rule_name};
+use akl_terms::{Place, Program};
+use box_tree::Plan;
+use idle_places::Idle;
+use place_steps::{Next, next_of, see};
+use scheduler::{Committed, Scheduler};
+use std::alloc::{AllocError, Global};
+use std::fmt::Write;
+use step_commit::CommitError;
+
+// What comes next at a place; `None` where it isn't there.
+fn looked(
+    alloc: Global,
+    program: &Program,
+    scheduler: &Scheduler,
+    place: Place,
+) -> Result<Option<Next>, AllocError>
+    requires { program.now ≡ scheduler.now.core.table.program }
+    ensures { IfOk result (IsFoundAt scheduler.now.core place) }
+{
+    let candidate = candidate_at(alloc, scheduler.core(), place)?;
+    let Some(seen) = see(alloc, scheduler.core(), place, 1, candidate)? else {
+        return Ok(None);
+    };
+    let next = next_of(alloc, program, &seen)?;
+    Ok(Some(next))
+}
+
+// The rule of a label, and the places that it opened.
+fn push_committed(
+    alloc: Global,
+    scheduler: &Scheduler,
+    committed: &Committed,
+    text: &mut String,
+) -> Result<(), AllocError> {
+    text.push_str(rule_name(committed.receipt.label.rule))?;
+    let mut places = places_under(alloc, scheduler, committed.opened.as_slice())?;
+    push_places(text, " ", &mut places)
+}
+
+// That a place sleeps, and the box that this opened.
+fn push_settled(
+    scheduler: &Scheduler,
+    opened: Option<u64>,
+    text: &mut String,
+) -> Result<(), AllocError> {
+    text.push_str("sleeps")?;
+    if let Some(token) = opened {
+        text.push_str(", opens ")?;
+        if let Some(place) = scheduler.place_of(token) {
+            push_place(text, place)?;
+        }
+    }
+    Ok(())
+}
+
+// Why a place wasn't concluded; `false` where this was for want of memory.
+fn push_reason(text: &mut String, error: CommitError) -> Result<bool, AllocError> {
+    match error {
+        CommitError::Memory(_) => return Ok(false),
+        CommitError::Spent { budget: _ } => text.push_str("spent")?,
+        CommitError::Stale { item, stamp: _ } => {
+            text.push_str("stale ")?;
+            push_item(text, item)?;
+        }
+    }
+    Ok(true)
+}
+
+// Commits a plan; `false` where there was no memory.
+fn commit(
+    alloc: Global,
+    scheduler: &mut Scheduler,
+    plan: Plan,
+    text: &mut String,
+) -> Result<bool, AllocError>
+    requires { MayCommit scheduler.old.core plan }
+    ensures { IfOk result (λ _. GoesOnTo scheduler.old.core scheduler.new.core) }
+{
+    match scheduler.commit_uncounted(alloc, plan) {
+        Ok(committed) => {
+            push_committed(alloc, scheduler, &committed, text)?;
+            Ok(true)
+        }
+        Err(error) => push_reason(text, error),
+    }
+}
+
+// Settles a place; `false` where there was no memory.
+fn settle(
+    alloc: Global,
+    scheduler: &mut Scheduler,
+    idle: &Idle,
+    text: &mut String,
+) -> Result<bool, AllocError>
+    requires { MaySettle scheduler.old.core idle.now }
+    ensures { IfOk result (λ _. scheduler.new.core ≡ scheduler.old.core) }
+{
+    match scheduler.settle(alloc, idle) {
+        Ok(opened) => {
+            push_settled(scheduler, opened, text)?;
+            Ok(true)
+        }
+        Err(error) => push_reason(text, error),
+    }
+}
+
+// Commits or settles what was found now; `false` where there was no memory.
+fn conclude(
+    alloc: Global,
+    scheduler: &mut Scheduler,
+    next: Next,
+    text: &mut String,
+) -> Result<bool, AllocError>
+    requires { IsFoundNow scheduler.old.core next }
+    ensures { IfOk result (λ _. GoesOnTo scheduler.old.core scheduler.new.core) }
+{
+    match next {
+        Next::Plan(plan) => commit(alloc, scheduler, plan, text),
+        Next::Idle(idle) => settle(alloc, scheduler, &idle, text),
+    }
+}
+
+// Closes a place that has gone, where it is open.
+fn forget(scheduler: &mut Scheduler, place: Place, text: &mut String) -> Result<(), AllocError>
+    requires { is_there (table_of scheduler.old.core.table) place ≡ false }
+    ensures { IfOk result (λ _. scheduler.new.core ≡ scheduler.old.core) }
+{
+    text.push_str("gone")?;
+    if let Some(token) = token_of(scheduler, place) {
+        scheduler.forget(token);
+    }
+    Ok(())
+}
+
+// Attends to a place; `false` where there was no memory to commit or to settle.
+fn try_place(
+    alloc: Global,
+    program: &Program,
+    scheduler: &mut Scheduler,
+    place: Place,
+    text: &mut String,
+) -> Result<bool, AllocError>
+    requires { program.now ≡ scheduler.old.core.table.program }
+    ensures { IfOk result (λ _. GoesOnTo scheduler.old.core scheduler.new.core) }
+{
+    match looked(alloc, program, scheduler, place)? {
+        Some(next) => conclude(alloc, scheduler, next, text),
+        None => {
+            forget(scheduler, place, text)?;
+            Ok(true)
+        }
+    }
+}
+
+// The open places, and how many labels the journal has.
+fn state(alloc: Global, scheduler: &Scheduler) -> Result<String, AllocError> {
+    let mut text = String::new(alloc);
+    push_open(alloc, scheduler, &mut text)?;
+    write!(text, " after {}", scheduler.core().journal_len())?;
+    Ok(text)
+}
+
+// Says so where the state isn't as it was.
+fn compare(
+    alloc: Global,
+    scheduler: &Scheduler,
+    before: &str,
+    text: &mut String,
+) -> Result<(), AllocError> {
+    let now = state(alloc, scheduler)?;
+    if now.as_str() != before {
+        text.push_str("changed from ")?;
+        text.push_str(before)?;
+    }
+    Ok(())
+}
+
+/// Attends to a place, and says what came of it. Where there was no memory to commit or to settle, all has to be as it
+/// was, and the place is attended to once more.
+pub fn attend(
+    alloc: Global,
+    program: &Program,
+    scheduler: &mut Scheduler,
+    place: Place,
+    text: &mut String,
+) -> Result<(), AllocError>
+    requires { program.now ≡ scheduler.old.core.table.program }
+    ensures { IfOk result (λ _. GoesOnTo scheduler.old.core scheduler.new.core) }
+{
+    let before = state(alloc, scheduler)?;
+    if try_place(alloc, program, scheduler, place, text)? {
+        return Ok(());
+    }
+    compare(alloc, scheduler, before.as_str(), text)?;
+    match try_place(alloc, program, scheduler, place, text)? {
+        true => Ok(()),
+        false => Err(AllocError),
+    }
+}
+
+// The same for a place that was found idle by an earlier state.
+fn settle_later(
+    alloc: Global,
+    scheduler: &mut Scheduler,
+    idle: &Idle,
+    text: &mut String,
+) -> Result<(), AllocError>
+    requires { MaySettle scheduler.old.core idle.now }
+    ensures { IfOk result (λ _. scheduler.new.core ≡ scheduler.old.core) }
+{
+    let before = state(alloc, scheduler)?;
+    if settle(alloc, scheduler, idle, text)? {
+        return Ok(());
+    }
+    compare(alloc, scheduler, before.as_str(), text)?;
+    match settle(alloc, scheduler, idle, text)? {
+        true => Ok(()),
+        false => Err(AllocError),
+    }
+}
+
+/// Attends to a second place, and only then settles a first that was found idle before. A first that was found otherwise,
+/// or without a look at what stands inside it, can't be concluded so late.
+pub fn attend_between(
+    alloc: Global,
+    program: &Program,
+    scheduler: &mut Scheduler,
+    first: Place,
+    second: Place,
+    text: &mut String,
+) -> Result<(), AllocError>
+    requires { program.now ≡ scheduler.old.core.table.program }
+    ensures { IfOk result (λ _. GoesOnTo scheduler.old.core scheduler.new.core) }
+{
+    let Some(Next::Idle(idle)) = looked(alloc, program, scheduler, first)? else {
+        return text.push_str("not idle");
+    };
+    attend(alloc, program, scheduler, second, text)?;
+    text.push_str(" / ")?;
+    if idle.looked_inside() {
+        settle_later(alloc, scheduler, &idle, text)
+    } else {
+        text.push_str("not seen inside")
+    }
+}
