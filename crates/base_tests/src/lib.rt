@@ -6,6 +6,8 @@ mod lock;
 #[cfg(test)]
 mod map;
 #[cfg(test)]
+mod names;
+#[cfg(test)]
 mod outside;
 #[cfg(test)]
 mod pool;

@@ -1,0 +1,81 @@
+//! `name_map`: names of several workers, far apart and side by side, come, change and go.
+
+use akl_terms::Name;
+use name_map::NameMap;
+use std::alloc::AllocError;
+use std::process::Abort;
+
+/// Names of two workers, some in one page, some in one chunk, some far apart.
+const NAMES: [Name; 8] = [
+    Name {
+        worker: 0,
+        number: 0,
+    },
+    Name {
+        worker: 0,
+        number: 7,
+    },
+    Name {
+        worker: 0,
+        number: 8,
+    },
+    Name {
+        worker: 0,
+        number: 511,
+    },
+    Name {
+        worker: 0,
+        number: 512,
+    },
+    Name {
+        worker: 3,
+        number: 7,
+    },
+    Name {
+        worker: 3,
+        number: 4096,
+    },
+    Name {
+        worker: 16,
+        number: 9,
+    },
+];
+
+/// Whether each name up to this one has its place among the names, and no other name has a value.
+fn are_first(map: &NameMap<usize>, count: usize) -> bool {
+    NAMES.iter().enumerate().all(|(at, name)| {
+        let wanted = if at < count { Some(at) } else { None };
+        map.get(*name).copied() == wanted && map.contains(*name) == wanted.is_some()
+    })
+}
+
+/// Gives each name its place, one after another.
+fn fill(rt: &impl Abort, map: &mut NameMap<usize>) -> Result<(), AllocError> {
+    for (at, name) in NAMES.iter().enumerate() {
+        map.insert(*name, 100)?;
+        if let Some(place) = map.get_mut(*name) {
+            *place = at;
+        }
+        assert!(rt; are_first(map, at + 1));
+    }
+    Ok(())
+}
+
+/// Takes the names out again.
+fn empty(rt: &impl Abort, map: &mut NameMap<usize>) {
+    for (at, name) in NAMES.iter().enumerate() {
+        assert_eq!(rt; map.remove(*name), Some(at));
+        assert_eq!(rt; map.remove(*name), None);
+    }
+    assert!(rt; are_first(map, 0));
+}
+
+#[test]
+fn names_lead_to_their_entries(rt: HostRuntime) -> Result<(), AllocError> {
+    let mut map = NameMap::new(rt.alloc());
+    for _ in 0..3 {
+        fill(&rt, &mut map)?;
+        empty(&rt, &mut map);
+    }
+    Ok(())
+}

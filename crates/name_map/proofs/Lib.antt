@@ -1,0 +1,6 @@
+pub mod Found
+pub mod Lent
+pub mod NameOrder
+pub mod SameEntries
+pub mod Whole
+pub mod Within

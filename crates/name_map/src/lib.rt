@@ -1,0 +1,8 @@
+//! A map from names to values, found by the numbers of the names.
+#![tactic(auto)]
+
+mod map;
+mod numbers;
+mod page;
+
+pub use map::NameMap;
