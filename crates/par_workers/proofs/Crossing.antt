@@ -1,4 +1,5 @@
 -- What a worker has may go to another thread.
+use denote.RattleType.{RattleType}
 use denote.Param.Send.{IsSend, IsSync, sendable}
 use Rattle.std.proofs.Crossing as owned
 use Rattle.std.proofs.MapsCrossing as maps
@@ -8,6 +9,11 @@ use Rattle.box_tree.specs.contracts.entries.GoalEntry as GoalEntry
 use Rattle.box_tree.specs.contracts.entries.BoxEntry as BoxEntry
 use Rattle.box_tree.specs.contracts.table.Table as Table
 use Rattle.step_commit.specs.contracts.state.Core as Core
+use Rattle.name_map.specs.contracts.page.Page as Page
+use Rattle.name_map.specs.contracts.page.Chunk as Chunk
+use Rattle.name_map.specs.contracts.numbers.Numbers as Numbers
+use Rattle.name_map.specs.contracts.map.NameMap as NameMap
+use Rattle.wake_lists.specs.contracts.token_set.TokenSet as TokenSet
 use Rattle.wake_lists.specs.contracts.open.Open as Open
 use Rattle.wake_lists.specs.contracts.waits.Waits as Waits
 use Rattle.scheduler.specs.contracts.splits.Splits as Splits
@@ -38,11 +44,26 @@ Table-send = let a = BoxEntry-send in let b = GoalEntry-send in search (owned.cr
 Core-send : IsSend Core.the_row
 Core-send = let a = Table-send in search (owned.crosses, sendable) depth 60 fits 20000
 
+Page-send : (V : RattleType) → IsSend V → IsSend (Page.the_row V)
+Page-send V s = search (owned.crosses, sendable) depth 60 fits 20000
+
+Chunk-send : (V : RattleType) → IsSend V → IsSend (Chunk.the_row V)
+Chunk-send V s = let a = Page-send V s in search (owned.crosses, sendable) depth 60 fits 20000
+
+Numbers-send : (V : RattleType) → IsSend V → IsSend (Numbers.the_row V)
+Numbers-send V s = let a = Chunk-send V s in search (owned.crosses, sendable) depth 60 fits 20000
+
+NameMap-send : (V : RattleType) → IsSend V → IsSend (NameMap.the_row V)
+NameMap-send V s = let a = Numbers-send V s in search (owned.crosses, sendable) depth 60 fits 20000
+
+TokenSet-send : IsSend TokenSet.the_row
+TokenSet-send = search (owned.crosses, maps.crosses, sendable) depth 60 fits 20000
+
 Open-send : IsSend Open.the_row
-Open-send = search (owned.crosses, maps.crosses, sendable) depth 60 fits 20000
+Open-send = let a = TokenSet-send in search (NameMap-send, owned.crosses, maps.crosses, sendable) depth 60 fits 20000
 
 Waits-send : IsSend Waits.the_row
-Waits-send = search (owned.crosses, maps.crosses, sendable) depth 60 fits 20000
+Waits-send = search (NameMap-send, owned.crosses, maps.crosses, sendable) depth 60 fits 20000
 
 Splits-send : IsSend Splits.the_row
 Splits-send = search (owned.crosses, maps.crosses, sendable) depth 60 fits 20000

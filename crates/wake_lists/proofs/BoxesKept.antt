@@ -4,8 +4,7 @@ use Rattle.std.proofs.lemmas.Bool.Decides.{nat_tests}
 use Rattle.std.proofs.lemmas.Option.{slice_get-get_or}
 use Rattle.std.specs.Prelude.{if◌then◌else◌, ◌||◌, ◌&&◌, ◌==◌, not}
 use Rattle.akl_terms.specs.declared.name.Name.{Name}
-use Rattle.wake_lists.specs.declared.inside.Stand.{Stand}
-use Rattle.wake_lists.specs.Standing.{is_in, stands, or_none, boxes_at, how_many, AreStanding}
+use Rattle.wake_lists.specs.Standing.{is_in, InBoxes, stands, or_none, boxes_at, how_many, AreStanding}
 
 -- the boxes of one token become others
 pub boxes_now : (bs : List (List Name)) (token : ℕ) (ns : List Name) → token < length bs → (t : ℕ) → boxes_at t (slice_set bs token ns) ≡ (if t == token then ns else boxes_at t bs)
@@ -51,14 +50,14 @@ pub has_some : (ns : List Name) (n : Name) → is_in n ns ≡ true → 0 < lengt
 has_some [] n e = absurd (cc)
 has_some (m ∷ ns) n e = omega arith
 
-module _ (token : ℕ) (ss : List Stand) (bs : List (List Name)) (kept : AreStanding ss bs) where
+module _ (token : ℕ) (ss : InBoxes) (bs : List (List Name)) (kept : AreStanding ss bs) where
   -- a token without boxes stands in none
   pub bare : boxes_at token bs ≡ [] → (t : ℕ) (n : Name) → (t == token) ≡ true → stands ss t n ≡ false
   bare none t n e =
       let same : t ≡ token = grind (arith, nat_tests) in
       kept t n ∙ ap (λ (s : ℕ). is_in n (boxes_at s bs)) same ∙ ap (is_in n) none
 
-  pub kept_more : boxes_at token bs ≡ [] → (around : List Name) (us : List Stand) → ((t : ℕ) (n : Name) → stands us t n ≡ (stands ss t n || ((t == token) && is_in n around)))
+  pub kept_more : boxes_at token bs ≡ [] → (around : List Name) (us : InBoxes) → ((t : ℕ) (n : Name) → stands us t n ≡ (stands ss t n || ((t == token) && is_in n around)))
       → (new : List (List Name)) → ((t : ℕ) → boxes_at t new ≡ (if t == token then around else boxes_at t bs)) → AreStanding us new
   kept_more none around us joined new now t n = joined t n ∙ on (t == token) refl ∙ ap (is_in n) (sym (now t))
     where
@@ -70,7 +69,7 @@ module _ (token : ℕ) (ss : List Stand) (bs : List (List Name)) (kept : AreStan
       on true e = ap (λ (b : Bool). b || is_in n around) (bare none t n e)
       on false e = less (stands ss t n) ∙ kept t n
 
-  pub kept_fewer : (us : List Stand) → ((t : ℕ) (n : Name) → stands us t n ≡ (stands ss t n && not ((t == token) && is_in n (boxes_at token bs))))
+  pub kept_fewer : (us : InBoxes) → ((t : ℕ) (n : Name) → stands us t n ≡ (stands ss t n && not ((t == token) && is_in n (boxes_at token bs))))
       → (new : List (List Name)) → ((t : ℕ) → boxes_at t new ≡ (if t == token then [] else boxes_at t bs)) → AreStanding us new
   kept_fewer us parted new now t n = parted t n ∙ on (t == token) refl ∙ ap (is_in n) (sym (now t))
     where

@@ -13,4 +13,6 @@ pub mod OpenKept
 pub mod QueueKept
 pub mod Taking
 pub mod Thinning
+pub mod TokensIn
+pub mod ValuesAt
 pub mod WaitsKept

@@ -1,6 +1,5 @@
 -- The places that wait on variables, when those of one variable change.
 use Rattle.std.proofs.Common.{◌≡◌, length, Bool, true, false, List, [], ◌∷◌, Option, Some, None, refl, sym, ap, ◌∙◌, arith}
-use Rattle.std.proofs.lemmas.Bool.Decides.{nat_tests}
 use Rattle.std.specs.Prelude.{cond, if◌then◌else◌, ◌||◌, ◌&&◌, not, option_map, IsSome}
 use Rattle.std.specs.Result.{OnErr, OnOk, is_err}
 use Rattle.std.specs.declared.result.Result.{Result}

@@ -1,8 +1,11 @@
+pub mod KeptWaits
 pub mod Lines
 pub mod Open
 pub mod Opened
+pub mod PlaceMaps
 pub mod Queue
 pub mod Slots
 pub mod Standing
 pub mod Tokens
+pub mod TokenSets
 pub mod Waits

@@ -5,6 +5,8 @@ use Rattle.akl_terms.specs.declared.name.Place.{Place}
 use Rattle.wake_lists.specs.declared.turn.Urgency.{Urgency}
 use Rattle.wake_lists.specs.declared.turn.Turn.{Turn}
 use Rattle.wake_lists.specs.declared.turn.Opened.{Opened}
+use Rattle.wake_lists.specs.declared.place_map.PlaceMap.{PlaceMap}
+use Rattle.wake_lists.specs.PlaceMaps.{value_at}
 use Rattle.wake_lists.specs.Slots.{IsPut}
 use Rattle.wake_lists.specs.Waits.{same_place}
 use lib.Dec.{eqb}
@@ -57,8 +59,8 @@ pub record Leads {K : Type 0} (key : Opened → K) (index : K → Option ℕ) (f
   pub back : (k : K) (t : ℕ) → index k ≡ Some t → (o : Opened) × (find t ≡ Some o) × (key o ≡ k)
 
 -- the tokens by the places
-abbrev pub AreQueued : Places → List (Place × ℕ) → Type 0
-AreQueued os tokens = Leads (λ o. o.place) (λ k. lookup (same_place k) tokens) (λ t. lookup (eqb t) os)
+abbrev pub AreQueued : Places → PlaceMap ℕ → Type 0
+AreQueued os tokens = Leads (λ o. o.place) (value_at tokens) (λ t. lookup (eqb t) os)
 
 -- a place is put behind all others that are as urgent, with a number above those of all
 pub record GetsLast (old new : Places) (t : ℕ) (place : Place) (urgency : Urgency) : Type 0 where

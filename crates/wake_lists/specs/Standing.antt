@@ -1,19 +1,25 @@
 -- The boxes in which tokens stand.
-use Rattle.std.specs.Prelude.{◌≡◌, ℕ, ◌+◌, List, [], ◌∷◌, length, Option, None, Some, Bool, ◌&&◌, ◌==◌, slice_get}
+use Rattle.std.specs.Prelude.{◌≡◌, ℕ, ◌+◌, List, [], ◌∷◌, length, Option, None, Some, Bool, false, slice_get}
 use Rattle.std.specs.List.{list_any}
+use Rattle.std.specs.Map.{lookup}
 use Rattle.akl_terms.specs.declared.name.Name.{Name}
 use Rattle.akl_terms.specs.Names.{same_name}
-use Rattle.wake_lists.specs.declared.inside.Stand.{Stand}
+use Rattle.wake_lists.specs.TokenSets.{is_token_in}
 
 abbrev pub is_in : Name → List Name → Bool
 is_in n ns = list_any (same_name n) ns
 
-abbrev pub is_stand : ℕ → Name → Stand → Bool
-is_stand t n s = same_name n s.name && (t == s.token)
+-- the tokens by the boxes in which they stand
+abbrev pub InBoxes : Type 0
+InBoxes = List (Name × List ℕ)
+
+abbrev pub is_among : ℕ → Option (List ℕ) → Bool
+is_among t None = false
+is_among t (Some ts) = is_token_in t ts
 
 -- a token stands in a box
-abbrev pub stands : List Stand → ℕ → Name → Bool
-stands ss t n = list_any (is_stand t n) ss
+abbrev pub stands : InBoxes → ℕ → Name → Bool
+stands ss t n = is_among t (lookup (same_name n) ss)
 
 abbrev pub or_none : Option (List Name) → List Name
 or_none None = []
@@ -29,5 +35,5 @@ how_many [] = 0
 how_many (ns ∷ bs) = length ns + how_many bs
 
 -- the tokens of each box are those that have it among theirs
-abbrev pub AreStanding : List Stand → List (List Name) → Type 0
+abbrev pub AreStanding : InBoxes → List (List Name) → Type 0
 AreStanding ss bs = (t : ℕ) (n : Name) → stands ss t n ≡ is_in n (boxes_at t bs)

@@ -1,9 +1,8 @@
 -- Which places wait on which variables.
-use Rattle.std.specs.Prelude.{◌≡◌, List, [], Option, None, Some, Bool, false, map}
-use Rattle.std.specs.List.{list_any, IsDistinct}
+use Rattle.std.specs.Prelude.{List, [], Option, None, Some, Bool, false, map}
+use Rattle.std.specs.List.{list_any}
 use Rattle.std.specs.Map.{lookup}
 use Rattle.std.specs.BTreeSet.{BTreeSet}
-use Rattle.std.specs.Global.{Vec}
 use Rattle.std.specs.declared.cmp.Reverse.{Reverse}
 use Rattle.akl_terms.specs.declared.name.Var.{Var}
 use Rattle.akl_terms.specs.declared.name.Place.{Place}
@@ -30,27 +29,10 @@ waits_on ws p x = list_any (same_place p) (places_at x ws)
 abbrev pub is_variable_in : Var → List Var → Bool
 is_variable_in x xs = list_any (same_var x) xs
 
--- a key is that of a place, or of a variable, in maps in which the greater ones stand first
-abbrev pub is_key : Place → Reverse Place → Bool
-is_key p k = same_place p k.0
-
+-- a key is that of a variable, in a map in which the greater ones stand first
 abbrev pub is_variable_key : Var → Reverse Var → Bool
 is_variable_key x k = same_var x k.0
 
 -- the waits by their variables, as they are kept
 abbrev pub waits_of : List (Reverse Var × BTreeSet Place) → List (Var × List Place)
 waits_of es = map (λ (e : Reverse Var × BTreeSet Place). (e.0.0, e.1.keys)) es
-
--- a place waits on a variable by the list of its own
-abbrev pub lists : Var → Option (Vec Var) → Bool
-lists x None = false
-lists x (Some xs) = is_variable_in x xs.items
-
--- the same waits are kept by their places
-abbrev pub AreBoth : List (Var × List Place) → List (Reverse Place × Vec Var) → Type 0
-AreBoth ws es = (p : Place) (x : Var) → waits_on ws p x ≡ lists x (lookup (is_key p) es)
-
--- and each of these lists has a variable once
-pub record AreKeptBoth (ws : List (Var × List Place)) (es : List (Reverse Place × Vec Var)) : Type 0 where
-  pub both : AreBoth ws es
-  pub once : (p : Place) (xs : Vec Var) → lookup (is_key p) es ≡ Some xs → IsDistinct same_var xs.items

@@ -1,35 +1,30 @@
 //! The tokens that stand in each box.
 
-ghost use Rattle.std.specs.Prelude.{◌≡◌, ◌<◌, ◌≤◌, [], true, false, ◌||◌, ◌&&◌, ◌==◌, not, OnOk, OnErr, IfSome, IfNone};
+ghost use Rattle.std.specs.Prelude.{◌≡◌, ◌≤◌, [], true, false, ◌||◌, ◌&&◌, ◌==◌, not, OnOk, OnErr, IfSome, IfNone};
 ghost use Rattle.akl_terms.specs.Names.{same_name};
+ghost use Rattle.name_map.specs.Entries.{IsTakenOut};
 ghost use Rattle.wake_lists.specs.Standing.{stands, is_in};
 
+use crate::token_set::TokenSet;
 use akl_terms::Name;
+use name_map::NameMap;
 use std::alloc::{AllocError, Global};
-use std::collections::BTreeSet;
 use std::marker::Model;
-use std::ops::Bound;
-
-/// A token in a box. Those of one box stand together.
-#[derive(Clone, Copy, Debug, PartialEq, Eq, PartialOrd, Ord)]
-pub(crate) struct Stand {
-    pub name: Name,
-    pub token: u64,
-}
 
 /// The tokens that stand in each box.
 #[derive(Drop)]
 pub(crate) struct Inside {
-    stands: BTreeSet<Stand>,
+    alloc: Global,
+    // Of each box in which one stands.
+    tokens: NameMap<TokenSet>,
 }
 
 impl Model for Inside {
-    ghost use Rattle.std.specs.Prelude.{List};
-    ghost use Rattle.wake_lists.specs.declared.inside.Stand.{Stand};
+    ghost use Rattle.wake_lists.specs.Standing.{InBoxes};
 
-    ghost Value = { List Stand };
+    ghost Value = { InBoxes };
 
-    ghost view = { λ i. i.stands.keys };
+    ghost view = { λ i. i.tokens };
 }
 
 impl Inside {
@@ -37,7 +32,8 @@ impl Inside {
         ensures { result ≡ [] }
     {
         Inside {
-            stands: BTreeSet::new(alloc),
+            alloc,
+            tokens: NameMap::new(alloc),
         }
     }
 
@@ -67,12 +63,9 @@ impl Inside {
         ensures least { IfSome result (λ t. (s : _) → stands self.now s name ≡ true → t ≤ s) }
         ensures empty { IfNone result ((t : _) → stands self.now t name ≡ false) }
     {
-        let from = Stand { name, token: 0 };
-        let stand = self.stands.range(from..).next().copied()?;
-        if stand.name == name {
-            Some(stand.token)
-        } else {
-            None
+        match self.tokens.get(name) {
+            Some(tokens) => tokens.first(),
+            None => None,
         }
     }
 
@@ -82,11 +75,10 @@ impl Inside {
         ensures other { IfSome result (λ t. t ≡ token → ⊥) }
         ensures none { IfNone result ((t : _) → stands self.now t name ≡ true → t ≡ token) }
     {
-        let first = self.first(name)?;
-        if first != token {
-            return Some(first);
+        match self.tokens.get(name) {
+            Some(tokens) => tokens.other(token),
+            None => None,
         }
-        self.after(name, token)
     }
 
     // Has the token stand in the box too. An `Err` leaves all as it was.
@@ -94,33 +86,33 @@ impl Inside {
         ensures added { OnOk result ((t : _) (n : _) → stands self.new t n ≡ (stands self.old t n || ((t == token) && same_name n name))) }
         ensures unchanged { OnErr result ((t : _) (n : _) → stands self.new t n ≡ stands self.old t n) }
     {
-        self.stands.insert(Stand { name, token })?;
-        Ok(())
-    }
-
-    // The least token above this one that stands in the box.
-    fn after(&self, name: Name, token: u64) -> Option<u64>
-        ensures there { IfSome result (λ t. stands self.now t name ≡ true) }
-        ensures above { IfSome result (λ t. token < t) }
-        ensures none { IfNone result ((t : _) → token < t → stands self.now t name ≡ false) }
-    {
-        let this = Stand { name, token };
-        let stand = self
-            .stands
-            .range((Bound::Excluded(this), Bound::Unbounded))
-            .next()
-            .copied()?;
-        if stand.name == name {
-            Some(stand.token)
-        } else {
-            None
+        if let Some(tokens) = self.tokens.get_mut(name) {
+            tokens.add(token)?;
+            return Ok(());
         }
+        let mut tokens = TokenSet::new(self.alloc);
+        tokens.add(token)?;
+        self.tokens.insert(name, tokens)?;
+        Ok(())
     }
 
     // Has the token stand in the box no more.
     fn remove(&mut self, token: u64, name: Name)
         ensures { (t : _) (n : _) → stands self.new t n ≡ (stands self.old t n && not ((t == token) && same_name n name)) }
     {
-        self.stands.remove(&Stand { name, token });
+        let Some(tokens) = self.tokens.get_mut(name) else {
+            return;
+        };
+        tokens.remove(token);
+        if tokens.is_empty() {
+            drop_box(&mut self.tokens, name);
+        }
     }
+}
+
+// Takes out the tokens of a box.
+fn drop_box(tokens: &mut NameMap<TokenSet>, name: Name)
+    ensures { IsTakenOut tokens.old tokens.new name }
+{
+    tokens.remove(name);
 }

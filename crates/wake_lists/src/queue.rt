@@ -6,18 +6,18 @@ ghost use Rattle.wake_lists.specs.Queue.{HasNone, IsTokenOf, IsNext, GetsLast, i
 ghost use Rattle.wake_lists.specs.Slots.{IsTakenOut};
 ghost use lib.Dec.{eqb};
 
+use crate::place_map::PlaceMap;
 use crate::schedule::Schedule;
 use crate::turn::{Opened, Urgency};
 use akl_terms::Place;
 use std::alloc::{AllocError, Global};
-use std::collections::BTreeMap;
 use std::marker::Model;
 
 /// The open places by their tokens, each once, and each with a turn of its own.
 #[derive(Drop)]
 pub(crate) struct Queue {
     schedule: Schedule,
-    tokens: BTreeMap<Place, u64>,
+    tokens: PlaceMap<u64>,
 }
 
 impl Model for Queue {
@@ -29,7 +29,7 @@ impl Model for Queue {
 
     ghost view = { λ q. q.schedule };
 
-    ghost invariant = { λ q. AreQueued q.schedule q.tokens.entries };
+    ghost invariant = { λ q. AreQueued q.schedule q.tokens };
 }
 
 impl Queue {
@@ -38,7 +38,7 @@ impl Queue {
     {
         Queue {
             schedule: Schedule::new(alloc),
-            tokens: BTreeMap::new(alloc),
+            tokens: PlaceMap::new(alloc),
         }
     }
 
@@ -59,7 +59,7 @@ impl Queue {
     pub(crate) fn token_of(&self, place: Place) -> Option<u64>
         ensures { IsTokenOf self.now place result }
     {
-        self.tokens.get(&place).copied()
+        self.tokens.get(place).copied()
     }
 
     /// The token of the place whose turn comes before all others.
@@ -89,7 +89,7 @@ impl Queue {
     {
         self.tokens.insert(place, token)?;
         if self.schedule.insert(token, place, urgency).is_err() {
-            self.tokens.remove(&place);
+            self.tokens.remove(place);
             return Err(AllocError);
         }
         Ok(())
@@ -116,7 +116,7 @@ impl Queue {
         ensures gone { IsTakenOut self.old self.new token }
     {
         let opened = self.schedule.remove(token)?;
-        self.tokens.remove(&opened.place);
+        self.tokens.remove(opened.place);
         Some(opened)
     }
 }

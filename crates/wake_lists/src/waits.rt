@@ -5,11 +5,11 @@ ghost use Rattle.std.specs.List.{IsDistinct};
 ghost use Rattle.akl_terms.specs.Names.{same_var};
 ghost use Rattle.wake_lists.specs.Waits.{same_place, waits_on, places_at, is_variable_in};
 
+use crate::place_map::PlaceMap;
 use crate::waiting::Waiting;
 use akl_terms::{Place, Var};
 use std::alloc::{AllocError, Global};
-use std::cmp::Reverse;
-use std::collections::{BTreeMap, btree_set};
+use std::collections::btree_set;
 use std::marker::Model;
 
 /// Which places wait on which variables. Contracts see it as the places that wait on each variable on which one does.
@@ -20,21 +20,21 @@ use std::marker::Model;
 pub struct Waits {
     alloc: Global,
     by_variable: Waiting,
-    // Each variable of a place once. Younger places stand first, as most look-ups are for them.
-    by_place: BTreeMap<Reverse<Place>, Vec<Var>>,
+    // Each variable of a place once.
+    by_place: PlaceMap<Vec<Var>>,
 }
 
 impl Model for Waits {
     ghost use Rattle.std.specs.Prelude.{List};
     ghost use Rattle.akl_terms.specs.declared.name.Var.{Var};
     ghost use Rattle.akl_terms.specs.declared.name.Place.{Place};
-    ghost use Rattle.wake_lists.specs.Waits.{AreKeptBoth};
+    ghost use Rattle.wake_lists.specs.KeptWaits.{AreKeptBoth};
 
     ghost Value = { List (Var × List Place) };
 
     ghost view = { λ w. w.by_variable };
 
-    ghost invariant = { λ w. AreKeptBoth w.by_variable w.by_place.entries };
+    ghost invariant = { λ w. AreKeptBoth w.by_variable w.by_place };
 }
 
 impl Waits {
@@ -45,7 +45,7 @@ impl Waits {
         Waits {
             alloc,
             by_variable: Waiting::new(alloc),
-            by_place: BTreeMap::new(alloc),
+            by_place: PlaceMap::new(alloc),
         }
     }
 
@@ -61,7 +61,7 @@ impl Waits {
             self.by_variable.remove_all(place, on);
             return Err(refused);
         }
-        if self.by_place.insert(Reverse(place), variables).is_err() {
+        if self.by_place.insert(place, variables).is_err() {
             self.by_variable.remove_all(place, on);
             return Err(AllocError);
         }
@@ -74,11 +74,7 @@ impl Waits {
         ensures variables { (x : _) → is_variable_in x result.items ≡ waits_on self.old place x }
         ensures once { IsDistinct same_var result.items }
     {
-        // Most places have no waits; to remove a key that isn't there takes longer than to look for it.
-        if !self.by_place.contains_key(&Reverse(place)) {
-            return Vec::new(self.alloc);
-        }
-        match self.by_place.remove(&Reverse(place)) {
+        match self.by_place.remove(place) {
             Some(variables) => {
                 self.by_variable.remove_all(place, variables.as_slice());
                 variables

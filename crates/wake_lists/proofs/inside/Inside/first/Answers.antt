@@ -1,33 +1,25 @@
-use Rattle.std.proofs.Common.{List, ap, sym, ◌∙◌}
-use Rattle.wake_lists.specs.declared.inside.Stand.{Stand}
-use Rattle.wake_lists.specs.Standing.{stands}
-use Rattle.wake_lists.proofs.InBoxes.{from_box, box_is_from, box_has, none_in, first_in, other_in, least_in, gave_none, gave_some, if_none}
+use Rattle.std.proofs.Common.{true, false, sym, ap, ◌≡◌, ◌≤◌, ◌∙◌, ℕ, subst}
+use Rattle.std.specs.Prelude.{option_copied}
+use Rattle.std.specs.Option.{IfSome, IfNone}
+use Rattle.wake_lists.specs.Standing.{InBoxes, stands}
+use Rattle.wake_lists.proofs.InBoxes.{none_in, first_there, first_least, first_none}
 use Rattle.wake_lists.proofs.inside.Inside.first.Goals as goal
 
-pub returns-in_err-stand-clause-empty : goal.returns-in_err-stand-clause-empty
-returns-in_err-stand-clause-empty c =
-    let starts = gave_none c.range.result c.next.new.self c.next.result c.next.ensures.steps (sym c.copied.ensures ∙ c.in_err-stand.was) in
-    if_none c.from_residual.result (λ t.
-    ap (λ (ss : List Stand). stands ss t c.args.name) (sym c.self.view_is)
-    ∙ none_in c.self.inside.stands c.args.name (from_box c.args.name) (box_is_from c.args.name) c.range.result (c.range.ensures.in_range tt) starts t (box_has c.args.name t))
+pub returns-in-Some-clause-there : goal.returns-in-Some-clause-there
+returns-in-Some-clause-there c =
+    subst (λ (ss : InBoxes). IfSome c.first.result (λ t. stands ss t c.args.name ≡ true)) c.self.view_is
+    (first_there c.self.inside.tokens c.args.name c.in-Some.tokens.now (sym c.get.ensures ∙ ap option_copied c.in-Some.is) c.first.result c.first.ensures)
 
-pub returns-then-eq-clause-there : goal.returns-then-eq-clause-there
-returns-then-eq-clause-there c =
-    let stand : Stand = c.in_ok-stand.stand in
-    let starts = gave_some c.range.result c.next.new.self c.next.result c.next.ensures.steps stand (sym c.copied.ensures ∙ c.in_ok-stand.was) in
-    ap (λ (ss : List Stand). stands ss stand.token c.args.name) (sym c.self.view_is)
-    ∙ first_in c.self.inside.stands c.args.name (from_box c.args.name) (box_is_from c.args.name) c.range.result (c.range.ensures.in_range tt) stand c.next.new.self starts (sym c.eq.ensures ∙ c.if-eq.true)
+pub returns-in-Some-clause-least : goal.returns-in-Some-clause-least
+returns-in-Some-clause-least c =
+    subst (λ (ss : InBoxes). IfSome c.first.result (λ t. (s : ℕ) → stands ss s c.args.name ≡ true → t ≤ s)) c.self.view_is
+    (first_least c.self.inside.tokens c.args.name c.in-Some.tokens.now (sym c.get.ensures ∙ ap option_copied c.in-Some.is) c.first.result c.first.ensures)
 
-pub returns-then-eq-clause-least : goal.returns-then-eq-clause-least
-returns-then-eq-clause-least c =
-    let stand : Stand = c.in_ok-stand.stand in
-    let starts = gave_some c.range.result c.next.new.self c.next.result c.next.ensures.steps stand (sym c.copied.ensures ∙ c.in_ok-stand.was) in
-    λ t h. least_in c.self.inside.stands c.args.name (from_box c.args.name) (box_is_from c.args.name) c.range.result (c.range.ensures.in_range tt) stand c.next.new.self starts (sym c.eq.ensures ∙ c.if-eq.true) t (box_has c.args.name t)
-    (ap (λ (ss : List Stand). stands ss t c.args.name) c.self.view_is ∙ h)
+pub returns-in-Some-clause-empty : goal.returns-in-Some-clause-empty
+returns-in-Some-clause-empty c =
+    subst (λ (ss : InBoxes). IfNone c.first.result ((t : ℕ) → stands ss t c.args.name ≡ false)) c.self.view_is
+    (first_none c.self.inside.tokens c.args.name c.in-Some.tokens.now (sym c.get.ensures ∙ ap option_copied c.in-Some.is) c.first.result c.first.ensures)
 
-pub returns-else-eq-clause-empty : goal.returns-else-eq-clause-empty
-returns-else-eq-clause-empty c =
-    let stand : Stand = c.in_ok-stand.stand in
-    let starts = gave_some c.range.result c.next.new.self c.next.result c.next.ensures.steps stand (sym c.copied.ensures ∙ c.in_ok-stand.was) in
-    λ t. ap (λ (ss : List Stand). stands ss t c.args.name) (sym c.self.view_is)
-    ∙ other_in c.self.inside.stands c.args.name (from_box c.args.name) (box_is_from c.args.name) c.range.result (c.range.ensures.in_range tt) stand c.next.new.self starts (sym c.eq.ensures ∙ c.if-eq.false) t (box_has c.args.name t)
+pub returns-in-None-clause-empty : goal.returns-in-None-clause-empty
+returns-in-None-clause-empty c = λ t.
+    ap (λ (ss : InBoxes). stands ss t c.args.name) (sym c.self.view_is) ∙ none_in c.self.inside.tokens c.args.name (sym c.get.ensures ∙ ap option_copied c.in-None.is) t

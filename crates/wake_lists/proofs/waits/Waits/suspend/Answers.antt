@@ -7,7 +7,8 @@ use Rattle.akl_terms.specs.declared.name.Place.{Place}
 use Rattle.std.specs.Result.{OnErr, is_err}
 use Rattle.std.specs.declared.result.Result.{Result}
 use Rattle.std.specs.declared.result.Result.TheVariants.{Ok, Err}
-use Rattle.wake_lists.specs.Waits.{waits_on, AreKeptBoth}
+use Rattle.wake_lists.specs.Waits.{waits_on}
+use Rattle.wake_lists.specs.KeptWaits.{AreKeptBoth}
 use Rattle.wake_lists.proofs.WaitsKept.{on_not_err}
 use Rattle.wake_lists.proofs.Both.{kept_both, others_of, undone, once_kept}
 use Rattle.wake_lists.proofs.waits.Waits.suspend.Goals as goal
@@ -23,12 +24,12 @@ returns-then-is_err-clause-unchanged c =
 pub invariant_of-self-else-is_err : goal.invariant_of-self-else-is_err
 invariant_of-self-else-is_err c =
     let none = subst (λ (ws : List (Var × List Place)). (x : Var) → waits_on ws c.args.place x ≡ false) (sym c.self.view_is) c.requires in
-    let updates = on_not_err c.insert.result c.insert.ensures.updates (sym c.is_err.ensures.value ∙ c.if-is_err.false) in
+    let put = on_not_err c.insert.result c.insert.ensures.put (sym c.is_err.ensures.value ∙ c.if-is_err.false) in
     record {
       both = kept_both c.args.place c.args.on.now c.self.inside.by_variable c.self.inside.by_place c.self.invariant.both none c.add_all.new.self c.in_default.ensures.added c.insert.new.self c.in_ok-variables.variables
-          c.in_ok-variables.ensures.same updates.0;
+          c.in_ok-variables.ensures.same put;
       once = once_kept c.args.place c.self.inside.by_place c.insert.new.self (Some c.in_ok-variables.variables) c.self.invariant.once
-          (λ xs e. subst (λ (v : Vec Var). IsDistinct same_var v.items) (some_is c.in_ok-variables.variables xs e) c.in_ok-variables.ensures.once) updates.0;
+          (λ xs e. subst (λ (v : Vec Var). IsDistinct same_var v.items) (some_is c.in_ok-variables.variables xs e) c.in_ok-variables.ensures.once) put;
     }
   where
     some_is : {A : Type 0} (x y : A) → Some x ≡ Some y → x ≡ y
@@ -41,7 +42,7 @@ on_is_err (Err y) p e = p
 pub invariant_of-self-then-is_err : goal.invariant_of-self-then-is_err
 invariant_of-self-then-is_err c =
     let none = subst (λ (ws : List (Var × List Place)). (x : Var) → waits_on ws c.args.place x ≡ false) (sym c.self.view_is) c.requires in
-    subst (AreKeptBoth c.remove_all-then-is_err.new.self) (sym (on_is_err c.insert.result c.insert.ensures.err (sym c.is_err.ensures.value ∙ c.if-is_err.true))) (record {
+    subst (AreKeptBoth c.remove_all-then-is_err.new.self) (sym (on_is_err c.insert.result c.insert.ensures.unchanged (sym c.is_err.ensures.value ∙ c.if-is_err.true))) (record {
       both = λ p x.
           undone c.args.place c.args.on.now c.self.inside.by_variable c.self.inside.by_place c.self.invariant.both none c.add_all.new.self c.remove_all-then-is_err.new.self
           (others_of c.args.place c.args.on.now c.self.inside.by_variable c.self.inside.by_place c.self.invariant.both c.add_all.new.self c.in_default.ensures.added) c.remove_all-then-is_err.ensures p x
