@@ -14,9 +14,11 @@ mod Numbers
 mod Forked
 mod Begins
 pub mod Looks
+pub mod ToldChains
 mod WaysOut
 pub mod Seen
 pub mod Viewed
+mod SolvedDown
 pub mod ShownChoices
 mod Within
 mod Removed

@@ -67,7 +67,7 @@ take_stores T zero ns = refl
 take_stores T (suc j) [] = refl
 take_stores T (suc j) (n ∷ ns) = ap (λ (ss : List Stored). store_in (T.box_of n) ∷ ss) (take_stores T j ns)
 
-length_stores : (T : Table) (ns : List Name) → length (stores_along T ns) ≡ length ns
+pub length_stores : (T : Table) (ns : List Name) → length (stores_along T ns) ≡ length ns
 length_stores T [] = refl
 length_stores T (n ∷ ns) = ap suc (length_stores T ns)
 

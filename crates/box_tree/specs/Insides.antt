@@ -1,5 +1,5 @@
 -- All that stands in a box and inside it.
-use Rattle.std.specs.Prelude.{◌≡◌, ℕ, nat_lt, if◌then◌else◌, List, [], ◌∷◌, length, map, Option, Some, None, option_map, ◌⊎◌}
+use Rattle.std.specs.Prelude.{◌≡◌, ℕ, true, nat_lt, if◌then◌else◌, List, [], ◌∷◌, length, map, Option, Some, None, option_map, ◌⊎◌}
 use Rattle.std.specs.List.{AllByRecursion}
 use Rattle.akl_terms.specs.declared.name.Name.{Name}
 use Rattle.akl_terms.specs.declared.name.Place.{Place}
@@ -8,25 +8,32 @@ use Rattle.akl_model.specs.declared.label.Label.{Label}
 use Rattle.akl_model.specs.Config.{or_else}
 use Rattle.akl_terms.specs.Template.{tree}
 use Rattle.akl_model.specs.Changes.{Shape, of_choice}
-use Rattle.table_laws.specs.Rows.{BoxRow, GoalRow, Table}
+use Rattle.local_store.specs.Chained.{IsSolvedChain}
+use Rattle.table_laws.specs.Rows.{BoxRow, GoalRow, Table, stores_along}
 use Rattle.table_laws.specs.Inside.{IsInside, IsGoalInside}
 use Rattle.table_laws.specs.Walks.{ListsInside}
 use Rattle.box_tree.specs.declared.inside.InnerGoal.{InnerGoal}
 use Rattle.box_tree.specs.declared.inside.InnerBox.{InnerBox}
 use Rattle.box_tree.specs.declared.inside.Inside.{Inside}
 use Rattle.box_tree.specs.Tables.{TableValue, table_of, shape_held, goal_atom, shown_tree, goals_in, is_empty}
+use Rattle.box_tree.specs.Paths.{IsPath}
 use Rattle.box_tree.specs.Views.{ViewValue, IsViewOf}
 
 -- a goal has this content
 abbrev pub IsInnerGoal : TableValue → InnerGoal → Type 0
 IsInnerGoal t g = option_map (λ (r : GoalRow). r.shape) ((table_of t).goal_of g.name) ≡ Some (shape_held t.program.templates.nodes g.held)
 
--- a box has this holder, store, goals, body, shown terms and collected term
+-- the stores down to a box are solved together
+abbrev pub IsSolvedDownTo : TableValue → Name → Type 0
+IsSolvedDownTo t n = (path : List Name) → IsPath (table_of t) n path → IsSolvedChain t.program.templates.nodes (stores_along (table_of t) path)
+
+-- a box has this holder, store, goals, body, shown terms and collected term; and the stores down to it are solved, where it says so
 pub record IsInnerBox (t : TableValue) (b : InnerBox) : Type 0 where
   pub row : BoxRow
   pub there : (table_of t).box_of b.name ≡ Some row
   pub holder : b.holder ≡ row.holder
   pub store : b.store ≡ row.store
+  pub solved : b.solved ≡ true → IsSolvedDownTo t b.name
   pub goals : map (λ (g : InnerGoal). g.name) b.goals.items ≡ row.goals
   pub held : AllByRecursion (IsInnerGoal t) b.goals.items
   pub body : map (goal_atom t.program.templates.nodes) b.body.items ≡ row.body

@@ -1,16 +1,19 @@
 //! All that stands in a box and inside it.
 
-ghost use Rattle.std.specs.Prelude.{◌≡◌, ◌++◌, List, map, IfOk, OnOk, true};
+ghost use Rattle.std.specs.Prelude.{◌≡◌, ◌++◌, List, Some, map, IfOk, OnOk, true};
+ghost use Rattle.std.specs.Map.{lookup};
 ghost use Rattle.std.specs.List.{AllByRecursion};
 ghost use Rattle.akl_terms.specs.declared.name.Place.{Place};
 ghost use Rattle.akl_terms.specs.declared.term.Node.{Node};
+ghost use Rattle.akl_terms.specs.Names.{same_name};
 ghost use Rattle.table_laws.specs.Stamped.{IsTableOf};
 ghost use Rattle.box_tree.specs.Tables.{all_rules, table_of, shape_held};
+ghost use Rattle.box_tree.specs.Drops.{IsOfRun};
 ghost use Rattle.box_tree.specs.Views.{run_of, is_there};
-ghost use Rattle.box_tree.specs.Insides.{IsInnerGoal, IsInnerBox, IsInsideOf};
+ghost use Rattle.box_tree.specs.Insides.{IsInnerGoal, IsSolvedDownTo, IsInnerBox, IsInsideOf};
 ghost use Rattle.box_tree.specs.Places.{goal_places, places_in, IsSeenBy};
 
-use crate::entries::Held;
+use crate::entries::{BoxEntry, Held};
 use crate::table::Table;
 use crate::view::View;
 use akl_model::Label;
@@ -33,6 +36,8 @@ pub struct InnerBox {
     /// The choice that holds it; `None` for a root box.
     pub holder: Option<Name>,
     pub store: Shared<Store>,
+    /// Whether its store and those around it are known to be solved together.
+    pub solved: bool,
     /// Its goals, in increasing order of names.
     pub goals: Vec<InnerGoal>,
     pub body: Vec<Goal>,
@@ -135,14 +140,33 @@ impl Table {
         Ok(inner)
     }
 
+    // Whether the stores down to a box, of which this is the entry, are known to be solved together.
+    fn is_solved_down_to(
+        &self,
+        alloc: Global,
+        name: Name,
+        entry: &BoxEntry,
+    ) -> Result<bool, AllocError>
+        requires table { IsOfRun self.now }
+        requires entry { lookup (same_name name) self.now.boxes ≡ Some entry.now }
+        ensures { IfOk result (λ solved. solved ≡ true → IsSolvedDownTo self.now name) }
+    {
+        let way = self.way_to(alloc, name, entry)?;
+        let path = way.path.as_slice();
+        let (known, _) = self.known_of(path, way.solving, name, entry.solving());
+        Ok(known == path.len())
+    }
+
     // A box with all that a copy of it needs.
     fn inner_box(&self, alloc: Global, name: Name) -> Result<InnerBox, AllocError>
+        requires { IsOfRun self.now }
         ensures name { IfOk result (λ b. b.name ≡ name) }
         ensures row { IfOk result (IsInnerBox self.now) }
     {
         let Some(entry) = self.boxes.get(&name) else {
             return Err(AllocError);
         };
+        let solved = self.is_solved_down_to(alloc, name, entry)?;
         let store = entry.store.share()?;
         let goals = self.inner_goals(alloc, &entry.goals)?;
         let body = Vec::from_slice(alloc, entry.body.as_slice())?;
@@ -151,6 +175,7 @@ impl Table {
             name,
             holder: entry.holder,
             store,
+            solved,
             goals,
             body,
             shown,
@@ -160,6 +185,7 @@ impl Table {
 
     // Boxes with all that a copy of each needs.
     fn inner_boxes(&self, alloc: Global, names: &[Name]) -> Result<Vec<InnerBox>, AllocError>
+        requires { IsOfRun self.now }
         ensures names { IfOk result (λ v. map (λ b. b.name) v.items ≡ names.now) }
         ensures rows { IfOk result (λ v. AllByRecursion (IsInnerBox self.now) v.items) }
     {

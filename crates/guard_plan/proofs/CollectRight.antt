@@ -51,7 +51,8 @@ use Rattle.box_tree.proofs.BoundHere.{told_bound}
 use Rattle.guard_plan.specs.Guards.{AreAllSolved, AreQuietOver}
 use Rattle.guard_plan.specs.Collecting.{frames_of, ports_of, bindings_of, IsList, IsToldInner, IsJoined}
 use Rattle.guard_plan.proofs.BoundAt.{oldest_at, joined_at}
-use Rattle.guard_plan.proofs.Chains.{from_told, to_told, told_stands, around_push, innermost_push, same_solved}
+use Rattle.box_tree.proofs.ToldChains.{from_told, to_told, told_stands, around_push}
+use Rattle.guard_plan.proofs.Chains.{innermost_push, same_solved}
 use Rattle.guard_plan.proofs.CollectNone.{all_quiet}
 use Rattle.guard_plan.proofs.CutRight.{counted}
 use Rattle.guard_plan.proofs.Gathering.{HasGathered, gather, told_of, told_either, bindings_told, equations_told}

@@ -19,7 +19,8 @@ use Rattle.table_laws.specs.Steps.{IsSolvedIf}
 use Rattle.table_laws.proofs.Stores.{told_join}
 use Rattle.box_tree.specs.Tables.{table_of}
 use Rattle.box_tree.specs.Views.{ViewValue, IsViewOf}
-use Rattle.guard_plan.proofs.Chains.{told_stands, around_push, innermost_push}
+use Rattle.box_tree.proofs.ToldChains.{told_stands, around_push}
+use Rattle.guard_plan.proofs.Chains.{innermost_push}
 use Rattle.guard_plan.proofs.Names.{named_frames, named_ports}
 use Rattle.guard_plan.proofs.Sites.{row, environment_stands, stores_split}
 

@@ -23,7 +23,8 @@ use Rattle.local_store.proofs.Layers.{from-last, bindings-either, bindings-left,
 use Rattle.entail_test.specs.Asked.{frames_from, KeepsApart}
 use Rattle.table_laws.specs.Rows.{told_in}
 use Rattle.guard_plan.specs.Guards.{IsQuietInside, KeepsApartInside}
-use Rattle.guard_plan.proofs.Chains.{told_stands, around_push, take_push, drop_push}
+use Rattle.box_tree.proofs.ToldChains.{told_stands, around_push}
+use Rattle.guard_plan.proofs.Chains.{take_push, drop_push}
 
 -- equations that stand for others over variables from outside keep the variables of these frames apart
 pub keeps_apart : (F E : Equations) (frames outer : List Name) → ((y : Var) → IsLocal frames y → IsLocal outer y) → TellsOver (IsOutside outer) E → StandFor (IsTold F) (IsTold E) → IsConsistent F → KeepsApart frames F

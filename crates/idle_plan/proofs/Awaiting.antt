@@ -25,7 +25,7 @@ use Rattle.class_members.specs.Members.{outermost_of, IsMember, AreMembers}
 use Rattle.box_tree.specs.declared.view.Sight.{Sight}
 use Rattle.box_tree.specs.Tables.{goal_atom}
 use Rattle.box_tree.specs.Views.{ViewValue, IsViewOf}
-use Rattle.guard_plan.proofs.Chains.{told_stands}
+use Rattle.box_tree.proofs.ToldChains.{told_stands}
 use Rattle.guard_plan.proofs.Sites.{shows_at, whole_stands}
 use Rattle.stable_test.proofs.Reaches.{waits_free, atom_waits_stand}
 use Rattle.idle_plan.specs.Waits.{AreAwaited}

@@ -34,7 +34,7 @@ use Rattle.class_members.specs.Members as members
 use Rattle.box_tree.specs.Tables.{all_rules, table_of}
 use Rattle.box_tree.specs.Views.{ViewValue, IsViewOf}
 use Rattle.table_laws.specs.Rows.{stores_along}
-use Rattle.guard_plan.proofs.Chains.{told_stands}
+use Rattle.box_tree.proofs.ToldChains.{told_stands}
 use Rattle.guard_plan.proofs.Sites.{stand, environment_stands, stores_split}
 use Rattle.stable_test.specs.Inner.{IsTouchedInside}
 use Rattle.stable_test.proofs.EachInside.{IsDown, below}

@@ -25,7 +25,8 @@ use Rattle.table_laws.proofs.Stores.{stores_join}
 use Rattle.table_laws.proofs.Frame.{row_of, names_join, around_stands}
 use Rattle.box_tree.specs.Tables.{all_rules, table_of}
 use Rattle.box_tree.specs.Views.{ViewValue, IsViewOf}
-use Rattle.guard_plan.proofs.Chains.{told_stands, take_push, drop_push}
+use Rattle.box_tree.proofs.ToldChains.{told_stands}
+use Rattle.guard_plan.proofs.Chains.{take_push, drop_push}
 use Rattle.guard_plan.proofs.Sites.{stand, stores_path}
 use Rattle.local_store.specs.Chained.{equations_of}
 use Rattle.idle_plan.proofs.Listed.{AreStoresOf}

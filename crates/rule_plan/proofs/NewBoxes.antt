@@ -28,7 +28,8 @@ use Rattle.box_tree.specs.declared.step.NewBox.{NewBox}
 use Rattle.box_tree.specs.Tables.{goal_atom, new_box}
 use Rattle.rule_plan.specs.declared.heads.Call.{Call}
 use Rattle.rule_plan.specs.Made.{heads, heads_of, goals_under, named_under, store_with, IsNewStore, IsMade, AreMade}
-use Rattle.guard_plan.proofs.Chains.{around_push, innermost_push}
+use Rattle.box_tree.proofs.ToldChains.{around_push}
+use Rattle.guard_plan.proofs.Chains.{innermost_push}
 use Rattle.rule_plan.proofs.Storing.{tells_stands, told_over}
 
 -- equations of arguments with head arguments, in another order

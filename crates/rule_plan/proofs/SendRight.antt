@@ -50,7 +50,7 @@ use Rattle.guard_plan.specs.Planned.{HasNoRule}
 use Rattle.rule_plan.specs.Solving.{ResolvesAll, GoesToPort}
 use Rattle.rule_plan.specs.Sent.{list_equations, with_new_tail}
 use Rattle.guard_plan.proofs.Sites.{row, found, whole_stands, shows_at}
-use Rattle.guard_plan.proofs.Chains.{told_stands}
+use Rattle.box_tree.proofs.ToldChains.{told_stands}
 use Rattle.rule_plan.proofs.InForce.{send_in_force}
 use Rattle.rule_plan.proofs.AtomNone.{atom_none}
 use Rattle.guard_plan.proofs.Names.{named_with}

@@ -14,7 +14,7 @@ use Rattle.local_store.specs.Chained.{ToldBy, around, replaced}
 use Rattle.local_store.specs.Telling.{ToldAlso, Tells}
 use Rattle.table_laws.specs.Rows.{told_in}
 use Rattle.table_laws.proofs.Stores.{told_join}
-use Rattle.guard_plan.proofs.Chains.{from_told, to_told, told_stands}
+use Rattle.box_tree.proofs.ToldChains.{from_told, to_told, told_stands}
 
 -- what the stores around and the new store tell, stands for what all stores told and the equations
 pub tells_stands : (nodes : List Node) (ss : List Stored) (known : ℕ) (es : List code.Equation) (new : Stored) → Tells nodes ss known es new

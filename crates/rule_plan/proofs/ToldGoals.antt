@@ -21,7 +21,8 @@ use Rattle.box_tree.specs.Tables.{table_of}
 use Rattle.box_tree.specs.Views.{ViewValue, IsViewOf}
 use Rattle.rule_plan.specs.AtGoals.{label_at}
 use Rattle.guard_plan.proofs.Sites.{row, environment_stands, whole_stands, stores_split}
-use Rattle.guard_plan.proofs.Chains.{around_push, innermost_push, same_solved}
+use Rattle.box_tree.proofs.ToldChains.{around_push}
+use Rattle.guard_plan.proofs.Chains.{innermost_push, same_solved}
 use Rattle.rule_plan.proofs.Storing.{tells_stands, told_over}
 
 pub own_store : (v : ViewValue) (i : IsViewOf v) → innermost v.stores ≡ (row v i).0.store

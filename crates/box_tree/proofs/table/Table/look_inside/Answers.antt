@@ -8,6 +8,9 @@ use Rattle.box_tree.proofs.table.Table.look_inside.Goals as goal
 pub inside-requires : goal.inside-requires
 inside-requires c = (run_of c.args.self.now c.args.journal.now.items, c.requires.table)
 
+pub inner_boxes-requires : goal.inner_boxes-requires
+inner_boxes-requires c = (run_of c.args.self.now c.args.journal.now.items, c.requires.table)
+
 pub returns : goal.returns
 returns c =
     let i : Inside = record { boxes = c.in_ok-boxes.boxes; views = c.in_ok-views.views } in
