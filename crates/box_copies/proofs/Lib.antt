@@ -1,5 +1,4 @@
 pub mod Terms
-pub mod Keys
 pub mod Orders
 pub mod Ordered
 pub mod Stored
@@ -7,5 +6,12 @@ pub mod Loops
 pub mod Sets
 pub mod Renamers
 pub mod Lists
+pub mod TimesBound
+pub mod OlderForms
+pub mod Outside
+pub mod SolvedCopies
 pub mod Making
+pub mod Around
+pub mod DownTo
 pub mod Splits
+pub mod Planned

@@ -179,28 +179,31 @@ module _ (f : Name → Name) (nodes : List Node) (a : Name) where
 
 -- copies
 
-module _ (nodes : List Node) (s : NewNames) (top a : Name) where
-  pub copy_names : (bs : List InnerBox) (ks : List BoxCopy) → AreBoxesBy s top a bs ks → copies.copy_names (map (box_copy nodes) ks) ≡ map (swapped_name s) (map (λ (b : InnerBox). b.name) bs)
+module _ (nodes : List Node) (s : NewNames) (older : Bool) (top a : Name) where
+  pub copy_names : (bs : List InnerBox) (ks : List BoxCopy) → AreBoxesBy s older top a bs ks → copies.copy_names (map (box_copy nodes) ks) ≡ map (swapped_name s) (map (λ (b : InnerBox). b.name) bs)
   copy_names [] [] r = refl
   copy_names [] (k ∷ ks) r = absurd r
   copy_names (b ∷ bs) [] r = absurd r
   copy_names (b ∷ bs) (k ∷ ks) r = λ i. r.0.name i ∷ copy_names bs ks r.1 i
 
-  pub copy_for : (b : InnerBox) (bs : List InnerBox) (ks : List BoxCopy) → AreBoxesBy s top a bs ks → Among b bs → (k : BoxCopy) × IsBoxBy s top a b k × copies.IsAmong (box_copy nodes k) (map (box_copy nodes) ks)
+  pub copy_for : (b : InnerBox) (bs : List InnerBox) (ks : List BoxCopy) → AreBoxesBy s older top a bs ks → Among b bs → (k : BoxCopy) × IsBoxBy s older top a b k × copies.IsAmong (box_copy nodes k) (map (box_copy nodes) ks)
   copy_for b [] ks r i = absurd i
   copy_for b (c ∷ bs) [] r i = absurd r
-  copy_for b (c ∷ bs) (k ∷ ks) r (inl e) = (k, subst (λ (x : InnerBox). IsBoxBy s top a x k) (sym e) r.0, inl refl)
-  copy_for b (c ∷ bs) (k ∷ ks) r (inr i) = let w : (k : BoxCopy) × IsBoxBy s top a b k × copies.IsAmong (box_copy nodes k) (map (box_copy nodes) ks) = copy_for b bs ks r.1 i in (w.0, w.1, inr w.2)
+  copy_for b (c ∷ bs) (k ∷ ks) r (inl e) = (k, subst (λ (x : InnerBox). IsBoxBy s older top a x k) (sym e) r.0, inl refl)
+  copy_for b (c ∷ bs) (k ∷ ks) r (inr i) = let w : (k : BoxCopy) × IsBoxBy s older top a b k × copies.IsAmong (box_copy nodes k) (map (box_copy nodes) ks) = copy_for b bs ks r.1 i in (w.0, w.1, inr w.2)
 
-  pub box_for : (x : laws.BoxCopy) (bs : List InnerBox) (ks : List BoxCopy) → AreBoxesBy s top a bs ks → copies.IsAmong x (map (box_copy nodes) ks) → (b : InnerBox) × Among b bs × (x.name ≡ swapped_name s b.name)
+  pub box_for : (x : laws.BoxCopy) (bs : List InnerBox) (ks : List BoxCopy) → AreBoxesBy s older top a bs ks → copies.IsAmong x (map (box_copy nodes) ks) → (b : InnerBox) × (k : BoxCopy) × Among b bs × IsBoxBy s older top a b k × (x ≡ box_copy nodes k)
   box_for x [] [] r i = absurd i
   box_for x [] (k ∷ ks) r i = absurd r
   box_for x (b ∷ bs) [] r i = absurd r
-  box_for x (b ∷ bs) (k ∷ ks) r (inl e) = (b, inl refl, ap (λ (y : laws.BoxCopy). y.name) e ∙ r.0.name)
-  box_for x (b ∷ bs) (k ∷ ks) r (inr i) = let w : (b : InnerBox) × Among b bs × (x.name ≡ swapped_name s b.name) = box_for x bs ks r.1 i in (w.0, inr w.1, w.2)
+  box_for x (b ∷ bs) (k ∷ ks) r (inl e) = (b, k, inl refl, r.0, e)
+  box_for x (b ∷ bs) (k ∷ ks) r (inr i) = let w : (b : InnerBox) × (k : BoxCopy) × Among b bs × IsBoxBy s older top a b k × (x ≡ box_copy nodes k) = box_for x bs ks r.1 i in (w.0, w.1, inr w.2, w.3, w.4)
 
-pub all_unsolved : (s : NewNames) (top a : Name) (bs : List InnerBox) (ks : List BoxCopy) → AreBoxesBy s top a bs ks → AllByRecursion (λ (k : BoxCopy). k.solved ≡ false) ks
-all_unsolved s top a [] [] r = tt
-all_unsolved s top a [] (k ∷ ks) r = absurd r
-all_unsolved s top a (b ∷ bs) [] r = absurd r
-all_unsolved s top a (b ∷ bs) (k ∷ ks) r = (r.0.solved, all_unsolved s top a bs ks r.1)
+-- a goal of a copy is one of the box, under its new name
+pub goal_named : (f : Name → Name) (nodes : List Node) (a g : Name) (gs : List InnerGoal) (xs : List (Name × Held)) → AreGoalsAs f a gs xs → IsIn g (map (λ (x : Name × Shape). x.0) (map (λ (x : Name × Held). (x.0, shape_held nodes x.1)) xs))
+    → (m : Name) × IsIn m (map (λ (h : InnerGoal). h.name) gs) × (g ≡ f m)
+goal_named f nodes a g [] [] r i = absurd i
+goal_named f nodes a g [] (x ∷ xs) r i = absurd r
+goal_named f nodes a g (h ∷ gs) [] r i = absurd r
+goal_named f nodes a g (h ∷ gs) (x ∷ xs) r (inl e) = (h.name, inl refl, e ∙ r.0)
+goal_named f nodes a g (h ∷ gs) (x ∷ xs) r (inr i) = let w : (m : Name) × IsIn m (map (λ (h : InnerGoal). h.name) gs) × (g ≡ f m) = goal_named f nodes a g gs xs r.2 i in (w.0, inr w.1, w.2)

@@ -3,9 +3,13 @@ use Rattle.std.proofs.Common.{◌≡◌, ℕ, ◌+◌, ◌<◌, List, [], ◌∷
 use Rattle.std.proofs.lemmas.List.{take_more}
 use Rattle.std.specs.Prelude.{if◌then◌else◌, not}
 use Rattle.akl_terms.specs.declared.name.Name.{Name}
+use Rattle.std.specs.List.{AllByRecursion}
 use Rattle.akl_terms.specs.declared.name.Var.{Var}
+use Rattle.akl_terms.specs.declared.term.Node.{Node}
 use Rattle.akl_terms.specs.declared.term.Term.{Term}
 use Rattle.akl_terms.specs.Names.{same_name}
+use Rattle.rational_unify.specs.Older.{EachOlder}
+use Rattle.rational_unify.proofs.OlderEnds.{EachOlder-push}
 use Rattle.local_store.specs.Stored.{Stored, with_frame, with_port, with_binding, with_bindings}
 use Rattle.box_tree.specs.declared.entries.Held.{Held}
 use Rattle.box_tree.specs.declared.inside.InnerGoal.{InnerGoal}
@@ -114,11 +118,11 @@ names_same a (c ∷ bs) b e = on (same_name c.name a) (names_same a bs b e)
     on true q = q
     on false q = ap (λ (l : List Name). own_names c ++ l) q
 
-pub boxes_more : (s : NewNames) (top a : Name) (bs : List InnerBox) (ks : List BoxCopy) (b : InnerBox) (k : BoxCopy) → AreBoxesBy s top a bs ks → IsBoxBy s top a b k → AreBoxesBy s top a (bs ++ b ∷ []) (ks ++ k ∷ [])
-boxes_more s top a [] [] b k r h = (h, tt)
-boxes_more s top a [] (x ∷ ks) b k r h = absurd r
-boxes_more s top a (c ∷ bs) [] b k r h = absurd r
-boxes_more s top a (c ∷ bs) (x ∷ ks) b k r h = (r.0, boxes_more s top a bs ks b k r.1 h)
+pub boxes_more : (s : NewNames) (older : Bool) (top a : Name) (bs : List InnerBox) (ks : List BoxCopy) (b : InnerBox) (k : BoxCopy) → AreBoxesBy s older top a bs ks → IsBoxBy s older top a b k → AreBoxesBy s older top a (bs ++ b ∷ []) (ks ++ k ∷ [])
+boxes_more s older top a [] [] b k r h = (h, tt)
+boxes_more s older top a [] (x ∷ ks) b k r h = absurd r
+boxes_more s older top a (c ∷ bs) [] b k r h = absurd r
+boxes_more s older top a (c ∷ bs) (x ∷ ks) b k r h = (r.0, boxes_more s older top a bs ks b k r.1 h)
 
 -- tests of names
 
@@ -146,20 +150,39 @@ goals_next f a gs i g xs ys x h e r n k q =
     let more : take (i + 1) gs ≡ take i gs ++ g ∷ [] = take_more gs i g h ∙ ap (λ (y : InnerGoal). take i gs ++ y ∷ []) (sym e) in
     subst (AreGoalsAs f a (take (i + 1) gs)) (sym q) (subst (λ (l : List InnerGoal). AreGoalsAs f a l (xs ++ x ∷ [])) (sym more) (goals_more f a (take i gs) xs g x r n k))
 
-pub boxes_next : (s : NewNames) (top a : Name) (bs : List InnerBox) (i : ℕ) (b : InnerBox) (ks ls : List BoxCopy) (k : BoxCopy) → i < length bs → b ≡ get_or bs i b → same_name b.name a ≡ false → AreBoxesBy s top a (kept a (take i bs)) ks
-    → IsBoxBy s top a b k → ls ≡ ks ++ k ∷ [] → AreBoxesBy s top a (kept a (take (i + 1) bs)) ls
-boxes_next s top a bs i b ks ls k h e n r is q =
+pub boxes_next : (s : NewNames) (older : Bool) (top a : Name) (bs : List InnerBox) (i : ℕ) (b : InnerBox) (ks ls : List BoxCopy) (k : BoxCopy) → i < length bs → b ≡ get_or bs i b → same_name b.name a ≡ false → AreBoxesBy s older top a (kept a (take i bs)) ks
+    → IsBoxBy s older top a b k → ls ≡ ks ++ k ∷ [] → AreBoxesBy s older top a (kept a (take (i + 1) bs)) ls
+boxes_next s older top a bs i b ks ls k h e n r is q =
     let more : kept a (take (i + 1) bs) ≡ kept a (take i bs) ++ b ∷ [] = ap (kept a) (take_more bs i b h ∙ ap (λ (y : InnerBox). take i bs ++ y ∷ []) (sym e)) ∙ kept_more a (take i bs) b n in
-    subst (AreBoxesBy s top a (kept a (take (i + 1) bs))) (sym q) (subst (λ (l : List InnerBox). AreBoxesBy s top a l (ks ++ k ∷ [])) (sym more) (boxes_more s top a (kept a (take i bs)) ks b k r is))
+    subst (AreBoxesBy s older top a (kept a (take (i + 1) bs))) (sym q) (subst (λ (l : List InnerBox). AreBoxesBy s older top a l (ks ++ k ∷ [])) (sym more) (boxes_more s older top a (kept a (take i bs)) ks b k r is))
 
-pub boxes_same : (s : NewNames) (top a : Name) (bs : List InnerBox) (i : ℕ) (b : InnerBox) (ks : List BoxCopy) → i < length bs → b ≡ get_or bs i b → same_name b.name a ≡ true → AreBoxesBy s top a (kept a (take i bs)) ks
-    → AreBoxesBy s top a (kept a (take (i + 1) bs)) ks
-boxes_same s top a bs i b ks h e n r =
+pub boxes_same : (s : NewNames) (older : Bool) (top a : Name) (bs : List InnerBox) (i : ℕ) (b : InnerBox) (ks : List BoxCopy) → i < length bs → b ≡ get_or bs i b → same_name b.name a ≡ true → AreBoxesBy s older top a (kept a (take i bs)) ks
+    → AreBoxesBy s older top a (kept a (take (i + 1) bs)) ks
+boxes_same s older top a bs i b ks h e n r =
     let more : kept a (take (i + 1) bs) ≡ kept a (take i bs) = ap (kept a) (take_more bs i b h ∙ ap (λ (y : InnerBox). take i bs ++ y ∷ []) (sym e)) ∙ kept_same a (take i bs) b n in
-    subst (λ (l : List InnerBox). AreBoxesBy s top a l ks) (sym more) r
+    subst (λ (l : List InnerBox). AreBoxesBy s older top a l ks) (sym more) r
 
 pub kept_next : (a : Name) (bs : List InnerBox) (i : ℕ) (b : InnerBox) → i < length bs → b ≡ get_or bs i b → same_name b.name a ≡ false → kept_names a (take (i + 1) bs) ≡ kept_names a (take i bs) ++ own_names b
 kept_next a bs i b h e n = ap (kept_names a) (take_more bs i b h ∙ ap (λ (y : InnerBox). take i bs ++ y ∷ []) (sym e)) ∙ names_more a (take i bs) b n
 
 pub kept_stays : (a : Name) (bs : List InnerBox) (i : ℕ) (b : InnerBox) → i < length bs → b ≡ get_or bs i b → same_name b.name a ≡ true → kept_names a (take (i + 1) bs) ≡ kept_names a (take i bs)
 kept_stays a bs i b h e n = ap (kept_names a) (take_more bs i b h ∙ ap (λ (y : InnerBox). take i bs ++ y ∷ []) (sym e)) ∙ names_same a (take i bs) b n
+
+-- bindings that lead to older variables under other names
+
+pub older_next : (nodes : List Node) (f : Name → Name) (xs : List (Var × Term)) (i : ℕ) (d y : Var × Term) → i < length xs → EachOlder nodes (map (binding_by f) (take i xs)) → y ≡ binding_by f (get_or xs i d)
+    → EachOlder nodes (y ∷ []) → EachOlder nodes (map (binding_by f) (take (i + 1) xs))
+older_next nodes f xs i d y h e q o =
+    subst (EachOlder nodes) (ap (λ (c : Var × Term). map (binding_by f) (take i xs) ++ c ∷ []) q ∙ sym (taken (binding_by f) xs i d h)) (EachOlder-push nodes (map (binding_by f) (take i xs)) y e o.0)
+
+pub all_more : {A : Type 0} (P : A → Type 0) (xs : List A) (x : A) → AllByRecursion P xs → P x → AllByRecursion P (xs ++ x ∷ [])
+all_more P [] x h p = (p, tt)
+all_more P (y ∷ xs) x h p = (h.0, all_more P xs x h.1 p)
+
+pub all_next : (P : InnerBox → Type 0) (a : Name) (bs : List InnerBox) (i : ℕ) (b : InnerBox) → i < length bs → b ≡ get_or bs i b → same_name b.name a ≡ false → AllByRecursion P (kept a (take i bs)) → P b
+    → AllByRecursion P (kept a (take (i + 1) bs))
+all_next P a bs i b h e n r p =
+    subst (AllByRecursion P) (sym (ap (kept a) (take_more bs i b h ∙ ap (λ (y : InnerBox). take i bs ++ y ∷ []) (sym e)) ∙ kept_more a (take i bs) b n)) (all_more P (kept a (take i bs)) b r p)
+
+pub all_same : (P : InnerBox → Type 0) (a : Name) (bs : List InnerBox) (i : ℕ) (b : InnerBox) → i < length bs → b ≡ get_or bs i b → same_name b.name a ≡ true → AllByRecursion P (kept a (take i bs)) → AllByRecursion P (kept a (take (i + 1) bs))
+all_same P a bs i b h e n r = subst (AllByRecursion P) (sym (ap (kept a) (take_more bs i b h ∙ ap (λ (y : InnerBox). take i bs ++ y ∷ []) (sym e)) ∙ kept_same a (take i bs) b n)) r

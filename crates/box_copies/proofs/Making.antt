@@ -1,5 +1,5 @@
 -- The copies that are made of what stands in a box are copies of the table's rows.
-use Rattle.std.proofs.Common.{◌≡◌, ℕ, ◌≤◌, ◌<◌, List, [], ◌∷◌, ◌++◌, length, map, Option, Some, None, refl, sym, ap, ◌∙◌, subst, ◌⊎◌, inl, inr, arith}
+use Rattle.std.proofs.Common.{◌≡◌, ℕ, ◌≤◌, ◌<◌, List, [], ◌∷◌, ◌++◌, map, Bool, Option, Some, None, refl, sym, ap, ◌∙◌, subst, ◌⊎◌, inl, inr, arith}
 use Rattle.std.specs.Prelude.{if◌then◌else◌, option_map, slice_index}
 use Rattle.akl_terms.specs.Template.{tree}
 use Rattle.akl_terms.specs.declared.name.Name.{Name}
@@ -25,7 +25,7 @@ use Rattle.step_laws.proofs.Whereabouts.{found_in}
 use Rattle.table_laws.specs.Rows.{BoxRow, Table, ports_in}
 use Rattle.table_laws.specs.Unfolds.{IsBoxRow}
 use Rattle.table_laws.specs.Walks.{boxes_in_row, alternatives_among}
-use Rattle.table_laws.specs.Copying.{IsCopied, IsNameCopied, AreNamesCopied, swapping, copied_goals, IsMadeOf, AreMade}
+use Rattle.table_laws.specs.Copying.{IsCopied, IsNameCopied, AreNamesCopied, copied_goals, IsMadeOf, AreMade}
 use Rattle.table_laws.specs.Steps as laws
 use Rattle.table_laws.proofs.Frame.{found_of}
 use Rattle.table_laws.proofs.Walks.{nested}
@@ -40,8 +40,7 @@ use Rattle.box_tree.specs.Tables.{all_rules, table_of, goal_atom, shown_tree, bo
 use Rattle.box_tree.specs.Views.{ViewValue, IsViewOf, run_of}
 use Rattle.box_tree.specs.Insides.{IsInnerBox, IsInsideOf}
 use Rattle.box_copies.specs.declared.names.NewNames.{NewNames}
-use Rattle.box_copies.specs.declared.copying.Copied.{Copied}
-use Rattle.box_copies.specs.Copies.{IsInsideOfBox, IsSplitInto}
+use Rattle.box_copies.specs.Copies.{IsInsideOfBox}
 use Rattle.box_copies.specs.Swaps.{AreBelow}
 use Rattle.box_copies.specs.Renamer.{swapped_name, port_by, binding_by, with_frames, with_ports}
 use Rattle.box_copies.specs.Made.{Adds, own_names, kept, kept_names, IsBoxBy, AreBoxesBy}
@@ -49,7 +48,7 @@ use Rattle.box_copies.proofs.Terms.{collected_by, body_by, shown_trees_by, ports
 use Rattle.box_copies.proofs.Orders.{increasing_once, increasing_renamed}
 use Rattle.box_copies.proofs.Ordered.{found_ordered, own, owned_counted}
 use Rattle.box_copies.proofs.Stored.{frames_are, frames_ports, frames_bindings, ports_are, ports_frames, ports_bindings, joins_told, told_joins}
-use Rattle.box_copies.proofs.Lists.{Among, all_among, named_among, among_named, among_kept, kept_among, kept_fewer, kept_owner, kept_owned, once_mapped, goals_copied, copy_names, copy_for, box_for, all_unsolved}
+use Rattle.box_copies.proofs.Lists.{Among, all_among, named_among, among_named, among_kept, kept_among, kept_fewer, kept_owner, kept_owned, once_mapped, goals_copied, copy_names, copy_for, box_for}
 
 abbrev firsts : List (Name × Term) → List Name
 firsts ps = map (λ (p : Name × Term). p.0) ps
@@ -82,10 +81,10 @@ module _ (v : ViewValue) (seen : IsViewOf v) (i : Inside) (n a : Name) (inside :
   stand : Stand seen.table.config
   stand = replay-stands all_rules v.table.program v.table.query v.journal seen.table.config seen.table.replays
 
-  abbrev is_inner : (b : InnerBox) → Among b some → IsInnerBox v.table b
+  abbrev pub is_inner : (b : InnerBox) → Among b some → IsInnerBox v.table b
   is_inner b j = all_among (IsInnerBox v.table) boxes b inside.boxes (among_kept a b boxes j).0
 
-  is_copied : (b : InnerBox) → Among b some → IsCopied T n a b.name
+  pub is_copied : (b : InnerBox) → Among b some → IsCopied T n a b.name
   is_copied b j = let w : Among b boxes × (b.name ≡ a → ⊥) = among_kept a b boxes j in record { inside = inside.listed.inside b.name (among_named b boxes w.0); other = w.1 }
 
   copied_is : (m : Name) → IsCopied T n a m → (b : InnerBox) × Among b some × (m ≡ b.name)
@@ -111,7 +110,7 @@ module _ (v : ViewValue) (seen : IsViewOf v) (i : Inside) (n a : Name) (inside :
         ]
       ]
 
-  copied_own : (m : Name) → IsNameCopied T n a m → (b : InnerBox) × Among b some × IsIn m (own_names b)
+  pub copied_own : (m : Name) → IsNameCopied T n a m → (b : InnerBox) × Among b some × IsIn m (own_names b)
   copied_own m c = (b, w.1, on c.named)
     where
       w : (b : InnerBox) × Among b some × (c.box ≡ b.name)
@@ -146,53 +145,57 @@ module _ (v : ViewValue) (seen : IsViewOf v) (i : Inside) (n a : Name) (inside :
 
   -- they are below the worker's next number
 
-  its_box : (b : InnerBox) (j : Among b some) → (e : Found) × (box_at b.name seen.table.config.roots ≡ Some e) × IsBoxRow T seen.table.config.roots e (is_inner b j).row
+  pub its_box : (b : InnerBox) (j : Among b some) → (e : Found) × (box_at b.name seen.table.config.roots ≡ Some e) × IsBoxRow T seen.table.config.roots e (is_inner b j).row
   its_box b j = found_of T seen.table.config seen.table.unfolds b.name (is_inner b j).row (is_inner b j).there
+
+  pub its_own : (b : InnerBox) (j : Among b some) (m : Name) → IsIn m (own_names b) → IsIn m (own (its_box b j).0.content (its_box b j).0.goals)
+  its_own b j m k =
+      let y : IsInnerBox v.table b = is_inner b j in
+      let e : (e : Found) × (box_at b.name seen.table.config.roots ≡ Some e) × IsBoxRow T seen.table.config.roots e y.row = its_box b j in
+      let frames : b.store.frames ≡ e.0.content.frames = ap (λ (s : Stored). s.frames) y.store ∙ e.2.frames in
+      let ports : firsts b.store.ports ≡ port_names e.0.content.ports = ap (λ (s : Stored). firsts s.ports) y.store ∙ sym (firsts_are nodes y.row.store.ports) ∙ ap port_names e.2.ports in
+      let goals : map (λ (g : InnerGoal). g.name) b.goals.items ≡ goal_names e.0.goals = y.goals ∙ e.2.goals in
+      let name : b.name ≡ e.0.content.name = box-itself b.name seen.table.config.roots e.0 e.1 in
+      let names_are : own_names b ≡ own e.0.content e.0.goals = λ z. name z ∷ (frames z ++ (ports z ++ goals z)) in
+      subst (IsIn m) names_are k
 
   pub names_below : (names : List Name) → Adds [] (kept_names a boxes) names → AreBelow names v.worker v.next
   names_below names x m j same = elim (x.only m j) [ inl k ↦ absurd k | inr k ↦ on (kept_owner a m boxes k) ]
     where
       on : (b : InnerBox) × Among b some × IsIn m (own_names b) → m.number < v.next
       on w =
-          let b : InnerBox = w.0 in
-          let y : IsInnerBox v.table b = is_inner b w.1 in
-          let e : (e : Found) × (box_at b.name seen.table.config.roots ≡ Some e) × IsBoxRow T seen.table.config.roots e y.row = its_box b w.1 in
-          let frames : b.store.frames ≡ e.0.content.frames = ap (λ (s : Stored). s.frames) y.store ∙ e.2.frames in
-          let ports : firsts b.store.ports ≡ port_names e.0.content.ports = ap (λ (s : Stored). firsts s.ports) y.store ∙ sym (firsts_are nodes y.row.store.ports) ∙ ap port_names e.2.ports in
-          let goals : map (λ (g : InnerGoal). g.name) b.goals.items ≡ goal_names e.0.goals = y.goals ∙ e.2.goals in
-          let name : b.name ≡ e.0.content.name = box-itself b.name seen.table.config.roots e.0 e.1 in
-          let names_are : own_names b ≡ own e.0.content e.0.goals = λ z. name z ∷ (frames z ++ (ports z ++ goals z)) in
+          let e : (e : Found) × (box_at w.0.name seen.table.config.roots ≡ Some e) × IsBoxRow T seen.table.config.roots e (is_inner w.0 w.1).row = its_box w.0 w.1 in
           let count : 1 ≤ times m seen.table.config.roots =
-          owned_counted m e.0.around e.0.content e.0.goals seen.table.config.roots (found_in b.name seen.table.config.roots e.0 e.1) (subst (IsIn m) names_are w.2) in
+          owned_counted m e.0.around e.0.content e.0.goals seen.table.config.roots (found_in w.0.name seen.table.config.roots e.0 e.1) (its_own w.0 w.1 m w.2) in
           let below : m.number < slice_index seen.table.config.next m.worker = stand.below m (omega arith) in
           subst (λ (k : ℕ). m.number < k) (ap (slice_index seen.table.config.next) same ∙ sym seen.next) below
 
   -- the copies
 
-  module _ (s : NewNames) (olds : AreNamesCopied T n a s.old.keys) (ks : List BoxCopy) (are : AreBoxesBy s n a (kept a i.boxes.items) ks) where
+  module _ (s : NewNames) (olds : AreNamesCopied T n a s.old.items) (older : Bool) (ks : List BoxCopy) (are : AreBoxesBy s older n a (kept a i.boxes.items) ks) where
     abbrev swap : Name → Name
     swap = swapped_name s
 
     abbrev copies : List laws.BoxCopy
     copies = map (box_copy nodes) ks
 
-    old_once : (m : Name) → times_in m s.old.keys ≤ 1
-    old_once m = elim (zero_or (times_in m s.old.keys)) [ inl z ↦ omega arith | inr z ↦ (let e : times_in m s.old.keys ≡ 1 = increasing_once s.old.keys olds.increasing m (named_counted m s.old.keys z) in omega arith) ]
+    old_once : (m : Name) → times_in m s.old.items ≤ 1
+    old_once m = elim (zero_or (times_in m s.old.items)) [ inl z ↦ omega arith | inr z ↦ (let e : times_in m s.old.items ≡ 1 = increasing_once s.old.items olds.increasing m (named_counted m s.old.items z) in omega arith) ]
 
-    twice : (m : Name) → swap (swap m) ≡ m
-    twice m = swap_twice s.old.keys s.worker s.next (λ k h. s.below k (named_counted k s.old.keys h)) old_once m
+    pub twice : (m : Name) → swap (swap m) ≡ m
+    twice m = swap_twice s.old.items s.worker s.next (λ k h. s.below k (named_counted k s.old.items h)) old_once m
 
     one : (x y : Name) → swap x ≡ swap y → x ≡ y
     one x y e = sym (twice x) ∙ ap swap e ∙ twice y
 
-    renames : (xs : List Name) → ((x : Name) → IsIn x xs → IsIn x s.old.keys) → map swap xs ≡ map (renaming s.old.keys s.worker s.next) xs
-    renames xs among = map_alike swap (renaming s.old.keys s.worker s.next) xs (λ x j. sym (swap_renames s.old.keys s.worker s.next x (s.below x (among x j))))
+    renames : (xs : List Name) → ((x : Name) → IsIn x xs → IsIn x s.old.items) → map swap xs ≡ map (renaming s.old.items s.worker s.next) xs
+    renames xs among = map_alike swap (renaming s.old.items s.worker s.next) xs (λ x j. sym (swap_renames s.old.items s.worker s.next x (s.below x (among x j))))
 
-    increases : (xs : List Name) → ((x : Name) → IsIn x xs → IsIn x s.old.keys) → IsIncreasing xs → IsIncreasing (map swap xs)
-    increases xs among o = subst IsIncreasing (sym (renames xs among)) (increasing_renamed s.old.keys s.worker s.next olds.increasing xs among o)
+    increases : (xs : List Name) → ((x : Name) → IsIn x xs → IsIn x s.old.items) → IsIncreasing xs → IsIncreasing (map swap xs)
+    increases xs among o = subst IsIncreasing (sym (renames xs among)) (increasing_renamed s.old.items s.worker s.next olds.increasing xs among o)
 
     pub names_once : (m : Name) → times_in m (map (λ (k : laws.BoxCopy). k.name) copies) ≤ 1
-    names_once m = subst (λ (l : List Name). times_in m l ≤ 1) (sym (copy_names nodes s n a some ks are))
+    names_once m = subst (λ (l : List Name). times_in m l ≤ 1) (sym (copy_names nodes s older n a some ks are))
         (once_mapped swap one (map (λ (b : InnerBox). b.name) some) (λ k.
         let o : times_in k (map (λ (b : InnerBox). b.name) boxes) ≤ 1 = inside.listed.once k in
         let l : times_in k (map (λ (b : InnerBox). b.name) some) ≤ times_in k (map (λ (b : InnerBox). b.name) boxes) = kept_fewer a k boxes in
@@ -200,7 +203,7 @@ module _ (v : ViewValue) (seen : IsViewOf v) (i : Inside) (n a : Name) (inside :
 
     -- the copy of a box
 
-    module _ (b : InnerBox) (j : Among b (kept a i.boxes.items)) (k : BoxCopy) (is : IsBoxBy s n a b k) where
+    module _ (b : InnerBox) (j : Among b (kept a i.boxes.items)) (k : BoxCopy) (is : IsBoxBy s older n a b k) where
       abbrev x : IsInnerBox v.table b
       x = is_inner b j
 
@@ -217,7 +220,7 @@ module _ (v : ViewValue) (seen : IsViewOf v) (i : Inside) (n a : Name) (inside :
       ports_in_order : IsIncreasing (firsts b.store.ports)
       ports_in_order = subst IsIncreasing (sym (ap (λ (t : Stored). firsts t.ports) x.store ∙ sym (firsts_are nodes x.row.store.ports) ∙ ap port_names e.2.ports)) ordered.1
 
-      old_own : (m : Name) → IsIn m (own_names b) → IsIn m s.old.keys
+      old_own : (m : Name) → IsIn m (own_names b) → IsIn m s.old.items
       old_own m l = olds.each m (own_copied b j m l)
 
       abbrev with_own_frames : Stored
@@ -235,7 +238,7 @@ module _ (v : ViewValue) (seen : IsViewOf v) (i : Inside) (n a : Name) (inside :
           (subst IsIncreasing (sym (firsts_by swap b.store.ports)) (increases (firsts b.store.ports) (λ m l. old_own m (inr (IsIn-right m b.store.frames (firsts b.store.ports ++ map (λ (g : InnerGoal). g.name) b.goals.items)
           (IsIn-left m (firsts b.store.ports) (map (λ (g : InnerGoal). g.name) b.goals.items) l)))) ports_in_order))
 
-      bindings : k.store.bindings ≡ joins [] (map (binding_by swap) b.store.bindings)
+      pub bindings : k.store.bindings ≡ joins [] (map (binding_by swap) b.store.bindings)
       bindings = ap (λ (t : Stored). t.bindings) is.store
           ∙ ap (λ (bs : List (Var × Term)). joins bs (map (binding_by swap) b.store.bindings)) (ports_bindings with_own_frames (map (port_by swap) b.store.ports) ∙ frames_bindings nothing (map swap b.store.frames))
 
@@ -266,7 +269,7 @@ module _ (v : ViewValue) (seen : IsViewOf v) (i : Inside) (n a : Name) (inside :
 
     has_copy : (b : InnerBox) → Among b some → HasCopy b.name
     has_copy b j =
-        let w : (k : BoxCopy) × IsBoxBy s n a b k × IsAmong (box_copy nodes k) copies = copy_for nodes s n a b some ks are j in (
+        let w : (k : BoxCopy) × IsBoxBy s older n a b k × IsAmong (box_copy nodes k) copies = copy_for nodes s older n a b some ks are j in (
           (is_inner b j).row,
           box_copy nodes w.0,
           (is_inner b j).there,
@@ -279,8 +282,8 @@ module _ (v : ViewValue) (seen : IsViewOf v) (i : Inside) (n a : Name) (inside :
       each = λ m c. let w : (b : InnerBox) × Among b some × (m ≡ b.name) = copied_is m c in subst HasCopy (sym w.2) (has_copy w.0 w.1);
       only = λ m k c.
           let w : IsAmong k copies × (m ≡ k.name) = found_among copies m k c in
-          let u : (b : InnerBox) × Among b some × (k.name ≡ swap b.name) = box_for nodes s n a k some ks are w.0 in
-          (u.0.name, is_copied u.0 u.1, w.1 ∙ u.2);
+          let u : (b : InnerBox) × (x : BoxCopy) × Among b some × IsBoxBy s older n a b x × (k ≡ box_copy nodes x) = box_for nodes s older n a k some ks are w.0 in
+          (u.0.name, is_copied u.0 u.2, w.1 ∙ ap (λ (x : laws.BoxCopy). x.name) u.4 ∙ u.3.name);
       once = names_once;
     }
 
@@ -291,25 +294,3 @@ box_is v n m e q = let r : Place.Box n ≡ Place.Box m = sym e ∙ q in cc
 
 pub inside_of : (v : ViewValue) (i : Inside) (x : IsInsideOfBox v i) (n : Name) → v.place ≡ Place.Box n → IsInsideOf v.table v.journal n v.worker i
 inside_of v i x n e = subst (λ (m : Name). IsInsideOf v.table v.journal m v.worker i) (box_is v x.name n x.place e) x.inside
-
-module _ (v : ViewValue) (seen : IsViewOf v) (i : Inside) (n a : Name) (inside : IsInsideOf v.table v.journal n v.worker i) (place : v.place ≡ Place.Box n) (old : List Name) (sorted : IsIncreasing old)
-    (gathered : Adds [] (kept_names a i.boxes.items) old) (s : NewNames) (same_old : s.old.keys ≡ old) (same_worker : s.worker ≡ v.worker) (same_next : s.next ≡ v.next) (c : Copied)
-    (are : AreBoxesBy s n a (kept a i.boxes.items) c.copies.items) (count : c.names ≡ length old) (copy : c.copy ≡ swapped_name s n) where
-  olds : AreNamesCopied (table_of v.table) n a s.old.keys
-  olds = subst (AreNamesCopied (table_of v.table) n a) (sym same_old) (names_copied v seen i n a inside old sorted gathered)
-
-  made_by : AreMade (table_of v.table) n a (swapping s.old.keys s.worker s.next) (map (box_copy v.table.program.templates.nodes) c.copies.items)
-  made_by = all_made v seen i n a inside s olds c.copies.items are
-
-  pub is_split : IsSplitInto v a c
-  is_split = record {
-    name = n;
-    place = place;
-    old = s.old.keys;
-    are_old = olds;
-    names = count ∙ ap length (sym same_old);
-    unsolved = all_unsolved s n a (kept a i.boxes.items) c.copies.items are;
-    copy = copy ∙ (λ k. swapping s.old.keys (same_worker k) (same_next k) n);
-    made = subst (λ (w : ℕ). AreMade (table_of v.table) n a (swapping s.old.keys w v.next) (map (box_copy v.table.program.templates.nodes) c.copies.items)) same_worker
-        (subst (λ (k : ℕ). AreMade (table_of v.table) n a (swapping s.old.keys s.worker k) (map (box_copy v.table.program.templates.nodes) c.copies.items)) same_next made_by);
-  }

@@ -1,106 +1,72 @@
--- New names for old ones, one after another.
-use Rattle.std.proofs.Common.{◌≡◌, ℕ, ◌+◌, ◌<◌, List, [], ◌∷◌, ◌++◌, length, Bool, true, false, cond, Option, Some, refl, sym, ap, ◌∙◌, subst, inl, inr, arith}
-use Rattle.std.specs.Prelude.{if◌then◌else◌, unwrap_or}
-use Rattle.std.specs.Map.{lookup}
-use Rattle.std.specs.BTreeMap.{BTreeMap, is_at, get}
+-- New names for old ones, by their places.
+use Rattle.std.proofs.Common.{◌≡◌, ℕ, zero, suc, ◌+◌, ◌<◌, ◌≤◌, List, [], ◌∷◌, length, Bool, true, false, Some, sym, ap, ◌∙◌, subst, ◌⊎◌, inl, inr, refl, arith}
+use Rattle.std.specs.Prelude.{if◌then◌else◌, slice_get}
 use Rattle.akl_terms.specs.declared.name.Name.{Name}
-use Rattle.akl_terms.specs.contracts.name.NameOrd.TheImpl.{cmp-value}
 use Rattle.akl_terms.specs.Names.{same_name, is_before}
-use Rattle.akl_terms.proofs.SameNames.{same_name-equal}
+use Rattle.akl_terms.proofs.SameNames.{same_name-equal, same_name-refl}
 use Rattle.akl_model.specs.Config.{IsIn}
 use Rattle.akl_model.specs.Ordered.{IsIncreasing}
-use Rattle.akl_model.proofs.Scoped.{IsIn-left, IsIn-right}
+use Rattle.akl_model.proofs.Options.{some_value}
 use Rattle.table_laws.specs.Copying.{swapping}
-use Rattle.table_laws.proofs.Swapping.{IsBelow}
-use Rattle.box_copies.proofs.Keys.{same_is, same_back, get_is}
-use Rattle.box_copies.specs.Swaps.{AreBelow, Swaps}
+use Rattle.box_copies.specs.Swaps.{AreBelow}
 use Rattle.box_copies.proofs.Orders.{before_itself, before_in}
-
--- one more name
 
 abbrev fresh : ℕ → ℕ → Name
 fresh w k = record { worker = w; number = k }
 
-pub swapping_more : (ns : List Name) (w next : ℕ) (m n : Name) → AreBelow ns w next → IsBelow w next m → (IsIn m ns → ⊥)
-    → swapping (ns ++ m ∷ []) w next n ≡ (if same_name n (record { worker = w; number = next + length ns }) then m else (if same_name n m then record { worker = w; number = next + length ns } else swapping ns w next n))
-swapping_more [] w next m n below own away = on (same_name n m) refl (same_name n (fresh w next)) refl (same_name n (fresh w (next + 0))) (ap (λ (k : ℕ). same_name n (fresh w k)) zero)
+pub placed_in : (ns : List Name) (i : ℕ) (n : Name) → slice_get ns i ≡ Some n → IsIn n ns
+placed_in [] i n e = cc
+placed_in (m ∷ ns) zero n e = inl (sym (some_value e))
+placed_in (m ∷ ns) (suc i) n e = inr (placed_in ns i n e)
+
+-- two names that differ
+other : (n m : Name) → (n ≡ m → ⊥) → same_name n m ≡ false
+other n m differ = on (same_name n m) refl
   where
-    zero : next + 0 ≡ next
-    zero = omega arith
+    on : (t : Bool) → same_name n m ≡ t → t ≡ false
+    on true e = absurd (differ (same_name-equal n m e))
+    on false e = refl
 
-    on : (s : Bool) → same_name n m ≡ s → (t : Bool) → same_name n (fresh w next) ≡ t → (u : Bool) → u ≡ same_name n (fresh w next)
-        → (if s then fresh w next else (if t then m else n)) ≡ (if u then m else (if s then fresh w (next + 0) else n))
-    on true p true q u r =
-        let e : m ≡ fresh w next = sym (same_name-equal n m p) ∙ same_name-equal n (fresh w next) q in
-        let b : m.number < next = own (ap (λ (k : Name). k.worker) e) in
-        let c : m.number ≡ next = ap (λ (k : Name). k.number) e in
-        absurd (omega arith)
-    on true p false q true r = cc
-    on true p false q false r = ap (fresh w) (sym zero)
-    on false p true q true r = refl
-    on false p true q false r = cc
-    on false p false q true r = cc
-    on false p false q false r = refl
-swapping_more (d ∷ ns) w next m n below own away = on (same_name n d) refl (same_name n (fresh w next)) refl (same_name n (fresh w ((next + 1) + length ns))) refl (same_name n m) refl
-    (swapping_more ns w (next + 1) m n (λ k i e. let b : k.number < next = below k (inr i) e in omega arith) (λ e. let b : m.number < next = own e in omega arith) (λ i. away (inr i)))
-    ∙ ap (λ (k : ℕ). if same_name n (fresh w k) then m else (if same_name n m then fresh w k else swapping (d ∷ ns) w next n)) moved
-  where
-    moved : (next + 1) + length ns ≡ next + length (d ∷ ns)
-    moved = omega arith
+same : (n m : Name) → n ≡ m → same_name n m ≡ true
+same n m e = subst (λ (k : Name). same_name n k ≡ true) e (same_name-refl n)
 
-    on : (s : Bool) → same_name n d ≡ s → (t : Bool) → same_name n (fresh w next) ≡ t → (u : Bool) → same_name n (fresh w ((next + 1) + length ns)) ≡ u → (v : Bool) → same_name n m ≡ v
-        → swapping (ns ++ m ∷ []) w (next + 1) n ≡ (if u then m else (if v then fresh w ((next + 1) + length ns) else swapping ns w (next + 1) n))
-        → (if s then fresh w next else (if t then d else swapping (ns ++ m ∷ []) w (next + 1) n))
-        ≡ (if u then m else (if v then fresh w ((next + 1) + length ns) else (if s then fresh w next else (if t then d else swapping ns w (next + 1) n))))
-    on true p t q true r v x y =
-        let e : d ≡ fresh w ((next + 1) + length ns) = sym (same_name-equal n d p) ∙ same_name-equal n (fresh w ((next + 1) + length ns)) r in
-        let b : d.number < next = below d (inl refl) (ap (λ (k : Name). k.worker) e) in
-        let c : d.number ≡ (next + 1) + length ns = ap (λ (k : Name). k.number) e in
-        absurd (omega arith)
-    on true p t q false r true x y = absurd (away (inl (sym (same_name-equal n m x) ∙ same_name-equal n d p)))
-    on true p t q false r false x y = refl
-    on false p true q true r v x y =
-        let e : next ≡ (next + 1) + length ns = ap (λ (k : Name). k.number) (sym (same_name-equal n (fresh w next) q) ∙ same_name-equal n (fresh w ((next + 1) + length ns)) r) in
-        absurd (omega arith)
-    on false p true q false r true x y =
-        let e : m ≡ fresh w next = sym (same_name-equal n m x) ∙ same_name-equal n (fresh w next) q in
-        let b : m.number < next = own (ap (λ (k : Name). k.worker) e) in
-        let c : m.number ≡ next = ap (λ (k : Name). k.number) e in
-        absurd (omega arith)
-    on false p true q false r false x y = refl
-    on false p false q u r v x y = y
+-- one step of the list
+module _ (m : Name) (ns : List Name) (w next : ℕ) (n : Name) where
+  first_old : same_name n m ≡ true → swapping (m ∷ ns) w next n ≡ fresh w next
+  first_old e = ap (λ (t : Bool). if t then fresh w next else (if same_name n (fresh w next) then m else swapping ns w (next + 1) n)) e
 
--- what an entry that comes leaves
-looked : (k m : Name) (t u : BTreeMap Name Name) (w : Name) → get cmp-value.it u m ≡ cond (is_at (cmp-value.it k) m) (Some w) (get cmp-value.it t m)
-    → lookup (same_name m) u.entries ≡ (if same_name m k then Some w else lookup (same_name m) t.entries)
-looked k m t u w e = sym (get_is m u) ∙ e ∙ ap (cond (is_at (cmp-value.it k) m) (Some w)) (get_is m t) ∙ same (is_at (cmp-value.it k) m) (same_name m k) (same_is k m ∙ same_back k m)
-  where
-    same : (a b : Bool) → a ≡ b → cond a (Some w) (lookup (same_name m) t.entries) ≡ (if b then Some w else lookup (same_name m) t.entries)
-    same true true e = refl
-    same false false e = refl
-    same true false e = cc
-    same false true e = cc
+  first_new : same_name n m ≡ false → same_name n (fresh w next) ≡ true → swapping (m ∷ ns) w next n ≡ m
+  first_new e f = ap (λ (t : Bool). if t then fresh w next else (if same_name n (fresh w next) then m else swapping ns w (next + 1) n)) e ∙ ap (λ (t : Bool). if t then m else swapping ns w (next + 1) n) f
 
-unwrapped : (s : Bool) (w : Name) (o : Option Name) (n : Name) → unwrap_or (if s then Some w else o) n ≡ (if s then w else unwrap_or o n)
-unwrapped true w o n = refl
-unwrapped false w o n = refl
+  later : same_name n m ≡ false → same_name n (fresh w next) ≡ false → swapping (m ∷ ns) w next n ≡ swapping ns w (next + 1) n
+  later e f = ap (λ (t : Bool). if t then fresh w next else (if same_name n (fresh w next) then m else swapping ns w (next + 1) n)) e ∙ ap (λ (t : Bool). if t then m else swapping ns w (next + 1) n) f
 
-abbrev Puts : Name → Name → BTreeMap Name Name → BTreeMap Name Name → Type 0
-Puts k w t u = (m : Name) → get cmp-value.it u m ≡ cond (is_at (cmp-value.it k) m) (Some w) (get cmp-value.it t m)
+below_later : (m : Name) (ns : List Name) (w next : ℕ) → AreBelow (m ∷ ns) w next → AreBelow ns w (next + 1)
+below_later m ns w next below = λ k i e. let b : k.number < next = below k (inr i) e in omega arith
 
-pub swaps_more : (old done rest : List Name) (w next number : ℕ) (m : Name) (t u v : BTreeMap Name Name) → AreBelow old w next → IsIncreasing old → done ++ m ∷ rest ≡ old → number ≡ next + length done
-    → Swaps done w next t.entries → Puts m (record { worker = w; number = number }) t u → Puts (record { worker = w; number = number }) m u v → Swaps (done ++ m ∷ []) w next v.entries
-swaps_more old done rest w next number m t u v below sorted parts count swaps first second n =
-    ap (λ (o : Option Name). unwrap_or o n) (looked (fresh w number) n u v m (second n)) ∙ unwrapped (same_name n (fresh w number)) m (lookup (same_name n) u.entries) n
-    ∙ ap (λ (k : Name). if same_name n (fresh w number) then m else k) (ap (λ (o : Option Name). unwrap_or o n) (looked m n t u (fresh w number) (first n)) ∙ unwrapped (same_name n m) (fresh w number) (lookup (same_name n) t.entries) n
-    ∙ ap (λ (k : Name). if same_name n m then fresh w number else k) (swaps n))
-    ∙ ap (λ (k : ℕ). if same_name n (fresh w k) then m else (if same_name n m then fresh w k else swapping done w next n)) count
-    ∙ sym (swapping_more done w next m n (λ k i. below k (subst (IsIn k) parts (IsIn-left k done (m ∷ rest) i))) (below m (subst (IsIn m) parts (IsIn-right m done (m ∷ rest) (inl refl)))) away)
-  where
-    away : IsIn m done → ⊥
-    away i = past done (subst IsIncreasing (sym parts) sorted) i
-      where
-        past : (ds : List Name) → IsIncreasing (ds ++ m ∷ rest) → IsIn m ds → ⊥
-        past [] o i = i
-        past (d ∷ ds) o (inl e) = before_itself m (subst (λ (k : Name). is_before k m ≡ true) (sym e) (before_in d m (ds ++ m ∷ rest) o.0 (IsIn-right m ds (m ∷ rest) (inl refl))))
-        past (d ∷ ds) o (inr i) = past ds o.1 i
+-- an old name gets the number of its place
+pub swapping_at : (ns : List Name) (w next i : ℕ) (n : Name) → AreBelow ns w next → IsIncreasing ns → slice_get ns i ≡ Some n → swapping ns w next n ≡ record { worker = w; number = next + i }
+swapping_at [] w next i n below o e = cc
+swapping_at (m ∷ ns) w next zero n below o e = first_old m ns w next n (same n m (sym (some_value e))) ∙ ap (λ (k : ℕ). fresh w k) (omega arith)
+swapping_at (m ∷ ns) w next (suc i) n below o e =
+    let among : IsIn n ns = placed_in ns i n e in
+    let behind : n ≡ m → ⊥ = λ q. before_itself m (subst (λ (k : Name). is_before m k ≡ true) q (before_in m n ns o.0 among)) in
+    let old : n ≡ fresh w next → ⊥ = λ q. (let b : n.number < next = below n (inr among) (ap (λ (k : Name). k.worker) q) in let c : n.number ≡ next = ap (λ (k : Name). k.number) q in absurd (omega arith)) in
+    later m ns w next n (other n m behind) (other n (fresh w next) old) ∙ swapping_at ns w (next + 1) i n (below_later m ns w next below) o.1 e ∙ ap (λ (k : ℕ). fresh w k) (omega arith)
+
+-- a new name that isn't an old one becomes the old one at its place
+pub swapping_back : (ns : List Name) (w next i : ℕ) (m n : Name) → (IsIn n ns → ⊥) → n ≡ record { worker = w; number = next + i } → slice_get ns i ≡ Some m → swapping ns w next n ≡ m
+swapping_back [] w next i m n away is e = cc
+swapping_back (k ∷ ns) w next zero m n away is e =
+    first_new k ns w next n (other n k (λ q. away (inl q))) (same n (fresh w next) (is ∙ ap (λ (j : ℕ). fresh w j) (omega arith))) ∙ some_value e
+swapping_back (k ∷ ns) w next (suc i) m n away is e =
+    let old : n ≡ fresh w next → ⊥ = λ q. (let c : next + suc i ≡ next = ap (λ (j : Name). j.number) (sym is ∙ q) in absurd (omega arith)) in
+    later k ns w next n (other n k (λ q. away (inl q))) (other n (fresh w next) old) ∙ swapping_back ns w (next + 1) i m n (λ j. away (inr j)) (is ∙ ap (λ (j : ℕ). fresh w j) (omega arith)) e
+
+-- a name that is neither stays
+pub swapping_away : (ns : List Name) (w next : ℕ) (n : Name) → (IsIn n ns → ⊥) → (n.worker ≡ w → (n.number < next) ⊎ (next + length ns ≤ n.number)) → swapping ns w next n ≡ n
+swapping_away [] w next n away out = refl
+swapping_away (k ∷ ns) w next n away out =
+    let old : n ≡ fresh w next → ⊥ = λ q. (let c : n.number ≡ next = ap (λ (j : Name). j.number) q in elim (out (ap (λ (j : Name). j.worker) q)) [ inl b ↦ absurd (omega arith) | inr b ↦ absurd (omega arith) ]) in
+    later k ns w next n (other n k (λ q. away (inl q))) (other n (fresh w next) old)
+    ∙ swapping_away ns w (next + 1) n (λ j. away (inr j)) (λ q. elim (out q) [ inl b ↦ inl (omega arith) | inr b ↦ inr (omega arith) ])

@@ -1,77 +1,46 @@
--- Sets of names.
-use Rattle.std.proofs.Common.{◌≡◌, ℕ, List, [], ◌∷◌, ◌++◌, ◌+◌, ◌<◌, ◌≤◌, length, map, take, get_or, refl, sym, ap, ◌∙◌, subst, ◌⊎◌, inl, inr}
+-- Names as they are listed, put in order and once each.
+use Rattle.std.proofs.Common.{◌≡◌, ℕ, zero, suc, ◌+◌, ◌<◌, ◌≤◌, List, [], ◌∷◌, ◌++◌, map, take, get_or, append-nil, append_assoc, false, length, Some, sym, ap, ◌∙◌, subst, refl, inl, inr, lt_of_not-le, slice_index_or, arith}
+use Rattle.std.proofs.lemmas.Cmp.{nat_cmp_total, on_total, then_total, tied_itself}
 use Rattle.std.proofs.lemmas.List.{take_all}
+use Rattle.std.proofs.lemmas.Bool.Decides.{nat_tests}
+use Rattle.std.proofs.lemmas.List.Kept.{Contains-dedup, Contains-from_dedup, IsStrictlySortedBy-dedup}
+use Rattle.std.proofs.lemmas.List.Sorted.{Contains-permutation, IsPermutation-sym, searchable_from_sorted}
+use Rattle.std.specs.Prelude.{slice_get}
 use Rattle.std.specs.Result.{OnOk}
 use Rattle.std.specs.declared.result.Result.{Result}
 use Rattle.std.specs.declared.result.Result.TheVariants.{Ok, Err}
-use Rattle.std.specs.Ordering.{match_ordering, is_eq}
-use Rattle.std.specs.BTreeSet.{insert_key}
-use Rattle.std.specs.declared.cmp.Ordering.{Ordering}
+use Rattle.std.specs.Cmp.{IsTotalOrder, IsEquivalence}
+use Rattle.std.specs.declared.cmp.Ordering.TheVariants.{Less, Equal, Greater}
+use Rattle.std.specs.Ordering.{is_lt, is_eq, ordering_index, ordering_reverse}
+use Rattle.std.specs.List.{Contains, dedup}
+use Rattle.std.specs.List.Sorted.{IsPermutation, IsSorted, IsStrictlySortedBy, IsNonDecreasingBy, IsPartitionPoint}
 use Rattle.akl_terms.specs.declared.name.Name.{Name}
-use Rattle.akl_terms.specs.contracts.name.NameOrd.TheImpl.{cmp-value}
-use Rattle.akl_terms.proofs.SameNames.{same_name-equal}
+use Rattle.akl_terms.specs.Names.{same_name, name_cmp}
+use Rattle.akl_terms.proofs.SameNames.{same_name-equal, same_name-refl}
 use Rattle.akl_model.specs.Config.{IsIn}
-use Rattle.akl_model.proofs.Scoped.{IsIn-left, IsIn-right, IsIn-either}
-use Rattle.box_copies.proofs.Keys.{same_is}
+use Rattle.rational_unify.proofs.Taking.{get-index}
+use Rattle.local_store.proofs.Orders.{name-same}
 use Rattle.box_copies.specs.Made.{Adds}
 use Rattle.box_copies.proofs.Loops.{taken}
 
--- one more key
-
-equal_one : (k x : Name) → cmp-value.it k x ≡ Ordering.Equal → k ≡ x
-equal_one k x e = same_name-equal k x (sym (same_is k x) ∙ ap is_eq e)
-
-key_in : (m k : Name) (xs : List Name) → IsIn m (insert_key cmp-value.it xs k) → (m ≡ k) ⊎ IsIn m xs
-key_in m k [] i = i
-key_in m k (x ∷ xs) i = on (cmp-value.it k x) i (key_in m k xs)
-  where
-    on : (o : Ordering) → IsIn m (match_ordering o (k ∷ x ∷ xs) (x ∷ xs) (x ∷ insert_key cmp-value.it xs k)) → (IsIn m (insert_key cmp-value.it xs k) → (m ≡ k) ⊎ IsIn m xs) → (m ≡ k) ⊎ IsIn m (x ∷ xs)
-    on Ordering.Less j f = j
-    on Ordering.Equal j f = inr j
-    on Ordering.Greater (inl e) f = inr (inl e)
-    on Ordering.Greater (inr j) f = elim (f j) [ inl e ↦ inl e | inr y ↦ inr (inr y) ]
-
-in_key : (m k : Name) (xs : List Name) → (m ≡ k) ⊎ IsIn m xs → IsIn m (insert_key cmp-value.it xs k)
-in_key m k [] i = i
-in_key m k (x ∷ xs) i = on (cmp-value.it k x) refl i (in_key m k xs)
-  where
-    on : (o : Ordering) → cmp-value.it k x ≡ o → (m ≡ k) ⊎ IsIn m (x ∷ xs) → ((m ≡ k) ⊎ IsIn m xs → IsIn m (insert_key cmp-value.it xs k)) → IsIn m (match_ordering o (k ∷ x ∷ xs) (x ∷ xs) (x ∷ insert_key cmp-value.it xs k))
-    on Ordering.Less q j f = j
-    on Ordering.Equal q (inl e) f = inl (e ∙ equal_one k x q)
-    on Ordering.Equal q (inr j) f = j
-    on Ordering.Greater q (inl e) f = inr (f (inl e))
-    on Ordering.Greater q (inr (inl e)) f = inl e
-    on Ordering.Greater q (inr (inr j)) f = inr (f (inr j))
-
-pub key_adds : (old new : List Name) (k : Name) → new ≡ insert_key cmp-value.it old k → Adds old (k ∷ []) new
-key_adds old new k e = record {
-  stays = λ m i. subst (IsIn m) (sym e) (in_key m k old (inr i));
-  comes = λ m i. subst (IsIn m) (sym e) (in_key m k old (on m i));
-  only = λ m i. elim (key_in m k old (subst (IsIn m) e i)) [ inl q ↦ inr (inl q) | inr j ↦ inl j ];
-}
-  where
-    on : (m : Name) → IsIn m (k ∷ []) → (m ≡ k) ⊎ IsIn m old
-    on m (inl q) = inl q
-    on m (inr x) = absurd x
-
-pub adds_none : (old : List Name) → Adds old [] old
-adds_none old = record { stays = λ m i. i; comes = λ m i. absurd i; only = λ m i. inl i }
-
-pub adds_then : (old xs mid ys new : List Name) → Adds old xs mid → Adds mid ys new → Adds old (xs ++ ys) new
-adds_then old xs mid ys new a b = record {
-  stays = λ m i. b.stays m (a.stays m i);
-  comes = λ m i. elim (IsIn-either m xs ys i) [ inl j ↦ b.stays m (a.comes m j) | inr j ↦ b.comes m j ];
-  only = λ m i. elim (b.only m i) [ inr j ↦ inr (IsIn-right m xs ys j) | inl j ↦ elim (a.only m j) [ inl k ↦ inl k | inr k ↦ inr (IsIn-left m xs ys k) ] ];
-}
-
 -- names that come one after another
 
-pub adds_next : {A : Type 0} (f : A → Name) (old mid new : List Name) (xs : List A) (i : ℕ) (d : A) → i < length xs → Adds old (map f (take i xs)) mid → new ≡ insert_key cmp-value.it mid (f (get_or xs i d))
-    → Adds old (map f (take (i + 1) xs)) new
-adds_next f old mid new xs i d h a e = subst (λ (l : List Name). Adds old l new) (sym (taken f xs i d h)) (adds_then old (map f (take i xs)) mid (f (get_or xs i d) ∷ []) new a (key_adds mid new (f (get_or xs i d)) e))
+module _ {A : Type 0} (f : A → Name) (old : List Name) (xs : List A) where
+  pub listed_none : old ≡ old ++ map f (take 0 xs)
+  listed_none = sym (append-nil old)
 
-pub adds_all : {A : Type 0} (f : A → Name) (old new : List Name) (xs : List A) (i : ℕ) → length xs ≤ i → Adds old (map f (take i xs)) new → Adds old (map f xs) new
-adds_all f old new xs i h a = subst (λ l. Adds old (map f l) new) (take_all i xs h) a
+  pub listed_next : (mid new : List Name) (i : ℕ) (d : A) → i < length xs → mid ≡ old ++ map f (take i xs) → new ≡ mid ++ f (get_or xs i d) ∷ [] → new ≡ old ++ map f (take (i + 1) xs)
+  listed_next mid new i d h e more = more ∙ ap (λ (l : List Name). l ++ f (get_or xs i d) ∷ []) e ∙ append_assoc old (map f (take i xs)) (f (get_or xs i d) ∷ []) ∙ ap (λ (l : List Name). old ++ l) (sym (taken f xs i d h))
+
+  pub listed_all : (new : List Name) (i : ℕ) → length xs ≤ i → new ≡ old ++ map f (take i xs) → new ≡ old ++ map f xs
+  listed_all new i h e = e ∙ ap (λ (l : List A). old ++ map f l) (take_all i xs h)
+
+-- a box's names, part by part
+pub parts_listed : (old : List Name) (own : Name) (frames ports goals one two three four : List Name) → one ≡ old ++ own ∷ [] → two ≡ one ++ frames → three ≡ two ++ ports → four ≡ three ++ goals
+    → four ≡ old ++ own ∷ (frames ++ (ports ++ goals))
+parts_listed old own frames ports goals one two three four a b c d =
+    d ∙ ap (λ (l : List Name). l ++ goals) (c ∙ ap (λ (l : List Name). l ++ ports) (b ∙ ap (λ (l : List Name). l ++ frames) a))
+    ∙ append_assoc ((old ++ own ∷ []) ++ frames) ports goals ∙ append_assoc (old ++ own ∷ []) frames (ports ++ goals) ∙ append_assoc old (own ∷ []) (frames ++ (ports ++ goals))
 
 pub same_names : (xs : List Name) → map (λ (n : Name). n) xs ≡ xs
 same_names [] = refl
@@ -80,3 +49,65 @@ same_names (x ∷ xs) = ap (λ (l : List Name). x ∷ l) (same_names xs)
 pub on_ok : {X E : Type 0} (P Q : Type 0) (r : Result X E) → (P → Q) → OnOk r P → OnOk r Q
 on_ok P Q (Ok x) f p = f p
 on_ok P Q (Err e) f p = p
+
+-- in order, and once each
+
+name_total : IsTotalOrder name_cmp
+name_total = then_total (on_total (λ (n : Name). n.worker) nat_cmp_total) (on_total (λ (n : Name). n.number) nat_cmp_total)
+
+same_back : (m n : Name) → same_name m n ≡ same_name n m
+same_back m n = grind (arith, nat_tests)
+
+same_equivalence : IsEquivalence same_name
+same_equivalence = record { refl = same_name-refl; symm = same_back; congr = λ x y z e. ap (λ (k : Name). same_name k z) (same_name-equal x y e) }
+
+-- being in a list, by places and without
+
+in_contains : (m : Name) (xs : List Name) → IsIn m xs → Contains xs m
+in_contains m [] i = absurd i
+in_contains m (x ∷ xs) (inl e) = (0, omega arith, sym e)
+in_contains m (x ∷ xs) (inr i) = let w = in_contains m xs i in let below = w.1 in (suc w.0, omega arith, w.2)
+
+contained_at : (m : Name) (xs : List Name) (k : ℕ) → k < length xs → slice_index_or xs k m ≡ m → IsIn m xs
+contained_at m [] k h e = absurd (omega arith)
+contained_at m (x ∷ xs) zero h e = inl (sym e)
+contained_at m (x ∷ xs) (suc k) h e = inr (contained_at m xs k (omega arith) e)
+
+-- the names that are listed, and they alone, stand in order
+
+pub adds_listed : (xs ys zs : List Name) → IsPermutation xs ys → zs ≡ dedup same_name ys → Adds [] xs zs
+adds_listed xs ys zs p e = record {
+  stays = λ m i. absurd i;
+  comes = λ m i. subst (IsIn m) (sym e) (let w = Contains-dedup same_equivalence same_name-equal ys m (Contains-permutation xs ys m p (in_contains m xs i)) in contained_at m (dedup same_name ys) w.0 w.1 w.2);
+  only = λ m i. inr (let w = Contains-permutation ys xs m (IsPermutation-sym xs ys p) (Contains-from_dedup same_name ys m (in_contains m (dedup same_name ys) (subst (IsIn m) e i))) in contained_at m xs w.0 w.1 w.2);
+}
+
+pub increasing_listed : (ys zs : List Name) → IsSorted name_cmp ys → zs ≡ dedup same_name ys → IsStrictlySortedBy name_cmp zs
+increasing_listed ys zs h e = subst (IsStrictlySortedBy name_cmp) (sym e) (IsStrictlySortedBy-dedup name_total (λ x y. sym (name-same x y)) ys h)
+
+-- a name that is searched for in them
+
+weakly : (xs : List Name) → IsStrictlySortedBy name_cmp xs → (k m : ℕ) (d : Name) → m ≡ k + 1 → m < length xs → is_lt (name_cmp (slice_index_or xs m d) (slice_index_or xs k d)) ≡ false
+unfolding IsStrictlySortedBy
+weakly [] h k m d e w = absurd (omega arith)
+weakly (x ∷ xs) h k zero d e w = absurd (omega arith)
+weakly (x ∷ []) h k (suc m) d e w = absurd (omega arith)
+weakly (x ∷ y ∷ xs) h zero (suc zero) d e w = ap is_lt (name_total.antisymm y x ∙ ap ordering_reverse h.0.0)
+weakly (x ∷ y ∷ xs) h zero (suc (suc m)) d e w = absurd (omega arith)
+weakly (x ∷ y ∷ xs) h (suc k) (suc m) d e w = weakly (y ∷ xs) h.1 k m d (omega arith) (omega arith)
+
+searchable : (xs : List Name) (n : Name) → IsStrictlySortedBy name_cmp xs → IsNonDecreasingBy (λ y. ordering_index (name_cmp y n)) xs
+searchable xs n h = searchable_from_sorted name_total (λ (y : Name). y) xs n (λ k d low high. weakly xs h k (k + 1) d refl high)
+
+pub absent : (xs : List Name) (n : Name) (i : ℕ) → IsStrictlySortedBy name_cmp xs → (IsNonDecreasingBy (λ y. ordering_index (name_cmp y n)) xs → IsPartitionPoint (λ y. name_cmp y n ≡ Less) (λ y. name_cmp y n ≡ Greater) xs i) → IsIn n xs → ⊥
+absent xs n i h found among =
+    let w = in_contains n xs among in
+    let p = found (searchable xs n h) in
+    let here : name_cmp (slice_index_or xs w.0 n) n ≡ Equal = ap (λ (y : Name). name_cmp y n) w.2 ∙ tied_itself name_total n in
+    let front : w.0 < i = lt_of_not-le (λ (g : i ≤ w.0). let above : name_cmp (slice_index_or xs w.0 n) n ≡ Greater = p.1 w.0 n g w.1 in cc) in
+    let below : name_cmp (slice_index_or xs w.0 n) n ≡ Less = p.0 w.0 n (omega arith) front in
+    cc
+
+-- a name that was found
+pub found_at : (xs : List Name) (n : Name) (i : ℕ) → i < length xs → ((d : Name) → name_cmp (slice_index_or xs i d) n ≡ Equal) → slice_get xs i ≡ Some n
+found_at xs n i within h = get-index xs i n within ∙ ap Some (same_name-equal (slice_index_or xs i n) n (sym (name-same (slice_index_or xs i n) n) ∙ ap is_eq (h n)))

@@ -1,32 +1,31 @@
 -- The copies are what a label of Split makes, where it applies.
-use Rattle.std.proofs.Common.{◌≡◌, ℕ, Bool, true, false, List, [], ◌∷◌, map, Some, sym, ◌∙◌, ap, subst}
-use Rattle.std.specs.Prelude.{if◌then◌else◌, slice_index}
-use Rattle.std.specs.List.{AllByRecursion}
+use Rattle.std.proofs.Common.{◌≡◌, ℕ, List, [], ◌∷◌, map, Some, sym, ◌∙◌, ap, subst}
+use Rattle.std.specs.Prelude.{slice_index}
 use Rattle.akl_terms.specs.declared.name.Name.{Name}
-use Rattle.akl_terms.specs.declared.term.Node.{Node}
-use Rattle.akl_terms.specs.Names.{same_name}
+use Rattle.akl_terms.specs.declared.name.Place.{Place}
 use Rattle.akl_model.specs.declared.label.Rule.{Rule}
 use Rattle.akl_model.specs.declared.label.Label.{Label}
-use Rattle.akl_model.specs.Config.{Config}
+use Rattle.akl_model.specs.Config.{Config, Found, site_of}
 use Rattle.akl_model.specs.Derivations.{Applies}
+use Rattle.akl_model.specs.Wakes.{names_around}
 use Rattle.akl_model.proofs.Options.{some_value}
-use Rattle.table_laws.specs.Steps.{copy_among, splits, Makes, IsSolvedIn}
-use Rattle.table_laws.specs.Steps as laws
+use Rattle.local_store.specs.Stored.{Stored}
+use Rattle.local_store.specs.Chained.{around}
+use Rattle.table_laws.specs.Rows.{store_in, stores_along}
+use Rattle.table_laws.specs.Steps.{splits, Makes, IsSolvedIn}
 use Rattle.table_laws.specs.Copying.{swapping, AreMade}
 use Rattle.table_laws.proofs.CopiesMade.{copies_law, names_drawn}
-use Rattle.box_tree.specs.declared.step.BoxCopy.{BoxCopy}
 use Rattle.box_tree.specs.Tables.{all_rules, table_of, box_copy}
 use Rattle.box_tree.specs.Views.{ViewValue, IsViewOf, run_of}
+use Rattle.box_tree.proofs.Looks.{stores_append}
+use Rattle.box_tree.proofs.ToldChains.{around_push}
 use Rattle.box_copies.specs.declared.copying.Copied.{Copied}
-use Rattle.box_copies.specs.Copies.{IsSplitInto}
+use Rattle.box_copies.specs.Copies.{AreSolvedOver, IsSplitInto}
 
-not_solved : (nodes : List Node) (ks : List BoxCopy) → AllByRecursion (λ (k : BoxCopy). k.solved ≡ false) ks → (m : Name) (k : laws.BoxCopy) → copy_among (map (box_copy nodes) ks) m ≡ Some k → k.solved ≡ false
-not_solved nodes [] h m k e = cc
-not_solved nodes (b ∷ ks) h m k e = on (same_name m b.name) e (λ q. not_solved nodes ks h.1 m k q)
-  where
-    on : (t : Bool) → (if t then Some (box_copy nodes b) else copy_among (map (box_copy nodes) ks) m) ≡ Some k → (copy_among (map (box_copy nodes) ks) m ≡ Some k → k.solved ≡ false) → k.solved ≡ false
-    on true q f = ap (λ (x : laws.BoxCopy). x.solved) (sym (some_value q)) ∙ h.0
-    on false q f = f q
+-- the stores around the place that was looked at
+pub stores_around : (v : ViewValue) (seen : IsViewOf v) → around v.stores ≡ stores_along (table_of v.table) (names_around seen.site)
+stores_around v seen = ap around (seen.stores ∙ ap (stores_along (table_of v.table)) seen.path ∙ stores_append (table_of v.table) (names_around seen.site) (seen.site.content.name ∷ []))
+    ∙ around_push (stores_along (table_of v.table) (names_around seen.site)) (store_in ((table_of v.table).box_of seen.site.content.name))
 
 module _ (v : ViewValue) (seen : IsViewOf v) (a : Name) (c : Copied) (x : IsSplitInto v a c) (l : Label) (d : Config) (applies : Applies all_rules v.table.program seen.table.config l d) (rule : l.rule ≡ Rule.Split)
     (place : l.place ≡ v.place) (alternative : l.alternative ≡ Some a) (worker : l.worker ≡ v.worker) where
@@ -44,4 +43,10 @@ module _ (v : ViewValue) (seen : IsViewOf v) (a : Name) (c : Copied) (x : IsSpli
   split_draws = x.names ∙ names_drawn all_rules (run_of v.table v.journal) (table_of v.table) l d seen.table applies x.name a x.old rule (place ∙ x.place) alternative x.are_old
 
   pub split_solved : IsSolvedIn (table_of v.table) applies.site (splits c.copy (map (box_copy v.table.program.templates.nodes) c.copies.items))
-  split_solved = λ k stores there around solved. let e : k.solved ≡ false = not_solved v.table.program.templates.nodes c.copies.items x.unsolved k.name k there in absurd cc
+  split_solved = subst (λ (ss : List Stored). AreSolvedOver v.table.program.templates.nodes ss (map (box_copy v.table.program.templates.nodes) c.copies.items)) outer x.solved
+    where
+      site : seen.site ≡ applies.site
+      site = some_value (sym seen.is_site ∙ ap (λ (z : Place). site_of z seen.table.config.roots) (sym place) ∙ applies.is_site)
+
+      outer : around v.stores ≡ stores_along (table_of v.table) (names_around applies.site)
+      outer = stores_around v seen ∙ ap (λ (f : Found). stores_along (table_of v.table) (names_around f)) site

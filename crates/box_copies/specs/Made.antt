@@ -1,15 +1,17 @@
 -- Which names get new ones, and what a copy is made of.
-use Rattle.std.specs.Prelude.{◌≡◌, false, List, [], ◌∷◌, ◌++◌, map, Option, None, option_map, if◌then◌else◌, ◌⊎◌, ⊤}
+use Rattle.std.specs.Prelude.{◌≡◌, List, [], ◌∷◌, ◌++◌, map, Bool, ◌&&◌, Option, None, option_map, if◌then◌else◌, ◌⊎◌, ⊤}
 use Rattle.akl_terms.specs.declared.name.Name.{Name}
+use Rattle.akl_terms.specs.declared.term.Node.{Node}
 use Rattle.akl_terms.specs.declared.term.Term.{Term}
 use Rattle.akl_terms.specs.Names.{same_name}
 use Rattle.akl_model.specs.Config.{IsIn}
+use Rattle.rational_unify.specs.Older.{EachOlder}
 use Rattle.box_tree.specs.declared.entries.Held.{Held}
 use Rattle.box_tree.specs.declared.inside.InnerGoal.{InnerGoal}
 use Rattle.box_tree.specs.declared.inside.InnerBox.{InnerBox}
 use Rattle.box_tree.specs.declared.step.BoxCopy.{BoxCopy}
 use Rattle.box_copies.specs.declared.names.NewNames.{NewNames}
-use Rattle.box_copies.specs.Renamer.{term_by, op_by, swapped_name, goal_by, shown_by, store_by}
+use Rattle.box_copies.specs.Renamer.{term_by, op_by, swapped_name, goal_by, shown_by, binding_by, store_by}
 
 -- names that come to others
 pub record Adds (old more new : List Name) : Type 0 where
@@ -50,18 +52,22 @@ AreGoalsAs f a gs xs = ⊥
 abbrev pub holder_by : (Name → Name) → Name → InnerBox → Option Name
 holder_by f top b = if same_name b.name top then None else option_map f b.holder
 
--- the copy of a box
-pub record IsBoxBy (s : NewNames) (top a : Name) (b : InnerBox) (k : BoxCopy) : Type 0 where
+-- the bindings of a box lead to older variables under other names
+abbrev pub LeadsOlderBy : (Name → Name) → List Node → InnerBox → Type 0
+LeadsOlderBy f nodes b = EachOlder nodes (map (binding_by f) b.store.bindings)
+
+-- the copy of a box, which counts as solved where the box does, if all copies' bindings lead to older variables
+pub record IsBoxBy (s : NewNames) (older : Bool) (top a : Name) (b : InnerBox) (k : BoxCopy) : Type 0 where
   pub name : k.name ≡ swapped_name s b.name
   pub holder : k.holder ≡ holder_by (swapped_name s) top b
   pub store : k.store ≡ store_by s b.store
-  pub solved : k.solved ≡ false
+  pub solved : k.solved ≡ (b.solved && older)
   pub goals : AreGoalsAs (swapped_name s) a b.goals.items k.goals.items
   pub body : k.body.items ≡ map (goal_by (swapped_name s)) b.body.items
   pub shown : k.shown.items ≡ map (shown_by (swapped_name s)) b.shown.items
   pub collected : k.collected ≡ option_map (term_by (swapped_name s)) b.collected
 
-abbrev pub AreBoxesBy : NewNames → Name → Name → List InnerBox → List BoxCopy → Type 0
-AreBoxesBy s top a [] [] = ⊤
-AreBoxesBy s top a (b ∷ bs) (k ∷ ks) = IsBoxBy s top a b k × AreBoxesBy s top a bs ks
-AreBoxesBy s top a bs ks = ⊥
+abbrev pub AreBoxesBy : NewNames → Bool → Name → Name → List InnerBox → List BoxCopy → Type 0
+AreBoxesBy s older top a [] [] = ⊤
+AreBoxesBy s older top a (b ∷ bs) (k ∷ ks) = IsBoxBy s older top a b k × AreBoxesBy s older top a bs ks
+AreBoxesBy s older top a bs ks = ⊥

@@ -12,7 +12,7 @@ use Rattle.box_copies.specs.declared.names.NewNames.{NewNames}
 
 -- a name, an old one and its new one for each other
 abbrev pub swapped_name : NewNames → Name → Name
-swapped_name s = swapping s.old.keys s.worker s.next
+swapped_name s = swapping s.old.items s.worker s.next
 
 -- a term under other names
 abbrev pub term_by : (Name → Name) → Term → Term

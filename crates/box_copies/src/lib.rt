@@ -5,6 +5,7 @@
 mod copying;
 mod gathering;
 mod goals;
+mod guesses;
 mod names;
 mod stores;
 

@@ -1,6 +1,6 @@
 //! Plans of Split.
 
-ghost use Rattle.std.specs.Prelude.{◌≡◌, IfOk};
+ghost use Rattle.std.specs.Prelude.{◌≡◌, IfOk, IfSome, Some};
 ghost use Rattle.box_copies.specs.Copies.{IsInsideOfBox};
 ghost use Rattle.split_plan.specs.Split.{IsCandidate, IsSplitBy};
 
@@ -29,7 +29,8 @@ pub fn plan_split(
     requires program { program.now ≡ view.now.table.program }
     requires inside { IsInsideOfBox view.now inside.now }
     requires candidate { IsCandidate view.now alternative }
-    ensures { IfOk result (IsSplitBy view.now) }
+    ensures split { IfOk result (IsSplitBy view.now) }
+    ensures alternative { IfOk result (λ found. IfSome found (λ p. p.label.alternative ≡ Some alternative)) }
 {
     let label = label_for(view, Rule::Split, alternative);
     let path = view.path();
@@ -41,7 +42,7 @@ pub fn plan_split(
         copy,
         copies,
         names,
-    } = copies_of(alloc, view, inside, alternative)?;
+    } = copies_of(alloc, &program.templates, view, inside, alternative)?;
     if names > MOST {
         return Err(AllocError);
     }

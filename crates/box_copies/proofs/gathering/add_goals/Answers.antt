@@ -1,16 +1,13 @@
-use Rattle.std.proofs.Common.{ap, ◌∙◌}
-use Rattle.std.specs.BTreeSet.{insert_key}
-use Rattle.akl_terms.specs.contracts.name.NameOrd.TheImpl.{cmp-value}
+use Rattle.std.proofs.Common.{[], ◌∷◌, ◌++◌, ap, ◌∙◌}
 use Rattle.box_tree.specs.declared.inside.InnerGoal.{InnerGoal}
-use Rattle.box_copies.proofs.Sets.{adds_none, adds_next, adds_all}
+use Rattle.box_copies.proofs.Sets.{listed_none, listed_next, listed_all}
 use Rattle.box_copies.proofs.gathering.add_goals.Goals as goal
 
 pub loop-goal-init : goal.loop-goal-init
-loop-goal-init c = adds_none c.args.names.now.keys
+loop-goal-init c = listed_none (λ (g : InnerGoal). g.name) c.args.names.now.items c.args.goals.now
 
 pub loop-goal-preserved : goal.loop-goal-preserved
-loop-goal-preserved c = adds_next (λ (g : InnerGoal). g.name) c.args.names.now.keys c.loop-goal.names.keys c.insert.new.self.keys c.args.goals.now c.loop-goal.goal-index c.goal-item.result c.loop-goal-test.true c.loop-goal.invariant
-    (c.in_ok-insert.ensures.keys ∙ ap (λ (g : InnerGoal). insert_key cmp-value.it c.loop-goal.names.keys g.name) c.goal-item.is)
+loop-goal-preserved c = listed_next (λ (g : InnerGoal). g.name) c.args.names.now.items c.args.goals.now c.loop-goal.names.items c.push.new.self.items c.loop-goal.goal-index c.goal-item.result c.loop-goal-test.true c.loop-goal.invariant (c.in_ok-push.ensures.items ∙ ap (λ (g : InnerGoal). c.loop-goal.names.items ++ g.name ∷ []) c.goal-item.is)
 
 pub returns : goal.returns
-returns c = adds_all (λ (g : InnerGoal). g.name) c.args.names.now.keys c.loop-goal.names.keys c.args.goals.now c.loop-goal.goal-index c.loop-goal-test.false c.loop-goal.invariant
+returns c = listed_all (λ (g : InnerGoal). g.name) c.args.names.now.items c.args.goals.now c.loop-goal.names.items c.loop-goal.goal-index c.loop-goal-test.false c.loop-goal.invariant

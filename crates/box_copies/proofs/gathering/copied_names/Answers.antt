@@ -1,18 +1,18 @@
-use Rattle.std.proofs.Common.{◌∙◌, sym, subst, List, [], take, ◌+◌}
+use Rattle.std.proofs.Common.{◌≡◌, List, [], subst}
+use Rattle.std.proofs.lemmas.List.Filters.{dedup_is}
+use Rattle.std.specs.List.{dedup}
 use Rattle.akl_terms.specs.declared.name.Name.{Name}
-use Rattle.box_copies.specs.Made.{Adds, own_names, kept_names}
-use Rattle.box_copies.proofs.Loops.{is_other, is_one, kept_next, kept_stays}
-use Rattle.box_copies.proofs.Sets.{adds_then}
+use Rattle.akl_terms.specs.Names.{same_name}
+use Rattle.box_copies.specs.Made.{Adds}
+use Rattle.box_copies.proofs.Sets.{adds_listed, increasing_listed}
 use Rattle.box_copies.proofs.gathering.copied_names.Goals as goal
-use Rattle.box_copies.proofs.gathering.copied_names.Goals.{then-ne+in_ok-add_box, else-ne}
 
-pub loop-inner-preserved : goal.loop-inner-preserved
-loop-inner-preserved c =
-    let before : List Name = kept_names c.args.alternative (take c.loop-inner.inner-index c.args.boxes.now) in
-    elim c.if-ne.branch [
-      | then-ne+in_ok-add_box w ↦ subst (λ v. Adds [] (kept_names c.args.alternative (take (c.loop-inner.inner-index + 1) c.args.boxes.now)) v.keys) (sym w.names-is)
-          (subst (λ (l : List Name). Adds [] l w.add_box.new.names.keys) (sym (kept_next c.args.alternative c.args.boxes.now c.loop-inner.inner-index c.inner-item.result c.loop-inner-test.true c.inner-item.is (is_other _ (sym w.if-ne.true ∙ c.ne.ensures))))
-          (adds_then [] before c.loop-inner.names.keys (own_names c.inner-item.result) w.add_box.new.names.keys c.loop-inner.invariant w.in_ok-add_box.ensures))
-      | else-ne w ↦ subst (λ v. Adds [] (kept_names c.args.alternative (take (c.loop-inner.inner-index + 1) c.args.boxes.now)) v.keys) (sym w.names-is)
-          (subst (λ (l : List Name). Adds [] l c.loop-inner.names.keys) (sym (kept_stays c.args.alternative c.args.boxes.now c.loop-inner.inner-index c.inner-item.result c.loop-inner-test.true c.inner-item.is (is_one _ (sym w.if-ne.false ∙ c.ne.ensures)))) c.loop-inner.invariant)
-    ]
+pub returns-clause-all : goal.returns-clause-all
+returns-clause-all c =
+    let once : c.dedup.new.self.items ≡ dedup same_name c.sort_unstable.new.self.items = dedup_is same_name c.sort_unstable.new.self.items c.dedup.new.self.items c.dedup.ensures.filtered in
+    subst (λ (l : List Name). Adds [] l c.dedup.new.self.items) c.in_ok-names.ensures (adds_listed c.in_ok-names.names.items c.sort_unstable.new.self.items c.dedup.new.self.items c.sort_unstable.ensures.permutation once)
+
+pub returns-clause-increasing : goal.returns-clause-increasing
+returns-clause-increasing c =
+    let once : c.dedup.new.self.items ≡ dedup same_name c.sort_unstable.new.self.items = dedup_is same_name c.sort_unstable.new.self.items c.dedup.new.self.items c.dedup.ensures.filtered in
+    increasing_listed c.sort_unstable.new.self.items c.dedup.new.self.items c.sort_unstable.ensures.sorted once

@@ -1,6 +1,7 @@
 use Rattle.std.proofs.Common.{◌-◌, ◌<◌, List, length, take, ◌∙◌, ap, arith}
 use Rattle.std.specs.Prelude.{◌^◌}
 use Rattle.akl_terms.specs.declared.name.Name.{Name}
+use Rattle.akl_terms.specs.declared.program.Program.{Program}
 use Rattle.split_plan.proofs.SeenSplit.{around_is, seen_inside, unstable, stable_site}
 use Rattle.split_plan.proofs.SplitRight.{split_planned}
 use Rattle.split_plan.proofs.planning.plan_split.Goals as goal
@@ -9,9 +10,12 @@ pub is_stable-requires : goal.is_stable-requires
 is_stable-requires c = seen_inside c.args.view.now c.label_for-label.ensures.seen c.requires.inside.name c.requires.inside.place c.args.inside.now c.requires.inside.inside c.args.program.now c.requires.program
     c.saturating_sub-depth.result (c.saturating_sub-depth.ensures ∙ ap (λ (ns : List Name). length ns - 1) c.path-path.ensures)
 
-pub returns-then-not-branch : goal.returns-then-not-branch
-returns-then-not-branch c = unstable c.args.view.now c.label_for-label.ensures.seen c.args.inside.now c.requires.inside c.args.program.now c.requires.program
+pub returns-then-not-branch-clause-split : goal.returns-then-not-branch-clause-split
+returns-then-not-branch-clause-split c = unstable c.args.view.now c.label_for-label.ensures.seen c.args.inside.now c.requires.inside c.args.program.now c.requires.program
     c.saturating_sub-depth.result (c.saturating_sub-depth.ensures ∙ ap (λ (ns : List Name). length ns - 1) c.path-path.ensures) _ c.in_ok-is_stable.ensures c.if-not-branch.true
+
+pub copies_of-requires-clause-templates : goal.copies_of-requires-clause-templates
+copies_of-requires-clause-templates c = ap (λ (p : Program). p.templates.nodes) c.requires.program
 
 pub new-requires-2 : goal.new-requires-2
 new-requires-2 c =

@@ -1,8 +1,7 @@
-use Rattle.std.proofs.Common.{Option, ap, ◌∙◌}
-use Rattle.std.specs.Prelude.{unwrap_or}
-use Rattle.akl_terms.specs.declared.name.Name.{Name}
-use Rattle.box_copies.proofs.Keys.{get_is}
+use Rattle.std.proofs.Common.{sym}
+use Rattle.box_copies.proofs.Orders.{keys_increase}
+use Rattle.box_copies.proofs.Renamers.{swapping_at}
 use Rattle.box_copies.proofs.names.NewNames.swapped.Goals as goal
 
-pub returns : goal.returns
-returns c = c.unwrap_or.ensures ∙ ap (λ (o : Option Name). unwrap_or o c.args.name) (c.copied.ensures ∙ c.get.ensures.value ∙ get_is c.args.name c.args.self.now.partners) ∙ c.args.self.now.swaps c.args.name
+pub returns-in-Some : goal.returns-in-Some
+returns-in-Some c = sym (swapping_at c.args.self.now.old.items c.args.self.now.worker c.args.self.now.next c.in-Some.place c.args.name c.args.self.now.below (keys_increase c.args.self.now.old.items c.args.self.now.increasing) c.in-Some.ensures)

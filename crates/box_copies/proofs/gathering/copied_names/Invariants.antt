@@ -1,6 +1,0 @@
-use Rattle.std.proofs.Common.{[], take}
-use Rattle.box_copies.specs.Made.{Adds, kept_names}
-use Rattle.box_copies.proofs.gathering.copied_names.Given as goal
-
-abbrev pub invariant-loop-inner : goal.invariant-loop-inner
-invariant-loop-inner l = Adds [] (kept_names l.alternative (take l.inner-index l.boxes)) l.names.keys
