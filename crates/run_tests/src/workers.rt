@@ -29,6 +29,7 @@ const BY_EACH: &str = r"
  => COUNT => open_port(P,S), send(a,P), send(b,P), count(S,0,R) => 2 / suspended 1
  => LISTS => bagof(X, member(X,[a,b,c]), L), bagof(Y, (member(Y,L), Y = Z), M), Z = b => 0 / answer 1 / L = [a,b,c] / Z = b / M = [b] / done
  => LISTS => bagof(Y, (member(Y,[a,b]), Y = Z), L) => 2 / suspended 1
+ => m(X,[X|_]). m(X,[_|T]) :- m(X,T). pick(Z) :- m(X,[1,2,3]), m(Y,[2,3,4]), X =:= Y ? Z = X. two(R) :- -> R = [A,B], pick(A), pick(B), A > B. => two(R) => 0 / answer 1 / R = [3,2] / done
  =>  => bagof(X, fail, L) => 0 / answer 1 / L = [] / done
  =>  => X is 170141183460469231731687303715884105726 + 1 => 0 / answer 1 / X = 170141183460469231731687303715884105727 / done
  =>  => open_port(P,S), send(a,P), send(b,P) => 0 / answer 1 / P = port / S = [a,b|_1] / done or 0 / answer 1 / P = port / S = [b,a|_1] / done

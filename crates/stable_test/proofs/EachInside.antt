@@ -18,7 +18,7 @@ use Rattle.step_laws.proofs.Whereabouts.{found_in, in_found}
 use Rattle.step_laws.proofs.Deeper.{in_deeper, in_path, Over, over, one_box}
 
 mutual
-  each_in : (P : Found → Type 0) (around : List Content) (bs : Boxes) → ((r : List Content) (k : Content) (hs : Goals) → BoxIn r k hs bs → P (record { around = around ++ r; content = k; goals = hs })) → EachBox P around bs
+  pub each_in : (P : Found → Type 0) (around : List Content) (bs : Boxes) → ((r : List Content) (k : Content) (hs : Goals) → BoxIn r k hs bs → P (record { around = around ++ r; content = k; goals = hs })) → EachBox P around bs
   each_in P around no_boxes f = tt
   each_in P around (box b gs bs) f = (
     subst (λ (a : List Content). P (record { around = a; content = b; goals = gs })) (append-nil around) (f [] b gs (inl (refl, refl, refl))),

@@ -14,6 +14,7 @@ pub mod SiteReaches
 pub mod TouchedAt
 pub mod StableSite
 pub mod StableViews
+pub mod RootStable
 pub mod Read
 pub mod InnerViews
 pub mod InsideTouched

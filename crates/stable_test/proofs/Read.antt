@@ -1,6 +1,6 @@
 -- What the tests of a view and of all views come to.
-use Rattle.std.proofs.Common.{◌≡◌, ℕ, List, Bool, true, false, Option, Some, None, subst}
-use Rattle.std.specs.Prelude.{is_some, IsTrue, ◌↔◌}
+use Rattle.std.proofs.Common.{◌≡◌, ℕ, List, Bool, true, false, Option, Some, None, refl, subst}
+use Rattle.std.specs.Prelude.{is_some, not, IsTrue, ◌↔◌}
 use Rattle.std.specs.List.{AllByRecursion}
 use Rattle.akl_terms.specs.declared.program.Program.{Program}
 use Rattle.akl_model.specs.declared.label.Rule.{Rule}
@@ -28,6 +28,13 @@ planned v q w n h = h.none there.0 q.label there.1 there.2 w.place n
     there = subst (λ (t : TableValue). (k : IsTableOf all_rules (run_of t v.journal) (table_of t)) × (d : Config) × Applies all_rules t.program k.config q.label d) w.table
         (subst (λ (j : List Label). (k : IsTableOf all_rules (run_of q.table j) (table_of q.table)) × (d : Config) × Applies all_rules q.table.program k.config q.label d) w.journal
         (w.right.table, w.right.result, w.right.applies))
+
+-- no plan comes exactly where none applies
+pub none_planned : (v : ViewValue) (o : Option PlanValue) → IsPlannedBy v o → (none : Bool) → is_some o ≡ not none → IsTrue none ↔ HasNoRule v
+none_planned v None w true e = (λ t. w, λ h. refl)
+none_planned v None w false e = cc
+none_planned v (Some q) w true e = cc
+none_planned v (Some q) w false e = (λ t. cc, λ h. absurd (planned v q w.0 w.1 h))
 
 -- a place at which one is planned isn't still, and another is where it reaches nothing
 pub not_still : (p : Program) (depth : ℕ) (frames : Stored) (v : ViewValue) (o : Option PlanValue) → IsPlannedBy v o → is_some o ≡ true → IsTrue false ↔ IsStill p depth frames v

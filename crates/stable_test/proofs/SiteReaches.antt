@@ -22,7 +22,7 @@ use Rattle.table_laws.proofs.Stores.{stores_join}
 use Rattle.table_laws.proofs.Frame.{around_stands, equations_join}
 use Rattle.box_tree.specs.Tables.{all_rules, table_of}
 use Rattle.box_tree.specs.Views.{ViewValue, IsViewOf}
-use Rattle.guard_plan.proofs.Chains.{told_stands}
+use Rattle.box_tree.proofs.ToldChains.{told_stands}
 use Rattle.guard_plan.proofs.QuietOver.{keeps_apart}
 use Rattle.guard_plan.proofs.Sites.{stand, stores_path, whole_stands}
 use Rattle.stable_test.specs.Reaching.{IsConsistentAt, ReachesNone, AreReached}

@@ -39,12 +39,12 @@ use Rattle.stable_test.proofs.AllFrames.{all_local, local_all, all_unbound, box_
 
 -- of lists of views
 
-look : (P Q : ViewValue → Type 0) (vs : List ViewValue) (place : Place) → HasView vs place → AllByRecursion P vs → AllByRecursion Q vs → (v : ViewValue) × (v.place ≡ place) × P v × Q v
+pub look : (P Q : ViewValue → Type 0) (vs : List ViewValue) (place : Place) → HasView vs place → AllByRecursion P vs → AllByRecursion Q vs → (v : ViewValue) × (v.place ≡ place) × P v × Q v
 look P Q [] place h a b = absurd h
 look P Q (v ∷ vs) place (inl e) a b = (v, e, a.0, b.0)
 look P Q (v ∷ vs) place (inr h) a b = look P Q vs place h a.1 b.1
 
-every : (P Q : ViewValue → Type 0) → ((v : ViewValue) → P v → Q v) → (vs : List ViewValue) → AllByRecursion P vs → AllByRecursion Q vs
+pub every : (P Q : ViewValue → Type 0) → ((v : ViewValue) → P v → Q v) → (vs : List ViewValue) → AllByRecursion P vs → AllByRecursion Q vs
 every P Q f [] a = tt
 every P Q f (v ∷ vs) a = (f v a.0, every P Q f vs a.1)
 
@@ -52,7 +52,7 @@ module _ (p : Program) (depth : ℕ) (i : Inside) (s : IsSeenInside p depth i) w
   abbrev config : Config
   config = s.run.config
 
-  stands : Stand s.run.config
+  pub stands : Stand s.run.config
   stands = replay-stands all_rules s.table.program s.table.query s.journal s.run.config s.run.replays
 
   abbrev further : Stored
@@ -82,7 +82,7 @@ module _ (p : Program) (depth : ℕ) (i : Inside) (s : IsSeenInside p depth i) w
     pub there : box_at s.name w.seen.table.config.roots ≡ Some s.site
     there = subst (λ (c : Config). box_at s.name c.roots ≡ Some s.site) (sym same_config) s.is_site
 
-    same_program : v.table.program ≡ p
+    pub same_program : v.table.program ≡ p
     same_program = ap (λ (t : TableValue). t.program) w.table ∙ s.of_program
 
     pub down : IsDown w.seen.table.config (stand v w.seen) s.name s.site there w.seen.site
@@ -133,7 +133,7 @@ module _ (p : Program) (depth : ℕ) (i : Inside) (s : IsSeenInside p depth i) w
     lists_none n = none_listed p (frames_of (only s.site)) (environment s.site) w.seen.site v.place v.sight
         (λ c. n (subst (λ (q : Program). IsConsistentDown q v) same_program (site_consistent v w.seen s.name s.site there down further frame_to frame_from c)))
 
-    none_applies : HasNoRule v → (place : Place) → v.place ≡ place → NoneAppliesAt all_rules p s.run.config place
+    pub none_applies : HasNoRule v → (place : Place) → v.place ≡ place → NoneAppliesAt all_rules p s.run.config place
     none_applies h place e l d a q n = h.none w.seen.table l d
         (subst (λ (c : Config). Applies all_rules v.table.program c l d) (sym same_config) (subst (λ (k : Program). Applies all_rules k s.run.config l d) (sym same_program) a)) (q ∙ sym e) n
 

@@ -29,3 +29,7 @@ pub record IsSeenInside (p : Program) (depth : ℕ) (i : Inside) : Type 0 where
 -- no rule applies at a place, and it reaches nothing from outside
 abbrev pub IsStill : Program → ℕ → Stored → ViewValue → Type 0
 IsStill p depth frames v = HasNoRule v × ReachesNoneAt p depth frames v
+
+-- a view is of a table that was started with this program
+abbrev pub IsOfProgram : Program → ViewValue → Type 0
+IsOfProgram p v = p ≡ v.table.program

@@ -4,7 +4,8 @@ ghost use Rattle.std.specs.Prelude.{◌≡◌, IfOk, IsTrue, ◌↔◌};
 ghost use Rattle.std.specs.List.{AllByRecursion};
 ghost use Rattle.akl_model.specs.Stable.{IsStable};
 ghost use Rattle.stable_test.specs.Reaching.{IsTestable};
-ghost use Rattle.stable_test.specs.Seen.{IsSeenInside, IsStill};
+ghost use Rattle.guard_plan.specs.Planned.{HasNoRule};
+ghost use Rattle.stable_test.specs.Seen.{IsSeenInside, IsOfProgram, IsStill};
 
 use crate::frames::frames_of;
 use crate::reaching::reaches_none;
@@ -15,8 +16,8 @@ use rule_plan::plan;
 use std::alloc::{AllocError, Global};
 
 /// Whether a box with so many boxes around it is stable, by all that stands in it and inside it: no rule but Split
-/// applies there, and no variable from outside is touched or waited on. This costs a plan for each place, and a solution
-/// of the stores down to each box and to each goal that waits.
+/// applies there, and no variable from outside is touched or waited on. This costs a plan for each place, and, but for a
+/// root box, a solution of the stores down to each box and to each goal that waits.
 pub fn is_stable(
     alloc: Global,
     program: &Program,
@@ -26,6 +27,10 @@ pub fn is_stable(
     requires { IsSeenInside program.now depth inside.now }
     ensures { IfOk result (λ stable. (s : IsSeenInside program.now depth inside.now) → IsTrue stable ↔ IsStable program.now s.site) }
 {
+    // A root box has nothing outside, and to look for it would read all of its store for each place.
+    if depth == 0 {
+        return none_applies(alloc, program, inside.views.as_slice());
+    }
     let frames = frames_of(alloc, inside.boxes.as_slice())?;
     all_still(alloc, program, depth, &frames, inside.views.as_slice())
 }
@@ -64,4 +69,25 @@ fn is_still(
         return Ok(false);
     }
     reaches_none(alloc, program, depth, frames, view)
+}
+
+// Whether at no place of these views a rule other than Split applies.
+fn none_applies(alloc: Global, program: &Program, views: &[View]) -> Result<bool, AllocError>
+    requires { AllByRecursion (IsOfProgram program.now) views.now }
+    ensures { IfOk result (λ none. IsTrue none ↔ AllByRecursion HasNoRule views.now) }
+{
+    for view in views {
+        if !none_applies_at(alloc, program, view)? {
+            return Ok(false);
+        }
+    }
+    Ok(true)
+}
+
+// Whether no rule other than Split applies at a place.
+fn none_applies_at(alloc: Global, program: &Program, view: &View) -> Result<bool, AllocError>
+    requires { IsOfProgram program.now view.now }
+    ensures { IfOk result (λ none. IsTrue none ↔ HasNoRule view.now) }
+{
+    Ok(plan(alloc, program, view)?.is_none())
 }
