@@ -11,11 +11,10 @@ use Rattle.akl_model.specs.Instances.{start}
 use Rattle.akl_model.specs.Derivations.{Applies, Replays}
 use Rattle.akl_model.specs.Wakes.{Wait, IsKept, IsOneOf, IsThere, Opens, IsOpenAfterCommit, IsKeptAfterCommit}
 use Rattle.akl_model.proofs.Results.{Derives-one}
-use Rattle.sleep_laws.specs.Runs.{Runs}
+use Rattle.sleep_laws.specs.Runs.{Runs, commits}
 use Rattle.sleep_laws.proofs.Replayed.{replay_further}
 use Rattle.wait_laws.specs.Kept.{AreLeftByCommit}
 use Rattle.wait_laws.proofs.KeptByCommit.{kept_by_commit}
-use Rattle.wait_laws.proofs.RunsOn.{commit_runs}
 use Rattle.table_laws.specs.Steps as laws
 use Rattle.box_tree.specs.Tables.{all_rules, step_of, table_of}
 use Rattle.box_tree.specs.Plans.{PlanValue, IsRight}
@@ -62,7 +61,7 @@ after_as ps qs ws vs g h l c d p (IsOpenAfterCommit.stays i k) = IsOpenAfterComm
 after_as ps qs ws vs g h l c d p (IsOpenAfterCommit.opened o) = IsOpenAfterCommit.opened (opens_as ws vs h c d p o)
 
 kept_as : (ws vs : List Wait) → ((p : Place) (x : Var) → IsKept ws p x → IsKept vs p x) → ((p : Place) (x : Var) → IsKept vs p x → IsKept ws p x) → (c d : Config) (p : Place) (x : Var) → IsKeptAfterCommit ws c d p x → IsKeptAfterCommit vs c d p x
-kept_as ws vs g h c d p x k = record { kept = g p x k.kept; unopened = λ o. k.unopened (opens_as vs ws h c d p o) }
+kept_as ws vs g h c d p x k = record { kept = g p x k.kept; unopened = λ o. k.unopened (opens_as vs ws h c d p o); there = k.there }
 
 -- lists of the same places and of the same waits
 same_places : (os : Openings) (ps qs : List Place) → AreOpenPlaces os ps → AreOpenPlaces os qs → (p : Place) → IsOneOf p ps → IsOneOf p qs
@@ -146,7 +145,7 @@ module _ (s : SchedulerValue) (h : IsScheduler s) (p : PlanValue) (right : IsRig
   run_now = subst (λ (x : Program). Runs all_rules x core.table.query core.journal u.config (open_places now) left) (sym commits.fixed.program)
       (subst (λ (x : Query). Runs all_rules P x core.journal u.config (open_places now) left) (sym commits.fixed.query)
       (subst (λ (j : List Label). Runs all_rules P Q j u.config (open_places now) left) (sym commits.journal)
-      (commit_runs all_rules P Q s.core.journal t.config h.now h.kept h.run l u.config applies (open_places now) (λ place o. are_open.all place (after_all place o)) left left_so)))
+      (commits h.run (record { applies = applies; opens = λ place o. are_open.all place (after_all place o); keeps = left_so.all }))))
 
   pub committed_scheduler : IsScheduler (record { core = core; openings = now; waits = w2 })
   committed_scheduler = record {
@@ -196,18 +195,13 @@ module _ (s : SchedulerValue) (h : IsScheduler s) (p : PlanValue) (right : IsRig
     now_open place o = after_all place (after_as before h.now kept h.kept places_back waits_back l t.config u.config place
         (subst (λ (x : Config). IsOpenAfterCommit before kept l t.config x place) (sym d_is) (subst (λ (x : Config). IsOpenAfterCommit before kept l x w.config place) (sym c_is) o)))
 
-    kept_now : (place : Place) (x : Var) → waits_on w2 place x ≡ true → IsKeptAfterCommit kept v.config w.config place x × IsThere place w.config.roots
-    kept_now place x e =
-        let i : IsKept left place x = listed_now.all place x e in (
-          subst (λ (y : Config). IsKeptAfterCommit kept y w.config place x) c_is (subst (λ (y : Config). IsKeptAfterCommit kept t.config y place x) d_is
-              (kept_as h.kept kept waits_there waits_back t.config u.config place x (left_so.each place x i))),
-          subst (λ (y : Config). IsThere place y.roots) d_is (left_so.there place x i),
-        )
+    kept_now : (place : Place) (x : Var) → waits_on w2 place x ≡ true → IsKeptAfterCommit kept v.config w.config place x
+    kept_now place x e = subst (λ (y : Config). IsKeptAfterCommit kept y w.config place x) c_is (subst (λ (y : Config). IsKeptAfterCommit kept t.config y place x) d_is
+        (kept_as h.kept kept waits_there waits_back t.config u.config place x (left_so.each place x (listed_now.all place x e))))
 
-    now_kept : (place : Place) (x : Var) → IsKeptAfterCommit kept v.config w.config place x × IsThere place w.config.roots → waits_on w2 place x ≡ true
+    now_kept : (place : Place) (x : Var) → IsKeptAfterCommit kept v.config w.config place x → waits_on w2 place x ≡ true
     now_kept place x i = listed_now.only place x (left_so.all place x
-        (kept_as kept h.kept waits_back waits_there t.config u.config place x (subst (λ (y : Config). IsKeptAfterCommit kept t.config y place x) (sym d_is) (subst (λ (y : Config). IsKeptAfterCommit kept y w.config place x) (sym c_is) i.0)))
-        (subst (λ (y : Config). IsThere place y.roots) (sym d_is) i.1))
+        (kept_as kept h.kept waits_back waits_there t.config u.config place x (subst (λ (y : Config). IsKeptAfterCommit kept t.config y place x) (sym d_is) (subst (λ (y : Config). IsKeptAfterCommit kept y w.config place x) (sym c_is) i))))
 
     follows_so : IsOpenAndKept s (record { core = core; openings = now; waits = w2 }) p v w before kept
     follows_so = record { is_open = λ place. (open_now place, now_open place); waits = λ place x. (kept_now place x, now_kept place x) }

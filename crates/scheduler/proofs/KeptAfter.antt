@@ -69,11 +69,12 @@ module _ (c d : Config) (own : Place) (before : List Place) (kept : List Wait) (
   left_by = record {
     each = λ place x k.
         let y : IsKept kept place x × ((is_place_in place (places_of ps) ≡ false) × (is_place_in place gone ≡ false)) = left_was place x k in
-        record { kept = y.0; unopened = λ o. not_both (place_listed place (places_of ps) (f.effects.listed place o)) y.1.0 };
-    there = λ place x k.
-        let y : IsKept kept place x × ((is_place_in place (places_of ps) ≡ false) × (is_place_in place gone ≡ false)) = left_was place x k in
-        elim (there_or place d.roots) [ inl h ↦ h | inr m ↦ absurd (not_both (place_listed place gone (f.gone_listed place (f.waits.there place x y.0) m)) y.1.1) ];
-    all = λ place x k h. kept_still gone (kept_but (places_of ps) kept) place x
+        record {
+          kept = y.0;
+          unopened = λ o. not_both (place_listed place (places_of ps) (f.effects.listed place o)) y.1.0;
+          there = elim (there_or place d.roots) [ inl h ↦ h | inr m ↦ absurd (not_both (place_listed place gone (f.gone_listed place (f.waits.there place x y.0) m)) y.1.1) ];
+        };
+    all = λ place x k. kept_still gone (kept_but (places_of ps) kept) place x
         (kept_still (places_of ps) kept place x k.kept (not_true (is_place_in place (places_of ps)) (λ e. k.unopened (f.effects.opened place (listed_place place (places_of ps) e)))))
-        (not_true (is_place_in place gone) (λ e. f.is_gone place (listed_place place gone e) h));
+        (not_true (is_place_in place gone) (λ e. f.is_gone place (listed_place place gone e) k.there));
   }

@@ -5,7 +5,7 @@ use Rattle.akl_terms.specs.declared.name.Name.{Name}
 use Rattle.akl_terms.specs.declared.name.Place.{Place}
 use Rattle.akl_model.specs.Config.{Found, box_at}
 use Rattle.akl_model.specs.Conditions.{HasFailed}
-use Rattle.akl_model.specs.Wakes.{Wait, IsOneOf, IsThere, Opens, IsOpenAfterCommit, IsKeptAfterCommit}
+use Rattle.akl_model.specs.Wakes.{Wait, IsOneOf, Opens, IsOpenAfterCommit, IsKeptAfterCommit}
 use Rattle.box_tree.specs.Plans.{PlanValue}
 use Rattle.wake_lists.specs.Waits.{waits_on}
 use Rattle.step_commit.specs.Cores.{Commits, TableIn}
@@ -14,10 +14,10 @@ use Rattle.scheduler.specs.Openings.{IsOpenAt, AreOpenPlaces, AreListed, AreNewT
 use Rattle.scheduler.specs.Schedulers.{SchedulerValue}
 use Rattle.scheduler.specs.Turns.{IsUrgentAt}
 
--- just the places are open that a commit leaves open, and just the waits kept of the places that it doesn't open and that are still there
+-- just the places are open that a commit leaves open, and just the waits are kept that it leaves
 pub record IsOpenAndKept (s d : SchedulerValue) (p : PlanValue) (t : TableIn s.core) (u : TableIn d.core) (before : List Place) (kept : List Wait) : Type 0 where
   pub is_open : (place : Place) → IsOpenAt d.openings place ↔ IsOpenAfterCommit before kept p.label t.config u.config place
-  pub waits : (place : Place) (x : Var) → (waits_on d.waits place x ≡ true) ↔ (IsKeptAfterCommit kept t.config u.config place x × IsThere place u.config.roots)
+  pub waits : (place : Place) (x : Var) → (waits_on d.waits place x ≡ true) ↔ IsKeptAfterCommit kept t.config u.config place x
 
 -- what a commit opens is among these places
 pub record OpensAmong (s d : SchedulerValue) (places : List Place) : Type 0 where

@@ -128,7 +128,7 @@ pub kept_by_commit : (rules : List Rule) (p : Program) (q : Query) (journal : Li
     → (before : List Place) (waits : List Wait) (now : List Place) (waits_now : List Wait) → AreWaits c before waits
     → ((place : Place) → IsOneOf place now → IsOneOf place before ⊎ Opens waits c d place) → AreLeftByCommit waits c d waits_now → AreWaits d now waits_now
 kept_by_commit rules p q journal c l d r a before waits now waits_now h opens left = record {
-  there = left.there;
+  there = λ place x k. (left.each place x k).there;
   closed = λ place x k o. elim (opens place o) [ inl y ↦ h.closed place x (left.each place x k).kept y | inr y ↦ (left.each place x k).unopened y ];
   scoped = scoped;
   oldest = oldest;
@@ -144,7 +144,7 @@ kept_by_commit rules p q journal c l d r a before waits now waits_now h opens le
     shut place x k o = (left.each place x k).unopened (opened_too waits c d place o)
 
     site : (place : Place) (x : Var) → IsKept waits_now place x → (f : Found) × (site_of place d.roots ≡ Some f)
-    site place x k = there_site place d.roots (left.there place x k)
+    site place x k = there_site place d.roots (left.each place x k).there
 
     scoped : (place : Place) (x : Var) → IsKept waits_now place x → IsScopedAt d place x
     scoped place x k = let f : (f : Found) × (site_of place d.roots ≡ Some f) = site place x k in scoped_after rules p c l d w v a place (shut place x k) f.0 f.1 x (h.scoped place x (left.each place x k).kept)
@@ -156,4 +156,4 @@ kept_by_commit rules p q journal c l d r a before waits now waits_now h opens le
         let f : (f : Found) × IsOutermostAt c place f × (box_at g.content.name c.roots ≡ Some f) = outermost_before rules p c l d w v a place (shut place x k) s.0 s.1 g i in
         let z : IsConsistent (whole f.0) × (IsStructured (whole f.0) x → ⊥) × IsOldest (whole f.0) x u =
         oldest_before rules p c l d w v a waits place y.unopened x y.kept f.0 g f.1.is_root i.is_root g.content.name f.2 i.is_found still free u o in
-        left.all place u (record { kept = h.oldest place x y.kept f.0 f.1 z.0 z.1 u z.2; unopened = y.unopened }) (left.there place x k)
+        left.all place u (record { kept = h.oldest place x y.kept f.0 f.1 z.0 z.1 u z.2; unopened = y.unopened; there = y.there })

@@ -11,4 +11,3 @@ pub mod Still
 pub mod WaitingAtoms
 pub mod StillConcerns
 pub mod Roots
-pub mod RunsOn

@@ -8,17 +8,15 @@ use Rattle.akl_model.specs.declared.label.Rule.{Rule}
 use Rattle.akl_model.specs.declared.label.Label.{Label}
 use Rattle.akl_model.specs.Config.{Config}
 use Rattle.akl_model.specs.Derivations.{Applies, Replays}
-use Rattle.akl_model.specs.Wakes.{IsThere, IsOneOf, Wait, IsKept, Opens, IsOpenAfterSettle, IsKeptAfterCommit, IsKeptAfterSettle, IsKeptAfterForget, Concerns}
+use Rattle.akl_model.specs.Wakes.{IsOneOf, Wait, IsKept, Opens, IsOpenAfterSettle, IsKeptAfterCommit, IsKeptAfterSettle, IsKeptAfterForget, Concerns}
 use Rattle.constraint_laws.specs.Touched.{IsAmong}
 use Rattle.wait_laws.specs.Waits.{IsScopedAt, HasOldestAt, AreWaits}
 
--- the waits that a commit leaves: those of each place that it doesn't open and that is still there
+-- the waits that a commit leaves, those that a settle leaves, and those that are left where a place is forgotten
 pub record AreLeftByCommit (waits : List Wait) (c d : Config) (waits_now : List Wait) : Type 0 where
   pub each : (place : Place) (x : Var) → IsKept waits_now place x → IsKeptAfterCommit waits c d place x
-  pub there : (place : Place) (x : Var) → IsKept waits_now place x → IsThere place d.roots
-  pub all : (place : Place) (x : Var) → IsKeptAfterCommit waits c d place x → IsThere place d.roots → IsKept waits_now place x
+  pub all : (place : Place) (x : Var) → IsKeptAfterCommit waits c d place x → IsKept waits_now place x
 
--- those that a settle leaves, and those that are left where a place is forgotten
 pub record AreLeftBySettle (waits : List Wait) (still : List Place) (c : Config) (own : Place) (kept : List Var) (waits_now : List Wait) : Type 0 where
   pub each : (place : Place) (x : Var) → IsKept waits_now place x → IsKeptAfterSettle waits still c own kept place x
   pub all : (place : Place) (x : Var) → IsKeptAfterSettle waits still c own kept place x → IsKept waits_now place x

@@ -2,4 +2,3 @@ pub mod Waits
 pub mod Woken
 pub mod Kept
 pub mod Still
-pub mod RunsOn

@@ -3,7 +3,6 @@
 ghost use Rattle.wait_laws.specs.Woken.{AddsAtSiteLaw, WokenLaw};
 ghost use Rattle.wait_laws.specs.Kept.{NoWaitsLaw, KeptByCommitLaw, KeptBySettleLaw, KeptByForgetLaw, ConcernScopedLaw};
 ghost use Rattle.wait_laws.specs.Still.{StillEnoughLaw, StillOldestLaw, StillConcernLaw, StillScopedLaw, RootNeedsNothingLaw, RootStillLaw};
-ghost use Rattle.wait_laws.specs.RunsOn.{CommitRunsLaw};
 
 /// A label binds variables in the box of its place alone; and it wakes the places that wait on one of those listed,
 /// if each that it binds is equal to a listed one by the equations of the outermost box, and the list has the oldest
@@ -41,9 +40,4 @@ pub fn still_idle()
 pub fn root_boxes()
     ensures nothing { RootNeedsNothingLaw }
     ensures still { RootStillLaw }
-{}
-
-/// A run goes on by a commit that drops the waits of each place that has gone, as such a place may be forgotten.
-pub fn runs_on()
-    ensures { CommitRunsLaw }
 {}

@@ -6,4 +6,4 @@
 
 mod laws;
 
-pub use laws::{concerns, kept_waits, root_boxes, runs_on, still_idle, woken_places};
+pub use laws::{concerns, kept_waits, root_boxes, still_idle, woken_places};
