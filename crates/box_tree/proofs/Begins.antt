@@ -9,7 +9,7 @@ use Rattle.akl_terms.specs.declared.name.Name.{Name}
 use Rattle.akl_terms.specs.declared.name.Place.{Place}
 use Rattle.akl_terms.proofs.SameNames.{same_name-equal}
 use Rattle.akl_model.specs.Wakes.{IsOneOf}
-use Rattle.box_tree.specs.Views.{AreAllPlaces}
+use Rattle.box_tree.specs.Views.{is_there, all_places}
 use Rattle.akl_terms.specs.declared.term.Node.{Node}
 use Rattle.akl_terms.specs.declared.term.Term.TheVariants.{Mol}
 use Rattle.akl_terms.specs.declared.program.Code.{Code}
@@ -174,8 +174,8 @@ module _ {A B : Type 0} (f : Name → Place) (row : A → B) (n : Name) where
       on false q r k = inr (k r)
 
 -- all rows have their places
-pub all_places : (t : TableValue) (places : List Place) → places ≡ map (λ (e : Name × BoxEntry). Place.Box e.0) t.boxes ++ map (λ (e : Name × GoalEntry). Place.Goal e.0) t.goals → AreAllPlaces (table_of t) places
-all_places t places e (Place.Box n) s = subst (IsOneOf (Place.Box n)) (sym e)
-    (in_left (Place.Box n) (map (λ (e : Name × BoxEntry). Place.Box e.0) t.boxes) (map (λ (e : Name × GoalEntry). Place.Goal e.0) t.goals) (here Place.Box (box_row t.program.templates.nodes) n t.boxes s))
-all_places t places e (Place.Goal g) s = subst (IsOneOf (Place.Goal g)) (sym e)
-    (in_right (Place.Goal g) (map (λ (e : Name × BoxEntry). Place.Box e.0) t.boxes) (map (λ (e : Name × GoalEntry). Place.Goal e.0) t.goals) (here Place.Goal (goal_row t.program.templates.nodes) g t.goals s))
+pub row_listed : (t : TableValue) (place : Place) → is_there (table_of t) place ≡ true → IsOneOf place (all_places t)
+row_listed t (Place.Box n) s =
+    in_left (Place.Box n) (map (λ (e : Name × BoxEntry). Place.Box e.0) t.boxes) (map (λ (e : Name × GoalEntry). Place.Goal e.0) t.goals) (here Place.Box (box_row t.program.templates.nodes) n t.boxes s)
+row_listed t (Place.Goal g) s =
+    in_right (Place.Goal g) (map (λ (e : Name × BoxEntry). Place.Box e.0) t.boxes) (map (λ (e : Name × GoalEntry). Place.Goal e.0) t.goals) (here Place.Goal (goal_row t.program.templates.nodes) g t.goals s)

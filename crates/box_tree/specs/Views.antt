@@ -8,7 +8,7 @@ use Rattle.akl_terms.specs.declared.program.Goal.{Goal}
 use Rattle.akl_model.specs.declared.label.Label.{Label}
 use Rattle.akl_model.specs.Config.{Atom, Content, Boxes, no_boxes, box, Goals, Held, an_atom, a_choice, held_in, Found, site_of}
 use Rattle.akl_model.specs.Changes.{goal_names}
-use Rattle.akl_model.specs.Wakes.{names_down_to, IsOneOf}
+use Rattle.akl_model.specs.Wakes.{names_down_to}
 use Rattle.local_store.specs.Stored.{Stored}
 use Rattle.local_store.specs.Chained.{IsKnown}
 use Rattle.table_laws.specs.Rows.{Table, store_in, stores_along}
@@ -17,6 +17,8 @@ use Rattle.table_laws.specs.Stamped.{Run, IsTableOf}
 use Rattle.box_tree.specs.declared.view.Alternative.{Alternative}
 use Rattle.box_tree.specs.declared.view.Sight.{Sight}
 use Rattle.box_tree.specs.declared.view.LookError.{LookError}
+use Rattle.box_tree.specs.declared.entries.BoxEntry.{BoxEntry}
+use Rattle.box_tree.specs.declared.entries.GoalEntry.{GoalEntry}
 use Rattle.box_tree.specs.Tables.{all_rules, op_held, goal_atom, is_empty, TableValue, table_of}
 
 -- what a view was taken of, the place and the worker; the worker's next number; the boxes down to the place's box, with their stores, and
@@ -97,6 +99,6 @@ abbrev pub IsUnseen : Table → Place → LookError → Type 0
 IsUnseen T place LookError.Gone = is_there T place ≡ false
 IsUnseen T place (LookError.Memory error) = Unit {0}
 
--- each place that has a row is one of these
-abbrev pub AreAllPlaces : Table → List Place → Type 0
-AreAllPlaces T places = (place : Place) → is_there T place ≡ true → IsOneOf place places
+-- the places of all boxes and then of all goals, as they stand in the table: each once, in increasing order of names
+abbrev pub all_places : TableValue → List Place
+all_places t = map (λ (e : Name × BoxEntry). Place.Box e.0) t.boxes ++ map (λ (e : Name × GoalEntry). Place.Goal e.0) t.goals

@@ -7,7 +7,7 @@ ghost use Rattle.table_laws.specs.Laws.{started};
 ghost use Rattle.table_laws.specs.Stamped.{IsTableOf, stamp_in};
 ghost use Rattle.box_tree.specs.Tables.{all_rules, table_of, MayApply, Applied, HasVariables, HasShownVariables, goals_in, is_empty, shown_in, shown_trees_of};
 ghost use Rattle.box_tree.specs.Kinds.{IsGoal, IsBox};
-ghost use Rattle.box_tree.specs.Views.{run_of, is_there, IsUnseen, IsViewOf, AreAllPlaces};
+ghost use Rattle.box_tree.specs.Views.{run_of, is_there, IsUnseen, IsViewOf, all_places};
 
 use crate::entries::{BoxEntry, GoalEntry};
 use crate::starting::after;
@@ -149,7 +149,7 @@ impl Table {
 
     /// All boxes and goals: boxes first, each in increasing order of names.
     pub fn places(&self, alloc: Global) -> Result<Vec<Place>, AllocError>
-        ensures { IfOk result (λ places. AreAllPlaces (table_of self.now) places.items) }
+        ensures { IfOk result (λ places. places.items ≡ all_places self.now) }
     {
         let mut places = Vec::new(alloc);
         self.push_boxes(&mut places)?;

@@ -23,7 +23,8 @@ use Rattle.wake_lists.specs.Open.{Opening, Openings, opening_at, IsFirst, closed
 use Rattle.wake_lists.proofs.Keys.{token_equal}
 use Rattle.opened_places.specs.Placed.{PlacedValue, placed}
 use Rattle.box_tree.specs.Tables.{all_rules, table_of}
-use Rattle.box_tree.specs.Views.{is_there, AreAllPlaces}
+use Rattle.box_tree.specs.Views.{is_there, all_places}
+use Rattle.box_tree.proofs.Begins.{row_listed}
 use Rattle.step_commit.specs.Cores.{CoreValue, IsCore, run_by}
 use Rattle.scheduler.specs.Openings.{IsOpenAt, AreApart, AreStandingIn, name_at}
 use Rattle.scheduler.specs.Opening.{AreOpened}
@@ -59,9 +60,9 @@ quiet_first s h None e = quiet_so s h e
 quiet_first s h (Some t) f = tt
 
 -- all places of a core
-pub placed_all : (c : CoreValue) (places : List Place) (ps : List PlacedValue) → AreAllPlaces (table_of c.table) places → AddsThose c.table places [] ps → AreAllPlaced c ps
-placed_all c places ps all a = record {
-  all = λ t place h. those_come c.table (run_by c) t places [] ps a place (all place (row_there c.table (run_by c) t place h)) h;
+pub placed_all : (c : CoreValue) (places : List Place) (ps : List PlacedValue) → places ≡ all_places c.table → AddsThose c.table places [] ps → AreAllPlaced c ps
+placed_all c places ps e a = record {
+  all = λ t place h. those_come c.table (run_by c) t places [] ps a place (subst (IsOneOf place) (sym e) (row_listed c.table place (row_there c.table (run_by c) t place h))) h;
   around = λ t p i. elim (came_so c.table (run_by c) t places [] ps a p i) [ inl z ↦ absurd z | inr w ↦ w.1 ];
 }
 

@@ -2,7 +2,7 @@
 
 ghost use Rattle.std.specs.Prelude.{◌≡◌, IfOk, IfErr, IfSome, IfNone, Some, [], length, true};
 ghost use Rattle.box_tree.specs.Tables.{table_of, step_of, goals_in, is_empty, shown_in, shown_trees_of, HasVariables, HasShownVariables};
-ghost use Rattle.box_tree.specs.Views.{is_there, IsUnseen, AreAllPlaces};
+ghost use Rattle.box_tree.specs.Views.{is_there, IsUnseen, all_places};
 ghost use Rattle.box_tree.specs.Insides.{IsInsideOf};
 ghost use Rattle.akl_terms.specs.declared.name.Place.{Place};
 ghost use Rattle.step_commit.specs.Cores.{IsCore, MayCommit, IsFresh, Commits, IsRefused, IsFirstStale, is_within};
@@ -107,7 +107,7 @@ impl Core {
 
     /// All boxes and goals: boxes first, each in increasing order of names.
     pub fn places(&self, alloc: Global) -> Result<Vec<Place>, AllocError>
-        ensures { IfOk result (λ places. AreAllPlaces (table_of self.now.table) places.items) }
+        ensures { IfOk result (λ places. places.items ≡ all_places self.now.table) }
     {
         self.table.places(alloc)
     }
