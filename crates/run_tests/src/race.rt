@@ -1,12 +1,14 @@
 //! Two plans over one state.
 
-ghost use Rattle.std.specs.Prelude.{◌≡◌, IfOk, IfSome, OnOk};
+ghost use Rattle.std.specs.Prelude.{◌≡◌, IfOk, IfErr, IfSome, OnOk};
+ghost use Rattle.step_commit.specs.Cores.{MayCommit, Commits};
 ghost use Rattle.box_tree.specs.Tables.{HasVariables, HasShownVariables};
 
 use crate::cases::{Case, case_of, expect};
 use crate::loading::loaded;
 use crate::places::{Turn, turn_of};
 use crate::texts::{push_journal, push_receipt, push_refused};
+use akl_model::Receipt;
 use akl_run::Loaded;
 use akl_terms::Program;
 use box_tree::{LookError, Plan};
@@ -14,7 +16,7 @@ use rule_plan::plan;
 use std::alloc::{AllocError, Global};
 use std::process::Abort;
 use std::test::Fail;
-use step_commit::Core;
+use step_commit::{CommitError, Core};
 
 /// Programs, queries, turns, and what these come to. At a turn one worker plans and commits, or two workers plan over
 /// one state, and the first commits first. Then what the second commit of the two is, and the journal.
@@ -44,6 +46,19 @@ fn planned(
     }
 }
 
+// Commits a plan, unless it is refused.
+fn commit(alloc: Global, core: &mut Core, plan: Plan) -> Result<Receipt, CommitError>
+    requires { MayCommit core.old plan }
+    ensures committed { IfOk result (Commits core.old plan core.new) }
+    ensures unchanged { IfErr result (λ _. core.new ≡ core.old) }
+{
+    if let Some(refused) = core.refusal(&plan) {
+        return Err(refused);
+    }
+    let receipt = core.append(alloc, plan)?;
+    Ok(receipt)
+}
+
 // A worker plans, and commits.
 fn take_turn(
     alloc: Global,
@@ -58,7 +73,7 @@ fn take_turn(
     let Some(plan) = planned(alloc, program, core, turn)? else {
         return text.push_str("no plan");
     };
-    match core.commit(alloc, plan) {
+    match commit(alloc, core, plan) {
         Ok(_) => Ok(()),
         Err(error) => push_refused(text, error),
     }
@@ -85,8 +100,8 @@ fn race(
     let Some(two) = planned(alloc, program, core, second)? else {
         return text.push_str("no second plan");
     };
-    match core.commit(alloc, one) {
-        Ok(_) => match core.commit(alloc, two) {
+    match commit(alloc, core, one) {
+        Ok(_) => match commit(alloc, core, two) {
             Ok(receipt) => push_receipt(text, receipt),
             Err(error) => push_refused(text, error),
         },

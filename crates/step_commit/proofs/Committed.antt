@@ -14,6 +14,7 @@ use Rattle.akl_model.specs.Config.{Config, Found, site_of}
 use Rattle.akl_model.specs.Instances.{start}
 use Rattle.akl_model.specs.Derivations.{Applies, Derives}
 use Rattle.akl_model.specs.Wakes.{names_around}
+use Rattle.akl_model.proofs.Drawn.{both_true}
 use Rattle.akl_model.proofs.Results.{Derives-prefix, Derives-one}
 use Rattle.akl_model.proofs.NamesKept.{replay-stands}
 use Rattle.local_store.specs.Stored.{Stored}
@@ -32,7 +33,7 @@ use Rattle.table_laws.proofs.Started.{start_law}
 use Rattle.box_tree.specs.Tables.{all_rules, TableValue, table_of, step_of}
 use Rattle.box_tree.specs.Plans.{PlanValue, IsRead, IsRight}
 use Rattle.step_commit.specs.Cores.{CoreValue, IsCore, MayCommit, is_within, AllWithin}
-use Rattle.step_commit.specs.Solving.{GivesStore, GivesRootStore}
+use Rattle.step_commit.specs.Solving.{gives_store, is_in_root, gives_root_store}
 use Rattle.step_commit.proofs.RootStores.{none_around}
 
 pub some_of : {A : Type 0} {a b : A} → Some a ≡ Some b → a ≡ b
@@ -119,7 +120,7 @@ module _ (p : Program) (q : Query) (journal further : List Label) (S T : Table) 
   -- this is the number of labels, and the plan has seen all of them, or it gives a root box its store
   abbrev pub IsSolvedOver : Option ℕ → Type 0
   IsSolvedOver None = ⊤
-  IsSolvedOver (Some k) = (k ≡ length (journal ++ further)) × ((length journal ≡ length (journal ++ further)) ⊎ GivesRootStore T l.place step)
+  IsSolvedOver (Some k) = (k ≡ length (journal ++ further)) × ((length journal ≡ length (journal ++ further)) ⊎ (gives_root_store T l.place step ≡ true))
 
   unseen : (o : Option ℕ) (i : Item) → stamp_in T i ≡ o → is_within o (length journal) ≡ true → stamps.IsStamped all_rules p q (journal ++ further) (length journal) i
   unseen None i e w = absurd cc
@@ -147,26 +148,29 @@ module _ (p : Program) (q : Query) (journal further : List Label) (S T : Table) 
       right.same_around ∙ ap names_around (some_of (sym right.applies.is_site ∙ w.applies.is_site))
 
   -- the store that it gives a root box is solved alone, as it was where it was planned
-  root_solved : (w : LeadsOn p q (journal ++ further) T t l names step) → GivesRootStore T l.place step → IsSolvedIn T w.applies.site step
-  root_solved w r = on step r.0 x.solved
+  root_solved : (w : LeadsOn p q (journal ++ further) T t l names step) → gives_root_store T l.place step ≡ true → IsSolvedIn T w.applies.site step
+  root_solved w r = on step both.0 x.solved
     where
+      both : (gives_store step ≡ true) × (is_in_root T l.place ≡ true)
+      both = both_true (gives_store step) (is_in_root T l.place) r
+
       none_now : names_around w.applies.site ≡ []
-      none_now = none_around T t.config t.unfolds (replay-stands all_rules p q (journal ++ further) t.config t.replays) l.place w.applies.site w.applies.is_site r.1
+      none_now = none_around T t.config t.unfolds (replay-stands all_rules p q (journal ++ further) t.config t.replays) l.place w.applies.site w.applies.is_site both.1
 
       alone : (b : Bool) (new : Stored) → IsSolvedIf b S (names_around x.applies.site) new → IsSolvedIf b T (names_around w.applies.site) new
       alone false new h = tt
       alone true new h = subst (λ (ns : List Name). IsSolvedChain T.nodes (stores_along T ns ++ new ∷ [])) (sym none_now)
           (subst (λ (nodes : List Node). IsSolvedChain nodes (new ∷ [])) (x.table.nodes ∙ sym t.nodes) (subst (λ (ns : List Name). IsSolvedChain S.nodes (stores_along S ns ++ new ∷ [])) (same_around w ∙ none_now) h))
 
-      on : (made : Step) → GivesStore made → IsSolvedIn S x.applies.site made → IsSolvedIn T w.applies.site made
+      on : (made : Step) → gives_store made ≡ true → IsSolvedIn S x.applies.site made → IsSolvedIn T w.applies.site made
       on (tells new solved) g h = alone solved new h
       on (joins new solved goals) g h = alone solved new h
-      on (forks op news) g h = absurd g
-      on fails g h = absurd g
-      on cuts g h = absurd g
-      on refutes g h = absurd g
-      on confirms g h = absurd g
-      on (splits copy copies) g h = absurd g
+      on (forks op news) g h = cc
+      on fails g h = cc
+      on cuts g h = cc
+      on refutes g h = cc
+      on confirms g h = cc
+      on (splits copy copies) g h = cc
 
   -- where the plan has seen the whole run, and this very table, or gives a root box its store, its stores are solved there
   pub solved_now : (same : further ≡ [] → S ≡ T) (w : LeadsOn p q (journal ++ further) T t l names step) (at : Option ℕ) → IsSolvedOver at → IsSolvedWhen at T w.applies.site step

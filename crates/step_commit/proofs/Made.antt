@@ -1,5 +1,7 @@
 -- What a commit makes of a core.
-use Rattle.std.proofs.Common.{◌≡◌, ℕ, ◌+◌, ◌<◌, List, [], ◌∷◌, ◌++◌, length, Option, Some, None, refl, sym, ap, subst, ◌∙◌, ◌⊎◌, arith}
+use Rattle.std.proofs.Common.{◌≡◌, ℕ, ◌+◌, ◌<◌, ◌==◌, Bool, true, false, List, [], ◌∷◌, ◌++◌, length, Option, Some, None, refl, sym, ap, subst, ◌∙◌, inl, inr, arith}
+use Rattle.std.specs.Prelude.{◌||◌, if◌then◌else◌}
+use Rattle.std.proofs.lemmas.Bool.{eqb-true}
 use Rattle.std.proofs.lemmas.List.{length-append}
 use Rattle.akl_terms.specs.declared.name.Name.{Name}
 use Rattle.akl_terms.specs.declared.name.Place.{Place}
@@ -23,8 +25,8 @@ use Rattle.box_tree.specs.declared.step.Step.{Step}
 use Rattle.box_tree.specs.Tables.{all_rules, TableValue, table_of, step_of, FitsPlace, MayApply, Applied}
 use Rattle.box_tree.specs.Views.{run_of}
 use Rattle.box_tree.specs.Plans.{PlanValue, IsRight}
-use Rattle.step_commit.specs.Cores.{CoreValue, IsCore, MayCommit, IsFresh, IsStale, Commits, AllWithin, IsFirstStale, IsFirstUnseen}
-use Rattle.step_commit.specs.Solving.{GivesRootStore, IsSolvedAt}
+use Rattle.step_commit.specs.Cores.{CoreValue, IsCore, MayCommit, IsFresh, IsStale, Commits, AllWithin, IsFirstStale, IsFirstUnseen, solved_in}
+use Rattle.step_commit.specs.Solving.{gives_root_store}
 use Rattle.step_commit.proofs.Committed.{IsPlanned, planned, LeadsOn, leads_on, IsSolvedOver, solved_now}
 use Rattle.step_commit.proofs.Stale.{looked, unchanged_here, stale, all_within}
 use Rattle.step_commit.proofs.InOrder.{makes_ordered}
@@ -80,15 +82,23 @@ module _ (c : CoreValue) (k : IsCore c) (p : PlanValue) (r : IsRight p) (m : May
     ordered = makes_ordered all_rules (run_of c.table (p.journal ++ m.further)) (table_of c.table) p.label on.result t on.applies step on.makes;
   }
 
-  solved : (at : Option ℕ) → IsSolvedAt c p at → IsSolvedWhen at (table_of c.table) on.applies.site step
+  solved : (at : Option ℕ) → at ≡ solved_in c p → IsSolvedWhen at (table_of c.table) on.applies.site step
   solved at h = solved_now c.table.program c.table.query p.journal m.further (table_of p.table) (table_of c.table) p.label p.reads p.names step x t m.none_by within
-      (λ e. ap table_of (m.same_table e)) on at (over at h)
+      (λ e. ap table_of (m.same_table e)) on at
+      (subst (IsSolvedOver c.table.program c.table.query p.journal m.further (table_of p.table) (table_of c.table) p.label p.reads p.names step x t m.none_by within) (sym h) (over (length p.journal == length c.journal) refl (gives_root_store (table_of c.table) p.label.place step) refl))
     where
-      over : (o : Option ℕ) → IsSolvedAt c p o → IsSolvedOver c.table.program c.table.query p.journal m.further (table_of p.table) (table_of c.table) p.label p.reads p.names step x t m.none_by within o
-      over None i = tt
-      over (Some n) i = subst (λ (j : List Label). (n ≡ length j) × ((length p.journal ≡ length j) ⊎ GivesRootStore (table_of c.table) p.label.place step)) m.front i
+      so : Option ℕ → Type 0
+      so = IsSolvedOver c.table.program c.table.query p.journal m.further (table_of p.table) (table_of c.table) p.label p.reads p.names step x t m.none_by within
 
-  module _ (at : Option ℕ) (u : TableValue) (h : IsSolvedAt c p at) (a : Applied c.table p.label at p.names p.step u) where
+      same : length c.journal ≡ length (p.journal ++ m.further)
+      same = ap length m.front
+
+      over : (a : Bool) → (length p.journal == length c.journal) ≡ a → (b : Bool) → gives_root_store (table_of c.table) p.label.place step ≡ b → so (if a || b then Some (length c.journal) else None)
+      over true e b f = (same, inl (eqb-true (length p.journal) (length c.journal) e ∙ same))
+      over false e true f = (same, inr f)
+      over false e false f = tt
+
+  module _ (at : Option ℕ) (u : TableValue) (h : at ≡ solved_in c p) (a : Applied c.table p.label at p.names p.step u) where
     next : IsTableOf all_rules (run_of c.table ((p.journal ++ m.further) ++ p.label ∷ [])) (table_of u)
     next = (step_law all_rules (run_of c.table (p.journal ++ m.further)) (table_of c.table) (table_of u) p.label on.result t on.applies step at on.makes (solved at h)
         (subst (λ (n : ℕ). Leads (table_of c.table) p.label at n step (table_of u)) on.drawn a.leads)).0
@@ -108,6 +118,7 @@ module _ (c : CoreValue) (k : IsCore c) (p : PlanValue) (r : IsRight p) (m : May
     commits journal receipt e f less = record {
       fixed = record { program = a.program; query = a.query; workers = refl; budget = refl };
       journal = e;
+      made = subst (λ (o : Option ℕ). Applied c.table p.label o p.names p.step u) h a;
       receipt = f;
       fresh = record { unspent = less; unchanged = λ i j. unchanged_here c k p.table p.journal p.reads (looked c p r m) i (within i j) };
     }

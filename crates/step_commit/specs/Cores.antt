@@ -6,10 +6,11 @@ use Rattle.akl_model.specs.declared.label.Receipt.{Receipt}
 use Rattle.plan_laws.specs.Right.{NoneBy}
 use Rattle.table_laws.specs.Rows.{Table}
 use Rattle.table_laws.specs.Stamped.{Run, IsTableOf, LastChange, stamp_in}
-use Rattle.box_tree.specs.Tables.{all_rules, TableValue, table_of}
+use Rattle.box_tree.specs.Tables.{all_rules, TableValue, table_of, step_of, Applied}
 use Rattle.box_tree.specs.Views.{run_of}
 use Rattle.box_tree.specs.Plans.{PlanValue, IsRead}
 use Rattle.step_commit.specs.declared.commit.CommitError.{CommitError}
+use Rattle.step_commit.specs.Solving.{solved_at}
 
 pub record CoreValue : Type 0 where
   pub table : TableValue
@@ -67,10 +68,15 @@ pub record IsFresh (c : CoreValue) (p : PlanValue) : Type 0 where
   pub unspent : length c.journal < c.budget
   pub unchanged : (i : Item) → IsRead p.reads i → IsUnchanged c p.journal i
 
--- the plan's label is the next one of the journal
+-- the number of labels at which the stores of a plan's step are solved, if they are
+abbrev pub solved_in : CoreValue → PlanValue → Option ℕ
+solved_in c p = solved_at (table_of c.table) (length c.journal) (length p.journal) p.label.place (step_of c.table.program.templates.nodes p.step)
+
+-- the plan's label is the next one of the journal, and its step made the table
 pub record Commits (c : CoreValue) (p : PlanValue) (d : CoreValue) (r : Receipt) : Type 0 where
   pub fixed : KeepsFixed c d
   pub journal : d.journal ≡ c.journal ++ p.label ∷ []
+  pub made : Applied c.table p.label (solved_in c p) p.names p.step d.table
   pub receipt : r ≡ record { at = length c.journal + 1; seen = length p.journal; label = p.label }
   pub fresh : IsFresh c p
 

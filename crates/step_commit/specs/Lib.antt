@@ -1,3 +1,3 @@
 pub mod Receipts
-pub mod Cores
 pub mod Solving
+pub mod Cores

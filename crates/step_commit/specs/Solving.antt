@@ -1,31 +1,32 @@
 -- When the stores that a plan makes are solved where it is committed.
-use Rattle.std.specs.Prelude.{◌≡◌, ℕ, Option, Some, None, length, ◌⊎◌, ⊤}
+use Rattle.std.specs.Prelude.{ℕ, ◌==◌, Bool, true, false, ◌&&◌, ◌||◌, not, Option, Some, None, is_some, if◌then◌else◌}
 use Rattle.akl_terms.specs.declared.name.Name.{Name}
 use Rattle.akl_terms.specs.declared.name.Place.{Place}
 use Rattle.table_laws.specs.Rows.{Table}
 use Rattle.table_laws.specs.Steps.{Step, tells, joins}
 use Rattle.table_laws.specs.Writes.{home_in}
-use Rattle.box_tree.specs.Tables.{table_of, step_of}
 use Rattle.box_tree.specs.Paths.{outside_of}
-use Rattle.box_tree.specs.Plans.{PlanValue}
-use Rattle.step_commit.specs.Cores.{CoreValue}
 
 -- the step gives the box of its goal a store
-abbrev pub GivesStore : Step → Type 0
-GivesStore (tells new solved) = ⊤
-GivesStore (joins new solved goals) = ⊤
-GivesStore step = ⊥
+abbrev pub gives_store : Step → Bool
+gives_store (tells new solved) = true
+gives_store (joins new solved goals) = true
+gives_store step = false
+
+-- a box has no other around it
+abbrev pub is_root : Table → Option Name → Bool
+is_root T None = false
+is_root T (Some n) = not (is_some (outside_of T n))
 
 -- a goal stands in a root box
-abbrev pub IsInRoot : Table → Place → Type 0
-IsInRoot T (Place.Goal g) = (n : Name) × (home_in (T.goal_of g) ≡ Some n) × (outside_of T n ≡ None)
-IsInRoot T (Place.Box n) = ⊥
+abbrev pub is_in_root : Table → Place → Bool
+is_in_root T (Place.Goal g) = is_root T (home_in (T.goal_of g))
+is_in_root T (Place.Box n) = false
 
--- the step gives a root box its store, around which there is no other
-abbrev pub GivesRootStore : Table → Place → Step → Type 0
-GivesRootStore T place step = GivesStore step × IsInRoot T place
+-- the step gives a root box its store, which is solved whatever stands elsewhere
+abbrev pub gives_root_store : Table → Place → Step → Bool
+gives_root_store T place step = gives_store step && is_in_root T place
 
--- this is the number of labels, and the plan has seen all of them, or it gives a root box its store
-abbrev pub IsSolvedAt : CoreValue → PlanValue → Option ℕ → Type 0
-IsSolvedAt c p None = ⊤
-IsSolvedAt c p (Some k) = (k ≡ length c.journal) × ((length p.journal ≡ length c.journal) ⊎ GivesRootStore (table_of c.table) p.label.place (step_of c.table.program.templates.nodes p.step))
+-- how many labels there are, where what a plan found to be solved still is: it has seen all of them, or it gives a root box its store
+abbrev pub solved_at : Table → ℕ → ℕ → Place → Step → Option ℕ
+solved_at T labels seen place step = if (seen == labels) || gives_root_store T place step then Some labels else None

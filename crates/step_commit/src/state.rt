@@ -5,9 +5,9 @@ ghost use Rattle.box_tree.specs.Tables.{table_of, step_of, goals_in, is_empty, s
 ghost use Rattle.box_tree.specs.Views.{is_there, IsUnseen, all_places};
 ghost use Rattle.box_tree.specs.Insides.{IsInsideOf};
 ghost use Rattle.akl_terms.specs.declared.name.Place.{Place};
-ghost use Rattle.step_commit.specs.Cores.{IsCore, MayCommit, IsFresh, Commits, IsRefused, IsFirstStale, is_within};
+ghost use Rattle.step_commit.specs.Cores.{IsCore, MayCommit, IsFresh, Commits, IsRefused, IsFirstStale, is_within, solved_in};
 ghost use Rattle.step_commit.specs.declared.commit.CommitError.TheVariants as variants;
-ghost use Rattle.step_commit.specs.Solving.{IsInRoot, GivesRootStore, IsSolvedAt};
+ghost use Rattle.step_commit.specs.Solving.{is_in_root, gives_root_store};
 
 use crate::commit::CommitError;
 use akl_model::{Item, Label, Receipt};
@@ -165,7 +165,7 @@ impl Core {
     // How many labels there are, where what a plan's stores were found to be solved over is in the table still: it has seen
     // all labels, or it gives a root box its store, around which there is no other.
     fn solved_at(&self, plan: &Plan) -> Option<u64>
-        ensures { IsSolvedAt self.now plan.now result }
+        ensures { result ≡ solved_in self.now plan.now }
     {
         let count = self.journal.len() as u64;
         if plan.seen() == count || gives_root_store(&self.table, plan) {
@@ -199,20 +199,6 @@ impl Core {
         })
     }
 
-    /// Appends the plan's label, and makes its step. An `Err` leaves the core as it was.
-    pub fn commit(&mut self, alloc: Global, plan: Plan) -> Result<Receipt, CommitError>
-        requires { MayCommit self.old plan }
-        ensures committed { IfOk result (Commits self.old plan self.new) }
-        ensures refused { IfErr result (IsRefused self.old plan) }
-        ensures unchanged { IfErr result (λ _. self.new ≡ self.old) }
-    {
-        if let Some(refused) = self.refusal(&plan) {
-            return Err(refused);
-        }
-        let receipt = self.append(alloc, plan)?;
-        Ok(receipt)
-    }
-
     /// The journal.
     pub fn into_journal(self) -> Vec<Label>
         ensures { result.items ≡ self.journal }
@@ -223,7 +209,7 @@ impl Core {
 
 // Whether a plan gives a root box its store.
 fn gives_root_store(table: &Table, plan: &Plan) -> bool
-    ensures { result ≡ true → GivesRootStore (table_of table.now) plan.now.label.place (step_of table.now.program.templates.nodes plan.now.step) }
+    ensures { result ≡ gives_root_store (table_of table.now) plan.now.label.place (step_of table.now.program.templates.nodes plan.now.step) }
 {
     match plan.step() {
         Step::Tell { .. } | Step::Join { .. } => is_in_root(table, plan.label().place),
@@ -238,7 +224,7 @@ fn gives_root_store(table: &Table, plan: &Plan) -> bool
 
 // Whether a goal stands in a root box.
 fn is_in_root(table: &Table, place: Place) -> bool
-    ensures { result ≡ true → IsInRoot (table_of table.now) place }
+    ensures { result ≡ is_in_root (table_of table.now) place }
 {
     match place {
         Place::Goal(goal) => match table.home_of(goal) {
