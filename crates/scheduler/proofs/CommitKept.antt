@@ -37,6 +37,7 @@ use Rattle.scheduler.specs.Splits.{splits_at, DropsSplits, AreSplitsOf}
 use Rattle.scheduler.proofs.DroppedWaits.{Waiting}
 use Rattle.scheduler.proofs.CommitFacts.{CommitFacts}
 use Rattle.scheduler.proofs.OpenAfter as after
+use Rattle.scheduler.proofs.KeptTokens.{going_keeps}
 use Rattle.scheduler.proofs.KeptAfter.{kept_but, listed_but, left_by}
 use Rattle.scheduler.proofs.OpenPlaces.{open_places, all_listed}
 use Rattle.scheduler.proofs.CoreTables.{one_config}
@@ -217,6 +218,7 @@ module _ (s : SchedulerValue) (h : IsScheduler s) (p : PlanValue) (right : IsRig
   committed_so r e f g = record {
     commits = subst (Commits s.core p core) (sym e) commits;
     follows = follows_so;
+    keeps = going_keeps s.openings ps mid ts opened h.apart l.place gone own token;
     tokens = subst (λ (z : List ℕ). AreNewTokens s.openings now z) (sym f) (after.new_tokens t.config u.config l h.now h.kept ps gone facts s.openings h.are_open h.standing h.apart mid ts opened own token);
     hurried = λ k. absurd (let no : true ≡ false = sym k ∙ g in cc);
   }

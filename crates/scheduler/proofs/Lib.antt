@@ -1,4 +1,5 @@
 pub mod OpeningLists
+pub mod FirstTokens
 pub mod OpenedMore
 pub mod DroppedWaits
 pub mod CommitFacts
@@ -17,6 +18,7 @@ pub mod Effecting
 pub mod LabelFacts
 pub mod PlanNow
 pub mod SettleAfter
+pub mod KeptTokens
 pub mod CommitKept
 pub mod SettleKept
 pub mod SettleCalls

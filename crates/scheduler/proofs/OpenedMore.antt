@@ -7,13 +7,14 @@ use Rattle.std.specs.Ordering.{nat_cmp}
 use Rattle.akl_terms.specs.declared.name.Place.{Place}
 use Rattle.akl_model.specs.Wakes.{IsOneOf}
 use Rattle.akl_terms.specs.declared.name.Name.{Name}
-use Rattle.wake_lists.specs.Open.{Opening, Openings, opening_at, IsOpen, IsOpened, closed}
+use Rattle.wake_lists.specs.Open.{Opening, Openings, opening_at, IsOpen, IsOpened, IsLeastToken, closed}
 use Rattle.wake_lists.specs.declared.turn.Urgency.{Urgency}
 use Rattle.wake_lists.proofs.Keys.{token_equal, token_here}
 use Rattle.opened_places.specs.Placed.{PlacedValue, placed, places_of}
 use Rattle.scheduler.specs.Openings.{IsOpenAt, IsNumberIn, IsEachOnce}
 use Rattle.scheduler.specs.Opening.{IsPlacedIn, closed_back, IsNewOpening, AreOpened, IsOpenedBy, was_open, is_new}
 use Rattle.scheduler.proofs.OpeningLists.{some_none, put_at, put_out, put_apart, back_end}
+use Rattle.scheduler.proofs.FirstTokens.{first_more}
 use lib.Dec.{eqb}
 
 -- members of longer lists
@@ -67,6 +68,7 @@ opened_none os ps ts e f = subst (λ (qs : List PlacedValue). AreOpened os qs os
   new = λ t i. absurd i;
   once = tt;
   apart = λ a. a;
+  tokens = λ a. a;
   undone = refl;
 }))
 
@@ -82,12 +84,16 @@ module _ (before cur : Openings) (ps : List PlacedValue) (p : PlacedValue) (ts :
     new = r.new;
     once = r.once;
     apart = r.apart;
+    tokens = r.tokens;
     undone = r.undone;
   }
 
-  module _ (t : ℕ) (o : Opening) (un : IsOpenAt cur p.place → ⊥) (free : opening_at t cur ≡ None) (same : placed o.place o.boxes ≡ p) where
+  module _ (t : ℕ) (o : Opening) (un : IsOpenAt cur p.place → ⊥) (least : IsLeastToken cur t) (same : placed o.place o.boxes ≡ p) where
     abbrev now : Openings
     now = insert_entry nat_cmp cur t o
+
+    free : opening_at t cur ≡ None
+    free = least.free
 
     place_is : o.place ≡ p.place
     place_is = ap (λ (q : PlacedValue). q.place) same
@@ -142,13 +148,14 @@ module _ (before cur : Openings) (ps : List PlacedValue) (p : PlacedValue) (ts :
       new = new_now;
       once = once_end ts t r.once fresh;
       apart = λ a. put_apart t o cur free (r.apart a);
+      tokens = λ a. first_more cur (r.tokens a) t least o;
       undone = back_end ts t now ∙ ap (closed_back ts) (put_out t o cur free) ∙ r.undone;
     }
 
   pub opened_more : (now : Openings) (ts_now : List ℕ) → IsOpenedBy cur ts p now ts_now → AreOpened before (ps ++ p ∷ []) now ts_now
   opened_more then ts_now (was_open w e f) = subst (λ (os : Openings). AreOpened before (ps ++ p ∷ []) os ts_now) (sym e) (subst (AreOpened before (ps ++ p ∷ []) cur) (sym f) (was w))
-  opened_more then ts_now (is_new t o un free same e f) = subst (λ (os : Openings). AreOpened before (ps ++ p ∷ []) os ts_now) (sym e)
-      (subst (AreOpened before (ps ++ p ∷ []) (insert_entry nat_cmp cur t o)) (sym f) (came t o un free same))
+  opened_more then ts_now (is_new t o un least same e f) = subst (λ (os : Openings). AreOpened before (ps ++ p ∷ []) os ts_now) (sym e)
+      (subst (AreOpened before (ps ++ p ∷ []) (insert_entry nat_cmp cur t o)) (sym f) (came t o un least same))
 
 -- a place that isn't open, by its token
 pub not_open : (os : Openings) (place : Place) → IsOpen os place None → IsOpenAt os place → ⊥
@@ -172,7 +179,7 @@ module _ (before now : Openings) (place : Place) (around : List Name) (t : ℕ) 
 
   pub one_more : (how : Urgency) (p : PlacedValue) (ts ts_now : List ℕ) → place ≡ p.place → around ≡ p.around → ts_now ≡ ts ++ t ∷ [] → IsOpened before now place around how t → IsOpenedBy before ts p now ts_now
   one_more how p ts ts_now i j k (IsOpened.was_open o e f h) = absurd (other o t e f)
-  one_more how p ts ts_now i j k (IsOpened.is_new u n least g last a) = is_new t (record { place = place; turn = u; boxes = around }) (λ w. not_open before place none (record { token = w.token; opening = w.opening; is_open = w.is_open; of_place = w.of_place ∙ sym i })) least.free (λ m. record { place = i m; around = j m }) a k
+  one_more how p ts ts_now i j k (IsOpened.is_new u n least g last a) = is_new t (record { place = place; turn = u; boxes = around }) (λ w. not_open before place none (record { token = w.token; opening = w.opening; is_open = w.is_open; of_place = w.of_place ∙ sym i })) least (λ m. record { place = i m; around = j m }) a k
 
 -- by an index
 pub opened_next : (places : List PlacedValue) (i : ℕ) (d p : PlacedValue) (before cur now : Openings) (ts ts_now : List ℕ) → i < length places → p ≡ get_or places i d → AreOpened before (take i places) cur ts → IsOpenedBy cur ts p now ts_now

@@ -1,5 +1,5 @@
 -- What is open under a token, when one comes, is closed, or boxes leave.
-use Rattle.std.proofs.Common.{◌≡◌, ℕ, Bool, true, false, List, [], ◌∷◌, ◌++◌, Option, Some, None, refl, sym, ap, ◌∙◌, inl, inr}
+use Rattle.std.proofs.Common.{◌≡◌, ℕ, suc, length, Bool, true, false, List, [], ◌∷◌, ◌++◌, Option, Some, None, refl, sym, ap, ◌∙◌, inl, inr}
 use Rattle.std.specs.Prelude.{cond, if◌then◌else◌, ◌||◌, option_map}
 use Rattle.std.specs.Map.{remove_entry}
 use Rattle.std.specs.BTreeMap.{insert_entry}
@@ -74,6 +74,15 @@ module _ (t : ℕ) (o : Opening) where
       on Less f r = ap (λ (b : Bool). cond b (x ∷ xs) ((t, o) ∷ remove_entry (eqb t) (x ∷ xs))) (token_here t)
       on Equal f r = absurd (equal_none x xs f e)
       on Greater f r = ap (λ (b : Bool). cond b (insert_entry nat_cmp xs t o) (x ∷ remove_entry (eqb t) (insert_entry nat_cmp xs t o))) rest.0 ∙ ap (λ (l : Openings). x ∷ l) r
+
+  pub put_length : (os : Openings) → opening_at t os ≡ None → length (insert_entry nat_cmp os t o) ≡ suc (length os)
+  put_length [] e = refl
+  put_length (x ∷ xs) e = on (nat_cmp t x.0) refl (put_length xs (none_here (eqb t x.0) x.1 (opening_at t xs) e).1)
+    where
+      on : (c : Ordering) → nat_cmp t x.0 ≡ c → length (insert_entry nat_cmp xs t o) ≡ suc (length xs) → length (match_ordering c ((t, o) ∷ x ∷ xs) ((x.0, o) ∷ xs) (x ∷ insert_entry nat_cmp xs t o)) ≡ suc (length (x ∷ xs))
+      on Less f r = refl
+      on Equal f r = absurd (equal_none x xs f e)
+      on Greater f r = ap suc r
 
   pub put_apart : (os : Openings) → opening_at t os ≡ None → AreApart os → AreApart (insert_entry nat_cmp os t o)
   put_apart [] e a = (refl, tt)

@@ -42,6 +42,7 @@ use Rattle.scheduler.proofs.DroppedWaits.{Waiting}
 use Rattle.scheduler.proofs.OpeningLists.{some_none}
 use Rattle.scheduler.proofs.CommitFacts.{not_true, not_both, or_true, or_left, or_right, place_itself, listed_place, place_listed}
 use Rattle.scheduler.proofs.OpenedMore.{its_open}
+use Rattle.scheduler.proofs.KeptTokens.{settle_keeps}
 use Rattle.scheduler.proofs.KeptAfter.{kept_but, but_kept, kept_still, listed_but}
 use Rattle.scheduler.proofs.OpenPlaces.{open_places, all_listed, others, others_listed}
 use Rattle.scheduler.proofs.CoreTables.{one_config}
@@ -309,6 +310,7 @@ module _ (s : SchedulerValue) (h : IsScheduler s) (place : Place) (on : List Var
         λ e. subst (λ (y : Config). IsKeptAfterSettle ws xs y place on other x) c_is (kept_as still xs h.kept ws there kept_there c place on other x (are_left.1.left_by.each other x (are_left.1.listed.all other x e))),
         λ k. are_left.1.listed.only other x (are_left.1.left_by.all other x (kept_as xs still ws h.kept back kept_back c place on other x (subst (λ (y : Config). IsKeptAfterSettle ws xs y place on other x) (sym c_is) k))),
       );
+      keeps = settle_keeps s.core.table s.openings h.apart near mid found opens own place token;
       token = token_so;
     }
 

@@ -25,12 +25,13 @@ use Rattle.opened_places.specs.Placed.{PlacedValue, placed}
 use Rattle.box_tree.specs.Tables.{all_rules, table_of}
 use Rattle.box_tree.specs.Views.{is_there, all_places}
 use Rattle.box_tree.proofs.Begins.{row_listed}
-use Rattle.step_commit.specs.Cores.{CoreValue, IsCore, run_by}
+use Rattle.step_commit.specs.Cores.{CoreValue, IsCore, TableIn, run_by}
 use Rattle.scheduler.specs.Openings.{IsOpenAt, AreApart, AreStandingIn, name_at}
 use Rattle.scheduler.specs.Opening.{AreOpened}
 use Rattle.scheduler.specs.Placing.{AddsThose}
 use Rattle.scheduler.specs.Schedulers.{SchedulerValue, IsScheduler, IsQuiet, HasGone}
 use Rattle.scheduler.specs.AllPlaces.{AreAllPlaced, AreAllOpen}
+use Rattle.scheduler.proofs.FirstTokens.{none_first}
 use Rattle.scheduler.proofs.OpeningLists.{some_none, out_at, out_apart}
 use Rattle.scheduler.proofs.OpenPlaces.{open_places, all_listed, none_open}
 use Rattle.scheduler.proofs.OpenAfter.{in_names, names_in, some_and, and_some}
@@ -71,7 +72,12 @@ opened_all c ps os ts a r = record {
   all = λ t place h. r.all place (a.all t place h);
   around = λ t token o e. elim (r.each token o e) [ inl z ↦ absurd (some_none z refl) | inr n ↦ a.around t (placed o.place o.boxes) n.is_placed ];
   apart = r.apart tt;
+  tokens = r.tokens none_first;
 }
+
+-- and what is open is there
+pub there_open : (c : CoreValue) (os : Openings) → AreAllOpen c os → (t : TableIn c) (place : Place) → IsOpenAt os place → IsThere place t.config.roots
+there_open c os a t place w = subst (λ (p : Place). IsThere p t.config.roots) w.of_place (ap is_some (a.around t w.token w.opening w.is_open))
 
 begins_run : (rules : List Rule) (p : Program) (q : Query) (journal : List Label) (c : Config) (now : List Place) → journal ≡ [] → Derives rules p (start p q) journal c → ((place : Place) → IsThere place c.roots → IsOneOf place now)
     → Runs rules p q journal c now []

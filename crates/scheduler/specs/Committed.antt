@@ -10,7 +10,7 @@ use Rattle.box_tree.specs.Plans.{PlanValue}
 use Rattle.wake_lists.specs.Waits.{waits_on}
 use Rattle.step_commit.specs.Cores.{Commits, TableIn}
 use Rattle.scheduler.specs.declared.committing.Committed.{Committed}
-use Rattle.scheduler.specs.Openings.{IsOpenAt, AreOpenPlaces, AreListed, AreNewTokens}
+use Rattle.scheduler.specs.Openings.{IsOpenAt, AreOpenPlaces, AreListed, AreNewTokens, KeepsTokens}
 use Rattle.scheduler.specs.Schedulers.{SchedulerValue}
 use Rattle.scheduler.specs.Turns.{IsUrgentAt}
 
@@ -28,10 +28,11 @@ pub record FailingAreUrgent (s d : SchedulerValue) : Type 0 where
   pub urgent : (t : TableIn s.core) (u : TableIn d.core) (kept : List Wait) (n : Name) (f : Found) → AreListed s.waits kept → Opens kept t.config u.config (Place.Box n) → box_at n u.config.roots ≡ Some f → HasFailed f.goals
       → IsUrgentAt d.openings (Place.Box n)
 
--- the core goes on by the plan's label, open and kept is just what a commit leaves so, the tokens are those of the places that weren't open, and
--- boxes that fail are urgent where memory sufficed for it
+-- the core goes on by the plan's label, open and kept is just what a commit leaves so, under the tokens that were, the new tokens are those of the
+-- places that weren't open, and boxes that fail are urgent where memory sufficed for it
 pub record CommitsAndOpens (s : SchedulerValue) (p : PlanValue) (d : SchedulerValue) (r : Committed) : Type 0 where
   pub commits : Commits s.core p d.core r.receipt
   pub follows : (t : TableIn s.core) (u : TableIn d.core) (before : List Place) (kept : List Wait) → AreOpenPlaces s.openings before → AreListed s.waits kept → IsOpenAndKept s d p t u before kept
+  pub keeps : KeepsTokens s.openings d.openings
   pub tokens : AreNewTokens s.openings d.openings r.opened.items
   pub hurried : r.hurried ≡ true → FailingAreUrgent s d

@@ -1,5 +1,5 @@
 -- Open places and kept waits: lists of them, and how they stand in a configuration.
-use Rattle.std.specs.Prelude.{◌≡◌, ℕ, List, [], ◌∷◌, true, Some, None, ⊤, ◌⊎◌}
+use Rattle.std.specs.Prelude.{◌≡◌, ℕ, ◌<◌, List, [], ◌∷◌, length, true, Some, None, IsSome, ⊤, ◌⊎◌, ◌↔◌}
 use Rattle.akl_terms.specs.declared.name.Name.{Name}
 use Rattle.akl_terms.specs.declared.name.Var.{Var}
 use Rattle.akl_terms.specs.declared.name.Place.{Place}
@@ -63,3 +63,11 @@ pub record AreNewTokens (before now : Openings) (tokens : List ℕ) : Type 0 whe
   pub new : (t : ℕ) → IsNumberIn t tokens → (o : Opening) × (opening_at t now ≡ Some o) × (IsOpenAt before o.place → ⊥)
   pub all : (t : ℕ) (o : Opening) → opening_at t now ≡ Some o → (IsOpenAt before o.place → ⊥) → IsNumberIn t tokens
   pub once : IsEachOnce tokens
+
+-- the tokens are 0, 1, .. without a gap: just those below the number of open places lead to one
+abbrev pub AreFirstTokens : Openings → Type 0
+AreFirstTokens os = (token : ℕ) → IsSome (opening_at token os) ↔ (token < length os)
+
+-- a place that was open, and is, has the token that it had
+pub record KeepsTokens (before now : Openings) : Type 0 where
+  pub each : (token : ℕ) (o : Opening) → opening_at token before ≡ Some o → IsOpenAt now o.place → (p : Opening) × (opening_at token now ≡ Some p) × (p.place ≡ o.place)

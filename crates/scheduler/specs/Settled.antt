@@ -12,7 +12,7 @@ use Rattle.step_commit.specs.Cores.{CoreValue, IsStale, TableIn}
 use Rattle.step_commit.specs.declared.commit.CommitError.{CommitError}
 use Rattle.idle_places.specs.Idling.{IdleValue}
 use Rattle.idle_places.specs.Later.{HasNoReason, IsIdleStill}
-use Rattle.scheduler.specs.Openings.{IsOpenAt, AreOthersOpen, AreListed}
+use Rattle.scheduler.specs.Openings.{IsOpenAt, AreOthersOpen, AreListed, KeepsTokens}
 use Rattle.scheduler.specs.Schedulers.{SchedulerValue}
 use Rattle.scheduler.specs.Weights.{weight}
 
@@ -33,10 +33,11 @@ pub record IsTokenOfOpened (s d : SchedulerValue) (place : Place) (c : Config) (
   pub opened : (token : ℕ) → result ≡ Some token → (n : Name) × SettleOpens still c place n × ((o : Opening) × (opening_at token d.openings ≡ Some o) × (o.place ≡ Place.Box n))
   pub none : result ≡ None → (n : Name) → SettleOpens still c place n → ⊥
 
--- where these are open besides the place, and these waits are kept, just what a settle leaves open and kept is so
+-- where these are open besides the place, and these waits are kept, just what a settle leaves open and kept is so, under the tokens that were
 pub record IsLeftBySettle (s d : SchedulerValue) (place : Place) (on : List Var) (c : Config) (still : List Place) (kept : List Wait) (result : Option ℕ) : Type 0 where
   pub is_open : (other : Place) → IsOpenAt d.openings other ↔ IsOpenAfterSettle still c place other
   pub waits : (other : Place) (x : Var) → (waits_on d.waits other x ≡ true) ↔ IsKeptAfterSettle kept still c place on other x
+  pub keeps : KeepsTokens s.openings d.openings
   pub token : IsTokenOfOpened s d place c still result
 
 -- a place that isn't open is left alone; else at most one box is opened for it, which stands in fewer boxes

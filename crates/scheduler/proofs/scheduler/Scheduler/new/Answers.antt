@@ -7,7 +7,7 @@ use Rattle.scheduler.specs.declared.splits.Split.{Split}
 use Rattle.scheduler.specs.Schedulers.{IsScheduler}
 use Rattle.scheduler.specs.Splits.{AreSplitsOf}
 use Rattle.scheduler.proofs.SplitsKept.{started_splits}
-use Rattle.scheduler.proofs.Starting.{started}
+use Rattle.scheduler.proofs.Starting.{started, there_open}
 use Rattle.scheduler.proofs.scheduler.Scheduler.new.Goals as goal
 
 pub invariant_of-result : goal.invariant_of-result
@@ -20,4 +20,8 @@ invariant_of-result c =
     }
 
 pub returns-clause-open : goal.returns-clause-open
-returns-clause-open c = record { all = c.in_ok-open.ensures.all }
+returns-clause-open c = record {
+  all = c.in_ok-open.ensures.all;
+  only = λ t place w. there_open c.args.core.now c.in_ok-open.open c.in_ok-open.ensures t place w;
+  tokens = c.in_ok-open.ensures.tokens;
+}
