@@ -13,7 +13,8 @@ use Rattle.akl_model.specs.Conditions.{HasFailed}
 use Rattle.akl_model.proofs.Options.{some_value, map_some}
 use Rattle.table_laws.specs.Rows.{BoxRow}
 use Rattle.table_laws.specs.Unfolds.{FailsBy, IsBoxRow}
-use Rattle.table_laws.proofs.Frame.{row_of}
+use Rattle.step_laws.proofs.Failing.{failing_found}
+use Rattle.table_laws.proofs.Frame.{row_of, found_of}
 use Rattle.box_tree.specs.Tables.{TableValue, table_of, box_row}
 use Rattle.box_tree.specs.Paths.{sight_in}
 use Rattle.box_tree.specs.declared.entries.BoxEntry.{BoxEntry}
@@ -90,21 +91,38 @@ urgent_next v ps i d q mid new h r e still now = subst (λ (l : List PlacedValue
   ];
 })
 
--- a box that fails is seen so
-module _ (s d : SchedulerValue) (places : List Place) (among : OpensAmong s d places) (urgent : AreUrgent d.core.table places d.openings) where
-  seen_failing : (u : TableIn d.core) (n : Name) (f : Found) → box_at n u.config.roots ≡ Some f → HasFailed f.goals → urgency_seen (sight_in d.core.table (Place.Box n)) ≡ Urgency.Urgent
-  seen_failing u n f e h =
-      let w : (r : BoxRow) × ((table_of d.core.table).box_of n ≡ Some r) × IsBoxRow (table_of d.core.table) u.config.roots f r = row_of (table_of d.core.table) u.config u.unfolds n f e in
-      let x : (b : BoxEntry) × (lookup (same_name n) d.core.table.boxes ≡ Some b) × (box_row d.core.table.program.templates.nodes b ≡ w.0) =
-      map_some (box_row d.core.table.program.templates.nodes) (lookup (same_name n) d.core.table.boxes) w.0 w.1 in
+-- a box that fails is seen so, and no other
+module _ (c : CoreValue) (t : TableIn c) (n : Name) where
+  pub seen_failing : (f : Found) → box_at n t.config.roots ≡ Some f → HasFailed f.goals → urgency_seen (sight_in c.table (Place.Box n)) ≡ Urgency.Urgent
+  seen_failing f e h =
+      let w : (r : BoxRow) × ((table_of c.table).box_of n ≡ Some r) × IsBoxRow (table_of c.table) t.config.roots f r = row_of (table_of c.table) t.config t.unfolds n f e in
+      let x : (b : BoxEntry) × (lookup (same_name n) c.table.boxes ≡ Some b) × (box_row c.table.program.templates.nodes b ≡ w.0) =
+      map_some (box_row c.table.program.templates.nodes) (lookup (same_name n) c.table.boxes) w.0 w.1 in
       ap (λ (o : Option BoxEntry). urgency_seen (option_map (λ (b : BoxEntry). (n, Sight.Box b.failing)) o)) x.1 ∙ on x.0.failing (subst (λ (r : BoxRow). FailsBy f.goals r.failing) (sym x.2) w.2.failing)
     where
       on : (o : Option Name) → FailsBy f.goals o → urgency_by (Sight.Box o) ≡ Urgency.Urgent
       on None k = absurd (k h)
       on (Some g) k = refl
 
+  pub failing_seen : urgency_seen (sight_in c.table (Place.Box n)) ≡ Urgency.Urgent → (f : Found) × (box_at n t.config.roots ≡ Some f) × HasFailed f.goals
+  failing_seen e = on (lookup (same_name n) c.table.boxes) refl e
+    where
+      by : (f : Found) (o : Option Name) → FailsBy f.goals o → urgency_by (Sight.Box o) ≡ Urgency.Urgent → HasFailed f.goals
+      by f None k i = cc
+      by f (Some g) k i = failing_found g f.goals k.0 k.1 k.2
+
+      on : (o : Option BoxEntry) → lookup (same_name n) c.table.boxes ≡ o → urgency_seen (option_map (λ (b : BoxEntry). (n, Sight.Box b.failing)) o) ≡ Urgency.Urgent → (f : Found) × (box_at n t.config.roots ≡ Some f) × HasFailed f.goals
+      on None i k = cc
+      on (Some b) i k =
+          let r : (table_of c.table).box_of n ≡ Some (box_row c.table.program.templates.nodes b) = ap (option_map (box_row c.table.program.templates.nodes)) i in
+          let w : (f : Found) × (box_at n t.config.roots ≡ Some f) × IsBoxRow (table_of c.table) t.config.roots f (box_row c.table.program.templates.nodes b) =
+          found_of (table_of c.table) t.config t.unfolds n (box_row c.table.program.templates.nodes b) r in
+          (w.0, w.1, by w.0 b.failing w.2.failing k)
+
+-- so those that fail are urgent
+module _ (s d : SchedulerValue) (places : List Place) (among : OpensAmong s d places) (urgent : AreUrgent d.core.table places d.openings) where
   pub failing_urgent : FailingAreUrgent s d
-  failing_urgent = record { urgent = λ t u kept n f l o e h. urgent.each (Place.Box n) (among.listed t u kept (Place.Box n) l o) (seen_failing u n f e h) }
+  failing_urgent = record { urgent = λ t u kept n f l o e h. urgent.each (Place.Box n) (among.listed t u kept (Place.Box n) l o) (seen_failing d.core u n f e h) }
 
 -- what is open among these places doesn't depend on when it comes
 pub still_among : (s d e : SchedulerValue) (places : List Place) → e.core ≡ d.core → OpensAmong s d places → OpensAmong s e places

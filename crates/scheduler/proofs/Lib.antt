@@ -21,6 +21,7 @@ pub mod SettleAfter
 pub mod KeptTokens
 pub mod CommitKept
 pub mod SettleKept
+pub mod Reasons
 pub mod SettleCalls
 pub mod Outwards
 pub mod Weights

@@ -135,7 +135,7 @@ module _ (v : TableValue) where
     abbrev roots : Boxes
     roots = t.config.roots
 
-    candidate_same : (n : Name) → is_some (candidate_in (table_of v) n) ≡ is_candidate (box_at n t.config.roots)
+    pub candidate_same : (n : Name) → is_some (candidate_in (table_of v) n) ≡ is_candidate (box_at n t.config.roots)
     candidate_same n = on (box_at n t.config.roots) refl
       where
         on : (o : Option Found) → box_at n t.config.roots ≡ o → is_some (candidate_in (table_of v) n) ≡ is_candidate (box_at n t.config.roots)

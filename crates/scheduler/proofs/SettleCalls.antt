@@ -10,7 +10,7 @@ use Rattle.wake_lists.specs.Open.{Openings, IsOpen, IsOpened, closed}
 use Rattle.wake_lists.specs.Waits.{waits_on}
 use Rattle.box_tree.specs.Tables.{TableValue, table_of}
 use Rattle.step_commit.specs.Cores.{CoreValue, IsCore, IsStale, IsFirstStale}
-use Rattle.step_commit.proofs.Stale.{stale}
+use Rattle.step_commit.proofs.Stale.{stale, unchanged_here, all_within}
 use Rattle.step_commit.proofs.Made.{found_as}
 use Rattle.idle_places.specs.Idling.{IdleValue, IsIdle}
 use Rattle.opened_places.specs.Placed.{PlacedValue, HasAround}
@@ -18,20 +18,25 @@ use Rattle.scheduler.specs.Openings.{IsOpenAt}
 use Rattle.scheduler.specs.Dropping.{closed_one}
 use Rattle.scheduler.specs.Schedulers.{SchedulerValue, IsScheduler}
 use Rattle.scheduler.specs.Settling.{OpensCandidate}
-use Rattle.scheduler.specs.Settled.{MaySettle, IsFoundIdle, Settles}
+use Rattle.scheduler.specs.Settled.{MaySettle, IsFreshIdle, IsSeenEnough, IsFoundIdle, Settles}
 use Rattle.scheduler.proofs.DroppedWaits.{Waiting}
 use Rattle.scheduler.proofs.OpeningLists.{put_out}
 use Rattle.scheduler.proofs.OpenedMore.{not_open, its_open}
 use Rattle.scheduler.proofs.SettleKept.{idle_looked, idle_now}
+use Rattle.scheduler.proofs.Reasons.{seen_reason}
 
 -- the first item that was changed, or none
 pub stale_so : (c : CoreValue) (k : IsCore c) (v : IdleValue) (i : IsIdle v) (m : MaySettle c v) (xs : List Item) (n : ℕ) (o : Option (Item × Option ℕ)) (item : Item) (stamp : Option ℕ) → xs ≡ v.reads → n ≡ length v.journal
     → o ≡ Some (item, stamp) → IsFirstStale (table_of c.table) xs n o → IsStale c v.journal v.reads item stamp
 stale_so c k v i m xs n o item stamp e f g h = stale c k v.table v.journal v.reads (idle_looked c v i m) item stamp (found_as (table_of c.table) xs v.reads n (length v.journal) o (Some (item, stamp)) e f g h)
 
-pub fresh_so : (c : CoreValue) (v : IdleValue) (i : IsIdle v) (m : MaySettle c v) (xs : List Item) (n : ℕ) (o : Option (Item × Option ℕ)) → xs ≡ v.reads → n ≡ length v.journal → o ≡ None → IsFirstStale (table_of c.table) xs n o
-    → IsFoundIdle c v.place v.on
-fresh_so c v i m xs n o e f g h = idle_now c v i m (found_as (table_of c.table) xs v.reads n (length v.journal) o None e f g h)
+pub fresh_so : (c : CoreValue) (k : IsCore c) (v : IdleValue) (i : IsIdle v) (m : MaySettle c v) (xs : List Item) (n : ℕ) (o : Option (Item × Option ℕ)) → xs ≡ v.reads → n ≡ length v.journal → o ≡ None → IsFirstStale (table_of c.table) xs n o
+    → IsFreshIdle c v
+fresh_so c k v i m xs n o e f g h = record { unchanged = λ j r. unchanged_here c k v.table v.journal v.reads (idle_looked c v i m) j (found_as (table_of c.table) xs v.reads n (length v.journal) o None e f g h j r) }
+
+-- so a place that was seen enough is idle now
+pub idle_so : (s : SchedulerValue) (k : IsCore s.core) (v : IdleValue) (i : IsIdle v) (m : MaySettle s.core v) → IsSeenEnough s v → IsFreshIdle s.core v → IsFoundIdle s.core v.place v.on
+idle_so s k v i m seen fresh = idle_now s.core v i m (seen_reason s v i seen) (all_within s.core k v.table v.journal v.reads (idle_looked s.core v i m) fresh.unchanged)
 
 -- a place that is open waits on nothing
 pub waits_none : (s : SchedulerValue) → IsScheduler s → (place : Place) → IsOpenAt s.openings place → (x : Var) → waits_on s.waits place x ≡ false

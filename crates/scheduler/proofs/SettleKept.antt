@@ -11,7 +11,7 @@ use Rattle.akl_terms.specs.declared.program.Query.{Query}
 use Rattle.akl_terms.specs.Names.{same_var}
 use Rattle.akl_terms.proofs.SameNames.{same_var-equal}
 use Rattle.akl_model.specs.declared.item.Item.{Item}
-use Rattle.akl_model.specs.Config.{Config}
+use Rattle.akl_model.specs.Config.{Config, Found, site_of}
 use Rattle.akl_model.specs.Wakes.{Wait, IsKept, IsOneOf, SettleOpens, IsOpenAfterSettle, IsKeptAfterSettle}
 use Rattle.constraint_laws.specs.Touched.{IsAmong}
 use Rattle.plan_laws.specs.Stamps as stamps
@@ -31,6 +31,7 @@ use Rattle.step_commit.specs.Cores.{CoreValue, run_by, is_within, AllWithin, Tab
 use Rattle.step_commit.proofs.Committed.{stamp_last}
 use Rattle.step_commit.proofs.Stale.{IsLooked}
 use Rattle.idle_places.specs.Idling.{IdleValue, IsIdle}
+use Rattle.idle_places.specs.Later.{HasNoReason}
 use Rattle.idle_places.proofs.Later.{idle_later}
 use Rattle.scheduler.specs.Openings.{IsOpenAt, AreOpenPlaces, AreOthersOpen, AreListed, AreApart}
 use Rattle.scheduler.specs.Dropping.{is_place_in, DropsWaits}
@@ -60,8 +61,8 @@ idle_looked c v i m = record {
   there = i.there;
 }
 
-pub idle_now : (c : CoreValue) (v : IdleValue) → IsIdle v → MaySettle c v → AllWithin (table_of c.table) v.reads (length v.journal) → IsFoundIdle c v.place v.on
-idle_now c v i m within = record {
+pub idle_now : (c : CoreValue) (v : IdleValue) → IsIdle v → MaySettle c v → (v.inside ≡ false → (t : TableIn c) (f : Found) → site_of v.place t.config.roots ≡ Some f → HasNoReason f) → AllWithin (table_of c.table) v.reads (length v.journal) → IsFoundIdle c v.place v.on
+idle_now c v i m reason within = record {
   idle = λ t. idle_later v i c.table.program c.table.query c.journal t.config (record {
     program = m.program;
     query = m.query;
@@ -69,7 +70,7 @@ idle_now c v i m within = record {
     front = m.front;
     replays = t.replays;
     unchanged = λ j r. unseen t (stamp_in (table_of c.table) j) j refl (within j r);
-    no_reason = λ e. m.no_reason e t;
+    no_reason = λ e. reason e t;
   });
 }
   where

@@ -134,20 +134,23 @@ module _ (v : TableValue) (run : Run) (t : IsTableOf all_rules run (table_of v))
   first_splits (Some g) f = first_is g f
 
 -- a scheduler keeps all of a box in which nothing is open
-pub quiet_splits : (s : SchedulerValue) (kept : List Split) → KeepsSplits s kept → (n : Name) → is_busy n s.openings ≡ false → (o : Option Name) → IsFirstIn n kept o
-    → candidate_in (table_of s.core.table) n ≡ candidate_by (table_of s.core.table) o
-quiet_splits s kept h n b = first_splits s.core.table (run_by s.core) h.scheduler.core.table kept h.splits.only n all
-  where
-    all : (x : Split) → x.name ≡ n → split_at (table_of s.core.table) (Place.Goal x.goal) ≡ Some x → is_kept x kept ≡ true
-    all x e f = elim (h.splits.all x f) [
-      | inr k ↦ k
-      | inl w ↦
-          let stands : StandsIn x.name h.scheduler.core.table.config.roots (Place.Goal x.goal) =
-          (split_in (table_of s.core.table) h.scheduler.core.table.config h.scheduler.core.table.unfolds (run_rows.once s.core.table (run_by s.core) h.scheduler.core.table) x f).stands in
-          let inside : is_in x.name w.opening.boxes ≡ true =
-          h.scheduler.standing.around w.token w.opening x.name w.is_open (subst (StandsIn x.name h.scheduler.core.table.config.roots) (sym w.of_place) stands) in
-          absurd (not_both (ap (λ (m : Name). is_busy m s.openings) (sym e) ∙ some_busy x.name s.openings w.token w.opening w.is_open inside) b)
-    ]
+module _ (s : SchedulerValue) (kept : List Split) (h : KeepsSplits s kept) (n : Name) (b : is_busy n s.openings ≡ false) where
+  all_kept : (x : Split) → x.name ≡ n → split_at (table_of s.core.table) (Place.Goal x.goal) ≡ Some x → is_kept x kept ≡ true
+  all_kept x e f = elim (h.splits.all x f) [
+    | inr k ↦ k
+    | inl w ↦
+        let stands : StandsIn x.name h.scheduler.core.table.config.roots (Place.Goal x.goal) =
+        (split_in (table_of s.core.table) h.scheduler.core.table.config h.scheduler.core.table.unfolds (run_rows.once s.core.table (run_by s.core) h.scheduler.core.table) x f).stands in
+        let inside : is_in x.name w.opening.boxes ≡ true =
+        h.scheduler.standing.around w.token w.opening x.name w.is_open (subst (StandsIn x.name h.scheduler.core.table.config.roots) (sym w.of_place) stands) in
+        absurd (not_both (ap (λ (m : Name). is_busy m s.openings) (sym e) ∙ some_busy x.name s.openings w.token w.opening w.is_open inside) b)
+  ]
+
+  pub quiet_enough : is_some (candidate_in (table_of s.core.table) n) ≡ has_kept n kept
+  quiet_enough = box_enough s.core.table (run_by s.core) h.scheduler.core.table kept h.splits.only n all_kept
+
+  pub quiet_splits : (o : Option Name) → IsFirstIn n kept o → candidate_in (table_of s.core.table) n ≡ candidate_by (table_of s.core.table) o
+  quiet_splits = first_splits s.core.table (run_by s.core) h.scheduler.core.table kept h.splits.only n all_kept
 
 -- of a box in which nothing is open but one place, all are kept
 module _ (v : TableValue) (run : Run) (t : IsTableOf all_rules run (table_of v)) (os : Openings) (apart : AreApart os) (standing : AreStandingIn t.config os) (place : Place) (own : ℕ) (token : IsOpen os place (Some own))

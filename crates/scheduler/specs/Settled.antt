@@ -3,26 +3,41 @@ use Rattle.std.specs.Prelude.{◌≡◌, ◌<◌, ℕ, List, ◌++◌, true, fal
 use Rattle.akl_terms.specs.declared.name.Name.{Name}
 use Rattle.akl_terms.specs.declared.name.Var.{Var}
 use Rattle.akl_terms.specs.declared.name.Place.{Place}
+use Rattle.akl_model.specs.declared.item.Item.{Item}
 use Rattle.akl_model.specs.declared.label.Label.{Label}
-use Rattle.akl_model.specs.Config.{Config, Found, site_of}
+use Rattle.akl_model.specs.Config.{Config, Found, box_at}
 use Rattle.akl_model.specs.Wakes.{Wait, SettleOpens, IsOpenAfterSettle, IsKeptAfterSettle}
-use Rattle.wake_lists.specs.Open.{Opening, opening_at}
+use Rattle.box_tree.specs.Plans.{IsRead}
+use Rattle.wake_lists.specs.Open.{Opening, opening_at, is_busy}
 use Rattle.wake_lists.specs.Waits.{waits_on}
-use Rattle.step_commit.specs.Cores.{CoreValue, IsStale, TableIn}
-use Rattle.step_commit.specs.declared.commit.CommitError.{CommitError}
+use Rattle.step_commit.specs.Cores as cores
+use Rattle.step_commit.specs.Cores.{CoreValue, TableIn}
 use Rattle.idle_places.specs.Idling.{IdleValue}
 use Rattle.idle_places.specs.Later.{HasNoReason, IsIdleStill}
+use Rattle.scheduler.specs.declared.settling.SettleError.{SettleError}
 use Rattle.scheduler.specs.Openings.{IsOpenAt, AreOthersOpen, AreListed, KeepsTokens}
 use Rattle.scheduler.specs.Schedulers.{SchedulerValue}
 use Rattle.scheduler.specs.Weights.{weight}
 
--- a place was found idle for a front of the journal; one that didn't look inside has no reason to be ready now
+-- a place was found idle for a front of the journal
 pub record MaySettle (c : CoreValue) (v : IdleValue) : Type 0 where
   pub program : v.table.program ≡ c.table.program
   pub query : v.table.query ≡ c.table.query
   pub further : List Label
   pub front : c.journal ≡ v.journal ++ further
-  pub no_reason : v.inside ≡ false → (t : TableIn c) (f : Found) → site_of v.place t.config.roots ≡ Some f → HasNoReason f
+
+-- no label behind that front changed an item that was read
+pub record IsFreshIdle (c : CoreValue) (v : IdleValue) : Type 0 where
+  pub unchanged : (i : Item) → IsRead v.reads i → cores.IsUnchanged c v.journal i
+
+-- nothing is open in a box, and it has no goal by which it fails, and no candidate of a split
+pub record HasNoReasonNow (s : SchedulerValue) (n : Name) : Type 0 where
+  pub at_rest : is_busy n s.openings ≡ false
+  pub no_reason : (t : TableIn s.core) (f : Found) → box_at n t.config.roots ≡ Some f → HasNoReason f
+
+-- so it is for a box that was found idle without a look inside
+abbrev pub IsSeenEnough : SchedulerValue → IdleValue → Type 0
+IsSeenEnough s v = v.inside ≡ false → (n : Name) → v.place ≡ Place.Box n → HasNoReasonNow s n
 
 -- the place isn't ready now, and these variables are enough for it to wait on
 pub record IsFoundIdle (c : CoreValue) (place : Place) (on : List Var) : Type 0 where
@@ -54,7 +69,7 @@ pub record IsUnchanged (s d : SchedulerValue) : Type 0 where
   pub waits : (place : Place) (x : Var) → waits_on d.waits place x ≡ waits_on s.waits place x
 
 -- why a place isn't settled; want of memory is free
-abbrev pub IsNotSettled : CoreValue → IdleValue → CommitError → Type 0
-IsNotSettled c v (CommitError.Spent budget) = ⊥
-IsNotSettled c v (CommitError.Stale item stamp) = IsStale c v.journal v.reads item stamp
-IsNotSettled c v (CommitError.Memory error) = Unit {0}
+abbrev pub IsNotSettled : SchedulerValue → IdleValue → SettleError → Type 0
+IsNotSettled s v (SettleError.Stale item stamp) = cores.IsStale s.core v.journal v.reads item stamp
+IsNotSettled s v SettleError.LookInside = IsFreshIdle s.core v × (IsSeenEnough s v → ⊥)
+IsNotSettled s v (SettleError.Memory error) = Unit {0}

@@ -20,3 +20,4 @@ mod turns;
 pub use attention::Attention;
 pub use committing::Committed;
 pub use scheduler::Scheduler;
+pub use settling::SettleError;

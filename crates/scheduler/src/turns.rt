@@ -263,9 +263,10 @@ fn is_elsewhere(told: Option<Name>, name: Name) -> bool {
     }
 }
 
-// Whether a box has a goal by which it fails.
-fn is_failing(table: &Table, name: Name) -> bool
-    ensures { urgency_seen (sight_in table.now (Place.Box name)) ≡ Urgency.Urgent → result ≡ true }
+/// Whether a box has a goal by which it fails.
+pub(crate) fn is_failing(table: &Table, name: Name) -> bool
+    ensures failing { urgency_seen (sight_in table.now (Place.Box name)) ≡ Urgency.Urgent → result ≡ true }
+    ensures only { result ≡ true → urgency_seen (sight_in table.now (Place.Box name)) ≡ Urgency.Urgent }
 {
     match table.sight_of(Place::Box(name)) {
         Some((_, Sight::Box { failing: Some(_) })) => true,
