@@ -1,6 +1,6 @@
 //! Labels that are committed, with the places that they open.
 
-ghost use Rattle.std.specs.Prelude.{◌≡◌, ◌<◌, IfOk, IfErr};
+ghost use Rattle.std.specs.Prelude.{◌≡◌, IfOk, IfErr};
 ghost use Rattle.step_commit.specs.Cores.{MayCommit, IsFresh, IsRefused};
 ghost use Rattle.opened_places.specs.Gone.{AreGone};
 ghost use Rattle.scheduler.specs.Listing.{AreListedFor};
@@ -22,8 +22,7 @@ use box_tree::Plan;
 use opened_places::Placed;
 use smallvec::SmallVec;
 use std::alloc::{AllocError, Global};
-use std::marker::Brand;
-use std::sync::ledger::{Blank, Ledger};
+use std::sync::ledger::Ledger;
 use step_commit::CommitError;
 
 /// A label that was committed.
@@ -67,35 +66,6 @@ impl Scheduler {
         }
         let committed = self.commit_fresh(alloc, plan, steps)?;
         Ok(committed)
-    }
-
-    /// The same by a counter that nobody reads.
-    pub fn commit_uncounted(&mut self, alloc: Global, plan: Plan) -> Result<Committed, CommitError>
-        requires { MayCommit self.old.core plan }
-        ensures committed { IfOk result (CommitsAndOpens self.old plan self.new) }
-        ensures refused { IfErr result (IsRefused self.old.core plan) }
-        ensures unchanged { IfErr result (λ _. self.new ≡ self.old) }
-    {
-        self.commit_blank::<Brand>(alloc, plan, Blank::new(1))
-    }
-
-    // The same by a new counter.
-    fn commit_blank<L: Ledger>(
-        &mut self,
-        alloc: Global,
-        plan: Plan,
-        blank: Blank,
-    ) -> Result<Committed, CommitError>
-        requires may { MayCommit self.old.core plan }
-        requires name { blank.name ≡ L.name }
-        requires parts { blank.parts ≡ L.parts }
-        requires some { 0 < blank.parts }
-        ensures committed { IfOk result (CommitsAndOpens self.old plan self.new) }
-        ensures refused { IfErr result (IsRefused self.old.core plan) }
-        ensures unchanged { IfErr result (λ _. self.new ≡ self.old) }
-    {
-        let mut steps = Steps::<L>::new(blank);
-        self.commit(alloc, plan, &mut steps)
     }
 
     // The same for a plan that isn't refused.
