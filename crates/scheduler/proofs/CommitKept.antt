@@ -25,7 +25,7 @@ use Rattle.opened_places.specs.Placed.{PlacedValue, places_of}
 use Rattle.opened_places.specs.Gone.{AreAllGone, AreGone}
 use Rattle.opened_places.proofs.OpenedWays.{opens_law}
 use Rattle.opened_places.proofs.RunRows as run_rows
-use Rattle.scheduler.specs.Openings.{IsOpenAt, AreOpenPlaces, AreListed, AreNewTokens}
+use Rattle.scheduler.specs.Openings.{IsOpenAt, AreOpenPlaces, AreListed, AreNewTokens, KeepsTokens}
 use Rattle.scheduler.specs.Opening.{AreOpened}
 use Rattle.scheduler.specs.Dropping.{DropsWaits, after_going}
 use Rattle.scheduler.specs.Listing.{AreListedFor}
@@ -218,7 +218,7 @@ module _ (s : SchedulerValue) (h : IsScheduler s) (p : PlanValue) (right : IsRig
   committed_so r e f g = record {
     commits = subst (Commits s.core p core) (sym e) commits;
     follows = follows_so;
-    keeps = going_keeps s.openings ps mid ts opened h.apart l.place gone own token;
+    keeps = subst (λ (z : List ℕ). KeepsTokens s.openings now z) (sym f) (going_keeps s.openings ps mid ts opened h.apart l.place gone own token);
     tokens = subst (λ (z : List ℕ). AreNewTokens s.openings now z) (sym f) (after.new_tokens t.config u.config l h.now h.kept ps gone facts s.openings h.are_open h.standing h.apart mid ts opened own token);
     hurried = λ k. absurd (let no : true ≡ false = sym k ∙ g in cc);
   }

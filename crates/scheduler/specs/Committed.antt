@@ -33,6 +33,6 @@ pub record FailingAreUrgent (s d : SchedulerValue) : Type 0 where
 pub record CommitsAndOpens (s : SchedulerValue) (p : PlanValue) (d : SchedulerValue) (r : Committed) : Type 0 where
   pub commits : Commits s.core p d.core r.receipt
   pub follows : (t : TableIn s.core) (u : TableIn d.core) (before : List Place) (kept : List Wait) → AreOpenPlaces s.openings before → AreListed s.waits kept → IsOpenAndKept s d p t u before kept
-  pub keeps : KeepsTokens s.openings d.openings
+  pub keeps : KeepsTokens s.openings d.openings r.opened.items
   pub tokens : AreNewTokens s.openings d.openings r.opened.items
   pub hurried : r.hurried ≡ true → FailingAreUrgent s d

@@ -1,5 +1,5 @@
 -- Open places and kept waits: lists of them, and how they stand in a configuration.
-use Rattle.std.specs.Prelude.{◌≡◌, ℕ, ◌<◌, List, [], ◌∷◌, length, true, Some, None, IsSome, ⊤, ◌⊎◌, ◌↔◌}
+use Rattle.std.specs.Prelude.{◌≡◌, ℕ, ◌<◌, List, [], ◌∷◌, length, true, Option, Some, None, IsSome, ⊤, ◌⊎◌, ◌↔◌}
 use Rattle.akl_terms.specs.declared.name.Name.{Name}
 use Rattle.akl_terms.specs.declared.name.Var.{Var}
 use Rattle.akl_terms.specs.declared.name.Place.{Place}
@@ -68,6 +68,15 @@ pub record AreNewTokens (before now : Openings) (tokens : List ℕ) : Type 0 whe
 abbrev pub AreFirstTokens : Openings → Type 0
 AreFirstTokens os = (token : ℕ) → IsSome (opening_at token os) ↔ (token < length os)
 
--- a place that was open, and is, has the token that it had
-pub record KeepsTokens (before now : Openings) : Type 0 where
-  pub each : (token : ℕ) (o : Opening) → opening_at token before ≡ Some o → IsOpenAt now o.place → (p : Opening) × (opening_at token now ≡ Some p) × (p.place ≡ o.place)
+abbrev pub token_list : Option ℕ → List ℕ
+token_list None = []
+token_list (Some t) = t ∷ []
+
+-- the token leads to the place
+abbrev pub LeadsTo : Openings → ℕ → Place → Type 0
+LeadsTo os token place = (o : Opening) × (opening_at token os ≡ Some o) × (o.place ≡ place)
+
+-- a place that was open, and is, has the token that it had; and each token leads where it led, or is one of those that were given
+pub record KeepsTokens (before now : Openings) (given : List ℕ) : Type 0 where
+  pub each : (token : ℕ) (o : Opening) → opening_at token before ≡ Some o → IsOpenAt now o.place → LeadsTo now token o.place
+  pub only : (token : ℕ) (o : Opening) → opening_at token now ≡ Some o → LeadsTo before token o.place ⊎ IsNumberIn token given

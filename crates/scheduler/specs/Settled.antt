@@ -15,7 +15,7 @@ use Rattle.step_commit.specs.Cores.{CoreValue, TableIn}
 use Rattle.idle_places.specs.Idling.{IdleValue}
 use Rattle.idle_places.specs.Later.{HasNoReason, IsIdleStill}
 use Rattle.scheduler.specs.declared.settling.SettleError.{SettleError}
-use Rattle.scheduler.specs.Openings.{IsOpenAt, AreOthersOpen, AreListed, KeepsTokens}
+use Rattle.scheduler.specs.Openings.{IsOpenAt, AreOthersOpen, AreListed, token_list, KeepsTokens}
 use Rattle.scheduler.specs.Schedulers.{SchedulerValue}
 use Rattle.scheduler.specs.Weights.{weight}
 
@@ -52,7 +52,7 @@ pub record IsTokenOfOpened (s d : SchedulerValue) (place : Place) (c : Config) (
 pub record IsLeftBySettle (s d : SchedulerValue) (place : Place) (on : List Var) (c : Config) (still : List Place) (kept : List Wait) (result : Option ℕ) : Type 0 where
   pub is_open : (other : Place) → IsOpenAt d.openings other ↔ IsOpenAfterSettle still c place other
   pub waits : (other : Place) (x : Var) → (waits_on d.waits other x ≡ true) ↔ IsKeptAfterSettle kept still c place on other x
-  pub keeps : KeepsTokens s.openings d.openings
+  pub keeps : KeepsTokens s.openings d.openings (token_list result)
   pub token : IsTokenOfOpened s d place c still result
 
 -- a place that isn't open is left alone; else at most one box is opened for it, which stands in fewer boxes
