@@ -11,7 +11,7 @@ use Rattle.akl_model.specs.Instances.{start}
 use Rattle.akl_model.specs.Derivations.{Applies, Replays}
 use Rattle.akl_model.specs.Wakes.{Wait, IsKept, IsOneOf, IsThere, Opens, IsOpenAfterCommit, IsKeptAfterCommit}
 use Rattle.akl_model.proofs.Results.{Derives-one}
-use Rattle.sleep_laws.specs.Runs.{Runs, commits}
+use Rattle.sleep_laws.specs.Runs.{Runs}
 use Rattle.sleep_laws.proofs.Replayed.{replay_further}
 use Rattle.wait_laws.specs.Kept.{AreLeftByCommit}
 use Rattle.wait_laws.proofs.KeptByCommit.{kept_by_commit}
@@ -146,7 +146,7 @@ module _ (s : SchedulerValue) (h : IsScheduler s) (p : PlanValue) (right : IsRig
   run_now = subst (λ (x : Program). Runs all_rules x core.table.query core.journal u.config (open_places now) left) (sym commits.fixed.program)
       (subst (λ (x : Query). Runs all_rules P x core.journal u.config (open_places now) left) (sym commits.fixed.query)
       (subst (λ (j : List Label). Runs all_rules P Q j u.config (open_places now) left) (sym commits.journal)
-      (commits h.run (record { applies = applies; opens = λ place o. are_open.all place (after_all place o); keeps = left_so.all }))))
+      (Runs.commits h.run (record { applies = applies; opens = λ place o. are_open.all place (after_all place o); keeps = left_so.all }))))
 
   pub committed_scheduler : IsScheduler (record { core = core; openings = now; waits = w2 })
   committed_scheduler = record {

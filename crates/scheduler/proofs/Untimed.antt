@@ -1,5 +1,5 @@
 -- When open places come doesn't count for what a scheduler is, nor for what a commit makes of it.
-use Rattle.std.proofs.Common.{◌≡◌, ℕ, Bool, true, false, List, [], ◌∷◌, Option, Some, None, refl, sym, ap, subst, ◌∙◌}
+use Rattle.std.proofs.Common.{◌≡◌, ℕ, Bool, true, false, List, [], ◌∷◌, Option, Some, None, refl, sym, ap, subst, ◌∙◌, ◌⊎◌}
 use Rattle.std.specs.Prelude.{cond, option_map, ⊤, Result, Ok, Err, IfOk, IfErr}
 use Rattle.akl_terms.specs.declared.name.Name.{Name}
 use Rattle.akl_terms.specs.declared.name.Place.{Place}
@@ -12,7 +12,7 @@ use Rattle.wake_lists.specs.Open.{Opening, Openings, opening_at, untimed}
 use Rattle.wake_lists.specs.Standing.{is_in}
 use Rattle.step_commit.specs.Cores.{Commits}
 use Rattle.scheduler.specs.declared.committing.Committed.{Committed}
-use Rattle.scheduler.specs.Openings.{IsOpenAt, AreOpenPlaces, AreApart, AreStandingIn, AreNewTokens, KeepsTokens, name_at}
+use Rattle.scheduler.specs.Openings.{IsOpenAt, AreOpenPlaces, AreApart, AreStandingIn, IsNumberIn, LeadsTo, AreNewTokens, KeepsTokens, name_at}
 use Rattle.scheduler.specs.Schedulers.{SchedulerValue, IsScheduler}
 use Rattle.scheduler.specs.Committed.{IsOpenAndKept, CommitsAndOpens, FailingAreUrgent}
 use lib.Dec.{eqb}
@@ -112,12 +112,13 @@ untimed_tokens before a b e ts h = record {
   once = h.once;
 }
 
-untimed_keeps : (before a b : Openings) → untimed b ≡ untimed a → KeepsTokens before a → KeepsTokens before b
-untimed_keeps before a b e h = record {
+untimed_keeps : (before a b : Openings) (ts : List ℕ) → untimed b ≡ untimed a → KeepsTokens before a ts → KeepsTokens before b ts
+untimed_keeps before a b ts e h = record {
   each = λ t o i w.
-      let y : (p : Opening) × (opening_at t a ≡ Some p) × (p.place ≡ o.place) = h.each t o i (untimed_open a b e o.place w) in
+      let y : LeadsTo a t o.place = h.each t o i (untimed_open a b e o.place w) in
       let x : Was b a (sym e) t y.0 = was_so b a (sym e) t y.0 y.1 in
       (x.was, x.is_was, x.of_place ∙ y.2);
+  only = λ t o i. let x : Was a b e t o = was_so a b e t o i in subst (λ (place : Place). LeadsTo before t place ⊎ IsNumberIn t ts) x.of_place (h.only t x.was x.is_was);
 }
 
 commits_untimed : (s : SchedulerValue) (p : PlanValue) (d : SchedulerValue) (r q : Committed) → CommitsAndOpens s p d r → (os : Openings) → untimed os ≡ untimed d.openings → q.receipt ≡ r.receipt → q.opened ≡ r.opened
@@ -130,7 +131,7 @@ commits_untimed s p d r q h os e f g u = record {
         is_open = λ place. (λ i. (x.is_open place).0 (untimed_open d.openings os e place i), λ i. untimed_open os d.openings (sym e) place ((x.is_open place).1 i));
         waits = x.waits;
       };
-  keeps = untimed_keeps s.openings d.openings os e h.keeps;
+  keeps = subst (KeepsTokens s.openings os) (sym (ap (λ z. z.items) g)) (untimed_keeps s.openings d.openings os r.opened.items e h.keeps);
   tokens = untimed_tokens s.openings d.openings os e q.opened.items (subst (λ (ts : List ℕ). AreNewTokens s.openings d.openings ts) (sym (ap (λ v. v.items) g)) h.tokens);
   hurried = u;
 }
