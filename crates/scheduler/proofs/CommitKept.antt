@@ -9,7 +9,7 @@ use Rattle.akl_model.specs.declared.label.Receipt.{Receipt}
 use Rattle.akl_model.specs.Config.{Config}
 use Rattle.akl_model.specs.Instances.{start}
 use Rattle.akl_model.specs.Derivations.{Applies, Replays}
-use Rattle.akl_model.specs.Wakes.{Wait, IsKept, IsOneOf, IsThere, Opens, IsOpenAfterCommit, IsKeptAfterCommit}
+use Rattle.akl_model.specs.Wakes.{Wait, IsKept, IsOneOf, Opens, IsOpenAfterCommit, IsKeptAfterCommit}
 use Rattle.akl_model.proofs.Results.{Derives-one}
 use Rattle.sleep_laws.specs.Runs.{Runs}
 use Rattle.sleep_laws.proofs.Replayed.{replay_further}

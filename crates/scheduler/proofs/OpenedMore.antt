@@ -68,7 +68,7 @@ opened_none os ps ts e f = subst (λ (qs : List PlacedValue). AreOpened os qs os
   new = λ t i. absurd i;
   once = tt;
   apart = λ a. a;
-  tokens = λ a. a;
+  first = λ a. a;
   undone = refl;
 }))
 
@@ -84,7 +84,7 @@ module _ (before cur : Openings) (ps : List PlacedValue) (p : PlacedValue) (ts :
     new = r.new;
     once = r.once;
     apart = r.apart;
-    tokens = r.tokens;
+    first = r.first;
     undone = r.undone;
   }
 
@@ -148,7 +148,7 @@ module _ (before cur : Openings) (ps : List PlacedValue) (p : PlacedValue) (ts :
       new = new_now;
       once = once_end ts t r.once fresh;
       apart = λ a. put_apart t o cur free (r.apart a);
-      tokens = λ a. first_more cur (r.tokens a) t least o;
+      first = λ a. first_more cur (r.first a) t least o;
       undone = back_end ts t now ∙ ap (closed_back ts) (put_out t o cur free) ∙ r.undone;
     }
 

@@ -57,15 +57,3 @@ pub seen_reason : (s : SchedulerValue) (v : IdleValue) → IsIdle v → IsSeenEn
 seen_reason s v i h e t f site =
     let w : WatchesGoals (IsRead v.reads) v.place i.site = subst (λ (b : Bool). HasWatched b (IsRead v.reads) v.place i.site) e i.watches in
     (h e w.name w.is_box).no_reason t f (subst (λ (p : Place). site_of p t.config.roots ≡ Some f) w.is_box site)
-
-pub looked_enough : (s : SchedulerValue) (v : IdleValue) → v.inside ≡ true → IsSeenEnough s v
-looked_enough s v e f = absurd (not_both e f)
-
-pub goal_enough : (s : SchedulerValue) (v : IdleValue) (g : Name) → v.place ≡ Place.Goal g → IsSeenEnough s v
-goal_enough s v g e f n k = let no : Place.Goal g ≡ Place.Box n = sym e ∙ k in absurd cc
-
-pub box_enough : (s : SchedulerValue) (v : IdleValue) (n : Name) → v.place ≡ Place.Box n → HasNoReasonNow s n → IsSeenEnough s v
-box_enough s v n e r f m k = subst (HasNoReasonNow s) (let same : Place.Box n ≡ Place.Box m = sym e ∙ k in cc) r
-
-pub box_little : (s : SchedulerValue) (v : IdleValue) (n : Name) → v.place ≡ Place.Box n → v.inside ≡ false → (HasNoReasonNow s n → ⊥) → IsSeenEnough s v → ⊥
-box_little s v n e f r h = r (h f n e)

@@ -1,7 +1,11 @@
 -- The start of a run, its end, and places that are forgotten.
-use Rattle.std.proofs.Common.{◌≡◌, ℕ, Bool, true, false, List, [], ◌∷◌, Option, Some, None, refl, sym, ap, subst, ◌∙◌, ◌⊎◌, inl, inr, length}
+use Rattle.std.proofs.Common.{◌≡◌, ℕ, Bool, true, false, List, [], ◌∷◌, Option, Some, None, refl, sym, ap, subst, ◌∙◌, ◌⊎◌, inl, inr, length, map}
 use Rattle.akl_model.proofs.Options.{some_value}
-use Rattle.std.specs.Prelude.{cond, is_some, IfSome, IfNone}
+use Rattle.std.specs.Prelude.{cond, is_some, option_map, IfSome, IfNone}
+use Rattle.std.specs.Map.{lookup}
+use Rattle.akl_terms.specs.declared.name.Name.{Name}
+use Rattle.akl_terms.specs.Names.{same_name}
+use Rattle.akl_terms.proofs.SameNames.{same_name-equal}
 use Rattle.akl_terms.specs.declared.name.Place.{Place}
 use Rattle.akl_terms.specs.declared.program.Program.{Program}
 use Rattle.akl_terms.specs.declared.program.Query.{Query}
@@ -22,9 +26,11 @@ use Rattle.wait_laws.proofs.KeptBySettle.{kept_by_forget, no_waits}
 use Rattle.wake_lists.specs.Open.{Opening, Openings, opening_at, IsFirst, closed}
 use Rattle.wake_lists.proofs.Keys.{token_equal}
 use Rattle.opened_places.specs.Placed.{PlacedValue, placed}
-use Rattle.box_tree.specs.Tables.{all_rules, table_of}
+use Rattle.opened_places.proofs.Members.{one_left, one_right}
+use Rattle.box_tree.specs.declared.entries.BoxEntry.{BoxEntry}
+use Rattle.box_tree.specs.declared.entries.GoalEntry.{GoalEntry}
+use Rattle.box_tree.specs.Tables.{all_rules, TableValue, table_of, box_row, goal_row}
 use Rattle.box_tree.specs.Views.{is_there, all_places}
-use Rattle.box_tree.proofs.Begins.{row_listed}
 use Rattle.step_commit.specs.Cores.{CoreValue, IsCore, TableIn, run_by}
 use Rattle.scheduler.specs.Openings.{IsOpenAt, AreApart, AreStandingIn, name_at}
 use Rattle.scheduler.specs.Opening.{AreOpened}
@@ -60,6 +66,23 @@ pub quiet_first : (s : SchedulerValue) → IsScheduler s → (r : Option ℕ) �
 quiet_first s h None e = quiet_so s h e
 quiet_first s h (Some t) f = tt
 
+-- each row of a table has its place among all
+module _ {A B : Type 0} (f : Name → Place) (row : A → B) (n : Name) where
+  name_listed : (es : List (Name × A)) → is_some (option_map row (lookup (same_name n) es)) ≡ true → IsOneOf (f n) (map (λ (e : Name × A). f e.0) es)
+  name_listed [] s = cc
+  name_listed (e ∷ es) s = on (same_name n e.0) refl s (name_listed es)
+    where
+      on : (t : Bool) → same_name n e.0 ≡ t → is_some (option_map row (cond t (Some e.1) (lookup (same_name n) es))) ≡ true
+          → (is_some (option_map row (lookup (same_name n) es)) ≡ true → IsOneOf (f n) (map (λ (e : Name × A). f e.0) es)) → IsOneOf (f n) (map (λ (e : Name × A). f e.0) (e ∷ es))
+      on true q r k = inl (ap f (same_name-equal n e.0 q))
+      on false q r k = inr (k r)
+
+row_listed : (t : TableValue) (place : Place) → is_there (table_of t) place ≡ true → IsOneOf place (all_places t)
+row_listed t (Place.Box n) s =
+    one_left (Place.Box n) (map (λ (e : Name × BoxEntry). Place.Box e.0) t.boxes) (map (λ (e : Name × GoalEntry). Place.Goal e.0) t.goals) (name_listed Place.Box (box_row t.program.templates.nodes) n t.boxes s)
+row_listed t (Place.Goal g) s =
+    one_right (Place.Goal g) (map (λ (e : Name × BoxEntry). Place.Box e.0) t.boxes) (map (λ (e : Name × GoalEntry). Place.Goal e.0) t.goals) (name_listed Place.Goal (goal_row t.program.templates.nodes) g t.goals s)
+
 -- all places of a core
 pub placed_all : (c : CoreValue) (places : List Place) (ps : List PlacedValue) → places ≡ all_places c.table → AddsThose c.table places [] ps → AreAllPlaced c ps
 placed_all c places ps e a = record {
@@ -72,7 +95,7 @@ opened_all c ps os ts a r = record {
   all = λ t place h. r.all place (a.all t place h);
   around = λ t token o e. elim (r.each token o e) [ inl z ↦ absurd (some_none z refl) | inr n ↦ a.around t (placed o.place o.boxes) n.is_placed ];
   apart = r.apart tt;
-  tokens = r.tokens none_first;
+  tokens = r.first none_first;
 }
 
 -- and what is open is there

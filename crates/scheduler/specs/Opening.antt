@@ -32,7 +32,7 @@ pub record AreOpened (before : Openings) (places : List PlacedValue) (now : Open
   pub new : (t : ℕ) → IsNumberIn t tokens → (opening_at t before ≡ None) × IsSome (opening_at t now)
   pub once : IsEachOnce tokens
   pub apart : AreApart before → AreApart now
-  pub tokens : AreFirstTokens before → AreFirstTokens now
+  pub first : AreFirstTokens before → AreFirstTokens now
   pub undone : closed_back tokens now ≡ before
 
 -- one place is opened, under the least token that is free, unless it is open

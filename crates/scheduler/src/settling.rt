@@ -86,7 +86,10 @@ impl Scheduler {
         ensures none { result ≡ false → HasNoReasonNow self.now name }
         ensures some { result ≡ true → HasNoReasonNow self.now name → ⊥ }
     {
-        self.open.busy(name) || is_failing(self.core.table(), name) || self.splits.has_box(name)
+        if self.open.busy(name) {
+            return true;
+        }
+        is_failing(self.core.table(), name) || self.splits.has_box(name)
     }
 
     // The same for a place that is idle now.

@@ -22,6 +22,6 @@ invariant_of-result c =
 pub returns-clause-open : goal.returns-clause-open
 returns-clause-open c = record {
   all = c.in_ok-open.ensures.all;
-  only = λ t place w. there_open c.args.core.now c.in_ok-open.open c.in_ok-open.ensures t place w;
+  only = λ t place w. there_open c.args.core c.in_ok-open.open c.in_ok-open.ensures t place w;
   tokens = c.in_ok-open.ensures.tokens;
 }
