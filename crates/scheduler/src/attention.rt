@@ -1,12 +1,11 @@
 //! How an open place is looked at.
 
-ghost use Rattle.std.specs.Prelude.{◌≡◌, true, false};
+ghost use Rattle.std.specs.Prelude.{◌≡◌};
+ghost use Rattle.std.specs.List.{list_any};
 ghost use Rattle.akl_terms.specs.declared.name.Place.{Place};
-ghost use Rattle.table_laws.specs.Walks.{alternatives_of};
-ghost use Rattle.box_tree.specs.Tables.{table_of};
 ghost use Rattle.box_tree.specs.Paths.{sight_in};
 ghost use Rattle.scheduler.specs.Resting.{IsAtRest};
-ghost use Rattle.scheduler.specs.Attending.{is_collecting, HasOpen, HasOpenAmong, IsPutOffWhileOpen};
+ghost use Rattle.scheduler.specs.Attending.{is_collecting, has_open, urgency_at, is_late, if_busy, attention_of};
 ghost use Rattle.scheduler.specs.declared.attention.Attention.{Attention};
 
 use crate::scheduler::Scheduler;
@@ -27,67 +26,54 @@ pub enum Attention {
 
 impl Scheduler {
     /// How the open place with this token is looked at, once it comes. A box is looked at whole only where nothing is open
-    /// in it. A choice that collects is put off exactly while an alternative is open, or something that stands in one: no
-    /// rule applies to it before all of them are solved, so that its solutions may come one after another without a look
-    /// at all of them for each.
+    /// in it. A late place is put off exactly while something is open inside it. So is a choice that collects, that is while
+    /// an alternative is open, or something that stands in one: no rule applies to it before all of them are solved, so that
+    /// its solutions may come one after another without a look at all of them for each.
     pub fn attention_at(&self, token: u64, place: Place) -> Attention
+        ensures attention { result ≡ attention_of self.now token place }
         ensures rest { result ≡ Attention.Whole → IsAtRest self.now.openings place }
-        ensures collecting { (goal : _) → place ≡ Place.Goal goal → is_collecting (sight_in self.now.core.table place) ≡ true
-            → IsPutOffWhileOpen self.now.openings (alternatives_of ((table_of self.now.core.table).goal_of goal)) result }
     {
         match place {
             Place::Goal(goal) => self.attention_at_goal(token, goal),
-            Place::Box(_) => match self.urgency_of(token) {
-                Some(Urgency::Urgent) => Attention::Tried,
-                Some(Urgency::Late) => self.attention_if_busy(place, Attention::PutOff),
-                Some(Urgency::Ordinary) | None => self.attention_if_busy(place, Attention::Tried),
-            },
+            Place::Box(name) => self.attention_at_box(token, name),
+        }
+    }
+
+    // The same for a box.
+    fn attention_at_box(&self, token: u64, name: Name) -> Attention
+        ensures { result ≡ attention_of self.now token (Place.Box name) }
+    {
+        match self.urgency_of(token) {
+            Some(Urgency::Urgent) => Attention::Tried,
+            Some(Urgency::Late) => if_busy(self.open.busy(name), Attention::PutOff),
+            Some(Urgency::Ordinary) | None => if_busy(self.open.busy(name), Attention::Tried),
         }
     }
 
     // The same for a goal.
     fn attention_at_goal(&self, token: u64, goal: Name) -> Attention
-        ensures { is_collecting (sight_in self.now.core.table (Place.Goal goal)) ≡ true
-            → IsPutOffWhileOpen self.now.openings (alternatives_of ((table_of self.now.core.table).goal_of goal)) result }
+        ensures { result ≡ attention_of self.now token (Place.Goal goal) }
     {
-        if self.urgency_of(token) == Some(Urgency::Late) || collects(self.core.table(), goal) {
-            self.attention_if_busy(Place::Goal(goal), Attention::PutOff)
-        } else {
-            Attention::Whole
-        }
+        let table = self.core.table();
+        let may_wait = self.is_late(token) || collects(table, goal);
+        let busy = may_wait && self.has_open(table.alternatives_of(goal));
+        if_busy(busy, Attention::PutOff)
     }
 
-    // This, if something is open inside of a place.
-    fn attention_if_busy(&self, place: Place, attention: Attention) -> Attention
-        requires { attention ≡ Attention.Whole → ⊥ }
-        ensures rest { result ≡ Attention.Whole → IsAtRest self.now.openings place }
-        ensures goal { (goal : _) → place ≡ Place.Goal goal → attention ≡ Attention.PutOff
-            → IsPutOffWhileOpen self.now.openings (alternatives_of ((table_of self.now.core.table).goal_of goal)) result }
+    // Whether the open place with this token is late.
+    fn is_late(&self, token: u64) -> bool
+        ensures { result ≡ is_late (urgency_at token self.now.openings) }
     {
-        if self.is_busy(place) {
-            attention
-        } else {
-            Attention::Whole
-        }
-    }
-
-    // Whether something is open inside of a place: in a box, or in an alternative of a choice, or the alternative itself.
-    fn is_busy(&self, place: Place) -> bool
-        ensures rest { result ≡ false → IsAtRest self.now.openings place }
-        ensures busy { (goal : _) → place ≡ Place.Goal goal → result ≡ true → HasOpenAmong self.now.openings (alternatives_of ((table_of self.now.core.table).goal_of goal)) }
-        ensures quiet { (goal : _) → place ≡ Place.Goal goal → HasOpenAmong self.now.openings (alternatives_of ((table_of self.now.core.table).goal_of goal)) → result ≡ true }
-    {
-        match place {
-            Place::Box(name) => self.open.busy(name),
-            Place::Goal(goal) => self.has_open(self.core.table().alternatives_of(goal)),
+        match self.urgency_of(token) {
+            Some(Urgency::Late) => true,
+            Some(Urgency::Urgent) | Some(Urgency::Ordinary) | None => false,
         }
     }
 
     // Whether one of these boxes is open, or something that stands in one. The last comes first: the copies of a box that was
     // split stand behind it, so that of solutions that come one after another the last is the one that isn't solved.
     fn has_open(&self, boxes: &[Name]) -> bool
-        ensures open { result ≡ true → HasOpenAmong self.now.openings boxes.now }
-        ensures closed { HasOpenAmong self.now.openings boxes.now → result ≡ true }
+        ensures { result ≡ list_any (has_open self.now.openings) boxes.now }
     {
         for k in (0..boxes.len()).rev() {
             if self.has_open_at(boxes[k]) {
@@ -99,11 +85,17 @@ impl Scheduler {
 
     // Whether a box is open, or something that stands in it.
     fn has_open_at(&self, name: Name) -> bool
-        ensures open { result ≡ true → HasOpen self.now.openings name }
-        ensures closed { HasOpen self.now.openings name → result ≡ true }
+        ensures { result ≡ has_open self.now.openings name }
     {
         self.open.busy(name) || self.open.token_of(Place::Box(name)).is_some()
     }
+}
+
+// This where something is open inside of a place.
+fn if_busy(busy: bool, attention: Attention) -> Attention
+    ensures { result ≡ if_busy busy attention }
+{
+    if busy { attention } else { Attention::Whole }
 }
 
 /// Whether a goal is a choice that collects.
