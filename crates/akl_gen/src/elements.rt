@@ -1,6 +1,6 @@
 //! The elements of the generated list.
 
-ghost use Rattle.std.specs.Prelude.{◌≡◌, ◌<◌, ◌≤◌, IfOk};
+ghost use Rattle.std.specs.Prelude.{◌≡◌, ◌<◌, IfOk};
 ghost use Rattle.akl_gen.specs.Generated.{next_number, elements_of};
 
 use std::alloc::{AllocError, Global};
@@ -19,7 +19,6 @@ fn next_number(number: u64) -> u64
 
 /// The elements of the list: 3 to 100 numbers below 1000.
 pub fn elements_of(alloc: Global, number: u64) -> Result<Vec<u64>, AllocError>
-    requires { number ≤ 4294967295 }
     ensures { IfOk result (λ elements. elements.items ≡ elements_of number) }
 {
     let mut elements = Vec::new(alloc);

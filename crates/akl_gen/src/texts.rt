@@ -17,12 +17,11 @@ member(X,[X|_]).
 member(X,[_|T]) :- member(X,T).
 ";
 
-/// The program and the query that are made from a number, which is at most 4,294,967,295.
+/// The program and the query that are made from a number.
 ///
 /// The program is the clauses on lists. The query reverses a list of 3 to 100 numbers, each below 1000,
 /// and asks for a member of its first three.
 pub fn generate(alloc: Global, number: u64) -> Result<(Vec<u8>, Vec<u8>), AllocError>
-    requires { number ≤ 4294967295 }
     ensures program { IfOk result (λ texts. texts.0.items ≡ lists) }
     ensures query { IfOk result (λ texts. texts.1.items ≡ query_text number) }
 {

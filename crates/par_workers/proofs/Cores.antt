@@ -73,20 +73,6 @@ module _ (s : SharedValue) (c : CoreValue) (worker : ℕ) (n : Next) (is : IsSha
       taken.table ∙ ap (table_after s.begun.table) (sym (f.goes.1 ∙ ap (λ (ms : List Made). f.seen ++ ms) none ∙ append-nil f.seen))
       ∙ sym (ap (λ (d : CoreValue). d.table) is.core)
 
-  same_journal : f.goes.0 ≡ [] → f.found.view.journal ≡ c.journal
-  same_journal none = sym (append-nil f.found.view.journal) ∙ ap (λ (ms : List Made). f.found.view.journal ++ labels_in ms) (sym none) ∙ sym is_front
-
-  -- as many labels are there as were seen
-  none_since : length f.found.view.journal ≡ length s.past → f.goes.0 ≡ []
-  none_since same =
-      let whole : length s.past ≡ length f.seen + length f.goes.0 = ap (λ (ms : List Made). length ms) f.goes.1 ∙ length-append f.seen f.goes.0 in
-      let seen : length f.found.view.journal ≡ length f.seen = ap (λ (ls : List Label). length ls) taken.journal ∙ length-map f.seen label_in in
-      empty f.goes.0 (omega arith)
-    where
-      empty : (ms : List Made) → length ms ≡ 0 → ms ≡ []
-      empty [] e = refl
-      empty (m ∷ ms) e = absurd (omega arith)
-
 pub may_commit : (s : SharedValue) (c : CoreValue) (worker : ℕ) (p : PlanValue) → IsShared s c → IsFoundBefore s worker (Next.Plan p) → MayCommit c p
 may_commit s c worker p is f =
     let next = f.found.next in record {
@@ -98,24 +84,13 @@ may_commit s c worker p is f =
       same_table = λ none. next.table ∙ same_table s c worker (Next.Plan p) is f (no_labels f.goes.0 none);
     }
 
-abbrev HasNoReasonIn : Place → TableValue → List Label → Type 0
-HasNoReasonIn place table journal = (t : IsTableOf all_rules (run_of table journal) (table_of table)) (f : Found) → site_of place t.config.roots ≡ Some f → HasNoReason f
-
-pub may_settle : (s : SharedValue) (c : CoreValue) (worker : ℕ) (i : IdleValue) → IsShared s c → IsFoundBefore s worker (Next.Idle i)
-    → (i.inside ≡ false → length i.journal ≡ length s.past) → MaySettle c i
-may_settle s c worker i is f in_time =
-    let next = f.found.next in
-    let by = next.idle in record {
+pub may_settle : (s : SharedValue) (c : CoreValue) (worker : ℕ) (i : IdleValue) → IsShared s c → IsFoundBefore s worker (Next.Idle i) → MaySettle c i
+may_settle s c worker i is f =
+    let by = f.found.next.idle in record {
       program = ap (λ (t : TableValue). t.program) by.0 ∙ same_program s c worker (Next.Idle i) is f;
       query = ap (λ (t : TableValue). t.query) by.0 ∙ same_query s c worker (Next.Idle i) is f;
       further = labels_in f.goes.0;
       front = is_front s c worker (Next.Idle i) is f ∙ ap (λ (ls : List Label). ls ++ labels_in f.goes.0) (sym by.1);
-      no_reason = λ outside.
-          let none = none_since s c worker (Next.Idle i) is f (ap (λ (ls : List Label). length ls) (sym by.1) ∙ in_time outside) in
-          let there : HasNoReasonIn f.found.view.place f.found.view.table f.found.view.journal = next.no_reason outside in
-          subst (λ (t : TableValue). HasNoReasonIn i.place t c.journal) (same_table s c worker (Next.Idle i) is f none)
-          (subst (λ (ls : List Label). HasNoReasonIn i.place f.found.view.table ls) (same_journal s c worker (Next.Idle i) is f none)
-          (subst (λ (p : Place). HasNoReasonIn p f.found.view.table f.found.view.journal) (sym by.2) there));
     }
 
 -- a plan's label follows
@@ -137,10 +112,14 @@ pub concluded_more : (s : SharedValue) (c d : CoreValue) (worker : ℕ) (p : Pla
 concluded_more s c d worker p r m rs is f made label =
     let of_plan : label_in m ≡ p.label = label ∙ ap (λ (q : Receipt). q.label) made.receipt in
     let by : maker m ≡ worker = ap (λ (l : Label). l.worker) of_plan ∙ f.found.next.worker ∙ f.found.taken.seer in
-    let count : length c.journal ≡ length s.past = ap (λ (e : CoreValue). length e.journal) is.core ∙ length-map s.past label_in in record {
+    let count : length c.journal ≡ length s.past = ap (λ (e : CoreValue). length e.journal) is.core ∙ length-map s.past label_in in
+    let front : length c.journal ≡ length f.found.view.journal + length (labels_in f.goes.0) = ap (λ (ls : List Label). length ls) (is_front s c worker (Next.Plan p) is f) ∙ length-append f.found.view.journal (labels_in f.goes.0) in
+    let seen : r.seen ≡ length f.found.view.journal = ap (λ (q : Receipt). q.seen) made.receipt ∙ ap (λ (ls : List Label). length ls) f.found.next.journal in
+    let number : r.at ≡ length c.journal + 1 = ap (λ (q : Receipt). q.at) made.receipt in
+    let before : r.seen < r.at = omega (arith, front, seen, number) in record {
       begun = refl;
       goes = (m ∷ [], refl, All-cons (λ m. maker m ≡ worker) m [] by (All-nil (λ m. maker m ≡ worker)));
-      receipts = receipts_more worker s.past m rs r by (ap (λ (q : Receipt). q.at) made.receipt ∙ ap (λ n. n + 1) count) (sym label);
+      receipts = receipts_more worker s.past m rs r by (ap (λ (q : Receipt). q.at) made.receipt ∙ ap (λ n. n + 1) count) before (sym label);
     }
 
 pub concluded_none : (worker : ℕ) (s : SharedValue) (rs : List Receipt) → HasConcluded worker s rs s rs

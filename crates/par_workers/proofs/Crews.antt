@@ -55,7 +55,7 @@ receipts_joined number (j ∷ js) past [] a all = absurd a
 receipts_others : (number by : ℕ) (journal further : List Label) (rss : List (List Receipt)) → by < number → AreBy by further → AreReceipts number journal rss → AreReceipts number (journal ++ further) rss
 receipts_others number by journal further [] less are rest = tt
 receipts_others number by journal further (rs ∷ rss) less are rest =
-    (rest.0 ∙ sym (labels_of-kept number by journal further less are), receipts_others (suc number) by journal further rss (omega arith) are rest.1)
+    (record { labels = rest.0.labels ∙ sym (labels_of-kept number by journal further less are); planned = rest.0.planned }, receipts_others (suc number) by journal further rss (omega arith) are rest.1)
 
 -- worker 1 goes on alone, from the first list to another
 pub receipts_on : (journal further after : List Label) (vs : List (Vec Receipt Global)) (v : Vec Receipt Global) (d : Vec Receipt Global) → after ≡ journal ++ further → AreBy 1 further

@@ -1,10 +1,11 @@
 -- The labels of one worker in a run that goes on.
-use Rattle.std.proofs.Common.{◌≡◌, ◌≢◌, ℕ, suc, ◌+◌, ◌<◌, ◌≤◌, ◌==◌, Bool, true, false, cond, List, [], ◌∷◌, ◌++◌, All, length, sym, refl, ap, ◌∙◌, arith, append-nil, eq-eqb, ne_eqb}
+use Rattle.std.proofs.Common.{◌≡◌, ◌≢◌, ℕ, suc, ◌+◌, ◌<◌, ◌≤◌, ◌==◌, Bool, true, false, cond, List, [], ◌∷◌, ◌++◌, All, length, map, sym, refl, ap, ◌∙◌, arith, append-nil, eq-eqb, ne_eqb}
 use Rattle.std.proofs.lemmas.List.{map-append, length-map}
 use Rattle.std.proofs.lemmas.List.Elements.{All-head, All-tail}
 use Rattle.turn_lock.specs.Histories.{GoesOnWithout}
 use Rattle.akl_model.specs.declared.label.Label.{Label}
 use Rattle.akl_model.specs.declared.label.Receipt.{Receipt}
+use Rattle.seq_engine.proofs.Labels.{each_more}
 use Rattle.step_commit.specs.Receipts.{labels_of, AreBy}
 use Rattle.par_workers.specs.declared.shared.Made.{Made}
 use Rattle.par_workers.specs.Shared.{label_in, maker, labels_in, AreByWorkers, AreReceiptsOf}
@@ -44,25 +45,35 @@ labels_of-kept worker by journal further less are =
 
 -- others' labels follow
 pub receipts_kept : (worker : ℕ) (seen past : List Made) (rs : List Receipt) → GoesOnWithout maker worker seen past → AreReceiptsOf worker seen rs → AreReceiptsOf worker past rs
-receipts_kept worker seen past rs g are =
-    are ∙ sym (append-nil (labels_of worker 0 (labels_in seen)))
-    ∙ ap (λ l. labels_of worker 0 (labels_in seen) ++ l) (sym (labels_of-without worker (0 + length (labels_in seen)) g.0 g.2))
-    ∙ sym (labels_of-append worker 0 (labels_in seen) (labels_in g.0))
-    ∙ ap (labels_of worker 0) (sym (map-append label_in seen g.0) ∙ ap labels_in (sym g.1))
+receipts_kept worker seen past rs g are = record { labels = labels; planned = are.planned }
+  where
+    labels : map (λ (r : Receipt). (r.at, r.label)) rs ≡ labels_of worker 0 (labels_in past)
+    labels = are.labels ∙ sym (append-nil (labels_of worker 0 (labels_in seen)))
+        ∙ ap (λ l. labels_of worker 0 (labels_in seen) ++ l) (sym (labels_of-without worker (0 + length (labels_in seen)) g.0 g.2))
+        ∙ sym (labels_of-append worker 0 (labels_in seen) (labels_in g.0))
+        ∙ ap (labels_of worker 0) (sym (map-append label_in seen g.0) ∙ ap labels_in (sym g.1))
 
 -- a label of the worker's own follows, with its receipt
-pub receipts_more : (worker : ℕ) (past : List Made) (m : Made) (rs : List Receipt) (r : Receipt) → maker m ≡ worker → r.at ≡ length past + 1 → r.label ≡ label_in m
+pub receipts_more : (worker : ℕ) (past : List Made) (m : Made) (rs : List Receipt) (r : Receipt) → maker m ≡ worker → r.at ≡ length past + 1 → r.seen < r.at → r.label ≡ label_in m
     → AreReceiptsOf worker past rs → AreReceiptsOf worker (past ++ m ∷ []) (rs ++ r ∷ [])
-receipts_more worker past m rs r by at label are =
-    let l = label_in m in
-    let journal = labels_in past in
-    let count : length journal ≡ length past = length-map past label_in in
-    let number : r.at ≡ suc (0 + length journal) = omega arith in
-    map-append (λ (r : Receipt). (r.at, r.label)) rs (r ∷ [])
-    ∙ ap (λ (x : List (ℕ × Label)). x ++ (r.at, r.label) ∷ []) are
-    ∙ ap (λ (x : List (ℕ × Label)). labels_of worker 0 journal ++ x) (ap (λ (n : ℕ). (n, r.label) ∷ []) number ∙ ap (λ (k : Label). (suc (0 + length journal), k) ∷ []) label ∙ sym (labels_of-single worker (0 + length journal) l by))
-    ∙ sym (labels_of-append worker 0 journal (l ∷ []))
-    ∙ ap (labels_of worker 0) (sym (map-append label_in past (m ∷ [])))
+receipts_more worker past m rs r by at before label are = record { labels = labels; planned = each_more (λ (k : Receipt). k.seen < k.at) rs r are.planned before }
+  where
+    journal : List Label
+    journal = labels_in past
+
+    count : length journal ≡ length past
+    count = length-map past label_in
+
+    number : r.at ≡ suc (0 + length journal)
+    number = omega (arith, at, count)
+
+    labels : map (λ (k : Receipt). (k.at, k.label)) (rs ++ r ∷ []) ≡ labels_of worker 0 (labels_in (past ++ m ∷ []))
+    labels = map-append (λ (k : Receipt). (k.at, k.label)) rs (r ∷ [])
+        ∙ ap (λ (x : List (ℕ × Label)). x ++ (r.at, r.label) ∷ []) are.labels
+        ∙ ap (λ (x : List (ℕ × Label)). labels_of worker 0 journal ++ x)
+        (ap (λ (n : ℕ). (n, r.label) ∷ []) number ∙ ap (λ (k : Label). (suc (0 + length journal), k) ∷ []) label ∙ sym (labels_of-single worker (0 + length journal) (label_in m) by))
+        ∙ sym (labels_of-append worker 0 journal (label_in m ∷ []))
+        ∙ ap (labels_of worker 0) (sym (map-append label_in past (m ∷ [])))
 
 pub by_workers-more : (workers : ℕ) (past : List Made) (m : Made) → AreByWorkers workers (labels_in past) → 1 ≤ maker m → maker m ≤ workers → AreByWorkers workers (labels_in (past ++ m ∷ []))
 by_workers-more workers [] m are least most = (least, most, tt)

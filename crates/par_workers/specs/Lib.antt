@@ -1,3 +1,4 @@
+pub mod Tokens
 pub mod Shared
 pub mod Turns
 pub mod Crews

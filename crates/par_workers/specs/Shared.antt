@@ -4,7 +4,7 @@ use Rattle.akl_model.specs.declared.label.Label.{Label}
 use Rattle.akl_model.specs.declared.label.Receipt.{Receipt}
 use Rattle.box_tree.specs.Tables.{TableValue}
 use Rattle.step_commit.specs.Cores.{CoreValue, KeepsFixed}
-use Rattle.step_commit.specs.Receipts.{labels_of}
+use Rattle.step_commit.specs.Receipts.{AreReceiptsBy}
 use Rattle.par_workers.specs.declared.shared.Made.{Made}
 
 -- the core with which a run began, and the labels that were made since, each with the table after it
@@ -44,4 +44,4 @@ pub record IsShared (s : SharedValue) (c : CoreValue) : Type 0 where
 
 -- the receipts are the worker's labels, each once and in order
 abbrev pub AreReceiptsOf : ℕ → List Made → List Receipt → Type 0
-AreReceiptsOf worker past rs = map (λ r. (r.at, r.label)) rs ≡ labels_of worker 0 (labels_in past)
+AreReceiptsOf worker past = AreReceiptsBy worker (labels_in past)

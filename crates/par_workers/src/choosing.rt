@@ -154,7 +154,7 @@ impl SharedRun {
             if let Some(sight) = self.see_at(alloc, worker, token)? {
                 return Ok(Some(Look { token, sight }));
             }
-            self.held.remove(&token);
+            self.tokens.let_go(token);
         }
         Ok(None)
     }
@@ -164,14 +164,14 @@ impl SharedRun {
         ensures same { self.new ≡ self.old }
         ensures look { IfOk result (λ found. IfSome found (λ look. IsSeenIn self.old worker look.sight)) }
     {
-        for _ in 0..self.late.count() {
+        for _ in 0..self.tokens.late_count() {
             let Some(token) = self.take_late() else {
                 break;
             };
             if let Some(sight) = self.see_at(alloc, worker, token)? {
                 return Ok(Some(Look { token, sight }));
             }
-            self.held.remove(&token);
+            self.tokens.let_go(token);
         }
         Ok(None)
     }
@@ -180,7 +180,7 @@ impl SharedRun {
     fn sort_late(&mut self, tokens: &mut VecDeque<u64>)
         ensures { self.new ≡ self.old }
     {
-        if let Some(token) = self.late.take_next(&self.scheduler) {
+        if let Some(token) = self.tokens.take_next(&self.scheduler) {
             self.keep(token, tokens);
         }
     }
@@ -189,7 +189,7 @@ impl SharedRun {
     fn take_late(&mut self) -> Option<u64>
         ensures { self.new ≡ self.old }
     {
-        self.late.take_last(&self.scheduler)
+        self.tokens.take_last(&self.scheduler)
     }
 
     // Looks at the open place with this token, if there is one. Where it has gone, it is closed.

@@ -9,7 +9,7 @@ use wake_lists::Urgency;
 /// The tokens of places that are late or put off, those that came last behind: no worker has them, so that each finds one
 /// whose place may be looked at.
 #[derive(Drop)]
-pub(crate) struct Late {
+pub struct Late {
     tokens: Vec<u64>,
     // The next one of which it is asked whether its place comes last still.
     next: usize,

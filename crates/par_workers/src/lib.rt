@@ -8,6 +8,7 @@ mod late;
 mod run;
 mod shared;
 mod signals;
+mod tokens;
 mod vain_turns;
 mod vain_waits;
 mod worker;

@@ -3,12 +3,11 @@
 ghost use Rattle.std.specs.Prelude.{◌≡◌, [], IfOk};
 ghost use Rattle.par_workers.specs.Shared.{core_after, IsShared};
 
-use crate::late::Late;
+use crate::tokens::Tokens;
 use akl_model::Label;
 use box_tree::Table;
 use scheduler::Scheduler;
 use std::alloc::{AllocError, Global};
-use std::collections::BTreeSet;
 use std::marker::Model;
 use std::snapshot::Snapshot;
 use step_commit::Core;
@@ -34,17 +33,14 @@ impl Made {
     }
 }
 
-/// The state of a run with its open places, and which tokens are with a worker, in a deque or among those of late places.
-/// Each token of an open place is one of these, and is in one place alone. It has besides how many workers plan, how many turns
-/// in a row found nothing while none planned, and whether all workers are to stop. It remembers in no bytes the core with which
-/// the run began, and what was made since.
+/// The state of a run with its open places and their tokens. It has besides how many workers plan, how many turns in a row found nothing while none planned, and whether all
+/// workers are to stop. It remembers in no bytes the core with which the run began, and what was made since.
 #[derive(Drop)]
 pub struct SharedRun {
     begun: Snapshot<Core>,
     pub(crate) past: Vec<Made>,
     pub(crate) scheduler: Scheduler,
-    pub(crate) held: BTreeSet<u64>,
-    pub(crate) late: Late,
+    pub(crate) tokens: Tokens,
     pub(crate) planning: u32,
     pub(crate) vain: u32,
     pub(crate) stops: bool,
@@ -82,13 +78,12 @@ impl SharedRun {
     {
         let begun = Snapshot::of(&core);
         let scheduler = Scheduler::new(alloc, core)?;
-        let held = first_tokens(alloc, &scheduler)?;
+        let tokens = Tokens::first(alloc, scheduler.open_count())?;
         Ok(SharedRun {
             begun,
             past: Vec::new(alloc),
             scheduler,
-            held,
-            late: Late::new(alloc),
+            tokens,
             planning: 0,
             vain: 0,
             stops: false,
@@ -97,7 +92,7 @@ impl SharedRun {
 
     /// How many tokens are held.
     pub(crate) fn held_count(&self) -> usize {
-        self.held.len()
+        self.tokens.count()
     }
 
     /// The state of the run.
@@ -107,13 +102,4 @@ impl SharedRun {
     {
         self.scheduler
     }
-}
-
-// The tokens of the places that are open at first: the numbers from 0 on.
-fn first_tokens(alloc: Global, scheduler: &Scheduler) -> Result<BTreeSet<u64>, AllocError> {
-    let mut tokens = BTreeSet::new(alloc);
-    for token in 0..scheduler.open_count() {
-        tokens.insert(token as u64)?;
-    }
-    Ok(tokens)
 }

@@ -1,6 +1,6 @@
 //! One worker.
 
-ghost use Rattle.std.specs.Prelude.{◌≡◌, IfOk, IfSome};
+ghost use Rattle.std.specs.Prelude.{◌≡◌, ◌<◌, IfOk, IfSome};
 ghost use Rattle.turn_lock.specs.Passes.{view, IsPassOf, HasNoTurn};
 ghost use Rattle.place_steps.specs.Next.{IsNext};
 ghost use Rattle.par_workers.specs.Shared.{AreReceiptsOf};
@@ -14,13 +14,15 @@ use crate::vain_turns::VainTurns;
 use crate::vain_waits::VainWaits;
 use akl_model::Receipt;
 use akl_outside::Gate;
-use akl_terms::Program;
+use akl_terms::{Program, Steps};
 use box_tree::View;
 use place_steps::{Next, next_of};
 use rule_plan::plan;
 use std::alloc::{AllocError, Global};
 use std::collections::VecDeque;
+use std::marker::Brand;
 use std::sync::Wait;
+use std::sync::ledger::{Blank, Ledger};
 use task_pool::{Hand, is_bare, push, take};
 use turn_lock::{Pass, TurnLock};
 
@@ -62,6 +64,29 @@ impl Worker {
         ensures lock { IsPassOf lock.now self.new.pass }
         ensures number { self.new.number ≡ self.old.number }
     {
+        self.work_counted::<R, G, Brand>(rt, alloc, program, lock, gate, signals, Blank::new(1));
+    }
+
+    // The same by a counter of the steps that its commits take.
+    fn work_counted<R: Wait, G: Gate, L: Ledger>(
+        &mut self,
+        rt: &R,
+        alloc: Global,
+        program: &Program,
+        lock: &TurnLock<SharedRun>,
+        gate: &G,
+        signals: &Signals,
+        blank: Blank,
+    )
+        requires lock { IsPassOf lock.now self.old.pass }
+        requires program { program.now ≡ (view self.old.pass).fixed.table.program }
+        requires name { blank.name ≡ L.name }
+        requires parts { blank.parts ≡ L.parts }
+        requires some { 0 < blank.parts }
+        ensures lock { IsPassOf lock.now self.new.pass }
+        ensures number { self.new.number ≡ self.old.number }
+    {
+        let mut steps = Steps::<L>::new(blank);
         signals.begin_work();
         let mut vain = VainTurns::new();
         let mut waits = VainWaits::new();
@@ -74,8 +99,7 @@ impl Worker {
                 vain.wait(rt, signals);
                 continue;
             }
-            let drawn = self.draw_unless(rt, planned.is_some());
-            match self.turn(rt, alloc, lock, signals, &mut waits, planned, drawn) {
+            match self.turn(rt, alloc, lock, signals, &mut waits, planned, &mut steps) {
                 Chosen::End => break,
                 Chosen::Wait => {
                     self.rest(rt, signals, &mut vain, &mut waits);
@@ -94,9 +118,9 @@ impl Worker {
         signals.end();
     }
 
-    // One turn: what was planned is committed or settled, and the next place is chosen, that of the token that was drawn
-    // before all others.
-    fn turn<R: Wait>(
+    // One turn: what was planned is committed or settled, and the next place is chosen, that of a token that is drawn before
+    // all others.
+    fn turn<R: Wait, L: Ledger>(
         &mut self,
         rt: &R,
         alloc: Global,
@@ -104,7 +128,7 @@ impl Worker {
         signals: &Signals,
         waits: &mut VainWaits,
         planned: Option<Planned>,
-        drawn: Option<u64>,
+        steps: &mut Steps<L>,
     ) -> Chosen
         requires lock { IsPassOf lock.now self.old.pass }
         requires planned { IfSome planned (λ p. IfSome p.next (IsFoundIn (run_seen (view self.old.pass)) self.old.number)) }
@@ -115,11 +139,19 @@ impl Worker {
         if self.receipts.reserve(1).is_err() {
             return Chosen::End;
         }
+        let drawn = self.draw_unless(rt, planned.is_some());
         waits.ask(signals);
         let (turn, mut run) = lock.lock(rt, &mut self.pass);
         waits.have(signals);
         let worker = self.number;
-        run.conclude(alloc, worker, planned, &mut self.receipts, &mut self.tokens);
+        run.conclude(
+            alloc,
+            worker,
+            planned,
+            &mut self.receipts,
+            &mut self.tokens,
+            steps,
+        );
         let chosen = run.choose(alloc, worker, drawn, waits.are_many(), &mut self.tokens);
         waits.leave(signals);
         lock.unlock(turn, run, &mut self.pass);

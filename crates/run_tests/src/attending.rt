@@ -1,6 +1,6 @@
 //! What comes of a place to which worker 1 attends.
 
-ghost use Rattle.std.specs.Prelude.{◌≡◌, IfOk, false};
+ghost use Rattle.std.specs.Prelude.{◌≡◌, ◌<◌, IfOk, false};
 ghost use Rattle.box_tree.specs.Tables.{table_of};
 ghost use Rattle.box_tree.specs.Views.{is_there};
 ghost use Rattle.step_commit.specs.Cores.{MayCommit};
@@ -10,13 +10,15 @@ ghost use Rattle.run_tests.specs.Waking.{GoesOnTo, IsFoundAt, IsFoundNow};
 use crate::candidates::candidate_at;
 use crate::listing::{places_under, push_open, push_places, token_of};
 use crate::texts::{push_item, push_place, rule_name};
-use akl_terms::{Place, Program};
+use akl_terms::{Place, Program, Steps};
 use box_tree::Plan;
 use idle_places::Idle;
 use place_steps::{Next, next_of, see};
-use scheduler::{Committed, Scheduler};
+use scheduler::{Committed, Scheduler, SettleError};
 use std::alloc::{AllocError, Global};
 use std::fmt::Write;
+use std::marker::Brand;
+use std::sync::ledger::{Blank, Ledger};
 use step_commit::CommitError;
 
 // What comes next at a place; `None` where it isn't there.
@@ -65,12 +67,25 @@ fn push_settled(
     Ok(())
 }
 
-// Why a place wasn't concluded; `false` where this was for want of memory.
-fn push_reason(text: &mut String, error: CommitError) -> Result<bool, AllocError> {
+// Why a plan wasn't committed; `false` where this was for want of memory.
+fn push_refused(text: &mut String, error: CommitError) -> Result<bool, AllocError> {
     match error {
         CommitError::Memory(_) => return Ok(false),
         CommitError::Spent { budget: _ } => text.push_str("spent")?,
         CommitError::Stale { item, stamp: _ } => {
+            text.push_str("stale ")?;
+            push_item(text, item)?;
+        }
+    }
+    Ok(true)
+}
+
+// Why a place wasn't settled; `false` where this was for want of memory.
+fn push_unsettled(text: &mut String, error: SettleError) -> Result<bool, AllocError> {
+    match error {
+        SettleError::Memory(_) => return Ok(false),
+        SettleError::LookInside => text.push_str("look inside")?,
+        SettleError::Stale { item, stamp: _ } => {
             text.push_str("stale ")?;
             push_item(text, item)?;
         }
@@ -88,12 +103,30 @@ fn commit(
     requires { MayCommit scheduler.old.core plan }
     ensures { IfOk result (λ _. GoesOnTo scheduler.old.core scheduler.new.core) }
 {
-    match scheduler.commit_uncounted(alloc, plan) {
+    commit_by::<Brand>(alloc, scheduler, plan, text, Blank::new(1))
+}
+
+// The same by a counter of its own.
+fn commit_by<L: Ledger>(
+    alloc: Global,
+    scheduler: &mut Scheduler,
+    plan: Plan,
+    text: &mut String,
+    blank: Blank,
+) -> Result<bool, AllocError>
+    requires may { MayCommit scheduler.old.core plan }
+    requires name { blank.name ≡ L.name }
+    requires parts { blank.parts ≡ L.parts }
+    requires some { 0 < blank.parts }
+    ensures { IfOk result (λ _. GoesOnTo scheduler.old.core scheduler.new.core) }
+{
+    let mut steps = Steps::<L>::new(blank);
+    match scheduler.commit(alloc, plan, &mut steps) {
         Ok(committed) => {
             push_committed(alloc, scheduler, &committed, text)?;
             Ok(true)
         }
-        Err(error) => push_reason(text, error),
+        Err(error) => push_refused(text, error),
     }
 }
 
@@ -112,7 +145,7 @@ fn settle(
             push_settled(scheduler, opened, text)?;
             Ok(true)
         }
-        Err(error) => push_reason(text, error),
+        Err(error) => push_unsettled(text, error),
     }
 }
 

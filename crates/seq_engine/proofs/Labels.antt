@@ -6,11 +6,17 @@ use Rattle.std.proofs.lemmas.Bool.Decides.{nat_tests}
 use Rattle.akl_model.specs.declared.label.Label.{Label}
 use Rattle.akl_model.specs.declared.label.Receipt.{Receipt}
 use Rattle.step_commit.specs.Cores.{CoreValue, KeepsFixed}
-use Rattle.step_commit.specs.Receipts.{labels_of, AreReceipts, AreBy}
+use Rattle.std.specs.List.{AllByRecursion}
+use Rattle.step_commit.specs.Receipts.{labels_of, ArePlannedBefore, ArePlannedLast, AreReceipts, AreBy}
 use Rattle.seq_engine.specs.declared.run.Finished.{Finished}
 use Rattle.seq_engine.specs.declared.run.End.{End}
 use Rattle.seq_engine.specs.declared.steps.Stepped.{Stepped}
 use Rattle.seq_engine.specs.Runs.{IsQuiet, IsSpent, EndsAs, Follows, HasStepped, GoesOn, HasRun, HasRunOn}
+
+-- one receipt more
+pub each_more : (P : Receipt → Type 0) (rs : List Receipt) (r : Receipt) → AllByRecursion P rs → P r → AllByRecursion P (rs ++ r ∷ [])
+each_more P [] r all p = (p, tt)
+each_more P (k ∷ rs) r all p = (all.0, each_more P rs r all.1 p)
 
 -- the labels of one worker with a further one
 
@@ -37,20 +43,31 @@ by_more [] l b e = (e, tt)
 by_more (k ∷ ls) l b e = (b.0, by_more ls l b.1 e)
 
 -- a further label is kept
+abbrev next_receipt : CoreValue → Label → Receipt
+next_receipt c l = record { at = length c.journal + 1; seen = length c.journal; label = l }
+
 kept_on : (c d : CoreValue) (rs ss : List Receipt) → Follows c rs d ss → AreReceipts 1 c.journal (rs ∷ []) → AreReceipts 1 d.journal (ss ∷ [])
 kept_on c d rs ss f k =
-    let zero_more : 0 + length c.journal + 1 ≡ length c.journal + 1 = omega arith in (
-      ap (map (λ (r : Receipt). (r.at, r.label))) f.receipts ∙ map-append (λ (r : Receipt). (r.at, r.label)) rs (record { at = length c.journal + 1; seen = f.seen; label = f.label } ∷ [])
-          ∙ ap (λ (xs : List (ℕ × Label)). xs ++ (length c.journal + 1, f.label) ∷ []) k.0
-          ∙ ap (λ (n : ℕ). labels_of 1 0 c.journal ++ (n, f.label) ∷ []) (sym zero_more) ∙ sym (labels_more 1 0 c.journal f.label f.worker) ∙ ap (labels_of 1 0) (sym f.journal),
+    let zero_more : 0 + length c.journal + 1 ≡ length c.journal + 1 = omega arith in
+    let before : length c.journal < length c.journal + 1 = omega arith in (
+      record {
+        labels = ap (map (λ (r : Receipt). (r.at, r.label))) f.receipts ∙ map-append (λ (r : Receipt). (r.at, r.label)) rs (next_receipt c f.label ∷ [])
+            ∙ ap (λ (xs : List (ℕ × Label)). xs ++ (length c.journal + 1, f.label) ∷ []) k.0.labels
+            ∙ ap (λ (n : ℕ). labels_of 1 0 c.journal ++ (n, f.label) ∷ []) (sym zero_more) ∙ sym (labels_more 1 0 c.journal f.label f.worker) ∙ ap (labels_of 1 0) (sym f.journal);
+        planned = subst ArePlannedBefore (sym f.receipts) (each_more (λ (r : Receipt). r.seen < r.at) rs (next_receipt c f.label) k.0.planned before);
+      },
       tt,
     )
+
+-- planned by all labels before it
+planned_on : (c d : CoreValue) (rs ss : List Receipt) → Follows c rs d ss → ArePlannedLast rs → ArePlannedLast ss
+planned_on c d rs ss f k = subst ArePlannedLast (sym f.receipts) (each_more (λ (r : Receipt). r.at ≡ r.seen + 1) rs (next_receipt c f.label) k refl)
 
 fixed_on : (c d e : CoreValue) → KeepsFixed c d → KeepsFixed d e → KeepsFixed c e
 fixed_on c d e x y = record { program = y.program ∙ x.program; query = y.query ∙ x.query; workers = y.workers ∙ x.workers; budget = y.budget ∙ x.budget }
 
 pub goes_none : (c : CoreValue) (rs : List Receipt) → GoesOn c rs c rs
-goes_none c rs = record { fixed = record { program = refl; query = refl; workers = refl; budget = refl }; further = []; journal = sym (append-nil c.journal); by_one = tt; receipts = λ k. k }
+goes_none c rs = record { fixed = record { program = refl; query = refl; workers = refl; budget = refl }; further = []; journal = sym (append-nil c.journal); by_one = tt; receipts = λ k. k; planned = λ k. k }
 
 pub goes_more : (c d e : CoreValue) (rs ss ts : List Receipt) → GoesOn c rs d ss → Follows d ss e ts → GoesOn c rs e ts
 goes_more c d e rs ss ts g f = record {
@@ -59,6 +76,7 @@ goes_more c d e rs ss ts g f = record {
   journal = f.journal ∙ ap (λ (ls : List Label). ls ++ f.label ∷ []) g.journal ∙ append_assoc c.journal g.further (f.label ∷ []);
   by_one = by_more g.further f.label g.by_one f.worker;
   receipts = λ k. kept_on d e ss ts f (g.receipts k);
+  planned = λ k. planned_on d e ss ts f (g.planned k);
 }
 
 -- a label more is one nearer to the budget
@@ -70,7 +88,8 @@ pub whole_run : (c : CoreValue) (rs : List Receipt) (f : Finished) → c.journal
 whole_run c rs f e r x = record {
   fixed = x.goes.fixed;
   kept = record {
-    receipts = x.goes.receipts (ap (map (λ (z : Receipt). (z.at, z.label))) r ∙ ap (labels_of 1 0) (sym e), tt);
+    receipts = x.goes.receipts (record { labels = ap (map (λ (z : Receipt). (z.at, z.label))) r ∙ ap (labels_of 1 0) (sym e); planned = subst ArePlannedBefore (sym r) tt }, tt);
+    planned = x.goes.planned (subst ArePlannedLast (sym r) tt);
     by_one = subst (AreBy 1) (sym (x.goes.journal ∙ ap (λ (ls : List Label). ls ++ x.goes.further) e)) x.goes.by_one;
   };
   ends = x.ends;

@@ -1,5 +1,5 @@
 -- Plans that were made of the whole journal.
-use Rattle.std.proofs.Common.{◌≡◌, ℕ, ◌+◌, ◌<◌, ◌≤◌, List, [], ◌∷◌, ◌++◌, length, Option, sym, ◌∙◌, ap, subst, ◌⊎◌, inl, inr, arith, append-nil}
+use Rattle.std.proofs.Common.{◌≡◌, ℕ, ◌+◌, ◌<◌, ◌≤◌, List, [], ◌∷◌, ◌++◌, length, Option, Some, sym, ◌∙◌, ap, subst, ◌⊎◌, inl, inr, arith, append-nil}
 use Rattle.std.proofs.lemmas.List.{length-append}
 use Rattle.akl_terms.specs.declared.name.Place.{Place}
 use Rattle.akl_terms.specs.declared.program.Program.{Program}
@@ -8,7 +8,7 @@ use Rattle.akl_model.specs.declared.item.Item.{Item}
 use Rattle.akl_model.specs.declared.label.Rule.{Rule}
 use Rattle.akl_model.specs.declared.label.Label.{Label}
 use Rattle.akl_model.specs.declared.label.Receipt.{Receipt}
-use Rattle.akl_model.specs.Config.{Config}
+use Rattle.akl_model.specs.Config.{Config, site_of}
 use Rattle.akl_model.specs.Changes.{by_store, ChangedAt, IsLastChange}
 use Rattle.akl_model.specs.Instances.{start}
 use Rattle.akl_model.specs.Derivations.{Applies, IsReady}
@@ -22,7 +22,7 @@ use Rattle.guard_plan.specs.Planned.{IsPlanOf}
 use Rattle.idle_places.specs.Idling.{IdleValue}
 use Rattle.place_steps.specs.Seen.{IsSight}
 use Rattle.step_commit.specs.Cores.{CoreValue, MayCommit, IsStale, Commits}
-use Rattle.scheduler.specs.Settled.{MaySettle}
+use Rattle.scheduler.specs.Settled.{MaySettle, IsSeenEnough}
 use Rattle.scheduler.specs.Schedulers.{SchedulerValue}
 use Rattle.seq_engine.specs.Runs.{IsPlanNow, IsSpent, Follows}
 use Rattle.seq_engine.specs.Attending.{IsIdleNow}
@@ -63,7 +63,13 @@ may_settle s i x = record {
   query = ap (λ (t : TableValue). t.query) x.table;
   further = [];
   front = sym x.journal ∙ sym (append-nil i.journal);
-  no_reason = x.no_reason;
+}
+
+-- without a look inside
+pub seen_enough : (s : SchedulerValue) (i : IdleValue) → IsIdleNow s i → IsSeenEnough s i
+seen_enough s i x outside n e = record {
+  at_rest = x.at_rest n e;
+  no_reason = λ t f is. x.no_reason outside t f (subst (λ (p : Place). site_of p t.config.roots ≡ Some f) (sym e) is);
 }
 
 last_within : (rules : List Rule) (p : Program) (q : Query) (journal : List Label) (i : Item) (k : ℕ) → IsLastChange by_store rules p q journal i k → k ≤ length journal
@@ -84,13 +90,12 @@ not_stale c seen reads i o e x =
     let same : length seen ≡ length c.journal = ap length e in
     absurd (omega (arith, within, unseen, same))
 
-pub follows : (c d : CoreValue) (p : PlanValue) (r : Receipt) (before afterwards : List Receipt) → p.label.worker ≡ 1 → Commits c p d r → afterwards ≡ before ++ r ∷ [] → Follows c before d afterwards
-follows c d p r before afterwards w x e = record {
+pub follows : (c d : CoreValue) (p : PlanValue) (r : Receipt) (before afterwards : List Receipt) → p.label.worker ≡ 1 → p.journal ≡ c.journal → Commits c p d r → afterwards ≡ before ++ r ∷ [] → Follows c before d afterwards
+follows c d p r before afterwards w s x e = record {
   fixed = x.fixed;
   label = p.label;
   unspent = x.fresh.unspent;
   journal = x.journal;
   worker = w;
-  seen = length p.journal;
-  receipts = e ∙ ap (λ (z : Receipt). before ++ z ∷ []) x.receipt;
+  receipts = e ∙ ap (λ (z : Receipt). before ++ z ∷ []) x.receipt ∙ ap (λ (ls : List Label). before ++ record { at = length c.journal + 1; seen = length ls; label = p.label } ∷ []) s;
 }

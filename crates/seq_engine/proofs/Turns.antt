@@ -13,6 +13,7 @@ use Rattle.place_steps.specs.Seen.{IsSight}
 use Rattle.place_steps.specs.Next.{IsFoundIdleBy}
 use Rattle.wake_lists.specs.Open.{Openings, closed}
 use Rattle.scheduler.specs.Schedulers.{SchedulerValue}
+use Rattle.scheduler.specs.Resting.{IsAtRest}
 use Rattle.scheduler.specs.Weights.{weight}
 use Rattle.scheduler.proofs.Weights.{closed_lighter, untimed_weight}
 use Rattle.seq_engine.specs.declared.attending.Attended.{Attended}
@@ -46,11 +47,12 @@ forgotten s d token place o e = record {
 abbrev HasNone : TableValue → List Label → Place → Type 0
 HasNone t j place = (z : IsTableOf all_rules (run_of t j) (table_of t)) (f : Found) → site_of place z.config.roots ≡ Some f → HasNoReason f
 
-pub idle_now : (s : SchedulerValue) (token : ℕ) (place : Place) (v : ViewValue) (i : IdleValue) → IsOpenUnder s token place → IsSight s.core place 1 v → IsFoundIdleBy v i → IsIdleNow s i
-idle_now s token place v i o x y = record {
+pub idle_now : (s : SchedulerValue) (token : ℕ) (place : Place) (v : ViewValue) (i : IdleValue) → IsOpenUnder s token place → IsAtRest s.openings place → IsSight s.core place 1 v → IsFoundIdleBy v i → IsIdleNow s i
+idle_now s token place v i o r x y = record {
   table = y.idle.0 ∙ x.table;
   journal = y.idle.1 ∙ x.journal;
   is_open = record { token = token; opening = o.opening; is_open = o.is_open; of_place = o.of_place ∙ sym (y.idle.2 ∙ x.is_place) };
+  at_rest = λ n e. r n (sym (y.idle.2 ∙ x.is_place) ∙ e);
   no_reason = λ e.
       subst (HasNone s.core.table s.core.journal) (sym y.idle.2)
       (subst (λ (j : List Label). HasNone s.core.table j v.place) x.journal (subst (λ (t : TableValue). HasNone t v.journal v.place) x.table (y.no_reason e)));

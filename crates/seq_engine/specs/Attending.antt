@@ -8,6 +8,7 @@ use Rattle.idle_places.specs.Later.{HasNoReason}
 use Rattle.wake_lists.specs.Open.{Opening, opening_at, untimed}
 use Rattle.step_commit.specs.Cores.{TableIn}
 use Rattle.scheduler.specs.Openings.{IsOpenAt}
+use Rattle.scheduler.specs.Resting.{IsAtRest}
 use Rattle.scheduler.specs.Schedulers.{SchedulerValue}
 use Rattle.scheduler.specs.Weights.{weight}
 use Rattle.seq_engine.specs.declared.attending.Attended.{Attended}
@@ -34,11 +35,12 @@ pub record HasClosed (s d : SchedulerValue) : Type 0 where
   pub core : d.core ≡ s.core
   pub lighter : weight d.openings < weight s.openings
 
--- an open place was found idle by all of the journal
+-- an open place in which nothing is open was found idle by all of the journal
 pub record IsIdleNow (s : SchedulerValue) (i : IdleValue) : Type 0 where
   pub table : i.table ≡ s.core.table
   pub journal : i.journal ≡ s.core.journal
   pub is_open : IsOpenAt s.openings i.place
+  pub at_rest : IsAtRest s.openings i.place
   pub no_reason : i.inside ≡ false → (t : TableIn s.core) (f : Found) → site_of i.place t.config.roots ≡ Some f → HasNoReason f
 
 -- the journal has a plan, or no place changed

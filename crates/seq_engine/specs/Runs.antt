@@ -1,5 +1,5 @@
 -- The run of one worker.
-use Rattle.std.specs.Prelude.{◌≡◌, ◌<◌, ℕ, ◌+◌, List, [], ◌∷◌, ◌++◌, length}
+use Rattle.std.specs.Prelude.{◌≡◌, ◌<◌, ◌+◌, List, [], ◌∷◌, ◌++◌, length}
 use Rattle.akl_terms.specs.declared.name.Place.{Place}
 use Rattle.akl_model.specs.declared.label.Label.{Label}
 use Rattle.akl_model.specs.declared.label.Receipt.{Receipt}
@@ -7,7 +7,7 @@ use Rattle.akl_model.specs.Derivations.{IsReady, IsQuietEnd}
 use Rattle.box_tree.specs.Tables.{all_rules}
 use Rattle.box_tree.specs.Plans.{PlanValue, IsRight}
 use Rattle.step_commit.specs.Cores.{CoreValue, KeepsFixed, TableIn}
-use Rattle.step_commit.specs.Receipts.{AreReceipts, AreBy}
+use Rattle.step_commit.specs.Receipts.{AreReceipts, ArePlannedLast, AreBy}
 use Rattle.seq_engine.specs.declared.steps.Stepped.{Stepped}
 use Rattle.seq_engine.specs.declared.run.End.{End}
 use Rattle.seq_engine.specs.declared.run.Finished.{Finished}
@@ -27,15 +27,14 @@ IsSpent c = (length c.journal ≡ c.budget) × ((t : TableIn c) → (place : Pla
 abbrev pub IsQuiet : CoreValue → Type 0
 IsQuiet c = (t : TableIn c) → IsQuietEnd all_rules c.table.program t.config
 
--- a label of worker 1, with the receipt of it
+-- a label of worker 1, planned by all labels before it, with the receipt of it
 pub record Follows (c : CoreValue) (before : List Receipt) (d : CoreValue) (afterwards : List Receipt) : Type 0 where
   pub fixed : KeepsFixed c d
   pub label : Label
   pub unspent : length c.journal < c.budget
   pub journal : d.journal ≡ c.journal ++ label ∷ []
   pub worker : label.worker ≡ 1
-  pub seen : ℕ
-  pub receipts : afterwards ≡ before ++ record { at = length c.journal + 1; seen = seen; label = label } ∷ []
+  pub receipts : afterwards ≡ before ++ record { at = length c.journal + 1; seen = length c.journal; label = label } ∷ []
 
 -- what a step of a run came to, from a core and receipts to others
 abbrev pub HasStepped : CoreValue → List Receipt → CoreValue → List Receipt → Stepped → Type 0
@@ -50,10 +49,12 @@ pub record GoesOn (c : CoreValue) (rs : List Receipt) (d : CoreValue) (ss : List
   pub journal : d.journal ≡ c.journal ++ further
   pub by_one : AreBy 1 further
   pub receipts : AreReceipts 1 c.journal (rs ∷ []) → AreReceipts 1 d.journal (ss ∷ [])
+  pub planned : ArePlannedLast rs → ArePlannedLast ss
 
--- the receipts are those of the journal's labels, all of worker 1
+-- the receipts are those of the journal's labels, all of worker 1, each planned by all labels before it
 pub record AreKept (c : CoreValue) (rs : List Receipt) : Type 0 where
   pub receipts : AreReceipts 1 c.journal (rs ∷ [])
+  pub planned : ArePlannedLast rs
   pub by_one : AreBy 1 c.journal
 
 abbrev pub EndsAs : CoreValue → End → Type 0

@@ -9,9 +9,8 @@ use box_tree::{LookError, Plan};
 use idle_places::Idle;
 use place_steps::{Next, next_of, see};
 use rule_plan::plan;
-use scheduler::{Attention, Scheduler};
+use scheduler::{Attention, Scheduler, SettleError};
 use std::alloc::{AllocError, Global};
-use step_commit::CommitError;
 
 /// What came of an open place that was looked at.
 #[derive(Drop)]
@@ -78,9 +77,9 @@ fn settle(alloc: Global, scheduler: &mut Scheduler, idle: &Idle) -> Result<(), A
 {
     match scheduler.settle(alloc, idle) {
         Ok(_) => Ok(()),
-        Err(CommitError::Spent { budget: _ }) => unreachable!(),
-        Err(CommitError::Stale { item: _, stamp: _ }) => unreachable!(),
-        Err(CommitError::Memory(error)) => Err(error),
+        Err(SettleError::Stale { item: _, stamp: _ }) => unreachable!(),
+        Err(SettleError::LookInside) => unreachable!(),
+        Err(SettleError::Memory(error)) => Err(error),
     }
 }
 

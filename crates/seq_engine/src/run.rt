@@ -1,13 +1,15 @@
 //! A run to its end.
 
-ghost use Rattle.std.specs.Prelude.{◌≡◌, IfOk, []};
+ghost use Rattle.std.specs.Prelude.{◌≡◌, ◌<◌, IfOk, []};
 ghost use Rattle.seq_engine.specs.Runs.{HasRun, HasRunOn};
 
 use crate::steps::{Stepped, step};
 use akl_model::Receipt;
-use akl_terms::Program;
+use akl_terms::{Program, Steps};
 use scheduler::Scheduler;
 use std::alloc::{AllocError, Global};
+use std::marker::Brand;
+use std::sync::ledger::{Blank, Ledger};
 use step_commit::Core;
 
 /// How a run ended.
@@ -44,10 +46,26 @@ pub fn run_on(
     requires { program.now ≡ scheduler.core.table.program }
     ensures { IfOk result (HasRunOn scheduler.core receipts.items) }
 {
-    let mut scheduler = scheduler;
-    let mut receipts = receipts;
+    run_counted::<Brand>(alloc, program, scheduler, receipts, Blank::new(1))
+}
+
+// The same by a counter of the steps that its commits take.
+fn run_counted<L: Ledger>(
+    alloc: Global,
+    program: &Program,
+    mut scheduler: Scheduler,
+    mut receipts: Vec<Receipt>,
+    blank: Blank,
+) -> Result<Finished, AllocError>
+    requires program { program.now ≡ scheduler.core.table.program }
+    requires name { blank.name ≡ L.name }
+    requires parts { blank.parts ≡ L.parts }
+    requires some { 0 < blank.parts }
+    ensures { IfOk result (HasRunOn scheduler.core receipts.items) }
+{
+    let mut steps = Steps::<L>::new(blank);
     loop {
-        let end = match step(alloc, program, &mut scheduler, &mut receipts)? {
+        let end = match step(alloc, program, &mut scheduler, &mut receipts, &mut steps)? {
             Stepped::Committed => continue,
             Stepped::Quiet => End::Quiet,
             Stepped::Spent => End::Spent,

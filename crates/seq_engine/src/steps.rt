@@ -5,10 +5,11 @@ ghost use Rattle.seq_engine.specs.Runs.{HasStepped, IsPlanNow};
 
 use crate::attending::next_plan;
 use akl_model::Receipt;
-use akl_terms::Program;
+use akl_terms::{Program, Steps};
 use box_tree::Plan;
 use scheduler::Scheduler;
 use std::alloc::{AllocError, Global};
+use std::sync::ledger::Ledger;
 use step_commit::CommitError;
 
 /// What a step of a run came to.
@@ -23,16 +24,17 @@ pub enum Stepped {
 }
 
 // Commits a plan that was made in this very state, and keeps its receipt; or all labels of the budget are made.
-fn commit(
+fn commit<L: Ledger>(
     alloc: Global,
     scheduler: &mut Scheduler,
     plan: Plan,
     receipts: &mut Vec<Receipt>,
+    steps: &mut Steps<L>,
 ) -> Result<Stepped, AllocError>
     requires { IsPlanNow scheduler.old.core plan }
     ensures { IfOk result (HasStepped scheduler.old.core receipts.old.items scheduler.new.core receipts.new.items) }
 {
-    match scheduler.commit_uncounted(alloc, plan) {
+    match scheduler.commit(alloc, plan, steps) {
         Ok(committed) => {
             receipts.push(committed.receipt)?;
             Ok(Stepped::Committed)
@@ -43,18 +45,19 @@ fn commit(
     }
 }
 
-/// Plans at the open places until a rule applies, and commits its label as worker 1.
-pub(crate) fn step(
+/// Plans at the open places until a rule applies, and commits its label as worker 1. The commit's steps are counted.
+pub(crate) fn step<L: Ledger>(
     alloc: Global,
     program: &Program,
     scheduler: &mut Scheduler,
     receipts: &mut Vec<Receipt>,
+    steps: &mut Steps<L>,
 ) -> Result<Stepped, AllocError>
     requires { program.now ≡ scheduler.old.core.table.program }
     ensures { IfOk result (HasStepped scheduler.old.core receipts.old.items scheduler.new.core receipts.new.items) }
 {
     match next_plan(alloc, program, scheduler)? {
-        Some(plan) => commit(alloc, scheduler, plan, receipts),
+        Some(plan) => commit(alloc, scheduler, plan, receipts, steps),
         None => Ok(Stepped::Quiet),
     }
 }

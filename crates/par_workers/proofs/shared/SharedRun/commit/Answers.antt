@@ -15,15 +15,15 @@ returns-then-is_err c =
     subst (λ (d : SharedValue). HasConcluded c.args.worker s rs d rs)
     (sym c.self.view_is ∙ ap (λ (ms : List Made). record { begun = c.self.inside.begun.value; past = ms }) (sym c.reserve.ensures.items)) (concluded_none c.args.worker s rs)
 
-pub commit_uncounted-requires : goal.commit_uncounted-requires
-commit_uncounted-requires c = may_commit c.args.self.now c.self.inside.scheduler.core c.args.worker c.args.plan
+pub commit-requires : goal.commit-requires
+commit-requires c = may_commit c.args.self.now c.self.inside.scheduler.core c.args.worker c.args.plan
     (subst (λ (s : SharedValue). IsShared s c.self.inside.scheduler.core) c.self.view_is c.self.invariant) c.requires.plan
 
 pub invariant_of-self-in-Ok : goal.invariant_of-self-in-Ok
 invariant_of-self-in-Ok c =
     let v = c.self.inside in
     let s : SharedValue = record { begun = v.begun.value; past = v.past.items } in
-    let d = c.commit_uncounted.new.self.core in
+    let d = c.commit.new.self.core in
     let found = subst (λ (x : SharedValue). IsFoundBefore x c.args.worker (Next.Plan c.args.plan)) (sym c.self.view_is) c.requires.plan in
     let most = subst (λ (x : SharedValue). c.args.worker ≤ x.begun.workers) (sym c.self.view_is) c.requires.worker.1 in
     let table = c.of-made.ensures.table ∙ c.table.ensures.table ∙ ap (λ (e : CoreValue). e.table) c.core.ensures.core in
@@ -37,10 +37,10 @@ returns-in-Ok c =
     let s : SharedValue = record { begun = v.begun.value; past = v.past.items } in
     let rs = c.args.receipts.now.items in
     let found = subst (λ (x : SharedValue). IsFoundBefore x c.args.worker (Next.Plan c.args.plan)) (sym c.self.view_is) c.requires.plan in
-    let done = concluded_more s v.scheduler.core c.commit_uncounted.new.self.core c.args.worker c.args.plan c.in-Ok.field-0.receipt c.of-made.result rs c.self.invariant found c.in-Ok.ensures.committed.commits c.of-made.ensures.label in
+    let done = concluded_more s v.scheduler.core c.commit.new.self.core c.args.worker c.args.plan c.in-Ok.field-0.receipt c.of-made.result rs c.self.invariant found c.in-Ok.ensures.committed.commits c.of-made.ensures.label in
     let past = c.push_reserved.ensures.items ∙ ap (λ (ms : List Made). ms ++ c.of-made.result ∷ []) c.reserve.ensures.items in
     subst (λ (x : SharedValue). HasConcluded c.args.worker x rs c.hand_out.new.self c.push_reserved-in-Ok.new.self.items) c.self.view_is
-    (subst (λ (x : SharedValue). HasConcluded c.args.worker s rs x c.push_reserved-in-Ok.new.self.items) (sym (c.hand_out.ensures ∙ c.take_back.ensures ∙ ap (λ (ms : List Made). record { begun = v.begun.value; past = ms }) past))
+    (subst (λ (x : SharedValue). HasConcluded c.args.worker s rs x c.push_reserved-in-Ok.new.self.items) (sym (ap (λ (ms : List Made). record { begun = v.begun.value; past = ms }) past))
     (subst (λ (ss : List Receipt). HasConcluded c.args.worker s rs (record { begun = s.begun; past = s.past ++ c.of-made.result ∷ [] }) ss) (sym c.push_reserved-in-Ok.ensures.items) done))
 
 pub returns-in-Err-Stale : goal.returns-in-Err-Stale

@@ -5,4 +5,4 @@ use Rattle.par_workers.proofs.shared.SharedRun.settle.Goals as goal
 
 pub settle-requires : goal.settle-requires
 settle-requires c = may_settle c.args.self.now c.self.inside.scheduler.core c.args.worker c.args.idle
-    (subst (λ (s : SharedValue). IsShared s c.self.inside.scheduler.core) c.self.view_is c.self.invariant) c.requires.idle (c.is_in_time.ensures c.if-not-is_in_time.false)
+    (subst (λ (s : SharedValue). IsShared s c.self.inside.scheduler.core) c.self.view_is c.self.invariant) c.requires.idle
