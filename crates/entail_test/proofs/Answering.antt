@@ -26,7 +26,7 @@ use Rattle.local_store.proofs.Known.{drop-whole}
 use Rattle.local_store.proofs.Parts.{takes-part, ends-parts, from-split}
 use Rattle.entail_test.specs.declared.outside.Outside.{Outside}
 use Rattle.entail_test.specs.declared.outside.Outside.TheVariants.{Touched, Clash}
-use Rattle.entail_test.specs.Asked.{frames_from, environment_at, own_at, KeepsApart, Reads, Shows, ReadsOver, AnswersOver}
+use Rattle.entail_test.specs.Asked.{frames_from, environment_at, own_at, KeepsApart, IsClashAt, DecidesRead, Reads, Shows, ReadsOver, AnswersOver}
 use Rattle.entail_test.specs.Touched.{AreTouched}
 use Rattle.local_store.proofs.FormEnds.{has_head, unheaded, structured, unstructured, one_class, one_end}
 use Rattle.entail_test.proofs.Ends.{are_touched}
@@ -87,11 +87,21 @@ module _ (nodes : List Node) (ss : List Stored) (depth : ℕ) (known : List (Var
       (λ a b m. elim m [ inl x ↦ IsTold-left (environment_at nodes ss depth) (own_at nodes ss depth) a b x | inr x ↦ IsTold-right (environment_at nodes ss depth) (own_at nodes ss depth) a b x ])
       (IsTold-either (environment_at nodes ss depth) (own_at nodes ss depth))
 
+  pub decides-read : (o : Outside) → AnswersOver nodes known (drop depth ss) o → DecidesRead nodes ss depth o
+  decides-read (Touched on) r = form-consistent nodes (known ++ r.added) (IsTold (environment_at nodes ss depth ++ own_at nodes ss depth)) (whole-form r.added r.takes)
+  decides-read (Clash left right) c = (
+    EqualBy-follows (λ a b m. elim m [
+      | inl x ↦ EqualBy-follows (λ u v y. told (IsTold-left (environment_at nodes ss depth) (own_at nodes ss depth) u v y)) (fE.follow a b (subst (λ (l : List (Var × Term)). IsBound (bound_in nodes l) a b) (append-nil known) x))
+      | inr x ↦ told (IsTold-right (environment_at nodes ss depth) (own_at nodes ss depth) a b x)
+    ]) c.equal,
+    c.differ,
+  )
+
   pub answers-reads : KeepsApart (frames_from (drop depth ss)) (environment_at nodes ss depth) → (o : Outside) → AnswersOver nodes known (drop depth ss) o → Reads nodes ss depth o
   answers-reads scoped (Touched on) r = (
-    form-consistent nodes (known ++ r.added) (IsTold (environment_at nodes ss depth ++ own_at nodes ss depth)) fW,
+    decides-read (Touched on) r,
     touched_all,
-    λ e. quiet-none nodes known (environment_at nodes ss depth) (own_at nodes ss depth) (frames_from (drop depth ss)) fE (form-consistent nodes (known ++ r.added) (IsTold (environment_at nodes ss depth ++ own_at nodes ss depth)) fW)
+    λ e. quiet-none nodes known (environment_at nodes ss depth) (own_at nodes ss depth) (frames_from (drop depth ss)) fE (decides-read (Touched on) r)
         (rw e at touched_all),
   )
     where
@@ -103,13 +113,7 @@ module _ (nodes : List Node) (ss : List Stored) (depth : ℕ) (known : List (Var
           (end-extends nodes known r.added fW.solved) r.shows.candidates r.shows.classes r.shows.classified
           (enough nodes known r.added (IsTold (environment_at nodes ss depth)) (IsTold (environment_at nodes ss depth ++ own_at nodes ss depth)) (frames_from (drop depth ss)) r.shows.candidates fE fW
           (end-extends nodes known r.added fW.solved) (ends-outside nodes known (environment_at nodes ss depth) (frames_from (drop depth ss)) fE scoped) r.shows.shown))
-  answers-reads scoped (Clash left right) c = (
-    EqualBy-follows (λ a b m. elim m [
-      | inl x ↦ EqualBy-follows (λ u v y. told (IsTold-left (environment_at nodes ss depth) (own_at nodes ss depth) u v y)) (fE.follow a b (subst (λ (l : List (Var × Term)). IsBound (bound_in nodes l) a b) (append-nil known) x))
-      | inr x ↦ told (IsTold-right (environment_at nodes ss depth) (own_at nodes ss depth) a b x)
-    ]) c.equal,
-    c.differ,
-  )
+  answers-reads scoped (Clash left right) c = decides-read (Clash left right) c
 
 module _ (nodes : List Node) (ss : List Stored) (depth k : ℕ) (f : IsSolvedChain nodes (take k (take depth ss))) where
   pub environment-form : (new : List (Var × Term)) → Takes nodes (bindings_from (take k (take depth ss))) [] new (bindings_from (take (length (take depth ss) - k) (drop k (take depth ss))))
@@ -118,7 +122,7 @@ module _ (nodes : List Node) (ss : List Stored) (depth k : ℕ) (f : IsSolvedCha
       (subst (λ (l : List Stored). Takes nodes (bindings_from (take k (take depth ss))) [] new (bindings_from l)) (drop-whole (take depth ss) k) t)
 
   pub environment-clash : (left right : Term) → IsClashOfBindings nodes (bindings_from (take k (take depth ss)) ++ []) (bindings_from (take (length (take depth ss) - k) (drop k (take depth ss)))) left right
-      → Reads nodes ss depth (Clash left right)
+      → IsClashAt nodes ss depth left right
   environment-clash left right c = (
     EqualBy-follows (λ a b m. told (IsTold-left (environment_at nodes ss depth) (own_at nodes ss depth) a b m))
         (chain-clash nodes (take depth ss) k (bindings_from (take k (take depth ss))) left right f.form (subst (λ (l : List Stored). IsClashOfBindings nodes (bindings_from (take k (take depth ss)) ++ []) (bindings_from l) left right) (drop-whole (take depth ss) k) c)),

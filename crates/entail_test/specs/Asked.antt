@@ -67,6 +67,17 @@ Answers nodes ss depth Quiet = IsQuietAt nodes ss depth
 Answers nodes ss depth (Noisy on) = IsConsistent (whole_at nodes ss depth) × (IsQuietAt nodes ss depth → ⊥) × AreTouchedAt nodes ss depth on.items
 Answers nodes ss depth (Inconsistent left right) = IsClashAt nodes ss depth left right
 
+-- whether all together is consistent, as the answer says it
+abbrev pub DecidesWhole : List Node → List Stored → ℕ → Quietness → Type 0
+DecidesWhole nodes ss depth Quiet = IsConsistent (whole_at nodes ss depth)
+DecidesWhole nodes ss depth (Noisy on) = IsConsistent (whole_at nodes ss depth)
+DecidesWhole nodes ss depth (Inconsistent left right) = IsClashAt nodes ss depth left right
+
+-- and as what is read says it
+abbrev pub DecidesRead : List Node → List Stored → ℕ → Outside → Type 0
+DecidesRead nodes ss depth (Touched on) = IsConsistent (whole_at nodes ss depth)
+DecidesRead nodes ss depth (Clash left right) = IsClashAt nodes ss depth left right
+
 -- what is read, before it is an answer: nothing is touched exactly where all is quiet
 abbrev pub Reads : List Node → List Stored → ℕ → Outside → Type 0
 Reads nodes ss depth (Touched on) = IsConsistent (whole_at nodes ss depth) × AreTouchedAt nodes ss depth on.items × (on.items ≡ [] → IsQuietAt nodes ss depth)

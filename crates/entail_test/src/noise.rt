@@ -1,7 +1,7 @@
 //! Whether the innermost box of a chain is quiet, and what the boxes from a depth on touch.
-ghost use Rattle.std.specs.Prelude.{◌≡◌, ◌-◌, ◌<◌, IfOk, length};
+ghost use Rattle.std.specs.Prelude.{◌≡◌, ◌-◌, ◌<◌, [], IfOk, length};
 ghost use Rattle.akl_terms.specs.Equal.{IsConsistent};
-ghost use Rattle.entail_test.specs.Asked.{Answers, AreTouchedAt, KeepsApartAt, whole_at};
+ghost use Rattle.entail_test.specs.Asked.{Answers, AreTouchedAt, DecidesWhole, KeepsApartAt, whole_at};
 
 use crate::outside::{Outside, outside_of};
 use akl_terms::{Term, Var};
@@ -21,9 +21,10 @@ pub enum Quietness {
 }
 
 /// Whether the innermost box is quiet under the others. This is exact where the environment doesn't make a variable
-/// of the box equal to an unstructured one from outside.
+/// of the box equal to an unstructured one from outside; whether all together is consistent it always says.
 pub fn quiet(alloc: Global, chain: &Chain) -> Result<Quietness, AllocError>
-    ensures { IfOk result (λ answer. KeepsApartAt chain.now.nodes chain.now.stores (length chain.now.stores - 1)
+    ensures whole { IfOk result (DecidesWhole chain.now.nodes chain.now.stores (length chain.now.stores - 1)) }
+    ensures answer { IfOk result (λ answer. KeepsApartAt chain.now.nodes chain.now.stores (length chain.now.stores - 1)
         → Answers chain.now.nodes chain.now.stores (length chain.now.stores - 1) answer) }
 {
     let depth = chain.stores().len().saturating_sub(1);
@@ -41,10 +42,11 @@ pub fn quiet(alloc: Global, chain: &Chain) -> Result<Quietness, AllocError>
 
 /// The variables from outside of the boxes from a depth on which these boxes touch: one of each class of the
 /// environment, and nothing else. This is exact where all together are consistent and the environment doesn't make a
-/// variable of these boxes equal to an unstructured one from outside.
+/// variable of these boxes equal to an unstructured one from outside; where they are inconsistent there is none.
 pub fn touches(alloc: Global, chain: &Chain, depth: usize) -> Result<Vec<Var>, AllocError>
     requires { depth < length chain.now.stores }
-    ensures { IfOk result (λ on. KeepsApartAt chain.now.nodes chain.now.stores depth → IsConsistent (whole_at chain.now.nodes chain.now.stores depth)
+    ensures none { IfOk result (λ on. (IsConsistent (whole_at chain.now.nodes chain.now.stores depth) → ⊥) → on.items ≡ []) }
+    ensures touched { IfOk result (λ on. KeepsApartAt chain.now.nodes chain.now.stores depth → IsConsistent (whole_at chain.now.nodes chain.now.stores depth)
         → AreTouchedAt chain.now.nodes chain.now.stores depth on.items) }
 {
     match outside_of(alloc, chain, depth)? {

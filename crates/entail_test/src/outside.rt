@@ -3,7 +3,7 @@ ghost use Rattle.std.specs.Prelude.{◌≡◌, ◌≤◌, ◌++◌, IfOk, length
 ghost use Rattle.rational_unify.specs.Known.{IsSolved};
 ghost use Rattle.local_store.specs.Chained.{bindings_from, IsKnown};
 ghost use Rattle.local_store.specs.Bound.{AreFound};
-ghost use Rattle.entail_test.specs.Asked.{Reads, KeepsApartAt, AreCandidates, Shows, frames_from, named_in, AnswersOver};
+ghost use Rattle.entail_test.specs.Asked.{Reads, DecidesRead, KeepsApartAt, AreCandidates, Shows, frames_from, named_in, AnswersOver};
 
 use crate::reading::touched;
 use akl_terms::{Name, Templates, Term, Var};
@@ -26,10 +26,11 @@ pub enum Outside {
 ///
 /// It solves the bindings of these stores over a solved form of those before them, and reads the
 /// answer from the bindings that this adds. Where the whole chain is known to be solved, these are
-/// the stores' own bindings.
+/// the stores' own bindings. It is a clash exactly where all together is inconsistent.
 pub fn outside_of(alloc: Global, chain: &Chain, depth: usize) -> Result<Outside, AllocError>
     requires { depth ≤ length chain.now.stores }
-    ensures { IfOk result (λ answer. KeepsApartAt chain.now.nodes chain.now.stores depth → Reads chain.now.nodes chain.now.stores depth answer) }
+    ensures whole { IfOk result (DecidesRead chain.now.nodes chain.now.stores depth) }
+    ensures read { IfOk result (λ answer. KeepsApartAt chain.now.nodes chain.now.stores depth → Reads chain.now.nodes chain.now.stores depth answer) }
 {
     if chain.known() == chain.stores().len() {
         return told_in(alloc, chain, depth);
