@@ -17,5 +17,7 @@ pub mod CollectRight
 pub mod Chosen
 pub mod Collected
 pub mod Tested
+pub mod Joined
+pub mod PlanOf
 pub mod OneOf
 pub mod Noises

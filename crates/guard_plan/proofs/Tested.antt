@@ -5,26 +5,31 @@ use Rattle.std.specs.List.{AllByRecursion}
 use Rattle.std.proofs.lemmas.Bool.{false≢true}
 use Rattle.akl_terms.specs.declared.term.Node.{Node}
 use Rattle.akl_terms.specs.declared.term.Term.{Term}
-use Rattle.akl_terms.specs.Template.{tree}
-use Rattle.akl_terms.specs.Decided.{DifferInHead}
-use Rattle.akl_terms.specs.Equal.{EqualBy, told, IsConsistentBy}
-use Rattle.akl_terms.proofs.EqualLaws.{EqualBy-follows, IsTold-left}
+use Rattle.akl_terms.specs.Equal.{told, IsConsistent, IsConsistentBy}
+use Rattle.akl_terms.proofs.EqualLaws.{IsConsistent-follows, IsTold-left}
 use Rattle.rational_unify.proofs.Taking.{take-next}
 use Rattle.local_store.specs.Stored.{Stored}
 use Rattle.local_store.specs.Chained.{ToldBy}
 use Rattle.local_store.proofs.Resolved.{around-take}
-use Rattle.entail_test.specs.Asked.{environment_at, own_at, KeepsApartAt, IsClashAt}
+use Rattle.entail_test.specs.declared.noise.Quietness.{Quietness}
+use Rattle.entail_test.specs.declared.noise.Quietness.TheVariants.{Quiet, Noisy, Inconsistent}
+use Rattle.entail_test.specs.Asked.{environment_at, own_at, whole_at, KeepsApartAt, IsClashAt, DecidesWhole, Answers}
 use Rattle.box_tree.specs.declared.view.Alternative.{Alternative}
 use Rattle.guard_plan.specs.Guards.{KeepsApartInside, IsQuietInside, HasQuiet}
 
 module _ (nodes : List Node) (ss : List Stored) where
   -- two terms of different heads that are equal in the environment
-  pub clash_outside : (left right : Term) → EqualBy (ToldBy nodes (take (length ss - 1) ss)) (tree nodes left) (tree nodes right) → DifferInHead (tree nodes left) (tree nodes right)
-      → IsClashAt nodes ss (length ss - 1) left right
-  clash_outside left right e d = (EqualBy-follows (λ a b m. told (IsTold-left (environment_at nodes ss (length ss - 1)) (own_at nodes ss (length ss - 1)) a b m)) e, d)
-
   pub kept : KeepsApartInside nodes ss → IsConsistentBy (ToldBy nodes (take (length ss - 1) ss)) → KeepsApartAt nodes ss (length ss - 1)
   kept h c = h (subst (λ (o : List Stored). IsConsistentBy (ToldBy nodes o)) (around-take ss) c)
+
+  around_consistent : IsConsistent (whole_at nodes ss (length ss - 1)) → IsConsistentBy (ToldBy nodes (take (length ss - 1) ss))
+  around_consistent c = IsConsistent-follows (record { each = λ m. told (IsTold-left (environment_at nodes ss (length ss - 1)) (own_at nodes ss (length ss - 1)) _ _ m) }) c
+
+  -- where the environment is inconsistent, so is the whole, and the answer says it
+  pub answered : KeepsApartInside nodes ss → (a : Quietness) → DecidesWhole nodes ss (length ss - 1) a → (KeepsApartAt nodes ss (length ss - 1) → Answers nodes ss (length ss - 1) a) → Answers nodes ss (length ss - 1) a
+  answered h Quiet whole answer = answer (kept h (around_consistent whole))
+  answered h (Noisy on) whole answer = answer (kept h (around_consistent whole))
+  answered h (Inconsistent left right) whole answer = whole
 
   pub says_quiet : IsQuietInside nodes ss → IsTrue true ↔ IsQuietInside nodes ss
   says_quiet q = (λ _. q, λ _. refl)

@@ -1,3 +1,4 @@
+pub mod Solved
 pub mod Planned
 pub mod Guards
 pub mod Collecting

@@ -8,14 +8,16 @@ use Rattle.table_laws.specs.Stamped.{IsTableOf}
 use Rattle.box_tree.specs.Tables.{all_rules, table_of}
 use Rattle.box_tree.specs.Views.{ViewValue, run_of}
 use Rattle.box_tree.specs.Plans.{PlanValue, IsRight}
+use Rattle.guard_plan.specs.Solved.{SaysSolved}
 
--- a right plan was made of a view, for its place and its worker
+-- a right plan was made of a view, for its place and its worker, and says what is known to be solved
 pub record IsPlanOf (v : ViewValue) (p : PlanValue) : Type 0 where
   pub right : IsRight p
   pub table : p.table ≡ v.table
   pub journal : p.journal ≡ v.journal
   pub place : p.label.place ≡ v.place
   pub worker : p.label.worker ≡ v.worker
+  pub solved : SaysSolved v p.label.rule p.step
 
 -- a rule in force other than Split, which is planned by all that stands in a box and inside it
 abbrev pub IsPlain : Rule → Type 0

@@ -67,11 +67,7 @@ pub fn quietness(alloc: Global, chain: &Chain) -> Result<Quietness, AllocError>
     requires { KeepsApartInside chain.now.nodes chain.now.stores }
     ensures { IfOk result (Answers chain.now.nodes chain.now.stores (length chain.now.stores - 1)) }
 {
-    let depth = chain.stores().len().saturating_sub(1);
-    match consistent(alloc, &chain.outer(depth))? {
-        Consistency::Clash { left, right } => Ok(Quietness::Inconsistent { left, right }),
-        Consistency::Consistent => quiet(alloc, chain),
-    }
+    quiet(alloc, chain)
 }
 
 // The first of these alternatives that is solved and quiet under the stores of a path. What the others touch comes to

@@ -1,13 +1,16 @@
-use Rattle.std.proofs.Common.{List, length, sym, ◌∙◌, ap, arith}
+use Rattle.std.proofs.Common.{List, length, sym, ◌∙◌, ap, arith, rules}
 use Rattle.std.proofs.lemmas.Bool.{false≢true}
 use Rattle.std.specs.Prelude.{◌^◌, ◌<◌}
 use Rattle.akl_terms.specs.declared.name.Name.{Name}
 use Rattle.akl_terms.specs.declared.program.Goal.{Goal}
+use Rattle.akl_model.specs.declared.label.Rule.{Rule}
 use Rattle.box_tree.specs.declared.step.Step.{Step}
 use Rattle.local_store.specs.Stored.{Stored}
 use Rattle.box_tree.specs.Edits.{named_atoms}
 use Rattle.table_laws.specs.Steps as laws
 use Rattle.guard_plan.proofs.Chosen.{only_testable, only_deep, only_unsolved, only_many, only_unheld, only_planned}
+use Rattle.guard_plan.proofs.Joined.{joined_known}
+use Rattle.guard_plan.proofs.PlanOf.{plan_of}
 use Rattle.guard_plan.proofs.Noises.{noise_unsolved, noise_of_promote}
 use Rattle.guard_plan.proofs.promoting.promote.Goals as goal
 use Rattle.guard_plan.proofs.promoting.promote.Goals.{then-not-branch-via-then-not-branch, then-not-branch-via-else-not-branch+then-names-gt-MOST}
@@ -56,3 +59,9 @@ new-requires-2 c =
     (Step.Join c.in_ok-store-2.store c.in_ok-store.field-0.solved c.in_ok-goals.goals)
     (ap (λ (s : Stored). laws.joins s c.in_ok-store.field-0.solved (named_atoms c.args.view.now.table.program.templates.nodes c.in_ok-goals.goals.items)) c.in_ok-store-2.ensures
     ∙ ap (λ (l : List (Name × Goal)). laws.joins c.in_ok-store.field-0.store c.in_ok-store.field-0.solved (named_atoms c.args.view.now.table.program.templates.nodes l)) goals))
+
+pub returns : goal.returns
+returns c =
+    let answer = rw (c.of_solved-chain.ensures, c.as_slice.ensures.value, c.in_ok-push.ensures.items, c.in_ok-stores.ensures, c.in_ok-share.ensures, c.stores.ensures, c.requires.program) at c.in_ok-store.ensures in
+    let known = joined_known c.args.view.now.table.program.templates.nodes c.args.view.now.stores c.args.only.now.store c.args.only.now.known c.in_ok-store.field-0 answer in
+    plan_of c.args.view.now c.new-2.result _ _ _ _ _ (search rules) c.new-2.ensures Rule.Promote _ c.label_for-label.ensures.label (rw c.requires.only (known, tt)) (λ e. cc)
