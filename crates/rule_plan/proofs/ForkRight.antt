@@ -57,16 +57,16 @@ module _ (v : ViewValue) (i : IsViewOf v) (g : Name) (d : ℕ) (call : Call) (p 
   fork_none many = atom_none v i g (Atom.call d (terms_from v.table.program.templates.nodes call.frame call.first call.count) (result v call)) p held many
 
   module _ (x : Definition) (is : slice_get v.table.program.definitions d ≡ Some x) (o : HeldOp) (operator : operator_of x.op (result v call) ≡ Some (op_held v.table.program.templates.nodes o)) (few : drawn_by x.clauses < 2 ^ 32) (news : List NewBox)
-      (made : AreMade v.table.program.templates.nodes v.stores call v.worker v.next x.clauses news) (step : Step) (made_step : step_of v.table.program.templates.nodes step ≡ laws.forks (op_held v.table.program.templates.nodes o) (map (new_box v.table.program.templates.nodes) news)) where
+      (made : AreMade v.table.program.templates.nodes v.stores v.known call v.worker v.next x.clauses news) (step : Step) (made_step : step_of v.table.program.templates.nodes step ≡ laws.forks (op_held v.table.program.templates.nodes o) (map (new_box v.table.program.templates.nodes) news)) where
     boxes : AreNewBoxes v.table.program.templates.nodes (whole i.site) (map (new_box v.table.program.templates.nodes) news)
         (instances v.table.program.templates.nodes v.worker (slice_index i.table.config.next v.worker) (terms_from v.table.program.templates.nodes call.frame call.first call.count) x.clauses)
     boxes = subst (λ (n : ℕ). AreNewBoxes v.table.program.templates.nodes (whole i.site) (map (new_box v.table.program.templates.nodes) news)
         (instances v.table.program.templates.nodes v.worker n (terms_from v.table.program.templates.nodes call.frame call.first call.count) x.clauses)) i.next
-        (all_made v.table.program.templates.nodes v.stores (whole i.site) (whole_stands v i) call v.worker v.next x.clauses news made)
+        (all_made v.table.program.templates.nodes v.stores (whole i.site) (whole_stands v i) v.known call v.worker v.next x.clauses news made)
 
     solved : AreSolvedIf (table_of v.table) (names_down_to i.site) (map (new_box v.table.program.templates.nodes) news)
-    solved = all_solved (table_of v.table) (names_down_to i.site) call v.worker v.next x.clauses news
-        (subst (λ (ss : List Stored). AreMade v.table.program.templates.nodes ss call v.worker v.next x.clauses news) (stores_path v i) made)
+    solved = all_solved (table_of v.table) (names_down_to i.site) v.known call v.worker v.next x.clauses news
+        (subst (λ (ss : List Stored). AreMade v.table.program.templates.nodes ss v.known call v.worker v.next x.clauses news) (stores_path v i) made)
 
     abbrev change : Change
     change = becomes i.site.content

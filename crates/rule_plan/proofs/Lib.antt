@@ -14,6 +14,7 @@ pub mod Clashing
 pub mod Framed
 pub mod NewBoxes
 pub mod NewStores
+pub mod KnownStores
 pub mod ForkRight
 pub mod FramesAndPorts
 pub mod Solving

@@ -29,7 +29,7 @@ use Rattle.box_tree.specs.Tables.{goal_atom, new_box}
 use Rattle.rule_plan.specs.declared.heads.Call.{Call}
 use Rattle.rule_plan.specs.Made.{heads, heads_of, goals_under, named_under, store_with, IsNewStore, IsMade, AreMade}
 use Rattle.box_tree.proofs.ToldChains.{around_push}
-use Rattle.guard_plan.proofs.Chains.{innermost_push}
+use Rattle.guard_plan.proofs.Chains.{innermost_push, long_push}
 use Rattle.rule_plan.proofs.Storing.{tells_stands, told_over}
 
 -- equations of arguments with head arguments, in another order
@@ -110,8 +110,8 @@ collected_tree nodes frame (Some n) = refl
 told_frame : (nodes : List Node) (path : List Stored) (frame : Name) → told_in nodes (path ++ store_with frame ∷ []) ≡ told_in nodes path
 told_frame nodes path frame = told_join nodes path (store_with frame ∷ []) ∙ append-nil (told_in nodes path)
 
-module _ (nodes : List Node) (path : List Stored) (W : Equations) (stands : StandFor (IsTold (told_in nodes path)) (IsTold W)) (call : Call) (w : ℕ) where
-  head_stands : (frame : Name) (c : Clause) (store : Stored) (solved : Bool) → IsNewStore nodes path frame (heads_of call frame c) store solved
+module _ (nodes : List Node) (path : List Stored) (W : Equations) (stands : StandFor (IsTold (told_in nodes path)) (IsTold W)) (known : ℕ) (call : Call) (w : ℕ) where
+  head_stands : (frame : Name) (c : Clause) (store : Stored) (solved : Bool) → IsNewStore nodes path known frame (heads_of call frame c) store solved
       → (D : Equations) → StandFor (IsTold D) (IsTold W)
       → StandFor (IsTold (D ++ bindings_in nodes store.bindings)) (IsTold (W ++ head_equations (terms_from nodes call.frame call.first call.count) (terms_from nodes frame c.first c.count)))
   head_stands frame c store solved h D d = StandFor-on
@@ -121,9 +121,9 @@ module _ (nodes : List Node) (path : List Stored) (W : Equations) (stands : Stan
       tells : StandFor (IsTold (told_in nodes path ++ equations_in nodes (heads_of call frame c))) (IsTold (told_in nodes path ++ bindings_in nodes store.bindings))
       tells = subst (λ (E : Equations). StandFor (IsTold (E ++ equations_in nodes (heads_of call frame c))) (IsTold (told_in nodes path ++ bindings_in nodes store.bindings))) (told_frame nodes path frame)
           (subst (λ (ss : List Stored). StandFor (IsTold (told_in nodes (path ++ store_with frame ∷ []) ++ equations_in nodes (heads_of call frame c))) (IsTold (told_in nodes ss ++ bindings_in nodes store.bindings)))
-          (around_push path (store_with frame)) (tells_stands nodes (path ++ store_with frame ∷ []) h.known (heads_of call frame c) store h.tells))
+          (around_push path (store_with frame)) (tells_stands nodes (path ++ store_with frame ∷ []) (known + 1) (heads_of call frame c) store h.tells))
 
-  one_made : (n : ℕ) (c : Clause) (b : NewBox) → IsMade nodes path call w n c b → (rest : Boxes)
+  one_made : (n : ℕ) (c : Clause) (b : NewBox) → IsMade nodes path known call w n c b → (rest : Boxes)
       → IsNewBox nodes W (new_box nodes b) (record {
         name = record { worker = w; number = n };
         frames = record { worker = w; number = n + 1 } ∷ [];
@@ -144,7 +144,7 @@ module _ (nodes : List Node) (path : List Stored) (W : Equations) (stands : Stan
     collected = ap (option_map (tree nodes)) m.collected ∙ collected_tree nodes (record { worker = w; number = n + 1 }) c.collected;
   }
 
-  pub all_made : (n : ℕ) (cs : List Clause) (bs : List NewBox) → AreMade nodes path call w n cs bs
+  pub all_made : (n : ℕ) (cs : List Clause) (bs : List NewBox) → AreMade nodes path known call w n cs bs
       → AreNewBoxes nodes W (map (new_box nodes) bs) (instances nodes w n (terms_from nodes call.frame call.first call.count) cs)
   all_made n [] [] m = tt
   all_made n [] (b ∷ bs) m = absurd m
@@ -153,19 +153,19 @@ module _ (nodes : List Node) (path : List Stored) (W : Equations) (stands : Stan
       (one_made n c b m.0 (instances nodes w (n + (2 + length c.guard)) (terms_from nodes call.frame call.first call.count) cs), all_made (n + (2 + length c.guard)) cs bs m.1)
 
 -- solved, where a box says so
-one_solved : (nodes : List Node) (path : List Stored) (call : Call) (frame : Name) (c : Clause) (store : Stored) (t : Bool) → IsNewStore nodes path frame (heads_of call frame c) store t
+one_solved : (nodes : List Node) (path : List Stored) (known : ℕ) (call : Call) (frame : Name) (c : Clause) (store : Stored) (t : Bool) → IsNewStore nodes path known frame (heads_of call frame c) store t
     → t ≡ true → IsSolvedChain nodes (path ++ store ∷ [])
-one_solved nodes path call frame c store t h e =
+one_solved nodes path known call frame c store t h e =
     let k : _ = h.is_solved.0 e in
-    subst (λ (ss : List Stored). IsSolvedChain nodes (ss ++ store ∷ [])) (around_push path (store_with frame)) (h.tells.solved k.0 k.1)
+    subst (λ (ss : List Stored). IsSolvedChain nodes (ss ++ store ∷ [])) (around_push path (store_with frame)) (h.tells.solved (let l : length (path ++ store_with frame ∷ []) ≡ length path + 1 = long_push path (store_with frame) in let q : known ≡ length path = k.0 in omega arith) k.1)
 
-pub all_solved : (T : Table) (ns : List Name) (call : Call) (w n : ℕ) (cs : List Clause) (bs : List NewBox) → AreMade T.nodes (stores_along T ns) call w n cs bs → AreSolvedIf T ns (map (new_box T.nodes) bs)
-all_solved T ns call w n [] [] m = tt
-all_solved T ns call w n [] (b ∷ bs) m = absurd m
-all_solved T ns call w n (c ∷ cs) [] m = absurd m
-all_solved T ns call w n (c ∷ cs) (b ∷ bs) m = (
-  on b.solved (λ e. one_solved T.nodes (stores_along T ns) call (record { worker = w; number = n + 1 }) c b.store b.solved m.0.store e),
-  all_solved T ns call w (n + (2 + length c.guard)) cs bs m.1,
+pub all_solved : (T : Table) (ns : List Name) (known : ℕ) (call : Call) (w n : ℕ) (cs : List Clause) (bs : List NewBox) → AreMade T.nodes (stores_along T ns) known call w n cs bs → AreSolvedIf T ns (map (new_box T.nodes) bs)
+all_solved T ns known call w n [] [] m = tt
+all_solved T ns known call w n [] (b ∷ bs) m = absurd m
+all_solved T ns known call w n (c ∷ cs) [] m = absurd m
+all_solved T ns known call w n (c ∷ cs) (b ∷ bs) m = (
+  on b.solved (λ e. one_solved T.nodes (stores_along T ns) known call (record { worker = w; number = n + 1 }) c b.store b.solved m.0.store e),
+  all_solved T ns known call w (n + (2 + length c.guard)) cs bs m.1,
 )
   where
     on : (t : Bool) → (t ≡ true → IsSolvedChain T.nodes (stores_along T ns ++ b.store ∷ [])) → IsSolvedIf t T ns b.store

@@ -49,11 +49,11 @@ named_under frame n (c ∷ cs) = (record { worker = frame.worker; number = n }, 
 abbrev pub store_with : Name → Stored
 store_with frame = with_frame nothing frame
 
--- the frame's store over the stores of a path, to which equations are told, and whether the chain is known to be solved with it
-pub record IsNewStore (nodes : List Node) (path : List Stored) (frame : Name) (es : List code.Equation) (store : Stored) (solved : Bool) : Type 0 where
-  pub known : ℕ
-  pub tells : Tells nodes (path ++ store_with frame ∷ []) known es store
-  pub is_solved : IsTrue solved ↔ ((length (path ++ store_with frame ∷ []) ≡ known) × IsConsistentBy (ToldAlso nodes (path ++ store_with frame ∷ []) es))
+-- the frame's store over the stores of a path, of which so many of the outermost are known to be solved together, and to which equations are told;
+-- and whether the chain is known to be solved with it: the whole path was, and with the equations it is consistent
+pub record IsNewStore (nodes : List Node) (path : List Stored) (known : ℕ) (frame : Name) (es : List code.Equation) (store : Stored) (solved : Bool) : Type 0 where
+  pub tells : Tells nodes (path ++ store_with frame ∷ []) (known + 1) es store
+  pub is_solved : IsTrue solved ↔ ((known ≡ length path) × IsConsistentBy (ToldAlso nodes (path ++ store_with frame ∷ []) es))
 
 -- a store also has what was found for equations
 abbrev pub with_solved : Stored → Solved → Stored
@@ -66,15 +66,15 @@ is_added (Solved.Added bindings) = true
 is_added (Solved.Clash left right) = false
 
 -- the box that a clause makes of a call, where a worker draws its names from a number on
-pub record IsMade (nodes : List Node) (path : List Stored) (call : Call) (w n : ℕ) (c : Clause) (b : NewBox) : Type 0 where
+pub record IsMade (nodes : List Node) (path : List Stored) (known : ℕ) (call : Call) (w n : ℕ) (c : Clause) (b : NewBox) : Type 0 where
   pub name : b.name ≡ record { worker = w; number = n }
-  pub store : IsNewStore nodes path (record { worker = w; number = n + 1 }) (heads_of call (record { worker = w; number = n + 1 }) c) b.store b.solved
+  pub store : IsNewStore nodes path known (record { worker = w; number = n + 1 }) (heads_of call (record { worker = w; number = n + 1 }) c) b.store b.solved
   pub goals : b.goals.items ≡ named_under (record { worker = w; number = n + 1 }) (n + 2) c.guard
   pub body : b.body.items ≡ goals_under (record { worker = w; number = n + 1 }) c.body
   pub collected : b.collected ≡ collected_by (record { worker = w; number = n + 1 }) c
 
 -- the boxes of these clauses, in their order
-abbrev pub AreMade : List Node → List Stored → Call → ℕ → ℕ → List Clause → List NewBox → Type 0
-AreMade nodes path call w n [] [] = ⊤
-AreMade nodes path call w n (c ∷ cs) (b ∷ bs) = IsMade nodes path call w n c b × AreMade nodes path call w (n + (2 + length c.guard)) cs bs
-AreMade nodes path call w n cs bs = ⊥
+abbrev pub AreMade : List Node → List Stored → ℕ → Call → ℕ → ℕ → List Clause → List NewBox → Type 0
+AreMade nodes path known call w n [] [] = ⊤
+AreMade nodes path known call w n (c ∷ cs) (b ∷ bs) = IsMade nodes path known call w n c b × AreMade nodes path known call w (n + (2 + length c.guard)) cs bs
+AreMade nodes path known call w n cs bs = ⊥

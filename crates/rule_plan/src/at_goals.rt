@@ -1,9 +1,11 @@
 //! Plans at goals.
 
 ghost use Rattle.std.specs.Prelude.{◌≡◌, IfOk};
+ghost use Rattle.local_store.specs.Chained.{replaced};
 ghost use Rattle.box_tree.specs.Plans.{IsRight};
 ghost use Rattle.rule_plan.specs.AtGoals.{plan_at, IsToldRightly, TellsRightly};
 ghost use Rattle.guard_plan.specs.Planned.{IsPlannedBy};
+ghost use Rattle.guard_plan.specs.Solved.{SaysSolved, IsKnownWith};
 
 use akl_model::Rule;
 use akl_terms::{Equation, Name, Program, Var};
@@ -23,7 +25,8 @@ pub(crate) fn goal_plan(
     step: Step,
     binds: Vec<Var>,
 ) -> Result<Option<Plan>, AllocError>
-    requires { IsRight (plan_at view.now rule goal names step binds.items) }
+    requires right { IsRight (plan_at view.now rule goal names step binds.items) }
+    requires solved { SaysSolved view.now rule step }
     ensures { IfOk result (IsPlannedBy view.now) }
 {
     let reads = goal_and_stores(alloc, goal, view.path())?;
@@ -60,6 +63,7 @@ pub(crate) fn told_plan(
 ) -> Result<Option<Plan>, AllocError>
     requires program { program.now ≡ view.now.table.program }
     requires right { IsToldRightly view.now rule goal names answer }
+    requires solved { IsKnownWith view.now (replaced view.now.stores answer.store) answer.solved }
     ensures { IfOk result (IsPlannedBy view.now) }
 {
     let ToldStore {

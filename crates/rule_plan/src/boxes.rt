@@ -20,7 +20,7 @@ pub(crate) fn new_boxes(
     clauses: &[Clause],
 ) -> Result<Vec<NewBox>, AllocError>
     requires { first.number + drawn_by clauses.now < 2 ^ 64 }
-    ensures { IfOk result (λ boxes. AreMade chain.now.nodes chain.now.stores call first.worker first.number clauses.now boxes.items) }
+    ensures { IfOk result (λ boxes. AreMade chain.now.nodes chain.now.stores chain.now.known call first.worker first.number clauses.now boxes.items) }
 {
     let mut boxes = Vec::with_capacity(alloc, clauses.len())?;
     let mut number = first.number;
@@ -44,7 +44,7 @@ fn new_box(
     clause: &Clause,
 ) -> Result<NewBox, AllocError>
     requires { name.number + (2 + length clause.now.guard) < 2 ^ 64 }
-    ensures { IfOk result (IsMade chain.now.nodes chain.now.stores call name.worker name.number clause.now) }
+    ensures { IfOk result (IsMade chain.now.nodes chain.now.stores chain.now.known call name.worker name.number clause.now) }
 {
     let frame = Name {
         worker: name.worker,
@@ -83,7 +83,7 @@ fn head_store(
     frame: Name,
     clause: &Clause,
 ) -> Result<(Store, bool), AllocError>
-    ensures { IfOk result (λ r. IsNewStore chain.now.nodes chain.now.stores frame (heads_of call frame clause.now) r.0 r.1) }
+    ensures { IfOk result (λ r. IsNewStore chain.now.nodes chain.now.stores chain.now.known frame (heads_of call frame clause.now) r.0 r.1) }
 {
     let equations = head_equations(alloc, call, frame, clause)?;
     new_store(alloc, chain, frame, equations.as_slice())

@@ -8,6 +8,7 @@ ghost use Rattle.box_tree.specs.declared.view.Sight.{Sight};
 ghost use Rattle.box_tree.specs.Views.{IsViewOf};
 ghost use Rattle.box_tree.specs.Plans.{IsRight};
 ghost use Rattle.guard_plan.specs.Planned.{IsPlannedBy};
+ghost use Rattle.guard_plan.specs.Solved.{SaysSolved};
 ghost use Rattle.rule_plan.specs.AtGoals.{plan_at};
 
 use crate::at_goals::{goal_plan, telling_plan};
@@ -70,7 +71,8 @@ pub(crate) fn eval(
 
 // The plan of Eval with a step that tells nothing.
 fn eval_plan(alloc: Global, view: &View, goal: Name, step: Step) -> Result<Option<Plan>, AllocError>
-    requires { IsRight (plan_at view.now Rule.Eval goal 0 step []) }
+    requires right { IsRight (plan_at view.now Rule.Eval goal 0 step []) }
+    requires solved { SaysSolved view.now Rule.Eval step }
     ensures { IfOk result (IsPlannedBy view.now) }
 {
     goal_plan(alloc, view, goal, Rule::Eval, 0, step, Vec::new(alloc))

@@ -1,6 +1,6 @@
 //! New stores over a chain, to which equations are told.
 
-ghost use Rattle.std.specs.Prelude.{◌≡◌, ◌∷◌, [], ◌++◌, IfOk};
+ghost use Rattle.std.specs.Prelude.{◌≡◌, ◌≢◌, ◌∷◌, [], ◌++◌, length, IfOk};
 ghost use Rattle.local_store.specs.Chained.{IsSolvedChain};
 ghost use Rattle.rule_plan.specs.Made.{store_with, with_solved, is_added, IsNewStore};
 
@@ -18,12 +18,12 @@ pub(crate) fn new_store(
     frame: Name,
     equations: &[Equation],
 ) -> Result<(Store, bool), AllocError>
-    ensures { IfOk result (λ r. IsNewStore chain.now.nodes chain.now.stores frame equations.now r.0 r.1) }
+    ensures { IfOk result (λ r. IsNewStore chain.now.nodes chain.now.stores chain.now.known frame equations.now r.0 r.1) }
 {
     if chain.known() == chain.stores().len() {
         return over_solved(alloc, chain, frame, equations);
     }
-    over_any(alloc, chain, frame, equations)
+    over_others(alloc, chain, frame, equations)
 }
 
 // The same over stores that are known to be solved together.
@@ -33,8 +33,9 @@ fn over_solved(
     frame: Name,
     equations: &[Equation],
 ) -> Result<(Store, bool), AllocError>
-    requires { IsSolvedChain chain.now.nodes chain.now.stores }
-    ensures { IfOk result (λ r. IsNewStore chain.now.nodes chain.now.stores frame equations.now r.0 r.1) }
+    requires known { chain.now.known ≡ length chain.now.stores }
+    requires solved { IsSolvedChain chain.now.nodes chain.now.stores }
+    ensures { IfOk result (λ r. IsNewStore chain.now.nodes chain.now.stores chain.now.known frame equations.now r.0 r.1) }
 {
     let solved = solve_only(alloc, chain.templates(), chain, equations)?;
     let mut store = Store::new(alloc);
@@ -60,19 +61,20 @@ fn add_solved(store: &mut Store, solved: &Solved) -> Result<bool, AllocError>
     }
 }
 
-// The same over any stores.
-fn over_any(
+// The same over stores that aren't all known to be solved together.
+fn over_others(
     alloc: Global,
     chain: &Chain,
     frame: Name,
     equations: &[Equation],
 ) -> Result<(Store, bool), AllocError>
-    ensures { IfOk result (λ r. IsNewStore chain.now.nodes chain.now.stores frame equations.now r.0 r.1) }
+    requires { chain.now.known ≢ length chain.now.stores }
+    ensures { IfOk result (λ r. IsNewStore chain.now.nodes chain.now.stores chain.now.known frame equations.now r.0 r.1) }
 {
     let stores = path_with(alloc, chain.stores(), frame)?;
     let inner = Chain::of_solved(chain.templates(), stores.as_slice(), chain.known());
-    let ToldStore { store, solved, .. } = told(alloc, &inner, equations)?;
-    Ok((store, solved))
+    let ToldStore { store, .. } = told(alloc, &inner, equations)?;
+    Ok((store, false))
 }
 
 // The stores of a path, and behind them one that has the frame alone.

@@ -12,14 +12,14 @@ telling_plan-requires-clause-right c =
     rw (to_z-of_z w128 c.in-Is.value f)
     (value_right c.args.view.now c.requires.seen c.args.goal c.args.arithmetic.frame c.args.arithmetic.test c.args.arithmetic.left c.args.arithmetic.right c.requires.place c.requires.sight k c.in-Is.value e)
 
-pub eval_plan-requires : goal.eval_plan-requires
-eval_plan-requires c =
+pub eval_plan-requires-clause-right : goal.eval_plan-requires-clause-right
+eval_plan-requires-clause-right c =
     let k = rw (c.in-Consistent.is, c.chain-chain.ensures.nodes, c.chain-chain.ensures.stores, c.requires.program) at c.in_ok-consistent.ensures in
     let e = rw (c.in-Holds.is, c.chain-chain.ensures.nodes, c.chain-chain.ensures.symbols, c.chain-chain.ensures.stores, c.requires.program) at c.in_ok-value.ensures in
     holds_right c.args.view.now c.requires.seen c.args.goal c.args.arithmetic.frame c.args.arithmetic.test c.args.arithmetic.left c.args.arithmetic.right c.requires.place c.requires.sight k e
 
-pub eval_plan-requires-in-Fails : goal.eval_plan-requires-in-Fails
-eval_plan-requires-in-Fails c =
+pub eval_plan-requires-in-Fails-clause-right : goal.eval_plan-requires-in-Fails-clause-right
+eval_plan-requires-in-Fails-clause-right c =
     let k = rw (c.in-Consistent.is, c.chain-chain.ensures.nodes, c.chain-chain.ensures.stores, c.requires.program) at c.in_ok-consistent.ensures in
     let e = rw (c.in-Fails.is, c.chain-chain.ensures.nodes, c.chain-chain.ensures.symbols, c.chain-chain.ensures.stores, c.requires.program) at c.in_ok-value.ensures in
     fails_right c.args.view.now c.requires.seen c.args.goal c.args.arithmetic.frame c.args.arithmetic.test c.args.arithmetic.left c.args.arithmetic.right c.requires.place c.requires.sight k e

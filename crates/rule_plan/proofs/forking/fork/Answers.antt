@@ -1,11 +1,14 @@
-use Rattle.std.proofs.Common.{◌≡◌, ℕ, zero, suc, ◌<◌, ◌≤◌, List, [], ◌∷◌, length, get_or, Some, None, refl, sym, ap, ◌∙◌, subst, arith}
+use Rattle.std.proofs.Common.{◌≡◌, ℕ, zero, suc, ◌<◌, ◌≤◌, List, [], ◌∷◌, length, get_or, Some, None, refl, sym, ap, ◌∙◌, subst, arith, rules}
 use Rattle.std.specs.Prelude.{slice_get, option_map, ◌^◌}
+use Rattle.akl_model.specs.declared.label.Rule.{Rule}
 use Rattle.akl_model.specs.Config.{Operator}
 use Rattle.akl_model.specs.Instances.{drawn_by}
 use Rattle.akl_model.specs.Rules.{operator_of}
 use Rattle.box_tree.specs.Tables.{op_held}
 use Rattle.box_tree.specs.declared.step.Step.{Step}
 use Rattle.akl_terms.specs.declared.program.Definition.{Definition}
+use Rattle.guard_plan.proofs.PlanOf.{plan_of}
+use Rattle.rule_plan.proofs.KnownStores.{all_known}
 use Rattle.rule_plan.proofs.ForkRight.{result, fork_right, fork_none}
 use Rattle.rule_plan.proofs.forking.fork.Goals as goal
 
@@ -51,8 +54,14 @@ new-requires-2 c =
     let is = rw (c.as_slice.ensures, c.requires.program) at (get_at c.as_slice.result.now c.args.definition c.in-Some.found.now c.in-Some.ensures.lookup.3.0 c.in-Some.ensures.lookup.1) in
     let operator = sym (ap (option_map (op_held c.args.view.now.table.program.templates.nodes)) (sym c.in-Some-operator_of.is) ∙ c.operator_of.ensures c.args.view.now.table.program.templates.nodes) in
     let names = rw c.as_slice-2.ensures at c.in-Some-names_of.ensures in
-    let made = rw (c.chain-chain.ensures.nodes, c.chain-chain.ensures.stores, c.worker.ensures, c.next-next.ensures, c.as_slice-3.ensures, c.requires.program) at c.in_ok-alternatives.ensures in
+    let made = rw (c.chain-chain.ensures.nodes, c.chain-chain.ensures.stores, c.chain-chain.ensures.known, c.worker.ensures, c.next-next.ensures, c.as_slice-3.ensures, c.requires.program) at c.in_ok-alternatives.ensures in
     rw (c.label_of-label.ensures.label, c.new.ensures.items, c.in_ok-reads.ensures, names.0)
     (fork_right c.args.view.now c.label_of-label.ensures.seen c.args.goal c.args.definition c.args.call c.requires.place c.requires.sight c.in-Some.found.now is c.in-Some-operator_of.op operator
     (subst (λ (n : ℕ). n < 2 ^ 32) names.0 names.1) c.in_ok-alternatives.alternatives.items made
     (Step.Fork c.in-Some-operator_of.op c.in_ok-alternatives.alternatives) refl)
+
+pub returns : goal.returns
+returns c =
+    let made = rw (c.chain-chain.ensures.nodes, c.chain-chain.ensures.stores, c.chain-chain.ensures.known, c.worker.ensures, c.next-next.ensures, c.as_slice-3.ensures, c.requires.program) at c.in_ok-alternatives.ensures in
+    plan_of c.args.view.now c.new-2.result _ _ _ _ _ (search rules) c.new-2.ensures Rule.Fork _ c.label_of-label.ensures.label
+    (all_known c.args.view.now c.args.call c.args.view.now.worker c.args.view.now.next c.in-Some.found.now.clauses c.in_ok-alternatives.alternatives.items made) (λ e. cc)
