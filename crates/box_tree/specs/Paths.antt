@@ -1,5 +1,5 @@
 -- What a look finds by rows.
-use Rattle.std.specs.Prelude.{◌≡◌, ℕ, ◌+◌, ◌<◌, Bool, false, not, nat_lt, max, List, [], ◌∷◌, length, reverse, Option, Some, None, option_map, if◌then◌else◌}
+use Rattle.std.specs.Prelude.{◌≡◌, ℕ, ◌+◌, ◌<◌, Bool, false, not, nat_lt, max, List, [], ◌∷◌, length, map, reverse, Option, Some, None, option_map, if◌then◌else◌}
 use Rattle.std.specs.Map.{lookup}
 use Rattle.akl_terms.specs.declared.name.Name.{Name}
 use Rattle.akl_terms.specs.declared.name.Place.{Place}
@@ -89,6 +89,10 @@ seen_as t known latest whole n = record {
   known = known_with (solving_in ((table_of t).box_of n)).0 known latest whole;
   collected = collected_in (lookup (same_name n) t.boxes);
 }
+
+-- what is seen of those at a place, by the boxes down to its box
+abbrev pub alternatives_seen : TableValue → List Name → Place → List Alternative
+alternatives_seen t path place = map (seen_as t (known_in (table_of t) 0 path) (latest_in (table_of t) 0 path) (length path + 1)) (names_at (table_of t) place)
 
 -- the body of the only one of some boxes
 abbrev pub body_in : Option BoxRow → List Atom

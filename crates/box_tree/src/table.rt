@@ -7,6 +7,7 @@ ghost use Rattle.table_laws.specs.Laws.{started};
 ghost use Rattle.table_laws.specs.Stamped.{IsTableOf, stamp_in};
 ghost use Rattle.box_tree.specs.Tables.{all_rules, table_of, MayApply, Applied, HasVariables, HasShownVariables, goals_in, is_empty, shown_in, shown_trees_of};
 ghost use Rattle.box_tree.specs.Kinds.{IsGoal, IsBox};
+ghost use Rattle.box_tree.specs.Paths.{known_in, alternatives_seen};
 ghost use Rattle.box_tree.specs.Views.{run_of, is_there, IsUnseen, IsViewOf, all_places};
 
 use crate::entries::{BoxEntry, GoalEntry};
@@ -84,6 +85,8 @@ impl Table {
         ensures place { IfOk result (λ v. v.place ≡ place) }
         ensures worker { IfOk result (λ v. v.worker ≡ worker) }
         ensures seen { IfOk result IsViewOf }
+        ensures known { IfOk result (λ v. v.known ≡ known_in (table_of self.now) 0 v.path) }
+        ensures alternatives { IfOk result (λ v. v.alternatives ≡ alternatives_seen self.now v.path place) }
         ensures there { IfOk result (λ _. is_there (table_of self.now) place ≡ true) }
         ensures unseen { IfErr result (IsUnseen (table_of self.now) place) }
     {

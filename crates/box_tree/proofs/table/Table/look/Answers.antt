@@ -46,3 +46,16 @@ returns-clause-seen c =
     rw (c.of.ensures, c.of-2.ensures) (view_of c.args.self.now c.args.journal.now.items c.requires c.args.place c.args.worker standing.home standing.sight path way.stores.items c.known_of-known.result.0 c.next_of.result
     c.in_ok-alternatives.alternatives.items c.in_ok-alternatives.body.items c.in_ok-standing.ensures.standing.sight c.in_ok-path.ensures.path c.in_ok-path.ensures.stores known c.next_of.ensures
     (c.in_ok-alternatives.ensures.alternatives ∙ (λ i. map (seen_as c.args.self.now (known i) (latest i) (whole i)) (names i))) (c.in_ok-alternatives.ensures.body ∙ ap (body_of_only T) names))
+
+pub returns-clause-known : goal.returns-clause-known
+returns-clause-known c = c.known_of-known.ensures.known ∙ ap (known_in (table_of c.args.self.now) 0) c.as_slice.ensures.value
+
+pub returns-clause-alternatives : goal.returns-clause-alternatives
+returns-clause-alternatives c =
+    let T = table_of c.args.self.now in
+    let way : Way = c.in_ok-path.field-0 in
+    let path : List Name = way.path.items in
+    let known : c.known_of-known.result.0 ≡ known_in T 0 path = c.known_of-known.ensures.known ∙ ap (known_in T 0) c.as_slice.ensures.value in
+    let latest : c.known_of-known.result.1 ≡ latest_in T 0 path = c.known_of-known.ensures.latest ∙ ap (latest_in T 0) c.as_slice.ensures.value in
+    let whole : c.in-Some.whole ≡ length path + 1 = omega (arith, c.in-Some.ensures, c.len.ensures, ap length c.as_slice-2.ensures.value) in
+    c.in_ok-alternatives.ensures.alternatives ∙ (λ i. map (seen_as c.args.self.now (known i) (latest i) (whole i)) (c.in_ok-standing.ensures.standing.alternatives i))
