@@ -11,7 +11,7 @@ use Rattle.wake_lists.specs.Open.{Opening, Openings, opening_at, IsOpen, IsOpene
 use Rattle.wake_lists.specs.declared.turn.Urgency.{Urgency}
 use Rattle.wake_lists.proofs.Keys.{token_equal, token_here}
 use Rattle.opened_places.specs.Placed.{PlacedValue, placed, places_of}
-use Rattle.scheduler.specs.Openings.{IsOpenAt, IsNumberIn, IsEachOnce}
+use Rattle.scheduler.specs.Openings.{IsOpenAt, IsNumberIn, IsEachOnce, AreOpenOnce}
 use Rattle.scheduler.specs.Opening.{IsPlacedIn, closed_back, IsNewOpening, AreOpened, IsOpenedBy, was_open, is_new}
 use Rattle.scheduler.proofs.OpeningLists.{some_none, put_at, put_out, put_apart, back_end}
 use Rattle.scheduler.proofs.FirstTokens.{first_more}
@@ -69,6 +69,7 @@ opened_none os ps ts e f = subst (λ (qs : List PlacedValue). AreOpened os qs os
   once = tt;
   apart = λ a. a;
   first = λ a. a;
+  places_once = λ a. a;
   undone = refl;
 }))
 
@@ -85,6 +86,7 @@ module _ (before cur : Openings) (ps : List PlacedValue) (p : PlacedValue) (ts :
     once = r.once;
     apart = r.apart;
     first = r.first;
+    places_once = r.places_once;
     undone = r.undone;
   }
 
@@ -140,6 +142,25 @@ module _ (before cur : Openings) (ps : List PlacedValue) (p : PlacedValue) (ts :
     fresh : IsNumberIn t ts → ⊥
     fresh i = let w : (q : Opening) × (opening_at t cur ≡ Some q) = is_some_of (opening_at t cur) (r.new t i).1 in some_none w.1 free
 
+    -- what was open keeps its token to itself
+    now_other : (s : ℕ) (q : Opening) → opening_at s now ≡ Some q → eqb s t ≡ false → opening_at s cur ≡ Some q
+    now_other s q h e = ap (λ (b : Bool). cond b (Some o) (opening_at s cur)) (sym e) ∙ sym (put_at t o cur s) ∙ h
+
+    now_own : (s : ℕ) (q : Opening) → opening_at s now ≡ Some q → eqb s t ≡ true → o ≡ q
+    now_own s q h e = same_value refl (ap (λ (b : Bool). cond b (Some o) (opening_at s cur)) (sym e) ∙ sym (put_at t o cur s) ∙ h)
+
+    not_both_open : (s u : ℕ) (q w : Opening) → opening_at s now ≡ Some q → opening_at u now ≡ Some w → q.place ≡ w.place → eqb s t ≡ true → eqb u t ≡ false → ⊥
+    not_both_open s u q w h k e f g = un (record { token = u; opening = w; is_open = now_other u w k g; of_place = sym e ∙ ap (λ (x : Opening). x.place) (sym (now_own s q h f)) ∙ place_is })
+
+    once_now : AreOpenOnce cur → AreOpenOnce now
+    once_now a s u q w h k e = on (eqb s t) refl (eqb u t) refl
+      where
+        on : (b : Bool) → eqb s t ≡ b → (d : Bool) → eqb u t ≡ d → s ≡ u
+        on true f true g = token_equal s t f ∙ sym (token_equal u t g)
+        on true f false g = absurd (not_both_open s u q w h k e f g)
+        on false f true g = absurd (not_both_open u s w q k h (sym e) g f)
+        on false f false g = a s u q w (now_other s q h f) (now_other u w k g) e
+
     came : AreOpened before (ps ++ p ∷ []) now (ts ++ t ∷ [])
     came = record {
       stays = λ s q h. still s q (r.stays s q h);
@@ -149,6 +170,7 @@ module _ (before cur : Openings) (ps : List PlacedValue) (p : PlacedValue) (ts :
       once = once_end ts t r.once fresh;
       apart = λ a. put_apart t o cur free (r.apart a);
       first = λ a. first_more cur (r.first a) t least o;
+      places_once = λ a. once_now (r.places_once a);
       undone = back_end ts t now ∙ ap (closed_back ts) (put_out t o cur free) ∙ r.undone;
     }
 

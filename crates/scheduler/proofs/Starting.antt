@@ -96,6 +96,7 @@ opened_all c ps os ts a r = record {
   around = λ t token o e. elim (r.each token o e) [ inl z ↦ absurd (some_none z refl) | inr n ↦ a.around t (placed o.place o.boxes) n.is_placed ];
   apart = r.apart tt;
   tokens = r.first none_first;
+  once = r.places_once (λ s t o q e. absurd (some_none e refl));
 }
 
 -- and what is open is there

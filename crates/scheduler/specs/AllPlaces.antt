@@ -5,7 +5,7 @@ use Rattle.akl_model.specs.Wakes.{boxes_around, IsOneOf, IsThere}
 use Rattle.opened_places.specs.Placed.{PlacedValue, places_of, StandsSo}
 use Rattle.wake_lists.specs.Open.{Opening, Openings, opening_at}
 use Rattle.step_commit.specs.Cores.{CoreValue, TableIn}
-use Rattle.scheduler.specs.Openings.{IsOpenAt, AreApart, AreFirstTokens}
+use Rattle.scheduler.specs.Openings.{IsOpenAt, AreApart, AreFirstTokens, AreOpenOnce}
 use Rattle.scheduler.specs.Opening.{IsPlacedIn}
 
 -- each place that is there, and each with the boxes around it
@@ -19,3 +19,4 @@ pub record AreAllOpen (c : CoreValue) (os : Openings) : Type 0 where
   pub around : (t : TableIn c) (token : ℕ) (o : Opening) → opening_at token os ≡ Some o → boxes_around o.place t.config.roots ≡ Some o.boxes
   pub apart : AreApart os
   pub tokens : AreFirstTokens os
+  pub once : AreOpenOnce os

@@ -6,7 +6,7 @@ use Rattle.akl_terms.specs.declared.name.Place.{Place}
 use Rattle.akl_model.specs.Wakes.{IsOneOf}
 use Rattle.opened_places.specs.Placed.{PlacedValue, placed, places_of}
 use Rattle.wake_lists.specs.Open.{Opening, Openings, opening_at, IsLeastToken, closed}
-use Rattle.scheduler.specs.Openings.{IsOpenAt, AreApart, IsNumberIn, IsEachOnce, AreFirstTokens}
+use Rattle.scheduler.specs.Openings.{IsOpenAt, AreApart, IsNumberIn, IsEachOnce, AreFirstTokens, AreOpenOnce}
 
 abbrev pub IsPlacedIn : PlacedValue → List PlacedValue → Type 0
 IsPlacedIn p [] = ⊥
@@ -33,6 +33,7 @@ pub record AreOpened (before : Openings) (places : List PlacedValue) (now : Open
   pub once : IsEachOnce tokens
   pub apart : AreApart before → AreApart now
   pub first : AreFirstTokens before → AreFirstTokens now
+  pub places_once : AreOpenOnce before → AreOpenOnce now
   pub undone : closed_back tokens now ≡ before
 
 -- one place is opened, under the least token that is free, unless it is open

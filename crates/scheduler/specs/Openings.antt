@@ -68,6 +68,10 @@ pub record AreNewTokens (before now : Openings) (tokens : List ℕ) : Type 0 whe
 abbrev pub AreFirstTokens : Openings → Type 0
 AreFirstTokens os = (token : ℕ) → IsSome (opening_at token os) ↔ (token < length os)
 
+-- no place is open under two tokens
+abbrev pub AreOpenOnce : Openings → Type 0
+AreOpenOnce os = (s t : ℕ) (o q : Opening) → opening_at s os ≡ Some o → opening_at t os ≡ Some q → o.place ≡ q.place → s ≡ t
+
 abbrev pub token_list : Option ℕ → List ℕ
 token_list None = []
 token_list (Some t) = t ∷ []

@@ -10,7 +10,7 @@ use Rattle.box_tree.specs.Tables.{all_rules, table_of}
 use Rattle.box_tree.specs.Views.{is_there}
 use Rattle.wake_lists.specs.Open.{Opening, Openings, opening_at}
 use Rattle.step_commit.specs.Cores.{CoreValue, IsCore, TableIn}
-use Rattle.scheduler.specs.Openings.{IsOpenAt, AreOpenPlaces, AreListed, AreApart, AreStandingIn, AreFirstTokens}
+use Rattle.scheduler.specs.Openings.{IsOpenAt, AreOpenPlaces, AreListed, AreApart, AreStandingIn, AreFirstTokens, AreOpenOnce}
 
 pub record SchedulerValue : Type 0 where
   pub core : CoreValue
@@ -33,10 +33,11 @@ pub record IsScheduler (s : SchedulerValue) : Type 0 where
 pub record IsQuiet (s : SchedulerValue) : Type 0 where
   pub quiet : (t : TableIn s.core) → IsQuietEnd all_rules s.core.table.program t.config
 
--- just the places that are there are open, under the first tokens
+-- just the places that are there are open, each under one token, and these are the first ones
 pub record AllOpen (s : SchedulerValue) : Type 0 where
   pub all : (t : TableIn s.core) (place : Place) → IsThere place t.config.roots → IsOpenAt s.openings place
   pub only : (t : TableIn s.core) (place : Place) → IsOpenAt s.openings place → IsThere place t.config.roots
+  pub once : AreOpenOnce s.openings
   pub tokens : AreFirstTokens s.openings
 
 -- the open place with this token has gone

@@ -23,5 +23,6 @@ pub returns-clause-open : goal.returns-clause-open
 returns-clause-open c = record {
   all = c.in_ok-open.ensures.all;
   only = λ t place w. there_open c.args.core c.in_ok-open.open c.in_ok-open.ensures t place w;
+  once = c.in_ok-open.ensures.once;
   tokens = c.in_ok-open.ensures.tokens;
 }
