@@ -31,6 +31,7 @@ pub fn run<R: Threads + Wait + Sync, S: Source, K: Sink, E: Sink>(
         Notifies text
         (side (K.written out.old) (K.faults out.old)) (side (K.written out.new) (K.faults out.new))
         (side (E.written errors.old) (E.faults errors.old)) (side (E.written errors.new) (E.faults errors.new)) result) }
+    ensures source { IfSome (notice_of HELP.now VERSION.now (words_behind given.now)) (λ _. program.new ≡ program.old) }
     ensures query { notice_of HELP.now VERSION.now (words_behind given.now) ≡ None →
         Answers (words_behind given.now)
         (side (S.left program.old) (S.faults program.old)) (side (S.left program.new) (S.faults program.new))

@@ -1,15 +1,13 @@
 -- The query's goals and what its box shows, one after another.
 use Rattle.std.proofs.Common.{◌≡◌, ℕ, zero, suc, ◌+◌, ◌<◌, List, [], ◌∷◌, ◌++◌, length, map, get_or, Option, Some, None, Bool, true, false, refl, sym, ◌∙◌, ap, subst, inl, inr, arith}
-use Rattle.std.specs.Prelude.{slice_get, slice_index, option_map, is_some, if◌then◌else◌}
+use Rattle.std.specs.Prelude.{slice_get, slice_index, option_map, if◌then◌else◌}
 use Rattle.std.specs.Map.{lookup}
 use Rattle.std.proofs.lemmas.Bool.Decides.{nat_tests}
 use Rattle.akl_terms.specs.Names.{same_name, is_before}
 use Rattle.std.proofs.lemmas.List.{map-append}
 use Rattle.akl_terms.specs.declared.name.Name.{Name}
 use Rattle.akl_terms.specs.declared.name.Place.{Place}
-use Rattle.akl_terms.proofs.SameNames.{same_name-equal}
 use Rattle.akl_model.specs.Wakes.{IsOneOf}
-use Rattle.box_tree.specs.Views.{is_there, all_places}
 use Rattle.akl_terms.specs.declared.term.Node.{Node}
 use Rattle.akl_terms.specs.declared.term.Term.TheVariants.{Mol}
 use Rattle.akl_terms.specs.declared.program.Code.{Code}
@@ -162,20 +160,3 @@ in_left place (x ∷ xs) ys (inr i) = inr (in_left place xs ys i)
 pub in_right : (place : Place) (xs ys : List Place) → IsOneOf place ys → IsOneOf place (xs ++ ys)
 in_right place [] ys i = i
 in_right place (x ∷ xs) ys i = inr (in_right place xs ys i)
-
-module _ {A B : Type 0} (f : Name → Place) (row : A → B) (n : Name) where
-  here : (es : List (Name × A)) → is_some (option_map row (lookup (same_name n) es)) ≡ true → IsOneOf (f n) (map (λ (e : Name × A). f e.0) es)
-  here [] s = cc
-  here (e ∷ es) s = on (same_name n e.0) refl s (λ r. here es r)
-    where
-      on : (t : Bool) → same_name n e.0 ≡ t → is_some (option_map row (if t then Some e.1 else lookup (same_name n) es)) ≡ true
-          → (is_some (option_map row (lookup (same_name n) es)) ≡ true → IsOneOf (f n) (map (λ (e : Name × A). f e.0) es)) → IsOneOf (f n) (map (λ (e : Name × A). f e.0) (e ∷ es))
-      on true q r k = inl (ap f (same_name-equal n e.0 q))
-      on false q r k = inr (k r)
-
--- all rows have their places
-pub row_listed : (t : TableValue) (place : Place) → is_there (table_of t) place ≡ true → IsOneOf place (all_places t)
-row_listed t (Place.Box n) s =
-    in_left (Place.Box n) (map (λ (e : Name × BoxEntry). Place.Box e.0) t.boxes) (map (λ (e : Name × GoalEntry). Place.Goal e.0) t.goals) (here Place.Box (box_row t.program.templates.nodes) n t.boxes s)
-row_listed t (Place.Goal g) s =
-    in_right (Place.Goal g) (map (λ (e : Name × BoxEntry). Place.Box e.0) t.boxes) (map (λ (e : Name × GoalEntry). Place.Goal e.0) t.goals) (here Place.Goal (goal_row t.program.templates.nodes) g t.goals s)
