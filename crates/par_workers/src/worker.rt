@@ -1,6 +1,7 @@
 //! One worker.
 
 ghost use Rattle.std.specs.Prelude.{◌≡◌, ◌<◌, IfOk, IfSome};
+ghost use Rattle.std.proofs.Props.{props};
 ghost use Rattle.turn_lock.specs.Passes.{view, IsPassOf, HasNoTurn};
 ghost use Rattle.place_steps.specs.Next.{IsNext};
 ghost use Rattle.par_workers.specs.Shared.{AreReceiptsOf};
@@ -42,7 +43,7 @@ pub struct Worker {
     pub tokens: VecDeque<u64>,
     ghost numbered: { IsNumber number (view pass) },
     ghost idle: { HasNoTurn pass },
-    ghost exact: { AreReceiptsOf number (view pass).seen receipts.items },
+    ghost exact: { AreReceiptsOf number (view pass).seen receipts.items } by { Prim.hlevel props },
 }
 
 impl Worker {
