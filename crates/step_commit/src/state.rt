@@ -3,6 +3,7 @@
 ghost use Rattle.std.specs.Prelude.{◌≡◌, IfOk, IfErr, IfSome, IfNone, Some, [], length, true};
 ghost use Rattle.box_tree.specs.Tables.{table_of, step_of, goals_in, is_empty, shown_in, shown_trees_of, HasVariables, HasShownVariables};
 ghost use Rattle.box_tree.specs.Views.{is_there, IsUnseen, all_places};
+ghost use Rattle.box_tree.specs.Paths.{known_in, alternatives_seen};
 ghost use Rattle.box_tree.specs.Insides.{IsInsideOf};
 ghost use Rattle.akl_terms.specs.declared.name.Place.{Place};
 ghost use Rattle.step_commit.specs.Cores.{IsCore, MayCommit, IsFresh, Commits, IsRefused, IsFirstStale, is_within, solved_in};
@@ -91,6 +92,8 @@ impl Core {
         ensures journal { IfOk result (λ v. v.journal ≡ self.now.journal) }
         ensures place { IfOk result (λ v. v.place ≡ place) }
         ensures worker { IfOk result (λ v. v.worker ≡ worker) }
+        ensures known { IfOk result (λ v. v.known ≡ known_in (table_of self.now.table) 0 v.path) }
+        ensures alternatives { IfOk result (λ v. v.alternatives ≡ alternatives_seen self.now.table v.path place) }
         ensures there { IfOk result (λ _. is_there (table_of self.now.table) place ≡ true) }
         ensures unseen { IfErr result (IsUnseen (table_of self.now.table) place) }
     {
