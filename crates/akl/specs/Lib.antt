@@ -1,3 +1,2 @@
-pub mod Words
 pub mod Notices
 pub mod Endings

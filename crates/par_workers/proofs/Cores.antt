@@ -1,18 +1,13 @@
 -- The core to which labels led, and what was found of it before.
-use Rattle.std.proofs.Common.{◌≡◌, ◌≢◌, ℕ, suc, ◌+◌, ◌≤◌, false, Some, List, [], ◌∷◌, ◌++◌, All, length, sym, refl, ap, ◌∙◌, subst, arith, append-nil, length-append}
+use Rattle.std.proofs.Common.{◌≡◌, ◌≢◌, ℕ, suc, ◌+◌, ◌<◌, ◌≤◌, List, [], ◌∷◌, ◌++◌, All, length, sym, refl, ap, ◌∙◌, subst, arith, append-nil, length-append}
 use Rattle.std.proofs.lemmas.List.{map-append, length-map}
 use Rattle.std.proofs.lemmas.List.Elements.{All-nil, All-cons, All-head, All-tail}
 use Rattle.akl_model.specs.declared.label.Label.{Label}
 use Rattle.akl_model.specs.declared.label.Receipt.{Receipt}
-use Rattle.akl_model.specs.Config.{Found, site_of}
-use Rattle.akl_terms.specs.declared.name.Place.{Place}
-use Rattle.table_laws.specs.Stamped.{IsTableOf}
 use Rattle.plan_laws.specs.Right.{NoneBy}
-use Rattle.box_tree.specs.Tables.{all_rules, TableValue, table_of}
-use Rattle.box_tree.specs.Views.{run_of}
+use Rattle.box_tree.specs.Tables.{TableValue}
 use Rattle.box_tree.specs.Plans.{PlanValue}
 use Rattle.idle_places.specs.Idling.{IdleValue}
-use Rattle.idle_places.specs.Later.{HasNoReason}
 use Rattle.step_commit.specs.Cores.{CoreValue, KeepsFixed, MayCommit, Commits}
 use Rattle.scheduler.specs.Settled.{MaySettle}
 use Rattle.place_steps.specs.declared.next.Next.{Next}

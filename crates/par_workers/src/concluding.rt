@@ -89,9 +89,8 @@ impl SharedRun {
                 self.past.push_reserved(made);
                 receipts.push_reserved(receipt);
                 let opened = opened.as_slice();
-                if !self.tokens.take_in(&self.scheduler, token, opened, tokens) {
-                    self.stops = true;
-                }
+                let kept = self.tokens.take_in(&self.scheduler, token, opened, tokens);
+                self.stop_unless(kept);
             }
             Err(CommitError::Stale { item: _, stamp: _ }) => self.keep(token, tokens),
             Err(CommitError::Spent { budget: _ } | CommitError::Memory(_)) => self.stops = true,
@@ -112,17 +111,14 @@ impl SharedRun {
     {
         match self.scheduler.settle(alloc, &idle) {
             Ok(Some(opened)) => {
-                if !self
+                let kept = self
                     .tokens
-                    .take_in(&self.scheduler, token, &[opened], tokens)
-                {
-                    self.stops = true;
-                }
+                    .take_in(&self.scheduler, token, &[opened], tokens);
+                self.stop_unless(kept);
             }
             Ok(None) => {
-                if !self.tokens.take_in(&self.scheduler, token, &[], tokens) {
-                    self.stops = true;
-                }
+                let kept = self.tokens.take_in(&self.scheduler, token, &[], tokens);
+                self.stop_unless(kept);
             }
             Err(SettleError::Stale { item: _, stamp: _ } | SettleError::LookInside) => {
                 self.keep(token, tokens);

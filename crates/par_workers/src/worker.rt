@@ -100,7 +100,10 @@ impl Worker {
                 vain.wait(rt, signals);
                 continue;
             }
-            match self.turn(rt, alloc, lock, signals, &mut waits, planned, &mut steps) {
+            let drawn = self.draw_unless(rt, planned.is_some());
+            match self.turn(
+                rt, alloc, lock, signals, &mut waits, planned, drawn, &mut steps,
+            ) {
                 Chosen::End => break,
                 Chosen::Wait => {
                     self.rest(rt, signals, &mut vain, &mut waits);
@@ -119,8 +122,8 @@ impl Worker {
         signals.end();
     }
 
-    // One turn: what was planned is committed or settled, and the next place is chosen, that of a token that is drawn before
-    // all others.
+    // One turn: what was planned is committed or settled, and the next place is chosen, that of the token that was drawn
+    // before all others.
     fn turn<R: Wait, L: Ledger>(
         &mut self,
         rt: &R,
@@ -129,6 +132,7 @@ impl Worker {
         signals: &Signals,
         waits: &mut VainWaits,
         planned: Option<Planned>,
+        drawn: Option<u64>,
         steps: &mut Steps<L>,
     ) -> Chosen
         requires lock { IsPassOf lock.now self.old.pass }
@@ -140,7 +144,6 @@ impl Worker {
         if self.receipts.reserve(1).is_err() {
             return Chosen::End;
         }
-        let drawn = self.draw_unless(rt, planned.is_some());
         waits.ask(signals);
         let (turn, mut run) = lock.lock(rt, &mut self.pass);
         waits.have(signals);

@@ -9,18 +9,18 @@ use Rattle.par_workers.proofs.Cores.{may_commit, shared_more, concluded_more, co
 use Rattle.par_workers.proofs.shared.SharedRun.commit.Goals as goal
 
 pub returns-then-is_err : goal.returns-then-is_err
-returns-then-is_err c =
+returns-then-is_err g c =
     let s = c.args.self.now in
     let rs = c.args.receipts.now.items in
     subst (λ (d : SharedValue). HasConcluded c.args.worker s rs d rs)
     (sym c.self.view_is ∙ ap (λ (ms : List Made). record { begun = c.self.inside.begun.value; past = ms }) (sym c.reserve.ensures.items)) (concluded_none c.args.worker s rs)
 
 pub commit-requires : goal.commit-requires
-commit-requires c = may_commit c.args.self.now c.self.inside.scheduler.core c.args.worker c.args.plan
+commit-requires g c = may_commit c.args.self.now c.self.inside.scheduler.core c.args.worker c.args.plan
     (subst (λ (s : SharedValue). IsShared s c.self.inside.scheduler.core) c.self.view_is c.self.invariant) c.requires.plan
 
 pub invariant_of-self-in-Ok : goal.invariant_of-self-in-Ok
-invariant_of-self-in-Ok c =
+invariant_of-self-in-Ok g c =
     let v = c.self.inside in
     let s : SharedValue = record { begun = v.begun.value; past = v.past.items } in
     let d = c.commit.new.self.core in
@@ -32,19 +32,19 @@ invariant_of-self-in-Ok c =
     (shared_more s v.scheduler.core d c.args.worker c.args.plan c.in-Ok.field-0.receipt c.of-made.result c.self.invariant found c.requires.worker.0 most c.in-Ok.ensures.committed.commits c.of-made.ensures.label table)
 
 pub returns-in-Ok : goal.returns-in-Ok
-returns-in-Ok c =
+returns-in-Ok g c =
     let v = c.self.inside in
     let s : SharedValue = record { begun = v.begun.value; past = v.past.items } in
     let rs = c.args.receipts.now.items in
     let found = subst (λ (x : SharedValue). IsFoundBefore x c.args.worker (Next.Plan c.args.plan)) (sym c.self.view_is) c.requires.plan in
     let done = concluded_more s v.scheduler.core c.commit.new.self.core c.args.worker c.args.plan c.in-Ok.field-0.receipt c.of-made.result rs c.self.invariant found c.in-Ok.ensures.committed.commits c.of-made.ensures.label in
     let past = c.push_reserved.ensures.items ∙ ap (λ (ms : List Made). ms ++ c.of-made.result ∷ []) c.reserve.ensures.items in
-    subst (λ (x : SharedValue). HasConcluded c.args.worker x rs c.hand_out.new.self c.push_reserved-in-Ok.new.self.items) c.self.view_is
-    (subst (λ (x : SharedValue). HasConcluded c.args.worker s rs x c.push_reserved-in-Ok.new.self.items) (sym (ap (λ (ms : List Made). record { begun = v.begun.value; past = ms }) past))
+    subst (λ (x : SharedValue). HasConcluded c.args.worker x rs c.stop_unless.new.self c.push_reserved-in-Ok.new.self.items) c.self.view_is
+    (subst (λ (x : SharedValue). HasConcluded c.args.worker s rs x c.push_reserved-in-Ok.new.self.items) (sym (c.stop_unless.ensures ∙ ap (λ (ms : List Made). record { begun = v.begun.value; past = ms }) past))
     (subst (λ (ss : List Receipt). HasConcluded c.args.worker s rs (record { begun = s.begun; past = s.past ++ c.of-made.result ∷ [] }) ss) (sym c.push_reserved-in-Ok.ensures.items) done))
 
 pub returns-in-Err-Stale : goal.returns-in-Err-Stale
-returns-in-Err-Stale c =
+returns-in-Err-Stale g c =
     let s = c.args.self.now in
     let rs = c.args.receipts.now.items in
     subst (λ (d : SharedValue). HasConcluded c.args.worker s rs d rs)
