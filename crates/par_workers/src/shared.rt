@@ -33,8 +33,9 @@ impl Made {
     }
 }
 
-/// The state of a run with its open places and their tokens. It has besides how many workers plan, how many turns in a row found nothing while none planned, and whether all
-/// workers are to stop. It remembers in no bytes the core with which the run began, and what was made since.
+/// The state of a run with its open places and their tokens. It has besides how many workers plan, how many turns in a row
+/// found nothing while none planned, and whether all workers are to stop. It remembers in no bytes the core with which the run
+/// began, and what was made since.
 #[derive(Drop)]
 pub struct SharedRun {
     begun: Snapshot<Core>,
