@@ -19,8 +19,9 @@ use step_commit::Core;
 
 /// Programs, queries, places to which worker 1 attends in turn, and what comes of each: the rule of the label, with the
 /// places that it opens and that weren't open; or that the place sleeps, with the box that this opens; or that it is to be
-/// looked at inside, as something is open in it, and stays open; or that it is gone, or that all labels are spent. At `goal 0.2 < goal 0.3` the first is looked at before the second is attended to, and is
-/// settled afterwards. Last come the places that are still open. Boxes are listed before goals, each by name.
+/// looked at inside, as something is open in it, and stays open; or that it is gone, or that all labels are spent. At
+/// `goal 0.2 < goal 0.3` the first is looked at before the second is attended to, and is settled afterwards. Last come the
+/// places that are still open. Boxes are listed before goals, each by name.
 const WAKES: &str = r"
 p(a) :- -> true. => p(X), X = a => goal 0.2; box 0.0; goal 0.2; box 1.0; goal 0.3; goal 0.2; box 1.0; box 0.0 => fork box 1.0 / look inside / sleeps / sleeps / tell box 1.0, goal 0.2 / promote / gone / sleeps / open
 p(Y) :- Z = Y, Z > 0 -> true. => p(X), X = 1 => goal 0.2; goal 1.2; box 0.0; goal 0.2; box 1.0; goal 1.3; goal 0.3; goal 1.3; goal 0.2; box 1.0; box 0.0 => fork box 1.0, goal 1.2, goal 1.3 / tell / look inside / sleeps / sleeps / sleeps / tell box 1.0, goal 1.3 / eval goal 0.2 / promote / gone / sleeps / open
