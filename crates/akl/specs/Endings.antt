@@ -1,5 +1,5 @@
 -- How the process ends, and what standard output and standard error get.
-use Rattle.std.specs.Prelude.{◌≡◌, ℕ, ◌⊎◌, List, codes}
+use Rattle.std.specs.Prelude.{◌≡◌, ℕ, ◌⊎◌, List, None, codes}
 use Rattle.std.specs.Io.KnownBytes.{append_known}
 use Rattle.std.specs.declared.io.ErrorKind.{ErrorKind}
 use Rattle.std.specs.declared.io.ErrorKind.TheVariants.{OutOfMemory}
@@ -7,7 +7,7 @@ use Rattle.akl_args.specs.declared.options.WordsError.TheVariants.{Unknown}
 use Rattle.akl_run.specs.declared.report.Refusal.{Refusal}
 use Rattle.akl_run.specs.declared.report.Status.{Status}
 use Rattle.akl_run.specs.declared.report.Report.{Report}
-use Rattle.akl_run.specs.Lines.{refusal_text}
+use Rattle.akl_run.specs.Lines.{fixed_line, refusal_text}
 use Rattle.akl_run.specs.Commands.{Side, HasFaulted, Command, IsReported}
 use Rattle.akl.specs.declared.ending.Ending.{Ending}
 
@@ -15,9 +15,9 @@ use Rattle.akl.specs.declared.ending.Ending.{Ending}
 abbrev pub Says : List ℕ → Side → Side → Type 0
 Says text old new = (new.bytes ≡ append_known old.bytes text) ⊎ HasFaulted old new
 
--- the line of a status and its refusal was said, or, where there was no memory for it, the line that says so
+-- the line of a status and its refusal was said; or, where it had to be made, and there was no memory for it, the line that says so
 abbrev pub SaysWhy : Status → Refusal → Side → Side → Type 0
-SaysWhy status refusal old new = Says (refusal_text status refusal) old new ⊎ Says (codes "akl: out of memory\n") old new
+SaysWhy status refusal old new = Says (refusal_text status refusal) old new ⊎ ((fixed_line status ≡ None) × Says (codes "akl: out of memory\n") old new)
 
 -- why there are no words: there was no memory, or they are no text, and then no word is known
 abbrev pub words_status : ErrorKind → Status

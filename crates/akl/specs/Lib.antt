@@ -1,2 +1,3 @@
+pub mod Words
 pub mod Notices
 pub mod Endings

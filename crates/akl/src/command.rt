@@ -3,6 +3,7 @@ ghost use Rattle.std.specs.Prelude.{◌≡◌, None, IfSome};
 ghost use Rattle.std.specs.IoError.{error_kind};
 ghost use Rattle.akl_run.specs.Commands.{side};
 ghost use Rattle.akl_run.specs.Words.{bytes_of};
+ghost use Rattle.akl.specs.Words.{words_behind};
 ghost use Rattle.akl.specs.Notices.{notice_of};
 ghost use Rattle.akl.specs.Endings.{Notifies, Answers, SaysWhy, words_status, words_refusal};
 
@@ -16,30 +17,43 @@ use std::io;
 use std::sync::Wait;
 use std::thread::Threads;
 
-/// Does what the words ask: prints a notice, or runs a query. Says how the process is to end.
+/// Does what the words behind the program's name, which is the first, ask: prints a notice, or runs a query. Says how the
+/// process is to end.
 pub fn run<R: Threads + Wait + Sync, S: Source, K: Sink, E: Sink>(
     rt: &R,
     alloc: Global,
-    words: &[String],
+    given: &[String],
     program: &mut S,
     out: &mut K,
     errors: &mut E,
 ) -> Ending
-    ensures notice { IfSome (notice_of HELP.now VERSION.now (bytes_of words.now)) (λ text.
+    ensures notice { IfSome (notice_of HELP.now VERSION.now (words_behind given.now)) (λ text.
         Notifies text
         (side (K.written out.old) (K.faults out.old)) (side (K.written out.new) (K.faults out.new))
         (side (E.written errors.old) (E.faults errors.old)) (side (E.written errors.new) (E.faults errors.new)) result) }
-    ensures query { notice_of HELP.now VERSION.now (bytes_of words.now) ≡ None →
-        Answers (bytes_of words.now)
+    ensures source { IfSome (notice_of HELP.now VERSION.now (words_behind given.now)) (λ _. program.new ≡ program.old) }
+    ensures query { notice_of HELP.now VERSION.now (words_behind given.now) ≡ None →
+        Answers (words_behind given.now)
         (side (S.left program.old) (S.faults program.old)) (side (S.left program.new) (S.faults program.new))
         (side (K.written out.old) (K.faults out.old)) (side (K.written out.new) (K.faults out.new))
         (side (E.written errors.old) (E.faults errors.old)) (side (E.written errors.new) (E.faults errors.new)) result }
 {
+    let words = behind_name(given);
     if let Some(text) = notice(words) {
         return Ending::of_notice(text, out, errors);
     }
     let report = run_akl(rt, alloc, words, program, out, &NoGate);
     Ending::of_report(alloc, &report, errors)
+}
+
+// The words behind the first.
+fn behind_name(given: &[String]) -> &[String]
+    ensures { bytes_of result.now ≡ words_behind given.now }
+{
+    match given.split_first() {
+        Some((_, words)) => words,
+        None => &[],
+    }
 }
 
 /// Says why there are no words: for want of memory, or since they are no text.

@@ -1,12 +1,13 @@
 //! How the process ends.
-ghost use Rattle.std.specs.Prelude.{◌≡◌};
+ghost use Rattle.std.specs.Prelude.{◌≡◌, ◌⊎◌, codes};
 ghost use Rattle.std.specs.Process.{exit_status};
 ghost use Rattle.akl_run.specs.Statuses.{number_of};
 ghost use Rattle.akl_run.specs.Commands.{side};
+ghost use Rattle.akl_run.specs.Lines.{refusal_text};
 ghost use Rattle.akl.specs.Endings.{Says};
 
 use akl_outside::{Sink, write_all};
-use akl_run::{Report, Status, refusal_line};
+use akl_run::{Report, Status, fixed_line, refusal_line};
 use std::alloc::Global;
 use std::io::Eprint;
 use std::process::{ExitCode, Termination};
@@ -35,9 +36,9 @@ impl Ending {
         ensures line { SaysWhy report.now.status report.now.refusal
             (side (E.written errors.old) (E.faults errors.old)) (side (E.written errors.new) (E.faults errors.new)) }
     {
-        match refusal_line(alloc, report) {
-            Ok(line) => say(&line, errors),
-            Err(_) => say(b"akl: out of memory\n", errors),
+        match fixed_line(report.status) {
+            Some(line) => say(line.as_bytes(), errors),
+            None => say_refusal(alloc, report, errors),
         }
         Ending {
             status: report.status,
@@ -58,6 +59,17 @@ impl Ending {
             }
         };
         Ending { status }
+    }
+}
+
+// Says the line of a refusal, or that there was no memory for it.
+fn say_refusal<E: Sink>(alloc: Global, report: &Report, errors: &mut E)
+    ensures { Says (refusal_text report.now.status report.now.refusal) (side (E.written errors.old) (E.faults errors.old)) (side (E.written errors.new) (E.faults errors.new))
+        ⊎ Says (codes "akl: out of memory\n") (side (E.written errors.old) (E.faults errors.old)) (side (E.written errors.new) (E.faults errors.new)) }
+{
+    match refusal_line(alloc, report) {
+        Ok(line) => say(&line, errors),
+        Err(_) => say(b"akl: out of memory\n", errors),
     }
 }
 

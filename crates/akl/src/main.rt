@@ -9,10 +9,10 @@ use crate::ending::Ending;
 use akl_outside::{StreamSink, StreamSource};
 use std::{env, io};
 
-// The words of the command line, behind the program's name.
-fn command_words(rt: &HostRuntime) -> io::Result<Vec<String>> {
+// The words of the command line, the program's name first.
+fn words_given(rt: &HostRuntime) -> io::Result<Vec<String>> {
     let mut words = Vec::new(rt.alloc());
-    for word in env::args(rt)?.skip(1) {
+    for word in env::args(rt)? {
         words.push(word)?;
     }
     Ok(words)
@@ -22,7 +22,7 @@ fn main(rt: HostRuntime) -> Ending {
     let mut program = StreamSource::new(rt.stdin());
     let mut out = StreamSink::new(rt.stdout());
     let mut errors = StreamSink::new(rt.stderr());
-    match command_words(&rt) {
+    match words_given(&rt) {
         Ok(words) => command::run(&rt, rt.alloc(), &words, &mut program, &mut out, &mut errors),
         Err(error) => command::refuse_words(rt.alloc(), &error, &mut errors),
     }

@@ -1,5 +1,6 @@
 -- The line that a refused command gets.
-use Rattle.std.specs.Prelude.{ℕ, List, [], ◌++◌, codes}
+use Rattle.std.specs.Prelude.{ℕ, List, [], ◌++◌, Option, Some, None, codes}
+use Rattle.std.specs.Option.{unwrap_or}
 use Rattle.std.specs.Fmt.{decimal}
 use Rattle.akl_terms.specs.declared.program.Key.{Key}
 use Rattle.akl_lexemes.specs.declared.error.SyntaxError.{SyntaxError}
@@ -56,15 +57,21 @@ cause_of Refusal.Nothing = []
 abbrev pub refused_line : List ℕ → Refusal → List ℕ
 refused_line side f = codes "akl: " ++ side ++ codes ": " ++ cause_of f ++ codes "\n"
 
--- the line of a status that says all itself; the outcomes of a run have none
-abbrev pub fixed_line : Status → List ℕ
-fixed_line Status.ReadFault = codes "akl: read fault\n"
-fixed_line Status.WriteFault = codes "akl: write fault\n"
-fixed_line Status.NoMemory = codes "akl: out of memory\n"
-fixed_line s = []
+-- the line of a status that says all itself, which is empty for the outcomes of a run; `None` where the refusal says more
+abbrev pub fixed_line : Status → Option (List ℕ)
+fixed_line Status.Words = None
+fixed_line Status.Program = None
+fixed_line Status.Query = None
+fixed_line Status.ReadFault = Some (codes "akl: read fault\n")
+fixed_line Status.WriteFault = Some (codes "akl: write fault\n")
+fixed_line Status.NoMemory = Some (codes "akl: out of memory\n")
+fixed_line s = Some []
+
+-- what is refused with a status
+abbrev pub refused_side : Status → List ℕ
+refused_side Status.Program = codes "program"
+refused_side Status.Query = codes "query"
+refused_side s = codes "words"
 
 abbrev pub refusal_text : Status → Refusal → List ℕ
-refusal_text Status.Words f = refused_line (codes "words") f
-refusal_text Status.Program f = refused_line (codes "program") f
-refusal_text Status.Query f = refused_line (codes "query") f
-refusal_text s f = fixed_line s
+refusal_text s f = unwrap_or (fixed_line s) (refused_line (refused_side s) f)

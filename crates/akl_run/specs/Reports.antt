@@ -1,10 +1,11 @@
 -- What a report of the top call says.
 use Rattle.std.specs.Prelude.{◌≡◌, ℕ, Bool, List, length}
+use Rattle.std.specs.List.{AllByRecursion}
 use Rattle.akl_model.specs.declared.label.Label.{Label}
 use Rattle.akl_model.specs.declared.label.Receipt.{Receipt}
 use Rattle.akl_model.specs.Config.{Content}
 use Rattle.akl_model.specs.Derivations.{Outcome, done, failed, suspended, out_of_budget}
-use Rattle.step_commit.specs.Receipts.{AreReceipts}
+use Rattle.step_commit.specs.Receipts.{AreReceipts, ArePlannedLast}
 use Rattle.par_workers.specs.Shared.{AreByWorkers}
 use Rattle.akl_run.specs.declared.loaded.Loaded.{Loaded}
 use Rattle.akl_run.specs.Loads.{IsLoadedFrom}
@@ -21,12 +22,17 @@ IsStatusOf Status.Suspended o = (k : ℕ) × (o ≡ suspended k)
 IsStatusOf Status.Budget o = o ≡ out_of_budget
 IsStatusOf s o = ⊥
 
+-- each label of these lists was planned by all labels before it
+abbrev pub AreAllPlannedLast : List (List Receipt) → Type 0
+AreAllPlannedLast = AllByRecursion ArePlannedLast
+
 -- each label is by one of the workers 1 to so many, and there is a list for each of them, worker 1's first: its labels with their places in
--- the journal, each once and in order
+-- the journal, each once and in order, planned by labels before it; a worker alone planned each by all of them
 pub record AreOfWorkers (workers : ℕ) (journal : List Label) (receipts : List (List Receipt)) : Type 0 where
   pub labels : AreByWorkers workers journal
   pub count : length receipts ≡ workers
   pub are_receipts : AreReceipts 1 journal receipts
+  pub alone : workers ≡ 1 → AreAllPlannedLast receipts
 
 -- the journal is a derivation from the loaded query's box, with these answers and this outcome, by so many workers
 pub record IsRunBy (l : Loaded) (workers budget : ℕ) (answers : List Content) (outcome : Outcome) (journal : List Label) (receipts : List (List Receipt)) : Type 0 where

@@ -2,7 +2,9 @@
 
 ghost use Rattle.std.specs.Prelude.{◌≡◌, ◌≤◌, [], IfOk, IfErr};
 ghost use Rattle.box_tree.specs.Tables.{HasVariables, HasShownVariables};
+ghost use Rattle.par_workers.specs.Crews.{lists};
 ghost use Rattle.par_workers.specs.Runs.{HasRunMany};
+ghost use Rattle.akl_run.specs.Reports.{AreAllPlannedLast};
 ghost use Rattle.akl_run.specs.Evaluations.{HasFinished, IsEvaluated, StopsRun};
 
 use crate::loaded::Loaded;
@@ -34,7 +36,8 @@ fn run_alone(alloc: Global, program: &Program, core: Core) -> Result<Finished, A
     requires program { program.now ≡ core.table.program }
     requires workers { core.workers ≡ 1 }
     requires begins { core.journal ≡ [] }
-    ensures { IfOk result (HasRunMany core) }
+    ensures run { IfOk result (HasRunMany core) }
+    ensures planned { IfOk result (λ f. AreAllPlannedLast (lists f.receipts.items)) }
 {
     let run = run_one(alloc, program, core)?;
     let mut receipts = Vec::new(alloc);

@@ -18,7 +18,7 @@ mod writing;
 pub use akl_args::WordsError;
 pub use clause_checks::{Limit, LoadError};
 pub use loaded::{Loaded, load_asked, load_program};
-pub use refusal::refusal_line;
+pub use refusal::{fixed_line, refusal_line};
 pub use report::{Refusal, Report, Status};
 pub use run::run_akl;
 pub use stop::Stop;

@@ -1,7 +1,7 @@
 //! The line that a refused command gets.
 
-ghost use Rattle.std.specs.Prelude.{◌≡◌, ◌++◌, IfOk, OnOk};
-ghost use Rattle.akl_run.specs.Lines.{key_text, kind_of, words_cause, text_cause, loading_cause, cause_of, refused_line, fixed_line, refusal_text};
+ghost use Rattle.std.specs.Prelude.{◌≡◌, ◌++◌, option_map, IfOk, OnOk};
+ghost use Rattle.akl_run.specs.Lines.{key_text, kind_of, words_cause, text_cause, loading_cause, cause_of, refused_line, fixed_line, refused_side, refusal_text};
 
 use crate::report::{Refusal, Report, Status};
 use crate::text::{push_number, push_text};
@@ -112,15 +112,28 @@ fn refused_line(alloc: Global, side: &str, refusal: &Refusal) -> Result<Vec<u8>,
     Ok(line)
 }
 
-// The line of any other status.
-fn fixed_line(status: Status) -> &'static str
-    ensures { result.now ≡ fixed_line status }
+// What is refused with a status.
+fn refused_side(status: Status) -> &'static str
+    ensures { result.now ≡ refused_side status }
 {
     match status {
-        Status::ReadFault => "akl: read fault\n",
-        Status::WriteFault => "akl: write fault\n",
-        Status::NoMemory => "akl: out of memory\n",
-        _ => "",
+        Status::Program => "program",
+        Status::Query => "query",
+        _ => "words",
+    }
+}
+
+/// The line for standard error of a status that says all itself, which takes no memory: an empty one for the outcomes of a
+/// run. `None` exactly where the refusal says more.
+pub fn fixed_line(status: Status) -> Option<&'static str>
+    ensures { option_map (λ line. line.now) result ≡ fixed_line status }
+{
+    match status {
+        Status::Words | Status::Program | Status::Query => None,
+        Status::ReadFault => Some("akl: read fault\n"),
+        Status::WriteFault => Some("akl: write fault\n"),
+        Status::NoMemory => Some("akl: out of memory\n"),
+        Status::Done | Status::Failed | Status::Suspended | Status::Budget => Some(""),
     }
 }
 
@@ -128,10 +141,8 @@ fn fixed_line(status: Status) -> &'static str
 pub fn refusal_line(alloc: Global, report: &Report) -> Result<Vec<u8>, AllocError>
     ensures { IfOk result (λ line. line.items ≡ refusal_text report.now.status report.now.refusal) }
 {
-    match report.status {
-        Status::Words => refused_line(alloc, "words", &report.refusal),
-        Status::Program => refused_line(alloc, "program", &report.refusal),
-        Status::Query => refused_line(alloc, "query", &report.refusal),
-        status => Vec::from_slice(alloc, fixed_line(status).as_bytes()),
+    match fixed_line(report.status) {
+        Some(line) => Vec::from_slice(alloc, line.as_bytes()),
+        None => refused_line(alloc, refused_side(report.status), &report.refusal),
     }
 }
