@@ -8,7 +8,7 @@ use Rattle.akl_run.specs.declared.report.Refusal.{Refusal}
 use Rattle.akl_run.specs.declared.report.Status.{Status}
 use Rattle.akl_run.specs.declared.report.Report.{Report}
 use Rattle.akl_run.specs.Lines.{fixed_line, refusal_text}
-use Rattle.akl_run.specs.Commands.{Side, HasFaulted, Command, IsReported}
+use Rattle.akl_run.specs.Commands.{Side, HasFaulted, IsReported}
 use Rattle.akl.specs.declared.ending.Ending.{Ending}
 
 -- the text was appended whole, or a write failed

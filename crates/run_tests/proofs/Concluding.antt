@@ -1,5 +1,5 @@
 -- A place that was found idle may be settled, and a core that stays as it is has gone on.
-use Rattle.std.proofs.Common.{◌≡◌, List, [], Result, Ok, Err, IfOk, sym, ◌∙◌, ap, append-nil}
+use Rattle.std.proofs.Common.{◌≡◌, [], Result, Ok, Err, IfOk, sym, ◌∙◌, ap, append-nil}
 use Rattle.box_tree.specs.Tables.{TableValue}
 use Rattle.idle_places.specs.Idling.{IdleValue}
 use Rattle.place_steps.specs.declared.next.Next.{Next}
