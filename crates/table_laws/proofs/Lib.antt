@@ -49,3 +49,4 @@ pub mod Going
 pub mod CutAway
 pub mod GoingRows
 pub mod GoneSteps
+pub mod KeptStores
