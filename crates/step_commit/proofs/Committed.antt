@@ -4,37 +4,40 @@ use Rattle.std.specs.Prelude.{IsSome, nat_le, slice_index, ⊤}
 use Rattle.std.proofs.lemmas.List.{length-append}
 use Rattle.std.proofs.lemmas.Bool.Decides.{nat_tests}
 use Rattle.akl_terms.specs.declared.name.Name.{Name}
+use Rattle.akl_terms.specs.declared.name.Place.{Place}
 use Rattle.akl_terms.specs.declared.term.Node.{Node}
 use Rattle.akl_terms.specs.declared.program.Program.{Program}
 use Rattle.akl_terms.specs.declared.program.Query.{Query}
 use Rattle.akl_model.specs.declared.item.Item.{Item}
 use Rattle.akl_model.specs.declared.label.Rule.{Rule}
 use Rattle.akl_model.specs.declared.label.Label.{Label}
-use Rattle.akl_model.specs.Config.{Config, Found, site_of}
+use Rattle.akl_model.specs.Config.{IsIn, Config, Found, site_of}
 use Rattle.akl_model.specs.Instances.{start}
 use Rattle.akl_model.specs.Derivations.{Applies, Derives}
-use Rattle.akl_model.specs.Wakes.{names_around}
-use Rattle.akl_model.proofs.Drawn.{both_true}
+use Rattle.akl_model.specs.Wakes.{names_around, names_down_to}
 use Rattle.akl_model.proofs.Results.{Derives-prefix, Derives-one}
-use Rattle.akl_model.proofs.NamesKept.{replay-stands}
+use Rattle.akl_model.proofs.NamesKept.{Stand, replay-stands, site-box}
+use Rattle.akl_model.proofs.Scoped.{IsIn-left}
 use Rattle.local_store.specs.Stored.{Stored}
 use Rattle.local_store.specs.Chained.{IsSolvedChain}
 use Rattle.plan_laws.specs.Right.{Reads, NoneBy, IsRightOn}
 use Rattle.plan_laws.specs.Stamps as stamps
 use Rattle.plan_laws.proofs.Right.{reads_map}
 use Rattle.plan_laws.proofs.StampLaws.{stamped_right}
-use Rattle.table_laws.specs.Rows.{BoxRow, GoalRow, Table, stores_along}
+use Rattle.table_laws.specs.Rows.{BoxRow, GoalRow, Table, store_in, stores_along}
+use Rattle.table_laws.specs.Kept.{SharesStores}
 use Rattle.table_laws.specs.Stamped.{Run, LastChange, IsStamped, IsTableOf, store_stamp, goals_stamp, goal_stamp, stamp_in}
-use Rattle.table_laws.specs.Steps.{Step, tells, forks, fails, cuts, joins, refutes, confirms, splits, Makes, ReadsFor, IsSolvedIf, IsSolvedIn, IsSolvedWhen}
+use Rattle.table_laws.specs.Steps.{NewBox, Step, tells, forks, fails, cuts, joins, refutes, confirms, splits, Makes, ReadsFor, IsSolvedIf, AreSolvedIf, IsSolvedIn, IsSolvedWhen}
 use Rattle.table_laws.specs.Writes.{IsTable}
 use Rattle.table_laws.proofs.Later.{later_law}
 use Rattle.table_laws.specs.Laws.{started}
 use Rattle.table_laws.proofs.Started.{start_law}
 use Rattle.box_tree.specs.Tables.{all_rules, TableValue, table_of, step_of}
 use Rattle.box_tree.specs.Plans.{PlanValue, IsRead, IsRight}
+use Rattle.box_tree.proofs.Seen.{path_there}
 use Rattle.step_commit.specs.Cores.{CoreValue, IsCore, MayCommit, is_within, AllWithin}
-use Rattle.step_commit.specs.Solving.{gives_store, is_in_root, gives_root_store}
-use Rattle.step_commit.proofs.RootStores.{none_around}
+use Rattle.step_commit.specs.Solving.{is_fork}
+use Rattle.step_commit.proofs.LastChanges.{last_within}
 
 pub some_of : {A : Type 0} {a b : A} → Some a ≡ Some b → a ≡ b
 some_of e = cc
@@ -117,10 +120,10 @@ module _ (p : Program) (q : Query) (journal further : List Label) (S T : Table) 
 
 module _ (p : Program) (q : Query) (journal further : List Label) (S T : Table) (l : Label) (reads : List Item) (names : ℕ) (step : Step) (x : IsPlanned p q journal S l reads names step)
     (t : IsTableOf all_rules (record { program = p; query = q; journal = journal ++ further }) T) (none : NoneBy l further) (within : AllWithin T reads (length journal)) where
-  -- this is the number of labels, and the plan has seen all of them, or it gives a root box its store
+  -- this is the number of labels, and the plan has seen all of them, or its step is no fork
   abbrev pub IsSolvedOver : Option ℕ → Type 0
   IsSolvedOver None = ⊤
-  IsSolvedOver (Some k) = (k ≡ length (journal ++ further)) × ((length journal ≡ length (journal ++ further)) ⊎ (gives_root_store T l.place step ≡ true))
+  IsSolvedOver (Some k) = (k ≡ length (journal ++ further)) × ((length journal ≡ length (journal ++ further)) ⊎ (is_fork step ≡ false))
 
   unseen : (o : Option ℕ) (i : Item) → stamp_in T i ≡ o → is_within o (length journal) ≡ true → stamps.IsStamped all_rules p q (journal ++ further) (length journal) i
   unseen None i e w = absurd cc
@@ -147,52 +150,100 @@ module _ (p : Program) (q : Query) (journal further : List Label) (S T : Table) 
       (reads_for (IsRead reads) (stamps.IsStamped all_rules p q (journal ++ further) (length journal)) stamped l x.applies.site step x.reads_all)) in
       right.same_around ∙ ap names_around (some_of (sym right.applies.is_site ∙ w.applies.is_site))
 
-  -- the store that it gives a root box is solved alone, as it was where it was planned
-  root_solved : (w : LeadsOn p q (journal ++ further) T t l names step) → gives_root_store T l.place step ≡ true → IsSolvedIn T w.applies.site step
-  root_solved w r = on step both.0 x.solved
-    where
-      both : (gives_store step ≡ true) × (is_in_root T l.place ≡ true)
-      both = both_true (gives_store step) (is_in_root T l.place) r
+  -- no label behind the front changed the store
+  abbrev IsOld : Name → Type 0
+  IsOld m = is_within (stamp_in T (Item.Store m)) (length journal) ≡ true
 
-      none_now : names_around w.applies.site ≡ []
-      none_now = none_around T t.config t.unfolds (replay-stands all_rules p q (journal ++ further) t.config t.replays) l.place w.applies.site w.applies.is_site both.1
+  module _ (shares : SharesStores S T (length journal)) (w : LeadsOn p q (journal ++ further) T t l names step) where
+    same_store : (m : Name) → IsOld m → store_in (S.box_of m) ≡ store_in (T.box_of m)
+    same_store m old = on (T.box_of m) refl
+      where
+        within_is : (k : ℕ) → nat_le k (length journal) ≡ true → k ≤ length journal
+        within_is k e = grind (arith, nat_tests)
 
-      alone : (b : Bool) (new : Stored) → IsSolvedIf b S (names_around x.applies.site) new → IsSolvedIf b T (names_around w.applies.site) new
-      alone false new h = tt
-      alone true new h = subst (λ (ns : List Name). IsSolvedChain T.nodes (stores_along T ns ++ new ∷ [])) (sym none_now)
-          (subst (λ (nodes : List Node). IsSolvedChain nodes (new ∷ [])) (x.table.nodes ∙ sym t.nodes) (subst (λ (ns : List Name). IsSolvedChain S.nodes (stores_along S ns ++ new ∷ [])) (same_around w ∙ none_now) h))
+        on : (o : Option BoxRow) → T.box_of m ≡ o → store_in (S.box_of m) ≡ store_in o
+        on None e = let z : false ≡ true = subst (λ (o : Option BoxRow). is_within (store_stamp o) (length journal) ≡ true) e old in absurd cc
+        on (Some row) e = shares m row e (within_is row.changed (subst (λ (o : Option BoxRow). is_within (store_stamp o) (length journal) ≡ true) e old))
 
-      on : (made : Step) → gives_store made ≡ true → IsSolvedIn S x.applies.site made → IsSolvedIn T w.applies.site made
-      on (tells new solved) g h = alone solved new h
-      on (joins new solved goals) g h = alone solved new h
-      on (forks op news) g h = cc
-      on fails g h = cc
-      on cuts g h = cc
-      on refutes g h = cc
-      on confirms g h = cc
-      on (splits copy copies) g h = cc
+    same_along : (ms : List Name) → ((m : Name) → IsIn m ms → IsOld m) → stores_along S ms ≡ stores_along T ms
+    same_along [] h = refl
+    same_along (m ∷ ms) h = ap (λ (s : Stored). s ∷ stores_along S ms) (same_store m (h m (inl refl))) ∙ ap (λ (ss : List Stored). store_in (T.box_of m) ∷ ss) (same_along ms (λ k i. h k (inr i)))
 
-  -- where the plan has seen the whole run, and this very table, or gives a root box its store, its stores are solved there
-  pub solved_now : (same : further ≡ [] → S ≡ T) (w : LeadsOn p q (journal ++ further) T t l names step) (at : Option ℕ) → IsSolvedOver at → IsSolvedWhen at T w.applies.site step
-  solved_now same w None h = tt
-  solved_now same w (Some k) (n, inr r) = (n ∙ sym t.stamped.steps, root_solved w r)
-  solved_now same w (Some k) (n, inl e) = (n ∙ sym t.stamped.steps, here)
-    where
+    -- so what was solved over such stores still is
+    still_solved : (before now : List Name) (more : List Stored) → before ≡ now → ((m : Name) → IsIn m before → IsOld m)
+        → IsSolvedChain S.nodes (stores_along S before ++ more) → IsSolvedChain T.nodes (stores_along T now ++ more)
+    still_solved before now more same old h =
+        subst (λ (ns : List Name). IsSolvedChain T.nodes (stores_along T ns ++ more)) same
+        (subst (λ (nodes : List Node). IsSolvedChain nodes (stores_along T before ++ more)) (x.table.nodes ∙ sym t.nodes)
+        (subst (λ (ss : List Stored). IsSolvedChain S.nodes (ss ++ more)) (same_along before old) h))
+
+    solved_over : (b : Bool) (before now : List Name) (new : Stored) → before ≡ now → ((m : Name) → IsIn m before → IsOld m) → IsSolvedIf b S before new → IsSolvedIf b T now new
+    solved_over false before now new same old h = tt
+    solved_over true before now new same old h = still_solved before now (new ∷ []) same old h
+
+    -- what a label of these parts reads
+    reads_as : (rule : Rule) (place : Place) → l.rule ≡ rule → l.place ≡ place → Reads (IsRead reads) l.rule l.place l.alternative x.applies.site → Reads (IsRead reads) rule place l.alternative x.applies.site
+    reads_as rule place r k h =
+        subst (λ (y : Place). Reads (IsRead reads) rule y l.alternative x.applies.site) k (subst (λ (y : Rule). Reads (IsRead reads) y l.place l.alternative x.applies.site) r h)
+
+    ReadsStores : Type 0
+    ReadsStores = (m : Name) → IsIn m (names_around x.applies.site) → IsOld m
+
+    around_of : ((m : Name) → IsIn m (names_down_to x.applies.site) → IsRead reads (Item.Store m)) → ReadsStores
+    around_of h m i = within (Item.Store m) (h m (IsIn-left m (names_around x.applies.site) (x.applies.site.content.name ∷ []) i))
+
+    joins_read : (g : Name) → l.place ≡ Place.Goal g → (l.rule ≡ Rule.Promote) ⊎ (l.rule ≡ Rule.Collect) → Reads (IsRead reads) l.rule l.place l.alternative x.applies.site → ReadsStores
+    joins_read g k (inl r) h = around_of (reads_as Rule.Promote (Place.Goal g) r k h).1
+    joins_read g k (inr r) h = around_of (reads_as Rule.Collect (Place.Goal g) r k h).1
+
+    -- where the plan has seen all labels, none behind it changed a store
+    module _ (whole : length journal ≡ length (journal ++ further)) where
       none_left : (ls : List Label) → length journal ≡ length (journal ++ ls) → ls ≡ []
       none_left [] i = refl
       none_left (k ∷ ks) i = let j : length (journal ++ k ∷ ks) ≡ length journal + length (k ∷ ks) = length-append journal (k ∷ ks) in absurd (omega (arith, i, j))
 
-      empty : further ≡ []
-      empty = none_left further e
-
       config : x.table.config ≡ t.config
-      config = Derives-one all_rules p x.table.config x.table.config t.config [] refl (subst (λ (ls : List Label). Derives all_rules p x.table.config ls t.config) empty (goes p q journal further S T x.table t))
+      config = Derives-one all_rules p x.table.config x.table.config t.config [] refl (subst (λ (ls : List Label). Derives all_rules p x.table.config ls t.config) (none_left further whole) (goes p q journal further S T x.table t))
 
-      site : x.applies.site ≡ w.applies.site
-      site = some_of (sym x.applies.is_site ∙ ap (λ (c : Config). site_of l.place c.roots) config ∙ w.applies.is_site)
+      same_site : x.applies.site ≡ w.applies.site
+      same_site = some_of (sym x.applies.is_site ∙ ap (λ (c : Config). site_of l.place c.roots) config ∙ w.applies.is_site)
 
-      here : IsSolvedIn T w.applies.site step
-      here = subst (λ (f : Found). IsSolvedIn T f step) site (subst (λ (u : Table). IsSolvedIn u x.applies.site step) (same empty) x.solved)
+      all_old : (m : Name) → IsIn m (names_down_to x.applies.site) → IsOld m
+      all_old m i =
+          let stand : Stand t.config = replay-stands all_rules p q (journal ++ further) t.config t.replays in
+          let row : (r : BoxRow) × (T.box_of m ≡ Some r) =
+          path_there T t.config t.unfolds stand.once w.applies.site.content.name w.applies.site (site-box l.place t.config.roots w.applies.site stand.once w.applies.is_site) m
+          (subst (λ (f : Found). IsIn m (names_down_to f)) same_site i) in
+          let last : row.0.changed ≤ length (journal ++ further) = last_within all_rules p q (journal ++ further) (Item.Store m) row.0.changed (t.stamped.store m row.0 row.1) in
+          subst (λ (o : Option BoxRow). is_within (store_stamp o) (length journal) ≡ true) (sym row.1) (is_at_most row.0.changed (length journal) (subst (λ (k : ℕ). row.0.changed ≤ k) (sym whole) last))
+        where
+          is_at_most : (k n : ℕ) → k ≤ n → nat_le k n ≡ true
+          is_at_most k n h = grind (arith, nat_tests)
+
+      all_over : (news : List NewBox) → AreSolvedIf S (names_down_to x.applies.site) news → AreSolvedIf T (names_down_to w.applies.site) news
+      all_over [] h = tt
+      all_over (n ∷ ns) h = (solved_over n.solved (names_down_to x.applies.site) (names_down_to w.applies.site) n.store (ap names_down_to same_site) all_old h.0, all_over ns h.1)
+
+    -- a step that is no fork reads the stores around what it makes
+    solved_still : (made : Step) → (length journal ≡ length (journal ++ further)) ⊎ (is_fork made ≡ false) → Makes p l (slice_index x.table.config.next l.worker) x.applies.site made
+        → ReadsFor (IsRead reads) l x.applies.site made → IsSolvedIn S x.applies.site made → IsSolvedIn T w.applies.site made
+    solved_still (tells new solved) e m r h = solved_over solved (names_around x.applies.site) (names_around w.applies.site) new (same_around w) (around_of r.1) h
+    solved_still (forks op news) (inl e) m r h = all_over e news h
+    solved_still (forks op news) (inr e) m r h = absurd (let z : true ≡ false = e in cc)
+    solved_still fails e m r h = tt
+    solved_still cuts e m r h = tt
+    solved_still (joins new solved goals) e m r h =
+        solved_over solved (names_around x.applies.site) (names_around w.applies.site) new (same_around w) (joins_read m.0 m.1 (elim m.2.origin [ inl o ↦ inl o.rule | inr o ↦ inr o.rule ]) r) h
+    solved_still refutes e m r h = tt
+    solved_still confirms e m r h = tt
+    solved_still (splits copy copies) e m r h = λ k stores is inside solved.
+        still_solved (names_around x.applies.site) (names_around w.applies.site) (stores ++ k.store ∷ []) (same_around w)
+        (λ b i. within (Item.Store b) ((reads_as Rule.Split (Place.Box m.1.0) m.0 m.1.2 r).1 b i)) (h k stores is inside solved)
+
+  -- where the plan has seen the whole run, or read the stores around what it makes, its stores are solved there
+  pub solved_now : (shares : SharesStores S T (length journal)) (w : LeadsOn p q (journal ++ further) T t l names step) (at : Option ℕ) → IsSolvedOver at → IsSolvedWhen at T w.applies.site step
+  solved_now shares w None h = tt
+  solved_now shares w (Some k) (n, e) = (n ∙ sym t.stamped.steps, solved_still shares w step e x.makes x.reads_all x.solved)
 
 -- a core of a table that was started
 pub new_core : (t : TableValue) (p : Program) (q : Query) (workers budget : ℕ) (journal : List Label) → t.program ≡ p → t.query ≡ q → IsTable (table_of t) (started p q) → journal ≡ []

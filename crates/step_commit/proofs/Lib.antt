@@ -1,5 +1,4 @@
 pub mod LastChanges
-pub mod RootStores
 pub mod Committed
 pub mod Stale
 pub mod InOrder

@@ -1,6 +1,6 @@
 -- What a commit makes of a core.
 use Rattle.std.proofs.Common.{◌≡◌, ℕ, ◌+◌, ◌<◌, ◌==◌, Bool, true, false, List, [], ◌∷◌, ◌++◌, length, Option, Some, None, refl, sym, ap, subst, ◌∙◌, inl, inr, arith}
-use Rattle.std.specs.Prelude.{◌||◌, if◌then◌else◌}
+use Rattle.std.specs.Prelude.{◌||◌, not, if◌then◌else◌}
 use Rattle.std.proofs.lemmas.Bool.{eqb-true}
 use Rattle.std.proofs.lemmas.List.{length-append}
 use Rattle.akl_terms.specs.declared.name.Name.{Name}
@@ -26,7 +26,7 @@ use Rattle.box_tree.specs.Tables.{all_rules, TableValue, table_of, step_of, Fits
 use Rattle.box_tree.specs.Views.{run_of}
 use Rattle.box_tree.specs.Plans.{PlanValue, IsRight}
 use Rattle.step_commit.specs.Cores.{CoreValue, IsCore, MayCommit, IsFresh, IsStale, Commits, AllWithin, IsFirstStale, IsFirstUnseen, solved_in}
-use Rattle.step_commit.specs.Solving.{gives_root_store}
+use Rattle.step_commit.specs.Solving.{is_fork}
 use Rattle.step_commit.proofs.Committed.{IsPlanned, planned, LeadsOn, leads_on, IsSolvedOver, solved_now}
 use Rattle.step_commit.proofs.Stale.{looked, unchanged_here, stale, all_within}
 use Rattle.step_commit.proofs.InOrder.{makes_ordered}
@@ -84,8 +84,8 @@ module _ (c : CoreValue) (k : IsCore c) (p : PlanValue) (r : IsRight p) (m : May
 
   solved : (at : Option ℕ) → at ≡ solved_in c p → IsSolvedWhen at (table_of c.table) on.applies.site step
   solved at h = solved_now c.table.program c.table.query p.journal m.further (table_of p.table) (table_of c.table) p.label p.reads p.names step x t m.none_by within
-      (λ e. ap table_of (m.same_table e)) on at
-      (subst (IsSolvedOver c.table.program c.table.query p.journal m.further (table_of p.table) (table_of c.table) p.label p.reads p.names step x t m.none_by within) (sym h) (over (length p.journal == length c.journal) refl (gives_root_store (table_of c.table) p.label.place step) refl))
+      m.same_stores on at
+      (subst (IsSolvedOver c.table.program c.table.query p.journal m.further (table_of p.table) (table_of c.table) p.label p.reads p.names step x t m.none_by within) (sym h) (over (length p.journal == length c.journal) refl (is_fork step) refl))
     where
       so : Option ℕ → Type 0
       so = IsSolvedOver c.table.program c.table.query p.journal m.further (table_of p.table) (table_of c.table) p.label p.reads p.names step x t m.none_by within
@@ -93,10 +93,10 @@ module _ (c : CoreValue) (k : IsCore c) (p : PlanValue) (r : IsRight p) (m : May
       same : length c.journal ≡ length (p.journal ++ m.further)
       same = ap length m.front
 
-      over : (a : Bool) → (length p.journal == length c.journal) ≡ a → (b : Bool) → gives_root_store (table_of c.table) p.label.place step ≡ b → so (if a || b then Some (length c.journal) else None)
+      over : (a : Bool) → (length p.journal == length c.journal) ≡ a → (b : Bool) → is_fork step ≡ b → so (if a || not b then Some (length c.journal) else None)
       over true e b f = (same, inl (eqb-true (length p.journal) (length c.journal) e ∙ same))
-      over false e true f = (same, inr f)
-      over false e false f = tt
+      over false e false f = (same, inr f)
+      over false e true f = tt
 
   module _ (at : Option ℕ) (u : TableValue) (h : at ≡ solved_in c p) (a : Applied c.table p.label at p.names p.step u) where
     next : IsTableOf all_rules (run_of c.table ((p.journal ++ m.further) ++ p.label ∷ [])) (table_of u)

@@ -5,6 +5,7 @@ use Rattle.akl_model.specs.declared.label.Label.{Label}
 use Rattle.akl_model.specs.declared.label.Receipt.{Receipt}
 use Rattle.plan_laws.specs.Right.{NoneBy}
 use Rattle.table_laws.specs.Rows.{Table}
+use Rattle.table_laws.specs.Kept.{SharesStores}
 use Rattle.table_laws.specs.Stamped.{Run, IsTableOf, LastChange, stamp_in}
 use Rattle.box_tree.specs.Tables.{all_rules, TableValue, table_of, step_of, Applied}
 use Rattle.box_tree.specs.Views.{run_of}
@@ -38,14 +39,14 @@ pub record KeepsFixed (c d : CoreValue) : Type 0 where
   pub workers : d.workers ≡ c.workers
   pub budget : d.budget ≡ c.budget
 
--- a plan was made for a front of the journal, behind which its worker has made no label; where it has seen the whole journal, it has seen the table
+-- a plan was made for a front of the journal, behind which its worker has made no label, over the stores that no label behind it has changed
 pub record MayCommit (c : CoreValue) (p : PlanValue) : Type 0 where
   pub program : p.table.program ≡ c.table.program
   pub query : p.table.query ≡ c.table.query
   pub further : List Label
   pub front : c.journal ≡ p.journal ++ further
   pub none_by : NoneBy p.label further
-  pub same_table : further ≡ [] → p.table ≡ c.table
+  pub same_stores : SharesStores (table_of p.table) (table_of c.table) (length p.journal)
 
 -- no label behind a front of the journal changed the item
 abbrev pub IsUnchanged : CoreValue → List Label → Item → Type 0
@@ -70,7 +71,7 @@ pub record IsFresh (c : CoreValue) (p : PlanValue) : Type 0 where
 
 -- the number of labels at which the stores of a plan's step are solved, if they are
 abbrev pub solved_in : CoreValue → PlanValue → Option ℕ
-solved_in c p = solved_at (table_of c.table) (length c.journal) (length p.journal) p.label.place (step_of c.table.program.templates.nodes p.step)
+solved_in c p = solved_at (length c.journal) (length p.journal) (step_of c.table.program.templates.nodes p.step)
 
 -- the plan's label is the next one of the journal, and its step made the table
 pub record Commits (c : CoreValue) (p : PlanValue) (d : CoreValue) (r : Receipt) : Type 0 where

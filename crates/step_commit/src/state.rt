@@ -1,14 +1,15 @@
 //! The state of a run.
 
-ghost use Rattle.std.specs.Prelude.{◌≡◌, IfOk, IfErr, IfSome, IfNone, Some, [], length, true};
+ghost use Rattle.std.specs.Prelude.{◌≡◌, List, IfOk, IfErr, IfSome, IfNone, Some, [], length, true};
 ghost use Rattle.box_tree.specs.Tables.{table_of, step_of, goals_in, is_empty, shown_in, shown_trees_of, HasVariables, HasShownVariables};
 ghost use Rattle.box_tree.specs.Views.{is_there, IsUnseen, all_places};
 ghost use Rattle.box_tree.specs.Paths.{known_in, alternatives_seen};
 ghost use Rattle.box_tree.specs.Insides.{IsInsideOf};
 ghost use Rattle.akl_terms.specs.declared.name.Place.{Place};
+ghost use Rattle.akl_terms.specs.declared.term.Node.{Node};
 ghost use Rattle.step_commit.specs.Cores.{IsCore, MayCommit, IsFresh, Commits, IsRefused, IsFirstStale, is_within, solved_in};
 ghost use Rattle.step_commit.specs.declared.commit.CommitError.TheVariants as variants;
-ghost use Rattle.step_commit.specs.Solving.{is_in_root, gives_root_store};
+ghost use Rattle.step_commit.specs.Solving.{is_fork};
 
 use crate::commit::CommitError;
 use akl_model::{Item, Label, Receipt};
@@ -165,13 +166,13 @@ impl Core {
         Some(CommitError::Stale { item, stamp })
     }
 
-    // How many labels there are, where what a plan's stores were found to be solved over is in the table still: it has seen
-    // all labels, or it gives a root box its store, around which there is no other.
+    // How many labels there are, where what a plan's stores were found to be solved over is in the table still. A step that
+    // is no fork reads the stores around what it makes; a fork reads its goal alone, so its plan must have seen all labels.
     fn solved_at(&self, plan: &Plan) -> Option<u64>
         ensures { result ≡ solved_in self.now plan.now }
     {
         let count = self.journal.len() as u64;
-        if plan.seen() == count || gives_root_store(&self.table, plan) {
+        if plan.seen() == count || !is_fork(plan.step()) {
             Some(count)
         } else {
             None
@@ -210,31 +211,19 @@ impl Core {
     }
 }
 
-// Whether a plan gives a root box its store.
-fn gives_root_store(table: &Table, plan: &Plan) -> bool
-    ensures { result ≡ gives_root_store (table_of table.now) plan.now.label.place (step_of table.now.program.templates.nodes plan.now.step) }
+// Whether a step makes a choice of a goal.
+fn is_fork(step: &Step) -> bool
+    ensures { (nodes : List Node) → result ≡ is_fork (step_of nodes step.now) }
 {
-    match plan.step() {
-        Step::Tell { .. } | Step::Join { .. } => is_in_root(table, plan.label().place),
-        Step::Fork { .. }
+    match step {
+        Step::Fork { .. } => true,
+        Step::Tell { .. }
+        | Step::Join { .. }
         | Step::Fail
         | Step::Cut
         | Step::Refute
         | Step::Confirm
         | Step::Split { .. } => false,
-    }
-}
-
-// Whether a goal stands in a root box.
-fn is_in_root(table: &Table, place: Place) -> bool
-    ensures { result ≡ is_in_root (table_of table.now) place }
-{
-    match place {
-        Place::Goal(goal) => match table.home_of(goal) {
-            Some(home) => table.outside(home).is_none(),
-            None => false,
-        },
-        Place::Box(_) => false,
     }
 }
 

@@ -9,38 +9,31 @@ use Rattle.akl_model.specs.declared.label.Label.{Label}
 use Rattle.akl_model.specs.Config.{IsIn, Operator, or_else}
 use Rattle.akl_model.proofs.Options.{some_value}
 use Rattle.table_laws.specs.Rows.{BoxRow, GoalRow, Table}
+use Rattle.table_laws.specs.Kept.{IsNewOrWas, KeepsStores}
 use Rattle.table_laws.specs.Walks.{alternatives_of}
 use Rattle.table_laws.specs.Steps.{NewBox, BoxCopy, copy_among, Step, tells, forks, fails, cuts, joins, refutes, confirms, splits}
 use Rattle.table_laws.specs.Writes as writes
 use Rattle.table_laws.specs.Writes.{IsTable, home_in, changed_box, left_row, left_by, none_left, held_without, holder_in_row, told_row, new_box_of, failing_by, fails_empty, joined_row, unset, set, failing_row, confirmed_row, copied_row, Fails, Cuts, Splits, Leads}
 use Rattle.table_laws.proofs.Sets.{not_some, set_other}
 
--- the row that there was had this store, with the number of the label that had changed it
-abbrev pub HadStore : Option BoxRow → BoxRow → Type 0
-HadStore was row = (old : BoxRow) × (was ≡ Some old) × (old.store ≡ row.store) × (old.changed ≡ row.changed)
+-- what is changed of rows gives them a store with the label of a number, or keeps theirs
+abbrev GivesOrKeeps : ℕ → (BoxRow → BoxRow) → Type 0
+GivesOrKeeps number change = (r : BoxRow) → IsNewOrWas number (Some r) (change r)
 
 module _ (number : ℕ) where
-  -- the store came with the label of this number, or it was there
-  abbrev pub IsNewOrWas : Option BoxRow → BoxRow → Type 0
-  IsNewOrWas was row = (row.changed ≡ number) ⊎ HadStore was row
-
-  -- so it is of each row of a box that is changed so
-  abbrev GivesOrKeeps : (BoxRow → BoxRow) → Type 0
-  GivesOrKeeps change = (r : BoxRow) → IsNewOrWas (Some r) (change r)
-
-  keeps : (change : BoxRow → BoxRow) → ((r : BoxRow) → (change r).store ≡ r.store) → ((r : BoxRow) → (change r).changed ≡ r.changed) → GivesOrKeeps change
+  keeps : (change : BoxRow → BoxRow) → ((r : BoxRow) → (change r).store ≡ r.store) → ((r : BoxRow) → (change r).changed ≡ r.changed) → GivesOrKeeps number change
   keeps change store changed r = inr (r, refl, sym (store r), sym (changed r))
 
-  mapped : (change : BoxRow → BoxRow) → GivesOrKeeps change → (o : Option BoxRow) (row : BoxRow) → option_map change o ≡ Some row → IsNewOrWas o row
+  mapped : (change : BoxRow → BoxRow) → GivesOrKeeps number change → (o : Option BoxRow) (row : BoxRow) → option_map change o ≡ Some row → IsNewOrWas number o row
   mapped change h None row e = absurd (not_some e)
-  mapped change h (Some r) row e = subst (IsNewOrWas (Some r)) (some_value e) (h r)
+  mapped change h (Some r) row e = subst (IsNewOrWas number (Some r)) (some_value e) (h r)
 
-  by_change : (home : Option Name) (change : BoxRow → BoxRow) → GivesOrKeeps change → (at : Name → Option BoxRow) (m : Name) (row : BoxRow) → changed_box home change at m ≡ Some row → IsNewOrWas (at m) row
+  by_change : (home : Option Name) (change : BoxRow → BoxRow) → GivesOrKeeps number change → (at : Name → Option BoxRow) (m : Name) (row : BoxRow) → changed_box home change at m ≡ Some row → IsNewOrWas number (at m) row
   by_change None change h at m row e = inr (row, e, refl, refl)
   by_change (Some n) change h at m row e = on (same_name m n) refl e
     where
-      on : (t : Bool) → same_name m n ≡ t → (if t then option_map change (at n) else at m) ≡ Some row → IsNewOrWas (at m) row
-      on true q i = subst (λ (k : Name). IsNewOrWas (at k) row) (sym (same_name-equal m n q)) (mapped change h (at n) row i)
+      on : (t : Bool) → same_name m n ≡ t → (if t then option_map change (at n) else at m) ≡ Some row → IsNewOrWas number (at m) row
+      on true q i = subst (λ (k : Name). IsNewOrWas number (at k) row) (sym (same_name-equal m n q)) (mapped change h (at n) row i)
       on false q i = inr (row, i, refl, refl)
 
   new_number : (g : Name) (at : Option ℕ) (news : List NewBox) (m : Name) (row : BoxRow) → new_box_of g at number news m ≡ Some row → row.changed ≡ number
@@ -135,6 +128,29 @@ module _ (T U : Table) (l : Label) (at : Option ℕ) (drawn : ℕ) (m : Name) (r
   at_place (splits copy copies) (Place.Box n) None x = absurd x
   at_place (splits copy copies) (Place.Goal g) a x = absurd x
 
--- a step leads to a table in which each store came with it, or was there
-pub store_kept : (T U : Table) (l : Label) (at : Option ℕ) (drawn : ℕ) (step : Step) → Leads T l at drawn step U → (m : Name) (row : BoxRow) → U.box_of m ≡ Some row → IsNewOrWas (T.steps + 1) (T.box_of m) row
-store_kept T U l at drawn step leads m row e = at_place T U l at drawn m row e step l.place l.alternative leads
+-- the table after a step has one label more
+module _ (T U : Table) (l : Label) (at : Option ℕ) (drawn : ℕ) where
+  steps_at : (step : Step) (place : Place) (alternative : Option Name) → Leads T (record l { place = place; alternative = alternative }) at drawn step U → U.steps ≡ T.steps + 1
+  steps_at (tells new solved) (Place.Goal g) a x = x.steps
+  steps_at (tells new solved) (Place.Box n) a x = absurd x
+  steps_at (forks op news) (Place.Goal g) a x = x.steps
+  steps_at (forks op news) (Place.Box n) a x = absurd x
+  steps_at fails (Place.Goal g) a x = absurd x
+  steps_at fails (Place.Box n) a x = x.steps
+  steps_at cuts (Place.Goal g) (Some n) x = x.steps
+  steps_at cuts (Place.Goal g) None x = absurd x
+  steps_at cuts (Place.Box n) a x = absurd x
+  steps_at (joins new solved goals) (Place.Goal g) a x = x.steps
+  steps_at (joins new solved goals) (Place.Box n) a x = absurd x
+  steps_at refutes (Place.Goal g) a x = x.steps
+  steps_at refutes (Place.Box n) a x = absurd x
+  steps_at confirms (Place.Goal g) a x = x.steps
+  steps_at confirms (Place.Box n) a x = absurd x
+  steps_at (splits copy copies) (Place.Box n) (Some a) x = x.steps
+  steps_at (splits copy copies) (Place.Box n) None x = absurd x
+  steps_at (splits copy copies) (Place.Goal g) a x = absurd x
+
+-- a step leads to a table that keeps the stores, but for those that come with its label
+pub store_kept : (T U : Table) (l : Label) (at : Option ℕ) (drawn : ℕ) (step : Step) → Leads T l at drawn step U → KeepsStores U.steps T U
+store_kept T U l at drawn step leads m row e =
+    subst (λ (k : ℕ). IsNewOrWas k (T.box_of m) row) (sym (steps_at T U l at drawn step l.place l.alternative leads)) (at_place T U l at drawn m row e step l.place l.alternative leads)

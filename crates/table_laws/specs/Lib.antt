@@ -8,3 +8,4 @@ pub mod Steps
 pub mod Laws
 pub mod Walks
 pub mod Going
+pub mod Kept
