@@ -32,12 +32,12 @@ use Rattle.step_laws.proofs.Failing.{failing_found, failed_goal}
 use Rattle.step_laws.proofs.Becomes.{Becomes}
 use Rattle.step_laws.proofs.Steps.{site_now, found}
 use Rattle.step_laws.proofs.Stays.{shape_held}
-use Rattle.table_laws.specs.Rows.{BoxRow, GoalRow, Table, store_in, stores_along}
-use Rattle.table_laws.specs.Unfolds.{FailsBy, IsBoxRow, Spot, spot_in, spot_of}
+use Rattle.table_laws.specs.Rows.{BoxRow, GoalRow, Table, stores_along}
+use Rattle.table_laws.specs.Unfolds.{UnchangedSince, FailsBy, IsBoxRow, Spot, spot_in, spot_of}
 use Rattle.table_laws.specs.Stamped.{Run, followed_by, IsTableOf}
 use Rattle.table_laws.specs.Steps.{NewBox, forks, IsNewBox, AreNewBoxes, ForksGoal, IsSolvedIf, IsSolvedWhen, Makes}
 use Rattle.table_laws.specs.Writes.{IsTable, set, solved_when, home_in, changed_box, new_row, new_box_of, new_goal_of, forked_row, failing_by, fails_empty, after_fork, Leads}
-use Rattle.table_laws.proofs.Stores.{IsAsTold, same_stores}
+use Rattle.table_laws.proofs.Stores.{IsAsTold, same_stores, unchanged_before}
 use Rattle.table_laws.proofs.Frame.{row_of, neither, KeepsRows, KeepsBoxes, site_around}
 use Rattle.table_laws.proofs.Onward.{GoalGoes, LeadsOn, site_same, fails_as}
 use Rattle.table_laws.proofs.Marked.{led}
@@ -277,11 +277,14 @@ module _ (rules : List Rule) (r : Run) (T U : Table) (l : Label) (d : Config) (t
   path_same : names_down_to (site_now b) ≡ names_down_to a.site
   path_same = ap (λ (k : Content). names_around a.site ++ k.name ∷ []) forked.content
 
+  as_told : (m : Name) → IsIn m (names_down_to a.site) → IsAsTold T U m
+  as_told m i = elim (IsIn-either m (names_around a.site) (a.site.content.name ∷ []) i) [
+    | inl x ↦ site_around rules r.program r.query r.journal t.config l d t.replays a T U t.unfolds keeps b m x
+    | inr x ↦ elim x [ inl e ↦ subst (IsAsTold T U) (sym e) site_row.1 | inr y ↦ absurd y ]
+  ]
+
   stores_same : stores_along U (names_down_to (site_now b)) ≡ stores_along T (names_down_to a.site)
-  stores_same = ap (stores_along U) path_same ∙ same_stores T U (names_down_to a.site) (λ m i. elim (IsIn-either m (names_around a.site) (a.site.content.name ∷ []) i) [
-    | inl x ↦ (site_around rules r.program r.query r.journal t.config l d t.replays a T U t.unfolds keeps b m x).store
-    | inr x ↦ elim x [ inl e ↦ subst (λ (k : Name). store_in (U.box_of k) ≡ store_in (T.box_of k)) (sym e) site_row.1.store | inr y ↦ absurd y ]
-  ])
+  stores_same = ap (stores_along U) path_same ∙ same_stores T U (names_down_to a.site) (λ m i. (as_told m i).store)
 
   abbrev SolvedNew : NewBox → Type 0
   SolvedNew new = IsSolvedNew U d.roots sd.once g (site_now b) op bs home_now forked.choice_held site_row.0.stands at (T.steps + 1) new
@@ -293,16 +296,20 @@ module _ (rules : List Rule) (r : Run) (T U : Table) (l : Label) (d : Config) (t
       never : (v : Bool) (k : ℕ) → solved_when None v ≡ Some k → ⊥
       never true k q = cc
       never false k q = cc
-  each_solved (Some j) e (n ∷ ns) x = (record { each = λ k q. by n.solved x.1.0 k (ap (λ (v : Option ℕ). solved_when v n.solved) e ∙ q) }, each_solved (Some j) e ns (x.0, x.1.1))
+  each_solved (Some j) e (n ∷ ns) x = (record { each = λ k q. by n.solved (λ u. (x.1 u).0) k (ap (λ (v : Option ℕ). solved_when v n.solved) e ∙ q) }, each_solved (Some j) e ns (x.0, λ u. (x.1 u).1))
     where
-      by : (v : Bool) → IsSolvedIf v T (names_down_to a.site) n.store → (k : ℕ) → solved_when (Some j) v ≡ Some k
-          → (k ≤ U.steps) × IsSolvedChain U.nodes (stores_along U (names_down_to (site_now b)) ++ n.store ∷ [])
+      by : (v : Bool) → (UnchangedSince T j (names_down_to a.site) → IsSolvedIf v T (names_down_to a.site) n.store) → (k : ℕ) → solved_when (Some j) v ≡ Some k
+          → (k ≤ U.steps) × (UnchangedSince U k (names_down_to (site_now b)) → IsSolvedChain U.nodes (stores_along U (names_down_to (site_now b)) ++ n.store ∷ []))
       by false y k q = cc
       by true y k q =
           let z : j ≡ k = some_value q in
-          let h : j ≡ T.steps = x.0 in
+          let h : j ≤ T.steps = x.0 in
           let u : U.steps ≡ T.steps + 1 = is.steps in
-          (omega arith, subst (λ (ss : List Stored). IsSolvedChain U.nodes (ss ++ n.store ∷ [])) (sym stores_same) (subst (λ (ms : List Node). IsSolvedChain ms (stores_along T (names_down_to a.site) ++ n.store ∷ [])) (sym is.nodes) y))
+          (omega arith, λ unchanged.
+            let before : UnchangedSince T j (names_down_to a.site) =
+            unchanged_before T U j (names_down_to a.site) as_told (subst (UnchangedSince U j) path_same (subst (λ (i : ℕ). UnchangedSince U i (names_down_to (site_now b))) (sym z) unchanged)) in
+            subst (λ (ss : List Stored). IsSolvedChain U.nodes (ss ++ n.store ∷ [])) (sym stores_same)
+            (subst (λ (ms : List Node). IsSolvedChain ms (stores_along T (names_down_to a.site) ++ n.store ∷ [])) (sym is.nodes) (y before)))
 
   new_box : (n : Name) (f : Found) → box_at n t.config.roots ≡ None → box_at n d.roots ≡ Some f
       → (row : BoxRow) × (U.box_of n ≡ Some row) × IsBoxRow U d.roots f row × (row.changed ≡ T.steps + 1) × (row.goals_changed ≡ T.steps + 1)

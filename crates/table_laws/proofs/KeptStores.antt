@@ -1,12 +1,12 @@
 -- The store of each box was in the table before a step, or comes with it.
-use Rattle.std.proofs.Common.{◌≡◌, ℕ, suc, ◌+◌, ◌≤◌, List, [], ◌∷◌, Bool, true, false, Option, Some, None, refl, sym, ◌∙◌, ap, subst, ◌⊎◌, inl, inr, arith}
+use Rattle.std.proofs.Common.{◌≡◌, ℕ, ◌+◌, List, [], ◌∷◌, Bool, true, false, Option, Some, None, refl, sym, ◌∙◌, ap, subst, inl, inr}
 use Rattle.std.specs.Prelude.{if◌then◌else◌, option_map}
 use Rattle.akl_terms.specs.declared.name.Name.{Name}
 use Rattle.akl_terms.specs.declared.name.Place.{Place}
 use Rattle.akl_terms.specs.Names.{same_name}
 use Rattle.akl_terms.proofs.SameNames.{same_name-equal}
 use Rattle.akl_model.specs.declared.label.Label.{Label}
-use Rattle.akl_model.specs.Config.{IsIn, Operator, or_else}
+use Rattle.akl_model.specs.Config.{Operator, or_else}
 use Rattle.akl_model.proofs.Options.{some_value}
 use Rattle.table_laws.specs.Rows.{BoxRow, GoalRow, Table}
 use Rattle.table_laws.specs.Kept.{IsNewOrWas, KeepsStores}
@@ -14,7 +14,7 @@ use Rattle.table_laws.specs.Walks.{alternatives_of}
 use Rattle.table_laws.specs.Steps.{NewBox, BoxCopy, copy_among, Step, tells, forks, fails, cuts, joins, refutes, confirms, splits}
 use Rattle.table_laws.specs.Writes as writes
 use Rattle.table_laws.specs.Writes.{IsTable, home_in, changed_box, left_row, left_by, none_left, held_without, holder_in_row, told_row, new_box_of, failing_by, fails_empty, joined_row, unset, set, failing_row, confirmed_row, copied_row, Fails, Cuts, Splits, Leads}
-use Rattle.table_laws.proofs.Sets.{not_some, set_other}
+use Rattle.table_laws.proofs.Sets.{not_some}
 
 -- what is changed of rows gives them a store with the label of a number, or keeps theirs
 abbrev GivesOrKeeps : ℕ → (BoxRow → BoxRow) → Type 0

@@ -25,7 +25,7 @@ use Rattle.step_laws.proofs.Whereabouts.{found_in, in_counted}
 use Rattle.step_laws.proofs.GoalEdits.{HasGoal}
 use Rattle.step_laws.proofs.Holders.{alternative_at, held_around}
 use Rattle.table_laws.specs.Rows.{GoalRow, Table, store_in, stores_along}
-use Rattle.table_laws.specs.Unfolds.{IsBoxRow, Spot, spot_of}
+use Rattle.table_laws.specs.Unfolds.{UnchangedSince, IsBoxRow, Spot, spot_of}
 use Rattle.table_laws.specs.Steps.{NewBox, IsNewBox, AreNewBoxes}
 use Rattle.table_laws.specs.Writes.{solved_when, new_row, new_box_of, atom_among, new_goal_of}
 use Rattle.table_laws.proofs.Atoms.{atom_names, nothing_among, atom_spots, atom_changed, atoms_failing}
@@ -135,7 +135,7 @@ module _ (U : Table) (roots : Boxes) (once : (m : Name) → times m roots ≤ 1)
     (held : held_in g home.goals ≡ Some (a_choice op alternatives)) (told : StandFor (IsTold (told_along U (names_down_to home))) (IsTold (whole home))) (at : Option ℕ) (number : ℕ) where
   -- the stores were solved when the step was made, where they say so
   pub record IsSolvedNew (new : NewBox) : Type 0 where
-    pub each : (k : ℕ) → solved_when at new.solved ≡ Some k → (k ≤ U.steps) × IsSolvedChain U.nodes (stores_along U (names_down_to home) ++ new.store ∷ [])
+    pub each : (k : ℕ) → solved_when at new.solved ≡ Some k → (k ≤ U.steps) × (UnchangedSince U k (names_down_to home) → IsSolvedChain U.nodes (stores_along U (names_down_to home) ++ new.store ∷ []))
 
   pub new_is_row : (n : Name) (f : Found) (new : NewBox) → box_at n roots ≡ Some f → n ≡ f.content.name → IsIn n (box_names alternatives) → IsNewBox U.nodes (whole home) new f.content f.goals → IsSolvedNew new
       → f.content.shown ≡ [] → U.box_of n ≡ Some (new_row g at number new) → IsBoxRow U roots f (new_row g at number new)
@@ -148,7 +148,7 @@ module _ (U : Table) (roots : Boxes) (once : (m : Name) → times m roots ≤ 1)
         (is_new.stands (told_along U (names_around f)) (subst (λ (ns : List Name). StandFor (IsTold (told_along U ns)) (IsTold (whole home))) (sym names) told)));
     stays_solved = record {
       within = λ k e. (solved.each k e).0;
-      solved = λ k e u. subst (IsSolvedChain U.nodes) (sym stores) (solved.each k e).1;
+      solved = λ k e u. subst (IsSolvedChain U.nodes) (sym stores) ((solved.each k e).1 (subst (UnchangedSince U k) names u));
     };
     goals = atom_names new.goals f.goals is_new.goals;
     failing = atoms_failing new.goals f.goals is_new.goals few;

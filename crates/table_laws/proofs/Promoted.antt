@@ -1,5 +1,5 @@
 -- The alternatives of a choice join the box: what the step makes of a table is a table of the run that goes on.
-use Rattle.std.proofs.Common.{◌≡◌, ℕ, ◌+◌, ◌<◌, List, [], ◌∷◌, ◌++◌, length, map, Bool, true, false, Option, Some, None, refl, sym, ◌∙◌, ap, subst, ◌⊎◌, inl, inr, arith, append_assoc}
+use Rattle.std.proofs.Common.{◌≡◌, ℕ, ◌+◌, ◌≤◌, ◌<◌, List, [], ◌∷◌, ◌++◌, length, map, Bool, true, false, Option, Some, None, refl, sym, ◌∙◌, ap, subst, ◌⊎◌, inl, inr, arith, append_assoc}
 use Rattle.std.specs.Prelude.{slice_index, option_map, option_and_then}
 use Rattle.akl_terms.specs.declared.name.Name.{Name}
 use Rattle.akl_terms.specs.declared.name.Place.{Place}
@@ -32,14 +32,14 @@ use Rattle.step_laws.proofs.Steps.{site_now, found}
 use Rattle.step_laws.proofs.Stays.{shape_held}
 use Rattle.table_laws.specs.Rows.{BoxRow, GoalRow, Table, store_in, stores_along, ports_in}
 use Rattle.table_laws.specs.Walks.{alternatives_in, alternatives_of}
-use Rattle.table_laws.specs.Unfolds.{FailsBy, StaysSolved, IsBoxRow, Spot, spot_in, spot_of}
+use Rattle.table_laws.specs.Unfolds.{UnchangedSince, FailsBy, StaysSolved, IsBoxRow, Spot, spot_in, spot_of}
 use Rattle.table_laws.specs.Stamped.{Run, followed_by, IsTableOf}
 use Rattle.table_laws.specs.Steps.{joins, numbered, JoinsGoal, IsSolvedWhen, Makes}
 use Rattle.table_laws.specs.Writes.{IsTable, set, unset, less_name, home_in, changed_box, atom_among, or_fails, joined_row, home_or, after_join, solved_when, Leads}
 use Rattle.table_laws.proofs.Sets.{turned, set_here, set_other, other_name, unset_here, unset_other, in_or, not_some}
 use Rattle.table_laws.proofs.Insides.{spot_held}
 use Rattle.table_laws.proofs.Along.{same_roots}
-use Rattle.table_laws.proofs.Stores.{told_along, stores_join, same_stores}
+use Rattle.table_laws.proofs.Stores.{told_along, stores_join, same_stores, unchanged_before}
 use Rattle.table_laws.proofs.Frame.{neither, row_of, KeepsRows, KeepsBoxes, around_stands, site_around}
 use Rattle.table_laws.proofs.Onward.{GoalGoes, LeadsOn, site_row, fails_as}
 use Rattle.table_laws.proofs.Marked.{led}
@@ -169,8 +169,12 @@ module _ (rules : List Rule) (r : Run) (T U : Table) (l : Label) (d : Config) (t
   is_solved o false x v e = record { within = λ k q. (let z : None ≡ Some k = sym e ∙ q in absurd cc); solved = λ k q y. (let z : None ≡ Some k = sym e ∙ q in absurd cc) }
   is_solved None true x v e = record { within = λ k q. (let z : None ≡ Some k = sym e ∙ q in absurd cc); solved = λ k q y. (let z : None ≡ Some k = sym e ∙ q in absurd cc) }
   is_solved (Some j) true x v e = record {
-    within = λ k q. let z : j ≡ k = some_value (sym e ∙ q) in let y : j ≡ T.steps = x.0 in let h : U.steps ≡ T.steps + 1 = leads.steps in omega arith;
-    solved = λ k q y. subst (λ (nodes : List Node). IsSolvedChain nodes (stores_along U (names_down_to (site_now b)))) (sym leads.nodes) (subst (IsSolvedChain T.nodes) (sym stores_here) x.1);
+    within = λ k q. let z : j ≡ k = some_value (sym e ∙ q) in let y : j ≤ T.steps = x.0 in let h : U.steps ≡ T.steps + 1 = leads.steps in omega arith;
+    solved = λ k q y.
+        let before : UnchangedSince T j (names_around a.site) =
+        unchanged_before T U j (names_around a.site) (site_around rules r.program r.query r.journal t.config l d t.replays a T U t.unfolds keeps b)
+        (subst (λ (i : ℕ). UnchangedSince U i (names_around (site_now b))) (sym (some_value (sym e ∙ q))) y) in
+        subst (λ (nodes : List Node). IsSolvedChain nodes (stores_along U (names_down_to (site_now b)))) (sym leads.nodes) (subst (IsSolvedChain T.nodes) (sym stores_here) (x.1 before));
   }
 
   not_failing : IsFailing (a_choice makes.operator makes.alternatives) → ⊥

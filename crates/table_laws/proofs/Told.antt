@@ -1,5 +1,5 @@
 -- A goal tells its box: what the step makes of a table is a table of the run that goes on.
-use Rattle.std.proofs.Common.{◌≡◌, ℕ, ◌+◌, List, [], ◌∷◌, ◌++◌, length, Bool, true, false, Option, Some, None, refl, sym, ◌∙◌, ap, subst, inr, arith, append_assoc}
+use Rattle.std.proofs.Common.{◌≡◌, ℕ, ◌+◌, ◌≤◌, List, [], ◌∷◌, ◌++◌, length, Bool, true, false, Option, Some, None, refl, sym, ◌∙◌, ap, subst, inr, arith, append_assoc}
 use Rattle.std.proofs.lemmas.List.{length-append}
 use Rattle.std.specs.Prelude.{slice_index, option_map}
 use Rattle.akl_terms.specs.declared.name.Name.{Name}
@@ -22,11 +22,11 @@ use Rattle.rational_unify.specs.Solving.{bindings_in}
 use Rattle.step_laws.proofs.Becomes.{Becomes}
 use Rattle.step_laws.proofs.Steps.{site_now, found}
 use Rattle.table_laws.specs.Rows.{BoxRow, Table, store_in, stores_along, ports_in}
-use Rattle.table_laws.specs.Unfolds.{FailsBy, StaysSolved, IsBoxRow, spot_of}
+use Rattle.table_laws.specs.Unfolds.{UnchangedSince, FailsBy, StaysSolved, IsBoxRow, spot_of}
 use Rattle.table_laws.specs.Stamped.{Run, followed_by, IsTableOf}
 use Rattle.table_laws.specs.Steps.{tells, TellsGoal, IsSolvedWhen, Makes}
 use Rattle.table_laws.specs.Writes.{IsTable, less_name, told_row, after_tell, solved_when, Leads}
-use Rattle.table_laws.proofs.Stores.{told_along, stores_join, same_stores}
+use Rattle.table_laws.proofs.Stores.{told_along, stores_join, same_stores, unchanged_before}
 use Rattle.table_laws.proofs.Frame.{KeepsRows, around_stands, site_around}
 use Rattle.table_laws.proofs.Onward.{GoalGoes, LeadsOn, site_row}
 use Rattle.table_laws.proofs.Marked.{led}
@@ -106,8 +106,12 @@ module _ (rules : List Rule) (r : Run) (T U : Table) (l : Label) (d : Config) (t
   is_solved o false x v e = record { within = λ k q. (let z : None ≡ Some k = sym e ∙ q in absurd cc); solved = λ k q y. (let z : None ≡ Some k = sym e ∙ q in absurd cc) }
   is_solved None true x v e = record { within = λ k q. (let z : None ≡ Some k = sym e ∙ q in absurd cc); solved = λ k q y. (let z : None ≡ Some k = sym e ∙ q in absurd cc) }
   is_solved (Some j) true x v e = record {
-    within = λ k q. let z : j ≡ k = some_value (sym e ∙ q) in let y : j ≡ T.steps = x.0 in let h : U.steps ≡ T.steps + 1 = leads.steps in omega arith;
-    solved = λ k q y. subst (λ (nodes : List Node). IsSolvedChain nodes (stores_along U (names_down_to (site_now b)))) (sym leads.nodes) (subst (IsSolvedChain T.nodes) (sym stores_here) x.1);
+    within = λ k q. let z : j ≡ k = some_value (sym e ∙ q) in let y : j ≤ T.steps = x.0 in let h : U.steps ≡ T.steps + 1 = leads.steps in omega arith;
+    solved = λ k q y.
+        let before : UnchangedSince T j (names_around a.site) =
+        unchanged_before T U j (names_around a.site) (site_around rules r.program r.query r.journal t.config l d t.replays a T U t.unfolds keeps b)
+        (subst (λ (i : ℕ). UnchangedSince U i (names_around (site_now b))) (sym (some_value (sym e ∙ q))) y) in
+        subst (λ (nodes : List Node). IsSolvedChain nodes (stores_along U (names_down_to (site_now b)))) (sym leads.nodes) (subst (IsSolvedChain T.nodes) (sym stores_here) (x.1 before));
   }
 
   site : IsBoxRow U d.roots (site_now b) (its_box old.0)

@@ -26,7 +26,7 @@ use Rattle.local_store.specs.Stored.{Stored}
 use Rattle.local_store.specs.Chained.{IsSolvedChain}
 use Rattle.plan_laws.specs.Right.{Reads}
 use Rattle.table_laws.specs.Rows.{Table, stores_along, ports_in}
-use Rattle.table_laws.specs.Unfolds.{AreBoth}
+use Rattle.table_laws.specs.Unfolds.{UnchangedSince, AreBoth}
 
 -- a new box: its store, and whether this was solved over the stores around it; its goals, which are atoms; and its body
 pub record NewBox : Type 0 where
@@ -239,7 +239,18 @@ IsSolvedIn T f confirms = ⊤
 IsSolvedIn T f (splits copy copies) = (k : BoxCopy) (stores : List Stored) → copy_among copies k.name ≡ Some k → AreAround copies k.holder stores
     → k.solved ≡ true → IsSolvedChain T.nodes (stores_along T (names_around f) ++ (stores ++ k.store ∷ []))
 
--- as many labels were made when the step was planned, in the very table; or nothing is known of that
+-- the boxes around the stores that a step makes
+abbrev pub around_made : Found → Step → List Name
+around_made f (forks op news) = names_down_to f
+around_made f step = names_around f
+
+-- so many labels were made when the step was planned, and its stores are solved where no store around them was changed since; copies of a split,
+-- which stand in one another, are solved in the very table
+abbrev pub IsSolvedSince : ℕ → Table → Found → Step → Type 0
+IsSolvedSince k T f (splits copy copies) = (k ≡ T.steps) × IsSolvedIn T f (splits copy copies)
+IsSolvedSince k T f step = (k ≤ T.steps) × (UnchangedSince T k (around_made f step) → IsSolvedIn T f step)
+
+-- the same, or nothing is known of that
 abbrev pub IsSolvedWhen : Option ℕ → Table → Found → Step → Type 0
 IsSolvedWhen None T f step = ⊤
-IsSolvedWhen (Some k) T f step = (k ≡ T.steps) × IsSolvedIn T f step
+IsSolvedWhen (Some k) T f step = IsSolvedSince k T f step
