@@ -9,6 +9,7 @@ use Rattle.akl_model.specs.declared.label.Rule.{Rule}
 use Rattle.akl_model.specs.declared.label.Label.{Label}
 use Rattle.akl_model.specs.declared.label.Receipt.{Receipt}
 use Rattle.akl_model.specs.Config.{Config, site_of}
+use Rattle.akl_model.specs.Changes.{by_store, ChangedAt, IsLastChange}
 use Rattle.akl_model.specs.Instances.{start}
 use Rattle.akl_model.specs.Derivations.{Applies, IsReady}
 use Rattle.akl_model.proofs.Results.{Derives-one}
@@ -22,7 +23,6 @@ use Rattle.guard_plan.specs.Planned.{IsPlanOf}
 use Rattle.idle_places.specs.Idling.{IdleValue}
 use Rattle.place_steps.specs.Seen.{IsSight}
 use Rattle.step_commit.specs.Cores.{CoreValue, MayCommit, IsStale, Commits}
-use Rattle.step_commit.proofs.LastChanges.{last_within}
 use Rattle.scheduler.specs.Settled.{MaySettle, IsSeenEnough}
 use Rattle.scheduler.specs.Schedulers.{SchedulerValue}
 use Rattle.seq_engine.specs.Runs.{IsPlanNow, IsSpent, Follows}
@@ -54,7 +54,7 @@ may_commit c p x = record {
   further = [];
   front = sym x.journal ∙ sym (append-nil p.journal);
   none_by = tt;
-  same_stores = λ n row e old. ap store_in (ap (λ (t : TableValue). (table_of t).box_of n) x.table ∙ e);
+  same_stores = λ n row e old. ap (λ (t : TableValue). store_in ((table_of t).box_of n)) x.table ∙ ap store_in e;
 }
 
 -- and what was found idle may be settled
@@ -72,6 +72,16 @@ seen_enough s i x outside n e = record {
   at_rest = x.at_rest n e;
   no_reason = λ t f is. x.no_reason outside t f (subst (λ (p : Place). site_of p t.config.roots ≡ Some f) (sym e) is);
 }
+
+last_within : (rules : List Rule) (p : Program) (q : Query) (journal : List Label) (i : Item) (k : ℕ) → IsLastChange by_store rules p q journal i k → k ≤ length journal
+last_within rules p q journal i k x = on x.changed
+  where
+    on : (k ≡ 0) ⊎ ChangedAt by_store rules p q journal i k → k ≤ length journal
+    on (inl z) = omega (arith, z)
+    on (inr w) =
+        let e : length journal ≡ length w.earlier + length (w.label ∷ w.later) = ap length w.is_journal ∙ length-append w.earlier (w.label ∷ w.later) in
+        let n : k ≡ length w.earlier + 1 = w.is_number in
+        omega (arith, e, n)
 
 -- nothing that was read of the whole journal is stale
 pub not_stale : (c : CoreValue) (seen : List Label) (reads : List Item) (i : Item) (o : Option ℕ) → seen ≡ c.journal → IsStale c seen reads i o → ⊥

@@ -25,10 +25,12 @@ use Rattle.plan_laws.specs.Stamps as stamps
 use Rattle.plan_laws.proofs.Right.{reads_map}
 use Rattle.plan_laws.proofs.StampLaws.{stamped_right}
 use Rattle.table_laws.specs.Rows.{BoxRow, GoalRow, Table, store_in, stores_along}
+use Rattle.table_laws.specs.Unfolds.{UnchangedSince}
 use Rattle.table_laws.specs.Kept.{SharesStores}
 use Rattle.table_laws.specs.Stamped.{Run, LastChange, IsStamped, IsTableOf, store_stamp, goals_stamp, goal_stamp, stamp_in}
-use Rattle.table_laws.specs.Steps.{NewBox, Step, tells, forks, fails, cuts, joins, refutes, confirms, splits, Makes, ReadsFor, IsSolvedIf, AreSolvedIf, IsSolvedIn, IsSolvedWhen}
+use Rattle.table_laws.specs.Steps.{NewBox, Step, tells, forks, fails, cuts, joins, refutes, confirms, splits, Makes, ReadsFor, IsSolvedIf, AreSolvedIf, IsSolvedIn, IsSolvedSince, IsSolvedWhen}
 use Rattle.table_laws.specs.Writes.{IsTable}
+use Rattle.table_laws.proofs.Stores.{unchanged_at}
 use Rattle.table_laws.proofs.Later.{later_law}
 use Rattle.table_laws.specs.Laws.{started}
 use Rattle.table_laws.proofs.Started.{start_law}
@@ -36,8 +38,7 @@ use Rattle.box_tree.specs.Tables.{all_rules, TableValue, table_of, step_of}
 use Rattle.box_tree.specs.Plans.{PlanValue, IsRead, IsRight}
 use Rattle.box_tree.proofs.Seen.{path_there}
 use Rattle.step_commit.specs.Cores.{CoreValue, IsCore, MayCommit, is_within, AllWithin}
-use Rattle.step_commit.specs.Solving.{is_fork}
-use Rattle.step_commit.proofs.LastChanges.{last_within}
+use Rattle.step_commit.specs.Solving.{solved_at}
 
 pub some_of : {A : Type 0} {a b : A} → Some a ≡ Some b → a ≡ b
 some_of e = cc
@@ -120,11 +121,6 @@ module _ (p : Program) (q : Query) (journal further : List Label) (S T : Table) 
 
 module _ (p : Program) (q : Query) (journal further : List Label) (S T : Table) (l : Label) (reads : List Item) (names : ℕ) (step : Step) (x : IsPlanned p q journal S l reads names step)
     (t : IsTableOf all_rules (record { program = p; query = q; journal = journal ++ further }) T) (none : NoneBy l further) (within : AllWithin T reads (length journal)) where
-  -- this is the number of labels, and the plan has seen all of them, or its step is no fork
-  abbrev pub IsSolvedOver : Option ℕ → Type 0
-  IsSolvedOver None = ⊤
-  IsSolvedOver (Some k) = (k ≡ length (journal ++ further)) × ((length journal ≡ length (journal ++ further)) ⊎ (is_fork step ≡ false))
-
   unseen : (o : Option ℕ) (i : Item) → stamp_in T i ≡ o → is_within o (length journal) ≡ true → stamps.IsStamped all_rules p q (journal ++ further) (length journal) i
   unseen None i e w = absurd cc
   unseen (Some k) i e w = record { number = k; last = stamp_last all_rules (record { program = p; query = q; journal = journal ++ further }) T t.stamped i k e; early = within_is k w }
@@ -142,108 +138,99 @@ module _ (p : Program) (q : Query) (journal further : List Label) (S T : Table) 
       (reads_for (IsRead reads) (stamps.IsStamped all_rules p q (journal ++ further) (length journal)) stamped l x.applies.site step x.reads_all) x.makes in
       record { result = w.0; applies = w.1; makes = w.2; drawn = x.drawn ∙ sym w.4 }
 
-  -- the same boxes are around the place
-  same_around : (w : LeadsOn p q (journal ++ further) T t l names step) → names_around x.applies.site ≡ names_around w.applies.site
-  same_around w =
-      let right : IsRightOn x.applies t.config = stamped_right all_rules p q journal further x.table.config t.config l x.result x.applies x.table.replays (goes p q journal further S T x.table t) none
-      (label_reads (stamps.IsStamped all_rules p q (journal ++ further) (length journal)) l x.applies.site step
-      (reads_for (IsRead reads) (stamps.IsStamped all_rules p q (journal ++ further) (length journal)) stamped l x.applies.site step x.reads_all)) in
-      right.same_around ∙ ap names_around (some_of (sym right.applies.is_site ∙ w.applies.is_site))
+  module _ (w : LeadsOn p q (journal ++ further) T t l names step) where
+    right : IsRightOn x.applies t.config
+    right = stamped_right all_rules p q journal further x.table.config t.config l x.result x.applies x.table.replays (goes p q journal further S T x.table t) none
+        (label_reads (stamps.IsStamped all_rules p q (journal ++ further) (length journal)) l x.applies.site step
+        (reads_for (IsRead reads) (stamps.IsStamped all_rules p q (journal ++ further) (length journal)) stamped l x.applies.site step x.reads_all))
 
-  -- no label behind the front changed the store
-  abbrev IsOld : Name → Type 0
-  IsOld m = is_within (stamp_in T (Item.Store m)) (length journal) ≡ true
+    its_site : right.applies.site ≡ w.applies.site
+    its_site = some_of (sym right.applies.is_site ∙ w.applies.is_site)
 
-  module _ (shares : SharesStores S T (length journal)) (w : LeadsOn p q (journal ++ further) T t l names step) where
-    same_store : (m : Name) → IsOld m → store_in (S.box_of m) ≡ store_in (T.box_of m)
-    same_store m old = on (T.box_of m) refl
-      where
-        within_is : (k : ℕ) → nat_le k (length journal) ≡ true → k ≤ length journal
-        within_is k e = grind (arith, nat_tests)
+    -- the same boxes are around the place
+    same_around : names_around x.applies.site ≡ names_around w.applies.site
+    same_around = right.same_around ∙ ap names_around its_site
 
-        on : (o : Option BoxRow) → T.box_of m ≡ o → store_in (S.box_of m) ≡ store_in o
-        on None e = let z : false ≡ true = subst (λ (o : Option BoxRow). is_within (store_stamp o) (length journal) ≡ true) e old in absurd cc
-        on (Some row) e = shares m row e (within_is row.changed (subst (λ (o : Option BoxRow). is_within (store_stamp o) (length journal) ≡ true) e old))
+    same_down : names_down_to x.applies.site ≡ names_down_to w.applies.site
+    same_down = (λ i. same_around i ++ (right.same_site ∙ ap (λ (f : Found). f.content.name) its_site) i ∷ [])
 
-    same_along : (ms : List Name) → ((m : Name) → IsIn m ms → IsOld m) → stores_along S ms ≡ stores_along T ms
-    same_along [] h = refl
-    same_along (m ∷ ms) h = ap (λ (s : Stored). s ∷ stores_along S ms) (same_store m (h m (inl refl))) ∙ ap (λ (ss : List Stored). store_in (T.box_of m) ∷ ss) (same_along ms (λ k i. h k (inr i)))
+    -- a box is there, and no label behind the front changed its store
+    abbrev IsOld : Name → Type 0
+    IsOld m = (row : BoxRow) × (T.box_of m ≡ Some row) × (row.changed ≤ length journal)
 
-    -- so what was solved over such stores still is
-    still_solved : (before now : List Name) (more : List Stored) → before ≡ now → ((m : Name) → IsIn m before → IsOld m)
-        → IsSolvedChain S.nodes (stores_along S before ++ more) → IsSolvedChain T.nodes (stores_along T now ++ more)
-    still_solved before now more same old h =
-        subst (λ (ns : List Name). IsSolvedChain T.nodes (stores_along T ns ++ more)) same
-        (subst (λ (nodes : List Node). IsSolvedChain nodes (stores_along T before ++ more)) (x.table.nodes ∙ sym t.nodes)
-        (subst (λ (ss : List Stored). IsSolvedChain S.nodes (ss ++ more)) (same_along before old) h))
+    AreOld : List Name → Type 0
+    AreOld ms = (m : Name) → IsIn m ms → IsOld m
 
-    solved_over : (b : Bool) (before now : List Name) (new : Stored) → before ≡ now → ((m : Name) → IsIn m before → IsOld m) → IsSolvedIf b S before new → IsSolvedIf b T now new
-    solved_over false before now new same old h = tt
-    solved_over true before now new same old h = still_solved before now (new ∷ []) same old h
+    module _ (shares : SharesStores S T (length journal)) where
+      same_along : (ms : List Name) → AreOld ms → stores_along S ms ≡ stores_along T ms
+      same_along [] h = refl
+      same_along (m ∷ ms) h =
+          let old : IsOld m = h m (inl refl) in
+          ap (λ (s : Stored). s ∷ stores_along S ms) (shares m old.0 old.1 old.2 ∙ ap store_in (sym old.1)) ∙ ap (λ (ss : List Stored). store_in (T.box_of m) ∷ ss) (same_along ms (λ k i. h k (inr i)))
 
-    -- what a label of these parts reads
-    reads_as : (rule : Rule) (place : Place) → l.rule ≡ rule → l.place ≡ place → Reads (IsRead reads) l.rule l.place l.alternative x.applies.site → Reads (IsRead reads) rule place l.alternative x.applies.site
-    reads_as rule place r k h =
-        subst (λ (y : Place). Reads (IsRead reads) rule y l.alternative x.applies.site) k (subst (λ (y : Rule). Reads (IsRead reads) y l.place l.alternative x.applies.site) r h)
+      -- so what was solved over such stores still is
+      still_solved : (before now : List Name) (more : List Stored) → before ≡ now → AreOld now → IsSolvedChain S.nodes (stores_along S before ++ more) → IsSolvedChain T.nodes (stores_along T now ++ more)
+      still_solved before now more same old h =
+          subst (λ (nodes : List Node). IsSolvedChain nodes (stores_along T now ++ more)) (x.table.nodes ∙ sym t.nodes)
+          (subst (λ (ss : List Stored). IsSolvedChain S.nodes (ss ++ more)) (ap (stores_along S) same ∙ same_along now old) h)
 
-    ReadsStores : Type 0
-    ReadsStores = (m : Name) → IsIn m (names_around x.applies.site) → IsOld m
+      solved_over : (b : Bool) (before now : List Name) (new : Stored) → before ≡ now → AreOld now → IsSolvedIf b S before new → IsSolvedIf b T now new
+      solved_over false before now new same old h = tt
+      solved_over true before now new same old h = still_solved before now (new ∷ []) same old h
 
-    around_of : ((m : Name) → IsIn m (names_down_to x.applies.site) → IsRead reads (Item.Store m)) → ReadsStores
-    around_of h m i = within (Item.Store m) (h m (IsIn-left m (names_around x.applies.site) (x.applies.site.content.name ∷ []) i))
+      all_over : (news : List NewBox) (before now : List Name) → before ≡ now → AreOld now → AreSolvedIf S before news → AreSolvedIf T now news
+      all_over [] before now same old h = tt
+      all_over (n ∷ ns) before now same old h = (solved_over n.solved before now n.store same old h.0, all_over ns before now same old h.1)
 
-    joins_read : (g : Name) → l.place ≡ Place.Goal g → (l.rule ≡ Rule.Promote) ⊎ (l.rule ≡ Rule.Collect) → Reads (IsRead reads) l.rule l.place l.alternative x.applies.site → ReadsStores
-    joins_read g k (inl r) h = around_of (reads_as Rule.Promote (Place.Goal g) r k h).1
-    joins_read g k (inr r) h = around_of (reads_as Rule.Collect (Place.Goal g) r k h).1
-
-    -- where the plan has seen all labels, none behind it changed a store
-    module _ (whole : length journal ≡ length (journal ++ further)) where
-      none_left : (ls : List Label) → length journal ≡ length (journal ++ ls) → ls ≡ []
-      none_left [] i = refl
-      none_left (k ∷ ks) i = let j : length (journal ++ k ∷ ks) ≡ length journal + length (k ∷ ks) = length-append journal (k ∷ ks) in absurd (omega (arith, i, j))
-
-      config : x.table.config ≡ t.config
-      config = Derives-one all_rules p x.table.config x.table.config t.config [] refl (subst (λ (ls : List Label). Derives all_rules p x.table.config ls t.config) (none_left further whole) (goes p q journal further S T x.table t))
-
-      same_site : x.applies.site ≡ w.applies.site
-      same_site = some_of (sym x.applies.is_site ∙ ap (λ (c : Config). site_of l.place c.roots) config ∙ w.applies.is_site)
-
-      all_old : (m : Name) → IsIn m (names_down_to x.applies.site) → IsOld m
-      all_old m i =
+      -- boxes down to the place are there, so they are old where none of them was changed
+      unchanged_old : (ms : List Name) → ((m : Name) → IsIn m ms → IsIn m (names_down_to w.applies.site)) → UnchangedSince T (length journal) ms → AreOld ms
+      unchanged_old ms down u m i =
           let stand : Stand t.config = replay-stands all_rules p q (journal ++ further) t.config t.replays in
           let row : (r : BoxRow) × (T.box_of m ≡ Some r) =
-          path_there T t.config t.unfolds stand.once w.applies.site.content.name w.applies.site (site-box l.place t.config.roots w.applies.site stand.once w.applies.is_site) m
-          (subst (λ (f : Found). IsIn m (names_down_to f)) same_site i) in
-          let last : row.0.changed ≤ length (journal ++ further) = last_within all_rules p q (journal ++ further) (Item.Store m) row.0.changed (t.stamped.store m row.0 row.1) in
-          subst (λ (o : Option BoxRow). is_within (store_stamp o) (length journal) ≡ true) (sym row.1) (is_at_most row.0.changed (length journal) (subst (λ (k : ℕ). row.0.changed ≤ k) (sym whole) last))
+          path_there T t.config t.unfolds stand.once w.applies.site.content.name w.applies.site (site-box l.place t.config.roots w.applies.site stand.once w.applies.is_site) m (down m i) in
+          (row.0, row.1, unchanged_at T (length journal) ms m row.0 u i row.1)
+
+      around_old : UnchangedSince T (length journal) (names_around w.applies.site) → AreOld (names_around w.applies.site)
+      around_old = unchanged_old (names_around w.applies.site) (λ m i. IsIn-left m (names_around w.applies.site) (w.applies.site.content.name ∷ []) i)
+
+      -- and so are boxes whose stores were read
+      read_old : (m : Name) → IsRead reads (Item.Store m) → IsOld m
+      read_old m r = on (T.box_of m) refl (within (Item.Store m) r)
         where
-          is_at_most : (k n : ℕ) → k ≤ n → nat_le k n ≡ true
-          is_at_most k n h = grind (arith, nat_tests)
+          at_most : (k : ℕ) → nat_le k (length journal) ≡ true → k ≤ length journal
+          at_most k e = grind (arith, nat_tests)
 
-      all_over : (news : List NewBox) → AreSolvedIf S (names_down_to x.applies.site) news → AreSolvedIf T (names_down_to w.applies.site) news
-      all_over [] h = tt
-      all_over (n ∷ ns) h = (solved_over n.solved (names_down_to x.applies.site) (names_down_to w.applies.site) n.store (ap names_down_to same_site) all_old h.0, all_over ns h.1)
+          on : (o : Option BoxRow) → T.box_of m ≡ o → is_within (store_stamp o) (length journal) ≡ true → IsOld m
+          on None e h = absurd (let z : false ≡ true = h in cc)
+          on (Some row) e h = (row, e, at_most row.changed h)
 
-    -- a step that is no fork reads the stores around what it makes
-    solved_still : (made : Step) → (length journal ≡ length (journal ++ further)) ⊎ (is_fork made ≡ false) → Makes p l (slice_index x.table.config.next l.worker) x.applies.site made
-        → ReadsFor (IsRead reads) l x.applies.site made → IsSolvedIn S x.applies.site made → IsSolvedIn T w.applies.site made
-    solved_still (tells new solved) e m r h = solved_over solved (names_around x.applies.site) (names_around w.applies.site) new (same_around w) (around_of r.1) h
-    solved_still (forks op news) (inl e) m r h = all_over e news h
-    solved_still (forks op news) (inr e) m r h = absurd (let z : true ≡ false = e in cc)
-    solved_still fails e m r h = tt
-    solved_still cuts e m r h = tt
-    solved_still (joins new solved goals) e m r h =
-        solved_over solved (names_around x.applies.site) (names_around w.applies.site) new (same_around w) (joins_read m.0 m.1 (elim m.2.origin [ inl o ↦ inl o.rule | inr o ↦ inr o.rule ]) r) h
-    solved_still refutes e m r h = tt
-    solved_still confirms e m r h = tt
-    solved_still (splits copy copies) e m r h = λ k stores is inside solved.
-        still_solved (names_around x.applies.site) (names_around w.applies.site) (stores ++ k.store ∷ []) (same_around w)
-        (λ b i. within (Item.Store b) ((reads_as Rule.Split (Place.Box m.1.0) m.0 m.1.2 r).1 b i)) (h k stores is inside solved)
+      split_read : (n : Name) → l.rule ≡ Rule.Split → l.place ≡ Place.Box n → Reads (IsRead reads) l.rule l.place l.alternative x.applies.site → AreOld (names_around w.applies.site)
+      split_read n r k h m i =
+          let read : Reads (IsRead reads) Rule.Split (Place.Box n) l.alternative x.applies.site =
+          subst (λ (y : Place). Reads (IsRead reads) Rule.Split y l.alternative x.applies.site) k (subst (λ (y : Rule). Reads (IsRead reads) y l.place l.alternative x.applies.site) r h) in
+          read_old m (read.1 m (subst (IsIn m) (sym same_around) i))
 
-  -- where the plan has seen the whole run, or read the stores around what it makes, its stores are solved there
-  pub solved_now : (shares : SharesStores S T (length journal)) (w : LeadsOn p q (journal ++ further) T t l names step) (at : Option ℕ) → IsSolvedOver at → IsSolvedWhen at T w.applies.site step
-  solved_now shares w None h = tt
-  solved_now shares w (Some k) (n, e) = (n ∙ sym t.stamped.steps, solved_still shares w step e x.makes x.reads_all x.solved)
+      before_now : length journal ≤ T.steps
+      before_now =
+          let e : T.steps ≡ length (journal ++ further) = t.stamped.steps in
+          let h : length (journal ++ further) ≡ length journal + length further = length-append journal further in
+          omega (arith, e, h)
+
+      since : (made : Step) → Makes p l (slice_index x.table.config.next l.worker) x.applies.site made → ReadsFor (IsRead reads) l x.applies.site made
+          → IsSolvedIn S x.applies.site made → IsSolvedSince (solved_at (length (journal ++ further)) (length journal) made) T w.applies.site made
+      since (tells new solved) m r h = (before_now, λ u. solved_over solved (names_around x.applies.site) (names_around w.applies.site) new same_around (around_old u) h)
+      since (forks op news) m r h = (before_now, λ u. all_over news (names_down_to x.applies.site) (names_down_to w.applies.site) same_down (unchanged_old (names_down_to w.applies.site) (λ k i. i) u) h)
+      since fails m r h = (before_now, λ u. tt)
+      since cuts m r h = (before_now, λ u. tt)
+      since (joins new solved goals) m r h = (before_now, λ u. solved_over solved (names_around x.applies.site) (names_around w.applies.site) new same_around (around_old u) h)
+      since refutes m r h = (before_now, λ u. tt)
+      since confirms m r h = (before_now, λ u. tt)
+      since (splits copy copies) m r h = (sym t.stamped.steps, λ k stores is inside solved.
+        still_solved (names_around x.applies.site) (names_around w.applies.site) (stores ++ k.store ∷ []) same_around (split_read m.1.0 m.0 m.1.2 r) (h k stores is inside solved))
+
+  -- where the tables share the stores that no label changed since, the step's stores are solved as of the labels that the plan had seen
+  pub solved_now : SharesStores S T (length journal) → (w : LeadsOn p q (journal ++ further) T t l names step) → IsSolvedWhen (Some (solved_at (length (journal ++ further)) (length journal) step)) T w.applies.site step
+  solved_now shares w = since w shares step x.makes x.reads_all x.solved
 
 -- a core of a table that was started
 pub new_core : (t : TableValue) (p : Program) (q : Query) (workers budget : ℕ) (journal : List Label) → t.program ≡ p → t.query ≡ q → IsTable (table_of t) (started p q) → journal ≡ []

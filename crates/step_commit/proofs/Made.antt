@@ -26,8 +26,8 @@ use Rattle.box_tree.specs.Tables.{all_rules, TableValue, table_of, step_of, Fits
 use Rattle.box_tree.specs.Views.{run_of}
 use Rattle.box_tree.specs.Plans.{PlanValue, IsRight}
 use Rattle.step_commit.specs.Cores.{CoreValue, IsCore, MayCommit, IsFresh, IsStale, Commits, AllWithin, IsFirstStale, IsFirstUnseen, solved_in}
-use Rattle.step_commit.specs.Solving.{is_fork}
-use Rattle.step_commit.proofs.Committed.{IsPlanned, planned, LeadsOn, leads_on, IsSolvedOver, solved_now}
+use Rattle.step_commit.specs.Solving.{solved_at}
+use Rattle.step_commit.proofs.Committed.{IsPlanned, planned, LeadsOn, leads_on, solved_now}
 use Rattle.step_commit.proofs.Stale.{looked, unchanged_here, stale, all_within}
 use Rattle.step_commit.proofs.InOrder.{makes_ordered}
 
@@ -82,26 +82,14 @@ module _ (c : CoreValue) (k : IsCore c) (p : PlanValue) (r : IsRight p) (m : May
     ordered = makes_ordered all_rules (run_of c.table (p.journal ++ m.further)) (table_of c.table) p.label on.result t on.applies step on.makes;
   }
 
-  solved : (at : Option ℕ) → at ≡ solved_in c p → IsSolvedWhen at (table_of c.table) on.applies.site step
-  solved at h = solved_now c.table.program c.table.query p.journal m.further (table_of p.table) (table_of c.table) p.label p.reads p.names step x t m.none_by within
-      m.same_stores on at
-      (subst (IsSolvedOver c.table.program c.table.query p.journal m.further (table_of p.table) (table_of c.table) p.label p.reads p.names step x t m.none_by within) (sym h) (over (length p.journal == length c.journal) refl (is_fork step) refl))
-    where
-      so : Option ℕ → Type 0
-      so = IsSolvedOver c.table.program c.table.query p.journal m.further (table_of p.table) (table_of c.table) p.label p.reads p.names step x t m.none_by within
+  solved : IsSolvedWhen (Some (solved_in c p)) (table_of c.table) on.applies.site step
+  solved = subst (λ (n : ℕ). IsSolvedWhen (Some (solved_at n (length p.journal) step)) (table_of c.table) on.applies.site step) (ap length (sym m.front))
+      (solved_now c.table.program c.table.query p.journal m.further (table_of p.table) (table_of c.table) p.label p.reads p.names step x t m.none_by within m.same_stores on)
 
-      same : length c.journal ≡ length (p.journal ++ m.further)
-      same = ap length m.front
-
-      over : (a : Bool) → (length p.journal == length c.journal) ≡ a → (b : Bool) → is_fork step ≡ b → so (if a || not b then Some (length c.journal) else None)
-      over true e b f = (same, inl (eqb-true (length p.journal) (length c.journal) e ∙ same))
-      over false e false f = (same, inr f)
-      over false e true f = tt
-
-  module _ (at : Option ℕ) (u : TableValue) (h : at ≡ solved_in c p) (a : Applied c.table p.label at p.names p.step u) where
+  module _ (u : TableValue) (a : Applied c.table p.label (Some (solved_in c p)) p.names p.step u) where
     next : IsTableOf all_rules (run_of c.table ((p.journal ++ m.further) ++ p.label ∷ [])) (table_of u)
-    next = (step_law all_rules (run_of c.table (p.journal ++ m.further)) (table_of c.table) (table_of u) p.label on.result t on.applies step at on.makes (solved at h)
-        (subst (λ (n : ℕ). Leads (table_of c.table) p.label at n step (table_of u)) on.drawn a.leads)).0
+    next = (step_law all_rules (run_of c.table (p.journal ++ m.further)) (table_of c.table) (table_of u) p.label on.result t on.applies step (Some (solved_in c p)) on.makes solved
+        (subst (λ (n : ℕ). Leads (table_of c.table) p.label (Some (solved_in c p)) n step (table_of u)) on.drawn a.leads)).0
 
     pub core_on : (journal : List Label) → journal ≡ c.journal ++ p.label ∷ [] → length c.journal < c.budget → IsCore (record { table = u; journal = journal; workers = c.workers; budget = c.budget })
     core_on journal e less = subst (λ (j : List Label). IsCore (record { table = u; journal = j; workers = c.workers; budget = c.budget })) (sym (e ∙ ap (λ (j : List Label). j ++ p.label ∷ []) m.front)) (record {
@@ -118,7 +106,7 @@ module _ (c : CoreValue) (k : IsCore c) (p : PlanValue) (r : IsRight p) (m : May
     commits journal receipt e f less = record {
       fixed = record { program = a.program; query = a.query; workers = refl; budget = refl };
       journal = e;
-      made = subst (λ (o : Option ℕ). Applied c.table p.label o p.names p.step u) h a;
+      made = a;
       receipt = f;
       fresh = record { unspent = less; unchanged = λ i j. unchanged_here c k p.table p.journal p.reads (looked c p r m) i (within i j) };
     }
@@ -141,6 +129,7 @@ found_as T xs ys m n o q f g e h = subst (λ (k : ℕ). IsFirstStale T ys k q) g
 pub may_apply_as : (t u : TableValue) (l k : Label) (a b : Step) → t ≡ u → l ≡ k → a ≡ b → MayApply t l a → MayApply u k b
 may_apply_as t u l k a b e f g h = subst (λ (x : Step). MayApply u k x) g (subst (λ (x : Label). MayApply u x a) f (subst (λ (x : TableValue). MayApply x l a) e h))
 
-pub applied_as : (t s : TableValue) (l k : Label) (at : Option ℕ) (m n : ℕ) (a b : Step) (u : TableValue) → t ≡ s → l ≡ k → m ≡ n → a ≡ b → Applied t l at m a u → Applied s k at n b u
-applied_as t s l k at m n a b u e f g i h =
-    subst (λ (x : Step). Applied s k at n x u) i (subst (λ (x : ℕ). Applied s k at x a u) g (subst (λ (x : Label). Applied s x at m a u) f (subst (λ (x : TableValue). Applied x l at m a u) e h)))
+pub applied_as : (t s : TableValue) (l k : Label) (at by m n : ℕ) (a b : Step) (u : TableValue) → t ≡ s → l ≡ k → at ≡ by → m ≡ n → a ≡ b → Applied t l (Some at) m a u → Applied s k (Some by) n b u
+applied_as t s l k at by m n a b u e f o g i h =
+    subst (λ (x : Step). Applied s k (Some by) n x u) i (subst (λ (x : ℕ). Applied s k (Some by) x a u) g (subst (λ (x : ℕ). Applied s k (Some x) m a u) o
+    (subst (λ (x : Label). Applied s x (Some at) m a u) f (subst (λ (x : TableValue). Applied x l (Some at) m a u) e h))))

@@ -69,15 +69,15 @@ pub record IsFresh (c : CoreValue) (p : PlanValue) : Type 0 where
   pub unspent : length c.journal < c.budget
   pub unchanged : (i : Item) → IsRead p.reads i → IsUnchanged c p.journal i
 
--- the number of labels at which the stores of a plan's step are solved, if they are
-abbrev pub solved_in : CoreValue → PlanValue → Option ℕ
+-- after how many labels the stores of a plan's step were solved
+abbrev pub solved_in : CoreValue → PlanValue → ℕ
 solved_in c p = solved_at (length c.journal) (length p.journal) (step_of c.table.program.templates.nodes p.step)
 
 -- the plan's label is the next one of the journal, and its step made the table
 pub record Commits (c : CoreValue) (p : PlanValue) (d : CoreValue) (r : Receipt) : Type 0 where
   pub fixed : KeepsFixed c d
   pub journal : d.journal ≡ c.journal ++ p.label ∷ []
-  pub made : Applied c.table p.label (solved_in c p) p.names p.step d.table
+  pub made : Applied c.table p.label (Some (solved_in c p)) p.names p.step d.table
   pub receipt : r ≡ record { at = length c.journal + 1; seen = length p.journal; label = p.label }
   pub fresh : IsFresh c p
 

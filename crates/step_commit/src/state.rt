@@ -1,15 +1,13 @@
 //! The state of a run.
 
-ghost use Rattle.std.specs.Prelude.{◌≡◌, List, IfOk, IfErr, IfSome, IfNone, Some, [], length, true};
-ghost use Rattle.box_tree.specs.Tables.{table_of, step_of, goals_in, is_empty, shown_in, shown_trees_of, HasVariables, HasShownVariables};
+ghost use Rattle.std.specs.Prelude.{◌≡◌, IfOk, IfErr, IfSome, IfNone, Some, [], length, true};
+ghost use Rattle.box_tree.specs.Tables.{table_of, goals_in, is_empty, shown_in, shown_trees_of, HasVariables, HasShownVariables};
 ghost use Rattle.box_tree.specs.Views.{is_there, IsUnseen, all_places};
 ghost use Rattle.box_tree.specs.Paths.{known_in, alternatives_seen};
 ghost use Rattle.box_tree.specs.Insides.{IsInsideOf};
 ghost use Rattle.akl_terms.specs.declared.name.Place.{Place};
-ghost use Rattle.akl_terms.specs.declared.term.Node.{Node};
 ghost use Rattle.step_commit.specs.Cores.{IsCore, MayCommit, IsFresh, Commits, IsRefused, IsFirstStale, is_within, solved_in};
 ghost use Rattle.step_commit.specs.declared.commit.CommitError.TheVariants as variants;
-ghost use Rattle.step_commit.specs.Solving.{is_fork};
 
 use crate::commit::CommitError;
 use akl_model::{Item, Label, Receipt};
@@ -166,16 +164,20 @@ impl Core {
         Some(CommitError::Stale { item, stamp })
     }
 
-    // How many labels there are, where what a plan's stores were found to be solved over is in the table still. A step that
-    // is no fork reads the stores around what it makes; a fork reads its goal alone, so its plan must have seen all labels.
-    fn solved_at(&self, plan: &Plan) -> Option<u64>
+    // After how many labels the stores of a plan's step were solved: those that it had seen. The copies of a split stand in one
+    // another, and nothing around them has changed since, so they are solved after all labels.
+    fn solved_at(&self, plan: &Plan) -> u64
         ensures { result ≡ solved_in self.now plan.now }
     {
-        let count = self.journal.len() as u64;
-        if plan.seen() == count || !is_fork(plan.step()) {
-            Some(count)
-        } else {
-            None
+        match plan.step() {
+            Step::Split { .. } => self.journal.len() as u64,
+            Step::Tell { .. }
+            | Step::Fork { .. }
+            | Step::Join { .. }
+            | Step::Fail
+            | Step::Cut
+            | Step::Refute
+            | Step::Confirm => plan.seen(),
         }
     }
 
@@ -192,7 +194,7 @@ impl Core {
         let names = plan.names();
         let at = self.solved_at(&plan);
         self.journal.push(label)?;
-        if let Err(error) = self.table.apply(alloc, label, names, plan.into_step(), at) {
+        if let Err(error) = self.table.apply(alloc, label, names, plan.into_step(), Some(at)) {
             let _ = self.journal.pop();
             return Err(error);
         }
@@ -208,22 +210,6 @@ impl Core {
         ensures { result.items ≡ self.journal }
     {
         self.journal
-    }
-}
-
-// Whether a step makes a choice of a goal.
-fn is_fork(step: &Step) -> bool
-    ensures { (nodes : List Node) → result ≡ is_fork (step_of nodes step.now) }
-{
-    match step {
-        Step::Fork { .. } => true,
-        Step::Tell { .. }
-        | Step::Join { .. }
-        | Step::Fail
-        | Step::Cut
-        | Step::Refute
-        | Step::Confirm
-        | Step::Split { .. } => false,
     }
 }
 
