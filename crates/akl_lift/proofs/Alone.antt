@@ -14,8 +14,7 @@ use Rattle.clause_keys.specs.Keys.{defined_by}
 use Rattle.clause_keys.specs.Conditions.{IsGuard, IsLiftable, a_goal, a_choice, a_collect, AreLiftable, more_liftable, HaveLiftable, a_part, IsClauseLiftable, AreAlone}
 use Rattle.clause_keys.proofs.Defined.{lifted_number}
 use Rattle.akl_lift.specs.Lifting.{Origin, choices_in, choices_in_all, part_clause, part_clauses, part_shares, collect_variables, collect_shares, collect_clause, made, made_all, made_inside, made_in_part, joined, clause_choices, clause_shares, clause_origin, clauses_without, made_of, made_of_all, lifted_clauses, query_origin, query_shares, hidden_locals, made_of_query}
-use Rattle.akl_lift.specs.Whole.{IsWhole, AreWhole, HaveGoals}
-use Rattle.akl_lift.proofs.Reading.{AreRead}
+use Rattle.akl_lift.specs.Whole.{IsWhole, AreWhole, HaveGoals, AreRead}
 use Rattle.akl_lift.proofs.Sized.{joined-append}
 use Rattle.akl_lift.proofs.Operators.{IsMadeOf, operators, operators_all, operators_inside, all_joined, length-operators, length-operators_all, clause_operators, program_operators, length-clause_operators, collecting_made, own_made, goal_made, goals_made, inside_made, clause_made, program_made}
 use Rattle.akl_lift.proofs.Unmixed.{made_number, apart, IsWithout, was_written}

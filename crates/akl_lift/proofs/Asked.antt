@@ -10,7 +10,7 @@ use Rattle.clause_keys.specs.declared.callee.Callee.{Callee}
 use Rattle.clause_keys.specs.Keys.{defined_by}
 use Rattle.clause_keys.specs.Conditions.{IsLoadable, IsClauseLoadable, AreLiftable, AreUnmixed}
 use Rattle.akl_lift.specs.Lifting.{local_in_all, hidden_locals, query_origin, query_order, query_shares, asked_variables, query_without, made_of_query}
-use Rattle.akl_lift.specs.Whole.{AreWhole}
+use Rattle.akl_lift.specs.Whole.{AreWhole, IsWritten}
 use Rattle.akl_lift.proofs.Below.{Below, below_all, below_numbers, length-numbers, Fits, order_fits}
 use Rattle.akl_lift.proofs.Hiding.{length-hidden}
 use Rattle.akl_lift.proofs.Sized.{goals_paid}
@@ -43,8 +43,8 @@ query_loads some next q h l r m =
       clauses = goals_definitions some all front (length q.names) h (query_origin q) (query_shares (hidden_locals q)) next (goals q.goals) l r (query_fits q h) (query_below q m) back;
     }
 
-pub query_paid : (next : ℕ) (q : Query) → length q.names ≤ 256 → AreWhole (goals q.goals) → IsQueryNumbered q → query_size (query_without next q) + clauses_size (made_of_query next q) ≤ 514 * query_size q
-query_paid next q h r m = goals_paid (length q.names) h (query_origin q) (query_order (hidden_locals q)) (query_shares (hidden_locals q)) next (goals q.goals) (query_fits q h) (query_below q m) r
+pub query_paid : (next : ℕ) (q : Query) → IsWritten q → query_size (query_without next q) + clauses_size (made_of_query next q) ≤ 514 * query_size q
+query_paid next q w = goals_paid (length q.names) w.few (query_origin q) (query_order (hidden_locals q)) (query_shares (hidden_locals q)) next (goals q.goals) (query_fits q w.few) (query_below q w.numbered) w.read
 
 -- each clause that is made has the number of a choice or a collecting goal of the query, and its operator
 pub query_made : (some : List Callee) (next : ℕ) (q : Query) → AreLiftable some (goals q.goals) → All (IsMadeOf (operators_all (goals q.goals)) next) (made_of_query next q)

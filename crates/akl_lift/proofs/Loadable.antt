@@ -19,8 +19,7 @@ use Rattle.clause_keys.proofs.Defined.{lifted_guard}
 use Rattle.clause_keys.specs.Conditions.{count, MayCall, IsLoadable, IsGuard, MayCollect, guarding, collecting, IsClauseLoadable, IsLiftable, a_goal, a_choice, a_collect, AreLiftable, more_liftable, HaveLiftable, a_part, IsClauseLiftable}
 use Rattle.akl_lift.specs.Places.{place, placed_variable, placed_trees}
 use Rattle.akl_lift.specs.Lifting.{Origin, choices_in, choices_in_all, without, without_all, name_of, part_clause, part_clauses, part_order, part_shares, collect_variables, collect_order, collect_shares, collect_clause, made, made_all, made_inside, made_in_part, joined, clause_choices, clause_order, clause_shares, clause_origin, clause_without, clauses_without, made_of, made_of_all, lifted_clauses}
-use Rattle.akl_lift.specs.Whole.{HasPart, IsWhole, AreWhole, HaveGoals, IsRead}
-use Rattle.akl_lift.proofs.Reading.{AreRead}
+use Rattle.akl_lift.specs.Whole.{HasPart, IsWhole, AreWhole, HaveGoals, IsRead, AreRead}
 use Rattle.akl_lift.proofs.Below.{Below, below_front, below_back, Fits, made_few, made_fits, part_fits, part_few, collect_below, clause_fits}
 use Rattle.akl_lift.proofs.Sized.{joined-append, clause_inside}
 

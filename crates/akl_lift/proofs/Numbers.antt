@@ -10,8 +10,7 @@ use Rattle.clause_keys.specs.Keys.{defined_by}
 use Rattle.clause_keys.specs.Conditions.{IsClauseLiftable}
 use Rattle.clause_keys.proofs.Defined.{lifted_number}
 use Rattle.akl_lift.specs.Lifting.{clause_choices, choices_of, clause_without, clauses_without, made_of_all, lifted_clauses}
-use Rattle.akl_lift.specs.Whole.{IsNamed}
-use Rattle.akl_lift.proofs.Reading.{AreRead}
+use Rattle.akl_lift.specs.Whole.{IsNamed, AreRead}
 use Rattle.akl_lift.proofs.Operators.{IsMadeOf, program_operators, length-program_operators, program_made}
 use Rattle.akl_lift.proofs.Unmixed.{made_number, named_apart}
 

@@ -13,7 +13,7 @@ use Rattle.akl_syntax.specs.Verdicts.{Verdict, accepted, refused, Tests, too_dee
 use Rattle.akl_syntax.specs.Verdicts as verdicts
 use Rattle.akl_syntax.proofs.SizeLaws.{IfAccepted, no_query}
 use Rattle.clause_keys.specs.Conditions.{IsGuard}
-use Rattle.akl_lift.specs.Whole.{HasGoal, AreWhole, HaveGoals, IsRead}
+use Rattle.akl_lift.specs.Whole.{HasGoal, AreWhole, HaveGoals, IsRead, AreRead}
 
 -- ---- operators
 kind_written : (k : Kind) → IfSome (kind_guard k) IsGuard
@@ -115,10 +115,6 @@ clause_whole (clause x (neck p)) = let h = part_whole p in record { head = tt; g
 
 query_whole : {names : List (List ℕ)} {ls : List Lexeme} {q : Query} → IsQuery names ls q → AreWhole (goals q.goals)
 query_whole (query x) = let h = conj_whole x in h.whole
-
-abbrev pub AreRead : List Clause → Type 0
-AreRead [] = Unit {0}
-AreRead (c ∷ cs) = IsRead c × AreRead cs
 
 -- ---- verdicts
 clause_tests_whole : {bytes : List ℕ} {start : ℕ} {ts : List Token} {v : Verdict Clause} → Tests bytes start (IsClause start) ts v → IfAccepted IsRead v

@@ -12,8 +12,7 @@ use Rattle.akl_syntax.specs.Variables.{goal_variables, goals_variables, parts_va
 use Rattle.akl_syntax.specs.Sizes.{goal_size, goals_size, parts_size, clauses_size, clause_size}
 use Rattle.akl_lift.specs.Places.{place, placed_variable, placed_tree, placed_trees, placed_tail, placed_steps}
 use Rattle.akl_lift.specs.Lifting.{Origin, choices_in, choices_in_all, without, without_all, part_clauses, part_order, part_shares, collect_variables, collect_order, collect_shares, made, made_all, made_inside, made_in_part, joined, clause_choices, clause_order, clause_shares, clause_origin, clause_without, clauses_without, made_of, made_of_all, lifted_clauses}
-use Rattle.akl_lift.specs.Whole.{HasGoal, IsWhole, AreWhole, HaveGoals, IsRead}
-use Rattle.akl_lift.proofs.Reading.{AreRead}
+use Rattle.akl_lift.specs.Whole.{HasGoal, IsWhole, AreWhole, HaveGoals, IsRead, AreRead, AreWritten}
 use Rattle.akl_lift.proofs.Below.{Below, below_front, below_back, Fits, part_fits, made_fits, collect_below, variables_below, clause_fits}
 
 -- ---- terms
@@ -163,5 +162,5 @@ clauses_paid next (c ∷ cs) f r m =
     )
 
 -- there are at most 514 times as many terms, goals and clauses once they are lifted
-pub program_paid : (cs : List Clause) → All (λ c. length c.names ≤ 256) cs → AreRead cs → AreClausesNumbered cs → clauses_size (lifted_clauses cs) ≤ 514 * clauses_size cs
-program_paid cs f r m = omega (arith, clauses_size-append (clauses_without 0 cs) (made_of_all 0 cs), clauses_paid 0 cs f r m)
+pub program_paid : (cs : List Clause) → AreWritten cs → clauses_size (lifted_clauses cs) ≤ 514 * clauses_size cs
+program_paid cs w = omega (arith, clauses_size-append (clauses_without 0 cs) (made_of_all 0 cs), clauses_paid 0 cs w.few w.read w.numbered)

@@ -12,8 +12,7 @@ use Rattle.clause_keys.specs.Keys.{defined_by}
 use Rattle.clause_keys.specs.Conditions.{IsGuard, AreUnmixed, IsClauseLiftable}
 use Rattle.clause_keys.proofs.Defined.{lifted_number, head_number, number_defined}
 use Rattle.akl_lift.specs.Lifting.{clause_choices, clause_without, clauses_without, made_of_all, lifted_clauses}
-use Rattle.akl_lift.specs.Whole.{IsNamed}
-use Rattle.akl_lift.proofs.Reading.{AreRead}
+use Rattle.akl_lift.specs.Whole.{IsNamed, AreRead}
 use Rattle.akl_lift.proofs.Operators.{IsMadeOf, program_operators, program_made}
 
 -- a written clause that is lifted, and the one that it was

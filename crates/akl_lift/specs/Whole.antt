@@ -1,9 +1,11 @@
 -- Goals as they are read: each inline choice has a part, and each part a goal in its body and an operator that is written.
-use Rattle.std.specs.Prelude.{◌≡◌, None}
+use Rattle.std.specs.Prelude.{◌≡◌, ◌≤◌, List, [], ◌∷◌, length, None}
+use Rattle.std.specs.List.{All}
 use Rattle.akl_syntax.specs.declared.source.Head.{Head}
 use Rattle.akl_syntax.specs.declared.source.Head.TheVariants as heads
 use Rattle.akl_syntax.specs.Goals.{Goal, Goals, Parts, call, choice, lifted, collect, lifted_collect, no_goals, more_goals, no_parts, more_parts, goals}
-use Rattle.akl_syntax.specs.Clauses.{Clause}
+use Rattle.akl_syntax.specs.Clauses.{Clause, Query}
+use Rattle.akl_syntax.specs.Variables.{AreClausesNumbered, IsQueryNumbered}
 use Rattle.clause_keys.specs.Conditions.{IsGuard}
 
 abbrev pub HasGoal : Goals → Type 0
@@ -42,3 +44,19 @@ pub record IsRead (c : Clause) : Type 0 where
   pub body : AreWhole (goals c.part.body)
   pub op : IsGuard c.part.op
   pub collected : c.collected ≡ None
+
+abbrev pub AreRead : List Clause → Type 0
+AreRead [] = Unit {0}
+AreRead (c ∷ cs) = IsRead c × AreRead cs
+
+-- clauses as they are read, with the numbers of their variables, of which each has few
+pub record AreWritten (cs : List Clause) : Type 0 where
+  pub few : All (λ c. length c.names ≤ 256) cs
+  pub read : AreRead cs
+  pub numbered : AreClausesNumbered cs
+
+-- so a query
+pub record IsWritten (q : Query) : Type 0 where
+  pub few : length q.names ≤ 256
+  pub read : AreWhole (goals q.goals)
+  pub numbered : IsQueryNumbered q

@@ -1,6 +1,6 @@
 //! Programs.
 
-ghost use Rattle.std.specs.Prelude.{◌≡◌, ◌≤◌, ◌+◌, ◌++◌, [], map, option_map, IfOk, OnOk};
+ghost use Rattle.std.specs.Prelude.{◌≡◌, ◌≤◌, ◌+◌, ◌*◌, ◌++◌, [], map, option_map, IfOk, OnOk};
 ghost use Rattle.term_syntax.specs.View.{tree};
 ghost use Rattle.akl_syntax.specs.Goals.{goals};
 ghost use Rattle.akl_syntax.specs.GoalView.{goal, part};
@@ -13,6 +13,7 @@ ghost use Rattle.clause_keys.specs.Keys.{key_of};
 ghost use Rattle.akl_lift.specs.Lifting.{choices_in_all, choices_of, clause_choices, clause_without, clauses_without, made_of, made_of_all, joined, lifted_clauses, clause_order, clause_origin};
 ghost use Rattle.akl_lift.specs.Noting.{outer_all, insides_all, inside_view};
 ghost use Rattle.akl_lift.specs.Scopes.{IsScope, IsTally, chosen_of, origin_view, part_without, made_by};
+ghost use Rattle.akl_lift.specs.Whole.{AreWritten};
 
 use crate::lifting::{Made, Origin, lift_guard_and_body};
 use crate::noting::{Inside, note_part};
@@ -167,10 +168,13 @@ fn lift_each(
 /// collecting call of a definition with one clause: its goals are the guard, and it collects the goal's term. Numbers go
 /// by the places of the opening brackets in the text. The arguments are the variables that occur inside and also outside
 /// in the clause, in order of their numbers there; the result of a collecting goal is outside. A clause that is made
-/// numbers its variables by first occurrence, beginning with its arguments. It is an error only where memory runs out.
+/// numbers its variables by first occurrence, beginning with its arguments. Of clauses that were read, with at most 256
+/// variables each, it gives at most 514 times as many terms, goals and clauses. It is an error only where memory runs
+/// out.
 pub fn lift(alloc: Global, mut clauses: Vec<SourceClause>) -> Result<Vec<SourceClause>, AllocError>
     requires { clauses_size (clauses_view clauses) ≤ 1000000 }
-    ensures { IfOk result (λ v. clauses_view v ≡ lifted_clauses (clauses_view clauses)) }
+    ensures lifted { IfOk result (λ v. clauses_view v ≡ lifted_clauses (clauses_view clauses)) }
+    ensures bound { IfOk result (λ v. AreWritten (clauses_view clauses) → clauses_size (clauses_view v) ≤ 514 * clauses_size (clauses_view clauses)) }
 {
     let mut out = Lifted {
         next: 0,

@@ -1,13 +1,14 @@
 //! Queries.
 
-ghost use Rattle.std.specs.Prelude.{◌≡◌, ◌≤◌, ◌+◌, ◌++◌, [], map, IfOk, OnOk};
+ghost use Rattle.std.specs.Prelude.{◌≡◌, ◌≤◌, ◌+◌, ◌*◌, ◌++◌, [], map, IfOk, OnOk};
 ghost use Rattle.akl_syntax.specs.Goals.{goals};
 ghost use Rattle.akl_syntax.specs.GoalView.{goal};
 ghost use Rattle.akl_syntax.specs.Answers.{clauses_view, query_view};
-ghost use Rattle.akl_syntax.specs.Sizes.{query_size};
+ghost use Rattle.akl_syntax.specs.Sizes.{clauses_size, query_size};
 ghost use Rattle.akl_lift.specs.Lifting.{made_all, query_origin, query_order, query_shares, query_without, made_of_query, shown_from, hidden_locals};
 ghost use Rattle.akl_lift.specs.Noting.{outer_all, insides_all, inside_view};
 ghost use Rattle.akl_lift.specs.Scopes.{IsScope, IsTally, origin_view, definitions_view};
+ghost use Rattle.akl_lift.specs.Whole.{IsWritten};
 
 use crate::clauses::{add_definitions, copied};
 use crate::lifting::{Made, Origin, lift_goals};
@@ -81,7 +82,8 @@ fn lift_asked(alloc: Global, out: &mut Made, query: &mut SourceQuery) -> Result<
 /// their numbers, which begin with `next`.
 ///
 /// They are made as [`lift`](crate::lift) makes them. Every variable whose name doesn't begin with `_`, and which isn't
-/// local to a collecting goal, counts as occurring outside. The names of local variables become `_`. It is an error only
+/// local to a collecting goal, counts as occurring outside. The names of local variables become `_`. Of a query that was
+/// read, with at most 256 variables, it gives at most 514 times as many terms, goals and clauses. It is an error only
 /// where memory runs out.
 pub fn lift_query(
     alloc: Global,
@@ -91,6 +93,7 @@ pub fn lift_query(
     requires { next + query_size (query_view query) ≤ 4294967295 }
     ensures query { IfOk result (λ x. query_view x.0 ≡ query_without next (query_view query)) }
     ensures clauses { IfOk result (λ x. clauses_view x.1 ≡ made_of_query next (query_view query)) }
+    ensures bound { IfOk result (λ x. IsWritten (query_view query) → query_size (query_view x.0) + clauses_size (clauses_view x.1) ≤ 514 * query_size (query_view query)) }
 {
     let mut made = Made {
         next,

@@ -44,7 +44,7 @@ module _ (text : List ℕ) (cs : List Clause) (reads : IsProgramText text cs) wh
 
   pub lifted_small : AreAccepted cs → clauses_size (lifted_clauses cs) ≤ 514000000
   lifted_small a =
-      let paid : clauses_size (lifted_clauses cs) ≤ 514 * clauses_size cs = program_paid cs (λ k d h. (a.liftable k d h).few) (program_read reads) (program_numbered reads) in
+      let paid : clauses_size (lifted_clauses cs) ≤ 514 * clauses_size cs = program_paid cs (record { few = λ k d h. (a.liftable k d h).few; read = program_read reads; numbered = program_numbered reads }) in
       omega (arith, paid, program_small reads)
 
   lifted_below : AreAccepted cs → All (DefinesBelow first_asked) (lifted_clauses cs)

@@ -8,8 +8,8 @@ use Rattle.akl_syntax.specs.Sizes.{clauses_size, query_size}
 use Rattle.akl_syntax.specs.Variables.{AreClausesNumbered, IsQueryNumbered}
 use Rattle.akl_syntax.proofs.OneVerdict.{program_one, query_verdict_one}
 use Rattle.akl_syntax.proofs.SizeLaws.{program_size, query_text_size}
-use Rattle.akl_lift.specs.Whole.{AreWhole}
-use Rattle.akl_lift.proofs.Reading.{AreRead, program_whole, query_text_whole}
+use Rattle.akl_lift.specs.Whole.{AreWhole, AreRead}
+use Rattle.akl_lift.proofs.Reading.{program_whole, query_text_whole}
 use Rattle.variable_scopes.specs.Scoped.{AreScoped, IsScopedQuery}
 use Rattle.variable_scopes.proofs.OneForm.{one_scoped, one_scoped_query}
 use Rattle.variable_scopes.proofs.Numbered.{all_scoped_numbered}

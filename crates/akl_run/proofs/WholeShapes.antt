@@ -4,8 +4,7 @@ use Rattle.term_syntax.specs.Tree.{Tree}
 use Rattle.akl_syntax.specs.Goals.{Goal, Goals, Parts, call, choice, lifted, collect, lifted_collect, no_goals, more_goals, no_parts, more_parts, goals}
 use Rattle.akl_syntax.specs.Clauses.{Clause, Query}
 use Rattle.clause_keys.specs.Conditions.{IsGuard}
-use Rattle.akl_lift.specs.Whole.{HasGoal, HasPart, IsWhole, AreWhole, HaveGoals, IsNamed, IsRead}
-use Rattle.akl_lift.proofs.Reading.{AreRead}
+use Rattle.akl_lift.specs.Whole.{HasGoal, HasPart, IsWhole, AreWhole, HaveGoals, IsNamed, IsRead, AreRead}
 use Rattle.variable_scopes.specs.Scoped.{IsScopedClause, AreScoped, IsScopedQuery}
 use Rattle.variable_scopes.specs.Shapes.{goal_shape, goals_shape, parts_shape, collected_shape}
 use Rattle.variable_scopes.proofs.Numbered.{scoped_head, scoped_operator}

@@ -4,4 +4,5 @@ mod Forming
 mod Modulus
 mod Naming
 mod Paths
+mod Waiting
 mod Walks

@@ -1,16 +1,20 @@
 -- What is answered of expressions and of arithmetic goals.
-use Rattle.std.specs.Prelude.{ℕ, ℤ, List, true, false}
+use Rattle.std.specs.Prelude.{◌≡◌, ℕ, ℤ, List, true, false}
 use Rattle.akl_terms.specs.declared.name.Var.{Var}
 use Rattle.akl_terms.specs.declared.program.Code.{Code}
 use Rattle.akl_terms.specs.declared.program.Goal.{Goal}
 use Rattle.akl_terms.specs.declared.program.Test.{Test}
+use Rattle.akl_terms.specs.declared.term.Node.{Node}
+use Rattle.akl_terms.specs.declared.term.Term.{Term}
 use Rattle.akl_terms.specs.declared.term.Term.TheVariants.{Mol}
-use Rattle.akl_terms.specs.Tree.{Tree}
+use Rattle.akl_terms.specs.Tree.{Tree, variable}
 use Rattle.akl_terms.specs.Equal.{Equations}
 use Rattle.akl_terms.specs.Template.{Template, tree}
 use Rattle.akl_terms.specs.Arithmetic.{HasValue, WaitsOn, Answer, value, truth, Evaluates, GoalWaitsOn}
+use Rattle.rational_unify.specs.Known.{end_of}
 use Rattle.rational_unify.specs.Solving.{bindings_in}
 use Rattle.local_store.specs.Chained.{Chained, bindings_from}
+use Rattle.local_store.specs.Asking.{AreSolvedBindings}
 use Rattle.arith_goals.specs.declared.walk.Walked.{Walked}
 use Rattle.arith_goals.specs.declared.walk.Walked.TheVariants as walked
 use Rattle.arith_goals.specs.declared.goals.ArithValue.{ArithValue}
@@ -55,3 +59,16 @@ Answers t E goal answer = at goal.code
 -- what it comes to under the equations that a chain's stores tell
 abbrev pub AnswersIn : Chained → Goal → ArithValue → Type 0
 AnswersIn chain goal answer = Answers (record { nodes = chain.nodes; symbols = chain.symbols }) (bindings_in chain.nodes (bindings_from chain.stores)) goal answer
+
+-- the variable that is waited on is the end of its own chain of bindings, and so of the chain of each term that is equal to it
+abbrev pub WalksToEnd : List Node → List (Var × Term) → Walked → Type 0
+WalksToEnd nodes bs (walked.Waits x) = end_of nodes bs (variable x) ≡ variable x
+WalksToEnd nodes bs answer = Unit {0}
+
+abbrev pub WaitsAtEnd : List Node → List (Var × Term) → ArithValue → Type 0
+WaitsAtEnd nodes bs (Waits x) = end_of nodes bs (variable x) ≡ variable x
+WaitsAtEnd nodes bs answer = Unit {0}
+
+-- so it is in bindings with which the chain of stores is solved. No store that is known to be solved binds it then
+abbrev pub WaitsAtEndIn : Chained → ArithValue → Type 0
+WaitsAtEndIn chain answer = (bs : List (Var × Term)) × AreSolvedBindings chain.nodes chain.stores chain.known bs × WaitsAtEnd chain.nodes bs answer

@@ -7,7 +7,7 @@ ghost use Rattle.akl_terms.specs.Template.{tree};
 ghost use Rattle.rational_unify.specs.Known.{IsSolved};
 ghost use Rattle.rational_unify.specs.Forms.{IsFormOf};
 ghost use Rattle.local_store.specs.Chained.{ToldBy};
-ghost use Rattle.arith_goals.specs.Answers.{Answers, AnswersIn, ComesTo, IsArithmetic};
+ghost use Rattle.arith_goals.specs.Answers.{Answers, AnswersIn, ComesTo, IsArithmetic, WaitsAtEnd, WaitsAtEndIn};
 
 use crate::walk::{Walked, walk_expression};
 use akl_terms::{Code, Goal, Templates, Term, Test, Var};
@@ -24,7 +24,8 @@ pub enum ArithValue {
     Holds,
     /// The comparison doesn't hold.
     Fails,
-    /// The first obstacle is a class that isn't structured; the variable stands for it.
+    /// The first obstacle is a class that isn't structured; the variable stands for it, as the end of
+    /// its chain of bindings.
     Waits { on: Var },
     /// The first obstacle is a term that is no expression, a value that is undefined or beyond 64
     /// bits, or an expression inside itself.
@@ -39,7 +40,8 @@ pub enum ArithValue {
 pub fn evaluate(alloc: Global, chain: &Chain, goal: Goal) -> Result<ArithValue, AllocError>
     requires consistent { IsConsistentBy (ToldBy chain.now.nodes chain.now.stores) }
     requires arithmetic { IsArithmetic goal.code }
-    ensures { IfOk result (λ answer. AnswersIn chain.now goal answer) }
+    ensures answers { IfOk result (λ answer. AnswersIn chain.now goal answer) }
+    ensures end { IfOk result (λ answer. WaitsAtEndIn chain.now answer) }
 {
     let templates = chain.templates();
     let known = chain.known();
@@ -64,7 +66,8 @@ fn answer<K: Lookup>(
 ) -> Result<ArithValue, AllocError>
     requires solved { IsSolved templates.now.nodes (K.bindings known.now) }
     requires arithmetic { IsArithmetic goal.code }
-    ensures { IfOk result (λ answer. (E : Equations) → IsFormOf templates.now.nodes (K.bindings known.now) (IsTold E) → Answers templates.now E goal answer) }
+    ensures answers { IfOk result (λ answer. (E : Equations) → IsFormOf templates.now.nodes (K.bindings known.now) (IsTold E) → Answers templates.now E goal answer) }
+    ensures end { IfOk result (λ answer. WaitsAtEnd templates.now.nodes (K.bindings known.now) answer) }
 {
     let Code::Arith { test, left, right } = goal.code else {
         // Not where the goal is arithmetic.
@@ -94,8 +97,9 @@ fn compare<K: Lookup>(
 ) -> Result<ArithValue, AllocError>
     requires solved { IsSolved templates.now.nodes (K.bindings known.now) }
     requires comparison { test ≡ Test.Is → ⊥ }
-    ensures { IfOk result (λ answer. (E : Equations) → IsFormOf templates.now.nodes (K.bindings known.now) (IsTold E)
+    ensures comes { IfOk result (λ answer. (E : Equations) → IsFormOf templates.now.nodes (K.bindings known.now) (IsTold E)
         → ComesTo templates.now.symbols E test (tree templates.now.nodes left) (tree templates.now.nodes right) answer) }
+    ensures end { IfOk result (λ answer. WaitsAtEnd templates.now.nodes (K.bindings known.now) answer) }
 {
     let first = match walk_expression(alloc, templates, known, left)? {
         Walked::Is(value) => value,

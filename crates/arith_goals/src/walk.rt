@@ -6,7 +6,7 @@ ghost use Rattle.akl_terms.specs.Template.{tree};
 ghost use Rattle.rational_unify.specs.Known.{IsSolved};
 ghost use Rattle.rational_unify.specs.Forms.{IsFormOf};
 ghost use Rattle.arith_goals.specs.Walking.{Begins, Enters, Keeps, Leaves, Turns, progress_at};
-ghost use Rattle.arith_goals.specs.Answers.{Comes};
+ghost use Rattle.arith_goals.specs.Answers.{Comes, WalksToEnd};
 
 use crate::expression::{Application, Expression, Place, read_expression};
 use akl_terms::{Templates, Term, Var};
@@ -57,8 +57,9 @@ pub fn walk_expression<K: Lookup>(
     term: Term,
 ) -> Result<Walked, AllocError>
     requires { IsSolved templates.now.nodes (K.bindings known.now) }
-    ensures { IfOk result (λ walked. (E : Equations) → IsFormOf templates.now.nodes (K.bindings known.now) (IsTold E)
+    ensures comes { IfOk result (λ walked. (E : Equations) → IsFormOf templates.now.nodes (K.bindings known.now) (IsTold E)
         → Comes templates.now.symbols E (tree templates.now.nodes term) walked) }
+    ensures end { IfOk result (λ walked. WalksToEnd templates.now.nodes (K.bindings known.now) walked) }
 {
     let mut walk = Walk {
         walking: Vec::new(alloc),

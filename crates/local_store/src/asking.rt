@@ -4,7 +4,7 @@ ghost use Rattle.akl_terms.specs.Equal.{IsConsistentBy};
 ghost use Rattle.rational_unify.specs.Known.{IsSolved};
 ghost use Rattle.rational_unify.specs.Forms.{IsClashOfBindings};
 ghost use Rattle.local_store.specs.Chained.{ToldBy, IsFormChain, around};
-ghost use Rattle.local_store.specs.Asking.{Decides, Values, ResolvesOver, Resolves};
+ghost use Rattle.local_store.specs.Asking.{Decides, Values, end_in, tree_valued, ResolvesOver, Resolves};
 
 use crate::chain::Chain;
 use crate::shared::Shared;
@@ -56,10 +56,11 @@ pub fn consistent(alloc: Global, chain: &Chain) -> Result<Consistency, AllocErro
     }
 }
 
-/// What stands for a term's class.
+/// What stands for a term's class: the end of its chain of bindings.
 pub fn value(chain: &Chain, term: Term) -> Valued
     requires { IsFormChain chain.now.nodes chain.now.stores }
-    ensures { Values chain.now.nodes chain.now.stores term result }
+    ensures class { Values chain.now.nodes chain.now.stores term result }
+    ensures end { tree_valued chain.now.nodes result ≡ end_in chain.now.nodes chain.now.stores term }
 {
     let templates = chain.templates();
     let last = chain_end(templates, chain, term);

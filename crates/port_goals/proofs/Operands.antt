@@ -25,9 +25,12 @@ other-head (Seen.Int z) p n e = cc
 other-head (Seen.Port q) p n e = n q refl
 other-head (Seen.Struct s i k f) p n e = cc
 
+pub port-tree : (nodes : List Node) (t : Term) (p : Name) → Seen.Port p ≡ seen_of nodes t → tree nodes t ≡ port p
+port-tree nodes t p e = (tree_of_seen nodes t).1 ∙ ap (tree_seen (tree_of_seen nodes t).0) (sym e)
+
 module _ (nodes : List Node) (ss : List Stored) (f : IsFormChain nodes ss) (t last : Term) (e : tree nodes last ≡ end_of nodes (bindings_from ss) (tree nodes t)) where
   pub is-port : (p : Name) → Seen.Port p ≡ seen_of nodes last → EqualBy (ToldBy nodes ss) (tree nodes t) (port p)
-  is-port p s = subst (λ k. EqualBy (ToldBy nodes ss) (tree nodes t) k) ((tree_of_seen nodes last).1 ∙ ap (tree_seen (tree_of_seen nodes last).0) (sym s))
+  is-port p s = subst (λ k. EqualBy (ToldBy nodes ss) (tree nodes t) k) (port-tree nodes last p s)
       (value-bound nodes ss f t last e (Seen.Port p) s (λ x q. cc)).0
 
   pub is-no_port : (s : Seen) → s ≡ seen_of nodes last → ((x : Var) → s ≡ Free x → ⊥) → ((q : Name) → s ≡ Seen.Port q → ⊥) → IsNoPort (ToldBy nodes ss) (tree nodes t)

@@ -13,6 +13,7 @@ use Rattle.akl_terms.specs.Solved.{IsUnstructured}
 use Rattle.akl_terms.specs.Template.{tree}
 use Rattle.local_store.specs.Stored.{Stored}
 use Rattle.local_store.specs.Chained.{ToldBy, innermost}
+use Rattle.local_store.specs.Asking.{end_in}
 use Rattle.port_goals.specs.declared.send.SendState.{SendState}
 use Rattle.port_goals.specs.declared.send.SendState.TheVariants.{Owned, Elsewhere, Waits, NoPort}
 
@@ -41,4 +42,18 @@ IsStateOf nodes ss goal state = at goal.code
   where
     at : Code → Type 0
     at (Code.Send message p) = IsState nodes ss (tree nodes (Mol p goal.frame)) state
+    at code = ⊥
+
+-- the end of the operand's chain of bindings is the port, or the variable that it waits on
+abbrev pub IsEnd : Tree → SendState → Type 0
+IsEnd end (Owned p) = end ≡ port p
+IsEnd end (Elsewhere p) = end ≡ port p
+IsEnd end (Waits x) = end ≡ variable x
+IsEnd end NoPort = Unit {0}
+
+abbrev pub EndsIn : List Node → List Stored → Goal → SendState → Type 0
+EndsIn nodes ss goal state = at goal.code
+  where
+    at : Code → Type 0
+    at (Code.Send message p) = IsEnd (end_in nodes ss (Mol p goal.frame)) state
     at code = ⊥

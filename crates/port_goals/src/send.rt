@@ -4,7 +4,7 @@ ghost use Rattle.std.specs.Prelude.{◌≡◌, is_some};
 ghost use Rattle.std.specs.Map.{lookup};
 ghost use Rattle.akl_terms.specs.Names.{same_name};
 ghost use Rattle.local_store.specs.Chained.{IsFormChain, innermost};
-ghost use Rattle.port_goals.specs.Sends.{IsSend, IsStateOf};
+ghost use Rattle.port_goals.specs.Sends.{IsSend, IsStateOf, EndsIn};
 
 use akl_terms::{Code, Goal, Name, Seen, Term, Var};
 use local_store::Chain;
@@ -23,12 +23,13 @@ pub enum SendState {
     NoPort,
 }
 
-/// What the port operand of a send is under the equations that a chain's stores tell. It takes no
-/// memory.
+/// What the port operand of a send is under the equations that a chain's stores tell: what its chain
+/// of bindings ends in. It takes no memory.
 pub fn sendable(chain: &Chain, goal: Goal) -> SendState
     requires solved { IsFormChain chain.now.nodes chain.now.stores }
     requires send { IsSend goal.code }
-    ensures { IsStateOf chain.now.nodes chain.now.stores goal result }
+    ensures state { IsStateOf chain.now.nodes chain.now.stores goal result }
+    ensures end { EndsIn chain.now.nodes chain.now.stores goal result }
 {
     let Code::Send { message: _, port } = goal.code else {
         // Not where the goal is a send.

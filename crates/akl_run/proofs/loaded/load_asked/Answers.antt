@@ -64,7 +64,7 @@ load_query-requires-clause-small c =
     let q = query_view c.in_ok-asked.asked in
     let text : IsQueryText c.args.text.now q = as_query c.in-Ok.ensures.reads c.in_ok-asked.ensures in
     let size : query_size q ≤ length c.args.text.now = query_small text in
-    let paid : query_size (query_without first_asked q) + clauses_size (made_of_query first_asked q) ≤ 514 * query_size q = query_paid first_asked q c.in_default.ensures.few (query_whole text) (query_numbered text) in
+    let paid : query_size (query_without first_asked q) + clauses_size (made_of_query first_asked q) ≤ 514 * query_size q = query_paid first_asked q (record { few = c.in_default.ensures.few; read = query_whole text; numbered = query_numbered text }) in
     subst (λ (asked : Query). query_size asked + clauses_size (clauses_view c.in_ok-query.lifted) ≤ 7000000) (sym c.in_ok-query.ensures.query)
     (subst (λ cs. query_size (query_without first_asked q) + clauses_size cs ≤ 7000000) (sym c.in_ok-query.ensures.clauses) (omega (arith, paid, size, c.requires.short)))
 

@@ -35,24 +35,24 @@ returns-in_err-lifted-clause-stop c = from_error c.from_residual-in_err-lifted.r
 pub load-requires-clause-loadable : goal.load-requires-clause-loadable
 load-requires-clause-loadable c =
     let accepted : AreAccepted (clauses_view c.in_ok-clauses.clauses) = subst (λ xs. AreAccepted (map clause_view xs)) c.deref.ensures.value c.in_default.ensures.accepted in
-    rw c.in_ok-lifted.ensures (lifted_load c.args.text.now (clauses_view c.in_ok-clauses.clauses) (as_program c.in-Ok.ensures.reads c.in_ok-clauses.ensures) accepted)
+    rw c.in_ok-lifted.ensures.lifted (lifted_load c.args.text.now (clauses_view c.in_ok-clauses.clauses) (as_program c.in-Ok.ensures.reads c.in_ok-clauses.ensures) accepted)
 
 pub load-requires-clause-unmixed : goal.load-requires-clause-unmixed
 load-requires-clause-unmixed c =
     let accepted : AreAccepted (clauses_view c.in_ok-clauses.clauses) = subst (λ xs. AreAccepted (map clause_view xs)) c.deref.ensures.value c.in_default.ensures.accepted in
     let unmixed : AreUnmixed (clauses_view c.in_ok-clauses.clauses) = subst (λ xs. AreUnmixed (map clause_view xs)) c.deref.ensures.value c.in_default.ensures.unmixed in
-    rw c.in_ok-lifted.ensures (lifted_unmixed c.args.text.now (clauses_view c.in_ok-clauses.clauses) (as_program c.in-Ok.ensures.reads c.in_ok-clauses.ensures) accepted unmixed)
+    rw c.in_ok-lifted.ensures.lifted (lifted_unmixed c.args.text.now (clauses_view c.in_ok-clauses.clauses) (as_program c.in-Ok.ensures.reads c.in_ok-clauses.ensures) accepted unmixed)
 
 pub load-requires-clause-alone : goal.load-requires-clause-alone
 load-requires-clause-alone c =
     let accepted : AreAccepted (clauses_view c.in_ok-clauses.clauses) = subst (λ xs. AreAccepted (map clause_view xs)) c.deref.ensures.value c.in_default.ensures.accepted in
-    rw c.in_ok-lifted.ensures (lifted_alone c.args.text.now (clauses_view c.in_ok-clauses.clauses) (as_program c.in-Ok.ensures.reads c.in_ok-clauses.ensures) accepted)
+    rw c.in_ok-lifted.ensures.lifted (lifted_alone c.args.text.now (clauses_view c.in_ok-clauses.clauses) (as_program c.in-Ok.ensures.reads c.in_ok-clauses.ensures) accepted)
 
 pub load-requires-clause-small : goal.load-requires-clause-small
 load-requires-clause-small c =
     let accepted : AreAccepted (clauses_view c.in_ok-clauses.clauses) = subst (λ xs. AreAccepted (map clause_view xs)) c.deref.ensures.value c.in_default.ensures.accepted in
     let small : clauses_size (lifted_clauses (clauses_view c.in_ok-clauses.clauses)) ≤ 514000000 = lifted_small c.args.text.now (clauses_view c.in_ok-clauses.clauses) (as_program c.in-Ok.ensures.reads c.in_ok-clauses.ensures) accepted in
-    rw c.in_ok-lifted.ensures (omega (arith, small))
+    rw c.in_ok-lifted.ensures.lifted (omega (arith, small))
 
 pub returns-in_err-load-clause-stop : goal.returns-in_err-load-clause-stop
 returns-in_err-load-clause-stop c = from_error c.from_residual-in_err-load.result c.from_residual-in_err-load.ensures.1 (λ stop p. stops_as (ProgramStops c.args.text.now) _ _ stop p no_memory)
@@ -62,7 +62,7 @@ returns-clause-program c = record {
   clauses = clauses_view c.in_ok-clauses.clauses;
   reads = as_program c.in-Ok.ensures.reads c.in_ok-clauses.ensures;
   allowed = subst (λ xs. refusal_of (map clause_view xs) ≡ None) c.deref.ensures.value c.in_default.ensures.checked;
-  stands = subst (λ xs. IsProgramOf xs c.in_ok-load.field-0) c.in_ok-lifted.ensures c.in_ok-load.ensures.program;
+  stands = subst (λ xs. IsProgramOf xs c.in_ok-load.field-0) c.in_ok-lifted.ensures.lifted c.in_ok-load.ensures.program;
 }
 
 pub returns-clause-open : goal.returns-clause-open
@@ -70,9 +70,9 @@ returns-clause-open c =
     let cs = clauses_view c.in_ok-clauses.clauses in
     let accepted : AreAccepted cs = subst (λ xs. AreAccepted (map clause_view xs)) c.deref.ensures.value c.in_default.ensures.accepted in
     let small : clauses_size (lifted_clauses cs) ≤ 514000000 = lifted_small c.args.text.now cs (as_program c.in-Ok.ensures.reads c.in_ok-clauses.ensures) accepted in
-    let size : clauses_size (clauses_view c.in_ok-lifted.lifted) ≤ 514000000 = rw c.in_ok-lifted.ensures small in
+    let size : clauses_size (clauses_view c.in_ok-lifted.lifted) ≤ 514000000 = rw c.in_ok-lifted.ensures.lifted small in
     let counted : length c.in_ok-lifted.lifted.items ≤ clauses_size (clauses_view c.in_ok-lifted.lifted) = counted_clauses c.in_ok-lifted.lifted in
-    let stands : IsProgramOf (lifted_clauses cs) c.in_ok-load.field-0 = subst (λ xs. IsProgramOf xs c.in_ok-load.field-0) c.in_ok-lifted.ensures c.in_ok-load.ensures.program in
+    let stands : IsProgramOf (lifted_clauses cs) c.in_ok-load.field-0 = subst (λ xs. IsProgramOf xs c.in_ok-load.field-0) c.in_ok-lifted.ensures.lifted c.in_ok-load.ensures.program in
     record {
       unique = c.in_ok-load.ensures.unique;
       nodes = omega (arith, size, c.in_ok-load.ensures.nodes);

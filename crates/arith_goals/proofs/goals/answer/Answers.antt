@@ -7,14 +7,14 @@ use Rattle.akl_terms.specs.Arithmetic.{gives, right_of_is}
 use Rattle.arith_goals.proofs.Comparing.{is-stuck}
 use Rattle.arith_goals.proofs.goals.answer.Goals as goal
 
-pub returns-in-Is-2 : goal.returns-in-Is-2
-returns-in-Is-2 g c = λ E f.
+pub returns-in-Is-2-clause-answers : goal.returns-in-Is-2-clause-answers
+returns-in-Is-2-clause-answers g c = λ E f.
     let v : FitsSigned w128 c.in-Is-2.value = search rules in
-    rw (c.in-Arith.is, c.in-Is.is, to_z-of_z w128 c.in-Is-2.value v) (gives ((rw c.in-Is-2.is at c.in_ok-value-in-Is.ensures) E f))
+    rw (c.in-Arith.is, c.in-Is.is, to_z-of_z w128 c.in-Is-2.value v) (gives ((rw c.in-Is-2.is at c.in_ok-value-in-Is.ensures.comes) E f))
 
-pub returns-in-Waits : goal.returns-in-Waits
-returns-in-Waits g c = λ E f. rw (c.in-Arith.is, c.in-Is.is) (right_of_is ((rw c.in-Waits.is at c.in_ok-value-in-Is.ensures) E f))
+pub returns-in-Waits-clause-answers : goal.returns-in-Waits-clause-answers
+returns-in-Waits-clause-answers g c = λ E f. rw (c.in-Arith.is, c.in-Is.is) (right_of_is ((rw c.in-Waits.is at c.in_ok-value-in-Is.ensures.comes) E f))
 
-pub returns-in-Never : goal.returns-in-Never
-returns-in-Never g c = λ E f. rw (c.in-Arith.is, c.in-Is.is) (is-stuck c.args.templates.now.symbols E (tree c.args.templates.now.nodes (Mol c.in-Arith.left c.args.goal.frame))
-    (tree c.args.templates.now.nodes (Mol c.in-Arith.right c.args.goal.frame)) ((rw c.in-Never.is at c.in_ok-value-in-Is.ensures) E f))
+pub returns-in-Never-clause-answers : goal.returns-in-Never-clause-answers
+returns-in-Never-clause-answers g c = λ E f. rw (c.in-Arith.is, c.in-Is.is) (is-stuck c.args.templates.now.symbols E (tree c.args.templates.now.nodes (Mol c.in-Arith.left c.args.goal.frame))
+    (tree c.args.templates.now.nodes (Mol c.in-Arith.right c.args.goal.frame)) ((rw c.in-Never.is at c.in_ok-value-in-Is.ensures.comes) E f))

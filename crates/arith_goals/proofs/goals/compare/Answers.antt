@@ -8,31 +8,31 @@ use Rattle.rational_unify.proofs.FormLaws.{form-consistent}
 use Rattle.arith_goals.proofs.Comparing.{left-stuck, right-stuck}
 use Rattle.arith_goals.proofs.goals.compare.Goals as goal
 
-pub returns-in-Waits : goal.returns-in-Waits
-returns-in-Waits g c = λ E f. left_side c.requires.comparison ((rw c.in-Waits.is at c.in_ok-value.ensures) E f)
+pub returns-in-Waits-clause-comes : goal.returns-in-Waits-clause-comes
+returns-in-Waits-clause-comes g c = λ E f. left_side c.requires.comparison ((rw c.in-Waits.is at c.in_ok-value.ensures.comes) E f)
 
-pub returns-in-Never : goal.returns-in-Never
-returns-in-Never g c = λ E f. left-stuck c.args.templates.now.symbols E (tree c.args.templates.now.nodes c.args.left) (tree c.args.templates.now.nodes c.args.right) c.args.test c.requires.comparison
-    ((rw c.in-Never.is at c.in_ok-value.ensures) E f)
+pub returns-in-Never-clause-comes : goal.returns-in-Never-clause-comes
+returns-in-Never-clause-comes g c = λ E f. left-stuck c.args.templates.now.symbols E (tree c.args.templates.now.nodes c.args.left) (tree c.args.templates.now.nodes c.args.right) c.args.test c.requires.comparison
+    ((rw c.in-Never.is at c.in_ok-value.ensures.comes) E f)
 
-pub returns-in-Waits-2 : goal.returns-in-Waits-2
-returns-in-Waits-2 g c = λ E f. right_side c.requires.comparison ((rw c.in-Is.is at c.in_ok-value.ensures) E f) ((rw c.in-Waits-2.is at c.in_ok-value-2.ensures) E f)
+pub returns-in-Waits-2-clause-comes : goal.returns-in-Waits-2-clause-comes
+returns-in-Waits-2-clause-comes g c = λ E f. right_side c.requires.comparison ((rw c.in-Is.is at c.in_ok-value.ensures.comes) E f) ((rw c.in-Waits-2.is at c.in_ok-value-2.ensures.comes) E f)
 
-pub returns-in-Never-2 : goal.returns-in-Never-2
-returns-in-Never-2 g c = λ E f. right-stuck c.args.templates.now.symbols E (tree c.args.templates.now.nodes c.args.left) (tree c.args.templates.now.nodes c.args.right) c.args.test c.requires.comparison
+pub returns-in-Never-2-clause-comes : goal.returns-in-Never-2-clause-comes
+returns-in-Never-2-clause-comes g c = λ E f. right-stuck c.args.templates.now.symbols E (tree c.args.templates.now.nodes c.args.left) (tree c.args.templates.now.nodes c.args.right) c.args.test c.requires.comparison
     (form-consistent c.args.templates.now.nodes (g.K.Lookup.bindings c.args.known.now) (IsTold E) f) c.in-Is.value
-    ((rw c.in-Is.is at c.in_ok-value.ensures) E f) ((rw c.in-Never-2.is at c.in_ok-value-2.ensures) E f)
+    ((rw c.in-Is.is at c.in_ok-value.ensures.comes) E f) ((rw c.in-Never-2.is at c.in_ok-value-2.ensures.comes) E f)
 
-pub returns-then-holds : goal.returns-then-holds
-returns-then-holds g c = λ E f.
+pub returns-then-holds-clause-comes : goal.returns-then-holds-clause-comes
+returns-then-holds-clause-comes g c = λ E f.
     let x : FitsSigned w128 c.in-Is.value = search rules in
     let y : FitsSigned w128 c.in-Is-2.value = search rules in
-    compared ((rw c.in-Is.is at c.in_ok-value.ensures) E f) ((rw c.in-Is-2.is at c.in_ok-value-2.ensures) E f)
+    compared ((rw c.in-Is.is at c.in_ok-value.ensures.comes) E f) ((rw c.in-Is-2.is at c.in_ok-value-2.ensures.comes) E f)
     (rw (to_z-of_z w128 c.in-Is.value x, to_z-of_z w128 c.in-Is-2.value y, c.if-holds.true) at c.holds.ensures)
 
-pub returns-else-holds : goal.returns-else-holds
-returns-else-holds g c = λ E f.
+pub returns-else-holds-clause-comes : goal.returns-else-holds-clause-comes
+returns-else-holds-clause-comes g c = λ E f.
     let x : FitsSigned w128 c.in-Is.value = search rules in
     let y : FitsSigned w128 c.in-Is-2.value = search rules in
-    compared ((rw c.in-Is.is at c.in_ok-value.ensures) E f) ((rw c.in-Is-2.is at c.in_ok-value-2.ensures) E f)
+    compared ((rw c.in-Is.is at c.in_ok-value.ensures.comes) E f) ((rw c.in-Is-2.is at c.in_ok-value-2.ensures.comes) E f)
     (rw (to_z-of_z w128 c.in-Is.value x, to_z-of_z w128 c.in-Is-2.value y, c.if-holds.false) at c.holds.ensures)

@@ -7,7 +7,7 @@ use Rattle.rule_plan.proofs.evaluating.eval.Goals as goal
 pub telling_plan-requires-clause-right : goal.telling_plan-requires-clause-right
 telling_plan-requires-clause-right c =
     let k = rw (c.in-Consistent.is, c.chain-chain.ensures.nodes, c.chain-chain.ensures.stores, c.requires.program) at c.in_ok-consistent.ensures in
-    let e = rw (c.in-Is.is, c.chain-chain.ensures.nodes, c.chain-chain.ensures.symbols, c.chain-chain.ensures.stores, c.requires.program) at c.in_ok-value.ensures in
+    let e = rw (c.in-Is.is, c.chain-chain.ensures.nodes, c.chain-chain.ensures.symbols, c.chain-chain.ensures.stores, c.requires.program) at c.in_ok-value.ensures.answers in
     let f : FitsSigned w128 c.in-Is.value = search rules in
     rw (to_z-of_z w128 c.in-Is.value f)
     (value_right c.args.view.now c.requires.seen c.args.goal c.args.arithmetic.frame c.args.arithmetic.test c.args.arithmetic.left c.args.arithmetic.right c.requires.place c.requires.sight k c.in-Is.value e)
@@ -15,13 +15,13 @@ telling_plan-requires-clause-right c =
 pub eval_plan-requires-clause-right : goal.eval_plan-requires-clause-right
 eval_plan-requires-clause-right c =
     let k = rw (c.in-Consistent.is, c.chain-chain.ensures.nodes, c.chain-chain.ensures.stores, c.requires.program) at c.in_ok-consistent.ensures in
-    let e = rw (c.in-Holds.is, c.chain-chain.ensures.nodes, c.chain-chain.ensures.symbols, c.chain-chain.ensures.stores, c.requires.program) at c.in_ok-value.ensures in
+    let e = rw (c.in-Holds.is, c.chain-chain.ensures.nodes, c.chain-chain.ensures.symbols, c.chain-chain.ensures.stores, c.requires.program) at c.in_ok-value.ensures.answers in
     holds_right c.args.view.now c.requires.seen c.args.goal c.args.arithmetic.frame c.args.arithmetic.test c.args.arithmetic.left c.args.arithmetic.right c.requires.place c.requires.sight k e
 
 pub eval_plan-requires-in-Fails-clause-right : goal.eval_plan-requires-in-Fails-clause-right
 eval_plan-requires-in-Fails-clause-right c =
     let k = rw (c.in-Consistent.is, c.chain-chain.ensures.nodes, c.chain-chain.ensures.stores, c.requires.program) at c.in_ok-consistent.ensures in
-    let e = rw (c.in-Fails.is, c.chain-chain.ensures.nodes, c.chain-chain.ensures.symbols, c.chain-chain.ensures.stores, c.requires.program) at c.in_ok-value.ensures in
+    let e = rw (c.in-Fails.is, c.chain-chain.ensures.nodes, c.chain-chain.ensures.symbols, c.chain-chain.ensures.stores, c.requires.program) at c.in_ok-value.ensures.answers in
     fails_right c.args.view.now c.requires.seen c.args.goal c.args.arithmetic.frame c.args.arithmetic.test c.args.arithmetic.left c.args.arithmetic.right c.requires.place c.requires.sight k e
 
 pub returns-in_default : goal.returns-in_default
@@ -33,11 +33,11 @@ returns-in_default c =
 pub returns-in-Waits : goal.returns-in-Waits
 returns-in-Waits c =
     let k = rw (c.in-Consistent.is, c.chain-chain.ensures.nodes, c.chain-chain.ensures.stores, c.requires.program) at c.in_ok-consistent.ensures in
-    let e = rw (c.in-Waits.is, c.chain-chain.ensures.nodes, c.chain-chain.ensures.symbols, c.chain-chain.ensures.stores, c.requires.program) at c.in_ok-value.ensures in
+    let e = rw (c.in-Waits.is, c.chain-chain.ensures.nodes, c.chain-chain.ensures.symbols, c.chain-chain.ensures.stores, c.requires.program) at c.in_ok-value.ensures.answers in
     waits_none c.args.view.now c.requires.seen c.args.goal c.args.arithmetic.frame c.args.arithmetic.test c.args.arithmetic.left c.args.arithmetic.right c.requires.place c.requires.sight k c.in-Waits.on e
 
 pub returns-in-Never : goal.returns-in-Never
 returns-in-Never c =
     let k = rw (c.in-Consistent.is, c.chain-chain.ensures.nodes, c.chain-chain.ensures.stores, c.requires.program) at c.in_ok-consistent.ensures in
-    let e = rw (c.in-Never.is, c.chain-chain.ensures.nodes, c.chain-chain.ensures.symbols, c.chain-chain.ensures.stores, c.requires.program) at c.in_ok-value.ensures in
+    let e = rw (c.in-Never.is, c.chain-chain.ensures.nodes, c.chain-chain.ensures.symbols, c.chain-chain.ensures.stores, c.requires.program) at c.in_ok-value.ensures.answers in
     never_none c.args.view.now c.requires.seen c.args.goal c.args.arithmetic.frame c.args.arithmetic.test c.args.arithmetic.left c.args.arithmetic.right c.requires.place c.requires.sight k e

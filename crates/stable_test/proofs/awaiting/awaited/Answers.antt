@@ -6,7 +6,7 @@ use Rattle.stable_test.proofs.awaiting.awaited.Goals as goal
 
 pub returns-in_default-2 : goal.returns-in_default-2
 returns-in_default-2 c = arith_idle c.args.program.now c.args.view.now.stores c.chain-chain.result c.chain-chain.ensures.nodes c.chain-chain.ensures.symbols c.chain-chain.ensures.stores c.requires.consistent
-    c.args.atom c.in-Arith.test c.in-Arith.left c.in-Arith.right c.in-Arith.is c.in_ok-on-in-Arith.field-0 c.in_ok-on-in-Arith.ensures (λ on e. c.in_default-2.not-Waits on e)
+    c.args.atom c.in-Arith.test c.in-Arith.left c.in-Arith.right c.in-Arith.is c.in_ok-on-in-Arith.field-0 c.in_ok-on-in-Arith.ensures.answers (λ on e. c.in_default-2.not-Waits on e)
 
 pub returns-in-Send : goal.returns-in-Send
 returns-in-Send c =
