@@ -1,18 +1,22 @@
 -- The core to which labels led, and what was found of it before.
-use Rattle.std.proofs.Common.{◌≡◌, ◌≢◌, ℕ, suc, ◌+◌, ◌<◌, ◌≤◌, List, [], ◌∷◌, ◌++◌, All, length, sym, refl, ap, ◌∙◌, subst, arith, append-nil, length-append}
+use Rattle.std.proofs.Common.{◌≡◌, ◌≢◌, ℕ, suc, ◌+◌, ◌<◌, ◌≤◌, List, [], ◌∷◌, ◌++◌, All, Some, inl, inr, length, sym, refl, ap, ◌∙◌, subst, arith, append-nil, length-append}
 use Rattle.std.proofs.lemmas.List.{map-append, length-map}
 use Rattle.std.proofs.lemmas.List.Elements.{All-nil, All-cons, All-head, All-tail}
+use Rattle.akl_terms.specs.declared.name.Name.{Name}
 use Rattle.akl_model.specs.declared.label.Label.{Label}
 use Rattle.akl_model.specs.declared.label.Receipt.{Receipt}
 use Rattle.plan_laws.specs.Right.{NoneBy}
-use Rattle.box_tree.specs.Tables.{TableValue}
+use Rattle.table_laws.specs.Rows.{BoxRow, store_in}
+use Rattle.table_laws.specs.Kept.{HadStore, KeepsStores, SharesStores}
+use Rattle.table_laws.proofs.KeptStores.{store_kept}
+use Rattle.box_tree.specs.Tables.{TableValue, table_of, step_of}
 use Rattle.box_tree.specs.Plans.{PlanValue}
 use Rattle.idle_places.specs.Idling.{IdleValue}
-use Rattle.step_commit.specs.Cores.{CoreValue, KeepsFixed, MayCommit, Commits}
+use Rattle.step_commit.specs.Cores.{CoreValue, IsCore, KeepsFixed, MayCommit, Commits, solved_in}
 use Rattle.scheduler.specs.Settled.{MaySettle}
 use Rattle.place_steps.specs.declared.next.Next.{Next}
 use Rattle.par_workers.specs.declared.shared.Made.{Made}
-use Rattle.par_workers.specs.Shared.{SharedValue, label_in, maker, labels_in, table_after, core_after, IsShared}
+use Rattle.par_workers.specs.Shared.{SharedValue, label_in, maker, labels_in, table_after, core_after, KeepStores, IsShared}
 use Rattle.par_workers.specs.Turns.{IsTakenOf, IsFoundBefore, HasConcluded}
 use Rattle.par_workers.proofs.Labels.{receipts_more, by_workers-more}
 
@@ -30,9 +34,38 @@ table_after-more : (t : TableValue) (ms : List Made) (m : Made) → table_after 
 table_after-more t [] m = refl
 table_after-more t (k ∷ ks) m = table_after-more k.table.value ks m
 
-no_labels : (ms : List Made) → labels_in ms ≡ [] → ms ≡ []
-no_labels [] e = refl
-no_labels (m ∷ ms) e = absurd (let l : suc (length (labels_in ms)) ≡ 0 = ap (λ (ls : List Label). length ls) e in omega arith)
+table_after-append : (t : TableValue) (ms ns : List Made) → table_after t (ms ++ ns) ≡ table_after (table_after t ms) ns
+table_after-append t [] ns = refl
+table_after-append t (m ∷ ms) ns = table_after-append m.table.value ms ns
+
+-- stores that came before these labels were there before them
+had_store : (count : ℕ) (t : TableValue) (ms : List Made) → KeepStores count t ms → (n : Name) (row : BoxRow) → (table_of (table_after t ms)).box_of n ≡ Some row → row.changed ≤ count → HadStore ((table_of t).box_of n) row
+had_store count t [] k n row e old = (row, e, refl, refl)
+had_store count t (m ∷ ms) k n row e old =
+    let there : HadStore ((table_of m.table.value).box_of n) row = had_store (suc count) m.table.value ms k.1 n row e (omega (arith, old)) in
+    elim (k.0 n there.0 there.1) [
+      | inl new ↦ absurd (omega (arith, old, new, there.3))
+      | inr was ↦ (was.0, was.1, was.2 ∙ there.2, was.3 ∙ there.3)
+    ]
+
+keeps_behind : (count : ℕ) (t : TableValue) (ms ns : List Made) → KeepStores count t (ms ++ ns) → KeepStores (count + length ms) (table_after t ms) ns
+keeps_behind count t [] ns k = subst (λ (i : ℕ). KeepStores i t ns) (let e : count ≡ count + 0 = omega arith in e) k
+keeps_behind count t (m ∷ ms) ns k =
+    subst (λ (i : ℕ). KeepStores i (table_after m.table.value ms) ns) (let e : suc count + length ms ≡ count + suc (length ms) = omega arith in e) (keeps_behind (suc count) m.table.value ms ns k.1)
+
+keeps_more : (count : ℕ) (t : TableValue) (ms : List Made) (m : Made) → KeepStores count t ms → KeepsStores (suc (count + length ms)) (table_of (table_after t ms)) (table_of m.table.value) → KeepStores count t (ms ++ m ∷ [])
+keeps_more count t [] m k next = (subst (λ (i : ℕ). KeepsStores (suc i) (table_of t) (table_of m.table.value)) (let e : count + 0 ≡ count = omega arith in e) next, tt)
+keeps_more count t (l ∷ ls) m k next =
+    (k.0, keeps_more (suc count) l.table.value ls m k.1 (subst (λ (i : ℕ). KeepsStores (suc i) (table_of (table_after l.table.value ls)) (table_of m.table.value)) (let e : count + suc (length ls) ≡ suc count + length ls = omega arith in e) next))
+
+-- so the table that was seen has those stores that no label behind it changed
+shared_stores : (first : TableValue) (seen further : List Made) (t u : TableValue) (count : ℕ) → t ≡ table_after first seen → u ≡ table_after first (seen ++ further) → count ≡ length seen
+    → KeepStores 0 first (seen ++ further) → SharesStores (table_of t) (table_of u) count
+shared_stores first seen further t u count was now number keeps n row e old =
+    let last : u ≡ table_after (table_after first seen) further = now ∙ table_after-append first seen further in
+    let had : HadStore ((table_of (table_after first seen)).box_of n) row =
+    had_store (length seen) (table_after first seen) further (keeps_behind 0 first seen further keeps) n row (ap (λ (x : TableValue). (table_of x).box_of n) (sym last) ∙ e) (subst (λ (k : ℕ). row.changed ≤ k) number old) in
+    ap (λ (x : TableValue). store_in ((table_of x).box_of n)) was ∙ ap store_in had.1 ∙ had.2
 
 none_by : (l : Label) (worker : ℕ) (ms : List Made) → l.worker ≡ worker → All (λ m. maker m ≢ worker) ms → NoneBy l (labels_in ms)
 none_by l worker [] by all = tt
@@ -45,6 +78,7 @@ shared_start c none = record {
   core = same_core c (core_after c []) refl none refl refl;
   fixed = record { program = refl; query = refl; workers = refl; budget = refl };
   workers = tt;
+  stores = tt;
 }
 
 -- what was found is of a front of the journal, and of this very table where no label follows
@@ -63,10 +97,11 @@ module _ (s : SharedValue) (c : CoreValue) (worker : ℕ) (n : Next) (is : IsSha
       ap (λ (d : CoreValue). d.journal) is.core ∙ ap labels_in f.goes.1 ∙ map-append label_in f.seen f.goes.0
       ∙ ap (λ (ls : List Label). ls ++ labels_in f.goes.0) (sym taken.journal)
 
-  same_table : f.goes.0 ≡ [] → f.found.view.table ≡ c.table
-  same_table none =
-      taken.table ∙ ap (table_after s.begun.table) (sym (f.goes.1 ∙ ap (λ (ms : List Made). f.seen ++ ms) none ∙ append-nil f.seen))
-      ∙ sym (ap (λ (d : CoreValue). d.table) is.core)
+  -- a store that no later label changed is the one that was seen
+  same_stores : SharesStores (table_of f.found.view.table) (table_of c.table) (length f.found.view.journal)
+  same_stores = shared_stores s.begun.table f.seen f.goes.0 f.found.view.table c.table (length f.found.view.journal) taken.table
+      (ap (λ (d : CoreValue). d.table) is.core ∙ ap (table_after s.begun.table) f.goes.1) (ap (λ (ls : List Label). length ls) taken.journal ∙ length-map f.seen label_in)
+      (subst (KeepStores 0 s.begun.table) f.goes.1 is.stores)
 
 pub may_commit : (s : SharedValue) (c : CoreValue) (worker : ℕ) (p : PlanValue) → IsShared s c → IsFoundBefore s worker (Next.Plan p) → MayCommit c p
 may_commit s c worker p is f =
@@ -76,7 +111,8 @@ may_commit s c worker p is f =
       further = labels_in f.goes.0;
       front = is_front s c worker (Next.Plan p) is f ∙ ap (λ (ls : List Label). ls ++ labels_in f.goes.0) (sym next.journal);
       none_by = none_by p.label worker f.goes.0 (next.worker ∙ f.found.taken.seer) f.goes.2;
-      same_table = λ none. next.table ∙ same_table s c worker (Next.Plan p) is f (no_labels f.goes.0 none);
+      same_stores = subst (λ (ls : List Label). SharesStores (table_of p.table) (table_of c.table) (length ls)) (sym next.journal)
+          (subst (λ (t : TableValue). SharesStores (table_of t) (table_of c.table) (length f.found.view.journal)) (sym next.table) (same_stores s c worker (Next.Plan p) is f));
     }
 
 pub may_settle : (s : SharedValue) (c : CoreValue) (worker : ℕ) (i : IdleValue) → IsShared s c → IsFoundBefore s worker (Next.Idle i) → MaySettle c i
@@ -90,16 +126,25 @@ may_settle s c worker i is f =
 
 -- a plan's label follows
 pub shared_more : (s : SharedValue) (c d : CoreValue) (worker : ℕ) (p : PlanValue) (r : Receipt) (m : Made) → IsShared s c → IsFoundBefore s worker (Next.Plan p)
-    → 1 ≤ worker → worker ≤ s.begun.workers → Commits c p d r → m.label.value ≡ r.label → m.table.value ≡ d.table → IsShared (record { begun = s.begun; past = s.past ++ m ∷ [] }) d
-shared_more s c d worker p r m is f least most made label table =
+    → 1 ≤ worker → worker ≤ s.begun.workers → IsCore d → Commits c p d r → m.label.value ≡ r.label → m.table.value ≡ d.table → IsShared (record { begun = s.begun; past = s.past ++ m ∷ [] }) d
+shared_more s c d worker p r m is f least most core made label table =
     let of_plan : label_in m ≡ p.label = label ∙ ap (λ (q : Receipt). q.label) made.receipt in
     let by : maker m ≡ worker = ap (λ (l : Label). l.worker) of_plan ∙ f.found.next.worker ∙ f.found.taken.seer in
+    let count : (table_of d.table).steps ≡ suc (length s.past) =
+    core.table.stamped.steps ∙ ap (λ (ls : List Label). length ls) made.journal ∙ length-append c.journal (p.label ∷ []) ∙ (let e : length c.journal + 1 ≡ suc (length c.journal) = omega arith in e)
+    ∙ ap (λ (e : CoreValue). suc (length e.journal)) is.core ∙ ap suc (length-map s.past label_in) in
+    let keeps : KeepsStores (suc (length s.past)) (table_of c.table) (table_of d.table) =
+    subst (λ (k : ℕ). KeepsStores k (table_of c.table) (table_of d.table)) count
+    (store_kept (table_of c.table) (table_of d.table) p.label (Some (solved_in c p)) p.names (step_of c.table.program.templates.nodes p.step) made.made.leads) in
     let fixed = fixed_on s.begun c d is.fixed made.fixed in record {
       core = same_core d (core_after s.begun (s.past ++ m ∷ [])) (sym table ∙ sym (table_after-more s.begun.table s.past m))
           (made.journal ∙ ap (λ (e : CoreValue). e.journal ++ p.label ∷ []) is.core ∙ ap (λ (l : Label). labels_in s.past ++ l ∷ []) (sym of_plan) ∙ sym (map-append label_in s.past (m ∷ [])))
           fixed.workers fixed.budget;
       fixed = fixed;
       workers = by_workers-more s.begun.workers s.past m is.workers (subst (λ n. 1 ≤ n) (sym by) least) (subst (λ n. n ≤ s.begun.workers) (sym by) most);
+      stores = keeps_more 0 s.begun.table s.past m is.stores
+          (subst (λ (t : TableValue). KeepsStores (suc (length s.past)) (table_of (table_after s.begun.table s.past)) (table_of t)) (sym table)
+          (subst (λ (t : TableValue). KeepsStores (suc (length s.past)) (table_of t) (table_of d.table)) (ap (λ (e : CoreValue). e.table) is.core) keeps));
     }
 
 pub concluded_more : (s : SharedValue) (c d : CoreValue) (worker : ℕ) (p : PlanValue) (r : Receipt) (m : Made) (rs : List Receipt) → IsShared s c → IsFoundBefore s worker (Next.Plan p)

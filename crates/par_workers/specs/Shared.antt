@@ -1,8 +1,9 @@
 -- What the workers of a run share.
-use Rattle.std.specs.Prelude.{◌≡◌, ℕ, ◌≤◌, List, [], ◌∷◌, map}
+use Rattle.std.specs.Prelude.{◌≡◌, ℕ, suc, ◌≤◌, List, [], ◌∷◌, map}
 use Rattle.akl_model.specs.declared.label.Label.{Label}
 use Rattle.akl_model.specs.declared.label.Receipt.{Receipt}
-use Rattle.box_tree.specs.Tables.{TableValue}
+use Rattle.table_laws.specs.Kept.{KeepsStores}
+use Rattle.box_tree.specs.Tables.{TableValue, table_of}
 use Rattle.step_commit.specs.Cores.{CoreValue, KeepsFixed}
 use Rattle.step_commit.specs.Receipts.{AreReceiptsBy}
 use Rattle.par_workers.specs.declared.shared.Made.{Made}
@@ -36,11 +37,17 @@ abbrev pub AreByWorkers : ℕ → List Label → Type 0
 AreByWorkers workers [] = Unit {0}
 AreByWorkers workers (l ∷ ls) = (1 ≤ l.worker) × (l.worker ≤ workers) × AreByWorkers workers ls
 
--- the core is that to which the labels led, with the fixed part of the first one, and the workers are those of the run
+-- each table has the stores of the one before it, but for those that came with its own label, where so many labels were made before
+abbrev pub KeepStores : ℕ → TableValue → List Made → Type 0
+KeepStores count t [] = Unit {0}
+KeepStores count t (m ∷ ms) = KeepsStores (suc count) (table_of t) (table_of m.table.value) × KeepStores (suc count) m.table.value ms
+
+-- the core is that to which the labels led, with the fixed part of the first one; the workers are those of the run, and stores stay until labels change them
 pub record IsShared (s : SharedValue) (c : CoreValue) : Type 0 where
   pub core : c ≡ core_after s.begun s.past
   pub fixed : KeepsFixed s.begun c
   pub workers : AreByWorkers s.begun.workers (labels_in s.past)
+  pub stores : KeepStores 0 s.begun.table s.past
 
 -- the receipts are the worker's labels, each once and in order
 abbrev pub AreReceiptsOf : ℕ → List Made → List Receipt → Type 0

@@ -1,6 +1,6 @@
 use Rattle.std.proofs.Common.{◌≤◌, sym, subst, ap, ◌∙◌, List, ◌++◌, ◌∷◌, []}
 use Rattle.akl_model.specs.declared.label.Receipt.{Receipt}
-use Rattle.step_commit.specs.Cores.{CoreValue}
+use Rattle.step_commit.specs.Cores.{CoreValue, IsCore}
 use Rattle.place_steps.specs.declared.next.Next.{Next}
 use Rattle.par_workers.specs.declared.shared.Made.{Made}
 use Rattle.par_workers.specs.Shared.{SharedValue, IsShared}
@@ -26,10 +26,11 @@ invariant_of-self-in-Ok g c =
     let d = c.commit.new.self.core in
     let found = subst (λ (x : SharedValue). IsFoundBefore x c.args.worker (Next.Plan c.args.plan)) (sym c.self.view_is) c.requires.plan in
     let most = subst (λ (x : SharedValue). c.args.worker ≤ x.begun.workers) (sym c.self.view_is) c.requires.worker.1 in
+    let core = subst IsCore c.core.ensures.core c.table.ensures.core in
     let table = c.of-made.ensures.table ∙ c.table.ensures.table ∙ ap (λ (e : CoreValue). e.table) c.core.ensures.core in
     subst (λ (ms : List Made). IsShared (record { begun = v.begun.value; past = ms }) d)
     (sym (c.push_reserved.ensures.items ∙ ap (λ (ms : List Made). ms ++ c.of-made.result ∷ []) c.reserve.ensures.items))
-    (shared_more s v.scheduler.core d c.args.worker c.args.plan c.in-Ok.field-0.receipt c.of-made.result c.self.invariant found c.requires.worker.0 most c.in-Ok.ensures.committed.commits c.of-made.ensures.label table)
+    (shared_more s v.scheduler.core d c.args.worker c.args.plan c.in-Ok.field-0.receipt c.of-made.result c.self.invariant found c.requires.worker.0 most core c.in-Ok.ensures.committed.commits c.of-made.ensures.label table)
 
 pub returns-in-Ok : goal.returns-in-Ok
 returns-in-Ok g c =
