@@ -1,6 +1,5 @@
 -- Lists of which each binding leads to an older variable.
 use Rattle.std.proofs.Common.{◌≡◌, ℕ, ◌+◌, ◌<◌, List, [], ◌∷◌, ◌++◌, Bool, true, false, if◌then◌else◌, length, take, slice_index_or, sym, ap, subst, ◌∙◌, arith}
-use Rattle.std.specs.Prelude.{◌↔◌}
 use Rattle.std.specs.List.{AllByRecursion}
 use Rattle.akl_terms.specs.declared.name.Var.{Var}
 use Rattle.akl_terms.specs.declared.term.Node.{Node}
@@ -68,11 +67,11 @@ module _ (P : Var × Term → Type 0) where
       (q.0, (q.1, r.1))
 
 -- what is added to bindings that lead to older variables does so, too, where all together does
-pub added-older : (nodes : List Node) (bs more store new : List (Var × Term)) → BindNew bs more → LeadOlder nodes (bs ++ more) → new ≡ joins store more → EachOlder nodes new ↔ EachOlder nodes store
-added-older nodes bs more store new n h e = (
-  λ o. (all-joins (IsToOlder nodes) store more (subst (EachOlder nodes) e o)).0,
-  λ o. subst (EachOlder nodes) (sym e) (joins-all (IsToOlder nodes) store more o (each-older nodes (bs ++ more) more h (BindNew-found bs more n))),
-)
+pub added-older : (nodes : List Node) (bs more store new : List (Var × Term)) → BindNew bs more → LeadOlder nodes (bs ++ more) → new ≡ joins store more → EachOlder nodes store → EachOlder nodes new
+added-older nodes bs more store new n h e o = subst (EachOlder nodes) (sym e) (joins-all (IsToOlder nodes) store more o (each-older nodes (bs ++ more) more h (BindNew-found bs more n)))
+
+pub kept-older : (nodes : List Node) (more store new : List (Var × Term)) → new ≡ joins store more → EachOlder nodes new → EachOlder nodes store
+kept-older nodes more store new e o = (all-joins (IsToOlder nodes) store more (subst (EachOlder nodes) e o)).0
 
 -- one store after another
 pub older-store : (nodes : List Node) (known old mid new : List (Var × Term)) (ss : List Stored) (i : ℕ) (d s : Stored) → i < length ss → s ≡ slice_index_or ss i d

@@ -32,8 +32,9 @@ pub record AnswersTold (nodes : List Node) (ss : List Stored) (known : ℕ) (es 
   pub tells : Tells nodes ss known es answer.store
   pub is_solved : IsTrue answer.solved ↔ ((length ss ≡ known) × IsConsistentBy (ToldAlso nodes ss es))
   pub bound : AreNewlyBound (equations_of nodes ss) (equations_of nodes ss) (equations_of nodes ss ++ equations_in nodes es) answer.bound.items
-  -- where all is consistent, and each binding of the stores that aren't known to be solved leads to an older variable, each of the new store does where each of the innermost one does, and there alone
-  pub older : IsConsistentBy (ToldAlso nodes ss es) → EachOlder nodes (bindings_from (drop known ss)) → EachOlder nodes answer.store.bindings ↔ EachOlder nodes (innermost ss).bindings
+  -- where all is consistent, and each binding of the innermost store and of those that aren't known to be solved leads to an older variable, so does each of the new store; and none of the innermost one is left out
+  pub older : IsConsistentBy (ToldAlso nodes ss es) → EachOlder nodes (bindings_from (drop known ss)) → EachOlder nodes (innermost ss).bindings → EachOlder nodes answer.store.bindings
+  pub kept : IsConsistentBy (ToldAlso nodes ss es) → EachOlder nodes answer.store.bindings → EachOlder nodes (innermost ss).bindings
 
 -- a store to which nothing was told
 abbrev pub IsUntold : ToldStore → Type 0
