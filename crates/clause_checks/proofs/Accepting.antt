@@ -1,6 +1,7 @@
 -- Clauses and queries that aren't refused keep the limits, and can be loaded once they are lifted.
 use Rattle.std.proofs.Common.{◌≡◌, ◌≤◌, ◌<◌, ℕ, zero, suc, Bool, true, false, ◌||◌, cond, List, [], ◌∷◌, ◌++◌, length, map, Option, Some, None, is_some, Result, Ok, Err, refl, sym, ap, subst, ◌∙◌, get_or, arith, append_assoc, append-nil, length-append}
 use Rattle.std.specs.Prelude.{nat_le, option_map, OnOk}
+use Rattle.std.specs.Option.{option_or}
 use Rattle.std.specs.List.{list_any, All, Contains}
 use Rattle.std.proofs.lemmas.List.Elements.{All-nil, All-cons}
 use Rattle.std.proofs.lemmas.Bool.Decides.{nat_tests}
@@ -21,14 +22,15 @@ use Rattle.clause_checks.specs.declared.error.Limit.TheVariants.{Clauses, PerDef
 use Rattle.clause_checks.specs.declared.error.LoadError.TheVariants.{TooMany, Reserved, MixedGuards, Undefined}
 use Rattle.clause_checks.specs.Within.{goals_of, goals_of_all, goals_of_parts, goals_in, goals_asked}
 use Rattle.clause_checks.specs.Rows.{first, above, own, with_before, is_callee, is_defined, goal_key, too_many_parts, too_many_clauses, first_crowded_in_clause, mixed_parts, mixed_choice, mixed_definition, key_if_mixed, clause_key, key_if_reserved, key_if_undefined, first_wide_in_goals, first_wide_in_clause}
-use Rattle.clause_checks.specs.Refusals.{Answers, too_many, refusal_of_few, refusal_of, goals_refusal, query_refusal_of}
+use Rattle.clause_checks.specs.Refusals.{Answers, too_many, refusal_of_few, refusal_of, parts_refusal, names_refusal, wide_goals_refusal, mixed_goals_refusal, goals_refusal, query_refusal_of}
 use Rattle.clause_checks.specs.Accepted.{AreAccepted, IsAccepted}
-use Rattle.clause_checks.specs.Tallies.{clauses_of}
+use Rattle.clause_checks.specs.Tallies.{SameCallees, clauses_of}
 use Rattle.clause_checks.proofs.SameCallee.{same_callee}
 use Rattle.clause_checks.proofs.Tallying.{clauses_same, clauses_other}
 use Rattle.clause_checks.proofs.Mixing.{equal_ops}
 use Rattle.clause_checks.proofs.Lists.{left_false, right_false}
-use Rattle.clause_checks.proofs.Refusing.{no_error, none_of, left_none}
+use Rattle.clause_checks.proofs.Refusing.{no_error, none_of, left_none, first_same}
+use Rattle.clause_checks.proofs.Undefined.{undefined_same}
 
 -- ---- what no test of goals finds, in each
 module _ (ks : List Callee) where
@@ -216,12 +218,20 @@ checked_clauses cs ds n r e f g h =
     let rest : refusal_of cs ≡ refusal_of_few cs = rw (sym (ap (too_many Clauses) f) ∙ g) refl in
     subst (λ o. Answers o r) (sym rest) (subst (λ x. Answers (refusal_of_few x) r) e h)
 
-pub checked_query : (p : Program) (q : Query) (ks : List Callee) (n : ℕ) (asked : Goals) (gs : List Goal) (r : Result (Unit {0}) LoadError) → ks ≡ map called_by p.definitions → n ≡ length q.names → asked ≡ goals q.goals
+-- the answer for goals, by another index of the same callees
+goals_same : (ks ls : List Callee) (n : ℕ) (asked : Goals) (gs : List Goal) → SameCallees ks ls → goals_refusal ks n asked gs ≡ goals_refusal ls n asked gs
+unfolding goals_refusal
+goals_same ks ls n asked gs h =
+    ap (λ o. option_or (parts_refusal gs) (option_or (names_refusal n) (option_or (wide_goals_refusal asked) (option_or (mixed_goals_refusal gs) (option_map Undefined o)))))
+    (first_same (key_if_undefined ks) (key_if_undefined ls) (undefined_same ks ls h) gs)
+
+pub checked_query : (p : Program) (q : Query) (ks : List Callee) (n : ℕ) (asked : Goals) (gs : List Goal) (r : Result (Unit {0}) LoadError) → SameCallees ks (map called_by p.definitions) → n ≡ length q.names → asked ≡ goals q.goals
     → gs ≡ goals_asked q → Answers (goals_refusal ks n asked gs) r → Answers (query_refusal_of p q) r
 unfolding query_refusal_of
 checked_query p q ks n asked gs r e f a g h =
-    let same : goals_refusal ks n asked gs ≡ goals_refusal (map called_by p.definitions) (length q.names) (goals q.goals) (goals_asked q) = rw (e, f, a, g) refl in
-    subst (λ o. Answers o r) same h
+    let ls = map called_by p.definitions in
+    let same : goals_refusal ls n asked gs ≡ goals_refusal ls (length q.names) (goals q.goals) (goals_asked q) = rw (f, a, g) refl in
+    subst (λ o. Answers o r) (goals_same ks ls n asked gs e ∙ same) h
 
 pub on_ok : {P : Type 0} (o : Option LoadError) (r : Result (Unit {0}) LoadError) → Answers o r → (o ≡ None → P) → OnOk r P
 on_ok o (Ok x) a f = f a

@@ -1,12 +1,12 @@
 //! The tests of loading, in their order.
 
-ghost use Rattle.std.specs.Prelude.{◌≡◌, ◌<◌, ◌≤◌, [], map, length, option_map, OnOk, IfSome};
+ghost use Rattle.std.specs.Prelude.{◌≡◌, ◌≤◌, [], map, length, option_map, OnOk, IfSome};
 ghost use Rattle.std.specs.List.{All};
 ghost use Rattle.akl_syntax.specs.Answers.{clause_view, query_view};
 ghost use Rattle.akl_syntax.specs.Goals.{goals};
 ghost use Rattle.akl_syntax.specs.GoalView.{goal};
 ghost use Rattle.akl_syntax.specs.Sizes.{clause_size, clauses_size, goal_size, query_size};
-ghost use Rattle.clause_keys.specs.Keys.{defined_by, called_by, AreUnique};
+ghost use Rattle.clause_keys.specs.Keys.{defined_by, called_by};
 ghost use Rattle.clause_keys.specs.Conditions.{HasNoNested, IsLoadable, MayCollect, IsClauseLoadable, AreUnmixed};
 ghost use Rattle.clause_checks.specs.declared.error.LoadError.TheVariants.{Undefined};
 ghost use Rattle.clause_checks.specs.Rows.{first, above, goal_key};
@@ -15,6 +15,7 @@ ghost use Rattle.clause_checks.specs.Refusals.{Answers, crowded_refusal, variabl
 ghost use Rattle.clause_checks.specs.Accepted.{AreAccepted, IsAccepted};
 
 use crate::arguments::{first_wide, first_wide_in_goals};
+use crate::callees::callees_of;
 use crate::calls::{first_undefined, first_undefined_goal};
 use crate::choices::{first_crowded_choice, mixed_goals};
 use crate::definitions::{first_crowded, first_mixed_clause};
@@ -211,16 +212,14 @@ pub fn check_clauses(alloc: Global, clauses: &[SourceClause]) -> Result<(), Load
 ///
 /// `Memory` may come in place of each of these, and in place of `Ok`.
 pub fn check_goals(alloc: Global, program: &Program, query: &SourceQuery) -> Result<(), LoadError>
-    requires small { query_size (query_view query.now) ≤ 1000000 }
-    requires few { length program.now.definitions < 4294967295 }
-    requires unique { AreUnique (map called_by program.now.definitions) }
+    requires { query_size (query_view query.now) ≤ 1000000 }
     ensures checked { Answers (query_refusal_of program.now (query_view query.now)) result }
     ensures accepted { OnOk result (IsAccepted (map called_by program.now.definitions) (query_view query.now)) }
     ensures loadable { OnOk result (HasNoNested (query_view query.now).goals → All (IsLoadable (map called_by program.now.definitions)) (query_view query.now).goals) }
     ensures few { OnOk result (length query.now.names.items ≤ 256) }
 {
     let written = goals_asked(alloc, query)?;
-    let callees = Callees::of_definitions(alloc, program.definitions.as_slice())?;
+    let callees = callees_of(alloc, program.definitions.as_slice())?;
     check_written(
         alloc,
         &callees,

@@ -2,6 +2,7 @@
 #![tactic(auto)]
 
 mod arguments;
+mod callees;
 mod calls;
 mod checks;
 mod choices;

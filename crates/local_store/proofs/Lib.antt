@@ -8,6 +8,7 @@ pub mod Known
 pub mod Among
 pub mod FormEnds
 pub mod NewlyBound
+pub mod EachLeads
 pub mod Replaced
 pub mod Parts
 pub mod Resolved

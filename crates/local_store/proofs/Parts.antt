@@ -19,6 +19,7 @@ use Rattle.local_store.specs.Chained.{bindings_from, BindOnce, IsSolvedChain}
 use Rattle.local_store.specs.Bound.{AreFound, bound_by, variable_in}
 use Rattle.local_store.proofs.Layers.{form-as, form-reorder, older-reorder, bindings-either, bindings-left, bindings-right}
 use Rattle.local_store.proofs.Once.{new-once, once-second, once-found}
+use Rattle.local_store.proofs.EachLeads.{each-older}
 use Rattle.local_store.proofs.Replaced.{length-append}
 
 -- what a list binds is told by it
@@ -38,10 +39,6 @@ bound_by-as : (nodes : List Node) (bs cs : List (Var × Term)) → ((t : Tree) �
 bound_by-as nodes bs cs same [] = refl
 bound_by-as nodes bs cs same (b ∷ list) =
     ap (λ (t : Tree). b.0 ∷ variable_in t ++ bound_by nodes bs list) (same (variable b.0)) ∙ ap (λ (l : List Var). b.0 ∷ variable_in (end_of nodes cs (variable b.0)) ++ l) (bound_by-as nodes bs cs same list)
-
-each-older : (nodes : List Node) (whole bs : List (Var × Term)) → LeadOlder nodes whole → AreFound whole bs → EachOlder nodes bs
-each-older nodes whole [] h f = tt
-each-older nodes whole (b ∷ bs) h f = (λ y e. h.each b.0 y b.1 f.0 e, each-older nodes whole bs h f.1)
 
 -- a solved chain in two parts
 module _ (nodes : List Node) (ss : List Stored) (outer inner : List (Var × Term)) (split : bindings_from ss ≡ inner ++ outer) (f : IsSolvedChain nodes ss) where

@@ -12,7 +12,7 @@ use Rattle.akl_terms.specs.Template.{tree}
 use Rattle.akl_terms.specs.Decided.{DifferInHead}
 use Rattle.akl_terms.proofs.EqualLaws.{EqualBy-follows, IsTold-left, IsTold-right, IsTold-either}
 use Rattle.rational_unify.specs.Known.{found_in}
-use Rattle.rational_unify.specs.Older.{LeadOlder, KeepsOlder}
+use Rattle.rational_unify.specs.Older.{LeadOlder, KeepsOlder, EachOlder}
 use Rattle.rational_unify.specs.Solving.{bindings_in, equations_in, BindNew, IsSolution, IsClashOf}
 use Rattle.rational_unify.specs.Forms.{IsFormOf, Takes, IsClashOfBindings}
 use Rattle.rational_unify.proofs.FormLaws.{form-consistent}
@@ -24,6 +24,7 @@ use Rattle.local_store.specs.Telling.{ToldAlso, Tells, AnswersTold, Adds, added,
 use Rattle.local_store.proofs.Layers.{form-as, form-equations, form-added, forms-stand, inconsistent-stand, form-reorder, older-reorder, joins-found, joins-length, joins-told, told-joins, from-last, from-innermost, bindings-either, bindings-left, bindings-right, chain-form, chain-clash}
 use Rattle.local_store.proofs.Once.{once-joins}
 use Rattle.local_store.proofs.Known.{drop-whole}
+use Rattle.local_store.proofs.EachLeads.{added-older, kept-older}
 use Rattle.local_store.proofs.NewlyBound.{none_bound, are_newly_bound}
 
 pub length-append : (xs ys : List (Var × Term)) → length (xs ++ ys) ≡ length xs + length ys
@@ -150,6 +151,15 @@ module _ (nodes : List Node) (ss : List Stored) (known : ℕ) (bs : List (Var ×
   adds-bound t list (clash left right c e i l) = subst (AreNewlyBound (equations_of nodes ss) (equations_of nodes ss) (equations_of nodes ss ++ equations_in nodes es)) (sym l)
       (clash-bound nodes ss es left right (clash_here left right c) c.differ)
 
+  -- where it is consistent, each binding of the store leads to an older variable where each did before
+  pub adds-older : (t : Bool) (list : List Var) → Adds nodes bs es (innermost ss) new t list → LeadOlder nodes bs → IsConsistentBy (ToldAlso nodes ss es) → EachOlder nodes (innermost ss).bindings → EachOlder nodes new.bindings
+  adds-older t list (added more s o e i l) h c = added-older nodes bs more (innermost ss).bindings new.bindings s.fresh (o h) (ap (λ (r : Stored). r.bindings) e)
+  adds-older t list (clash left right k e i l) h c = absurd (k.differ.differ (c.heads (clash_here left right k) k.differ.is_left k.differ.is_right))
+
+  pub adds-kept : (t : Bool) (list : List Var) → Adds nodes bs es (innermost ss) new t list → IsConsistentBy (ToldAlso nodes ss es) → EachOlder nodes new.bindings → EachOlder nodes (innermost ss).bindings
+  adds-kept t list (added more s o e i l) c = kept-older nodes more (innermost ss).bindings new.bindings (ap (λ (r : Stored). r.bindings) e)
+  adds-kept t list (clash left right k e i l) c = absurd (k.differ.differ (c.heads (clash_here left right k) k.differ.is_left k.differ.is_right))
+
   -- consistent exactly where it says so
   pub adds-says : (t : Bool) (list : List Var) → Adds nodes bs es (innermost ss) new t list → IsTrue t ↔ IsConsistentBy (ToldAlso nodes ss es)
   adds-says t list (added more s o e i l) = (λ _. form-consistent nodes (bs ++ more) (ToldAlso nodes ss es) (form-equations nodes bs es more (ToldBy nodes ss) f s), λ _. i)
@@ -163,41 +173,56 @@ answers-whole nodes ss known es answer f l a =
       tells = tells-adds nodes ss known (bindings_from ss) es answer.store f.form (λ e. (refl, f.older, f.once)) answer.solved answer.bound.items a;
       is_solved = (λ h. (l, says.0 h), λ w. says.1 w.1);
       bound = adds-bound nodes ss known (bindings_from ss) es answer.store f.form (λ e. (refl, f.older, f.once)) answer.solved answer.bound.items a;
+      older = λ c h. adds-older nodes ss known (bindings_from ss) es answer.store f.form (λ e. (refl, f.older, f.once)) answer.solved answer.bound.items a f.older c;
+      kept = adds-kept nodes ss known (bindings_from ss) es answer.store f.form (λ e. (refl, f.older, f.once)) answer.solved answer.bound.items a;
     }
 
 -- and over one of which only so many outermost stores are, with the others taken in
-module _ (nodes : List Node) (ss : List Stored) (known k : ℕ) (es : List code.Equation) (f : IsSolvedChain nodes (take k ss)) (less : length ss ≡ known → ⊥) where
+module _ (nodes : List Node) (ss : List Stored) (known k : ℕ) (es : List code.Equation) (f : IsSolvedChain nodes (take k ss)) (same : k ≡ known) (less : length ss ≡ known → ⊥) where
   abbrev Also : Equations
   Also = equations_of nodes ss ++ equations_in nodes es
 
   -- what the store and the list that are answered owe
   abbrev Owed : Stored → List Var → Type 0
   Owed s list = Tells nodes ss known es s × AreNewlyBound (equations_of nodes ss) (equations_of nodes ss) Also list
+      × (IsConsistentBy (ToldAlso nodes ss es) → EachOlder nodes (bindings_from (drop k ss)) → EachOlder nodes (innermost ss).bindings → EachOlder nodes s.bindings)
+      × (IsConsistentBy (ToldAlso nodes ss es) → EachOlder nodes s.bindings → EachOlder nodes (innermost ss).bindings)
 
   further-added : (s : Stored) (list : List Var) (new : List (Var × Term)) → Takes nodes (bindings_from (take k ss)) [] new (bindings_from (drop k ss))
+      → (LeadOlder nodes (bindings_from (take k ss)) → EachOlder nodes (bindings_from (drop k ss)) → LeadOlder nodes (bindings_from (take k ss) ++ new))
       → (solved : Bool) → Adds nodes (bindings_from (take k ss) ++ new) es (innermost ss) s solved list → Owed s list
-  further-added s list new t solved a = (
+  further-added s list new t o solved a = (
     tells-adds nodes ss known (bindings_from (take k ss) ++ new) es s form (λ e. absurd (less e)) solved list a,
     adds-bound nodes ss known (bindings_from (take k ss) ++ new) es s form (λ e. absurd (less e)) solved list a,
+    λ c h. adds-older nodes ss known (bindings_from (take k ss) ++ new) es s form (λ e. absurd (less e)) solved list a (o f.older h) c,
+    adds-kept nodes ss known (bindings_from (take k ss) ++ new) es s form (λ e. absurd (less e)) solved list a,
   )
     where
       form : IsFormOf nodes (bindings_from (take k ss) ++ new) (ToldBy nodes ss)
       form = chain-form nodes ss k (bindings_from (take k ss)) new f.form t
 
   further-clashed : (s : Stored) (left right : Term) → IsClashOfBindings nodes (bindings_from (take k ss) ++ []) (bindings_from (drop k ss)) left right → s ≡ clashed (innermost ss) left right → Owed s []
-  further-clashed s left right c e = (tells-clash nodes ss known es s left right equal c.differ e, clash-bound nodes ss es left right equal c.differ)
+  further-clashed s left right c e = (
+    tells-clash nodes ss known es s left right equal c.differ e,
+    clash-bound nodes ss es left right equal c.differ,
+    λ k h. absurd (c.differ.differ (k.heads equal c.differ.is_left c.differ.is_right)),
+    λ k. absurd (c.differ.differ (k.heads equal c.differ.is_left c.differ.is_right)),
+  )
     where
       equal : EqualBy (ToldAlso nodes ss es) (tree nodes left) (tree nodes right)
       equal = EqualBy-follows (λ a b m. told (inl m)) (chain-clash nodes ss k (bindings_from (take k ss)) left right f.form c)
 
   further-adds : (s : Stored) (list : List Var) → AddsOver nodes (bindings_from (take k ss)) (drop k ss) es (innermost ss) s list → Owed s list
-  further-adds s list (taken new t solved a) = further-added s list new t solved a
+  further-adds s list (taken new t o solved a) = further-added s list new t o solved a
   further-adds s list (clashing left right c e l) = subst (Owed s) (sym l) (further-clashed s left right c e)
 
   pub answers-further : (answer : ToldStore) → answer.solved ≡ false → AddsOver nodes (bindings_from (take k ss)) (take (length ss - k) (drop k ss)) es (innermost ss) answer.store answer.bound.items
       → AnswersTold nodes ss known es answer
-  answers-further answer e a = record { tells = owed.0; is_solved = (λ h. absurd (false≢true (sym e ∙ h)), λ w. absurd (less w.0)); bound = owed.1 }
+  answers-further answer e a = record { tells = owed.0; is_solved = (λ h. absurd (false≢true (sym e ∙ h)), λ w. absurd (less w.0)); bound = owed.1; older = further; kept = owed.3 }
     where
       owed : Owed answer.store answer.bound.items
       owed = further-adds answer.store answer.bound.items
           (subst (λ (l : List Stored). AddsOver nodes (bindings_from (take k ss)) l es (innermost ss) answer.store answer.bound.items) (drop-whole ss k) a)
+
+      further : IsConsistentBy (ToldAlso nodes ss es) → EachOlder nodes (bindings_from (drop known ss)) → EachOlder nodes (innermost ss).bindings → EachOlder nodes answer.store.bindings
+      further c h = owed.2 c (subst (λ (j : ℕ). EachOlder nodes (bindings_from (drop j ss))) (sym same) h)

@@ -1,5 +1,5 @@
 -- Equations told to a chain.
-use Rattle.std.specs.Prelude.{◌≡◌, ℕ, Bool, true, false, List, [], ◌++◌, length, ◌⊎◌, ◌↔◌, IsTrue}
+use Rattle.std.specs.Prelude.{◌≡◌, ℕ, Bool, true, false, List, [], ◌++◌, length, drop, ◌⊎◌, ◌↔◌, IsTrue}
 use Rattle.akl_terms.specs.declared.name.Var.{Var}
 use Rattle.akl_terms.specs.declared.term.Node.{Node}
 use Rattle.akl_terms.specs.declared.term.Term.{Term}
@@ -8,7 +8,7 @@ use Rattle.akl_terms.specs.Tree.{Tree}
 use Rattle.akl_terms.specs.Equal.{IsTold, IsConsistentBy}
 use Rattle.akl_terms.specs.Standing.{StandFor}
 use Rattle.rational_unify.specs.Solving.{equations_in, IsSolution, IsClashOf}
-use Rattle.rational_unify.specs.Older.{KeepsOlder}
+use Rattle.rational_unify.specs.Older.{LeadOlder, KeepsOlder, EachOlder}
 use Rattle.rational_unify.specs.Forms.{Takes, IsClashOfBindings}
 use Rattle.local_store.specs.declared.telling.ToldStore.{ToldStore}
 use Rattle.local_store.specs.Stored.{Stored, with_binding, with_bindings}
@@ -32,6 +32,9 @@ pub record AnswersTold (nodes : List Node) (ss : List Stored) (known : ℕ) (es 
   pub tells : Tells nodes ss known es answer.store
   pub is_solved : IsTrue answer.solved ↔ ((length ss ≡ known) × IsConsistentBy (ToldAlso nodes ss es))
   pub bound : AreNewlyBound (equations_of nodes ss) (equations_of nodes ss) (equations_of nodes ss ++ equations_in nodes es) answer.bound.items
+  -- where all is consistent, and each binding of the innermost store and of those that aren't known to be solved leads to an older variable, so does each of the new store; and none of the innermost one is left out
+  pub older : IsConsistentBy (ToldAlso nodes ss es) → EachOlder nodes (bindings_from (drop known ss)) → EachOlder nodes (innermost ss).bindings → EachOlder nodes answer.store.bindings
+  pub kept : IsConsistentBy (ToldAlso nodes ss es) → EachOlder nodes answer.store.bindings → EachOlder nodes (innermost ss).bindings
 
 -- a store to which nothing was told
 abbrev pub IsUntold : ToldStore → Type 0
@@ -52,5 +55,5 @@ pub data Adds (nodes : List Node) (bs : List (Var × Term)) (es : List code.Equa
 
 -- the same where stores are first taken in over a solved form
 pub data AddsOver (nodes : List Node) (known : List (Var × Term)) (ss : List Stored) (es : List code.Equation) (old new : Stored) (bound : List Var) : Type 0 where
-  taken : (more : List (Var × Term)) → Takes nodes known [] more (bindings_from ss) → (consistent : Bool) → Adds nodes (known ++ more) es old new consistent bound → AddsOver nodes known ss es old new bound
+  taken : (more : List (Var × Term)) → Takes nodes known [] more (bindings_from ss) → (LeadOlder nodes known → EachOlder nodes (bindings_from ss) → LeadOlder nodes (known ++ more)) → (consistent : Bool) → Adds nodes (known ++ more) es old new consistent bound → AddsOver nodes known ss es old new bound
   clashing : (left right : Term) → IsClashOfBindings nodes (known ++ []) (bindings_from ss) left right → new ≡ clashed old left right → bound ≡ [] → AddsOver nodes known ss es old new bound

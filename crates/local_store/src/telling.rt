@@ -1,7 +1,8 @@
 //! Equations told to a chain, and what the chain says.
-ghost use Rattle.std.specs.Prelude.{◌≡◌, ◌++◌, IfOk, MatchOption};
+ghost use Rattle.std.specs.Prelude.{◌≡◌, ◌++◌, IfOk, IfNone, MatchOption};
 ghost use Rattle.rational_unify.specs.Known.{IsSolved};
 ghost use Rattle.rational_unify.specs.Solving.{BindNew};
+ghost use Rattle.rational_unify.specs.Older.{LeadOlder, EachOlder};
 ghost use Rattle.rational_unify.specs.Forms.{Takes, IsClashOfBindings};
 ghost use Rattle.local_store.specs.Chained.{bindings_from, innermost};
 ghost use Rattle.local_store.specs.Stored.{with_bindings};
@@ -109,8 +110,9 @@ fn tell_chain(
 }
 
 /// Takes the bindings of stores in, which stand from the outermost inwards. `Some` gives two terms
-/// of different heads that they make equal. After a clash, or an `Err` for want of memory, nothing is
-/// promised of what the form has added: it need not be solved, and is to be dropped.
+/// of different heads that they make equal. Where what was there and each of these bindings lead from
+/// younger variables to older ones, so does all together. After a clash, or an `Err` for want of
+/// memory, nothing is promised of what the form has added: it need not be solved, and is to be dropped.
 pub fn take_stores<K: Lookup>(
     alloc: Global,
     templates: &Templates,
@@ -122,6 +124,9 @@ pub fn take_stores<K: Lookup>(
     ensures taken { IfOk result (λ found. MatchOption found
         (Takes templates.now.nodes (K.bindings form.old.known.now) form.old.added form.new.added (bindings_from stores.now))
         (λ clash. IsClashOfBindings templates.now.nodes (K.bindings form.old.known.now ++ form.old.added) (bindings_from stores.now) clash.left clash.right)) }
+    ensures older { IfOk result (λ found. IfNone found
+        (LeadOlder templates.now.nodes (K.bindings form.old.known.now ++ form.old.added) → EachOlder templates.now.nodes (bindings_from stores.now)
+        → LeadOlder templates.now.nodes (K.bindings form.old.known.now ++ form.new.added))) }
 {
     for store in stores {
         if let Some(clash) = take_store(alloc, templates, form, store.get())? {
@@ -143,6 +148,9 @@ pub(crate) fn take_store<K: Lookup>(
     ensures taken { IfOk result (λ found. MatchOption found
         (Takes templates.now.nodes (K.bindings form.old.known.now) form.old.added form.new.added store.now.bindings)
         (λ clash. IsClashOfBindings templates.now.nodes (K.bindings form.old.known.now ++ form.old.added) store.now.bindings clash.left clash.right)) }
+    ensures older { IfOk result (λ found. IfNone found
+        (LeadOlder templates.now.nodes (K.bindings form.old.known.now ++ form.old.added) → EachOlder templates.now.nodes store.now.bindings
+        → LeadOlder templates.now.nodes (K.bindings form.old.known.now ++ form.new.added))) }
 {
     let bindings = store.bindings()?;
     form.take(alloc, templates, bindings.as_slice())

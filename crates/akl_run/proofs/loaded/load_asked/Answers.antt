@@ -21,8 +21,8 @@ returns-in-Err-clause-stop c = query_text_stops c.args.program c.args.text.now c
 pub returns-in_err-asked-clause-stop : goal.returns-in_err-asked-clause-stop
 returns-in_err-asked-clause-stop c = from_error c.from_residual.result c.from_residual.ensures.1 (λ stop p. stops_as (QueryStops c.args.program c.args.text.now) _ _ stop p no_memory)
 
-pub check_goals-requires-clause-small : goal.check_goals-requires-clause-small
-check_goals-requires-clause-small c = omega (arith, query_small (as_query c.in-Ok.ensures.reads c.in_ok-asked.ensures), c.requires.short)
+pub check_goals-requires : goal.check_goals-requires
+check_goals-requires c = omega (arith, query_small (as_query c.in-Ok.ensures.reads c.in_ok-asked.ensures), c.requires.short)
 
 pub returns-in-Err-check_goals-clause-stop : goal.returns-in-Err-check_goals-clause-stop
 returns-in-Err-check_goals-clause-stop c =

@@ -18,5 +18,5 @@ returns-then-known-stores c = IfOk-weaker c.tell.result _ _
 pub returns : goal.returns
 returns c =
     answers-further c.args.chain.now.nodes c.args.chain.now.stores c.args.chain.now.known c.known-known.result c.args.equations.now (c.known-known.ensures.solved.each c.known-known.result (omega arith))
-    (λ e. c.if-known-stores.false (c.known-known.ensures.known ∙ sym e ∙ ap length (sym c.stores-stores.ensures))) _ refl
+    c.known-known.ensures.known (λ e. c.if-known-stores.false (c.known-known.ensures.known ∙ sym e ∙ ap length (sym c.stores-stores.ensures))) _ refl
     (rw (c.templates-templates.ensures.nodes, c.outer.ensures.stores, c.requires.store, c.stores-stores.ensures) at c.in_ok-tell_over.ensures)

@@ -1,4 +1,4 @@
-use Rattle.std.proofs.Common.{◌∙◌, ap}
+use Rattle.std.proofs.Common.{◌∙◌, ap, append-nil}
 use Rattle.std.proofs.lemmas.Result.{IfOk-weaker}
 use Rattle.local_store.specs.Telling.{taken, clashing}
 use Rattle.local_store.proofs.telling.tell_over.Goals as goal
@@ -11,5 +11,5 @@ returns-in-Some g c = IfOk-weaker c.add_clash.result _ _
 
 pub returns : goal.returns
 returns g c = IfOk-weaker c.tell.result _ _
-    (λ z h. taken c.take_stores.new.form.added (rw (c.in-None.is, c.new.ensures) at c.in_ok-clash.ensures.taken) c.tell.new.told.solved h)
+    (λ z h. taken c.take_stores.new.form.added (rw (c.in-None.is, c.new.ensures) at c.in_ok-clash.ensures.taken) (rw (c.in-None.is, c.new.ensures, append-nil (g.K.Lookup.bindings c.args.known.now)) at c.in_ok-clash.ensures.older) c.tell.new.told.solved h)
     (rw c.in_ok-clash.ensures.known at c.tell.ensures)
