@@ -65,8 +65,7 @@ impl Line {
         ensures pushed { OnOk result (self.new ≡ record self.old { entries = self.old.entries ++ entry ∷ [] }) }
         ensures unchanged { OnErr result (self.new ≡ self.old) }
     {
-        let room = self.reserved.checked_add(1).ok_or(AllocError)?;
-        self.entries.reserve(room)?;
+        make_room(&mut self.entries, self.reserved)?;
         self.entries.push_back_reserved(entry);
         Ok(())
     }
@@ -76,9 +75,8 @@ impl Line {
         ensures reserved { OnOk result (self.new ≡ record self.old { reserved = self.old.reserved + 1 }) }
         ensures unchanged { OnErr result (self.new ≡ self.old) }
     {
-        let room = self.reserved.checked_add(1).ok_or(AllocError)?;
-        self.entries.reserve(room)?;
-        self.reserved = room;
+        make_room(&mut self.entries, self.reserved)?;
+        self.reserved += 1;
         Ok(())
     }
 
@@ -130,6 +128,22 @@ impl Line {
         thin_back(&mut self.entries, urgency, places);
         thin_front(&mut self.entries, urgency, places);
     }
+}
+
+// Makes room for one entry beside so many for which there is room.
+#[inline(always)]
+fn make_room(entries: &mut VecDeque<Entry>, reserved: usize) -> Result<(), AllocError>
+    requires { deque_len entries.old + reserved ≤ deque_capacity entries.old }
+    ensures items { entries.new.items ≡ entries.old.items }
+    ensures len { deque_len entries.new ≡ deque_len entries.old }
+    ensures capacity { deque_capacity entries.old ≤ deque_capacity entries.new }
+    ensures room { OnOk result (deque_len entries.new + reserved < deque_capacity entries.new) }
+{
+    if entries.capacity() - entries.len() > reserved {
+        return Ok(());
+    }
+    let room = reserved.checked_add(1).ok_or(AllocError)?;
+    entries.reserve(room)
 }
 
 // Keeps only the entries that are current, where there are more than twice as many entries as places.
