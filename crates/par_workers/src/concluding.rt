@@ -78,13 +78,7 @@ impl SharedRun {
             return;
         }
         match self.scheduler.commit(alloc, plan, steps) {
-            Ok(
-                Committed {
-                    receipt,
-                    opened,
-                    hurried: _,
-                },
-            ) => {
+            Ok(Committed { receipt, opened }) => {
                 let made = Made::of(&receipt.label, self.scheduler.core().table());
                 self.past.push_reserved(made);
                 receipts.push_reserved(receipt);

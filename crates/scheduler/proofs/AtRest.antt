@@ -1,7 +1,7 @@
 -- From an open box on, what stands open in it stands deeper.
 use Rattle.std.proofs.Common.{◌≡◌, ℕ, suc, ◌+◌, ◌-◌, ◌<◌, Bool, true, List, [], ◌∷◌, length, reverse, ◌≤◌, Option, Some, None, refl, sym, ◌∙◌, ap, subst, arith}
 use Rattle.std.proofs.lemmas.List.{length-append, length-reverse}
-use Rattle.std.specs.Prelude.{◌||◌, option_map}
+use Rattle.std.specs.Prelude.{◌||◌, option_map, IfNone}
 use Rattle.akl_terms.specs.declared.name.Name.{Name}
 use Rattle.akl_terms.specs.declared.name.Place.{Place}
 use Rattle.akl_terms.proofs.SameNames.{same_name-refl}
@@ -89,3 +89,23 @@ rests os t p r w h e f =
 
 pub token_leads : (os : Openings) (t : ℕ) → IsToken os t → None ≡ option_map (λ (o : Opening). o.place) (opening_at t os) → ⊥
 token_leads os t w f = some_none (ap (option_map (λ (o : Opening). o.place)) w.1) (sym f)
+
+-- where a place is found under a token, or none is
+pub has_token : (os : Openings) (t : ℕ) (p : Place) → Some p ≡ option_map (λ (o : Opening). o.place) (opening_at t os) → IsToken os t
+has_token os t p e = on (opening_at t os) refl
+  where
+    on : (o : Option Opening) → opening_at t os ≡ o → IsToken os t
+    on None f = let none : Some p ≡ None = e ∙ ap (option_map (λ (o : Opening). o.place)) f in absurd cc
+    on (Some o) f = (o, f)
+
+pub no_token : (os : Openings) (t : ℕ) → None ≡ option_map (λ (o : Opening). o.place) (opening_at t os) → opening_at t os ≡ None
+no_token os t e = on (opening_at t os) refl
+  where
+    on : (o : Option Opening) → opening_at t os ≡ o → opening_at t os ≡ None
+    on None f = f
+    on (Some o) f = absurd (some_none (ap (option_map (λ (o : Opening). o.place)) f) (sym e))
+
+-- an open place is found at rest
+pub found_at_rest : (os : Openings) (t : ℕ) (Q : Type 0) → IsToken os t → (r : Option (ℕ × Place)) → IfNone r (opening_at t os ≡ None) → IfNone r Q
+found_at_rest os t Q w None e = absurd (some_none w.1 e)
+found_at_rest os t Q w (Some x) e = e

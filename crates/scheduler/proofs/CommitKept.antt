@@ -1,5 +1,6 @@
 -- A commit keeps what a scheduler is, and makes of it what it is to.
-use Rattle.std.proofs.Common.{◌≡◌, ℕ, true, false, List, [], ◌∷◌, ◌++◌, Option, sym, subst, ◌∙◌, ◌⊎◌, inl, inr}
+use Rattle.std.proofs.Common.{◌≡◌, ℕ, true, List, [], ◌∷◌, ◌++◌, Option, sym, subst, ◌⊎◌, inl, inr}
+use Rattle.std.specs.Prelude.{⊤}
 use Rattle.akl_terms.specs.declared.name.Var.{Var}
 use Rattle.akl_terms.specs.declared.name.Place.{Place}
 use Rattle.akl_terms.specs.declared.program.Program.{Program}
@@ -30,7 +31,7 @@ use Rattle.scheduler.specs.Opening.{AreOpened}
 use Rattle.scheduler.specs.Dropping.{DropsWaits, after_going}
 use Rattle.scheduler.specs.Listing.{AreListedFor}
 use Rattle.scheduler.specs.Schedulers.{SchedulerValue, IsScheduler}
-use Rattle.scheduler.specs.Committed.{IsOpenAndKept, CommitsAndOpens, OpensAmong}
+use Rattle.scheduler.specs.Committed.{IsOpenAndKept, CommitsWithTurns, OpensAmong}
 use Rattle.scheduler.specs.declared.committing.Committed.{Committed}
 use Rattle.scheduler.specs.declared.splits.Split.{Split}
 use Rattle.scheduler.specs.Splits.{splits_at, DropsSplits, AreSplitsOf}
@@ -214,11 +215,11 @@ module _ (s : SchedulerValue) (h : IsScheduler s) (p : PlanValue) (right : IsRig
         (subst (λ (x : Config). Opens kept t.config x place) (one_config core w u) (subst (λ (x : Config). Opens kept x w.config place) (one_config s.core v t) o)));
   }
 
-  pub committed_so : (r : Committed) → r.receipt ≡ receipt → r.opened.items ≡ ts → r.hurried ≡ false → CommitsAndOpens s p (record { core = core; openings = now; waits = w2 }) r
-  committed_so r e f g = record {
+  pub committed_so : (r : Committed) → r.receipt ≡ receipt → r.opened.items ≡ ts → CommitsWithTurns ⊤ s p (record { core = core; openings = now; waits = w2 }) r
+  committed_so r e f = record {
     commits = subst (Commits s.core p core) (sym e) commits;
     follows = follows_so;
     keeps = subst (λ (z : List ℕ). KeepsTokens s.openings now z) (sym f) (going_keeps s.openings ps mid ts opened h.apart l.place gone own token);
     tokens = subst (λ (z : List ℕ). AreNewTokens s.openings now z) (sym f) (after.new_tokens t.config u.config l h.now h.kept ps gone facts s.openings h.are_open h.standing h.apart mid ts opened own token);
-    hurried = λ k. absurd (let no : true ≡ false = sym k ∙ g in cc);
+    turns = tt;
   }

@@ -1,17 +1,23 @@
 -- Places that become urgent.
-use Rattle.std.proofs.Common.{◌≡◌, ℕ, ◌+◌, ◌<◌, get_or, take, Bool, true, false, List, length, Option, Some, None, refl, sym, ap, subst, ◌∙◌, inl, inr}
+use Rattle.std.proofs.Common.{◌≡◌, ℕ, ◌+◌, ◌<◌, get_or, take, Bool, true, false, List, [], ◌∷◌, length, Option, Some, None, refl, sym, ap, subst, ◌∙◌, inl, inr}
 use Rattle.std.proofs.lemmas.List.{take_more}
-use Rattle.std.specs.Prelude.{cond, option_map}
+use Rattle.std.specs.Prelude.{cond, option_map, ◌||◌}
 use Rattle.std.specs.Map.{lookup}
+use Rattle.std.specs.Result.{IfOk, IfErr}
+use Rattle.std.specs.declared.result.Result.{Result}
+use Rattle.std.specs.declared.result.Result.TheVariants.{Ok, Err}
 use Rattle.std.specs.BTreeMap.{insert_entry}
 use Rattle.std.specs.Ordering.{nat_cmp}
 use Rattle.akl_terms.specs.declared.name.Name.{Name}
 use Rattle.akl_terms.specs.declared.name.Place.{Place}
 use Rattle.akl_terms.specs.Names.{same_name}
-use Rattle.akl_model.specs.Config.{Found, box_at}
+use Rattle.akl_model.specs.Config.{IsIn, Found, box_at, site_of}
 use Rattle.akl_model.specs.Conditions.{HasFailed}
 use Rattle.akl_model.proofs.Options.{some_value, map_some}
-use Rattle.table_laws.specs.Rows.{BoxRow}
+use Rattle.akl_model.proofs.NamesKept.{box-itself}
+use Rattle.akl_model.proofs.Scoped.{IsIn-either}
+use Rattle.table_laws.specs.Rows.{BoxRow, GoalRow}
+use Rattle.table_laws.specs.Writes.{home_in}
 use Rattle.table_laws.specs.Unfolds.{FailsBy, IsBoxRow}
 use Rattle.step_laws.proofs.Failing.{failing_found}
 use Rattle.table_laws.proofs.Frame.{row_of, found_of}
@@ -19,16 +25,21 @@ use Rattle.box_tree.specs.Tables.{TableValue, table_of, box_row}
 use Rattle.box_tree.specs.Paths.{sight_in}
 use Rattle.box_tree.specs.declared.entries.BoxEntry.{BoxEntry}
 use Rattle.box_tree.specs.declared.view.Sight.{Sight}
+use Rattle.box_tree.specs.Plans.{PlanValue}
+use Rattle.opened_places.specs.Exact.{site_in}
 use Rattle.opened_places.specs.Placed.{PlacedValue, places_of}
+use Rattle.opened_places.proofs.AtRows.{row_of_goal}
+use Rattle.opened_places.proofs.RunRows as run_rows
 use Rattle.wake_lists.specs.declared.turn.Urgency.{Urgency}
 use Rattle.wake_lists.specs.declared.turn.Turn.{Turn}
 use Rattle.wake_lists.specs.Queue.{is_sooner}
 use Rattle.wake_lists.specs.Open.{Opening, Openings, opening_at, IsOpen, IsHurried, IsPutLast}
 use Rattle.wake_lists.proofs.Keys.{token_here}
-use Rattle.step_commit.specs.Cores.{CoreValue, TableIn}
+use Rattle.step_commit.specs.Cores.{CoreValue, TableIn, run_by}
 use Rattle.scheduler.specs.Schedulers.{SchedulerValue}
-use Rattle.scheduler.specs.Turns.{urgency_by, urgency_seen, IsUrgentAt, AreUrgent}
-use Rattle.scheduler.specs.Committed.{FailingAreUrgent, OpensAmong}
+use Rattle.scheduler.specs.Turns.{urgency_by, urgency_seen, is_urgent, told_by, unsolved_by, is_elsewhere, may_fail, IsUrgentAt, AreUrgent, AreUrgentBoxes, StayUrgent, AreHintsFor}
+use Rattle.scheduler.specs.declared.turns.TurnHints.{TurnHints}
+use Rattle.scheduler.specs.Committed.{SuspectsAreUrgent, OpensAmong}
 use Rattle.scheduler.proofs.OpeningLists.{some_none, put_at}
 use Rattle.scheduler.proofs.OpenedMore.{place_either}
 use lib.Dec.{eqb}
@@ -77,19 +88,40 @@ module _ (before after : Openings) (urgency : Urgency) (t : ℕ) where
           let here : eqb s t ≡ true = ap (eqb s) same ∙ token_here s in
           cc
 
+-- urgent places stay so where one was hurried, or nothing was
+pub still_either : {E : Type 0} (r : Result (Unit {0}) E) (a b : Openings) (urgency : Urgency) (t : ℕ) → IfOk r (λ x. IsHurried a b urgency t) → IfErr r (λ x. b ≡ a) → StayUrgent a b
+still_either (Ok x) a b urgency t h k = urgent_still a b urgency t h
+still_either (Err x) a b urgency t h k = λ q u. subst (λ (os : Openings). IsUrgentAt os q) (sym k) u
+
 -- a place that isn't open
 pub urgent_none : (os : Openings) (place : Place) → IsOpen os place None → IsUrgentAt os place
 urgent_none os place known = record { each = λ s o f z. absurd (some_none (known.there s o f z) refl) }
 
 -- one more place
-pub urgent_next : (v : TableValue) (ps : List PlacedValue) (i : ℕ) (d : PlacedValue) (q : Place) (mid new : Openings) → i < length ps → AreUrgent v (places_of (take i ps)) mid → q ≡ (get_or ps i d).place
-    → ((p : Place) → IsUrgentAt mid p → IsUrgentAt new p) → (urgency_seen (sight_in v q) ≡ Urgency.Urgent → IsUrgentAt new q) → AreUrgent v (places_of (take (i + 1) ps)) new
-urgent_next v ps i d q mid new h r e still now = subst (λ (l : List PlacedValue). AreUrgent v (places_of l) new) (sym (take_more ps i d h)) (record {
+pub urgent_next : (v : TableValue) (told : Option Name) (ps : List PlacedValue) (i : ℕ) (d : PlacedValue) (q : Place) (mid new : Openings) → i < length ps → AreUrgent v told (places_of (take i ps)) mid → q ≡ (get_or ps i d).place
+    → StayUrgent mid new → (may_fail v told q ≡ true → IsUrgentAt new q) → AreUrgent v told (places_of (take (i + 1) ps)) new
+urgent_next v told ps i d q mid new h r e still now = subst (λ (l : List PlacedValue). AreUrgent v told (places_of l) new) (sym (take_more ps i d h)) (record {
   each = λ place j f. elim (place_either place (take i ps) (get_or ps i d) j) [
     | inl k ↦ still place (r.each place k f)
-    | inr k ↦ subst (IsUrgentAt new) (e ∙ sym k) (now (ap (λ (p : Place). urgency_seen (sight_in v p)) (e ∙ sym k) ∙ f))
+    | inr k ↦ subst (IsUrgentAt new) (e ∙ sym k) (now (ap (may_fail v told) (e ∙ sym k) ∙ f))
   ];
 })
+
+-- and one more box
+pub boxes_next : (ns : List Name) (i : ℕ) (d n : Name) (mid new : Openings) → i < length ns → AreUrgentBoxes (take i ns) mid → n ≡ get_or ns i d → StayUrgent mid new → IsUrgentAt new (Place.Box n) → AreUrgentBoxes (take (i + 1) ns) new
+boxes_next ns i d n mid new h r e still now = subst (λ (l : List Name). AreUrgentBoxes l new) (sym (take_more ns i d h)) (record {
+  each = λ m j. elim (IsIn-either m (take i ns) (get_or ns i d ∷ []) j) [
+    | inl k ↦ still (Place.Box m) (r.each m k)
+    | inr k ↦ elim k [ inl f ↦ subst (λ (q : Name). IsUrgentAt new (Place.Box q)) (e ∙ sym f) now | inr f ↦ absurd f ]
+  ];
+})
+
+either_left : (a b : Bool) → a ≡ true → (a || b) ≡ true
+either_left a b e = λ i. e i || b
+
+either_right : (a b : Bool) → b ≡ true → (a || b) ≡ true
+either_right true b e = refl
+either_right false b e = e
 
 -- a box that fails is seen so, and no other
 module _ (c : CoreValue) (t : TableIn c) (n : Name) where
@@ -119,10 +151,25 @@ module _ (c : CoreValue) (t : TableIn c) (n : Name) where
           found_of (table_of c.table) t.config t.unfolds n (box_row c.table.program.templates.nodes b) r in
           (w.0, w.1, by w.0 b.failing w.2.failing k)
 
--- so those that fail are urgent
-module _ (s d : SchedulerValue) (places : List Place) (among : OpensAmong s d places) (urgent : AreUrgent d.core.table places d.openings) where
-  pub failing_urgent : FailingAreUrgent s d
-  failing_urgent = record { urgent = λ t u kept n f l o e h. urgent.each (Place.Box n) (among.listed t u kept (Place.Box n) l o) (seen_failing d.core u n f e h) }
+-- the box of a place, by a table's rows
+home_named : (c : CoreValue) (t : TableIn c) (place : Place) (home : Name) (f : Found) → site_in (table_of c.table) place ≡ Some home → site_of place t.config.roots ≡ Some f → home ≡ f.content.name
+home_named c t (Place.Goal g) home f e i =
+    let w : (row : GoalRow) × ((table_of c.table).goal_of g ≡ Some row) × (row.home ≡ f.content.name) = row_of_goal (table_of c.table) t.config t.unfolds (run_rows.once c.table (run_by c) t) g f i in
+    some_value (sym e ∙ ap home_in w.1) ∙ w.2
+home_named c t (Place.Box n) home f e i = some_value (sym e) ∙ box-itself n t.config.roots f i
+
+-- so those boxes are urgent that a label may have made fail
+module _ (s d : SchedulerValue) (p : PlanValue) (places : List Place) (among : OpensAmong s d places) (h : TurnHints) (hints : AreHintsFor s.core.table p h) (urgent : AreUrgent d.core.table h.told places d.openings) (unsolved : AreUrgentBoxes h.unsolved.items d.openings) where
+  home_here : (t : TableIn s.core) (f : Found) → site_of p.label.place t.config.roots ≡ Some f → hints.around.home ≡ f.content.name
+  home_here t f e = home_named s.core t p.label.place hints.around.home f hints.is_around.home e
+
+  pub suspects_urgent : SuspectsAreUrgent s d p
+  suspects_urgent = record {
+    failing = λ t u kept n f l o e k. urgent.each (Place.Box n) (among.listed t u kept (Place.Box n) l o) (either_right (is_elsewhere h.told n) _ (ap is_urgent (seen_failing d.core u n f e k)));
+    unsolved = λ t f n e i. unsolved.each n (subst (IsIn n) (sym (hints.hints.unsolved ∙ ap (λ (home : Name). unsolved_by home p.step) (home_here t f e))) i);
+    elsewhere = λ t u kept n f l o e k. urgent.each (Place.Box n) (among.listed t u kept (Place.Box n) l o)
+        (either_left (is_elsewhere h.told n) _ (ap (λ (told : Option Name). is_elsewhere told n) (hints.hints.told ∙ ap (λ (home : Name). told_by home p.step) (home_here t f e)) ∙ k));
+  }
 
 -- what is open among these places doesn't depend on when it comes
 pub still_among : (s d e : SchedulerValue) (places : List Place) → e.core ≡ d.core → OpensAmong s d places → OpensAmong s e places

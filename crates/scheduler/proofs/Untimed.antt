@@ -14,7 +14,7 @@ use Rattle.step_commit.specs.Cores.{Commits}
 use Rattle.scheduler.specs.declared.committing.Committed.{Committed}
 use Rattle.scheduler.specs.Openings.{IsOpenAt, AreOpenPlaces, AreApart, AreStandingIn, IsNumberIn, LeadsTo, AreNewTokens, KeepsTokens, name_at}
 use Rattle.scheduler.specs.Schedulers.{SchedulerValue, IsScheduler}
-use Rattle.scheduler.specs.Committed.{IsOpenAndKept, CommitsAndOpens, FailingAreUrgent}
+use Rattle.scheduler.specs.Committed.{IsOpenAndKept, CommitsAndOpens, CommitsWithTurns, SuspectsAreUrgent}
 use lib.Dec.{eqb}
 
 -- an opening without its turn
@@ -121,8 +121,8 @@ untimed_keeps before a b ts e h = record {
   only = λ t o i. let x : Was a b e t o = was_so a b e t o i in subst (λ (place : Place). LeadsTo before t place ⊎ IsNumberIn t ts) x.of_place (h.only t x.was x.is_was);
 }
 
-commits_untimed : (s : SchedulerValue) (p : PlanValue) (d : SchedulerValue) (r q : Committed) → CommitsAndOpens s p d r → (os : Openings) → untimed os ≡ untimed d.openings → q.receipt ≡ r.receipt → q.opened ≡ r.opened
-    → (q.hurried ≡ true → FailingAreUrgent s (record d { openings = os })) → CommitsAndOpens s p (record d { openings = os }) q
+commits_untimed : (s : SchedulerValue) (p : PlanValue) (d : SchedulerValue) (r q : Committed) → CommitsWithTurns ⊤ s p d r → (os : Openings) → untimed os ≡ untimed d.openings → q.receipt ≡ r.receipt → q.opened ≡ r.opened
+    → SuspectsAreUrgent s (record d { openings = os }) p → CommitsAndOpens s p (record d { openings = os }) q
 commits_untimed s p d r q h os e f g u = record {
   commits = subst (Commits s.core p d.core) (sym f) h.commits;
   follows = λ t u before kept a w.
@@ -133,12 +133,12 @@ commits_untimed s p d r q h os e f g u = record {
       };
   keeps = subst (KeepsTokens s.openings os) (sym (ap (λ z. z.items) g)) (untimed_keeps s.openings d.openings os r.opened.items e h.keeps);
   tokens = untimed_tokens s.openings d.openings os e q.opened.items (subst (λ (ts : List ℕ). AreNewTokens s.openings d.openings ts) (sym (ap (λ v. v.items) g)) h.tokens);
-  hurried = u;
+  turns = u;
 }
 
-pub untimed_commits : (s : SchedulerValue) (p : PlanValue) (d e : SchedulerValue) (r q : Committed) → CommitsAndOpens s p d r → untimed e.openings ≡ untimed d.openings → e.core ≡ d.core → e.waits ≡ d.waits → q.receipt ≡ r.receipt → q.opened ≡ r.opened
-    → (q.hurried ≡ true → FailingAreUrgent s e) → CommitsAndOpens s p e q
-untimed_commits s p d e r q h x y z f g u = subst (λ (v : SchedulerValue). CommitsAndOpens s p v q) same (commits_untimed s p d r q h e.openings x f g (λ k. subst (FailingAreUrgent s) (sym same) (u k)))
+pub untimed_commits : (s : SchedulerValue) (p : PlanValue) (d e : SchedulerValue) (r q : Committed) → CommitsWithTurns ⊤ s p d r → untimed e.openings ≡ untimed d.openings → e.core ≡ d.core → e.waits ≡ d.waits → q.receipt ≡ r.receipt → q.opened ≡ r.opened
+    → SuspectsAreUrgent s e p → CommitsAndOpens s p e q
+untimed_commits s p d e r q h x y z f g u = subst (λ (v : SchedulerValue). CommitsAndOpens s p v q) same (commits_untimed s p d r q h e.openings x f g (subst (λ (v : SchedulerValue). SuspectsAreUrgent s v p) (sym same) u))
   where
     same : record d { openings = e.openings } ≡ e
     same = λ i. record { core = sym y i; openings = e.openings; waits = sym z i }

@@ -1,12 +1,12 @@
 //! Labels that are committed, with the places that they open.
 
-ghost use Rattle.std.specs.Prelude.{◌≡◌, IfOk, IfErr};
+ghost use Rattle.std.specs.Prelude.{◌≡◌, ⊤, IfOk, IfErr};
 ghost use Rattle.step_commit.specs.Cores.{MayCommit, IsFresh, IsRefused};
 ghost use Rattle.opened_places.specs.Gone.{AreGone};
 ghost use Rattle.scheduler.specs.Listing.{AreListedFor};
 ghost use Rattle.scheduler.specs.Once.{IsEachPlaceOnce};
 ghost use Rattle.opened_places.specs.Placed.{places_of};
-ghost use Rattle.scheduler.specs.Committed.{CommitsAndOpens, OpensAmong};
+ghost use Rattle.scheduler.specs.Committed.{CommitsAndOpens, CommitsWithTurns, OpensAmong};
 ghost use Rattle.scheduler.specs.Work.{TakesSteps};
 ghost use Rattle.scheduler.specs.Counting.{TakesLabelSteps};
 
@@ -31,16 +31,13 @@ pub struct Committed {
     pub receipt: Receipt,
     /// The tokens of the places that it opened and that weren't open before, each once.
     pub opened: SmallVec<u64, 4>,
-    /// Whether memory sufficed for the boxes that fail to come first.
-    pub hurried: bool,
 }
 
 impl Scheduler {
     /// Appends the plan's label, makes its step, and opens exactly the places that it can have made ready: those that are
     /// new or changed, those that wait on a variable that it binds or makes equal, and all in a box whose equations come to
     /// bind a variable from outside. Of these the boxes are urgent that have a goal by which they fail, that the label
-    /// leaves unsolved, or that may clash with what it tells, if memory suffices for it. Its own place closes where it has
-    /// gone. An `Err` leaves all as it was.
+    /// leaves unsolved, or that may clash with what it tells. Its own place closes where it has gone. An `Err` leaves all as it was.
     ///
     /// It counts at most a step for each item that the plan read, each content that it writes, each place that it takes
     /// away, each place that it opens, each box around such a place, and each wait of a place that it opens or takes away.
@@ -84,8 +81,8 @@ impl Scheduler {
         let effects = Effects::of(alloc, self.core.table(), &self.waits, &plan)?;
         let opened = effects.opened.as_slice();
         let gone = effects.gone.as_slice();
-        let mut committed = self.commit_opening(alloc, plan, opened, gone, steps)?;
-        committed.hurried = self.set_turns(opened, gone, &effects.hints);
+        let committed = self.commit_opening(alloc, plan, opened, gone, steps)?;
+        self.set_turns(opened, gone, &effects.hints);
         Ok(committed)
     }
 
@@ -104,7 +101,7 @@ impl Scheduler {
         requires gone { AreGone self.old.core.table plan.label plan.step gone.now }
         requires once { IsEachPlaceOnce gone.now }
         requires places { AreListedFor self.old.core.table self.old.waits plan gone.now places.now }
-        ensures committed { IfOk result (CommitsAndOpens self.old plan self.new) }
+        ensures committed { IfOk result (CommitsWithTurns ⊤ self.old plan self.new) }
         ensures opened { IfOk result (λ _. OpensAmong self.old self.new (places_of places.now)) }
         ensures unchanged { IfErr result (λ _. self.new ≡ self.old) }
         ensures steps { TakesLabelSteps self.old plan steps.old steps.new }
@@ -122,11 +119,7 @@ impl Scheduler {
                 drop_gone(&mut self.waits, place_under(own, place), gone, steps);
                 leave_gone(&mut self.open, own, place, gone);
                 self.splits.remove_all(ended.as_slice());
-                Ok(Committed {
-                    receipt,
-                    opened,
-                    hurried: false,
-                })
+                Ok(Committed { receipt, opened })
             }
             Err(error) => {
                 close_all(&mut self.open, opened);

@@ -12,6 +12,7 @@ ghost use Rattle.box_tree.specs.Drops.{IsOfRun};
 ghost use Rattle.box_tree.specs.Views.{is_there};
 ghost use Rattle.opened_places.specs.Gone.{AreGone};
 ghost use Rattle.scheduler.specs.Once.{IsEachPlaceOnce};
+ghost use Rattle.scheduler.specs.Turns.{AreHintsFor};
 ghost use Rattle.scheduler.specs.Listing.{waiting_on, places_but, has_outer, binds_outer, AreInner, AreOthers, AreOthersOnce, AddsOthers, AreListedFor};
 
 use crate::dropping::is_among;
@@ -49,6 +50,7 @@ impl Effects {
         ensures gone { IfOk result (λ e. AreGone table.now plan.now.label plan.now.step e.gone.items) }
         ensures once { IfOk result (λ e. IsEachPlaceOnce e.gone.items) }
         ensures opened { IfOk result (λ e. AreListedFor table.now waits.now plan.now e.gone.items e.opened.items) }
+        ensures hints { IfOk result (λ e. AreHintsFor table.now plan.now e.hints) }
     {
         let Some(around) = around_of(table, plan.label()) else {
             return Err(AllocError);

@@ -1,6 +1,7 @@
 //! Open places in which nothing is open.
 
-ghost use Rattle.std.specs.Prelude.{IfSome, IfNone};
+ghost use Rattle.std.specs.Prelude.{◌≡◌, None, IfSome, IfNone};
+ghost use Rattle.wake_lists.specs.Open.{opening_at};
 ghost use Rattle.scheduler.specs.Schedulers.{IsQuiet};
 ghost use Rattle.scheduler.specs.Resting.{IsOpenAtRest, IsInsideAt};
 
@@ -16,12 +17,25 @@ impl Scheduler {
         ensures rest { IfSome result (IsOpenAtRest self.now.openings) }
         ensures quiet { IfNone result (IsQuiet self.now) }
     {
-        let mut token = self.open.first()?;
-        while let Some(inner) = self.inside(token) {
-            token = inner;
+        let token = self.open.first()?;
+        self.at_rest_in(token)
+    }
+
+    /// An open place in which nothing is open, with its token: the one that has this token, or one that stands inside it.
+    /// `None` exactly where no open place has the token.
+    ///
+    /// It takes as many look-ups as boxes stand in one another there.
+    pub fn at_rest_in(&self, token: u64) -> Option<(u64, Place)>
+        ensures rest { IfSome result (IsOpenAtRest self.now.openings) }
+        ensures none { IfNone result (opening_at token self.now.openings ≡ None) }
+    {
+        let _ = self.open.place_of(token)?;
+        let mut inner = token;
+        while let Some(next) = self.inside(inner) {
+            inner = next;
         }
-        let place = self.open.place_of(token)?;
-        Some((token, place))
+        let place = self.open.place_of(inner)?;
+        Some((inner, place))
     }
 
     // The token of an open place that stands in the box to which a token leads.

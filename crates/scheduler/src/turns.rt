@@ -1,12 +1,12 @@
 //! When open places come, once a label was made.
 
-ghost use Rattle.std.specs.Prelude.{◌≡◌, true, IfOk};
+ghost use Rattle.std.specs.Prelude.{◌≡◌, ◌++◌, true, IfOk, OnOk};
 ghost use Rattle.akl_terms.specs.declared.name.Place.{Place};
 ghost use Rattle.box_tree.specs.Paths.{sight_in};
 ghost use Rattle.opened_places.specs.Placed.{places_of};
 ghost use Rattle.wake_lists.specs.Open.{untimed};
 ghost use Rattle.wake_lists.specs.declared.turn.Urgency.{Urgency};
-ghost use Rattle.scheduler.specs.Turns.{urgency_seen, IsUrgentAt, AreUrgent};
+ghost use Rattle.scheduler.specs.Turns.{urgency_seen, told_by, unsolved_by, unsolved_among, unless_solved, is_elsewhere, may_fail, IsUrgentAt, AreUrgent, AreUrgentBoxes, StayUrgent, AreHints};
 
 use crate::attention::collects;
 use crate::scheduler::Scheduler;
@@ -31,22 +31,25 @@ pub(crate) struct TurnHints {
 }
 
 impl TurnHints {
-    /// What the label of a plan tells.
-    pub(crate) fn of(alloc: Global, home: Name, plan: &Plan) -> Result<TurnHints, AllocError> {
-        let told = told_by(home, plan);
-        let unsolved = unsolved_by(alloc, plan.step(), told)?;
+    /// What the label of a plan tells, whose place is this box or stands in it.
+    pub(crate) fn of(alloc: Global, home: Name, plan: &Plan) -> Result<TurnHints, AllocError>
+        ensures { IfOk result (AreHints home plan.now.step) }
+    {
+        let unsolved = unsolved_by(alloc, home, plan.step())?;
         Ok(TurnHints {
             unsolved,
-            told,
+            told: told_by(home, plan.step()),
             forked: forked_by(plan),
             own: plan.label().place,
         })
     }
 }
 
-// The box that a plan's step tells something.
-fn told_by(home: Name, plan: &Plan) -> Option<Name> {
-    match plan.step() {
+// The box that a step tells something, where its label's place is this box or stands in it.
+fn told_by(home: Name, step: &Step) -> Option<Name>
+    ensures { result ≡ told_by home step.now }
+{
+    match step {
         Step::Tell { .. } | Step::Join { .. } => Some(home),
         Step::Fork { .. }
         | Step::Fail
@@ -57,18 +60,14 @@ fn told_by(home: Name, plan: &Plan) -> Option<Name> {
     }
 }
 
-// The boxes whose stores a step leaves unsolved, which tells this box something.
-fn unsolved_by(
-    alloc: Global,
-    step: &Step,
-    told: Option<Name>,
-) -> Result<SmallVec<Name, 2>, AllocError> {
+// The boxes whose stores a step leaves unsolved, where its label's place is this box or stands in it.
+fn unsolved_by(alloc: Global, home: Name, step: &Step) -> Result<SmallVec<Name, 2>, AllocError>
+    ensures { IfOk result (λ names. names.items ≡ unsolved_by home step.now) }
+{
     let mut unsolved = SmallVec::new(alloc);
     match step {
         Step::Tell { solved, .. } | Step::Join { solved, .. } => {
-            if !solved {
-                push_told(told, &mut unsolved)?;
-            }
+            push_unless(*solved, home, &mut unsolved)?;
         }
         Step::Fork { alternatives, .. } => {
             push_unsolved(alternatives.as_slice(), &mut unsolved)?;
@@ -78,20 +77,22 @@ fn unsolved_by(
     Ok(unsolved)
 }
 
-// The box that was told something comes.
-fn push_told(told: Option<Name>, unsolved: &mut SmallVec<Name, 2>) -> Result<(), AllocError> {
-    if let Some(name) = told {
+// A box comes whose store is unsolved.
+fn push_unless(solved: bool, name: Name, unsolved: &mut SmallVec<Name, 2>) -> Result<(), AllocError>
+    ensures { OnOk result (unsolved.new.items ≡ unsolved.old.items ++ unless_solved solved name) }
+{
+    if !solved {
         unsolved.push(name)?;
     }
     Ok(())
 }
 
 // Those of these new boxes come whose stores are unsolved.
-fn push_unsolved(boxes: &[NewBox], unsolved: &mut SmallVec<Name, 2>) -> Result<(), AllocError> {
-    for new in boxes {
-        if !new.solved {
-            unsolved.push(new.name)?;
-        }
+fn push_unsolved(boxes: &[NewBox], unsolved: &mut SmallVec<Name, 2>) -> Result<(), AllocError>
+    ensures { OnOk result (unsolved.new.items ≡ unsolved.old.items ++ unsolved_among boxes.now) }
+{
+    for made in boxes {
+        push_unless(made.solved, made.name, unsolved)?;
     }
     Ok(())
 }
@@ -120,23 +121,22 @@ fn forked_by(plan: &Plan) -> Option<Place> {
 const LABELS_A_PLACE: usize = 16;
 
 impl Scheduler {
-    /// Gives turns to the places that a label opened, and to those that went with it: whether memory sufficed for it.
+    /// Gives turns to the places that a label opened, and to those that went with it.
     ///
     /// Those boxes are urgent that have a goal by which they fail, whose stores the label left unsolved, or may clash with
     /// what it told. Other boxes are late, as no rule but Split may apply to them, and so is a choice without a solved
-    /// alternative, or one that collects with an alternative that isn't solved. What went isn't late, so that it is forgotten soon. Once sixteen labels were made for each open place, all
-    /// late places come as ordinary ones.
-    pub(crate) fn set_turns(&mut self, places: &[Placed], gone: &[Place], hints: &TurnHints) -> bool
-        ensures urgent { result ≡ true → AreUrgent self.new.core.table (places_of places.now) self.new.openings }
+    /// alternative, or one that collects with an alternative that isn't solved. What went isn't late, so that it is forgotten
+    /// soon. Once sixteen labels were made for each open place, all late places come as ordinary ones. Where memory is wanting,
+    /// what isn't urgent comes as it did.
+    pub(crate) fn set_turns(&mut self, places: &[Placed], gone: &[Place], hints: &TurnHints)
+        ensures urgent { AreUrgent self.new.core.table hints.now.told (places_of places.now) self.new.openings }
+        ensures unsolved { AreUrgentBoxes hints.now.unsolved.items self.new.openings }
         ensures places { untimed self.new.openings ≡ untimed self.old.openings }
         ensures core { self.new.core ≡ self.old.core }
         ensures waits { self.new.waits ≡ self.old.waits }
     {
         resume_late(&mut self.open, &mut self.labels);
-        match order_all(&mut self.open, self.core.table(), places, gone, hints) {
-            Ok(()) => true,
-            Err(_) => false,
-        }
+        order_all(&mut self.open, self.core.table(), places, gone, hints);
     }
 }
 
@@ -159,76 +159,74 @@ fn order_all(
     places: &[Placed],
     gone: &[Place],
     hints: &TurnHints,
-) -> Result<(), AllocError>
-    ensures urgent { IfOk result (λ _. AreUrgent table.now (places_of places.now) open_places.new) }
+)
+    ensures urgent { AreUrgent table.now hints.now.told (places_of places.now) open_places.new }
+    ensures unsolved { AreUrgentBoxes hints.now.unsolved.items open_places.new }
     ensures places { untimed open_places.new ≡ untimed open_places.old }
 {
-    delay(open_places, hints.forked)?;
-    hurry_gone(open_places, hints.own, gone)?;
-    hurry_unsolved(open_places, hints.unsolved.as_slice())?;
-    hurry_opened(open_places, table, places, hints.told)
+    delay(open_places, hints.forked);
+    hurry_gone(open_places, hints.own, gone);
+    hurry_unsolved(open_places, hints.unsolved.as_slice());
+    hurry_opened(open_places, table, places, hints.told);
 }
 
-// A place is late, if it is open.
-fn delay(open_places: &mut Open, place: Option<Place>) -> Result<(), AllocError>
+// A place is late, if it is open and memory suffices.
+fn delay(open_places: &mut Open, place: Option<Place>)
     ensures { untimed open_places.new ≡ untimed open_places.old }
 {
     let Some(delayed) = place else {
-        return Ok(());
+        return;
     };
-    match open_places.token_of(delayed) {
-        Some(token) => open_places.put_last(token, Urgency::Late),
-        None => Ok(()),
+    if let Some(token) = open_places.token_of(delayed) {
+        let _ = open_places.put_last(token, Urgency::Late);
     }
 }
 
 // These places aren't late; but this one of them is closed.
-fn hurry_gone(open_places: &mut Open, own: Place, gone: &[Place]) -> Result<(), AllocError>
+fn hurry_gone(open_places: &mut Open, own: Place, gone: &[Place])
     ensures { untimed open_places.new ≡ untimed open_places.old }
 {
     for place in gone {
         if *place != own {
-            hurry(open_places, *place, Urgency::Ordinary)?;
+            resume(open_places, *place);
         }
     }
-    Ok(())
+}
+
+// A place isn't late, if it is open and memory suffices.
+fn resume(open_places: &mut Open, place: Place)
+    ensures { untimed open_places.new ≡ untimed open_places.old }
+{
+    if let Some(token) = open_places.token_of(place) {
+        let _ = open_places.hurry(token, Urgency::Ordinary);
+    }
 }
 
 // These boxes are urgent.
-fn hurry_unsolved(open_places: &mut Open, unsolved: &[Name]) -> Result<(), AllocError>
-    ensures { untimed open_places.new ≡ untimed open_places.old }
+fn hurry_unsolved(open_places: &mut Open, unsolved: &[Name])
+    ensures urgent { AreUrgentBoxes unsolved.now open_places.new }
+    ensures places { untimed open_places.new ≡ untimed open_places.old }
 {
     for name in unsolved {
-        hurry(open_places, Place::Box(*name), Urgency::Urgent)?;
+        make_urgent(open_places, Place::Box(*name));
     }
-    Ok(())
 }
 
 // These places come no later than they are to, by what is seen of them, where this box was told something.
-fn hurry_opened(
-    open_places: &mut Open,
-    table: &Table,
-    places: &[Placed],
-    told: Option<Name>,
-) -> Result<(), AllocError>
-    ensures urgent { IfOk result (λ _. AreUrgent table.now (places_of places.now) open_places.new) }
+fn hurry_opened(open_places: &mut Open, table: &Table, places: &[Placed], told: Option<Name>)
+    ensures urgent { AreUrgent table.now told (places_of places.now) open_places.new }
+    ensures still { StayUrgent open_places.old open_places.new }
     ensures places { untimed open_places.new ≡ untimed open_places.old }
 {
     for placed in places {
-        hurry_place(open_places, table, placed.place(), told)?;
+        hurry_place(open_places, table, placed.place(), told);
     }
-    Ok(())
 }
 
 // A place comes no later than it is to, by what is seen of it, where this box was told something.
-fn hurry_place(
-    open_places: &mut Open,
-    table: &Table,
-    place: Place,
-    told: Option<Name>,
-) -> Result<(), AllocError>
-    ensures now { IfOk result (λ _. urgency_seen (sight_in table.now place) ≡ Urgency.Urgent → IsUrgentAt open_places.new place) }
-    ensures still { IfOk result (λ _. (other : _) → IsUrgentAt open_places.old other → IsUrgentAt open_places.new other) }
+fn hurry_place(open_places: &mut Open, table: &Table, place: Place, told: Option<Name>)
+    ensures now { may_fail table.now told place ≡ true → IsUrgentAt open_places.new place }
+    ensures still { StayUrgent open_places.old open_places.new }
     ensures places { untimed open_places.new ≡ untimed open_places.old }
 {
     match place {
@@ -238,25 +236,20 @@ fn hurry_place(
 }
 
 // A box is urgent that has a goal by which it fails, or may clash with what another one was told.
-fn hurry_box(
-    open_places: &mut Open,
-    table: &Table,
-    name: Name,
-    told: Option<Name>,
-) -> Result<(), AllocError>
-    ensures now { IfOk result (λ _. urgency_seen (sight_in table.now (Place.Box name)) ≡ Urgency.Urgent → IsUrgentAt open_places.new (Place.Box name)) }
-    ensures still { IfOk result (λ _. (other : _) → IsUrgentAt open_places.old other → IsUrgentAt open_places.new other) }
+fn hurry_box(open_places: &mut Open, table: &Table, name: Name, told: Option<Name>)
+    ensures now { may_fail table.now told (Place.Box name) ≡ true → IsUrgentAt open_places.new (Place.Box name) }
+    ensures still { StayUrgent open_places.old open_places.new }
     ensures places { untimed open_places.new ≡ untimed open_places.old }
 {
     if is_elsewhere(told, name) || is_failing(table, name) {
-        hurry(open_places, Place::Box(name), Urgency::Urgent)
-    } else {
-        Ok(())
+        make_urgent(open_places, Place::Box(name));
     }
 }
 
 // Whether another box than this was told something.
-fn is_elsewhere(told: Option<Name>, name: Name) -> bool {
+fn is_elsewhere(told: Option<Name>, name: Name) -> bool
+    ensures { result ≡ is_elsewhere told name }
+{
     match told {
         Some(home) => home != name,
         None => false,
@@ -274,18 +267,16 @@ pub(crate) fn is_failing(table: &Table, name: Name) -> bool
     }
 }
 
-// A choice isn't late once an alternative is solved, or all are of one that collects.
-fn hurry_goal(open_places: &mut Open, table: &Table, goal: Name) -> Result<(), AllocError>
-    ensures still { IfOk result (λ _. (other : _) → IsUrgentAt open_places.old other → IsUrgentAt open_places.new other) }
+// A choice isn't late, if memory suffices, once an alternative is solved, or all are of one that collects.
+fn hurry_goal(open_places: &mut Open, table: &Table, goal: Name)
+    ensures still { StayUrgent open_places.old open_places.new }
     ensures places { untimed open_places.new ≡ untimed open_places.old }
 {
     let Some(token) = open_places.token_of(Place::Goal(goal)) else {
-        return Ok(());
+        return;
     };
     if open_places.urgency_of(token) == Some(Urgency::Late) && may_go_on(table, goal) {
-        open_places.hurry(token, Urgency::Ordinary)
-    } else {
-        Ok(())
+        let _ = open_places.hurry(token, Urgency::Ordinary);
     }
 }
 
@@ -309,14 +300,13 @@ fn has_solved(table: &Table, boxes: &[Name]) -> bool {
     boxes.iter().any(|name| table.is_solved(*name))
 }
 
-// A place comes as urgent as this, where it is open and was less so.
-fn hurry(open_places: &mut Open, place: Place, urgency: Urgency) -> Result<(), AllocError>
-    ensures now { IfOk result (λ _. urgency ≡ Urgency.Urgent → IsUrgentAt open_places.new place) }
-    ensures still { IfOk result (λ _. (other : _) → IsUrgentAt open_places.old other → IsUrgentAt open_places.new other) }
+// A place is urgent, if it is open.
+fn make_urgent(open_places: &mut Open, place: Place)
+    ensures now { IsUrgentAt open_places.new place }
+    ensures still { StayUrgent open_places.old open_places.new }
     ensures places { untimed open_places.new ≡ untimed open_places.old }
 {
-    match open_places.token_of(place) {
-        Some(token) => open_places.hurry(token, urgency),
-        None => Ok(()),
+    if let Some(token) = open_places.token_of(place) {
+        open_places.make_urgent(token);
     }
 }

@@ -7,9 +7,8 @@ use Rattle.wake_lists.specs.declared.turn.Urgency.{Urgency}
 use Rattle.wake_lists.specs.declared.turn.Turn.{Turn}
 use Rattle.wake_lists.specs.declared.turn.Opened.{Opened}
 use Rattle.wake_lists.specs.declared.line.Entry.{Entry}
-use Rattle.wake_lists.specs.declared.lines.Lines.{Lines}
 use Rattle.wake_lists.specs.Queue.{is_sooner, same_urgency, earlier, is_earlier, Places, IsNext}
-use Rattle.wake_lists.specs.Lines.{is_entry, stands_at, IsRising, is_current, HasCurrentFront, front_of, line_of, or_else, first_of, AreLined}
+use Rattle.wake_lists.specs.Lines.{LineEntries, is_entry, stands_at, IsRising, is_current, HasCurrentFront, front_of, line_of, or_else, first_of, AreLined}
 use Rattle.wake_lists.proofs.Keys.{timed, token_here}
 use Rattle.wake_lists.proofs.Thinning.{entry_is, within}
 use Rattle.wake_lists.proofs.LinesKept.{urgency_equal, current_is}
@@ -36,7 +35,7 @@ none_open : (os : Places) → ((t : ℕ) (o : Opened) → lookup (eqb t) os ≡ 
 none_open [] h = refl
 none_open (e ∷ es) h = absurd (h e.0 e.1 (λ i. if token_here e.0 i then Some e.1 else lookup (eqb e.0) es))
 
-module _ (os : Places) (l : Lines) (a : AreLined os l) where
+module _ (os : Places) (l : LineEntries) (a : AreLined os l) where
   -- in an empty line no token stands
   not_in_empty : {X : Type 0} (u : Urgency) → line_of u l ≡ [] → (t : ℕ) (o : Opened) → lookup (eqb t) os ≡ Some o → o.turn.urgency ≡ u → X
   not_in_empty u empty t o e is =

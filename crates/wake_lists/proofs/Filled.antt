@@ -1,5 +1,5 @@
 -- Values by the numbers of their slots: what is found, and what a change of one slot makes of them.
-use Rattle.std.proofs.Common.{◌≡◌, ℕ, zero, suc, ◌+◌, ◌<◌, ◌≤◌, Bool, true, false, List, [], ◌∷◌, ◌++◌, length, get_or, set, Option, Some, None, refl, sym, ap, ◌∙◌, arith}
+use Rattle.std.proofs.Common.{◌≡◌, ℕ, zero, suc, ◌+◌, ◌<◌, ◌≤◌, Bool, true, false, List, [], ◌∷◌, ◌++◌, length, get_or, set, Option, Some, None, refl, sym, ap, ◌∙◌, add-zero, arith}
 use Rattle.std.proofs.lemmas.Bool.Decides.{nat_tests}
 use Rattle.std.proofs.lemmas.List.{get_or-set_same, get_or-set_other, get_or_past}
 use Rattle.std.specs.Prelude.{cond, is_some, if◌then◌else◌}
@@ -9,7 +9,7 @@ use Rattle.std.specs.List.{AllByRecursion}
 use Rattle.std.specs.List.Sorted.{IsStrictlySortedBy}
 use Rattle.std.specs.Ordering.{nat_cmp, match_ordering}
 use Rattle.std.specs.declared.cmp.Ordering.{Ordering}
-use Rattle.wake_lists.specs.Slots.{filled_from, filled, Finds, IsPut, IsTakenOut}
+use Rattle.wake_lists.specs.Slots.{filled_from, filled, Finds, tally, tally_at, IsPut, IsTakenOut}
 use Rattle.wake_lists.proofs.Keys.{token_equal}
 use lib.Dec.{eqb}
 
@@ -114,6 +114,21 @@ module _ {V : Type 0} where
       → length (filled (set slots t w)) + (if b then 1 else 0) ≡ length (filled slots) + (if is_some w then 1 else 0)
   counted_at slots t b w e h = ap (λ (c : Bool). length (filled (set slots t w)) + (if c then 1 else 0)) (sym e) ∙ counted_from 0 t w slots h
 
+  tallied_from : (test : V → Bool) (k i : ℕ) (w : Option V) (slots : List (Option V)) → i < length slots
+      → tally test (filled_from k (set slots i w)) + tally_at test (get_or slots i None) ≡ tally test (filled_from k slots) + tally_at test w
+  tallied_from test k i w [] h = absurd (omega arith)
+  tallied_from test k zero None (None ∷ slots) h = refl
+  tallied_from test k zero None (Some u ∷ slots) h = omega arith
+  tallied_from test k zero (Some v) (None ∷ slots) h = omega arith
+  tallied_from test k zero (Some v) (Some u ∷ slots) h = omega arith
+  tallied_from test k (suc i) w (None ∷ slots) h = tallied_from test (k + 1) i w slots (omega arith)
+  tallied_from test k (suc i) w (Some u ∷ slots) h = let rest = tallied_from test (k + 1) i w slots (omega arith) in omega arith
+
+  -- how many values pass a test, once one slot has another value or none
+  tallied_at : (slots : List (Option V)) (t : ℕ) (w : Option V) → t < length slots → (test : V → Bool)
+      → tally test (filled (set slots t w)) + tally_at test (lookup (eqb t) (filled slots)) ≡ tally test (filled slots) + tally_at test w
+  tallied_at slots t w h test = ap (λ (o : Option V). tally test (filled (set slots t w)) + tally_at test o) (found_in slots t) ∙ tallied_from test 0 t w slots h
+
   fewer_from : (k : ℕ) (slots : List (Option V)) → length (filled_from k slots) ≤ length slots
   fewer_from k [] = omega arith
   fewer_from k (None ∷ slots) = let rest = fewer_from (k + 1) slots in omega arith
@@ -149,6 +164,7 @@ module _ {V : Type 0} where
     entries = sym (put_from t 0 t v (omega arith) slots h);
     ordered = ordered_from 0 (set slots t (Some v));
     finds = finds_set slots t (Some v) h;
+    tallied = tallied_at slots t (Some v) h;
   }
 
   pub taken_from_slot : (slots : List (Option V)) (t : ℕ) → t < length slots → IsTakenOut (filled slots) (filled (set slots t None)) t
@@ -156,6 +172,7 @@ module _ {V : Type 0} where
     entries = sym (out_from t 0 t (omega arith) slots);
     ordered = ordered_from 0 (set slots t None);
     finds = finds_set slots t None h;
+    tallied = λ test. tallied_at slots t None h test ∙ add-zero (tally test (filled slots));
   }
 
   -- where there is no slot, there is nothing to take out
@@ -164,6 +181,8 @@ module _ {V : Type 0} where
     entries = sym (out_from t 0 t (omega arith) slots ∙ ap filled (unset slots t h));
     ordered = ordered_from 0 slots;
     finds = λ s. on s (eqb t s) refl;
+    tallied = λ test.
+        ap (λ (o : Option V). tally test (filled slots) + tally_at test o) (found_in slots t ∙ get_or_past slots t None h) ∙ add-zero (tally test (filled slots));
   }
     where
       unset : (xs : List (Option V)) (i : ℕ) → length xs ≤ i → set xs i None ≡ xs

@@ -11,6 +11,7 @@ pub mod LinesKept
 pub mod OpeningsKept
 pub mod OpenKept
 pub mod QueueKept
+pub mod Scheduled
 pub mod Taking
 pub mod Thinning
 pub mod TokensIn

@@ -10,10 +10,9 @@ use Rattle.wake_lists.specs.declared.turn.Urgency.{Urgency}
 use Rattle.wake_lists.specs.declared.turn.Turn.{Turn}
 use Rattle.wake_lists.specs.declared.turn.Opened.{Opened}
 use Rattle.wake_lists.specs.declared.line.Entry.{Entry}
-use Rattle.wake_lists.specs.declared.lines.Lines.{Lines}
 use Rattle.wake_lists.specs.Queue.{Places, same_urgency, same_turn, GetsLast}
 use Rattle.wake_lists.specs.Slots.{Finds, IsPut}
-use Rattle.wake_lists.specs.Lines.{stands_at, IsRising, has_turn, is_current, HasCurrentFront, IsThinned, line_of, with_line, joined, IsThinnedAt, AreLined}
+use Rattle.wake_lists.specs.Lines.{LineEntries, stands_at, IsRising, has_turn, is_current, HasCurrentFront, IsThinned, line_of, with_line, joined, IsThinnedAt, AreLined}
 use Rattle.wake_lists.proofs.Keys.{token_equal, turn_equal, turn_here, timed}
 use Rattle.wake_lists.proofs.Leading.{none_some, same_some, not_both, at_it, elsewhere}
 use Rattle.wake_lists.proofs.Thinning.{rising_higher, rising_more, within, stands_before, stands_last, thinned_same}
@@ -38,18 +37,18 @@ urgency_here Urgency.Urgent = refl
 urgency_here Urgency.Ordinary = refl
 urgency_here Urgency.Late = refl
 
-with_is : (u v : Urgency) (es : List Entry) (l : Lines) → line_of v (with_line u es l) ≡ (if same_urgency u v then es else line_of v l)
+with_is : (u v : Urgency) (es : List Entry) (l : LineEntries) → line_of v (with_line u es l) ≡ (if same_urgency u v then es else line_of v l)
 with_is Urgency.Urgent Urgency.Urgent es l = refl
 with_is Urgency.Ordinary Urgency.Ordinary es l = refl
 with_is Urgency.Late Urgency.Late es l = refl
 with_is u v es l = refl
 
-with_next : (u : Urgency) (es : List Entry) (l : Lines) → (with_line u es l).next ≡ l.next
+with_next : (u : Urgency) (es : List Entry) (l : LineEntries) → (with_line u es l).next ≡ l.next
 with_next Urgency.Urgent es l = refl
 with_next Urgency.Ordinary es l = refl
 with_next Urgency.Late es l = refl
 
-joined_is : (u v : Urgency) (t : ℕ) (l : Lines) → line_of v (joined u t l) ≡ (if same_urgency u v then line_of v l ++ at_number l.next t ∷ [] else line_of v l)
+joined_is : (u v : Urgency) (t : ℕ) (l : LineEntries) → line_of v (joined u t l) ≡ (if same_urgency u v then line_of v l ++ at_number l.next t ∷ [] else line_of v l)
 joined_is Urgency.Urgent Urgency.Urgent t l = refl
 joined_is Urgency.Ordinary Urgency.Ordinary t l = refl
 joined_is Urgency.Late Urgency.Late t l = refl
@@ -67,14 +66,14 @@ current_is os u e h = on (lookup (eqb e.token) os) refl h
     on None f h = absurd (cc)
     on (Some o) f h = (o, f, turn_equal o.turn (timed u e.number) h)
 
-abbrev Stand : Places → Lines → Type 0
+abbrev Stand : Places → LineEntries → Type 0
 Stand os l = (t : ℕ) (o : Opened) → lookup (eqb t) os ≡ Some o → stands_at (line_of o.turn.urgency l) o.turn.number t ≡ true
 
-abbrev Rise : Lines → Type 0
+abbrev Rise : LineEntries → Type 0
 Rise l = (u : Urgency) → IsRising 0 (line_of u l) l.next
 
 -- the line of one urgency was thinned, and those of the others had current fronts
-module _ (os : Places) (w : Urgency) (old new : Lines) (h : IsThinnedAt os w old new) where
+module _ (os : Places) (w : Urgency) (old new : LineEntries) (h : IsThinnedAt os w old new) where
   thinned_is : (v : Urgency) → line_of v new ≡ (if same_urgency w v then line_of w new else line_of v old)
   thinned_is v = ap (line_of v) h.others ∙ with_is w v (line_of w new) old
 
@@ -88,7 +87,7 @@ module _ (os : Places) (w : Urgency) (old new : Lines) (h : IsThinnedAt os w old
   pub lined : Stand os old → Rise old → ((v : Urgency) → same_urgency w v ≡ false → HasCurrentFront (is_current os v) (line_of v old)) → AreLined os new
   lined there rising fronts = record {
     there = λ t o e. (thinned o.turn.urgency).kept o.turn.number t (has_current os t o e) (there t o e);
-    rising = λ v. subst (IsRising 0 (line_of v new)) (sym (ap (λ (l : Lines). l.next) h.others ∙ with_next w (line_of w new) old)) ((thinned v).rising 0 old.next (rising v));
+    rising = λ v. subst (IsRising 0 (line_of v new)) (sym (ap (λ (l : LineEntries). l.next) h.others ∙ with_next w (line_of w new) old)) ((thinned v).rising 0 old.next (rising v));
     fronts = λ v. on v (same_urgency w v) refl;
   }
     where
@@ -116,9 +115,9 @@ another os t o is v differs e c same =
     let one : o ≡ k.0 = same_some o k.0 (sym is ∙ ap (λ (s : ℕ). lookup (eqb s) os) (sym same) ∙ k.1) in
     not_both (same_urgency o.turn.urgency v) (ap (λ (p : Turn). same_urgency p.urgency v) (ap (λ (p : Opened). p.turn) one ∙ k.2) ∙ urgency_here v) differs
 
-module _ (os : Places) (l : Lines) (a : AreLined os l) where
+module _ (os : Places) (l : LineEntries) (a : AreLined os l) where
   -- a place goes
-  pub lined_fewer : (t : ℕ) (o : Opened) → lookup (eqb t) os ≡ Some o → (os2 : Places) → Finds os os2 t None → (l2 : Lines) → IsThinnedAt os2 o.turn.urgency l l2 → AreLined os2 l2
+  pub lined_fewer : (t : ℕ) (o : Opened) → lookup (eqb t) os ≡ Some o → (os2 : Places) → Finds os os2 t None → (l2 : LineEntries) → IsThinnedAt os2 o.turn.urgency l l2 → AreLined os2 l2
   lined_fewer t o is os2 h l2 thin = lined os2 o.turn.urgency l l2 thin there a.rising (λ v e. still_front os os2 t None h v (line_of v l) (another os t o is v e) (a.fronts v))
     where
       there : Stand os2 l
@@ -145,7 +144,7 @@ module _ (os : Places) (l : Lines) (a : AreLined os l) where
         on false = rising_higher 0 (line_of v l) l.next (l.next + 1) (omega arith) (a.rising v)
 
     -- and leaves it, since no place has it
-    pub lined_back : (l2 : Lines) → IsThinnedAt os u (joined u t l) l2 → AreLined os l2
+    pub lined_back : (l2 : LineEntries) → IsThinnedAt os u (joined u t l) l2 → AreLined os l2
     lined_back l2 thin = lined os u (joined u t l) l2 thin (λ s q f. joined_stands q.turn.urgency q.turn.number s (a.there s q f)) joined_rises
         (λ v e. subst (HasCurrentFront (is_current os v)) (sym (joined_is u v t l ∙ (λ i. if e i then line_of v l ++ at_number l.next t ∷ [] else line_of v l))) (a.fronts v))
 
@@ -192,7 +191,7 @@ module _ (os : Places) (l : Lines) (a : AreLined os l) where
           none v e c same = let k = current_is os v e c in none_some k.0 (sym free ∙ ap (λ (s : ℕ). lookup (eqb s) os) (sym same) ∙ k.1)
 
       -- one that had another
-      pub lined_moved : (p : Opened) → lookup (eqb t) os ≡ Some p → (l2 : Lines) → IsThinnedAt os2 p.turn.urgency (joined u t l) l2 → AreLined os2 l2
+      pub lined_moved : (p : Opened) → lookup (eqb t) os ≡ Some p → (l2 : LineEntries) → IsThinnedAt os2 p.turn.urgency (joined u t l) l2 → AreLined os2 l2
       lined_moved p is l2 thin = lined os2 p.turn.urgency (joined u t l) l2 thin put_stands joined_rises (λ v e. put_front v (another os t p is v e))
 
   -- the next number is above those of all turns

@@ -50,6 +50,10 @@ hurried os t urgency now is e after last = on (opening_at t os) refl
     on None f = none_some now (sym (ap (option_map urgency_in) f) ∙ is)
     on (Some o) f = IsHurried.hurries o f (ap (is_sooner urgency) (one o.turn.urgency now (sym (ap (option_map urgency_in) f) ∙ is)) ∙ e) last
 
+-- no place is open under a token
+pub none_urgent : (os : Openings) (t : ℕ) → opening_at t os ≡ None → IsHurried os os Urgency.Urgent t
+none_urgent os t e = IsHurried.stays (λ o f. none_some o (sym e ∙ f)) refl
+
 module _ (os : Places) (bs : Boxes) where
   -- a place that isn't open has no token
   pub is_closed : (place : Place) → IsOpen (openings bs os) place None → HasNone (is_place place) os
@@ -83,6 +87,18 @@ module _ (os : Places) (bs : Boxes) where
 
   pub put_untimed : IsStrictlySortedBy nat_cmp (keys_of os) → (t : ℕ) (o : Opened) → lookup (eqb t) os ≡ Some o → (urgency : Urgency) (new : Places) → GetsLast os new t o.place urgency → untimed (openings bs new) ≡ untimed (openings bs os)
   put_untimed ordered t o is urgency new g = ap (λ (qs : Places). untimed (openings bs qs)) g.put.entries ∙ untimed_put bs t o (timed urgency g.number) os ordered is
+
+  -- one that isn't urgent becomes so
+  pub made_urgent : (t : ℕ) (o : Opened) → lookup (eqb t) os ≡ Some o → is_sooner Urgency.Urgent o.turn.urgency ≡ true → (new : Places) → GetsLast os new t o.place Urgency.Urgent → IsHurried (openings bs os) (openings bs new) Urgency.Urgent t
+  made_urgent t o is calm new g = IsHurried.hurries (opening (boxes_at t bs) o) (opened bs os t o is) calm (is_put_last t o is Urgency.Urgent new g)
+
+  -- and one that is stays
+  pub was_urgent : (t : ℕ) (o : Opened) → lookup (eqb t) os ≡ Some o → is_sooner Urgency.Urgent o.turn.urgency ≡ false → IsHurried (openings bs os) (openings bs os) Urgency.Urgent t
+  was_urgent t o is calm = IsHurried.stays (λ q f. ap (λ (w : Option Urgency). sooner_than w) (ap (option_map urgency_in) (sym f ∙ opened bs os t o is)) ∙ calm) refl
+    where
+      sooner_than : Option Urgency → Bool
+      sooner_than None = false
+      sooner_than (Some u) = is_sooner Urgency.Urgent u
 
 module _ (os : Places) (bs : Boxes) (numbers : Numbers) (a : AreOpen os bs numbers) where
   -- the least free number is that of no open place

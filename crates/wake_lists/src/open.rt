@@ -1,6 +1,7 @@
 //! The open places, in the order in which they come.
 
 ghost use Rattle.std.specs.Prelude.{◌≡◌, [], None, Some, length, option_map, IfOk, IfErr};
+ghost use Rattle.wake_lists.specs.declared.turn.Urgency.{Urgency};
 ghost use Rattle.wake_lists.specs.Open.{opening_at, untimed, IsFirst, IsInside, IsOpen, IsOpened, IsHurried, IsPutLast, closed, after_one, after_leave, is_busy};
 
 use crate::queue::Queue;
@@ -204,6 +205,21 @@ impl Open {
             self.put_last(token, urgency)
         } else {
             Ok(())
+        }
+    }
+
+    /// Puts the open place with this token, where it isn't urgent, behind all others that are. A token that no open place has
+    /// is left alone. It asks for no memory: an open place that isn't urgent has had room among those that are since it was
+    /// opened, or since it was put off.
+    pub fn make_urgent(&mut self, token: u64)
+        ensures hurried { IsHurried self.old self.new Urgency.Urgent token }
+        ensures places { untimed self.new ≡ untimed self.old }
+    {
+        let Some(opened) = self.queue.get(token) else {
+            return;
+        };
+        if Urgency::Urgent < opened.turn.urgency {
+            self.queue.make_urgent(token, opened);
         }
     }
 

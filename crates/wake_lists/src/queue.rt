@@ -1,7 +1,9 @@
 //! The open places by their tokens, in the order of their turns, and their tokens by the places.
 
-ghost use Rattle.std.specs.Prelude.{◌≡◌, [], None, Some, length, OnOk, OnErr};
+ghost use Rattle.std.specs.Prelude.{◌≡◌, [], None, Some, true, length, OnOk, OnErr};
 ghost use Rattle.std.specs.Map.{lookup};
+ghost use Rattle.wake_lists.specs.declared.turn.Urgency.{Urgency};
+ghost use Rattle.wake_lists.specs.Lines.{needs_room};
 ghost use Rattle.wake_lists.specs.Queue.{HasNone, IsTokenOf, IsNext, GetsLast, is_place};
 ghost use Rattle.wake_lists.specs.Slots.{IsTakenOut};
 ghost use lib.Dec.{eqb};
@@ -108,6 +110,15 @@ impl Queue {
         ensures unchanged { OnErr result (self.new ≡ self.old) }
     {
         self.schedule.retime(token, opened, urgency)
+    }
+
+    /// Puts the open place with this token, which isn't urgent, behind all others that are.
+    pub(crate) fn make_urgent(&mut self, token: u64, opened: Opened)
+        requires open { lookup (eqb token) self.old ≡ Some opened }
+        requires calm { needs_room opened.turn.urgency ≡ true }
+        ensures { GetsLast self.old self.new token opened.place Urgency.Urgent }
+    {
+        self.schedule.make_urgent(token, opened);
     }
 
     /// Takes out the open place with this token, where there is one.

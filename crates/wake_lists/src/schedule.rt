@@ -1,7 +1,9 @@
 //! The open places by their tokens, in the order in which they come.
 
-ghost use Rattle.std.specs.Prelude.{◌≡◌, [], None, Some, length, OnOk, OnErr};
+ghost use Rattle.std.specs.Prelude.{◌≡◌, [], None, Some, true, length, OnOk, OnErr};
 ghost use Rattle.std.specs.Map.{lookup};
+ghost use Rattle.wake_lists.specs.declared.turn.Urgency.{Urgency};
+ghost use Rattle.wake_lists.specs.Lines.{needs_room};
 ghost use Rattle.wake_lists.specs.Queue.{IsNext, GetsLast};
 ghost use Rattle.wake_lists.specs.Slots.{IsTakenOut};
 ghost use lib.Dec.{eqb};
@@ -13,7 +15,8 @@ use akl_terms::Place;
 use std::alloc::{AllocError, Global};
 use std::marker::Model;
 
-/// The open places by their tokens, each with a turn, and its token in the line of its urgency.
+/// The open places by their tokens, each with a turn, and its token in the line of its urgency. One that isn't urgent has
+/// room in the line of those that are, so that it becomes so without asking for memory.
 #[derive(Drop)]
 pub(crate) struct Schedule {
     places: Slots<Opened>,
@@ -23,13 +26,13 @@ pub(crate) struct Schedule {
 impl Model for Schedule {
     ghost use Rattle.std.specs.Prelude.{List, ℕ};
     ghost use Rattle.wake_lists.specs.declared.turn.Opened.{Opened};
-    ghost use Rattle.wake_lists.specs.Lines.{AreLined};
+    ghost use Rattle.wake_lists.specs.Lines.{AreScheduled};
 
     ghost Value = { List (ℕ × Opened) };
 
     ghost view = { λ s. s.places };
 
-    ghost invariant = { λ s. AreLined s.places s.lines };
+    ghost invariant = { λ s. AreScheduled s.places s.lines };
 }
 
 impl Schedule {
@@ -79,9 +82,9 @@ impl Schedule {
         ensures entered { OnOk result (GetsLast self.old self.new token place urgency) }
         ensures unchanged { OnErr result (self.new ≡ self.old) }
     {
-        let turn = self.lines.join(urgency, token)?;
+        let turn = self.lines.enter(urgency, token)?;
         if self.places.insert(token, Opened { place, turn }).is_err() {
-            self.lines.thin(urgency, &self.places);
+            self.lines.leave(urgency, &self.places);
             return Err(AllocError);
         }
         Ok(())
@@ -99,10 +102,21 @@ impl Schedule {
         ensures entered { OnOk result (GetsLast self.old self.new token opened.place urgency) }
         ensures unchanged { OnErr result (self.new ≡ self.old) }
     {
-        let turn = self.lines.join(urgency, token)?;
+        let turn = self.lines.enter(urgency, token)?;
+        self.places.set(token, Opened { turn, ..opened });
+        self.lines.leave(opened.turn.urgency, &self.places);
+        Ok(())
+    }
+
+    /// Puts the open place with this token, which isn't urgent, behind all others that are.
+    pub(crate) fn make_urgent(&mut self, token: u64, opened: Opened)
+        requires open { lookup (eqb token) self.old ≡ Some opened }
+        requires calm { needs_room opened.turn.urgency ≡ true }
+        ensures { GetsLast self.old self.new token opened.place Urgency.Urgent }
+    {
+        let turn = self.lines.enter_urgent(token);
         self.places.set(token, Opened { turn, ..opened });
         self.lines.thin(opened.turn.urgency, &self.places);
-        Ok(())
     }
 
     /// Takes out the open place with this token, where there is one.
@@ -111,7 +125,7 @@ impl Schedule {
         ensures gone { IsTakenOut self.old self.new token }
     {
         let opened = self.places.remove(token)?;
-        self.lines.thin(opened.turn.urgency, &self.places);
+        self.lines.leave(opened.turn.urgency, &self.places);
         Some(opened)
     }
 }

@@ -1,12 +1,10 @@
-use Rattle.std.proofs.lemmas.Result.{IfOk-weaker}
-use Rattle.akl_terms.specs.declared.name.Place.{Place}
 use Rattle.wake_lists.specs.declared.turn.Urgency.{Urgency}
-use Rattle.wake_lists.specs.Open.{IsHurried}
-use Rattle.scheduler.specs.Turns.{IsUrgentAt}
-use Rattle.scheduler.proofs.Hurrying.{urgent_still}
+use Rattle.scheduler.proofs.Hurrying.{still_either}
+use Rattle.scheduler.proofs.Untimed.{untimed_either}
 use Rattle.scheduler.proofs.turns.hurry_goal.Goals as goal
 
 pub returns-then-may_go_on-clause-still : goal.returns-then-may_go_on-clause-still
-returns-then-may_go_on-clause-still c =
-    IfOk-weaker c.hurry.result (λ _. IsHurried c.args.open_places.now c.hurry.new.self Urgency.Ordinary c.in-Some.token) (λ _. (q : Place) → IsUrgentAt c.args.open_places.now q → IsUrgentAt c.hurry.new.self q)
-    (λ _ h. urgent_still c.args.open_places.now c.hurry.new.self Urgency.Ordinary c.in-Some.token h) c.hurry.ensures.hurried
+returns-then-may_go_on-clause-still c = still_either c.hurry.result c.args.open_places.now c.hurry.new.self Urgency.Ordinary c.in-Some.token c.hurry.ensures.hurried c.hurry.ensures.unchanged
+
+pub returns-then-may_go_on-clause-places : goal.returns-then-may_go_on-clause-places
+returns-then-may_go_on-clause-places c = untimed_either c.hurry.result c.args.open_places.now c.hurry.new.self c.hurry.ensures.places c.hurry.ensures.unchanged

@@ -6,7 +6,8 @@ use Rattle.opened_places.specs.Placed.{PlacedValue, places_of}
 use Rattle.scheduler.specs.Once.{IsEachPlaceOnce}
 use Rattle.scheduler.specs.Schedulers.{SchedulerValue}
 use Rattle.scheduler.proofs.Untimed.{untimed_commits}
-use Rattle.scheduler.proofs.Hurrying.{failing_urgent, still_among}
+use Rattle.scheduler.specs.Turns.{AreHintsFor}
+use Rattle.scheduler.proofs.Hurrying.{suspects_urgent, still_among}
 use Rattle.scheduler.proofs.WorkBound.{label_within}
 use Rattle.scheduler.proofs.scheduler.Scheduler.commit_fresh.Goals as goal
 
@@ -27,4 +28,6 @@ returns-clause-committed g c =
     let e : SchedulerValue = c.set_turns.new.self in
     let places : List PlacedValue = c.as_slice-opened.result.now in
     untimed_commits c.args.self.now c.args.plan d e c.in_ok-committed.committed _ c.in_ok-committed.ensures.committed c.set_turns.ensures.places c.set_turns.ensures.core c.set_turns.ensures.waits refl refl
-    (λ k. failing_urgent c.args.self.now e (places_of places) (still_among c.args.self.now d e (places_of places) c.set_turns.ensures.core c.in_ok-committed.ensures.opened) (c.set_turns.ensures.urgent k))
+    (suspects_urgent c.args.self.now e c.args.plan (places_of places) (still_among c.args.self.now d e (places_of places) c.set_turns.ensures.core c.in_ok-committed.ensures.opened) c.in_ok-effects.effects.hints
+    (subst (λ (v : TableValue). AreHintsFor v c.args.plan c.in_ok-effects.effects.hints) (c.table.ensures.table ∙ ap (λ (x : SchedulerValue). x.core.table) c.self.view_is) c.in_ok-effects.ensures.hints)
+    c.set_turns.ensures.urgent c.set_turns.ensures.unsolved)

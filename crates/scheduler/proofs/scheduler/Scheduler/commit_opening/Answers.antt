@@ -1,5 +1,5 @@
 use Rattle.std.proofs.Common.{◌≡◌, ℕ, ◌+◌, List, ◌++◌, false, refl, sym, ap, subst, ◌∙◌}
-use Rattle.std.specs.Prelude.{Option, IfSome}
+use Rattle.std.specs.Prelude.{Option, IfSome, ⊤}
 use Rattle.akl_terms.specs.declared.name.Var.{Var}
 use Rattle.akl_terms.specs.declared.name.Place.{Place}
 use Rattle.akl_model.specs.declared.label.Label.{Label}
@@ -14,7 +14,7 @@ use Rattle.scheduler.specs.Listing.{AreListedFor}
 use Rattle.scheduler.specs.Schedulers.{SchedulerValue}
 use Rattle.scheduler.specs.declared.splits.Split.{Split}
 use Rattle.scheduler.specs.Splits.{splits_at, DropsSplits, EndsThose, KeepsSplits}
-use Rattle.scheduler.specs.Committed.{CommitsAndOpens, OpensAmong}
+use Rattle.scheduler.specs.Committed.{CommitsWithTurns, OpensAmong}
 use Rattle.scheduler.specs.declared.committing.Committed.{Committed}
 use Rattle.box_tree.specs.declared.step.Step.{Step}
 use Rattle.opened_places.specs.Placed.{places_of}
@@ -69,11 +69,11 @@ returns-in-Ok-clause-committed g c =
     let token : IsOpen s.openings c.args.plan.label.place c.token_of-own.result = subst (λ (l : Label). IsOpen s.openings l.place c.token_of-own.result) c.label-place.ensures c.token_of-own.ensures in
     let left : c.leave_gone.new.open_places ≡ after_going c.token_of-own.result c.args.plan.label.place c.args.gone.now c.open_all.new.open_places =
     c.leave_gone.ensures ∙ ap (λ (l : Label). after_going c.token_of-own.result l.place c.args.gone.now c.open_all.new.open_places) c.label-place.ensures in
-    let r : Committed = record { receipt = c.in-Ok.receipt; opened = c.in_ok-opened.opened; hurried = false } in
-    subst (λ (x : SchedulerValue). CommitsAndOpens x c.args.plan (record { core = c.append.new.self; openings = c.leave_gone.new.open_places; waits = c.drop_gone.new.waits }) r) c.self.view_is
-    (subst (λ (os : Openings). CommitsAndOpens s c.args.plan (record { core = c.append.new.self; openings = os; waits = c.drop_gone.new.waits }) r) (sym left)
+    let r : Committed = record { receipt = c.in-Ok.receipt; opened = c.in_ok-opened.opened } in
+    subst (λ (x : SchedulerValue). CommitsWithTurns ⊤ x c.args.plan (record { core = c.append.new.self; openings = c.leave_gone.new.open_places; waits = c.drop_gone.new.waits }) r) c.self.view_is
+    (subst (λ (os : Openings). CommitsWithTurns ⊤ s c.args.plan (record { core = c.append.new.self; openings = os; waits = c.drop_gone.new.waits }) r) (sym left)
     (committed_so s c.self.invariant.scheduler c.args.plan right may fresh c.args.gone.now gone c.args.places.now listed c.open_all.new.open_places c.in_ok-opened.opened.items c.in_ok-opened.ensures.opened c.token_of-own.result token
-    c.append.new.self c.table-in-Ok.ensures.core c.in-Ok.receipt c.in-Ok.ensures.committed c.drop_opened.new.waits c.drop_gone.new.waits dropped c.drop_gone.ensures.waits r refl refl refl))
+    c.append.new.self c.table-in-Ok.ensures.core c.in-Ok.receipt c.in-Ok.ensures.committed c.drop_opened.new.waits c.drop_gone.new.waits dropped c.drop_gone.ensures.waits r refl refl))
 
 pub returns-in_err-opened-clause-steps : goal.returns-in_err-opened-clause-steps
 returns-in_err-opened-clause-steps g c =

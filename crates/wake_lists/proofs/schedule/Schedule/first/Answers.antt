@@ -6,4 +6,4 @@ use Rattle.wake_lists.proofs.schedule.Schedule.first.Goals as goal
 pub returns : goal.returns
 returns c =
     subst (λ (os : Places). IsNext os c.first.result) c.self.view_is
-    (subst (IsNext c.self.inside.places) (sym c.first.ensures) (first_next c.self.inside.places c.self.inside.lines c.self.invariant))
+    (subst (IsNext c.self.inside.places) (sym c.first.ensures) (first_next c.self.inside.places c.self.inside.lines.entries c.self.invariant.lined))
