@@ -25,7 +25,7 @@ front_taken : (ss : List Stored) (s : Stored) → take (length ss) (ss ++ s ∷ 
 front_taken [] s = refl
 front_taken (r ∷ ss) s = ap (λ (l : List Stored). r ∷ l) (front_taken ss s)
 
-last_dropped : (ss : List Stored) (s : Stored) → drop (length ss) (ss ++ s ∷ []) ≡ s ∷ []
+pub last_dropped : (ss : List Stored) (s : Stored) → drop (length ss) (ss ++ s ∷ []) ≡ s ∷ []
 last_dropped [] s = refl
 last_dropped (r ∷ ss) s = last_dropped ss s
 

@@ -32,10 +32,9 @@ use Rattle.akl_model.proofs.ScopesAlong.{times_path, found_path}
 use Rattle.rational_unify.specs.Solving.{bindings_in, equations_in}
 use Rattle.local_store.specs.declared.telling.ToldStore.{ToldStore}
 use Rattle.local_store.specs.Stored.{Stored, nothing as no_store, with_bindings}
-use Rattle.local_store.specs.Chained.{bindings_from, ToldBy}
+use Rattle.local_store.specs.Chained.{bindings_from}
 use Rattle.local_store.specs.Telling.{ToldAlso}
 use Rattle.local_store.specs.Promoting.{with_frames}
-use Rattle.local_store.specs.Promoting as stored
 use Rattle.local_store.proofs.Layers.{from-last, bindings-either, bindings-left, bindings-right, joins-told, told-joins}
 use Rattle.class_members.specs.Members.{AreMembers}
 use Rattle.plan_laws.specs.Right.{Reads}
@@ -51,24 +50,17 @@ use Rattle.box_tree.proofs.BoundHere.{told_bound}
 use Rattle.guard_plan.specs.Guards.{AreAllSolved, AreQuietOver}
 use Rattle.guard_plan.specs.Collecting.{frames_of, ports_of, bindings_of, IsList, IsToldInner, IsJoined}
 use Rattle.guard_plan.proofs.BoundAt.{oldest_at, joined_at}
-use Rattle.box_tree.proofs.ToldChains.{from_told, to_told, told_stands, around_push}
+use Rattle.box_tree.proofs.ToldChains.{from_told, to_told, told_stands}
 use Rattle.guard_plan.proofs.Chains.{innermost_push, same_solved}
 use Rattle.guard_plan.proofs.CollectNone.{all_quiet}
 use Rattle.guard_plan.proofs.CutRight.{counted}
+use Rattle.guard_plan.proofs.Joined.{inner_told, joined_bindings}
 use Rattle.guard_plan.proofs.Gathering.{HasGathered, gather, told_of, told_either, bindings_told, equations_told}
 use Rattle.guard_plan.proofs.JoinRight.{joined_frames, joined_ports, joined_solved, joined_stands}
 use Rattle.guard_plan.proofs.Names.{frames_with, ports_frames, frames_ports, ports_with}
 use Rattle.guard_plan.proofs.Placed.{ArePlaced}
 use Rattle.guard_plan.proofs.ReadItems.{goal_reads, items_there}
 use Rattle.guard_plan.proofs.Sites.{stand, found, whole_stands}
-
-frames_bindings : (s : Stored) (ns : List Name) → (with_frames s ns).bindings ≡ s.bindings
-frames_bindings s [] = refl
-frames_bindings s (n ∷ ns) = frames_bindings s ns
-
-ports_bindings : (s : Stored) (ps : List (Name × Term)) → (stored.with_ports s ps).bindings ≡ s.bindings
-ports_bindings s [] = refl
-ports_bindings s (p ∷ ps) = ports_bindings s ps
 
 -- names stand once: those of alternatives, and those of the box of their choice
 
@@ -134,12 +126,8 @@ module _ (v : ViewValue) (i : IsViewOf v) (list : Term) (es : List code.Equation
   told_stand : StandFor (ToldAlso v.table.program.templates.nodes (v.stores ++ own ∷ []) es) (IsTold (told_in v.table.program.templates.nodes v.stores ++ all_told))
   told_stand = StandFor-follows (λ a b m. told (is_told a b m)) (λ a b m. told (was_told a b m))
 
-  inner_told : StandFor (ToldAlso v.table.program.templates.nodes (v.stores ++ own ∷ []) es) (ToldBy v.table.program.templates.nodes (v.stores ++ inner ∷ []))
-  inner_told = subst (λ (s : Stored). StandFor (ToldAlso v.table.program.templates.nodes (v.stores ++ own ∷ []) es) (ToldBy v.table.program.templates.nodes (v.stores ++ s ∷ []))) (sym t.store)
-      (subst (λ (ss : List Stored). StandFor (ToldAlso v.table.program.templates.nodes (v.stores ++ own ∷ []) es) (ToldBy v.table.program.templates.nodes (ss ++ t.answer.store ∷ []))) (around_push v.stores own) t.told.tells.stands)
-
   pub inner_stands : (bs : Boxes) (h : HasGathered v i l.last l.is_last v.next list bs v.alternatives) → StandFor (IsTold (told_in v.table.program.templates.nodes (v.stores ++ inner ∷ []))) (IsTold (whole i.site ++ h.content.equations))
-  inner_stands bs h = StandFor-on (StandFor-back (told_stands v.table.program.templates.nodes (v.stores ++ inner ∷ []))) (StandFor-on (StandFor-back inner_told) (StandFor-on told_stand
+  inner_stands bs h = StandFor-on (StandFor-back (told_stands v.table.program.templates.nodes (v.stores ++ inner ∷ []))) (StandFor-on (StandFor-back (inner_told v.table.program.templates.nodes v.stores v.known v.alternatives es inner t)) (StandFor-on told_stand
       (StandFor-on (stands_with_more (told_in v.table.program.templates.nodes v.stores) (whole i.site) all_told (whole_stands v i)) (h.stands (whole i.site) (record { each = λ a b m. m })))))
 
   pub no_frames : inner.frames ≡ []
@@ -203,8 +191,7 @@ module _ (v : ViewValue) (i : IsViewOf v) (g : Name) (list : Term) (bs : Boxes) 
       ∙ ap (with_ports (ports_in v.table.program.templates.nodes (ports_of v.alternatives))) own_ports ∙ ap (λ (ps : List Port). with_ports ps i.site.content.ports) has.ports
 
   same_bindings : t.store.bindings ≡ j.joined.store.bindings
-  same_bindings = ap (λ (s : Stored). s.bindings) j.store ∙ ports_bindings (with_frames j.joined.store (frames_of v.worker v.next v.alternatives)) (ports_of v.alternatives)
-      ∙ frames_bindings j.joined.store (frames_of v.worker v.next v.alternatives)
+  same_bindings = joined_bindings v.table.program.templates.nodes v.stores v.known v.alternatives (frames_of v.worker v.next v.alternatives) es t j
 
   is_solved : (b : Bool) → j.joined.solved ≡ b → IsSolvedIf b (table_of v.table) (names_around i.site) j.joined.store → IsSolvedIf b (table_of v.table) (names_around i.site) t.store
   is_solved false e h = tt

@@ -19,10 +19,15 @@ abbrev pub IsKnownJoined : ViewValue → Bool → Alternative → Type 0
 IsKnownJoined v solved a = IsTrue solved
     ↔ ((length v.stores ≤ a.known) × IsConsistentBy (ToldBy v.table.program.templates.nodes (v.stores ++ a.store ∷ [])) × EachOlder v.table.program.templates.nodes a.store.bindings)
 
--- of a store to which a goal tells, of the box of each clause, and of the box that the only alternative joins. Nothing is said of a box that
--- several join
+-- of the box that all alternatives join: exactly where all stores of the view are known to be solved, the chain with the new store is consistent, and each binding of the alternatives leads to an older variable
+abbrev pub IsKnownGathered : ViewValue → Stored → Bool → Type 0
+IsKnownGathered v store solved = IsTrue solved
+    ↔ ((v.known ≡ length v.stores) × IsConsistentBy (ToldBy v.table.program.templates.nodes (replaced v.stores store)) × AllByRecursion (λ a. EachOlder v.table.program.templates.nodes a.store.bindings) v.alternatives)
+
+-- of a store to which a goal tells, of the box of each clause, and of the box that the only alternative or all alternatives join
 abbrev pub SaysSolved : ViewValue → Rule → Step → Type 0
 SaysSolved v rule (Step.Tell store solved) = IsKnownWith v (replaced v.stores store) solved
 SaysSolved v rule (Step.Fork op boxes) = AllByRecursion (λ b. IsKnownWith v (v.stores ++ b.store ∷ []) b.solved) boxes.items
 SaysSolved v Rule.Promote (Step.Join store solved goals) = AllByRecursion (IsKnownJoined v solved) v.alternatives
+SaysSolved v Rule.Collect (Step.Join store solved goals) = IsKnownGathered v store solved
 SaysSolved v rule step = ⊤

@@ -1,4 +1,5 @@
-use Rattle.std.proofs.Common.{List, ◌∙◌, ap}
+use Rattle.std.proofs.Common.{◌≡◌, List, sym, subst, ◌∙◌, ap, rules}
+use Rattle.akl_model.specs.declared.label.Rule.{Rule}
 use Rattle.akl_terms.specs.declared.name.Name.{Name}
 use Rattle.akl_terms.specs.declared.program.Goal.{Goal}
 use Rattle.local_store.specs.Stored.{Stored}
@@ -6,6 +7,11 @@ use Rattle.table_laws.specs.Steps as laws
 use Rattle.box_tree.specs.declared.step.Step.{Step}
 use Rattle.box_tree.specs.Edits.{named_atoms}
 use Rattle.guard_plan.proofs.Collected.{collect_uncollected, collect_planned}
+use Rattle.box_tree.specs.Plans.{IsRight}
+use Rattle.guard_plan.specs.Collecting.{frames_of}
+use Rattle.guard_plan.specs.Solved.{IsKnownGathered}
+use Rattle.guard_plan.proofs.Joined.{gathered_known}
+use Rattle.guard_plan.proofs.PlanOf.{plan_of}
 use Rattle.guard_plan.proofs.Sites.{some_stores}
 use Rattle.guard_plan.proofs.collecting.collect_quiet.Goals as goal
 
@@ -27,3 +33,15 @@ new-requires-3 c =
     c.in-Some.equations.items list c.in_ok-store.field-0 joined c.in_ok-binds.binds.items members (Step.Join c.in_ok-store-2.store c.in_ok-store.field-0.solved c.new-2.result)
     (ap (λ (s : Stored). laws.joins s c.in_ok-store.field-0.solved (named_atoms c.args.view.now.table.program.templates.nodes c.new-2.result.items)) c.in_ok-store-2.ensures
     ∙ ap (λ (l : List (Name × Goal)). laws.joins c.in_ok-store.field-0.store c.in_ok-store.field-0.solved (named_atoms c.args.view.now.table.program.templates.nodes l)) c.new-2.ensures.items))
+
+not_split : Rule.Collect ≡ Rule.Split → ⊥
+not_split e = cc
+
+pub returns : goal.returns
+returns c =
+    let v = c.args.view.now in
+    let right : IsRight c.new-3.result = search rules in
+    let joined = rw (c.chain.ensures.nodes, c.chain.ensures.stores, c.chain.ensures.known, c.alternatives-3.ensures.alternatives, c.as_slice.ensures.value, c.worker.ensures, c.next-next.ensures, c.requires.program) at c.in_ok-store.ensures in
+    let known = gathered_known v.table.program.templates.nodes v.stores v.known v.alternatives (frames_of v.worker v.next v.alternatives) c.in-Some.equations.items c.in_ok-store.field-0 joined c.label_of-label.ensures.seen.known.within in
+    plan_of v c.new-3.result _ _ _ _ _ right c.new-3.ensures Rule.Collect _ c.label_of-label.ensures.label
+    (subst (λ (s : Stored). IsKnownGathered v s c.in_ok-store.field-0.solved) (sym c.in_ok-store-2.ensures) known) not_split
