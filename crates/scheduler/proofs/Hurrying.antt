@@ -89,9 +89,9 @@ module _ (before after : Openings) (urgency : Urgency) (t : ℕ) where
           cc
 
 -- urgent places stay so where one was hurried, or nothing was
-pub still_either : {E : Type 0} (r : Result (Unit {0}) E) (a b : Openings) (urgency : Urgency) (t : ℕ) → IfOk r (λ x. IsHurried a b urgency t) → IfErr r (λ x. b ≡ a) → StayUrgent a b
-still_either (Ok x) a b urgency t h k = urgent_still a b urgency t h
-still_either (Err x) a b urgency t h k = λ q u. subst (λ (os : Openings). IsUrgentAt os q) (sym k) u
+pub still_either : {E : Type 0} (r : Result (Unit {0}) E) (a b : Openings) (w : Urgency) (t : ℕ) → IfOk r (λ x. IsHurried a b w t) → IfErr r (λ x. b ≡ a) → StayUrgent a b
+still_either (Ok x) a b w t h k = urgent_still a b w t h
+still_either (Err x) a b w t h k = λ q u. subst (λ (os : Openings). IsUrgentAt os q) (sym k) u
 
 -- a place that isn't open
 pub urgent_none : (os : Openings) (place : Place) → IsOpen os place None → IsUrgentAt os place

@@ -37,7 +37,8 @@ impl Scheduler {
     /// Appends the plan's label, makes its step, and opens exactly the places that it can have made ready: those that are
     /// new or changed, those that wait on a variable that it binds or makes equal, and all in a box whose equations come to
     /// bind a variable from outside. Of these the boxes are urgent that have a goal by which they fail, that the label
-    /// leaves unsolved, or that may clash with what it tells. Its own place closes where it has gone. An `Err` leaves all as it was.
+    /// leaves unsolved, or that may clash with what it tells. Its own place closes where it has gone. An `Err` leaves all as
+    /// it was.
     ///
     /// It counts at most a step for each item that the plan read, each content that it writes, each place that it takes
     /// away, each place that it opens, each box around such a place, and each wait of a place that it opens or takes away.

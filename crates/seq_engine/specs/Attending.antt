@@ -20,6 +20,11 @@ pub record IsOpenUnder (s : SchedulerValue) (token : ℕ) (place : Place) : Type
   pub is_open : opening_at token s.openings ≡ Some opening
   pub of_place : opening.place ≡ place
 
+-- so does it, and nothing is open in this
+pub record IsUnderAtRest (s : SchedulerValue) (found : ℕ × Place) : Type 0 where
+  pub is_open : IsOpenUnder s found.0 found.1
+  pub at_rest : IsAtRest s.openings found.1
+
 -- an open place, or none is open
 abbrev pub HasFirst : SchedulerValue → Option (ℕ × Place) → Type 0
 HasFirst s None = IsQuiet s.core

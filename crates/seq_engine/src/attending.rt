@@ -1,8 +1,8 @@
 //! Open places that one worker looks at in turn.
 
-ghost use Rattle.std.specs.Prelude.{◌≡◌, IfOk};
+ghost use Rattle.std.specs.Prelude.{◌≡◌, IfOk, IfSome};
 ghost use Rattle.scheduler.specs.Resting.{IsAtRest};
-ghost use Rattle.seq_engine.specs.Attending.{IsOpenUnder, HasFirst, HasTried, HasAttended, HasPlan, IsIdleNow, HasClosed};
+ghost use Rattle.seq_engine.specs.Attending.{IsOpenUnder, IsUnderAtRest, HasFirst, HasTried, HasAttended, HasPlan, IsIdleNow, HasClosed};
 
 use akl_terms::{Place, Program};
 use box_tree::{LookError, Plan};
@@ -125,9 +125,25 @@ fn attend_at_rest(
     }
 }
 
+// What stands inside a box that is put off, and is looked at whole, with its token.
+fn inner_at_rest(scheduler: &Scheduler, token: u64, place: Place) -> Option<(u64, Place)>
+    ensures { IfSome result (IsUnderAtRest scheduler.now) }
+{
+    if matches!(place, Place::Goal(_)) {
+        return None;
+    }
+    let (inner, found) = scheduler.at_rest_in(token)?;
+    if scheduler.attention_at(inner, found) == Attention::Whole {
+        Some((inner, found))
+    } else {
+        None
+    }
+}
+
 /// Attends to the first open place that is looked at whole. Each one before it is tried by the rules other than Split, so
-/// that a box that fails goes at once, or put off, and is late from then on. Once all of them are late, the first of them in
-/// which nothing is open is looked at; so none comes more than twice.
+/// that a box that fails goes at once, or put off, and is late from then on. A box is put off only once all open places are
+/// late: then a place inside it is looked at in which nothing is open; where that is a choice in whose alternatives something
+/// is, the next late place comes. So none comes more than twice.
 fn attend_next(
     alloc: Global,
     program: &Program,
@@ -146,6 +162,11 @@ fn attend_next(
         }
         if let Some(found) = try_at(alloc, program, scheduler, token, place, attention)? {
             return Ok(Attended::Planned(found));
+        }
+        if attention == Attention::PutOff {
+            if let Some((inner, found)) = inner_at_rest(scheduler, token, place) {
+                return attend(alloc, program, scheduler, inner, found);
+            }
         }
     }
     attend_at_rest(alloc, program, scheduler)
