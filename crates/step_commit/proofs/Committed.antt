@@ -158,7 +158,7 @@ module _ (p : Program) (q : Query) (journal further : List Label) (S T : Table) 
     abbrev IsOld : Name → Type 0
     IsOld m = (row : BoxRow) × (T.box_of m ≡ Some row) × (row.changed ≤ length journal)
 
-    AreOld : List Name → Type 0
+    abbrev AreOld : List Name → Type 0
     AreOld ms = (m : Name) → IsIn m ms → IsOld m
 
     module _ (shares : SharesStores S T (length journal)) where
