@@ -8,7 +8,7 @@ use Rattle.wake_lists.specs.TokenSets.{is_token_in, Adds, Drops}
 use Rattle.scheduler.specs.Openings.{IsNumberIn}
 use Rattle.par_workers.specs.Tokens.{KeepsHeld}
 
-or_true : (b : Bool) → (b || true) ≡ true
+pub or_true : (b : Bool) → (b || true) ≡ true
 or_true true = refl
 or_true false = refl
 
@@ -26,33 +26,18 @@ module _ (before now : List ℕ) (n : ℕ) (adds : Adds before now n) where
   pub has_added : is_token_in n now ≡ true
   has_added = adds n ∙ ap (λ (b : Bool). is_token_in n before || b) (same n) ∙ or_true (is_token_in n before)
 
-  -- and so all below the next number
-  pub below_next : ((t : ℕ) → t < n → is_token_in t before ≡ true) → (t : ℕ) → t < n + 1 → is_token_in t now ≡ true
-  below_next all t h = on (t == n) refl
-    where
-      on : (b : Bool) → (t == n) ≡ b → is_token_in t now ≡ true
-      on true e = adds t ∙ ap (λ (b : Bool). is_token_in t before || b) e ∙ or_true (is_token_in t before)
-      on false e = keeps_added t (all t (less t n e h))
-
--- one that leads to no open place is held no more
-pub keeps_open : {A : Type 0} (os : Openings) (f : Opening → A) (before now : List ℕ) (n : ℕ) → Drops before now n → None ≡ option_map f (opening_at n os) → KeepsHeld os before now
-keeps_open os f before now n drops none t o e held = on (t == n) refl
+-- what holds below a number, and of it, holds below the next one
+pub below_next : (P : ℕ → Type 0) (n : ℕ) → ((k : ℕ) → k < n → P k) → P n → (k : ℕ) → k < n + 1 → P k
+below_next P n below here k h = on (k == n) refl
   where
-    on : (b : Bool) → (t == n) ≡ b → is_token_in t now ≡ true
-    on true k =
-        let at : opening_at n os ≡ Some o = subst (λ (m : ℕ). opening_at m os ≡ Some o) (eqb-true t n k) e in
-        let no : None ≡ Some (f o) = none ∙ ap (option_map f) at in
-        absurd cc
-    on false k = drops t ∙ ap (λ (b : Bool). b && not (t == n)) held ∙ ap not k
+    on : (b : Bool) → (k == n) ≡ b → P k
+    on true e = subst P (sym (eqb-true k n e)) here
+    on false e = below k (less k n e h)
 
 -- of a list of tokens one more is held
 pub next_held : (ts : List ℕ) (n : ℕ) (before now : List ℕ) → ((t : ℕ) → is_token_in t before ≡ true → is_token_in t now ≡ true) → is_token_in (slice_index_or ts n 0) now ≡ true
     → ((i : ℕ) → i < n → is_token_in (slice_index_or ts i 0) before ≡ true) → (i : ℕ) → i < n + 1 → is_token_in (slice_index_or ts i 0) now ≡ true
-next_held ts n before now keeps has all i h = on (i == n) refl
-  where
-    on : (b : Bool) → (i == n) ≡ b → is_token_in (slice_index_or ts i 0) now ≡ true
-    on true e = subst (λ (k : ℕ). is_token_in (slice_index_or ts k 0) now ≡ true) (sym (eqb-true i n e)) has
-    on false e = keeps (slice_index_or ts i 0) (all i (less i n e h))
+next_held ts n before now keeps has all = below_next (λ (i : ℕ). is_token_in (slice_index_or ts i 0) now ≡ true) n (λ i h. keeps (slice_index_or ts i 0) (all i h)) has
 
 -- and so all of them
 pub all_held : (ts held : List ℕ) → ((i : ℕ) → i < length ts → is_token_in (slice_index_or ts i 0) held ≡ true) → (t : ℕ) → IsNumberIn t ts → is_token_in t held ≡ true

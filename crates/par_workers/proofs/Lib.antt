@@ -1,7 +1,13 @@
+mod AtHand
 mod Cores
 mod Crews
 mod Crossing
+mod Dealing
 mod Held
+mod Holding
 mod Labels
+mod LookedAgain
 mod Runs
+mod SharedLooks
+mod TakenOut
 mod Turns

@@ -12,7 +12,7 @@ use Rattle.place_steps.specs.Seen.{IsSeen, IsSight, view_in}
 use Rattle.place_steps.specs.Next.{IsNext}
 use Rattle.par_workers.specs.declared.shared.Made.{Made}
 use Rattle.par_workers.specs.declared.choosing.Chosen.{Chosen}
-use Rattle.par_workers.specs.declared.choosing.Sight.{Sight}
+use Rattle.par_workers.specs.declared.looking.Sight.{Sight}
 use Rattle.par_workers.specs.Shared.{SharedValue, maker, labels_in, core_after, AreReceiptsOf}
 
 -- the run as a pass has seen it
@@ -40,6 +40,10 @@ HasSeen (Sight.Tried view) = Unit {0}
 abbrev pub IsSightBy : CoreValue → Place → ℕ → Option Sight → Type 0
 IsSightBy c place worker None = is_there (table_of c.table) place ≡ false
 IsSightBy c place worker (Some s) = HasSeen s × IsSight c place worker (view_of s)
+
+-- a worker saw a place, whichever it is
+abbrev pub IsSightOf : CoreValue → ℕ → Sight → Type 0
+IsSightOf c worker s = HasSeen s × ((place : Place) × IsSight c place worker (view_of s))
 
 -- a worker saw a place of the run
 abbrev pub IsSeenIn : SharedValue → ℕ → Sight → Type 0

@@ -1,19 +1,23 @@
 //! What a worker planned, committed or settled.
 
-ghost use Rattle.std.specs.Prelude.{◌≡◌, ◌≤◌, ◌<◌, IfSome, vec_len, vec_capacity};
+ghost use Rattle.std.specs.Prelude.{◌≡◌, ◌≤◌, ◌<◌, ◌||◌, false, is_err, IfSome, vec_len, vec_capacity};
 ghost use Rattle.turn_lock.specs.Histories.{GoesOnBy};
+ghost use Rattle.scheduler.specs.Openings.{KeepsTokens};
 ghost use Rattle.par_workers.specs.Shared.{maker, AreReceiptsOf};
+ghost use Rattle.par_workers.specs.Tokens.{AreHeld};
 ghost use Rattle.par_workers.specs.Turns.{IsFoundBefore, HasConcluded};
 ghost use Rattle.place_steps.specs.declared.next.Next.TheVariants as next;
 
 use crate::shared::{Made, SharedRun};
+use crate::tokens::Tokens;
 use akl_model::Receipt;
 use akl_terms::Steps;
 use box_tree::Plan;
 use idle_places::Idle;
 use place_steps::Next;
-use scheduler::{Committed, SettleError};
-use std::alloc::Global;
+use scheduler::{Committed, Scheduler, SettleError};
+use smallvec::SmallVec;
+use std::alloc::{AllocError, Global};
 use std::collections::VecDeque;
 use std::sync::ledger::Ledger;
 use step_commit::CommitError;
@@ -74,7 +78,7 @@ impl SharedRun {
         ensures { HasConcluded worker self.old receipts.old.items self.new receipts.new.items }
     {
         if self.past.reserve(1).is_err() {
-            self.stops = true;
+            self.stop();
             return;
         }
         match self.scheduler.commit(alloc, plan, steps) {
@@ -82,12 +86,17 @@ impl SharedRun {
                 let made = Made::of(&receipt.label, self.scheduler.core().table());
                 self.past.push_reserved(made);
                 receipts.push_reserved(receipt);
-                let opened = opened.as_slice();
-                let kept = self.tokens.take_in(&self.scheduler, token, opened, tokens);
-                self.stop_unless(kept);
+                take_opened(
+                    &mut self.stops,
+                    &mut self.tokens,
+                    &self.scheduler,
+                    token,
+                    opened,
+                    tokens,
+                );
             }
             Err(CommitError::Stale { item: _, stamp: _ }) => self.keep(token, tokens),
-            Err(CommitError::Spent { budget: _ } | CommitError::Memory(_)) => self.stops = true,
+            Err(CommitError::Spent { budget: _ } | CommitError::Memory(_)) => self.stop(),
         }
     }
 
@@ -105,19 +114,19 @@ impl SharedRun {
     {
         match self.scheduler.settle(alloc, &idle) {
             Ok(Some(opened)) => {
-                let kept = self
+                let taken = self
                     .tokens
                     .take_in(&self.scheduler, token, &[opened], tokens);
-                self.stop_unless(kept);
+                stop_unless(&mut self.stops, taken);
             }
             Ok(None) => {
-                let kept = self.tokens.take_in(&self.scheduler, token, &[], tokens);
-                self.stop_unless(kept);
+                let taken = self.tokens.take_in(&self.scheduler, token, &[], tokens);
+                stop_unless(&mut self.stops, taken);
             }
             Err(SettleError::Stale { item: _, stamp: _ } | SettleError::LookInside) => {
                 self.keep(token, tokens);
             }
-            Err(SettleError::Memory(_)) => self.stops = true,
+            Err(SettleError::Memory(_)) => self.stop(),
         }
     }
 
@@ -125,26 +134,17 @@ impl SharedRun {
     fn put_off(&mut self, token: u64, tokens: &mut VecDeque<u64>)
         ensures { self.new ≡ self.old }
     {
-        if self.scheduler.postpone(token).is_err() {
-            self.stops = true;
-        }
+        let postponed = self.scheduler.postpone(token);
+        stop_unless(&mut self.stops, postponed);
         self.keep(token, tokens);
     }
 
-    /// A token comes to a worker's, that of an urgent place before the others, or to those of late places.
-    pub(crate) fn keep(&mut self, token: u64, tokens: &mut VecDeque<u64>)
+    // A token comes to a worker's, that of an urgent place before the others, or to those of late places.
+    fn keep(&mut self, token: u64, tokens: &mut VecDeque<u64>)
         ensures { self.new ≡ self.old }
     {
         let kept = self.tokens.keep(&self.scheduler, token, tokens);
-        self.stop_unless(kept);
-    }
-
-    /// A token comes to those of places that come last.
-    pub(crate) fn put_last(&mut self, token: u64)
-        ensures { self.new ≡ self.old }
-    {
-        let kept = self.tokens.put_last(token);
-        self.stop_unless(kept);
+        stop_unless(&mut self.stops, kept);
     }
 
     // A worker plans no more.
@@ -153,13 +153,28 @@ impl SharedRun {
     {
         self.planning = self.planning.saturating_sub(1);
     }
+}
 
-    // Where a token is lost its place stays open, so all workers are to stop.
-    fn stop_unless(&mut self, kept: bool)
-        ensures { self.new ≡ self.old }
-    {
-        if !kept {
-            self.stops = true;
-        }
+// Takes in the tokens of places that a label opened, and that of its own place.
+fn take_opened(
+    stops: &mut bool,
+    tokens: &mut Tokens,
+    scheduler: &Scheduler,
+    token: u64,
+    opened: SmallVec<u64, 4>,
+    line: &mut VecDeque<u64>,
+)
+    ensures { (before : _) → KeepsTokens before scheduler.now.openings opened.items → (stops.old ≡ false → AreHeld before tokens.old.held) → stops.new ≡ false → AreHeld scheduler.now.openings tokens.new.held }
+{
+    let taken = tokens.take_in(scheduler, token, opened.as_slice(), line);
+    stop_unless(stops, taken);
+}
+
+// Where memory was wanting, for a token or for the turn of its place, all workers are to stop.
+fn stop_unless(stops: &mut bool, done: Result<(), AllocError>)
+    ensures { stops.new ≡ (stops.old || is_err done) }
+{
+    if done.is_err() {
+        *stops = true;
     }
 }

@@ -15,33 +15,8 @@ use std::collections::VecDeque;
 use std::sync::Wait;
 use std::thread;
 use std::thread::Threads;
-use task_pool::{Hand, push};
+use task_pool::Hand;
 use turn_lock::{Pass, TurnLock};
-
-/// Puts the tokens below this number into the deques of the hands in turn, up to the first that is refused: whether none
-/// is.
-pub(crate) fn deal(hands: &mut Vec<Hand>, count: usize) -> bool
-    requires { 1 ≤ length hands.old.items }
-    ensures { length hands.new.items ≡ length hands.old.items }
-{
-    for token in 0..count {
-        let number = token % hands.len();
-        if !deal_one(hands, number, token as u64) {
-            return false;
-        }
-    }
-    true
-}
-
-// Puts a token into the deque of the hand of this number: whether it isn't refused.
-fn deal_one(hands: &mut Vec<Hand>, number: usize, token: u64) -> bool
-    ensures { length hands.new.items ≡ length hands.old.items }
-{
-    match hands.get_mut(number) {
-        Some(hand) => push(hand, token).is_ok(),
-        None => false,
-    }
-}
 
 /// A worker for each hand, of the numbers from 1 on, each with the pass of its number.
 pub(crate) fn hire(

@@ -5,6 +5,7 @@ mod choosing;
 mod concluding;
 mod crew;
 mod late;
+mod looking;
 mod run;
 mod shared;
 mod signals;

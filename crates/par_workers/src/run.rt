@@ -3,7 +3,7 @@
 ghost use Rattle.std.specs.Prelude.{◌≡◌, ◌≤◌, [], length, IfOk};
 ghost use Rattle.par_workers.specs.Runs.{HasRunMany, AreShared, HasGoneOn};
 
-use crate::crew::{deal, dismiss, hire, set_to_work};
+use crate::crew::{dismiss, hire, set_to_work};
 use crate::shared::SharedRun;
 use crate::signals::Signals;
 use akl_model::Receipt;
@@ -49,7 +49,7 @@ pub fn run_many<R: Threads + Wait + Sync, G: Gate>(
     finish(alloc, program, scheduler, receipts)
 }
 
-// The part of a run that the workers share. It has ended as it begins where a deque refuses a token.
+// The part of a run that the workers share.
 fn run_workers<R: Threads + Wait + Sync, G: Gate>(
     rt: &R,
     alloc: Global,
@@ -64,8 +64,8 @@ fn run_workers<R: Threads + Wait + Sync, G: Gate>(
     ensures { IfOk result (λ r. AreShared core r.0.core r.1.items) }
 {
     let mut hands = Pool::new(alloc, workers)?;
-    let shared = SharedRun::new(alloc, core)?;
-    let signals = Signals::new(!deal(&mut hands, shared.held_count()));
+    let shared = SharedRun::new(alloc, core, &mut hands)?;
+    let signals = Signals::new();
     let (lock, mut first) = TurnLock::new(alloc, shared)?;
     let mut crew = hire(alloc, &lock, &mut first, hands)?;
     set_to_work(

@@ -1,6 +1,6 @@
 //! What the workers of a run share.
 
-ghost use Rattle.std.specs.Prelude.{◌≡◌, [], IfOk};
+ghost use Rattle.std.specs.Prelude.{◌≡◌, ◌≤◌, [], length, IfOk};
 ghost use Rattle.par_workers.specs.Shared.{core_after, IsShared};
 
 use crate::tokens::Tokens;
@@ -11,6 +11,7 @@ use std::alloc::{AllocError, Global};
 use std::marker::Model;
 use std::snapshot::Snapshot;
 use step_commit::Core;
+use task_pool::Hand;
 use turn_lock::Booked;
 
 /// A label that was made, with the table after it. It remembers them in no bytes.
@@ -34,8 +35,8 @@ impl Made {
 }
 
 /// The state of a run with its open places and their tokens. It has besides how many workers plan, how many turns in a row
-/// found nothing while none planned, and whether all workers are to stop. It remembers in no bytes the core with which the run
-/// began, and what was made since.
+/// found nothing while none planned, and whether all workers are to stop; unless they are, the token of each open place is
+/// held. It remembers in no bytes the core with which the run began, and what was made since.
 #[derive(Drop)]
 pub struct SharedRun {
     begun: Snapshot<Core>,
@@ -48,13 +49,14 @@ pub struct SharedRun {
 }
 
 impl Model for SharedRun {
-    ghost use Rattle.par_workers.specs.Shared.{SharedValue, IsShared};
+    ghost use Rattle.par_workers.specs.Shared.{SharedValue};
+    ghost use Rattle.par_workers.specs.Sharing.{IsSharedRun};
 
     ghost Value = { SharedValue };
 
     ghost view = { λ s. record { begun = s.begun.value; past = s.past.items } };
 
-    ghost invariant = { λ s. IsShared (record { begun = s.begun.value; past = s.past.items }) s.scheduler.core };
+    ghost invariant = { λ s. IsSharedRun (record { begun = s.begun.value; past = s.past.items }) s.scheduler s.tokens.held s.stops };
 }
 
 impl Booked for SharedRun {
@@ -72,14 +74,22 @@ impl Booked for SharedRun {
 }
 
 impl SharedRun {
-    /// The run of a core without labels. The tokens of all its open places are held.
-    pub(crate) fn new(alloc: Global, core: Core) -> Result<SharedRun, AllocError>
-        requires { core.journal ≡ [] }
-        ensures { IfOk result (λ s. s ≡ record { begun = core; past = [] }) }
+    /// The run of a core without labels. The tokens of all its open places are put into the deques of the hands, these in turn;
+    /// where a deque has no room for one, all workers are to stop from the start.
+    pub(crate) fn new(
+        alloc: Global,
+        core: Core,
+        hands: &mut Vec<Hand>,
+    ) -> Result<SharedRun, AllocError>
+        requires begins { core.journal ≡ [] }
+        requires some { 1 ≤ length hands.old.items }
+        ensures run { IfOk result (λ s. s ≡ record { begun = core; past = [] }) }
+        ensures hands { length hands.new.items ≡ length hands.old.items }
     {
         let begun = Snapshot::of(&core);
         let scheduler = Scheduler::new(alloc, core)?;
-        let tokens = Tokens::first(alloc, scheduler.open_count())?;
+        let mut tokens = Tokens::new(alloc);
+        let dealt = tokens.deal(hands, scheduler.open_count());
         Ok(SharedRun {
             begun,
             past: Vec::new(alloc),
@@ -87,13 +97,15 @@ impl SharedRun {
             tokens,
             planning: 0,
             vain: 0,
-            stops: false,
+            stops: dealt.is_err(),
         })
     }
 
-    /// How many tokens are held.
-    pub(crate) fn held_count(&self) -> usize {
-        self.tokens.count()
+    /// All workers are to stop.
+    pub(crate) fn stop(&mut self)
+        ensures { self.new ≡ self.old }
+    {
+        self.stops = true;
     }
 
     /// The state of the run.

@@ -18,10 +18,10 @@ pub(crate) struct Signals {
 }
 
 impl Signals {
-    /// A run before its first turn, which may have ended for all that.
-    pub(crate) fn new(ended: bool) -> Signals {
+    /// A run before its first turn.
+    pub(crate) fn new() -> Signals {
         Signals {
-            ended: CachePadded::new(AtomicU64::new(u64::from(ended))),
+            ended: CachePadded::new(AtomicU64::new(0)),
             idle: CachePadded::new(AtomicU64::new(0)),
             rings: CachePadded::new(AtomicU64::new(0)),
             awake: CachePadded::new(AtomicU64::new(0)),

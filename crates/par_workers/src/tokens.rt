@@ -1,15 +1,17 @@
 //! The tokens of a run, and where they are.
 
-ghost use Rattle.std.specs.Prelude.{◌≡◌, ◌<◌, true, IfOk};
+ghost use Rattle.std.specs.Prelude.{◌≡◌, ◌<◌, ◌≤◌, true, length, IsSome, OnOk};
+ghost use Rattle.wake_lists.specs.Open.{opening_at};
 ghost use Rattle.wake_lists.specs.TokenSets.{is_token_in, Drops};
 ghost use Rattle.scheduler.specs.Openings.{IsNumberIn};
-ghost use Rattle.par_workers.specs.Tokens.{KeepsHeld};
+ghost use Rattle.par_workers.specs.Tokens.{KeepsHeld, IsDealt, IsAtHand, StayAtHand, NewAtHand, IsTakenFrom};
 
 use crate::late::Late;
 use scheduler::Scheduler;
 use std::alloc::{AllocError, Global};
 use std::collections::{BTreeSet, VecDeque};
 use std::marker::Model;
+use task_pool::{Hand, push};
 use wake_lists::Urgency;
 
 /// The tokens that are with a worker, in a deque or among those of late places, each in one of these alone; and the late ones.
@@ -21,31 +23,36 @@ pub struct Tokens {
 }
 
 impl Model for Tokens {
-    ghost use Rattle.std.specs.Prelude.{List, ℕ};
+    ghost use Rattle.par_workers.specs.Tokens.{TokensValue};
 
-    ghost Value = { List ℕ };
+    ghost Value = { TokensValue };
 
-    ghost view = { λ t. t.held.keys };
+    ghost view = { λ t. record { held = t.held.keys; late = t.late } };
 }
 
 impl Tokens {
-    /// The tokens below this number.
-    pub(crate) fn first(alloc: Global, count: usize) -> Result<Tokens, AllocError>
-        ensures { IfOk result (λ tokens. (token : _) → token < count → is_token_in token tokens ≡ true) }
-    {
-        let mut held = BTreeSet::new(alloc);
-        for token in 0..count {
-            held.insert(token as u64)?;
-        }
-        Ok(Tokens {
-            held,
+    /// None yet.
+    pub(crate) fn new(alloc: Global) -> Tokens {
+        Tokens {
+            held: BTreeSet::new(alloc),
             late: Late::new(alloc),
-        })
+        }
     }
 
-    /// How many are held.
-    pub(crate) fn count(&self) -> usize {
-        self.held.len()
+    /// Holds the tokens below this number, and puts each into the deque of one of the hands, these in turn. An `Err`, for want
+    /// of memory, comes at the first for which there is no room.
+    pub(crate) fn deal(&mut self, hands: &mut Vec<Hand>, count: usize) -> Result<(), AllocError>
+        requires { 1 ≤ length hands.old.items }
+        ensures count { length hands.new.items ≡ length hands.old.items }
+        ensures held { OnOk result ((token : _) → token < count → is_token_in token self.new.held ≡ true) }
+        ensures dealt { OnOk result ((token : _) → token < count → IsDealt token hands.new.items) }
+    {
+        for token in 0..count {
+            let number = token % hands.len();
+            self.held.insert(token as u64)?;
+            deal_one(hands, number, token as u64)?;
+        }
+        Ok(())
     }
 
     /// How many are those of late places.
@@ -53,106 +60,145 @@ impl Tokens {
         self.late.count()
     }
 
-    /// A token comes to a worker's, that of an urgent place before the others, or to those of late places: whether it isn't
-    /// lost.
+    /// A token comes to a worker's, that of an urgent place before the others, or to those of late places. An `Err`, for want of
+    /// memory, loses it.
     pub(crate) fn keep(
         &mut self,
         scheduler: &Scheduler,
         token: u64,
         own: &mut VecDeque<u64>,
-    ) -> bool
-        ensures { self.new ≡ self.old }
+    ) -> Result<(), AllocError>
+        ensures held { self.new.held ≡ self.old.held }
+        ensures stay { StayAtHand own.old.items self.old.late own.new.items self.new.late }
+        ensures comes { OnOk result (IsAtHand token own.new.items self.new.late) }
     {
         match scheduler.urgency_of(token) {
-            Some(Urgency::Late) => self.late.add(token).is_ok(),
-            Some(Urgency::Urgent) => own.push_front(token).is_ok(),
-            Some(Urgency::Ordinary) | None => own.push_back(token).is_ok(),
+            Some(Urgency::Late) => self.late.add(token)?,
+            Some(Urgency::Urgent) => own.push_front(token)?,
+            Some(Urgency::Ordinary) | None => own.push_back(token)?,
         }
+        Ok(())
     }
 
-    /// A token comes to those of late places: whether it isn't lost.
-    pub(crate) fn put_last(&mut self, token: u64) -> bool
-        ensures { self.new ≡ self.old }
+    /// A token comes to those of late places. An `Err`, for want of memory, loses it.
+    pub(crate) fn put_last(&mut self, token: u64) -> Result<(), AllocError>
+        ensures held { self.new.held ≡ self.old.held }
+        ensures stay { (other : _) → is_token_in other self.old.late ≡ true → is_token_in other self.new.late ≡ true }
+        ensures comes { OnOk result (is_token_in token self.new.late ≡ true) }
     {
-        self.late.add(token).is_ok()
+        self.late.add(token)
     }
 
     /// The token of a place that was planned comes back to a worker's, before all others, if the place is still open. Those of
-    /// places that were opened are held, and come to the worker's, but for those that some worker has still. Whether none is
-    /// lost.
+    /// places that were opened are held, and come to the worker's, but for those that some worker has still. An `Err`, for want
+    /// of memory, loses one.
     pub(crate) fn take_in(
         &mut self,
         scheduler: &Scheduler,
         token: u64,
         opened: &[u64],
         own: &mut VecDeque<u64>,
-    ) -> bool
-        ensures keeps { KeepsHeld scheduler.now.openings self.old self.new }
-        ensures held { result ≡ true → (other : _) → IsNumberIn other opened.now → is_token_in other self.new ≡ true }
+    ) -> Result<(), AllocError>
+        ensures keeps { KeepsHeld scheduler.now.openings self.old.held self.new.held }
+        ensures held { OnOk result ((other : _) → IsNumberIn other opened.now → is_token_in other self.new.held ≡ true) }
+        ensures stay { StayAtHand own.old.items self.old.late own.new.items self.new.late }
+        ensures back { OnOk result (IsSome (opening_at token scheduler.now.openings) → IsAtHand token own.new.items self.new.late) }
+        ensures comes { OnOk result (NewAtHand self.old.held self.new.held own.new.items self.new.late) }
     {
-        let back = self.take_back(scheduler, token, own);
-        let out = self.hand_out(scheduler, opened, own);
-        back && out
+        self.take_back(scheduler, token, own)?;
+        self.hand_out(scheduler, opened, own)
     }
 
     // The token of a place that was planned comes back, if the place is still open.
-    fn take_back(&mut self, scheduler: &Scheduler, token: u64, own: &mut VecDeque<u64>) -> bool
-        ensures { KeepsHeld scheduler.now.openings self.old self.new }
+    fn take_back(
+        &mut self,
+        scheduler: &Scheduler,
+        token: u64,
+        own: &mut VecDeque<u64>,
+    ) -> Result<(), AllocError>
+        ensures keeps { KeepsHeld scheduler.now.openings self.old.held self.new.held }
+        ensures only { (other : _) → is_token_in other self.new.held ≡ true → is_token_in other self.old.held ≡ true }
+        ensures stay { StayAtHand own.old.items self.old.late own.new.items self.new.late }
+        ensures back { OnOk result (IsSome (opening_at token scheduler.now.openings) → IsAtHand token own.new.items self.new.late) }
     {
         match scheduler.urgency_of(token) {
-            Some(Urgency::Late) => self.late.add(token).is_ok(),
-            Some(Urgency::Urgent | Urgency::Ordinary) => own.push_front(token).is_ok(),
-            None => {
-                self.held.remove(&token);
-                true
-            }
+            Some(Urgency::Late) => self.late.add(token)?,
+            Some(Urgency::Urgent | Urgency::Ordinary) => own.push_front(token)?,
+            None => self.let_go(token),
         }
+        Ok(())
     }
 
     // The tokens of places that were opened are held, and come to a worker's, but for those that some worker has still.
-    fn hand_out(&mut self, scheduler: &Scheduler, opened: &[u64], own: &mut VecDeque<u64>) -> bool
-        ensures keeps { KeepsHeld scheduler.now.openings self.old self.new }
-        ensures held { result ≡ true → (token : _) → IsNumberIn token opened.now → is_token_in token self.new ≡ true }
+    fn hand_out(
+        &mut self,
+        scheduler: &Scheduler,
+        opened: &[u64],
+        own: &mut VecDeque<u64>,
+    ) -> Result<(), AllocError>
+        ensures keeps { (other : _) → is_token_in other self.old.held ≡ true → is_token_in other self.new.held ≡ true }
+        ensures held { OnOk result ((token : _) → IsNumberIn token opened.now → is_token_in token self.new.held ≡ true) }
+        ensures stay { StayAtHand own.old.items self.old.late own.new.items self.new.late }
+        ensures comes { OnOk result (NewAtHand self.old.held self.new.held own.new.items self.new.late) }
     {
-        let mut kept = true;
         for token in opened {
-            if !self.hand_out_one(scheduler, *token, own) {
-                kept = false;
-            }
+            self.hand_out_one(scheduler, *token, own)?;
         }
-        kept
+        Ok(())
     }
 
     // The same for one token.
-    fn hand_out_one(&mut self, scheduler: &Scheduler, token: u64, own: &mut VecDeque<u64>) -> bool
-        ensures keeps { (other : _) → is_token_in other self.old ≡ true → is_token_in other self.new ≡ true }
-        ensures held { result ≡ true → is_token_in token self.new ≡ true }
+    fn hand_out_one(
+        &mut self,
+        scheduler: &Scheduler,
+        token: u64,
+        own: &mut VecDeque<u64>,
+    ) -> Result<(), AllocError>
+        ensures keeps { (other : _) → is_token_in other self.old.held ≡ true → is_token_in other self.new.held ≡ true }
+        ensures held { OnOk result (is_token_in token self.new.held ≡ true) }
+        ensures stay { StayAtHand own.old.items self.old.late own.new.items self.new.late }
+        ensures comes { OnOk result (NewAtHand self.old.held self.new.held own.new.items self.new.late) }
     {
-        match self.held.insert(token) {
-            Ok(true) => self.keep(scheduler, token, own),
-            Ok(false) => true,
-            Err(_) => false,
+        if self.held.insert(token)? {
+            self.keep(scheduler, token, own)?;
         }
+        Ok(())
     }
 
     /// Lets a token go.
     pub(crate) fn let_go(&mut self, token: u64)
-        ensures { Drops self.old self.new token }
+        ensures held { Drops self.old.held self.new.held token }
+        ensures late { self.new.late ≡ self.old.late }
     {
         self.held.remove(&token);
     }
 
     /// Takes the next token among those of late places, if its place comes last no more.
     pub(crate) fn take_next(&mut self, scheduler: &Scheduler) -> Option<u64>
-        ensures { self.new ≡ self.old }
+        ensures held { self.new.held ≡ self.old.held }
+        ensures late { IsTakenFrom self.old.late result self.new.late }
     {
         self.late.take_next(scheduler)
     }
 
     /// Takes the last token among those of late places whose place isn't put off.
     pub(crate) fn take_last(&mut self, scheduler: &Scheduler) -> Option<u64>
-        ensures { self.new ≡ self.old }
+        ensures held { self.new.held ≡ self.old.held }
+        ensures late { IsTakenFrom self.old.late result self.new.late }
     {
         self.late.take_last(scheduler)
+    }
+}
+
+// Puts a token into the deque of the hand of this number.
+fn deal_one(hands: &mut Vec<Hand>, number: usize, token: u64) -> Result<(), AllocError>
+    requires { number < length hands.old.items }
+    ensures count { length hands.new.items ≡ length hands.old.items }
+    ensures still { (other : _) → IsDealt other hands.old.items → IsDealt other hands.new.items }
+    ensures dealt { OnOk result (IsDealt token hands.new.items) }
+{
+    match push(&mut hands[number], token) {
+        Ok(()) => Ok(()),
+        Err(_) => Err(AllocError),
     }
 }

@@ -5,10 +5,12 @@ ghost use Rattle.std.proofs.Props.{props};
 ghost use Rattle.turn_lock.specs.Passes.{view, IsPassOf, HasNoTurn};
 ghost use Rattle.place_steps.specs.Next.{IsNext};
 ghost use Rattle.par_workers.specs.Shared.{AreReceiptsOf};
+ghost use Rattle.par_workers.specs.Tokens.{StayAtHand};
 ghost use Rattle.par_workers.specs.Turns.{run_seen, IsNumber, IsChosenIn, IsFoundIn, HasSeen, view_of};
 
-use crate::choosing::{Chosen, Look, Sight};
+use crate::choosing::Chosen;
 use crate::concluding::Planned;
+use crate::looking::{Look, Sight};
 use crate::shared::SharedRun;
 use crate::signals::Signals;
 use crate::vain_turns::VainTurns;
@@ -198,6 +200,7 @@ impl Worker {
     fn lay_down(&mut self)
         ensures pass { self.new.pass ≡ self.old.pass }
         ensures number { self.new.number ≡ self.old.number }
+        ensures stay { StayAtHand self.old.tokens.items self.old.hand.pushed self.new.tokens.items self.new.hand.pushed }
     {
         for _ in 0..self.tokens.len() {
             let Some(token) = self.tokens.front() else {
@@ -214,6 +217,7 @@ impl Worker {
     fn offer(&mut self, signals: &Signals)
         ensures pass { self.new.pass ≡ self.old.pass }
         ensures number { self.new.number ≡ self.old.number }
+        ensures stay { StayAtHand self.old.tokens.items self.old.hand.pushed self.new.tokens.items self.new.hand.pushed }
     {
         if self.tokens.len() < ENOUGH || !signals.is_anyone_idle() || !is_bare(&mut self.hand) {
             return;

@@ -1,5 +1,5 @@
 -- Places that stay open keep their tokens, when others are opened, one is closed, or boxes leave.
-use Rattle.std.proofs.Common.{◌≡◌, ℕ, Bool, true, false, List, Option, Some, None, refl, sym, ap, subst, ◌∙◌, ◌⊎◌, inl, inr}
+use Rattle.std.proofs.Common.{◌≡◌, ℕ, Bool, true, false, List, [], Option, Some, None, refl, sym, ap, subst, ◌∙◌, ◌⊎◌, inl, inr}
 use Rattle.std.specs.Prelude.{cond, if◌then◌else◌, option_map}
 use Rattle.std.specs.BTreeMap.{insert_entry}
 use Rattle.std.specs.Ordering.{nat_cmp}
@@ -25,6 +25,10 @@ pub record Grows (before now : Openings) (ts : List ℕ) : Type 0 where
 
 pub grown_keeps : (before now : Openings) (ts : List ℕ) → Grows before now ts → KeepsTokens before now ts
 grown_keeps before now ts g = record { each = λ t o e w. g.stays t o e; only = g.only }
+
+-- and so it is where all stay as they were
+pub same_keeps : (os : Openings) → KeepsTokens os os []
+same_keeps os = record { each = λ t o e w. (o, e, refl); only = λ t o e. inl (o, e, refl) }
 
 -- then what has the token of one place is closed
 module _ (before mid : Openings) (ts : List ℕ) (g : Grows before mid ts) (apart : AreApart mid) (own : ℕ) (place : Place) (token : IsOpen before place (Some own)) where

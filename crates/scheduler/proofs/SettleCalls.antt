@@ -20,6 +20,7 @@ use Rattle.scheduler.specs.Schedulers.{SchedulerValue, IsScheduler}
 use Rattle.scheduler.specs.Settling.{OpensCandidate}
 use Rattle.scheduler.specs.Settled.{MaySettle, IsFreshIdle, IsSeenEnough, IsFoundIdle, Settles}
 use Rattle.scheduler.proofs.DroppedWaits.{Waiting}
+use Rattle.scheduler.proofs.KeptTokens.{same_keeps}
 use Rattle.scheduler.proofs.OpeningLists.{put_out}
 use Rattle.scheduler.proofs.OpenedMore.{not_open, its_open}
 use Rattle.scheduler.proofs.SettleKept.{idle_looked, idle_now}
@@ -48,7 +49,13 @@ waits_none s h place w x = on (waits_on s.waits place x) refl
 
 -- one that isn't open is left alone
 pub left_alone : (s : SchedulerValue) (place : Place) (on : List Var) → IsOpen s.openings place None → Settles s place on s None
-left_alone s place on o = record { core = refl; unopened = λ n. (refl, refl); settled = λ w. absurd (not_open s.openings place o w); lighter = λ w. absurd (not_open s.openings place o w) }
+left_alone s place on o = record {
+  core = refl;
+  unopened = λ n. (refl, refl);
+  settled = λ w. absurd (not_open s.openings place o w);
+  lighter = λ w. absurd (not_open s.openings place o w);
+  keeps = same_keeps s.openings;
+}
 
 -- the nearest box
 module _ (v : TableValue) (before : Openings) (near : Option Name) (n : Name) (is_near : near ≡ Some n) where

@@ -311,7 +311,6 @@ module _ (s : SchedulerValue) (h : IsScheduler s) (place : Place) (on : List Var
         λ e. subst (λ (y : Config). IsKeptAfterSettle ws xs y place on other x) c_is (kept_as still xs h.kept ws there kept_there c place on other x (are_left.1.left_by.each other x (are_left.1.listed.all other x e))),
         λ k. are_left.1.listed.only other x (are_left.1.left_by.all other x (kept_as xs still ws h.kept back kept_back c place on other x (subst (λ (y : Config). IsKeptAfterSettle ws xs y place on other x) (sym c_is) k))),
       );
-      keeps = settle_keeps s.core.table s.openings h.apart near mid found opens own place token;
       token = token_so;
     }
 
@@ -321,4 +320,5 @@ module _ (s : SchedulerValue) (h : IsScheduler s) (place : Place) (on : List Var
     unopened = λ n. absurd (n (its_open s.openings place own token));
     settled = λ i u xs ws a b. left_so u xs ws a b;
     lighter = λ i. after.lighter s.core.table s.core.journal t place s.openings h.now h.are_open h.standing h.apart own token still others_so near mid found quiet opens;
+    keeps = settle_keeps s.core.table s.openings h.apart near mid found opens own place token;
   }

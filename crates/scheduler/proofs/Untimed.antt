@@ -112,7 +112,7 @@ untimed_tokens before a b e ts h = record {
   once = h.once;
 }
 
-untimed_keeps : (before a b : Openings) (ts : List ℕ) → untimed b ≡ untimed a → KeepsTokens before a ts → KeepsTokens before b ts
+pub untimed_keeps : (before a b : Openings) (ts : List ℕ) → untimed b ≡ untimed a → KeepsTokens before a ts → KeepsTokens before b ts
 untimed_keeps before a b ts e h = record {
   each = λ t o i w.
       let y : LeadsTo a t o.place = h.each t o i (untimed_open a b e o.place w) in

@@ -48,19 +48,20 @@ pub record IsTokenOfOpened (s d : SchedulerValue) (place : Place) (c : Config) (
   pub opened : (token : ℕ) → result ≡ Some token → (n : Name) × SettleOpens still c place n × ((o : Opening) × (opening_at token d.openings ≡ Some o) × (o.place ≡ Place.Box n))
   pub none : result ≡ None → (n : Name) → SettleOpens still c place n → ⊥
 
--- where these are open besides the place, and these waits are kept, just what a settle leaves open and kept is so, under the tokens that were
+-- where these are open besides the place, and these waits are kept, just what a settle leaves open and kept is so
 pub record IsLeftBySettle (s d : SchedulerValue) (place : Place) (on : List Var) (c : Config) (still : List Place) (kept : List Wait) (result : Option ℕ) : Type 0 where
   pub is_open : (other : Place) → IsOpenAt d.openings other ↔ IsOpenAfterSettle still c place other
   pub waits : (other : Place) (x : Var) → (waits_on d.waits other x ≡ true) ↔ IsKeptAfterSettle kept still c place on other x
-  pub keeps : KeepsTokens s.openings d.openings (token_list result)
   pub token : IsTokenOfOpened s d place c still result
 
--- a place that isn't open is left alone; else at most one box is opened for it, which stands in fewer boxes
+-- a place that isn't open is left alone; else at most one box is opened for it, which stands in fewer boxes; the tokens are those that were, and
+-- that of this box
 pub record Settles (s : SchedulerValue) (place : Place) (on : List Var) (d : SchedulerValue) (result : Option ℕ) : Type 0 where
   pub core : d.core ≡ s.core
   pub unopened : (IsOpenAt s.openings place → ⊥) → (d ≡ s) × (result ≡ None)
   pub settled : IsOpenAt s.openings place → (t : TableIn s.core) (still : List Place) (kept : List Wait) → AreOthersOpen s.openings place still → AreListed s.waits kept → IsLeftBySettle s d place on t.config still kept result
   pub lighter : IsOpenAt s.openings place → weight d.openings < weight s.openings
+  pub keeps : KeepsTokens s.openings d.openings (token_list result)
 
 -- the state is as it was
 pub record IsUnchanged (s d : SchedulerValue) : Type 0 where

@@ -1,6 +1,6 @@
 //! The state of a run with its open places.
 
-ghost use Rattle.std.specs.Prelude.{◌≡◌, ◌<◌, [], length, option_map, IfOk, IfErr, IfNone, true};
+ghost use Rattle.std.specs.Prelude.{◌≡◌, ◌<◌, [], length, option_map, None, IfOk, IfErr, IfNone, true};
 ghost use Rattle.wake_lists.specs.Open.{IsFirst, IsPutLast, untimed, opening_at, closed};
 ghost use Rattle.wake_lists.specs.declared.turn.Urgency.{Urgency};
 ghost use Rattle.scheduler.specs.Schedulers.{IsScheduler, AllOpen, IsQuiet, HasGone};
@@ -121,7 +121,8 @@ impl Scheduler {
     /// Closes the open place with this token, which has gone.
     pub fn forget(&mut self, token: u64)
         requires { HasGone self.old token }
-        ensures { self.new ≡ record self.old { openings = closed token self.old.openings } }
+        ensures closed { self.new ≡ record self.old { openings = closed token self.old.openings } }
+        ensures gone { opening_at token self.new.openings ≡ None }
     {
         self.open.close(token);
     }

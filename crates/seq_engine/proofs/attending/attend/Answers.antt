@@ -6,7 +6,7 @@ use Rattle.seq_engine.proofs.Turns.{forgotten, idle_now}
 use Rattle.seq_engine.proofs.attending.attend.Goals as goal
 
 pub returns-in_default : goal.returns-in_default
-returns-in_default c = forgotten c.args.scheduler.now c.forget.new.self c.args.token c.args.place c.requires.open c.forget.ensures
+returns-in_default c = forgotten c.args.scheduler.now c.forget.new.self c.args.token c.args.place c.requires.open c.forget.ensures.closed
 
 pub settle-requires : goal.settle-requires
 settle-requires c =

@@ -1,7 +1,10 @@
-use Rattle.std.proofs.Common.{sym, subst}
-use Rattle.wake_lists.specs.Open.{Openings}
+use Rattle.std.proofs.Common.{Bool, None, sym, ap, subst, ◌∙◌}
+use Rattle.std.specs.Prelude.{cond}
+use Rattle.wake_lists.specs.Open.{Openings, opening_at}
+use Rattle.wake_lists.proofs.Keys.{token_here}
 use Rattle.scheduler.specs.Schedulers.{SchedulerValue, HasGone}
 use Rattle.scheduler.specs.Splits.{KeepsSplits}
+use Rattle.scheduler.proofs.OpeningLists.{out_at}
 use Rattle.scheduler.proofs.Starting.{forgotten}
 use Rattle.scheduler.proofs.SplitsKept.{forgotten_splits}
 use Rattle.scheduler.proofs.scheduler.Scheduler.forget.Goals as goal
@@ -14,3 +17,9 @@ invariant_of-self c =
       scheduler = forgotten s c.self.invariant.scheduler c.args.token gone;
       splits = forgotten_splits s c.self.invariant.scheduler c.args.token gone c.self.inside.splits c.self.invariant.splits;
     })
+
+pub returns-clause-gone : goal.returns-clause-gone
+returns-clause-gone c =
+    let t = c.args.token in
+    let os = c.self.inside.open in
+    ap (opening_at t) c.close.ensures ∙ out_at t os c.self.invariant.scheduler.apart t ∙ ap (λ (b : Bool). cond b None (opening_at t os)) (token_here t)

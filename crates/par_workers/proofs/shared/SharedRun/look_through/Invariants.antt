@@ -1,5 +1,0 @@
-use Rattle.std.proofs.Common.{◌≡◌}
-use Rattle.par_workers.proofs.shared.SharedRun.look_through.Given as goal
-
-abbrev pub invariant-loop : goal.invariant-loop
-invariant-loop l = l.self ≡ l.fn.self

@@ -1,0 +1,222 @@
+//! What a worker sees of the place that it plans next.
+
+ghost use Rattle.std.specs.Prelude.{◌≡◌, Some, false, IfOk, IfSome, IfNone, OnOk};
+ghost use Rattle.wake_lists.specs.TokenSets.{is_token_in};
+ghost use Rattle.scheduler.specs.Resting.{IsAtRest};
+ghost use Rattle.scheduler.specs.Schedulers.{HasGone};
+ghost use Rattle.par_workers.specs.Tokens.{AreHeld, IsShut, IsAtHand, StayAtHand};
+ghost use Rattle.par_workers.specs.Turns.{IsSightBy, IsSightOf};
+ghost use Rattle.par_workers.specs.Looks.{IsAtHandOrGone, IsNotLost};
+
+use crate::late::comes_last;
+use crate::tokens::Tokens;
+use akl_terms::Place;
+use box_tree::{LookError, View};
+use place_steps::{Seen, see};
+use scheduler::{Attention, Scheduler};
+use std::alloc::{AllocError, Global};
+use std::collections::VecDeque;
+use step_commit::Core;
+
+/// What a worker saw of a place.
+#[derive(Drop)]
+pub enum Sight {
+    /// Enough to tell what comes next there.
+    Whole(Seen),
+    /// A place that is only tried by the rules other than Split: a box without what stands inside it.
+    Tried(View),
+}
+
+/// What a worker saw of a place, and the token that led it there.
+#[derive(Drop)]
+pub struct Look {
+    pub token: u64,
+    pub sight: Sight,
+}
+
+/// Looks at the place of the first of a worker's tokens whose place is there, and doesn't come last; the first is the one that
+/// it has drawn. Where there is none, it looks at a late place that isn't put off, if it is to. An `Err`, for want of memory,
+/// may lose a token.
+pub(crate) fn find_next(
+    alloc: Global,
+    scheduler: &mut Scheduler,
+    tokens: &mut Tokens,
+    worker: u32,
+    drawn: Option<u64>,
+    line: &mut VecDeque<u64>,
+    with_late: bool,
+) -> Result<Option<Look>, AllocError>
+    ensures core { scheduler.new.core ≡ scheduler.old.core }
+    ensures look { IfOk result (λ found. IfSome found (λ look. IsSightOf scheduler.old.core worker look.sight)) }
+    ensures held { AreHeld scheduler.old.openings tokens.old.held → AreHeld scheduler.new.openings tokens.new.held }
+    ensures stay { IfOk result (λ found. (token : _) → IsAtHand token line.old.items tokens.old.late → IsNotLost token found line.new.items tokens.new.late tokens.new.held) }
+    ensures drawn { IfOk result (λ found. (token : _) → drawn ≡ Some token → IsNotLost token found line.new.items tokens.new.late tokens.new.held) }
+{
+    if let Some(token) = drawn {
+        line.push_front(token)?;
+    }
+    find_at_hand(alloc, scheduler, tokens, worker, line, with_late)
+}
+
+// The same by the tokens at hand alone.
+fn find_at_hand(
+    alloc: Global,
+    scheduler: &mut Scheduler,
+    tokens: &mut Tokens,
+    worker: u32,
+    line: &mut VecDeque<u64>,
+    with_late: bool,
+) -> Result<Option<Look>, AllocError>
+    ensures core { scheduler.new.core ≡ scheduler.old.core }
+    ensures look { IfOk result (λ found. IfSome found (λ look. IsSightOf scheduler.old.core worker look.sight)) }
+    ensures held { AreHeld scheduler.old.openings tokens.old.held → AreHeld scheduler.new.openings tokens.new.held }
+    ensures stay { IfOk result (λ found. (token : _) → IsAtHand token line.old.items tokens.old.late → IsNotLost token found line.new.items tokens.new.late tokens.new.held) }
+{
+    sort_late(scheduler, tokens, line)?;
+    let found = look_through(alloc, scheduler, tokens, worker, line)?;
+    if found.is_some() || !with_late {
+        return Ok(found);
+    }
+    look_at_late(alloc, scheduler, tokens, worker)
+}
+
+// The token of the next place among the last comes to a worker's, if it is one of these no more.
+fn sort_late(
+    scheduler: &Scheduler,
+    tokens: &mut Tokens,
+    line: &mut VecDeque<u64>,
+) -> Result<(), AllocError>
+    ensures held { tokens.new.held ≡ tokens.old.held }
+    ensures stay { OnOk result (StayAtHand line.old.items tokens.old.late line.new.items tokens.new.late) }
+{
+    match tokens.take_next(scheduler) {
+        Some(token) => tokens.keep(scheduler, token, line),
+        None => Ok(()),
+    }
+}
+
+// Looks at the place of the first of a worker's tokens whose place is there. Of those before it those go whose place
+// isn't there, and those of late places or such as are put off come to the last ones.
+fn look_through(
+    alloc: Global,
+    scheduler: &mut Scheduler,
+    tokens: &mut Tokens,
+    worker: u32,
+    line: &mut VecDeque<u64>,
+) -> Result<Option<Look>, AllocError>
+    ensures core { scheduler.new.core ≡ scheduler.old.core }
+    ensures look { IfOk result (λ found. IfSome found (λ look. IsSightOf scheduler.old.core worker look.sight)) }
+    ensures held { AreHeld scheduler.old.openings tokens.old.held → AreHeld scheduler.new.openings tokens.new.held }
+    ensures stay { IfOk result (λ found. (token : _) → IsAtHand token line.old.items tokens.old.late → IsNotLost token found line.new.items tokens.new.late tokens.new.held) }
+{
+    for _ in 0..line.len() {
+        let Some(token) = line.pop_front() else {
+            break;
+        };
+        if comes_last(scheduler, token) {
+            tokens.put_last(token)?;
+            continue;
+        }
+        if let Some(sight) = see_open(alloc, scheduler, tokens, worker, token)? {
+            return Ok(Some(Look { token, sight }));
+        }
+    }
+    Ok(None)
+}
+
+// Looks at a late place that isn't put off.
+fn look_at_late(
+    alloc: Global,
+    scheduler: &mut Scheduler,
+    tokens: &mut Tokens,
+    worker: u32,
+) -> Result<Option<Look>, AllocError>
+    ensures core { scheduler.new.core ≡ scheduler.old.core }
+    ensures look { IfOk result (λ found. IfSome found (λ look. IsSightOf scheduler.old.core worker look.sight)) }
+    ensures held { AreHeld scheduler.old.openings tokens.old.held → AreHeld scheduler.new.openings tokens.new.held }
+    ensures stay { IfOk result (λ found. (line : _) (token : _) → IsAtHandOrGone token line tokens.old.late tokens.old.held → IsNotLost token found line tokens.new.late tokens.new.held) }
+{
+    for _ in 0..tokens.late_count() {
+        let Some(token) = tokens.take_last(scheduler) else {
+            break;
+        };
+        if let Some(sight) = see_open(alloc, scheduler, tokens, worker, token)? {
+            return Ok(Some(Look { token, sight }));
+        }
+    }
+    Ok(None)
+}
+
+// What a worker sees of the open place with this token. Where it has gone, it is closed, and where none is open the token is let
+// go.
+fn see_open(
+    alloc: Global,
+    scheduler: &mut Scheduler,
+    tokens: &mut Tokens,
+    worker: u32,
+    token: u64,
+) -> Result<Option<Sight>, AllocError>
+    ensures core { scheduler.new.core ≡ scheduler.old.core }
+    ensures sight { IfOk result (λ found. IfSome found (IsSightOf scheduler.old.core worker)) }
+    ensures held { AreHeld scheduler.old.openings tokens.old.held → AreHeld scheduler.new.openings tokens.new.held }
+    ensures late { tokens.new.late ≡ tokens.old.late }
+    ensures gone { IfOk result (λ found. IfNone found (is_token_in token tokens.new.held ≡ false)) }
+    ensures still { (other : _) → is_token_in other tokens.old.held ≡ false → is_token_in other tokens.new.held ≡ false }
+{
+    let Some(place) = scheduler.place_of(token) else {
+        tokens.let_go(token);
+        return Ok(None);
+    };
+    let found = if scheduler.attention_at(token, place) == Attention::Whole {
+        see_whole(alloc, scheduler, place, worker)?
+    } else {
+        see_tried(alloc, scheduler.core(), place, worker)?
+    };
+    if found.is_none() {
+        close(scheduler, token);
+        tokens.let_go(token);
+    }
+    Ok(found)
+}
+
+// Closes the open place with this token, which has gone.
+fn close(scheduler: &mut Scheduler, token: u64)
+    requires { HasGone scheduler.old token }
+    ensures core { scheduler.new.core ≡ scheduler.old.core }
+    ensures shut { IsShut token scheduler.old.openings scheduler.new.openings }
+{
+    scheduler.forget(token);
+}
+
+// What a worker sees of a place in which nothing is open; `None` exactly where the place isn't there.
+fn see_whole(
+    alloc: Global,
+    scheduler: &Scheduler,
+    place: Place,
+    worker: u32,
+) -> Result<Option<Sight>, AllocError>
+    requires { IsAtRest scheduler.now.openings place }
+    ensures { IfOk result (IsSightBy scheduler.now.core place worker) }
+{
+    let candidate = scheduler.candidate_at(place);
+    match see(alloc, scheduler.core(), place, worker, candidate)? {
+        Some(seen) => Ok(Some(Sight::Whole(seen))),
+        None => Ok(None),
+    }
+}
+
+// The same without what stands inside a box.
+fn see_tried(
+    alloc: Global,
+    core: &Core,
+    place: Place,
+    worker: u32,
+) -> Result<Option<Sight>, AllocError>
+    ensures { IfOk result (IsSightBy core.now place worker) }
+{
+    match core.look(alloc, place, worker) {
+        Ok(view) => Ok(Some(Sight::Tried(view))),
+        Err(LookError::Gone) => Ok(None),
+        Err(LookError::Memory(error)) => Err(error),
+    }
+}
