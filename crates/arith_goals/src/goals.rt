@@ -27,7 +27,7 @@ pub enum ArithValue {
     /// The first obstacle is a class that isn't structured; the variable stands for it, as the end of
     /// its chain of bindings.
     Waits { on: Var },
-    /// The first obstacle is a term that is no expression, a value that is undefined or beyond 64
+    /// The first obstacle is a term that is no expression, a value that is undefined or beyond 128
     /// bits, or an expression inside itself.
     Never,
 }
