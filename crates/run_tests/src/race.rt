@@ -1,7 +1,7 @@
 //! Two plans over one state.
 
 ghost use Rattle.std.specs.Prelude.{◌≡◌, IfOk, IfErr, IfSome, OnOk};
-ghost use Rattle.step_commit.specs.Cores.{MayCommit, Commits};
+ghost use Rattle.step_commit.specs.Cores.{IsCore, MayCommit, Commits};
 ghost use Rattle.box_tree.specs.Tables.{HasVariables, HasShownVariables};
 
 use crate::cases::{Case, case_of, expect};
@@ -50,12 +50,15 @@ fn planned(
 fn commit(alloc: Global, core: &mut Core, plan: Plan) -> Result<Receipt, CommitError>
     requires { MayCommit core.old plan }
     ensures committed { IfOk result (Commits core.old plan core.new) }
+    ensures core { IfOk result (λ _. IsCore core.new) }
     ensures unchanged { IfErr result (λ _. core.new ≡ core.old) }
 {
     if let Some(refused) = core.refusal(&plan) {
         return Err(refused);
     }
     let receipt = core.append(alloc, plan)?;
+    // Its table tells what its type keeps.
+    let _ = core.table();
     Ok(receipt)
 }
 
