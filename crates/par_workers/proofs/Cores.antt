@@ -64,7 +64,7 @@ shared_stores : (first : TableValue) (seen further : List Made) (t u : TableValu
 shared_stores first seen further t u count was now number keeps n row e old =
     let last : u ≡ table_after (table_after first seen) further = now ∙ table_after-append first seen further in
     let had : HadStore ((table_of (table_after first seen)).box_of n) row =
-    had_store (length seen) (table_after first seen) further (keeps_behind 0 first seen further keeps) n row (ap (λ (x : TableValue). (table_of x).box_of n) (sym last) ∙ e) (subst (λ (k : ℕ). row.changed ≤ k) number old) in
+    had_store (length seen) (table_after first seen) further (subst (λ (i : ℕ). KeepStores i (table_after first seen) further) (let e : 0 + length seen ≡ length seen = omega arith in e) (keeps_behind 0 first seen further keeps)) n row (ap (λ (x : TableValue). (table_of x).box_of n) (sym last) ∙ e) (subst (λ (k : ℕ). row.changed ≤ k) number old) in
     ap (λ (x : TableValue). store_in ((table_of x).box_of n)) was ∙ ap store_in had.1 ∙ had.2
 
 none_by : (l : Label) (worker : ℕ) (ms : List Made) → l.worker ≡ worker → All (λ m. maker m ≢ worker) ms → NoneBy l (labels_in ms)
@@ -143,8 +143,9 @@ shared_more s c d worker p r m is f least most core made label table =
       fixed = fixed;
       workers = by_workers-more s.begun.workers s.past m is.workers (subst (λ n. 1 ≤ n) (sym by) least) (subst (λ n. n ≤ s.begun.workers) (sym by) most);
       stores = keeps_more 0 s.begun.table s.past m is.stores
+          (subst (λ (i : ℕ). KeepsStores (suc i) (table_of (table_after s.begun.table s.past)) (table_of m.table.value)) (let e : length s.past ≡ 0 + length s.past = omega arith in e)
           (subst (λ (t : TableValue). KeepsStores (suc (length s.past)) (table_of (table_after s.begun.table s.past)) (table_of t)) (sym table)
-          (subst (λ (t : TableValue). KeepsStores (suc (length s.past)) (table_of t) (table_of d.table)) (ap (λ (e : CoreValue). e.table) is.core) keeps));
+          (subst (λ (t : TableValue). KeepsStores (suc (length s.past)) (table_of t) (table_of d.table)) (ap (λ (e : CoreValue). e.table) is.core) keeps)));
     }
 
 pub concluded_more : (s : SharedValue) (c d : CoreValue) (worker : ℕ) (p : PlanValue) (r : Receipt) (m : Made) (rs : List Receipt) → IsShared s c → IsFoundBefore s worker (Next.Plan p)

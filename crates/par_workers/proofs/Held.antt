@@ -1,12 +1,10 @@
 -- Tokens that are held, when one comes or goes.
-use Rattle.std.proofs.Common.{◌≡◌, ℕ, suc, ◌+◌, ◌<◌, ◌==◌, Bool, true, false, List, [], ◌∷◌, length, slice_index_or, Some, None, refl, sym, ap, subst, ◌∙◌, inl, inr, arith}
-use Rattle.std.specs.Prelude.{◌||◌, ◌&&◌, not, option_map}
+use Rattle.std.proofs.Common.{◌≡◌, ℕ, suc, ◌+◌, ◌<◌, ◌==◌, Bool, true, false, List, [], ◌∷◌, length, slice_index_or, refl, sym, ap, subst, ◌∙◌, inl, inr, arith}
+use Rattle.std.specs.Prelude.{◌||◌}
 use Rattle.std.proofs.lemmas.Bool.{eqb-true}
 use Rattle.std.proofs.lemmas.Bool.Decides.{nat_tests}
-use Rattle.wake_lists.specs.Open.{Opening, Openings, opening_at}
-use Rattle.wake_lists.specs.TokenSets.{is_token_in, Adds, Drops}
+use Rattle.wake_lists.specs.TokenSets.{is_token_in, Adds}
 use Rattle.scheduler.specs.Openings.{IsNumberIn}
-use Rattle.par_workers.specs.Tokens.{KeepsHeld}
 
 pub or_true : (b : Bool) → (b || true) ≡ true
 or_true true = refl

@@ -1,5 +1,5 @@
 -- A look where another one found nothing.
-use Rattle.std.proofs.Common.{◌≡◌, ℕ, Bool, true, false, List, Option, Some, None, is_some, inl, inr}
+use Rattle.std.proofs.Common.{◌≡◌, ℕ, true, false, List, Option, Some, None, is_some, inl, inr}
 use Rattle.par_workers.specs.declared.looking.Look.{Look}
 use Rattle.par_workers.specs.Looks.{IsAtHandOrGone, IsNotLost}
 

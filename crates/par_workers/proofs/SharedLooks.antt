@@ -1,5 +1,5 @@
 -- What a worker sees of a place is so in the shared run.
-use Rattle.std.proofs.Common.{◌≡◌, ℕ, Option, Some, None, ap, subst, ◌∙◌}
+use Rattle.std.proofs.Common.{ℕ, Option, Some, None, ap, subst, ◌∙◌}
 use Rattle.std.specs.Prelude.{IfSome}
 use Rattle.step_commit.specs.Cores.{CoreValue, KeepsFixed}
 use Rattle.par_workers.specs.declared.looking.Look.{Look}

@@ -1,6 +1,6 @@
 -- A token that is taken out of a list, and those that stay.
-use Rattle.std.proofs.Common.{◌≡◌, ℕ, zero, suc, ◌<◌, Bool, true, false, List, [], ◌∷◌, ◌++◌, length, get_or, Option, Some, None, refl, sym, ap, subst, ◌∙◌, ◌⊎◌, inl, inr, arith}
-use Rattle.std.specs.Prelude.{◌||◌, IfSome}
+use Rattle.std.proofs.Common.{◌≡◌, ℕ, zero, suc, ◌<◌, Bool, true, false, List, [], ◌∷◌, length, get_or, Some, None, refl, sym, ap, ◌∙◌, ◌⊎◌, inl, inr, arith}
+use Rattle.std.specs.Prelude.{◌||◌}
 use Rattle.std.specs.List.{remove}
 use Rattle.wake_lists.specs.TokenSets.{is_token_in}
 use Rattle.wake_lists.proofs.Keys.{token_here, token_equal}

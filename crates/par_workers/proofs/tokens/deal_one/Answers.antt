@@ -1,4 +1,4 @@
-use Rattle.std.proofs.Common.{◌≡◌, List, ℕ, ◌++◌, ◌∷◌, [], true, ap, sym, ◌∙◌}
+use Rattle.std.proofs.Common.{ap, ◌∙◌}
 use Rattle.wake_lists.specs.TokenSets.{is_token_in}
 use Rattle.task_pool.specs.Places.{Standing}
 use Rattle.par_workers.proofs.Dealing.{token_last, token_still, still_dealt, now_dealt}

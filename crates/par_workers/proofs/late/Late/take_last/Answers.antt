@@ -1,4 +1,4 @@
-use Rattle.std.proofs.Common.{List, ℕ, ◌<◌, length, Some, ap, subst, sym, arith}
+use Rattle.std.proofs.Common.{List, ℕ, ◌<◌, length, Some, subst, arith}
 use Rattle.par_workers.specs.Tokens.{IsTakenFrom}
 use Rattle.par_workers.proofs.TakenOut.{taken_out}
 use Rattle.par_workers.proofs.late.Late.take_last.Goals as goal

@@ -1,4 +1,4 @@
-use Rattle.std.proofs.Common.{◌≡◌, ℕ, true, ◌∙◌, arith}
+use Rattle.std.proofs.Common.{◌≡◌, ℕ, true, ◌∙◌}
 use Rattle.wake_lists.specs.TokenSets.{is_token_in}
 use Rattle.wake_lists.proofs.TokensIn.{set_added}
 use Rattle.par_workers.specs.Tokens.{IsDealt}

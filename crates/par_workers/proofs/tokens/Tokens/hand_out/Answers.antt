@@ -1,4 +1,4 @@
-use Rattle.std.proofs.Common.{◌≡◌, true, false, sym, ◌∙◌, inl, inr, arith}
+use Rattle.std.proofs.Common.{inl, arith}
 use Rattle.par_workers.proofs.AtHand.{more_new}
 use Rattle.par_workers.proofs.Held.{next_held, all_held}
 use Rattle.par_workers.proofs.tokens.Tokens.hand_out.Goals as goal

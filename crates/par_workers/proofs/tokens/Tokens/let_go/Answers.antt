@@ -1,4 +1,4 @@
-use Rattle.std.proofs.Common.{ℕ, List, subst}
+use Rattle.std.proofs.Common.{subst}
 use Rattle.wake_lists.specs.TokenSets.{Drops}
 use Rattle.wake_lists.proofs.TokensIn.{set_dropped}
 use Rattle.par_workers.specs.Tokens.{TokensValue}

@@ -9,7 +9,7 @@ returns-then-is_ok-clause-stay c =
     let line = c.args.self.now.tokens in
     let last = c.in-Some.token.now in
     let now = c.pop_back.new.self.items in
-    let many = c.if-len-lt8.false in
+    let many = c.if-len-lt-ENOUGH.false in
     let some : 0 < c.len.result = omega (arith, many) in
     let popped : c.pop_back.result ≡ Some last = c.pop_back.ensures.value last (rw (sym c.len.ensures) some) ∙ ap Some (sym c.in-Some.ensures.lookup) in
     last_moved line.items c.args.self.now.hand.pushed now c.push.new.hand.pushed last (c.pop_back.ensures.items ∙ ap (λ (o : Option ℕ). now ++ option_to_list o) popped)
