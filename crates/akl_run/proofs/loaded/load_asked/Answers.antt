@@ -1,7 +1,6 @@
 use Rattle.std.specs.List.{All}
 use Rattle.std.proofs.Common.{◌+◌, ◌++◌, ◌*◌, ◌≤◌, length, map, sym, subst, arith}
 use Rattle.akl_syntax.specs.Answers.{query_view, clauses_view}
-use Rattle.akl_syntax.specs.Goals.{goals}
 use Rattle.akl_syntax.specs.Clauses.{Query}
 use Rattle.akl_syntax.specs.Sizes.{clauses_size, query_size}
 use Rattle.clause_keys.specs.Keys.{called_by, defined_by}
