@@ -44,6 +44,46 @@ parser.akl: sentence(_,[a,Who,hears,the,mouse],[])
 queens.akl: queens([1,2,3,4],Rows)
 queens.akl: queens([1,2,3],Rows)
 money.akl: money(S,E,N,D,M,O,R,Y)
+tutorial/equations.akl: X = f(Y), Y = a
+tutorial/equations.akl: X = [1,2|T]
+tutorial/equations.akl: X = a, X = b
+tutorial/equations.akl: X = [a|X]
+tutorial/append.akl: append([1,2],[3],Z)
+tutorial/append.akl: append([1|T],[3],Z)
+tutorial/append.akl: append(X,[3],Z), X = [1]
+tutorial/arithmetic.akl: length([a,b,c],N)
+tutorial/arithmetic.akl: X is Y * 2, Y is 3 + 4
+tutorial/arithmetic.akl: X is Y * 2
+tutorial/comparison.akl: greater(2,3,Z)
+tutorial/comparison.akl: greater(2,Y,Z), Y = 1
+tutorial/brackets.akl: size(7,What)
+tutorial/conditional.akl: light(red,What)
+tutorial/conditional.akl: light(green,What)
+tutorial/conditional.akl: light(X,What)
+tutorial/conditional.akl: light(X,What), X = green
+tutorial/committed.akl: either(_,there,Which)
+tutorial/committed.akl: either(_,_,Which)
+tutorial/nondeterminate.akl: fruit(pear)
+tutorial/nondeterminate.akl: fruit(X)
+tutorial/deep.akl: greet(anna,What)
+tutorial/deep.akl: greet(eva,What)
+tutorial/deep.akl: greet(Who,What)
+tutorial/search.akl: meal(What,Drink), Drink = red
+tutorial/search.akl: meal(What,Drink), What = fish
+tutorial/once.akl: some([1,5],X)
+tutorial/once.akl: some([1,2],X)
+tutorial/collect.akl: children(eva,L)
+tutorial/collect.akl: children(max,L)
+tutorial/collect.akl: children(Who,L)
+tutorial/collect.akl: children(Who,L), Who = kim
+tutorial/streams.akl: numbers(1,4,L), squares(L,Squares)
+tutorial/state.akl: counter([up,up,read(X),up,read(Y)],0)
+tutorial/port.akl: open_port(P,S), send(a,P), S = [First|Later]
+tutorial/state.akl: open_port(P,_S), counter(_S,0), send(read(X),P)
+tutorial/reactive.akl: open_port(P,_S), shop(_S,0,[]), ask(P,2,A), ask(P,3,B), deliver(P,5), stop(A,B,P)
+tutorial/loop.akl --budget=10: loop
+tutorial/nondeterminate.akl --trace: fruit(X)
+tutorial/append.akl --workers=4: append([1,2],[3],Z)
 ";
 
 // What a query over a program answers, by one more word where the option isn't empty, or the line of its refusal.
