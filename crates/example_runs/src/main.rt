@@ -1,4 +1,4 @@
-//! Runs each example with queries that its comment names, and prints what they answer.
+//! Runs each example with queries that its comment names, and each query of the tutorial, and prints what they answer.
 #![tactic(auto)]
 
 use akl_outside::{MemorySink, MemorySource, NoGate};
