@@ -222,6 +222,8 @@ class Reader:
         depth = 0
         for at in range(self.next, len(self.tokens) - 1):
             depth += self.tokens[at].is_mark("(", "[") - self.tokens[at].is_mark(")", "]")
+            if depth > 200:
+                raise Fault(self.tokens[at].at, "more than 200 brackets are open here")
             if depth == 0:
                 return self.tokens[at + 1].is_mark(*RELATIONS, *SUMS, *PRODUCTS)
         return False
