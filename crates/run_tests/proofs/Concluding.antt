@@ -1,10 +1,10 @@
 -- Plans that may be committed, a place that was found idle and may be settled, and a core that stays as it is has gone on.
-use Rattle.std.proofs.Common.{◌≡◌, ℕ, ◌+◌, ◌≤◌, List, [], ◌∷◌, ◌++◌, length, Some, Result, Ok, Err, IfOk, sym, ◌∙◌, ap, subst, inl, inr, arith, append-nil}
+use Rattle.std.proofs.Common.{◌≡◌, ◌+◌, List, [], ◌∷◌, ◌++◌, length, Some, Result, Ok, Err, IfOk, sym, ◌∙◌, ap, inl, inr, arith, append-nil}
 use Rattle.std.proofs.lemmas.List.{length-append}
 use Rattle.akl_model.specs.declared.label.Label.{Label}
 use Rattle.akl_model.specs.declared.label.Receipt.{Receipt}
 use Rattle.table_laws.specs.Rows.{store_in}
-use Rattle.table_laws.specs.Kept.{KeepsStores, SharesStores}
+use Rattle.table_laws.specs.Kept.{KeepsStores}
 use Rattle.table_laws.proofs.KeptStores.{store_kept}
 use Rattle.box_tree.specs.Tables.{TableValue, table_of, step_of}
 use Rattle.box_tree.specs.Plans.{PlanValue}
