@@ -1,6 +1,6 @@
 -- A plan that nothing made stale leads the run on.
-use Rattle.std.proofs.Common.{◌≡◌, ℕ, ◌+◌, ◌≤◌, List, [], ◌∷◌, ◌++◌, length, Bool, true, false, Option, Some, None, refl, sym, ap, subst, ◌∙◌, ◌⊎◌, inl, inr, arith}
-use Rattle.std.specs.Prelude.{IsSome, nat_le, slice_index, ⊤}
+use Rattle.std.proofs.Common.{◌≡◌, ℕ, ◌+◌, ◌≤◌, List, [], ◌∷◌, ◌++◌, length, Bool, true, false, Option, Some, None, refl, sym, ap, subst, ◌∙◌, inl, inr, arith}
+use Rattle.std.specs.Prelude.{IsSome, nat_le, slice_index}
 use Rattle.std.proofs.lemmas.List.{length-append}
 use Rattle.std.proofs.lemmas.Bool.Decides.{nat_tests}
 use Rattle.akl_terms.specs.declared.name.Name.{Name}
@@ -11,7 +11,7 @@ use Rattle.akl_terms.specs.declared.program.Query.{Query}
 use Rattle.akl_model.specs.declared.item.Item.{Item}
 use Rattle.akl_model.specs.declared.label.Rule.{Rule}
 use Rattle.akl_model.specs.declared.label.Label.{Label}
-use Rattle.akl_model.specs.Config.{IsIn, Config, Found, site_of}
+use Rattle.akl_model.specs.Config.{IsIn, Config, Found}
 use Rattle.akl_model.specs.Instances.{start}
 use Rattle.akl_model.specs.Derivations.{Applies, Derives}
 use Rattle.akl_model.specs.Wakes.{names_around, names_down_to}
@@ -225,8 +225,11 @@ module _ (p : Program) (q : Query) (journal further : List Label) (S T : Table) 
       since (joins new solved goals) m r h = (before_now, λ u. solved_over solved (names_around x.applies.site) (names_around w.applies.site) new same_around (around_old u) h)
       since refutes m r h = (before_now, λ u. tt)
       since confirms m r h = (before_now, λ u. tt)
-      since (splits copy copies) m r h = (sym t.stamped.steps, λ k stores is inside solved.
-        still_solved (names_around x.applies.site) (names_around w.applies.site) (stores ++ k.store ∷ []) same_around (split_read m.1.0 m.0 m.1.2 r) (h k stores is inside solved))
+      since (splits copy copies) m r h = (
+        sym t.stamped.steps,
+        λ k stores is inside solved.
+            still_solved (names_around x.applies.site) (names_around w.applies.site) (stores ++ k.store ∷ []) same_around (split_read m.1.0 m.0 m.1.2 r) (h k stores is inside solved),
+      )
 
   -- where the tables share the stores that no label changed since, the step's stores are solved as of the labels that the plan had seen
   pub solved_now : SharesStores S T (length journal) → (w : LeadsOn p q (journal ++ further) T t l names step) → IsSolvedWhen (Some (solved_at (length (journal ++ further)) (length journal) step)) T w.applies.site step

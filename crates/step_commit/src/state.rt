@@ -194,7 +194,10 @@ impl Core {
         let names = plan.names();
         let at = self.solved_at(&plan);
         self.journal.push(label)?;
-        if let Err(error) = self.table.apply(alloc, label, names, plan.into_step(), Some(at)) {
+        if let Err(error) = self
+            .table
+            .apply(alloc, label, names, plan.into_step(), Some(at))
+        {
             let _ = self.journal.pop();
             return Err(error);
         }

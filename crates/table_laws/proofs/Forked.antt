@@ -304,12 +304,14 @@ module _ (rules : List Rule) (r : Run) (T U : Table) (l : Label) (d : Config) (t
       by true y k q =
           let z : j ≡ k = some_value q in
           let h : j ≤ T.steps = x.0 in
-          let u : U.steps ≡ T.steps + 1 = is.steps in
-          (omega arith, λ unchanged.
-            let before : UnchangedSince T j (names_down_to a.site) =
-            unchanged_before T U j (names_down_to a.site) as_told (subst (UnchangedSince U j) path_same (subst (λ (i : ℕ). UnchangedSince U i (names_down_to (site_now b))) (sym z) unchanged)) in
-            subst (λ (ss : List Stored). IsSolvedChain U.nodes (ss ++ n.store ∷ [])) (sym stores_same)
-            (subst (λ (ms : List Node). IsSolvedChain ms (stores_along T (names_down_to a.site) ++ n.store ∷ [])) (sym is.nodes) (y before)))
+          let u : U.steps ≡ T.steps + 1 = is.steps in (
+            omega arith,
+            λ unchanged.
+                let before : UnchangedSince T j (names_down_to a.site) =
+                unchanged_before T U j (names_down_to a.site) as_told (subst (UnchangedSince U j) path_same (subst (λ (i : ℕ). UnchangedSince U i (names_down_to (site_now b))) (sym z) unchanged)) in
+                subst (λ (ss : List Stored). IsSolvedChain U.nodes (ss ++ n.store ∷ [])) (sym stores_same)
+                (subst (λ (ms : List Node). IsSolvedChain ms (stores_along T (names_down_to a.site) ++ n.store ∷ [])) (sym is.nodes) (y before)),
+          )
 
   new_box : (n : Name) (f : Found) → box_at n t.config.roots ≡ None → box_at n d.roots ≡ Some f
       → (row : BoxRow) × (U.box_of n ≡ Some row) × IsBoxRow U d.roots f row × (row.changed ≡ T.steps + 1) × (row.goals_changed ≡ T.steps + 1)
