@@ -13,7 +13,7 @@ use Rattle.table_laws.specs.Kept.{IsNewOrWas, KeepsStores}
 use Rattle.table_laws.specs.Walks.{alternatives_of}
 use Rattle.table_laws.specs.Steps.{NewBox, BoxCopy, copy_among, Step, tells, forks, fails, cuts, joins, refutes, confirms, splits}
 use Rattle.table_laws.specs.Writes as writes
-use Rattle.table_laws.specs.Writes.{IsTable, home_in, changed_box, left_row, left_by, none_left, held_without, holder_in_row, told_row, new_box_of, failing_by, fails_empty, joined_row, unset, set, failing_row, confirmed_row, copied_row, Fails, Cuts, Splits, Leads}
+use Rattle.table_laws.specs.Writes.{home_in, changed_box, left_row, left_by, none_left, held_without, holder_in_row, told_row, new_box_of, failing_by, fails_empty, joined_row, unset, failing_row, confirmed_row, copied_row, Leads}
 use Rattle.table_laws.proofs.Sets.{not_some}
 
 -- what is changed of rows gives them a store with the label of a number, or keeps theirs
