@@ -15,7 +15,7 @@ use task_pool::{Hand, push};
 use wake_lists::Urgency;
 
 /// The tokens that are with a worker, in a deque or among those of late places, each in one of these alone; and the late ones.
-/// Contracts see it as the list of all of them.
+/// Contracts see the list of all of them and that of the late ones.
 #[derive(Drop)]
 pub struct Tokens {
     held: BTreeSet<u64>,
