@@ -1,6 +1,6 @@
 //! From a loaded query to the end of its run.
 
-ghost use Rattle.std.specs.Prelude.{◌≡◌, ◌≤◌, [], IfOk, IfErr};
+ghost use Rattle.std.specs.Prelude.{◌≡◌, ◌≤◌, [], false, IfOk, IfErr};
 ghost use Rattle.box_tree.specs.Tables.{HasVariables, HasShownVariables};
 ghost use Rattle.par_workers.specs.Crews.{lists};
 ghost use Rattle.par_workers.specs.Runs.{HasRunMany};
@@ -77,6 +77,31 @@ fn run_loaded<R: Threads + Wait + Sync, G: Gate>(
         return run_alone(alloc, program, core);
     }
     run_many(rt, alloc, program, core, workers, gate)
+}
+
+/// Runs a loaded query as worker 1 alone, to its end. It needs no thread, and no trace of it is asked.
+pub fn evaluate_alone(alloc: Global, loaded: Loaded, budget: u64) -> Result<Evaluated, AllocError>
+    requires variables { HasVariables loaded.program loaded.query loaded.first_variable }
+    requires shown { HasShownVariables loaded.query }
+    ensures { IfOk result (IsEvaluated loaded 1 budget false) }
+{
+    let first_variable = loaded.first_variable;
+    let core = Core::new(
+        alloc,
+        &loaded.program,
+        &loaded.query,
+        first_variable,
+        1,
+        budget,
+    )?;
+    let finished = run_alone(alloc, &loaded.program, core)?;
+    Ok(Evaluated {
+        program: loaded.program,
+        core: finished.core,
+        end: finished.end,
+        receipts: finished.receipts,
+        trace: false,
+    })
 }
 
 /// Runs a query that is ready.
