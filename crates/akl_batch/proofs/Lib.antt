@@ -1,3 +1,4 @@
 pub mod Own
 pub mod Places
+pub mod Gathered
 pub mod Reported

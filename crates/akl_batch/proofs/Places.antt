@@ -1,7 +1,7 @@
 -- Lists that fit each other place by place.
-use Rattle.std.proofs.Common.{◌≡◌, ◌<◌, ℕ, zero, suc, List, [], ◌∷◌, length, map, Option, Some, None, IfSome, get_or, sym, subst, arith}
+use Rattle.std.proofs.Common.{◌≡◌, ◌<◌, ℕ, zero, suc, List, [], ◌∷◌, ◌++◌, length, map, Option, Some, None, IfSome, get_or, sym, subst, arith}
 use Rattle.std.specs.List.{All, AllZip, slice_get}
-use Rattle.std.proofs.lemmas.List.Elements.{All-head, All-tail}
+use Rattle.std.proofs.lemmas.List.Elements.{All-nil, All-cons, All-head, All-tail}
 use Rattle.std.proofs.Math.ListN.{set}
 
 some_same : {X : Type 0} {x y : X} → Some x ≡ Some y → x ≡ y
@@ -39,3 +39,12 @@ zip_none P (x ∷ xs) [] n h = absurd (omega (arith, n))
 zip_none {A} {B} P (x ∷ xs) (y ∷ ys) n h =
     let first : y ≡ None = All-head (λ (z : Option B). z ≡ None) y ys h in
     (subst (λ (z : Option B). IfSome z (P x)) (sym first) tt, zip_none P xs ys (omega (arith, n)) (All-tail (λ (z : Option B). z ≡ None) y ys h))
+
+-- ---- parts of lists all of whose elements are so
+pub all_front : {A : Type 0} (P : A → Type 0) (xs ys : List A) → All P (xs ++ ys) → All P xs
+all_front P [] ys h = All-nil P
+all_front P (x ∷ xs) ys h = All-cons P x xs (All-head P x (xs ++ ys) h) (all_front P xs ys (All-tail P x (xs ++ ys) h))
+
+pub all_next : {A : Type 0} (P : A → Type 0) (xs : List A) (x : A) (ys : List A) → All P (xs ++ x ∷ ys) → P x
+all_next P [] x ys h = All-head P x ys h
+all_next P (w ∷ xs) x ys h = all_next P xs x ys (All-tail P w (xs ++ x ∷ ys) h)

@@ -77,7 +77,7 @@ fn answer_next<G: Gate>(
     ensures { IsHandful program.now queries.now budget result }
 {
     let mut answered = Vec::new(alloc);
-    for _ in 0..queries.len() {
+    for _turn in 0..queries.len() {
         let at = next.fetch_add(1, Ordering::SeqCst);
         let Some(query) = queries.get(at) else {
             break;
@@ -111,7 +111,7 @@ fn no_answers(alloc: Global, count: usize) -> Result<Vec<Option<Answer>>, AllocE
     ensures empty { IfOk result (λ places. All (λ place. place ≡ None) places.items) }
 {
     let mut places = Vec::new(alloc);
-    for _ in 0..count {
+    for _made in 0..count {
         places.push(None)?;
     }
     Ok(places)
