@@ -42,7 +42,7 @@ pub fn push_lines(text: &mut String, lines: &[u8]) -> Result<(), AllocError> {
 }
 
 fn push_refusal(alloc: Global, text: &mut String, report: &Report) -> Result<(), AllocError> {
-    let line = refusal_line(alloc, report)?;
+    let line = refusal_line(alloc, report.status, &report.refusal)?;
     push_lines(text, &line)
 }
 
