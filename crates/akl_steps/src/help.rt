@@ -1,0 +1,26 @@
+//! What `akl_steps` says of itself.
+
+/// What a lone `--help` prints.
+pub const HELP: &str = "\
+Usage: akl_steps --query TEXT [--budget N] [--tree] [--trace] [--from N] [--to N] [--last] < FILE
+
+Runs the query TEXT over the program in FILE as `akl` does with one worker, and shows each step in the
+words of the source, then the answers and the outcome. A variable of a clause has its name there, `#` and
+a number that tells one use of the clause from another.
+
+Options:
+  --query TEXT  the query
+  --budget N    how many steps the run may make: 1 to 4000000, and 100000 where none is given
+  --tree        shows the boxes and goals after each step, as an indented tree
+  --trace       begins each step with its line of `akl --trace`
+  --from N      shows the steps from this one on; 0 is the query before the first
+  --to N        ends with this step, without the answers
+  --last        shows only the last step
+  --help        as the only word: prints this text
+
+In a tree each box and goal has its name first, as in a trace. Behind a goal stands which rule can be used
+there, or which variables it waits for. Under an alternative `tells` has what it says of variables from
+outside, `with` what it says of its own, and `then` the goals of its body.
+
+The exit status is that of `akl`, and 0 where --to ended the run.
+";

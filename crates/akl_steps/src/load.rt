@@ -1,0 +1,90 @@
+//! From the texts to a query that is ready, with the names of its variables.
+
+ghost use Rattle.std.specs.Prelude.{◌≤◌, IfOk, length};
+ghost use Rattle.box_tree.specs.Tables.{HasVariables, HasShownVariables};
+
+use akl_lift::{lift, lift_query};
+use akl_run::{Loaded, Stop, load_asked, load_program};
+use akl_syntax::{SourceClause, read_program, read_query};
+use akl_terms::{Program, Text};
+use std::alloc::{AllocError, Global};
+use step_text::SourceNames;
+use variable_scopes::{scoped_clauses, scoped_query};
+
+/// The number of a query's first inline choice, which is above those of all programs.
+const FIRST_ASKED: u32 = 1_000_000;
+
+/// A query that is ready to run, with the names of its variables and of those of the program.
+#[derive(Drop)]
+pub struct Ready {
+    pub loaded: Loaded,
+    pub names: SourceNames,
+}
+
+// The clauses of a program, with those that are made of its choices.
+fn program_clauses(alloc: Global, text: &[u8]) -> Result<Vec<SourceClause>, AllocError> {
+    let Ok(written) = read_program(alloc, text) else {
+        return Ok(Vec::new(alloc));
+    };
+    let clauses = scoped_clauses(alloc, written)?;
+    lift(alloc, clauses)
+}
+
+// The names of a query's variables, and the clauses that are made of its choices.
+fn query_clauses(
+    alloc: Global,
+    text: &[u8],
+) -> Result<(Vec<Text>, Vec<SourceClause>), AllocError>
+    requires { length text.now ≤ 10000 }
+{
+    let Ok(written) = read_query(alloc, text) else {
+        return Ok((Vec::new(alloc), Vec::new(alloc)));
+    };
+    let asked = scoped_query(alloc, written)?;
+    let (query, clauses) = lift_query(alloc, asked, FIRST_ASKED)?;
+    Ok((query.names, clauses))
+}
+
+// The names of all variables.
+fn names_of(
+    alloc: Global,
+    program: &Program,
+    text: &[u8],
+    query: &[u8],
+) -> Result<SourceNames, AllocError>
+    requires { length query.now ≤ 10000 }
+{
+    let mut clauses = program_clauses(alloc, text)?;
+    let (names, mut asked) = query_clauses(alloc, query)?;
+    clauses.append(&mut asked)?;
+    SourceNames::new(alloc, program, clauses, names)
+}
+
+// A query over the program that a text is.
+fn loaded_of(alloc: Global, text: &[u8], query: &[u8]) -> Result<Loaded, Stop>
+    requires program { length text.now ≤ 1000001 }
+    requires query { length query.now ≤ 10000 }
+    ensures variables { IfOk result (λ l. HasVariables l.program l.query l.first_variable) }
+    ensures shown { IfOk result (λ l. HasShownVariables l.query) }
+{
+    let program = match load_program(alloc, text) {
+        Ok(program) => program,
+        Err(stop) => return Err(stop),
+    };
+    match load_asked(alloc, program, query) {
+        Ok(loaded) => Ok(loaded),
+        Err(stop) => Err(stop),
+    }
+}
+
+/// A query that is ready, over the program that a text is.
+pub fn ready(alloc: Global, text: &[u8], query: &[u8]) -> Result<Ready, Stop>
+    requires program { length text.now ≤ 1000001 }
+    requires query { length query.now ≤ 10000 }
+    ensures variables { IfOk result (λ r. HasVariables r.loaded.program r.loaded.query r.loaded.first_variable) }
+    ensures shown { IfOk result (λ r. HasShownVariables r.loaded.query) }
+{
+    let loaded = loaded_of(alloc, text, query)?;
+    let names = names_of(alloc, &loaded.program, text, query)?;
+    Ok(Ready { loaded, names })
+}

@@ -1,0 +1,119 @@
+//! The command `akl_steps`: shows a run as it goes. What it prints is tested, and not proved.
+#![tactic(auto)]
+
+mod help;
+mod load;
+mod shown;
+mod words;
+
+ghost use Rattle.std.specs.Prelude.{◌≤◌, length};
+
+use crate::help::HELP;
+use crate::load::ready;
+use crate::shown::{Shown, show};
+use crate::words::{Asked, Words, read_words};
+use akl_outside::{ReadError, StreamSource, read_up_to};
+use akl_run::{Report, Stop, refusal_line};
+use std::alloc::Global;
+use std::io::IsTerminal;
+use std::process::ExitCode;
+use std::str::from_utf8;
+use std::{env, io};
+
+/// One byte more than a program may have.
+const MOST_READ: usize = 1_000_001;
+
+/// The most bytes of a query.
+const MOST_QUERY: usize = 10_000;
+
+// The words of the command line behind the program's name.
+fn words_given(rt: &HostRuntime) -> io::Result<Vec<String>> {
+    let mut words = Vec::new(rt.alloc());
+    for word in env::args(rt)?.skip(1) {
+        words.push(word)?;
+    }
+    Ok(words)
+}
+
+// Says why a text is refused, and answers the status.
+fn refuse(rt: &impl Eprint, alloc: Global, stop: Stop) -> io::Result<u8> {
+    let report = Report {
+        status: stop.status,
+        refusal: stop.refusal,
+        journal: Vec::new(alloc),
+        receipts: Vec::new(alloc),
+        written: 0,
+    };
+    let line = refusal_line(alloc, &report)?;
+    eprint!(rt; "{}", from_utf8(&line).unwrap_or(""))?;
+    Ok(report.status.number())
+}
+
+// Shows the run that is asked over the program that a text is.
+fn show_text(
+    rt: &(impl Print + Eprint),
+    alloc: Global,
+    text: &[u8],
+    asked: &Asked,
+    progress: bool,
+) -> io::Result<u8>
+    requires { length text.now ≤ 1000001 }
+{
+    let query = asked.query.as_str().as_bytes();
+    if query.len() > MOST_QUERY {
+        eprintln!(rt; "akl: query: too long, {} bytes", query.len())?;
+        return Ok(6);
+    }
+    match ready(alloc, text, query) {
+        Ok(ready) => show(
+            rt,
+            alloc,
+            Shown {
+                ready: &ready,
+                asked,
+                progress,
+            },
+        ),
+        Err(stop) => refuse(rt, alloc, stop),
+    }
+}
+
+// Shows the run that is asked over the program on standard input.
+fn show_asked(rt: &HostRuntime, asked: &Asked) -> io::Result<u8> {
+    let mut source = StreamSource::new(rt.stdin());
+    let progress = rt.stderr().is_terminal();
+    match read_up_to(rt.alloc(), &mut source, MOST_READ) {
+        Ok(text) => show_text(rt, rt.alloc(), &text, asked, progress),
+        Err(ReadError::Failed) => {
+            eprintln!(rt; "akl: read fault")?;
+            Ok(7)
+        }
+        Err(ReadError::Memory(error)) => Err(error.into()),
+    }
+}
+
+// Does what the words ask, and answers the status.
+fn work(rt: &HostRuntime) -> io::Result<u8> {
+    let words = words_given(rt)?;
+    match read_words(rt.alloc(), &words)? {
+        Words::Help => {
+            print!(rt; "{HELP}")?;
+            Ok(0)
+        }
+        Words::Run(asked) => show_asked(rt, &asked),
+        Words::Refused(at) => {
+            eprintln!(rt; "akl_steps: word {at} is refused; --help tells the words")?;
+            Ok(4)
+        }
+    }
+}
+
+fn main(rt: HostRuntime) -> ExitCode {
+    match work(&rt) {
+        Ok(status) => ExitCode::from(status),
+        Err(error) => {
+            let _ = eprintln!(rt; "akl_steps: {error}");
+            ExitCode::from(8)
+        }
+    }
+}

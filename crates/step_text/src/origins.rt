@@ -1,0 +1,179 @@
+//! Where the frames, the choices and the boxes of a run come from.
+
+use akl_terms::{Code, Goal, Name};
+use box_tree::{BoxCopy, InnerBox, Inside, NewBox};
+use std::alloc::{AllocError, Global};
+use std::collections::BTreeMap;
+
+/// The frame of a query's variables.
+const FRAME: Name = Name {
+    worker: 0,
+    number: 1,
+};
+
+/// Of which text the variables of a frame are.
+#[derive(Clone, Copy, PartialEq, Eq)]
+pub enum Scope {
+    Query,
+    /// The clause of this place in its definition.
+    Clause { definition: u32, clause: usize },
+}
+
+/// The alternative of a choice.
+#[derive(Clone, Copy)]
+pub struct Alternative {
+    /// The choice that holds it.
+    pub choice: Name,
+    /// The place of its clause in the definition, from 0.
+    pub clause: usize,
+}
+
+/// Where the frames, the choices and the boxes of a run come from. Those that have gone stay known.
+#[derive(Drop)]
+pub struct Origins {
+    scopes: BTreeMap<Name, Scope>,
+    calls: BTreeMap<Name, Goal>,
+    alternatives: BTreeMap<Name, Alternative>,
+}
+
+// The definition that a goal calls.
+fn definition_of(call: Goal) -> Option<u32> {
+    match call.code {
+        Code::Call { definition, .. } | Code::Collect { definition, .. } => Some(definition),
+        _ => None,
+    }
+}
+
+impl Origins {
+    /// Those of a query before its first step.
+    pub fn new(alloc: Global) -> Result<Origins, AllocError> {
+        let mut scopes = BTreeMap::new(alloc);
+        scopes.insert(FRAME, Scope::Query)?;
+        Ok(Origins {
+            scopes,
+            calls: BTreeMap::new(alloc),
+            alternatives: BTreeMap::new(alloc),
+        })
+    }
+
+    /// Of which text the variables of a frame are, where they are of one.
+    pub fn scope(&self, frame: Name) -> Option<Scope> {
+        self.scopes.get(&frame).copied()
+    }
+
+    /// The call that became a choice.
+    pub fn call(&self, choice: Name) -> Option<Goal> {
+        self.calls.get(&choice).copied()
+    }
+
+    /// The alternative that a box is, where it is one.
+    pub fn alternative(&self, name: Name) -> Option<Alternative> {
+        self.alternatives.get(&name).copied()
+    }
+
+    // These frames have their variables from a text.
+    fn add_frames(&mut self, frames: &[Name], scope: Scope) -> Result<(), AllocError> {
+        for frame in frames {
+            self.scopes.insert(*frame, scope)?;
+        }
+        Ok(())
+    }
+
+    /// A call becomes the choice of these boxes.
+    pub fn fork(&mut self, choice: Name, call: Goal, boxes: &[NewBox]) -> Result<(), AllocError> {
+        self.calls.insert(choice, call)?;
+        for (clause, made) in boxes.iter().enumerate() {
+            self.alternatives
+                .insert(made.name, Alternative { choice, clause })?;
+            if let Some(definition) = definition_of(call) {
+                let frames = made.store.get().frames()?;
+                self.add_frames(&frames, Scope::Clause { definition, clause })?;
+            }
+        }
+        Ok(())
+    }
+
+    // The frames of a copy have their variables from where the old ones have them. Their names come to the new ones.
+    fn copy_frames(
+        &mut self,
+        inner: &InnerBox,
+        copy: &BoxCopy,
+        names: &mut BTreeMap<Name, Name>,
+    ) -> Result<(), AllocError> {
+        let old = inner.store.get().frames()?;
+        let new = copy.store.get().frames()?;
+        for (old, new) in old.iter().zip(new.iter()) {
+            names.insert(*old, *new)?;
+            if let Some(scope) = self.scope(*old) {
+                self.scopes.insert(*new, scope)?;
+            }
+        }
+        Ok(())
+    }
+
+    // The choices of a copy are the calls that the old ones were, under the new names of frames.
+    fn copy_calls(
+        &mut self,
+        inner: &InnerBox,
+        copy: &BoxCopy,
+        names: &BTreeMap<Name, Name>,
+    ) -> Result<(), AllocError> {
+        for (old, new) in inner.goals.iter().zip(copy.goals.iter()) {
+            if let Some(call) = self.call(old.name) {
+                let frame = names.get(&call.frame).copied().unwrap_or(call.frame);
+                let code = call.code;
+                self.calls.insert(new.0, Goal { code, frame })?;
+            }
+        }
+        Ok(())
+    }
+
+    // A copy is the alternative that the old box is, of the choice that holds it.
+    fn copy_alternative(&mut self, inner: &InnerBox, copy: &BoxCopy) -> Result<(), AllocError> {
+        if let Some(choice) = copy.holder {
+            if let Some(Alternative { clause, .. }) = self.alternative(inner.name) {
+                self.alternatives
+                    .insert(copy.name, Alternative { choice, clause })?;
+            }
+        }
+        Ok(())
+    }
+
+    /// A box is split at an alternative: it and the boxes inside it have copies but the alternative.
+    pub fn split(
+        &mut self,
+        alloc: Global,
+        alternative: Name,
+        inside: &Inside,
+        copies: &[BoxCopy],
+    ) -> Result<(), AllocError> {
+        let mut names = BTreeMap::new(alloc);
+        let boxes = inside.boxes.iter();
+        for (inner, copy) in boxes
+            .filter(|inner| inner.name != alternative)
+            .zip(copies.iter())
+        {
+            self.copy_frames(inner, copy, &mut names)?;
+            self.copy_alternative(inner, copy)?;
+        }
+        self.copy_all_calls(alternative, inside, copies, &names)
+    }
+
+    // The choices of copies are the calls that the old ones were, under the new names of frames.
+    fn copy_all_calls(
+        &mut self,
+        alternative: Name,
+        inside: &Inside,
+        copies: &[BoxCopy],
+        names: &BTreeMap<Name, Name>,
+    ) -> Result<(), AllocError> {
+        let boxes = inside.boxes.iter();
+        for (inner, copy) in boxes
+            .filter(|inner| inner.name != alternative)
+            .zip(copies.iter())
+        {
+            self.copy_calls(inner, copy, names)?;
+        }
+        Ok(())
+    }
+}

@@ -1,0 +1,149 @@
+//! A run that is made once more, a label at a time.
+
+ghost use Rattle.std.specs.Prelude.{◌≡◌};
+ghost use Rattle.seq_engine.specs.Runs.{IsPlanNow};
+
+use crate::names::SourceNames;
+use crate::origins::Origins;
+use crate::scene::Words;
+use crate::sentences::sentence;
+use crate::states::seen_at;
+use akl_model::Label;
+use akl_terms::{Name, Program};
+use box_tree::{Plan, Sight, Step};
+use place_steps::{Next, Seen, next_of};
+use std::alloc::{AllocError, Global};
+use step_commit::Core;
+
+/// A run that is made once more, a label at a time.
+#[derive(Drop)]
+pub struct Replay {
+    pub core: Core,
+    /// Where all that the run has made comes from.
+    pub origins: Origins,
+}
+
+/// What came of a label.
+#[derive(Drop)]
+pub enum Replayed {
+    /// The step was made. It has a sentence where one was asked.
+    Made(String),
+    /// The label's rule doesn't apply, or all labels of the budget are made.
+    Refused,
+}
+
+// Appends the label of a plan, and makes its step; or the plan is refused.
+fn commit(alloc: Global, core: &mut Core, plan: Plan) -> Result<bool, AllocError>
+    requires { IsPlanNow core.old plan }
+    ensures { core.new.table.program ≡ core.old.table.program }
+{
+    if core.refusal(&plan).is_some() {
+        return Ok(false);
+    }
+    core.append(alloc, plan)?;
+    Ok(true)
+}
+
+// Learns where that comes from which a plan of a goal makes.
+fn learn_goal(
+    origins: &mut Origins,
+    goal: Name,
+    sight: Sight,
+    plan: &Plan,
+) -> Result<(), AllocError> {
+    if let (Sight::Atom(call), Step::Fork { alternatives, .. }) = (sight, plan.step()) {
+        origins.fork(goal, call, alternatives)?;
+    }
+    Ok(())
+}
+
+// Learns where that comes from which a plan makes.
+fn learn(alloc: Global, origins: &mut Origins, seen: &Seen, plan: &Plan) -> Result<(), AllocError> {
+    match seen {
+        Seen::Goal { goal, view } => learn_goal(origins, *goal, view.sight(), plan),
+        Seen::Root { .. } => Ok(()),
+        Seen::Box { inside, .. } => {
+            if let (Some(alternative), Step::Split { copies, .. }) =
+                (plan.label().alternative, plan.step())
+            {
+                origins.split(alloc, alternative, inside, copies)?;
+            }
+            Ok(())
+        }
+    }
+}
+
+// The sentence of a plan, where one is wanted.
+fn told(
+    alloc: Global,
+    words: Words<'_>,
+    seen: &Seen,
+    plan: &Plan,
+    wanted: bool,
+) -> Result<String, AllocError> {
+    if wanted {
+        sentence(alloc, words, seen.view(), plan)
+    } else {
+        Ok(String::new(alloc))
+    }
+}
+
+impl Replay {
+    /// The run from its start on.
+    pub fn new(alloc: Global, core: Core) -> Result<Replay, AllocError> {
+        Ok(Replay {
+            core,
+            origins: Origins::new(alloc)?,
+        })
+    }
+
+    // Makes the step of a plan that was made of what was seen.
+    fn make(
+        &mut self,
+        alloc: Global,
+        program: &Program,
+        names: &SourceNames,
+        seen: &Seen,
+        plan: Plan,
+        wanted: bool,
+    ) -> Result<Replayed, AllocError>
+        requires plan { IsPlanNow self.old.core plan }
+        ensures { self.new.core.table.program ≡ self.old.core.table.program }
+    {
+        let words = Words {
+            program,
+            names,
+            origins: &self.origins,
+        };
+        let text = told(alloc, words, seen, &plan, wanted)?;
+        learn(alloc, &mut self.origins, seen, &plan)?;
+        if commit(alloc, &mut self.core, plan)? {
+            Ok(Replayed::Made(text))
+        } else {
+            Ok(Replayed::Refused)
+        }
+    }
+
+    /// Makes the step of a label, and its sentence where one is wanted.
+    pub fn step(
+        &mut self,
+        alloc: Global,
+        program: &Program,
+        names: &SourceNames,
+        label: Label,
+        wanted: bool,
+    ) -> Result<Replayed, AllocError>
+        requires { program.now ≡ self.old.core.table.program }
+        ensures { self.new.core.table.program ≡ self.old.core.table.program }
+    {
+        let Some(seen) = seen_at(alloc, &self.core, label.place)? else {
+            return Ok(Replayed::Refused);
+        };
+        match next_of(alloc, program, &seen)? {
+            Next::Plan(plan) if plan.label().alternative == label.alternative => {
+                self.make(alloc, program, names, &seen, plan, wanted)
+            }
+            _ => Ok(Replayed::Refused),
+        }
+    }
+}

@@ -1,0 +1,257 @@
+//! Terms as a source writes them, with the values that their variables have.
+
+use crate::scene::Scene;
+use akl_terms::{Name, Seen, Term};
+use answer_text::push_constant;
+use std::alloc::{AllocError, Global};
+use std::fmt::Write;
+use std::str::from_utf8;
+
+/// The most parts of a term that are written; of a cyclic term there is no end of them.
+const MOST_PARTS: usize = 200;
+
+/// The most pieces that these leave.
+const MOST_PIECES: usize = 20_000;
+
+/// How close an operator binds, or how close the operators of an operand must bind at least.
+#[derive(Clone, Copy, PartialEq, Eq, PartialOrd, Ord)]
+enum Level {
+    Sum,
+    Product,
+    Operand,
+}
+
+/// What is still to be written.
+#[derive(Clone, Copy)]
+enum Piece {
+    Text(&'static str),
+    Whole(Term, Level),
+    /// The tail of a list, with the closing bracket.
+    Tail(Term),
+}
+
+/// How an operator binds, with its text.
+fn operator_of(symbol: &str) -> Option<(Level, &'static str)> {
+    match symbol {
+        "+" => Some((Level::Sum, "+")),
+        "-" => Some((Level::Sum, "-")),
+        "*" => Some((Level::Product, "*")),
+        "//" => Some((Level::Product, "//")),
+        "mod" => Some((Level::Product, " mod ")),
+        _ => None,
+    }
+}
+
+// How close the operand on the right of an operator must bind.
+fn level_right(level: Level) -> Level {
+    match level {
+        Level::Sum => Level::Product,
+        Level::Product | Level::Operand => Level::Operand,
+    }
+}
+
+// Adds a symbol as a source writes it.
+pub(crate) fn push_symbol(alloc: Global, out: &mut String, symbol: &str) -> Result<(), AllocError> {
+    let mut bytes = Vec::new(alloc);
+    push_constant(&mut bytes, symbol)?;
+    out.push_str(from_utf8(&bytes).unwrap_or("?"))
+}
+
+// Leaves the arguments to be written, with commas between, and the closing bracket.
+fn leave_arguments(
+    pieces: &mut Vec<Piece>,
+    first: u32,
+    count: u32,
+    frame: Name,
+) -> Result<(), AllocError> {
+    pieces.push(Piece::Text(")"))?;
+    for k in (0..count).rev() {
+        let node = first.saturating_add(k);
+        pieces.push(Piece::Whole(Term::Mol { node, frame }, Level::Sum))?;
+        if k > 0 {
+            pieces.push(Piece::Text(","))?;
+        }
+    }
+    Ok(())
+}
+
+// Leaves the head and the tail of a cell to be written.
+fn leave_cell(pieces: &mut Vec<Piece>, first: u32, frame: Name) -> Result<(), AllocError> {
+    let node = first.saturating_add(1);
+    pieces.push(Piece::Tail(Term::Mol { node, frame }))?;
+    pieces.push(Piece::Whole(Term::Mol { node: first, frame }, Level::Sum))?;
+    Ok(())
+}
+
+// Leaves the operands and the operator between them to be written, in brackets where the operator doesn't bind as close as
+// it must.
+fn leave_operands(
+    out: &mut String,
+    pieces: &mut Vec<Piece>,
+    (level, text): (Level, &'static str),
+    least: Level,
+    first: u32,
+    frame: Name,
+) -> Result<(), AllocError> {
+    if level < least {
+        out.push_str("(")?;
+        pieces.push(Piece::Text(")"))?;
+    }
+    let node = first.saturating_add(1);
+    pieces.push(Piece::Whole(Term::Mol { node, frame }, level_right(level)))?;
+    pieces.push(Piece::Text(text))?;
+    pieces.push(Piece::Whole(Term::Mol { node: first, frame }, level))?;
+    Ok(())
+}
+
+// Begins a structure.
+fn begin_structure(
+    alloc: Global,
+    scene: Scene<'_>,
+    out: &mut String,
+    pieces: &mut Vec<Piece>,
+    seen: Seen,
+    least: Level,
+) -> Result<(), AllocError> {
+    let Seen::Struct {
+        symbol,
+        first,
+        count,
+        frame,
+    } = seen
+    else {
+        return Ok(());
+    };
+    let name = scene.symbol(symbol);
+    if count == 0 {
+        return push_symbol(alloc, out, name);
+    }
+    if count == 2 && name == "." {
+        out.push_str("[")?;
+        return leave_cell(pieces, first, frame);
+    }
+    if count == 2 {
+        if let Some(operator) = operator_of(name) {
+            return leave_operands(out, pieces, operator, least, first, frame);
+        }
+    }
+    push_symbol(alloc, out, name)?;
+    out.push_str("(")?;
+    leave_arguments(pieces, first, count, frame)
+}
+
+// Begins a term.
+fn begin_whole(
+    alloc: Global,
+    scene: Scene<'_>,
+    out: &mut String,
+    pieces: &mut Vec<Piece>,
+    term: Term,
+    least: Level,
+) -> Result<(), AllocError> {
+    match scene.value(term) {
+        Seen::Free(variable) => scene.push_variable(out, variable),
+        Seen::Int(value) => write!(out, "{value}"),
+        Seen::Port(port) => write!(out, "port#{}", port.number),
+        seen => begin_structure(alloc, scene, out, pieces, seen, least),
+    }
+}
+
+// Begins the tail of a list.
+fn begin_tail(
+    scene: Scene<'_>,
+    out: &mut String,
+    pieces: &mut Vec<Piece>,
+    term: Term,
+) -> Result<(), AllocError> {
+    if let Seen::Struct {
+        symbol,
+        first,
+        count,
+        frame,
+    } = scene.value(term)
+    {
+        let name = scene.symbol(symbol);
+        if count == 0 && name == "[]" {
+            return out.push_str("]");
+        }
+        if count == 2 && name == "." {
+            out.push_str(",")?;
+            return leave_cell(pieces, first, frame);
+        }
+    }
+    out.push_str("|")?;
+    pieces.push(Piece::Text("]"))?;
+    pieces.push(Piece::Whole(term, Level::Sum))?;
+    Ok(())
+}
+
+// Begins a piece.
+fn begin(
+    alloc: Global,
+    scene: Scene<'_>,
+    out: &mut String,
+    pieces: &mut Vec<Piece>,
+    piece: Piece,
+) -> Result<(), AllocError> {
+    match piece {
+        Piece::Text(text) => out.push_str(text),
+        Piece::Whole(term, least) => begin_whole(alloc, scene, out, pieces, term, least),
+        Piece::Tail(term) => begin_tail(scene, out, pieces, term),
+    }
+}
+
+// Adds a piece of which no parts are written any more.
+fn cut_short(out: &mut String, piece: Piece) -> Result<(), AllocError> {
+    match piece {
+        Piece::Text(text) => out.push_str(text),
+        Piece::Whole(_, _) => out.push_str(".."),
+        Piece::Tail(_) => out.push_str("|..]"),
+    }
+}
+
+/// Adds a term with what is known of it. Where it has many parts, some have `..` in their place.
+pub(crate) fn push_term(
+    alloc: Global,
+    scene: Scene<'_>,
+    out: &mut String,
+    term: Term,
+) -> Result<(), AllocError> {
+    let mut pieces = Vec::new(alloc);
+    pieces.push(Piece::Whole(term, Level::Sum))?;
+    for written in 0..MOST_PIECES {
+        let Some(piece) = pieces.pop() else {
+            return Ok(());
+        };
+        if written < MOST_PARTS {
+            begin(alloc, scene, out, &mut pieces, piece)?;
+        } else {
+            cut_short(out, piece)?;
+        }
+    }
+    Ok(())
+}
+
+/// Adds so many neighbouring nodes under a frame, in brackets behind what they are the arguments of; nothing where there are
+/// none.
+pub(crate) fn push_arguments(
+    alloc: Global,
+    scene: Scene<'_>,
+    out: &mut String,
+    first: u32,
+    count: u32,
+    frame: Name,
+) -> Result<(), AllocError> {
+    if count == 0 {
+        return Ok(());
+    }
+    out.push_str("(")?;
+    for k in 0..count {
+        if k > 0 {
+            out.push_str(",")?;
+        }
+        let node = first.saturating_add(k);
+        push_term(alloc, scene, out, Term::Mol { node, frame })?;
+    }
+    out.push_str(")")
+}
