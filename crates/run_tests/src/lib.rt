@@ -9,7 +9,6 @@ mod attending;
 #[cfg(test)]
 mod brackets;
 #[cfg(test)]
-mod candidates;
 #[cfg(test)]
 mod cases;
 #[cfg(test)]
