@@ -86,13 +86,14 @@ fn push_collect(
     list: u32,
     frame: Name,
 ) -> Result<(), AllocError> {
-    out.push_str("the bagof in ")?;
+    out.push_str("the bagof for ")?;
+    push_term(alloc, scene, out, Term::Mol { node: list, frame })?;
+    out.push_str(" in ")?;
     let definitions = scene.words.program.definitions.as_slice();
-    if let Some(called) = definitions.get(definition as usize) {
-        push_place_of(alloc, out, called.key.symbol.as_str(), called.key.arity)?;
+    match definitions.get(definition as usize) {
+        Some(called) => push_place_of(alloc, out, called.key.symbol.as_str(), called.key.arity),
+        None => out.push_str("a clause"),
     }
-    out.push_str(" for ")?;
-    push_term(alloc, scene, out, Term::Mol { node: list, frame })
 }
 
 /// Adds a goal with what is known of its variables.

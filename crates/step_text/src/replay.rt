@@ -1,8 +1,7 @@
 //! A run that is made once more, a label at a time.
 
 ghost use Rattle.std.specs.Prelude.{◌≡◌};
-ghost use Rattle.seq_engine.specs.Runs.{IsPlanNow};
-
+ghost use Rattle.step_commit.specs.Cores.{MayCommit};
 use crate::names::SourceNames;
 use crate::origins::Origins;
 use crate::scene::Words;
@@ -34,7 +33,7 @@ pub enum Replayed {
 
 // Appends the label of a plan, and makes its step; or the plan is refused.
 fn commit(alloc: Global, core: &mut Core, plan: Plan) -> Result<bool, AllocError>
-    requires { IsPlanNow core.old plan }
+    requires { MayCommit core.old plan }
     ensures { core.new.table.program ≡ core.old.table.program }
 {
     if core.refusal(&plan).is_some() {
@@ -107,7 +106,7 @@ impl Replay {
         plan: Plan,
         wanted: bool,
     ) -> Result<Replayed, AllocError>
-        requires plan { IsPlanNow self.old.core plan }
+        requires { MayCommit self.old.core plan }
         ensures { self.new.core.table.program ≡ self.old.core.table.program }
     {
         let words = Words {
@@ -136,7 +135,7 @@ impl Replay {
         requires { program.now ≡ self.old.core.table.program }
         ensures { self.new.core.table.program ≡ self.old.core.table.program }
     {
-        let Some(seen) = seen_at(alloc, &self.core, label.place)? else {
+        let Some(seen) = seen_at(alloc, &self.core, label.place, label.worker)? else {
             return Ok(Replayed::Refused);
         };
         match next_of(alloc, program, &seen)? {

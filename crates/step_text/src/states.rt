@@ -12,12 +12,17 @@ use std::alloc::{AllocError, Global};
 use std::collections::BTreeSet;
 use step_commit::Core;
 
-/// What worker 1 sees of a place. `None` exactly where it isn't there.
-pub(crate) fn seen_at(alloc: Global, core: &Core, place: Place) -> Result<Option<Seen>, AllocError>
-    ensures { IfOk result (IsSeenBy core.now place 1) }
+/// What a worker sees of a place. `None` exactly where it isn't there.
+pub(crate) fn seen_at(
+    alloc: Global,
+    core: &Core,
+    place: Place,
+    worker: u32,
+) -> Result<Option<Seen>, AllocError>
+    ensures { IfOk result (IsSeenBy core.now place worker) }
 {
     let candidate = candidate_at(alloc, core, place)?;
-    see(alloc, core, place, 1, candidate)
+    see(alloc, core, place, worker, candidate)
 }
 
 // What a place at which a rule applies comes to.
@@ -76,7 +81,7 @@ pub(crate) fn push_state(
 ) -> Result<(), AllocError>
     requires { program.now ≡ core.now.table.program }
 {
-    let Some(seen) = seen_at(alloc, core, place)? else {
+    let Some(seen) = seen_at(alloc, core, place, 1)? else {
         return Ok(());
     };
     match next_of(alloc, program, &seen)? {
