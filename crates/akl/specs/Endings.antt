@@ -9,6 +9,8 @@ use Rattle.akl_run.specs.declared.report.Status.{Status}
 use Rattle.akl_run.specs.declared.report.Report.{Report}
 use Rattle.akl_run.specs.Lines.{fixed_line, refusal_text}
 use Rattle.akl_run.specs.Commands.{Side, HasFaulted, IsReported}
+use Rattle.akl_batch.specs.declared.reply.BatchReport.{BatchReport}
+use Rattle.akl_batch.specs.Batches.{IsBatchReported}
 use Rattle.akl.specs.declared.ending.Ending.{Ending}
 
 -- the text was appended whole, or a write failed
@@ -38,5 +40,12 @@ Notifies text out out' errors errors' ending =
 pub record Answers (words : List (List ℕ)) (program program' out out' errors errors' : Side) (ending : Ending) : Type 0 where
   pub report : Report
   pub reported : IsReported (record { words = words; source = program; source_after = program'; sink = out; sink_after = out'; report = report })
+  pub status : ending.status ≡ report.status
+  pub line : SaysWhy report.status report.refusal errors errors'
+
+-- the batch was run as its report says, and the process ends with the report's status and says its line
+pub record AnswersBatch (words : List (List ℕ)) (program program' out out' errors errors' : Side) (ending : Ending) : Type 0 where
+  pub report : BatchReport
+  pub reported : IsBatchReported (record { words = words; source = program; source_after = program'; sink = out; sink_after = out'; report = report })
   pub status : ending.status ≡ report.status
   pub line : SaysWhy report.status report.refusal errors errors'

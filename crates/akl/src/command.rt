@@ -1,24 +1,25 @@
 //! A whole command, over any source and sinks.
-ghost use Rattle.std.specs.Prelude.{◌≡◌, None, IfSome};
+ghost use Rattle.std.specs.Prelude.{◌≡◌, None, IfSome, true, false};
 ghost use Rattle.std.specs.IoError.{error_kind};
 ghost use Rattle.akl_run.specs.Commands.{side};
 ghost use Rattle.akl_run.specs.Words.{bytes_of};
-ghost use Rattle.akl.specs.Words.{words_behind};
+ghost use Rattle.akl.specs.Words.{words_behind, is_batch};
 ghost use Rattle.akl.specs.Notices.{notice_of};
-ghost use Rattle.akl.specs.Endings.{Notifies, Answers, SaysWhy, words_status, words_refusal};
+ghost use Rattle.akl.specs.Endings.{Notifies, Answers, AnswersBatch, SaysWhy, words_status, words_refusal};
 
 use crate::ending::Ending;
 use crate::notice::{HELP, VERSION, notice};
 use akl_args::WordsError;
+use akl_batch::run_batch;
 use akl_outside::{NoGate, Sink, Source};
-use akl_run::{Refusal, Report, Status, run_akl};
+use akl_run::{Refusal, Status, run_akl};
 use std::alloc::Global;
 use std::io;
 use std::sync::Wait;
 use std::thread::Threads;
 
-/// Does what the words behind the program's name, which is the first, ask: prints a notice, or runs a query. Says how the
-/// process is to end.
+/// Does what the words behind the program's name, which is the first, ask: prints a notice, or runs a query or a batch of
+/// them. Says how the process is to end.
 pub fn run<R: Threads + Wait + Sync, S: Source, K: Sink, E: Sink>(
     rt: &R,
     alloc: Global,
@@ -32,8 +33,13 @@ pub fn run<R: Threads + Wait + Sync, S: Source, K: Sink, E: Sink>(
         (side (K.written out.old) (K.faults out.old)) (side (K.written out.new) (K.faults out.new))
         (side (E.written errors.old) (E.faults errors.old)) (side (E.written errors.new) (E.faults errors.new)) result) }
     ensures source { IfSome (notice_of HELP.now VERSION.now (words_behind given.now)) (λ _. program.new ≡ program.old) }
-    ensures query { notice_of HELP.now VERSION.now (words_behind given.now) ≡ None →
+    ensures query { notice_of HELP.now VERSION.now (words_behind given.now) ≡ None → is_batch (words_behind given.now) ≡ false →
         Answers (words_behind given.now)
+        (side (S.left program.old) (S.faults program.old)) (side (S.left program.new) (S.faults program.new))
+        (side (K.written out.old) (K.faults out.old)) (side (K.written out.new) (K.faults out.new))
+        (side (E.written errors.old) (E.faults errors.old)) (side (E.written errors.new) (E.faults errors.new)) result }
+    ensures batch { notice_of HELP.now VERSION.now (words_behind given.now) ≡ None → is_batch (words_behind given.now) ≡ true →
+        AnswersBatch (words_behind given.now)
         (side (S.left program.old) (S.faults program.old)) (side (S.left program.new) (S.faults program.new))
         (side (K.written out.old) (K.faults out.old)) (side (K.written out.new) (K.faults out.new))
         (side (E.written errors.old) (E.faults errors.old)) (side (E.written errors.new) (E.faults errors.new)) result }
@@ -42,8 +48,12 @@ pub fn run<R: Threads + Wait + Sync, S: Source, K: Sink, E: Sink>(
     if let Some(text) = notice(words) {
         return Ending::of_notice(text, out, errors);
     }
+    if is_batch(words) {
+        let report = run_batch(rt, alloc, words, program, out, &NoGate);
+        return Ending::of_command(alloc, report.status, &report.refusal, errors);
+    }
     let report = run_akl(rt, alloc, words, program, out, &NoGate);
-    Ending::of_report(alloc, &report, errors)
+    Ending::of_command(alloc, report.status, &report.refusal, errors)
 }
 
 // The words behind the first.
@@ -53,6 +63,19 @@ fn behind_name(given: &[String]) -> &[String]
     match given.split_first() {
         Some((_, words)) => words,
         None => &[],
+    }
+}
+
+// Whether the first word names the option of a batch.
+fn is_batch(words: &[String]) -> bool
+    ensures { result ≡ is_batch (bytes_of words.now) }
+{
+    let Some(word) = words.first() else {
+        return false;
+    };
+    match word.split_once('=') {
+        Some((name, _)) => name == "--batch",
+        None => word.as_str() == "--batch",
     }
 }
 
@@ -66,12 +89,5 @@ pub fn refuse_words<E: Sink>(alloc: Global, error: &io::Error, errors: &mut E) -
         io::ErrorKind::OutOfMemory => (Status::NoMemory, Refusal::Nothing),
         _ => (Status::Words, Refusal::Words(WordsError::Unknown { at: 0 })),
     };
-    let report = Report {
-        status,
-        refusal,
-        journal: Vec::new(alloc),
-        receipts: Vec::new(alloc),
-        written: 0,
-    };
-    Ending::of_report(alloc, &report, errors)
+    Ending::of_command(alloc, status, &refusal, errors)
 }

@@ -7,7 +7,7 @@ ghost use Rattle.akl_run.specs.Lines.{refusal_text};
 ghost use Rattle.akl.specs.Endings.{Says};
 
 use akl_outside::{Sink, write_all};
-use akl_run::{Report, Status, fixed_line, refusal_line};
+use akl_run::{Refusal, Status, fixed_line, refusal_line};
 use std::alloc::Global;
 use std::io::Eprint;
 use std::process::{ExitCode, Termination};
@@ -30,19 +30,22 @@ impl Termination for Ending {
 impl Ending {
     ghost use Rattle.akl.specs.Endings.{SaysWhy, Notifies};
 
-    /// Says the report's line.
-    pub fn of_report<E: Sink>(alloc: Global, report: &Report, errors: &mut E) -> Ending
-        ensures status { result.status ≡ report.now.status }
-        ensures line { SaysWhy report.now.status report.now.refusal
+    /// Says the line of a command's status and its refusal.
+    pub fn of_command<E: Sink>(
+        alloc: Global,
+        status: Status,
+        refusal: &Refusal,
+        errors: &mut E,
+    ) -> Ending
+        ensures status { result.status ≡ status }
+        ensures line { SaysWhy status refusal.now
             (side (E.written errors.old) (E.faults errors.old)) (side (E.written errors.new) (E.faults errors.new)) }
     {
-        match fixed_line(report.status) {
+        match fixed_line(status) {
             Some(line) => say(line.as_bytes(), errors),
-            None => say_refusal(alloc, report, errors),
+            None => say_refusal(alloc, status, refusal, errors),
         }
-        Ending {
-            status: report.status,
-        }
+        Ending { status }
     }
 
     /// Prints a notice, or says that it couldn't.
@@ -63,11 +66,11 @@ impl Ending {
 }
 
 // Says the line of a refusal, or that there was no memory for it.
-fn say_refusal<E: Sink>(alloc: Global, report: &Report, errors: &mut E)
-    ensures { Says (refusal_text report.now.status report.now.refusal) (side (E.written errors.old) (E.faults errors.old)) (side (E.written errors.new) (E.faults errors.new))
+fn say_refusal<E: Sink>(alloc: Global, status: Status, refusal: &Refusal, errors: &mut E)
+    ensures { Says (refusal_text status refusal.now) (side (E.written errors.old) (E.faults errors.old)) (side (E.written errors.new) (E.faults errors.new))
         ⊎ Says (codes "akl: out of memory\n") (side (E.written errors.old) (E.faults errors.old)) (side (E.written errors.new) (E.faults errors.new)) }
 {
-    match refusal_line(alloc, report) {
+    match refusal_line(alloc, status, refusal) {
         Ok(line) => say(&line, errors),
         Err(_) => say(b"akl: out of memory\n", errors),
     }

@@ -1,7 +1,9 @@
 pub mod Asked
+pub mod Batches
 pub mod Command
 pub mod Limits
 pub mod Numbers
+pub mod Queries
 pub mod Seen
 pub mod Settings
 pub mod Table

@@ -6,6 +6,7 @@
 #![tactic(auto)]
 
 mod cross_gate;
+mod hold_gate;
 mod meet_gate;
 mod memory_sink;
 mod memory_source;
@@ -15,6 +16,7 @@ mod transfer;
 mod waiting;
 
 pub use cross_gate::CrossGate;
+pub use hold_gate::HoldGate;
 pub use meet_gate::MeetGate;
 pub use memory_sink::MemorySink;
 pub use memory_source::MemorySource;

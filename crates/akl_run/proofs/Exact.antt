@@ -52,7 +52,7 @@ front_of text n m (Some rest) bytes h = on (or_more (length bytes) 1000000)
         let e : text ≡ bytes ++ rest = some_same h.read in
         sym (take_at bytes rest 1000001 n) ∙ ap (take 1000001) (sym e)
 
-read_front : (before after : Side) (text bytes : List ℕ) → before.bytes ≡ Some text → IsRead before after bytes → bytes ≡ take 1000001 text
+pub read_front : (before after : Side) (text bytes : List ℕ) → before.bytes ≡ Some text → IsRead before after bytes → bytes ≡ take 1000001 text
 read_front before after text bytes e h = front_of text before.faults after.faults after.bytes bytes (subst (λ (z : Option (List ℕ)). IsRead (side z before.faults) after bytes) e h)
 
 -- the program of a command is the one that it was given
@@ -70,7 +70,7 @@ not_both p = absurd cc
 none_some : {X : Type 0} {o : Option X} {x : X} → o ≡ None → o ≡ Some x → ⊥
 none_some p q = let r : None ≡ Some _ = sym p ∙ q in cc
 
-same_program_stop : {text : List ℕ} {s t : Status} {f g : Refusal} → ProgramStops text s f → ProgramStops text t g → (IsFault s → ⊥) → IsFault t ⊎ ((t ≡ s) × (g ≡ f))
+pub same_program_stop : {text : List ℕ} {s t : Status} {f g : Refusal} → ProgramStops text s f → ProgramStops text t g → (IsFault s → ⊥) → IsFault t ⊎ ((t ≡ s) × (g ≡ f))
 same_program_stop no_memory q n = absurd (n tt)
 same_program_stop p no_memory n = inl tt
 same_program_stop (by_text r) (by_text q) n = inr (refl, ap Refusal.TextOf (refused_same (program_one q r)))
@@ -78,7 +78,7 @@ same_program_stop (by_text r) (by_loading q e) n = absurd (not_both (program_one
 same_program_stop (by_loading r e) (by_text q) n = absurd (not_both (program_one r.reads q))
 same_program_stop (by_loading {e = cause} r e) (by_loading q h) n = inr (refl, ap Refusal.Loading (some_same (sym h ∙ subst (λ (z : List Clause). refusal_of z ≡ Some cause) (clauses_one r q) e)))
 
-loaded_or_stopped : {text : List ℕ} {p : Program} {s : Status} {f : Refusal} → IsLoadedProgram text p → ProgramStops text s f → IsFault s
+pub loaded_or_stopped : {text : List ℕ} {p : Program} {s : Status} {f : Refusal} → IsLoadedProgram text p → ProgramStops text s f → IsFault s
 loaded_or_stopped l (by_text r) = absurd (not_both (program_one l.reads.reads r))
 loaded_or_stopped l (by_loading r e) = absurd (none_some (subst (λ (z : List Clause). refusal_of z ≡ None) (clauses_one l.reads r) l.allowed) e)
 loaded_or_stopped l no_memory = tt
@@ -109,7 +109,7 @@ none_other {p = p} {q = q} x y l k e h = subst (λ (z : Query). query_refusal_of
 some_other : {program : List ℕ} {p q : Program} {cause : _} (x y : Query) → IsLoadedProgram program p → IsLoadedProgram program q → x ≡ y → query_refusal_of p x ≡ Some cause → query_refusal_of q y ≡ Some cause
 some_other {p = p} {q = q} {cause = cause} x y l k e h = subst (λ (z : Query). query_refusal_of q z ≡ Some cause) e (sym (same_refusal p q x (same_callees l k)) ∙ h)
 
-same_query_stop : {program text : List ℕ} {p q : Program} {s t : Status} {f g : Refusal} → IsLoadedProgram program p → IsLoadedProgram program q → QueryStops p text s f → QueryStops q text t g → (IsFault s → ⊥)
+pub same_query_stop : {program text : List ℕ} {p q : Program} {s t : Status} {f g : Refusal} → IsLoadedProgram program p → IsLoadedProgram program q → QueryStops p text s f → QueryStops q text t g → (IsFault s → ⊥)
     → IsFault t ⊎ ((t ≡ s) × (g ≡ f))
 same_query_stop l k no_memory b n = absurd (n tt)
 same_query_stop l k a no_memory n = inl tt
@@ -118,7 +118,7 @@ same_query_stop l k (by_text r) (by_loading q e) n = absurd (not_both (query_ver
 same_query_stop l k (by_loading r e) (by_text q) n = absurd (not_both (query_verdict_one r.reads q))
 same_query_stop l k (by_loading {q = x} r e) (by_loading {q = y} q h) n = inr (refl, ap Refusal.Loading (some_same (sym h ∙ some_other x y l k (query_one r q) e)))
 
-asked_or_stopped : {program text : List ℕ} {p q : Program} {l : Loaded} {s : Status} {f : Refusal} → IsLoadedProgram program p → IsLoadedProgram program q → IsLoadedQuery p text l → QueryStops q text s f → IsFault s
+pub asked_or_stopped : {program text : List ℕ} {p q : Program} {l : Loaded} {s : Status} {f : Refusal} → IsLoadedProgram program p → IsLoadedProgram program q → IsLoadedQuery p text l → QueryStops q text s f → IsFault s
 asked_or_stopped a b l (by_text r) = absurd (not_both (query_verdict_one l.reads.reads r))
 asked_or_stopped a b l (by_loading {q = y} r e) = absurd (none_some (none_other l.asked y a b (query_one l.reads r) l.allowed) e)
 asked_or_stopped a b l no_memory = tt
@@ -158,7 +158,7 @@ query_stop_of : {words : List (List ℕ)} {o k : Options} {p : Program} {s : Sta
 query_stop_of {p = p} {s = s} {f = f} a b q = subst (λ (z : Options). QueryStops p (query_of z) s f) (sym (same_options a b)) q
 
 -- no call failed, or one did
-both : (before after : Side) → HasWorked before after → HasFaulted before after → ⊥
+pub both : (before after : Side) → HasWorked before after → HasFaulted before after → ⊥
 both before after w f = omega (arith, w, f)
 
 fault_is : (s : Status) → IsFault s → (s ≡ Status.ReadFault) ⊎ (s ≡ Status.NoMemory)

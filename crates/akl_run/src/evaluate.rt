@@ -1,6 +1,6 @@
 //! From a loaded query to the end of its run.
 
-ghost use Rattle.std.specs.Prelude.{◌≡◌, ◌≤◌, [], IfOk, IfErr};
+ghost use Rattle.std.specs.Prelude.{◌≡◌, ◌≤◌, [], false, IfOk, IfErr};
 ghost use Rattle.box_tree.specs.Tables.{HasVariables, HasShownVariables};
 ghost use Rattle.par_workers.specs.Crews.{lists};
 ghost use Rattle.par_workers.specs.Runs.{HasRunMany};
@@ -49,7 +49,19 @@ fn run_alone(alloc: Global, program: &Program, core: Core) -> Result<Finished, A
     })
 }
 
-// Runs a loaded query by so many workers, to its end. A single one needs no thread, no lock and no gate.
+// Runs a loaded query as worker 1 alone, to its end. It needs no thread, no lock and no gate.
+fn run_loaded_alone(alloc: Global, loaded: &Loaded, budget: u64) -> Result<Finished, AllocError>
+    requires variables { HasVariables loaded.now.program loaded.now.query loaded.now.first_variable }
+    requires shown { HasShownVariables loaded.now.query }
+    ensures { IfOk result (HasFinished loaded.now 1 budget) }
+{
+    let program = &loaded.program;
+    let first_variable = loaded.first_variable;
+    let core = Core::new(alloc, program, &loaded.query, first_variable, 1, budget)?;
+    run_alone(alloc, program, core)
+}
+
+// Runs a loaded query by so many workers, to its end.
 fn run_loaded<R: Threads + Wait + Sync, G: Gate>(
     rt: &R,
     alloc: Global,
@@ -63,6 +75,9 @@ fn run_loaded<R: Threads + Wait + Sync, G: Gate>(
     requires workers { (1 ≤ workers) × (workers ≤ 16) }
     ensures { IfOk result (HasFinished loaded.now workers budget) }
 {
+    if workers == 1 {
+        return run_loaded_alone(alloc, loaded, budget);
+    }
     let program = &loaded.program;
     let first_variable = loaded.first_variable;
     let core = Core::new(
@@ -73,10 +88,27 @@ fn run_loaded<R: Threads + Wait + Sync, G: Gate>(
         workers,
         budget,
     )?;
-    if workers == 1 {
-        return run_alone(alloc, program, core);
-    }
     run_many(rt, alloc, program, core, workers, gate)
+}
+
+/// Runs a loaded query as worker 1 alone, to its end. No trace of it is asked.
+pub fn evaluate_alone(alloc: Global, loaded: Loaded, budget: u64) -> Result<Evaluated, AllocError>
+    requires variables { HasVariables loaded.program loaded.query loaded.first_variable }
+    requires shown { HasShownVariables loaded.query }
+    ensures { IfOk result (IsEvaluated loaded 1 budget false) }
+{
+    let Finished {
+        core,
+        receipts,
+        end,
+    } = run_loaded_alone(alloc, &loaded, budget)?;
+    Ok(Evaluated {
+        program: loaded.program,
+        core,
+        end,
+        receipts,
+        trace: false,
+    })
 }
 
 /// Runs a query that is ready.

@@ -23,8 +23,8 @@ pub struct Prepared {
     pub trace: bool,
 }
 
-// The source's bytes, up to one more than a program may have.
-fn read<S: Source>(alloc: Global, program: &mut S) -> Result<Vec<u8>, Stop>
+/// The source's bytes, up to one more than a program may have.
+pub fn read_program<S: Source>(alloc: Global, program: &mut S) -> Result<Vec<u8>, Stop>
     ensures ok { IfOk result (λ bytes. IsRead (side (S.left program.old) (S.faults program.old)) (side (S.left program.new) (S.faults program.new)) bytes.items) }
     ensures stop { IfErr result (λ stop. ReadStops (side (S.left program.old) (S.faults program.old)) (side (S.left program.new) (S.faults program.new)) stop.status stop.refusal) }
 {
@@ -43,7 +43,7 @@ fn program_text<S: Source>(
 {
     match made {
         Some(text) => Ok(text),
-        None => read(alloc, program),
+        None => read_program(alloc, program),
     }
 }
 

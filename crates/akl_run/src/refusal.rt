@@ -3,7 +3,7 @@
 ghost use Rattle.std.specs.Prelude.{◌≡◌, ◌++◌, option_map, IfOk, OnOk};
 ghost use Rattle.akl_run.specs.Lines.{key_text, kind_of, words_cause, text_cause, loading_cause, cause_of, refused_line, fixed_line, refused_side, refusal_text};
 
-use crate::report::{Refusal, Report, Status};
+use crate::report::{Refusal, Status};
 use crate::text::{push_number, push_text};
 use akl_args::WordsError;
 use akl_syntax::SyntaxError;
@@ -89,7 +89,8 @@ fn push_loading_cause(line: &mut Vec<u8>, error: &LoadError) -> Result<(), Alloc
     }
 }
 
-fn push_cause(line: &mut Vec<u8>, refusal: &Refusal) -> Result<(), AllocError>
+/// Adds why a command or a query is refused; nothing where it isn't.
+pub fn push_cause(line: &mut Vec<u8>, refusal: &Refusal) -> Result<(), AllocError>
     ensures { OnOk result (line.new.items ≡ line.old.items ++ cause_of refusal.now) }
 {
     match refusal {
@@ -137,12 +138,12 @@ pub fn fixed_line(status: Status) -> Option<&'static str>
     }
 }
 
-/// The line for standard error: nothing at all for the outcomes of a run.
-pub fn refusal_line(alloc: Global, report: &Report) -> Result<Vec<u8>, AllocError>
-    ensures { IfOk result (λ line. line.items ≡ refusal_text report.now.status report.now.refusal) }
+/// The line for standard error of a status and its refusal: nothing at all for the outcomes of a run.
+pub fn refusal_line(alloc: Global, status: Status, refusal: &Refusal) -> Result<Vec<u8>, AllocError>
+    ensures { IfOk result (λ line. line.items ≡ refusal_text status refusal.now) }
 {
-    match fixed_line(report.status) {
+    match fixed_line(status) {
         Some(line) => Vec::from_slice(alloc, line.as_bytes()),
-        None => refused_line(alloc, refused_side(report.status), &report.refusal),
+        None => refused_line(alloc, refused_side(status), refusal),
     }
 }

@@ -56,8 +56,8 @@ fn status_of(ended: Result<Status, Unwritten>) -> Status
     }
 }
 
-// Writes the text of a run that has ended, and reports it.
-fn report_of<K: Sink>(alloc: Global, run: Evaluated, sink: &mut K) -> Report
+/// Writes the text of a run that has ended, and reports it.
+pub fn report_of<K: Sink>(alloc: Global, run: Evaluated, sink: &mut K) -> Report
     requires { HasEnded run }
     ensures { IsWritten run (side (K.written sink.old) (K.faults sink.old)) (side (K.written sink.new) (K.faults sink.new)) result }
 {

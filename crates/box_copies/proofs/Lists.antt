@@ -152,9 +152,9 @@ without_less a (n ∷ ns) once = on (same_name a n) refl (same_name n a) refl (w
 module _ (f : Name → Name) (nodes : List Node) (a : Name) where
   held_copied : (x y : Held) → times_in a (alternatives_in (shape_held nodes x)) ≤ 1 → IsHeldAs f a x y → shape_held nodes y ≡ copied_shape a f (shape_held nodes x)
   held_copied (Held.Atom g) (Held.Atom h) once r = ap of_atom (ap (goal_atom nodes) r ∙ goal_atom_by f nodes g)
-  held_copied (Held.Choice o v) (Held.Choice p w) once r = let e : w.items ≡ map f (less_name a v.items) = r.1 ∙ ap (map f) (without_less a v.items once) in (λ i. of_choice (op_held nodes (r.0 i)) (e i)) ∙ ap (λ (z : Operator). of_choice z (map f (less_name a v.items))) (op_by_names f nodes o)
-  held_copied (Held.Atom g) (Held.Choice p w) once r = absurd r
-  held_copied (Held.Choice o v) (Held.Atom h) once r = absurd r
+  held_copied (Held.Choice o v s) (Held.Choice p w k) once r = let e : w.items ≡ map f (less_name a v.items) = r.1 ∙ ap (map f) (without_less a v.items once) in (λ i. of_choice (op_held nodes (r.0 i)) (e i)) ∙ ap (λ (z : Operator). of_choice z (map f (less_name a v.items))) (op_by_names f nodes o)
+  held_copied (Held.Atom g) (Held.Choice p w k) once r = absurd r
+  held_copied (Held.Choice o v s) (Held.Atom h) once r = absurd r
 
   row_copied : (o : Option GoalRow) (n : Name) (s z : Shape) → option_map (λ (r : GoalRow). r.shape) o ≡ Some s → z ≡ copied_shape a f s → copied_goal a f n o ≡ (f n, z) ∷ []
   row_copied None n s z e q = cc

@@ -40,7 +40,7 @@ without a (n ∷ ns) = if same_name n a then without a ns else n ∷ without a n
 -- what a goal holds under other names, without the alternative
 abbrev pub IsHeldAs : (Name → Name) → Name → Held → Held → Type 0
 IsHeldAs f a (Held.Atom g) (Held.Atom h) = h ≡ goal_by f g
-IsHeldAs f a (Held.Choice op alternatives) (Held.Choice new others) = (new ≡ op_by f op) × (others.items ≡ map f (without a alternatives.items))
+IsHeldAs f a (Held.Choice op alternatives since) (Held.Choice new others kept) = (new ≡ op_by f op) × (others.items ≡ map f (without a alternatives.items)) × (kept ≡ since)
 IsHeldAs f a held other = ⊥
 
 abbrev pub AreGoalsAs : (Name → Name) → Name → List InnerGoal → List (Name × Held) → Type 0

@@ -71,11 +71,16 @@ fn copied_held(
 {
     match held {
         Held::Atom(goal) => Ok(Held::Atom(swapped_goal(names, *goal))),
-        Held::Choice { op, alternatives } => {
+        Held::Choice {
+            op,
+            alternatives,
+            since,
+        } => {
             let others = swapped_others(alloc, names, alternatives.as_slice(), alternative)?;
             Ok(Held::Choice {
                 op: swapped_op(names, *op),
                 alternatives: others,
+                since: *since,
             })
         }
     }

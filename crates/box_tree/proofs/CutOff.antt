@@ -42,7 +42,7 @@ module _ (t : TableValue) (g n home : Name) (held_op : HeldOp) (number : ℕ) (k
 
       of_held : (e : GoalEntry) (h : Held) → e.held ≡ h → sight_held h ≡ Sight.Choice held_op → IsChoiceRow n op number kept (Some (goal_row t.program.templates.nodes e))
       of_held e (Held.Atom a) i q = cc
-      of_held e (Held.Choice o names) i q = let same : o ≡ held_op = cc in of_shape e names.items (ap (shape_held t.program.templates.nodes) i ∙ ap (λ (x : HeldOp). of_choice (op_held t.program.templates.nodes x) names.items) same)
+      of_held e (Held.Choice o names since) i q = let same : o ≡ held_op = cc in of_shape e names.items (ap (shape_held t.program.templates.nodes) i ∙ ap (λ (x : HeldOp). of_choice (op_held t.program.templates.nodes x) names.items) same)
 
       on : (o : Option GoalEntry) → option_map {U = Name × Sight} (λ (e : GoalEntry). (e.home, sight_held e.held)) o ≡ Some (home, Sight.Choice held_op) → IsChoiceRow n op number kept (option_map (goal_row t.program.templates.nodes) o)
       on None q = cc

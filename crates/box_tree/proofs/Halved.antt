@@ -106,7 +106,7 @@ choice_there t g home op e = on (lookup (same_name g) t.goals) e
   where
     of_held : (h : Held) → sight_held h ≡ Sight.Choice op → shape_held t.program.templates.nodes h ≡ of_choice (op_held t.program.templates.nodes op) (alternatives_in (shape_held t.program.templates.nodes h))
     of_held (Held.Atom a) q = cc
-    of_held (Held.Choice o names) q = let same : o ≡ op = cc in ap (λ (x : HeldOp). of_choice (op_held t.program.templates.nodes x) names.items) same
+    of_held (Held.Choice o names since) q = let same : o ≡ op = cc in ap (λ (x : HeldOp). of_choice (op_held t.program.templates.nodes x) names.items) same
 
     on : (o : Option GoalEntry) → option_map {U = Name × Sight} (λ (x : GoalEntry). (x.home, sight_held x.held)) o ≡ Some (home, Sight.Choice op)
         → (r : GoalRow) × (option_map (goal_row t.program.templates.nodes) o ≡ Some r) × (r.shape ≡ of_choice (op_held t.program.templates.nodes op) (alternatives_in r.shape))

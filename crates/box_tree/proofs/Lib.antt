@@ -25,3 +25,4 @@ mod Removed
 mod Copied
 mod Halved
 pub mod BoundHere
+pub mod FirstCandidates

@@ -96,10 +96,13 @@ module _ (t : TableValue) (c : Config) (u : Unfolds (table_of t) c) (once : (m :
       let w : (r : GoalRow) × ((table_of t).goal_of g ≡ Some r) × (r.home ≡ f.content.name) × (r.shape ≡ shape_of h) = goal_row (table_of t) c u once g f h home held in
       (w.0, w.1, w.3, held_rows g h home held))
 
-  pub candidates : candidate_in (table_of t) n ≡ candidate_among (table_of t) (goal_names f.goals)
-  candidates =
+  pub goals_named : goals_in ((table_of t).box_of n) ≡ goal_names f.goals
+  goals_named =
       let r : (r : BoxRow) × ((table_of t).box_of n ≡ Some r) × IsBoxRow (table_of t) c.roots f r = row_of (table_of t) c u n f e in
-      ap (λ (o : Option BoxRow). candidate_among (table_of t) (goals_in o)) r.1 ∙ ap (candidate_among (table_of t)) r.2.goals
+      ap goals_in r.1 ∙ r.2.goals
+
+  pub candidates : candidate_in (table_of t) n ≡ candidate_among (table_of t) (goal_names f.goals)
+  candidates = ap (candidate_among (table_of t)) goals_named
 
   pub candidate_there : is_some (candidate_in (table_of t) n) ≡ is_candidate (box_at n c.roots)
   candidate_there = ap is_some candidates ∙ candidate_shown (table_of t) f.goals shown ∙ sym (ap is_candidate e)

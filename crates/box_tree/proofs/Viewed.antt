@@ -74,9 +74,9 @@ collected_shown nodes (Some x) r e = ap (λ (y : BoxRow). y.collected) (some_val
 
 held_shows : (nodes : List Node) (g : Name) (f : Found) (h : Held) (e : Stands) → held_in g f.goals ≡ Some h → shape_of h ≡ shape_held nodes e → Shows nodes (Place.Goal g) f (sight_held e)
 held_shows nodes g f (an_atom a) (Stands.Atom x) i j = let q : a ≡ goal_atom nodes x = cc in i ∙ ap (λ (y : Atom). Some (an_atom y)) q
-held_shows nodes g f (an_atom a) (Stands.Choice op alternatives) i j = cc
+held_shows nodes g f (an_atom a) (Stands.Choice op alternatives since) i j = cc
 held_shows nodes g f (a_choice o bs) (Stands.Atom x) i j = cc
-held_shows nodes g f (a_choice o bs) (Stands.Choice op alternatives) i j = let q : o ≡ op_held nodes op = cc in (bs, i ∙ ap (λ (y : Operator). Some (a_choice y bs)) q)
+held_shows nodes g f (a_choice o bs) (Stands.Choice op alternatives since) i j = let q : o ≡ op_held nodes op = cc in (bs, i ∙ ap (λ (y : Operator). Some (a_choice y bs)) q)
 
 module _ (t : TableValue) (c : Config) (u : Unfolds (table_of t) c) (once : (m : Name) → times m c.roots ≤ 1) where
   pub seen : (place : Place) (home : Name) (sight : Sight) → sight_in t place ≡ Some (home, sight) → StandsAt t c place home sight

@@ -1,17 +1,21 @@
 -- All that stands in a box and inside it.
-use Rattle.std.specs.Prelude.{◌≡◌, ℕ, true, nat_lt, if◌then◌else◌, List, [], ◌∷◌, length, map, Option, Some, None, option_map, ◌⊎◌}
+use Rattle.std.specs.Prelude.{◌≡◌, ℕ, true, nat_lt, if◌then◌else◌, Bool, ◌||◌, ◌&&◌, ◌==◌, List, [], ◌∷◌, length, map, Option, Some, None, option_map, ◌⊎◌}
 use Rattle.std.specs.List.{AllByRecursion}
+use Rattle.std.specs.Map.{lookup}
 use Rattle.akl_terms.specs.declared.name.Name.{Name}
 use Rattle.akl_terms.specs.declared.name.Place.{Place}
+use Rattle.akl_terms.specs.Names.{same_name, is_before}
 use Rattle.akl_model.specs.Config.{Operator}
 use Rattle.akl_model.specs.declared.label.Label.{Label}
-use Rattle.akl_model.specs.Config.{or_else}
+use Rattle.akl_model.specs.Config.{IsIn, or_else}
 use Rattle.akl_terms.specs.Template.{tree}
 use Rattle.akl_model.specs.Changes.{Shape, of_choice}
 use Rattle.local_store.specs.Chained.{IsSolvedChain}
 use Rattle.table_laws.specs.Rows.{BoxRow, GoalRow, Table, stores_along}
 use Rattle.table_laws.specs.Inside.{IsInside, IsGoalInside}
 use Rattle.table_laws.specs.Walks.{ListsInside}
+use Rattle.box_tree.specs.declared.entries.Held.{Held}
+use Rattle.box_tree.specs.declared.entries.GoalEntry.{GoalEntry}
 use Rattle.box_tree.specs.declared.inside.InnerGoal.{InnerGoal}
 use Rattle.box_tree.specs.declared.inside.InnerBox.{InnerBox}
 use Rattle.box_tree.specs.declared.inside.Inside.{Inside}
@@ -87,3 +91,24 @@ candidate_among T (g ∷ gs) = or_else (candidate_at T (T.goal_of g)) (candidate
 -- and by the goals directly in a box
 abbrev pub candidate_in : Table → Name → Option Name
 candidate_in T n = candidate_among T (goals_in (T.box_of n))
+
+-- an alternative at which a box could be split, by some goal directly in it; none where no goal is such a choice
+abbrev pub IsCandidateOf : Table → Name → Option Name → Type 0
+IsCandidateOf T n None = candidate_in T n ≡ None
+IsCandidateOf T n (Some a) = (g : Name) × IsIn g (goals_in (T.box_of n)) × (candidate_at T (T.goal_of g) ≡ Some a)
+
+-- the number of the label that made the goal of a choice, or the goal of which it is a copy, as it is kept; 0 of what is no choice
+abbrev pub since_held : Held → ℕ
+since_held (Held.Atom g) = 0
+since_held (Held.Choice op alternatives since) = since
+
+abbrev pub since_in : Option GoalEntry → ℕ
+since_in None = 0
+since_in (Some e) = since_held e.held
+
+abbrev pub since_of : TableValue → Name → ℕ
+since_of t g = since_in (lookup (same_name g) t.goals)
+
+-- a goal was made before another one, or by the same label, and it is the first of them by name
+abbrev pub is_older : TableValue → Name → Name → Bool
+is_older t g h = nat_lt (since_of t g) (since_of t h) || ((since_of t g == since_of t h) && is_before g h)

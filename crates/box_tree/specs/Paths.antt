@@ -40,7 +40,7 @@ HasPath t n = (ms : List Name) × Deep (table_of t) n ms × (length ms < length 
 -- what stands at a place, and its box
 abbrev pub sight_held : Held → Sight
 sight_held (Held.Atom g) = Sight.Atom g
-sight_held (Held.Choice op alternatives) = Sight.Choice op
+sight_held (Held.Choice op alternatives since) = Sight.Choice op
 
 abbrev pub sight_in : TableValue → Place → Option (Name × Sight)
 sight_in t (Place.Goal g) = option_map (λ (e : GoalEntry). (e.home, sight_held e.held)) (lookup (same_name g) t.goals)

@@ -48,7 +48,7 @@ op_held nodes (HeldOp.Collect t) = Operator.collecting (tree nodes t)
 
 abbrev pub shape_held : List Node → Held → Shape
 shape_held nodes (Held.Atom g) = of_atom (goal_atom nodes g)
-shape_held nodes (Held.Choice op alternatives) = of_choice (op_held nodes op) alternatives.items
+shape_held nodes (Held.Choice op alternatives since) = of_choice (op_held nodes op) alternatives.items
 
 abbrev pub box_row : List Node → BoxEntry → BoxRow
 box_row nodes e = record {

@@ -17,8 +17,14 @@ pub enum HeldOp {
 #[derive(Drop)]
 pub enum Held {
     Atom(Goal),
-    /// A choice, with its alternatives in order.
-    Choice { op: HeldOp, alternatives: Vec<Name> },
+    /// A choice.
+    Choice {
+        op: HeldOp,
+        /// In order.
+        alternatives: Vec<Name>,
+        /// The number of the label that made the goal, or the goal of which it is a copy; 0 of the query's.
+        since: u64,
+    },
 }
 
 /// What a table has under the name of a box.

@@ -52,7 +52,11 @@ impl Held {
     {
         match self {
             Held::Atom(_) => false,
-            Held::Choice { op, alternatives } => alternatives.is_empty() && fails_empty(*op),
+            Held::Choice {
+                op,
+                alternatives,
+                ..
+            } => alternatives.is_empty() && fails_empty(*op),
         }
     }
 }

@@ -211,6 +211,7 @@ impl Table {
             entry.held = Held::Choice {
                 op,
                 alternatives: names,
+                since: entry.changed,
             };
             entry.changed = number;
         }

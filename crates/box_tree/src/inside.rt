@@ -10,7 +10,7 @@ ghost use Rattle.table_laws.specs.Stamped.{IsTableOf};
 ghost use Rattle.box_tree.specs.Tables.{all_rules, table_of, shape_held};
 ghost use Rattle.box_tree.specs.Drops.{IsOfRun};
 ghost use Rattle.box_tree.specs.Views.{run_of, is_there};
-ghost use Rattle.box_tree.specs.Insides.{IsInnerGoal, IsSolvedDownTo, IsInnerBox, IsInsideOf};
+ghost use Rattle.box_tree.specs.Insides.{IsInnerGoal, IsSolvedDownTo, IsInnerBox, IsInsideOf, since_held, since_of};
 ghost use Rattle.box_tree.specs.Places.{goal_places, places_in, IsSeenBy};
 
 use crate::entries::{BoxEntry, Held};
@@ -58,15 +58,21 @@ pub struct Inside {
 impl Held {
     // The same content.
     fn duplicate(&self, alloc: Global) -> Result<Held, AllocError>
-        ensures { IfOk result (λ h. (nodes : List Node) → shape_held nodes h ≡ shape_held nodes self.now) }
+        ensures shape { IfOk result (λ h. (nodes : List Node) → shape_held nodes h ≡ shape_held nodes self.now) }
+        ensures since { IfOk result (λ h. since_held h ≡ since_held self.now) }
     {
         match self {
             Held::Atom(goal) => Ok(Held::Atom(*goal)),
-            Held::Choice { op, alternatives } => {
+            Held::Choice {
+                op,
+                alternatives,
+                since,
+            } => {
                 let names = Vec::from_slice(alloc, alternatives.as_slice())?;
                 Ok(Held::Choice {
                     op: *op,
                     alternatives: names,
+                    since: *since,
                 })
             }
         }
@@ -115,6 +121,7 @@ impl Table {
     fn inner_goal(&self, alloc: Global, name: Name) -> Result<InnerGoal, AllocError>
         ensures name { IfOk result (λ g. g.name ≡ name) }
         ensures held { IfOk result (IsInnerGoal self.now) }
+        ensures since { IfOk result (λ g. since_held g.held ≡ since_of self.now name) }
     {
         let Some(entry) = self.goals.get(&name) else {
             return Err(AllocError);

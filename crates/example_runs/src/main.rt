@@ -104,7 +104,7 @@ fn answered<R: Threads + Wait + Sync>(
     let mut source = MemorySource::new(bytes, 4096, Vec::new(alloc));
     let mut sink = MemorySink::new(alloc, 4096, 100_000, Vec::new(alloc))?;
     let report = run_akl(rt, alloc, &words, &mut source, &mut sink, &NoGate);
-    let line = refusal_line(alloc, &report)?;
+    let line = refusal_line(alloc, report.status, &report.refusal)?;
     let mut text = String::from_str(alloc, from_utf8(sink.bytes())?)?;
     text.push_str(from_utf8(&line)?)?;
     Ok(text)

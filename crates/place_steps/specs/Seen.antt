@@ -5,7 +5,7 @@ use Rattle.akl_terms.specs.declared.name.Place.{Place}
 use Rattle.box_tree.specs.declared.inside.Inside.{Inside}
 use Rattle.box_tree.specs.Tables.{table_of}
 use Rattle.box_tree.specs.Views.{ViewValue, is_there}
-use Rattle.box_tree.specs.Insides.{candidate_in}
+use Rattle.box_tree.specs.Insides.{IsCandidateOf}
 use Rattle.box_copies.specs.Copies.{IsInsideOfBox}
 use Rattle.idle_plan.specs.Idling.{IsAtRootBox}
 use Rattle.step_commit.specs.Cores.{CoreValue}
@@ -19,13 +19,13 @@ view_in (Seen.Box view inside alternative) = view
 
 -- a box could be split at this alternative, if at any; of a goal nothing is said
 abbrev pub IsCandidateAt : CoreValue → Place → Option Name → Type 0
-IsCandidateAt c place alternative = (name : Name) → place ≡ Place.Box name → candidate_in (table_of c.table) name ≡ alternative
+IsCandidateAt c place alternative = (name : Name) → place ≡ Place.Box name → IsCandidateOf (table_of c.table) name alternative
 
 -- the view is that of a box, which could be split at this alternative, if at any
 pub record HasCandidate (v : ViewValue) (alternative : Option Name) : Type 0 where
   pub name : Name
   pub is_box : v.place ≡ Place.Box name
-  pub candidate : candidate_in (table_of v.table) name ≡ alternative
+  pub candidate : IsCandidateOf (table_of v.table) name alternative
 
 -- a root box that couldn't be split
 pub record IsBareRoot (v : ViewValue) : Type 0 where

@@ -3,7 +3,7 @@
 ghost use Rattle.std.specs.Prelude.{◌≡◌, IfOk};
 ghost use Rattle.akl_terms.specs.declared.name.Place.{Place};
 ghost use Rattle.box_tree.specs.Tables.{table_of};
-ghost use Rattle.box_tree.specs.Insides.{candidate_in};
+ghost use Rattle.box_tree.specs.Insides.{IsCandidateOf};
 ghost use Rattle.place_steps.specs.Seen.{view_in, IsSight, IsCandidateAt, IsSeen, IsSeenBy};
 
 use akl_terms::{Name, Place};
@@ -81,7 +81,7 @@ fn see_box(
     alternative: Option<Name>,
 ) -> Result<Seen, AllocError>
     requires sight { IsSight core.now (Place.Box name) worker view }
-    requires candidate { candidate_in (table_of core.now.table) name ≡ alternative }
+    requires candidate { IsCandidateOf (table_of core.now.table) name alternative }
     ensures seen { IfOk result IsSeen }
     ensures sight { IfOk result (λ seen. IsSight core.now (Place.Box name) worker (view_in seen)) }
 {

@@ -59,6 +59,9 @@ p(a). p(b,c). => true => 0 / answer 1 / done
 p(a) :- -> true. p(b) :- | true. => true => 5 / akl: program: mixed guards in p/1
 p(a) :- -> true. p(b,c) :- | true. => true => 0 / answer 1 / done
 p(a). q(b => true => 5 / akl: program: syntax at 6
+append([],Y,Z) :- -> Z = Y => true => 5 / akl: program: syntax at 0
+append([],Y,Z) :- -> Z = Y. append([X|Xs],Y,Z) :- -> Z = [X|Zs], append(Xs,Y,Zs) => true => 5 / akl: program: syntax at 28
+append([],Y,Z) :- -> Z = Y. append([X|Xs],Y,Z) :- -> Z = [X|Zs], append(Xs,Y,Zs). => true => 0 / answer 1 / done
 p(a). q(b. r. => true => 5 / akl: program: syntax at 6
 p(9999999999999999999999999999999999999999). => true => 5 / akl: program: integer out of range at 2
 send(a,b). => true => 5 / akl: program: reserved send/2

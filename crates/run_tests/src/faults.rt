@@ -2,10 +2,11 @@
 
 ghost use Rattle.std.specs.Prelude.{◌<◌};
 
-use crate::replies::{Reply, command, expanded, expect, run_from, run_into, words_of};
-use crate::rules::cut;
+use crate::replies::{Reply, expanded, expect, push_lines, run_from, run_over, words_of};
+use crate::rules::{Case, case_of, words_for};
 use akl_outside::{MemorySink, MemorySource, NoGate, Source};
 use std::alloc::{AllocError, Global};
+use std::fmt::Write;
 use std::process::Abort;
 use std::sync::Wait;
 use std::thread::Threads;
@@ -70,108 +71,162 @@ fn nothing_is_read_where_the_query_is_too_long(rt: HostRuntime) -> Result<(), Al
     Ok(())
 }
 
-// A command whose source fails at this call.
-fn read_fault<R: Threads + Wait + Sync>(
+/// Options, programs, queries and replies of commands that make the same labels at each run.
+const COMMANDS: &str = r"
+ => LISTS => append([a,b],[c],Z) => 0 / answer 1 / Z = [a,b,c] / done
+--workers,4 =>  => X = a, X = b => 1 / failed
+ => p(a) :- -> true. => p(X) => 2 / suspended 1
+ => m(a). m(b). => m(X) => 0 / answer 1 / X = a / answer 2 / X = b / done
+--trace,--budget,3 => m(a). m(b). => m(X) => 3 / step 1 fork goal 0.2 by 1 / step 2 split box 0.0 of 1.0 by 1 / step 3 promote goal 0.2 of 1.0 by 1 / answer 1 / X = a / budget
+";
+
+/// The number of a read or a write that doesn't come.
+const NEVER: u64 = 1_000_000;
+
+// Words over a source, with a sink that takes one byte at a time and fails at one write.
+fn reply_into<R: Threads + Wait + Sync>(
     rt: &R,
     alloc: Global,
-    call: u64,
+    words: &[String],
+    source: &mut MemorySource,
+    write: u64,
 ) -> Result<Reply, AllocError> {
-    let mut source = source_of(alloc, "p(a). q(b).", 7, &[call])?;
-    answer_from(rt, alloc, &mut source, "X = a")
+    let fails = Vec::from_slice(alloc, &[write])?;
+    let mut sink = MemorySink::new(alloc, 1, 1000, fails)?;
+    run_over(rt, alloc, words, source, &mut sink, &NoGate)
 }
 
-#[test]
-fn nothing_is_written_after_a_read_fault(rt: HostRuntime) -> Result<(), AllocError> {
-    let alloc = rt.alloc();
-    // The program takes three reads, of which the last gives nothing.
-    for call in 0..3 {
-        let reply = read_fault(&rt, alloc, call)?;
-        expect(&rt, &reply.text, "7 / akl: read fault", "a fault");
-        assert_eq!(rt; reply.labels, 0);
+// Words over a program that is read a byte at a time. One read and one write fail, if they come.
+fn reply_with<R: Threads + Wait + Sync>(
+    rt: &R,
+    alloc: Global,
+    words: &[String],
+    program: &str,
+    read: u64,
+    write: u64,
+) -> Result<Reply, AllocError> {
+    let mut source = source_of(alloc, program, 1, &[read])?;
+    reply_into(rt, alloc, words, &mut source, write)
+}
+
+// Each read fails in turn, also the one that finds the end. Then nothing is written.
+fn try_reads<R: Threads + Wait + Sync + Abort>(
+    rt: &R,
+    alloc: Global,
+    words: &[String],
+    program: &str,
+) -> Result<(), AllocError> {
+    for read in 0..=program.len() {
+        let reply = reply_with(rt, alloc, words, program, read as u64, NEVER)?;
+        expect(rt, &reply.text, "7 / akl: read fault", program);
+        assert_eq!(rt;
+            (reply.written, reply.count, reply.labels),
+            (0, 0, 0),
+            "read {read}"
+        );
     }
     Ok(())
 }
 
-// Words over a program, with a sink that takes one byte at a time and fails after so many.
-fn write_fault<R: Threads + Wait + Sync>(
-    rt: &R,
-    alloc: Global,
-    words: &[String],
-    program: &str,
-    count: u64,
-) -> Result<Reply, AllocError> {
-    let fails = Vec::from_slice(alloc, &[count])?;
-    let mut sink = MemorySink::new(alloc, 1, 1000, fails)?;
-    run_into(rt, alloc, words, program, &mut sink)
+// The reply to a command whose text ends with a write fault.
+fn cut_reply(alloc: Global, front: &[u8]) -> Result<String, AllocError> {
+    let mut reply = String::from_str(alloc, "8 / akl: write fault")?;
+    push_lines(&mut reply, front)?;
+    Ok(reply)
 }
 
-// How many labels the journal of words over a program has.
-fn labels_of<R: Threads + Wait + Sync>(
-    rt: &R,
+// The bytes that were written are this front of a text.
+fn expect_front(
+    rt: &impl Abort,
     alloc: Global,
-    words: &[String],
-    program: &str,
-) -> Result<usize, AllocError> {
-    let reply = command(rt, alloc, words, program)?;
-    Ok(reply.labels)
-}
-
-/// Options, programs and queries, how many bytes are written before a fault, and replies.
-const FAULTS: &str = r"
---workers=1 =>  => X = f(Y), Y = a => 0 => 8 / akl: write fault
---workers=1 =>  => X = f(Y), Y = a => 6 => 8 / akl: write fault / answer
---workers=1 =>  => X = f(Y), Y = a => 9 => 8 / akl: write fault / answer 1
---workers=1 =>  => X = f(Y), Y = a => 24 => 8 / akl: write fault / answer 1 / X = f(a) / Y = a
---workers=1 =>  => X = f(Y), Y = a => 28 => 8 / akl: write fault / answer 1 / X = f(a) / Y = a / done
---workers=1 =>  => X = a, X = b => 3 => 8 / akl: write fault / fai
---workers=1 => m(a). m(b). => m(X) => 15 => 8 / akl: write fault / answer 1 / X = a
---workers=1 => m(a). m(b). => m(X) => 21 => 8 / akl: write fault / answer 1 / X = a / answer
---workers=1 => m(a). m(b). => m(X) => 27 => 8 / akl: write fault / answer 1 / X = a / answer 2 / X =
---workers=1 => m(a). m(b). => m(X) => 31 => 8 / akl: write fault / answer 1 / X = a / answer 2 / X = b / d
---trace =>  => A = a, B = b => 0 => 8 / akl: write fault
---trace =>  => A = a, B = b => 11 => 8 / akl: write fault / step 1 tell
---trace =>  => A = a, B = b => 26 => 8 / akl: write fault / step 1 tell goal 0.2 by 1
---trace =>  => A = a, B = b => 37 => 8 / akl: write fault / step 1 tell goal 0.2 by 1 / step 2 tell
---trace =>  => A = a, B = b => 58 => 8 / akl: write fault / step 1 tell goal 0.2 by 1 / step 2 tell goal 0.3 by 1 / answer
-";
-
-// The fault of a command, beside the same without a fault.
-fn expect_fault<R: Threads + Wait + Sync + Abort>(
-    rt: &R,
-    alloc: Global,
-    words: &[String],
-    program: &str,
-    count: u64,
-    wanted: &str,
-    case: &str,
+    reply: &Reply,
+    front: &[u8],
 ) -> Result<(), AllocError> {
-    let labels = labels_of(rt, alloc, words, program)?;
-    let fault = write_fault(rt, alloc, words, program, count)?;
-    expect(rt, &fault.text, wanted, case);
-    assert_eq!(rt; (fault.count, fault.labels), (count, labels), "{case}");
+    let wanted = cut_reply(alloc, front)?;
+    expect(rt, &reply.text, &wanted, "a front");
+    assert_eq!(rt;
+        (reply.written, reply.count),
+        (front.len(), front.len() as u64),
+        "{wanted}"
+    );
     Ok(())
 }
 
-// A line's command fails as it should.
-fn try_fault<R: Threads + Wait + Sync + Abort>(
+// Each write of a text fails in turn. Then what was written before stands, and the journal is whole.
+fn try_writes<R: Threads + Wait + Sync + Abort>(
     rt: &R,
     alloc: Global,
-    case: &str,
+    words: &[String],
+    program: &str,
+    text: &[u8],
+    labels: usize,
 ) -> Result<(), AllocError> {
-    let (option, rest) = cut(case);
-    let (program, rest) = cut(rest);
-    let (query, rest) = cut(rest);
-    let (count, wanted) = cut(rest);
-    let count = count.parse::<u64>().unwrap_or(1_000_000);
-    let words = words_of(alloc, &[option, "--query", query])?;
-    expect_fault(rt, alloc, &words, program, count, wanted, case)
+    for write in 0..text.len() {
+        let reply = reply_with(rt, alloc, words, program, NEVER, write as u64)?;
+        expect_front(rt, alloc, &reply, &text[..write])?;
+        assert_eq!(rt; reply.labels, labels, "write {write}");
+    }
+    Ok(())
+}
+
+// The reply where no read and no write fails, as a fault would come behind the last: how many labels it has.
+fn whole_labels<R: Threads + Wait + Sync + Abort>(
+    rt: &R,
+    alloc: Global,
+    words: &[String],
+    case: &Case,
+    text: &str,
+) -> Result<usize, AllocError> {
+    let reads = case.program.len() as u64;
+    let reply = reply_with(
+        rt,
+        alloc,
+        words,
+        case.program,
+        reads.saturating_add(1),
+        text.len() as u64,
+    )?;
+    expect(rt, &reply.text, case.wanted, case.query);
+    Ok(reply.labels)
+}
+
+// The text of a reply.
+fn text_of(alloc: Global, reply: &str) -> Result<String, AllocError> {
+    let mut text = String::new(alloc);
+    for line in reply.split(" / ").skip(1) {
+        writeln!(text, "{line}")?;
+    }
+    Ok(text)
+}
+
+// A case's command with each fault in turn, and without one.
+fn try_faults<R: Threads + Wait + Sync + Abort>(
+    rt: &R,
+    alloc: Global,
+    words: &[String],
+    case: &Case,
+) -> Result<(), AllocError> {
+    let text = text_of(alloc, case.wanted)?;
+    let labels = whole_labels(rt, alloc, words, case, &text)?;
+    try_reads(rt, alloc, words, case.program)?;
+    try_writes(rt, alloc, words, case.program, text.as_bytes(), labels)
+}
+
+// The same of a line.
+fn try_line<R: Threads + Wait + Sync + Abort>(
+    rt: &R,
+    alloc: Global,
+    line: &str,
+) -> Result<(), AllocError> {
+    let case = case_of(line);
+    let words = words_for(alloc, &case)?;
+    try_faults(rt, alloc, &words, &case)
 }
 
 #[test]
-fn a_front_of_the_text_stands_before_a_write_fault(rt: HostRuntime) -> Result<(), AllocError> {
-    let alloc = rt.alloc();
-    for case in FAULTS.lines().skip(1) {
-        try_fault(&rt, alloc, case)?;
+fn each_read_and_each_write_may_fail(rt: HostRuntime) -> Result<(), AllocError> {
+    for line in COMMANDS.lines().skip(1) {
+        try_line(&rt, rt.alloc(), line)?;
     }
     Ok(())
 }

@@ -7,6 +7,8 @@ mod answering;
 #[cfg(test)]
 mod attending;
 #[cfg(test)]
+mod batches;
+#[cfg(test)]
 mod brackets;
 #[cfg(test)]
 mod candidates;

@@ -33,7 +33,8 @@ fn count_first_plans(receipts: &[Vec<Receipt>]) -> usize {
     count
 }
 
-fn push_lines(text: &mut String, lines: &[u8]) -> Result<(), AllocError> {
+/// Adds lines, with ` / ` before each.
+pub fn push_lines(text: &mut String, lines: &[u8]) -> Result<(), AllocError> {
     for line in from_utf8(lines).unwrap_or("no text").lines() {
         write!(text, " / {line}")?;
     }
@@ -41,7 +42,7 @@ fn push_lines(text: &mut String, lines: &[u8]) -> Result<(), AllocError> {
 }
 
 fn push_refusal(alloc: Global, text: &mut String, report: &Report) -> Result<(), AllocError> {
-    let line = refusal_line(alloc, report)?;
+    let line = refusal_line(alloc, report.status, &report.refusal)?;
     push_lines(text, &line)
 }
 
@@ -69,7 +70,8 @@ fn reply_of(alloc: Global, report: &Report, written: &[u8]) -> Result<Reply, All
     })
 }
 
-fn run_words<R: Threads + Wait + Sync, G: Gate>(
+/// Words over a source and a sink, with a gate.
+pub fn run_over<R: Threads + Wait + Sync, G: Gate>(
     rt: &R,
     alloc: Global,
     words: &[String],
@@ -90,25 +92,13 @@ pub fn run_from<R: Threads + Wait + Sync, G: Gate>(
     gate: &G,
 ) -> Result<Reply, AllocError> {
     let mut sink = MemorySink::new(alloc, 5, 2_000_000, Vec::new(alloc))?;
-    run_words(rt, alloc, words, source, &mut sink, gate)
+    run_over(rt, alloc, words, source, &mut sink, gate)
 }
 
 // A source of a program that gives seven bytes at a time.
 fn source_of(alloc: Global, program: &str) -> Result<MemorySource, AllocError> {
     let bytes = Vec::from_slice(alloc, program.as_bytes())?;
     Ok(MemorySource::new(bytes, 7, Vec::new(alloc)))
-}
-
-/// Words over a program and a sink.
-pub fn run_into<R: Threads + Wait + Sync>(
-    rt: &R,
-    alloc: Global,
-    words: &[String],
-    program: &str,
-    sink: &mut MemorySink,
-) -> Result<Reply, AllocError> {
-    let mut source = source_of(alloc, program)?;
-    run_words(rt, alloc, words, &mut source, sink, &NoGate)
 }
 
 /// Words over a program, with a gate.

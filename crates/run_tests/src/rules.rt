@@ -7,7 +7,7 @@ use std::sync::Wait;
 use std::thread::Threads;
 
 pub const LISTS: &str =
-    "append([],Y,Z) :- -> Z = Y. append([X|Xs],Y,Z) :- -> Z = [X|Zs], append(Xs,Y,Zs). nrev([],R) :- -> R = []. nrev([X|Xs],R) :- -> nrev(Xs,S), append(S,[X],R). member(X,[X|_]). member(X,[_|T]) :- member(X,T).";
+    "append([],Y,Z) :- -> Z = Y. append([X|Xs],Y,Z) :- -> Z = [X|Zs], append(Xs,Y,Zs). nrev([],R) :- -> R = []. nrev([X|Xs],R) :- -> nrev(Xs,S), append(S,[X],R). member(X,[X|_]). member(X,[_|T]) :- member(X,T).\n";
 
 const MERGE: &str =
     "merge([X|Xs],Ys,Zs) :- | Zs = [X|Z], merge(Xs,Ys,Z). merge(Xs,[Y|Ys],Zs) :- | Zs = [Y|Z], merge(Xs,Ys,Z). merge([],Ys,Zs) :- | Zs = Ys. merge(Xs,[],Zs) :- | Zs = Xs.";
@@ -199,8 +199,8 @@ fn named(text: &str) -> &str {
 #[derive(Clone, Copy)]
 pub struct Case<'a> {
     options: &'a str,
-    program: &'a str,
-    query: &'a str,
+    pub program: &'a str,
+    pub query: &'a str,
     pub wanted: &'a str,
 }
 
@@ -222,14 +222,20 @@ pub fn case_of(line: &str) -> Case<'_> {
     }
 }
 
+/// The words of a line's command.
+pub fn words_for(alloc: Global, case: &Case) -> Result<Vec<String>, AllocError> {
+    let mut words = words_of(alloc, &["--query", case.query])?;
+    add_options(alloc, &mut words, case.options)?;
+    Ok(words)
+}
+
 /// The reply that a line gets.
 pub fn replied<R: Threads + Wait + Sync>(
     rt: &R,
     alloc: Global,
     case: &Case,
 ) -> Result<Reply, AllocError> {
-    let mut words = words_of(alloc, &["--query", case.query])?;
-    add_options(alloc, &mut words, case.options)?;
+    let words = words_for(alloc, case)?;
     command(rt, alloc, &words, case.program)
 }
 

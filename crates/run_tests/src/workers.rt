@@ -1,8 +1,8 @@
 //! Whole commands by several workers.
 
 use crate::replies::{Reply, command, command_at, expect, words_of};
-use crate::rules::{LISTS, case_of, replied};
-use akl_outside::{CrossGate, Gate, MeetGate};
+use crate::rules::{LISTS, case_of, replied, words_for};
+use akl_outside::{CrossGate, Gate, HoldGate, MeetGate};
 use std::alloc::{AllocError, Global};
 use std::process::Abort;
 use std::sync::Wait;
@@ -160,5 +160,60 @@ fn four_workers_plan_over_one_state(rt: HostRuntime) -> Result<(), AllocError> {
     assert!(rt; gate.met());
     assert_eq!(rt; reply.labels, 4);
     assert!(rt; reply.first_plans >= 3);
+    Ok(())
+}
+
+/// Options, programs, queries and replies of commands of which one worker is held.
+const HELD: &str = r"
+--workers=16,--budget,10 => p :- -> p. => p => 3 / budget
+--workers=16 => LISTS => nrev([1,2,3,4,5,6,7,8,9,10,11,12,13,14,15,16,17,18,19,20,21,22,23,24,25,26,27,28,29,30],R) => 0 / answer 1 / R = [30,29,28,27,26,25,24,23,22,21,20,19,18,17,16,15,14,13,12,11,10,9,8,7,6,5,4,3,2,1] / done
+--workers=16 => MERGE => merge([a],[b],Z) => 0 / answer 1 / Z = [a,b] / done or 0 / answer 1 / Z = [b,a] / done
+";
+
+/// For how many turns of waiting a worker is held at most. A turn gives way to all else that the machine runs.
+const HELD_TURNS: u64 = 1000;
+
+/// Which worker is held, and for how many plans of others.
+const HOLDS: [(u32, u64); 6] = [(1, 1), (1, 10), (1, 100), (16, 1), (16, 10), (16, 100)];
+
+// A line's command while a worker is held.
+fn run_held<R: Threads + Wait + Sync + Abort>(
+    rt: &R,
+    alloc: Global,
+    line: &str,
+    hold: (u32, u64),
+) -> Result<(), AllocError> {
+    let case = case_of(line);
+    let (worker, others) = hold;
+    let words = words_for(alloc, &case)?;
+    let gate = HoldGate::new(worker, others, HELD_TURNS);
+    let reply = command_at(rt, alloc, &words, case.program, &gate)?;
+    assert!(rt;
+        is_one_of(&reply.text, case.wanted),
+        "{line}: {}",
+        reply.text
+    );
+    // All labels of a budget are made.
+    assert!(rt; reply.status != 3 || reply.labels == 10);
+    Ok(())
+}
+
+// The same for each worker that is held.
+fn run_with_each_held<R: Threads + Wait + Sync + Abort>(
+    rt: &R,
+    alloc: Global,
+    line: &str,
+) -> Result<(), AllocError> {
+    for hold in HOLDS {
+        run_held(rt, alloc, line, hold)?;
+    }
+    Ok(())
+}
+
+#[test]
+fn a_run_goes_on_while_a_worker_is_held(rt: HostRuntime) -> Result<(), AllocError> {
+    for line in HELD.lines().skip(1) {
+        run_with_each_held(&rt, rt.alloc(), line)?;
+    }
     Ok(())
 }

@@ -12,13 +12,13 @@ use Rattle.std.specs.declared.cmp.Ordering.{Ordering}
 use Rattle.std.specs.declared.ops.Bound.{Bound}
 use Rattle.std.specs.declared.ops.Bound.TheVariants.{Included, Unbounded}
 use Rattle.akl_terms.specs.declared.name.Name.{Name}
-use Rattle.akl_terms.specs.Names.{same_name, name_cmp, is_before}
+use Rattle.akl_terms.specs.Names.{same_name, name_cmp}
 use Rattle.akl_terms.proofs.SameNames.{same_name-equal}
 use Rattle.local_store.proofs.Orders.{name-same}
 use Rattle.wake_lists.proofs.Keys.{name_back}
 use Rattle.scheduler.specs.declared.splits.Split.{Split}
 use Rattle.scheduler.specs.contracts.splits.SplitOrd.TheImpl as in_order
-use Rattle.scheduler.specs.Splits.{same_split, is_kept, has_kept, IsFirstIn}
+use Rattle.scheduler.specs.Splits.{same_split, is_kept, has_kept, first_of}
 use Rattle.scheduler.proofs.CommitFacts.{not_both, or_true, or_left, or_right}
 
 then_is : (a b : Ordering) → is_eq (ordering_then a b) ≡ (is_eq a && is_eq b)
@@ -90,25 +90,17 @@ module _ (ss us : BTreeSet Split) (r : Split) where
       on false true = refl
       on false false = refl
 
-then_gt : (a b : Ordering) → is_gt (ordering_then a b) ≡ false → is_gt a ≡ false
+pub then_gt : (a b : Ordering) → is_gt (ordering_then a b) ≡ false → is_gt a ≡ false
 then_gt Ordering.Less b e = refl
 then_gt Ordering.Equal b e = refl
 then_gt Ordering.Greater b e = e
-
-then_same : (a b : Ordering) → is_eq a ≡ true → is_gt (ordering_then a b) ≡ false → is_gt b ≡ false
-then_same Ordering.Less b e f = cc
-then_same Ordering.Equal b e f = f
-then_same Ordering.Greater b e f = cc
-
-not_before : (m n : Name) → is_gt (name_cmp m n) ≡ false → is_before n m ≡ false
-not_before m n e = grind (arith, nat_tests)
 
 same_first : (m n : Name) → is_gt (name_cmp m n) ≡ false → is_gt (name_cmp n m) ≡ false → same_name m n ≡ true
 same_first m n e f = grind (arith, nat_tests)
 
 -- from the first place in a box on
 abbrev pub from_box : Name → Bound Split
-from_box n = Included (record { name = n; goal = record { worker = 0; number = 0 } })
+from_box n = Included (first_of n)
 
 box_has : (s : Split) → IsFromStart in_order.cmp-value.it (from_box s.name) s
 box_has s = grind (arith, nat_tests)
@@ -139,7 +131,7 @@ module _ (ss : BTreeSet Split) (n : Name) (r : List Split) (part : IsKeyRangeOf 
     comes_first : (s : Split) → s.name ≡ n → is_kept s ss.keys ≡ true → is_gt (name_cmp x.name n) ≡ false
     comes_first s e f = ap (λ (m : Name). is_gt (name_cmp x.name m)) (sym e) ∙ then_gt (name_cmp x.name s.name) (name_cmp x.goal s.goal) (least s e f)
 
-    first_from : same_name x.name n ≡ has_kept n ss.keys
+    pub first_from : same_name x.name n ≡ has_kept n ss.keys
     first_from = on (same_name x.name n) refl (has_kept n ss.keys) refl
       where
         on : (a : Bool) → same_name x.name n ≡ a → (b : Bool) → has_kept n ss.keys ≡ b → a ≡ b
@@ -149,19 +141,3 @@ module _ (ss : BTreeSet Split) (n : Name) (r : List Split) (part : IsKeyRangeOf 
         on false e true f =
             let w : (s : Split) × (s.name ≡ n) × (is_kept s ss.keys ≡ true) = has_one n ss.keys f in
             absurd (not_both (same_first x.name n (comes_first w.0 w.1 w.2) from) e)
-
-    pub first_in : same_name x.name n ≡ true → IsFirstIn n ss.keys (Some x.goal)
-    first_in e =
-        let named : x.name ≡ n = same_name-equal x.name n e in
-        let kept : is_kept x ss.keys ≡ true = sym (has_is ss x) ∙ first_there.1 in (
-          subst (λ (m : Name). is_kept (record { name = m; goal = x.goal }) ss.keys ≡ true) named kept,
-          λ h k. not_before x.goal h (then_same (name_cmp x.name n) (name_cmp x.goal h) (name-same x.name n ∙ e) (least (record { name = n; goal = h }) refl k)),
-        )
-
-    pub none_in : same_name x.name n ≡ false → IsFirstIn n ss.keys None
-    none_in e = sym first_from ∙ e
-
--- the first one that is kept of a box tells whether one is
-pub first_has : (n : Name) (ss : List Split) (o : Option Name) → IsFirstIn n ss o → is_some o ≡ has_kept n ss
-first_has n ss None f = sym f
-first_has n ss (Some g) f = sym (kept_has (record { name = n; goal = g }) ss f.0)

@@ -6,6 +6,7 @@ pub mod CommitFacts
 pub mod OpenAfter
 pub mod KeptAfter
 pub mod KeptSplits
+pub mod Oldest
 pub mod SplitRows
 pub mod SplitsAfter
 pub mod SplitsKept

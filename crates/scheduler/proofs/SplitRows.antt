@@ -3,8 +3,6 @@ use Rattle.std.proofs.Common.{◌≡◌, ◌≤◌, List, [], ◌∷◌, true, f
 use Rattle.std.specs.Prelude.{is_some}
 use Rattle.akl_terms.specs.declared.name.Name.{Name}
 use Rattle.akl_terms.specs.declared.name.Place.{Place}
-use Rattle.akl_terms.specs.Names.{is_before}
-use Rattle.akl_model.specs.Ordered.{IsBeforeAll, IsIncreasing}
 use Rattle.akl_model.specs.Config.{IsIn, or_else, Config, Held, held_in, Found, box_at, home_of}
 use Rattle.akl_model.specs.Wakes.{names_around, StandsIn, IsThere}
 use Rattle.akl_model.proofs.Finds.{times}
@@ -23,6 +21,7 @@ use Rattle.table_laws.proofs.Frame.{found_of}
 use Rattle.table_laws.proofs.Insides.{goal_row, directly, held_directly}
 use Rattle.box_tree.specs.Tables.{goals_in}
 use Rattle.box_tree.specs.Insides.{candidate_at, candidate_among, candidate_in}
+use Rattle.box_tree.proofs.FirstCandidates.{some_among}
 use Rattle.opened_places.proofs.AtRows.{row_home, row_of_goal}
 use Rattle.scheduler.specs.declared.splits.Split.{Split}
 use Rattle.scheduler.specs.Splits.{split_by, split_at}
@@ -30,13 +29,11 @@ use Rattle.scheduler.proofs.CommitFacts.{not_both}
 
 -- one of some goals has a candidate
 among_one : (T : Table) (gs : List Name) → is_some (candidate_among T gs) ≡ true → (g : Name) × IsIn g gs × (is_some (candidate_at T (T.goal_of g)) ≡ true)
-among_one T [] e = cc
-among_one T (h ∷ hs) e = on (candidate_at T (T.goal_of h)) refl e (among_one T hs)
+among_one T gs e = on (candidate_among T gs) refl e
   where
-    on : (o : Option Name) → candidate_at T (T.goal_of h) ≡ o → is_some (or_else o (candidate_among T hs)) ≡ true → (is_some (candidate_among T hs) ≡ true → (g : Name) × IsIn g hs × (is_some (candidate_at T (T.goal_of g)) ≡ true))
-        → (g : Name) × IsIn g (h ∷ hs) × (is_some (candidate_at T (T.goal_of g)) ≡ true)
-    on None i j k = let w : (g : Name) × IsIn g hs × (is_some (candidate_at T (T.goal_of g)) ≡ true) = k j in (w.0, inr w.1, w.2)
-    on (Some a) i j k = (h, inl refl, ap is_some i)
+    on : (o : Option Name) → candidate_among T gs ≡ o → is_some o ≡ true → (g : Name) × IsIn g gs × (is_some (candidate_at T (T.goal_of g)) ≡ true)
+    on None i f = cc
+    on (Some a) i f = let w : (g : Name) × IsIn g gs × (candidate_at T (T.goal_of g) ≡ Some a) = some_among T gs a i in (w.0, w.1, ap is_some w.2)
 
 one_among : (T : Table) (gs : List Name) (g : Name) → IsIn g gs → is_some (candidate_at T (T.goal_of g)) ≡ true → is_some (candidate_among T gs) ≡ true
 one_among T [] g i e = absurd i
@@ -46,24 +43,6 @@ one_among T (h ∷ hs) g i e = on (candidate_at T (T.goal_of h)) refl i (λ j. o
     on (Some a) q j k = refl
     on None q (inl r) k = absurd (not_both e (ap (λ (n : Name). is_some (candidate_at T (T.goal_of n))) r ∙ ap is_some q))
     on None q (inr j) k = k j
-
--- of goals in increasing order one comes before those behind it
-before_each : (g h : Name) (hs : List Name) → IsBeforeAll g hs → IsIn h hs → is_before g h ≡ true
-before_each g h [] b i = absurd i
-before_each g h (k ∷ ks) b (inl e) = ap (is_before g) e ∙ b.0
-before_each g h (k ∷ ks) b (inr i) = before_each g h ks b.1 i
-
--- so the one that has a candidate and before which no other comes that has is the first that has
-pub among_first : (T : Table) (gs : List Name) (g : Name) → IsIncreasing gs → IsIn g gs → is_some (candidate_at T (T.goal_of g)) ≡ true
-    → ((h : Name) → IsIn h gs → is_some (candidate_at T (T.goal_of h)) ≡ true → is_before h g ≡ false) → candidate_among T gs ≡ candidate_at T (T.goal_of g)
-among_first T [] g o i e f = absurd i
-among_first T (h ∷ hs) g o i e f = on (candidate_at T (T.goal_of h)) refl i (λ j. among_first T hs g o.1 j e (λ k r. f k (inr r)))
-  where
-    on : (a : Option Name) → candidate_at T (T.goal_of h) ≡ a → IsIn g (h ∷ hs) → (IsIn g hs → candidate_among T hs ≡ candidate_at T (T.goal_of g)) → or_else a (candidate_among T hs) ≡ candidate_at T (T.goal_of g)
-    on None q (inl r) k = absurd (not_both e (ap (λ (n : Name). is_some (candidate_at T (T.goal_of n))) r ∙ ap is_some q))
-    on None q (inr j) k = k j
-    on (Some a) q (inl r) k = sym q ∙ ap (λ (n : Name). candidate_at T (T.goal_of n)) (sym r)
-    on (Some a) q (inr j) k = absurd (not_both (before_each h g hs o.0 j) (f h (inl refl) (ap is_some q)))
 
 -- a choice by which its box could be split: it has a row there, and a candidate
 pub record IsSplitRow (T : Table) (s : Split) : Type 0 where

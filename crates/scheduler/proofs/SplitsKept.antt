@@ -31,14 +31,14 @@ use Rattle.scheduler.specs.Nearest.{is_used}
 use Rattle.scheduler.specs.Openings.{IsOpenAt, AreApart, AreStandingIn}
 use Rattle.scheduler.specs.Schedulers.{SchedulerValue, IsScheduler, HasGone}
 use Rattle.scheduler.specs.Settled.{Settles}
-use Rattle.scheduler.specs.Splits.{is_kept, has_kept, split_at, KeepsPlace, AreSplitsOf, KeepsSplits, IsFirstIn, AreEnough}
+use Rattle.scheduler.specs.Splits.{is_kept, has_kept, split_at, KeepsPlace, AreSplitsOf, KeepsSplits, IsOldestIn, IsOldestCandidate, AreEnough}
 use Rattle.scheduler.proofs.CommitFacts.{not_both, not_true}
 use Rattle.scheduler.proofs.KeptSplits.{kept_has, has_one}
 use Rattle.scheduler.proofs.OpeningLists.{out_at}
 use Rattle.scheduler.proofs.OpenedMore.{none_of, its_open}
 use Rattle.scheduler.proofs.OpenPlaces.{others, others_listed}
 use Rattle.scheduler.proofs.SettleAfter.{some_busy}
-use Rattle.scheduler.proofs.SplitRows.{among_first, split_row, split_in, goal_split, box_split, split_directly, split_box}
+use Rattle.scheduler.proofs.SplitRows.{split_row, split_in, goal_split, box_split, split_directly, split_box}
 use Rattle.scheduler.proofs.SplitsAfter.{still_splits, kept_with, its_kept, closes_one}
 use Rattle.scheduler.proofs.Untimed.{untimed_open}
 use lib.Dec.{eqb}
@@ -113,25 +113,30 @@ module _ (v : TableValue) (run : Run) (t : IsTableOf all_rules run (table_of v))
           let w : (s : Split) × (s.name ≡ n) × (is_kept s kept ≡ true) = has_one n kept f in
           absurd (not_both (ap (λ (m : Name). is_some (candidate_in (table_of v) m)) (sym w.1) ∙ split_box (table_of v) t.config t.unfolds its_once w.0 (only w.0 w.2)) e)
 
-  increasing : (r : BoxRow) → (table_of v).box_of n ≡ Some r → IsIncreasing r.goals
-  increasing r e =
-      let w : (f : Found) × (box_at n t.config.roots ≡ Some f) × IsBoxRow (table_of v) t.config.roots f r = found_of (table_of v) t.config t.unfolds n r e in
-      let o : BoxesOrdered t.config.roots = replay_ordered all_rules run.program run.query run.journal t.config t.replays in
-      subst IsIncreasing (sym w.2.goals) (names_increase w.0.goals (stood_ordered w.0.around w.0.content w.0.goals t.config.roots (found_in n t.config.roots w.0 w.1) o))
+  -- it could be split by the oldest of them
+  by_oldest : (g : Name) → IsOldestIn v n kept (Some g) → IsOldestCandidate v n (candidate_at (table_of v) ((table_of v).goal_of g))
+  by_oldest g f = on (candidate_at (table_of v) ((table_of v).goal_of g)) refl
+    where
+      s : Split
+      s = record { name = n; goal = g }
 
-  -- it could be split by the first of them
-  first_is : (g : Name) → IsFirstIn n kept (Some g) → candidate_in (table_of v) n ≡ candidate_at (table_of v) ((table_of v).goal_of g)
-  first_is g f =
-      let s : Split = record { name = n; goal = g } in
-      let e : split_at (table_of v) (Place.Goal g) ≡ Some s = only s f.0 in
-      let d : IsDirectlyIn (table_of v) n g = split_directly (table_of v) t.config t.unfolds its_once s e in
-      ap (λ (o : Option BoxRow). candidate_among (table_of v) (goals_in o)) d.there
-      ∙ among_first (table_of v) d.row.goals g (increasing d.row d.there) d.named (split_row (table_of v) s e).candidate
-      (λ h i c. f.1 h (all (record { name = n; goal = h }) refl (goal_split (table_of v) t.config t.unfolds its_once n h d.row d.there i c)))
+      e : split_at (table_of v) (Place.Goal g) ≡ Some s
+      e = only s f.0
 
-  pub first_splits : (o : Option Name) → IsFirstIn n kept o → candidate_in (table_of v) n ≡ candidate_by (table_of v) o
-  first_splits None f = none_of (candidate_in (table_of v) n) (box_enough ∙ f)
-  first_splits (Some g) f = first_is g f
+      d : IsDirectlyIn (table_of v) n g
+      d = split_directly (table_of v) t.config t.unfolds its_once s e
+
+      named : (h : Name) → IsIn h (goals_in ((table_of v).box_of n)) → IsIn h d.row.goals
+      named h i = subst (λ (o : Option BoxRow). IsIn h (goals_in o)) d.there i
+
+      on : (o : Option Name) → candidate_at (table_of v) ((table_of v).goal_of g) ≡ o → IsOldestCandidate v n o
+      on None i = absurd (not_both (split_row (table_of v) s e).candidate (ap is_some i))
+      on (Some a) i = (g, subst (λ (o : Option BoxRow). IsIn g (goals_in o)) (sym d.there) d.named, i,
+        λ h j c. f.1 h (all (record { name = n; goal = h }) refl (goal_split (table_of v) t.config t.unfolds its_once n h d.row d.there (named h j) c)))
+
+  pub oldest_splits : (o : Option Name) → IsOldestIn v n kept o → IsOldestCandidate v n (candidate_by (table_of v) o)
+  oldest_splits None f = none_of (candidate_in (table_of v) n) (box_enough ∙ f)
+  oldest_splits (Some g) f = by_oldest g f
 
 -- a scheduler keeps all of a box in which nothing is open
 module _ (s : SchedulerValue) (kept : List Split) (h : KeepsSplits s kept) (n : Name) (b : is_busy n s.openings ≡ false) where
@@ -149,8 +154,8 @@ module _ (s : SchedulerValue) (kept : List Split) (h : KeepsSplits s kept) (n : 
   pub quiet_enough : is_some (candidate_in (table_of s.core.table) n) ≡ has_kept n kept
   quiet_enough = box_enough s.core.table (run_by s.core) h.scheduler.core.table kept h.splits.only n all_kept
 
-  pub quiet_splits : (o : Option Name) → IsFirstIn n kept o → candidate_in (table_of s.core.table) n ≡ candidate_by (table_of s.core.table) o
-  quiet_splits = first_splits s.core.table (run_by s.core) h.scheduler.core.table kept h.splits.only n all_kept
+  pub quiet_splits : (o : Option Name) → IsOldestIn s.core.table n kept o → IsOldestCandidate s.core.table n (candidate_by (table_of s.core.table) o)
+  quiet_splits = oldest_splits s.core.table (run_by s.core) h.scheduler.core.table kept h.splits.only n all_kept
 
 -- of a box in which nothing is open but one place, all are kept
 module _ (v : TableValue) (run : Run) (t : IsTableOf all_rules run (table_of v)) (os : Openings) (apart : AreApart os) (standing : AreStandingIn t.config os) (place : Place) (own : ℕ) (token : IsOpen os place (Some own))

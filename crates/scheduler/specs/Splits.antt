@@ -1,14 +1,15 @@
 -- The choices by which boxes could be split, as they are kept.
-use Rattle.std.specs.Prelude.{◌≡◌, ℕ, List, [], ◌∷◌, ◌++◌, Bool, true, false, ◌&&◌, ◌||◌, not, Option, Some, None, is_some, ◌⊎◌}
+use Rattle.std.specs.Prelude.{◌≡◌, ℕ, List, [], ◌∷◌, ◌++◌, Bool, true, false, ◌&&◌, ◌||◌, not, if◌then◌else◌, Option, Some, None, is_some, ◌⊎◌}
 use Rattle.std.specs.List.{list_any}
 use Rattle.akl_terms.specs.declared.name.Name.{Name}
 use Rattle.akl_terms.specs.declared.name.Place.{Place}
-use Rattle.akl_terms.specs.Names.{same_name, is_before}
+use Rattle.akl_terms.specs.Names.{same_name}
+use Rattle.akl_model.specs.Config.{IsIn}
 use Rattle.wake_lists.specs.Open.{Openings}
 use Rattle.table_laws.specs.Rows.{Table}
 use Rattle.table_laws.specs.Writes.{home_in}
-use Rattle.box_tree.specs.Tables.{TableValue, table_of}
-use Rattle.box_tree.specs.Insides.{candidate_at, candidate_in}
+use Rattle.box_tree.specs.Tables.{TableValue, table_of, goals_in}
+use Rattle.box_tree.specs.Insides.{candidate_at, candidate_in, is_older}
 use Rattle.scheduler.specs.declared.splits.Split.{Split}
 use Rattle.scheduler.specs.Openings.{IsOpenAt}
 use Rattle.scheduler.specs.Nearest.{is_used}
@@ -25,10 +26,25 @@ is_kept s ss = list_any (same_split s) ss
 abbrev pub has_kept : Name → List Split → Bool
 has_kept n ss = list_any (λ (s : Split). same_name n s.name) ss
 
--- the goal of the first of these that is directly in a box, by the order of names; `None` where there is none
-abbrev pub IsFirstIn : Name → List Split → Option Name → Type 0
-IsFirstIn n kept None = has_kept n kept ≡ false
-IsFirstIn n kept (Some g) = (is_kept (record { name = n; goal = g }) kept ≡ true) × ((h : Name) → is_kept (record { name = n; goal = h }) kept ≡ true → is_before h g ≡ false)
+-- what comes before all choices of a box, or is the first of them
+abbrev pub first_of : Name → Split
+first_of n = record { name = n; goal = record { worker = 0; number = 0 } }
+
+-- the older of two choices, where there is a first one
+abbrev pub older : TableValue → Option Name → Name → Name
+older t None g = g
+older t (Some o) g = if is_older t g o then g else o
+
+-- the goal of the oldest of these that is directly in a box; `None` where there is none
+abbrev pub IsOldestIn : TableValue → Name → List Split → Option Name → Type 0
+IsOldestIn t n kept None = has_kept n kept ≡ false
+IsOldestIn t n kept (Some g) = (is_kept (record { name = n; goal = g }) kept ≡ true) × ((h : Name) → is_kept (record { name = n; goal = h }) kept ≡ true → is_older t h g ≡ false)
+
+-- a box could be split at this alternative by the oldest of its goals that is such a choice; none where no goal of it is one
+abbrev pub IsOldestCandidate : TableValue → Name → Option Name → Type 0
+IsOldestCandidate t n None = candidate_in (table_of t) n ≡ None
+IsOldestCandidate t n (Some a) = (g : Name) × IsIn g (goals_in ((table_of t).box_of n)) × (candidate_at (table_of t) ((table_of t).goal_of g) ≡ Some a)
+    × ((h : Name) → IsIn h (goals_in ((table_of t).box_of n)) → is_some (candidate_at (table_of t) ((table_of t).goal_of h)) ≡ true → is_older t h g ≡ false)
 
 -- a choice with its box, where it has a candidate
 abbrev pub split_by : Name → Option Name → Option Name → Option Split

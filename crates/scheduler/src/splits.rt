@@ -4,7 +4,7 @@ ghost use Rattle.std.specs.Prelude.{◌≡◌, ◌||◌, ◌&&◌, ◌++◌, [],
 ghost use Rattle.akl_terms.specs.declared.name.Place.{Place};
 ghost use Rattle.box_tree.specs.Tables.{table_of};
 ghost use Rattle.opened_places.specs.Placed.{places_of};
-ghost use Rattle.scheduler.specs.Splits.{same_split, is_kept, has_kept, IsFirstIn, split_at, split_list, splits_at, KeepsPlace, DropsSplits, EndsThose};
+ghost use Rattle.scheduler.specs.Splits.{same_split, is_kept, has_kept, first_of, older, IsOldestIn, split_at, split_list, splits_at, KeepsPlace, DropsSplits, EndsThose};
 
 use akl_terms::{Name, Place};
 use box_tree::Table;
@@ -18,6 +18,19 @@ use std::marker::Model;
 pub(crate) struct Split {
     pub name: Name,
     pub goal: Name,
+}
+
+impl Split {
+    // What comes before all choices of a box, or is the first of them.
+    fn first_of(name: Name) -> Split
+        ensures { result ≡ first_of name }
+    {
+        let goal = Name {
+            worker: 0,
+            number: 0,
+        };
+        Split { name, goal }
+    }
 }
 
 /// Choices by which boxes could be split, as they are kept. Contracts see them as a list.
@@ -54,32 +67,28 @@ impl Splits {
         self.kept.is_empty()
     }
 
-    /// The goal of the first of those that are kept of this box.
-    pub(crate) fn first_in(&self, name: Name) -> Option<Name>
-        ensures { IsFirstIn name self.now result }
+    /// The oldest goal of those that are kept of this box. It takes as long as these are many.
+    pub(crate) fn oldest_in(&self, table: &Table, name: Name) -> Option<Name>
+        ensures { IsOldestIn table.now name self.now result }
     {
-        let least = Name {
-            worker: 0,
-            number: 0,
-        };
-        let from = Split { name, goal: least };
-        match self.kept.range(from..).next() {
-            Some(split) => {
-                if split.name == name {
-                    Some(split.goal)
-                } else {
-                    None
-                }
+        let mut oldest = None;
+        for split in self.kept.range(Split::first_of(name)..) {
+            if split.name != name {
+                return oldest;
             }
-            None => None,
+            oldest = Some(older(table, oldest, split.goal));
         }
+        oldest
     }
 
     /// Whether one of those that are kept is directly in this box.
     pub(crate) fn has_box(&self, name: Name) -> bool
         ensures { result ≡ has_kept name self.now }
     {
-        self.first_in(name).is_some()
+        match self.kept.range(Split::first_of(name)..).next() {
+            Some(split) => split.name == name,
+            None => false,
+        }
     }
 
     /// Keeps what stands at a place, where it is a choice by which its box could be split. An `Err`, for want of memory,
@@ -117,6 +126,16 @@ impl Splits {
         ensures { (s : _) → is_kept s self.new ≡ (is_kept s self.old && not (same_split s split)) }
     {
         self.kept.remove(&split);
+    }
+}
+
+// The older of two choices, where there is a first one.
+fn older(table: &Table, oldest: Option<Name>, goal: Name) -> Name
+    ensures { result ≡ older table.now oldest goal }
+{
+    match oldest {
+        Some(other) if !table.is_older(goal, other) => other,
+        _ => goal,
     }
 }
 

@@ -6,7 +6,7 @@ use Rattle.akl_terms.specs.declared.name.Place.{Place}
 use Rattle.akl_terms.specs.declared.program.Program.{Program}
 use Rattle.akl_model.specs.declared.label.Rule.{Rule}
 use Rattle.akl_model.specs.declared.label.Label.{Label}
-use Rattle.akl_model.specs.Config.{Config, Found, box_at, site_of}
+use Rattle.akl_model.specs.Config.{IsIn, Config, Found, box_at, site_of}
 use Rattle.akl_model.specs.Rules.{Reading, ChoiceIn, choice_with}
 use Rattle.akl_model.specs.Changes.{goal_names}
 use Rattle.akl_model.specs.Instances.{start}
@@ -20,11 +20,11 @@ use Rattle.table_laws.proofs.Gone.{goals_once}
 use Rattle.table_laws.proofs.RestBoxes.{EachGoal}
 use Rattle.box_tree.specs.Tables.{all_rules, table_of}
 use Rattle.box_tree.specs.Views.{ViewValue, IsViewOf}
-use Rattle.box_tree.specs.Insides.{candidate_among, candidate_in}
+use Rattle.box_tree.specs.Insides.{IsCandidateOf}
 use Rattle.guard_plan.proofs.Sites.{stand, found}
 use Rattle.split_plan.specs.Split.{HasNoSplit}
-use Rattle.box_tree.proofs.ShownChoices.{IsShown, shown as rows_shown, candidates as rows_candidates}
-use Rattle.split_plan.proofs.Candidates.{IsPoint, is_point, no_point}
+use Rattle.box_tree.proofs.ShownChoices.{IsShown, shown as rows_shown, goals_named as rows_named}
+use Rattle.split_plan.proofs.Candidates.{IsPoint, is_point}
 
 -- where Split may be used
 allowed_at : (p : Program) (u : Reading) (n : Name) (alternative : Option Name) (f : Found) → Allows p u Rule.Split (Place.Box n) alternative f
@@ -66,13 +66,8 @@ module _ (v : ViewValue) (i : IsViewOf v) (n : Name) (p : v.place ≡ Place.Box 
   shown : EachGoal (IsShown (table_of v.table)) i.site.goals
   shown = rows_shown v.table i.table.config i.table.unfolds (stand v i).once n i.site there
 
-  candidates : candidate_in (table_of v.table) n ≡ candidate_among (table_of v.table) (goal_names i.site.goals)
-  candidates = rows_candidates v.table i.table.config i.table.unfolds (stand v i).once n i.site there
-
-  -- the candidate is a point, and without one Split doesn't apply
-  pub candidate_point : (a : Name) → candidate_in (table_of v.table) n ≡ Some a → IsPoint a i.site.goals
-  candidate_point a e = is_point (table_of v.table) a i.site.goals shown
-      (goals_once i.table.config.roots (stand v i).once i.site (found_in i.site.content.name i.table.config.roots i.site (found v i)) a) (sym candidates ∙ e)
-
-  pub no_candidate : candidate_in (table_of v.table) n ≡ None → HasNoSplit v
-  no_candidate e = no_split (λ a s x. no_point (table_of v.table) a i.site.goals shown (sym candidates ∙ e) x)
+  -- a candidate is a point
+  pub candidate_point : (a : Name) → IsCandidateOf (table_of v.table) n (Some a) → IsPoint a i.site.goals
+  candidate_point a k = is_point (table_of v.table) a i.site.goals shown
+      (goals_once i.table.config.roots (stand v i).once i.site (found_in i.site.content.name i.table.config.roots i.site (found v i)) a)
+      k.0 (subst (IsIn k.0) (rows_named v.table i.table.config i.table.unfolds (stand v i).once n i.site there) k.1) k.2

@@ -1,16 +1,16 @@
--- The alternative that rows show as a candidate is the one at which a stable box may be split, and where there is none the box may not.
+-- An alternative that rows show as a candidate is one at which a stable box may be split.
 use Rattle.std.proofs.Common.{◌≡◌, ℕ, ◌+◌, ◌≤◌, ◌<◌, ◌∷◌, length, Bool, true, false, Option, Some, None, refl, sym, ◌∙◌, ap, subst, inl, inr, arith}
 use Rattle.std.proofs.lemmas.Bool.{lt-ltb, ltb-true}
 use Rattle.std.specs.Prelude.{if◌then◌else◌, nat_lt}
 use Rattle.akl_terms.specs.declared.name.Name.{Name}
 use Rattle.akl_terms.specs.Names.{same_name}
 use Rattle.akl_terms.proofs.SameNames.{same_name-equal}
-use Rattle.akl_model.specs.Config.{IsIn, or_else, Operator, Atom, Boxes, no_boxes, box, Goals, no_goals, atom, choice, an_atom, a_choice}
+use Rattle.akl_model.specs.Config.{IsIn, Operator, Atom, Boxes, no_boxes, box, Goals, no_goals, atom, choice, an_atom, a_choice}
 use Rattle.akl_model.specs.Rules.{count_of, has_box, ChoiceIn, choice_with}
 use Rattle.akl_model.specs.Stable.{first_solved}
 use Rattle.akl_model.specs.Names.{one_if, times_in}
 use Rattle.akl_model.specs.Changes.{of_choice, box_names, goal_names}
-use Rattle.akl_model.proofs.Options.{some_value, or_none, or_some}
+use Rattle.akl_model.proofs.Options.{some_value, or_none}
 use Rattle.akl_model.proofs.Finds.{times, times_inside}
 use Rattle.akl_model.proofs.ScopesAlong.{counted_in}
 use Rattle.step_laws.proofs.Holders.{names_less}
@@ -104,40 +104,17 @@ module _ (T : Table) (a : Name) where
           let z : one_if (same_name a g) + (times a bs + times_inside a gs) ≤ 1 = once in
           absurd (omega (arith, x, y, z))
 
-  point_in : (gs : Goals) → EachGoal (IsShown T) gs → times_inside a gs ≤ 1 → candidate_among T (goal_names gs) ≡ Some a → IsPointIn gs
-  point_in no_goals rows once e = cc
-  point_in (atom g x gs) rows once e = past_atom g gs x (point_in gs rows.1 (omega arith) (subst (λ (o : Option Name). or_else o (candidate_among T (goal_names gs)) ≡ Some a) (candidate_is T g (an_atom x) rows.0) e))
-  point_in (choice g o bs gs) rows once e = elim (or_some (candidate_of T (of_choice o (box_names bs))) (candidate_among T (goal_names gs)) a
-      (subst (λ (x : Option Name). or_else x (candidate_among T (goal_names gs)) ≡ Some a) (candidate_is T g (a_choice o bs) rows.0) e)) [
-        | inl x ↦ let w : (o ≡ Operator.nondeterminate) × (first_solved bs ≡ Some a) × (1 < count_of bs) = here o bs rows.0.3 x in at_choice g o bs gs w.0 w.1 w.2
-        | inr x ↦ past_choice g o bs gs once (point_in gs rows.1 (let z : one_if (same_name a g) + (times a bs + times_inside a gs) ≤ 1 = once in omega arith) x.1)
-      ]
+  point_in : (gs : Goals) → EachGoal (IsShown T) gs → times_inside a gs ≤ 1 → (g : Name) → IsIn g (goal_names gs) → candidate_at T (T.goal_of g) ≡ Some a → IsPointIn gs
+  point_in no_goals rows once g i e = absurd i
+  point_in (atom h x gs) rows once g (inl r) e = absurd (not_some (sym (candidate_is T h (an_atom x) rows.0) ∙ ap (λ (n : Name). candidate_at T (T.goal_of n)) (sym r) ∙ e))
+  point_in (atom h x gs) rows once g (inr i) e = past_atom h gs x (point_in gs rows.1 (omega arith) g i e)
+  point_in (choice h o bs gs) rows once g (inl r) e =
+      let w : (o ≡ Operator.nondeterminate) × (first_solved bs ≡ Some a) × (1 < count_of bs) =
+      here o bs rows.0.3 (sym (candidate_is T h (a_choice o bs) rows.0) ∙ ap (λ (n : Name). candidate_at T (T.goal_of n)) (sym r) ∙ e) in
+      at_choice h o bs gs w.0 w.1 w.2
+  point_in (choice h o bs gs) rows once g (inr i) e =
+      past_choice h o bs gs once (point_in gs rows.1 (let z : one_if (same_name a h) + (times a bs + times_inside a gs) ≤ 1 = once in omega arith) g i e)
 
-  pub is_point : (gs : Goals) → EachGoal (IsShown T) gs → times_inside a gs ≤ 1 → candidate_among T (goal_names gs) ≡ Some a → IsPoint a gs
-  is_point gs rows once e = (point_in gs rows once e).point
-
-  -- where there is a point, rows show a candidate
-  pub no_point : (gs : Goals) → EachGoal (IsShown T) gs → candidate_among T (goal_names gs) ≡ None → IsPoint a gs → ⊥
-  no_point no_goals rows e p = let k : None ≡ Some p.among = p.is_choice in cc
-  no_point (atom g x gs) rows e p = no_point gs rows.1 (or_none (candidate_at T (T.goal_of g)) (candidate_among T (goal_names gs)) e).1
-      (record { among = p.among; is_choice = p.is_choice; op = p.op; first = p.first; others = p.others })
-  no_point (choice g o bs gs) rows e p = on (has_box a bs) p.is_choice (λ k. no_point gs rows.1 none.1 (record { among = p.among; is_choice = k; op = p.op; first = p.first; others = p.others }))
-    where
-      none : (candidate_at T (T.goal_of g) ≡ None) × (candidate_among T (goal_names gs) ≡ None)
-      none = or_none (candidate_at T (T.goal_of g)) (candidate_among T (goal_names gs)) e
-
-      at : (r : Operator) → r ≡ Operator.nondeterminate → candidate_of T (of_choice r (box_names bs)) ≡ None → first_solved bs ≡ Some a → 1 < count_of bs → ⊥
-      at Operator.condition q x f l = cc
-      at Operator.commit q x f l = cc
-      at (Operator.collecting t) q x f l = cc
-      at Operator.nondeterminate q x f l =
-          let t : nat_lt 1 (length (box_names bs)) ≡ true = lt-ltb 1 (length (box_names bs)) (subst (λ (n : ℕ). 1 < n) (sym (counted bs)) l) in
-          let y : first_solved_in T (box_names bs) ≡ None = subst (λ (b : Bool). (if b then first_solved_in T (box_names bs) else None) ≡ None) t x in
-          not_some (sym y ∙ first_alike T bs rows.0.3 ∙ f)
-
-      on : (t : Bool) → (if t then Some (record { name = g; op = o; alternatives = bs }) else choice_with a gs) ≡ Some p.among → (choice_with a gs ≡ Some p.among → ⊥) → ⊥
-      on true k f =
-          let q : record { name = g; op = o; alternatives = bs } ≡ p.among = some_value k in
-          at o (ap (λ (u : ChoiceIn). u.op) q ∙ p.op) (sym (candidate_is T g (a_choice o bs) rows.0) ∙ none.0) (ap (λ (u : ChoiceIn). first_solved u.alternatives) q ∙ p.first)
-          (subst (λ (m : ℕ). 1 < m) (sym (ap (λ (u : ChoiceIn). count_of u.alternatives) q)) p.others)
-      on false k f = f k
+  -- of any goal that is such a choice
+  pub is_point : (gs : Goals) → EachGoal (IsShown T) gs → times_inside a gs ≤ 1 → (g : Name) → IsIn g (goal_names gs) → candidate_at T (T.goal_of g) ≡ Some a → IsPoint a gs
+  is_point gs rows once g i e = (point_in gs rows once g i e).point

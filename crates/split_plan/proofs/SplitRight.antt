@@ -21,7 +21,7 @@ use Rattle.box_tree.specs.declared.step.Step.{Step}
 use Rattle.box_tree.specs.declared.inside.Inside.{Inside}
 use Rattle.box_tree.specs.Tables.{all_rules, table_of}
 use Rattle.box_tree.specs.Views.{ViewValue, IsViewOf, run_of}
-use Rattle.box_tree.specs.Insides.{IsInsideOf, candidate_in}
+use Rattle.box_tree.specs.Insides.{IsInsideOf, IsCandidateOf}
 use Rattle.box_tree.specs.Plans.{IsRead, IsRight}
 use Rattle.box_tree.proofs.BoundHere.{kept_bound}
 use Rattle.guard_plan.proofs.Sites.{stand}
@@ -85,7 +85,7 @@ pub split_planned : (v : ViewValue) (i : IsViewOf v) (a : Name) (k : IsCandidate
     → (around : List Name) → around ≡ names_around i.site
     → IsRight (record { table = v.table; journal = v.journal; label = split_label v a; reads = map Item.Store around ++ items_in inside.boxes.items; names = c.names; step = Step.Split c.copy c.copies; binds = [] })
 split_planned v i a k inside h stable c x few around is_around =
-    split_right v i h.name a h.place (candidate_point v i h.name h.place a (subst (λ (m : Name). candidate_in (table_of v.table) m ≡ Some a) same k.candidate)) stable c x few inside h.inside around is_around
+    split_right v i h.name a h.place (candidate_point v i h.name h.place a (subst (λ (m : Name). IsCandidateOf (table_of v.table) m (Some a)) same k.candidate)) stable c x few inside h.inside around is_around
   where
     same : k.name ≡ h.name
     same = let e : Place.Box k.name ≡ Place.Box h.name = sym k.place ∙ h.place in cc

@@ -10,14 +10,14 @@ use Rattle.table_laws.specs.Stamped.{IsTableOf}
 use Rattle.box_tree.specs.Tables.{all_rules, table_of}
 use Rattle.box_tree.specs.Views.{ViewValue, run_of}
 use Rattle.box_tree.specs.Plans.{PlanValue}
-use Rattle.box_tree.specs.Insides.{candidate_in}
+use Rattle.box_tree.specs.Insides.{IsCandidateOf}
 use Rattle.guard_plan.specs.Planned.{IsPlanOf}
 
 -- the box that was looked at could be split at this alternative, if it is stable
 pub record IsCandidate (v : ViewValue) (a : Name) : Type 0 where
   pub name : Name
   pub place : v.place ≡ Place.Box name
-  pub candidate : candidate_in (table_of v.table) name ≡ Some a
+  pub candidate : IsCandidateOf (table_of v.table) name (Some a)
 
 -- Split doesn't apply at the place of a view, at any alternative and for any worker
 pub record HasNoSplit (v : ViewValue) : Type 0 where

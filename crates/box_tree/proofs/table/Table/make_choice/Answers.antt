@@ -16,7 +16,7 @@ returns c =
       | in-Some w ↦
           let old : GoalEntry = w.in-Some.entry.now in
           let is = sym c.get_mut.follows.claims.0 ∙ ap option_copied_mut w.in-Some.is in
-          let new : GoalEntry = record { home = old.home; held = Held.Choice c.args.op c.args.names; changed = c.args.number } in
+          let new : GoalEntry = record { home = old.home; held = Held.Choice c.args.op c.args.names old.changed; changed = c.args.number } in
           rw w.self-inside-is (rw (sym c.self.view_is) (writes_goal t (choice_row (op_held t.program.templates.nodes c.args.op) c.args.names.items c.args.number) c.args.goal c.self.inside.goals (c.get_mut.follows.lender new) old new refl is (((c.get_mut.follows.holds new).3 (is_some_if _ old is)).0) refl))
       | in_default w ↦
           let none = sym c.get_mut.follows.claims.0 ∙ ap option_copied_mut w.in_default.is in

@@ -1,7 +1,7 @@
 use Rattle.std.proofs.Common.{ap, Err, ◌∙◌}
 use Rattle.akl_run.proofs.Loading.{from_error}
 use Rattle.akl_run.proofs.Reading.{read_stops}
-use Rattle.akl_run.proofs.prepare.read.Goals as goal
+use Rattle.akl_run.proofs.prepare.read_program.Goals as goal
 
 pub returns-in_err-read_up_to-clause-stop : goal.returns-in_err-read_up_to-clause-stop
 returns-in_err-read_up_to-clause-stop g c =

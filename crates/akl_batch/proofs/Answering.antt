@@ -1,0 +1,99 @@
+-- The answer to one query.
+use Rattle.std.proofs.Common.{◌≡◌, ◌<◌, ◌≤◌, ℕ, List, [], ◌++◌, length, map, Option, Some, Bool, false, refl, sym, ap, ap₂, subst, ◌∙◌, ◌⊎◌, inl, inr}
+use Rattle.std.specs.Io.KnownBytes.{append_known}
+use Rattle.akl_terms.specs.declared.program.Program.{Program}
+use Rattle.akl_lexemes.specs.declared.error.SyntaxError.{SyntaxError}
+use Rattle.akl_lexemes.specs.declared.error.SyntaxError.TheVariants.{TooLong}
+use Rattle.akl_model.specs.declared.label.Label.{Label}
+use Rattle.akl_run.specs.declared.report.Status.{Status}
+use Rattle.akl_run.specs.declared.report.Refusal.{Refusal}
+use Rattle.akl_run.specs.declared.report.Report.{Report}
+use Rattle.akl_run.specs.declared.loaded.Loaded.{Loaded}
+use Rattle.akl_run.specs.declared.evaluate.Evaluated.{Evaluated}
+use Rattle.akl_run.specs.declared.stop.Stop.{Stop}
+use Rattle.akl_run.specs.Loads.{IsLoadedProgram, IsLoadedQuery, IsLoadedFrom, QueryStops, by_text, by_loading, no_memory}
+use Rattle.akl_run.specs.Text.{IsRunText}
+use Rattle.akl_run.specs.Reports.{IsStatusOf}
+use Rattle.akl_run.specs.Evaluations.{IsEvaluated}
+use Rattle.akl_run.specs.Commands.{side}
+use Rattle.akl_run.specs.Outputs.{Outlet}
+use Rattle.akl_run.specs.Written.{HasWritten}
+use Rattle.akl_run.specs.Stops.{IsStop}
+use Rattle.akl_run.specs.Steps.{IsWritten, EndsWriting, whole, fault, memory}
+use Rattle.akl_run.proofs.Evaluated.{run_by, of_loaded}
+use Rattle.akl_batch.specs.declared.page.Page.{Page}
+use Rattle.akl_batch.specs.declared.reply.Answer.{Answer}
+use Rattle.akl_batch.specs.Replies.{IsRefusedFor, too_long, unloaded, IsOwn, ran, refused, refused_text, IsAnswer}
+use Rattle.akl_batch.specs.Steps.{SaysWhy, IsTakenFrom, AnswersLoaded}
+
+-- ---- a query that is refused
+
+pub refused_answer : (program query : List ℕ) (budget : ℕ) (f : Refusal) (a : Answer) → IsRefusedFor program query f → SaysWhy f a → IsAnswer program query budget a
+refused_answer program query budget f a w h = refused (record {
+  status = h.status;
+  why = subst (IsRefusedFor program query) (sym h.refusal) w;
+  journal = h.journal;
+  is_text = h.is_text ∙ ap refused_text (sym h.refusal);
+})
+
+pub long_answer : (program query : List ℕ) (budget : ℕ) (e : SyntaxError) (a : Answer) → 10000 < length query → e ≡ TooLong (length query) → SaysWhy (Refusal.TextOf e) a → IsAnswer program query budget a
+long_answer program query budget e a long is h =
+    refused_answer program query budget (Refusal.TextOf e) a (subst (λ (d : SyntaxError). IsRefusedFor program query (Refusal.TextOf d)) (sym is) (too_long long)) h
+
+pub unloaded_answer : (program query : List ℕ) (budget : ℕ) (p : Program) (s : Status) (f : Refusal) (a : Answer) → length query ≤ 10000 → IsLoadedProgram program p → QueryStops p query s f → s ≡ Status.Query → SaysWhy f a → IsAnswer program query budget a
+unloaded_answer program query budget p s f a short l q is h = refused_answer program query budget f a (unloaded short l (subst (λ (t : Status). QueryStops p query t f) is q)) h
+
+is_stop : (stop : Stop) → stop.status ≡ Status.NoMemory → stop.refusal ≡ Refusal.Nothing → IsStop Status.NoMemory Refusal.Nothing stop
+is_stop stop i j = let make : Status → Refusal → Stop = λ s f. record { status = s; refusal = f } in ap₂ make i j
+
+query_or_memory : {p : Program} {query : List ℕ} {s : Status} {f : Refusal} → QueryStops p query s f → (s ≡ Status.Query) ⊎ ((s ≡ Status.NoMemory) × (f ≡ Refusal.Nothing))
+query_or_memory (by_text r) = inl refl
+query_or_memory (by_loading r e) = inl refl
+query_or_memory no_memory = inr (refl, refl)
+
+pub refused_or_memory : {p : Program} {query : List ℕ} (stop : Stop) → QueryStops p query stop.status stop.refusal → (stop.status ≡ Status.Query) ⊎ IsStop Status.NoMemory Refusal.Nothing stop
+refused_or_memory stop q = on (query_or_memory q)
+  where
+    on : (stop.status ≡ Status.Query) ⊎ ((stop.status ≡ Status.NoMemory) × (stop.refusal ≡ Refusal.Nothing)) → (stop.status ≡ Status.Query) ⊎ IsStop Status.NoMemory Refusal.Nothing stop
+    on (inl i) = inl i
+    on (inr m) = inr (is_stop stop m.0 m.1)
+
+pub memory_stays : {s : Status} {f : Refusal} (stop : Stop) → (stop.status ≡ Status.Query → ⊥) → (stop.status ≡ Status.Query) ⊎ IsStop Status.NoMemory Refusal.Nothing stop → IsStop Status.NoMemory Refusal.Nothing stop
+memory_stays stop n (inl i) = absurd (n i)
+memory_stays stop n (inr i) = i
+
+-- ---- a query that was run
+
+some_same : {X : Type 0} {x y : X} → Some x ≡ Some y → x ≡ y
+some_same e = cc
+
+written_whole : {e : Evaluated} {before after : Outlet} {s : Status} → EndsWriting e before after s → (s ≡ Status.WriteFault → ⊥) → (s ≡ Status.NoMemory → ⊥) → HasWritten e before after s
+written_whole (whole w) n m = w
+written_whole (fault b) n m = absurd (n refl)
+written_whole (memory b) n m = absurd (m refl)
+
+module _ (l : Loaded) (budget : ℕ) (e : Evaluated) (i : IsEvaluated l 1 budget false e) where
+  taken_from : (r : Report) (start page : Page) (a : Answer) → start.bytes.items ≡ [] → IsWritten e (side (Some start.bytes.items) start.faults) (side (Some page.bytes.items) page.faults) r → IsTakenFrom r page a
+      → HasWritten e (record { sink = side (Some start.bytes.items) start.faults; written = 0 }) (record { sink = side (Some page.bytes.items) page.faults; written = r.written }) r.status → AnswersLoaded l budget a
+  taken_from r start page a none w t h program query short is =
+      let journal : a.reply.journal.items ≡ e.core.journal = ap (λ v. v.items) t.journal ∙ w.journal in
+      let bytes : page.bytes.items ≡ start.bytes.items ++ h.text = some_same h.appended.bytes in
+      let text : a.text.items ≡ h.text = ap (λ v. v.items) t.is_text ∙ bytes ∙ ap (λ (bs : List ℕ). bs ++ h.text) none in
+      ran (record {
+        short = short;
+        outcome = h.outcome;
+        is_status = subst (λ (s : Status). IsStatusOf s h.outcome) (sym t.status) h.is_status;
+        receipts = map (λ rs. rs.items) e.receipts.items;
+        run = record {
+          loaded = l;
+          is_loaded = is;
+          answers = h.answers;
+          run = run_by l 1 budget false e i h.answers h.outcome a.reply.journal.items (map (λ rs. rs.items) e.receipts.items) h.run journal refl;
+          is_text = subst (λ (x : List ℕ). IsRunText l.program.templates.symbols false a.reply.journal.items h.answers h.outcome x) (sym text)
+              (of_loaded l 1 budget false e i (λ (symbols : List (List ℕ)) (trace : Bool) (ls : List Label). IsRunText symbols trace ls h.answers h.outcome h.text) a.reply.journal.items journal h.is_text);
+        };
+        refusal = t.refusal ∙ w.refusal;
+      })
+
+  pub answers_loaded : (r : Report) (start page : Page) (a : Answer) → start.bytes.items ≡ [] → IsWritten e (side (Some start.bytes.items) start.faults) (side (Some page.bytes.items) page.faults) r → IsTakenFrom r page a → AnswersLoaded l budget a
+  answers_loaded r start page a none w t = taken_from r start page a none w t (written_whole w.writing t.whole t.memory)

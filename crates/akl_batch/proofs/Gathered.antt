@@ -1,0 +1,55 @@
+-- Answers that were put in the places of their queries.
+use Rattle.std.proofs.Common.{◌≡◌, ◌<◌, ℕ, List, [], ◌∷◌, ◌++◌, length, Option, Some, None, IfSome, Result, Ok, Err, IfOk, IfErr, Vec, Global, sym, subst, arith}
+use Rattle.std.specs.List.{All, AllZip, slice_get}
+use Rattle.std.proofs.lemmas.Option.{slice_get_within}
+use Rattle.std.proofs.lemmas.Slice.Zip.{AllZip-long}
+use Rattle.std.proofs.lemmas.List.Elements.{All-weaker}
+use Rattle.std.proofs.Math.ListN.{set}
+use Rattle.akl_run.specs.declared.stop.Stop.{Stop}
+use Rattle.akl_batch.specs.declared.hands.Answered.{Answered}
+use Rattle.akl_batch.specs.declared.reply.Answer.{Answer}
+use Rattle.akl_batch.specs.Replies.{IsAnswer}
+use Rattle.akl_batch.specs.Steps.{IsAnswered, IsHandful, FitPlaces, StopsAs, AreWithin, IsHandfulWithin, PutsInto, GathersInto, StopsOneOf}
+use Rattle.akl_batch.proofs.Places.{zip_set, all_front, all_next}
+
+pub puts_none : (places : List (Option Answer)) → PutsInto [] places places
+puts_none places program queries budget all fit = fit
+
+pub puts_more : (answered : List Answered) (a : Answered) (old middle new : List (Option Answer)) → PutsInto answered old middle → new ≡ set middle a.at (Some a.answer) → PutsInto (answered ++ a ∷ []) old new
+puts_more answered a old middle new puts is program queries budget all fit =
+    let one : IsAnswered program queries budget a = all_next (IsAnswered program queries budget) answered a [] all in
+    let before : FitPlaces program queries budget middle = puts program queries budget (all_front (IsAnswered program queries budget) answered (a ∷ []) all) fit in
+    subst (FitPlaces program queries budget) (sym is)
+    (zip_set (λ query place. IfSome place (IsAnswer program query.items budget)) queries middle a.at one.query (Some a.answer) one.at one.answer before)
+
+pub gathers_none : (places : List (Option Answer)) → GathersInto [] places places
+gathers_none places program queries budget all fit = fit
+
+-- the answers of a handful
+answers_in : {program : List ℕ} {queries : List (Vec ℕ Global)} {budget : ℕ} {r : Result (Vec Answered Global) Stop} {v : Vec Answered Global} → r ≡ Ok v → IsHandful program queries budget r → All (IsAnswered program queries budget) v.items
+answers_in {program} {queries} {budget} e h = subst (λ (r : Result (Vec Answered Global) Stop). IfOk r (λ v. All (IsAnswered program queries budget) v.items)) e h.answered
+
+stop_in : {program : List ℕ} {queries : List (Vec ℕ Global)} {budget : ℕ} {r : Result (Vec Answered Global) Stop} {stop : Stop} → r ≡ Err stop → IsHandful program queries budget r → StopsAs program stop
+stop_in {program} e h = subst (λ (r : Result (Vec Answered Global) Stop). IfErr r (StopsAs program)) e h.stop
+
+pub gathers_more : (handfuls : List (Result (Vec Answered Global) Stop)) (r : Result (Vec Answered Global) Stop) (v : Vec Answered Global) (old middle new : List (Option Answer)) → r ≡ Ok v → GathersInto handfuls old middle → PutsInto v.items middle new
+    → GathersInto (handfuls ++ r ∷ []) old new
+gathers_more handfuls r v old middle new e gathers puts program queries budget all fit =
+    puts program queries budget (answers_in e (all_next (IsHandful program queries budget) handfuls r [] all))
+    (gathers program queries budget (all_front (IsHandful program queries budget) handfuls (r ∷ []) all) fit)
+
+pub stops_one : (handfuls : List (Result (Vec Answered Global) Stop)) (r : Result (Vec Answered Global) Stop) (rest : List (Result (Vec Answered Global) Stop)) (stop : Stop) → r ≡ Err stop → StopsOneOf (handfuls ++ r ∷ rest) stop
+stops_one handfuls r rest stop e program queries budget all = stop_in e (all_next (IsHandful program queries budget) handfuls r rest all)
+
+-- the numbers of answers to queries are below the number of places that fit these
+handful_within : (program : List ℕ) (queries : List (Vec ℕ Global)) (budget count : ℕ) → count ≡ length queries → (r : Result (Vec Answered Global) Stop) → IsHandful program queries budget r → IsHandfulWithin count r
+handful_within program queries budget count n (Err stop) h = tt
+handful_within program queries budget count n (Ok v) h =
+    All-weaker (IsAnswered program queries budget) (λ (a : Answered). a.at < count) (λ a i. let l : a.at < length queries = slice_get_within queries a.at i.query i.at in omega (arith, l, n)) v.items h.answered
+
+pub handfuls_within : (program : List ℕ) (queries : List (Vec ℕ Global)) (budget count : ℕ) → count ≡ length queries → (handfuls : List (Result (Vec Answered Global) Stop)) → All (IsHandful program queries budget) handfuls → All (IsHandfulWithin count) handfuls
+handfuls_within program queries budget count n handfuls h = All-weaker (IsHandful program queries budget) (IsHandfulWithin count) (handful_within program queries budget count n) handfuls h
+
+-- there are as many places as queries
+pub places_count : (program : List ℕ) (queries : List (Vec ℕ Global)) (budget : ℕ) (places : List (Option Answer)) → FitPlaces program queries budget places → length places ≡ length queries
+places_count program queries budget places fit = AllZip-long (λ query place. IfSome place (IsAnswer program query.items budget)) queries places fit

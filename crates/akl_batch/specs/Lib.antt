@@ -1,0 +1,4 @@
+pub mod Replies
+pub mod Text
+pub mod Batches
+pub mod Steps
