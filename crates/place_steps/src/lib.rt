@@ -1,8 +1,10 @@
 //! What comes next at a place that a worker looked at: a plan, or a reason to sleep.
 #![tactic(auto)]
 
+mod candidates;
 mod next;
 mod seen;
 
+pub use candidates::first_candidate;
 pub use next::{Next, next_of};
 pub use seen::{Seen, see};

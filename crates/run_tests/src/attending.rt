@@ -7,13 +7,12 @@ ghost use Rattle.step_commit.specs.Cores.{MayCommit};
 ghost use Rattle.scheduler.specs.Settled.{MaySettle};
 ghost use Rattle.run_tests.specs.Waking.{GoesOnTo, IsFoundAt, IsFoundNow};
 
-use crate::candidates::candidate_at;
 use crate::listing::{places_under, push_open, push_places, token_of};
 use crate::texts::{push_item, push_place, rule_name};
 use akl_terms::{Place, Program, Steps};
 use box_tree::Plan;
 use idle_places::Idle;
-use place_steps::{Next, next_of, see};
+use place_steps::{Next, first_candidate, next_of, see};
 use scheduler::{Committed, Scheduler, SettleError};
 use std::alloc::{AllocError, Global};
 use std::fmt::Write;
@@ -31,7 +30,7 @@ fn looked(
     requires { program.now ≡ scheduler.now.core.table.program }
     ensures { IfOk result (IsFoundAt scheduler.now.core place) }
 {
-    let candidate = candidate_at(alloc, scheduler.core(), place)?;
+    let candidate = first_candidate(alloc, scheduler.core(), place)?;
     let Some(seen) = see(alloc, scheduler.core(), place, 1, candidate)? else {
         return Ok(None);
     };

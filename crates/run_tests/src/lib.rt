@@ -11,7 +11,6 @@ mod batches;
 #[cfg(test)]
 mod brackets;
 #[cfg(test)]
-mod candidates;
 #[cfg(test)]
 mod cases;
 #[cfg(test)]

@@ -2,11 +2,11 @@
 use Rattle.std.proofs.Common.{◌≡◌, ℕ, Bool, true, false, List, [], ◌∷◌, Option, Some, None, refl, sym, ap, ◌∙◌, subst, arith, ◌⊎◌, inl, inr}
 use Rattle.std.proofs.lemmas.Bool.Decides.{nat_tests}
 use Rattle.std.proofs.lemmas.List.Kept.{IsStrictlySortedBy-filter}
-use Rattle.std.specs.Prelude.{cond, if◌then◌else◌, ◌||◌, ◌&&◌, ◌==◌, nat_lt}
+use Rattle.std.specs.Prelude.{cond, if◌then◌else◌, ◌||◌, ◌&&◌, ◌==◌, not, nat_lt}
 use Rattle.std.specs.List.{list_any, filter, AllByRecursion}
 use Rattle.std.specs.List.Sorted.{IsStrictlySortedBy}
 use Rattle.std.specs.BTreeMap.Range.{range_contains}
-use Rattle.std.specs.BTreeSet.{BTreeSet, keys_between, IsOrdered}
+use Rattle.std.specs.BTreeSet.{BTreeSet, IsOrdered}
 use Rattle.std.specs.Ordering.{is_gt, ordering_then}
 use Rattle.std.specs.declared.cmp.Ordering.{Ordering}
 use Rattle.std.specs.declared.cmp.Ordering.TheVariants.{Less}
@@ -21,7 +21,7 @@ use Rattle.scheduler.specs.declared.splits.Split.{Split}
 use Rattle.scheduler.specs.contracts.splits.SplitOrd.TheImpl as in_order
 use Rattle.scheduler.specs.Splits.{same_split, is_kept, has_kept, older, IsOldestIn}
 use Rattle.scheduler.proofs.CommitFacts.{not_both, or_true, or_left, or_right}
-use Rattle.scheduler.proofs.KeptSplits.{from_box, kept_has, split_equal, split_itself, then_gt}
+use Rattle.scheduler.proofs.KeptSplits.{from_box, kept_has, split_equal, split_itself}
 
 -- of goals by age
 
@@ -180,7 +180,7 @@ module _ (t : TableValue) (n : Name) where
       name_itself m = grind (arith, nat_tests)
 
   -- the oldest along them is the oldest of all that are kept
-  pub oldest_is : (kept : BTreeSet Split) → IsOrdered in_order.cmp-value.it kept → IsOldestIn t n kept.keys (oldest_from t n None (keys_between in_order.cmp-value.it (from_box n) Unbounded kept))
+  oldest_is : (kept : BTreeSet Split) → IsOrdered in_order.cmp-value.it kept → IsOldestIn t n kept.keys (oldest_from t n None (filter comes kept.keys))
   oldest_is kept ordered = on (oldest_from t n None (filter comes kept.keys)) (along None (filter comes kept.keys) (all_from kept.keys) (IsStrictlySortedBy-filter in_order.cmp-value.it comes kept.keys ordered))
     where
       same_kept : (g : Name) → is_kept (record { name = n; goal = g }) (filter comes kept.keys) ≡ is_kept (record { name = n; goal = g }) kept.keys
@@ -193,3 +193,14 @@ module _ (t : TableValue) (n : Name) where
           one : IsOneOf None (filter comes kept.keys) g → is_kept (record { name = n; goal = g }) kept.keys ≡ true
           one (inl e) = cc
           one (inr e) = sym (same_kept g) ∙ e
+
+  -- so it is where it is found along these in a loop
+  pub oldest_of : (kept : BTreeSet Split) → IsOrdered in_order.cmp-value.it kept → (ss : List Split) → kept.keys ≡ ss → (o : Option Name) → o ≡ oldest_from t n None (filter comes ss) → IsOldestIn t n ss o
+  oldest_of kept ordered ss e o f = subst (IsOldestIn t n ss) (sym f) (subst (λ (ks : List Split). IsOldestIn t n ks (oldest_from t n None (filter comes ks))) e (oldest_is kept ordered))
+
+  pub at_other : (o : Option Name) (s : Split) (ss : List Split) → not (same_name s.name n) ≡ true → oldest_from t n o (s ∷ ss) ≡ o
+  at_other o s ss e = on (same_name s.name n) e
+    where
+      on : (b : Bool) → not b ≡ true → (if b then oldest_from t n (Some (older t o s.goal)) ss else o) ≡ o
+      on false f = refl
+      on true f = cc

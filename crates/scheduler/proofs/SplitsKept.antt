@@ -4,25 +4,19 @@ use Rattle.std.specs.Prelude.{cond, is_some, IfSome}
 use Rattle.akl_terms.specs.declared.name.Name.{Name}
 use Rattle.akl_terms.specs.declared.name.Var.{Var}
 use Rattle.akl_terms.specs.declared.name.Place.{Place}
-use Rattle.akl_model.specs.Config.{Found, box_at}
-use Rattle.akl_model.specs.Ordered.{IsIncreasing, BoxesOrdered}
+use Rattle.akl_model.specs.Config.{IsIn}
 use Rattle.akl_model.specs.Wakes.{StandsIn, IsOpenAfterSettle}
 use Rattle.akl_model.proofs.Finds.{times}
 use Rattle.akl_model.proofs.Options.{some_value}
-use Rattle.akl_model.proofs.OrdersKept.{replay_ordered}
-use Rattle.step_laws.proofs.Whereabouts.{found_in}
 use Rattle.wake_lists.specs.Open.{Opening, Openings, opening_at, IsOpen, closed, untimed, is_busy}
 use Rattle.wake_lists.specs.Standing.{is_in}
 use Rattle.wake_lists.proofs.Keys.{token_equal}
 use Rattle.table_laws.specs.Inside.{IsDirectlyIn}
 use Rattle.table_laws.specs.Rows.{BoxRow, Table}
 use Rattle.table_laws.specs.Stamped.{Run, IsTableOf}
-use Rattle.table_laws.specs.Unfolds.{IsBoxRow}
-use Rattle.table_laws.proofs.Frame.{found_of}
 use Rattle.box_tree.specs.Tables.{all_rules, TableValue, table_of, goals_in}
 use Rattle.box_tree.specs.Views.{is_there}
-use Rattle.box_tree.specs.Insides.{candidate_at, candidate_among, candidate_in}
-use Rattle.box_tree.proofs.GoalsInOrder.{names_increase, stood_ordered}
+use Rattle.box_tree.specs.Insides.{candidate_at, candidate_in}
 use Rattle.opened_places.proofs.RunRows as run_rows
 use Rattle.step_commit.specs.Cores.{CoreValue, IsCore, run_by}
 use Rattle.scheduler.specs.declared.splits.Split.{Split}
@@ -131,8 +125,12 @@ module _ (v : TableValue) (run : Run) (t : IsTableOf all_rules run (table_of v))
 
       on : (o : Option Name) → candidate_at (table_of v) ((table_of v).goal_of g) ≡ o → IsOldestCandidate v n o
       on None i = absurd (not_both (split_row (table_of v) s e).candidate (ap is_some i))
-      on (Some a) i = (g, subst (λ (o : Option BoxRow). IsIn g (goals_in o)) (sym d.there) d.named, i,
-        λ h j c. f.1 h (all (record { name = n; goal = h }) refl (goal_split (table_of v) t.config t.unfolds its_once n h d.row d.there (named h j) c)))
+      on (Some a) i = (
+        g,
+        subst (λ (o : Option BoxRow). IsIn g (goals_in o)) (sym d.there) d.named,
+        i,
+        λ h j c. f.1 h (all (record { name = n; goal = h }) refl (goal_split (table_of v) t.config t.unfolds its_once n h d.row d.there (named h j) c)),
+      )
 
   pub oldest_splits : (o : Option Name) → IsOldestIn v n kept o → IsOldestCandidate v n (candidate_by (table_of v) o)
   oldest_splits None f = none_of (candidate_in (table_of v) n) (box_enough ∙ f)

@@ -1,4 +1,4 @@
-//! The alternatives at which boxes could be split, by their goals one after another.
+//! The alternative at which a box could be split, by its goals one after another.
 
 ghost use Rattle.std.specs.Prelude.{◌≡◌, IfOk};
 ghost use Rattle.box_tree.specs.Tables.{table_of};
@@ -22,8 +22,11 @@ fn candidate_among(table: &Table, goals: &[Name]) -> Option<Name>
     None
 }
 
-/// The alternative at which the box at a place could be split, were it stable, also where something is open in it.
-pub fn candidate_at(alloc: Global, core: &Core, place: Place) -> Result<Option<Name>, AllocError>
+/// The alternative at which the box at a place could be split, were it stable, by the first of its goals that is such a
+/// choice; `None` where there is none, and of a goal nothing is said. It reads all goals of the box, whatever is open in
+/// it, for those who look at places in an order of their own; a scheduler keeps the choices of its boxes. An `Err` is want of
+/// memory.
+pub fn first_candidate(alloc: Global, core: &Core, place: Place) -> Result<Option<Name>, AllocError>
     ensures { IfOk result (IsCandidateAt core.now place) }
 {
     let Place::Box(name) = place else {
