@@ -3,11 +3,10 @@
 ghost use Rattle.std.specs.Prelude.{◌≡◌, IfOk};
 ghost use Rattle.place_steps.specs.Seen.{IsSeenBy};
 
-use crate::candidates::candidate_at;
 use crate::scene::Scene;
 use akl_model::Rule;
 use akl_terms::{Place, Program, Var};
-use place_steps::{Next, Seen, next_of, see};
+use place_steps::{Next, Seen, first_candidate, next_of, see};
 use std::alloc::{AllocError, Global};
 use std::collections::BTreeSet;
 use step_commit::Core;
@@ -21,7 +20,7 @@ pub(crate) fn seen_at(
 ) -> Result<Option<Seen>, AllocError>
     ensures { IfOk result (IsSeenBy core.now place worker) }
 {
-    let candidate = candidate_at(alloc, core, place)?;
+    let candidate = first_candidate(alloc, core, place)?;
     see(alloc, core, place, worker, candidate)
 }
 
