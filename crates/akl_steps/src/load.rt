@@ -31,10 +31,7 @@ fn program_clauses(alloc: Global, text: &[u8]) -> Result<Vec<SourceClause>, Allo
 }
 
 // The names of a query's variables, and the clauses that are made of its choices.
-fn query_clauses(
-    alloc: Global,
-    text: &[u8],
-) -> Result<(Vec<Text>, Vec<SourceClause>), AllocError>
+fn query_clauses(alloc: Global, text: &[u8]) -> Result<(Vec<Text>, Vec<SourceClause>), AllocError>
     requires { length text.now ≤ 10000 }
 {
     let Ok(written) = read_query(alloc, text) else {

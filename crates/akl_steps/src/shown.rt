@@ -42,12 +42,7 @@ struct Made<'a> {
 }
 
 // A query before its first step.
-fn start(
-    alloc: Global,
-    ready: &Ready,
-    workers: u32,
-    budget: u64,
-) -> Result<Core, AllocError>
+fn start(alloc: Global, ready: &Ready, workers: u32, budget: u64) -> Result<Core, AllocError>
     requires variables { HasVariables ready.now.loaded.program ready.now.loaded.query ready.now.loaded.first_variable }
     requires shown { HasShownVariables ready.now.loaded.query }
     ensures program { IfOk result (λ c. c.table.program ≡ ready.now.loaded.program) }
@@ -66,7 +61,11 @@ fn start(
 }
 
 // The labels of a run by one worker to its end, and how it ends.
-fn labels_of_one(alloc: Global, program: &Program, core: Core) -> Result<(Vec<Label>, End), AllocError>
+fn labels_of_one(
+    alloc: Global,
+    program: &Program,
+    core: Core,
+) -> Result<(Vec<Label>, End), AllocError>
     requires program { program.now ≡ core.table.program }
     requires begins { core.journal ≡ [] }
 {
@@ -145,12 +144,7 @@ fn push_state(
 }
 
 // Shows the query before its first step.
-fn show_start(
-    rt: &impl Print,
-    alloc: Global,
-    shown: Shown<'_>,
-    replay: &Replay,
-) -> io::Result<()>
+fn show_start(rt: &impl Print, alloc: Global, shown: Shown<'_>, replay: &Replay) -> io::Result<()>
     requires { shown.ready.now.loaded.program ≡ replay.now.core.table.program }
 {
     let mut text = String::from_str(alloc, "query: ")?;
@@ -218,7 +212,17 @@ fn show_steps(
             Replayed::Made(sentence) => {
                 if wanted {
                     let sentence = sentence.as_str();
-                    show_step(rt, alloc, shown, replay, Made { at, label, sentence })?;
+                    show_step(
+                        rt,
+                        alloc,
+                        shown,
+                        replay,
+                        Made {
+                            at,
+                            label,
+                            sentence,
+                        },
+                    )?;
                 }
             }
         }
@@ -228,12 +232,7 @@ fn show_steps(
 }
 
 // Shows the answers among the root boxes, and counts them.
-fn show_answers(
-    rt: &impl Print,
-    alloc: Global,
-    shown: Shown<'_>,
-    core: &Core,
-) -> io::Result<usize>
+fn show_answers(rt: &impl Print, alloc: Global, shown: Shown<'_>, core: &Core) -> io::Result<usize>
     requires { shown.ready.now.loaded.program ≡ core.now.table.program }
 {
     let mut count = 0usize;
@@ -297,12 +296,7 @@ pub fn show<R: Print + Eprint + Threads + Wait + Sync>(
     requires shown { HasShownVariables shown.ready.now.loaded.query }
 {
     let (labels, end) = labels_of(rt, alloc, shown)?;
-    let core = start(
-        alloc,
-        shown.ready,
-        shown.asked.workers,
-        shown.asked.budget,
-    )?;
+    let core = start(alloc, shown.ready, shown.asked.workers, shown.asked.budget)?;
     let mut replay = Replay::new(alloc, core)?;
     if shown.asked.from == 0 && !shown.asked.last {
         show_start(rt, alloc, shown, &replay)?;

@@ -47,7 +47,12 @@ fn push_pair(
 }
 
 // Adds where a definition that no text names was made.
-fn push_place_of(alloc: Global, out: &mut String, symbol: &str, arity: u32) -> Result<(), AllocError> {
+fn push_place_of(
+    alloc: Global,
+    out: &mut String,
+    symbol: &str,
+    arity: u32,
+) -> Result<(), AllocError> {
     if symbol.is_empty() {
         return out.push_str("the query");
     }
@@ -105,12 +110,44 @@ pub(crate) fn push_goal(
 ) -> Result<(), AllocError> {
     let frame = goal.frame;
     match goal.code {
-        Code::Equal { left, right } => push_relation(alloc, scene, out, (left, " = ", right), frame),
-        Code::Arith { test, left, right } => push_relation(alloc, scene, out, (left, relation(test), right), frame),
-        Code::OpenPort { port, stream } => push_pair(alloc, scene, out, ("open_port", port, stream), frame),
-        Code::Send { message, port } => push_pair(alloc, scene, out, ("send", message, port), frame),
-        Code::Call { definition, first, count } => push_call(alloc, scene, out, definition, (first, count), frame),
-        Code::Collect { definition, result: list, .. } => push_collect(alloc, scene, out, definition, list, frame),
+        Code::Equal { left, right } => push_relation(
+            alloc,
+            scene,
+            out,
+            (left, " = ", right),
+            frame,
+        ),
+        Code::Arith { test, left, right } => push_relation(
+            alloc,
+            scene,
+            out,
+            (left, relation(test), right),
+            frame,
+        ),
+        Code::OpenPort { port, stream } => push_pair(
+            alloc,
+            scene,
+            out,
+            ("open_port", port, stream),
+            frame,
+        ),
+        Code::Send { message, port } => push_pair(
+            alloc,
+            scene,
+            out,
+            ("send", message, port),
+            frame,
+        ),
+        Code::Call {
+            definition,
+            first,
+            count,
+        } => push_call(alloc, scene, out, definition, (first, count), frame),
+        Code::Collect {
+            definition,
+            result: list,
+            ..
+        } => push_collect(alloc, scene, out, definition, list, frame),
         Code::Fail => out.push_str("fail"),
     }
 }
@@ -161,7 +198,11 @@ pub(crate) fn push_box(
 ) -> Result<(), AllocError> {
     match scene.words.origins.alternative(name) {
         Some(alternative) => {
-            write!(out, "alternative {} of ", alternative.clause.saturating_add(1))?;
+            write!(
+                out,
+                "alternative {} of ",
+                alternative.clause.saturating_add(1)
+            )?;
             push_choice(alloc, scene.outside(), out, alternative.choice)
         }
         None => {

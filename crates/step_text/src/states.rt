@@ -11,19 +11,6 @@ use std::alloc::{AllocError, Global};
 use std::collections::BTreeSet;
 use step_commit::Core;
 
-/// What a worker sees of a place. `None` exactly where it isn't there.
-pub(crate) fn seen_at(
-    alloc: Global,
-    core: &Core,
-    place: Place,
-    worker: u32,
-) -> Result<Option<Seen>, AllocError>
-    ensures { IfOk result (IsSeenBy core.now place worker) }
-{
-    let candidate = first_candidate(alloc, core, place)?;
-    see(alloc, core, place, worker, candidate)
-}
-
 // What a place at which a rule applies comes to.
 fn ready_text(rule: Rule) -> &'static str {
     match rule {
@@ -80,7 +67,8 @@ pub(crate) fn push_state(
 ) -> Result<(), AllocError>
     requires { program.now ≡ core.now.table.program }
 {
-    let Some(seen) = seen_at(alloc, core, place, 1)? else {
+    let candidate = first_candidate(alloc, core, place)?;
+    let Some(seen) = see(alloc, core, place, 1, candidate)? else {
         return Ok(());
     };
     match next_of(alloc, program, &seen)? {
