@@ -337,3 +337,14 @@ def clauses_of(text):
         clauses.append(reader.read_clause())
         at = LAYOUT.match(text, reader.peek().at + 1).end()
     return clauses
+
+
+def own_query(text):
+    """The query of a file: the first indented lines of the comment with which it begins; `None` without any."""
+    lines = []
+    for line in text.splitlines():
+        if line.startswith("%  "):
+            lines.append(line[1:].strip())
+        elif lines or not line.startswith("%"):
+            break
+    return " ".join(lines) or None

@@ -2,14 +2,16 @@
 
 /// What a lone `--help` prints.
 pub const HELP: &str = "\
-Usage: akl_steps --query TEXT [--budget N] [--tree] [--trace] [--from N] [--to N] [--last] < FILE
+Usage: ./akl_steps --query TEXT [--workers N] [--budget N] [--tree] [--trace]
+                   [--from N] [--to N] [--last] < FILE
 
-Runs the query TEXT over the program in FILE as `akl` does with one worker, and shows each step in the
-words of the source, then the answers and the outcome. A variable of a clause has its name there, `#` and
+Runs the query TEXT over the program in FILE as `akl` does, and shows each step in the words of the
+source, then the answers and the outcome. A variable of a clause has its name there, `#` and
 a number that tells one use of the clause from another.
 
 Options:
   --query TEXT  the query
+  --workers N   how many workers make the run: 1 to 16, and 1 where none is given
   --budget N    how many steps the run may make: 1 to 4000000, and 100000 where none is given
   --tree        shows the boxes and goals after each step, as an indented tree
   --trace       begins each step with its line of `akl --trace`

@@ -31,10 +31,7 @@ fn program_clauses(alloc: Global, text: &[u8]) -> Result<Vec<SourceClause>, Allo
 }
 
 // The names of a query's variables, and the clauses that are made of its choices.
-fn query_clauses(
-    alloc: Global,
-    text: &[u8],
-) -> Result<(Vec<Text>, Vec<SourceClause>), AllocError>
+fn query_clauses(alloc: Global, text: &[u8]) -> Result<(Vec<Text>, Vec<SourceClause>), AllocError>
     requires { length text.now ≤ 10000 }
 {
     let Ok(written) = read_query(alloc, text) else {
@@ -78,7 +75,7 @@ fn loaded_of(alloc: Global, text: &[u8], query: &[u8]) -> Result<Loaded, Stop>
 }
 
 /// A query that is ready, over the program that a text is.
-pub fn ready(alloc: Global, text: &[u8], query: &[u8]) -> Result<Ready, Stop>
+pub fn prepared(alloc: Global, text: &[u8], query: &[u8]) -> Result<Ready, Stop>
     requires program { length text.now ≤ 1000001 }
     requires query { length query.now ≤ 10000 }
     ensures variables { IfOk result (λ r. HasVariables r.loaded.program r.loaded.query r.loaded.first_variable) }

@@ -9,15 +9,17 @@ mod words;
 ghost use Rattle.std.specs.Prelude.{◌≤◌, length};
 
 use crate::help::HELP;
-use crate::load::ready;
+use crate::load::prepared;
 use crate::shown::{Shown, show};
 use crate::words::{Asked, Words, read_words};
-use akl_outside::{ReadError, StreamSource, read_up_to};
+use akl_outside::{ReadError, Source, StreamSource, read_up_to};
 use akl_run::{Report, Stop, refusal_line};
 use std::alloc::Global;
 use std::io::IsTerminal;
 use std::process::ExitCode;
 use std::str::from_utf8;
+use std::sync::Wait;
+use std::thread::Threads;
 use std::{env, io};
 
 /// One byte more than a program may have.
@@ -50,8 +52,8 @@ fn refuse(rt: &impl Eprint, alloc: Global, stop: Stop) -> io::Result<u8> {
 }
 
 // Shows the run that is asked over the program that a text is.
-fn show_text(
-    rt: &(impl Print + Eprint),
+fn show_text<R: Print + Eprint + Threads + Wait + Sync>(
+    rt: &R,
     alloc: Global,
     text: &[u8],
     asked: &Asked,
@@ -64,7 +66,7 @@ fn show_text(
         eprintln!(rt; "akl: query: too long, {} bytes", query.len())?;
         return Ok(6);
     }
-    match ready(alloc, text, query) {
+    match prepared(alloc, text, query) {
         Ok(ready) => show(
             rt,
             alloc,
@@ -78,12 +80,16 @@ fn show_text(
     }
 }
 
-// Shows the run that is asked over the program on standard input.
-fn show_asked(rt: &HostRuntime, asked: &Asked) -> io::Result<u8> {
-    let mut source = StreamSource::new(rt.stdin());
-    let progress = rt.stderr().is_terminal();
-    match read_up_to(rt.alloc(), &mut source, MOST_READ) {
-        Ok(text) => show_text(rt, rt.alloc(), &text, asked, progress),
+// Shows the run that is asked over the program that a source has.
+fn show_asked<R: Print + Eprint + Threads + Wait + Sync, S: Source>(
+    rt: &R,
+    alloc: Global,
+    source: &mut S,
+    asked: &Asked,
+    progress: bool,
+) -> io::Result<u8> {
+    match read_up_to(alloc, source, MOST_READ) {
+        Ok(text) => show_text(rt, alloc, &text, asked, progress),
         Err(ReadError::Failed) => {
             eprintln!(rt; "akl: read fault")?;
             Ok(7)
@@ -93,14 +99,19 @@ fn show_asked(rt: &HostRuntime, asked: &Asked) -> io::Result<u8> {
 }
 
 // Does what the words ask, and answers the status.
-fn work(rt: &HostRuntime) -> io::Result<u8> {
-    let words = words_given(rt)?;
-    match read_words(rt.alloc(), &words)? {
+fn work<R: Print + Eprint + Threads + Wait + Sync, S: Source>(
+    rt: &R,
+    alloc: Global,
+    words: &[String],
+    source: &mut S,
+    progress: bool,
+) -> io::Result<u8> {
+    match read_words(alloc, words)? {
         Words::Help => {
             print!(rt; "{HELP}")?;
             Ok(0)
         }
-        Words::Run(asked) => show_asked(rt, &asked),
+        Words::Run(asked) => show_asked(rt, alloc, source, &asked, progress),
         Words::Refused(at) => {
             eprintln!(rt; "akl_steps: word {at} is refused; --help tells the words")?;
             Ok(4)
@@ -108,12 +119,23 @@ fn work(rt: &HostRuntime) -> io::Result<u8> {
     }
 }
 
-fn main(rt: HostRuntime) -> ExitCode {
-    match work(&rt) {
-        Ok(status) => ExitCode::from(status),
+// The status, or that of a write that failed.
+fn status_of(rt: &impl Eprint, ended: io::Result<u8>) -> u8 {
+    match ended {
+        Ok(status) => status,
         Err(error) => {
             let _ = eprintln!(rt; "akl_steps: {error}");
-            ExitCode::from(8)
+            8
         }
     }
+}
+
+fn main(rt: HostRuntime) -> ExitCode {
+    let mut source = StreamSource::new(rt.stdin());
+    let progress = rt.stderr().is_terminal();
+    let ended = match words_given(&rt) {
+        Ok(words) => work(&rt, rt.alloc(), &words, &mut source, progress),
+        Err(error) => Err(error),
+    };
+    ExitCode::from(status_of(&rt, ended))
 }

@@ -1,18 +1,23 @@
 //! A run that is shown step by step.
 
-ghost use Rattle.std.specs.Prelude.{◌≡◌, IfOk};
+ghost use Rattle.std.specs.Prelude.{◌≡◌, ◌≤◌, [], IfOk};
 ghost use Rattle.box_tree.specs.Tables.{HasVariables, HasShownVariables};
 
 use crate::load::Ready;
 use crate::words::Asked;
 use akl_model::Label;
+use akl_outside::NoGate;
 use akl_run::trace_line;
+use akl_terms::Program;
+use par_workers::run_many;
 use root_answers::root_text;
-use seq_engine::{End, Finished, run_one};
+use seq_engine::{End, run_one};
 use std::alloc::{AllocError, Global};
 use std::fmt::Write;
 use std::io;
 use std::str::from_utf8;
+use std::sync::Wait;
+use std::thread::Threads;
 use step_commit::Core;
 use step_text::{Replay, Replayed, Words, push_tree};
 
@@ -37,11 +42,12 @@ struct Made<'a> {
 }
 
 // A query before its first step.
-fn start(alloc: Global, ready: &Ready, budget: u64) -> Result<Core, AllocError>
+fn start(alloc: Global, ready: &Ready, workers: u32, budget: u64) -> Result<Core, AllocError>
     requires variables { HasVariables ready.now.loaded.program ready.now.loaded.query ready.now.loaded.first_variable }
     requires shown { HasShownVariables ready.now.loaded.query }
     ensures program { IfOk result (λ c. c.table.program ≡ ready.now.loaded.program) }
     ensures journal { IfOk result (λ c. c.journal ≡ []) }
+    ensures workers { IfOk result (λ c. c.workers ≡ workers) }
 {
     let loaded = &ready.loaded;
     Core::new(
@@ -49,19 +55,56 @@ fn start(alloc: Global, ready: &Ready, budget: u64) -> Result<Core, AllocError>
         &loaded.program,
         &loaded.query,
         loaded.first_variable,
-        1,
+        workers,
         budget,
     )
 }
 
-// The labels of a run to its end, by one worker, and how it ends.
-fn labels_of(alloc: Global, ready: &Ready, budget: u64) -> Result<(Vec<Label>, End), AllocError>
-    requires variables { HasVariables ready.now.loaded.program ready.now.loaded.query ready.now.loaded.first_variable }
-    requires shown { HasShownVariables ready.now.loaded.query }
+// The labels of a run by one worker to its end, and how it ends.
+fn labels_of_one(
+    alloc: Global,
+    program: &Program,
+    core: Core,
+) -> Result<(Vec<Label>, End), AllocError>
+    requires program { program.now ≡ core.table.program }
+    requires begins { core.journal ≡ [] }
 {
-    let core = start(alloc, ready, budget)?;
-    let Finished { core, end, .. } = run_one(alloc, &ready.loaded.program, core)?;
-    Ok((core.into_journal(), end))
+    let run = run_one(alloc, program, core)?;
+    Ok((run.core.into_journal(), run.end))
+}
+
+// The same by so many workers.
+fn labels_of_many<R: Threads + Wait + Sync>(
+    rt: &R,
+    alloc: Global,
+    program: &Program,
+    core: Core,
+    workers: u32,
+) -> Result<(Vec<Label>, End), AllocError>
+    requires program { program.now ≡ core.table.program }
+    requires workers { (1 ≤ workers) × (workers ≤ 16) × (core.workers ≡ workers) }
+    requires begins { core.journal ≡ [] }
+{
+    let run = run_many(rt, alloc, program, core, workers, &NoGate)?;
+    Ok((run.core.into_journal(), run.end))
+}
+
+// The labels of the run that is asked to its end, and how it ends.
+fn labels_of<R: Threads + Wait + Sync>(
+    rt: &R,
+    alloc: Global,
+    shown: Shown<'_>,
+) -> Result<(Vec<Label>, End), AllocError>
+    requires variables { HasVariables shown.ready.now.loaded.program shown.ready.now.loaded.query shown.ready.now.loaded.first_variable }
+    requires shown { HasShownVariables shown.ready.now.loaded.query }
+{
+    let workers = shown.asked.workers.clamp(1, 16);
+    let core = start(alloc, shown.ready, workers, shown.asked.budget)?;
+    let program = &shown.ready.loaded.program;
+    if workers == 1 {
+        return labels_of_one(alloc, program, core);
+    }
+    labels_of_many(rt, alloc, program, core, workers)
 }
 
 // Adds the beginning of a step's line: its number, or its line of a trace.
@@ -101,12 +144,7 @@ fn push_state(
 }
 
 // Shows the query before its first step.
-fn show_start(
-    rt: &impl Print,
-    alloc: Global,
-    shown: Shown<'_>,
-    replay: &Replay,
-) -> io::Result<()>
+fn show_start(rt: &impl Print, alloc: Global, shown: Shown<'_>, replay: &Replay) -> io::Result<()>
     requires { shown.ready.now.loaded.program ≡ replay.now.core.table.program }
 {
     let mut text = String::from_str(alloc, "query: ")?;
@@ -174,7 +212,17 @@ fn show_steps(
             Replayed::Made(sentence) => {
                 if wanted {
                     let sentence = sentence.as_str();
-                    show_step(rt, alloc, shown, replay, Made { at, label, sentence })?;
+                    show_step(
+                        rt,
+                        alloc,
+                        shown,
+                        replay,
+                        Made {
+                            at,
+                            label,
+                            sentence,
+                        },
+                    )?;
                 }
             }
         }
@@ -184,12 +232,7 @@ fn show_steps(
 }
 
 // Shows the answers among the root boxes, and counts them.
-fn show_answers(
-    rt: &impl Print,
-    alloc: Global,
-    shown: Shown<'_>,
-    core: &Core,
-) -> io::Result<usize>
+fn show_answers(rt: &impl Print, alloc: Global, shown: Shown<'_>, core: &Core) -> io::Result<usize>
     requires { shown.ready.now.loaded.program ≡ core.now.table.program }
 {
     let mut count = 0usize;
@@ -244,12 +287,16 @@ fn show_end(
 }
 
 /// Shows the run that is asked, and answers the exit status.
-pub fn show(rt: &(impl Print + Eprint), alloc: Global, shown: Shown<'_>) -> io::Result<u8>
+pub fn show<R: Print + Eprint + Threads + Wait + Sync>(
+    rt: &R,
+    alloc: Global,
+    shown: Shown<'_>,
+) -> io::Result<u8>
     requires variables { HasVariables shown.ready.now.loaded.program shown.ready.now.loaded.query shown.ready.now.loaded.first_variable }
     requires shown { HasShownVariables shown.ready.now.loaded.query }
 {
-    let (labels, end) = labels_of(alloc, shown.ready, shown.asked.budget)?;
-    let core = start(alloc, shown.ready, shown.asked.budget)?;
+    let (labels, end) = labels_of(rt, alloc, shown)?;
+    let core = start(alloc, shown.ready, shown.asked.workers, shown.asked.budget)?;
     let mut replay = Replay::new(alloc, core)?;
     if shown.asked.from == 0 && !shown.asked.last {
         show_start(rt, alloc, shown, &replay)?;

@@ -12,6 +12,8 @@ const MOST_BUDGET: u64 = 4_000_000;
 #[derive(Drop)]
 pub struct Asked {
     pub query: String,
+    /// How many workers make the run, from 1 to 16.
+    pub workers: u32,
     pub budget: u64,
     /// Whether the boxes and goals are shown after each step.
     pub tree: bool,
@@ -38,6 +40,7 @@ pub enum Words {
 fn nothing_asked(alloc: Global) -> Asked {
     Asked {
         query: String::new(alloc),
+        workers: 1,
         budget: BUDGET,
         tree: false,
         trace: false,
@@ -74,6 +77,7 @@ impl Asked {
         };
         match name {
             "--budget" if 1 <= number && number <= MOST_BUDGET => self.budget = number,
+            "--workers" if 1 <= number && number <= 16 => self.workers = number as u32,
             "--from" => self.from = number,
             "--to" => self.to = number,
             _ => return false,

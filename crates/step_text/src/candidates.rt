@@ -1,34 +1,67 @@
-//! The alternatives at which boxes could be split, by their goals one after another.
+//! The alternative at which a label splits its box.
 
-ghost use Rattle.std.specs.Prelude.{◌≡◌, IfOk};
+ghost use Rattle.std.specs.Prelude.{◌≡◌, true, IfOk, IfSome, Some};
+ghost use Rattle.akl_model.specs.Config.{IsIn};
 ghost use Rattle.box_tree.specs.Tables.{table_of};
-ghost use Rattle.box_tree.specs.Insides.{candidate_among};
+ghost use Rattle.box_tree.specs.Insides.{IsCandidateOf};
 ghost use Rattle.place_steps.specs.Seen.{IsCandidateAt};
 
+use crate::origins::Origins;
+use akl_model::Label;
 use akl_terms::{Name, Place};
-use box_tree::Table;
+use place_steps::first_candidate;
 use std::alloc::{AllocError, Global};
 use step_commit::Core;
 
-// The alternative at which a box could be split by the first of these goals that is such a choice.
-fn candidate_among(table: &Table, goals: &[Name]) -> Option<Name>
-    ensures { result ≡ candidate_among (table_of table.now) goals.now }
+// Whether a name is among others.
+fn has_name(names: &[Name], name: Name) -> bool
+    ensures { result ≡ true → IsIn name names.now }
 {
-    for goal in goals {
-        if let Some(alternative) = table.candidate_at(*goal) {
-            return Some(alternative);
+    for other in names {
+        if *other == name {
+            return true;
         }
     }
-    None
+    false
 }
 
-/// The alternative at which the box at a place could be split, were it stable, also where something is open in it.
-pub fn candidate_at(alloc: Global, core: &Core, place: Place) -> Result<Option<Name>, AllocError>
-    ensures { IfOk result (IsCandidateAt core.now place) }
+// The alternative at which a box could be split by this one of its goals.
+fn candidate_by(
+    alloc: Global,
+    core: &Core,
+    name: Name,
+    choice: Name,
+) -> Result<Option<Name>, AllocError>
+    ensures { IfOk result (λ found. IfSome found (λ a. IsCandidateOf (table_of core.now.table) name (Some a))) }
 {
-    let Place::Box(name) = place else {
-        return Ok(None);
-    };
     let goals = core.table().goals_of(alloc, name)?;
-    Ok(candidate_among(core.table(), goals.as_slice()))
+    if has_name(&goals, choice) {
+        Ok(core.table().candidate_at(choice))
+    } else {
+        Ok(None)
+    }
+}
+
+// The choice that holds the alternative of a label, if it has one.
+fn choice_of(origins: &Origins, label: Label) -> Option<Name> {
+    let alternative = origins.alternative(label.alternative?)?;
+    Some(alternative.choice)
+}
+
+/// The alternative at which the box of a label could be split: by the choice that holds the label's alternative, or by the
+/// first one.
+pub(crate) fn candidate_for(
+    alloc: Global,
+    core: &Core,
+    origins: &Origins,
+    label: Label,
+) -> Result<Option<Name>, AllocError>
+    ensures { IfOk result (IsCandidateAt core.now label.place) }
+{
+    if let (Place::Box(name), Some(choice)) = (label.place, choice_of(origins, label)) {
+        if let Some(found) = candidate_by(alloc, core, name, choice)? {
+            return Ok(Some(found));
+        }
+    }
+    first_candidate(alloc, core, label.place)
 }

@@ -81,11 +81,7 @@ pub(crate) fn push_values(
 }
 
 // The bindings of a store of variables of its own, or of those from outside of it.
-fn bindings_of(
-    alloc: Global,
-    store: &Store,
-    own: bool,
-) -> Result<Vec<(Var, Term)>, AllocError> {
+fn bindings_of(alloc: Global, store: &Store, own: bool) -> Result<Vec<(Var, Term)>, AllocError> {
     let mut found = Vec::new(alloc);
     for (variable, term) in store.bindings()?.as_slice() {
         if *variable != CLASHING && store.has_frame(variable.frame) == own {

@@ -47,7 +47,12 @@ fn push_pair(
 }
 
 // Adds where a definition that no text names was made.
-fn push_place_of(alloc: Global, out: &mut String, symbol: &str, arity: u32) -> Result<(), AllocError> {
+fn push_place_of(
+    alloc: Global,
+    out: &mut String,
+    symbol: &str,
+    arity: u32,
+) -> Result<(), AllocError> {
     if symbol.is_empty() {
         return out.push_str("the query");
     }
@@ -86,13 +91,14 @@ fn push_collect(
     list: u32,
     frame: Name,
 ) -> Result<(), AllocError> {
-    out.push_str("the bagof in ")?;
+    out.push_str("the bagof for ")?;
+    push_term(alloc, scene, out, Term::Mol { node: list, frame })?;
+    out.push_str(" in ")?;
     let definitions = scene.words.program.definitions.as_slice();
-    if let Some(called) = definitions.get(definition as usize) {
-        push_place_of(alloc, out, called.key.symbol.as_str(), called.key.arity)?;
+    match definitions.get(definition as usize) {
+        Some(called) => push_place_of(alloc, out, called.key.symbol.as_str(), called.key.arity),
+        None => out.push_str("a clause"),
     }
-    out.push_str(" for ")?;
-    push_term(alloc, scene, out, Term::Mol { node: list, frame })
 }
 
 /// Adds a goal with what is known of its variables.
@@ -104,12 +110,44 @@ pub(crate) fn push_goal(
 ) -> Result<(), AllocError> {
     let frame = goal.frame;
     match goal.code {
-        Code::Equal { left, right } => push_relation(alloc, scene, out, (left, " = ", right), frame),
-        Code::Arith { test, left, right } => push_relation(alloc, scene, out, (left, relation(test), right), frame),
-        Code::OpenPort { port, stream } => push_pair(alloc, scene, out, ("open_port", port, stream), frame),
-        Code::Send { message, port } => push_pair(alloc, scene, out, ("send", message, port), frame),
-        Code::Call { definition, first, count } => push_call(alloc, scene, out, definition, (first, count), frame),
-        Code::Collect { definition, result: list, .. } => push_collect(alloc, scene, out, definition, list, frame),
+        Code::Equal { left, right } => push_relation(
+            alloc,
+            scene,
+            out,
+            (left, " = ", right),
+            frame,
+        ),
+        Code::Arith { test, left, right } => push_relation(
+            alloc,
+            scene,
+            out,
+            (left, relation(test), right),
+            frame,
+        ),
+        Code::OpenPort { port, stream } => push_pair(
+            alloc,
+            scene,
+            out,
+            ("open_port", port, stream),
+            frame,
+        ),
+        Code::Send { message, port } => push_pair(
+            alloc,
+            scene,
+            out,
+            ("send", message, port),
+            frame,
+        ),
+        Code::Call {
+            definition,
+            first,
+            count,
+        } => push_call(alloc, scene, out, definition, (first, count), frame),
+        Code::Collect {
+            definition,
+            result: list,
+            ..
+        } => push_collect(alloc, scene, out, definition, list, frame),
         Code::Fail => out.push_str("fail"),
     }
 }
@@ -160,7 +198,11 @@ pub(crate) fn push_box(
 ) -> Result<(), AllocError> {
     match scene.words.origins.alternative(name) {
         Some(alternative) => {
-            write!(out, "alternative {} of ", alternative.clause.saturating_add(1))?;
+            write!(
+                out,
+                "alternative {} of ",
+                alternative.clause.saturating_add(1)
+            )?;
             push_choice(alloc, scene.outside(), out, alternative.choice)
         }
         None => {

@@ -41,7 +41,12 @@ fn key_of_clause(alloc: Global, clause: &SourceClause) -> Result<String, AllocEr
 // The same of a definition.
 fn key_of_definition(alloc: Global, definition: &Definition) -> Result<String, AllocError> {
     let symbol = definition.key.symbol.as_str();
-    key_text(alloc, definition.lifted, symbol, definition.key.arity as usize)
+    key_text(
+        alloc,
+        definition.lifted,
+        symbol,
+        definition.key.arity as usize,
+    )
 }
 
 // The names of clauses, by what these define.

@@ -128,13 +128,13 @@ impl Origins {
         Ok(())
     }
 
-    // A copy is the alternative that the old box is, of the choice that holds it.
+    // A copy is the alternative that the old box is: of the choice that holds it, or of that which holds the old one, where it
+    // is the copy of the box that is split.
     fn copy_alternative(&mut self, inner: &InnerBox, copy: &BoxCopy) -> Result<(), AllocError> {
-        if let Some(choice) = copy.holder {
-            if let Some(Alternative { clause, .. }) = self.alternative(inner.name) {
-                self.alternatives
-                    .insert(copy.name, Alternative { choice, clause })?;
-            }
+        if let Some(Alternative { choice, clause }) = self.alternative(inner.name) {
+            let choice = copy.holder.unwrap_or(choice);
+            self.alternatives
+                .insert(copy.name, Alternative { choice, clause })?;
         }
         Ok(())
     }

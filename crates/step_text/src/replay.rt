@@ -1,17 +1,17 @@
 //! A run that is made once more, a label at a time.
 
 ghost use Rattle.std.specs.Prelude.{◌≡◌};
-ghost use Rattle.seq_engine.specs.Runs.{IsPlanNow};
+ghost use Rattle.step_commit.specs.Cores.{MayCommit};
 
+use crate::candidates::candidate_for;
 use crate::names::SourceNames;
 use crate::origins::Origins;
 use crate::scene::Words;
 use crate::sentences::sentence;
-use crate::states::seen_at;
 use akl_model::Label;
 use akl_terms::{Name, Program};
 use box_tree::{Plan, Sight, Step};
-use place_steps::{Next, Seen, next_of};
+use place_steps::{Next, Seen, next_of, see};
 use std::alloc::{AllocError, Global};
 use step_commit::Core;
 
@@ -34,7 +34,7 @@ pub enum Replayed {
 
 // Appends the label of a plan, and makes its step; or the plan is refused.
 fn commit(alloc: Global, core: &mut Core, plan: Plan) -> Result<bool, AllocError>
-    requires { IsPlanNow core.old plan }
+    requires { MayCommit core.old plan }
     ensures { core.new.table.program ≡ core.old.table.program }
 {
     if core.refusal(&plan).is_some() {
@@ -63,9 +63,10 @@ fn learn(alloc: Global, origins: &mut Origins, seen: &Seen, plan: &Plan) -> Resu
         Seen::Goal { goal, view } => learn_goal(origins, *goal, view.sight(), plan),
         Seen::Root { .. } => Ok(()),
         Seen::Box { inside, .. } => {
-            if let (Some(alternative), Step::Split { copies, .. }) =
-                (plan.label().alternative, plan.step())
-            {
+            if let (Some(alternative), Step::Split { copies, .. }) = (
+                plan.label().alternative,
+                plan.step(),
+            ) {
                 origins.split(alloc, alternative, inside, copies)?;
             }
             Ok(())
@@ -107,7 +108,7 @@ impl Replay {
         plan: Plan,
         wanted: bool,
     ) -> Result<Replayed, AllocError>
-        requires plan { IsPlanNow self.old.core plan }
+        requires { MayCommit self.old.core plan }
         ensures { self.new.core.table.program ≡ self.old.core.table.program }
     {
         let words = Words {
@@ -136,7 +137,8 @@ impl Replay {
         requires { program.now ≡ self.old.core.table.program }
         ensures { self.new.core.table.program ≡ self.old.core.table.program }
     {
-        let Some(seen) = seen_at(alloc, &self.core, label.place)? else {
+        let candidate = candidate_for(alloc, &self.core, &self.origins, label)?;
+        let Some(seen) = see(alloc, &self.core, label.place, label.worker, candidate)? else {
             return Ok(Replayed::Refused);
         };
         match next_of(alloc, program, &seen)? {

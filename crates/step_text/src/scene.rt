@@ -2,7 +2,7 @@
 
 use crate::names::SourceNames;
 use crate::origins::{Origins, Scope};
-use akl_terms::{Program, Seen, Term, Text, Var};
+use akl_terms::{Name, Program, Seen, Term, Text, Var};
 use local_store::{Chain, Shared, Store};
 use rational_unify::Lookup;
 use std::alloc::AllocError;
@@ -41,6 +41,15 @@ fn push_name(out: &mut String, names: &[Text], index: u32) -> Result<(), AllocEr
     match names.get(index as usize) {
         Some(name) if name.as_str() != "_" => out.push_str(name.as_str()),
         _ => write!(out, "_{index}"),
+    }
+}
+
+/// Adds `#` and a name: its number, behind that of the worker where it isn't the first.
+pub(crate) fn push_mark(out: &mut String, name: Name) -> Result<(), AllocError> {
+    if name.worker > 1 {
+        write!(out, "#{}.{}", name.worker, name.number)
+    } else {
+        write!(out, "#{}", name.number)
     }
 }
 
@@ -99,15 +108,17 @@ impl<'a> Scene<'a> {
 
     /// Adds the name of a variable: as the query has it, or as a clause has it with `#` and the number of its frame.
     pub(crate) fn push_variable(self, out: &mut String, variable: Var) -> Result<(), AllocError> {
-        let number = variable.frame.number;
         match self.words.origins.scope(variable.frame) {
             Some(Scope::Query) => push_name(out, self.words.names.query(), variable.index),
             Some(Scope::Clause { definition, clause }) => {
                 let names = self.words.names.clause(definition, clause);
                 push_name(out, names, variable.index)?;
-                write!(out, "#{number}")
+                push_mark(out, variable.frame)
             }
-            None => write!(out, "_{}#{number}", variable.index),
+            None => {
+                write!(out, "_{}", variable.index)?;
+                push_mark(out, variable.frame)
+            }
         }
     }
 }

@@ -90,7 +90,12 @@ fn push_eval(
             let stores = stores_with(alloc, view, store)?;
             let node = left;
             let frame = goal.frame;
-            push_term(alloc, scene.words.at(&stores), out, Term::Mol { node, frame })?;
+            push_term(
+                alloc,
+                scene.words.at(&stores),
+                out,
+                Term::Mol { node, frame },
+            )?;
         }
         _ => {}
     }
@@ -112,7 +117,12 @@ fn push_open(
         let stores = stores_with(alloc, view, store)?;
         let node = port;
         let frame = goal.frame;
-        push_term(alloc, scene.words.at(&stores), out, Term::Mol { node, frame })?;
+        push_term(
+            alloc,
+            scene.words.at(&stores),
+            out,
+            Term::Mol { node, frame },
+        )?;
     }
     push_inside(alloc, scene, out, view)
 }

@@ -3,22 +3,13 @@
 ghost use Rattle.std.specs.Prelude.{◌≡◌, IfOk};
 ghost use Rattle.place_steps.specs.Seen.{IsSeenBy};
 
-use crate::candidates::candidate_at;
 use crate::scene::Scene;
 use akl_model::Rule;
 use akl_terms::{Place, Program, Var};
-use place_steps::{Next, Seen, next_of, see};
+use place_steps::{Next, Seen, first_candidate, next_of, see};
 use std::alloc::{AllocError, Global};
 use std::collections::BTreeSet;
 use step_commit::Core;
-
-/// What worker 1 sees of a place. `None` exactly where it isn't there.
-pub(crate) fn seen_at(alloc: Global, core: &Core, place: Place) -> Result<Option<Seen>, AllocError>
-    ensures { IfOk result (IsSeenBy core.now place 1) }
-{
-    let candidate = candidate_at(alloc, core, place)?;
-    see(alloc, core, place, 1, candidate)
-}
 
 // What a place at which a rule applies comes to.
 fn ready_text(rule: Rule) -> &'static str {
@@ -76,7 +67,8 @@ pub(crate) fn push_state(
 ) -> Result<(), AllocError>
     requires { program.now ≡ core.now.table.program }
 {
-    let Some(seen) = seen_at(alloc, core, place)? else {
+    let candidate = first_candidate(alloc, core, place)?;
+    let Some(seen) = see(alloc, core, place, 1, candidate)? else {
         return Ok(());
     };
     match next_of(alloc, program, &seen)? {

@@ -1,6 +1,6 @@
 //! Terms as a source writes them, with the values that their variables have.
 
-use crate::scene::Scene;
+use crate::scene::{Scene, push_mark};
 use akl_terms::{Name, Seen, Term};
 use answer_text::push_constant;
 use std::alloc::{AllocError, Global};
@@ -152,7 +152,10 @@ fn begin_whole(
     match scene.value(term) {
         Seen::Free(variable) => scene.push_variable(out, variable),
         Seen::Int(value) => write!(out, "{value}"),
-        Seen::Port(port) => write!(out, "port#{}", port.number),
+        Seen::Port(port) => {
+            out.push_str("port")?;
+            push_mark(out, port)
+        }
         seen => begin_structure(alloc, scene, out, pieces, seen, least),
     }
 }

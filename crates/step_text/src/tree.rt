@@ -143,7 +143,12 @@ fn push_box_lines(
 }
 
 // Leaves the goals of a box to be written, the first last.
-fn leave_goals(entries: &mut Vec<Entry>, depth: usize, at: usize, count: usize) -> Result<(), AllocError> {
+fn leave_goals(
+    entries: &mut Vec<Entry>,
+    depth: usize,
+    at: usize,
+    count: usize,
+) -> Result<(), AllocError> {
     for k in (0..count).rev() {
         entries.push(Entry {
             depth,
