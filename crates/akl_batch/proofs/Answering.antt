@@ -19,7 +19,7 @@ use Rattle.akl_run.specs.Commands.{side}
 use Rattle.akl_run.specs.Outputs.{Outlet}
 use Rattle.akl_run.specs.Written.{HasWritten}
 use Rattle.akl_run.specs.Stops.{IsStop}
-use Rattle.akl_run.specs.Steps.{IsWritten, EndsWriting, whole, fault, memory}
+use Rattle.akl_run.specs.Steps.{IsAnsweredAlone, IsWritten, EndsWriting, whole, fault, memory}
 use Rattle.akl_run.proofs.Evaluated.{run_by, of_loaded}
 use Rattle.akl_batch.specs.declared.page.Page.{Page}
 use Rattle.akl_batch.specs.declared.reply.Answer.{Answer}
@@ -95,5 +95,9 @@ module _ (l : Loaded) (budget : ℕ) (e : Evaluated) (i : IsEvaluated l 1 budget
         refusal = t.refusal ∙ w.refusal;
       })
 
-  pub answers_loaded : (r : Report) (start page : Page) (a : Answer) → start.bytes.items ≡ [] → IsWritten e (side (Some start.bytes.items) start.faults) (side (Some page.bytes.items) page.faults) r → IsTakenFrom r page a → AnswersLoaded l budget a
-  answers_loaded r start page a none w t = taken_from r start page a none w t (written_whole w.writing t.whole t.memory)
+  answers_so : (r : Report) (start page : Page) (a : Answer) → start.bytes.items ≡ [] → IsWritten e (side (Some start.bytes.items) start.faults) (side (Some page.bytes.items) page.faults) r → IsTakenFrom r page a → AnswersLoaded l budget a
+  answers_so r start page a none w t = taken_from r start page a none w t (written_whole w.writing t.whole t.memory)
+
+pub answers_loaded : (l : Loaded) (budget : ℕ) (r : Report) (start page : Page) (a : Answer) → start.bytes.items ≡ [] → IsAnsweredAlone l budget (side (Some start.bytes.items) start.faults) (side (Some page.bytes.items) page.faults) r → IsTakenFrom r page a
+    → AnswersLoaded l budget a
+answers_loaded l budget r start page a none w t = answers_so l budget w.run w.evaluated r start page a none w.written t

@@ -1,16 +1,17 @@
 -- Answers that were put in the places of their queries.
-use Rattle.std.proofs.Common.{◌≡◌, ◌<◌, ℕ, List, [], ◌∷◌, ◌++◌, length, Option, Some, None, IfSome, Result, Ok, Err, IfOk, IfErr, Vec, Global, sym, subst, arith}
+use Rattle.std.proofs.Common.{◌≡◌, ◌<◌, ℕ, List, [], ◌∷◌, ◌++◌, ◌+◌, length, take, get_or, Option, Some, None, IfSome, Result, Ok, Err, IfOk, IfErr, Vec, Global, sym, ap, subst, ◌∙◌, arith}
 use Rattle.std.specs.List.{All, AllZip, slice_get}
+use Rattle.std.proofs.lemmas.List.{take_more}
 use Rattle.std.proofs.lemmas.Option.{slice_get_within}
-use Rattle.std.proofs.lemmas.Slice.Zip.{AllZip-long}
+use Rattle.std.proofs.lemmas.Slice.Zip.{AllZip-long, all_zipped_more}
 use Rattle.std.proofs.lemmas.List.Elements.{All-weaker}
 use Rattle.std.proofs.Math.ListN.{set}
 use Rattle.akl_run.specs.declared.stop.Stop.{Stop}
 use Rattle.akl_batch.specs.declared.hands.Answered.{Answered}
 use Rattle.akl_batch.specs.declared.reply.Answer.{Answer}
 use Rattle.akl_batch.specs.Replies.{IsAnswer}
-use Rattle.akl_batch.specs.Steps.{IsAnswered, IsHandful, FitPlaces, StopsAs, AreWithin, IsHandfulWithin, PutsInto, GathersInto, StopsOneOf}
-use Rattle.akl_batch.proofs.Places.{zip_set, all_front, all_next}
+use Rattle.akl_batch.specs.Steps.{AreAnswers, IsAnswered, IsHandful, FitPlaces, StopsAs, AreWithin, IsHandfulWithin, PutsInto, GathersInto, StopsOneOf}
+use Rattle.akl_batch.proofs.Places.{zip_set, zip_at, zip_none, all_front, all_next}
 
 pub puts_none : (places : List (Option Answer)) → PutsInto [] places places
 puts_none places program queries budget all fit = fit
@@ -53,3 +54,29 @@ handfuls_within program queries budget count n handfuls h = All-weaker (IsHandfu
 -- there are as many places as queries
 pub places_count : (program : List ℕ) (queries : List (Vec ℕ Global)) (budget : ℕ) (places : List (Option Answer)) → FitPlaces program queries budget places → length places ≡ length queries
 places_count program queries budget places fit = AllZip-long (λ query place. IfSome place (IsAnswer program query.items budget)) queries places fit
+
+-- ---- the answers in order
+
+-- places of which none has an answer
+pub places_none : (program : List ℕ) (queries : List (Vec ℕ Global)) (budget : ℕ) (places : List (Option Answer)) → length places ≡ length queries → All (λ place. place ≡ None) places → FitPlaces program queries budget places
+places_none program queries budget places n none = zip_none (λ query answer. IsAnswer program query.items budget answer) queries places n none
+
+-- an answer that is taken out of its place
+pub taken_answer : (program : List ℕ) (queries : List (Vec ℕ Global)) (budget : ℕ) (places : List (Option Answer)) (at : ℕ) (query : Vec ℕ Global) (place : Option Answer) (a : Answer) → FitPlaces program queries budget places
+    → slice_get queries at ≡ Some query → slice_get places at ≡ Some place → place ≡ Some a → IsAnswer program query.items budget a
+taken_answer program queries budget places at query place a fit q p is =
+    subst (λ (o : Option Answer). IfSome o (IsAnswer program query.items budget)) is
+    (zip_at (λ query place. IfSome place (IsAnswer program query.items budget)) queries places at query place q p fit)
+
+-- the places that are left then
+pub places_left : (program : List ℕ) (queries : List (Vec ℕ Global)) (budget : ℕ) (places : List (Option Answer)) (at : ℕ) (query : Vec ℕ Global) (place : Option Answer) → FitPlaces program queries budget places
+    → slice_get queries at ≡ Some query → place ≡ None → FitPlaces program queries budget (set places at place)
+places_left program queries budget places at query place fit q is =
+    zip_set (λ query place. IfSome place (IsAnswer program query.items budget)) queries places at query place q (subst (λ (o : Option Answer). IfSome o (IsAnswer program query.items budget)) (sym is) tt) fit
+
+-- one more answer
+pub more_answers : (program : List ℕ) (queries : List (Vec ℕ Global)) (budget at : ℕ) (query : Vec ℕ Global) (answers : List Answer) (a : Answer) → at < length queries → query ≡ get_or queries at query
+    → AreAnswers program (take at queries) budget answers → IsAnswer program query.items budget a → AreAnswers program (take (at + 1) queries) budget (answers ++ a ∷ [])
+more_answers program queries budget at query answers a inside is before one =
+    subst (λ (qs : List (Vec ℕ Global)). AreAnswers program qs budget (answers ++ a ∷ [])) (sym (take_more queries at query inside ∙ ap (λ (q : Vec ℕ Global). take at queries ++ q ∷ []) (sym is)))
+    (all_zipped_more (λ query answer. IsAnswer program query.items budget answer) (take at queries) answers query a before one)

@@ -1,6 +1,8 @@
 -- Lists that fit each other place by place.
-use Rattle.std.proofs.Common.{◌≡◌, ◌<◌, ℕ, zero, suc, List, [], ◌∷◌, ◌++◌, length, map, Option, Some, None, IfSome, get_or, sym, subst, arith}
+use Rattle.std.proofs.Common.{◌≡◌, ◌<◌, ℕ, zero, suc, List, [], ◌∷◌, ◌++◌, length, map, Option, Some, None, IfSome, Global, refl, sym, ap, subst, ◌∙◌, append_assoc, append-nil, arith}
 use Rattle.std.specs.List.{All, AllZip, slice_get}
+use Rattle.std.specs.Vec.Iter.{into_iter_items, into_iter_len}
+use Rattle.std.specs.declared.vec.IntoIter.{IntoIter}
 use Rattle.std.proofs.lemmas.List.Elements.{All-nil, All-cons, All-head, All-tail}
 use Rattle.std.proofs.Math.ListN.{set}
 
@@ -48,3 +50,17 @@ all_front P (x ∷ xs) ys h = All-cons P x xs (All-head P x (xs ++ ys) h) (all_f
 pub all_next : {A : Type 0} (P : A → Type 0) (xs : List A) (x : A) (ys : List A) → All P (xs ++ x ∷ ys) → P x
 all_next P [] x ys h = All-head P x ys h
 all_next P (w ∷ xs) x ys h = all_next P xs x ys (All-tail P w (xs ++ x ∷ ys) h)
+
+-- ---- a loop over the values of a vector
+
+no_length : {A : Type 0} (xs : List A) → length xs ≡ 0 → xs ≡ []
+no_length [] n = refl
+no_length (x ∷ xs) n = absurd (omega (arith, n))
+
+-- where no value is to come, all were there
+pub all_yielded : {A : Type 0} (done all : List A) (it : IntoIter A Global) → done ++ into_iter_items it ≡ all → into_iter_len it ≡ 0 → done ≡ all
+all_yielded {A} done all it whole none = sym (append-nil done) ∙ ap (λ (xs : List A). done ++ xs) (sym (no_length (into_iter_items it) (sym it.rest.ok.0 ∙ none))) ∙ whole
+
+-- one more value was there
+pub one_yielded : {A : Type 0} (done : List A) (one : A) (rest all : List A) (it : IntoIter A Global) → done ++ into_iter_items it ≡ all → into_iter_items it ≡ one ∷ rest → (done ++ one ∷ []) ++ rest ≡ all
+one_yielded {A} done one rest all it whole next = append_assoc done (one ∷ []) rest ∙ ap (λ (xs : List A). done ++ xs) (sym next) ∙ whole

@@ -9,8 +9,7 @@ ghost use Rattle.akl_batch.specs.Steps.{AnswersLoaded, IsTakenFrom, SaysWhy, Sto
 use crate::page::Page;
 use crate::reply::{Answer, Reply};
 use akl_run::{
-    Loaded, Refusal, Report, Status, Stop, evaluate_alone, load_asked, load_program, push_cause,
-    report_of,
+    Loaded, Refusal, Report, Status, Stop, answer_alone, load_asked, load_program, push_cause,
 };
 use akl_syntax::check_query;
 use std::alloc::{AllocError, Global};
@@ -38,9 +37,8 @@ fn run(alloc: Global, loaded: Loaded, budget: u64) -> Result<Answer, Stop>
     ensures answer { IfOk result (AnswersLoaded loaded budget) }
     ensures stop { IfErr result (IsStop Status.NoMemory Refusal.Nothing) }
 {
-    let run = evaluate_alone(alloc, loaded, budget)?;
     let mut page = Page::new(alloc);
-    let report = report_of(alloc, run, &mut page);
+    let report = answer_alone(alloc, loaded, budget, &mut page)?;
     written(report, page)
 }
 

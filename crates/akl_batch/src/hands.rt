@@ -1,6 +1,6 @@
 //! Queries that are shared among several hands.
 
-ghost use Rattle.std.specs.Prelude.{◌≡◌, ◌≤◌, IfOk, IfErr, OnOk, All, None, length};
+ghost use Rattle.std.specs.Prelude.{◌≡◌, ◌≤◌, IfOk, IfErr, OnOk, All, None, Some, length};
 ghost use Rattle.akl_batch.specs.Replies.{IsAnswer};
 ghost use Rattle.akl_batch.specs.Steps.{AreAnswers, AreWithin, FitPlaces, GathersInto, IsHandful, IsHandfulWithin, PutsInto, StopsAs, StopsOneOf};
 
@@ -119,11 +119,11 @@ fn no_answers(alloc: Global, count: usize) -> Result<Vec<Option<Answer>>, AllocE
 
 // Puts the answers of several workers in their places.
 fn gather(
-    places: &mut [Option<Answer>],
+    places: &mut Vec<Option<Answer>>,
     handfuls: Vec<Result<Vec<Answered>, Stop>>,
 ) -> Result<(), Stop>
-    requires { All (IsHandfulWithin (length places.old)) handfuls.items }
-    ensures places { OnOk result (GathersInto handfuls.items places.old places.new) }
+    requires { All (IsHandfulWithin (length places.old.items)) handfuls.items }
+    ensures places { OnOk result (GathersInto handfuls.items places.old.items places.new.items) }
     ensures stop { IfErr result (StopsOneOf handfuls.items) }
 {
     for handful in handfuls {
@@ -133,13 +133,22 @@ fn gather(
 }
 
 // Puts the answers of one worker in their places.
-fn place(places: &mut [Option<Answer>], handful: Vec<Answered>)
-    requires { AreWithin (length places.old) handful.items }
-    ensures { PutsInto handful.items places.old places.new }
+fn place(places: &mut Vec<Option<Answer>>, handful: Vec<Answered>)
+    requires { AreWithin (length places.old.items) handful.items }
+    ensures puts { PutsInto handful.items places.old.items places.new.items }
+    ensures count { length places.new.items ≡ length places.old.items }
 {
-    for Answered { at, answer } in handful {
-        places[at] = Some(answer);
+    for answered in handful {
+        let Answered { at, answer } = answered;
+        fill(&mut places[at], answer);
     }
+}
+
+// Puts an answer in a place.
+fn fill(place: &mut Option<Answer>, answer: Answer)
+    ensures { place.new ≡ Some answer }
+{
+    *place = Some(answer);
 }
 
 // The answers in order. A query that no worker took is answered here.

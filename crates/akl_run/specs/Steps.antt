@@ -1,5 +1,5 @@
--- The steps of a command, of which the clauses of private functions speak.
-use Rattle.std.specs.Prelude.{◌≡◌, ◌≤◌, ℕ, List, [], option_map, Result, Ok, Err}
+-- The steps of a command, of which the clauses of its functions speak.
+use Rattle.std.specs.Prelude.{◌≡◌, ◌≤◌, ℕ, false, List, [], option_map, Result, Ok, Err}
 use Rattle.akl_run.specs.declared.report.Status.{Status}
 use Rattle.akl_run.specs.declared.report.Refusal.{Refusal}
 use Rattle.akl_run.specs.declared.report.Report.{Report}
@@ -73,6 +73,12 @@ pub record IsWritten (e : Evaluated) (before after : Side) (r : Report) : Type 0
   pub journal : r.journal.items ≡ e.core.journal
   pub receipts : r.receipts ≡ e.receipts
   pub writing : EndsWriting e (record { sink = before; written = 0 }) (record { sink = after; written = r.written }) r.status
+
+-- the loaded query was run by worker 1 alone, without a trace, and this is the report of it
+pub record IsAnsweredAlone (l : Loaded) (budget : ℕ) (before after : Side) (r : Report) : Type 0 where
+  pub run : Evaluated
+  pub evaluated : IsEvaluated l 1 budget false run
+  pub written : IsWritten run before after r
 
 -- the status with which the writing ended
 abbrev pub status_by_writing : Result Status Unwritten → Status

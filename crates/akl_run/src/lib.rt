@@ -17,11 +17,10 @@ mod writing;
 
 pub use akl_args::WordsError;
 pub use clause_checks::{Limit, LoadError};
-pub use evaluate::{Evaluated, evaluate_alone};
 pub use loaded::{Loaded, load_asked, load_program};
 pub use prepare::read_program;
 pub use refusal::{fixed_line, push_cause, refusal_line};
 pub use report::{Refusal, Report, Status};
-pub use run::{report_of, run_akl};
+pub use run::{answer_alone, run_akl};
 pub use stop::Stop;
 pub use trace::trace_line;

@@ -1,19 +1,21 @@
 //! The top call.
 
 ghost use Rattle.std.specs.Prelude.{◌≡◌, IfOk, IfErr};
+ghost use Rattle.box_tree.specs.Tables.{HasVariables, HasShownVariables};
 ghost use Rattle.akl_run.specs.Words.{bytes_of};
 ghost use Rattle.akl_run.specs.Commands.{side, Stops, IsReported};
 ghost use Rattle.akl_run.specs.Evaluations.{HasEnded};
-ghost use Rattle.akl_run.specs.Steps.{IsRunAs, IsStopped, IsWritten, status_by_writing};
+ghost use Rattle.akl_run.specs.Steps.{IsAnsweredAlone, IsRunAs, IsStopped, IsWritten, status_by_writing};
 
-use crate::evaluate::{Evaluated, evaluate};
+use crate::evaluate::{Evaluated, evaluate, evaluate_alone};
+use crate::loaded::Loaded;
 use crate::output::{Output, Unwritten};
 use crate::prepare::prepare;
 use crate::report::{Refusal, Report, Status};
 use crate::stop::Stop;
 use crate::writing::write_run;
 use akl_outside::{Gate, Sink, Source};
-use std::alloc::Global;
+use std::alloc::{AllocError, Global};
 use std::sync::Wait;
 use std::thread::Threads;
 
@@ -56,8 +58,8 @@ fn status_of(ended: Result<Status, Unwritten>) -> Status
     }
 }
 
-/// Writes the text of a run that has ended, and reports it.
-pub fn report_of<K: Sink>(alloc: Global, run: Evaluated, sink: &mut K) -> Report
+// Writes the text of a run that has ended, and reports it.
+fn report_of<K: Sink>(alloc: Global, run: Evaluated, sink: &mut K) -> Report
     requires { HasEnded run }
     ensures { IsWritten run (side (K.written sink.old) (K.faults sink.old)) (side (K.written sink.new) (K.faults sink.new)) result }
 {
@@ -70,6 +72,22 @@ pub fn report_of<K: Sink>(alloc: Global, run: Evaluated, sink: &mut K) -> Report
         journal: run.core.into_journal(),
         receipts: run.receipts,
     }
+}
+
+/// Runs a loaded query as worker 1 alone, and writes its text without a trace. Where memory is wanting in its run nothing was
+/// written.
+pub fn answer_alone<K: Sink>(
+    alloc: Global,
+    loaded: Loaded,
+    budget: u64,
+    sink: &mut K,
+) -> Result<Report, AllocError>
+    requires variables { HasVariables loaded.program loaded.query loaded.first_variable }
+    requires shown { HasShownVariables loaded.query }
+    ensures { IfOk result (IsAnsweredAlone loaded budget (side (K.written sink.old) (K.faults sink.old)) (side (K.written sink.new) (K.faults sink.new))) }
+{
+    let run = evaluate_alone(alloc, loaded, budget)?;
+    Ok(report_of(alloc, run, sink))
 }
 
 /// Runs the query of a command line over a program, and writes its labels, where a trace is asked, the answers and the

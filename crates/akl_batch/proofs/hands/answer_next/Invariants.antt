@@ -3,4 +3,4 @@ use Rattle.akl_batch.specs.Steps.{IsAnswered}
 use Rattle.akl_batch.proofs.hands.answer_next.Given as goal
 
 abbrev pub invariant-loop-turn : goal.invariant-loop-turn
-invariant-loop-turn l = All (IsAnswered l.program l.queries l.budget) l.answered.items
+invariant-loop-turn g l = All (IsAnswered l.program l.queries l.budget) l.answered.items

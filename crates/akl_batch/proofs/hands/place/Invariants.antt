@@ -3,8 +3,9 @@ use Rattle.std.specs.Vec.Iter.{into_iter_items}
 use Rattle.akl_batch.specs.Steps.{PutsInto}
 use Rattle.akl_batch.proofs.hands.place.Given as goal
 
-abbrev pub invariant-loop-at : goal.invariant-loop-at
-invariant-loop-at l = record {
-  handful : l.yielded ++ into_iter_items l.at-iterator ≡ l.fn.handful.items;
-  puts : PutsInto l.yielded l.fn.places l.places;
+abbrev pub invariant-loop-answered : goal.invariant-loop-answered
+invariant-loop-answered l = record {
+  handful : l.yielded ++ into_iter_items l.answered-iterator ≡ l.fn.handful.items;
+  puts : PutsInto l.yielded l.fn.places.items l.places.items;
+  count : length l.places.items ≡ length l.fn.places.items;
 }

@@ -1,0 +1,13 @@
+use Rattle.std.proofs.Common.{length, refl}
+use Rattle.std.proofs.lemmas.Option.{slice_get_read}
+use Rattle.std.proofs.lemmas.List.Elements.{All-push}
+use Rattle.akl_batch.specs.Steps.{IsAnswered}
+use Rattle.akl_batch.proofs.hands.answer_next.Goals as goal
+
+pub loop-turn-preserved : goal.loop-turn-preserved
+loop-turn-preserved g c =
+    let queries = c.args.queries.now in
+    let found = c.in-Some.ensures.lookup in
+    rw c.in_ok-push.ensures.items
+    (All-push (IsAnswered c.args.program.now queries c.args.budget) c.loop-turn.answered.items _ c.loop-turn.invariant
+    (record { query = c.in-Some.query.now; at = slice_get_read queries (length queries) c.fetch_add-at.result c.in-Some.query.now refl found.3.0 found.1; answer = rw c.deref.ensures.value at c.in_ok-answer.ensures.answer }))
