@@ -1,6 +1,6 @@
 //! Reading the words of a batch.
 
-ghost use Rattle.std.specs.Prelude.{◌≡◌, Ok, IfOk, IfErr, ◌++◌, map, string_bytes};
+ghost use Rattle.std.specs.Prelude.{◌≡◌, Ok, IfOk, IfErr, map, string_bytes};
 ghost use Rattle.akl_args.specs.Batches.{name_for_query, word_for_query, has_too_many, first_crowded, batch_of, batch_reading, IsBatchWithinLimits};
 ghost use Rattle.akl_args.specs.Limits.{IsWithinLimits};
 ghost use Rattle.akl_args.specs.Table.{reading, IsRefusalOf};

@@ -1,13 +1,13 @@
 //! The call of a batch.
 
-ghost use Rattle.std.specs.Prelude.{◌≡◌, ◌≤◌, ◌++◌, IfOk, IfErr, OnOk, length};
+ghost use Rattle.std.specs.Prelude.{◌≡◌, ◌≤◌, ◌+◌, ◌++◌, ◌∷◌, [], IfOk, IfErr, OnOk, length};
 ghost use Rattle.akl_terms.specs.declared.program.Program.{Program};
 ghost use Rattle.akl_run.specs.Words.{bytes_of};
 ghost use Rattle.akl_run.specs.Commands.{side};
 ghost use Rattle.akl_run.specs.Loads.{IsLoadedProgram};
 ghost use Rattle.akl_batch.specs.Batches.{IsBatchReported, Stops};
 ghost use Rattle.akl_batch.specs.Steps.{AreAnswersOf, AreGathered, IsStopped, IsWritten, StopsAs};
-ghost use Rattle.akl_batch.specs.Text.{numbered};
+ghost use Rattle.akl_batch.specs.Text.{numbered, last_line};
 
 use crate::hands::answer_all;
 use crate::reply::{Answer, BatchReport, Reply};
@@ -63,13 +63,37 @@ fn stopped(alloc: Global, stop: Stop) -> BatchReport
 }
 
 // Adds a reply's text, behind a line with its number.
-fn push_reply(text: &mut Vec<u8>, number: usize, reply: &[u8]) -> Result<(), AllocError>
+fn push_text(text: &mut Vec<u8>, number: usize, reply: &[u8]) -> Result<(), AllocError>
     ensures { OnOk result (text.new.items ≡ text.old.items ++ numbered number reply.now) }
 {
     let alloc = *text.allocator();
     let head = format!(in alloc; "query {number}\n")?;
     text.extend_from_slice(head.as_bytes())?;
     text.extend_from_slice(reply)
+}
+
+// Adds the next answer: its text, and its reply.
+fn push_answer(
+    text: &mut Vec<u8>,
+    replies: &mut Vec<Reply>,
+    answer: Answer,
+) -> Result<(), AllocError>
+    ensures text { OnOk result (text.new.items ≡ text.old.items ++ numbered (length replies.old.items + 1) answer.text.items) }
+    ensures reply { OnOk result (replies.new.items ≡ replies.old.items ++ answer.reply ∷ []) }
+{
+    let Answer { reply, text: lines } = answer;
+    push_text(text, replies.len() + 1, &lines)?;
+    replies.push(reply)?;
+    Ok(())
+}
+
+// Adds the last line: how many replies there are.
+fn push_count(text: &mut Vec<u8>, count: usize) -> Result<(), AllocError>
+    ensures { OnOk result (text.new.items ≡ text.old.items ++ last_line count) }
+{
+    let alloc = *text.allocator();
+    let line = format!(in alloc; "queries {count}\n")?;
+    text.extend_from_slice(line.as_bytes())
 }
 
 // The replies, and the text of the batch.
@@ -79,11 +103,9 @@ fn gathered(alloc: Global, answers: Vec<Answer>) -> Result<(Vec<Reply>, Vec<u8>)
     let mut replies = Vec::new(alloc);
     let mut text = Vec::new(alloc);
     for answer in answers {
-        push_reply(&mut text, replies.len() + 1, &answer.text)?;
-        replies.push(answer.reply)?;
+        push_answer(&mut text, &mut replies, answer)?;
     }
-    let last = format!(in alloc; "queries {}\n", replies.len())?;
-    text.extend_from_slice(last.as_bytes())?;
+    push_count(&mut text, replies.len())?;
     Ok((replies, text))
 }
 
