@@ -13,7 +13,7 @@ use crate::load::prepared;
 use crate::shown::{Shown, show};
 use crate::words::{Asked, Words, read_words};
 use akl_outside::{ReadError, Source, StreamSource, read_up_to};
-use akl_run::{Report, Stop, refusal_line};
+use akl_run::{Stop, refusal_line};
 use std::alloc::Global;
 use std::io::IsTerminal;
 use std::process::ExitCode;
@@ -39,16 +39,10 @@ fn words_given(rt: &HostRuntime) -> io::Result<Vec<String>> {
 
 // Says why a text is refused, and answers the status.
 fn refuse(rt: &impl Eprint, alloc: Global, stop: Stop) -> io::Result<u8> {
-    let report = Report {
-        status: stop.status,
-        refusal: stop.refusal,
-        journal: Vec::new(alloc),
-        receipts: Vec::new(alloc),
-        written: 0,
-    };
-    let line = refusal_line(alloc, &report)?;
+    let Stop { status, refusal } = stop;
+    let line = refusal_line(alloc, status, &refusal)?;
     eprint!(rt; "{}", from_utf8(&line).unwrap_or(""))?;
-    Ok(report.status.number())
+    Ok(status.number())
 }
 
 // Shows the run that is asked over the program that a text is.

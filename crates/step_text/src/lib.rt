@@ -3,6 +3,7 @@
 //! It shows what the core of a run holds, and claims nothing of it.
 #![tactic(auto)]
 
+mod candidates;
 mod equations;
 mod goals;
 mod names;

@@ -1,12 +1,11 @@
 //! What a place comes to next, or what it waits for.
 
-ghost use Rattle.std.specs.Prelude.{◌≡◌, IfOk};
-ghost use Rattle.place_steps.specs.Seen.{IsSeenBy};
+ghost use Rattle.std.specs.Prelude.{◌≡◌};
 
 use crate::scene::Scene;
 use akl_model::Rule;
 use akl_terms::{Place, Program, Var};
-use place_steps::{Next, Seen, first_candidate, next_of, see};
+use place_steps::{Next, first_candidate, next_of, see};
 use std::alloc::{AllocError, Global};
 use std::collections::BTreeSet;
 use step_commit::Core;
