@@ -16,6 +16,18 @@ const THERE: &str = "t(a,R) :- -> R = 1. t(_,R) :- -> R = 2.";
 
 const COUNT: &str = "count([],N,R) :- -> R = N. count([_|S],N,R) :- -> M is N + 1, count(S,M,R).";
 
+// Each queen is chosen from those that are left, and a younger choice is of a list that isn't known yet.
+const QUEENS: &str = r"
+queens([],S,R) :- -> R = S.
+queens([H|T],S,R) :- -> choose(X,[H|T],M), safe(X,1,S), queens(M,[X|S],R).
+choose(X,[X|L],M) :- ? M = L.
+choose(X,[Y|L],M) :- ? M = [Y|N], choose(X,L,N).
+safe(_,_,[]) :- -> true.
+safe(X,D,[Q|S]) :- -> X =\= Q + D, X =\= Q - D, E is D + 1, safe(X,E,S).
+count([],N,R) :- -> R = N.
+count([_|S],N,R) :- -> M is N + 1, count(S,M,R).
+";
+
 const ABC: &str = "p(X,R) :- (X = a -> R = 1 ; true -> (X = b -> R = 2 ; true -> R = 3)).";
 
 /// Words, programs, queries and replies.
@@ -189,6 +201,7 @@ fn named(text: &str) -> &str {
         "MERGE" => MERGE,
         "THERE" => THERE,
         "COUNT" => COUNT,
+        "QUEENS" => QUEENS,
         "ABC" => ABC,
         _ => text,
     }

@@ -33,6 +33,7 @@ const BY_EACH: &str = r"
  =>  => bagof(X, fail, L) => 0 / answer 1 / L = [] / done
  =>  => X is 170141183460469231731687303715884105726 + 1 => 0 / answer 1 / X = 170141183460469231731687303715884105727 / done
  =>  => open_port(P,S), send(a,P), send(b,P) => 0 / answer 1 / P = port / S = [a,b|_1] / done or 0 / answer 1 / P = port / S = [b,a|_1] / done
+--budget,4000 => QUEENS => bagof(x, queens([1,2,3,4,5],[],_), _L), count(_L,0,N) => 0 / answer 1 / N = 10 / done
 ";
 
 // Whether a reply is one of those that are allowed.
