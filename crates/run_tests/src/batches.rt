@@ -138,7 +138,7 @@ fn batches_are_answered_or_refused(rt: HostRuntime) -> Result<(), AllocError> {
 /// How many bytes are written of the replies to two queries before a fault, and what stands there then.
 const FAULTS: &str = r"
 0 => 8 / akl: write fault
-6 => 8 / akl: write fault / query
+5 => 8 / akl: write fault / query
 28 => 8 / akl: write fault / query 1 / answer 1 / X = a / done
 33 => 8 / akl: write fault / query 1 / answer 1 / X = a / done / query
 43 => 8 / akl: write fault / query 1 / answer 1 / X = a / done / query 2 / failed
