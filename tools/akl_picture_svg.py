@@ -65,10 +65,10 @@ def shaped(place, last):
 
 def fitting(text, width):
     """A text as far as it fits."""
-    count = int((width - 8) / CHARACTER)
-    if count < 3:
-        return ""
-    return text if len(text) <= count else text[: count - 1] + "…"
+    count = int((width - 4) / CHARACTER)
+    if len(text) <= count:
+        return text
+    return text[: count - 1] + "…" if count > 2 else ""
 
 
 class Picture:
@@ -131,11 +131,11 @@ class Picture:
         state = place.states.get(begin) or place.states[shape.begin]
         tip = "\n".join([f"{place.name} {state.text}{state.state}", *state.lines])
         self.add(f'<g><title>{escape(tip)}</title><rect x="{x}" y="{y}" width="{width}" height="{ROW}" fill="transparent"/>')
-        text, room = state.text.replace("alternative ", ""), (end - begin) * self.column - 20
+        text, room = state.text.replace("alternative ", ""), (end - begin) * self.column - 16
         text = re.sub(": (a choice by .*|collects)$", "", text)
         if place.is_box and room > 90 and state.lines:
             text += ": " + state.lines[0]
-        self.text(self.x(begin) + 11, y + 14, fitting(text, room))
+        self.text(self.x(begin) + (7 if begin == shape.begin else 11), y + 14, fitting(text, room))
         self.add("</g>")
 
     def draw(self, shape, row):

@@ -139,6 +139,17 @@ impl Origins {
         Ok(())
     }
 
+    // A box that has a copy, with its frames and as an alternative.
+    fn copy_box(
+        &mut self,
+        inner: &InnerBox,
+        copy: &BoxCopy,
+        names: &mut BTreeMap<Name, Name>,
+    ) -> Result<(), AllocError> {
+        self.copy_frames(inner, copy, names)?;
+        self.copy_alternative(inner, copy)
+    }
+
     /// A box is split at an alternative: it and the boxes inside it have copies but the alternative.
     pub fn split(
         &mut self,
@@ -148,13 +159,14 @@ impl Origins {
         copies: &[BoxCopy],
     ) -> Result<(), AllocError> {
         let mut names = BTreeMap::new(alloc);
-        let boxes = inside.boxes.iter();
-        for (inner, copy) in boxes
-            .filter(|inner| inner.name != alternative)
-            .zip(copies.iter())
-        {
-            self.copy_frames(inner, copy, &mut names)?;
-            self.copy_alternative(inner, copy)?;
+        let mut at = 0usize;
+        for inner in &inside.boxes {
+            if inner.name != alternative {
+                if let Some(copy) = copies.get(at) {
+                    self.copy_box(inner, copy, &mut names)?;
+                }
+                at = at.saturating_add(1);
+            }
         }
         self.copy_all_calls(alternative, inside, copies, &names)
     }
@@ -167,12 +179,14 @@ impl Origins {
         copies: &[BoxCopy],
         names: &BTreeMap<Name, Name>,
     ) -> Result<(), AllocError> {
-        let boxes = inside.boxes.iter();
-        for (inner, copy) in boxes
-            .filter(|inner| inner.name != alternative)
-            .zip(copies.iter())
-        {
-            self.copy_calls(inner, copy, names)?;
+        let mut at = 0usize;
+        for inner in &inside.boxes {
+            if inner.name != alternative {
+                if let Some(copy) = copies.get(at) {
+                    self.copy_calls(inner, copy, names)?;
+                }
+                at = at.saturating_add(1);
+            }
         }
         Ok(())
     }

@@ -1,6 +1,7 @@
 //! A run that is made once more, a label at a time.
 
 ghost use Rattle.std.specs.Prelude.{◌≡◌};
+ghost use Rattle.place_steps.specs.Seen.{view_in, IsSight, IsSeen};
 ghost use Rattle.step_commit.specs.Cores.{MayCommit};
 
 use crate::candidates::candidate_for;
@@ -125,6 +126,33 @@ impl Replay {
         }
     }
 
+    // Makes the step of a label whose place was seen.
+    fn step_at(
+        &mut self,
+        alloc: Global,
+        program: &Program,
+        names: &SourceNames,
+        seen: &Seen,
+        label: Label,
+        wanted: bool,
+    ) -> Result<Replayed, AllocError>
+        requires program { program.now ≡ self.old.core.table.program }
+        requires seen { IsSeen seen.now }
+        requires sight { IsSight self.old.core label.place label.worker (view_in seen.now) }
+        ensures { self.new.core.table.program ≡ self.old.core.table.program }
+    {
+        match next_of(alloc, program, seen)? {
+            Next::Plan(plan) => {
+                if plan.label().alternative == label.alternative {
+                    self.make(alloc, program, names, seen, plan, wanted)
+                } else {
+                    Ok(Replayed::Refused)
+                }
+            }
+            Next::Idle(_idle) => Ok(Replayed::Refused),
+        }
+    }
+
     /// Makes the step of a label, and its sentence where one is wanted.
     pub fn step(
         &mut self,
@@ -138,14 +166,9 @@ impl Replay {
         ensures { self.new.core.table.program ≡ self.old.core.table.program }
     {
         let candidate = candidate_for(alloc, &self.core, &self.origins, label)?;
-        let Some(seen) = see(alloc, &self.core, label.place, label.worker, candidate)? else {
-            return Ok(Replayed::Refused);
-        };
-        match next_of(alloc, program, &seen)? {
-            Next::Plan(plan) if plan.label().alternative == label.alternative => {
-                self.make(alloc, program, names, &seen, plan, wanted)
-            }
-            _ => Ok(Replayed::Refused),
+        match see(alloc, &self.core, label.place, label.worker, candidate)? {
+            Some(seen) => self.step_at(alloc, program, names, &seen, label, wanted),
+            None => Ok(Replayed::Refused),
         }
     }
 }
