@@ -58,10 +58,6 @@ refused_or_memory stop q = on (query_or_memory q)
     on (inl i) = inl i
     on (inr m) = inr (is_stop stop m.0 m.1)
 
-pub memory_stays : {s : Status} {f : Refusal} (stop : Stop) → (stop.status ≡ Status.Query → ⊥) → (stop.status ≡ Status.Query) ⊎ IsStop Status.NoMemory Refusal.Nothing stop → IsStop Status.NoMemory Refusal.Nothing stop
-memory_stays stop n (inl i) = absurd (n i)
-memory_stays stop n (inr i) = i
-
 -- ---- a query that was run
 
 some_same : {X : Type 0} {x y : X} → Some x ≡ Some y → x ≡ y

@@ -1,17 +1,19 @@
 -- Answers that were put in the places of their queries.
-use Rattle.std.proofs.Common.{◌≡◌, ◌<◌, ℕ, List, [], ◌∷◌, ◌++◌, ◌+◌, length, take, get_or, Option, Some, None, IfSome, Result, Ok, Err, IfOk, IfErr, Vec, Global, sym, ap, subst, ◌∙◌, arith}
+use Rattle.std.proofs.Common.{◌≡◌, ◌<◌, ℕ, List, [], ◌∷◌, ◌++◌, ◌+◌, length, map, take, get_or, Option, Some, None, IfSome, Result, Ok, Err, IfOk, IfErr, Vec, Global, sym, ap, subst, ◌∙◌, arith}
 use Rattle.std.specs.List.{All, AllZip, slice_get}
+use Rattle.std.specs.Result.{IsErrAnd}
 use Rattle.std.proofs.lemmas.List.{take_more}
 use Rattle.std.proofs.lemmas.Option.{slice_get_within}
 use Rattle.std.proofs.lemmas.Slice.Zip.{AllZip-long, all_zipped_more}
 use Rattle.std.proofs.lemmas.List.Elements.{All-weaker}
 use Rattle.std.proofs.Math.ListN.{set}
+use Rattle.akl_args.specs.Queries.{queries_in}
 use Rattle.akl_run.specs.declared.stop.Stop.{Stop}
 use Rattle.akl_batch.specs.declared.hands.Answered.{Answered}
 use Rattle.akl_batch.specs.declared.reply.Answer.{Answer}
 use Rattle.akl_batch.specs.Replies.{IsAnswer}
 use Rattle.akl_batch.specs.Steps.{AreAnswers, IsAnswered, IsHandful, FitPlaces, StopsAs, AreWithin, IsHandfulWithin, PutsInto, GathersInto, StopsOneOf}
-use Rattle.akl_batch.proofs.Places.{zip_set, zip_at, zip_none, all_front, all_next}
+use Rattle.akl_batch.proofs.Places.{zip_set, zip_at, zip_none, zip_map, all_front, all_next}
 
 pub puts_none : (places : List (Option Answer)) → PutsInto [] places places
 puts_none places program queries budget all fit = fit
@@ -41,6 +43,11 @@ gathers_more handfuls r v old middle new e gathers puts program queries budget a
 
 pub stops_one : (handfuls : List (Result (Vec Answered Global) Stop)) (r : Result (Vec Answered Global) Stop) (rest : List (Result (Vec Answered Global) Stop)) (stop : Stop) → r ≡ Err stop → StopsOneOf (handfuls ++ r ∷ rest) stop
 stops_one handfuls r rest stop e program queries budget all = stop_in e (all_next (IsHandful program queries budget) handfuls r rest all)
+
+-- a worker that stopped gives no answers
+pub stopped_handful : (program : List ℕ) (queries : List (Vec ℕ Global)) (budget : ℕ) {P : Stop → Type 0} (r : Result (Vec Answered Global) Stop) → IsErrAnd r P → ((stop : Stop) → P stop → StopsAs program stop) → IsHandful program queries budget r
+stopped_handful program queries budget (Ok v) h f = absurd h
+stopped_handful program queries budget (Err stop) h f = record { answered = tt; stop = f stop h }
 
 -- the numbers of answers to queries are below the number of places that fit these
 handful_within : (program : List ℕ) (queries : List (Vec ℕ Global)) (budget count : ℕ) → count ≡ length queries → (r : Result (Vec Answered Global) Stop) → IsHandful program queries budget r → IsHandfulWithin count r
@@ -80,3 +87,9 @@ pub more_answers : (program : List ℕ) (queries : List (Vec ℕ Global)) (budge
 more_answers program queries budget at query answers a inside is before one =
     subst (λ (qs : List (Vec ℕ Global)). AreAnswers program qs budget (answers ++ a ∷ [])) (sym (take_more queries at query inside ∙ ap (λ (q : Vec ℕ Global). take at queries ++ q ∷ []) (sym is)))
     (all_zipped_more (λ query answer. IsAnswer program query.items budget answer) (take at queries) answers query a before one)
+
+-- the answers to the queries of a text
+pub answers_of_text : (program : List ℕ) (queries : List (Vec ℕ Global)) (budget : ℕ) (answers : List Answer) (text : List ℕ) → map (λ query. query.items) queries ≡ queries_in text → AreAnswers program queries budget answers
+    → AllZip (λ query answer. IsAnswer program query budget answer) (queries_in text) answers
+answers_of_text program queries budget answers text e h =
+    subst (λ (qs : List (List ℕ)). AllZip (λ query answer. IsAnswer program query budget answer) qs answers) e (zip_map (λ query answer. IsAnswer program query budget answer) (λ query. query.items) queries answers h)

@@ -13,8 +13,8 @@ texts_more number at (t ∷ texts) text is =
     ap (λ (xs : List ℕ). numbered number t ++ xs) (texts_more (suc number) at texts text (omega (arith, is))) ∙ sym (append_assoc (numbered number t) (texts_from (suc number) texts) (numbered at text))
 
 -- the replies and the text of the answers so far
-pub record HasGathered (answers : List Answer) (replies : List Reply) (text : List ℕ) : Type 0 where
-  pub replies : replies ≡ map (λ a. a.reply) answers
+pub record HasGathered (answers : List Answer) (rs : List Reply) (text : List ℕ) : Type 0 where
+  pub replies : rs ≡ map (λ a. a.reply) answers
   pub is_text : text ≡ texts_from 1 (map (λ a. a.text.items) answers)
 
 pub gathered_none : HasGathered [] [] []

@@ -96,8 +96,8 @@ pub record AreAnswersOf (words : List (List ℕ)) (before after : Side) (answers
   pub are_answers : AllZip (λ query answer. IsAnswer program query options.budget answer) (queries_in options.text) answers
 
 -- the replies of answers, and the text of them all
-pub record AreGathered (answers : List Answer) (replies : List Reply) (text : List ℕ) : Type 0 where
-  pub replies : replies ≡ map (λ a. a.reply) answers
+pub record AreGathered (answers : List Answer) (rs : List Reply) (text : List ℕ) : Type 0 where
+  pub replies : rs ≡ map (λ a. a.reply) answers
   pub is_text : text ≡ batch_text (map (λ a. a.text.items) answers)
 
 -- how the writing of a text ended, with a status and so many bytes: it was written whole, or up to a fault
@@ -106,9 +106,9 @@ pub data EndsWriting (before after : Side) (text : List ℕ) : Status → ℕ �
   fault : (front rest : List ℕ) → front ++ rest ≡ text → 0 < length rest → after.bytes ≡ append_known before.bytes front → HasFaulted before after → EndsWriting before after text Status.WriteFault (length front)
 
 -- the report of replies whose text was written
-pub record IsWritten (replies : List Reply) (text : List ℕ) (before after : Side) (r : BatchReport) : Type 0 where
+pub record IsWritten (rs : List Reply) (text : List ℕ) (before after : Side) (r : BatchReport) : Type 0 where
   pub refusal : r.refusal ≡ Refusal.Nothing
-  pub replies : r.replies.items ≡ replies
+  pub replies : r.replies.items ≡ rs
   pub writing : EndsWriting before after text r.status r.written
 
 -- the report of a batch that stopped: there are no replies

@@ -1,5 +1,21 @@
-use Rattle.akl_batch.proofs.Gathered.{places_none}
+use Rattle.akl_run.proofs.Loading.{from_error}
+use Rattle.akl_batch.proofs.Gathered.{places_none, handfuls_within}
+use Rattle.akl_batch.proofs.Stopping.{memory_stops}
 use Rattle.akl_batch.proofs.hands.answer_all.Goals as goal
+
+pub returns-in_err-handfuls-clause-stop : goal.returns-in_err-handfuls-clause-stop
+returns-in_err-handfuls-clause-stop g c = from_error c.from_residual.result c.from_residual.ensures.1 (λ stop i. memory_stops c.args.program.now stop i)
+
+pub returns-in_err-places-clause-stop : goal.returns-in_err-places-clause-stop
+returns-in_err-places-clause-stop g c = from_error c.from_residual-in_err-places.result c.from_residual-in_err-places.ensures.1 (λ stop i. memory_stops c.args.program.now stop i)
+
+pub gather-requires : goal.gather-requires
+gather-requires g c = handfuls_within c.args.program.now c.args.queries.now c.args.budget _ c.in_ok-places.ensures.count c.in_ok-handfuls.handfuls.items c.in_ok-handfuls.ensures
+
+pub returns-in_err-gather-clause-stop : goal.returns-in_err-gather-clause-stop
+returns-in_err-gather-clause-stop g c =
+    from_error c.from_residual-in_err-gather.result c.from_residual-in_err-gather.ensures.1
+    (λ stop i. rw i (c.in_err-gather.ensures.stop c.args.program.now c.args.queries.now c.args.budget c.in_ok-handfuls.ensures))
 
 pub in_order-requires-clause-places : goal.in_order-requires-clause-places
 in_order-requires-clause-places g c κs within =

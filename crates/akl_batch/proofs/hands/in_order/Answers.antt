@@ -1,9 +1,11 @@
 use Rattle.std.proofs.Common.{◌≡◌, ◌<◌, ◌∙◌, length, arith, refl, sym, ap, subst, Some, Option}
 use Rattle.std.specs.List.{slice_get}
 use Rattle.std.proofs.lemmas.Option.{slice_get_read}
+use Rattle.akl_run.proofs.Loading.{from_error}
 use Rattle.akl_batch.specs.declared.reply.Answer.{Answer}
 use Rattle.akl_batch.specs.Replies.{IsAnswer}
 use Rattle.akl_batch.proofs.Gathered.{places_count, taken_answer, places_left, more_answers}
+use Rattle.akl_batch.proofs.Stopping.{memory_stops}
 use Rattle.akl_batch.proofs.hands.in_order.Goals.{in-Some, in-None+in_ok-answer-in-None}
 use Rattle.akl_batch.proofs.hands.in_order.Goals as goal
 
@@ -35,3 +37,6 @@ loop-at-preserved g c =
       places = places_left program queries budget c.loop-at.places.items at query c.take.new.self c.loop-at.invariant.places asked c.take.ensures.after;
       answers = rw c.in_ok-push.ensures.items (more_answers program queries budget at query c.loop-at.answers.items c.match-take.answer inside c.index-queries-at.is c.loop-at.invariant.answers one);
     }
+
+pub returns-in_err-push-clause-stop : goal.returns-in_err-push-clause-stop
+returns-in_err-push-clause-stop g c = from_error c.from_residual-in_err-push.result c.from_residual-in_err-push.ensures.1 (λ stop i. memory_stops c.args.program.now stop i)
