@@ -1,5 +1,5 @@
 -- How the process ends, and what standard output and standard error get.
-use Rattle.std.specs.Prelude.{◌≡◌, ℕ, ◌⊎◌, List, None, codes}
+use Rattle.std.specs.Prelude.{◌≡◌, ℕ, true, false, ◌⊎◌, List, None, IfSome, codes}
 use Rattle.std.specs.Io.KnownBytes.{append_known}
 use Rattle.std.specs.declared.io.ErrorKind.{ErrorKind}
 use Rattle.std.specs.declared.io.ErrorKind.TheVariants.{OutOfMemory}
@@ -12,6 +12,8 @@ use Rattle.akl_run.specs.Commands.{Side, HasFaulted, IsReported}
 use Rattle.akl_batch.specs.declared.reply.BatchReport.{BatchReport}
 use Rattle.akl_batch.specs.Batches.{IsBatchReported}
 use Rattle.akl.specs.declared.ending.Ending.{Ending}
+use Rattle.akl.specs.Notices.{notice_of}
+use Rattle.akl.specs.Words.{is_batch}
 
 -- the text was appended whole, or a write failed
 abbrev pub Says : List ℕ → Side → Side → Type 0
@@ -29,6 +31,11 @@ words_status _ = Status.Words
 abbrev pub words_refusal : ErrorKind → Refusal
 words_refusal OutOfMemory = Refusal.Nothing
 words_refusal _ = Refusal.Words (Unknown 0)
+
+-- there are no words, and the process ends with what says why
+pub record IsRefused (kind : ErrorKind) (errors errors' : Side) (ending : Ending) : Type 0 where
+  pub status : ending.status ≡ words_status kind
+  pub line : SaysWhy (words_status kind) (words_refusal kind) errors errors'
 
 -- the notice was printed, or standard output failed, and then standard error says so
 abbrev pub Notifies : List ℕ → Side → Side → Side → Side → Ending → Type 0
@@ -49,3 +56,9 @@ pub record AnswersBatch (words : List (List ℕ)) (program program' out out' err
   pub reported : IsBatchReported (record { words = words; source = program; source_after = program'; sink = out; sink_after = out'; report = report })
   pub status : ending.status ≡ report.status
   pub line : SaysWhy report.status report.refusal errors errors'
+
+-- by the words a notice was printed, or a query or a batch was run
+pub record IsDone (help version : List ℕ) (words : List (List ℕ)) (program program' out out' errors errors' : Side) (ending : Ending) : Type 0 where
+  pub notice : IfSome (notice_of help version words) (λ text. Notifies text out out' errors errors' ending)
+  pub query : notice_of help version words ≡ None → is_batch words ≡ false → Answers words program program' out out' errors errors' ending
+  pub batch : notice_of help version words ≡ None → is_batch words ≡ true → AnswersBatch words program program' out out' errors errors' ending

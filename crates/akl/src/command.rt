@@ -1,11 +1,13 @@
 //! A whole command, over any source and sinks.
-ghost use Rattle.std.specs.Prelude.{◌≡◌, None, IfSome, true, false};
+ghost use Rattle.std.specs.Prelude.{◌≡◌, ◌⊎◌, IfOk, IfErr, IfSome};
 ghost use Rattle.std.specs.IoError.{error_kind};
+ghost use Rattle.std.specs.Vec.Iter.{into_iter_items};
+ghost use Rattle.std.specs.declared.io.ErrorKind.TheVariants.{OutOfMemory};
 ghost use Rattle.akl_run.specs.Commands.{side};
 ghost use Rattle.akl_run.specs.Words.{bytes_of};
 ghost use Rattle.akl.specs.Words.{words_behind, is_batch};
 ghost use Rattle.akl.specs.Notices.{notice_of};
-ghost use Rattle.akl.specs.Endings.{Notifies, Answers, AnswersBatch, SaysWhy, words_status, words_refusal};
+ghost use Rattle.akl.specs.Endings.{IsDone, IsRefused};
 
 use crate::ending::Ending;
 use crate::notice::{HELP, VERSION, notice};
@@ -13,14 +15,56 @@ use akl_args::WordsError;
 use akl_batch::run_batch;
 use akl_outside::{NoGate, Sink, Source};
 use akl_run::{Refusal, Status, run_akl};
-use std::alloc::Global;
+use std::alloc::{AllocError, Global};
+use std::env::Args;
 use std::io;
 use std::sync::Wait;
 use std::thread::Threads;
 
-/// Does what the words behind the program's name, which is the first, ask: prints a notice, or runs a query or a batch of
-/// them. Says how the process is to end.
+/// Does what a command line asks: prints a notice, or runs a query or a batch of them. `given` are its words, the program's
+/// name first, or why there are none: for want of memory, or since they are no text. Says how the process is to end. Where
+/// there is no memory for the words, it is as with none.
 pub fn run<R: Threads + Wait + Sync, S: Source, K: Sink, E: Sink>(
+    rt: &R,
+    alloc: Global,
+    given: io::Result<Args>,
+    program: &mut S,
+    out: &mut K,
+    errors: &mut E,
+) -> Ending
+    ensures refused { IfErr given (λ error. IsRefused (error_kind error)
+        (side (E.written errors.old) (E.faults errors.old)) (side (E.written errors.new) (E.faults errors.new)) result) }
+    ensures done { IfOk given (λ words. IsRefused OutOfMemory
+        (side (E.written errors.old) (E.faults errors.old)) (side (E.written errors.new) (E.faults errors.new)) result
+        ⊎ IsDone HELP.now VERSION.now (words_behind (into_iter_items words))
+        (side (S.left program.old) (S.faults program.old)) (side (S.left program.new) (S.faults program.new))
+        (side (K.written out.old) (K.faults out.old)) (side (K.written out.new) (K.faults out.new))
+        (side (E.written errors.old) (E.faults errors.old)) (side (E.written errors.new) (E.faults errors.new)) result) }
+    ensures source { IfOk given (λ words. IfSome (notice_of HELP.now VERSION.now (words_behind (into_iter_items words))) (λ _. program.new ≡ program.old)) }
+{
+    let given = match given {
+        Ok(given) => given,
+        Err(error) => return refuse_words(alloc, error.kind(), errors),
+    };
+    match all_words(alloc, given) {
+        Ok(words) => run_words(rt, alloc, &words, program, out, errors),
+        Err(_) => refuse_words(alloc, io::ErrorKind::OutOfMemory, errors),
+    }
+}
+
+// The words in order. An `Err` comes for want of memory.
+fn all_words(alloc: Global, given: Args) -> Result<Vec<String>, AllocError>
+    ensures { IfOk result (λ words. words.items ≡ into_iter_items given) }
+{
+    let mut words = Vec::new(alloc);
+    for word in given {
+        words.push(word)?;
+    }
+    Ok(words)
+}
+
+// Does what the words behind the program's name, which is the first, ask.
+fn run_words<R: Threads + Wait + Sync, S: Source, K: Sink, E: Sink>(
     rt: &R,
     alloc: Global,
     given: &[String],
@@ -28,21 +72,11 @@ pub fn run<R: Threads + Wait + Sync, S: Source, K: Sink, E: Sink>(
     out: &mut K,
     errors: &mut E,
 ) -> Ending
-    ensures notice { IfSome (notice_of HELP.now VERSION.now (words_behind given.now)) (λ text.
-        Notifies text
+    ensures done { IsDone HELP.now VERSION.now (words_behind given.now)
+        (side (S.left program.old) (S.faults program.old)) (side (S.left program.new) (S.faults program.new))
         (side (K.written out.old) (K.faults out.old)) (side (K.written out.new) (K.faults out.new))
-        (side (E.written errors.old) (E.faults errors.old)) (side (E.written errors.new) (E.faults errors.new)) result) }
+        (side (E.written errors.old) (E.faults errors.old)) (side (E.written errors.new) (E.faults errors.new)) result }
     ensures source { IfSome (notice_of HELP.now VERSION.now (words_behind given.now)) (λ _. program.new ≡ program.old) }
-    ensures query { notice_of HELP.now VERSION.now (words_behind given.now) ≡ None → is_batch (words_behind given.now) ≡ false →
-        Answers (words_behind given.now)
-        (side (S.left program.old) (S.faults program.old)) (side (S.left program.new) (S.faults program.new))
-        (side (K.written out.old) (K.faults out.old)) (side (K.written out.new) (K.faults out.new))
-        (side (E.written errors.old) (E.faults errors.old)) (side (E.written errors.new) (E.faults errors.new)) result }
-    ensures batch { notice_of HELP.now VERSION.now (words_behind given.now) ≡ None → is_batch (words_behind given.now) ≡ true →
-        AnswersBatch (words_behind given.now)
-        (side (S.left program.old) (S.faults program.old)) (side (S.left program.new) (S.faults program.new))
-        (side (K.written out.old) (K.faults out.old)) (side (K.written out.new) (K.faults out.new))
-        (side (E.written errors.old) (E.faults errors.old)) (side (E.written errors.new) (E.faults errors.new)) result }
 {
     let words = behind_name(given);
     if let Some(text) = notice(words) {
@@ -79,13 +113,11 @@ fn is_batch(words: &[String]) -> bool
     }
 }
 
-/// Says why there are no words: for want of memory, or since they are no text.
-pub fn refuse_words<E: Sink>(alloc: Global, error: &io::Error, errors: &mut E) -> Ending
-    ensures status { result.status ≡ words_status (error_kind error.now) }
-    ensures line { SaysWhy (words_status (error_kind error.now)) (words_refusal (error_kind error.now))
-        (side (E.written errors.old) (E.faults errors.old)) (side (E.written errors.new) (E.faults errors.new)) }
+// Says why there are no words: for want of memory, or since they are no text.
+fn refuse_words<E: Sink>(alloc: Global, kind: io::ErrorKind, errors: &mut E) -> Ending
+    ensures { IsRefused kind (side (E.written errors.old) (E.faults errors.old)) (side (E.written errors.new) (E.faults errors.new)) result }
 {
-    let (status, refusal) = match error.kind() {
+    let (status, refusal) = match kind {
         io::ErrorKind::OutOfMemory => (Status::NoMemory, Refusal::Nothing),
         _ => (Status::Words, Refusal::Words(WordsError::Unknown { at: 0 })),
     };
