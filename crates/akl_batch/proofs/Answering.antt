@@ -1,6 +1,5 @@
 -- The answer to one query.
-use Rattle.std.proofs.Common.{◌≡◌, ◌<◌, ◌≤◌, ℕ, List, [], ◌++◌, length, map, Option, Some, Bool, false, refl, sym, ap, ap₂, subst, ◌∙◌, ◌⊎◌, inl, inr}
-use Rattle.std.specs.Io.KnownBytes.{append_known}
+use Rattle.std.proofs.Common.{◌≡◌, ◌<◌, ◌≤◌, ℕ, List, [], ◌++◌, length, map, Some, Bool, false, refl, sym, ap, ap₂, subst, ◌∙◌, ◌⊎◌, inl, inr}
 use Rattle.akl_terms.specs.declared.program.Program.{Program}
 use Rattle.akl_lexemes.specs.declared.error.SyntaxError.{SyntaxError}
 use Rattle.akl_lexemes.specs.declared.error.SyntaxError.TheVariants.{TooLong}
@@ -11,7 +10,7 @@ use Rattle.akl_run.specs.declared.report.Report.{Report}
 use Rattle.akl_run.specs.declared.loaded.Loaded.{Loaded}
 use Rattle.akl_run.specs.declared.evaluate.Evaluated.{Evaluated}
 use Rattle.akl_run.specs.declared.stop.Stop.{Stop}
-use Rattle.akl_run.specs.Loads.{IsLoadedProgram, IsLoadedQuery, IsLoadedFrom, QueryStops, by_text, by_loading, no_memory}
+use Rattle.akl_run.specs.Loads.{IsLoadedProgram, QueryStops, by_text, by_loading, no_memory}
 use Rattle.akl_run.specs.Text.{IsRunText}
 use Rattle.akl_run.specs.Reports.{IsStatusOf}
 use Rattle.akl_run.specs.Evaluations.{IsEvaluated}
@@ -23,7 +22,7 @@ use Rattle.akl_run.specs.Steps.{IsAnsweredAlone, IsWritten, EndsWriting, whole, 
 use Rattle.akl_run.proofs.Evaluated.{run_by, of_loaded}
 use Rattle.akl_batch.specs.declared.page.Page.{Page}
 use Rattle.akl_batch.specs.declared.reply.Answer.{Answer}
-use Rattle.akl_batch.specs.Replies.{IsRefusedFor, too_long, unloaded, IsOwn, ran, refused, refused_text, IsAnswer}
+use Rattle.akl_batch.specs.Replies.{IsRefusedFor, too_long, unloaded, ran, refused, refused_text, IsAnswer}
 use Rattle.akl_batch.specs.Steps.{SaysWhy, IsTakenFrom, AnswersLoaded}
 
 -- ---- a query that is refused

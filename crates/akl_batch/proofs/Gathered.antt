@@ -12,7 +12,7 @@ use Rattle.akl_run.specs.declared.stop.Stop.{Stop}
 use Rattle.akl_batch.specs.declared.hands.Answered.{Answered}
 use Rattle.akl_batch.specs.declared.reply.Answer.{Answer}
 use Rattle.akl_batch.specs.Replies.{IsAnswer}
-use Rattle.akl_batch.specs.Steps.{AreAnswers, IsAnswered, IsHandful, FitPlaces, StopsAs, AreWithin, IsHandfulWithin, PutsInto, GathersInto, StopsOneOf}
+use Rattle.akl_batch.specs.Steps.{AreAnswers, IsAnswered, IsHandful, FitPlaces, StopsAs, IsHandfulWithin, PutsInto, GathersInto, StopsOneOf}
 use Rattle.akl_batch.proofs.Places.{zip_set, zip_at, zip_none, zip_map, all_front, all_next}
 
 pub puts_none : (places : List (Option Answer)) → PutsInto [] places places

@@ -1,7 +1,6 @@
 -- A query is refused in one way, and its own reply says so.
-use Rattle.std.proofs.Common.{◌≡◌, ◌<◌, ◌≤◌, ℕ, List, [], ◌∷◌, length, map, refl, sym, ap, ◌⊎◌, inl, inr, arith}
+use Rattle.std.proofs.Common.{◌≡◌, ℕ, List, [], ◌∷◌, map, refl, ◌⊎◌, inl, inr, arith}
 use Rattle.std.specs.List.{AllZip}
-use Rattle.akl_run.specs.declared.report.Status.{Status}
 use Rattle.akl_run.specs.declared.report.Refusal.{Refusal}
 use Rattle.akl_run.proofs.Exact.{same_query_stop, asked_or_stopped}
 use Rattle.akl_batch.specs.declared.reply.Reply.{Reply}

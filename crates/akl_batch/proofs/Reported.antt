@@ -1,5 +1,5 @@
 -- What a report says follows from how its batch ended.
-use Rattle.std.proofs.Common.{◌≡◌, ◌<◌, ℕ, List, [], ◌++◌, length, take, map, Some, Result, Ok, Err, refl, sym, ap, subst, ◌∙◌, ◌⊎◌, inl, inr, append-nil}
+use Rattle.std.proofs.Common.{◌≡◌, ℕ, List, [], ◌++◌, length, take, map, Some, Result, Ok, Err, refl, sym, ap, subst, ◌∙◌, ◌⊎◌, inl, inr, append-nil}
 use Rattle.std.specs.Io.KnownBytes.{append_known}
 use Rattle.akl_terms.specs.declared.program.Program.{Program}
 use Rattle.akl_args.specs.declared.batch.BatchOptions.{BatchOptions}
@@ -11,12 +11,11 @@ use Rattle.akl_run.specs.declared.report.Refusal.{Refusal}
 use Rattle.akl_run.specs.declared.stop.Stop.{Stop}
 use Rattle.akl_run.specs.Loads.{IsLoadedProgram, ProgramStops}
 use Rattle.akl_run.specs.Loads as loads
-use Rattle.akl_run.specs.Commands.{Side, HasFaulted, HasWorked, IsRead, ReadStops, fault, no_memory_read, IsFault}
+use Rattle.akl_run.specs.Commands.{Side, HasFaulted, HasWorked, fault, no_memory_read, IsFault}
 use Rattle.akl_run.proofs.Exact.{read_front, same_program_stop, loaded_or_stopped, both}
 use Rattle.akl_batch.specs.declared.reply.Answer.{Answer}
 use Rattle.akl_batch.specs.declared.reply.Reply.{Reply}
 use Rattle.akl_batch.specs.Replies.{AreReplies}
-use Rattle.akl_batch.specs.Text.{batch_text}
 use Rattle.akl_batch.specs.Batches.{Batch, IsAskedBy, Stops, by_words, by_reading, by_program, Wrote, WroteAll, WrotePart, WroteNothing, IsEarly, IsLate, IsUnlessFault, WordsEnd, Asks, ProgramEnds, IsComplete, IsBatchReported}
 use Rattle.akl_batch.specs.Batches as batches
 use Rattle.akl_batch.specs.Steps.{AreAnswersOf, AreGathered, EndsWriting, IsWritten, IsStopped}

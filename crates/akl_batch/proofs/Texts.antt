@@ -1,9 +1,9 @@
 -- The text of a batch, as it is made.
-use Rattle.std.proofs.Common.{◌≡◌, ℕ, suc, ◌+◌, List, [], ◌∷◌, ◌++◌, length, map, refl, sym, ap, subst, ◌∙◌, append_assoc, append-nil, arith}
+use Rattle.std.proofs.Common.{◌≡◌, ℕ, suc, ◌+◌, List, [], ◌∷◌, ◌++◌, length, map, refl, sym, ap, ◌∙◌, append_assoc, append-nil, arith}
 use Rattle.std.proofs.lemmas.List.{map-append, length-map}
 use Rattle.akl_batch.specs.declared.reply.Answer.{Answer}
 use Rattle.akl_batch.specs.declared.reply.Reply.{Reply}
-use Rattle.akl_batch.specs.Text.{numbered, texts_from, last_line, batch_text}
+use Rattle.akl_batch.specs.Text.{numbered, texts_from, last_line}
 use Rattle.akl_batch.specs.Steps.{AreGathered}
 
 -- one more text

@@ -187,6 +187,42 @@ fn show_progress(rt: &impl Eprint, shown: Shown<'_>, at: u64, count: u64) -> io:
     Ok(())
 }
 
+// Makes the step of a label, and shows it where that is wanted. Answers whether it could be made.
+fn make_step(
+    rt: &impl Print,
+    alloc: Global,
+    shown: Shown<'_>,
+    replay: &mut Replay,
+    at: u64,
+    label: &Label,
+    wanted: bool,
+) -> io::Result<bool>
+    requires { shown.ready.now.loaded.program ≡ replay.old.core.table.program }
+    ensures { replay.new.core.table.program ≡ replay.old.core.table.program }
+{
+    let program = &shown.ready.loaded.program;
+    match replay.step(alloc, program, &shown.ready.names, *label, wanted)? {
+        Replayed::Refused => Ok(false),
+        Replayed::Made(sentence) => {
+            if wanted {
+                let sentence = sentence.as_str();
+                show_step(
+                    rt,
+                    alloc,
+                    shown,
+                    replay,
+                    Made {
+                        at,
+                        label,
+                        sentence,
+                    },
+                )?;
+            }
+            Ok(true)
+        }
+    }
+}
+
 // Makes the steps of these labels and shows those that are asked. Answers whether all could be made.
 fn show_steps(
     rt: &(impl Print + Eprint),
@@ -199,32 +235,15 @@ fn show_steps(
     ensures { replay.new.core.table.program ≡ replay.old.core.table.program }
 {
     let count = labels.len() as u64;
-    let program = &shown.ready.loaded.program;
-    let names = &shown.ready.names;
-    for (k, label) in labels.iter().enumerate() {
-        let at = (k as u64).saturating_add(1);
-        let wanted = is_shown(shown.asked, at, count);
-        if at > shown.asked.to {
+    let mut at: u64 = 0;
+    for label in labels {
+        if at == shown.asked.to {
             return Ok(true);
         }
-        match replay.step(alloc, program, names, *label, wanted)? {
-            Replayed::Refused => return Ok(false),
-            Replayed::Made(sentence) => {
-                if wanted {
-                    let sentence = sentence.as_str();
-                    show_step(
-                        rt,
-                        alloc,
-                        shown,
-                        replay,
-                        Made {
-                            at,
-                            label,
-                            sentence,
-                        },
-                    )?;
-                }
-            }
+        at = at.saturating_add(1);
+        let wanted = is_shown(shown.asked, at, count);
+        if !make_step(rt, alloc, shown, replay, at, label, wanted)? {
+            return Ok(false);
         }
         show_progress(rt, shown, at, count)?;
     }

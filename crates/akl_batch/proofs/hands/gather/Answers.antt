@@ -1,8 +1,5 @@
-use Rattle.std.proofs.Common.{◌∙◌, List, Vec, Global, Result, subst}
-use Rattle.akl_run.specs.declared.stop.Stop.{Stop}
-use Rattle.akl_batch.specs.declared.hands.Answered.{Answered}
-use Rattle.akl_batch.specs.Steps.{GathersInto}
-use Rattle.akl_batch.proofs.Places.{one_yielded, all_yielded}
+use Rattle.std.proofs.Common.{◌∙◌}
+use Rattle.akl_batch.proofs.Places.{one_yielded}
 use Rattle.akl_batch.proofs.Gathered.{gathers_more}
 use Rattle.akl_batch.proofs.hands.gather.Goals as goal
 

@@ -1,8 +1,6 @@
-use Rattle.std.proofs.Common.{List, ap, subst, refl, ◌∙◌}
-use Rattle.akl_batch.specs.declared.reply.Answer.{Answer}
-use Rattle.akl_batch.specs.Text.{last_line}
-use Rattle.akl_batch.proofs.Places.{one_yielded, all_yielded}
-use Rattle.akl_batch.proofs.Texts.{HasGathered, gathered_none, gathered_more, gathered_all}
+use Rattle.std.proofs.Common.{refl}
+use Rattle.akl_batch.proofs.Places.{one_yielded}
+use Rattle.akl_batch.proofs.Texts.{gathered_more}
 use Rattle.akl_batch.proofs.run.gathered.Goals as goal
 
 pub loop-answer-preserved : goal.loop-answer-preserved

@@ -1,4 +1,4 @@
-use Rattle.std.proofs.Common.{List, ℕ, refl, subst}
+use Rattle.std.proofs.Common.{refl}
 use Rattle.akl_run.specs.Words.{bytes_of}
 use Rattle.akl_run.specs.Commands.{side}
 use Rattle.akl_batch.specs.Steps.{AreGathered}
