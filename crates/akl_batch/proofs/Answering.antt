@@ -20,7 +20,7 @@ use Rattle.akl_run.specs.Written.{HasWritten}
 use Rattle.akl_run.specs.Stops.{IsStop}
 use Rattle.akl_run.specs.Steps.{IsAnsweredAlone, IsWritten, EndsWriting, whole, fault, memory}
 use Rattle.akl_run.proofs.Evaluated.{run_by, of_loaded}
-use Rattle.akl_batch.specs.declared.page.Page.{Page}
+use Rattle.akl_batch.specs.declared.text_sink.TextSink.{TextSink}
 use Rattle.akl_batch.specs.declared.reply.Answer.{Answer}
 use Rattle.akl_batch.specs.Replies.{IsRefusedFor, too_long, unloaded, ran, refused, refused_text, IsAnswer}
 use Rattle.akl_batch.specs.Steps.{SaysWhy, IsTakenFrom, AnswersLoaded}
@@ -68,11 +68,11 @@ written_whole (fault b) n m = absurd (n refl)
 written_whole (memory b) n m = absurd (m refl)
 
 module _ (l : Loaded) (budget : ℕ) (e : Evaluated) (i : IsEvaluated l 1 budget false e) where
-  taken_from : (r : Report) (start page : Page) (a : Answer) → start.bytes.items ≡ [] → IsWritten e (side (Some start.bytes.items) start.faults) (side (Some page.bytes.items) page.faults) r → IsTakenFrom r page a
-      → HasWritten e (record { sink = side (Some start.bytes.items) start.faults; written = 0 }) (record { sink = side (Some page.bytes.items) page.faults; written = r.written }) r.status → AnswersLoaded l budget a
-  taken_from r start page a none w t h program query short is =
+  taken_from : (r : Report) (start sink : TextSink) (a : Answer) → start.bytes.items ≡ [] → IsWritten e (side (Some start.bytes.items) start.faults) (side (Some sink.bytes.items) sink.faults) r → IsTakenFrom r sink a
+      → HasWritten e (record { sink = side (Some start.bytes.items) start.faults; written = 0 }) (record { sink = side (Some sink.bytes.items) sink.faults; written = r.written }) r.status → AnswersLoaded l budget a
+  taken_from r start sink a none w t h program query short is =
       let journal : a.reply.journal.items ≡ e.core.journal = ap (λ v. v.items) t.journal ∙ w.journal in
-      let bytes : page.bytes.items ≡ start.bytes.items ++ h.text = some_same h.appended.bytes in
+      let bytes : sink.bytes.items ≡ start.bytes.items ++ h.text = some_same h.appended.bytes in
       let text : a.text.items ≡ h.text = ap (λ v. v.items) t.is_text ∙ bytes ∙ ap (λ (bs : List ℕ). bs ++ h.text) none in
       ran (record {
         short = short;
@@ -90,9 +90,9 @@ module _ (l : Loaded) (budget : ℕ) (e : Evaluated) (i : IsEvaluated l 1 budget
         refusal = t.refusal ∙ w.refusal;
       })
 
-  answers_so : (r : Report) (start page : Page) (a : Answer) → start.bytes.items ≡ [] → IsWritten e (side (Some start.bytes.items) start.faults) (side (Some page.bytes.items) page.faults) r → IsTakenFrom r page a → AnswersLoaded l budget a
-  answers_so r start page a none w t = taken_from r start page a none w t (written_whole w.writing t.whole t.memory)
+  answers_so : (r : Report) (start sink : TextSink) (a : Answer) → start.bytes.items ≡ [] → IsWritten e (side (Some start.bytes.items) start.faults) (side (Some sink.bytes.items) sink.faults) r → IsTakenFrom r sink a → AnswersLoaded l budget a
+  answers_so r start sink a none w t = taken_from r start sink a none w t (written_whole w.writing t.whole t.memory)
 
-pub answers_loaded : (l : Loaded) (budget : ℕ) (r : Report) (start page : Page) (a : Answer) → start.bytes.items ≡ [] → IsAnsweredAlone l budget (side (Some start.bytes.items) start.faults) (side (Some page.bytes.items) page.faults) r → IsTakenFrom r page a
+pub answers_loaded : (l : Loaded) (budget : ℕ) (r : Report) (start sink : TextSink) (a : Answer) → start.bytes.items ≡ [] → IsAnsweredAlone l budget (side (Some start.bytes.items) start.faults) (side (Some sink.bytes.items) sink.faults) r → IsTakenFrom r sink a
     → AnswersLoaded l budget a
-answers_loaded l budget r start page a none w t = answers_so l budget w.run w.evaluated r start page a none w.written t
+answers_loaded l budget r start sink a none w t = answers_so l budget w.run w.evaluated r start sink a none w.written t

@@ -9,10 +9,10 @@ use Rattle.std.proofs.lemmas.List.Elements.{All-weaker}
 use Rattle.std.proofs.Math.ListN.{set}
 use Rattle.akl_args.specs.Queries.{queries_in}
 use Rattle.akl_run.specs.declared.stop.Stop.{Stop}
-use Rattle.akl_batch.specs.declared.hands.Answered.{Answered}
+use Rattle.akl_batch.specs.declared.sharing.Answered.{Answered}
 use Rattle.akl_batch.specs.declared.reply.Answer.{Answer}
 use Rattle.akl_batch.specs.Replies.{IsAnswer}
-use Rattle.akl_batch.specs.Steps.{AreAnswers, IsAnswered, IsHandful, FitPlaces, StopsAs, IsHandfulWithin, PutsInto, GathersInto, StopsOneOf}
+use Rattle.akl_batch.specs.Steps.{AreAnswers, IsAnswered, IsPart, FitPlaces, StopsAs, IsPartWithin, PutsInto, GathersInto, StopsOneOf}
 use Rattle.akl_batch.proofs.Places.{zip_set, zip_at, zip_none, zip_map, all_front, all_next}
 
 pub puts_none : (places : List (Option Answer)) → PutsInto [] places places
@@ -28,35 +28,35 @@ puts_more answered a old middle new puts is program queries budget all fit =
 pub gathers_none : (places : List (Option Answer)) → GathersInto [] places places
 gathers_none places program queries budget all fit = fit
 
--- the answers of a handful
-answers_in : {program : List ℕ} {queries : List (Vec ℕ Global)} {budget : ℕ} {r : Result (Vec Answered Global) Stop} {v : Vec Answered Global} → r ≡ Ok v → IsHandful program queries budget r → All (IsAnswered program queries budget) v.items
+-- the answers of a part
+answers_in : {program : List ℕ} {queries : List (Vec ℕ Global)} {budget : ℕ} {r : Result (Vec Answered Global) Stop} {v : Vec Answered Global} → r ≡ Ok v → IsPart program queries budget r → All (IsAnswered program queries budget) v.items
 answers_in {program} {queries} {budget} e h = subst (λ (r : Result (Vec Answered Global) Stop). IfOk r (λ v. All (IsAnswered program queries budget) v.items)) e h.answered
 
-stop_in : {program : List ℕ} {queries : List (Vec ℕ Global)} {budget : ℕ} {r : Result (Vec Answered Global) Stop} {stop : Stop} → r ≡ Err stop → IsHandful program queries budget r → StopsAs program stop
+stop_in : {program : List ℕ} {queries : List (Vec ℕ Global)} {budget : ℕ} {r : Result (Vec Answered Global) Stop} {stop : Stop} → r ≡ Err stop → IsPart program queries budget r → StopsAs program stop
 stop_in {program} e h = subst (λ (r : Result (Vec Answered Global) Stop). IfErr r (StopsAs program)) e h.stop
 
-pub gathers_more : (handfuls : List (Result (Vec Answered Global) Stop)) (r : Result (Vec Answered Global) Stop) (v : Vec Answered Global) (old middle new : List (Option Answer)) → r ≡ Ok v → GathersInto handfuls old middle → PutsInto v.items middle new
-    → GathersInto (handfuls ++ r ∷ []) old new
-gathers_more handfuls r v old middle new e gathers puts program queries budget all fit =
-    puts program queries budget (answers_in e (all_next (IsHandful program queries budget) handfuls r [] all))
-    (gathers program queries budget (all_front (IsHandful program queries budget) handfuls (r ∷ []) all) fit)
+pub gathers_more : (parts : List (Result (Vec Answered Global) Stop)) (r : Result (Vec Answered Global) Stop) (v : Vec Answered Global) (old middle new : List (Option Answer)) → r ≡ Ok v → GathersInto parts old middle → PutsInto v.items middle new
+    → GathersInto (parts ++ r ∷ []) old new
+gathers_more parts r v old middle new e gathers puts program queries budget all fit =
+    puts program queries budget (answers_in e (all_next (IsPart program queries budget) parts r [] all))
+    (gathers program queries budget (all_front (IsPart program queries budget) parts (r ∷ []) all) fit)
 
-pub stops_one : (handfuls : List (Result (Vec Answered Global) Stop)) (r : Result (Vec Answered Global) Stop) (rest : List (Result (Vec Answered Global) Stop)) (stop : Stop) → r ≡ Err stop → StopsOneOf (handfuls ++ r ∷ rest) stop
-stops_one handfuls r rest stop e program queries budget all = stop_in e (all_next (IsHandful program queries budget) handfuls r rest all)
+pub stops_one : (parts : List (Result (Vec Answered Global) Stop)) (r : Result (Vec Answered Global) Stop) (rest : List (Result (Vec Answered Global) Stop)) (stop : Stop) → r ≡ Err stop → StopsOneOf (parts ++ r ∷ rest) stop
+stops_one parts r rest stop e program queries budget all = stop_in e (all_next (IsPart program queries budget) parts r rest all)
 
 -- a worker that stopped gives no answers
-pub stopped_handful : (program : List ℕ) (queries : List (Vec ℕ Global)) (budget : ℕ) {P : Stop → Type 0} (r : Result (Vec Answered Global) Stop) → IsErrAnd r P → ((stop : Stop) → P stop → StopsAs program stop) → IsHandful program queries budget r
-stopped_handful program queries budget (Ok v) h f = absurd h
-stopped_handful program queries budget (Err stop) h f = record { answered = tt; stop = f stop h }
+pub stopped_part : (program : List ℕ) (queries : List (Vec ℕ Global)) (budget : ℕ) {P : Stop → Type 0} (r : Result (Vec Answered Global) Stop) → IsErrAnd r P → ((stop : Stop) → P stop → StopsAs program stop) → IsPart program queries budget r
+stopped_part program queries budget (Ok v) h f = absurd h
+stopped_part program queries budget (Err stop) h f = record { answered = tt; stop = f stop h }
 
 -- the numbers of answers to queries are below the number of places that fit these
-handful_within : (program : List ℕ) (queries : List (Vec ℕ Global)) (budget count : ℕ) → count ≡ length queries → (r : Result (Vec Answered Global) Stop) → IsHandful program queries budget r → IsHandfulWithin count r
-handful_within program queries budget count n (Err stop) h = tt
-handful_within program queries budget count n (Ok v) h =
+part_within : (program : List ℕ) (queries : List (Vec ℕ Global)) (budget count : ℕ) → count ≡ length queries → (r : Result (Vec Answered Global) Stop) → IsPart program queries budget r → IsPartWithin count r
+part_within program queries budget count n (Err stop) h = tt
+part_within program queries budget count n (Ok v) h =
     All-weaker (IsAnswered program queries budget) (λ (a : Answered). a.at < count) (λ a i. let l : a.at < length queries = slice_get_within queries a.at i.query i.at in omega (arith, l, n)) v.items h.answered
 
-pub handfuls_within : (program : List ℕ) (queries : List (Vec ℕ Global)) (budget count : ℕ) → count ≡ length queries → (handfuls : List (Result (Vec Answered Global) Stop)) → All (IsHandful program queries budget) handfuls → All (IsHandfulWithin count) handfuls
-handfuls_within program queries budget count n handfuls h = All-weaker (IsHandful program queries budget) (IsHandfulWithin count) (handful_within program queries budget count n) handfuls h
+pub parts_within : (program : List ℕ) (queries : List (Vec ℕ Global)) (budget count : ℕ) → count ≡ length queries → (parts : List (Result (Vec Answered Global) Stop)) → All (IsPart program queries budget) parts → All (IsPartWithin count) parts
+parts_within program queries budget count n parts h = All-weaker (IsPart program queries budget) (IsPartWithin count) (part_within program queries budget count n) parts h
 
 -- there are as many places as queries
 pub places_count : (program : List ℕ) (queries : List (Vec ℕ Global)) (budget : ℕ) (places : List (Option Answer)) → FitPlaces program queries budget places → length places ≡ length queries

@@ -13,8 +13,8 @@ use Rattle.akl_run.specs.Loads.{IsLoadedProgram, IsLoadedFrom, ProgramStops}
 use Rattle.akl_run.specs.Commands.{Side, IsRead, HasFaulted}
 use Rattle.akl_run.specs.declared.report.Report.{Report}
 use Rattle.akl_run.specs.declared.loaded.Loaded.{Loaded}
-use Rattle.akl_batch.specs.declared.page.Page.{Page}
-use Rattle.akl_batch.specs.declared.hands.Answered.{Answered}
+use Rattle.akl_batch.specs.declared.text_sink.TextSink.{TextSink}
+use Rattle.akl_batch.specs.declared.sharing.Answered.{Answered}
 use Rattle.akl_batch.specs.declared.reply.Answer.{Answer}
 use Rattle.akl_batch.specs.declared.reply.Reply.{Reply}
 use Rattle.akl_batch.specs.declared.reply.BatchReport.{BatchReport}
@@ -33,14 +33,14 @@ pub record SaysWhy (f : Refusal) (a : Answer) : Type 0 where
   pub journal : a.reply.journal.items ≡ []
   pub is_text : a.text.items ≡ refused_text f
 
--- the answer that is taken from the report of a query's run and from the page to which its text was written whole
-pub record IsTakenFrom (r : Report) (page : Page) (a : Answer) : Type 0 where
+-- the answer that is taken from the report of a query's run and from the sink to which its text was written whole
+pub record IsTakenFrom (r : Report) (sink : TextSink) (a : Answer) : Type 0 where
   pub status : a.reply.status ≡ r.status
   pub whole : r.status ≡ Status.WriteFault → ⊥
   pub memory : r.status ≡ Status.NoMemory → ⊥
   pub refusal : a.reply.refusal ≡ r.refusal
   pub journal : a.reply.journal ≡ r.journal
-  pub is_text : a.text ≡ page.bytes
+  pub is_text : a.text ≡ sink.bytes
 
 -- it is the answer to each query that is loaded so
 abbrev pub AnswersLoaded : Loaded → ℕ → Answer → Type 0
@@ -53,7 +53,7 @@ pub record IsAnswered (program : List ℕ) (queries : List (Vec ℕ Global)) (bu
   pub answer : IsAnswer program query.items budget a.answer
 
 -- the answers that one worker gives, or why it gives none
-pub record IsHandful (program : List ℕ) (queries : List (Vec ℕ Global)) (budget : ℕ) (r : Result (Vec Answered Global) Stop) : Type 0 where
+pub record IsPart (program : List ℕ) (queries : List (Vec ℕ Global)) (budget : ℕ) (r : Result (Vec Answered Global) Stop) : Type 0 where
   pub answered : IfOk r (λ v. All (IsAnswered program queries budget) v.items)
   pub stop : IfErr r (StopsAs program)
 
@@ -65,8 +65,8 @@ FitPlaces program queries budget places = AllZip (λ query place. IfSome place (
 abbrev pub AreWithin : ℕ → List Answered → Type 0
 AreWithin count answered = All (λ a. a.at < count) answered
 
-abbrev pub IsHandfulWithin : ℕ → Result (Vec Answered Global) Stop → Type 0
-IsHandfulWithin count r = IfOk r (λ v. AreWithin count v.items)
+abbrev pub IsPartWithin : ℕ → Result (Vec Answered Global) Stop → Type 0
+IsPartWithin count r = IfOk r (λ v. AreWithin count v.items)
 
 -- with answers to queries places that fit these become places that fit them
 abbrev pub PutsInto : List Answered → List (Option Answer) → List (Option Answer) → Type 0
@@ -74,12 +74,12 @@ PutsInto answered old new =
     (program : List ℕ) (queries : List (Vec ℕ Global)) (budget : ℕ) → All (IsAnswered program queries budget) answered → FitPlaces program queries budget old → FitPlaces program queries budget new
 
 abbrev pub GathersInto : List (Result (Vec Answered Global) Stop) → List (Option Answer) → List (Option Answer) → Type 0
-GathersInto handfuls old new =
-    (program : List ℕ) (queries : List (Vec ℕ Global)) (budget : ℕ) → All (IsHandful program queries budget) handfuls → FitPlaces program queries budget old → FitPlaces program queries budget new
+GathersInto parts old new =
+    (program : List ℕ) (queries : List (Vec ℕ Global)) (budget : ℕ) → All (IsPart program queries budget) parts → FitPlaces program queries budget old → FitPlaces program queries budget new
 
 -- it is why one of the workers gave none
 abbrev pub StopsOneOf : List (Result (Vec Answered Global) Stop) → Stop → Type 0
-StopsOneOf handfuls stop = (program : List ℕ) (queries : List (Vec ℕ Global)) (budget : ℕ) → All (IsHandful program queries budget) handfuls → StopsAs program stop
+StopsOneOf parts stop = (program : List ℕ) (queries : List (Vec ℕ Global)) (budget : ℕ) → All (IsPart program queries budget) parts → StopsAs program stop
 
 -- each query has an answer to it
 abbrev pub AreAnswers : List ℕ → List (Vec ℕ Global) → ℕ → List Answer → Type 0

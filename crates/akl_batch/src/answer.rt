@@ -6,8 +6,8 @@ ghost use Rattle.akl_run.specs.Stops.{IsStop};
 ghost use Rattle.akl_batch.specs.Replies.{IsAnswer, refused_text};
 ghost use Rattle.akl_batch.specs.Steps.{AnswersLoaded, IsTakenFrom, SaysWhy, StopsAs};
 
-use crate::page::Page;
 use crate::reply::{Answer, Reply};
+use crate::text_sink::TextSink;
 use akl_run::{
     Loaded, Refusal, Report, Status, Stop, answer_alone, load_asked, load_program, push_cause,
 };
@@ -37,14 +37,14 @@ fn run(alloc: Global, loaded: Loaded, budget: u64) -> Result<Answer, Stop>
     ensures answer { IfOk result (AnswersLoaded loaded budget) }
     ensures stop { IfErr result (IsStop Status.NoMemory Refusal.Nothing) }
 {
-    let mut page = Page::new(alloc);
-    let report = answer_alone(alloc, loaded, budget, &mut page)?;
-    written(report, page)
+    let mut sink = TextSink::new(alloc);
+    let report = answer_alone(alloc, loaded, budget, &mut sink)?;
+    written(report, sink)
 }
 
 // The answer to a query whose text was written whole.
-fn written(report: Report, page: Page) -> Result<Answer, Stop>
-    ensures answer { IfOk result (IsTakenFrom report page) }
+fn written(report: Report, sink: TextSink) -> Result<Answer, Stop>
+    ensures answer { IfOk result (IsTakenFrom report sink) }
     ensures stop { IfErr result (IsStop Status.NoMemory Refusal.Nothing) }
 {
     let Report {
@@ -62,7 +62,7 @@ fn written(report: Report, page: Page) -> Result<Answer, Stop>
                 refusal,
                 journal,
             },
-            text: page.into_bytes(),
+            text: sink.into_bytes(),
         }),
     }
 }

@@ -2,10 +2,10 @@
 #![tactic(auto)]
 
 mod answer;
-mod hands;
-mod page;
 mod reply;
 mod run;
+mod sharing;
+mod text_sink;
 
 pub use reply::{BatchReport, Reply};
 pub use run::run_batch;

@@ -9,8 +9,8 @@ ghost use Rattle.akl_batch.specs.Batches.{IsBatchReported, Stops};
 ghost use Rattle.akl_batch.specs.Steps.{AreAnswersOf, AreGathered, IsStopped, IsWritten, StopsAs};
 ghost use Rattle.akl_batch.specs.Text.{numbered, last_line};
 
-use crate::hands::answer_all;
 use crate::reply::{Answer, BatchReport, Reply};
+use crate::sharing::answer_all;
 use akl_args::{queries_in, read_batch_words};
 use akl_outside::{Gate, Sink, Source, write_all};
 use akl_run::{Refusal, Status, Stop, load_program, read_program};

@@ -1,6 +1,6 @@
 use Rattle.std.proofs.Common.{take}
 use Rattle.akl_batch.specs.Steps.{AreAnswers, FitPlaces}
-use Rattle.akl_batch.proofs.hands.in_order.Given as goal
+use Rattle.akl_batch.proofs.sharing.in_order.Given as goal
 
 abbrev pub invariant-loop-at : goal.invariant-loop-at
 invariant-loop-at g l = record {

@@ -8,17 +8,17 @@ use std::alloc::Global;
 
 /// Keeps all bytes that it takes. A write fails only for want of memory.
 #[derive(Drop)]
-pub struct Page {
+pub struct TextSink {
     bytes: Vec<u8>,
     faults: u64,
 }
 
-impl Page {
+impl TextSink {
     /// Nothing was taken yet.
-    pub fn new(alloc: Global) -> Page
+    pub fn new(alloc: Global) -> TextSink
         ensures { result.bytes.items ≡ [] }
     {
-        Page {
+        TextSink {
             bytes: Vec::new(alloc),
             faults: 0,
         }
@@ -32,14 +32,14 @@ impl Page {
     }
 }
 
-impl Sink for Page {
-    ghost written = { λ page. Some page.bytes.items };
+impl Sink for TextSink {
+    ghost written = { λ sink. Some sink.bytes.items };
 
-    ghost faults = { λ page. page.faults };
+    ghost faults = { λ sink. sink.faults };
 
-    ghost write_takes = { λ page bytes after. after.bytes.items ≡ page.bytes.items ++ bytes };
+    ghost write_takes = { λ sink bytes after. after.bytes.items ≡ sink.bytes.items ++ bytes };
 
-    ghost write_fails = { λ page after. after.bytes.items ≡ page.bytes.items };
+    ghost write_fails = { λ sink after. after.bytes.items ≡ sink.bytes.items };
 
     fn write(&mut self, piece: &[u8]) -> Result<usize, Failed>
         requires { 0 < length piece.now }

@@ -5,8 +5,8 @@ use Rattle.akl_run.proofs.Loading.{from_error}
 use Rattle.akl_batch.specs.Replies.{IsAnswer}
 use Rattle.akl_batch.proofs.Gathered.{places_count, taken_answer, places_left, more_answers}
 use Rattle.akl_batch.proofs.Stopping.{memory_stops}
-use Rattle.akl_batch.proofs.hands.in_order.Goals.{in-Some, in-None+in_ok-answer-in-None}
-use Rattle.akl_batch.proofs.hands.in_order.Goals as goal
+use Rattle.akl_batch.proofs.sharing.in_order.Goals.{in-Some, in-None+in_ok-answer-in-None}
+use Rattle.akl_batch.proofs.sharing.in_order.Goals as goal
 
 pub index_mut-requires : goal.index_mut-requires
 index_mut-requires g c =

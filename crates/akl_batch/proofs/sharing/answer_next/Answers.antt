@@ -2,9 +2,9 @@ use Rattle.std.proofs.Common.{length, refl}
 use Rattle.std.proofs.lemmas.Option.{slice_get_read}
 use Rattle.std.proofs.lemmas.List.Elements.{All-push}
 use Rattle.akl_batch.specs.Steps.{IsAnswered}
-use Rattle.akl_batch.proofs.Gathered.{stopped_handful}
+use Rattle.akl_batch.proofs.Gathered.{stopped_part}
 use Rattle.akl_batch.proofs.Stopping.{memory_stops}
-use Rattle.akl_batch.proofs.hands.answer_next.Goals as goal
+use Rattle.akl_batch.proofs.sharing.answer_next.Goals as goal
 
 pub loop-turn-preserved : goal.loop-turn-preserved
 loop-turn-preserved g c =
@@ -16,4 +16,4 @@ loop-turn-preserved g c =
 
 pub returns-in_err-push : goal.returns-in_err-push
 returns-in_err-push g c =
-    stopped_handful c.args.program.now c.args.queries.now c.args.budget c.from_residual-in_err-push.result c.from_residual-in_err-push.ensures.1 (λ stop i. memory_stops c.args.program.now stop i)
+    stopped_part c.args.program.now c.args.queries.now c.args.budget c.from_residual-in_err-push.result c.from_residual-in_err-push.ensures.1 (λ stop i. memory_stops c.args.program.now stop i)

@@ -1,8 +1,8 @@
-//! Queries that are shared among several hands.
+//! Queries that are shared among several workers.
 
 ghost use Rattle.std.specs.Prelude.{◌≡◌, ◌≤◌, IfOk, IfErr, OnOk, All, None, Some, length};
 ghost use Rattle.akl_batch.specs.Replies.{IsAnswer};
-ghost use Rattle.akl_batch.specs.Steps.{AreAnswers, AreWithin, FitPlaces, GathersInto, IsHandful, IsHandfulWithin, PutsInto, StopsAs, StopsOneOf};
+ghost use Rattle.akl_batch.specs.Steps.{AreAnswers, AreWithin, FitPlaces, GathersInto, IsPart, IsPartWithin, PutsInto, StopsAs, StopsOneOf};
 
 use crate::answer::answer;
 use crate::reply::Answer;
@@ -35,9 +35,9 @@ pub(crate) fn answer_all<R: Threads + Sync, G: Gate>(
     ensures answers { IfOk result (λ answers. AreAnswers program.now queries.now budget answers.items) }
     ensures stop { IfErr result (StopsAs program.now) }
 {
-    let handfuls = share(rt, alloc, program, queries, workers, budget, gate)?;
+    let parts = share(rt, alloc, program, queries, workers, budget, gate)?;
     let mut places = no_answers(alloc, queries.len())?;
-    gather(&mut places, handfuls)?;
+    gather(&mut places, parts)?;
     in_order(alloc, program, queries, budget, gate, places)
 }
 
@@ -53,13 +53,13 @@ fn share<R: Threads + Sync, G: Gate>(
     gate: &G,
 ) -> Result<Vec<Result<Vec<Answered>, Stop>>, AllocError>
     requires { length program.now ≤ 1000001 }
-    ensures { IfOk result (λ handfuls. All (IsHandful program.now queries.now budget) handfuls.items) }
+    ensures { IfOk result (λ parts. All (IsPart program.now queries.now budget) parts.items) }
 {
     let next = AtomicUsize::new(0);
     let counter = &next;
     let work = |_: usize| -> Result<Vec<Answered>, Stop>
         requires { length program.now ≤ 1000001 }
-        ensures { IsHandful program.entry.now queries.entry.now budget result }
+        ensures { IsPart program.entry.now queries.entry.now budget result }
     { answer_next(alloc, program, queries, budget, gate, counter) };
     thread::map_indices(rt, alloc, workers.min(queries.len()), &work)
 }
@@ -74,7 +74,7 @@ fn answer_next<G: Gate>(
     next: &AtomicUsize,
 ) -> Result<Vec<Answered>, Stop>
     requires { length program.now ≤ 1000001 }
-    ensures { IsHandful program.now queries.now budget result }
+    ensures { IsPart program.now queries.now budget result }
 {
     let mut answered = Vec::new(alloc);
     for _turn in 0..queries.len() {
@@ -120,25 +120,25 @@ fn no_answers(alloc: Global, count: usize) -> Result<Vec<Option<Answer>>, AllocE
 // Puts the answers of several workers in their places.
 fn gather(
     places: &mut Vec<Option<Answer>>,
-    handfuls: Vec<Result<Vec<Answered>, Stop>>,
+    parts: Vec<Result<Vec<Answered>, Stop>>,
 ) -> Result<(), Stop>
-    requires { All (IsHandfulWithin (length places.old.items)) handfuls.items }
-    ensures places { OnOk result (GathersInto handfuls.items places.old.items places.new.items) }
-    ensures stop { IfErr result (StopsOneOf handfuls.items) }
+    requires { All (IsPartWithin (length places.old.items)) parts.items }
+    ensures places { OnOk result (GathersInto parts.items places.old.items places.new.items) }
+    ensures stop { IfErr result (StopsOneOf parts.items) }
 {
-    for handful in handfuls {
-        place(places, handful?);
+    for part in parts {
+        place(places, part?);
     }
     Ok(())
 }
 
 // Puts the answers of one worker in their places.
-fn place(places: &mut Vec<Option<Answer>>, handful: Vec<Answered>)
-    requires { AreWithin (length places.old.items) handful.items }
-    ensures puts { PutsInto handful.items places.old.items places.new.items }
+fn place(places: &mut Vec<Option<Answer>>, part: Vec<Answered>)
+    requires { AreWithin (length places.old.items) part.items }
+    ensures puts { PutsInto part.items places.old.items places.new.items }
     ensures count { length places.new.items ≡ length places.old.items }
 {
-    for answered in handful {
+    for answered in part {
         let Answered { at, answer } = answered;
         fill(&mut places[at], answer);
     }

@@ -1,5 +1,5 @@
 use Rattle.std.proofs.Common.{◌≡◌, None, All, length}
-use Rattle.akl_batch.proofs.hands.no_answers.Given as goal
+use Rattle.akl_batch.proofs.sharing.no_answers.Given as goal
 
 abbrev pub invariant-loop-made : goal.invariant-loop-made
 invariant-loop-made l = record {
