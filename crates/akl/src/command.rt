@@ -7,7 +7,7 @@ ghost use Rattle.akl_run.specs.Commands.{side};
 ghost use Rattle.akl_run.specs.Words.{bytes_of};
 ghost use Rattle.akl.specs.Words.{words_behind, is_batch};
 ghost use Rattle.akl.specs.Notices.{notice_of};
-ghost use Rattle.akl.specs.Endings.{IsDone, IsRefused};
+ghost use Rattle.akl.specs.Endings.{Answers, AnswersBatch, IsDone, IsRefused};
 
 use crate::ending::Ending;
 use crate::notice::{HELP, VERSION, notice};
@@ -83,10 +83,44 @@ fn run_words<R: Threads + Wait + Sync, S: Source, K: Sink, E: Sink>(
         return Ending::of_notice(text, out, errors);
     }
     if is_batch(words) {
-        let report = run_batch(rt, alloc, words, program, out, &NoGate);
-        return Ending::of_command(alloc, report.status, &report.refusal, errors);
+        return answer_batch(rt, alloc, words, program, out, errors);
     }
+    answer_query(rt, alloc, words, program, out, errors)
+}
+
+// Runs the query of these words.
+fn answer_query<R: Threads + Wait + Sync, S: Source, K: Sink, E: Sink>(
+    rt: &R,
+    alloc: Global,
+    words: &[String],
+    program: &mut S,
+    out: &mut K,
+    errors: &mut E,
+) -> Ending
+    ensures { Answers (bytes_of words.now)
+        (side (S.left program.old) (S.faults program.old)) (side (S.left program.new) (S.faults program.new))
+        (side (K.written out.old) (K.faults out.old)) (side (K.written out.new) (K.faults out.new))
+        (side (E.written errors.old) (E.faults errors.old)) (side (E.written errors.new) (E.faults errors.new)) result }
+{
     let report = run_akl(rt, alloc, words, program, out, &NoGate);
+    Ending::of_command(alloc, report.status, &report.refusal, errors)
+}
+
+// Runs the batch of these words.
+fn answer_batch<R: Threads + Sync, S: Source, K: Sink, E: Sink>(
+    rt: &R,
+    alloc: Global,
+    words: &[String],
+    program: &mut S,
+    out: &mut K,
+    errors: &mut E,
+) -> Ending
+    ensures { AnswersBatch (bytes_of words.now)
+        (side (S.left program.old) (S.faults program.old)) (side (S.left program.new) (S.faults program.new))
+        (side (K.written out.old) (K.faults out.old)) (side (K.written out.new) (K.faults out.new))
+        (side (E.written errors.old) (E.faults errors.old)) (side (E.written errors.new) (E.faults errors.new)) result }
+{
+    let report = run_batch(rt, alloc, words, program, out, &NoGate);
     Ending::of_command(alloc, report.status, &report.refusal, errors)
 }
 

@@ -54,7 +54,7 @@ fn push_lines(text: &mut String, lines: &[u8]) -> Result<(), AllocError> {
     Ok(())
 }
 
-fn answered(alloc: Global, report: &BatchReport, written: &[u8]) -> Result<Answered, AllocError> {
+fn answer_of(alloc: Global, report: &BatchReport, written: &[u8]) -> Result<Answered, AllocError> {
     let mut text = format!(in alloc; "{}", report.status.number())?;
     let line = refusal_line(alloc, report.status, &report.refusal)?;
     push_lines(&mut text, &line)?;
@@ -85,7 +85,7 @@ fn run_into<R: Threads + Sync, G: Gate>(
     gate: &G,
 ) -> Result<Answered, AllocError> {
     let report = run_batch(rt, alloc, words, source, sink, gate);
-    answered(alloc, &report, sink.bytes())
+    answer_of(alloc, &report, sink.bytes())
 }
 
 // Runs a batch over a program, with a sink that takes one byte at a time and fails at these writes.
