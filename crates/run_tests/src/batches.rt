@@ -276,9 +276,9 @@ fn alone<R: Threads + Wait + Sync>(
     program: &str,
 ) -> Result<String, AllocError> {
     let mut all = String::from_str(alloc, "0")?;
-    let mut number = 0;
+    let mut number: usize = 0;
     for query in MOST.lines() {
-        number += 1;
+        number = number.saturating_add(1);
         push_alone(rt, alloc, program, query, number, &mut all)?;
     }
     write!(all, " / queries {number}")?;
