@@ -19,7 +19,7 @@ use std::str::from_utf8;
 use std::sync::Wait;
 use std::thread::Threads;
 use step_commit::Core;
-use step_text::{Replay, Replayed, Words, push_tree};
+use step_text::{Origins, Replay, Replayed, Words, push_tree};
 
 /// After so many steps the progress is shown anew.
 const STRIDE: u64 = 1024;
@@ -58,6 +58,14 @@ fn start(alloc: Global, ready: &Ready, workers: u32, budget: u64) -> Result<Core
         workers,
         budget,
     )
+}
+
+// A run before the first step that is shown of it.
+fn replay_of(alloc: Global, core: Core) -> Result<Replay, AllocError>
+    ensures { IfOk result (λ replay. replay.core ≡ core) }
+{
+    let origins = Origins::new(alloc)?;
+    Ok(Replay { core, origins })
 }
 
 // The labels of a run by one worker to its end, and how it ends.
@@ -316,7 +324,7 @@ pub fn show<R: Print + Eprint + Threads + Wait + Sync>(
 {
     let (labels, end) = labels_of(rt, alloc, shown)?;
     let core = start(alloc, shown.ready, shown.asked.workers, shown.asked.budget)?;
-    let mut replay = Replay::new(alloc, core)?;
+    let mut replay = replay_of(alloc, core)?;
     if shown.asked.from == 0 && !shown.asked.last {
         show_start(rt, alloc, shown, &replay)?;
     }

@@ -1,5 +1,6 @@
 use Rattle.std.proofs.Common.{◌≡◌}
 use Rattle.akl_steps.proofs.shown.show_steps.Given as goal
 
+-- the core has the program still
 abbrev pub invariant-loop-label : goal.invariant-loop-label
-invariant-loop-label l = l.shown.ready.now.loaded.program ≡ l.replay.core.table.program
+invariant-loop-label g l = (l.shown.ready.now.loaded.program ≡ l.replay.core.table.program) × (l.replay.core.table.program ≡ l.fn.replay.core.table.program)
