@@ -1,16 +1,12 @@
 //! What solved forms tell variables from outside.
-ghost use Rattle.std.specs.Prelude.{◌≡◌, ◌∷◌, [], IfOk, filter, map, not, ◌||◌, Some, is_some, cond};
-ghost use Rattle.std.specs.Option.{unwrap_or};
-ghost use Rattle.std.specs.Map.{lookup};
-ghost use Rattle.akl_terms.specs.Names.{same_var};
+ghost use Rattle.std.specs.Prelude.{◌≡◌, ◌∷◌, [], IfOk, filter, map};
 ghost use Rattle.rational_unify.specs.Known.{IsSolved};
 ghost use Rattle.entail_test.specs.Classes.{AreClasses, AreEnds, is_noisy, noisy_end};
 
-use crate::few::{FEW, few_classes_of, few_noisy_members};
+use crate::met::MetVariables;
 use akl_terms::{Templates, Var};
 use rational_unify::{Lookup, variable_end};
 use std::alloc::{AllocError, Global};
-use std::collections::HashMap;
 
 /// A class of variables of the environment: one of its variables, and the variables at the ends
 /// of its chain in the environment and in the whole. `end` is `None` where another term is there.
@@ -76,13 +72,8 @@ fn touched_among<K: Lookup, W: Lookup>(
     ensures { IfOk result (λ on. (cs : _) × AreClasses templates.now.nodes (K.bindings known.now) (W.bindings whole.now) candidates.now cs
         × (on.items ≡ map (λ c. c.member) (filter (λ c. is_noisy cs c) cs))) }
 {
-    if candidates.len() <= FEW {
-        let classes = few_classes_of(alloc, templates, known, whole, candidates)?;
-        return few_noisy_members(alloc, classes.as_slice());
-    }
     let classes = classes_of(alloc, templates, known, whole, candidates)?;
-    let ends = ends_of(alloc, classes.as_slice())?;
-    noisy_members(alloc, classes.as_slice(), &ends)
+    noisy_among(alloc, classes.as_slice())
 }
 
 // The classes of the candidates.
@@ -98,10 +89,10 @@ fn classes_of<K: Lookup, W: Lookup>(
     ensures { IfOk result (λ classes. AreClasses templates.now.nodes (K.bindings known.now) (W.bindings whole.now) candidates.now classes.items) }
 {
     let mut classes = Vec::new(alloc);
-    let mut roots = HashMap::new(alloc);
+    let mut roots = MetVariables::new(alloc);
     for member in candidates {
         if let Some(root) = variable_end(templates, known, *member) {
-            if !meet(&mut roots, root)? {
+            if !roots.meet(root)? {
                 classes.push(Class {
                     member: *member,
                     root,
@@ -114,37 +105,33 @@ fn classes_of<K: Lookup, W: Lookup>(
 }
 
 // The variables in which classes end, and whether more than one class ends there.
-fn ends_of(alloc: Global, classes: &[Class]) -> Result<HashMap<Var, bool>, AllocError>
-    ensures { IfOk result (λ ends. AreEnds ends.entries classes.now) }
+fn ends_of(alloc: Global, classes: &[Class]) -> Result<MetVariables, AllocError>
+    ensures { IfOk result (λ ends. AreEnds ends classes.now) }
 {
-    let mut ends = HashMap::new(alloc);
+    let mut ends = MetVariables::new(alloc);
     for class in classes {
         if let Some(end) = class.end {
-            meet(&mut ends, end)?;
+            ends.meet(end)?;
         }
     }
     Ok(ends)
 }
 
-// Meets a variable: whether it was met before.
-fn meet(met: &mut HashMap<Var, bool>, variable: Var) -> Result<bool, AllocError>
-    ensures before { IfOk result (λ again. again ≡ is_some (lookup (same_var variable) met.old.entries)) }
-    ensures met { IfOk result (λ again. (x : Var) → lookup (same_var x) met.new.entries ≡ cond (same_var variable x) (Some again) (lookup (same_var x) met.old.entries)) }
+// The members of the classes that are noisy.
+fn noisy_among(alloc: Global, classes: &[Class]) -> Result<Vec<Var>, AllocError>
+    ensures { IfOk result (λ on. on.items ≡ map (λ c. c.member) (filter (λ c. is_noisy classes.now c) classes.now)) }
 {
-    let again = met.contains_key(&variable);
-    match met.insert(variable, again) {
-        Ok(_) => Ok(again),
-        Err(_) => Err(AllocError),
-    }
+    let ends = ends_of(alloc, classes)?;
+    noisy_members(alloc, classes, &ends)
 }
 
-// The members of the classes that are noisy.
+// These members, by where the classes end.
 fn noisy_members(
     alloc: Global,
     classes: &[Class],
-    ends: &HashMap<Var, bool>,
+    ends: &MetVariables,
 ) -> Result<Vec<Var>, AllocError>
-    requires { AreEnds ends.now.entries classes.now }
+    requires { AreEnds ends.now classes.now }
     ensures { IfOk result (λ on. on.items ≡ map (λ c. c.member) (filter (λ c. is_noisy classes.now c) classes.now)) }
 {
     let mut on = Vec::new(alloc);
@@ -157,11 +144,11 @@ fn noisy_members(
 }
 
 // Whether a class with this end is structured in the whole, or ends where another one does.
-fn is_noisy(ends: &HashMap<Var, bool>, end: Option<Var>) -> bool
-    ensures { (cs : _) → AreEnds ends.now.entries cs → result ≡ noisy_end cs end }
+fn is_noisy(ends: &MetVariables, end: Option<Var>) -> bool
+    ensures { (cs : _) → AreEnds ends.now cs → result ≡ noisy_end cs end }
 {
     match end {
         None => true,
-        Some(end) => ends.get(&end).copied().unwrap_or(false),
+        Some(end) => ends.again(end).unwrap_or(false),
     }
 }

@@ -3,4 +3,4 @@ use Rattle.entail_test.specs.Classes.{AreEnds}
 use Rattle.entail_test.proofs.reading.ends_of.Given as goal
 
 abbrev pub invariant-loop-class : goal.invariant-loop-class
-invariant-loop-class l = AreEnds l.ends.entries (take l.class-index l.classes)
+invariant-loop-class l = AreEnds l.ends (take l.class-index l.classes)
