@@ -9,10 +9,10 @@ ghost use Rattle.box_tree.specs.Tables.{table_of, step_of};
 ghost use Rattle.box_tree.specs.Drops.{IsOfRun};
 ghost use Rattle.opened_places.specs.Gone.{goals_named, own_places, places_at, AddsInsideEach, AreGone};
 
+use crate::placed::Names;
 use akl_model::Label;
 use akl_terms::{Name, Place};
 use box_tree::{HeldOp, ShortList, Sight, Step, Table, parted};
-use name_list::NameList;
 use std::alloc::{AllocError, Global};
 
 // The goal of the label's place, where it goes by itself.
@@ -28,40 +28,40 @@ fn own_places(place: Place, step: &Step) -> ShortList<Place>
 }
 
 // The alternatives that go where a choice is cut at one of them.
-fn cut_from(alloc: Global, table: &Table, goal: Name, name: Name) -> Result<NameList, AllocError>
-    ensures { IfOk result (λ gone. gone ≡ cut_from name ((table_of table.now).goal_of goal)) }
+fn cut_from(alloc: Global, table: &Table, goal: Name, name: Name) -> Result<Names, AllocError>
+    ensures { IfOk result (λ gone. gone.items ≡ cut_from name ((table_of table.now).goal_of goal)) }
 {
     let Some((_, sight)) = table.sight_of(Place::Goal(goal)) else {
-        return Ok(NameList::new());
+        return Ok(Names::new(alloc));
     };
     match sight {
         Sight::Choice { op } => {
             let (_, gone) = parted(alloc, op, name, table.alternatives_of(goal))?;
-            Ok(NameList::from_vec(gone))
+            Ok(Names::from_vec(gone))
         }
-        Sight::Atom(_) | Sight::Box { .. } => Ok(NameList::new()),
+        Sight::Atom(_) | Sight::Box { .. } => Ok(Names::new(alloc)),
     }
 }
 
 // The other alternatives of the choice that holds one.
-fn others_beside(alloc: Global, table: &Table, name: Name) -> Result<NameList, AllocError>
-    ensures { IfOk result (λ others. others ≡ others_beside (table_of table.now) name) }
+fn others_beside(alloc: Global, table: &Table, name: Name) -> Result<Names, AllocError>
+    ensures { IfOk result (λ others. others.items ≡ others_beside (table_of table.now) name) }
 {
     match table.holder_of(name) {
         Some(choice) => {
             let alternatives = table.alternatives_of(choice);
             let (_, others) = parted(alloc, HeldOp::Commit, name, alternatives)?;
-            Ok(NameList::from_vec(others))
+            Ok(Names::from_vec(others))
         }
-        None => Ok(NameList::new()),
+        None => Ok(Names::new(alloc)),
     }
 }
 
 // One name.
-fn one(alloc: Global, name: Name) -> Result<NameList, AllocError>
-    ensures { IfOk result (λ names. names ≡ name ∷ []) }
+fn one(alloc: Global, name: Name) -> Result<Names, AllocError>
+    ensures { IfOk result (λ names. names.items ≡ name ∷ []) }
 {
-    NameList::from_slice(alloc, &[name])
+    Names::from_slice(alloc, &[name])
 }
 
 // The boxes that go with all that stands in them, by a label of this goal.
@@ -71,17 +71,17 @@ fn going_at_goal(
     goal: Name,
     alternative: Option<Name>,
     step: &Step,
-) -> Result<NameList, AllocError>
-    ensures { IfOk result (λ boxes. (nodes : List Node) → boxes ≡ boxes_going (table_of table.now) (step_of nodes step.now) (Place.Goal goal) alternative) }
+) -> Result<Names, AllocError>
+    ensures { IfOk result (λ boxes. (nodes : List Node) → boxes.items ≡ boxes_going (table_of table.now) (step_of nodes step.now) (Place.Goal goal) alternative) }
 {
     match step {
         Step::Cut => match alternative {
             Some(name) => cut_from(alloc, table, goal, name),
-            None => Ok(NameList::new()),
+            None => Ok(Names::new(alloc)),
         },
-        Step::Join { .. } => NameList::from_slice(alloc, table.alternatives_of(goal)),
-        Step::Tell { .. } | Step::Fork { .. } | Step::Fail => Ok(NameList::new()),
-        Step::Refute | Step::Confirm | Step::Split { .. } => Ok(NameList::new()),
+        Step::Join { .. } => Names::from_slice(alloc, table.alternatives_of(goal)),
+        Step::Tell { .. } | Step::Fork { .. } | Step::Fail => Ok(Names::new(alloc)),
+        Step::Refute | Step::Confirm | Step::Split { .. } => Ok(Names::new(alloc)),
     }
 }
 
@@ -92,23 +92,23 @@ fn going_at_box(
     name: Name,
     alternative: Option<Name>,
     step: &Step,
-) -> Result<NameList, AllocError>
-    ensures { IfOk result (λ boxes. (nodes : List Node) → boxes ≡ boxes_going (table_of table.now) (step_of nodes step.now) (Place.Box name) alternative) }
+) -> Result<Names, AllocError>
+    ensures { IfOk result (λ boxes. (nodes : List Node) → boxes.items ≡ boxes_going (table_of table.now) (step_of nodes step.now) (Place.Box name) alternative) }
 {
     match step {
         Step::Fail => one(alloc, name),
         Step::Split { .. } => match alternative {
             Some(other) => others_beside(alloc, table, other),
-            None => Ok(NameList::new()),
+            None => Ok(Names::new(alloc)),
         },
-        Step::Tell { .. } | Step::Fork { .. } | Step::Cut => Ok(NameList::new()),
-        Step::Join { .. } | Step::Refute | Step::Confirm => Ok(NameList::new()),
+        Step::Tell { .. } | Step::Fork { .. } | Step::Cut => Ok(Names::new(alloc)),
+        Step::Join { .. } | Step::Refute | Step::Confirm => Ok(Names::new(alloc)),
     }
 }
 
 // The boxes that go with all that stands in them.
-fn going(alloc: Global, table: &Table, label: Label, step: &Step) -> Result<NameList, AllocError>
-    ensures { IfOk result (λ boxes. (nodes : List Node) → boxes ≡ boxes_going (table_of table.now) (step_of nodes step.now) label.place label.alternative) }
+fn going(alloc: Global, table: &Table, label: Label, step: &Step) -> Result<Names, AllocError>
+    ensures { IfOk result (λ boxes. (nodes : List Node) → boxes.items ≡ boxes_going (table_of table.now) (step_of nodes step.now) label.place label.alternative) }
 {
     match label.place {
         Place::Goal(goal) => going_at_goal(alloc, table, goal, label.alternative, step),

@@ -6,15 +6,18 @@ ghost use Rattle.opened_places.specs.Placed.{placed, all_but_last, HasAround};
 
 use akl_terms::{Name, Place};
 use box_tree::Table;
-use name_list::NameList;
+use smallvec::SmallVec;
 use std::alloc::{AllocError, Global};
 use std::marker::Model;
+
+/// Names of boxes: most are so few that they need no allocation.
+pub(crate) type Names = SmallVec<Name, 3>;
 
 /// A place, with the boxes around it.
 #[derive(Drop)]
 pub struct Placed {
     place: Place,
-    around: NameList,
+    around: Names,
 }
 
 impl Model for Placed {
@@ -22,7 +25,7 @@ impl Model for Placed {
 
     ghost Value = { PlacedValue };
 
-    ghost view = { λ p. record { place = p.place; around = p.around } };
+    ghost view = { λ p. record { place = p.place; around = p.around.items } };
 }
 
 impl Placed {
@@ -51,7 +54,7 @@ pub(crate) fn push_placed(
 ) -> Result<(), AllocError>
     ensures { OnOk result (places.new.items ≡ places.old.items ++ placed place around.now ∷ []) }
 {
-    let around = NameList::from_slice(alloc, around)?;
+    let around = Names::from_slice(alloc, around)?;
     places.push(Placed { place, around })?;
     Ok(())
 }
@@ -79,11 +82,11 @@ pub fn placed_at(alloc: Global, table: &Table, place: Place) -> Result<Option<Pl
     let path = table.path_to(alloc, home)?;
     match place {
         Place::Goal(_) => {
-            let around = NameList::from_slice(alloc, path.as_slice())?;
+            let around = Names::from_slice(alloc, path.as_slice())?;
             Ok(Some(Placed { place, around }))
         }
         Place::Box(_) => {
-            let around = NameList::from_slice(alloc, all_but_last(path.as_slice()))?;
+            let around = Names::from_slice(alloc, all_but_last(path.as_slice()))?;
             Ok(Some(Placed { place, around }))
         }
     }

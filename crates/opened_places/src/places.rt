@@ -16,8 +16,7 @@ use crate::copies::push_copies;
 use crate::placed::{Placed, all_but_last, push_placed};
 use akl_model::Label;
 use akl_terms::{Name, Place};
-use box_tree::{NewBox, Step, Table};
-use name_list::NameList;
+use box_tree::{NewBox, ShortList, Step, Table};
 use smallvec::SmallVec;
 use std::alloc::{AllocError, Global};
 
@@ -210,22 +209,18 @@ fn listed(
 }
 
 // The boxes down to the box of a label's place; those around it are looked up from the box that its holder stands in.
-fn path_around(alloc: Global, table: &Table, around: Around) -> Result<NameList, AllocError>
+fn path_around(alloc: Global, table: &Table, around: Around) -> Result<ShortList<Name>, AllocError>
     requires path { HasPath table.now around.home }
     requires outside { outside_of (table_of table.now) around.home ≡ option_map (λ h. h.home) around.holder }
-    ensures { IfOk result (λ path. IsPath (table_of table.now) around.home path) }
+    ensures { IfOk result (λ path. IsPath (table_of table.now) around.home path.items) }
 {
     match around.holder {
         Some(holder) => {
             let mut path = table.path_to(alloc, holder.home)?;
             path.push(alloc, around.home)?;
-            let path = NameList::from_slice(alloc, path.as_slice())?;
             Ok(path)
         }
-        None => {
-            let path = NameList::from_slice(alloc, &[around.home])?;
-            Ok(path)
-        }
+        None => Ok(ShortList::of(around.home)),
     }
 }
 

@@ -1,10 +1,10 @@
 -- The boxes of tokens, when those of one token change.
 use Rattle.std.proofs.Common.{◌≡◌, ℕ, zero, suc, ◌+◌, ◌<◌, Bool, true, false, List, [], ◌∷◌, ◌++◌, length, slice_index_or, slice_set, refl, sym, ap, ◌∙◌, arith, ◌⊎◌, inl, inr}
 use Rattle.std.proofs.lemmas.Bool.Decides.{nat_tests}
-use Rattle.std.proofs.lemmas.Option.{slice_get-get_or}
 use Rattle.std.specs.Prelude.{if◌then◌else◌, ◌||◌, ◌&&◌, ◌==◌, not}
+use Rattle.smallvec.specs.SmallVec.{SmallVec}
 use Rattle.akl_terms.specs.declared.name.Name.{Name}
-use Rattle.wake_lists.specs.Standing.{is_in, InBoxes, stands, or_none, boxes_at, how_many, AreStanding}
+use Rattle.wake_lists.specs.Standing.{is_in, InBoxes, stands, names_in, boxes_at, how_many, AreStanding}
 
 -- the boxes of one token become others
 pub boxes_now : (bs : List (List Name)) (token : ℕ) (ns : List Name) → token < length bs → (t : ℕ) → boxes_at t (slice_set bs token ns) ≡ (if t == token then ns else boxes_at t bs)
@@ -14,9 +14,24 @@ boxes_now (b ∷ bs) zero ns h (suc t) = let other : false ≡ (suc t == 0) = gr
 boxes_now (b ∷ bs) (suc k) ns h zero = let other : false ≡ (0 == suc k) = grind (arith, nat_tests) in λ i. if other i then ns else b
 boxes_now (b ∷ bs) (suc k) ns h (suc t) = let same : (t == k) ≡ (suc t == suc k) = grind (arith, nat_tests) in boxes_now bs k ns (omega arith) t ∙ (λ i. if same i then ns else boxes_at t bs)
 
--- the boxes of a token in the list
-pub boxes_there : (bs : List (List Name)) (token : ℕ) (d : List Name) → token < length bs → boxes_at token bs ≡ slice_index_or bs token d
-boxes_there bs token d h = ap or_none (slice_get-get_or bs token d h)
+-- the names of lists, of which one is another one
+pub names_count : (bs : List (SmallVec Name)) → length (names_in bs) ≡ length bs
+names_count [] = refl
+names_count (b ∷ bs) = ap suc (names_count bs)
+
+pub names_there : (bs : List (SmallVec Name)) (token : ℕ) (d : SmallVec Name) → token < length bs → boxes_at token (names_in bs) ≡ (slice_index_or bs token d).items
+names_there [] token d h = absurd (omega arith)
+names_there (b ∷ bs) zero d h = refl
+names_there (b ∷ bs) (suc k) d h = names_there bs k d (omega arith)
+
+pub names_set : (bs : List (SmallVec Name)) (token : ℕ) (b : SmallVec Name) → names_in (slice_set bs token b) ≡ slice_set (names_in bs) token b.items
+names_set [] token b = refl
+names_set (c ∷ bs) zero b = refl
+names_set (c ∷ bs) (suc k) b = ap (λ (ns : List (List Name)). c.items ∷ ns) (names_set bs k b)
+
+pub names_more : (bs : List (SmallVec Name)) (b : SmallVec Name) → names_in (bs ++ b ∷ []) ≡ names_in bs ++ b.items ∷ []
+names_more [] b = refl
+names_more (c ∷ bs) b = ap (λ (ns : List (List Name)). c.items ∷ ns) (names_more bs b)
 
 -- behind the list no token stands in a box
 pub boxes_beyond : (bs : List (List Name)) (token : ℕ) → (token < length bs → ⊥) → boxes_at token bs ≡ []

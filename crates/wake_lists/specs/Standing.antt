@@ -1,7 +1,8 @@
 -- The boxes in which tokens stand.
-use Rattle.std.specs.Prelude.{◌≡◌, ℕ, ◌+◌, List, [], ◌∷◌, length, Option, None, Some, Bool, false, slice_get}
+use Rattle.std.specs.Prelude.{◌≡◌, ℕ, ◌+◌, List, [], ◌∷◌, length, Option, None, Some, Bool, false, slice_get, map}
 use Rattle.std.specs.List.{list_any}
 use Rattle.std.specs.Map.{lookup}
+use Rattle.smallvec.specs.SmallVec.{SmallVec}
 use Rattle.akl_terms.specs.declared.name.Name.{Name}
 use Rattle.akl_terms.specs.Names.{same_name}
 use Rattle.wake_lists.specs.TokenSets.{is_token_in}
@@ -20,6 +21,10 @@ is_among t (Some ts) = is_token_in t ts
 -- a token stands in a box
 abbrev pub stands : InBoxes → ℕ → Name → Bool
 stands ss t n = is_among t (lookup (same_name n) ss)
+
+-- the names of each list
+abbrev pub names_in : List (SmallVec Name) → List (List Name)
+names_in bs = map (λ (b : SmallVec Name). b.items) bs
 
 abbrev pub or_none : Option (List Name) → List Name
 or_none None = []

@@ -1,33 +1,36 @@
 //! The boxes in which each open place stands.
 
 ghost use Rattle.std.specs.Prelude.{◌≡◌, ◌+◌, ◌<◌, [], true, false, ◌==◌, if◌then◌else◌, length, OnOk, OnErr, IfSome, IfNone};
-ghost use Rattle.wake_lists.specs.Standing.{boxes_at, is_in, how_many};
+ghost use Rattle.wake_lists.specs.Standing.{names_in, boxes_at, is_in, how_many};
 
 use crate::inside::Inside;
 use akl_terms::Name;
-use name_list::NameList;
+use smallvec::SmallVec;
 use std::alloc::{AllocError, Global};
 use std::marker::Model;
 use std::mem;
+
+// Names of boxes: most are so few that they need no allocation.
+type Names = SmallVec<Name, 3>;
 
 /// The boxes in which each token stands. Contracts see it as the boxes of each token, from the first on.
 #[derive(Drop)]
 pub(crate) struct Standing {
     alloc: Global,
     inside: Inside,
-    boxes: Vec<NameList>,
+    boxes: Vec<Names>,
 }
 
 impl Model for Standing {
     ghost use Rattle.std.specs.Prelude.{List};
     ghost use Rattle.akl_terms.specs.declared.name.Name.{Name};
-    ghost use Rattle.wake_lists.specs.Standing.{AreStanding};
+    ghost use Rattle.wake_lists.specs.Standing.{names_in, AreStanding};
 
     ghost Value = { List (List Name) };
 
-    ghost view = { λ s. s.boxes.items };
+    ghost view = { λ s. names_in s.boxes.items };
 
-    ghost invariant = { λ s. AreStanding s.inside s.boxes.items };
+    ghost invariant = { λ s. AreStanding s.inside (names_in s.boxes.items) };
 }
 
 impl Standing {
@@ -47,8 +50,8 @@ impl Standing {
         ensures entered { OnOk result ((t : _) → boxes_at t self.new ≡ (if t == token then around.now else boxes_at t self.old)) }
         ensures unchanged { OnErr result ((t : _) → boxes_at t self.new ≡ boxes_at t self.old) }
     {
-        make_room(&mut self.boxes, token)?;
-        let boxes = NameList::from_slice(self.alloc, around)?;
+        make_room(self.alloc, &mut self.boxes, token)?;
+        let boxes = Names::from_slice(self.alloc, around)?;
         if let Err(refused) = self.inside.add_all(token, around) {
             self.inside.remove_all(token, around);
             return Err(refused);
@@ -63,7 +66,7 @@ impl Standing {
         ensures fewer { how_many self.new + length (boxes_at token self.old) ≡ how_many self.old }
     {
         if let Some(slot) = self.boxes.get_mut(token as usize) {
-            let boxes = mem::replace(slot, NameList::new());
+            let boxes = mem::replace(slot, Names::new(self.alloc));
             self.inside.remove_all(token, boxes.as_slice());
             drop(boxes);
         }
@@ -97,12 +100,12 @@ impl Standing {
 }
 
 // There is a list for the token, an empty one where there was none.
-fn make_room(boxes: &mut Vec<NameList>, token: u64) -> Result<(), AllocError>
+fn make_room(alloc: Global, boxes: &mut Vec<Names>, token: u64) -> Result<(), AllocError>
     ensures room { OnOk result (token < length boxes.new.items) }
-    ensures same { (t : _) → boxes_at t boxes.new.items ≡ boxes_at t boxes.old.items }
+    ensures same { (t : _) → boxes_at t (names_in boxes.new.items) ≡ boxes_at t (names_in boxes.old.items) }
 {
     while boxes.len() <= token as usize {
-        boxes.push(NameList::new())?;
+        boxes.push(Names::new(alloc))?;
     }
     Ok(())
 }

@@ -16,10 +16,10 @@ pub returns-in-Goal-clause-around : goal.returns-in-Goal-clause-around
 returns-in-Goal-clause-around c = λ run t.
     let seen : sight_in c.args.table.now (Place.Goal c.in-Goal.field-0) ≡ Some (c.in-Some.home, c.in-Some.field-0-1) = ap (sight_in c.args.table.now) (sym c.in-Goal.is) ∙ sym c.in-Some.ensures in
     ap (λ (p : Place). boxes_around p t.config.roots) c.in-Goal.is ∙ goal_around c.args.table.now run t c.in-Goal.field-0 c.in-Some.home c.in-Some.field-0-1 c.in_ok-path.path.items seen c.in_ok-path.ensures
-    ∙ ap Some (sym (c.in_ok-around-in-Goal.ensures.copied ∙ c.as_slice.ensures.value))
+    ∙ ap Some (sym (c.in_ok-around-in-Goal.ensures.ok ∙ c.as_slice.ensures.value))
 
 pub returns-clause-around : goal.returns-clause-around
 returns-clause-around c = λ run t.
     let seen : sight_in c.args.table.now (Place.Box c.in-Box.field-0) ≡ Some (c.in-Some.home, c.in-Some.field-0-1) = ap (sight_in c.args.table.now) (sym c.in-Box.is) ∙ sym c.in-Some.ensures in
     ap (λ (p : Place). boxes_around p t.config.roots) c.in-Box.is ∙ box_around c.args.table.now run t c.in-Box.field-0 c.in-Some.home c.in-Some.field-0-1 c.in_ok-path.path.items seen c.in_ok-path.ensures
-    ∙ ap Some (sym (c.in_ok-around-in-Box.ensures.copied ∙ c.all_but_last.ensures ∙ ap all_but_last c.as_slice-in-Box.ensures.value))
+    ∙ ap Some (sym (c.in_ok-around-in-Box.ensures.ok ∙ c.all_but_last.ensures ∙ ap all_but_last c.as_slice-in-Box.ensures.value))

@@ -8,6 +8,6 @@ use Rattle.opened_places.proofs.places.path_around.Goals as goal
 pub path_to-requires : goal.path_to-requires
 path_to-requires c = path_outer c.args.table.now c.args.around.home c.in-Some.holder.home c.requires.path (c.requires.outside ∙ ap (option_map (λ (h : Holder). h.home)) c.in-Some.is)
 
-pub returns-in_ok-path-in-Some-2 : goal.returns-in_ok-path-in-Some-2
-returns-in_ok-path-in-Some-2 c = path_inner (table_of c.args.table.now) c.args.around.home c.in-Some.holder.home c.in_ok-path-in-Some.path.items c.in_ok-path-in-Some-2.path (c.requires.outside ∙ ap (option_map (λ (h : Holder). h.home)) c.in-Some.is)
-    c.in_ok-path-in-Some.ensures (c.in_ok-path-in-Some-2.ensures.copied ∙ c.as_slice.ensures.value ∙ c.in_ok-push-in-Some.ensures)
+pub returns-in_ok-push-in-Some : goal.returns-in_ok-push-in-Some
+returns-in_ok-push-in-Some c = path_inner (table_of c.args.table.now) c.args.around.home c.in-Some.holder.home c.in_ok-path-in-Some.path.items c.push.new.self.items (c.requires.outside ∙ ap (option_map (λ (h : Holder). h.home)) c.in-Some.is)
+    c.in_ok-path-in-Some.ensures c.in_ok-push-in-Some.ensures
