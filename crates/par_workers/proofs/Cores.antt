@@ -14,6 +14,8 @@ use Rattle.box_tree.specs.Plans.{PlanValue}
 use Rattle.idle_places.specs.Idling.{IdleValue}
 use Rattle.step_commit.specs.Cores.{CoreValue, IsCore, KeepsFixed, MayCommit, Commits, solved_in}
 use Rattle.scheduler.specs.Settled.{MaySettle}
+use Rattle.scheduler.proofs.Fronts as fronts
+use Rattle.scheduler.proofs.Fronts.{IsFront}
 use Rattle.place_steps.specs.declared.next.Next.{Next}
 use Rattle.par_workers.specs.declared.shared.Made.{Made}
 use Rattle.par_workers.specs.Shared.{SharedValue, label_in, maker, labels_in, table_after, core_after, KeepStores, IsShared}
@@ -81,48 +83,35 @@ shared_start c none = record {
   stores = tt;
 }
 
--- what was found is of a front of the journal, and of this very table where no label follows
+-- what was found is of a front of the journal
 module _ (s : SharedValue) (c : CoreValue) (worker : ℕ) (n : Next) (is : IsShared s c) (f : IsFoundBefore s worker n) where
   abbrev taken : IsTakenOf (record { begun = s.begun; past = f.seen }) worker f.found.view
   taken = f.found.taken
 
-  same_program : f.found.view.table.program ≡ c.table.program
-  same_program = ap (λ (t : TableValue). t.program) taken.table ∙ taken.fixed.program ∙ sym is.fixed.program
+  pub front_before : IsFront c f.found.view.table f.found.view.journal (labels_in f.goes.0)
+  front_before = record {
+    program = ap (λ (t : TableValue). t.program) taken.table ∙ taken.fixed.program ∙ sym is.fixed.program;
+    query = ap (λ (t : TableValue). t.query) taken.table ∙ taken.fixed.query ∙ sym is.fixed.query;
+    journal = ap (λ (d : CoreValue). d.journal) is.core ∙ ap labels_in f.goes.1 ∙ map-append label_in f.seen f.goes.0
+        ∙ ap (λ (ls : List Label). ls ++ labels_in f.goes.0) (sym taken.journal);
+    same_stores = shared_stores s.begun.table f.seen f.goes.0 f.found.view.table c.table (length f.found.view.journal) taken.table
+        (ap (λ (d : CoreValue). d.table) is.core ∙ ap (table_after s.begun.table) f.goes.1) (ap (λ (ls : List Label). length ls) taken.journal ∙ length-map f.seen label_in)
+        (subst (KeepStores 0 s.begun.table) f.goes.1 is.stores);
+  }
 
-  same_query : f.found.view.table.query ≡ c.table.query
-  same_query = ap (λ (t : TableValue). t.query) taken.table ∙ taken.fixed.query ∙ sym is.fixed.query
-
-  is_front : c.journal ≡ f.found.view.journal ++ labels_in f.goes.0
-  is_front =
-      ap (λ (d : CoreValue). d.journal) is.core ∙ ap labels_in f.goes.1 ∙ map-append label_in f.seen f.goes.0
-      ∙ ap (λ (ls : List Label). ls ++ labels_in f.goes.0) (sym taken.journal)
-
-  -- a store that no later label changed is the one that was seen
-  same_stores : SharesStores (table_of f.found.view.table) (table_of c.table) (length f.found.view.journal)
-  same_stores = shared_stores s.begun.table f.seen f.goes.0 f.found.view.table c.table (length f.found.view.journal) taken.table
-      (ap (λ (d : CoreValue). d.table) is.core ∙ ap (table_after s.begun.table) f.goes.1) (ap (λ (ls : List Label). length ls) taken.journal ∙ length-map f.seen label_in)
-      (subst (KeepStores 0 s.begun.table) f.goes.1 is.stores)
+  -- so is what was made of it
+  front_of : (table : TableValue) (journal : List Label) → table ≡ f.found.view.table → journal ≡ f.found.view.journal → IsFront c table journal (labels_in f.goes.0)
+  front_of table journal of_table of_journal =
+      subst (λ (t : TableValue). IsFront c t journal (labels_in f.goes.0)) (sym of_table)
+      (subst (λ (ls : List Label). IsFront c f.found.view.table ls (labels_in f.goes.0)) (sym of_journal) front_before)
 
 pub may_commit : (s : SharedValue) (c : CoreValue) (worker : ℕ) (p : PlanValue) → IsShared s c → IsFoundBefore s worker (Next.Plan p) → MayCommit c p
 may_commit s c worker p is f =
-    let next = f.found.next in record {
-      program = ap (λ (t : TableValue). t.program) next.table ∙ same_program s c worker (Next.Plan p) is f;
-      query = ap (λ (t : TableValue). t.query) next.table ∙ same_query s c worker (Next.Plan p) is f;
-      further = labels_in f.goes.0;
-      front = is_front s c worker (Next.Plan p) is f ∙ ap (λ (ls : List Label). ls ++ labels_in f.goes.0) (sym next.journal);
-      none_by = none_by p.label worker f.goes.0 (next.worker ∙ f.found.taken.seer) f.goes.2;
-      same_stores = subst (λ (ls : List Label). SharesStores (table_of p.table) (table_of c.table) (length ls)) (sym next.journal)
-          (subst (λ (t : TableValue). SharesStores (table_of t) (table_of c.table) (length f.found.view.journal)) (sym next.table) (same_stores s c worker (Next.Plan p) is f));
-    }
+    fronts.may_commit c p (labels_in f.goes.0) (front_of s c worker (Next.Plan p) is f p.table p.journal f.found.next.table f.found.next.journal)
+    (none_by p.label worker f.goes.0 (f.found.next.worker ∙ f.found.taken.seer) f.goes.2)
 
 pub may_settle : (s : SharedValue) (c : CoreValue) (worker : ℕ) (i : IdleValue) → IsShared s c → IsFoundBefore s worker (Next.Idle i) → MaySettle c i
-may_settle s c worker i is f =
-    let by = f.found.next.idle in record {
-      program = ap (λ (t : TableValue). t.program) by.0 ∙ same_program s c worker (Next.Idle i) is f;
-      query = ap (λ (t : TableValue). t.query) by.0 ∙ same_query s c worker (Next.Idle i) is f;
-      further = labels_in f.goes.0;
-      front = is_front s c worker (Next.Idle i) is f ∙ ap (λ (ls : List Label). ls ++ labels_in f.goes.0) (sym by.1);
-    }
+may_settle s c worker i is f = fronts.may_settle c i (labels_in f.goes.0) (front_of s c worker (Next.Idle i) is f i.table i.journal f.found.next.idle.0 f.found.next.idle.1)
 
 -- a plan's label follows
 pub shared_more : (s : SharedValue) (c d : CoreValue) (worker : ℕ) (p : PlanValue) (r : Receipt) (m : Made) → IsShared s c → IsFoundBefore s worker (Next.Plan p)
@@ -154,7 +143,7 @@ concluded_more s c d worker p r m rs is f made label =
     let of_plan : label_in m ≡ p.label = label ∙ ap (λ (q : Receipt). q.label) made.receipt in
     let by : maker m ≡ worker = ap (λ (l : Label). l.worker) of_plan ∙ f.found.next.worker ∙ f.found.taken.seer in
     let count : length c.journal ≡ length s.past = ap (λ (e : CoreValue). length e.journal) is.core ∙ length-map s.past label_in in
-    let front : length c.journal ≡ length f.found.view.journal + length (labels_in f.goes.0) = ap (λ (ls : List Label). length ls) (is_front s c worker (Next.Plan p) is f) ∙ length-append f.found.view.journal (labels_in f.goes.0) in
+    let front : length c.journal ≡ length f.found.view.journal + length (labels_in f.goes.0) = ap (λ (ls : List Label). length ls) (front_before s c worker (Next.Plan p) is f).journal ∙ length-append f.found.view.journal (labels_in f.goes.0) in
     let seen : r.seen ≡ length f.found.view.journal = ap (λ (q : Receipt). q.seen) made.receipt ∙ ap (λ (ls : List Label). length ls) f.found.next.journal in
     let number : r.at ≡ length c.journal + 1 = ap (λ (q : Receipt). q.at) made.receipt in
     let before : r.seen < r.at = omega (arith, front, seen, number) in record {

@@ -12,35 +12,28 @@ use Rattle.idle_places.specs.Idling.{IdleValue}
 use Rattle.place_steps.specs.declared.next.Next.{Next}
 use Rattle.step_commit.specs.Cores.{CoreValue, IsCore, MayCommit, Commits, solved_in}
 use Rattle.scheduler.specs.Settled.{MaySettle}
+use Rattle.scheduler.proofs.Fronts as fronts
+use Rattle.scheduler.proofs.Fronts.{front_now}
 use Rattle.run_tests.specs.Waking.{GoesOnTo, IsFoundNow}
 
 -- of the core as it is
 pub may_commit_now : (c : CoreValue) (p : PlanValue) → p.table ≡ c.table → p.journal ≡ c.journal → MayCommit c p
-may_commit_now c p table journal = record {
-  program = ap (λ (t : TableValue). t.program) table;
-  query = ap (λ (t : TableValue). t.query) table;
-  further = [];
-  front = sym journal ∙ sym (append-nil p.journal);
-  none_by = tt;
-  same_stores = λ n row e old. ap (λ (t : TableValue). store_in ((table_of t).box_of n)) table ∙ ap store_in e;
-}
+may_commit_now c p table journal = fronts.may_commit c p [] (front_now c p.table p.journal table journal) tt
 
 pub may_commit : (c : CoreValue) (p : PlanValue) → IsFoundNow c (Next.Plan p) → MayCommit c p
 may_commit c p x = may_commit_now c p (x.next.table ∙ x.sight.table) (x.next.journal ∙ x.sight.journal)
 
 -- and of the core before another worker's label
 pub may_commit_second : (c d : CoreValue) (one two : PlanValue) (r : Receipt) → IsCore d → two.table ≡ c.table → two.journal ≡ c.journal → (two.label.worker ≡ one.label.worker → ⊥) → Commits c one d r → MayCommit d two
-may_commit_second c d one two r core table journal other made = record {
+may_commit_second c d one two r core table journal other made = fronts.may_commit d two (one.label ∷ []) (record {
   program = ap (λ (t : TableValue). t.program) table ∙ sym made.fixed.program;
   query = ap (λ (t : TableValue). t.query) table ∙ sym made.fixed.query;
-  further = one.label ∷ [];
-  front = made.journal ∙ ap (λ (ls : List Label). ls ++ one.label ∷ []) (sym journal);
-  none_by = (other, tt);
+  journal = made.journal ∙ ap (λ (ls : List Label). ls ++ one.label ∷ []) (sym journal);
   same_stores = λ n row e old. elim (keeps n row e) [
     | inl new ↦ absurd (omega (arith, old, new, count, seen))
     | inr was ↦ ap (λ (t : TableValue). store_in ((table_of t).box_of n)) table ∙ ap store_in was.1 ∙ was.2
   ];
-}
+}) (other, tt)
   where
     keeps : KeepsStores (table_of d.table).steps (table_of c.table) (table_of d.table)
     keeps = store_kept (table_of c.table) (table_of d.table) one.label (Some (solved_in c one)) one.names (step_of c.table.program.templates.nodes one.step) made.made.leads
@@ -52,15 +45,7 @@ may_commit_second c d one two r core table journal other made = record {
     count = core.table.stamped.steps ∙ ap length made.journal ∙ length-append c.journal (one.label ∷ [])
 
 pub may_settle : (c : CoreValue) (i : IdleValue) → IsFoundNow c (Next.Idle i) → MaySettle c i
-may_settle c i x =
-    let table : i.table ≡ c.table = x.next.idle.0 ∙ x.sight.table in
-    let journal : i.journal ≡ c.journal = x.next.idle.1 ∙ x.sight.journal in
-    record {
-      program = ap (λ (t : TableValue). t.program) table;
-      query = ap (λ (t : TableValue). t.query) table;
-      further = [];
-      front = sym journal ∙ sym (append-nil i.journal);
-    }
+may_settle c i x = fronts.may_settle c i [] (front_now c i.table i.journal (x.next.idle.0 ∙ x.sight.table) (x.next.idle.1 ∙ x.sight.journal))
 
 pub stays : (c d : CoreValue) → d ≡ c → GoesOnTo c d
 stays c d same = record {

@@ -36,3 +36,4 @@ pub mod CountedWaits
 pub mod WorkBound
 pub mod Hurrying
 pub mod HasOpen
+pub mod Fronts

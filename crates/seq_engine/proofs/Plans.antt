@@ -1,5 +1,5 @@
 -- Plans that were made of the whole journal.
-use Rattle.std.proofs.Common.{◌≡◌, ℕ, ◌+◌, ◌<◌, ◌≤◌, List, [], ◌∷◌, ◌++◌, length, Option, Some, sym, ◌∙◌, ap, subst, ◌⊎◌, inl, inr, arith, append-nil}
+use Rattle.std.proofs.Common.{◌≡◌, ℕ, ◌+◌, ◌<◌, ◌≤◌, List, [], ◌∷◌, ◌++◌, length, Option, Some, sym, ◌∙◌, ap, subst, ◌⊎◌, inl, inr, arith}
 use Rattle.std.proofs.lemmas.List.{length-append}
 use Rattle.akl_terms.specs.declared.name.Place.{Place}
 use Rattle.akl_terms.specs.declared.program.Program.{Program}
@@ -14,7 +14,6 @@ use Rattle.akl_model.specs.Instances.{start}
 use Rattle.akl_model.specs.Derivations.{Applies, IsReady}
 use Rattle.akl_model.proofs.Results.{Derives-one}
 use Rattle.akl_model.proofs.QuietEnds.{some_place_ready}
-use Rattle.table_laws.specs.Rows.{store_in}
 use Rattle.table_laws.specs.Stamped.{IsTableOf}
 use Rattle.box_tree.specs.Tables.{all_rules, TableValue, table_of}
 use Rattle.box_tree.specs.Views.{ViewValue, run_of}
@@ -25,6 +24,8 @@ use Rattle.place_steps.specs.Seen.{IsSight}
 use Rattle.step_commit.specs.Cores.{CoreValue, MayCommit, IsStale, Commits}
 use Rattle.scheduler.specs.Settled.{MaySettle, IsSeenEnough}
 use Rattle.scheduler.specs.Schedulers.{SchedulerValue}
+use Rattle.scheduler.proofs.Fronts as fronts
+use Rattle.scheduler.proofs.Fronts.{front_now}
 use Rattle.seq_engine.specs.Runs.{IsPlanNow, IsSpent, Follows}
 use Rattle.seq_engine.specs.Attending.{IsIdleNow}
 
@@ -48,23 +49,11 @@ spent c p x b = (b, subst (λ (j : List Label). HasReady c.table j) x.journal (s
 -- it may be committed, and isn't stale
 
 pub may_commit : (c : CoreValue) (p : PlanValue) → IsPlanNow c p → MayCommit c p
-may_commit c p x = record {
-  program = ap (λ (t : TableValue). t.program) x.table;
-  query = ap (λ (t : TableValue). t.query) x.table;
-  further = [];
-  front = sym x.journal ∙ sym (append-nil p.journal);
-  none_by = tt;
-  same_stores = λ n row e old. ap (λ (t : TableValue). store_in ((table_of t).box_of n)) x.table ∙ ap store_in e;
-}
+may_commit c p x = fronts.may_commit c p [] (front_now c p.table p.journal x.table x.journal) tt
 
 -- and what was found idle may be settled
 pub may_settle : (s : SchedulerValue) (i : IdleValue) → IsIdleNow s i → MaySettle s.core i
-may_settle s i x = record {
-  program = ap (λ (t : TableValue). t.program) x.table;
-  query = ap (λ (t : TableValue). t.query) x.table;
-  further = [];
-  front = sym x.journal ∙ sym (append-nil i.journal);
-}
+may_settle s i x = fronts.may_settle s.core i [] (front_now s.core i.table i.journal x.table x.journal)
 
 -- without a look inside
 pub seen_enough : (s : SchedulerValue) (i : IdleValue) → IsIdleNow s i → IsSeenEnough s i
