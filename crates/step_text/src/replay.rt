@@ -145,10 +145,14 @@ impl Replay {
         ensures { self.new.core.table.program ≡ self.old.core.table.program }
     {
         match next_of(alloc, program, seen)? {
-            Next::Plan(plan) if plan.label().alternative == label.alternative => {
-                self.make(alloc, program, names, seen, plan, sentence)
+            Next::Plan(plan) => {
+                if plan.label().alternative == label.alternative {
+                    self.make(alloc, program, names, seen, plan, sentence)
+                } else {
+                    Ok(false)
+                }
             }
-            _ => Ok(false),
+            Next::Idle(_idle) => Ok(false),
         }
     }
 

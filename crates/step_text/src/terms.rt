@@ -56,6 +56,12 @@ fn push_integer(out: &mut Vec<u8>, value: i128) -> Result<(), AllocError> {
     push_text(out, digits.as_str())
 }
 
+// Leaves a piece to be written.
+fn leave(pieces: &mut Vec<Piece>, piece: Piece) -> Result<(), AllocError> {
+    pieces.push(piece)?;
+    Ok(())
+}
+
 // Leaves the arguments to be written, with commas between, and the closing bracket.
 fn leave_arguments(
     pieces: &mut Vec<Piece>,
@@ -63,12 +69,12 @@ fn leave_arguments(
     count: u32,
     frame: Name,
 ) -> Result<(), AllocError> {
-    pieces.push(Piece::Text(")"))?;
+    leave(pieces, Piece::Text(")"))?;
     for k in (0..count).rev() {
         let node = first.saturating_add(k);
-        pieces.push(Piece::Whole(Term::Mol { node, frame }, Level::Sum))?;
+        leave(pieces, Piece::Whole(Term::Mol { node, frame }, Level::Sum))?;
         if k > 0 {
-            pieces.push(Piece::Text(","))?;
+            leave(pieces, Piece::Text(","))?;
         }
     }
     Ok(())
@@ -77,9 +83,17 @@ fn leave_arguments(
 // Leaves the head and the tail of a cell to be written.
 fn leave_cell(pieces: &mut Vec<Piece>, first: u32, frame: Name) -> Result<(), AllocError> {
     let node = first.saturating_add(1);
-    pieces.push(Piece::Tail(Term::Mol { node, frame }))?;
-    pieces.push(Piece::Whole(Term::Mol { node: first, frame }, Level::Sum))?;
-    Ok(())
+    leave(pieces, Piece::Tail(Term::Mol { node, frame }))?;
+    leave(
+        pieces,
+        Piece::Whole(Term::Mol { node: first, frame }, Level::Sum),
+    )
+}
+
+// Opens a bracket, and leaves the closing one to be written.
+fn open_bracket(out: &mut Vec<u8>, pieces: &mut Vec<Piece>) -> Result<(), AllocError> {
+    push_text(out, "(")?;
+    leave(pieces, Piece::Text(")"))
 }
 
 // Leaves the operands and the operator between them to be written, in brackets where the operator doesn't bind as close as
@@ -93,14 +107,18 @@ fn leave_operands(
     frame: Name,
 ) -> Result<(), AllocError> {
     if level < least {
-        push_text(out, "(")?;
-        pieces.push(Piece::Text(")"))?;
+        open_bracket(out, pieces)?;
     }
     let node = first.saturating_add(1);
-    pieces.push(Piece::Whole(Term::Mol { node, frame }, level_right(level)))?;
-    pieces.push(Piece::Text(text))?;
-    pieces.push(Piece::Whole(Term::Mol { node: first, frame }, level))?;
-    Ok(())
+    leave(
+        pieces,
+        Piece::Whole(Term::Mol { node, frame }, level_right(level)),
+    )?;
+    leave(pieces, Piece::Text(text))?;
+    leave(
+        pieces,
+        Piece::Whole(Term::Mol { node: first, frame }, level),
+    )
 }
 
 // Begins a structure.
@@ -157,6 +175,13 @@ fn begin_whole(
     }
 }
 
+// Begins a tail that is no list.
+fn begin_rest(out: &mut Vec<u8>, pieces: &mut Vec<Piece>, term: Term) -> Result<(), AllocError> {
+    push_text(out, "|")?;
+    leave(pieces, Piece::Text("]"))?;
+    leave(pieces, Piece::Whole(term, Level::Sum))
+}
+
 // Begins the tail of a list.
 fn begin_tail(
     scene: Scene<'_>,
@@ -164,26 +189,24 @@ fn begin_tail(
     pieces: &mut Vec<Piece>,
     term: Term,
 ) -> Result<(), AllocError> {
-    if let Seen::Struct {
+    let Seen::Struct {
         symbol,
         first,
         count,
         frame,
     } = scene.value(term)
-    {
-        let name = scene.symbol(symbol);
-        if count == 0 && name == "[]" {
-            return push_text(out, "]");
-        }
-        if count == 2 && name == "." {
-            push_text(out, ",")?;
-            return leave_cell(pieces, first, frame);
-        }
+    else {
+        return begin_rest(out, pieces, term);
+    };
+    let name = scene.symbol(symbol);
+    if count == 0 && name == "[]" {
+        return push_text(out, "]");
     }
-    push_text(out, "|")?;
-    pieces.push(Piece::Text("]"))?;
-    pieces.push(Piece::Whole(term, Level::Sum))?;
-    Ok(())
+    if count == 2 && name == "." {
+        push_text(out, ",")?;
+        return leave_cell(pieces, first, frame);
+    }
+    begin_rest(out, pieces, term)
 }
 
 // Begins a piece.
@@ -231,7 +254,7 @@ fn push_pieces(
 /// Adds a term with what is known of it. Where it has many parts, some have `..` in their place.
 pub(crate) fn push_term(scene: Scene<'_>, out: &mut Vec<u8>, term: Term) -> Result<(), AllocError> {
     let mut pieces = Vec::new(*out.allocator());
-    pieces.push(Piece::Whole(term, Level::Sum))?;
+    leave(&mut pieces, Piece::Whole(term, Level::Sum))?;
     push_pieces(scene, out, &mut pieces)
 }
 
