@@ -59,7 +59,10 @@ fn show_text<R: Threads + Wait + Sync, K: Sink, E: Sink>(
         asked,
         progress,
     };
-    show(rt, alloc, shown, out, errors).map_err(Unshown::stop)
+    match show(rt, alloc, shown, out, errors) {
+        Ok(status) => Ok(status),
+        Err(unshown) => Err(unshown.stop()),
+    }
 }
 
 // Shows the run that is asked over the program that a source has.
