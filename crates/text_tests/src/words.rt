@@ -1,6 +1,6 @@
 //! The words of a command line.
 
-use akl_args::{Job, Options, WordsError, read_words};
+use akl_args::{Flags, Job, Options, WordsError, read_words};
 use std::alloc::{AllocError, Global};
 use std::process::Abort;
 use std::test::*;
@@ -14,17 +14,35 @@ fn words_of(alloc: Global, line: &str) -> Result<Vec<String>, AllocError> {
     Ok(words)
 }
 
+/// The options without a value that are given.
+fn shown_flags(alloc: Global, flags: Flags) -> Result<String, AllocError> {
+    let mut names = Vec::new(alloc);
+    for (is_given, name) in [
+        (flags.trace, "trace"),
+        (flags.why, "why"),
+        (flags.model, "model"),
+    ] {
+        if is_given {
+            names.push(name)?;
+        }
+    }
+    if names.is_empty() {
+        names.push("none")?;
+    }
+    names.join(alloc, " ")
+}
+
 fn shown_options(alloc: Global, options: &Options) -> Result<String, AllocError> {
     let workers = options.workers;
     let budget = options.budget;
-    let trace = options.trace;
+    let flags = shown_flags(alloc, options.flags)?;
     match &options.job {
         Job::Query(text) => {
             let query = text.as_str();
-            format!(in alloc; "query {query}, {workers}, {budget}, {trace}")
+            format!(in alloc; "query {query}, {workers}, {budget}, {flags}")
         }
         Job::Generate(number) => {
-            format!(in alloc; "generate {number}, {workers}, {budget}, {trace}")
+            format!(in alloc; "generate {number}, {workers}, {budget}, {flags}")
         }
     }
 }
@@ -59,18 +77,18 @@ fn all_as_shown(rt: &impl Abort, alloc: Global, lines: &str) -> Result<(), Fail>
 }
 
 const TAKEN: &str = "\
---query|true => query true, 1, 100000, false
---query=true => query true, 1, 100000, false
---query=-1 = X => query -1 = X, 1, 100000, false
---query==-= => query =-=, 1, 100000, false
---query|X = '=' => query X = '=', 1, 100000, false
---query|true|--workers=4 => query true, 4, 100000, false
---workers|16|--query|true|--budget|1 => query true, 16, 1, false
---workers|1|--trace|--budget|4000000|--query|a b => query a b, 1, 4000000, true
---trace|--query=true|--workers=0000000002|--budget=0000000300 => query true, 2, 300, true
---generate|0 => generate 0, 1, 100000, false
---generate=4294967295|--trace => generate 4294967295, 1, 100000, true
---budget|0004000000|--generate|0000000097 => generate 97, 1, 4000000, false
+--query|true => query true, 1, 100000, none
+--query=true => query true, 1, 100000, none
+--query=-1 = X => query -1 = X, 1, 100000, none
+--query==-= => query =-=, 1, 100000, none
+--query|X = '=' => query X = '=', 1, 100000, none
+--query|true|--workers=4 => query true, 4, 100000, none
+--workers|16|--query|true|--budget|1 => query true, 16, 1, none
+--workers|1|--trace|--budget|4000000|--query|a b => query a b, 1, 4000000, trace
+--trace|--query=true|--workers=0000000002|--budget=0000000300 => query true, 2, 300, trace
+--generate|0 => generate 0, 1, 100000, none
+--generate=4294967295|--trace => generate 4294967295, 1, 100000, trace
+--budget|0004000000|--generate|0000000097 => generate 97, 1, 4000000, none
 ";
 
 const REFUSED: &str = "\
