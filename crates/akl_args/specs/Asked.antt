@@ -32,15 +32,15 @@ abbrev pub job_in : List Row → Option Job
 job_in rows = job_of (text_in Query rows) (number_of Generate rows)
 
 -- an option without a value was given
-abbrev pub is_given : Flag → List Row → Bool
-is_given flag rows = option_map_or (λ text. bytes_eq text (codes "true")) (one_of (flag_id flag) rows) false
+abbrev pub flag_in : Flag → List Row → Bool
+flag_in flag rows = option_map_or (λ text. bytes_eq text (codes "true")) (one_of (flag_id flag) rows) false
 
 -- the row of each says one or the other
 abbrev pub SaysFlags : List Row → Type 0
-SaysFlags rows = (flag : Flag) → one_of (flag_id flag) rows ≡ Some (bool_text (is_given flag rows))
+SaysFlags rows = (flag : Flag) → one_of (flag_id flag) rows ≡ Some (bool_text (flag_in flag rows))
 
 abbrev pub flags_in : List Row → Flags
-flags_in rows = record { trace = is_given Trace rows; why = is_given Why rows; model = is_given Model rows }
+flags_in rows = record { trace = flag_in Trace rows; why = flag_in Why rows; model = flag_in Model rows }
 
 abbrev pub options_in : List Row → Job → Options
 options_in rows job = record {

@@ -2,7 +2,7 @@
 --
 -- The options are `--query`, `--generate`, `--workers` and `--budget`, each with a value, and `--trace`, `--why` and
 -- `--model` without one. They come in any order. A value is the next word, which doesn't begin with `-`, or stands behind `=` in the option's word.
-use Rattle.std.specs.Prelude.{◌≡◌, ℕ, suc, ◌==◌, Bool, false, true, ◌||◌, List, [], ◌∷◌, length, nat_lt, Option, Some, None, is_some, unwrap_or, option_map, ok_or, Result, Ok, Err, if◌then◌else◌, ⊤}
+use Rattle.std.specs.Prelude.{◌≡◌, ℕ, suc, ◌==◌, Bool, ◌||◌, List, [], ◌∷◌, length, nat_lt, Option, Some, None, is_some, unwrap_or, option_map, ok_or, Result, Ok, Err, if◌then◌else◌, ⊤}
 use Rattle.std.specs.List.{position_or_len, before_first, after_first}
 use Rattle.std.specs.Str.Parse.{starts_with_minus}
 use Rattle.akl_args.specs.Flags.{no_flags, has_flag, flags_with, flag_named}

@@ -1,7 +1,7 @@
 //! What the options of the words ask for.
 
 ghost use Rattle.std.specs.Prelude.{◌≡◌, ◌≤◌, IfOk, IfErr, IfSome, Some, ok_or, option_map};
-ghost use Rattle.akl_args.specs.Asked.{rows_in, text_in, number_of, is_given, flags_in, SaysFlags, job_in, asked_in};
+ghost use Rattle.akl_args.specs.Asked.{rows_in, text_in, number_of, flag_in, flags_in, SaysFlags, job_in, asked_in};
 ghost use Rattle.akl_args.specs.Settings.{most};
 ghost use Rattle.akl_args.specs.Table.{IsRefusalOf};
 
@@ -43,9 +43,9 @@ fn job_in(alloc: Global, matches: &ArgMatches<'_>, count: usize) -> Result<Job, 
 }
 
 // Whether an option without a value came.
-fn is_given(matches: &ArgMatches<'_>, flag: Flag) -> bool
+fn flag_in(matches: &ArgMatches<'_>, flag: Flag) -> bool
     requires { SaysFlags (rows_in matches.now) }
-    ensures { result ≡ is_given flag (rows_in matches.now) }
+    ensures { result ≡ flag_in flag (rows_in matches.now) }
 {
     matches.get_flag(flag.id())
 }
@@ -56,9 +56,9 @@ fn flags_in(matches: &ArgMatches<'_>) -> Flags
     ensures { result ≡ flags_in (rows_in matches.now) }
 {
     Flags {
-        trace: is_given(matches, Flag::Trace),
-        why: is_given(matches, Flag::Why),
-        model: is_given(matches, Flag::Model),
+        trace: flag_in(matches, Flag::Trace),
+        why: flag_in(matches, Flag::Why),
+        model: flag_in(matches, Flag::Model),
     }
 }
 
