@@ -51,7 +51,7 @@ impl Flags {
     }
 
     /// Whether this option is given.
-    pub fn has(self, flag: Flag) -> bool
+    pub(crate) fn has(self, flag: Flag) -> bool
         ensures { result ≡ has_flag flag self }
     {
         match flag {
@@ -62,7 +62,7 @@ impl Flags {
     }
 
     /// The same with this option.
-    pub fn with(self, flag: Flag) -> Self
+    pub(crate) fn with(self, flag: Flag) -> Self
         ensures { result ≡ flags_with flag self }
     {
         match flag {
