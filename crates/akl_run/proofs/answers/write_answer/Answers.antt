@@ -1,7 +1,7 @@
 use Rattle.std.proofs.Common.{◌++◌, [], ap, ◌∙◌, append-nil}
 use Rattle.akl_run.proofs.Appended.{broke_within, nothing_appended, answer_parts}
 use Rattle.akl_run.proofs.Loading.{from_error, if_error}
-use Rattle.akl_run.proofs.writing.write_answer.Goals as goal
+use Rattle.akl_run.proofs.answers.write_answer.Goals as goal
 
 pub returns-in_err-append-clause-broken : goal.returns-in_err-append-clause-broken
 returns-in_err-append-clause-broken g c =
