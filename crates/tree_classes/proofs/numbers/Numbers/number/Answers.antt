@@ -1,8 +1,8 @@
 use Rattle.std.proofs.Common.{◌≡◌, ℕ, suc, cond, rules, ◌++◌, ◌∷◌, [], Some, None, length, subst, sym, ◌∙◌, ap, arith, length-append}
 use Rattle.std.specs.Map.{lookup}
 use Rattle.std.proofs.Common.{nat_eq}
-use Rattle.answer_lines.proofs.Numbering.{IsFound, known_number-found, HasNumbers-push}
-use Rattle.answer_lines.proofs.numbers.Numbers.number.Goals as goal
+use Rattle.tree_classes.proofs.Numbering.{IsFound, known_number-found, HasNumbers-push}
+use Rattle.tree_classes.proofs.numbers.Numbers.number.Goals as goal
 
 pub returns-in-Some-clause-number : goal.returns-in-Some-clause-number
 returns-in-Some-clause-number c =

@@ -3,7 +3,7 @@ use Rattle.std.proofs.Common.{◌≡◌, ℕ, suc, List, [], ◌∷◌, ◌++◌
 use Rattle.std.specs.Prelude.{option_map}
 use Rattle.std.specs.Map.{lookup}
 use Rattle.std.proofs.lemmas.Bool.{eqb-true}
-use Rattle.answer_lines.specs.Numbers.{number_in, with_number, known_number, HasNumbers}
+use Rattle.tree_classes.specs.Numbers.{number_in, with_number, known_number, HasNumbers}
 
 -- what a search found: nothing, and the class comes last, or its number from 1 on
 abbrev pub IsFound : List ℕ → ℕ → Option ℕ → Type 0

@@ -19,7 +19,7 @@ use Rattle.tree_parts.specs.Firsts.{AreFirsts}
 use Rattle.tree_parts.specs.Parts.{AreEven}
 use Rattle.term_graph.specs.Building.{seen_tree, BeginsSo, IsTermGraph, count_of}
 use Rattle.term_graph.specs.Built.{TellBeginnings}
-use Rattle.answer_lines.specs.Keys.{top_key, integer_key, size_key}
+use Rattle.tree_classes.specs.Keys.{top_key, integer_key, size_key}
 
 -- two words tell a size
 same-words : (n m : ℕ) → n / 2 ^ 64 ≡ m / 2 ^ 64 → n % 2 ^ 64 ≡ m % 2 ^ 64 → n ≡ m

@@ -2,7 +2,7 @@
 
 ghost use Rattle.std.specs.Prelude.{◌≡◌, ◌<◌, ◌^◌, IfOk, map};
 ghost use Rattle.tree_parts.specs.Firsts.{AreFirsts};
-ghost use Rattle.answer_lines.specs.Keys.{top_key, integer_key, size_key};
+ghost use Rattle.tree_classes.specs.Keys.{top_key, integer_key, size_key};
 
 use akl_terms::Seen;
 use std::alloc::{AllocError, Global};

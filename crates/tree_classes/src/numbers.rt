@@ -1,7 +1,7 @@
-//! Numbers by order of first printing.
+//! Numbers of classes, in the order in which they were given.
 
 ghost use Rattle.std.specs.Prelude.{◌≡◌, ◌<◌, suc, [], IfOk, IfSome, OnOk, slice_get};
-ghost use Rattle.answer_lines.specs.Numbers.{number_in, with_number, known_number};
+ghost use Rattle.tree_classes.specs.Numbers.{number_in, with_number, known_number};
 
 use std::alloc::{AllocError, Global};
 use std::collections::HashMap;
@@ -16,7 +16,7 @@ pub struct Numbers {
 
 impl Model for Numbers {
     ghost use Rattle.std.specs.Prelude.{List, ℕ};
-    ghost use Rattle.answer_lines.specs.Numbers.{HasNumbers};
+    ghost use Rattle.tree_classes.specs.Numbers.{HasNumbers};
 
     ghost Value = { List ℕ };
 
@@ -26,6 +26,7 @@ impl Model for Numbers {
 }
 
 impl Numbers {
+    /// No class has a number. It takes no memory.
     pub fn new(alloc: Global) -> Self
         ensures { result ≡ [] }
     {
@@ -62,8 +63,18 @@ impl Numbers {
         }
     }
 
-    // The number of a class that has one.
-    fn known(&self, class: usize) -> Option<usize>
+    /// The place of a class, from 0 on; where it has no number, behind the others.
+    pub fn place(&self, class: usize) -> usize
+        ensures { result ≡ number_in self.now class }
+    {
+        match self.known(class) {
+            Some(number) => number - 1,
+            None => self.given.len(),
+        }
+    }
+
+    /// The number of a class that has one, from 1 on.
+    pub fn known(&self, class: usize) -> Option<usize>
         ensures { result ≡ known_number self.now class }
     {
         self.numbers.get(&class).copied()
