@@ -1,9 +1,4 @@
-use Rattle.std.proofs.Common.{◌∙◌, sym, ap}
-use Rattle.std.specs.Prelude.{option_map}
-use Rattle.akl_terms.specs.Tree.{Tree, variable}
-use Rattle.akl_terms.specs.Template.{tree}
-use Rattle.akl_terms.specs.Solved.{follow, walk}
-use Rattle.rational_unify.specs.Known.{bound_in}
+use Rattle.std.proofs.Common.{◌∙◌, sym}
 use Rattle.rational_unify.proofs.Ends.{end-bound}
 use Rattle.term_graph.proofs.ending.variable_end.Goals as goal
 

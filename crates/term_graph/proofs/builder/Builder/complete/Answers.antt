@@ -3,7 +3,7 @@ use Rattle.std.specs.Prelude.{slice_get}
 use Rattle.std.proofs.lemmas.List.{length-map, map-append}
 use Rattle.akl_terms.specs.Tree.{Tree}
 use Rattle.rational_unify.specs.Known.{end_of}
-use Rattle.term_graph.specs.Building.{BeginsSo, IsTermGraph}
+use Rattle.term_graph.specs.Building.{BeginsSo}
 use Rattle.term_graph.proofs.Places.{grows-on}
 use Rattle.term_graph.proofs.Rows.{AreRows, rows-more, rows-all}
 use Rattle.term_graph.proofs.Reaching.{reaches-row}

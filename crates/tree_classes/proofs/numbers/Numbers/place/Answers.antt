@@ -1,5 +1,4 @@
-use Rattle.std.proofs.Common.{rules, ◌≡◌, suc, length, Some, None, sym, ◌∙◌, ap, subst, arith}
-use Rattle.tree_classes.specs.Numbers.{number_in}
+use Rattle.std.proofs.Common.{rules, ◌≡◌, length, Some, None, sym, ◌∙◌, ap, subst, arith}
 use Rattle.tree_classes.proofs.Numbering.{IsFound, known_number-found}
 use Rattle.tree_classes.proofs.numbers.Numbers.place.Goals as goal
 
