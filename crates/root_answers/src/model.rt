@@ -18,7 +18,6 @@ pub fn root_model(
     requires { program.now ≡ core.now.table.program }
     ensures { IfOk result (HasModel core.now name) }
 {
-    let _ = (alloc, program, core, name);
     Err(AllocError)
 }
 
@@ -33,6 +32,5 @@ pub fn root_model_lines(
     requires { program.now ≡ core.now.table.program }
     ensures { IfOk result (λ text. HasModelText core.now name model.now text.items) }
 {
-    let _ = (alloc, program, core, name, model);
     Err(AllocError)
 }

@@ -1,6 +1,6 @@
 -- Which tables solve equations, and which one is the model of a solved chain.
 use Rattle.std.specs.Prelude.{◌≡◌, ◌<◌, ◌⊎◌, ℕ, suc, List, [], ◌∷◌, ◌++◌, length, map, slice_get, Some, ⊤}
-use Rattle.std.specs.declared.cmp.Ordering.TheVariants.{Less}
+use Rattle.std.specs.List.Sorted.{IsStrictlySortedBy}
 use Rattle.akl_terms.specs.declared.name.Var.{Var}
 use Rattle.akl_terms.specs.declared.program.ShownTerm.{ShownTerm}
 use Rattle.akl_terms.specs.declared.term.Node.{Node}
@@ -67,20 +67,11 @@ AreShownAt T [] [] = ⊤
 AreShownAt T (t ∷ ts) (i ∷ is) = IsTermAt T t i × AreShownAt T ts is
 AreShownAt T _ _ = ⊥
 
--- variables in increasing order, each once
-abbrev pub AreBehind : Var → List Given → Type 0
-AreBehind x [] = ⊤
-AreBehind x (g ∷ gs) = (var_cmp x g.variable ≡ Less) × AreBehind g.variable gs
-
-abbrev pub AreIncreasing : List Given → Type 0
-AreIncreasing [] = ⊤
-AreIncreasing (g ∷ gs) = AreBehind g.variable gs
-
 -- a table with the places of shown terms is the model of equations: it solves them, no two of its places are the same, and they are numbered by first visit
 pub record IsModel (E : Equations) (shown : List Tree) (m : TreeModel) : Type 0 where
   pub solves : Solves (table_of m) E
   pub within : IsWithin (table_of m)
-  pub increasing : AreIncreasing m.given.items
+  pub increasing : IsStrictlySortedBy var_cmp (map (λ (g : Given). g.variable) m.given.items)
   pub placed : (x : Var) → OccursShown x shown → IsPlaced (table_of m) x
   pub only : (x : Var) → IsPlaced (table_of m) x → OccursIn x E ⊎ OccursShown x shown
   pub shown_at : AreShownAt (table_of m) shown m.shown.items

@@ -38,6 +38,5 @@ pub fn find_model(
     requires { IsConsistentBy (ToldBy chain.now.nodes chain.now.stores) }
     ensures { IfOk result (IsModelOfChain chain.now shown.now) }
 {
-    let _ = (alloc, chain, shown);
     Err(AllocError)
 }

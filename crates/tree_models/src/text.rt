@@ -18,6 +18,5 @@ pub fn model_lines(
 ) -> Result<Vec<u8>, AllocError>
     ensures { IfOk result (λ text. IsNumbered model.now → IsModelText templates.now.symbols (map (λ s. s.name) shown.now) model.now text.items) }
 {
-    let _ = (alloc, templates, model, shown);
     Err(AllocError)
 }
