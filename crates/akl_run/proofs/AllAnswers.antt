@@ -1,6 +1,7 @@
 -- The texts of answers, one after another, and the names of the other root boxes.
 use Rattle.std.proofs.Common.{◌≡◌, ℕ, suc, ◌+◌, ◌<◌, ◌≤◌, List, [], ◌∷◌, ◌++◌, length, map, get_or, Some, None, Bool, true, false, refl, sym, ◌∙◌, ap, subst, append_assoc, append-nil, arith}
 use Rattle.std.specs.Prelude.{slice_get}
+use Rattle.std.specs.List.{AllZip}
 use Rattle.std.proofs.lemmas.List.{length-append, map-append}
 use Rattle.akl_terms.specs.declared.name.Name.{Name}
 use Rattle.akl_model.specs.Config.{Content, Boxes, Goals, Found}
@@ -9,11 +10,14 @@ use Rattle.akl_model.specs.Derivations.{IsAnswer, AreAnswers}
 use Rattle.step_commit.specs.Cores.{TableIn}
 use Rattle.tree_models.specs.declared.model.TreeModel.{TreeModel}
 use Rattle.root_answers.specs.Roots.{symbols_of, root_box}
+use Rattle.root_answers.specs.Models.{IsModelOf}
 use Rattle.akl_run.specs.declared.evaluate.Evaluated.{Evaluated}
 use Rattle.akl_run.specs.declared.output.Unwritten.{Unwritten}
 use Rattle.akl_run.specs.Text.{IsShown, numbered, AreTexts, no_answers, an_answer}
 use Rattle.akl_run.specs.Outputs.{Outlet, HasAppended, HasBrokenOff, PartsOf}
-use Rattle.akl_run.specs.Written.{ShowsRoot, named, listed, AreAllTexts, AreFirstTexts, HasWrittenAnswers, ArePartsOfAnswers}
+use Rattle.akl_run.specs.Runs.{AreModels}
+use Rattle.akl_run.specs.Evaluations.{HasModels}
+use Rattle.akl_run.specs.Written.{MayShow, ShowsRoot, named, listed, AreAllTexts, AreFirstTexts, HasWrittenAnswers, ArePartsOfAnswers}
 use Rattle.akl_run.proofs.Appended.{nothing_appended, appended_both, broke_later, no_memory_behind}
 use Rattle.akl_run.proofs.RootBoxes.{take_boxes, take_every, AreParted, parted_answers, parted_others, At, root_at, of_root, MoreAnswers, first_answers}
 use Rattle.akl_run.proofs.RootBoxes as root_boxes
@@ -56,6 +60,17 @@ no_names false = refl
 pub passed_none : (e : Evaluated) → HavePassed e 0 0 [] []
 passed_none e t = record { answers = []; others = []; parted = root_boxes.nothing; counted = refl; are_texts = no_answers; are_named = no_names e.flags.why }
 
+-- the model of an answer stands in its place
+model_in : (b : Content) (first left : List Content) (models : List TreeModel) → AllZip IsModelOf (first ++ b ∷ left) models → MayShow b (slice_get models (length first))
+model_in b [] left [] z = absurd z
+model_in b [] left (m ∷ ms) z = z.0
+model_in b (a ∷ as_) left [] z = absurd z
+model_in b (a ∷ as_) left (m ∷ ms) z = model_in b as_ left ms z.1
+
+may_show : (asked : Bool) (b : Content) (first left : List Content) (models : List TreeModel) → AreModels asked (first ++ b ∷ left) models → MayShow b (slice_get models (length first))
+may_show true b first left models z = model_in b first left models z
+may_show false b first left models e = subst (λ (ms : List TreeModel). MayShow b (slice_get ms (length first))) (sym e) tt
+
 module _ (e : Evaluated) (n : ℕ) (d : Name) (h : n < length e.core.table.roots) where
   pub passed_other : (count : ℕ) (names : List Name) (text : List ℕ) → HavePassed e n count names text → ShowsRoot e (get_or e.core.table.roots n d) count None
       → HavePassed e (n + 1) count (names ++ listed e.flags.why (get_or e.core.table.roots n d)) text
@@ -73,23 +88,27 @@ module _ (e : Evaluated) (n : ℕ) (d : Name) (h : n < length e.core.table.roots
             ∙ sym (named_more e.flags.why y.others (root_box w.content w.goals) (get_or e.core.table.roots n d) w.is_name);
       })
 
-  pub passed_more : (count : ℕ) (names : List Name) (text lines : List ℕ) → HavePassed e n count names text → ShowsRoot e (get_or e.core.table.roots n d) count (Some lines)
+  pub passed_more : HasModels e.core e.flags.model e.models.items → (count : ℕ) (names : List Name) (text lines : List ℕ) → HavePassed e n count names text → ShowsRoot e (get_or e.core.table.roots n d) count (Some lines)
       → HavePassed e (n + 1) (count + 1) names (text ++ numbered (count + 1) lines)
-  passed_more count names text lines x shows t =
+  passed_more models count names text lines x shows t =
       let w : At t.config.roots n (get_or e.core.table.roots n d) = root_at e.core n d h t in
       let next : suc n ≡ n + 1 = omega arith in
       let y : Passed e t n count names text = x t in
-      let a : IsAnswer w.content w.goals × IsShown (symbols_of e.core) w.content (slice_get e.models.items count) lines =
-      of_root e.core n d h t (λ b gs. IsAnswer b gs × IsShown (symbols_of e.core) b (slice_get e.models.items count) lines) w shows in
+      let a : IsAnswer w.content w.goals × (MayShow w.content (slice_get e.models.items count) → IsShown (symbols_of e.core) w.content (slice_get e.models.items count) lines) =
+      of_root e.core n d h t (λ b gs. IsAnswer b gs × (MayShow b (slice_get e.models.items count) → IsShown (symbols_of e.core) b (slice_get e.models.items count) lines)) w shows in
       let counted : count ≡ length y.answers = y.counted in
       let number : suc (length y.answers) ≡ count + 1 = omega (arith, counted) in
       let long : length (y.answers ++ w.content ∷ []) ≡ length y.answers + 1 = length-append y.answers (w.content ∷ []) in
+      let parted : AreParted (take_boxes (suc n) t.config.roots) (y.answers ++ w.content ∷ []) y.others = w.more y.answers y.others y.parted a.0 in
+      let more : MoreAnswers t.config.roots (y.answers ++ w.content ∷ []) = first_answers t.config.roots (suc n) (y.answers ++ w.content ∷ []) (parted_answers parted) in
+      let all : AreAnswers t.config.roots (y.answers ++ w.content ∷ more.0) = subst (AreAnswers t.config.roots) (append_assoc y.answers (w.content ∷ []) more.0) more.1 in
+      let may : MayShow w.content (slice_get e.models.items (length y.answers)) = may_show e.flags.model w.content y.answers more.0 e.models.items (models t (y.answers ++ w.content ∷ more.0) all) in
       let shown : IsShown (symbols_of e.core) w.content (slice_get e.models.items (0 + length y.answers)) lines =
-      subst (λ (m : ℕ). IsShown (symbols_of e.core) w.content (slice_get e.models.items m) lines) counted a.1 in
+      subst (λ (m : ℕ). MayShow w.content (slice_get e.models.items m) → IsShown (symbols_of e.core) w.content (slice_get e.models.items m) lines) counted a.1 may in
       subst (λ (m : ℕ). Passed e t m (count + 1) names (text ++ numbered (count + 1) lines)) next (record {
         answers = y.answers ++ w.content ∷ [];
         others = y.others;
-        parted = w.more y.answers y.others y.parted a.0;
+        parted = parted;
         counted = omega (arith, counted, long);
         are_texts = subst (λ (m : ℕ). AreTexts (symbols_of e.core) e.models.items 0 (y.answers ++ w.content ∷ []) (text ++ numbered m lines)) number (texts_more w.content lines y.are_texts shown);
         are_named = y.are_named;
@@ -136,18 +155,18 @@ module _ {e : Evaluated} {count : ℕ} {names : List Name} {before middle after 
     passed = subst (λ (ns : List Name). HavePassed e (n + 1) count ns w.text) (sym is) (passed_other e n d h count names w.text w.passed shows);
   }
 
-  pub wrote_more : (lines : List ℕ) → HaveWritten e n count names before middle → ShowsRoot e (get_or e.core.table.roots n d) count (Some lines) → HasAppended middle after (numbered (count + 1) lines)
+  pub wrote_more : HasModels e.core e.flags.model e.models.items → (lines : List ℕ) → HaveWritten e n count names before middle → ShowsRoot e (get_or e.core.table.roots n d) count (Some lines) → HasAppended middle after (numbered (count + 1) lines)
       → HaveWritten e (n + 1) (count + 1) names before after
-  wrote_more lines w shows x = record {
+  wrote_more models lines w shows x = record {
     text = w.text ++ numbered (count + 1) lines;
     appended = appended_both w.text (numbered (count + 1) lines) w.appended x;
-    passed = passed_more e n d h count names w.text lines w.passed shows;
+    passed = passed_more e n d h models count names w.text lines w.passed shows;
   }
 
-  pub broke_there : {cause : Unwritten} (lines : List ℕ) → HaveWritten e n count names before middle → ShowsRoot e (get_or e.core.table.roots n d) count (Some lines)
+  pub broke_there : {cause : Unwritten} → HasModels e.core e.flags.model e.models.items → (lines : List ℕ) → HaveWritten e n count names before middle → ShowsRoot e (get_or e.core.table.roots n d) count (Some lines)
       → HasBrokenOff (PartsOf (numbered (count + 1) lines)) middle after cause → HasBrokenOff (ArePartsOfAnswers e) before after cause
-  broke_there lines w shows b =
-      let passed : HavePassed e (n + 1) (count + 1) names (w.text ++ numbered (count + 1) lines) = passed_more e n d h count names w.text lines w.passed shows in
+  broke_there models lines w shows b =
+      let passed : HavePassed e (n + 1) (count + 1) names (w.text ++ numbered (count + 1) lines) = passed_more e n d h models count names w.text lines w.passed shows in
       broke_later w.text w.appended (λ (front rest : List ℕ) p. record {
         are_texts = passed_first e (n + 1) (count + 1) names ((w.text ++ front) ++ rest)
             (subst (HavePassed e (n + 1) (count + 1) names) (ap (λ (xs : List ℕ). w.text ++ xs) (sym p) ∙ sym (append_assoc w.text front rest)) passed);

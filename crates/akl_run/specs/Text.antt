@@ -5,8 +5,9 @@ use Rattle.akl_terms.specs.declared.program.Program.{Program}
 use Rattle.akl_model.specs.Config.{Content, Boxes, no_boxes, box, Goals, Found}
 use Rattle.akl_model.specs.Derivations.{IsAnswer, Outcome, done, failed, suspended, out_of_budget}
 use Rattle.tree_models.specs.declared.model.TreeModel.{TreeModel}
-use Rattle.tree_models.specs.Lines.{IsModelText}
-use Rattle.root_answers.specs.Text.{IsTextOf, shown_names}
+use Rattle.tree_models.specs.Texts.{IsModelText}
+use Rattle.root_answers.specs.Text.{IsTextOf}
+use Rattle.root_answers.specs.Models.{names_shown}
 use Rattle.root_answers.specs.Roots.{root_box}
 use Rattle.why_report.specs.Waits.{IsWaitingText}
 use Rattle.akl_args.specs.declared.flag.Flags.{Flags}
@@ -18,7 +19,7 @@ use Rattle.akl_run.specs.Traces.{trace_text}
 -- the lines of an answer, with those of its model behind them where it has one
 pub data IsShown (symbols : List (List ℕ)) (b : Content) : Option TreeModel → List ℕ → Type 0 where
   alone : {text : List ℕ} → IsTextOf symbols b text → IsShown symbols b None text
-  with_model : {m : TreeModel} {text lines : List ℕ} → IsTextOf symbols b text → IsModelText symbols (shown_names b) m lines → IsShown symbols b (Some m) (text ++ lines)
+  with_model : {m : TreeModel} {text lines : List ℕ} → IsTextOf symbols b text → IsModelText symbols (names_shown b) m lines → IsShown symbols b (Some m) (text ++ lines)
 
 -- the line of an answer's number, and its lines
 abbrev pub numbered : ℕ → List ℕ → List ℕ

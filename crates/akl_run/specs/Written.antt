@@ -6,6 +6,8 @@ use Rattle.akl_terms.specs.declared.name.Name.{Name}
 use Rattle.akl_model.specs.Config.{Config, Content, Found, box_at}
 use Rattle.akl_model.specs.Derivations.{IsAnswer, AreAnswers, Outcome}
 use Rattle.step_commit.specs.Cores.{CoreValue, TableIn}
+use Rattle.tree_models.specs.declared.model.TreeModel.{TreeModel}
+use Rattle.root_answers.specs.Models.{IsModelOf}
 use Rattle.root_answers.specs.Roots.{OfRoot, root_box, symbols_of}
 use Rattle.akl_run.specs.declared.evaluate.Evaluated.{Evaluated}
 use Rattle.akl_run.specs.declared.output.Unwritten.{Unwritten}
@@ -17,10 +19,16 @@ use Rattle.akl_run.specs.Outputs.{Outlet, HasAppended, IsCause}
 
 -- ---- the answers
 
--- the root box is an answer with these lines where so many others come before it, or none
+-- the model is one of the box, where there is one
+abbrev pub MayShow : Content → Option TreeModel → Type 0
+MayShow b None = Unit {0}
+MayShow b (Some m) = IsModelOf b m
+
+-- the root box is an answer with these lines where so many others come before it, if the model in its place is its own, or none
 abbrev pub ShowsRoot : Evaluated → Name → ℕ → Option (List ℕ) → Type 0
 ShowsRoot e name before None = OfRoot e.core name (λ b gs. IsAnswer b gs → ⊥)
-ShowsRoot e name before (Some text) = OfRoot e.core name (λ b gs. IsAnswer b gs × IsShown (symbols_of e.core) b (slice_get e.models.items before) text)
+ShowsRoot e name before (Some text) =
+    OfRoot e.core name (λ b gs. IsAnswer b gs × (MayShow b (slice_get e.models.items before) → IsShown (symbols_of e.core) b (slice_get e.models.items before) text))
 
 abbrev pub HasShown : Evaluated → Name → ℕ → Option (Vec ℕ Global) → Type 0
 HasShown e name before o = ShowsRoot e name before (option_map (λ (v : Vec ℕ Global). v.items) o)

@@ -4,6 +4,7 @@ ghost use Rattle.std.specs.Prelude.{◌≡◌, ◌++◌, ◌∷◌, [], codes, I
 ghost use Rattle.std.specs.Fmt.{decimal};
 ghost use Rattle.akl_run.specs.Text.{numbered};
 ghost use Rattle.akl_run.specs.Outputs.{outlet, HasAppended, HasBrokenOff, PartsOf};
+ghost use Rattle.akl_run.specs.Evaluations.{HasEnded};
 ghost use Rattle.akl_run.specs.Written.{HasShown, listed, HasWrittenAnswers, ArePartsOfAnswers};
 
 use crate::evaluate::Evaluated;
@@ -85,7 +86,7 @@ pub fn write_answers<K: Sink>(
     others: &mut Vec<Name>,
     out: &mut Output<K>,
 ) -> Result<usize, Unwritten>
-    requires program { run.now.program ≡ run.now.core.table.program }
+    requires ended { HasEnded run.now }
     requires none { others.old.items ≡ [] }
     ensures same { out.new.sink.ghost_name ≡ out.old.sink.ghost_name }
     ensures whole { IfOk result (HasWrittenAnswers run.now others.new.items
