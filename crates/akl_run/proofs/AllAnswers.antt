@@ -1,5 +1,5 @@
 -- The texts of answers, one after another, and the names of the other root boxes.
-use Rattle.std.proofs.Common.{◌≡◌, ℕ, suc, ◌+◌, ◌<◌, ◌≤◌, List, [], ◌∷◌, ◌++◌, length, map, get_or, Some, None, Bool, true, false, refl, sym, ◌∙◌, ap, subst, append_assoc, append-nil, arith}
+use Rattle.std.proofs.Common.{◌≡◌, ℕ, suc, ◌+◌, ◌<◌, ◌≤◌, List, [], ◌∷◌, ◌++◌, length, map, get_or, Option, Some, None, Bool, true, false, refl, sym, ◌∙◌, ap, subst, append_assoc, append-nil, arith}
 use Rattle.std.specs.Prelude.{slice_get}
 use Rattle.std.specs.List.{AllZip}
 use Rattle.std.proofs.lemmas.List.{length-append, map-append}
@@ -9,11 +9,12 @@ use Rattle.akl_model.specs.Changes.{box_names}
 use Rattle.akl_model.specs.Derivations.{IsAnswer, AreAnswers}
 use Rattle.step_commit.specs.Cores.{TableIn}
 use Rattle.tree_models.specs.declared.model.TreeModel.{TreeModel}
-use Rattle.root_answers.specs.Roots.{symbols_of, root_box}
-use Rattle.root_answers.specs.Models.{IsModelOf}
+use Rattle.root_answers.specs.Text.{IsTextOf}
+use Rattle.root_answers.specs.Roots.{symbols_of, root_box, IsText}
+use Rattle.root_answers.specs.Models.{IsModelOf, HasModelText}
 use Rattle.akl_run.specs.declared.evaluate.Evaluated.{Evaluated}
 use Rattle.akl_run.specs.declared.output.Unwritten.{Unwritten}
-use Rattle.akl_run.specs.Text.{IsShown, numbered, AreTexts, no_answers, an_answer}
+use Rattle.akl_run.specs.Text.{IsShown, alone, with_model, numbered, AreTexts, no_answers, an_answer}
 use Rattle.akl_run.specs.Outputs.{Outlet, HasAppended, HasBrokenOff, PartsOf}
 use Rattle.akl_run.specs.Runs.{AreModels}
 use Rattle.akl_run.specs.Evaluations.{HasModels}
@@ -21,6 +22,20 @@ use Rattle.akl_run.specs.Written.{MayShow, ShowsRoot, named, listed, AreAllTexts
 use Rattle.akl_run.proofs.Appended.{nothing_appended, appended_both, broke_later, no_memory_behind}
 use Rattle.akl_run.proofs.RootBoxes.{take_boxes, take_every, AreParted, parted_answers, parted_others, At, root_at, of_root, MoreAnswers, first_answers}
 use Rattle.akl_run.proofs.RootBoxes as root_boxes
+
+-- ---- the lines of a root box
+module _ (e : Evaluated) (name : Name) (before : ℕ) (text : List ℕ) (x : IsText e.core name (Some text)) where
+  pub shown_alone : slice_get e.models.items before ≡ None → ShowsRoot e name before (Some text)
+  shown_alone none t b gs f =
+      let y : IsAnswer b gs × IsTextOf (symbols_of e.core) b text = x t b gs f in
+      (y.0, λ may. subst (λ (o : Option TreeModel). IsShown (symbols_of e.core) b o text) (sym none) (alone y.1))
+
+  pub shown_modelled : (m : TreeModel) (more : List ℕ) → slice_get e.models.items before ≡ Some m → HasModelText e.core name m more → ShowsRoot e name before (Some (text ++ more))
+  shown_modelled m more some z t b gs f =
+      let y : IsAnswer b gs × IsTextOf (symbols_of e.core) b text = x t b gs f in
+      (y.0, λ may. subst (λ (o : Option TreeModel). IsShown (symbols_of e.core) b o (text ++ more)) (sym some) (with_model y.1 (z t b gs f (subst (MayShow b) some may))))
+
+-- ---- the texts of the answers
 
 -- the text of one more answer
 module _ {symbols : List (List ℕ)} {models : List TreeModel} (b : Content) (lines : List ℕ) where
@@ -97,14 +112,16 @@ module _ (e : Evaluated) (n : ℕ) (d : Name) (h : n < length e.core.table.roots
       let a : IsAnswer w.content w.goals × (MayShow w.content (slice_get e.models.items count) → IsShown (symbols_of e.core) w.content (slice_get e.models.items count) lines) =
       of_root e.core n d h t (λ b gs. IsAnswer b gs × (MayShow b (slice_get e.models.items count) → IsShown (symbols_of e.core) b (slice_get e.models.items count) lines)) w shows in
       let counted : count ≡ length y.answers = y.counted in
-      let number : suc (length y.answers) ≡ count + 1 = omega (arith, counted) in
+      let number : suc (0 + length y.answers) ≡ count + 1 = omega (arith, counted) in
       let long : length (y.answers ++ w.content ∷ []) ≡ length y.answers + 1 = length-append y.answers (w.content ∷ []) in
       let parted : AreParted (take_boxes (suc n) t.config.roots) (y.answers ++ w.content ∷ []) y.others = w.more y.answers y.others y.parted a.0 in
       let more : MoreAnswers t.config.roots (y.answers ++ w.content ∷ []) = first_answers t.config.roots (suc n) (y.answers ++ w.content ∷ []) (parted_answers parted) in
       let all : AreAnswers t.config.roots (y.answers ++ w.content ∷ more.0) = subst (AreAnswers t.config.roots) (append_assoc y.answers (w.content ∷ []) more.0) more.1 in
       let may : MayShow w.content (slice_get e.models.items (length y.answers)) = may_show e.flags.model w.content y.answers more.0 e.models.items (models t (y.answers ++ w.content ∷ more.0) all) in
+      let place : length y.answers ≡ 0 + length y.answers = omega arith in
       let shown : IsShown (symbols_of e.core) w.content (slice_get e.models.items (0 + length y.answers)) lines =
-      subst (λ (m : ℕ). MayShow w.content (slice_get e.models.items m) → IsShown (symbols_of e.core) w.content (slice_get e.models.items m) lines) counted a.1 may in
+      subst (λ (m : ℕ). IsShown (symbols_of e.core) w.content (slice_get e.models.items m) lines) place
+      (subst (λ (m : ℕ). MayShow w.content (slice_get e.models.items m) → IsShown (symbols_of e.core) w.content (slice_get e.models.items m) lines) counted a.1 may) in
       subst (λ (m : ℕ). Passed e t m (count + 1) names (text ++ numbered (count + 1) lines)) next (record {
         answers = y.answers ++ w.content ∷ [];
         others = y.others;
@@ -146,7 +163,7 @@ pub record HaveWritten (e : Evaluated) (n count : ℕ) (names : List Name) (befo
 pub wrote_none : (e : Evaluated) (names : List Name) (before : Outlet) → names ≡ [] → HaveWritten e 0 0 names before before
 wrote_none e names before none = record { text = []; appended = nothing_appended before; passed = subst (λ (ns : List Name). HavePassed e 0 0 ns []) (sym none) (passed_none e) }
 
-module _ {e : Evaluated} {count : ℕ} {names : List Name} {before middle after : Outlet} (n : ℕ) (d : Name) (h : n < length e.core.table.roots) where
+module _ {e : Evaluated} {count : ℕ} {names : List Name} {before middle : Outlet} (n : ℕ) (d : Name) (h : n < length e.core.table.roots) where
   pub wrote_other : (all : List Name) → all ≡ names ++ listed e.flags.why (get_or e.core.table.roots n d) → HaveWritten e n count names before middle → ShowsRoot e (get_or e.core.table.roots n d) count None
       → HaveWritten e (n + 1) count all before middle
   wrote_other all is w shows = record {
@@ -155,7 +172,7 @@ module _ {e : Evaluated} {count : ℕ} {names : List Name} {before middle after 
     passed = subst (λ (ns : List Name). HavePassed e (n + 1) count ns w.text) (sym is) (passed_other e n d h count names w.text w.passed shows);
   }
 
-  pub wrote_more : HasModels e.core e.flags.model e.models.items → (lines : List ℕ) → HaveWritten e n count names before middle → ShowsRoot e (get_or e.core.table.roots n d) count (Some lines) → HasAppended middle after (numbered (count + 1) lines)
+  pub wrote_more : {after : Outlet} → HasModels e.core e.flags.model e.models.items → (lines : List ℕ) → HaveWritten e n count names before middle → ShowsRoot e (get_or e.core.table.roots n d) count (Some lines) → HasAppended middle after (numbered (count + 1) lines)
       → HaveWritten e (n + 1) (count + 1) names before after
   wrote_more models lines w shows x = record {
     text = w.text ++ numbered (count + 1) lines;
@@ -163,7 +180,7 @@ module _ {e : Evaluated} {count : ℕ} {names : List Name} {before middle after 
     passed = passed_more e n d h models count names w.text lines w.passed shows;
   }
 
-  pub broke_there : {cause : Unwritten} → HasModels e.core e.flags.model e.models.items → (lines : List ℕ) → HaveWritten e n count names before middle → ShowsRoot e (get_or e.core.table.roots n d) count (Some lines)
+  pub broke_there : {after : Outlet} {cause : Unwritten} → HasModels e.core e.flags.model e.models.items → (lines : List ℕ) → HaveWritten e n count names before middle → ShowsRoot e (get_or e.core.table.roots n d) count (Some lines)
       → HasBrokenOff (PartsOf (numbered (count + 1) lines)) middle after cause → HasBrokenOff (ArePartsOfAnswers e) before after cause
   broke_there models lines w shows b =
       let passed : HavePassed e (n + 1) (count + 1) names (w.text ++ numbered (count + 1) lines) = passed_more e n d h models count names w.text lines w.passed shows in

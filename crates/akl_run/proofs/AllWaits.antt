@@ -1,8 +1,8 @@
 -- The texts of boxes that wait, one after another.
 use Rattle.std.proofs.Common.{◌≡◌, ℕ, zero, suc, ◌+◌, ◌<◌, ◌≤◌, List, [], ◌∷◌, ◌++◌, length, take, map, get_or, Bool, true, false, Some, None, refl, sym, ◌∙◌, ap, subst, append_assoc, append-nil, arith}
 use Rattle.std.specs.List.{AllByRecursion}
-use Rattle.std.proofs.lemmas.List.{length-take-le, length-map, get_or-map}
-use Rattle.std.proofs.Math.Seq.{take-suc, take-length}
+use Rattle.std.proofs.lemmas.List.{length-take-le, length-map, get_or-map, take_all}
+use Rattle.std.proofs.Math.Seq.{take-suc}
 use Rattle.akl_terms.specs.declared.name.Name.{Name}
 use Rattle.akl_terms.specs.declared.program.Program.{Program}
 use Rattle.akl_model.specs.Config.{Found, no_goals, box_at}
@@ -12,7 +12,7 @@ use Rattle.root_answers.specs.Roots.{OfRoot, root_box}
 use Rattle.akl_run.specs.declared.output.Unwritten.{Unwritten}
 use Rattle.akl_run.specs.Outputs.{Outlet, HasAppended, HasBrokenOff, ShortOf}
 use Rattle.akl_run.specs.Text.{AreWaits, none_waits, one_waits}
-use Rattle.akl_run.specs.Written.{AreRoots, AreFirstWaits, HasWrittenWaits, wrote_waits, ArePartsOfWaits}
+use Rattle.akl_run.specs.Written.{AreRoots, AreFirstWaits, HasWrittenWaits, wrote_nothing, wrote_waits, ArePartsOfWaits}
 use Rattle.akl_run.proofs.Appended.{nothing_appended, appended_both, broke_later, no_memory_behind}
 
 -- the text of one more box
@@ -51,18 +51,30 @@ first_more c names n d text lines h x w t others roots is =
     (subst (λ (fs : List Found). AreWaits c.table.program 0 fs (text ++ lines)) (sym (take-suc others n e inside))
     (waits_more f lines (x t others roots is) (subst (λ (m : ℕ). IsWaitingText c.table.program f m lines) number (subst (λ (g : Found). IsWaitingText c.table.program g (n + 1) lines) (sym stands.0) waits))))
 
+-- those of all
+first_every : (c : CoreValue) (names : List Name) (n : ℕ) (text : List ℕ) → length names ≤ n → AreFirstWaits c names n text → AreFirstWaits c names (length names) text
+first_every c names n text h x t others roots is =
+    let long : length others ≡ length names = sym (length-map others (λ (g : Found). g.content.name)) ∙ ap length is in
+    let all : take n others ≡ others = take_all n others (omega (arith, h, long)) in
+    let every : take (length names) others ≡ others = take_all (length names) others (omega (arith, long)) in
+    subst (λ (fs : List Found). AreWaits c.table.program 0 fs text) (all ∙ sym every) (x t others roots is)
+
 -- ---- what was written of them
 module _ {c : CoreValue} {names : List Name} {before : Outlet} where
-  pub wrote_all : {after : Outlet} {n : ℕ} (text : List ℕ) (says : Bool) → says ≡ true → n ≡ length names → HasAppended before after text → AreFirstWaits c names n text → HasWrittenWaits c names before after says
-  wrote_all {after} text true s e x w = wrote_waits text x (subst (λ (m : ℕ). AreFirstWaits c names m text) e w)
-  wrote_all {after} text false s e x w = absurd cc
+  pub wrote_none : (says : Bool) → says ≡ false → HasWrittenWaits c names before before says
+  wrote_none true s = absurd cc
+  wrote_none false s = wrote_nothing refl
 
-  pub no_memory_there : {after : Outlet} {n : ℕ} (text : List ℕ) (says : Bool) → says ≡ true → HasAppended before after text → AreFirstWaits c names n text → HasBrokenOff (ArePartsOfWaits c names says) before after Unwritten.Memory
-  no_memory_there {n = n} text says s x w = no_memory_behind text [] x (record { is_said = s; count = n; are_waits = subst (AreFirstWaits c names n) (sym (append-nil text)) w })
+  pub wrote_all : {after : Outlet} {n : ℕ} (text : List ℕ) (says : Bool) → says ≡ true → length names ≤ n → HasAppended before after text → AreFirstWaits c names n text → HasWrittenWaits c names before after says
+  wrote_all {n = n} text true s h x w = wrote_waits text x (first_every c names n text h w)
+  wrote_all text false s h x w = absurd cc
 
-  pub broke_there : {middle after : Outlet} {cause : Unwritten} {n : ℕ} (text lines : List ℕ) (says : Bool) → says ≡ true → HasAppended before middle text → AreFirstWaits c names n (text ++ lines)
+  pub no_memory_there : {after : Outlet} (n : ℕ) (text : List ℕ) (says : Bool) → says ≡ true → HasAppended before after text → AreFirstWaits c names n text → HasBrokenOff (ArePartsOfWaits c names says) before after Unwritten.Memory
+  no_memory_there n text says s x w = no_memory_behind text [] x (record { is_said = s; count = n; are_waits = subst (AreFirstWaits c names n) (sym (append-nil text)) w })
+
+  pub broke_there : {middle after : Outlet} {cause : Unwritten} (n : ℕ) (text lines : List ℕ) (says : Bool) → says ≡ true → HasAppended before middle text → AreFirstWaits c names n (text ++ lines)
       → HasBrokenOff (ShortOf lines) middle after cause → HasBrokenOff (ArePartsOfWaits c names says) before after cause
-  broke_there {n = n} text lines says s x w b =
+  broke_there n text lines says s x w b =
       broke_later text x (λ (front rest : List ℕ) p. record {
         is_said = s;
         count = n;

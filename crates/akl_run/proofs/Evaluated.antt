@@ -140,7 +140,7 @@ module _ (e : Evaluated) (h : HasEnded e) (i : IsCore e.core) where
     run = run_with (f.first ++ f.left);
     has_run = own_run (f.first ++ f.left) f.are_answers;
     front = front;
-    is_front = of_begun {rest = rest} (in_answers {first = f.first} {left = f.left} refl f.are_texts) p;
+    is_front = of_begun rest (in_answers f.first f.left refl f.are_texts) p;
     appended = x;
     is_cause = k;
   }
@@ -197,7 +197,7 @@ module _ (e : Evaluated) (h : HasEnded e) (i : IsCore e.core) where
           run = run;
           has_run = answers_run;
           front = (traced ++ w.text) ++ b.front;
-          is_front = of_begun {rest = b.rest} (in_waits {first = take b.are_parts.count all.others} {left = drop b.are_parts.count all.others} all.are_texts (sym says_same ∙ s)
+          is_front = of_begun b.rest (in_waits (take b.are_parts.count all.others) (drop b.are_parts.count all.others) all.are_texts (sym says_same ∙ s)
               (subst (AreOthers i.table.config.roots) (sym parts) all.are_others) (first_waits b.are_parts.count (b.front ++ b.rest) s b.are_parts.are_waits))
               (append_assoc (traced ++ w.text) b.front b.rest);
           appended = appended_both (traced ++ w.text) b.front answers_appended b.appended;
@@ -246,7 +246,7 @@ module _ (e : Evaluated) (h : HasEnded e) (i : IsCore e.core) where
         run = run;
         has_run = answers_run;
         front = (traced ++ w.text ++ waits.text) ++ b.front;
-        is_front = of_whole {rest = b.rest} whole_text
+        is_front = of_whole b.rest whole_text
             (append_assoc (traced ++ w.text ++ waits.text) b.front b.rest ∙ ap (λ (xs : List ℕ). (traced ++ w.text ++ waits.text) ++ xs) b.are_parts.whole) b.are_parts.more;
         appended = appended_both (traced ++ w.text ++ waits.text) b.front waits_appended b.appended;
         is_cause = cause_later before later after cause waits_appended.faults b.is_cause;

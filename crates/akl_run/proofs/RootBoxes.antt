@@ -105,22 +105,22 @@ module _ (c : CoreValue) (n : ℕ) (d : Name) (h : n < length c.table.roots) (t 
 abbrev StandIn : Boxes → List Found → Type 0
 StandIn bs others = AllByRecursion (λ (f : Found). (f ≡ root_box f.content f.goals) × BoxIn [] f.content f.goals bs) others
 
-stand_behind : {b : Content} {gs : Goals} {bs : Boxes} (others : List Found) → StandIn bs others → StandIn (box b gs bs) others
-stand_behind [] s = tt
-stand_behind (f ∷ fs) s = ((s.0.0, inr (inr s.0.1)), stand_behind fs s.1)
+stand_behind : (b : Content) (gs : Goals) (bs : Boxes) (others : List Found) → StandIn bs others → StandIn (box b gs bs) others
+stand_behind b gs bs [] s = tt
+stand_behind b gs bs (f ∷ fs) s = ((s.0.0, inr (inr s.0.1)), stand_behind b gs bs fs s.1)
 
 others_stand : {bs : Boxes} {others : List Found} → AreOthers bs others → StandIn bs others
 others_stand no_others = tt
-others_stand (answered {others = others} a x) = stand_behind others (others_stand x)
-others_stand (another {others = others} n x) = ((refl, inl (refl, refl, refl)), stand_behind others (others_stand x))
+others_stand (answered {b} {gs} {bs} {others} a x) = stand_behind b gs bs others (others_stand x)
+others_stand (another {b} {gs} {bs} {others} n x) = ((refl, inl (refl, refl, refl)), stand_behind b gs bs others (others_stand x))
 
-pub others_roots : (c : CoreValue) (t : TableIn c) (others : List Found) → AreOthers t.config.roots others → AreRoots t others
+pub others_roots : (c : CoreValue) (t : TableIn c) (others : List Found) → AreOthers t.config.roots others → AreRoots c t others
 others_roots c t others x = each others (others_stand x)
   where
     s : Stand t.config
     s = replay-stands all_rules c.table.program c.table.query c.journal t.config t.replays
 
-    each : (fs : List Found) → StandIn t.config.roots fs → AreRoots t fs
+    each : (fs : List Found) → StandIn t.config.roots fs → AreRoots c t fs
     each [] w = tt
     each (f ∷ fs) w = ((w.0.0, in_found t.config.roots (root_box f.content f.goals) s.once w.0.1), each fs w.1)
 

@@ -77,11 +77,11 @@ pub record IsRunText (flags : Flags) (r : Run) (text : List ℕ) : Type 0 where
 
 -- as far as it was made before its last line: the trace with the texts of the first answers, or with those of all answers and of the first boxes that wait
 pub data IsBegun (flags : Flags) (r : Run) : List ℕ → Type 0 where
-  in_answers : {first left : List Content} {answered : List ℕ} → r.answers ≡ first ++ left → AreTextsIn r first answered → IsBegun flags r (trace_text flags.trace r.journal ++ answered)
-  in_waits : {answered waiting : List ℕ} {first left : List Found} → AreTextsIn r r.answers answered → says_waits flags r.outcome ≡ true → AreOthers r.last.roots (first ++ left) → AreWaits r.program 0 first waiting
+  in_answers : (first left : List Content) {answered : List ℕ} → r.answers ≡ first ++ left → AreTextsIn r first answered → IsBegun flags r (trace_text flags.trace r.journal ++ answered)
+  in_waits : {answered waiting : List ℕ} (first left : List Found) → AreTextsIn r r.answers answered → says_waits flags r.outcome ≡ true → AreOthers r.last.roots (first ++ left) → AreWaits r.program 0 first waiting
       → IsBegun flags r (trace_text flags.trace r.journal ++ answered ++ waiting)
 
 -- a front of it, as far as it was made, and not the whole
 pub data IsRunFront (flags : Flags) (r : Run) (front : List ℕ) : Type 0 where
-  of_begun : {made rest : List ℕ} → IsBegun flags r made → front ++ rest ≡ made → IsRunFront flags r front
-  of_whole : {text rest : List ℕ} → IsRunText flags r text → front ++ rest ≡ text → 0 < length rest → IsRunFront flags r front
+  of_begun : {made : List ℕ} (rest : List ℕ) → IsBegun flags r made → front ++ rest ≡ made → IsRunFront flags r front
+  of_whole : {text : List ℕ} (rest : List ℕ) → IsRunText flags r text → front ++ rest ≡ text → 0 < length rest → IsRunFront flags r front

@@ -39,8 +39,8 @@ named true others = map (λ f. f.content.name) others
 named false others = []
 
 -- they are root boxes
-abbrev pub AreRoots : {c : CoreValue} → TableIn c → List Found → Type 0
-AreRoots t others = AllByRecursion (λ (f : Found). (f ≡ root_box f.content f.goals) × (box_at f.content.name t.config.roots ≡ Some (root_box f.content f.goals))) others
+abbrev pub AreRoots : (c : CoreValue) → TableIn c → List Found → Type 0
+AreRoots c t others = AllByRecursion (λ (f : Found). (f ≡ root_box f.content f.goals) × (box_at f.content.name t.config.roots ≡ Some (root_box f.content f.goals))) others
 
 -- the name of one, where it is asked
 abbrev pub listed : Bool → Name → List Name
@@ -78,7 +78,7 @@ pub record ArePartsOfAnswers (e : Evaluated) (front rest : List ℕ) : Type 0 wh
 
 -- these are the texts of the first so many of the root boxes of these names
 abbrev pub AreFirstWaits : CoreValue → List Name → ℕ → List ℕ → Type 0
-AreFirstWaits c names n text = (t : TableIn c) (others : List Found) → AreRoots t others → map (λ f. f.content.name) others ≡ names → AreWaits c.table.program 0 (take n others) text
+AreFirstWaits c names n text = (t : TableIn c) (others : List Found) → AreRoots c t others → map (λ f. f.content.name) others ≡ names → AreWaits c.table.program 0 (take n others) text
 
 -- the texts of all were written, where it is said what waits, and else nothing was
 pub data HasWrittenWaits (c : CoreValue) (names : List Name) (before after : Outlet) : Bool → Type 0 where

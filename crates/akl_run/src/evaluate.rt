@@ -159,14 +159,16 @@ pub fn evaluate<R: Threads + Wait + Sync, G: Gate>(
         flags,
     } = prepared;
     match run_modelled(rt, alloc, &loaded, workers, budget, flags.model, gate) {
-        Ok((
-            Finished {
-                core,
-                receipts,
-                end,
-            },
-            models,
-        )) => Ok(Evaluated {
+        Ok(
+            (
+                Finished {
+                    core,
+                    receipts,
+                    end,
+                },
+                models,
+            ),
+        ) => Ok(Evaluated {
             program: loaded.program,
             core,
             end,
