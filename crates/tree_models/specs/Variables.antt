@@ -1,5 +1,6 @@
 -- The variables of bindings and shown terms.
 use Rattle.std.specs.Prelude.{ℕ, List, [], ◌∷◌, ◌⊎◌}
+use Rattle.std.specs.List.{flat_map}
 use Rattle.std.specs.List.Sorted.{IsStrictlySortedBy}
 use Rattle.akl_terms.specs.declared.name.Var.{Var}
 use Rattle.akl_terms.specs.declared.program.ShownTerm.{ShownTerm}
@@ -25,7 +26,9 @@ pub record AreVariablesOf (nodes : List Node) (bs : List (Var × Term)) (shown :
   pub every : (x : Var) → OccursIn x (bindings_in nodes bs) ⊎ OccursShown x (shown_terms nodes shown) → IsAmong x list
 
 -- the variables with which nodes begin
+abbrev pub free_in : Seen → List Var
+free_in (Free x) = x ∷ []
+free_in seen = []
+
 abbrev pub free_variables : List Seen → List Var
-free_variables [] = []
-free_variables (Free x ∷ seens) = x ∷ free_variables seens
-free_variables (seen ∷ seens) = free_variables seens
+free_variables seens = flat_map free_in seens

@@ -3,7 +3,7 @@
 ghost use Rattle.std.specs.Prelude.{◌≡◌, ◌++◌, IfOk, OnOk, map};
 ghost use Rattle.constraint_laws.specs.Touched.{IsAmong};
 ghost use Rattle.local_store.specs.Chained.{bindings_from};
-ghost use Rattle.tree_models.specs.Variables.{AreVariablesOf, free_variables, AreOnce};
+ghost use Rattle.tree_models.specs.Variables.{AreVariablesOf, free_in, free_variables, AreOnce};
 
 use crate::starts::{push_bound, shown_starts, start_graph};
 use akl_terms::{Seen, ShownTerm, Templates, Term, Var};
@@ -61,11 +61,19 @@ fn free_variables(alloc: Global, seens: &[Seen]) -> Result<Vec<Var>, AllocError>
 {
     let mut list = Vec::new(alloc);
     for seen in seens {
-        if let Seen::Free(variable) = *seen {
-            list.push(variable)?;
-        }
+        push_free(&mut list, *seen)?;
     }
     Ok(list)
+}
+
+// Adds the variable with which a node begins, if it is one.
+fn push_free(list: &mut Vec<Var>, seen: Seen) -> Result<(), AllocError>
+    ensures { OnOk result (list.new.items ≡ list.old.items ++ free_in seen) }
+{
+    match seen {
+        Seen::Free(variable) => Ok(list.push(variable)?),
+        _ => Ok(()),
+    }
 }
 
 // Adds the variables of bindings.
