@@ -8,3 +8,4 @@ pub mod VariableLists
 pub mod StartNodes
 pub mod GivenLists
 pub mod Occurring
+pub mod ModelTables

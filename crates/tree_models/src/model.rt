@@ -104,5 +104,6 @@ fn model_graph<K: Lookup>(
 {
     let mut starts = shown_starts(alloc, shown)?;
     push_variables(&mut starts, variables)?;
-    start_graph(alloc, templates, form, &starts)
+    let graph = start_graph(alloc, templates, form, &starts)?;
+    Ok(graph)
 }
