@@ -4,3 +4,8 @@ pub mod Numbered
 pub mod Steps
 pub mod Found
 pub mod CellLists
+pub mod VariableLists
+pub mod StartNodes
+pub mod GivenLists
+pub mod Occurring
+pub mod ModelTables

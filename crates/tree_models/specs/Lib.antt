@@ -4,3 +4,7 @@ pub mod Laws
 pub mod Visiting
 pub mod Cells
 pub mod Texts
+pub mod Starts
+pub mod Variables
+pub mod Made
+pub mod Found

@@ -10,20 +10,20 @@ use akl_terms::Seen;
 use std::alloc::{AllocError, Global};
 use tree_classes::Numbers;
 
-// The places of nodes.
-fn places_of(
+/// The places of nodes.
+pub fn places_of(
     alloc: Global,
     row: &[usize],
     firsts: &[usize],
     order: &Numbers,
-) -> Result<Places, AllocError>
-    ensures { IfOk result (λ places. places ≡ map (place_by firsts.now order.now) row.now) }
+) -> Result<Vec<u64>, AllocError>
+    ensures { IfOk result (λ places. places.items ≡ map (place_by firsts.now order.now) row.now) }
 {
     let mut places = Vec::new(alloc);
     for node in row {
         places.push(order.place(class_at(firsts, *node)) as u64)?;
     }
-    Ok(Places::new(places))
+    Ok(places)
 }
 
 // The cell of what begins so, over the nodes of its arguments.
@@ -42,7 +42,10 @@ fn cell_of(
         Seen::Port(name) => Ok(Cell::Port(name)),
         Seen::Struct { symbol, .. } => {
             let arguments = places_of(alloc, row, firsts, order)?;
-            Ok(Cell::Struct { symbol, arguments })
+            Ok(Cell::Struct {
+                symbol,
+                arguments: Places::new(arguments),
+            })
         }
     }
 }

@@ -4,8 +4,11 @@
 mod cell;
 mod cells;
 mod laws;
+mod made;
 mod model;
+mod starts;
 mod text;
+mod variables;
 mod visiting;
 
 pub use cell::{Cell, Places};
