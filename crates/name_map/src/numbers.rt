@@ -92,20 +92,26 @@ impl<V> Numbers<V> {
         V: Drop,
         ensures { Same self.old self.new }
     {
-        if self.newest < page {
-            self.free_page(alloc, self.newest);
+        let before = self.newest;
+        if before < page {
             self.newest = page;
+            self.free_page(alloc, before);
         }
     }
 
-    // Gives back the memory of a page where nothing is in it.
+    // Gives back the memory of a page where nothing is in it, and that of its chunk where no page has any. The chunk of the
+    // newest page isn't asked, as that page has memory.
     fn free_page(&mut self, alloc: Global, page: u64)
     where
         V: Drop,
         ensures { Same self.old self.new }
     {
+        let is_newest = page / 64 == self.newest / 64;
         if let Some(chunk) = self.chunks.get_mut((page / 64) as usize) {
-            chunk.free_page(alloc, (page % 64) as usize);
+            let freed = chunk.free_page(alloc, (page % 64) as usize);
+            if freed && !is_newest {
+                chunk.free_if_bare(alloc);
+            }
         }
     }
 }
