@@ -1,6 +1,12 @@
 //! What a root box waits on, as text.
 
-ghost use Rattle.std.specs.Prelude.{◌≡◌, ◌++◌, IfOk, OnOk};
+ghost use Rattle.std.specs.Prelude.{◌≡◌, IfOk, OnOk, MatchOption};
+ghost use Rattle.akl_terms.specs.Equal.{IsConsistentBy};
+ghost use Rattle.rational_unify.specs.Known.{IsSolved};
+ghost use Rattle.local_store.specs.Chained.{ToldBy};
+ghost use Rattle.why_report.specs.Waits.{value_of, values};
+ghost use Rattle.why_report.specs.Texts.{variable_text, IsOnText, IsGoalLine, AreWaitingLines};
+ghost use Rattle.why_report.specs.Written.{IsEndText, IsChainText, Adds};
 
 use crate::waiting::Waiting;
 use akl_terms::{ShownTerm, Templates, Var};
@@ -19,6 +25,8 @@ pub fn why_lines(
     shown: &[ShownTerm],
     waiting: &[Waiting],
 ) -> Result<Vec<u8>, AllocError>
+    requires { IsConsistentBy (ToldBy chain.now.nodes chain.now.stores) }
+    ensures { IfOk result (λ text. AreWaitingLines (IsChainText chain.now.nodes chain.now.stores shown.now) number (values waiting.now) text.items) }
 {
     let templates = chain.templates();
     let known = chain.known();
@@ -43,6 +51,8 @@ fn lines_of<W: Lookup>(
     shown: &[ShownTerm],
     waiting: &[Waiting],
 ) -> Result<Vec<u8>, AllocError>
+    requires { IsSolved templates.now.nodes (W.bindings whole.now) }
+    ensures { IfOk result (λ text. AreWaitingLines (IsEndText templates.now.nodes (W.bindings whole.now) shown.now) number (values waiting.now) text.items) }
 {
     let mut text = Vec::new(alloc);
     push_text(&mut text, "waiting ")?;
@@ -62,6 +72,8 @@ fn push_goal<W: Lookup>(
     shown: &[ShownTerm],
     waiting: &Waiting,
 ) -> Result<(), AllocError>
+    requires { IsSolved templates.now.nodes (W.bindings whole.now) }
+    ensures { OnOk result (Adds (IsGoalLine (IsEndText templates.now.nodes (W.bindings whole.now) shown.now) (value_of waiting.now)) text.old.items text.new.items) }
 {
     push_text(text, "goal ")?;
     push_name(text, waiting.goal)?;
@@ -78,6 +90,8 @@ fn push_variables<W: Lookup>(
     shown: &[ShownTerm],
     on: &[Var],
 ) -> Result<(), AllocError>
+    requires { IsSolved templates.now.nodes (W.bindings whole.now) }
+    ensures { OnOk result (Adds (IsOnText (IsEndText templates.now.nodes (W.bindings whole.now) shown.now) on.now) text.old.items text.new.items) }
 {
     let Some((first, others)) = on.split_first() else {
         return push_text(text, "nothing");
@@ -98,6 +112,8 @@ fn push_variable<W: Lookup>(
     shown: &[ShownTerm],
     variable: Var,
 ) -> Result<(), AllocError>
+    requires { IsSolved templates.now.nodes (W.bindings whole.now) }
+    ensures { OnOk result (Adds (IsEndText templates.now.nodes (W.bindings whole.now) shown.now variable) text.old.items text.new.items) }
 {
     if let Some(term) = first_equal(templates, whole, shown, variable) {
         return push_text(text, term.name.as_str());
@@ -114,6 +130,10 @@ fn first_equal<'a, W: Lookup>(
     shown: &'a [ShownTerm],
     variable: Var,
 ) -> Option<&'a ShownTerm>
+    requires { IsSolved templates.now.nodes (W.bindings whole.now) }
+    ensures { MatchOption result
+        (IsEndText templates.now.nodes (W.bindings whole.now) shown.now variable (variable_text variable))
+        (λ term. IsEndText templates.now.nodes (W.bindings whole.now) shown.now variable term.now.name) }
 {
     let end = variable_end(templates, whole, variable)?;
     for term in shown {

@@ -1,9 +1,13 @@
 //! The oldest variables of classes.
 
-ghost use Rattle.std.specs.Prelude.{◌≡◌, ◌++◌, IfOk};
+ghost use Rattle.std.specs.Prelude.{◌≡◌, ◌≤◌, IfOk, length, not, true, cond};
+ghost use Rattle.std.specs.List.Sorted.{IsSorted};
+ghost use Rattle.akl_terms.specs.Names.{same_var, var_cmp};
 ghost use Rattle.rational_unify.specs.Known.{IsSolved};
+ghost use Rattle.local_store.specs.Chained.{equations_of};
+ghost use Rattle.class_members.specs.Listed.{has};
 ghost use Rattle.class_members.specs.Members.{outermost_of};
-ghost use Rattle.why_report.specs.Oldest.{AreOldest, IsOrdered, AreFirst, Meets};
+ghost use Rattle.why_report.specs.Classes.{AreOldest, AreLeast, AreFirst};
 
 use akl_terms::{Templates, Var};
 use class_members::members;
@@ -28,6 +32,8 @@ pub(crate) fn oldest_of(alloc: Global, chain: &Chain, of: &[Var]) -> Result<Vec<
 
 // The first variable of each class among these, which are in order.
 fn first_of_each(alloc: Global, chain: &Chain, sorted: &[Var]) -> Result<Vec<Var>, AllocError>
+    requires { IsSorted var_cmp sorted.now }
+    ensures { IfOk result (λ list. AreLeast (equations_of chain.now.nodes chain.now.stores) sorted.now list.items) }
 {
     let templates = chain.templates();
     let known = chain.known();
@@ -49,7 +55,9 @@ fn first_by_ends<W: Lookup>(
     whole: &W,
     sorted: &[Var],
 ) -> Result<Vec<Var>, AllocError>
-    requires { IsSolved templates.now.nodes (W.bindings whole.now) }
+    requires solved { IsSolved templates.now.nodes (W.bindings whole.now) }
+    requires sorted { IsSorted var_cmp sorted.now }
+    ensures { IfOk result (λ list. AreFirst templates.now.nodes (W.bindings whole.now) sorted.now list.items) }
 {
     let mut met = HashSet::new(alloc);
     let mut list = Vec::new(alloc);
@@ -65,6 +73,8 @@ fn first_by_ends<W: Lookup>(
 
 // Meets a variable: whether it wasn't met before.
 fn meet(met: &mut HashSet<Var>, variable: Var) -> Result<bool, AllocError>
+    ensures new { IfOk result (λ new. new ≡ not (has met.old.keys variable)) }
+    ensures met { IfOk result (λ _. (x : _) → has met.new.keys x ≡ cond (same_var variable x) true (has met.old.keys x)) }
 {
     match met.insert(variable) {
         Ok(new) => Ok(new),

@@ -1,6 +1,11 @@
 //! The text of one root box that waits.
 
 ghost use Rattle.std.specs.Prelude.{◌≡◌, IfOk};
+ghost use Rattle.akl_model.specs.Derivations.{IsQuietEnd};
+ghost use Rattle.box_tree.specs.Tables.{all_rules};
+ghost use Rattle.step_commit.specs.Cores.{TableIn};
+ghost use Rattle.root_answers.specs.Roots.{OfRoot, root_box};
+ghost use Rattle.why_report.specs.Texts.{IsWaitingText};
 
 use crate::lines::why_lines;
 use crate::waiting::why;
@@ -18,6 +23,9 @@ pub fn root_waits(
     root: Name,
     number: usize,
 ) -> Result<Vec<u8>, AllocError>
+    requires program { program.now ≡ core.now.table.program }
+    requires quiet { (t : TableIn core.now) → IsQuietEnd all_rules core.now.table.program t.config }
+    ensures { IfOk result (λ text. OfRoot core.now root (λ b gs. IsWaitingText core.now.table.program (root_box b gs) number text.items)) }
 {
     let view = match core.look(alloc, Place::Box(root), 1) {
         Ok(view) => view,

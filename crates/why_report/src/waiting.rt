@@ -1,6 +1,6 @@
 //! On which variables the goals of a root box wait.
 
-ghost use Rattle.std.specs.Prelude.{◌≡◌, ◌×◌, IfOk};
+ghost use Rattle.std.specs.Prelude.{◌≡◌, IfOk};
 ghost use Rattle.box_tree.specs.Tables.{all_rules};
 ghost use Rattle.akl_model.specs.Derivations.{IsQuietEnd};
 ghost use Rattle.step_commit.specs.Cores.{TableIn};

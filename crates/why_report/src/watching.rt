@@ -1,11 +1,13 @@
 //! What one goal of a root box watches.
 
 ghost use Rattle.std.specs.Prelude.{◌≡◌, IfOk, map};
+ghost use Rattle.akl_terms.specs.Equal.{IsConsistentBy};
 ghost use Rattle.akl_model.specs.Derivations.{IsQuietEnd};
 ghost use Rattle.box_tree.specs.declared.view.Alternative.{Alternative};
 ghost use Rattle.box_tree.specs.Tables.{all_rules};
+ghost use Rattle.local_store.specs.Chained.{ToldBy};
 ghost use Rattle.step_commit.specs.Cores.{TableIn};
-ghost use Rattle.why_report.specs.Sights.{IsGoalView, IsBoxWithin, IsAwaitedBy, AreTouchedBy, AreTouchedIn};
+ghost use Rattle.why_report.specs.Sights.{IsGoalView, IsBoxWithin, AreAwaited, AreTouchedBy, AreTouchedIn};
 ghost use Rattle.why_report.specs.Waits.{WaitsOn};
 
 use crate::oldest::oldest_of;
@@ -31,7 +33,7 @@ pub(crate) fn watched_at(
 {
     let of = match view.sight() {
         Sight::Atom(atom) => awaited_by(alloc, program, view, atom)?,
-        Sight::Choice { .. } => touched_by(alloc, program, core, view)?,
+        Sight::Choice { .. } => touched_by(alloc, program, core, view, goal)?,
         Sight::Box { .. } => Vec::new(alloc),
     };
     oldest_of(alloc, &view.chain(&program.templates), of.as_slice())
