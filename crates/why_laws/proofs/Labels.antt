@@ -1,5 +1,5 @@
--- The same of labels: none applies in the configuration with the further equations.
-use Rattle.std.proofs.Common.{◌≡◌, ◌+◌, ◌≤◌, ◌<◌, List, [], ◌∷◌, ◌++◌, Some, refl, sym, ap, subst, arith, append-nil}
+-- No label applies at a root box or inside it in the configuration with equations that leave what it watches.
+use Rattle.std.proofs.Common.{◌≡◌, ◌+◌, ◌≤◌, ◌<◌, List, [], Some, refl, sym, subst, inl, arith}
 use Rattle.std.specs.Prelude.{slice_index}
 use Rattle.akl_terms.specs.declared.name.Name.{Name}
 use Rattle.akl_terms.specs.declared.program.Program.{Program}
@@ -40,7 +40,7 @@ module _ (c : Config) (s : Stand c) (E : Equations) (f : Found) (e : box_at f.co
 
   stands : Stands (told_more E f) now.roots
   stands = subst (λ (path : List Content). BoxIn path (told_more E f).content f.goals now.roots) (sym root)
-      (edit_new f.content.name (only (told_more E f)) [] (told_more E f).content f.goals (Rattle.std.proofs.Common.inl (refl, refl, refl)) c.roots [] f.content f.goals
+      (edit_new f.content.name (only (told_more E f)) [] (told_more E f).content f.goals (inl (refl, refl, refl)) c.roots [] f.content f.goals
       (subst (λ (path : List Content). BoxIn path f.content f.goals c.roots) root (found_in f.content.name c.roots f e)) (same_name-refl f.content.name) tt)
 
   there : box_at f.content.name now.roots ≡ Some (told_more E f)

@@ -1,70 +1,26 @@
 -- A box in which no rule may be used, and none afterwards: by cases over the rules.
-use Rattle.std.proofs.Common.{◌≡◌, ℕ, ◌<◌, ◌^◌, List, [], ◌∷◌, ◌++◌, Bool, true, false, Option, Some, None, refl, sym, subst, ◌⊎◌, inl, inr}
-use Rattle.std.specs.Prelude.{if◌then◌else◌, IsSomeAnd, ⊤}
+use Rattle.std.proofs.Common.{◌≡◌, ℕ, ◌<◌, ◌^◌, List, [], ◌∷◌, ◌++◌, Option, Some, None, refl, sym, subst, ◌⊎◌, inl, inr}
+use Rattle.std.specs.Prelude.{IsSomeAnd}
 use Rattle.akl_terms.specs.declared.name.Name.{Name}
 use Rattle.akl_terms.specs.declared.name.Place.{Place}
 use Rattle.akl_terms.specs.declared.program.Program.{Program}
-use Rattle.akl_terms.specs.Names.{same_name}
 use Rattle.akl_terms.specs.Tree.{Tree}
 use Rattle.akl_terms.specs.Equal.{Equations, IsTold, IsConsistent}
 use Rattle.akl_terms.proofs.EqualLaws.{IsConsistent-follows}
 use Rattle.akl_model.specs.declared.label.Rule.{Rule}
 use Rattle.akl_model.specs.declared.label.Label.{Label}
-use Rattle.akl_model.specs.Config.{Atom, Operator, Content, Boxes, no_boxes, box, Goals, no_goals, atom, choice, Held, an_atom, a_choice, held_in, Found, whole}
-use Rattle.akl_model.specs.Rules.{Reading, answer, receiver, Change, ChoiceIn, choice_with, alternative_of, has_box}
+use Rattle.akl_model.specs.Config.{Atom, Operator, Content, Boxes, no_boxes, box, Goals, Held, an_atom, a_choice, held_in, Found, whole}
+use Rattle.akl_model.specs.Rules.{Reading, answer, receiver, Change, ChoiceIn, choice_with, change_by}
 use Rattle.akl_model.specs.Conditions.{IsSolved, HasFailed, IsQuietBox, ComesTo, GoesTo, MayCut, GuardHolds, MayPromote, AreQuiet, MayCollect, Makes}
 use Rattle.akl_model.specs.Stable.{IsStable, IsSplitPoint, Allows}
 use Rattle.constraint_laws.proofs.Beside.{follows_told}
+use Rattle.step_laws.specs.Whereabouts.{BoxIn, InGoals}
+use Rattle.step_laws.proofs.GoalEdits.{held_inside}
 use Rattle.sleep_laws.proofs.AwaitedAtoms.{AwaitsNoneBound, comes_before, goes_before}
 use Rattle.why_laws.specs.Sound.{IsIdle}
-use Rattle.why_laws.proofs.OtherEquations.{d, e, change_other}
-use Rattle.why_laws.proofs.Touched.{none_kept}
-
--- a fact of each alternative of each choice directly in a box
-abbrev pub EachAlternative : (Content → Goals → Type 0) → Boxes → Type 0
-EachAlternative Q no_boxes = ⊤
-EachAlternative Q (box c hs bs) = Q c hs × EachAlternative Q bs
-
-abbrev pub AllAlternatives : (Content → Goals → Type 0) → Goals → Type 0
-AllAlternatives Q no_goals = ⊤
-AllAlternatives Q (atom g a gs) = AllAlternatives Q gs
-AllAlternatives Q (choice g o bs gs) = EachAlternative Q bs × AllAlternatives Q gs
-
-module _ (Q : Content → Goals → Type 0) where
-  alternatives_held : (g : Name) (o : Operator) (bs : Boxes) (gs : Goals) → AllAlternatives Q gs → held_in g gs ≡ Some (a_choice o bs) → EachAlternative Q bs
-  alternatives_held g o bs no_goals h i = cc
-  alternatives_held g o bs (atom k a gs) h i = on (same_name g k) i (λ j. alternatives_held g o bs gs h j)
-    where
-      on : (t : Bool) → (if t then Some (an_atom a) else held_in g gs) ≡ Some (a_choice o bs) → (held_in g gs ≡ Some (a_choice o bs) → EachAlternative Q bs) → EachAlternative Q bs
-      on true j f = cc
-      on false j f = f j
-  alternatives_held g o bs (choice k q cs gs) h i = on (same_name g k) i (λ j. alternatives_held g o bs gs h.1 j)
-    where
-      on : (t : Bool) → (if t then Some (a_choice q cs) else held_in g gs) ≡ Some (a_choice o bs) → (held_in g gs ≡ Some (a_choice o bs) → EachAlternative Q bs) → EachAlternative Q bs
-      on true j f = let r : cs ≡ bs = cc in subst (EachAlternative Q) r h.0
-      on false j f = f j
-
-  alternatives_with : (a : Name) (gs : Goals) (k : ChoiceIn) → AllAlternatives Q gs → choice_with a gs ≡ Some k → EachAlternative Q k.alternatives
-  alternatives_with a no_goals k h i = cc
-  alternatives_with a (atom g t gs) k h i = alternatives_with a gs k h i
-  alternatives_with a (choice g o bs gs) k h i = on (has_box a bs) i (λ j. alternatives_with a gs k h.1 j)
-    where
-      on : (t : Bool) → (if t then Some (record { name = g; op = o; alternatives = bs }) else choice_with a gs) ≡ Some k → (choice_with a gs ≡ Some k → EachAlternative Q k.alternatives) → EachAlternative Q k.alternatives
-      on true j f = subst (λ (u : ChoiceIn). EachAlternative Q u.alternatives) (Rattle.akl_model.proofs.Options.some_value j) h.0
-      on false j f = f j
-
-  -- a fact of an alternative afterwards is one of before
-  alternative_back : (X Y : Found → Type 0) (f k : Found) (n : Name) (bs : Boxes) → EachAlternative Q bs
-      → ((c : Content) (hs : Goals) → Q c hs → X (record { around = k.around ++ k.content ∷ []; content = c; goals = hs }) → Y (record { around = f.around ++ f.content ∷ []; content = c; goals = hs }))
-      → IsSomeAnd (alternative_of k n bs) X → IsSomeAnd (alternative_of f n bs) Y
-  alternative_back X Y f k n no_boxes h by x = x
-  alternative_back X Y f k n (box c hs bs) h by x = on (same_name n c.name) x (λ y. alternative_back X Y f k n bs h.1 by y)
-    where
-      on : (t : Bool) → IsSomeAnd (if t then Some (record { around = k.around ++ k.content ∷ []; content = c; goals = hs }) else alternative_of k n bs) X
-          → (IsSomeAnd (alternative_of k n bs) X → IsSomeAnd (alternative_of f n bs) Y)
-          → IsSomeAnd (if t then Some (record { around = f.around ++ f.content ∷ []; content = c; goals = hs }) else alternative_of f n bs) Y
-      on true y further = by c hs h.0 y
-      on false y further = further y
+use Rattle.why_laws.proofs.Alternatives.{alternative_back, chosen_inside}
+use Rattle.why_laws.proofs.OtherEquations.{change_other}
+use Rattle.why_laws.proofs.StaysTouched.{none_kept}
 
 -- an alternative is consistent, and was quiet where it is
 pub record WasQuiet (f k : Found) (c : Content) (hs : Goals) : Type 0 where
@@ -73,10 +29,10 @@ pub record WasQuiet (f k : Found) (c : Content) (hs : Goals) : Type 0 where
 
 module _ (p : Program) (old new : List Content) (b : Content) (gs : Goals) (F : Equations) where
   abbrev was : Found
-  was = d p old new b gs F
+  was = record { around = old; content = b; goals = gs }
 
   abbrev is : Found
-  is = e p old new b gs F
+  is = record { around = new; content = record b { equations = F }; goals = gs }
 
   -- what is to be known of the box
   pub record Quieter : Type 0 where
@@ -84,7 +40,7 @@ module _ (p : Program) (old new : List Content) (b : Content) (gs : Goals) (F : 
     pub keeps : (s t : Tree) → IsTold (whole was) s t → IsTold (whole is) s t
     pub consistent : IsConsistent (whole is)
     pub awaits : (g : Name) (a : Atom) → held_in g gs ≡ Some (an_atom a) → AwaitsNoneBound p a (whole was) (whole is)
-    pub alternatives : AllAlternatives (WasQuiet was is) gs
+    pub alternatives : (c : Content) (hs : Goals) → InGoals [] c hs gs → WasQuiet was is c hs
     pub stable : IsStable p is → IsStable p was
 
   module _ (h : Quieter) where
@@ -108,24 +64,27 @@ module _ (p : Program) (old new : List Content) (b : Content) (gs : Goals) (F : 
     guards Operator.commit c hs w x = w.quiet x
     guards (Operator.collecting r) c hs w x = absurd x
 
+    -- an alternative of a choice of the box
+    held : (g : Name) (o : Operator) (bs : Boxes) → held_in g gs ≡ Some (a_choice o bs) → (c : Content) (hs : Goals) → BoxIn [] c hs bs → WasQuiet was is c hs
+    held g o bs i c hs m = h.alternatives c hs (held_inside g o bs [] c hs gs i m)
+
     cuts : (g n : Name) (k : Option Held) → held_in g gs ≡ k → MayCut n is k → MayCut n was k
     cuts g n (Some (a_choice o bs)) i x = (
-      alternative_back (WasQuiet was is) (λ (a : Found). IsSolved a.goals × IsQuietBox a) (λ (a : Found). IsSolved a.goals × IsQuietBox a) was is n bs
-          (alternatives_held (WasQuiet was is) g o bs gs h.alternatives i) (λ c hs w y. (y.0, w.quiet y.1)) x.0,
+      alternative_back (λ (a : Found). IsSolved a.goals × IsQuietBox a) (λ (a : Found). IsSolved a.goals × IsQuietBox a) was is n bs (λ c hs m y. (y.0, (held g o bs i c hs m).quiet y.1)) x.0,
       x.1,
     )
     cuts g n _ i x = absurd x
 
     promotes : (g n : Name) (k : Option Held) → held_in g gs ≡ k → MayPromote n is k → MayPromote n was k
-    promotes g n (Some (a_choice o bs)) i x = alternative_back (WasQuiet was is) (GuardHolds o) (GuardHolds o) was is n bs (alternatives_held (WasQuiet was is) g o bs gs h.alternatives i) (λ c hs w y. guards o c hs w y) x
+    promotes g n (Some (a_choice o bs)) i x = alternative_back (GuardHolds o) (GuardHolds o) was is n bs (λ c hs m y. guards o c hs (held g o bs i c hs m) y) x
     promotes g n _ i x = absurd x
 
-    all_quiet : (bs : Boxes) → EachAlternative (WasQuiet was is) bs → AreQuiet is bs → AreQuiet was bs
+    all_quiet : (bs : Boxes) → ((c : Content) (hs : Goals) → BoxIn [] c hs bs → WasQuiet was is c hs) → AreQuiet is bs → AreQuiet was bs
     all_quiet no_boxes w x = tt
-    all_quiet (box c hs bs) w x = (w.0.quiet x.0, all_quiet bs w.1 x.1)
+    all_quiet (box c hs bs) w x = ((w c hs (inl (refl, refl, refl))).quiet x.0, all_quiet bs (λ d is m. w d is (inr (inr m))) x.1)
 
     collects : (g : Name) (k : Option Held) → held_in g gs ≡ k → MayCollect is k → MayCollect was k
-    collects g (Some (a_choice (Operator.collecting r) bs)) i x = all_quiet bs (alternatives_held (WasQuiet was is) g (Operator.collecting r) bs gs h.alternatives i) x
+    collects g (Some (a_choice (Operator.collecting r) bs)) i x = all_quiet bs (held g (Operator.collecting r) bs i) x
     collects g _ i x = absurd x
 
     fails : ((IsConsistent (whole is) → ⊥) ⊎ HasFailed gs) → (IsConsistent (whole was) → ⊥) ⊎ HasFailed gs
@@ -137,8 +96,8 @@ module _ (p : Program) (old new : List Content) (b : Content) (gs : Goals) (F : 
     points a (Some k) i x = record {
       nondeterminate = x.nondeterminate;
       first = x.first;
-      consistent = alternative_back (WasQuiet was is) (λ (m : Found). IsConsistent (whole m)) (λ (m : Found). IsConsistent (whole m)) was is a k.alternatives
-          (alternatives_with (WasQuiet was is) a gs k h.alternatives i) (λ c hs w y. w.consistent) x.consistent;
+      consistent = alternative_back (λ (m : Found). IsConsistent (whole m)) (λ (m : Found). IsConsistent (whole m)) was is a k.alternatives
+          (λ c hs m y. (h.alternatives c hs (chosen_inside a gs k i c hs m)).consistent) x.consistent;
       others = x.others;
     }
 
@@ -160,13 +119,11 @@ module _ (p : Program) (old new : List Content) (b : Content) (gs : Goals) (F : 
       where
         none : (l : Label) (next : ℕ) (c : Change) → Makes (Allows p) p next l is c → ⊥
         none l next c k =
-            let w : (x : Change) × (change_by_was l next k ≡ Some x) × (x.drawn ≡ c.drawn) = change_other p old new b gs F k.reading l.worker next l.rule l.place l.alternative c k.change in
+            let w : (x : Change) × (change_by p k.reading l.worker next l.rule l.place l.alternative was ≡ Some x) × (x.drawn ≡ c.drawn) =
+            change_other p old new b gs F k.reading l.worker next l.rule l.place l.alternative c k.change in
             h.idle.none l next w.0 (record {
               reading = k.reading;
               change = w.1;
               allowed = allowed k.reading l.rule l.place l.alternative k.allowed;
               few_names = subst (λ (m : ℕ). m < 2 ^ 32) (sym w.2) k.few_names;
             })
-          where
-            change_by_was : (l : Label) (next : ℕ) → Makes (Allows p) p next l is c → Option Change
-            change_by_was l next k = Rattle.akl_model.specs.Rules.change_by p k.reading l.worker next l.rule l.place l.alternative was

@@ -1,5 +1,5 @@
--- A root box in which nothing goes on, and equations that leave what it watches.
-use Rattle.std.proofs.Common.{◌≡◌, ◌≤◌, List, [], ◌∷◌, ◌++◌, Some, refl, sym, subst, ◌⊎◌, inl, inr, arith, append-nil}
+-- At a root box and inside it no rule may be used once equations are told to it that leave what it watches.
+use Rattle.std.proofs.Common.{◌≡◌, ◌≤◌, List, [], ◌∷◌, ◌++◌, Some, refl, sym, subst, inl, inr, arith, append-nil}
 use Rattle.akl_terms.specs.declared.name.Name.{Name}
 use Rattle.akl_terms.specs.declared.name.Var.{Var}
 use Rattle.akl_terms.specs.declared.program.Program.{Program}
@@ -8,10 +8,11 @@ use Rattle.akl_terms.specs.Equal.{Equations, IsTold, same, IsConsistent}
 use Rattle.akl_terms.specs.Touching.{IsLocal, IsOutside}
 use Rattle.akl_terms.proofs.EqualLaws.{IsTold-left, IsTold-either}
 use Rattle.akl_model.specs.declared.label.Rule.{Rule}
+use Rattle.akl_model.specs.declared.label.Label.{Label}
 use Rattle.akl_model.specs.Config.{IsIn, Atom, Content, Goals, Config, an_atom, held_in, Found, equations_of, box_at}
 use Rattle.akl_model.specs.Stable.{EachBox, only, frames_of, TouchesFrom, by_waiting, IsStableIn, IsStable}
 use Rattle.akl_model.specs.Derivations.{IsInForce, Replays, NothingApplies, IsQuietEnd}
-use Rattle.akl_model.proofs.Finds.{times, times_inside}
+use Rattle.akl_model.proofs.Finds.{times}
 use Rattle.akl_model.proofs.QuietEnds.{quiet_ends}
 use Rattle.akl_model.proofs.Scoped.{IsIn-left, IsIn-either}
 use Rattle.akl_model.proofs.ScopesAlong.{only_once, local_in}
@@ -20,18 +21,19 @@ use Rattle.constraint_laws.specs.Bound.{IsNewlyBound}
 use Rattle.constraint_laws.specs.Inward.{Adding}
 use Rattle.step_laws.specs.Whereabouts.{BoxIn, InGoals, Stands}
 use Rattle.step_laws.proofs.Whereabouts.{found_in, in_found}
-use Rattle.step_laws.proofs.Holders.{choice_less}
-use Rattle.step_laws.proofs.Edits.{HeldHere, HolderAmong, among_holder}
 use Rattle.sleep_laws.proofs.InScope.{Good, outside_environment, around_outside}
 use Rattle.sleep_laws.proofs.Replayed.{good_replay}
 use Rattle.sleep_laws.proofs.AwaitedAtoms.{AwaitsNoneBound}
 use Rattle.wait_laws.proofs.Concerned.{touches_in_scope, inside_around}
 use Rattle.why_laws.specs.Watched.{by_atom, by_choice}
 use Rattle.why_laws.specs.Sound.{told_more, IsIdle, LeavesWatched}
+use Rattle.why_laws.proofs.Alternatives.{each_alternative, IsAlternative, is_alternative}
 use Rattle.why_laws.proofs.OneBox.{WasQuiet, stays_idle}
-use Rattle.why_laws.proofs.Inside.{Unbinds, itself, was_quiet, boxes_idle, no_plain}
-use Rattle.why_laws.proofs.WholeTrees.{over_more, each_where, some_where, each_alternative, all_alternatives, stands_in, alternative_there}
-use Rattle.why_laws.proofs.QuietBoxes.{is_idle, idle_consistent}
+use Rattle.why_laws.proofs.IdleBoxes.{no_plain, is_idle, idle_consistent}
+use Rattle.why_laws.proofs.GrownAround.{Unbinds, grown_first, was_quiet}
+use Rattle.why_laws.proofs.Inside.{boxes_idle}
+use Rattle.why_laws.proofs.OverMore.{over_more}
+use Rattle.why_laws.proofs.BoxesInside.{each_where, some_where, stands_in}
 
 module _ (rules : List Rule) (all : (r : Rule) → IsInForce rules r) (p : Program) (c : Config) (w : Good c) (quiet : NothingApplies rules p c) (n : Name) (b : Content) (gs : Goals)
     (there : box_at n c.roots ≡ Some (record { around = []; content = b; goals = gs })) (E : Equations) (h : LeavesWatched p (record { around = []; content = b; goals = gs }) E) where
@@ -105,23 +107,10 @@ module _ (rules : List Rule) (all : (r : Rule) → IsInForce rules r) (p : Progr
     -- what it and the boxes inside it touch is watched
     watched : (r : List Content) (a : Content) (is : Goals) → BoxIn r a is (only m) → (x : Var) → TouchesFrom p outer first (record { around = m.around ++ r; content = a; goals = is }) x
         → IsNewlyBound first new x → ⊥
-    watched r a is i x t z = on (among_holder [] k hs gs (λ q. let u : times q (only f) ≤ 1 = only_once c.roots w.stand.once n f there q in omega arith) among)
-      where
-        frame : IsIn x.frame b.frames
-        frame = own_frame x (inside_around c w p x k.name m m_there r a is i t)
-
-        on : HeldHere [] k hs gs ⊎ HolderAmong [] k hs gs → ⊥
-        on (inr y) = no_path y.home.around y.home.content y.path
-          where
-            no_path : (path : List Content) (v : Content) → [] ≡ path ++ v ∷ [] → ⊥
-            no_path [] v q = cc
-            no_path (u ∷ path) v q = cc
-        on (inl y) = h.unbound y.goal x (by_choice k.name y.held
-            (alternative_there f k hs y.alternatives (λ q.
-            let u : times q y.alternatives ≤ times_inside q gs = choice_less q y.goal y.op y.alternatives gs y.held in
-            let v : times q (only f) ≤ 1 = only_once c.roots w.stand.once n f there q in
-            omega arith) y.alternative)
-            (some_where (λ (d : Found). TouchesFrom p outer first d x) m.around (only m) r a is i t) frame) (bound_is x z)
+    watched r a is i x t z =
+        let v : IsAlternative f k hs = is_alternative f (λ q. let u : times q (only f) ≤ 1 = only_once c.roots w.stand.once n f there q in omega arith) k hs among in
+        h.unbound v.goal x (by_choice k.name v.held v.found (some_where (λ (d : Found). TouchesFrom p outer first d x) m.around (only m) r a is i t) (own_frame x (inside_around c w p x k.name m m_there r a is i t)))
+        (bound_is x z)
 
     idle_at : (r : List Content) (a : Content) (is : Goals) → BoxIn r a is (only m) → IsIdle p (record { around = m.around ++ r; content = a; goals = is })
     idle_at r a is i = is_idle rules all p c w.stand quiet (record { around = m.around ++ r; content = a; goals = is }) (stands_in m c.roots m_stands r a is i)
@@ -131,13 +120,13 @@ module _ (rules : List Rule) (all : (r : Rule) → IsInForce rules r) (p : Progr
         (λ r a is i. record { consistent = idle_consistent p (record { around = m.around ++ r; content = a; goals = is }) (idle_at r a is i); none = watched r a is i })
 
     pub all_idle : EachBox (IsIdle p) (told ∷ []) (only m)
-    all_idle = boxes_idle p outer first new over adding (b ∷ []) (told ∷ []) (only m) [] (sym (append-nil first)) (sym (append-nil new)) (itself p outer first new over adding) unbinds
+    all_idle = boxes_idle p outer first new over adding (b ∷ []) (told ∷ []) (only m) (grown_first (b ∷ []) (told ∷ []) adding) unbinds
         (each_where (IsIdle p) (b ∷ []) (only m) idle_at)
 
     pub quieter : WasQuiet f (told_more E f) k hs
     quieter = record {
       consistent = unbinds.0.consistent;
-      quiet = was_quiet p outer first new over adding (b ∷ []) (told ∷ []) [] (sym (append-nil first)) (sym (append-nil new)) (itself p outer first new over adding) k hs unbinds.0;
+      quiet = was_quiet p outer first new over adding (b ∷ []) (told ∷ []) (grown_first (b ∷ []) (told ∷ []) adding) k hs unbinds.0;
     }
 
   -- it is stable, as nothing is outside of it
@@ -156,14 +145,14 @@ module _ (rules : List Rule) (all : (r : Rule) → IsInForce rules r) (p : Progr
       keeps = λ s t i. IsTold-left b.equations E s t i;
       consistent = h.consistent;
       awaits = awaits;
-      alternatives = all_alternatives (WasQuiet f (told_more E f)) gs quieter;
+      alternatives = quieter;
       stable = λ s. stable;
     }),
     each_alternative (IsIdle p) (told ∷ []) gs all_idle,
     tt,
   )
 
-pub stays_idle_told : (rules : List Rule) → ((r : Rule) → IsInForce rules r) → (p : Program) (q : Query) (journal : List Rattle.akl_model.specs.declared.label.Label.Label) (c : Config) → Replays rules p q journal c → IsQuietEnd rules p c
+pub stays_idle_told : (rules : List Rule) → ((r : Rule) → IsInForce rules r) → (p : Program) (q : Query) (journal : List Label) (c : Config) → Replays rules p q journal c → IsQuietEnd rules p c
     → (n : Name) (f : Found) → box_at n c.roots ≡ Some f → f.around ≡ [] → (E : Equations) → LeavesWatched p f E → EachBox (IsIdle p) [] (only (told_more E f))
 stays_idle_told rules all p q journal c r end n f e root E h = root_idle rules all p c (good_replay rules p q journal c r) ((quiet_ends rules p q journal c r).1 end) n f.content f.goals
     (subst (λ (path : List Content). box_at n c.roots ≡ Some (record f { around = path })) root e) E

@@ -13,8 +13,10 @@ use Rattle.akl_model.specs.declared.label.Label.{Label}
 use Rattle.akl_model.specs.Config.{IsIn, Atom, Operator, Content, Boxes, Goals, Config, an_atom, a_choice, held_in, Found, equations_of, environment, whole, box_at}
 use Rattle.akl_model.specs.Rules.{alternative_of}
 use Rattle.akl_model.specs.Stable.{only, frames_of, AtomWaitsOn, TouchesFrom, by_equations, by_waiting}
+use Rattle.akl_model.specs.Scopes.{nowhere}
 use Rattle.akl_model.specs.Derivations.{Replays}
 use Rattle.akl_model.proofs.Scoped.{IsIn-either}
+use Rattle.akl_model.proofs.ScopesAlong.{scope_along}
 use Rattle.constraint_laws.specs.Growth.{IsOver, TellsOver}
 use Rattle.constraint_laws.proofs.Decided.{kept_by}
 use Rattle.constraint_laws.proofs.Grown.{over_kept}
@@ -26,11 +28,12 @@ use Rattle.step_laws.specs.Whereabouts.{BoxIn, Stands}
 use Rattle.step_laws.proofs.Whereabouts.{found_in, in_found}
 use Rattle.step_laws.proofs.Stays.{alternative_in, alternative_stands}
 use Rattle.sleep_laws.proofs.InScope.{Good, outside_environment}
+use Rattle.sleep_laws.proofs.Moves.{told_further}
 use Rattle.sleep_laws.proofs.Replayed.{good_replay}
 use Rattle.wait_laws.proofs.Concerned.{touches_in_scope, inside_around}
 use Rattle.wait_laws.proofs.Frames.{some_found}
 use Rattle.why_laws.specs.Watched.{TouchesWithin, Watches, by_atom, by_choice}
-use Rattle.why_laws.proofs.WholeTrees.{some_where}
+use Rattle.why_laws.proofs.BoxesInside.{some_where}
 
 -- an atom waits on a variable that isn't structured
 awaited_free : (p : Program) (E : Equations) (a : Atom) (x : Var) → AtomWaitsOn p E a x → IsStructured E x → ⊥
@@ -59,14 +62,7 @@ module _ (p : Program) (inner : List Name) (E : Equations) (d : Found) (over : T
       (record { goal = w.goal; atom = w.atom; is_goal = w.is_goal; on = w.on; waits = w.waits; equal = joined (turned (Equal-follows (follows_told E (whole d) keeps) e)) w.equal })
 
 told_along : (old r : List Content) (k : Content) (s t : Tree) → IsTold (equations_of old) s t → IsTold (equations_of (old ++ r) ++ k.equations) s t
-told_along [] r k s t m = absurd m
-told_along (b ∷ bs) r k s t m = elim (Rattle.akl_terms.proofs.EqualLaws.IsTold-either b.equations (equations_of bs) s t m) [
-  | inl x ↦ IsTold-left (b.equations ++ equations_of (bs ++ r)) k.equations s t (IsTold-left b.equations (equations_of (bs ++ r)) s t x)
-  | inr x ↦ elim (Rattle.akl_terms.proofs.EqualLaws.IsTold-either (equations_of (bs ++ r)) k.equations s t (told_along bs r k s t x)) [
-    | inl y ↦ IsTold-left (b.equations ++ equations_of (bs ++ r)) k.equations s t (Rattle.akl_terms.proofs.EqualLaws.IsTold-right b.equations (equations_of (bs ++ r)) s t y)
-    | inr y ↦ Rattle.akl_terms.proofs.EqualLaws.IsTold-right (b.equations ++ equations_of (bs ++ r)) k.equations s t y
-  ]
-]
+told_along old r k s t m = IsTold-left (equations_of (old ++ r)) k.equations s t (told_further old r s t m)
 
 module _ (c : Config) (w : Good c) (p : Program) (n : Name) (b : Content) (gs : Goals) (there : box_at n c.roots ≡ Some (record { around = []; content = b; goals = gs })) where
   abbrev f : Found
@@ -104,7 +100,7 @@ module _ (c : Config) (w : Good c) (p : Program) (n : Name) (b : Content) (gs : 
             → TouchesWithin p m y × IsIn y.frame b.frames
         each r a is i t = (
           some_where (λ (d : Found). TouchesFrom p (frames_of (only m)) (environment m) d y) m.around (only m) r a is i z,
-          own_frame y (subst (λ (l : List Content). IsIn y.frame (Rattle.akl_model.proofs.ScopesAlong.scope_along Rattle.akl_model.specs.Scopes.nowhere l).frames) path (inside_around c w p y m.content.name m m_there r a is i z)),
+          own_frame y (subst (λ (l : List Content). IsIn y.frame (scope_along nowhere l).frames) path (inside_around c w p y m.content.name m m_there r a is i z)),
         )
           where
             z : TouchesFrom p (frames_of (only m)) (environment m) (record { around = m.around ++ r; content = a; goals = is }) y

@@ -1,4 +1,4 @@
--- Nothing goes on in a root box while what it watches stays as it is.
+-- Nothing goes on in a root box, or inside it, while what it watches stays as it is.
 use Rattle.std.specs.Prelude.{◌≡◌, ℕ, List, [], ◌++◌, Some}
 use Rattle.akl_terms.specs.declared.name.Name.{Name}
 use Rattle.akl_terms.specs.declared.name.Var.{Var}
@@ -30,20 +30,20 @@ with_told E f c = record c { roots = edited f.content.name (only (told_more E f)
 pub record IsIdle (p : Program) (d : Found) : Type 0 where
   pub none : (l : Label) (next : ℕ) (c : Change) → Makes (Allows p) p next l d c → ⊥
 
--- equations that may be told to a root box without waking what it watches: they are over variables of its own frames, are consistent with its own,
--- and bind or make equal no watched variable
+-- equations over variables of a root box's own frames, consistent with its own, that bind none of the variables that its goals watch, and make none
+-- of them equal to another
 pub record LeavesWatched (p : Program) (f : Found) (E : Equations) : Type 0 where
   pub over : TellsOver (IsLocal f.content.frames) E
   pub consistent : IsConsistent (whole f ++ E)
   pub unbound : (g : Name) (x : Var) → Watches p f g x → IsNewlyBound (whole f) (whole f ++ E) x → ⊥
 
--- in the replay of every journal with a quiet end, where all rules are in force, no label applies at a root box or inside it once such equations are told to it
+-- at the quiet end of the replay of every journal, where all rules are in force, no label applies at a root box or inside it once such equations are told to it
 abbrev pub StaysQuietLaw : Type 0
 StaysQuietLaw = (rules : List Rule) → ((r : Rule) → IsInForce rules r) → (p : Program) (q : Query) (journal : List Label) (c : Config) → Replays rules p q journal c → IsQuietEnd rules p c
     → (n : Name) (f : Found) → box_at n c.roots ≡ Some f → f.around ≡ [] → (E : Equations) → LeavesWatched p f E
     → (l : Label) (d : Config) → Applies rules p (with_told E f c) l d → IsAt n (with_told E f c).roots l.place → ⊥
 
--- box by box: no rule may be used at it or at any box inside it
+-- and no rule may be used at it or at any box inside it, whatever the next numbers
 abbrev pub StaysIdleLaw : Type 0
 StaysIdleLaw = (rules : List Rule) → ((r : Rule) → IsInForce rules r) → (p : Program) (q : Query) (journal : List Label) (c : Config) → Replays rules p q journal c → IsQuietEnd rules p c
     → (n : Name) (f : Found) → box_at n c.roots ≡ Some f → f.around ≡ [] → (E : Equations) → LeavesWatched p f E

@@ -14,8 +14,8 @@ use Rattle.akl_model.specs.Wakes.{SomeBox}
 abbrev pub TouchesWithin : Program → Found → Var → Type 0
 TouchesWithin p m x = SomeBox (λ (d : Found). TouchesFrom p (frames_of (only m)) (environment m) d x) m.around (only m)
 
--- a goal of a box watches a variable of the box's own frames: an atom what is equal to the variable on which it waits, and a choice what its
--- alternatives, or boxes inside them, touch. These are whole classes of the box's equations, none of them structured
+-- a goal of a box watches a variable of the box's own frames: an atom what is equal to the variable on which it waits, and a choice of any operator
+-- what its alternatives, or boxes inside them, touch. These are whole classes of the box's equations, none of them structured
 pub data Watches (p : Program) (f : Found) : Name → Var → Type 0 where
   by_atom : {g : Name} {a : Atom} {x : Var} (on : Var) → held_in g f.goals ≡ Some (an_atom a) → AtomWaitsOn p (whole f) a on → Equal (whole f) (variable x) (variable on)
       → IsIn x.frame f.content.frames → Watches p f g x

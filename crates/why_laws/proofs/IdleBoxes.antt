@@ -1,4 +1,4 @@
--- Where no rule in force applies, none may be used at a box that stands there.
+-- Boxes in which no rule may be used: each that stands where no rule in force applies.
 use Rattle.std.proofs.Common.{◌≡◌, ℕ, ◌<◌, ◌^◌, List, Option, Some, None, refl, sym, ◌∙◌, subst, ◌⊎◌, inl, inr, arith}
 use Rattle.std.specs.Prelude.{slice_index}
 use Rattle.akl_terms.specs.declared.name.Name.{Name}
@@ -10,10 +10,11 @@ use Rattle.akl_model.specs.declared.label.Rule.{Rule}
 use Rattle.akl_model.specs.declared.label.Label.{Label}
 use Rattle.akl_model.specs.Config.{no_boxes, Config, Held, held_in, Found, whole, box_at, site_of}
 use Rattle.akl_model.specs.Rules.{Reading, nothing, Change, change_by}
-use Rattle.akl_model.specs.Conditions.{Makes}
+use Rattle.akl_model.specs.Conditions.{AllowsPlain, Makes}
 use Rattle.akl_model.specs.Stable.{Allows}
 use Rattle.akl_model.specs.Derivations.{IsInForce, NothingApplies, after}
 use Rattle.akl_model.proofs.NamesKept.{Stand}
+use Rattle.akl_model.proofs.QuietEnds.{clash_not}
 use Rattle.akl_model.proofs.RuleCases.{PlainCase, tells, forks, evaluates, opens, sends, cuts, promotes, collects, SplitCase, Makes-case}
 use Rattle.constraint_laws.proofs.Decided.{consistent_or}
 use Rattle.step_laws.specs.Whereabouts.{Stands}
@@ -21,6 +22,22 @@ use Rattle.step_laws.proofs.AgainIn.{other_next}
 use Rattle.step_laws.proofs.Whereabouts.{in_found}
 use Rattle.step_laws.proofs.Deeper.{home_found}
 use Rattle.why_laws.specs.Sound.{IsIdle}
+
+-- where a rule other than Split may be used a rule may be used
+allowed_of : (p : Program) (v : Reading) (r : Rule) (place : Place) (a : Option Name) (f : Found) → AllowsPlain p v r place a f → Allows p v r place a f
+allowed_of p v Rule.Split place a f x = absurd x
+allowed_of p v Rule.Tell place a f x = x
+allowed_of p v Rule.Fork place a f x = x
+allowed_of p v Rule.Eval place a f x = x
+allowed_of p v Rule.Open place a f x = x
+allowed_of p v Rule.Send place a f x = x
+allowed_of p v Rule.Fail place a f x = x
+allowed_of p v Rule.Cut place a f x = x
+allowed_of p v Rule.Promote place a f x = x
+allowed_of p v Rule.Collect place a f x = x
+
+pub no_plain : (p : Program) (f : Found) → IsIdle p f → (l : Label) (next : ℕ) (c : Change) → Makes (AllowsPlain p) p next l f c → ⊥
+no_plain p f i l next c k = i.none l next c (record { reading = k.reading; change = k.change; allowed = allowed_of p k.reading l.rule l.place l.alternative f k.allowed; few_names = k.few_names })
 
 -- what a rule found at a goal's place is a goal directly in the box
 goal_there : (p : Program) (w next : ℕ) (f : Found) (c : Change) (g : Name) → PlainCase p w next f c (Place.Goal g) → (h : Held) × (held_in g f.goals ≡ Some h)
@@ -104,4 +121,4 @@ idle_consistent p f i = on (consistent_or (whole f))
     on : IsConsistent (whole f) ⊎ Contradicts (whole f) → IsConsistent (whole f)
     on (inl k) = k
     on (inr k) = absurd (i.none (record { rule = Rule.Fail; place = Place.Box f.content.name; alternative = None; worker = 0 }) 0 (record { boxes = no_boxes; drawn = 0 })
-        (record { reading = nothing; change = refl; allowed = inl (λ c. k.differ.differ (c.heads k.equal k.differ.is_left k.differ.is_right)); few_names = omega arith }))
+        (record { reading = nothing; change = refl; allowed = inl (clash_not (whole f) k); few_names = omega arith }))
