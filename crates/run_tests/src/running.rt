@@ -44,7 +44,7 @@ waits p(X) => quiet waiting 1 goal 0.2 on X
 waits p(X), Y = Z, p(Z), X = Y => quiet waiting 1 goal 0.2 on X goal 0.4 on X
 waits q(X) => quiet waiting 1 goal 0.2 on X
 waits g(X, Y) => quiet waiting 1 goal 0.2 on X, Y
-waits r(f(_)) => quiet waiting 1 goal 0.2 on X
+waits r(f(_)) => quiet waiting 1 goal 0.2 on 0.1:0
 waits X is 170141183460469231731687303715884105727 + 1 => quiet waiting 1 goal 0.2 on nothing
 waits X < Y => quiet waiting 1 goal 0.2 on X
 waits (X = a ; X = b), Y < 2 => quiet waiting 1 goal 0.2 on X

@@ -31,7 +31,7 @@ use Rattle.stable_test.specs.Inner.{IsTouchedInside}
 use Rattle.step_commit.specs.Cores.{CoreValue, TableIn}
 use Rattle.root_answers.specs.Roots.{root_box}
 use Rattle.why_laws.specs.Watched.{TouchesWithin, Watches, by_atom, by_choice}
-use Rattle.why_laws.proofs.WholeTrees.{some_where, stands_in}
+use Rattle.why_laws.proofs.BoxesInside.{some_where, stands_in}
 use Rattle.why_report.specs.Sights.{IsBoxWithin, AreTouchedBy}
 use Rattle.why_report.proofs.RootGoals.{good, all_consistent, is_root, root_stands}
 

@@ -1,5 +1,6 @@
 -- The first variable with each end of chains, of variables in order.
 use Rattle.std.proofs.Common.{◌≡◌, ℕ, zero, suc, ◌+◌, ◌<◌, Bool, true, false, cond, List, [], ◌∷◌, ◌++◌, length, take, Some, None, refl, sym, ◌∙◌, ap, subst, ◌⊎◌, inl, inr, arith, slice_index_or}
+use Rattle.std.specs.Prelude.{not}
 use Rattle.std.specs.List.Sorted.{IsSorted}
 use Rattle.std.specs.Ordering.{is_lt, ordering_reverse}
 use Rattle.std.specs.declared.cmp.Ordering.{Ordering}
@@ -38,16 +39,16 @@ module _ (xs : List Var) (sorted : IsSorted var_cmp xs) (d : Var) where
   pub earlier : (i : ℕ) → i < length xs → (y : Var) → IsAmong y (take i xs) → IsUpTo y (slice_index_or xs i d)
   earlier zero h y m = absurd m
   earlier (suc i) h y m = up_to_on y (slice_index_or xs i d) (slice_index_or xs (suc i) d)
-      (last (among-either (take i xs) (slice_index_or xs i d ∷ []) y (subst (IsAmong y) (take-next xs i (suc i) d (omega arith) refl) m)))
+      (last (λ k. earlier i (omega arith) y k) (among-either (take i xs) (slice_index_or xs i d ∷ []) y (subst (IsAmong y) (take-next xs i (suc i) d (omega arith) refl) m)))
       (not_after (slice_index_or xs i d) (slice_index_or xs (suc i) d) (next (i + 1) (omega arith)))
     where
       next : (k : ℕ) → k ≡ i + 1 → is_lt (var_cmp (slice_index_or xs (suc i) d) (slice_index_or xs i d)) ≡ false
       next k e = subst (λ (j : ℕ). is_lt (var_cmp (slice_index_or xs j d) (slice_index_or xs i d)) ≡ false) (omega arith) (sorted i d (omega arith) (omega (arith, h)))
 
-      last : IsAmong y (take i xs) ⊎ IsAmong y (slice_index_or xs i d ∷ []) → IsUpTo y (slice_index_or xs i d)
-      last (inl k) = earlier i (omega arith) y k
-      last (inr (inl e)) = inl e
-      last (inr (inr z)) = absurd z
+      last : (IsAmong y (take i xs) → IsUpTo y (slice_index_or xs i d)) → IsAmong y (take i xs) ⊎ IsAmong y (slice_index_or xs i d ∷ []) → IsUpTo y (slice_index_or xs i d)
+      last before (inl k) = before k
+      last before (inr (inl e)) = inl e
+      last before (inr (inr z)) = absurd z
 
 -- a variable behind all others
 behind_push : (v x : Var) (ys : List Var) → AreBehind v ys → var_cmp v x ≡ Less → ((y : Var) → IsAmong y ys → var_cmp y x ≡ Less) → AreBehind v (ys ++ x ∷ [])
@@ -171,3 +172,12 @@ module _ (nodes : List Node) (bs : List (Var × Term)) where
           on : (s : Var) (b : Bool) → same_var r s ≡ b → cond b true (has keys s) ≡ true → (y : Var) × IsAmong y (done ++ x ∷ []) × Ends y s
           on s true p e = (x, itself, ends ∙ ap variable (same_var-equal r s p))
           on s false p e = let w : (y : Var) × IsAmong y done × Ends y s = m.each s e in (w.0, among-left done (x ∷ []) w.0 w.1, w.2)
+
+-- what wasn't met is new
+pub was_new : (b : Bool) → not b ≡ true → b ≡ false
+was_new true e = cc
+was_new false e = refl
+
+pub was_met : (b : Bool) → not b ≡ false → b ≡ true
+was_met true e = refl
+was_met false e = cc

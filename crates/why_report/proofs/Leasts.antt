@@ -49,6 +49,10 @@ among_permuted xs ys p x m = (has_is ys x (has xs x) (list_any-IsPermutation (sa
 pub among_before : (xs ys : List Var) → IsPermutation xs ys → (x : Var) → IsAmong x ys → IsAmong x xs
 among_before xs ys p x m = (has_is xs x (has ys x) (sym (list_any-IsPermutation (same_var x) xs ys p))).0 ((has_is ys x (has ys x) refl).1 m)
 
+pub one_outermost : (nodes : List Node) (ss : List Stored) → outermost_of nodes (take 1 ss) ≡ equations_of nodes (take 1 ss)
+one_outermost nodes [] = refl
+one_outermost nodes (s ∷ ss) = refl
+
 -- members of classes in order, by equations that are all of the outermost store
 module _ (nodes : List Node) (ss : List Stored) (outer : outermost_of nodes ss ≡ equations_of nodes ss) (of members sorted list : List Var) (m : AreMembers nodes ss of members)
     (p : IsPermutation members sorted) (h : AreLeast (equations_of nodes ss) sorted list) where

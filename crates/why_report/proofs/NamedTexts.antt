@@ -1,16 +1,25 @@
 -- Texts one behind another, and variables by the names of shown terms.
-use Rattle.std.proofs.Common.{◌≡◌, ℕ, zero, suc, ◌<◌, List, [], ◌∷◌, ◌++◌, length, take, map, sym, ◌∙◌, ap, subst, arith, append-nil, slice_index_or}
+use Rattle.std.proofs.Common.{◌≡◌, ℕ, zero, suc, ◌+◌, ◌<◌, true, List, [], ◌∷◌, ◌++◌, length, take, map, Option, Some, None, refl, sym, ◌∙◌, ap, subst, arith, append-nil, slice_index_or}
+use Rattle.std.specs.Option.{option_eq}
+use Rattle.std.specs.Prelude.{codes}
 use Rattle.std.proofs.lemmas.List.{append_assoc}
 use Rattle.std.specs.List.{AllByRecursion}
 use Rattle.akl_terms.specs.declared.name.Var.{Var}
 use Rattle.akl_terms.specs.declared.term.Node.{Node}
 use Rattle.akl_terms.specs.declared.program.ShownTerm.{ShownTerm}
+use Rattle.akl_terms.specs.Names.{same_var}
 use Rattle.akl_terms.specs.Template.{tree}
 use Rattle.akl_terms.specs.Tree.{Tree}
+use Rattle.akl_terms.proofs.SameNames.{same_var-equal}
 use Rattle.akl_model.specs.Config.{ShownTree}
 use Rattle.box_tree.specs.Tables.{shown_tree}
+use Rattle.line_text.specs.Names.{name_text}
+use Rattle.rational_unify.proofs.Taking.{take-next}
 use Rattle.why_laws.specs.Waiting.{Waiting}
 use Rattle.why_report.specs.Texts.{variable_text, IsNameOf, named, named_later, unnamed, AreTexts, no_texts, one_more, IsFurtherText, IsOnText, on_nothing, on_variables, IsGoalLine, AreWaitingLines}
+use Rattle.why_report.specs.Written.{Adds}
+use Rattle.why_report.specs.declared.waiting.Waiting as found
+use Rattle.why_report.specs.Waits.{value_of, values}
 
 -- one more text
 pub texts_push : {A : Type 0} (P : A → List ℕ → Type 0) (xs : List A) (old : List ℕ) (x : A) (text : List ℕ) → AreTexts P xs old → P x text → AreTexts P (xs ++ x ∷ []) (old ++ text)
@@ -59,12 +68,71 @@ module _ (nodes : List Node) (P : Tree → Type 0) (x : Var) where
   none_same [] h = unnamed
   none_same (s ∷ ss) h = named_later h.0 (none_same ss h.1)
 
-  pub first_same : (ss : List ShownTerm) (i : ℕ) (d : ShownTerm) → i < length ss → AllByRecursion (λ (s : ShownTerm). P (tree nodes s.term) → ⊥) (take i ss) → P (tree nodes (slice_index_or ss i d).term)
+  first_at : (ss : List ShownTerm) (i : ℕ) (d : ShownTerm) → i < length ss → AllByRecursion (λ (s : ShownTerm). P (tree nodes s.term) → ⊥) (take i ss) → P (tree nodes (slice_index_or ss i d).term)
       → IsNameOf P x (map (shown_tree nodes) ss) (slice_index_or ss i d).name
-  first_same [] i d l h p = absurd (omega arith)
-  first_same (s ∷ ss) zero d l h p = named p
-  first_same (s ∷ ss) (suc i) d l h p = named_later h.0 (first_same ss i d (omega arith) h.1 p)
+  first_at [] i d l h p = absurd (omega arith)
+  first_at (s ∷ ss) zero d l h p = named p
+  first_at (s ∷ ss) (suc i) d l h p = named_later h.0 (first_at ss i d (omega arith) h.1 p)
+
+  pub first_same : (ss : List ShownTerm) (i : ℕ) (s : ShownTerm) → i < length ss → s ≡ slice_index_or ss i s → AllByRecursion (λ (s : ShownTerm). P (tree nodes s.term) → ⊥) (take i ss) → P (tree nodes s.term)
+      → IsNameOf P x (map (shown_tree nodes) ss) s.name
+  first_same ss i s l e h p = subst (λ (u : ShownTerm). IsNameOf P x (map (shown_tree nodes) ss) u.name) (sym e) (first_at ss i s l h (subst (λ (u : ShownTerm). P (tree nodes u.term)) e p))
 
 pub all_push : {A : Type 0} (P : A → Type 0) (xs : List A) (x : A) → AllByRecursion P xs → P x → AllByRecursion P (xs ++ x ∷ [])
 all_push {A} P [] x h p = (p, tt)
 all_push {A} P (y ∷ ys) x h p = (h.0, all_push P ys x h.1 p)
+
+pub same_end : (o : Option Var) (r : Var) → option_eq same_var o (Some r) ≡ true → o ≡ Some r
+same_end None r e = cc
+same_end (Some x) r e = ap Some (same_var-equal x r e)
+
+-- texts that come to the end of what is there
+module _ (W : Var → List ℕ → Type 0) where
+  pub on_first : (on : List Var) (first : Var) (others : List Var) (old mid new : List ℕ) → on ≡ first ∷ others → Adds (W first) old mid → Adds (AreTexts (IsFurtherText W) others) mid new → Adds (IsOnText W on) old new
+  on_first on first others old mid new e a b = (
+    a.0 ++ b.0,
+    subst (λ (xs : List Var). IsOnText W xs (a.0 ++ b.0)) (sym e) (on_variables a.1 b.1),
+    b.2 ∙ ap (λ (t : List ℕ). t ++ b.0) a.2 ∙ append_assoc old a.0 b.0,
+  )
+
+  pub on_none : (on : List Var) (old new : List ℕ) → length on ≡ 0 → new ≡ old ++ codes "nothing" → Adds (IsOnText W on) old new
+  on_none [] old new z e = (codes "nothing", on_nothing, e)
+  on_none (x ∷ xs) old new z e = absurd (omega (arith, z))
+
+  pub further_added : (xs : List Var) (x : Var) (base old mid new : List ℕ) → Adds (AreTexts (IsFurtherText W) xs) base old → mid ≡ old ++ codes ", " → Adds (W x) mid new
+      → Adds (AreTexts (IsFurtherText W) (xs ++ x ∷ [])) base new
+  further_added xs x base old mid new a e b = (
+    a.0 ++ (codes ", " ++ b.0),
+    texts_push (IsFurtherText W) xs a.0 x (codes ", " ++ b.0) a.1 (b.0, b.1, refl),
+    b.2 ∙ ap (λ (t : List ℕ). t ++ b.0) (e ∙ ap (λ (t : List ℕ). t ++ codes ", ") a.2 ∙ append_assoc base a.0 (codes ", ")) ∙ append_assoc base (a.0 ++ codes ", ") b.0 ∙ ap (λ (t : List ℕ). base ++ t) (append_assoc a.0 (codes ", ") b.0),
+  )
+
+  pub goal_added : (w : Waiting) (old one two three four new : List ℕ) → one ≡ old ++ codes "goal " → two ≡ one ++ name_text w.goal → three ≡ two ++ codes " on " → Adds (IsOnText W w.on) three four → new ≡ four ++ codes "\n"
+      → Adds (IsGoalLine W w) old new
+  goal_added w old one two three four new a b c d e = (
+    codes "goal " ++ name_text w.goal ++ codes " on " ++ d.0 ++ codes "\n",
+    (d.0, d.1, refl),
+    e ∙ ap (λ (t : List ℕ). t ++ codes "\n") (d.2 ∙ ap (λ (t : List ℕ). t ++ d.0) (c ∙ ap (λ (t : List ℕ). t ++ codes " on ") (b ∙ ap (λ (t : List ℕ). t ++ name_text w.goal) a)))
+        ∙ five old (codes "goal ") (name_text w.goal) (codes " on ") d.0 (codes "\n"),
+  )
+    where
+      five : (o a b c d e : List ℕ) → o ++ a ++ b ++ c ++ d ++ e ≡ o ++ (a ++ b ++ c ++ d ++ e)
+      five o a b c d e =
+          ap (λ (t : List ℕ). t ++ c ++ d ++ e) (append_assoc o a b) ∙ ap (λ (t : List ℕ). t ++ d ++ e) (append_assoc o (a ++ b) c)
+          ∙ ap (λ (t : List ℕ). t ++ e) (append_assoc o (a ++ b ++ c) d) ∙ append_assoc o (a ++ b ++ c ++ d) e
+
+pub none_added : {A : Type 0} (P : A → List ℕ → Type 0) (old : List ℕ) → Adds (AreTexts P []) old old
+none_added {A} P old = ([], no_texts, sym (append-nil old))
+
+pub one_added : {A : Type 0} (P : A → List ℕ → Type 0) (xs : List A) (x : A) (base old new : List ℕ) → Adds (AreTexts P xs) base old → Adds (P x) old new → Adds (AreTexts P (xs ++ x ∷ [])) base new
+one_added {A} P xs x base old new a b = (a.0 ++ b.0, texts_push P xs a.0 x b.0 a.1 b.1, b.2 ∙ ap (λ (t : List ℕ). t ++ b.0) a.2 ∙ append_assoc base a.0 b.0)
+
+map_push : {A B : Type 0} (f : A → B) (xs : List A) (x : A) → map f (xs ++ x ∷ []) ≡ map f xs ++ f x ∷ []
+map_push {A} {B} f [] x = refl
+map_push {A} {B} f (y ∷ ys) x = ap (λ (l : List B). f y ∷ l) (map_push f ys x)
+
+pub goals_added : (W : Var → List ℕ → Type 0) (ws : List found.Waiting) (i : ℕ) (w : found.Waiting) → i < length ws → w ≡ slice_index_or ws i w → (base old new : List ℕ) → Adds (AreTexts (IsGoalLine W) (values (take i ws))) base old
+    → Adds (IsGoalLine W (value_of w)) old new → Adds (AreTexts (IsGoalLine W) (values (take (i + 1) ws))) base new
+goals_added W ws i w l e base old new a b = subst (λ (vs : List Waiting). Adds (AreTexts (IsGoalLine W) vs) base new)
+    (sym (ap values (take-next ws i (i + 1) w l (omega arith)) ∙ map_push value_of (take i ws) (slice_index_or ws i w)))
+    (one_added (IsGoalLine W) (values (take i ws)) (value_of (slice_index_or ws i w)) base old new a (subst (λ (u : found.Waiting). Adds (IsGoalLine W (value_of u)) old new) e b))

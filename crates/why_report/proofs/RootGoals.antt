@@ -49,7 +49,7 @@ use Rattle.stable_test.proofs.Reaches.{waits_free, atom_waits_stand}
 use Rattle.root_answers.specs.Roots.{root_box}
 use Rattle.why_laws.specs.Watched.{TouchesWithin, Watches, by_atom, by_choice}
 use Rattle.why_laws.specs.Waiting.{IsWaitingOn}
-use Rattle.why_laws.proofs.QuietBoxes.{is_idle, idle_consistent}
+use Rattle.why_laws.proofs.IdleBoxes.{is_idle, idle_consistent}
 use Rattle.why_laws.proofs.WatchedClasses.{watched_class}
 use Rattle.why_report.specs.Classes.{AreOldest}
 use Rattle.why_report.specs.Sights.{AreAwaited}

@@ -5,7 +5,7 @@ ghost use Rattle.akl_terms.specs.Equal.{IsConsistentBy};
 ghost use Rattle.rational_unify.specs.Known.{IsSolved};
 ghost use Rattle.local_store.specs.Chained.{ToldBy};
 ghost use Rattle.why_report.specs.Waits.{value_of, values};
-ghost use Rattle.why_report.specs.Texts.{variable_text, IsOnText, IsGoalLine, AreWaitingLines};
+ghost use Rattle.why_report.specs.Texts.{variable_text, AreTexts, IsOnText, IsGoalLine, AreWaitingLines};
 ghost use Rattle.why_report.specs.Written.{IsEndText, IsChainText, Adds};
 
 use crate::waiting::Waiting;
@@ -58,10 +58,25 @@ fn lines_of<W: Lookup>(
     push_text(&mut text, "waiting ")?;
     push_number(&mut text, number as u64)?;
     push_text(&mut text, "\n")?;
-    for goal in waiting {
-        push_goal(&mut text, templates, whole, shown, goal)?;
-    }
+    push_goals(&mut text, templates, whole, shown, waiting)?;
     Ok(text)
+}
+
+// Adds a line for each goal.
+fn push_goals<W: Lookup>(
+    text: &mut Vec<u8>,
+    templates: &Templates,
+    whole: &W,
+    shown: &[ShownTerm],
+    waiting: &[Waiting],
+) -> Result<(), AllocError>
+    requires { IsSolved templates.now.nodes (W.bindings whole.now) }
+    ensures { OnOk result (Adds (AreTexts (IsGoalLine (IsEndText templates.now.nodes (W.bindings whole.now) shown.now)) (values waiting.now)) text.old.items text.new.items) }
+{
+    for goal in waiting {
+        push_goal(text, templates, whole, shown, goal)?;
+    }
+    Ok(())
 }
 
 // Adds the line of a goal.
