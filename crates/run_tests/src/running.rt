@@ -3,7 +3,7 @@
 ghost use Rattle.std.specs.Prelude.{◌≡◌, ◌≤◌, ◌<◌, IfOk};
 ghost use Rattle.box_tree.specs.Tables.{HasVariables, HasShownVariables};
 
-use crate::answering::{put_answers, put_waits};
+use crate::answering::put_answers;
 use crate::loading::loaded;
 use akl_outside::NoGate;
 use akl_run::Loaded;
@@ -21,9 +21,6 @@ const LISTS: &str =
 
 const LOOP: &str = "p :- -> p.";
 
-const WAITS: &str =
-    "p(a) :- -> true. q(X) :- s(X) -> true. s(a) :- -> true. g(X,Y) :- X = a, Y = b -> true. r(f(X)) :- X < 1 -> true.";
-
 const BAGS: &str =
     "m(a). m(b). e(1). e(2). first(X) :- bagof(Y, m(Y), M), M = [Z|_] -> X = Z. less(L) :- bagof(f(Z), (Z = Y, Y < 2), L), e(Y) ? true.";
 
@@ -35,19 +32,11 @@ bags bagof(X, m(X), L) => quiet L = [a,b]
 bags bagof(X, fail, L) => quiet L = []
 bags bagof(Z, m(Z), L), L = [X,Y] => quiet L = [a,b] X = a Y = b
 bags bagof(X, m(X), L), L = [_] => quiet
-bags bagof(Y, (m(Y), Y = Z), L) => quiet waiting 1 goal 0.2 on Z
+bags bagof(Y, (m(Y), Y = Z), L) => quiet
 bags bagof(Y, (m(Y), Y = Z), L), Z = b => quiet Z = b L = [b]
 bags bagof(f(X,M), (m(X), bagof(Y, Y = X, M)), L) => quiet L = [f(a,[a]),f(b,[b])]
 bags first(X) => quiet X = a
 bags less(L) => quiet L = [f(1)] L = []
-waits p(X) => quiet waiting 1 goal 0.2 on X
-waits p(X), Y = Z, p(Z), X = Y => quiet waiting 1 goal 0.2 on X goal 0.4 on X
-waits q(X) => quiet waiting 1 goal 0.2 on X
-waits g(X, Y) => quiet waiting 1 goal 0.2 on X, Y
-waits r(f(_)) => quiet waiting 1 goal 0.2 on 0.1:0
-waits X is 170141183460469231731687303715884105727 + 1 => quiet waiting 1 goal 0.2 on nothing
-waits X < Y => quiet waiting 1 goal 0.2 on X
-waits (X = a ; X = b), Y < 2 => quiet waiting 1 goal 0.2 on X
 loop p => spent
 loop X = a, X = b => quiet
 ";
@@ -58,7 +47,6 @@ fn named(name: &str) -> &'static str {
         "lists" => LISTS,
         "loop" => LOOP,
         "bags" => BAGS,
-        "waits" => WAITS,
         _ => "no program",
     }
 }
@@ -93,11 +81,7 @@ fn put_finished(
         End::Spent => "spent",
     };
     text.push_str(end)?;
-    put_answers(alloc, text, program, &finished.core)?;
-    match finished.end {
-        End::Quiet => put_waits(alloc, text, program, &finished.core),
-        End::Spent => Ok(()),
-    }
+    put_answers(alloc, text, program, &finished.core)
 }
 
 fn put_found<R: Threads + Wait + Sync>(

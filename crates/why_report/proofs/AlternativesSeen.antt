@@ -1,5 +1,5 @@
 -- The alternatives that are seen of a choice, and what they touch.
-use Rattle.std.proofs.Common.{◌≡◌, ◌+◌, Bool, true, false, List, [], ◌∷◌, ◌++◌, length, length-append, map, Option, Some, None, refl, sym, ◌∙◌, ap, subst, inl, inr, arith, append-nil}
+use Rattle.std.proofs.Common.{◌≡◌, ℕ, zero, ◌+◌, ◌<◌, take, slice_index_or, Bool, true, false, List, [], ◌∷◌, ◌++◌, length, map, suc, Option, Some, None, refl, sym, ◌∙◌, ap, subst, inl, inr, arith, append-nil}
 use Rattle.std.specs.Prelude.{if◌then◌else◌}
 use Rattle.akl_terms.specs.declared.name.Name.{Name}
 use Rattle.akl_terms.specs.declared.name.Var.{Var}
@@ -9,30 +9,38 @@ use Rattle.akl_terms.specs.Names.{same_name}
 use Rattle.akl_terms.specs.Tree.{variable}
 use Rattle.akl_terms.specs.Equal.{Equations, Equal, turned, IsConsistent}
 use Rattle.akl_terms.proofs.SameNames.{same_name-equal, same_name-refl}
-use Rattle.akl_model.specs.Config.{IsIn, Atom, Operator, Content, Boxes, no_boxes, box, Goals, Held, an_atom, a_choice, held_in, Found, equations_of, environment, whole, box_at, site_of, home_of}
+use Rattle.akl_model.specs.Config.{IsIn, Operator, Content, Boxes, no_boxes, box, Goals, Config, Held, an_atom, a_choice, held_in, Found, equations_of, environment, whole, box_at, site_of, home_of}
 use Rattle.akl_model.specs.Rules.{alternative_of}
 use Rattle.akl_model.specs.Changes.{box_names}
 use Rattle.akl_model.specs.Derivations.{IsQuietEnd}
+use Rattle.akl_model.specs.Instances.{start}
 use Rattle.akl_model.specs.Stable.{only, frames_of, TouchesFrom}
-use Rattle.akl_model.specs.Wakes.{names_down_to}
+use Rattle.akl_model.proofs.Options.{some_value}
+use Rattle.akl_model.proofs.Results.{Derives-one}
+use Rattle.akl_model.proofs.Scoped.{IsIn-left, IsIn-right, IsIn-either}
 use Rattle.constraint_laws.specs.Touched.{IsAmong}
+use Rattle.rational_unify.proofs.Taking.{take-next}
 use Rattle.step_laws.specs.Whereabouts.{BoxIn, Stands}
 use Rattle.step_laws.proofs.Stays.{alternative_in, alternative_stands}
-use Rattle.step_laws.proofs.Whereabouts.{found_in, in_found, home_in}
+use Rattle.step_laws.proofs.Whereabouts.{in_found, home_in}
 use Rattle.wait_laws.proofs.Concerned.{inside_around}
 use Rattle.wait_laws.proofs.Frames.{some_found}
 use Rattle.local_store.specs.Stored.{Stored}
+use Rattle.local_store.proofs.Among.{among-either, among-left, among-right}
 use Rattle.table_laws.specs.Rows.{Table}
+use Rattle.box_tree.specs.declared.inside.Inside.{Inside}
 use Rattle.box_tree.specs.declared.view.Alternative.{Alternative}
+use Rattle.box_tree.specs.Insides.{IsInsideOf}
 use Rattle.box_tree.specs.Tables.{all_rules, table_of}
 use Rattle.box_tree.specs.Views.{ViewValue, IsViewOf, alternatives_held, AreSeen}
 use Rattle.guard_plan.proofs.Sites.{stand}
-use Rattle.stable_test.specs.Inner.{IsTouchedInside}
+use Rattle.stable_test.specs.Inner.{IsTouchedInside, AreTouchedInside}
+use Rattle.stable_test.specs.Seen.{IsSeenInside}
 use Rattle.step_commit.specs.Cores.{CoreValue, TableIn}
 use Rattle.root_answers.specs.Roots.{root_box}
 use Rattle.why_laws.specs.Watched.{TouchesWithin, Watches, by_atom, by_choice}
 use Rattle.why_laws.proofs.BoxesInside.{some_where, stands_in}
-use Rattle.why_report.specs.Sights.{IsBoxWithin, AreTouchedBy}
+use Rattle.why_report.specs.Sights.{IsBoxWithin, AreTouchedIn, AreTouchedBy}
 use Rattle.why_report.proofs.RootGoals.{good, all_consistent, is_root, root_stands}
 
 -- by names
@@ -64,6 +72,10 @@ seen_names T ss (box b gs bs) (a ∷ rest) h = λ j. h.0.name j ∷ seen_names T
 seen_names T ss no_boxes (a ∷ rest) h = absurd h
 seen_names T ss (box b gs bs) [] h = absurd h
 
+as_deep : (around : List Content) (b : Content) → length (around ++ b ∷ []) ≡ length (map (λ (k : Content). k.name) around ++ b.name ∷ [])
+as_deep [] b = refl
+as_deep (a ∷ around) b = ap suc (as_deep around b)
+
 module _ (v : ViewValue) (i : IsViewOf v) (g : Name) (at : v.place ≡ Place.Goal g) where
   home : home_of g i.table.config.roots ≡ Some i.site
   home = subst (λ (q : Place). site_of q i.table.config.roots ≡ Some i.site) at i.is_site
@@ -90,12 +102,62 @@ module _ (v : ViewValue) (i : IsViewOf v) (g : Name) (at : v.place ≡ Place.Goa
             table = i.table;
             site = m.0;
             is_site = subst (λ (k : Name). box_at k i.table.config.roots ≡ Some m.0) (sym w.2) (in_found i.table.config.roots m.0 (stand v i).once s);
-            deep = ap (λ (l : List Content). length l) w.1 ∙ (let u : length (i.site.around ++ i.site.content ∷ []) ≡ length (names_down_to i.site) = long i.site.around i.site.content in u) ∙ ap (λ (l : List Name). length l) (sym i.path);
+            deep = ap (λ (l : List Content). length l) w.1 ∙ as_deep i.site.around i.site.content ∙ ap (λ (l : List Name). length l) (sym i.path);
           }
 
-      long : (around : List Content) (b : Content) → length (around ++ b ∷ []) ≡ length (map (λ (k : Content). k.name) around ++ b.name ∷ [])
-      long [] b = refl
-      long (a ∷ around) b = ap Rattle.std.proofs.Common.suc (long around b)
+-- what a box that is there touches, by all that is seen inside it
+module _ (c : CoreValue) (n : Name) (depth : ℕ) (w : IsBoxWithin c n depth) (p : Program) (same : p ≡ c.table.program) (inside : Inside) (seen : IsInsideOf c.table c.journal n 1 inside) where
+  abbrev pub seen_inside : IsSeenInside p depth inside
+  seen_inside = record { table = c.table; of_program = sym same; journal = c.journal; run = w.table; name = n; worker = 1; inside = seen; site = w.site; is_site = w.is_site; deep = w.deep }
+
+  pub touched_in : (of : List Var) → ((s : IsSeenInside p depth inside) → AreTouchedInside p s.site of) → AreTouchedIn c n of
+  touched_in of h t m e = subst (λ (f : Found). AreTouchedInside c.table.program f of) is (subst (λ (q : Program). AreTouchedInside q w.site of) same (h seen_inside))
+    where
+      one : w.table.config ≡ t.config
+      one = Derives-one all_rules c.table.program (start c.table.program c.table.query) w.table.config t.config c.journal w.table.replays.derives t.replays.derives
+
+      is : w.site ≡ m
+      is = some_value (sym w.is_site ∙ ap (λ (k : Config). box_at n k.roots) one ∙ e)
+
+-- one alternative after another
+in_at : (xs : List Alternative) (i : ℕ) (d : Alternative) → i < length xs → IsIn (slice_index_or xs i d).name (map (λ (a : Alternative). a.name) xs)
+in_at [] i d l = absurd (omega arith)
+in_at (x ∷ xs) zero d l = inl refl
+in_at (x ∷ xs) (suc i) d l = inr (in_at xs i d (omega arith))
+
+pub named_at : (xs : List Alternative) (i : ℕ) (a : Alternative) → i < length xs → a ≡ slice_index_or xs i a → IsIn a.name (map (λ (a : Alternative). a.name) xs)
+named_at xs i a l e = subst (λ (b : Alternative). IsIn b.name (map (λ (a : Alternative). a.name) xs)) (sym e) (in_at xs i a l)
+
+names_push : (xs : List Alternative) (x : Alternative) → map (λ (a : Alternative). a.name) (xs ++ x ∷ []) ≡ map (λ (a : Alternative). a.name) xs ++ x.name ∷ []
+names_push [] x = refl
+names_push (y ∷ ys) x = ap (λ (l : List Name). y.name ∷ l) (names_push ys x)
+
+pub none_touched : (c : CoreValue) → AreTouchedBy c [] []
+none_touched c = record { each = λ x m. absurd m; every = λ n m t f e x s. absurd m }
+
+touched_push : (c : CoreValue) (names : List Name) (n : Name) (of more : List Var) → AreTouchedBy c names of → AreTouchedIn c n more → AreTouchedBy c (names ++ n ∷ []) (of ++ more)
+touched_push c names n of more h k = record {
+  each = λ x m. elim (among-either of more x m) [
+    | inl a ↦ let w : (j : Name) × IsIn j names × ((t : TableIn c) (m : Found) → box_at j t.config.roots ≡ Some m → IsTouchedInside c.table.program m x) = h.each x a in (w.0, IsIn-left w.0 names (n ∷ []) w.1, w.2)
+    | inr b ↦ (n, IsIn-right n names (n ∷ []) (inl refl), λ t m e. (k t m e).each x b)
+  ];
+  every = λ j m t f e x s. elim (IsIn-either j names (n ∷ []) m) [
+    | inl a ↦ let w : (y : Var) × IsAmong y of × Equal (environment f) (variable x) (variable y) = h.every j a t f e x s in (w.0, among-left of more w.0 w.1, w.2)
+    | inr b ↦
+        let q : j ≡ n = elim b [ inl q ↦ q | inr z ↦ absurd z ] in
+        let w : (y : Var) × IsAmong y more × Equal (environment f) (variable x) (variable y) = (k t f (subst (λ (i : Name). box_at i t.config.roots ≡ Some f) q e)).every x s in
+        (w.0, among-right of more w.0 w.1, w.2)
+  ];
+}
+
+pub touched_next : (c : CoreValue) (xs : List Alternative) (i : ℕ) (a : Alternative) → i < length xs → a ≡ slice_index_or xs i a → (of more : List Var) → AreTouchedBy c (map (λ (a : Alternative). a.name) (take i xs)) of → AreTouchedIn c a.name more
+    → AreTouchedBy c (map (λ (a : Alternative). a.name) (take (i + 1) xs)) (of ++ more)
+touched_next c xs i a l e of more h k = subst (λ (ns : List Name). AreTouchedBy c ns (of ++ more))
+    (sym (ap (map (λ (a : Alternative). a.name)) (take-next xs i (i + 1) a l (omega arith)) ∙ names_push (take i xs) (slice_index_or xs i a)))
+    (touched_push c (map (λ (a : Alternative). a.name) (take i xs)) (slice_index_or xs i a).name of more h (subst (λ (b : Alternative). AreTouchedIn c b.name more) e k))
+
+turned_to : (E : Equations) (of : List Var) (x : Var) → (y : Var) × IsAmong y of × Equal E (variable x) (variable y) → (y : Var) × IsAmong y of × Equal E (variable y) (variable x)
+turned_to E of x w = (w.0, w.1, turned w.2)
 
 -- what alternatives touch, where the goal stands directly in a root box and no place is ready
 module _ (v : ViewValue) (i : IsViewOf v) (quiet : IsQuietEnd all_rules v.table.program i.table.config) (g : Name) (at : v.place ≡ Place.Goal g)
@@ -165,8 +227,8 @@ module _ (v : ViewValue) (i : IsViewOf v) (quiet : IsQuietEnd all_rules v.table.
           let u : Some (a_choice q cs) ≡ Some (a_choice o bs) = sym e ∙ holds in
           let s : cs ≡ bs = cc in
           let is_one : alternative_of f k bs ≡ Some m = subst (λ (ds : Boxes). alternative_of f k ds ≡ Some m) s is in
-          let y : (y : Var) × IsAmong y of × Equal (environment m) (variable x) (variable y) = here.every k (named_alternative f m k bs is_one) i.table m (m_there k m is_one) x (touched k m is_one x t) in
-          (y.0, y.1, turned (subst (λ (E : Equations). Equal E (variable x) (variable y.0)) (environment_is k m is_one) y.2))
+          turned_to b.equations of x (subst (λ (E : Equations). (y : Var) × IsAmong y of × Equal E (variable x) (variable y)) (environment_is k m is_one)
+          (here.every k (named_alternative f m k bs is_one) i.table m (m_there k m is_one) x (touched k m is_one x t)))
 
       pub every_touched : (x : Var) → Watches v.table.program (root_box b gs) g x → (y : Var) × IsAmong y of × Equal b.equations (variable y) (variable x)
       every_touched x (by_choice {o = q} {bs = cs} {m = m} k e is t fr) = on_choice x k m q cs e is t

@@ -1,5 +1,5 @@
 -- What is written by the ends of chains is written by all equations for which the stores stand.
-use Rattle.std.proofs.Common.{◌≡◌, ℕ, List, [], ◌∷◌, map, Some, None, refl, sym, ◌∙◌, ap, subst, ◌⊎◌, inl, inr}
+use Rattle.std.proofs.Common.{◌≡◌, ℕ, List, [], ◌∷◌, map, sym, ◌∙◌, subst, inl, inr}
 use Rattle.std.specs.List.{AllByRecursion}
 use Rattle.akl_terms.specs.declared.name.Var.{Var}
 use Rattle.akl_terms.specs.declared.term.Node.{Node}
@@ -20,7 +20,7 @@ use Rattle.local_store.specs.Chained.{ToldBy, equations_of}
 use Rattle.local_store.proofs.FormEnds.{has_head, unheaded, structured}
 use Rattle.box_tree.specs.Tables.{shown_tree}
 use Rattle.why_laws.specs.Waiting.{Waiting}
-use Rattle.why_report.specs.Texts.{IsNameOf, IsVariableText, AreWaitingLines}
+use Rattle.why_report.specs.Texts.{IsVariableText, AreWaitingLines}
 use Rattle.why_report.specs.Written.{IsEndText, IsChainText}
 use Rattle.why_report.proofs.NamedTexts.{name_as, lines_as}
 

@@ -1,5 +1,5 @@
 -- What is found of the goals of a root box is what they wait on.
-use Rattle.std.proofs.Common.{◌≡◌, Bool, true, false, List, [], ◌∷◌, map, Option, Some, None, refl, sym, ◌∙◌, ap, subst, inl, inr, take}
+use Rattle.std.proofs.Common.{◌≡◌, ℕ, ◌+◌, ◌<◌, Bool, true, false, List, [], ◌∷◌, ◌++◌, length, map, Option, Some, None, refl, sym, ◌∙◌, ap, subst, inl, inr, take, arith, slice_index_or}
 use Rattle.std.specs.List.{AllByRecursion}
 use Rattle.std.specs.Prelude.{if◌then◌else◌, is_some, IsSome}
 use Rattle.akl_terms.specs.declared.name.Name.{Name}
@@ -8,28 +8,28 @@ use Rattle.akl_terms.specs.declared.name.Place.{Place}
 use Rattle.akl_terms.specs.declared.program.Goal.{Goal}
 use Rattle.akl_terms.specs.declared.program.Program.{Program}
 use Rattle.akl_terms.specs.Names.{same_name}
-use Rattle.akl_terms.specs.Equal.{Equations, IsConsistentBy}
+use Rattle.akl_terms.specs.Equal.{IsConsistentBy}
 use Rattle.akl_terms.proofs.SameNames.{same_name-refl}
 use Rattle.akl_terms.proofs.StandingLaws.{StandFor-on}
-use Rattle.akl_model.specs.declared.item.Item.{Item}
-use Rattle.akl_model.specs.Config.{IsIn, Operator, Content, Boxes, Goals, no_goals, atom, choice, Config, Held, an_atom, a_choice, held_in, Found, whole, box_at}
+use Rattle.akl_model.specs.Config.{IsIn, Content, Boxes, Goals, no_goals, atom, choice, Config, Held, an_atom, a_choice, held_in, Found, box_at}
 use Rattle.akl_model.specs.Changes.{goal_names}
 use Rattle.akl_model.specs.Derivations.{IsQuietEnd}
 use Rattle.akl_model.specs.Instances.{start}
 use Rattle.akl_model.proofs.NamesKept.{replay-stands, box-itself}
 use Rattle.akl_model.proofs.Results.{Derives-one}
 use Rattle.step_laws.proofs.Whereabouts.{found_in}
+use Rattle.rational_unify.proofs.Taking.{take-next}
 use Rattle.local_store.specs.Stored.{Stored}
 use Rattle.local_store.specs.Chained.{ToldBy, equations_of}
 use Rattle.class_members.specs.Members.{outermost_of}
 use Rattle.table_laws.specs.Rows.{BoxRow, GoalRow}
 use Rattle.table_laws.specs.Unfolds.{IsBoxRow}
-use Rattle.table_laws.specs.Stamped.{goal_stamp, stamp_in}
+use Rattle.table_laws.specs.Stamped.{goal_stamp}
 use Rattle.table_laws.proofs.Frame.{row_of}
 use Rattle.box_tree.specs.declared.view.Alternative.{Alternative}
 use Rattle.box_tree.specs.declared.view.Sight.{Sight}
 use Rattle.box_tree.specs.declared.entries.HeldOp.{HeldOp}
-use Rattle.box_tree.specs.Tables.{all_rules, op_held, goal_atom, table_of, goals_in}
+use Rattle.box_tree.specs.Tables.{all_rules, op_held, table_of, goals_in}
 use Rattle.box_tree.specs.Views.{ViewValue, IsViewOf, is_there}
 use Rattle.box_tree.proofs.ToldChains.{told_stands}
 use Rattle.guard_plan.proofs.Sites.{goal_there, found, whole_stands, shows_at}
@@ -40,6 +40,7 @@ use Rattle.why_report.specs.declared.waiting.Waiting.{Waiting}
 use Rattle.why_report.specs.Classes.{AreOldest}
 use Rattle.why_report.specs.Sights.{IsGoalView, AreAwaited, AreTouchedBy}
 use Rattle.why_report.specs.Waits.{values, WaitsOn}
+use Rattle.why_report.proofs.NamedTexts.{all_push}
 use Rattle.why_report.proofs.RootGoals.{all_consistent, is_root, one_store, waits_on, each_awaited, every_awaited}
 use Rattle.why_report.proofs.AlternativesSeen.{each_touched, every_touched}
 
@@ -139,3 +140,16 @@ module _ (c : CoreValue) (root : Name) where
       let r : (r : BoxRow) × ((table_of c.table).box_of root ≡ Some r) × IsBoxRow (table_of c.table) t.config.roots (root_box b gs) r = row_of (table_of c.table) t.config t.unfolds root (root_box b gs) there in
       let names : map (λ (w : Waiting). w.goal) ws ≡ goal_names gs = e ∙ ap goals_in r.1 ∙ r.2.goals in
       subst (λ (ns : List Name). AreWaitingAt c.table.program (root_box b gs) ns (values ws)) names (listed t b gs there ws a (λ g m. named_held g gs (subst (IsIn g) names m)))
+
+goals_push : (ws : List Waiting) (w : Waiting) → map (λ (w : Waiting). w.goal) (ws ++ w ∷ []) ≡ map (λ (w : Waiting). w.goal) ws ++ w.goal ∷ []
+goals_push [] w = refl
+goals_push (v ∷ ws) w = ap (λ (l : List Name). v.goal ∷ l) (goals_push ws w)
+
+-- one goal after another
+pub waiting_push : (c : CoreValue) (goals : List Name) (i : ℕ) (d : Name) → i < length goals → (ws : List Waiting) (w : Waiting)
+    → (map (λ (w : Waiting). w.goal) ws ≡ take i goals) × AllByRecursion (λ (w : Waiting). WaitsOn c w.goal w.on.items) ws → w.goal ≡ slice_index_or goals i d → WaitsOn c (slice_index_or goals i d) w.on.items
+    → (map (λ (w : Waiting). w.goal) (ws ++ w ∷ []) ≡ take (i + 1) goals) × AllByRecursion (λ (w : Waiting). WaitsOn c w.goal w.on.items) (ws ++ w ∷ [])
+waiting_push c goals i d l ws w h e k = (
+  goals_push ws w ∙ ap (λ (ns : List Name). ns ++ w.goal ∷ []) h.0 ∙ ap (λ (n : Name). take i goals ++ n ∷ []) e ∙ sym (take-next goals i (i + 1) d l (omega arith)),
+  all_push (λ (w : Waiting). WaitsOn c w.goal w.on.items) ws w h.1 (subst (λ (n : Name). WaitsOn c n w.on.items) (sym e) k),
+)

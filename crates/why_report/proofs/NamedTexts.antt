@@ -1,5 +1,6 @@
 -- Texts one behind another, and variables by the names of shown terms.
 use Rattle.std.proofs.Common.{◌≡◌, ℕ, zero, suc, ◌+◌, ◌<◌, true, List, [], ◌∷◌, ◌++◌, length, take, map, Option, Some, None, refl, sym, ◌∙◌, ap, subst, arith, append-nil, slice_index_or}
+use Rattle.std.specs.Fmt.{decimal}
 use Rattle.std.specs.Option.{option_eq}
 use Rattle.std.specs.Prelude.{codes}
 use Rattle.std.proofs.lemmas.List.{append_assoc}
@@ -136,3 +137,11 @@ pub goals_added : (W : Var → List ℕ → Type 0) (ws : List found.Waiting) (i
 goals_added W ws i w l e base old new a b = subst (λ (vs : List Waiting). Adds (AreTexts (IsGoalLine W) vs) base new)
     (sym (ap values (take-next ws i (i + 1) w l (omega arith)) ∙ map_push value_of (take i ws) (slice_index_or ws i w)))
     (one_added (IsGoalLine W) (values (take i ws)) (value_of (slice_index_or ws i w)) base old new a (subst (λ (u : found.Waiting). Adds (IsGoalLine W (value_of u)) old new) e b))
+
+pub lines_begun : (W : Var → List ℕ → Type 0) (number : ℕ) (ws : List Waiting) (empty one two three new : List ℕ) → empty ≡ [] → one ≡ empty ++ codes "waiting " → two ≡ one ++ decimal number → three ≡ two ++ codes "\n"
+    → Adds (AreTexts (IsGoalLine W) ws) three new → AreWaitingLines W number ws new
+lines_begun W number ws empty one two three new z a b c h = (
+  h.0,
+  h.1,
+  h.2 ∙ ap (λ (t : List ℕ). t ++ h.0) (c ∙ ap (λ (t : List ℕ). t ++ codes "\n") (b ∙ ap (λ (t : List ℕ). t ++ decimal number) (a ∙ ap (λ (t : List ℕ). t ++ codes "waiting ") z))),
+)

@@ -1,5 +1,5 @@
 -- What is seen of a goal that stands directly in a root box, where no place is ready.
-use Rattle.std.proofs.Common.{◌≡◌, List, [], ◌∷◌, ◌++◌, take, map, Some, refl, sym, ◌∙◌, ap, subst, inl, inr, append-nil}
+use Rattle.std.proofs.Common.{◌≡◌, List, [], ◌++◌, take, Some, refl, sym, ◌∙◌, ap, subst, inl, inr}
 use Rattle.akl_terms.specs.declared.name.Name.{Name}
 use Rattle.akl_terms.specs.declared.name.Var.{Var}
 use Rattle.akl_terms.specs.declared.name.Place.{Place}
@@ -10,13 +10,10 @@ use Rattle.akl_terms.specs.Tree.{variable}
 use Rattle.akl_terms.specs.Equal.{Equations, IsTold, Equal, same, turned, joined, IsConsistent, IsStructured}
 use Rattle.akl_terms.specs.Standing.{StandFor}
 use Rattle.akl_terms.proofs.StandingLaws.{StandFor-back, StandFor-on}
-use Rattle.akl_model.specs.Config.{IsIn, Atom, Operator, Content, Boxes, Goals, Config, Held, an_atom, a_choice, held_in, Found, environment, whole, box_at, site_of, home_of}
-use Rattle.akl_model.specs.Rules.{alternative_of}
-use Rattle.akl_model.specs.Changes.{box_names}
+use Rattle.akl_model.specs.Config.{IsIn, Atom, Content, Boxes, Goals, Held, an_atom, a_choice, held_in, Found, whole, box_at, site_of, home_of}
 use Rattle.akl_model.specs.Derivations.{NothingApplies, IsQuietEnd}
-use Rattle.akl_model.specs.Stable.{only, frames_of, AtomWaitsOn, TouchesFrom, by_waiting}
+use Rattle.akl_model.specs.Stable.{AtomWaitsOn, by_waiting}
 use Rattle.akl_model.specs.Wakes.{names_down_to}
-use Rattle.akl_model.proofs.NamesKept.{Stand, box-itself}
 use Rattle.akl_model.proofs.Options.{some_value}
 use Rattle.akl_model.proofs.QuietEnds.{quiet_ends}
 use Rattle.akl_model.proofs.Scoped.{IsIn-either}
@@ -25,29 +22,25 @@ use Rattle.constraint_laws.specs.Standing.{StandsForConsistent}
 use Rattle.constraint_laws.specs.Touched.{IsAmong}
 use Rattle.constraint_laws.proofs.NoEquations.{nothing_structured}
 use Rattle.constraint_laws.proofs.Stands.{structured_stands, variable_stands}
-use Rattle.step_laws.specs.Whereabouts.{BoxIn, Stands}
+use Rattle.step_laws.specs.Whereabouts.{Stands}
 use Rattle.step_laws.proofs.Deeper.{home_found}
-use Rattle.step_laws.proofs.Stays.{alternative_in, alternative_stands}
-use Rattle.step_laws.proofs.Whereabouts.{found_in, in_found}
+use Rattle.step_laws.proofs.Whereabouts.{found_in}
 use Rattle.sleep_laws.proofs.AwaitedAtoms.{awaited_one}
 use Rattle.sleep_laws.proofs.InScope.{Good}
 use Rattle.sleep_laws.proofs.Replayed.{good_replay}
-use Rattle.wait_laws.proofs.Concerned.{touches_in_scope, inside_around}
-use Rattle.wait_laws.proofs.Frames.{some_found}
+use Rattle.wait_laws.proofs.Concerned.{touches_in_scope}
 use Rattle.local_store.specs.Stored.{Stored}
 use Rattle.local_store.specs.Chained.{equations_of}
-use Rattle.class_members.specs.Members.{outermost_of, IsMember}
+use Rattle.class_members.specs.Members.{IsMember}
 use Rattle.table_laws.specs.Rows.{stores_along}
-use Rattle.box_tree.specs.declared.view.Alternative.{Alternative}
-use Rattle.box_tree.specs.declared.view.Sight.{Sight}
-use Rattle.box_tree.specs.Tables.{all_rules, op_held, goal_atom, table_of}
+use Rattle.box_tree.specs.Tables.{all_rules, goal_atom, table_of}
 use Rattle.box_tree.specs.Views.{ViewValue, IsViewOf}
 use Rattle.box_tree.proofs.ToldChains.{told_stands}
 use Rattle.guard_plan.proofs.Sites.{whole_stands, stores_path}
 use Rattle.stable_test.proofs.NoPlainRule.{each_in_force}
-use Rattle.stable_test.proofs.Reaches.{waits_free, atom_waits_stand}
+use Rattle.stable_test.proofs.Reaches.{atom_waits_stand}
 use Rattle.root_answers.specs.Roots.{root_box}
-use Rattle.why_laws.specs.Watched.{TouchesWithin, Watches, by_atom, by_choice}
+use Rattle.why_laws.specs.Watched.{Watches, by_atom, by_choice}
 use Rattle.why_laws.specs.Waiting.{IsWaitingOn}
 use Rattle.why_laws.proofs.IdleBoxes.{is_idle, idle_consistent}
 use Rattle.why_laws.proofs.WatchedClasses.{watched_class}
@@ -163,7 +156,7 @@ module _ (v : ViewValue) (i : IsViewOf v) (quiet : IsQuietEnd all_rules v.table.
     each_awaited x m =
         let k : AtomWaitsOn p b.equations atom x = in_box x (w.each x m) in
         by_atom x holds k same (own_frame x (touches_in_scope i.table.config (good v i quiet) n f there p x [] [] (by_waiting (record { outside = λ l. l; unstructured = nothing_structured x })
-            (record { goal = g; atom = atom; is_goal = holds; on = x; waits = k; equal = same }))))
+        (record { goal = g; atom = atom; is_goal = holds; on = x; waits = k; equal = same }))))
 
     on_atom : (x on : Var) (c : Atom) → held_in g gs ≡ Some (an_atom c) → AtomWaitsOn v.table.program b.equations c on → Equal b.equations (variable x) (variable on)
         → (y : Var) × IsAmong y of × Equal b.equations (variable y) (variable x)

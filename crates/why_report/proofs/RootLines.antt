@@ -21,10 +21,10 @@ use Rattle.box_tree.specs.Tables.{all_rules, table_of, shown_in, shown_tree, sho
 use Rattle.box_tree.specs.Views.{ViewValue, IsViewOf, is_there}
 use Rattle.box_tree.proofs.ToldChains.{told_stands}
 use Rattle.guard_plan.proofs.Sites.{whole_stands}
-use Rattle.step_commit.specs.Cores.{CoreValue, TableIn}
+use Rattle.step_commit.specs.Cores.{CoreValue}
 use Rattle.root_answers.specs.Roots.{OfRoot, root_box}
 use Rattle.why_laws.specs.Watched.{Watches}
-use Rattle.why_laws.specs.Waiting.{Waiting, IsWaitingOn, AreWaitingAt, AreWaiting}
+use Rattle.why_laws.specs.Waiting.{Waiting, AreWaitingAt, AreWaiting}
 use Rattle.why_laws.proofs.WatchedClasses.{watched_class}
 use Rattle.why_report.specs.Texts.{IsVariableText, AreWaitingLines, IsWaitingText}
 use Rattle.why_report.specs.Written.{IsChainText}

@@ -34,5 +34,11 @@ pub fn root_waits(
     };
     let waiting = why(alloc, program, core, root)?;
     let chain = view.chain(&program.templates);
-    why_lines(alloc, number, &chain, core.shown_of(root), waiting.as_slice())
+    why_lines(
+        alloc,
+        number,
+        &chain,
+        core.shown_of(root),
+        waiting.as_slice(),
+    )
 }

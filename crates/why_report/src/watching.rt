@@ -29,14 +29,15 @@ pub(crate) fn watched_at(
     requires program { program.now ≡ core.now.table.program }
     requires quiet { (t : TableIn core.now) → IsQuietEnd all_rules core.now.table.program t.config }
     requires view { IsGoalView core.now goal view.now }
-    ensures { IfOk result (WaitsOn core.now goal) }
+    ensures { IfOk result (λ list. WaitsOn core.now goal list.items) }
 {
+    let chain = view.chain(&program.templates);
     let of = match view.sight() {
         Sight::Atom(atom) => awaited_by(alloc, program, view, atom)?,
         Sight::Choice { .. } => touched_by(alloc, program, core, view, goal)?,
         Sight::Box { .. } => Vec::new(alloc),
     };
-    oldest_of(alloc, &view.chain(&program.templates), of.as_slice())
+    oldest_of(alloc, &chain, of.as_slice())
 }
 
 // The variable on which the atom of a view waits, if it waits on one.

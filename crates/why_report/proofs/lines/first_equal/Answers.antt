@@ -1,10 +1,9 @@
-use Rattle.std.proofs.Common.{◌≡◌, List, Some, sym, ◌∙◌, ap, subst, take, arith}
+use Rattle.std.proofs.Common.{◌≡◌, sym, ◌∙◌, subst, take, arith}
 use Rattle.std.specs.List.{AllByRecursion}
 use Rattle.akl_terms.specs.declared.program.ShownTerm.{ShownTerm}
 use Rattle.akl_terms.specs.Template.{tree}
 use Rattle.akl_terms.specs.Tree.{Tree, variable}
 use Rattle.rational_unify.specs.Known.{end_of}
-use Rattle.rational_unify.specs.Shortened.{IsVariableOf}
 use Rattle.rational_unify.proofs.Taking.{take-all}
 use Rattle.why_report.proofs.NamedTexts.{none_same, first_same, same_end}
 use Rattle.why_report.proofs.lines.first_equal.Goals as goal

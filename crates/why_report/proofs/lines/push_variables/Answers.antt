@@ -1,5 +1,4 @@
-use Rattle.std.proofs.Common.{◌≡◌, ◌+◌, ◌++◌, take, arith, slice_index_or}
-use Rattle.std.specs.Prelude.{codes}
+use Rattle.std.proofs.Common.{◌+◌, take, arith, slice_index_or}
 use Rattle.std.proofs.lemmas.Result.{on_ok_weaker}
 use Rattle.akl_terms.specs.declared.name.Var.{Var}
 use Rattle.rational_unify.proofs.Taking.{take-next, take-all}

@@ -1,4 +1,4 @@
-use Rattle.std.proofs.Common.{◌≡◌, take}
+use Rattle.std.proofs.Common.{take}
 use Rattle.why_report.specs.Classes.{AreFirst}
 use Rattle.why_report.proofs.Firsts.{AreMet}
 use Rattle.why_report.proofs.oldest.first_by_ends.Given as goal

@@ -1,4 +1,4 @@
-use Rattle.std.proofs.Common.{take, arith}
+use Rattle.std.proofs.Common.{arith}
 use Rattle.std.proofs.lemmas.Result.{IfOk-weaker}
 use Rattle.chain_text.proofs.FormTexts.{further-form, no-clash}
 use Rattle.local_store.specs.Chained.{equations_of}

@@ -1,9 +1,6 @@
-use Rattle.std.proofs.Common.{List, [], take, ap, arith}
+use Rattle.std.proofs.Common.{take}
 use Rattle.std.proofs.lemmas.Result.{IfOk-weaker}
-use Rattle.local_store.specs.Stored.{Stored}
 use Rattle.class_members.specs.Members.{AreMembers}
-use Rattle.local_store.specs.Chained.{equations_of}
-use Rattle.why_report.specs.Classes.{AreLeast}
 use Rattle.why_report.proofs.Leasts.{one_outermost, least_oldest}
 use Rattle.why_report.proofs.oldest.oldest_of.Goals as goal
 
