@@ -17,7 +17,8 @@ use std::alloc::{AllocError, Global};
 
 /// The lines of a root box that waits: `waiting` and its number, then for each goal its name and the variables on which
 /// it waits, or `nothing`. A variable is written as the first shown term is named that is equal to it under the equations
-/// of the chain, else as its frame's name, `:` and its index. An `Err` is want of memory.
+/// of the chain, else as its frame's name, `:` and its index. Of a variable that these equations make structured nothing is
+/// promised. An `Err` is want of memory.
 pub fn why_lines(
     alloc: Global,
     number: usize,

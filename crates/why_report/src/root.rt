@@ -14,8 +14,11 @@ use box_tree::LookError;
 use std::alloc::{AllocError, Global};
 use step_commit::Core;
 
-/// The text of a root box: the goals directly in it, and what they wait on, by the chain of its stores and what it shows.
-/// An `Err` is want of memory.
+/// The lines of a root box with this number, where no place of the configuration is ready: the goals directly in it, and the
+/// variables on which they wait, named by what the box shows. Of a box that isn't a root box nothing is promised. An `Err`
+/// is want of memory.
+///
+/// The cost is that of `why`, and a look through the shown terms for each variable.
 pub fn root_waits(
     alloc: Global,
     program: &Program,

@@ -23,7 +23,7 @@ pub struct Waiting {
 
 /// The goals directly in a root box in increasing order, each with what it waits on, where no place of the configuration
 /// is ready. So long as none of these variables is bound or made equal to another one, no equations that are consistent
-/// with the box give it a rule. An `Err` is want of memory.
+/// with the box give it a rule. Of a box that isn't a root box nothing is promised. An `Err` is want of memory.
 ///
 /// This costs a solution of the stores down to each place inside the box, as far as they aren't known to be solved.
 pub fn why(
