@@ -4,7 +4,7 @@ use Rattle.std.specs.Prelude.{slice_get}
 use Rattle.std.specs.List.{AllZip}
 use Rattle.std.proofs.lemmas.List.{length-append, map-append}
 use Rattle.akl_terms.specs.declared.name.Name.{Name}
-use Rattle.akl_model.specs.Config.{Content, Boxes, Goals, Found}
+use Rattle.akl_model.specs.Config.{Content, Boxes, Found}
 use Rattle.akl_model.specs.Changes.{box_names}
 use Rattle.akl_model.specs.Derivations.{IsAnswer, AreAnswers}
 use Rattle.step_commit.specs.Cores.{TableIn}

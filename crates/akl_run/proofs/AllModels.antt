@@ -1,5 +1,5 @@
 -- The models of answers, one after another.
-use Rattle.std.proofs.Common.{◌≡◌, ℕ, suc, ◌+◌, ◌<◌, ◌≤◌, List, [], ◌∷◌, ◌++◌, length, get_or, Some, None, true, sym, subst, arith}
+use Rattle.std.proofs.Common.{◌≡◌, ℕ, suc, ◌+◌, ◌<◌, ◌≤◌, List, [], ◌∷◌, ◌++◌, length, get_or, Some, None, true, subst, arith}
 use Rattle.std.specs.List.{AllZip}
 use Rattle.akl_terms.specs.declared.name.Name.{Name}
 use Rattle.akl_model.specs.Config.{Content, Boxes, Found}

@@ -1,19 +1,19 @@
 -- The texts of boxes that wait, one after another.
-use Rattle.std.proofs.Common.{◌≡◌, ℕ, zero, suc, ◌+◌, ◌<◌, ◌≤◌, List, [], ◌∷◌, ◌++◌, length, take, map, get_or, Bool, true, false, Some, None, refl, sym, ◌∙◌, ap, subst, append_assoc, append-nil, arith}
+use Rattle.std.proofs.Common.{◌≡◌, ℕ, zero, suc, ◌+◌, ◌<◌, ◌≤◌, List, [], ◌∷◌, ◌++◌, length, take, get_or, Bool, true, false, Some, None, refl, sym, ◌∙◌, ap, subst, append_assoc, append-nil, arith}
 use Rattle.std.specs.List.{AllByRecursion}
 use Rattle.std.proofs.lemmas.List.{length-take-le, length-map, get_or-map, take_all}
 use Rattle.std.proofs.Math.Seq.{take-suc}
 use Rattle.akl_terms.specs.declared.name.Name.{Name}
 use Rattle.akl_terms.specs.declared.program.Program.{Program}
 use Rattle.akl_model.specs.Config.{Found, no_goals, box_at}
-use Rattle.step_commit.specs.Cores.{CoreValue, TableIn}
+use Rattle.step_commit.specs.Cores.{CoreValue}
 use Rattle.why_report.specs.Waits.{IsWaitingText}
 use Rattle.root_answers.specs.Roots.{OfRoot, root_box}
 use Rattle.akl_run.specs.declared.output.Unwritten.{Unwritten}
 use Rattle.akl_run.specs.Outputs.{Outlet, HasAppended, HasBrokenOff, ShortOf}
 use Rattle.akl_run.specs.Text.{AreWaits, none_waits, one_waits}
-use Rattle.akl_run.specs.Written.{AreRoots, AreFirstWaits, HasWrittenWaits, wrote_nothing, wrote_waits, ArePartsOfWaits}
-use Rattle.akl_run.proofs.Appended.{nothing_appended, appended_both, broke_later, no_memory_behind}
+use Rattle.akl_run.specs.Written.{AreFirstWaits, HasWrittenWaits, wrote_nothing, wrote_waits, ArePartsOfWaits}
+use Rattle.akl_run.proofs.Appended.{broke_later, no_memory_behind}
 
 -- the text of one more box
 waits_more : {p : Program} {n : ℕ} {fs : List Found} {text : List ℕ} (f : Found) (lines : List ℕ) → AreWaits p n fs text → IsWaitingText p f (suc (n + length fs)) lines → AreWaits p n (fs ++ f ∷ []) (text ++ lines)

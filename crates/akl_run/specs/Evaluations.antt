@@ -1,5 +1,5 @@
 -- What becomes of a loaded query, of which the clauses of private functions speak.
-use Rattle.std.specs.Prelude.{◌≡◌, ℕ, Bool, false, List}
+use Rattle.std.specs.Prelude.{◌≡◌, ℕ, Bool, List}
 use Rattle.akl_model.specs.Config.{Content}
 use Rattle.akl_model.specs.Derivations.{AreAnswers}
 use Rattle.step_commit.specs.Cores.{CoreValue, TableIn}

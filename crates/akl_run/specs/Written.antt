@@ -14,7 +14,7 @@ use Rattle.akl_run.specs.declared.output.Unwritten.{Unwritten}
 use Rattle.akl_run.specs.declared.report.Status.{Status}
 use Rattle.akl_run.specs.Reports.{IsStatusOf}
 use Rattle.akl_run.specs.Runs.{Run, IsRun}
-use Rattle.akl_run.specs.Text.{IsShown, AreTexts, AreOthers, AreWaits, says_waits, IsRunText, IsRunFront}
+use Rattle.akl_run.specs.Text.{IsShown, AreTexts, AreOthers, AreWaits, IsRunText, IsRunFront}
 use Rattle.akl_run.specs.Outputs.{Outlet, HasAppended, IsCause}
 
 -- ---- the answers

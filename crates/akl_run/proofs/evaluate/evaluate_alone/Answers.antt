@@ -1,4 +1,4 @@
-use Rattle.std.proofs.Common.{sym, subst, refl}
+use Rattle.std.proofs.Common.{sym, subst}
 use Rattle.akl_args.specs.declared.flag.Flags.{Flags}
 use Rattle.akl_run.specs.Runs.{AreModels}
 use Rattle.akl_run.proofs.evaluate.evaluate_alone.Goals as goal

@@ -1,4 +1,4 @@
-use Rattle.std.proofs.Common.{◌≡◌, ◌<◌, ◌≤◌, ◌+◌, ◌++◌, ◌∷◌, [], length, get_or, sym, subst}
+use Rattle.std.proofs.Common.{◌<◌, ◌≤◌, ◌+◌, length, get_or, sym, subst}
 use Rattle.akl_terms.specs.declared.name.Name.{Name}
 use Rattle.root_answers.specs.Models.{HasModel}
 use Rattle.akl_run.proofs.AllModels.{HaveModels, modelled_none, modelled_more, modelled_other, modelled_every}

@@ -1,9 +1,7 @@
-use Rattle.std.proofs.Common.{◌≡◌, ◌∙◌, ◌<◌, ◌+◌, ◌++◌, length, get_or, sym, subst, ap, true, false, refl}
+use Rattle.std.proofs.Common.{◌∙◌, ◌+◌, ◌++◌, get_or, sym, subst, ap, refl}
 use Rattle.akl_terms.specs.declared.name.Name.{Name}
 use Rattle.why_report.specs.Waits.{IsWaitingText}
 use Rattle.root_answers.specs.Roots.{OfRoot, root_box}
-use Rattle.akl_run.specs.Endings.{outcome_by}
-use Rattle.akl_run.specs.Text.{says_waits}
 use Rattle.akl_run.specs.Written.{AreFirstWaits}
 use Rattle.akl_run.proofs.Appended.{nothing_appended, appended_both}
 use Rattle.akl_run.proofs.AllWaits.{first_none, first_more, wrote_none, wrote_all, no_memory_there, broke_there}
