@@ -21,16 +21,16 @@ use Rattle.tree_models.proofs.Merged.{map_at, none_at, is_there, met_node, merge
 
 -- lists
 
-one_left : (c : ℕ) (xs ys : List ℕ) → IsOne c xs → IsOne c (xs ++ ys)
+pub one_left : (c : ℕ) (xs ys : List ℕ) → IsOne c xs → IsOne c (xs ++ ys)
 one_left c [] ys m = absurd m
 one_left c (x ∷ xs) ys (inl e) = inl e
 one_left c (x ∷ xs) ys (inr m) = inr (one_left c xs ys m)
 
-one_right : (c : ℕ) (xs ys : List ℕ) → IsOne c ys → IsOne c (xs ++ ys)
+pub one_right : (c : ℕ) (xs ys : List ℕ) → IsOne c ys → IsOne c (xs ++ ys)
 one_right c [] ys m = m
 one_right c (x ∷ xs) ys m = inr (one_right c xs ys m)
 
-one_either : (c : ℕ) (xs ys : List ℕ) → IsOne c (xs ++ ys) → IsOne c xs ⊎ IsOne c ys
+pub one_either : (c : ℕ) (xs ys : List ℕ) → IsOne c (xs ++ ys) → IsOne c xs ⊎ IsOne c ys
 one_either c [] ys m = inr m
 one_either c (x ∷ xs) ys (inl e) = inl (inl e)
 one_either c (x ∷ xs) ys (inr m) = elim (one_either c xs ys m) [ inl n ↦ inl (inr n) | inr n ↦ inr n ]

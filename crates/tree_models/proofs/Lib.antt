@@ -9,3 +9,4 @@ pub mod StartNodes
 pub mod GivenLists
 pub mod Occurring
 pub mod ModelTables
+pub mod CellLines

@@ -1,5 +1,5 @@
 -- The text of a model.
-use Rattle.std.specs.Prelude.{◌≡◌, ◌≤◌, ◌+◌, ℕ, List, [], ◌∷◌, ◌++◌, get_or, slice_get, Some, codes, ⊤}
+use Rattle.std.specs.Prelude.{◌≡◌, ◌≤◌, ◌<◌, ℕ, zero, suc, List, [], ◌∷◌, ◌++◌, get_or, slice_get, Some, codes, ⊤, max, length}
 use Rattle.std.specs.List.{flat_map}
 use Rattle.std.specs.Fmt.{decimal, signed_decimal}
 use Rattle.answer_text.specs.SymbolText.{symbol_text}
@@ -12,16 +12,13 @@ use Rattle.tree_models.specs.Visiting.{IsOne}
 abbrev pub place_text : ℕ → List ℕ
 place_text i = 35 ∷ decimal i
 
--- places with commas between
-abbrev pub places_text : List ℕ → List ℕ
-places_text [] = []
-places_text (i ∷ []) = place_text i
-places_text (i ∷ j ∷ js) = place_text i ++ 44 ∷ places_text (j ∷ js)
+abbrev pub behind_comma : ℕ → List ℕ
+behind_comma i = 44 ∷ place_text i
 
--- in parentheses, where there are any
+-- places in parentheses with commas between, where there are any
 abbrev pub arguments_text : List ℕ → List ℕ
 arguments_text [] = []
-arguments_text (i ∷ is) = 40 ∷ places_text (i ∷ is) ++ 41 ∷ []
+arguments_text (i ∷ is) = 40 ∷ place_text i ++ flat_map behind_comma is ++ 41 ∷ []
 
 abbrev pub cell_text : List (List ℕ) → Cell → List ℕ
 cell_text symbols free = codes "_"
@@ -30,14 +27,20 @@ cell_text symbols (a_port q) = codes "port"
 cell_text symbols (compound f ps) = symbol_text (get_or symbols f []) ++ arguments_text ps
 
 -- the line of a place
+abbrev pub line_of : List (List ℕ) → ℕ → Cell → List ℕ
+line_of symbols i c = place_text i ++ codes " = " ++ cell_text symbols c ++ codes "\n"
+
 abbrev pub cell_line : List (List ℕ) → List Cell → ℕ → List ℕ
-cell_line symbols cells i = place_text i ++ codes " = " ++ cell_text symbols (get_or cells i free) ++ 10 ∷ []
+cell_line symbols cells i = line_of symbols i (get_or cells i free)
 
 -- the lines of shown terms
+abbrev pub shown_line : List ℕ → ℕ → List ℕ
+shown_line name i = name ++ codes ": " ++ place_text i ++ codes "\n"
+
 abbrev pub shown_lines : List (List ℕ) → List ℕ → List ℕ
 shown_lines [] is = []
 shown_lines (name ∷ names) [] = []
-shown_lines (name ∷ names) (i ∷ is) = name ++ codes ": " ++ place_text i ++ 10 ∷ shown_lines names is
+shown_lines (name ∷ names) (i ∷ is) = shown_line name i ++ shown_lines names is
 
 -- a place is one of these, or an argument of one that is reached from these
 pub data IsReached (cells : List Cell) (starts : List ℕ) : ℕ → Type 0 where
@@ -47,7 +50,7 @@ pub data IsReached (cells : List Cell) (starts : List ℕ) : ℕ → Type 0 wher
 -- increasing places, none below this one
 abbrev pub AreRising : ℕ → List ℕ → Type 0
 AreRising low [] = ⊤
-AreRising low (i ∷ is) = (low ≤ i) × AreRising (i + 1) is
+AreRising low (i ∷ is) = (low ≤ i) × AreRising (suc i) is
 
 -- the text of a model under the names of what is shown: the line `model`, the line of each shown term, and the lines of the places that are reached from these, in increasing order
 pub record IsModelText (symbols names : List (List ℕ)) (m : TreeModel) (text : List ℕ) : Type 0 where
@@ -56,3 +59,21 @@ pub record IsModelText (symbols names : List (List ℕ)) (m : TreeModel) (text :
   pub reached : (i : ℕ) → IsOne i places → IsReached m.cells.items m.shown.items i
   pub all : (i : ℕ) → IsReached m.cells.items m.shown.items i → IsOne i places
   pub is : text ≡ codes "model\n" ++ shown_lines names m.shown.items ++ flat_map (cell_line symbols m.cells.items) places
+
+-- the least number that isn't below this one and is above these places
+abbrev pub above : ℕ → List ℕ → ℕ
+above low [] = low
+above low (i ∷ is) = above (max low (suc i)) is
+
+-- so many places from this one on
+abbrev pub places_from : ℕ → ℕ → List ℕ
+places_from low zero = []
+places_from low (suc n) = low ∷ places_from (suc low) n
+
+-- lines were added for the first places, which are all that are there, or as many that they are above the shown places and above the arguments of each, and no more
+pub record AreCellLines (symbols : List (List ℕ)) (cells : List Cell) (shown : List ℕ) (old new : List ℕ) : Type 0 where
+  pub count : ℕ
+  pub is : new ≡ old ++ flat_map (cell_line symbols cells) (places_from 0 count)
+  pub within : count ≤ length cells
+  pub least : (n : ℕ) → ((i : ℕ) → IsOne i shown → i < n) → ((i j : ℕ) (c : Cell) → i < n → slice_get cells i ≡ Some c → IsOne j (places_of c) → j < n) → count ≤ n
+  pub closed : count < length cells → ((i : ℕ) → IsOne i shown → i < count) × ((i j : ℕ) (c : Cell) → i < count → slice_get cells i ≡ Some c → IsOne j (places_of c) → j < count)

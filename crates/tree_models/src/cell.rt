@@ -1,6 +1,7 @@
 //! Cells of tables.
 
 ghost use Rattle.std.specs.Prelude.{◌≡◌};
+ghost use Rattle.tree_models.specs.Tables.{places_of};
 
 use akl_terms::Name;
 use std::marker::Model;
@@ -42,4 +43,16 @@ pub enum Cell {
     Int(i128),
     Port(Name),
     Struct { symbol: u32, arguments: Places },
+}
+
+impl Cell {
+    /// The places of its arguments.
+    pub fn arguments(&self) -> &[u64]
+        ensures { result.now ≡ places_of self.now }
+    {
+        match self {
+            Cell::Struct { arguments, .. } => arguments.as_slice(),
+            _ => &[],
+        }
+    }
 }

@@ -2,6 +2,7 @@
 #![tactic(auto)]
 
 mod cell;
+mod cell_text;
 mod cells;
 mod laws;
 mod made;

@@ -55,5 +55,5 @@ returns g c =
     let are_classes : AreClasses (rows_of graph) tops classes = subst (λ (vs : List (Vec ℕ)). AreClasses (map (λ v. v.items) vs) tops classes) c.deref-2.ensures.value c.in_ok-classes.ensures in
     IfOk-weaker c.make_model.result _ _
     (λ m d. let made : IsMade graph classes.blocks (length c.args.shown.now) c.args.variables.now m = subst (λ (fs : List ℕ). IsMade graph fs (length c.args.shown.now) c.args.variables.now m) c.firsts.ensures d in
-        λ E r. table_made t go c.args.shown.now c.args.variables.now graph c.in_ok-graph.ensures tops classes (tell-beginnings t graph.seens.items tops firsts) are_classes m made E r)
+    λ E r. table_made t go c.args.shown.now c.args.variables.now graph c.in_ok-graph.ensures tops classes (tell-beginnings t graph.seens.items tops firsts) are_classes m made E r)
     c.make_model.ensures
