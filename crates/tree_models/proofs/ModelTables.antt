@@ -36,9 +36,9 @@ use Rattle.tree_models.specs.Cells.{cell_by, cell_in, seen_in}
 use Rattle.tree_models.specs.Found.{IsModelGraph, IsTableOf}
 use Rattle.tree_models.specs.Laws.{IsCellOf, of_class, of_number, of_port, of_symbol, IsDecidedGraph, IsFound, IsTableFound}
 use Rattle.tree_models.specs.Made.{given_by, rows_of, IsMade}
-use Rattle.tree_models.specs.Solutions.{Occurs, OccursIn, OccursShown, IsPlaced, Visits, AreShownAt, IsModel, shown_terms}
+use Rattle.tree_models.specs.Solutions.{OccursIn, OccursShown, IsPlaced, Visits, AreShownAt, IsModel, shown_terms}
 use Rattle.tree_models.specs.Starts.{start_tree, AreNodesOf}
-use Rattle.tree_models.specs.Tables.{Table, table_of, place_in}
+use Rattle.tree_models.specs.Tables.{table_of, place_in}
 use Rattle.tree_models.specs.Variables.{AreVariablesOf}
 use Rattle.tree_models.specs.Visiting.{IsOne, class_of, row_of, place_by}
 use Rattle.tree_models.proofs.Found.{found}

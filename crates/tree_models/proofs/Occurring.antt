@@ -10,7 +10,7 @@ use Rattle.akl_terms.specs.declared.term.Node.{Node}
 use Rattle.akl_terms.specs.declared.term.Seen.{Seen}
 use Rattle.akl_terms.specs.declared.term.Seen.TheVariants.{Free}
 use Rattle.akl_terms.specs.declared.term.Term.{Term}
-use Rattle.akl_terms.specs.Tree.{Tree, Trees, variable, integer, port, symbol, none, more, list_of, arguments}
+use Rattle.akl_terms.specs.Tree.{Tree, Trees, variable, integer, port, symbol, none, more, list_of}
 use Rattle.akl_terms.specs.Template.{Template, tree}
 use Rattle.answer_text.specs.Graph.{Stands}
 use Rattle.answer_text.specs.BuiltGraph.{IsBuilt}

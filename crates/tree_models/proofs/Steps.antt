@@ -1,6 +1,6 @@
 -- Steps along an agenda.
 use Rattle.std.proofs.Common.{◌≡◌, ◌<◌, ◌+◌, ◌-◌, ◌*◌, ◌^◌, length, length-append, arith, ℕ, suc, List, [], ◌∷◌, ◌++◌, Option, Some, None, Bool, true, false, cond, refl, sym, ◌∙◌, ap, subst, ◌⊎◌, inl, inr, nat_eq}
-use Rattle.std.specs.Prelude.{◌==◌, if◌then◌else◌, option_map, reverse}
+use Rattle.std.specs.Prelude.{option_map, reverse}
 use Rattle.std.proofs.lemmas.Bool.{eqb-true, eqb-false}
 use Rattle.std.proofs.lemmas.List.{reverse-append, reverse-reverse}
 use Rattle.tree_classes.specs.Numbers.{with_number, known_number}

@@ -1,5 +1,5 @@
 -- What is found on the way to a model.
-use Rattle.std.specs.Prelude.{◌≡◌, ℕ, List, ◌++◌, map}
+use Rattle.std.specs.Prelude.{◌≡◌, List, ◌++◌, map}
 use Rattle.akl_terms.specs.declared.name.Var.{Var}
 use Rattle.akl_terms.specs.declared.program.ShownTerm.{ShownTerm}
 use Rattle.akl_terms.specs.declared.term.Node.{Node}
@@ -7,7 +7,6 @@ use Rattle.akl_terms.specs.Tree.{Tree, variable}
 use Rattle.akl_terms.specs.Equal.{Equations}
 use Rattle.akl_terms.specs.Template.{Template}
 use Rattle.answer_text.specs.Classes.{Represents}
-use Rattle.constraint_laws.specs.Touched.{IsAmong}
 use Rattle.term_graph.specs.Building.{IsTermGraph}
 use Rattle.term_graph.specs.Built.{IsBuiltAlong}
 use Rattle.tree_models.specs.declared.model.Given.{Given}

@@ -1,5 +1,5 @@
 -- The variables of bindings and shown terms.
-use Rattle.std.specs.Prelude.{ℕ, List, [], ◌∷◌, ◌⊎◌}
+use Rattle.std.specs.Prelude.{List, [], ◌∷◌, ◌⊎◌}
 use Rattle.std.specs.List.{flat_map}
 use Rattle.std.specs.List.Sorted.{IsStrictlySortedBy}
 use Rattle.akl_terms.specs.declared.name.Var.{Var}

@@ -1,5 +1,5 @@
 -- Classes of nodes in the order of their first visit.
-use Rattle.std.specs.Prelude.{◌≡◌, ◌⊎◌, ℕ, suc, List, [], ◌∷◌, ◌++◌, length, map, get_or, slice_get, Some, reverse}
+use Rattle.std.specs.Prelude.{◌≡◌, ◌⊎◌, ℕ, List, [], ◌∷◌, ◌++◌, length, map, get_or, slice_get, Some, reverse}
 use Rattle.tree_classes.specs.Numbers.{number_in}
 use Rattle.tree_models.specs.Tables.{places_of}
 use Rattle.tree_models.specs.declared.cell.Cell.{Cell}

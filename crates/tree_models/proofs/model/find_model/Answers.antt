@@ -1,9 +1,8 @@
-use Rattle.std.proofs.Common.{◌≡◌, List, subst, sym, ap, ◌∙◌}
+use Rattle.std.proofs.Common.{◌≡◌, List, subst, ap, ◌∙◌}
 use Rattle.std.proofs.lemmas.Result.{IfOk-weaker}
 use Rattle.akl_terms.specs.declared.name.Var.{Var}
 use Rattle.akl_terms.specs.declared.term.Term.{Term}
 use Rattle.local_store.specs.Chained.{bindings_from, equations_of}
-use Rattle.local_store.specs.Stored.{Stored}
 use Rattle.tree_models.specs.Found.{IsTableOf}
 use Rattle.tree_models.specs.Variables.{AreVariablesOf}
 use Rattle.tree_models.proofs.ModelTables.{is_model}

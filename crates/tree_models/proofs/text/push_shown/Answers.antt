@@ -1,4 +1,4 @@
-use Rattle.std.proofs.Common.{◌≡◌, ◌++◌, ◌<◌, ◌≤◌, ℕ, List, length, map, take, refl, ap, ◌∙◌, ◌⊎◌, arith, rules}
+use Rattle.std.proofs.Common.{◌≡◌, ◌++◌, ◌<◌, ◌≤◌, ℕ, List, length, refl, ap, ◌∙◌, ◌⊎◌, arith, rules}
 use Rattle.akl_terms.specs.declared.program.ShownTerm.{ShownTerm}
 use Rattle.tree_models.proofs.CellLines.{shown_more, shown_all, short_end}
 use Rattle.tree_models.proofs.text.push_shown.Goals as goal

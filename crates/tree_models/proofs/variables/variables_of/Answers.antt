@@ -1,8 +1,7 @@
-use Rattle.std.proofs.Common.{◌≡◌, ◌++◌, List, map, sym, ap, ◌∙◌, subst}
+use Rattle.std.proofs.Common.{◌≡◌, ◌++◌, List, map, ap, ◌∙◌, subst}
 use Rattle.akl_terms.specs.declared.name.Var.{Var}
 use Rattle.akl_terms.specs.declared.program.ShownTerm.{ShownTerm}
 use Rattle.akl_terms.specs.declared.term.Term.{Term}
-use Rattle.rational_unify.specs.Known.{end_of}
 use Rattle.tree_models.specs.declared.starts.Start.{Start}
 use Rattle.tree_models.specs.Variables.{free_variables, AreOnce}
 use Rattle.tree_models.proofs.Occurring.{are_variables}
