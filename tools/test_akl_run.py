@@ -125,6 +125,12 @@ class Runs(unittest.TestCase):
             self.assertEqual(self.run_akl("p(a). p(b).", "--", query)[0], status)
         self.assertEqual(self.run_akl("p(a). p(b).", "p(X)", "--budget", "1")[:2], (3, "budget\n"))
         self.assertIn("step 1 fork", self.run_akl("p(a). p(b).", "p(a)", "--trace", "--workers", "2")[1])
+        self.assertEqual(
+            self.run_akl("", "X < 2", "--why")[:2], (2, "waiting 1\ngoal 0.2 on X\nsuspended 1\n")
+        )
+        self.assertEqual(
+            self.run_akl("", "X = a", "--model")[1], "answer 1\nX = a\nmodel\nX: #0\n#0 = a\ndone\n"
+        )
         self.assertEqual(self.run_akl("p.", "p", "--budget", "0")[0], 4)
         self.assertEqual(self.run_akl("p.", "p", "--nothing")[0], 4)
 

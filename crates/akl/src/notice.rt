@@ -5,8 +5,8 @@ ghost use Rattle.akl.specs.Notices.{notice_of};
 
 /// What a lone `--help` prints.
 pub const HELP: &str = "\
-Usage: ./akl --query TEXT [--workers N] [--budget N] [--trace] < FILE
-       ./akl --generate N [--workers N] [--budget N] [--trace]
+Usage: ./akl --query TEXT [--workers N] [--budget N] [--trace] [--why] [--model] < FILE
+       ./akl --generate N [--workers N] [--budget N] [--trace] [--why] [--model]
        ./akl --batch TEXT [--workers N] [--budget N] < FILE
 
 Runs the query TEXT over the program in FILE, and prints the answers and the outcome. The program is
@@ -22,6 +22,8 @@ Options:
                 queries are run at the same time
   --budget N    how many steps the run may make: 1 to 4000000, and 100000 where none is given
   --trace       prints a line for each step before the answers
+  --why         prints on which variables the goals of a suspended run wait, behind the answers
+  --model       prints behind each answer a table that solves all that it was told
   --help        as the only word: prints this text
   --version     as the only word: prints the version
 

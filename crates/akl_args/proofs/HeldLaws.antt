@@ -3,10 +3,15 @@ use Rattle.std.proofs.Common.{◌≡◌, ◌∙◌, ap, refl, sym, subst, Bool, 
 use Rattle.clap.specs.Walk.{Row, Text, has_row}
 use Rattle.clap.specs.declared.parser.matches.ValueSource.TheVariants.{CommandLine}
 use Rattle.clap.specs.declared.builder.value_parser.Reading.TheVariants.{AsWritten}
+use Rattle.akl_args.proofs.NameLaws.{same_setting, same_flag, flag_is_not, setting_is_not, equal_self}
 use Rattle.akl_args.proofs.RowLaws.{row_in, use_row, neither, has_is_found, found_new, found_other}
+use Rattle.akl_args.specs.Flags.{no_flags, has_flag, flags_with, flag_id}
 use Rattle.akl_args.specs.Numbers.{number_in}
 use Rattle.akl_args.specs.Settings.{id_of, number_as}
 use Rattle.akl_args.specs.Table.{Said, nothing_said, is_given, with_value}
+use Rattle.akl_args.specs.declared.flag.Flag.{Flag}
+use Rattle.akl_args.specs.declared.flag.Flag.TheVariants.{Trace, Why, Model}
+use Rattle.akl_args.specs.declared.flag.Flags.{Flags}
 use Rattle.akl_args.specs.declared.seen.Pending.{Pending}
 use Rattle.akl_args.specs.declared.setting.Setting.{Setting}
 use Rattle.akl_args.specs.declared.setting.Setting.TheVariants.{Query, Generate, Workers, Budget}
@@ -40,17 +45,22 @@ pub record Fits (setting : Setting) (row : Option Row) (value : Option Value) : 
 abbrev pub setting_row : Setting → List ℕ → Row
 setting_row setting text = use_row (id_of setting) AsWritten CommandLine (text ∷ [])
 
-abbrev pub trace_row : Row
-trace_row = use_row (codes "trace") AsWritten CommandLine (codes "true" ∷ [])
+abbrev pub flag_row : Flag → Row
+flag_row flag = use_row (flag_id flag) AsWritten CommandLine (codes "true" ∷ [])
 
 -- the rows hold what was said
 pub record Holds (r : Said) (rows : List Row) : Type 0 where
   pub fits : (x : Setting) → Fits x (row_in (id_of x) rows) (field x r)
-  pub trace : row_in (codes "trace") rows ≡ (if r.trace then Some trace_row else None)
+  pub flags : (x : Flag) → row_in (flag_id x) rows ≡ (if has_flag x r.flags then Some (flag_row x) else None)
 
 pub nothing_holds : Holds nothing_said []
-nothing_holds = record { fits = fits; trace = refl }
+nothing_holds = record { fits = fits; flags = flags }
   where
+    flags : (x : Flag) → row_in (flag_id x) [] ≡ (if has_flag x no_flags then Some (flag_row x) else None)
+    flags Trace = refl
+    flags Why = refl
+    flags Model = refl
+
     fits : (x : Setting) → Fits x (row_in (id_of x) []) (field x nothing_said)
     fits Query = record { reads = refl; some = refl }
     fits Generate = record { reads = refl; some = refl }
@@ -59,7 +69,7 @@ nothing_holds = record { fits = fits; trace = refl }
 
 -- what is expected doesn't count
 pub holds_expecting : (r : Said) (o : Option Pending) (rows : List Row) → Holds r rows → Holds (record r { pending = o }) rows
-holds_expecting r o rows h = record { fits = fits; trace = h.trace }
+holds_expecting r o rows h = record { fits = fits; flags = h.flags }
   where
     fits : (x : Setting) → Fits x (row_in (id_of x) rows) (field x (record r { pending = o }))
     fits Query = h.fits Query
@@ -71,14 +81,14 @@ holds_expecting r o rows h = record { fits = fits; trace = h.trace }
 record Changed (setting : Setting) (value : Option Value) (r s : Said) : Type 0 where
   some : is_some value ≡ true
   fields : (x : Setting) → field x s ≡ (if bytes_eq (id_of setting) (id_of x) then value else field x r)
-  trace : s.trace ≡ r.trace
+  flags : s.flags ≡ r.flags
   pending : s.pending ≡ r.pending
 
 inside : {A : Type 0} (x y : A) → Some x ≡ Some y → x ≡ y
 inside x y h = cc
 
 query_changed : (text : List ℕ) (r : Said) → Changed Query (Some (written text)) r (record r { query = Some text })
-query_changed text r = record { some = refl; fields = fields; trace = refl; pending = refl }
+query_changed text r = record { some = refl; fields = fields; flags = refl; pending = refl }
   where
     fields : (x : Setting) → field x (record r { query = Some text }) ≡ (if bytes_eq (codes "query") (id_of x) then Some (written text) else field x r)
     fields Query = refl
@@ -87,7 +97,7 @@ query_changed text r = record { some = refl; fields = fields; trace = refl; pend
     fields Budget = refl
 
 generate_changed : (n : ℕ) (r : Said) → Changed Generate (Some (counted n)) r (record r { generate = Some n })
-generate_changed n r = record { some = refl; fields = fields; trace = refl; pending = refl }
+generate_changed n r = record { some = refl; fields = fields; flags = refl; pending = refl }
   where
     fields : (x : Setting) → field x (record r { generate = Some n }) ≡ (if bytes_eq (codes "generate") (id_of x) then Some (counted n) else field x r)
     fields Query = refl
@@ -96,7 +106,7 @@ generate_changed n r = record { some = refl; fields = fields; trace = refl; pend
     fields Budget = refl
 
 workers_changed : (n : ℕ) (r : Said) → Changed Workers (Some (counted n)) r (record r { workers = Some n })
-workers_changed n r = record { some = refl; fields = fields; trace = refl; pending = refl }
+workers_changed n r = record { some = refl; fields = fields; flags = refl; pending = refl }
   where
     fields : (x : Setting) → field x (record r { workers = Some n }) ≡ (if bytes_eq (codes "workers") (id_of x) then Some (counted n) else field x r)
     fields Query = refl
@@ -105,7 +115,7 @@ workers_changed n r = record { some = refl; fields = fields; trace = refl; pendi
     fields Budget = refl
 
 budget_changed : (n : ℕ) (r : Said) → Changed Budget (Some (counted n)) r (record r { budget = Some n })
-budget_changed n r = record { some = refl; fields = fields; trace = refl; pending = refl }
+budget_changed n r = record { some = refl; fields = fields; flags = refl; pending = refl }
   where
     fields : (x : Setting) → field x (record r { budget = Some n }) ≡ (if bytes_eq (codes "budget") (id_of x) then Some (counted n) else field x r)
     fields Query = refl
@@ -128,24 +138,6 @@ changed Budget text r s h = number_changed Budget (number_in 1 4000000 text) r s
 pub pending_kept : (setting : Setting) (text : List ℕ) (r s : Said) → with_value setting text r ≡ Some s → s.pending ≡ r.pending
 pending_kept setting text r s h = (changed setting text r s h).pending
 
-same_setting : (x y : Setting) → bytes_eq (id_of x) (id_of y) ≡ true → x ≡ y
-same_setting Query Query h = refl
-same_setting Query Generate h = cc
-same_setting Query Workers h = cc
-same_setting Query Budget h = cc
-same_setting Generate Query h = cc
-same_setting Generate Generate h = refl
-same_setting Generate Workers h = cc
-same_setting Generate Budget h = cc
-same_setting Workers Query h = cc
-same_setting Workers Generate h = cc
-same_setting Workers Workers h = refl
-same_setting Workers Budget h = cc
-same_setting Budget Query h = cc
-same_setting Budget Generate h = cc
-same_setting Budget Workers h = cc
-same_setting Budget Budget h = refl
-
 no_value : {A : Type 0} (f : A → Value) (o : Option A) → is_some o ≡ false → is_some (option_map f o) ≡ false
 no_value f None h = refl
 no_value f (Some x) h = h
@@ -160,21 +152,9 @@ not_given Budget r h = no_value counted r.budget h
 pub no_row : (setting : Setting) (r : Said) (rows : List Row) → Holds r rows → is_given setting r ≡ false → has_row (id_of setting) rows ≡ false
 no_row setting r rows h fresh = has_is_found (id_of setting) rows ∙ (h.fits setting).some ∙ not_given setting r fresh
 
-pub no_trace_row : (r : Said) (rows : List Row) → Holds r rows → r.trace ≡ false → has_row (codes "trace") rows ≡ false
-no_trace_row r rows h fresh =
-    has_is_found (codes "trace") rows ∙ ap is_some (h.trace ∙ ap (λ (b : Bool). if b then Some trace_row else None) fresh)
-
-not_trace : (setting : Setting) → bytes_eq (id_of setting) (codes "trace") ≡ false
-not_trace Query = refl
-not_trace Generate = refl
-not_trace Workers = refl
-not_trace Budget = refl
-
-pub trace_is_not : (setting : Setting) → bytes_eq (codes "trace") (id_of setting) ≡ false
-trace_is_not Query = refl
-trace_is_not Generate = refl
-trace_is_not Workers = refl
-trace_is_not Budget = refl
+pub no_flag_row : (flag : Flag) (r : Said) (rows : List Row) → Holds r rows → has_flag flag r.flags ≡ false → has_row (flag_id flag) rows ≡ false
+no_flag_row flag r rows h fresh =
+    has_is_found (flag_id flag) rows ∙ ap is_some (h.flags flag ∙ ap (λ (b : Bool). if b then Some (flag_row flag) else None) fresh)
 
 own_fits : (x : Setting) (text : List ℕ) → is_some (value_as x text) ≡ true → Fits x (Some (setting_row x text)) (value_as x text)
 own_fits x text some = record { reads = refl; some = sym some }
@@ -185,8 +165,8 @@ pub holds_more : (setting : Setting) (text : List ℕ) (r s : Said) (rows : List
 holds_more setting text r s rows h fresh is =
     let new = changed setting text r s is in record {
       fits = λ x. fits x (bytes_eq (id_of setting) (id_of x)) refl (new.fields x) new.some;
-      trace = found_other (codes "trace") (setting_row setting text) rows (not_trace setting) ∙ h.trace
-          ∙ ap (λ (b : Bool). if b then Some trace_row else None) (sym new.trace);
+      flags = λ x. found_other (flag_id x) (setting_row setting text) rows (setting_is_not setting x) ∙ h.flags x
+          ∙ ap (λ (flags : Flags). if has_flag x flags then Some (flag_row x) else None) (sym new.flags);
     }
   where
     fits : (x : Setting) (b : Bool) → bytes_eq (id_of setting) (id_of x) ≡ b → field x s ≡ (if b then value_as setting text else field x r)
@@ -199,15 +179,35 @@ holds_more setting text r s rows h fresh is =
         rw (found_new (id_of x) (setting_row setting text) rows empty same, e) own
     fits x false other e some = rw (found_other (id_of x) (setting_row setting text) rows other, e) (h.fits x)
 
-field_traced : (x : Setting) (r : Said) → field x (record r { trace = true }) ≡ field x r
-field_traced Query r = refl
-field_traced Generate r = refl
-field_traced Workers r = refl
-field_traced Budget r = refl
+field_flagged : (x : Setting) (flag : Flag) (r : Said) → field x (record r { flags = flags_with flag r.flags }) ≡ field x r
+field_flagged Query flag r = refl
+field_flagged Generate flag r = refl
+field_flagged Workers flag r = refl
+field_flagged Budget flag r = refl
 
--- and the row of `--trace`
-pub holds_traced : (r : Said) (rows : List Row) → Holds r rows → r.trace ≡ false → Holds (record r { trace = true }) (rows ++ trace_row ∷ [])
-holds_traced r rows h fresh = record {
-  fits = λ x. rw (found_other (id_of x) trace_row rows (trace_is_not x), field_traced x r) (h.fits x);
-  trace = found_new (codes "trace") trace_row rows (no_trace_row r rows h fresh) refl;
+given_with : (x y : Flag) (flags : Flags) → has_flag y (flags_with x flags) ≡ (if bytes_eq (flag_id x) (flag_id y) then true else has_flag y flags)
+given_with Trace Trace flags = refl
+given_with Trace Why flags = refl
+given_with Trace Model flags = refl
+given_with Why Trace flags = refl
+given_with Why Why flags = refl
+given_with Why Model flags = refl
+given_with Model Trace flags = refl
+given_with Model Why flags = refl
+given_with Model Model flags = refl
+
+-- and the row of an option without a value
+pub holds_flagged : (flag : Flag) (r : Said) (rows : List Row) → Holds r rows → has_flag flag r.flags ≡ false
+    → Holds (record r { flags = flags_with flag r.flags }) (rows ++ flag_row flag ∷ [])
+holds_flagged flag r rows h fresh = record {
+  fits = λ x. rw (found_other (id_of x) (flag_row flag) rows (flag_is_not flag x), field_flagged x flag r) (h.fits x);
+  flags = λ x. found x (bytes_eq (flag_id flag) (flag_id x)) refl ∙ ap (λ (b : Bool). if b then Some (flag_row x) else None) (sym (given_with flag x r.flags));
 }
+  where
+    found : (x : Flag) (b : Bool) → bytes_eq (flag_id flag) (flag_id x) ≡ b
+        → row_in (flag_id x) (rows ++ flag_row flag ∷ []) ≡ (if (if b then true else has_flag x r.flags) then Some (flag_row x) else None)
+    found x true same =
+        let is : flag ≡ x = same_flag flag x same in
+        subst (λ (y : Flag). row_in (flag_id y) (rows ++ flag_row flag ∷ []) ≡ Some (flag_row y)) is
+        (found_new (flag_id flag) (flag_row flag) rows (no_flag_row flag r rows h fresh) (equal_self flag))
+    found x false other = found_other (flag_id x) (flag_row flag) rows other ∙ h.flags x

@@ -1,5 +1,7 @@
+pub mod DefaultLaws
 pub mod HeldLaws
 pub mod LimitLaws
+pub mod NameLaws
 pub mod RowLaws
 pub mod SeenLaws
 pub mod SplitLaws

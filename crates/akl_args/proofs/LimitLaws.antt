@@ -1,8 +1,9 @@
 -- What words ask for is within the limits.
-use Rattle.std.proofs.Common.{arith, ◌≡◌, ℕ, suc, ◌<◌, ◌≤◌, ◌&&◌, Bool, true, false, List, [], ◌∷◌, length, refl, nat_le, nat_lt, Option, Some, None, IfSome, IfOk, Result, Ok, Err, ok_or, option_map, option_and_then, bytes_eq, codes, if◌then◌else◌, unwrap_or}
+use Rattle.std.proofs.Common.{arith, ◌≡◌, ℕ, suc, ◌<◌, ◌≤◌, ◌&&◌, Bool, true, false, List, [], ◌∷◌, length, refl, nat_le, nat_lt, Option, Some, None, IfSome, IfOk, Result, Ok, Err, ok_or, option_map, option_and_then, if◌then◌else◌, unwrap_or}
 use Rattle.std.proofs.lemmas.Bool.Decides.{nat_tests}
 use Rattle.std.specs.List.{position_or_len, before_first, after_first}
 use Rattle.std.specs.Str.Parse.{starts_with_minus}
+use Rattle.akl_args.specs.declared.flag.Flag.{Flag}
 use Rattle.akl_args.specs.declared.options.Job.TheVariants as jobs
 use Rattle.akl_args.specs.declared.options.Options.{Options}
 use Rattle.akl_args.specs.declared.options.WordsError.{WordsError}
@@ -10,9 +11,10 @@ use Rattle.akl_args.specs.declared.options.WordsError.TheVariants.{Missing, Valu
 use Rattle.akl_args.specs.declared.seen.Pending.{Pending}
 use Rattle.akl_args.specs.declared.setting.Setting.{Setting}
 use Rattle.akl_args.specs.declared.setting.Setting.TheVariants.{Query, Generate, Workers, Budget}
+use Rattle.akl_args.specs.Flags.{has_flag, flags_with, flag_named}
 use Rattle.akl_args.specs.Limits.{IsWithinLimits, IsJobWithinLimits}
 use Rattle.akl_args.specs.Numbers.{value_of, within, number_in}
-use Rattle.akl_args.specs.Table.{Said, nothing_said, new_setting, is_equals, after_set, after_joined, after_trace, after_alone, after_expected, after_word, completed_behind, job_of, options_of, and_then, reading_from, reading}
+use Rattle.akl_args.specs.Table.{Said, nothing_said, new_setting, is_equals, after_set, after_joined, after_flag, after_name, after_alone, after_expected, after_word, completed_behind, job_of, options_of, and_then, reading_from, reading}
 
 -- what was said so far is within the limits
 record SaysWithin (r : Said) : Type 0 where
@@ -65,21 +67,21 @@ always (Err e) go h = tt
 same_limits : (r s : Said) → r.query ≡ s.query → r.generate ≡ s.generate → r.workers ≡ s.workers → r.budget ≡ s.budget → SaysWithin r → SaysWithin s
 same_limits r s q g w b h = record { query = rw (← q) h.query; generate = rw (← g) h.generate; workers = rw (← w) h.workers; budget = rw (← b) h.budget }
 
-trace_within : (at : ℕ) (r : Said) → SaysWithin r → IfOk (after_trace at r) SaysWithin
-trace_within at r h = chosen SaysWithin r.trace (Err (Repeated at)) (Ok (record r { trace = true })) tt (same_limits r _ refl refl refl refl h)
+flag_within : (at : ℕ) (flag : Flag) (r : Said) → SaysWithin r → IfOk (after_flag at flag r) SaysWithin
+flag_within at flag r h =
+    chosen SaysWithin (has_flag flag r.flags) (Err (Repeated at)) (Ok (record r { flags = flags_with flag r.flags })) tt (same_limits r _ refl refl refl refl h)
 
 joined_within : (at : ℕ) (name value : List ℕ) (r : Said) → SaysWithin r → IfOk (after_joined at name value r) SaysWithin
 joined_within at name value r h = always (new_setting at name r) (λ setting. after_set setting at value r) (λ setting. set_within setting at value r h)
 
-alone_within : (at : ℕ) (name : List ℕ) (r : Said) → SaysWithin r → IfOk (after_alone at name r) SaysWithin
-alone_within at name r h =
-    chosen SaysWithin (bytes_eq name (codes "--trace")) (after_trace at r) _ (trace_within at r h)
-    (always (new_setting at name r) _ (λ setting. same_limits r _ refl refl refl refl h))
+name_within : (o : Option Flag) (at : ℕ) (name : List ℕ) (r : Said) → SaysWithin r → IfOk (after_name o at name r) SaysWithin
+name_within (Some flag) at name r h = flag_within at flag r h
+name_within None at name r h = always (new_setting at name r) _ (λ setting. same_limits r _ refl refl refl refl h)
 
 word_within : (o : Option Pending) (at : ℕ) (word : List ℕ) (r : Said) → SaysWithin r → IfOk (after_expected o at word r) SaysWithin
 word_within None at word r h =
     chosen SaysWithin (nat_lt (position_or_len is_equals word) (length word)) (after_joined at (before_first is_equals word) (after_first is_equals word) r) (after_alone at word r)
-    (joined_within at (before_first is_equals word) (after_first is_equals word) r h) (alone_within at word r h)
+    (joined_within at (before_first is_equals word) (after_first is_equals word) r h) (name_within (flag_named word) at word r h)
 word_within (Some p) at word r h =
     chosen SaysWithin (starts_with_minus word) (Err (Missing p.at)) _ tt
     (set_within p.setting at word (record r { pending = None }) (same_limits r _ refl refl refl refl h))

@@ -1,12 +1,14 @@
 -- The test of the words refuses them as the table says.
-use Rattle.std.proofs.Common.{◌≡◌, ◌∙◌, ap, sym, refl, ℕ, suc, Bool, true, false, List, [], ◌∷◌, length, Option, Some, None, is_some, option_map, Result, Ok, Err, ok_or, nat_lt, bytes_eq, codes, if◌then◌else◌, arith}
+use Rattle.std.proofs.Common.{◌≡◌, ◌∙◌, ap, sym, refl, ℕ, suc, Bool, true, false, List, [], ◌∷◌, length, Option, Some, None, is_some, option_map, Result, Ok, Err, ok_or, nat_lt, if◌then◌else◌, arith}
 use Rattle.std.proofs.lemmas.Bool.Decides.{nat_tests}
 use Rattle.std.specs.List.{position_or_len, before_first, after_first}
 use Rattle.std.specs.Str.Parse.{starts_with_minus}
+use Rattle.akl_args.specs.Flags.{has_flag, flags_with, flag_named}
 use Rattle.akl_args.specs.Numbers.{number_in}
-use Rattle.akl_args.specs.Seen.{is_seen, with_seen, seen_set, seen_value, unseen, seen_joined, seen_trace, seen_alone, seen_option, seen_expected, seen_word, or_refusal, refusal_from, refusal_of}
+use Rattle.akl_args.specs.Seen.{is_seen, with_seen, seen_set, seen_value, unseen, seen_joined, seen_flag, seen_name, seen_alone, seen_option, seen_expected, seen_word, or_refusal, refusal_from, refusal_of}
 use Rattle.akl_args.specs.Settings.{setting_named}
-use Rattle.akl_args.specs.Table.{Said, nothing_said, is_given, is_equals, after_set, after_value, once, new_setting, after_joined, after_trace, after_alone, after_option, after_expected, after_word, and_then, completed_behind, reading_from, reading}
+use Rattle.akl_args.specs.Table.{Said, nothing_said, is_given, is_equals, after_set, after_value, once, new_setting, after_joined, after_flag, after_name, after_alone, after_option, after_expected, after_word, and_then, completed_behind, reading_from, reading}
+use Rattle.akl_args.specs.declared.flag.Flag.{Flag}
 use Rattle.akl_args.specs.declared.options.Options.{Options}
 use Rattle.akl_args.specs.declared.options.WordsError.{WordsError}
 use Rattle.akl_args.specs.declared.options.WordsError.TheVariants.{Missing, Value, Repeated}
@@ -22,7 +24,7 @@ seen_of r = record {
   generate = is_some r.generate;
   workers = is_some r.workers;
   budget = is_some r.budget;
-  trace = r.trace;
+  flags = r.flags;
   pending = r.pending;
 }
 
@@ -77,13 +79,16 @@ joined_same : (at : ℕ) (name value : List ℕ) (r : Said) → seen_joined at n
 joined_same at name value r =
     named_same at name r (λ setting. after_set setting at value r) (λ setting. seen_set setting at value (seen_of r)) (λ setting. set_same setting at value r)
 
-trace_same : (at : ℕ) (r : Said) → seen_trace at (seen_of r) ≡ seen_in (after_trace at r)
-trace_same at r = either_same r.trace (Err (Repeated at)) (Ok (record r { trace = true })) _ _ refl refl
+flag_same : (at : ℕ) (flag : Flag) (r : Said) → seen_flag at flag (seen_of r) ≡ seen_in (after_flag at flag r)
+flag_same at flag r = either_same (has_flag flag r.flags) (Err (Repeated at)) (Ok (record r { flags = flags_with flag r.flags })) _ _ refl refl
+
+name_same : (o : Option Flag) (at : ℕ) (name : List ℕ) (r : Said) → seen_name o at name (seen_of r) ≡ seen_in (after_name o at name r)
+name_same (Some flag) at name r = flag_same at flag r
+name_same None at name r =
+    named_same at name r (λ setting. Ok (record r { pending = Some (record { setting = setting; at = at }) })) (λ setting. Ok (record (seen_of r) { pending = Some (record { setting = setting; at = at }) })) (λ setting. refl)
 
 alone_same : (at : ℕ) (name : List ℕ) (r : Said) → seen_alone at name (seen_of r) ≡ seen_in (after_alone at name r)
-alone_same at name r =
-    either_same (bytes_eq name (codes "--trace")) (after_trace at r) _ _ _ (trace_same at r)
-    (named_same at name r (λ setting. Ok (record r { pending = Some (record { setting = setting; at = at }) })) (λ setting. Ok (record (seen_of r) { pending = Some (record { setting = setting; at = at }) })) (λ setting. refl))
+alone_same at name r = name_same (flag_named name) at name r
 
 option_same : (at : ℕ) (word : List ℕ) (r : Said) → seen_option at word (seen_of r) ≡ seen_in (after_option at word r)
 option_same at word r =

@@ -1,24 +1,28 @@
 -- `clap` splits the words that the test accepts as the table reads them.
-use Rattle.std.proofs.Common.{arith, ◌≡◌, ◌∙◌, ap, ap₂, refl, sym, subst, Bool, true, false, ◌&&◌, ◌+◌, ℕ, suc, List, [], ◌∷◌, ◌++◌, length, fold, Option, Some, None, is_some, option_map, option_and_then, unwrap_or, Result, Ok, Err, ok_or, if◌then◌else◌, bytes_eq, codes}
+use Rattle.std.proofs.Common.{arith, ◌≡◌, ◌∙◌, ap, ap₂, refl, sym, subst, Bool, true, false, ◌&&◌, ◌+◌, ℕ, suc, List, [], ◌∷◌, length, fold, Option, Some, None, option_map, option_and_then, unwrap_or, Result, Ok, Err, ok_or, bytes_eq, codes}
 use Rattle.std.specs.Option.{option_map_or}
 use Rattle.clap.specs.Simple.{built, is_simple, matches_of}
 use Rattle.clap.specs.Takes.{takes, built_takes, level_passes, turn_passes, walk_passes, settle_passes}
 use Rattle.clap.specs.Values.{bool_text}
-use Rattle.clap.specs.Walk.{Held, Row, Text, Walk, finished, has_row, nothing_held, one_of, settled, walk, walk_from, walked, with_values}
-use Rattle.clap.specs.declared.parser.matches.ValueSource.TheVariants.{DefaultValue}
-use Rattle.clap.specs.declared.builder.value_parser.Reading.TheVariants.{AsWritten}
+use Rattle.clap.specs.Walk.{Held, Row, Text, Walk, finished, nothing_held, one_of, settled, walk, walk_from, walked}
 use Rattle.clap.proofs.OnLiterals.{clap_on_literals}
 use Rattle.clap.proofs.TakesLemmas.{leaf_takes}
-use Rattle.akl_args.proofs.HeldLaws.{Holds, written, counted, value_as, text_of, trace_row, nothing_holds, holds_expecting, holds_more, holds_traced, no_row, no_trace_row, pending_kept, trace_is_not}
-use Rattle.akl_args.proofs.RowLaws.{row_in, use_row, has_is_found, first_value, found_new, found_other}
+use Rattle.akl_args.proofs.DefaultLaws.{finished_is, no_default, flag_found}
+use Rattle.akl_args.proofs.HeldLaws.{Holds, written, counted, value_as, text_of, flag_row, nothing_holds, holds_expecting, holds_more, holds_flagged, no_row, no_flag_row, pending_kept}
+use Rattle.akl_args.proofs.NameLaws.{flag_is_not}
+use Rattle.akl_args.proofs.RowLaws.{row_in}
 use Rattle.akl_args.proofs.SeenLaws.{seen_of, seen_in, word_same}
-use Rattle.akl_args.proofs.StepLaws.{shape, rules, expecting, with_row, with_value_of, alone_passes, alone_walked, joined_passes, joined_walked, trace_passes, trace_walked, value_passes, value_walked, value_settles, value_settled}
-use Rattle.akl_args.proofs.TakenWords.{Taken, alone, joined, traced, valued, word_taken}
-use Rattle.akl_args.specs.Asked.{text_in, number_of, is_traced, SaysIfTraced, asked_in}
+use Rattle.akl_args.proofs.StepLaws.{shape, rules, expecting, with_row, with_value_of, alone_passes, alone_walked, joined_passes, joined_walked, flag_passes, flag_walked, value_passes, value_walked, value_settles, value_settled}
+use Rattle.akl_args.proofs.TakenWords.{Taken, alone, joined, flagged, valued, word_taken}
+use Rattle.akl_args.specs.Asked.{text_in, number_of, flag_in, flags_in, SaysFlags, asked_in}
 use Rattle.akl_args.specs.Command.{table}
+use Rattle.akl_args.specs.Flags.{has_flag, flag_id}
 use Rattle.akl_args.specs.Seen.{or_refusal, refusal_from, refusal_of}
 use Rattle.akl_args.specs.Settings.{id_of, number_as}
 use Rattle.akl_args.specs.Table.{Said, nothing_said, is_given, with_value, after_word, completed_behind, job_of, reading_from, reading}
+use Rattle.akl_args.specs.declared.flag.Flag.{Flag}
+use Rattle.akl_args.specs.declared.flag.Flag.TheVariants.{Trace, Why, Model}
+use Rattle.akl_args.specs.declared.flag.Flags.{Flags}
 use Rattle.akl_args.specs.declared.options.Options.{Options}
 use Rattle.akl_args.specs.declared.options.WordsError.{WordsError}
 use Rattle.akl_args.specs.declared.options.WordsError.TheVariants.{Missing}
@@ -62,18 +66,18 @@ rest_steps at word r s h (joined setting value none fresh is next) rest settles 
       passes = joined_passes setting value h settles free;
       agrees = rests (with_row _ h) done (joined_walked setting value h free) refl more;
     })
-rest_steps at word r s h (traced none fresh is next) rest settles holds =
-    let free = no_trace_row r (settled rules h).rows holds fresh in
+rest_steps at word r s h (flagged flag none fresh is next) rest settles holds =
+    let free = no_flag_row flag r (settled rules h).rows holds fresh in
     rw (is, next) (record {
-      passes = trace_passes h settles free;
-      agrees = rests (with_row trace_row h) none (trace_walked h free) refl (holds_traced r (settled rules h).rows holds fresh);
+      passes = flag_passes flag h settles free;
+      agrees = rests (with_row (flag_row flag) h) none (flag_walked flag h free) refl (holds_flagged flag r (settled rules h).rows holds fresh);
     })
 rest_steps at word r s h (valued p some minus next) rest settles holds = cc
 
 wait_steps : (at : ℕ) (word : Text) (r s : Said) (p : Pending) (h : Held) → Taken at word r s → r.pending ≡ Some p → is_given p.setting r ≡ false → Holds r h.rows → Steps word s (expecting p.setting h)
 wait_steps at word r s p h (alone setting none fresh is next) some given holds = cc
 wait_steps at word r s p h (joined setting value none fresh is next) some given holds = cc
-wait_steps at word r s p h (traced none fresh is next) some given holds = cc
+wait_steps at word r s p h (flagged flag none fresh is next) some given holds = cc
 wait_steps at word r s p h (valued q also minus next) some given holds =
     let same : q ≡ p = cc in
     let is : with_value p.setting word (record r { pending = None }) ≡ Some s = subst (λ (x : Pending). with_value x.setting word (record r { pending = None }) ≡ Some s) same next in
@@ -148,52 +152,15 @@ whole words accepted =
 
 -- ---- the matches
 
-abbrev kept : Text → List Row → List Row
-kept id rows = if has_row id rows then rows else rows
+flag_read : (b : Bool) (o : Option Text) → o ≡ Some (bool_text b) → option_map_or (λ (text : Text). bytes_eq text (codes "true")) o false ≡ b
+flag_read true o h = rw h refl
+flag_read false o h = rw h refl
 
-is_kept : (id : Text) (rows : List Row) → kept id rows ≡ rows
-is_kept id rows = go (has_row id rows)
-  where
-    go : (b : Bool) → (if b then rows else rows) ≡ rows
-    go true = refl
-    go false = refl
-
-abbrev false_row : Row
-false_row = use_row (codes "trace") AsWritten DefaultValue (codes "false" ∷ [])
-
-abbrev with_trace : Bool → List Row → List Row
-with_trace b rows = if b then rows else with_values (codes "trace") AsWritten DefaultValue (codes "false" ∷ []) rows
-
--- `--trace` alone has a default
-finished_is : (h : Held) → finished rules h ≡ with_trace (has_row (codes "trace") (settled rules h).rows) (settled rules h).rows
-finished_is h =
-    let rows = (settled rules h).rows in
-    ap (λ (x : List Row). with_trace (has_row (codes "trace") x) x)
-    (is_kept (codes "budget") (kept (codes "workers") (kept (codes "generate") (kept (codes "query") rows)))
-    ∙ is_kept (codes "workers") (kept (codes "generate") (kept (codes "query") rows)) ∙ is_kept (codes "generate") (kept (codes "query") rows) ∙ is_kept (codes "query") rows)
-
-default_added : (rows : List Row) → has_row (codes "trace") rows ≡ false → with_trace false rows ≡ rows ++ false_row ∷ []
-default_added rows h = first_value (codes "trace") AsWritten DefaultValue (codes "false" ∷ []) rows h
-
-other_found : (x : Setting) (rows : List Row) → row_in (id_of x) (with_trace (has_row (codes "trace") rows) rows) ≡ row_in (id_of x) rows
-other_found x rows = go (has_row (codes "trace") rows) refl
-  where
-    go : (b : Bool) → has_row (codes "trace") rows ≡ b → row_in (id_of x) (with_trace b rows) ≡ row_in (id_of x) rows
-    go true h = refl
-    go false h = ap (row_in (id_of x)) (default_added rows h) ∙ found_other (id_of x) false_row rows (trace_is_not x)
-
-trace_found : (traced : Bool) (rows : List Row) → row_in (codes "trace") rows ≡ (if traced then Some trace_row else None)
-    → one_of (codes "trace") (with_trace (has_row (codes "trace") rows) rows) ≡ Some (bool_text traced)
-trace_found true rows h =
-    let has : has_row (codes "trace") rows ≡ true = has_is_found (codes "trace") rows ∙ ap is_some h in
-    rw (has, h) refl
-trace_found false rows h =
-    let has : has_row (codes "trace") rows ≡ false = has_is_found (codes "trace") rows ∙ ap is_some h in
-    rw (has, default_added rows has, found_new (codes "trace") false_row rows has refl) refl
-
-trace_read : (b : Bool) (o : Option Text) → o ≡ Some (bool_text b) → option_map_or (λ (text : Text). bytes_eq text (codes "true")) o false ≡ b
-trace_read true o h = rw h refl
-trace_read false o h = rw h refl
+-- each option without a value was given where its row says so
+flags_same : (rows : List Row) (flags : Flags) → ((flag : Flag) → one_of (flag_id flag) rows ≡ Some (bool_text (has_flag flag flags))) → flags_in rows ≡ flags
+flags_same rows flags says =
+    let read : (flag : Flag) → flag_in flag rows ≡ has_flag flag flags = λ flag. flag_read (has_flag flag flags) _ (says flag) in
+    λ i. record { trace = read Trace i; why = read Why i; model = read Model i }
 
 text_same : (o p : Option Text) → option_and_then (value_as Query) o ≡ option_map written p → o ≡ p
 text_same None None h = refl
@@ -215,36 +182,36 @@ number_found : (number : List ℕ → Option ℕ) (text : Option Text) (p : Opti
     → option_and_then number text ≡ p
 number_found number text p h = number_same _ p (sym (through counted number text) ∙ h)
 
-abbrev asked_by : Option Text → Option ℕ → Option ℕ → Option ℕ → Bool → ℕ → Result Options WordsError
-asked_by query generate workers budget trace count = ok_or (option_map (λ job. record {
+abbrev asked_by : Option Text → Option ℕ → Option ℕ → Option ℕ → Flags → ℕ → Result Options WordsError
+asked_by query generate workers budget flags count = ok_or (option_map (λ job. record {
   job = job;
   workers = unwrap_or workers 1;
   budget = unwrap_or budget 100000;
-  trace = trace;
+  flags = flags;
 }) (job_of query generate)) (Missing count)
 
 asked_same : (rows : List Row) (said : Said) (count : ℕ) → text_in Query rows ≡ said.query → number_of Generate rows ≡ said.generate
-    → number_of Workers rows ≡ said.workers → number_of Budget rows ≡ said.budget → is_traced rows ≡ said.trace
+    → number_of Workers rows ≡ said.workers → number_of Budget rows ≡ said.budget → flags_in rows ≡ said.flags
     → asked_in rows count ≡ completed_behind None count said
-asked_same rows said count query generate workers budget trace = λ i. asked_by (query i) (generate i) (workers i) (budget i) (trace i) count
+asked_same rows said count query generate workers budget flags = λ i. asked_by (query i) (generate i) (workers i) (budget i) (flags i) count
 
 -- the rows in the end say what was said
 ended : (said : Said) (h : Held) (count : ℕ) → Holds said (settled rules h).rows
-    → (one_of (codes "trace") (finished rules h) ≡ Some (bool_text said.trace)) × (asked_in (finished rules h) count ≡ completed_behind None count said)
+    → ((flag : Flag) → one_of (flag_id flag) (finished rules h) ≡ Some (bool_text (has_flag flag said.flags))) × (asked_in (finished rules h) count ≡ completed_behind None count said)
 ended said h count holds =
     let rows = (settled rules h).rows in
     let same = finished_is h in
-    let trace : one_of (codes "trace") (finished rules h) ≡ Some (bool_text said.trace) =
-    ap (one_of (codes "trace")) same ∙ trace_found said.trace rows holds.trace in
+    let flags : (flag : Flag) → one_of (flag_id flag) (finished rules h) ≡ Some (bool_text (has_flag flag said.flags)) =
+    λ flag. ap (one_of (flag_id flag)) same ∙ flag_found flag (has_flag flag said.flags) rows (holds.flags flag) in
     let found : (x : Setting) → text_in x (finished rules h) ≡ text_of (row_in (id_of x) rows) =
-    λ x. ap (λ (y : List Row). text_of (row_in (id_of x) y)) same ∙ ap text_of (other_found x rows) in (
-      trace,
+    λ x. ap (λ (y : List Row). text_of (row_in (id_of x) y)) same ∙ ap text_of (no_default (id_of x) rows (λ flag. flag_is_not flag x)) in (
+      flags,
       asked_same (finished rules h) said count
           (found Query ∙ text_same _ said.query (holds.fits Query).reads)
           (ap (option_and_then (number_as Generate)) (found Generate) ∙ number_found (number_as Generate) (text_of (row_in (id_of Generate) rows)) said.generate (holds.fits Generate).reads)
           (ap (option_and_then (number_as Workers)) (found Workers) ∙ number_found (number_as Workers) (text_of (row_in (id_of Workers) rows)) said.workers (holds.fits Workers).reads)
           (ap (option_and_then (number_as Budget)) (found Budget) ∙ number_found (number_as Budget) (text_of (row_in (id_of Budget) rows)) said.budget (holds.fits Budget).reads)
-          (trace_read said.trace _ trace),
+          (flags_same (finished rules h) said.flags flags),
     )
 
 -- ---- the words
@@ -252,7 +219,7 @@ ended said h count holds =
 -- `clap` takes the words, and its matches hold what the table reads
 pub record IsSplit (words : List Text) : Type 0 where
   pub takes : takes table words ≡ true
-  pub trace : SaysIfTraced (matches_of table words)
+  pub flags : SaysFlags (matches_of table words)
   pub asked : asked_in (matches_of table words) (length words) ≡ reading words
 
 pub simple : is_simple table ≡ true
@@ -274,10 +241,10 @@ split words accepted =
     let all = whole words accepted in
     let rows_are : matches_of table words ≡ finished rules all.held = ap (λ (w : Walk). finished rules w.held) all.ends in
     let last = ended all.said all.held (length words) all.holds in
-    let trace : one_of (codes "trace") (matches_of table words) ≡ Some (bool_text all.said.trace) = ap (one_of (codes "trace")) rows_are ∙ last.0 in
-    let is : is_traced (matches_of table words) ≡ all.said.trace = trace_read all.said.trace _ trace in
+    let says : (flag : Flag) → one_of (flag_id flag) (matches_of table words) ≡ Some (bool_text (has_flag flag all.said.flags)) =
+    λ flag. ap (one_of (flag_id flag)) rows_are ∙ last.0 flag in
     record {
       takes = taken words (leaf_takes (built table) nothing_held words refl (level words all.held all.passes all.ends all.settles));
-      trace = trace ∙ ap (λ (b : Bool). Some (bool_text b)) (sym is);
+      flags = λ flag. says flag ∙ ap (λ (b : Bool). Some (bool_text b)) (sym (flag_read (has_flag flag all.said.flags) _ (says flag)));
       asked = ap (λ (rows : List Row). asked_in rows (length words)) rows_are ∙ last.1 ∙ ap (λ (n : ℕ). completed_behind None n all.said) (omega arith) ∙ sym all.reads;
     }

@@ -8,10 +8,13 @@ use Rattle.clap.specs.Walk.{Held, Row, Rule, Text, Walk, has_row, option, settle
 use Rattle.clap.specs.declared.parser.matches.ValueSource.TheVariants.{CommandLine}
 use Rattle.clap.specs.declared.builder.value_parser.Reading.TheVariants.{AsWritten}
 use Rattle.akl_args.proofs.RowLaws.{first_use}
-use Rattle.akl_args.proofs.HeldLaws.{setting_row, trace_row}
-use Rattle.akl_args.proofs.TakenWords.{name_of}
+use Rattle.akl_args.proofs.HeldLaws.{setting_row, flag_row}
+use Rattle.akl_args.proofs.NameLaws.{name_of, flag_name}
 use Rattle.akl_args.specs.Command.{table}
+use Rattle.akl_args.specs.Flags.{flag_id}
 use Rattle.akl_args.specs.Settings.{id_of}
+use Rattle.akl_args.specs.declared.flag.Flag.{Flag}
+use Rattle.akl_args.specs.declared.flag.Flag.TheVariants.{Trace, Why, Model}
 use Rattle.akl_args.specs.declared.setting.Setting.{Setting}
 use Rattle.akl_args.specs.declared.setting.Setting.TheVariants.{Query, Generate, Workers, Budget}
 
@@ -70,12 +73,18 @@ joined_walked Generate value h n = rows_walked h _ _ (first_use (codes "generate
 joined_walked Workers value h n = rows_walked h _ _ (first_use (codes "workers") AsWritten CommandLine (value ∷ []) (settled rules h).rows n)
 joined_walked Budget value h n = rows_walked h _ _ (first_use (codes "budget") AsWritten CommandLine (value ∷ []) (settled rules h).rows n)
 
-pub trace_passes : (h : Held) → settle_passes rules false h ≡ true → has_row (codes "trace") (settled rules h).rows ≡ false → passes (walk_from h) (codes "--trace")
-trace_passes h s n = used_once _ _ s n
+pub flag_passes : (flag : Flag) (h : Held) → settle_passes rules false h ≡ true → has_row (flag_id flag) (settled rules h).rows ≡ false
+    → passes (walk_from h) (flag_name flag)
+flag_passes Trace h s n = used_once _ _ s n
+flag_passes Why h s n = used_once _ _ s n
+flag_passes Model h s n = used_once _ _ s n
 
-pub trace_walked : (h : Held) → has_row (codes "trace") (settled rules h).rows ≡ false → walked rules [] (walk_from h) (codes "--trace") ≡ walk_from (with_row trace_row h)
+pub flag_walked : (flag : Flag) (h : Held) → has_row (flag_id flag) (settled rules h).rows ≡ false
+    → walked rules [] (walk_from h) (flag_name flag) ≡ walk_from (with_row (flag_row flag) h)
 unfolding walked
-trace_walked h n = rows_walked h _ _ (first_use (codes "trace") AsWritten CommandLine (codes "true" ∷ []) (settled rules h).rows n)
+flag_walked Trace h n = rows_walked h _ _ (first_use (codes "trace") AsWritten CommandLine (codes "true" ∷ []) (settled rules h).rows n)
+flag_walked Why h n = rows_walked h _ _ (first_use (codes "why") AsWritten CommandLine (codes "true" ∷ []) (settled rules h).rows n)
+flag_walked Model h n = rows_walked h _ _ (first_use (codes "model") AsWritten CommandLine (codes "true" ∷ []) (settled rules h).rows n)
 
 no_dashes : (word : Text) → starts_with_minus word ≡ false → bytes_eq word (45 ∷ 45 ∷ []) ≡ false
 no_dashes [] h = refl

@@ -1,69 +1,28 @@
 -- What a word is that the table takes.
-use Rattle.std.proofs.Common.{arith, ◌≡◌, ◌∙◌, ap, ap₂, sym, refl, ◌⊎◌, inl, inr, cond, not, true≢false, eqb-true, ℕ, suc, ◌+◌, ◌==◌, Bool, true, false, List, [], ◌∷◌, ◌++◌, take, drop, length, Option, Some, None, Result, Ok, Err, ok_or, nat_lt, bytes_eq, codes, if◌then◌else◌}
+use Rattle.std.proofs.Common.{arith, ◌≡◌, ◌∙◌, ap, ap₂, sym, refl, cond, not, true≢false, eqb-true, ℕ, suc, ◌+◌, ◌==◌, Bool, true, false, List, [], ◌∷◌, ◌++◌, take, drop, length, Option, Some, None, Result, Ok, Err, ok_or, nat_lt, if◌then◌else◌}
 use Rattle.std.proofs.lemmas.Bool.Decides.{nat_tests}
-use Rattle.std.proofs.lemmas.Slice.Eq.{bytes_eq-Decides}
 use Rattle.std.specs.List.{position_or_len, before_first, after_first}
 use Rattle.std.specs.Str.Parse.{starts_with_minus}
-use Rattle.akl_args.specs.Settings.{setting_named, id_of}
-use Rattle.akl_args.specs.Table.{Said, is_given, with_value, is_equals, after_set, after_value, once, new_setting, after_joined, after_trace, after_alone, after_option, after_expected, after_word, and_then}
+use Rattle.akl_args.proofs.NameLaws.{name_of, flag_name, named, flag_has_name}
+use Rattle.akl_args.specs.Flags.{has_flag, flags_with, flag_named}
+use Rattle.akl_args.specs.Settings.{setting_named}
+use Rattle.akl_args.specs.Table.{Said, is_given, with_value, is_equals, after_set, after_value, once, new_setting, after_joined, after_flag, after_name, after_alone, after_option, after_expected, after_word, and_then}
+use Rattle.akl_args.specs.declared.flag.Flag.{Flag}
 use Rattle.akl_args.specs.declared.options.WordsError.{WordsError}
 use Rattle.akl_args.specs.declared.options.WordsError.TheVariants.{Missing, Value, Repeated}
 use Rattle.akl_args.specs.declared.seen.Pending.{Pending}
 use Rattle.akl_args.specs.declared.setting.Setting.{Setting}
-use Rattle.akl_args.specs.declared.setting.Setting.TheVariants.{Query, Generate, Workers, Budget}
 
-abbrev pub name_of : Setting → List ℕ
-name_of setting = 45 ∷ 45 ∷ id_of setting
-
--- word `at` is taken behind what is said: an option alone or with its value, `--trace`, or a value
+-- word `at` is taken behind what is said: an option alone or with its value, one without a value, or a value
 pub data Taken (at : ℕ) (word : List ℕ) (r s : Said) : Type 0 where
   alone : (setting : Setting) → r.pending ≡ None → is_given setting r ≡ false → word ≡ name_of setting
       → s ≡ record r { pending = Some (record { setting = setting; at = at }) } → Taken at word r s
   joined : (setting : Setting) (value : List ℕ) → r.pending ≡ None → is_given setting r ≡ false → word ≡ name_of setting ++ 61 ∷ value
       → with_value setting value r ≡ Some s → Taken at word r s
-  traced : r.pending ≡ None → r.trace ≡ false → word ≡ codes "--trace" → s ≡ record r { trace = true } → Taken at word r s
+  flagged : (flag : Flag) → r.pending ≡ None → has_flag flag r.flags ≡ false → word ≡ flag_name flag
+      → s ≡ record r { flags = flags_with flag r.flags } → Taken at word r s
   valued : (p : Pending) → r.pending ≡ Some p → starts_with_minus word ≡ false
       → with_value p.setting word (record r { pending = None }) ≡ Some s → Taken at word r s
-
-first_named : (b : Bool) (x s : Setting) (rest : Option Setting) → (if b then Some x else rest) ≡ Some s → ((b ≡ true) × (x ≡ s)) ⊎ (rest ≡ Some s)
-first_named true x s rest h = inl (refl, cc)
-first_named false x s rest h = inr h
-
-is_name : (name : List ℕ) (x s : Setting) → (bytes_eq name (name_of x) ≡ true) × (x ≡ s) → name ≡ name_of s
-is_name name x s h = (bytes_eq-Decides name (name_of x)).0 h.0 ∙ ap name_of h.1
-
-abbrev from_budget : List ℕ → Option Setting
-from_budget name = if bytes_eq name (name_of Budget) then Some Budget else None
-
-abbrev from_workers : List ℕ → Option Setting
-from_workers name = if bytes_eq name (name_of Workers) then Some Workers else from_budget name
-
-abbrev from_generate : List ℕ → Option Setting
-from_generate name = if bytes_eq name (name_of Generate) then Some Generate else from_workers name
-
-budget_named : (name : List ℕ) (s : Setting) → from_budget name ≡ Some s → name ≡ name_of s
-budget_named name s h = elim (first_named (bytes_eq name (name_of Budget)) Budget s None h) [
-  | inl q ↦ is_name name Budget s q
-  | inr n ↦ cc
-]
-
-workers_named : (name : List ℕ) (s : Setting) → from_workers name ≡ Some s → name ≡ name_of s
-workers_named name s h = elim (first_named (bytes_eq name (name_of Workers)) Workers s (from_budget name) h) [
-  | inl q ↦ is_name name Workers s q
-  | inr n ↦ budget_named name s n
-]
-
-generate_named : (name : List ℕ) (s : Setting) → from_generate name ≡ Some s → name ≡ name_of s
-generate_named name s h = elim (first_named (bytes_eq name (name_of Generate)) Generate s (from_workers name) h) [
-  | inl q ↦ is_name name Generate s q
-  | inr n ↦ workers_named name s n
-]
-
-named : (name : List ℕ) (s : Setting) → setting_named name ≡ Some s → name ≡ name_of s
-named name s h = elim (first_named (bytes_eq name (name_of Query)) Query s (from_generate name) h) [
-  | inl q ↦ is_name name Query s q
-  | inr n ↦ generate_named name s n
-]
 
 shifted : (p b : ℕ) (bs : List ℕ) → b ∷ (take p bs ++ 61 ∷ drop (p + 1) bs) ≡ take (1 + p) (b ∷ bs) ++ 61 ∷ drop (1 + p + 1) (b ∷ bs)
 shifted p b bs =
@@ -117,23 +76,20 @@ joined_taken at word r s rests has h =
     (cut word has ∙ ap (λ (name : List ℕ). name ++ 61 ∷ after_first is_equals word) new.name_is)
     (set_taken new.setting at (after_first is_equals word) r s new.goes)
 
-trace_taken : (at : ℕ) (word : List ℕ) (r s : Said) → r.pending ≡ None → bytes_eq word (codes "--trace") ≡ true → after_trace at r ≡ Ok s → Taken at word r s
-trace_taken at word r s rests is h = go r.trace refl h
+flag_taken : (flag : Flag) (at : ℕ) (word : List ℕ) (r s : Said) → r.pending ≡ None → flag_named word ≡ Some flag → after_flag at flag r ≡ Ok s → Taken at word r s
+flag_taken flag at word r s rests is h = go (has_flag flag r.flags) refl h
   where
-    go : (b : Bool) → r.trace ≡ b → (if b then Err (Repeated at) else Ok (record r { trace = true })) ≡ Ok s → Taken at word r s
+    go : (b : Bool) → has_flag flag r.flags ≡ b → (if b then Err (Repeated at) else Ok (record r { flags = flags_with flag r.flags })) ≡ Ok s → Taken at word r s
     go true given k = cc
-    go false given k = traced rests given ((bytes_eq-Decides word (codes "--trace")).0 is) cc
+    go false given k = flagged flag rests given (flag_has_name word flag is) cc
 
 alone_taken : (at : ℕ) (word : List ℕ) (r s : Said) → r.pending ≡ None → after_alone at word r ≡ Ok s → Taken at word r s
-alone_taken at word r s rests h = go (bytes_eq word (codes "--trace")) refl h
+alone_taken at word r s rests h = go (flag_named word) refl h
   where
-    started : Setting → Result Said WordsError
-    started setting = Ok (record r { pending = Some (record { setting = setting; at = at }) })
-
-    go : (b : Bool) → bytes_eq word (codes "--trace") ≡ b → (if b then after_trace at r else and_then (new_setting at word r) started) ≡ Ok s → Taken at word r s
-    go true is k = trace_taken at word r s rests is k
-    go false is k =
-        let new = new_named at word r s started k in
+    go : (o : Option Flag) → flag_named word ≡ o → after_name o at word r ≡ Ok s → Taken at word r s
+    go (Some flag) is k = flag_taken flag at word r s rests is k
+    go None is k =
+        let new = new_named at word r s (λ setting. Ok (record r { pending = Some (record { setting = setting; at = at }) })) k in
         let same : Ok (record r { pending = Some (record { setting = new.setting; at = at }) }) ≡ Ok s = new.goes in
         alone new.setting rests new.fresh new.name_is cc
 

@@ -4,8 +4,12 @@ use Rattle.std.specs.Option.{option_map_or}
 use Rattle.clap.specs.Values.{bool_text}
 use Rattle.clap.specs.Words.{Row, first_of, found_of, one_of, rows_of}
 use Rattle.clap.specs.declared.parser.matches.ArgMatches.{ArgMatches}
+use Rattle.akl_args.specs.Flags.{flag_id}
 use Rattle.akl_args.specs.Settings.{id_of, number_as}
 use Rattle.akl_args.specs.Table.{job_of}
+use Rattle.akl_args.specs.declared.flag.Flag.{Flag}
+use Rattle.akl_args.specs.declared.flag.Flag.TheVariants.{Trace, Why, Model}
+use Rattle.akl_args.specs.declared.flag.Flags.{Flags}
 use Rattle.akl_args.specs.declared.options.Job.{Job}
 use Rattle.akl_args.specs.declared.options.Options.{Options}
 use Rattle.akl_args.specs.declared.options.WordsError.{WordsError}
@@ -27,20 +31,23 @@ number_of setting rows = option_and_then (number_as setting) (text_in setting ro
 abbrev pub job_in : List Row → Option Job
 job_in rows = job_of (text_in Query rows) (number_of Generate rows)
 
--- `--trace` was given
-abbrev pub is_traced : List Row → Bool
-is_traced rows = option_map_or (λ text. bytes_eq text (codes "true")) (one_of (codes "trace") rows) false
+-- an option without a value was given
+abbrev pub flag_in : Flag → List Row → Bool
+flag_in flag rows = option_map_or (λ text. bytes_eq text (codes "true")) (one_of (flag_id flag) rows) false
 
--- the row of `--trace` says one or the other
-abbrev pub SaysIfTraced : List Row → Type 0
-SaysIfTraced rows = one_of (codes "trace") rows ≡ Some (bool_text (is_traced rows))
+-- the row of each says one or the other
+abbrev pub SaysFlags : List Row → Type 0
+SaysFlags rows = (flag : Flag) → one_of (flag_id flag) rows ≡ Some (bool_text (flag_in flag rows))
+
+abbrev pub flags_in : List Row → Flags
+flags_in rows = record { trace = flag_in Trace rows; why = flag_in Why rows; model = flag_in Model rows }
 
 abbrev pub options_in : List Row → Job → Options
 options_in rows job = record {
   job = job;
   workers = unwrap_or (number_of Workers rows) 1;
   budget = unwrap_or (number_of Budget rows) 100000;
-  trace = is_traced rows;
+  flags = flags_in rows;
 }
 
 -- what the rows of so many words ask for

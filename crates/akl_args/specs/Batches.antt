@@ -2,8 +2,9 @@
 --
 -- The options are `--batch`, `--workers` and `--budget`, each with a value. They are read as the words of one query are, in which
 -- `--query` stands in the place of `--batch`, and each option that a batch doesn't have is none.
-use Rattle.std.specs.Prelude.{ℕ, suc, Bool, ◌||◌, List, [], ◌∷◌, ◌++◌, length, take, map, nat_lt, Option, Some, None, Result, Ok, Err, if◌then◌else◌, bytes_eq, codes, ◌<◌, ◌≤◌}
+use Rattle.std.specs.Prelude.{ℕ, suc, Bool, ◌||◌, List, [], ◌∷◌, ◌++◌, length, take, map, nat_lt, Option, Some, None, is_some, Result, Ok, Err, if◌then◌else◌, bytes_eq, codes, ◌<◌, ◌≤◌}
 use Rattle.std.specs.List.{position_or_len, before_first, after_first}
+use Rattle.akl_args.specs.Flags.{flag_named}
 use Rattle.akl_args.specs.Queries.{queries_in}
 use Rattle.akl_args.specs.Table.{reading, and_then, is_equals}
 use Rattle.akl_args.specs.declared.batch.BatchOptions.{BatchOptions}
@@ -17,7 +18,7 @@ use Rattle.akl_args.specs.declared.options.WordsError.TheVariants.{Missing, Valu
 abbrev pub name_for_query : List ℕ → List ℕ
 name_for_query name =
     if bytes_eq name (codes "--batch") then codes "--query"
-    else if bytes_eq name (codes "--query") || (bytes_eq name (codes "--generate") || bytes_eq name (codes "--trace")) then codes "--"
+    else if bytes_eq name (codes "--query") || (bytes_eq name (codes "--generate") || is_some (flag_named name)) then codes "--"
     else name
 
 -- the word of one query that stands for a batch's: its name before the first `=` is changed alone

@@ -1,10 +1,13 @@
--- The command by which `clap` splits the words: each option with a value, and `--trace` without one.
+-- The command by which `clap` splits the words: the options with a value, and those without one.
 use Rattle.std.specs.Prelude.{List, ℕ, Some, true, codes}
 use Rattle.clap.specs.Simple.{on_top}
 use Rattle.clap.specs.Words.{App, Rule, new_rule, new_app, with_rule}
 use Rattle.clap.specs.declared.builder.action.ArgAction.{ArgAction}
 use Rattle.clap.specs.declared.builder.action.ArgAction.TheVariants.{Set, SetTrue}
+use Rattle.akl_args.specs.Flags.{flag_id}
 use Rattle.akl_args.specs.Settings.{id_of}
+use Rattle.akl_args.specs.declared.flag.Flag.{Flag}
+use Rattle.akl_args.specs.declared.flag.Flag.TheVariants.{Trace, Why, Model}
 use Rattle.akl_args.specs.declared.setting.Setting.{Setting}
 use Rattle.akl_args.specs.declared.setting.Setting.TheVariants.{Query, Generate, Workers, Budget}
 
@@ -19,8 +22,14 @@ plain = on_top (λ s. record s { no_binary_name = true; disable_help_flag = true
 abbrev pub with_setting : App → Setting → App
 with_setting app setting = with_rule app (option (id_of setting) Set)
 
-abbrev pub with_trace : App → App
-with_trace app = with_rule app (option (codes "trace") SetTrue)
+abbrev pub with_flag : App → Flag → App
+with_flag app flag = with_rule app (option (flag_id flag) SetTrue)
+
+abbrev pub with_settings : App → App
+with_settings app = with_setting (with_setting (with_setting (with_setting app Query) Generate) Workers) Budget
+
+abbrev pub with_flags : App → App
+with_flags app = with_flag (with_flag (with_flag app Trace) Why) Model
 
 abbrev pub table : App
-table = with_trace (with_setting (with_setting (with_setting (with_setting plain Query) Generate) Workers) Budget)
+table = with_flags (with_settings plain)

@@ -1,6 +1,7 @@
 pub mod Asked
 pub mod Batches
 pub mod Command
+pub mod Flags
 pub mod Limits
 pub mod Numbers
 pub mod Queries

@@ -1,10 +1,12 @@
 -- The test of the words, which keeps which options came and not their values. It refuses them as `Table.antt` does, but that
 -- nothing is to be run isn't tested. `proofs/SeenLaws.antt` shows it.
-use Rattle.std.specs.Prelude.{ℕ, suc, Bool, false, true, ◌||◌, List, [], ◌∷◌, length, nat_lt, Option, Some, None, option_map, Result, Ok, Err, if◌then◌else◌, bytes_eq, codes}
+use Rattle.std.specs.Prelude.{ℕ, suc, Bool, false, true, ◌||◌, List, [], ◌∷◌, length, nat_lt, Option, Some, None, option_map, Result, Ok, Err, if◌then◌else◌}
 use Rattle.std.specs.List.{position_or_len, before_first, after_first}
 use Rattle.std.specs.Str.Parse.{starts_with_minus}
+use Rattle.akl_args.specs.Flags.{no_flags, has_flag, flags_with, flag_named}
 use Rattle.akl_args.specs.Settings.{setting_named, is_value}
 use Rattle.akl_args.specs.Table.{and_then, is_equals}
+use Rattle.akl_args.specs.declared.flag.Flag.{Flag}
 use Rattle.akl_args.specs.declared.options.WordsError.{WordsError}
 use Rattle.akl_args.specs.declared.options.WordsError.TheVariants.{Missing, Unknown, Value, Repeated}
 use Rattle.akl_args.specs.declared.seen.Pending.{Pending}
@@ -13,7 +15,7 @@ use Rattle.akl_args.specs.declared.setting.Setting.{Setting}
 use Rattle.akl_args.specs.declared.setting.Setting.TheVariants.{Query, Generate, Workers, Budget}
 
 abbrev pub nothing_seen : Seen
-nothing_seen = record { query = false; generate = false; workers = false; budget = false; trace = false; pending = None }
+nothing_seen = record { query = false; generate = false; workers = false; budget = false; flags = no_flags; pending = None }
 
 -- an option can't come any more
 abbrev pub is_seen : Setting → Seen → Bool
@@ -46,13 +48,15 @@ seen_setting at name s = unseen (setting_named name) at s
 abbrev pub seen_joined : ℕ → List ℕ → List ℕ → Seen → Result Seen WordsError
 seen_joined at name value s = and_then (seen_setting at name s) (λ setting. seen_set setting at value s)
 
-abbrev pub seen_trace : ℕ → Seen → Result Seen WordsError
-seen_trace at s = if s.trace then Err (Repeated at) else Ok (record s { trace = true })
+abbrev pub seen_flag : ℕ → Flag → Seen → Result Seen WordsError
+seen_flag at flag s = if has_flag flag s.flags then Err (Repeated at) else Ok (record s { flags = flags_with flag s.flags })
+
+abbrev pub seen_name : Option Flag → ℕ → List ℕ → Seen → Result Seen WordsError
+seen_name (Some flag) at name s = seen_flag at flag s
+seen_name None at name s = and_then (seen_setting at name s) (λ setting. Ok (record s { pending = Some (record { setting = setting; at = at }) }))
 
 abbrev pub seen_alone : ℕ → List ℕ → Seen → Result Seen WordsError
-seen_alone at name s =
-    if bytes_eq name (codes "--trace") then seen_trace at s
-    else and_then (seen_setting at name s) (λ setting. Ok (record s { pending = Some (record { setting = setting; at = at }) }))
+seen_alone at name s = seen_name (flag_named name) at name s
 
 abbrev pub seen_option : ℕ → List ℕ → Seen → Result Seen WordsError
 seen_option at word s =

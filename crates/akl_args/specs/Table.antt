@@ -1,12 +1,15 @@
 -- What the words of a command line ask for.
 --
--- The options are `--query`, `--generate`, `--workers` and `--budget`, each with a value, and `--trace` without one. They
--- come in any order. A value is the next word, which doesn't begin with `-`, or stands behind `=` in the option's word.
-use Rattle.std.specs.Prelude.{◌≡◌, ℕ, suc, ◌==◌, Bool, false, true, ◌||◌, List, [], ◌∷◌, length, nat_lt, Option, Some, None, is_some, unwrap_or, option_map, ok_or, Result, Ok, Err, if◌then◌else◌, bytes_eq, codes, ⊤}
+-- The options are `--query`, `--generate`, `--workers` and `--budget`, each with a value, and `--trace`, `--why` and
+-- `--model` without one. They come in any order. A value is the next word, which doesn't begin with `-`, or stands behind `=` in the option's word.
+use Rattle.std.specs.Prelude.{◌≡◌, ℕ, suc, ◌==◌, Bool, ◌||◌, List, [], ◌∷◌, length, nat_lt, Option, Some, None, is_some, unwrap_or, option_map, ok_or, Result, Ok, Err, if◌then◌else◌, ⊤}
 use Rattle.std.specs.List.{position_or_len, before_first, after_first}
 use Rattle.std.specs.Str.Parse.{starts_with_minus}
+use Rattle.akl_args.specs.Flags.{no_flags, has_flag, flags_with, flag_named}
 use Rattle.akl_args.specs.Numbers.{number_in}
 use Rattle.akl_args.specs.Settings.{setting_named}
+use Rattle.akl_args.specs.declared.flag.Flag.{Flag}
+use Rattle.akl_args.specs.declared.flag.Flags.{Flags}
 use Rattle.akl_args.specs.declared.options.Job.{Job}
 use Rattle.akl_args.specs.declared.options.Job.TheVariants as jobs
 use Rattle.akl_args.specs.declared.options.Options.{Options}
@@ -27,12 +30,12 @@ pub record Said : Type 0 where
   pub generate : Option ℕ
   pub workers : Option ℕ
   pub budget : Option ℕ
-  pub trace : Bool
+  pub flags : Flags
   pub pending : Option Pending
 
 -- what no words say
 abbrev pub nothing_said : Said
-nothing_said = record { query = None; generate = None; workers = None; budget = None; trace = false; pending = None }
+nothing_said = record { query = None; generate = None; workers = None; budget = None; flags = no_flags; pending = None }
 
 -- an option with a value came before, or it is the second of `--query` and `--generate`
 abbrev pub is_given : Setting → Said → Bool
@@ -74,15 +77,17 @@ new_setting at name r = once (setting_named name) at r
 abbrev pub after_joined : ℕ → List ℕ → List ℕ → Said → Result Said WordsError
 after_joined at name value r = and_then (new_setting at name r) (λ setting. after_set setting at value r)
 
--- after `--trace` in word `at`
-abbrev pub after_trace : ℕ → Said → Result Said WordsError
-after_trace at r = if r.trace then Err (Repeated at) else Ok (record r { trace = true })
+-- after an option without a value in word `at`
+abbrev pub after_flag : ℕ → Flag → Said → Result Said WordsError
+after_flag at flag r = if has_flag flag r.flags then Err (Repeated at) else Ok (record r { flags = flags_with flag r.flags })
+
+abbrev pub after_name : Option Flag → ℕ → List ℕ → Said → Result Said WordsError
+after_name (Some flag) at name r = after_flag at flag r
+after_name None at name r = and_then (new_setting at name r) (λ setting. Ok (record r { pending = Some (record { setting = setting; at = at }) }))
 
 -- after word `at`, a name alone
 abbrev pub after_alone : ℕ → List ℕ → Said → Result Said WordsError
-after_alone at name r =
-    if bytes_eq name (codes "--trace") then after_trace at r
-    else and_then (new_setting at name r) (λ setting. Ok (record r { pending = Some (record { setting = setting; at = at }) }))
+after_alone at name r = after_name (flag_named name) at name r
 
 -- after word `at`, which must be an option
 abbrev pub after_option : ℕ → List ℕ → Said → Result Said WordsError
@@ -106,7 +111,7 @@ job_of None generate = option_map jobs.Generate generate
 
 -- all that was said, where no value is missing
 abbrev pub options_of : Said → Job → Options
-options_of r job = record { job = job; workers = unwrap_or r.workers 1; budget = unwrap_or r.budget 100000; trace = r.trace }
+options_of r job = record { job = job; workers = unwrap_or r.workers 1; budget = unwrap_or r.budget 100000; flags = r.flags }
 
 abbrev pub completed_behind : Option Pending → ℕ → Said → Result Options WordsError
 completed_behind (Some p) count r = Err (Missing p.at)

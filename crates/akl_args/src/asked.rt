@@ -1,10 +1,11 @@
 //! What the options of the words ask for.
 
 ghost use Rattle.std.specs.Prelude.{◌≡◌, ◌≤◌, IfOk, IfErr, IfSome, Some, ok_or, option_map};
-ghost use Rattle.akl_args.specs.Asked.{rows_in, text_in, number_of, is_traced, SaysIfTraced, job_in, asked_in};
+ghost use Rattle.akl_args.specs.Asked.{rows_in, text_in, number_of, flag_in, flags_in, SaysFlags, job_in, asked_in};
 ghost use Rattle.akl_args.specs.Settings.{most};
 ghost use Rattle.akl_args.specs.Table.{IsRefusalOf};
 
+use crate::flag::{Flag, Flags};
 use crate::options::{Job, Options, WordsError};
 use crate::setting::Setting;
 use akl_terms::Text;
@@ -41,12 +42,24 @@ fn job_in(alloc: Global, matches: &ArgMatches<'_>, count: usize) -> Result<Job, 
     }
 }
 
-// Whether `--trace` came.
-fn is_traced(matches: &ArgMatches<'_>) -> bool
-    requires { SaysIfTraced (rows_in matches.now) }
-    ensures { result ≡ is_traced (rows_in matches.now) }
+// Whether an option without a value came.
+fn flag_in(matches: &ArgMatches<'_>, flag: Flag) -> bool
+    requires { SaysFlags (rows_in matches.now) }
+    ensures { result ≡ flag_in flag (rows_in matches.now) }
 {
-    matches.get_flag("trace")
+    matches.get_flag(flag.id())
+}
+
+// Which options without a value came.
+fn flags_in(matches: &ArgMatches<'_>) -> Flags
+    requires { SaysFlags (rows_in matches.now) }
+    ensures { result ≡ flags_in (rows_in matches.now) }
+{
+    Flags {
+        trace: flag_in(matches, Flag::Trace),
+        why: flag_in(matches, Flag::Why),
+        model: flag_in(matches, Flag::Model),
+    }
 }
 
 /// What the options of so many words ask for. `Missing` is at the number of words, where nothing is to be run.
@@ -55,7 +68,7 @@ pub fn options_of(
     matches: &ArgMatches<'_>,
     count: usize,
 ) -> Result<Options, WordsError>
-    requires { SaysIfTraced (rows_in matches.now) }
+    requires { SaysFlags (rows_in matches.now) }
     ensures options { IfOk result (λ options. asked_in (rows_in matches.now) count ≡ Ok options) }
     ensures refusal { IfErr result (IsRefusalOf (asked_in (rows_in matches.now) count)) }
 {
@@ -63,6 +76,6 @@ pub fn options_of(
         job: job_in(alloc, matches, count)?,
         workers: number_of(matches, Setting::Workers).unwrap_or(1) as u32,
         budget: number_of(matches, Setting::Budget).unwrap_or(100_000),
-        trace: is_traced(matches),
+        flags: flags_in(matches),
     })
 }

@@ -5,6 +5,7 @@ ghost use Rattle.akl_args.specs.Batches.{name_for_query, word_for_query, has_too
 ghost use Rattle.akl_args.specs.Limits.{IsWithinLimits};
 ghost use Rattle.akl_args.specs.Table.{reading, IsRefusalOf};
 
+use crate::flag::flag_named;
 use crate::options::{Job, Options, WordsError};
 use crate::queries::queries_in;
 use crate::words::read_words;
@@ -31,7 +32,8 @@ fn name_for_query(name: &str) -> &str
 {
     match name {
         "--batch" => "--query",
-        "--query" | "--generate" | "--trace" => "--",
+        "--query" | "--generate" => "--",
+        _ if flag_named(name).is_some() => "--",
         _ => name,
     }
 }
@@ -100,7 +102,7 @@ fn batch_of(options: Options, count: usize) -> Result<BatchOptions, WordsError>
         job,
         workers,
         budget,
-        trace: _,
+        flags: _,
     } = options;
     match job {
         Job::Query(text) => Ok(BatchOptions {

@@ -2,8 +2,9 @@
 
 ghost use Rattle.std.specs.Prelude.{◌≡◌, IfOk, IfErr, map, string_bytes, true};
 ghost use Rattle.clap.specs.Words.{HasMatchesOf, app_of, takes, kind_of};
-ghost use Rattle.akl_args.specs.Command.{table, plain, with_setting, with_trace};
+ghost use Rattle.akl_args.specs.Command.{table, plain, with_setting, with_flag};
 
+use crate::flag::Flag;
 use crate::setting::Setting;
 use clap::error::ErrorKind;
 use clap::{Arg, ArgAction, ArgMatches, Command, Error};
@@ -30,18 +31,15 @@ fn with_setting<'a>(
     command.arg(Arg::new(alloc, id).long(id).action(ArgAction::Set))
 }
 
-// With `--trace`.
-fn with_trace<'a>(alloc: Global, command: Command<'a>) -> Result<Command<'a>, AllocError>
-    ensures { IfOk result (λ c. app_of c ≡ with_trace (app_of command.entry)) }
+// With an option that has no value.
+fn with_flag<'a>(alloc: Global, command: Command<'a>, flag: Flag) -> Result<Command<'a>, AllocError>
+    ensures { IfOk result (λ c. app_of c ≡ with_flag (app_of command.entry) flag) }
 {
-    command.arg(
-        Arg::new(alloc, "trace")
-            .long("trace")
-            .action(ArgAction::SetTrue),
-    )
+    let id = flag.id();
+    command.arg(Arg::new(alloc, id).long(id).action(ArgAction::SetTrue))
 }
 
-// The command with its five options.
+// The command with its options.
 fn table<'a>(alloc: Global) -> Result<Command<'a>, AllocError>
     ensures { IfOk result (λ c. app_of c ≡ table) }
 {
@@ -49,7 +47,9 @@ fn table<'a>(alloc: Global) -> Result<Command<'a>, AllocError>
     let command = with_setting(alloc, command, Setting::Generate)?;
     let command = with_setting(alloc, command, Setting::Workers)?;
     let command = with_setting(alloc, command, Setting::Budget)?;
-    with_trace(alloc, command)
+    let command = with_flag(alloc, command, Flag::Trace)?;
+    let command = with_flag(alloc, command, Flag::Why)?;
+    with_flag(alloc, command, Flag::Model)
 }
 
 /// The options of words that the command takes, with their values. It fails for want of memory alone.

@@ -1,5 +1,6 @@
 //! What a command line asks for, and why it is refused.
 
+use crate::flag::Flags;
 use akl_terms::Text;
 use std::alloc::AllocError;
 
@@ -21,8 +22,8 @@ pub struct Options {
     pub workers: u32,
     /// The most steps of the run, from 1 to 4,000,000; 100,000 where no word says it.
     pub budget: u64,
-    /// Whether each step is shown.
-    pub trace: bool,
+    /// Which options without a value are given.
+    pub flags: Flags,
 }
 
 /// Why the words of a command line are refused. Words are numbered from 0.

@@ -1,8 +1,9 @@
 //! The test of the words, which keeps which options came and not their values.
 
 ghost use Rattle.std.specs.Prelude.{◌≡◌, IfErr, None, Some, OnOk, map, string_bytes};
-ghost use Rattle.akl_args.specs.Seen.{nothing_seen, is_seen, with_seen, seen_setting, seen_joined, seen_alone, seen_option, seen_value, seen_word, seen_trace, seen_set, refusal_of};
+ghost use Rattle.akl_args.specs.Seen.{nothing_seen, is_seen, with_seen, seen_setting, seen_joined, seen_alone, seen_option, seen_value, seen_word, seen_flag, seen_set, refusal_of};
 
+use crate::flag::{Flag, Flags, flag_named};
 use crate::options::WordsError;
 use crate::setting::{Setting, setting_named};
 
@@ -20,7 +21,7 @@ pub struct Seen {
     pub generate: bool,
     pub workers: bool,
     pub budget: bool,
-    pub trace: bool,
+    pub flags: Flags,
     pub pending: Option<Pending>,
 }
 
@@ -34,7 +35,7 @@ impl Seen {
             generate: false,
             workers: false,
             budget: false,
-            trace: false,
+            flags: Flags::none(),
             pending: None,
         }
     }
@@ -85,8 +86,8 @@ impl Seen {
     fn alone(self, at: usize, word: &str) -> Result<Self, WordsError>
         ensures { result ≡ seen_alone at word.now self }
     {
-        if word == "--trace" {
-            return self.traced(at);
+        if let Some(flag) = flag_named(word) {
+            return self.flagged(at, flag);
         }
         let setting = self.new_setting(at, word)?;
         Ok(Seen {
@@ -117,15 +118,15 @@ impl Seen {
         }
     }
 
-    // The option `--trace`.
-    fn traced(self, at: usize) -> Result<Self, WordsError>
-        ensures { result ≡ seen_trace at self }
+    // An option without a value.
+    fn flagged(self, at: usize, flag: Flag) -> Result<Self, WordsError>
+        ensures { result ≡ seen_flag at flag self }
     {
-        if self.trace {
+        if self.flags.has(flag) {
             return Err(WordsError::Repeated { at });
         }
         Ok(Seen {
-            trace: true,
+            flags: self.flags.with(flag),
             ..self
         })
     }

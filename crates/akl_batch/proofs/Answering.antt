@@ -1,9 +1,10 @@
 -- The answer to one query.
-use Rattle.std.proofs.Common.{◌≡◌, ◌<◌, ◌≤◌, ℕ, List, [], ◌++◌, length, map, Some, Bool, false, refl, sym, ap, ap₂, subst, ◌∙◌, ◌⊎◌, inl, inr}
+use Rattle.std.proofs.Common.{◌≡◌, ◌<◌, ◌≤◌, ℕ, List, [], ◌++◌, length, map, Some, refl, sym, ap, ap₂, subst, ◌∙◌, ◌⊎◌, inl, inr}
 use Rattle.akl_terms.specs.declared.program.Program.{Program}
 use Rattle.akl_lexemes.specs.declared.error.SyntaxError.{SyntaxError}
 use Rattle.akl_lexemes.specs.declared.error.SyntaxError.TheVariants.{TooLong}
-use Rattle.akl_model.specs.declared.label.Label.{Label}
+use Rattle.akl_args.specs.declared.flag.Flags.{Flags}
+use Rattle.akl_args.specs.Flags.{no_flags}
 use Rattle.akl_run.specs.declared.report.Status.{Status}
 use Rattle.akl_run.specs.declared.report.Refusal.{Refusal}
 use Rattle.akl_run.specs.declared.report.Report.{Report}
@@ -19,7 +20,7 @@ use Rattle.akl_run.specs.Outputs.{Outlet}
 use Rattle.akl_run.specs.Written.{HasWritten}
 use Rattle.akl_run.specs.Stops.{IsStop}
 use Rattle.akl_run.specs.Steps.{IsAnsweredAlone, IsWritten, EndsWriting, whole, fault, memory}
-use Rattle.akl_run.proofs.Evaluated.{run_by, of_loaded}
+use Rattle.akl_run.proofs.Evaluated.{run_of}
 use Rattle.akl_batch.specs.declared.text_sink.TextSink.{TextSink}
 use Rattle.akl_batch.specs.declared.reply.Answer.{Answer}
 use Rattle.akl_batch.specs.Replies.{IsRefusedFor, too_long, unloaded, ran, refused, refused_text, IsAnswer}
@@ -67,7 +68,7 @@ written_whole (whole w) n m = w
 written_whole (fault b) n m = absurd (n refl)
 written_whole (memory b) n m = absurd (m refl)
 
-module _ (l : Loaded) (budget : ℕ) (e : Evaluated) (i : IsEvaluated l 1 budget false e) where
+module _ (l : Loaded) (budget : ℕ) (e : Evaluated) (i : IsEvaluated l 1 budget no_flags e) where
   taken_from : (r : Report) (start sink : TextSink) (a : Answer) → start.bytes.items ≡ [] → IsWritten e (side (Some start.bytes.items) start.faults) (side (Some sink.bytes.items) sink.faults) r → IsTakenFrom r sink a
       → HasWritten e (record { sink = side (Some start.bytes.items) start.faults; written = 0 }) (record { sink = side (Some sink.bytes.items) sink.faults; written = r.written }) r.status → AnswersLoaded l budget a
   taken_from r start sink a none w t h program query short is =
@@ -76,17 +77,12 @@ module _ (l : Loaded) (budget : ℕ) (e : Evaluated) (i : IsEvaluated l 1 budget
       let text : a.text.items ≡ h.text = ap (λ v. v.items) t.is_text ∙ bytes ∙ ap (λ (bs : List ℕ). bs ++ h.text) none in
       ran (record {
         short = short;
-        outcome = h.outcome;
-        is_status = subst (λ (s : Status). IsStatusOf s h.outcome) (sym t.status) h.is_status;
+        run = h.run;
+        is_status = subst (λ (s : Status). IsStatusOf s h.run.outcome) (sym t.status) h.is_status;
         receipts = map (λ rs. rs.items) e.receipts.items;
-        run = record {
-          loaded = l;
-          is_loaded = is;
-          answers = h.answers;
-          run = run_by l 1 budget false e i h.answers h.outcome a.reply.journal.items (map (λ rs. rs.items) e.receipts.items) h.run journal refl;
-          is_text = subst (λ (x : List ℕ). IsRunText l.program.templates.symbols false a.reply.journal.items h.answers h.outcome x) (sym text)
-              (of_loaded l 1 budget false e i (λ (symbols : List (List ℕ)) (trace : Bool) (ls : List Label). IsRunText symbols trace ls h.answers h.outcome h.text) a.reply.journal.items journal h.is_text);
-        };
+        is_run = run_of l 1 budget no_flags e i h.run h.has_run program query is;
+        journal = journal ∙ sym h.has_run.journal;
+        is_text = subst (λ (f : Flags). IsRunText f h.run a.text.items) i.same_flags (subst (IsRunText e.flags h.run) (sym text) h.is_text);
         refusal = t.refusal ∙ w.refusal;
       })
 

@@ -10,7 +10,7 @@ use Rattle.akl_batch.specs.Replies.{IsRefusedFor, too_long, unloaded, HasRun, Is
 -- a query that was run isn't refused
 not_refused : {program query text : List ℕ} {budget : ℕ} {r : Reply} {f : Refusal} → HasRun program query budget r text → IsRefusedFor program query f → ⊥
 not_refused h (too_long long) = let short = h.short in absurd (omega (arith, short, long))
-not_refused h (unloaded s l q) = asked_or_stopped h.run.is_loaded.is_program l h.run.is_loaded.is_query q
+not_refused h (unloaded s l q) = asked_or_stopped h.is_run.is_loaded.is_program l h.is_run.is_loaded.is_query q
 
 second : {A B : Type 0} {P : Type 0} → P ⊎ (A × B) → (P → ⊥) → B
 second (inl p) n = absurd (n p)

@@ -3,11 +3,13 @@ use Rattle.std.specs.Prelude.{◌≡◌, ◌<◌, ◌≤◌, ℕ, List, [], ◌�
 use Rattle.akl_terms.specs.declared.program.Program.{Program}
 use Rattle.akl_lexemes.specs.declared.error.SyntaxError.TheVariants.{TooLong}
 use Rattle.akl_model.specs.declared.label.Receipt.{Receipt}
-use Rattle.akl_model.specs.Derivations.{Outcome}
 use Rattle.akl_run.specs.declared.report.Status.{Status}
 use Rattle.akl_run.specs.declared.report.Refusal.{Refusal}
 use Rattle.akl_run.specs.Loads.{IsLoadedProgram, QueryStops}
 use Rattle.akl_run.specs.Lines.{cause_of}
+use Rattle.akl_args.specs.Flags.{no_flags}
+use Rattle.akl_run.specs.Runs.{Run}
+use Rattle.akl_run.specs.Text.{IsRunText}
 use Rattle.akl_run.specs.Reports.{IsStatusOf, IsRunOf}
 use Rattle.akl_batch.specs.declared.reply.Reply.{Reply}
 use Rattle.akl_batch.specs.declared.reply.Answer.{Answer}
@@ -25,10 +27,12 @@ refused_text f = codes "refused: " ++ cause_of f ++ codes "\n"
 -- the status is its outcome, and this is its text.
 pub record HasRun (program query : List ℕ) (budget : ℕ) (r : Reply) (text : List ℕ) : Type 0 where
   pub short : length query ≤ 10000
-  pub outcome : Outcome
-  pub is_status : IsStatusOf r.status outcome
+  pub run : Run
+  pub is_status : IsStatusOf r.status run.outcome
   pub receipts : List (List Receipt)
-  pub run : IsRunOf program query 1 budget false outcome r.journal.items receipts text
+  pub is_run : IsRunOf program query 1 budget false run receipts
+  pub journal : r.journal.items ≡ run.journal
+  pub is_text : IsRunText no_flags run text
   pub refusal : r.refusal ≡ Refusal.Nothing
 
 -- the query was refused, and this is its line

@@ -52,6 +52,7 @@ fn written(report: Report, sink: TextSink) -> Result<Answer, Stop>
         refusal,
         journal,
         receipts: _,
+        models: _,
         written: _,
     } = report;
     match status {

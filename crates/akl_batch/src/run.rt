@@ -131,7 +131,7 @@ fn report_of<K: Sink>(replies: Vec<Reply>, text: &[u8], out: &mut K) -> BatchRep
 /// and the first refusal ends it: the words; the source, to its end or until it gave one byte more than a program may have; the
 /// program, which is read, checked and loaded; the queries; the writing. At most as many queries as the words say are worked
 /// at at the same time. Each is loaded over a load of the program of its own and run by one worker, within a budget of its own,
-/// and its text is that of `run_akl` without a trace. The gate is called once before each, with its number, counted from 1.
+/// and its text is that of `run_akl` with no flags. The gate is called once before each, with its number, counted from 1.
 ///
 /// - `Done` comes where the text of all replies was written: behind a line with the query's number its text, or a line that
 ///   says why it is refused; last their number. Each reply is its query's own, whatever the others are and do.

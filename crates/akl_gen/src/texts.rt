@@ -2,10 +2,10 @@
 
 ghost use Rattle.std.specs.Prelude.{◌≡◌, ◌≤◌, ◌++◌, IfOk, OnOk, length};
 ghost use Rattle.std.specs.List.{flat_map};
-ghost use Rattle.std.specs.Fmt.{decimal};
 ghost use Rattle.akl_gen.specs.Generated.{lists, behind_comma, separated, query_over, query_text};
 
 use crate::elements::elements_of;
+use line_text::{push_number, push_text};
 use std::alloc::{AllocError, Global};
 
 /// Clauses on lists: two lists joined, a list reversed, and the members of a list.
@@ -65,18 +65,4 @@ fn push_behind_commas(text: &mut Vec<u8>, elements: &[u64]) -> Result<(), AllocE
         push_number(text, *element)?;
     }
     Ok(())
-}
-
-fn push_text(text: &mut Vec<u8>, piece: &str) -> Result<(), AllocError>
-    ensures { OnOk result (text.new.items ≡ text.old.items ++ piece.now) }
-{
-    text.extend_from_slice(piece.as_bytes())
-}
-
-fn push_number(text: &mut Vec<u8>, number: u64) -> Result<(), AllocError>
-    ensures { OnOk result (text.new.items ≡ text.old.items ++ decimal number) }
-{
-    let alloc = *text.allocator();
-    let digits = format!(in alloc; "{number}")?;
-    push_text(text, digits.as_str())
 }

@@ -1,12 +1,13 @@
 -- From a loaded query to what is written of its run.
-use Rattle.std.proofs.Common.{◌≡◌, ℕ, zero, suc, ◌+◌, ◌-◌, ◌≤◌, ◌<◌, List, [], ◌++◌, length, map, Bool, true, false, cond, refl, sym, ◌∙◌, ap, subst, append_assoc, append-nil, arith}
+use Rattle.std.proofs.Common.{◌≡◌, ℕ, zero, suc, ◌+◌, ◌-◌, ◌≤◌, ◌<◌, List, [], ◌++◌, length, map, take, drop, Bool, true, false, cond, refl, sym, ◌∙◌, ap, subst, append_assoc, append-nil, arith}
 use Rattle.std.specs.Prelude.{◌==◌, nat_lt, Result, Ok, Err, IfOk, IfErr}
 use Rattle.std.proofs.lemmas.Bool.Decides.{nat_tests}
-use Rattle.akl_terms.specs.declared.program.Program.{Program}
+use Rattle.std.proofs.lemmas.List.{length-map, take-append-drop}
+use Rattle.std.proofs.Math.Seq.{take-length}
+use Rattle.akl_terms.specs.declared.name.Name.{Name}
 use Rattle.akl_terms.specs.declared.program.Query.{Query}
 use Rattle.akl_model.specs.declared.label.Label.{Label}
-use Rattle.akl_model.specs.declared.label.Receipt.{Receipt}
-use Rattle.akl_model.specs.Config.{Content, Boxes, no_boxes, box}
+use Rattle.akl_model.specs.Config.{Content, Boxes, no_boxes, box, Found}
 use Rattle.akl_model.specs.Changes.{box_names}
 use Rattle.akl_model.specs.Rules.{count_of}
 use Rattle.akl_model.specs.Derivations.{IsQuietEnd, AreAnswers, Outcome, done, failed, suspended, out_of_budget, HasOutcome, is_out_of_budget, is_suspended, is_failed, is_done}
@@ -16,7 +17,9 @@ use Rattle.akl_lift.specs.Lifting.{query_without, made_of_query}
 use Rattle.box_tree.specs.Tables.{all_rules, HasShownVariables, AreBelow}
 use Rattle.step_commit.specs.Cores.{CoreValue, IsCore, TableIn}
 use Rattle.seq_engine.specs.declared.run.End.{End}
-use Rattle.seq_engine.specs.Runs.{EndsAs}
+use Rattle.seq_engine.specs.Runs.{EndsAs, IsQuiet}
+use Rattle.par_workers.specs.Crews.{lists}
+use Rattle.akl_args.specs.declared.flag.Flags.{Flags}
 use Rattle.akl_run.specs.declared.loaded.Loaded.{Loaded}
 use Rattle.akl_run.specs.declared.evaluate.Evaluated.{Evaluated}
 use Rattle.akl_run.specs.declared.ending.Ending.{Ending}
@@ -24,17 +27,18 @@ use Rattle.akl_run.specs.declared.output.Unwritten.{Unwritten}
 use Rattle.akl_run.specs.declared.report.Status.{Status}
 use Rattle.akl_run.specs.Loads.{first_asked, IsLoadedFrom}
 use Rattle.akl_run.specs.Traces.{trace_text}
-use Rattle.akl_run.specs.Text.{outcome_line, IsRunText, of_first, of_all}
+use Rattle.akl_run.specs.Text.{AreOthers, AreWaits, says_waits, IsWaitsText, unsaid, said, outcome_line, IsRunText, in_answers, in_waits, of_begun, of_whole}
 use Rattle.akl_run.specs.Endings.{ending_by, status_by, outcome_by}
-use Rattle.akl_run.specs.Runs.{IsRun}
+use Rattle.akl_run.specs.Runs.{Run, IsRun}
 use Rattle.akl_run.specs.Evaluations.{HasEnded, IsEvaluated}
 use Rattle.akl_run.specs.Outputs.{Outlet, HasAppended, IsCause, HasBrokenOff, PartsOf, ShortOf}
-use Rattle.akl_run.specs.Written.{AreAllTexts, AreFirstTexts, HasWrittenAnswers, ArePartsOfAnswers, IsRunIn, HasWritten, BreaksOff}
+use Rattle.akl_run.specs.Written.{named, AreAllTexts, AreFirstTexts, HasWrittenAnswers, ArePartsOfAnswers, AreFirstWaits, HasWrittenWaits, wrote_nothing, wrote_waits, ArePartsOfWaits, run_in, HasRun, HasWritten, BreaksOff}
 use Rattle.akl_run.specs.Steps.{EndsWriting, whole, fault, memory, status_by_writing}
-use Rattle.akl_run.specs.Reports.{IsStatusOf, AreOfWorkers, IsRunBy}
+use Rattle.akl_run.specs.Reports.{IsStatusOf, AreOfWorkers, IsRunOf}
 use Rattle.akl_run.proofs.ShownTerms.{shown-below}
-use Rattle.akl_run.proofs.Appended.{appended_both, cause_later}
-use Rattle.akl_run.proofs.AllAnswers.{found_none, found_first}
+use Rattle.akl_run.proofs.Appended.{nothing_appended, appended_both, cause_later}
+use Rattle.akl_run.proofs.RootBoxes.{others_roots}
+use Rattle.akl_run.proofs.AllAnswers.{passed_none, passed_first}
 
 pub loaded_shown : (program query : List ℕ) (l : Loaded) → IsLoadedFrom program query l → HasShownVariables l.query
 loaded_shown program query l is =
@@ -95,93 +99,168 @@ module _ (c : CoreValue) (t : TableIn c) (answers : List Content) (a : AreAnswer
 
 -- ---- what was written of a run
 
--- the run of a core, with all answers of its configuration
-abbrev RunOf : CoreValue → End → List Content → Type 0
-RunOf c end answers = IsRun c.table.program c.table.query c.budget c.journal answers (outcome_by (ending_by end (length c.table.roots) (length answers)))
+-- where it is said what waits, no place is ready
+pub says_quiet : (c : CoreValue) (flags : Flags) (end : End) (roots count : ℕ) (ending : Ending) → EndsAs c end → ending ≡ ending_by end roots count → says_waits flags (outcome_by ending) ≡ true → IsQuiet c
+says_quiet c flags End.Quiet roots count ending ends is says = ends
+says_quiet c flags End.Spent roots count ending ends is says = let e : false ≡ true = subst (λ (k : Ending). says_waits flags (outcome_by k) ≡ true) is says in absurd cc
 
-own_run : (c : CoreValue) (i : IsCore c) (answers : List Content) (end : End) → AreAnswers i.table.config.roots answers → EndsAs c end → RunOf c end answers
-own_run c i answers end a e = record { last = i.table.config; replays = i.table.replays; ends = has_outcome c i.table answers a end e; within = i.within }
+-- and it is asked why
+says_why : (flags : Flags) (o : Outcome) → says_waits flags o ≡ true → flags.why ≡ true
+says_why flags done e = absurd cc
+says_why flags failed e = absurd cc
+says_why flags (suspended k) e = e
+says_why flags out_of_budget e = absurd cc
+
+names_of : (why : Bool) (others : List Found) → why ≡ true → named why others ≡ map (λ (f : Found). f.content.name) others
+names_of true others e = refl
+names_of false others e = absurd cc
 
 module _ (e : Evaluated) (h : HasEnded e) (i : IsCore e.core) where
-  abbrev symbols : List (List ℕ)
-  symbols = e.core.table.program.templates.symbols
-
   abbrev traced : List ℕ
-  traced = trace_text e.trace e.core.journal
+  traced = trace_text e.flags.trace e.core.journal
 
-  abbrev outcome_with : List Content → Outcome
-  outcome_with answers = outcome_by (ending_by e.end (length e.core.table.roots) (length answers))
+  abbrev ended_by : ℕ → Ending
+  ended_by count = ending_by e.end (length e.core.table.roots) count
+
+  abbrev run_with : List Content → Run
+  run_with answers = run_in e i.table.config answers (outcome_by (ended_by (length answers)))
+
+  own_run : (answers : List Content) → AreAnswers i.table.config.roots answers → HasRun e (run_with answers)
+  own_run answers a = record {
+    program = refl;
+    journal = refl;
+    models = refl;
+    is_run = record { replays = i.table.replays; ends = has_outcome e.core i.table answers a e.end h.ends; within = i.within; are_models = h.models i.table answers a };
+  }
 
   -- a front of the trace and of the texts of the first answers was written
-  broke_in_answers : {before after : Outlet} {cause : Unwritten} (front rest answered : List ℕ) → AreFirstTexts e.core answered i.table → front ++ rest ≡ traced ++ answered → HasAppended before after front
+  broke_in_answers : {before after : Outlet} {cause : Unwritten} (front rest answered : List ℕ) → AreFirstTexts e answered i.table → front ++ rest ≡ traced ++ answered → HasAppended before after front
       → IsCause before after cause → BreaksOff e before after cause
   broke_in_answers front rest answered f p x k = record {
-    answers = f.first ++ f.left;
-    outcome = outcome_with (f.first ++ f.left);
-    run = own_run e.core i (f.first ++ f.left) e.end f.are_answers h.ends;
+    run = run_with (f.first ++ f.left);
+    has_run = own_run (f.first ++ f.left) f.are_answers;
     front = front;
-    is_front = of_first f.first f.left answered rest refl f.are_texts p;
+    is_front = of_begun rest (in_answers f.first f.left refl f.are_texts) p;
     appended = x;
     is_cause = k;
   }
 
-  pub trace_broke : {before after : Outlet} {cause : Unwritten} (journal : List Label) → journal ≡ e.core.journal → HasBrokenOff (PartsOf (trace_text e.trace journal)) before after cause → BreaksOff e before after cause
-  trace_broke journal j b = broke_in_answers b.front b.rest [] (found_first e.core 0 0 [] (found_none e.core) i.table) (b.are_parts ∙ ap (trace_text e.trace) j ∙ sym (append-nil traced)) b.appended b.is_cause
+  pub trace_broke : {before after : Outlet} {cause : Unwritten} (journal : List Label) → journal ≡ e.core.journal → HasBrokenOff (PartsOf (trace_text e.flags.trace journal)) before after cause → BreaksOff e before after cause
+  trace_broke journal j b =
+      broke_in_answers b.front b.rest [] (passed_first e 0 0 [] [] (passed_none e) i.table) (b.are_parts ∙ ap (trace_text e.flags.trace) j ∙ sym (append-nil traced)) b.appended b.is_cause
 
-  as_traced : {before after : Outlet} (journal : List Label) → journal ≡ e.core.journal → HasAppended before after (trace_text e.trace journal) → HasAppended before after traced
-  as_traced {before} {after} journal j x = subst (λ (ls : List Label). HasAppended before after (trace_text e.trace ls)) j x
+  as_traced : {before after : Outlet} (journal : List Label) → journal ≡ e.core.journal → HasAppended before after (trace_text e.flags.trace journal) → HasAppended before after traced
+  as_traced {before} {after} journal j x = subst (λ (ls : List Label). HasAppended before after (trace_text e.flags.trace ls)) j x
 
-  pub answers_broke : {before middle after : Outlet} {cause : Unwritten} (journal : List Label) → journal ≡ e.core.journal → HasAppended before middle (trace_text e.trace journal)
-      → HasBrokenOff (ArePartsOfAnswers e.core) middle after cause → BreaksOff e before after cause
+  pub answers_broke : {before middle after : Outlet} {cause : Unwritten} (journal : List Label) → journal ≡ e.core.journal → HasAppended before middle (trace_text e.flags.trace journal)
+      → HasBrokenOff (ArePartsOfAnswers e) middle after cause → BreaksOff e before after cause
   answers_broke {before} {middle} {after} {cause} journal j y b =
       let x : HasAppended before middle traced = as_traced journal j y in
       broke_in_answers (traced ++ b.front) b.rest (b.front ++ b.rest) (b.are_parts.are_texts i.table) (append_assoc traced b.front b.rest) (appended_both traced b.front x b.appended) (cause_later before middle after cause x.faults b.is_cause)
 
-  -- the text of the run, with its last line
-  abbrev ended_by : ℕ → Ending
-  ended_by count = ending_by e.end (length e.core.table.roots) count
+  -- the trace and all answers were written, so many of them, and the other root boxes have these names
+  module _ {before middle further : Outlet} (journal : List Label) (j : journal ≡ e.core.journal) (count : ℕ) (names : List Name) (ending : Ending) (k : ending ≡ ended_by count)
+      (y : HasAppended before middle (trace_text e.flags.trace journal)) (w : HasWrittenAnswers e names middle further count) where
+    all : AreAllTexts e count names w.text i.table
+    all = w.are_texts i.table
 
-  abbrev last_line : ℕ → List ℕ
-  last_line count = outcome_line (outcome_by (ended_by count))
+    abbrev run : Run
+    run = run_with all.answers
 
-  whole_text : (count : ℕ) (answered : List ℕ) (w : AreAllTexts e.core count answered i.table) → IsRunText symbols e.trace e.core.journal w.answers (outcome_with w.answers) (traced ++ answered ++ last_line count)
-  whole_text count answered w =
-      subst (λ (n : ℕ). IsRunText symbols e.trace e.core.journal w.answers (outcome_with w.answers) (traced ++ answered ++ last_line n)) (sym w.counted)
-      (record { answered = answered; are_texts = w.are_texts; whole = refl })
+    answers_run : HasRun e run
+    answers_run = own_run all.answers all.are_answers
 
-  pub ending_broke : {before middle further after : Outlet} {cause : Unwritten} (journal : List Label) → journal ≡ e.core.journal → (count : ℕ) (ending : Ending) → ending ≡ ended_by count
-      → HasAppended before middle (trace_text e.trace journal) → HasWrittenAnswers e.core middle further count → HasBrokenOff (ShortOf (outcome_line (outcome_by ending))) further after cause → BreaksOff e before after cause
-  ending_broke {before} {middle} {further} {after} {cause} journal j count ending k z w u =
-      let x : HasAppended before middle traced = as_traced journal j z in
-      let b : HasBrokenOff (ShortOf (last_line count)) further after cause = subst (λ (n : Ending). HasBrokenOff (ShortOf (outcome_line (outcome_by n))) further after cause) k u in
-      let all : AreAllTexts e.core count w.text i.table = w.are_texts i.table in
-      let y : HasAppended before further (traced ++ w.text) = appended_both traced w.text x w.appended in
-      record {
-        answers = all.answers;
-        outcome = outcome_with all.answers;
-        run = own_run e.core i all.answers e.end all.are_answers h.ends;
-        front = (traced ++ w.text) ++ b.front;
-        is_front = of_all ((traced ++ w.text) ++ last_line count) b.rest (whole_text count w.text all)
-            (append_assoc (traced ++ w.text) b.front b.rest ∙ ap (λ (xs : List ℕ). (traced ++ w.text) ++ xs) b.are_parts.whole) b.are_parts.more;
-        appended = appended_both (traced ++ w.text) b.front y b.appended;
-        is_cause = cause_later before further after cause y.faults b.is_cause;
+    is_outcome : outcome_by ending ≡ run.outcome
+    is_outcome = ap outcome_by (k ∙ ap ended_by all.counted)
+
+    abbrev says : Bool
+    says = says_waits e.flags (outcome_by ending)
+
+    says_same : says ≡ says_waits e.flags run.outcome
+    says_same = ap (says_waits e.flags) is_outcome
+
+    answers_appended : HasAppended before further (traced ++ w.text)
+    answers_appended = appended_both traced w.text (as_traced journal j y) w.appended
+
+    names_are : says ≡ true → map (λ (f : Found). f.content.name) all.others ≡ names
+    names_are s = sym (all.are_named ∙ names_of e.flags.why all.others (says_why e.flags (outcome_by ending) s))
+
+    -- the first of the others
+    first_waits : (n : ℕ) (text : List ℕ) → says ≡ true → AreFirstWaits e.core names n text → AreWaits e.core.table.program 0 (take n all.others) text
+    first_waits n text s f = f i.table all.others (others_roots e.core i.table all.others all.are_others) (names_are s)
+
+    pub waits_broke : {after : Outlet} {cause : Unwritten} → HasBrokenOff (ArePartsOfWaits e.core names says) further after cause → BreaksOff e before after cause
+    waits_broke {after} {cause} b =
+        let s : says ≡ true = b.are_parts.is_said in
+        let parts : take b.are_parts.count all.others ++ drop b.are_parts.count all.others ≡ all.others = take-append-drop b.are_parts.count all.others in
+        record {
+          run = run;
+          has_run = answers_run;
+          front = (traced ++ w.text) ++ b.front;
+          is_front = of_begun b.rest (in_waits (take b.are_parts.count all.others) (drop b.are_parts.count all.others) all.are_texts (sym says_same ∙ s)
+              (subst (AreOthers i.table.config.roots) (sym parts) all.are_others) (first_waits b.are_parts.count (b.front ++ b.rest) s b.are_parts.are_waits))
+              (append_assoc (traced ++ w.text) b.front b.rest);
+          appended = appended_both (traced ++ w.text) b.front answers_appended b.appended;
+          is_cause = cause_later before further after cause answers_appended.faults b.is_cause;
+        }
+
+    -- what was written of the others
+    record WroteWaits (after : Outlet) : Type 0 where
+      pub text : List ℕ
+      pub appended : HasAppended further after text
+      pub is_text : IsWaitsText run (says_waits e.flags run.outcome) text
+
+    all_taken : (names : List Name) → map (λ (f : Found). f.content.name) all.others ≡ names → take (length names) all.others ≡ all.others
+    all_taken names n =
+        ap (λ (m : ℕ). take m all.others) (sym (sym (length-map all.others (λ (f : Found). f.content.name)) ∙ ap length n)) ∙ take-length all.others
+
+    wrote_waits_so : {after : Outlet} (said : Bool) → said ≡ says → HasWrittenWaits e.core names further after said → WroteWaits after
+    wrote_waits_so _ s (wrote_nothing e') = record {
+      text = [];
+      appended = subst (λ (o : Outlet). HasAppended further o []) (sym e') (nothing_appended further);
+      is_text = subst (λ (b : Bool). IsWaitsText run b []) (s ∙ says_same) unsaid;
+    }
+    wrote_waits_so _ s (wrote_waits text x f) = record {
+      text = text;
+      appended = x;
+      is_text = subst (λ (b : Bool). IsWaitsText run b text) (s ∙ says_same)
+          (said all.are_others (subst (λ (fs : List Found). AreWaits e.core.table.program 0 fs text) (all_taken names (names_are (sym s))) (first_waits (length names) text (sym s) f)));
+    }
+
+    -- the text of the run, with its last line
+    abbrev last_line : List ℕ
+    last_line = outcome_line (outcome_by ending)
+
+    module _ {later : Outlet} (v : HasWrittenWaits e.core names further later says) where
+      waits : WroteWaits later
+      waits = wrote_waits_so says refl v
+
+      whole_text : IsRunText e.flags run (traced ++ w.text ++ waits.text ++ last_line)
+      whole_text = record { answered = w.text; are_answers = all.are_texts; waiting = waits.text; are_waits = waits.is_text; whole = ap (λ (o : Outcome). traced ++ w.text ++ waits.text ++ outcome_line o) is_outcome }
+
+      waits_appended : HasAppended before later (traced ++ w.text ++ waits.text)
+      waits_appended = appended_both (traced ++ w.text) waits.text answers_appended waits.appended
+
+      pub ending_broke : {after : Outlet} {cause : Unwritten} → HasBrokenOff (ShortOf last_line) later after cause → BreaksOff e before after cause
+      ending_broke {after} {cause} b = record {
+        run = run;
+        has_run = answers_run;
+        front = (traced ++ w.text ++ waits.text) ++ b.front;
+        is_front = of_whole b.rest whole_text
+            (append_assoc (traced ++ w.text ++ waits.text) b.front b.rest ∙ ap (λ (xs : List ℕ). (traced ++ w.text ++ waits.text) ++ xs) b.are_parts.whole) b.are_parts.more;
+        appended = appended_both (traced ++ w.text ++ waits.text) b.front waits_appended b.appended;
+        is_cause = cause_later before later after cause waits_appended.faults b.is_cause;
       }
 
-  pub wrote_whole : {before middle further after : Outlet} (journal : List Label) → journal ≡ e.core.journal → (count : ℕ) (ending : Ending) → ending ≡ ended_by count
-      → HasAppended before middle (trace_text e.trace journal) → HasWrittenAnswers e.core middle further count → HasAppended further after (outcome_line (outcome_by ending)) → HasWritten e before after (status_by ending)
-  wrote_whole {before} {middle} {further} {after} journal j count ending k y w u =
-      let x : HasAppended before middle traced = as_traced journal j y in
-      let z : HasAppended further after (last_line count) = subst (λ (n : Ending). HasAppended further after (outcome_line (outcome_by n))) k u in
-      let all : AreAllTexts e.core count w.text i.table = w.are_texts i.table in
-      subst (λ (n : Ending). HasWritten e before after (status_by n)) (sym k) (record {
-        answers = all.answers;
-        outcome = outcome_with all.answers;
-        is_status = subst (λ (n : ℕ). IsStatusOf (status_by (ended_by count)) (outcome_by (ended_by n))) all.counted (status_of (ended_by count));
-        run = own_run e.core i all.answers e.end all.are_answers h.ends;
-        text = traced ++ w.text ++ last_line count;
-        is_text = whole_text count w.text all;
-        appended = appended_both (traced ++ w.text) (last_line count) (appended_both traced w.text x w.appended) z;
-      })
+      pub wrote_whole : {after : Outlet} → HasAppended later after last_line → HasWritten e before after (status_by ending)
+      wrote_whole x = record {
+        run = run;
+        has_run = answers_run;
+        is_status = subst (IsStatusOf (status_by ending)) is_outcome (status_of ending);
+        text = traced ++ w.text ++ waits.text ++ last_line;
+        is_text = whole_text;
+        appended = appended_both (traced ++ w.text ++ waits.text) last_line waits_appended x;
+      }
 
 -- the last line isn't empty
 pub some_line : (e : Ending) → 0 < length (outcome_line (outcome_by e))
@@ -191,23 +270,16 @@ some_line (Ending.Suspended left) = omega arith
 some_line Ending.Budget = omega arith
 
 -- ---- a run of a loaded query
-module _ (l : Loaded) (workers budget : ℕ) (trace : Bool) (e : Evaluated) (i : IsEvaluated l workers budget trace e) where
-  pub run_by : (answers : List Content) (outcome : Outcome) (journal : List Label) (receipts : List (List Receipt)) → IsRunIn e answers outcome → journal ≡ e.core.journal → receipts ≡ map (λ rs. rs.items) e.receipts.items
-      → IsRunBy l workers budget answers outcome journal receipts
-  run_by answers outcome journal receipts run j r = record {
-    run = subst (λ (ls : List Label). IsRun l.program l.query budget ls answers outcome) (sym j)
-        (subst (λ (b : ℕ). IsRun l.program l.query b e.core.journal answers outcome) i.same_budget
-        (subst (λ (q : Query). IsRun l.program q e.core.budget e.core.journal answers outcome) i.query
-        (subst (λ (p : Program). IsRun p e.core.table.query e.core.budget e.core.journal answers outcome) i.program run)));
-    of_workers = subst (λ (ls : List Label). AreOfWorkers workers ls receipts) (sym j) (subst (AreOfWorkers workers e.core.journal) (sym r) i.of_workers);
+module _ (l : Loaded) (workers budget : ℕ) (flags : Flags) (e : Evaluated) (i : IsEvaluated l workers budget flags e) (r : Run) (h : HasRun e r) where
+  pub run_of : (program query : List ℕ) → IsLoadedFrom program query l → IsRunOf program query workers budget flags.model r (lists e.receipts.items)
+  run_of program query is = record {
+    loaded = l;
+    is_loaded = is;
+    is_program = h.program ∙ i.program;
+    run = subst (λ (f : Flags). IsRun l.query budget f.model r) i.same_flags
+        (subst (λ (b : ℕ). IsRun l.query b e.flags.model r) i.same_budget (subst (λ (q : Query). IsRun q e.core.budget e.flags.model r) i.query h.is_run));
+    of_workers = subst (λ (ls : List Label). AreOfWorkers workers ls (lists e.receipts.items)) (sym h.journal) i.of_workers;
   }
-
-  -- what holds of the symbols, the trace and the journal of the run holds of those of the query
-  pub of_loaded : (P : List (List ℕ) → Bool → List Label → Type 0) (journal : List Label) → journal ≡ e.core.journal → P e.core.table.program.templates.symbols e.trace e.core.journal → P l.program.templates.symbols trace journal
-  of_loaded P journal j x =
-      subst (λ (ls : List Label). P l.program.templates.symbols trace ls) (sym j)
-      (subst (λ (b : Bool). P l.program.templates.symbols b e.core.journal) i.same_trace
-      (subst (λ (p : Program). P p.templates.symbols e.trace e.core.journal) i.program x))
 
 -- how the writing ended, by its result
 pub writing_ended : (e : Evaluated) (before after : Outlet) (r : Result Status Unwritten) → IfOk r (HasWritten e before after) → IfErr r (BreaksOff e before after) → EndsWriting e before after (status_by_writing r)

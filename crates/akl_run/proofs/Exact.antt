@@ -247,7 +247,7 @@ module _ (c : Command) where
   has_outcome e w works memory = on w.writing memory
     where
       on : {s : Status} → EndsWriting e (record { sink = c.sink; written = 0 }) (record { sink = c.sink_after; written = c.report.written }) s → (s ≡ Status.NoMemory → ⊥) → IsOutcome s
-      on {s} (steps.whole h) m = status_runs s h.outcome h.is_status
+      on {s} (steps.whole h) m = status_runs s h.run.outcome h.is_status
       on (steps.fault b) m = absurd (both c.sink c.sink_after works b.is_cause)
       on (steps.memory b) m = absurd (m refl)
 

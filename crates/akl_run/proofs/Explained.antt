@@ -1,9 +1,8 @@
 -- What a report says follows from how its command ended.
-use Rattle.std.proofs.Common.{◌≡◌, ℕ, ◌+◌, List, length, map, Bool, refl, sym, ◌∙◌, ap, subst, ◌⊎◌, inl, inr, Vec, Global, arith}
-use Rattle.akl_model.specs.declared.label.Label.{Label}
+use Rattle.std.proofs.Common.{◌≡◌, ℕ, ◌+◌, List, length, map, refl, sym, ◌∙◌, ap, subst, ◌⊎◌, inl, inr, Vec, Global, arith}
 use Rattle.akl_model.specs.declared.label.Receipt.{Receipt}
-use Rattle.akl_model.specs.Config.{Content}
-use Rattle.akl_model.specs.Derivations.{Outcome}
+use Rattle.tree_models.specs.declared.model.TreeModel.{TreeModel}
+use Rattle.akl_args.specs.declared.flag.Flags.{Flags}
 use Rattle.akl_run.specs.declared.report.Status.{Status}
 use Rattle.akl_run.specs.declared.report.Refusal.{Refusal}
 use Rattle.akl_run.specs.declared.evaluate.Evaluated.{Evaluated}
@@ -11,14 +10,16 @@ use Rattle.akl_run.specs.declared.output.Unwritten.{Unwritten}
 use Rattle.akl_run.specs.declared.stop.Stop.{Stop}
 use Rattle.akl_run.specs.Loads as loads
 use Rattle.akl_run.specs.Text.{IsRunText, IsRunFront}
-use Rattle.akl_run.specs.Reports.{IsStatusOf, IsRunBy}
+use Rattle.akl_run.specs.Runs.{Run}
+use Rattle.akl_run.specs.Words.{query_of}
+use Rattle.akl_run.specs.Reports.{IsStatusOf, IsRunOf}
 use Rattle.akl_run.specs.Reports as reports
-use Rattle.akl_run.specs.Commands.{Side, HasFaulted, Command, Stops, by_words, by_reading, by_program, by_query, by_run, WroteRun, WrotePart, WroteNothing, RanOut, before_writing, in_writing, IsEarly, IsLate, IsOutcome}
+use Rattle.akl_run.specs.Commands.{Side, HasFaulted, Command, Stops, by_words, by_reading, by_program, by_query, by_run, ReportsRun, WroteRun, WrotePart, WroteNothing, RanOut, before_writing, in_writing, IsEarly, IsLate, IsOutcome}
 use Rattle.akl_run.specs.Commands as commands
 use Rattle.akl_run.specs.Outputs.{Outlet}
-use Rattle.akl_run.specs.Written.{IsRunIn, HasWritten, BreaksOff}
+use Rattle.akl_run.specs.Written.{HasRun, HasWritten, BreaksOff}
 use Rattle.akl_run.specs.Steps.{IsRunAs, IsStopped, IsWritten, EndsWriting, whole, fault, memory}
-use Rattle.akl_run.proofs.Evaluated.{run_by, of_loaded}
+use Rattle.akl_run.proofs.Evaluated.{run_of}
 
 -- how a command ended: it stopped early, or its run was written, or a front of it
 pub data Ended (c : Command) : Type 0 where
@@ -103,7 +104,7 @@ module _ (words : List (List ℕ)) (before after : Side) where
 -- how a run's writing ended
 module _ (e : Evaluated) (before after : Outlet) where
   writing_late : {s : Status} → EndsWriting e before after s → IsLate s
-  writing_late {s} (whole w) = late_run s (status_runs s w.outcome w.is_status)
+  writing_late {s} (whole w) = late_run s (status_runs s w.run.outcome w.is_status)
   writing_late (fault b) = tt
   writing_late (memory b) = tt
 
@@ -113,7 +114,7 @@ module _ (e : Evaluated) (before after : Outlet) where
   written_whole (memory b) d = absurd d
 
   not_outcome : {s : Status} → HasWritten e before after s → (IsOutcome s → ⊥) → ⊥
-  not_outcome {s} w n = n (status_runs s w.outcome w.is_status)
+  not_outcome {s} w n = n (status_runs s w.run.outcome w.is_status)
 
   at_fault : {s : Status} → EndsWriting e before after s → s ≡ Status.WriteFault → BreaksOff e before after Unwritten.Fault
   at_fault (whole w) d = absurd (not_outcome w (λ o. subst IsOutcome d o))
@@ -145,7 +146,7 @@ module _ (c : Command) where
       on (inr m) = n m.0
 
   unwritten : (stop : Stop) → IsStopped stop c.report → c.sink_after.bytes ≡ c.sink.bytes → WroteNothing c
-  unwritten stop s w = record { journal = s.journal; receipts = s.receipts; count = s.written; same = w }
+  unwritten stop s w = record { journal = s.journal; receipts = s.receipts; models = s.models; count = s.written; same = w }
 
   late_written : (e : Evaluated) → IsWritten e c.sink c.sink_after c.report → IsLate c.report.status
   late_written e w = writing_late e start end w.writing
@@ -163,27 +164,26 @@ module _ (c : Command) where
   counted : (n : ℕ) → c.report.written ≡ 0 + n → c.report.written ≡ n
   counted n h = omega (arith, h)
 
-  run_of : (e : Evaluated) (q : IsRunAs c.words c.source c.source_after e) → IsWritten e c.sink c.sink_after c.report → (answers : List Content) (outcome : Outcome) → IsRunIn e answers outcome
-      → IsRunBy q.loaded q.options.workers q.options.budget answers outcome c.report.journal.items (map (λ rs. rs.items) c.report.receipts.items)
-  run_of e q w answers outcome r =
-      run_by q.loaded q.options.workers q.options.budget q.options.trace e q.run answers outcome c.report.journal.items (map (λ rs. rs.items) c.report.receipts.items) r w.journal (ap (λ (v : Vec (Vec Receipt Global) Global). map (λ (rs : Vec Receipt Global). rs.items) v.items) w.receipts)
+  -- the report of a run that was written, or of which a front was
+  reports_run : (e : Evaluated) (q : IsRunAs c.words c.source c.source_after e) → IsWritten e c.sink c.sink_after c.report → (r : Run) → HasRun e r → ReportsRun c q.options r
+  reports_run e q w r h = record {
+    program = q.program;
+    asked = q.asked;
+    given = q.given;
+    is_run = subst (λ (v : Vec (Vec Receipt Global) Global). IsRunOf q.program (query_of q.options) q.options.workers q.options.budget q.options.flags.model r (map (λ rs. rs.items) v.items)) (sym w.receipts)
+        (run_of q.loaded q.options.workers q.options.budget q.options.flags e q.run r h q.program (query_of q.options) q.is_loaded);
+    journal = w.journal ∙ sym h.journal;
+    models = ap (λ (v : Vec TreeModel Global). v.items) w.models ∙ sym h.models;
+  }
 
   whole_run : (e : Evaluated) → IsRunAs c.words c.source c.source_after e → IsWritten e c.sink c.sink_after c.report → HasWritten e start end c.report.status → WroteRun c
   whole_run e q w h = record {
     options = q.options;
-    program = q.program;
-    asked = q.asked;
-    given = q.given;
-    outcome = h.outcome;
+    run = h.run;
+    reports = reports_run e q w h.run h.has_run;
     is_status = h.is_status;
     text = h.text;
-    run = record {
-      loaded = q.loaded;
-      is_loaded = q.is_loaded;
-      answers = h.answers;
-      run = run_of e q w h.answers h.outcome h.run;
-      is_text = of_loaded q.loaded q.options.workers q.options.budget q.options.trace e q.run (λ (symbols : List (List ℕ)) (trace : Bool) (journal : List Label). IsRunText symbols trace journal h.answers h.outcome h.text) c.report.journal.items w.journal h.is_text;
-    };
+    is_text = subst (λ (f : Flags). IsRunText f h.run h.text) q.run.same_flags h.is_text;
     wrote = h.appended.bytes;
     count = counted (length h.text) h.appended.counted;
   }
@@ -196,18 +196,10 @@ module _ (c : Command) where
   part_run : (e : Evaluated) → IsRunAs c.words c.source c.source_after e → IsWritten e c.sink c.sink_after c.report → (cause : Unwritten) → BreaksOff e start end cause → WrotePart c
   part_run e q w cause b = record {
     options = q.options;
-    program = q.program;
-    asked = q.asked;
-    given = q.given;
-    outcome = b.outcome;
+    run = b.run;
+    reports = reports_run e q w b.run b.has_run;
     front = b.front;
-    run = record {
-      loaded = q.loaded;
-      is_loaded = q.is_loaded;
-      answers = b.answers;
-      run = run_of e q w b.answers b.outcome b.run;
-      is_front = of_loaded q.loaded q.options.workers q.options.budget q.options.trace e q.run (λ (symbols : List (List ℕ)) (trace : Bool) (journal : List Label). IsRunFront symbols trace journal b.answers b.outcome b.front) c.report.journal.items w.journal b.is_front;
-    };
+    is_front = subst (λ (f : Flags). IsRunFront f b.run b.front) q.run.same_flags b.is_front;
     wrote = b.appended.bytes;
     count = counted (length b.front) b.appended.counted;
   }

@@ -1,6 +1,9 @@
 pub mod ShownTerms
 pub mod Appended
+pub mod RootBoxes
 pub mod AllAnswers
+pub mod AllModels
+pub mod AllWaits
 pub mod Evaluated
 pub mod Explained
 pub mod Loading

@@ -4,7 +4,6 @@ use Rattle.std.specs.Io.KnownBytes.{prepend_known, append_known}
 use Rattle.akl_outside.specs.Counts.{Rose, next_count}
 use Rattle.akl_outside.specs.Transfer.{ReadSome}
 use Rattle.akl_terms.specs.declared.program.Program.{Program}
-use Rattle.akl_model.specs.Derivations.{Outcome}
 use Rattle.akl_lexemes.specs.declared.error.SyntaxError.TheVariants.{TooLong}
 use Rattle.akl_run.specs.declared.report.Status.{Status}
 use Rattle.akl_run.specs.declared.report.Refusal.{Refusal}
@@ -15,7 +14,9 @@ use Rattle.akl_args.specs.declared.options.WordsError.{WordsError}
 use Rattle.akl_args.specs.Table.{reading}
 use Rattle.akl_run.specs.Words.{query_of, program_of}
 use Rattle.akl_run.specs.Loads.{IsLoadedProgram, ProgramStops, QueryStops, IsLoadedFrom}
-use Rattle.akl_run.specs.Reports.{IsStatusOf, IsRunOf, BeginsRunOf, RunStops}
+use Rattle.akl_run.specs.Runs.{Run}
+use Rattle.akl_run.specs.Text.{IsRunText, IsRunFront}
+use Rattle.akl_run.specs.Reports.{IsStatusOf, IsRunOf, RunStops}
 
 -- What is seen of a source or of a sink: the bytes still to come, or taken so far, where they are known, and how many
 -- of its calls failed.
@@ -132,28 +133,33 @@ IsComplete c = (o : Options) (program : List ℕ) (l : Loaded) → Asks c o prog
 
 -- ---- what was written
 
--- the run of the words' query over its program was written whole: what was appended is the text of the answered journal
+-- the report is of this run, which is that of the words' query over its program: it has its journal and its models
+pub record ReportsRun (c : Command) (o : Options) (r : Run) : Type 0 where
+  pub program : List ℕ
+  pub asked : IsAskedBy c.words o
+  pub given : IsGiven (program_of o) c.source c.source_after program
+  pub is_run : IsRunOf program (query_of o) o.workers o.budget o.flags.model r (map (λ rs. rs.items) c.report.receipts.items)
+  pub journal : c.report.journal.items ≡ r.journal
+  pub models : c.report.models.items ≡ r.models
+
+-- the run was written whole: what was appended is its text
 pub record WroteRun (c : Command) : Type 0 where
   pub options : Options
-  pub program : List ℕ
-  pub asked : IsAskedBy c.words options
-  pub given : IsGiven (program_of options) c.source c.source_after program
-  pub outcome : Outcome
-  pub is_status : IsStatusOf c.report.status outcome
+  pub run : Run
+  pub reports : ReportsRun c options run
+  pub is_status : IsStatusOf c.report.status run.outcome
   pub text : List ℕ
-  pub run : IsRunOf program (query_of options) options.workers options.budget options.trace outcome c.report.journal.items (map (λ rs. rs.items) c.report.receipts.items) text
+  pub is_text : IsRunText options.flags run text
   pub wrote : c.sink_after.bytes ≡ append_known c.sink.bytes text
   pub count : c.report.written ≡ length text
 
 -- a front of the text was written, of as much of it as was made
 pub record WrotePart (c : Command) : Type 0 where
   pub options : Options
-  pub program : List ℕ
-  pub asked : IsAskedBy c.words options
-  pub given : IsGiven (program_of options) c.source c.source_after program
-  pub outcome : Outcome
+  pub run : Run
+  pub reports : ReportsRun c options run
   pub front : List ℕ
-  pub run : BeginsRunOf program (query_of options) options.workers options.budget options.trace outcome c.report.journal.items (map (λ rs. rs.items) c.report.receipts.items) front
+  pub is_front : IsRunFront options.flags run front
   pub wrote : c.sink_after.bytes ≡ append_known c.sink.bytes front
   pub count : c.report.written ≡ length front
 
@@ -161,6 +167,7 @@ pub record WrotePart (c : Command) : Type 0 where
 pub record WroteNothing (c : Command) : Type 0 where
   pub journal : c.report.journal.items ≡ []
   pub receipts : c.report.receipts.items ≡ []
+  pub models : c.report.models.items ≡ []
   pub count : c.report.written ≡ 0
   pub same : c.sink_after.bytes ≡ c.sink.bytes
 
@@ -168,7 +175,7 @@ pub record WroteNothing (c : Command) : Type 0 where
 pub data RanOut (c : Command) : Type 0 where
   -- No run is answered, nothing was written, and memory was wanting at one of the steps.
   before_writing : WroteNothing c → Stops c.words c.source c.source_after c.report.status c.report.refusal → RanOut c
-  -- The run had ended: the journal is the run's, and a front of its text was written.
+  -- The run had ended, and its models were made: the journal is the run's, and a front of its text was written.
   in_writing : WrotePart c → RanOut c
 
 -- the statuses with which no run is answered

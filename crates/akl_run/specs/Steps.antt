@@ -1,5 +1,5 @@
 -- The steps of a command, of which the clauses of its functions speak.
-use Rattle.std.specs.Prelude.{◌≡◌, ◌≤◌, ℕ, false, List, [], option_map, Result, Ok, Err}
+use Rattle.std.specs.Prelude.{◌≡◌, ◌≤◌, ℕ, List, [], option_map, Result, Ok, Err}
 use Rattle.akl_run.specs.declared.report.Status.{Status}
 use Rattle.akl_run.specs.declared.report.Refusal.{Refusal}
 use Rattle.akl_run.specs.declared.report.Report.{Report}
@@ -11,6 +11,7 @@ use Rattle.akl_run.specs.declared.stop.Stop.{Stop}
 use Rattle.akl_run.specs.Loads.{IsLoadedFrom}
 use Rattle.box_tree.specs.Tables.{HasVariables}
 use Rattle.akl_run.specs.Evaluations.{IsEvaluated}
+use Rattle.akl_args.specs.Flags.{no_flags}
 use Rattle.akl_run.specs.Outputs.{Outlet}
 use Rattle.akl_run.specs.Written.{HasWritten, BreaksOff}
 use Rattle.akl_args.specs.declared.options.Options.{Options}
@@ -18,8 +19,7 @@ use Rattle.akl_run.specs.declared.words.Asked.{Asked}
 use Rattle.akl_run.specs.Words.{query_of, program_of}
 use Rattle.akl_run.specs.Commands.{Side, IsAskedBy, IsGiven}
 
--- the words ask for this, and these are the program where it is made, the query, the number of workers, the budget, and whether a trace is
--- asked
+-- the words ask for this, and these are the program where it is made, the query, the number of workers, the budget, and the flags
 pub record IsAsked (words : List (List ℕ)) (a : Asked) : Type 0 where
   pub options : Options
   pub asked : IsAskedBy words options
@@ -28,7 +28,7 @@ pub record IsAsked (words : List (List ℕ)) (a : Asked) : Type 0 where
   pub workers : a.workers ≡ options.workers
   pub few_workers : (1 ≤ a.workers) × (a.workers ≤ 16)
   pub budget : a.budget ≡ options.budget
-  pub trace : a.trace ≡ options.trace
+  pub flags : a.flags ≡ options.flags
 
 -- the query over the program is that of the words and the source, and it is ready to run
 pub record IsReady (words : List (List ℕ)) (before after : Side) (p : Prepared) : Type 0 where
@@ -41,7 +41,7 @@ pub record IsReady (words : List (List ℕ)) (before after : Side) (p : Prepared
   pub workers : p.workers ≡ options.workers
   pub few_workers : (1 ≤ p.workers) × (p.workers ≤ 16)
   pub budget : p.budget ≡ options.budget
-  pub trace : p.trace ≡ options.trace
+  pub flags : p.flags ≡ options.flags
 
 -- it was run
 pub record IsRunAs (words : List (List ℕ)) (before after : Side) (e : Evaluated) : Type 0 where
@@ -51,7 +51,7 @@ pub record IsRunAs (words : List (List ℕ)) (before after : Side) (e : Evaluate
   pub asked : IsAskedBy words options
   pub given : IsGiven (program_of options) before after program
   pub is_loaded : IsLoadedFrom program (query_of options) loaded
-  pub run : IsEvaluated loaded options.workers options.budget options.trace e
+  pub run : IsEvaluated loaded options.workers options.budget options.flags e
 
 -- the report of a command that stopped: no run is answered
 pub record IsStopped (stop : Stop) (r : Report) : Type 0 where
@@ -59,6 +59,7 @@ pub record IsStopped (stop : Stop) (r : Report) : Type 0 where
   pub refusal : r.refusal ≡ stop.refusal
   pub journal : r.journal.items ≡ []
   pub receipts : r.receipts.items ≡ []
+  pub models : r.models.items ≡ []
   pub written : r.written ≡ 0
 
 -- how the writing of a run's text ended, with a status: the text was written whole, or up to a fault, or memory was wanting
@@ -72,12 +73,13 @@ pub record IsWritten (e : Evaluated) (before after : Side) (r : Report) : Type 0
   pub refusal : r.refusal ≡ Refusal.Nothing
   pub journal : r.journal.items ≡ e.core.journal
   pub receipts : r.receipts ≡ e.receipts
+  pub models : r.models ≡ e.models
   pub writing : EndsWriting e (record { sink = before; written = 0 }) (record { sink = after; written = r.written }) r.status
 
--- the loaded query was run by worker 1 alone, without a trace, and this is the report of it
+-- the loaded query was run by worker 1 alone, without flags, and this is the report of it
 pub record IsAnsweredAlone (l : Loaded) (budget : ℕ) (before after : Side) (r : Report) : Type 0 where
   pub run : Evaluated
-  pub evaluated : IsEvaluated l 1 budget false run
+  pub evaluated : IsEvaluated l 1 budget no_flags run
   pub written : IsWritten run before after r
 
 -- the status with which the writing ended

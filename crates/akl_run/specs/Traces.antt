@@ -2,6 +2,7 @@
 use Rattle.std.specs.Prelude.{ℕ, suc, Bool, true, false, List, [], ◌∷◌, ◌++◌, Option, Some, None, codes}
 use Rattle.std.specs.Fmt.{decimal}
 use Rattle.akl_terms.specs.declared.name.Name.{Name}
+use Rattle.line_text.specs.Names.{name_text}
 use Rattle.akl_terms.specs.declared.name.Place.{Place}
 use Rattle.akl_model.specs.declared.label.Rule.{Rule}
 use Rattle.akl_model.specs.declared.label.Label.{Label}
@@ -17,10 +18,6 @@ rule_text Rule.Cut = codes "cut"
 rule_text Rule.Promote = codes "promote"
 rule_text Rule.Split = codes "split"
 rule_text Rule.Collect = codes "collect"
-
--- a name: its worker, a dot, its number
-abbrev pub name_text : Name → List ℕ
-name_text n = decimal n.worker ++ codes "." ++ decimal n.number
 
 abbrev pub place_text : Place → List ℕ
 place_text (Place.Goal g) = codes " goal " ++ name_text g

@@ -1,11 +1,12 @@
 //! With what a run ends.
 
 ghost use Rattle.std.specs.Prelude.{◌≡◌, ◌++◌, OnOk};
-ghost use Rattle.akl_run.specs.Text.{outcome_line};
+ghost use Rattle.akl_run.specs.Text.{outcome_line, says_waits};
 ghost use Rattle.akl_run.specs.Endings.{ending_by, status_by, outcome_by};
 
 use crate::report::Status;
-use crate::text::{push_number, push_text};
+use akl_args::Flags;
+use line_text::{push_number, push_text};
 use seq_engine::End;
 use std::alloc::AllocError;
 
@@ -48,6 +49,16 @@ pub fn status_of(ending: Ending) -> Status
         Ending::Failed => Status::Failed,
         Ending::Suspended { left: _ } => Status::Suspended,
         Ending::Budget => Status::Budget,
+    }
+}
+
+/// Whether it is said what waits: where this is asked, of a run that is suspended.
+pub fn says_waits(flags: Flags, ending: Ending) -> bool
+    ensures { result ≡ says_waits flags (outcome_by ending) }
+{
+    match ending {
+        Ending::Suspended { left: _ } => flags.why,
+        _ => false,
     }
 }
 

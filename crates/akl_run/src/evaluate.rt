@@ -1,15 +1,18 @@
 //! From a loaded query to the end of its run.
 
-ghost use Rattle.std.specs.Prelude.{◌≡◌, ◌≤◌, [], false, IfOk, IfErr};
+ghost use Rattle.std.specs.Prelude.{◌≡◌, ◌≤◌, [], IfOk, IfErr};
 ghost use Rattle.box_tree.specs.Tables.{HasVariables, HasShownVariables};
 ghost use Rattle.par_workers.specs.Crews.{lists};
 ghost use Rattle.par_workers.specs.Runs.{HasRunMany};
 ghost use Rattle.akl_run.specs.Reports.{AreAllPlannedLast};
-ghost use Rattle.akl_run.specs.Evaluations.{HasFinished, IsEvaluated, StopsRun};
+ghost use Rattle.akl_args.specs.Flags.{no_flags};
+ghost use Rattle.akl_run.specs.Evaluations.{HasFinished, HasModels, IsEvaluated, StopsRun};
 
 use crate::loaded::Loaded;
+use crate::models::models_of;
 use crate::prepare::Prepared;
 use crate::stop::Stop;
+use akl_args::Flags;
 use akl_model::Receipt;
 use akl_outside::Gate;
 use akl_terms::Program;
@@ -19,8 +22,9 @@ use std::alloc::{AllocError, Global};
 use std::sync::Wait;
 use std::thread::Threads;
 use step_commit::Core;
+use tree_models::TreeModel;
 
-/// A run that has ended, and whether its trace is asked.
+/// A run that has ended, and what is shown of it.
 #[derive(Drop)]
 pub struct Evaluated {
     pub program: Program,
@@ -28,7 +32,9 @@ pub struct Evaluated {
     pub end: End,
     /// For each worker, its labels with their places in the journal.
     pub receipts: Vec<Vec<Receipt>>,
-    pub trace: bool,
+    pub flags: Flags,
+    /// Where models are asked, one for each answer, in order.
+    pub models: Vec<TreeModel>,
 }
 
 // Runs a core as worker 1 alone, to its end.
@@ -91,11 +97,32 @@ fn run_loaded<R: Threads + Wait + Sync, G: Gate>(
     run_many(rt, alloc, program, core, workers, gate)
 }
 
-/// Runs a loaded query as worker 1 alone, to its end. No trace of it is asked.
+// Runs a loaded query by so many workers, and makes the models of its answers where they are asked.
+fn run_modelled<R: Threads + Wait + Sync, G: Gate>(
+    rt: &R,
+    alloc: Global,
+    loaded: &Loaded,
+    workers: u32,
+    budget: u64,
+    models: bool,
+    gate: &G,
+) -> Result<(Finished, Vec<TreeModel>), AllocError>
+    requires variables { HasVariables loaded.now.program loaded.now.query loaded.now.first_variable }
+    requires shown { HasShownVariables loaded.now.query }
+    requires workers { (1 ≤ workers) × (workers ≤ 16) }
+    ensures run { IfOk result (λ r. HasFinished loaded.now workers budget r.0) }
+    ensures models { IfOk result (λ r. HasModels r.0.core models r.1.items) }
+{
+    let finished = run_loaded(rt, alloc, loaded, workers, budget, gate)?;
+    let models = models_of(alloc, &loaded.program, &finished.core, models)?;
+    Ok((finished, models))
+}
+
+/// Runs a loaded query as worker 1 alone, to its end. Nothing else is shown of it than its answers and its outcome.
 pub fn evaluate_alone(alloc: Global, loaded: Loaded, budget: u64) -> Result<Evaluated, AllocError>
     requires variables { HasVariables loaded.program loaded.query loaded.first_variable }
     requires shown { HasShownVariables loaded.query }
-    ensures { IfOk result (IsEvaluated loaded 1 budget false) }
+    ensures { IfOk result (IsEvaluated loaded 1 budget no_flags) }
 {
     let Finished {
         core,
@@ -107,11 +134,12 @@ pub fn evaluate_alone(alloc: Global, loaded: Loaded, budget: u64) -> Result<Eval
         core,
         end,
         receipts,
-        trace: false,
+        flags: Flags::none(),
+        models: Vec::new(alloc),
     })
 }
 
-/// Runs a query that is ready.
+/// Runs a query that is ready, and makes the models of its answers where they are asked.
 pub fn evaluate<R: Threads + Wait + Sync, G: Gate>(
     rt: &R,
     alloc: Global,
@@ -121,28 +149,33 @@ pub fn evaluate<R: Threads + Wait + Sync, G: Gate>(
     requires variables { HasVariables prepared.loaded.program prepared.loaded.query prepared.loaded.first_variable }
     requires shown { HasShownVariables prepared.loaded.query }
     requires workers { (1 ≤ prepared.workers) × (prepared.workers ≤ 16) }
-    ensures run { IfOk result (IsEvaluated prepared.loaded prepared.workers prepared.budget prepared.trace) }
+    ensures run { IfOk result (IsEvaluated prepared.loaded prepared.workers prepared.budget prepared.flags) }
     ensures stop { IfErr result StopsRun }
 {
     let Prepared {
         loaded,
         workers,
         budget,
-        trace,
+        flags,
     } = prepared;
-    let Finished {
-        core,
-        receipts,
-        end,
-    } = match run_loaded(rt, alloc, &loaded, workers, budget, gate) {
-        Ok(finished) => finished,
-        Err(error) => return Err(Stop::from(error)),
-    };
-    Ok(Evaluated {
-        program: loaded.program,
-        core,
-        end,
-        receipts,
-        trace,
-    })
+    match run_modelled(rt, alloc, &loaded, workers, budget, flags.model, gate) {
+        Ok(
+            (
+                Finished {
+                    core,
+                    receipts,
+                    end,
+                },
+                models,
+            ),
+        ) => Ok(Evaluated {
+            program: loaded.program,
+            core,
+            end,
+            receipts,
+            flags,
+            models,
+        }),
+        Err(error) => Err(Stop::from(error)),
+    }
 }

@@ -1,17 +1,19 @@
 //! The top call: from the words of a command line and the bytes of a program to the bytes written.
 #![tactic(auto)]
 
+mod answers;
 mod ending;
 mod evaluate;
 mod loaded;
+mod models;
 mod output;
 mod prepare;
 mod refusal;
 mod report;
 mod run;
 mod stop;
-mod text;
 mod trace;
+mod waits;
 mod words;
 mod writing;
 

@@ -8,19 +8,20 @@ ghost use Rattle.akl_run.specs.Steps.{IsReady};
 use crate::loaded::{Loaded, load_asked, load_program};
 use crate::stop::Stop;
 use crate::words::{Asked, read_asked};
+use akl_args::Flags;
 use akl_outside::{Source, read_up_to};
 use std::alloc::Global;
 
 /// One byte more than a program may have.
 const MOST_READ: usize = 1_000_001;
 
-/// A query that is ready to run, by how many workers, how many labels its run may make, and whether it is traced.
+/// A query that is ready to run, by how many workers, how many labels its run may make, and what else is shown.
 #[derive(Drop)]
 pub struct Prepared {
     pub loaded: Loaded,
     pub workers: u32,
     pub budget: u64,
-    pub trace: bool,
+    pub flags: Flags,
 }
 
 /// The source's bytes, up to one more than a program may have.
@@ -61,7 +62,7 @@ pub fn prepare<S: Source>(
         query,
         workers,
         budget,
-        trace,
+        flags,
     } = read_asked(alloc, words)?;
     let bytes = program_text(alloc, made, program)?;
     let program = load_program(alloc, &bytes)?;
@@ -70,7 +71,7 @@ pub fn prepare<S: Source>(
             loaded,
             workers,
             budget,
-            trace,
+            flags,
         }),
         Err(stop) => Err(stop),
     }

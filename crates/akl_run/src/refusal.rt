@@ -4,12 +4,12 @@ ghost use Rattle.std.specs.Prelude.{◌≡◌, ◌++◌, option_map, IfOk, OnOk}
 ghost use Rattle.akl_run.specs.Lines.{key_text, kind_of, words_cause, text_cause, loading_cause, cause_of, refused_line, fixed_line, refused_side, refusal_text};
 
 use crate::report::{Refusal, Status};
-use crate::text::{push_number, push_text};
 use akl_args::WordsError;
 use akl_syntax::SyntaxError;
 use akl_terms::Key;
 use answer_text::symbol_text;
 use clause_checks::{Limit, LoadError};
+use line_text::{push_number, push_text};
 use std::alloc::{AllocError, Global};
 
 // The symbol as it is written in an answer, `/`, and the number of arguments.

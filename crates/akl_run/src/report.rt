@@ -7,6 +7,7 @@ use akl_args::WordsError;
 use akl_model::{Label, Receipt};
 use akl_syntax::SyntaxError;
 use clause_checks::LoadError;
+use tree_models::TreeModel;
 
 /// What a run came to, or what ended the call before or after it.
 #[derive(Clone, Copy)]
@@ -74,6 +75,8 @@ pub struct Report {
     pub journal: Vec<Label>,
     /// For each worker, worker 1 first, its labels with their places in the journal, in order.
     pub receipts: Vec<Vec<Receipt>>,
+    /// With `--model`, a solution of each answer that the run has, in order.
+    pub models: Vec<TreeModel>,
     /// How many bytes were written.
     pub written: u64,
 }

@@ -44,6 +44,7 @@ fn stopped(alloc: Global, stop: Stop) -> Report
         refusal,
         journal: Vec::new(alloc),
         receipts: Vec::new(alloc),
+        models: Vec::new(alloc),
         written: 0,
     }
 }
@@ -71,10 +72,11 @@ fn report_of<K: Sink>(alloc: Global, run: Evaluated, sink: &mut K) -> Report
         written: out.written(),
         journal: run.core.into_journal(),
         receipts: run.receipts,
+        models: run.models,
     }
 }
 
-/// Runs a loaded query as worker 1 alone, and writes its text without a trace. Where memory is wanting in its run nothing was
+/// Runs a loaded query as worker 1 alone, and writes its text with no flags. Where memory is wanting in its run nothing was
 /// written.
 pub fn answer_alone<K: Sink>(
     alloc: Global,
@@ -90,27 +92,31 @@ pub fn answer_alone<K: Sink>(
     Ok(report_of(alloc, run, sink))
 }
 
-/// Runs the query of a command line over a program, and writes its labels, where a trace is asked, the answers and the
-/// outcome.
+/// Runs the query of a command line over a program, and writes its labels, where a trace is asked, the answers, with their
+/// models where these are asked, what a suspended run waits on, where this is asked, and the outcome.
 ///
 /// The words are read by `akl_args::read_words`, and the source has the program's text. The work is done
 /// in this order, and the first refusal ends it: the words; the query's length; the source, to its end or
 /// until it gave one byte more than a program may have; the program, which is read, checked and loaded, its inline
 /// choices as definitions;
-/// the query, likewise; the run, until no rule applies or as many labels as the budget are made; the writing.
-/// The text is written as it is made, a line of the trace at a time, each answer, and the outcome, so that only one
-/// answer's text is held. With `--generate` the program and the query are made by `akl_gen::generate`, and the
+/// the query, likewise; the run, until no rule applies or as many labels as the budget are made; the models of its answers,
+/// where they are asked; the writing.
+/// The text is written as it is made, a line of the trace at a time, each answer, each root box that waits, and the outcome,
+/// so that only one answer's text is held. With `--generate` the program and the query are made by `akl_gen::generate`, and the
 /// source isn't read.
 ///
 /// - `Done`, `Failed`, `Suspended` and `Budget` are the outcome of the answered journal, and the bytes
 ///   appended to the sink are the text of its last configuration's answers and this outcome. An answer
-///   whose lines have more than a million bytes has one line in their place.
+///   whose lines have more than a million bytes has one line in their place. Where models are asked, the report has a model
+///   of each answer, in order, and its lines come behind the answer's. Where it is asked why, and the outcome is
+///   `Suspended`, each root box that is no answer says for each of its goals on which variables it waits.
 /// - `Words` comes exactly where the words are refused, and `Program` and `Query` exactly where that
 ///   text is, with the cause.
 /// - `ReadFault` comes only where the source failed, and `WriteFault` only where the sink failed: the journal
-///   is the run's then, and a front of its text was written.
+///   and the models are the run's then, and a front of its text was written.
 /// - `NoMemory` comes only for want of memory. Either nothing is answered and nothing was written, or the run
-///   had ended: then the journal is the run's, and a front of its text was written, without the outcome's line.
+///   had ended, and its models were made: then the journal and the models are the run's, and a front of its text was
+///   written, without the outcome's line.
 ///   Where no more bytes can be counted it comes too.
 ///
 /// So an accepted query over an accepted program has one of the four outcomes, unless the source, the sink or memory

@@ -1,11 +1,11 @@
 //! The lines of a trace.
 
 ghost use Rattle.std.specs.Prelude.{◌≡◌, ◌++◌, IfOk, OnOk};
-ghost use Rattle.akl_run.specs.Traces.{rule_text, name_text, place_text, alternative_text, trace_line};
+ghost use Rattle.akl_run.specs.Traces.{rule_text, place_text, alternative_text, trace_line};
 
-use crate::text::{push_number, push_text};
 use akl_model::{Label, Rule};
 use akl_terms::{Name, Place};
+use line_text::{push_name, push_number, push_text};
 use std::alloc::{AllocError, Global};
 
 fn rule_text(rule: Rule) -> &'static str
@@ -23,14 +23,6 @@ fn rule_text(rule: Rule) -> &'static str
         Rule::Split => "split",
         Rule::Collect => "collect",
     }
-}
-
-fn push_name(line: &mut Vec<u8>, name: Name) -> Result<(), AllocError>
-    ensures { OnOk result (line.new.items ≡ line.old.items ++ name_text name) }
-{
-    push_number(line, name.worker as u64)?;
-    push_text(line, ".")?;
-    push_number(line, name.number)
 }
 
 fn push_place(line: &mut Vec<u8>, place: Place) -> Result<(), AllocError>

@@ -8,12 +8,12 @@ ghost use Rattle.akl_run.specs.Steps.{IsAsked};
 
 use crate::report::Status;
 use crate::stop::Stop;
-use akl_args::{Job, Options, read_words};
+use akl_args::{Flags, Job, Options, read_words};
 use akl_gen::generate;
 use akl_syntax::check_query;
 use std::alloc::{AllocError, Global};
 
-/// What the words ask for: a query, by how many workers it is run, how many labels its run may make, and whether it is traced.
+/// What the words ask for: a query, by how many workers it is run, how many labels its run may make, and what else is shown.
 #[derive(Drop)]
 pub struct Asked {
     /// The program's text, where it is made; else it is read from the source.
@@ -21,7 +21,7 @@ pub struct Asked {
     pub query: Vec<u8>,
     pub workers: u32,
     pub budget: u64,
-    pub trace: bool,
+    pub flags: Flags,
 }
 
 // The program's text, where it is made, and the query's.
@@ -58,7 +58,7 @@ pub fn read_asked(alloc: Global, words: &[String]) -> Result<Asked, Stop>
             query,
             workers: options.workers,
             budget: options.budget,
-            trace: options.trace,
+            flags: options.flags,
         }),
         Err(error) => Err(Stop::text(Status::Query, error)),
     }

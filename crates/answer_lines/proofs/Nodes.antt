@@ -15,7 +15,7 @@ use Rattle.answer_text.proofs.GraphTrees.{stable-same, fair-same, either_nat}
 use Rattle.answer_text.proofs.Respects.{AlikeTrees}
 use Rattle.answer_text.proofs.SameTrees.{Same-turned, Same-joined, Same-free, Same-equal', free-self}
 use Rattle.term_graph.specs.Building.{seen_tree}
-use Rattle.answer_lines.specs.Numbers.{number_in, with_number}
+use Rattle.tree_classes.specs.Numbers.{number_in, with_number}
 use Rattle.answer_lines.specs.Printing.{Forest, AreKnown, seen_at, row_at, class_of, cyclic_at, forest_graph, IsDecidedForest, IsOfClass, AreOfClasses}
 
 -- what a node begins with is its term

@@ -26,7 +26,7 @@ use Rattle.answer_text.proofs.Respects.{Alike, AlikeTrees, IsOneSymbol, one_symb
 use Rattle.answer_text.proofs.SameTrees.{cyclic-structured, Same-turned, Same-joined}
 use Rattle.answer_text.proofs.TextsStand.{stands-correspond}
 use Rattle.term_graph.specs.Building.{seen_tree}
-use Rattle.answer_lines.specs.Numbers.{number_in, with_number}
+use Rattle.tree_classes.specs.Numbers.{number_in, with_number}
 use Rattle.answer_lines.specs.Printing.{State, Forest, seen_at, row_at, class_of, cyclic_at, name_of, with_bytes, class_printed, cycle_printed, argument_pieces, compound_begun, cell_begun, symbol_begun, written_begun, partial_begun, symbol_tail_begun, tail_begun, begun, line_begun, cycle_begun, forest_graph, IsDecidedForest, IsOfClass, AreOfClasses, AreNumbered, Ahead, shown_lines, cycle_lines, Rest, lines, byte, whole, tail, IsText, GoesOn}
 use Rattle.answer_lines.specs.declared.piece.Piece.{Piece}
 use Rattle.answer_lines.specs.declared.piece.Piece.TheVariants.{Byte, Whole, Tail}

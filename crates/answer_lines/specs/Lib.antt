@@ -1,4 +1,2 @@
-pub mod Numbers
-pub mod Keys
 pub mod Printing
 pub mod Lines

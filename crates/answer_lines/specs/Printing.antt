@@ -17,7 +17,7 @@ use Rattle.cycle_marks.specs.Components.{rank_of, is_cyclic}
 use Rattle.term_graph.specs.Built.{graph_of}
 use Rattle.term_graph.specs.declared.graph.TermGraph.{TermGraph}
 use Rattle.tree_classes.specs.Classes.{ClassesValue}
-use Rattle.answer_lines.specs.Numbers.{number_in, with_number}
+use Rattle.tree_classes.specs.Numbers.{number_in, with_number}
 use Rattle.answer_lines.specs.declared.piece.Piece.{Piece}
 use Rattle.answer_lines.specs.declared.piece.Piece.TheVariants.{Byte, Whole, Tail}
 

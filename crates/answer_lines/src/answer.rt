@@ -8,14 +8,13 @@ ghost use Rattle.answer_text.specs.declared.lines.AnswerError.TheVariants as var
 ghost use Rattle.answer_lines.specs.Lines.{AreLinesOf, HasLongLines};
 
 use crate::lines::graph_lines;
-use crate::tops::find_tops;
 use akl_terms::{ShownTerm, Templates};
 use answer_text::{AnswerError, answer};
 use cycle_marks::{Components, find_components};
 use rational_unify::Lookup;
 use std::alloc::Global;
 use term_graph::build_graph;
-use tree_classes::find_classes;
+use tree_classes::{find_classes, find_tops};
 
 /// The lines of an answer: for each shown term its name, ` = ` and its text, where the end of its
 /// chain in a solved form stands for a term; then the cyclic trees that were named.

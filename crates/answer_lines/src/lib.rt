@@ -4,9 +4,7 @@
 mod answer;
 mod lines;
 mod node;
-mod numbers;
 mod piece;
 mod printer;
-mod tops;
 
 pub use answer::answer_lines;

@@ -7,7 +7,6 @@ ghost use Rattle.answer_text.specs.AnswerLines.{cycle_text};
 ghost use Rattle.answer_lines.specs.Printing.{AreKnown, Grows, begun, compound_begun, cell_begun, class_printed, cycle_begun, cycle_printed, forest_of, line_begun, partial_begun, symbol_begun, symbol_tail_begun, tail_begun, with_bytes, written_begun, argument_pieces};
 
 use crate::node::{row_at, seen_at};
-use crate::numbers::Numbers;
 use crate::piece::Piece;
 use akl_terms::{Seen, Templates};
 use answer_text::{push_constant, push_symbol};
@@ -15,7 +14,7 @@ use std::alloc::{AllocError, Global};
 use std::collections::VecDeque;
 use std::marker::Model;
 use term_graph::TermGraph;
-use tree_classes::TreeClasses;
+use tree_classes::{Numbers, TreeClasses};
 
 /// What was printed, the classes that have a number, and what is still to be printed, the next first.
 #[derive(Drop)]

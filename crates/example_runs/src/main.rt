@@ -84,6 +84,9 @@ tutorial/state.akl: open_port(P,_S), counter(_S,0), send(read(X),P)
 tutorial/reactive.akl: open_port(P,_S), shop(_S,0,[]), ask(P,2,A), ask(P,3,B), deliver(P,5), stop(A,B,P)
 tutorial/loop.akl --budget=10: loop
 tutorial/nondeterminate.akl --trace: fruit(X)
+tutorial/waiting.akl --why: philosopher(F,G,A), philosopher(G,F,B)
+tutorial/waiting.akl: philosopher(F,G,A), philosopher(G,F,B), G = down
+tutorial/arithmetic.akl --why: X is Y * 2, Z is 1 // 0
 akl_steps tutorial/append.akl: append([1,2],[3],Z)
 akl_steps tutorial/conditional.akl --tree --to=3: light(X,What), X = green
 tutorial/append.akl --workers=4: append([1,2],[3],Z)

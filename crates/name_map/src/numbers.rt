@@ -99,19 +99,16 @@ impl<V> Numbers<V> {
         }
     }
 
-    // Gives back the memory of a page where nothing is in it, and that of its chunk where no page has any. The chunk of the
-    // newest page isn't asked, as that page has memory.
+    // Gives back the memory of a page where nothing is in it. The chunk of the newest page isn't asked for more, as that page
+    // has memory.
     fn free_page(&mut self, alloc: Global, page: u64)
     where
         V: Drop,
         ensures { Same self.old self.new }
     {
-        let is_newest = page / 64 == self.newest / 64;
+        let has_newest = page / 64 == self.newest / 64;
         if let Some(chunk) = self.chunks.get_mut((page / 64) as usize) {
-            let freed = chunk.free_page(alloc, (page % 64) as usize);
-            if freed && !is_newest {
-                chunk.free_if_bare(alloc);
-            }
+            chunk.free_page(alloc, (page % 64) as usize, has_newest);
         }
     }
 }

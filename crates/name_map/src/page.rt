@@ -108,8 +108,19 @@ impl<V> Chunk<V> {
         self.pages[page_of(number)].insert(number, value)
     }
 
-    /// Gives back the memory of a page where nothing is in it. The answer is whether it did.
-    pub(crate) fn free_page(&mut self, alloc: Global, index: usize) -> bool
+    /// Gives back the memory of a page where nothing is in it, and that of all pages where none has any. The pages stay where
+    /// they are kept.
+    pub(crate) fn free_page(&mut self, alloc: Global, index: usize, keep: bool)
+    where
+        V: Drop,
+        ensures { (n : _) → in_chunk n self.new ≡ in_chunk n self.old }
+    {
+        if self.free_one(alloc, index) && !keep && self.is_bare() {
+            self.pages = Vec::new(alloc);
+        }
+    }
+
+    fn free_one(&mut self, alloc: Global, index: usize) -> bool
     where
         V: Drop,
         ensures { (n : _) → in_chunk n self.new ≡ in_chunk n self.old }
@@ -117,17 +128,6 @@ impl<V> Chunk<V> {
         match self.pages.get_mut(index) {
             Some(page) => page.free(alloc),
             None => false,
-        }
-    }
-
-    /// Gives back the memory of all pages where none has any of its own.
-    pub(crate) fn free_if_bare(&mut self, alloc: Global)
-    where
-        V: Drop,
-        ensures { (n : _) → in_chunk n self.new ≡ in_chunk n self.old }
-    {
-        if self.is_bare() {
-            self.pages = Vec::new(alloc);
         }
     }
 

@@ -92,7 +92,7 @@ module _ (s : SharedValue) (c : CoreValue) (worker : ℕ) (n : Next) (is : IsSha
   front_before = record {
     program = ap (λ (t : TableValue). t.program) taken.table ∙ taken.fixed.program ∙ sym is.fixed.program;
     query = ap (λ (t : TableValue). t.query) taken.table ∙ taken.fixed.query ∙ sym is.fixed.query;
-    journal = ap (λ (d : CoreValue). d.journal) is.core ∙ ap labels_in f.goes.1 ∙ map-append label_in f.seen f.goes.0
+    front = ap (λ (d : CoreValue). d.journal) is.core ∙ ap labels_in f.goes.1 ∙ map-append label_in f.seen f.goes.0
         ∙ ap (λ (ls : List Label). ls ++ labels_in f.goes.0) (sym taken.journal);
     same_stores = shared_stores s.begun.table f.seen f.goes.0 f.found.view.table c.table (length f.found.view.journal) taken.table
         (ap (λ (d : CoreValue). d.table) is.core ∙ ap (table_after s.begun.table) f.goes.1) (ap (λ (ls : List Label). length ls) taken.journal ∙ length-map f.seen label_in)
@@ -143,7 +143,7 @@ concluded_more s c d worker p r m rs is f made label =
     let of_plan : label_in m ≡ p.label = label ∙ ap (λ (q : Receipt). q.label) made.receipt in
     let by : maker m ≡ worker = ap (λ (l : Label). l.worker) of_plan ∙ f.found.next.worker ∙ f.found.taken.seer in
     let count : length c.journal ≡ length s.past = ap (λ (e : CoreValue). length e.journal) is.core ∙ length-map s.past label_in in
-    let front : length c.journal ≡ length f.found.view.journal + length (labels_in f.goes.0) = ap (λ (ls : List Label). length ls) (front_before s c worker (Next.Plan p) is f).journal ∙ length-append f.found.view.journal (labels_in f.goes.0) in
+    let front : length c.journal ≡ length f.found.view.journal + length (labels_in f.goes.0) = ap (λ (ls : List Label). length ls) (front_before s c worker (Next.Plan p) is f).front ∙ length-append f.found.view.journal (labels_in f.goes.0) in
     let seen : r.seen ≡ length f.found.view.journal = ap (λ (q : Receipt). q.seen) made.receipt ∙ ap (λ (ls : List Label). length ls) f.found.next.journal in
     let number : r.at ≡ length c.journal + 1 = ap (λ (q : Receipt). q.at) made.receipt in
     let before : r.seen < r.at = omega (arith, front, seen, number) in record {

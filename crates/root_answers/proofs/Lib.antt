@@ -1,1 +1,2 @@
 pub mod RootTexts
+pub mod RootModels

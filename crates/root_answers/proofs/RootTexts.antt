@@ -38,10 +38,10 @@ use Rattle.root_answers.specs.Text.{shown_lines, long_line, fits, is_long}
 use Rattle.root_answers.specs.Roots.{symbols_of, root_box, IsText}
 
 -- the row of a root box
-abbrev RowOf : (c : CoreValue) (t : TableIn c) (name : Name) (f : Found) → Type 0
+abbrev pub RowOf : (c : CoreValue) (t : TableIn c) (name : Name) (f : Found) → Type 0
 RowOf c t name f = (r : BoxRow) × ((table_of c.table).box_of name ≡ Some r) × IsBoxRow (table_of c.table) t.config.roots f r
 
-row_of : (c : CoreValue) (t : TableIn c) (name : Name) (f : Found) → box_at name t.config.roots ≡ Some f → RowOf c t name f
+pub row_of : (c : CoreValue) (t : TableIn c) (name : Name) (f : Found) → box_at name t.config.roots ≡ Some f → RowOf c t name f
 row_of c t name f e = both_there (IsBoxRow (table_of c.table) t.config.roots) (box_at name t.config.roots) ((table_of c.table).box_of name) f (t.unfolds.boxes name) e
 
 not_both : (b : Bool) → b ≡ false → b ≡ true → ⊥
@@ -98,7 +98,7 @@ pub record IsRootView (c : CoreValue) (name : Name) (v : ViewValue) (k : Chained
   pub stores : k.stores ≡ v.stores
 
 module _ (c : CoreValue) (name : Name) (v : ViewValue) (k : Chained) (w : IsRootView c name v k) where
-  chain_stands : (t : TableIn c) (b : Content) (gs : Goals) → box_at name t.config.roots ≡ Some (root_box b gs) → StandFor (ToldBy k.nodes k.stores) (IsTold b.equations)
+  pub chain_stands : (t : TableIn c) (b : Content) (gs : Goals) → box_at name t.config.roots ≡ Some (root_box b gs) → StandFor (ToldBy k.nodes k.stores) (IsTold b.equations)
   chain_stands t b gs e =
       let row : RowOf c t name (root_box b gs) = row_of c t name (root_box b gs) e in
       let along : k.stores ≡ stores_along (table_of c.table) (b.name ∷ []) = w.stores ∙ sees_in c v (Place.Box name) w.table w.journal w.place w.seen t (root_box b gs) e in
@@ -116,7 +116,7 @@ module _ (c : CoreValue) (name : Name) (v : ViewValue) (k : Chained) (w : IsRoot
   clashes left right x t b gs e a = heads_differ (tree k.nodes left) (tree k.nodes right) ((chain_stands t b gs e).back a.consistent) x.0 x.1
 
   -- where they don't, and it has no goals, it is one
-  answers_so : is_empty (goals_in ((table_of c.table).box_of name)) ≡ true → IsConsistentBy (ToldBy k.nodes k.stores) → (t : TableIn c) (b : Content) (gs : Goals) → box_at name t.config.roots ≡ Some (root_box b gs) → IsAnswer b gs
+  pub answers_so : is_empty (goals_in ((table_of c.table).box_of name)) ≡ true → IsConsistentBy (ToldBy k.nodes k.stores) → (t : TableIn c) (b : Content) (gs : Goals) → box_at name t.config.roots ≡ Some (root_box b gs) → IsAnswer b gs
   answers_so s h t b gs e = record { solved = empty_is gs (sym (ap is_empty (same_goals c t name b gs e)) ∙ s); consistent = (chain_stands t b gs e).to h }
 
   lines_same : (terms : List ShownTerm) → shown_trees (record { nodes = k.nodes; symbols = k.symbols }) terms ≡ shown_lines (map (shown_tree k.nodes) terms)

@@ -1,6 +1,5 @@
 -- The texts of answers.
-use Rattle.std.specs.Prelude.{ℕ, suc, ◌≤◌, List, [], ◌∷◌, ◌++◌, length, map, codes}
-use Rattle.std.specs.Fmt.{decimal}
+use Rattle.std.specs.Prelude.{ℕ, ◌≤◌, List, length, map, codes}
 use Rattle.akl_terms.specs.Tree.{Tree}
 use Rattle.akl_model.specs.Config.{Content, ShownTree}
 use Rattle.answer_text.specs.Answers.{longest_answer}
@@ -19,9 +18,3 @@ long_line = codes "(longer than 1000000 bytes)\n"
 pub data IsTextOf (symbols : List (List ℕ)) (b : Content) : List ℕ → Type 0 where
   fits : {text : List ℕ} → AreAnswerLines symbols b.equations (shown_lines b.shown) text → length text ≤ longest_answer → IsTextOf symbols b text
   is_long : AreLongLines symbols b.equations (shown_lines b.shown) → IsTextOf symbols b long_line
-
--- the answers in order, numbered from k on: `answer`, the number, and the lines
-pub data AreTexts (symbols : List (List ℕ)) : ℕ → List Content → List ℕ → Type 0 where
-  no_answers : {k : ℕ} → AreTexts symbols k [] []
-  an_answer : {k : ℕ} {b : Content} {bs : List Content} {text rest : List ℕ} → IsTextOf symbols b text → AreTexts symbols (suc k) bs rest
-      → AreTexts symbols k (b ∷ bs) (codes "answer " ++ decimal k ++ 10 ∷ text ++ rest)

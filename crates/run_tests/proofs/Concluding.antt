@@ -28,7 +28,7 @@ pub may_commit_second : (c d : CoreValue) (one two : PlanValue) (r : Receipt) �
 may_commit_second c d one two r core table journal other made = fronts.may_commit d two (one.label ∷ []) (record {
   program = ap (λ (t : TableValue). t.program) table ∙ sym made.fixed.program;
   query = ap (λ (t : TableValue). t.query) table ∙ sym made.fixed.query;
-  journal = made.journal ∙ ap (λ (ls : List Label). ls ++ one.label ∷ []) (sym journal);
+  front = made.journal ∙ ap (λ (ls : List Label). ls ++ one.label ∷ []) (sym journal);
   same_stores = λ n row e old. elim (keeps n row e) [
     | inl new ↦ absurd (omega (arith, old, new, count, seen))
     | inr was ↦ ap (λ (t : TableValue). store_in ((table_of t).box_of n)) table ∙ ap store_in was.1 ∙ was.2

@@ -31,6 +31,8 @@ const BATCHES: &str = r"
 --query=true =>  => true => 4 / akl: words: unknown at word 2
 --generate,1 =>  => true => 4 / akl: words: unknown at word 2
 --trace =>  => true => 4 / akl: words: unknown at word 2
+--why =>  => true => 4 / akl: words: unknown at word 2
+--model =>  => true => 4 / akl: words: unknown at word 2
 --batch=true =>  => true => 4 / akl: words: repeated at word 2
 --workers,17 =>  => true => 4 / akl: words: bad value at word 3
  => p :- q. => true => 5 / akl: program: undefined q/0

@@ -138,6 +138,9 @@ const WORDS: &str = r"
 --query=-1 = X => 0 / answer 1 / X = -1 / done
 --query=X = a,--budget,0 => 4 / akl: words: bad value at word 2
 --trace,--query,true,--trace => 4 / akl: words: repeated at word 3
+--why,--query,true,--why => 4 / akl: words: repeated at word 3
+--query,true,--model=true => 4 / akl: words: unknown at word 2
+--model,--query,true,--trace,--why => 0 / answer 1 / model / done
 --generate,1,--query,true => 4 / akl: words: repeated at word 2
 --generate,4294967296 => 4 / akl: words: bad value at word 1
 ";

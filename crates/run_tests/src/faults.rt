@@ -77,6 +77,8 @@ const COMMANDS: &str = r"
 --workers,4 =>  => X = a, X = b => 1 / failed
  => p(a) :- -> true. => p(X) => 2 / suspended 1
  => m(a). m(b). => m(X) => 0 / answer 1 / X = a / answer 2 / X = b / done
+--model => m(a). m(b). => m(X) => 0 / answer 1 / X = a / model / X: #0 / #0 = a / answer 2 / X = b / model / X: #0 / #0 = b / done
+--why => p(a) :- -> true. => p(X) => 2 / waiting 1 / goal 0.2 on X / suspended 1
 --trace,--budget,3 => m(a). m(b). => m(X) => 3 / step 1 fork goal 0.2 by 1 / step 2 split box 0.0 of 1.0 by 1 / step 3 promote goal 0.2 of 1.0 by 1 / answer 1 / X = a / budget
 ";
 
@@ -120,8 +122,8 @@ fn try_reads<R: Threads + Wait + Sync + Abort>(
         let reply = reply_with(rt, alloc, words, program, read as u64, NEVER)?;
         expect(rt, &reply.text, "7 / akl: read fault", program);
         assert_eq!(rt;
-            (reply.written, reply.count, reply.labels),
-            (0, 0, 0),
+            (reply.written, reply.count, reply.labels, reply.models),
+            (0, 0, 0, 0),
             "read {read}"
         );
     }
@@ -152,31 +154,35 @@ fn expect_front(
     Ok(())
 }
 
-// Each write of a text fails in turn. Then what was written before stands, and the journal is whole.
+// Each write of a text fails in turn. Then what was written before stands, and the journal and the models are whole.
 fn try_writes<R: Threads + Wait + Sync + Abort>(
     rt: &R,
     alloc: Global,
     words: &[String],
     program: &str,
     text: &[u8],
-    labels: usize,
+    whole: &Reply,
 ) -> Result<(), AllocError> {
     for write in 0..text.len() {
         let reply = reply_with(rt, alloc, words, program, NEVER, write as u64)?;
         expect_front(rt, alloc, &reply, &text[..write])?;
-        assert_eq!(rt; reply.labels, labels, "write {write}");
+        assert_eq!(rt;
+            (reply.labels, reply.models),
+            (whole.labels, whole.models),
+            "write {write}"
+        );
     }
     Ok(())
 }
 
-// The reply where no read and no write fails, as a fault would come behind the last: how many labels it has.
-fn whole_labels<R: Threads + Wait + Sync + Abort>(
+// The reply where no read and no write fails, as a fault would come behind the last.
+fn whole_reply<R: Threads + Wait + Sync + Abort>(
     rt: &R,
     alloc: Global,
     words: &[String],
     case: &Case,
     text: &str,
-) -> Result<usize, AllocError> {
+) -> Result<Reply, AllocError> {
     let reads = case.program.len() as u64;
     let reply = reply_with(
         rt,
@@ -187,7 +193,7 @@ fn whole_labels<R: Threads + Wait + Sync + Abort>(
         text.len() as u64,
     )?;
     expect(rt, &reply.text, case.wanted, case.query);
-    Ok(reply.labels)
+    Ok(reply)
 }
 
 // The text of a reply.
@@ -207,9 +213,9 @@ fn try_faults<R: Threads + Wait + Sync + Abort>(
     case: &Case,
 ) -> Result<(), AllocError> {
     let text = text_of(alloc, case.wanted)?;
-    let labels = whole_labels(rt, alloc, words, case, &text)?;
+    let whole = whole_reply(rt, alloc, words, case, &text)?;
     try_reads(rt, alloc, words, case.program)?;
-    try_writes(rt, alloc, words, case.program, text.as_bytes(), labels)
+    try_writes(rt, alloc, words, case.program, text.as_bytes(), &whole)
 }
 
 // The same of a line.

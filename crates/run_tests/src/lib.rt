@@ -11,7 +11,6 @@ mod batches;
 #[cfg(test)]
 mod brackets;
 #[cfg(test)]
-#[cfg(test)]
 mod cases;
 #[cfg(test)]
 mod choices;
@@ -30,6 +29,8 @@ mod listing;
 #[cfg(test)]
 mod loading;
 #[cfg(test)]
+mod models;
+#[cfg(test)]
 mod open_places;
 #[cfg(test)]
 mod places;
@@ -43,6 +44,8 @@ mod rules;
 mod running;
 #[cfg(test)]
 mod texts;
+#[cfg(test)]
+mod waits;
 #[cfg(test)]
 mod waking;
 #[cfg(test)]

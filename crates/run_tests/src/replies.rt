@@ -22,6 +22,8 @@ pub struct Reply {
     /// How many labels its journal has, and how many of them were planned where no label had been made yet.
     pub labels: usize,
     pub first_plans: usize,
+    /// How many models it has.
+    pub models: usize,
 }
 
 // How many of the receipts are of plans that had seen no label.
@@ -67,6 +69,7 @@ fn reply_of(alloc: Global, report: &Report, written: &[u8]) -> Result<Reply, All
         count: report.written,
         labels: report.journal.len(),
         first_plans: count_first_plans(&report.receipts),
+        models: report.models.len(),
     })
 }
 

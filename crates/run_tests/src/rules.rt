@@ -264,7 +264,8 @@ fn try_rule<R: Threads + Wait + Sync + Abort>(
     Ok(())
 }
 
-fn try_rules<R: Threads + Wait + Sync + Abort>(
+/// Each line of a table gets the reply that it should.
+pub fn try_rules<R: Threads + Wait + Sync + Abort>(
     rt: &R,
     alloc: Global,
     table: &str,

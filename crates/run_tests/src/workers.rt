@@ -33,6 +33,10 @@ const BY_EACH: &str = r"
  =>  => bagof(X, fail, L) => 0 / answer 1 / L = [] / done
  =>  => X is 170141183460469231731687303715884105726 + 1 => 0 / answer 1 / X = 170141183460469231731687303715884105727 / done
  =>  => open_port(P,S), send(a,P), send(b,P) => 0 / answer 1 / P = port / S = [a,b|_1] / done or 0 / answer 1 / P = port / S = [b,a|_1] / done
+--why => philosopher(Own,down,Meal) :- -> Meal = eaten, Own = down. => philosopher(F,G,A), philosopher(G,F,B) => 2 / waiting 1 / goal 0.2 on G / goal 0.3 on F / suspended 1
+--why => eq(X,X) :- -> true. => eq(B,A), _X = f(_X) => 2 / waiting 1 / goal 0.2 on B, A / suspended 1
+--model =>  => X = f(g(X)), Y = f(Z), Z = g(Y) => 0 / answer 1 / X = R1 / Y = R1 / Z = R2 / R1 = f(R2) / R2 = g(R1) / model / X: #0 / Y: #0 / Z: #1 / #0 = f(#1) / #1 = g(#0) / done
+--model,--why => LISTS => bagof(X, member(X,[a,b]), L) => 0 / answer 1 / L = [a,b] / model / L: #0 / #0 = '.'(#1,#2) / #1 = a / #2 = '.'(#3,#4) / #3 = b / #4 = '[]' / done
 --budget,4000 => QUEENS => bagof(x, queens([1,2,3,4,5],[],_), _L), count(_L,0,N) => 0 / answer 1 / N = 10 / done
 ";
 

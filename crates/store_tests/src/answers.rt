@@ -64,7 +64,7 @@ fn push_nodes(templates: &mut Templates) -> Result<(), AllocError>
     Ok(())
 }
 
-fn templates(alloc: Global) -> Result<Templates, AllocError> {
+pub(crate) fn templates(alloc: Global) -> Result<Templates, AllocError> {
     let mut templates = Templates::new(alloc);
     push_nodes(&mut templates)?;
     Ok(templates)
@@ -77,7 +77,7 @@ fn shown(alloc: Global, name: &str, term: Term) -> Result<ShownTerm, AllocError>
     })
 }
 
-fn push_line(
+pub(crate) fn push_line(
     alloc: Global,
     lines: &mut Vec<ShownTerm>,
     name: &str,
@@ -138,7 +138,7 @@ fn term_of(name: &str) -> Option<Term> {
 }
 
 /// Whether each binding of a text has its term.
-fn is_said(text: &str) -> bool {
+pub(crate) fn is_said(text: &str) -> bool {
     for word in text.split(' ') {
         if let Some((_, name)) = word.split_once('=')
             && term_of(name).is_none()
@@ -181,7 +181,7 @@ fn add_store(alloc: Global, stores: &mut Vec<Shared<Store>>, told: &str) -> Resu
 }
 
 /// The stores of bindings with `/` between, from the outermost inwards.
-fn stores_of(alloc: Global, text: &str) -> Result<Vec<Shared<Store>>, AllocError> {
+pub(crate) fn stores_of(alloc: Global, text: &str) -> Result<Vec<Shared<Store>>, AllocError> {
     let mut stores = Vec::new(alloc);
     for told in text.split('/') {
         add_store(alloc, &mut stores, told)?;
@@ -206,7 +206,7 @@ fn push_x_and_y(alloc: Global, lines: &mut Vec<ShownTerm>) -> Result<(), AllocEr
     push_line(alloc, lines, "Y", mol(1))
 }
 
-fn x_and_y(alloc: Global) -> Result<Vec<ShownTerm>, AllocError> {
+pub(crate) fn x_and_y(alloc: Global) -> Result<Vec<ShownTerm>, AllocError> {
     let mut lines = Vec::new(alloc);
     push_x_and_y(alloc, &mut lines)?;
     Ok(lines)

@@ -1,4 +1,4 @@
-//! Tests of the solver, of stores and chains of stores, of the goals of arithmetic and of sends, and of the text of answers:
+//! Tests of the solver, of stores and chains of stores, of the goals of arithmetic and of sends, of the text of answers, and of models:
 //! what no clause says of them.
 #![tactic(auto)]
 
@@ -8,6 +8,8 @@ mod answers;
 mod chains;
 #[cfg(test)]
 mod goals;
+#[cfg(test)]
+mod models;
 #[cfg(test)]
 mod questions;
 #[cfg(test)]

@@ -2,6 +2,7 @@
 use Rattle.std.proofs.Common.{◌≡◌, ℕ, ◌<◌, List, [], length, Option, Some, None, refl, sym, ◌∙◌, ap, subst, arith}
 use Rattle.std.specs.Prelude.{slice_get, get_or, option_map}
 use Rattle.std.proofs.lemmas.Option.{slice_get_within, slice_get-get_or, slice_get-map}
+use Rattle.akl_terms.specs.declared.term.Node.{Node}
 use Rattle.akl_terms.specs.declared.term.Seen.{Seen}
 use Rattle.akl_terms.specs.declared.term.Seen.TheVariants.{Free}
 use Rattle.akl_terms.specs.declared.term.Term.TheVariants.{Mol}
@@ -12,6 +13,13 @@ use Rattle.answer_text.specs.Graph.{Graph, Stands, IsChild}
 use Rattle.answer_text.specs.BuiltGraph.{IsBuilt, BeginAlike}
 use Rattle.term_graph.specs.Building.{seen_tree, BeginsSo, IsEndAt, IsRowOf, IsTermGraph, argument_of, count_of}
 use Rattle.term_graph.specs.Built.{graph_of, TellBeginnings, IsBuiltAlong}
+
+-- the arguments of what begins so
+pub argument-at : (nodes : List Node) (s : Seen) (k : ℕ) → k < count_of s → slice_get (arguments (seen_tree nodes s)) k ≡ Some (argument_of nodes s k)
+argument-at nodes (Free x) k l = absurd (omega (arith, l))
+argument-at nodes (Seen.Int z) k l = absurd (omega (arith, l))
+argument-at nodes (Seen.Port p) k l = absurd (omega (arith, l))
+argument-at nodes (Seen.Struct s i n f) k l = get-trees_from (λ m. tree nodes (Mol m f)) i n k l
 
 module _ (t : Template) (go : Tree → Tree) (seens : List Seen) (rows : List (List ℕ)) (r : IsTermGraph t go seens rows) where
   abbrev g : Graph
@@ -32,13 +40,6 @@ module _ (t : Template) (go : Tree → Tree) (seens : List Seen) (rows : List (L
   stands : (j : ℕ) (u : Tree) → IsEndAt t go seens j u → Stands g j (go u)
   stands j u e = slice_get-map (seen_tree t.nodes) seens j ∙ ap (option_map (seen_tree t.nodes)) e.begins ∙ ap Some e.is
 
-  -- the arguments of what begins so
-  argument-at : (s : Seen) (k : ℕ) → k < count_of s → slice_get (arguments (seen_tree t.nodes s)) k ≡ Some (argument_of t.nodes s k)
-  argument-at (Free x) k l = absurd (omega (arith, l))
-  argument-at (Seen.Int z) k l = absurd (omega (arith, l))
-  argument-at (Seen.Port p) k l = absurd (omega (arith, l))
-  argument-at (Seen.Struct s i n f) k l = get-trees_from (λ m. tree t.nodes (Mol m f)) i n k l
-
   argument-less : (s : Seen) (k : ℕ) (a : Tree) → slice_get (arguments (seen_tree t.nodes s)) k ≡ Some a → k < count_of s
   argument-less (Free x) k a e = absurd cc
   argument-less (Seen.Int z) k a e = absurd cc
@@ -52,7 +53,7 @@ module _ (t : Template) (go : Tree → Tree) (seens : List Seen) (rows : List (L
       let b : Begins i x = begins i x p in
       let q' : slice_get (arguments (seen_tree t.nodes b.seen)) k ≡ Some a = ap (λ (y : Tree). slice_get (arguments y) k) b.is ∙ q in
       let l : k < count_of b.seen = argument-less b.seen k a q' in
-      let same : argument_of t.nodes b.seen k ≡ a = (let z : Some (argument_of t.nodes b.seen k) ≡ Some a = sym (argument-at b.seen k l) ∙ q' in cc) in
+      let same : argument_of t.nodes b.seen k ≡ a = (let z : Some (argument_of t.nodes b.seen k) ≡ Some a = sym (argument-at t.nodes b.seen k l) ∙ q' in cc) in
       let h : i < length seens = slice_get_within seens i b.seen b.at in
       let size : length rows ≡ length seens = r.size in
       let row : List ℕ = get_or rows i [] in
@@ -68,7 +69,7 @@ module _ (t : Template) (go : Tree → Tree) (seens : List Seen) (rows : List (L
       let each : IsRowOf t go seens b.seen c.0 = r.row i b.seen c.0 b.at c.1 in
       let many : length c.0 ≡ count_of b.seen = each.size in
       let l : k < length c.0 = slice_get_within c.0 k j c.2 in
-      (argument_of t.nodes b.seen k, ap (λ (y : Tree). slice_get (arguments y) k) (sym b.is) ∙ argument-at b.seen k (omega (arith, l, many)), stands j (argument_of t.nodes b.seen k) (each.each k j c.2))
+      (argument_of t.nodes b.seen k, ap (λ (y : Tree). slice_get (arguments y) k) (sym b.is) ∙ argument-at t.nodes b.seen k (omega (arith, l, many)), stands j (argument_of t.nodes b.seen k) (each.each k j c.2))
 
   end : (i : ℕ) (x : Tree) → Stands g i x → (s : Tree) × (x ≡ go s)
   end i x p =

@@ -15,7 +15,7 @@ use Rattle.akl_terms.proofs.Numbering.{slice_get-front, slice_get-behind, slice_
 use Rattle.akl_terms.proofs.Unfolding.{tree-struct}
 use Rattle.answer_text.specs.Pieces.{IsShort}
 use Rattle.term_graph.specs.declared.place.Place.{Place}
-use Rattle.term_graph.specs.Building.{State, seen_tree, place_of, same_place, found, BeginsSo, IsBuilding, Grows, IsEndAt, IsPlaced, known, indexed, leaf, argument_of, count_of, IsRowBefore, AreEndsBefore}
+use Rattle.term_graph.specs.Building.{State, seen_tree, place_of, same_place, found, BeginsSo, IsBuilding, Grows, IsEndAt, IsEndSeen, IsNumbered, IsPlaced, known, indexed, leaf, argument_of, count_of, IsRowBefore, AreEndsBefore}
 
 -- a term's tree is that of what it begins with
 pub seen-tree : (nodes : List Node) → IsArranged nodes → (t : Term) → tree nodes t ≡ seen_tree nodes (seen_of nodes t)
@@ -62,13 +62,7 @@ row-grows g r = record { size = r.size; each = λ k j a. end-grows g (r.each k j
 pub ends-grow : {t : Template} {go : Tree → Tree} {old new : List Seen} {shown : List ShownTerm} {nodes : List ℕ} {n : ℕ} → Grows old new → AreEndsBefore t go old shown nodes n → AreEndsBefore t go new shown nodes n
 ends-grow g r = record { size = r.size; each = λ k i line a b. end-grows g (r.each k i line a b) }
 
--- what a search or a new node gives
-pub record IsNumbered (t : Template) (go : Tree → Tree) (old new : State) (i : ℕ) (u : Tree) : Type 0 where
-  pub building : IsBuilding t go new
-  pub grows : Grows old.seens new.seens
-  pub node : IsEndAt t go new.seens i u
-
-module _ (t : Template) (go : Tree → Tree) (old : State) (b : IsBuilding t go old) (seen : Seen) (k : IsKnown t seen) (short : IsShort seen) (u : Tree) (e : seen_tree t.nodes seen ≡ go u) where
+module _ (t : Template) (go : Tree → Tree) (old : State) (b : IsBuilding t go old) (seen : Seen) (u : Tree) (e : IsEndSeen t go u seen) where
   module _ (new : State) (i : ℕ) (at : i ≡ length old.seens) (more : new.seens ≡ old.seens ++ seen ∷ []) where
     last : BeginsSo new.seens i seen
     last = ap (λ (xs : List Seen). slice_get xs i) more ∙ ap (slice_get (old.seens ++ seen ∷ [])) at ∙ slice_get-behind old.seens seen
@@ -82,13 +76,14 @@ module _ (t : Template) (go : Tree → Tree) (old : State) (b : IsBuilding t go 
     pushed : ((p : Place) (j : ℕ) → found new.index p ≡ Some j → BeginsSo new.seens j (seen_at p)) → IsNumbered t go old new i u
     pushed places = record {
       building = record {
-        end = λ j s a. elim (either j s a) [ inl h ↦ b.end j s h | inr h ↦ (u, ap (seen_tree t.nodes) h ∙ e) ];
-        known = λ j s a. elim (either j s a) [ inl h ↦ b.known j s h | inr h ↦ subst (IsKnown t) (sym h) k ];
-        short = λ j s a. elim (either j s a) [ inl h ↦ b.short j s h | inr h ↦ subst IsShort (sym h) short ];
+        end = λ j s a. elim (either j s a) [ inl h ↦ b.end j s h | inr h ↦ (u, ap (seen_tree t.nodes) h ∙ e.is) ];
+        known = λ j s a. elim (either j s a) [ inl h ↦ b.known j s h | inr h ↦ subst (IsKnown t) (sym h) e.known ];
+        short = λ j s a. elim (either j s a) [ inl h ↦ b.short j s h | inr h ↦ subst IsShort (sym h) e.short ];
         places = places;
       };
       grows = record { stays = front };
-      node = record { seen = seen; begins = last; is = e };
+      node = record { seen = seen; begins = last; is = e.is };
+      adds = λ j s a. elim (either j s a) [ inl h ↦ inl h | inr h ↦ inr (ap (seen_tree t.nodes) h ∙ e.is) ];
     }
 
     on-leaf : new.index ≡ old.index → IsNumbered t go old new i u
@@ -108,7 +103,8 @@ module _ (t : Template) (go : Tree → Tree) (old : State) (b : IsBuilding t go 
   numbered new i (known {place = place} q f same) = subst (λ (s : State). IsNumbered t go old s i u) (sym same) (record {
     building = b;
     grows = grows-same old.seens;
-    node = record { seen = seen; begins = b.places place i f ∙ ap Some (sym (place-seen seen place q)); is = e };
+    node = record { seen = seen; begins = b.places place i f ∙ ap Some (sym (place-seen seen place q)); is = e.is };
+    adds = λ j s a. inl a;
   })
   numbered new i (indexed {place = place} q at more v) = on-indexed new i at more place q v
   numbered new i (leaf at more same) = on-leaf new i at more same

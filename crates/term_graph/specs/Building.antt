@@ -1,5 +1,5 @@
 -- A graph of terms as it is built: what its nodes begin with, and the nodes of arguments.
-use Rattle.std.specs.Prelude.{◌≡◌, ◌+◌, ℕ, pos, List, [], ◌∷◌, ◌++◌, length, Option, Some, None, slice_get, Bool, ◌&&◌, ◌==◌, if◌then◌else◌}
+use Rattle.std.specs.Prelude.{◌≡◌, ◌+◌, ℕ, pos, List, [], ◌∷◌, ◌++◌, length, Option, Some, None, slice_get, Bool, ◌&&◌, ◌==◌, if◌then◌else◌, ◌⊎◌}
 use Rattle.std.specs.Map.{lookup}
 use Rattle.akl_terms.specs.declared.program.ShownTerm.{ShownTerm}
 use Rattle.akl_terms.specs.declared.term.Seen.{Seen}
@@ -53,12 +53,25 @@ pub record IsEndAt (t : Template) (go : Tree → Tree) (seens : List Seen) (i : 
   pub begins : BeginsSo seens i seen
   pub is : seen_tree t.nodes seen ≡ go u
 
+-- what begins so stands for a term, has its symbol's name, and its arguments are nodes of the templates
+pub record IsEndSeen (t : Template) (go : Tree → Tree) (u : Tree) (seen : Seen) : Type 0 where
+  pub is : seen_tree t.nodes seen ≡ go u
+  pub known : IsKnown t seen
+  pub short : IsShort seen
+
 -- a node is found for what begins so, or made
 pub data IsPlaced (old new : State) (seen : Seen) (i : ℕ) : Type 0 where
   known : {place : Place} → place_of seen ≡ Some place → found old.index place ≡ Some i → new ≡ old → IsPlaced old new seen i
   indexed : {place : Place} → place_of seen ≡ Some place → i ≡ length old.seens → new.seens ≡ old.seens ++ seen ∷ []
       → ((p : Place) → found new.index p ≡ (if same_place place p then Some i else found old.index p)) → IsPlaced old new seen i
   leaf : i ≡ length old.seens → new.seens ≡ old.seens ++ seen ∷ [] → new.index ≡ old.index → IsPlaced old new seen i
+
+-- a node is what stands for a term, and the others stay, but for one that may be new and stands for the term
+pub record IsNumbered (t : Template) (go : Tree → Tree) (old new : State) (i : ℕ) (u : Tree) : Type 0 where
+  pub building : IsBuilding t go new
+  pub grows : Grows old.seens new.seens
+  pub node : IsEndAt t go new.seens i u
+  pub adds : (j : ℕ) (seen : Seen) → BeginsSo new.seens j seen → BeginsSo old.seens j seen ⊎ (seen_tree t.nodes seen ≡ go u)
 
 abbrev pub count_of : Seen → ℕ
 count_of (Seen.Struct s i n f) = n

@@ -1,19 +1,23 @@
 //! Nodes and their index.
 
-ghost use Rattle.std.specs.Prelude.{◌≡◌, ◌<◌, [], IfOk, OnOk, length, slice_get, Some};
+ghost use Rattle.std.specs.Prelude.{◌≡◌, ◌<◌, [], IfOk, OnOk, length, map, slice_get, Some};
 ghost use Rattle.akl_terms.specs.Template.{tree};
-ghost use Rattle.rational_unify.specs.Known.{IsSolved, end_of};
-ghost use Rattle.term_graph.specs.Building.{place_of, IsBuilding, Grows, IsEndAt, IsRowOf, IsPlaced};
+ghost use Rattle.akl_terms.specs.Tree as trees;
 ghost use Rattle.answer_text.specs.Pieces.{IsShort};
+ghost use Rattle.rational_unify.specs.Known.{IsSolved, end_of};
+ghost use Rattle.term_graph.specs.Building.{place_of, seen_tree, IsBuilding, Grows, IsNumbered, IsRowOf, IsPlaced, IsTermGraph};
+ghost use Rattle.term_graph.specs.Built.{IsBuiltAlong};
+ghost use Rattle.term_graph.specs.Reached.{Reaches, KeepsReached};
 
+use crate::ending::{term_end, variable_end};
 use crate::place::{Place, place_of};
-use akl_terms::{Seen, Templates, Term};
-use rational_unify::{Lookup, chain_end};
+use akl_terms::{Seen, Templates, Term, Var};
+use rational_unify::Lookup;
 use std::alloc::{AllocError, Global};
 use std::collections::HashMap;
 use std::marker::Model;
 
-/// What each node begins with, and an index of the symbols among them.
+/// A graph that is built: what each node begins with, and an index of the symbols among them.
 #[derive(Drop)]
 pub struct Builder {
     seens: Vec<Seen>,
@@ -71,12 +75,24 @@ impl Builder {
     ) -> Result<usize, AllocError>
         requires solved { IsSolved templates.now.nodes (K.bindings form.now) }
         requires building { IsBuilding templates.now (end_of templates.now.nodes (K.bindings form.now)) self.old }
-        ensures building { OnOk result (IsBuilding templates.now (end_of templates.now.nodes (K.bindings form.now)) self.new) }
-        ensures grows { OnOk result (Grows self.old.seens self.new.seens) }
-        ensures node { IfOk result (λ i. IsEndAt templates.now (end_of templates.now.nodes (K.bindings form.now)) self.new.seens i (tree templates.now.nodes term)) }
+        ensures { IfOk result (λ i. IsNumbered templates.now (end_of templates.now.nodes (K.bindings form.now)) self.old self.new i (tree templates.now.nodes term)) }
     {
-        let seen = templates.look(chain_end(templates, form, term));
-        let node = self.place(seen)?;
+        let node = self.place(term_end(templates, form, term))?;
+        Ok(node)
+    }
+
+    /// The node of what stands for a variable, as `number` gives that of a term.
+    pub fn number_variable<K: Lookup>(
+        &mut self,
+        templates: &Templates,
+        form: &K,
+        variable: Var,
+    ) -> Result<usize, AllocError>
+        requires solved { IsSolved templates.now.nodes (K.bindings form.now) }
+        requires building { IsBuilding templates.now (end_of templates.now.nodes (K.bindings form.now)) self.old }
+        ensures { IfOk result (λ i. IsNumbered templates.now (end_of templates.now.nodes (K.bindings form.now)) self.old self.new i (trees.variable variable)) }
+    {
+        let node = self.place(variable_end(templates, form, variable))?;
         Ok(node)
     }
 
@@ -119,6 +135,7 @@ impl Builder {
         requires short { IsShort seen }
         ensures building { OnOk result (IsBuilding templates.now (end_of templates.now.nodes (K.bindings form.now)) self.new) }
         ensures grows { OnOk result (Grows self.old.seens self.new.seens) }
+        ensures reaches { OnOk result (Reaches templates.now (end_of templates.now.nodes (K.bindings form.now)) (seen_tree templates.now.nodes seen) self.old.seens self.new.seens) }
         ensures row { IfOk result (λ row. IsRowOf templates.now (end_of templates.now.nodes (K.bindings form.now)) self.new.seens seen row.items) }
     {
         let mut row = Vec::new(alloc);
@@ -134,5 +151,27 @@ impl Builder {
             row.push(node)?;
         }
         Ok(row)
+    }
+    /// Adds what is reached, step by step, from what the nodes begin with, and gives for each node
+    /// the nodes of its arguments.
+    pub fn complete<K: Lookup>(
+        &mut self,
+        alloc: Global,
+        templates: &Templates,
+        form: &K,
+    ) -> Result<Vec<Vec<usize>>, AllocError>
+        requires solved { IsSolved templates.now.nodes (K.bindings form.now) }
+        requires building { IsBuilding templates.now (end_of templates.now.nodes (K.bindings form.now)) self.old }
+        ensures graph { IfOk result (λ rows. IsTermGraph templates.now (end_of templates.now.nodes (K.bindings form.now)) self.new.seens (map (λ v. v.items) rows.items)) }
+        ensures built { IfOk result (λ rows. IsBuiltAlong templates.now (end_of templates.now.nodes (K.bindings form.now)) self.new.seens (map (λ v. v.items) rows.items)) }
+        ensures grows { OnOk result (Grows self.old.seens self.new.seens) }
+        ensures reached { OnOk result (KeepsReached templates.now (end_of templates.now.nodes (K.bindings form.now)) self.old.seens self.new.seens) }
+    {
+        let mut rows = Vec::new(alloc);
+        while rows.len() < self.len() {
+            let row = self.row(alloc, templates, form, self.seen(rows.len()))?;
+            rows.push(row)?;
+        }
+        Ok(rows)
     }
 }

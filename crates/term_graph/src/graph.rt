@@ -40,11 +40,7 @@ pub fn build_graph<K: Lookup>(
         let node = builder.number(templates, form, line.term)?;
         nodes.push(node)?;
     }
-    let mut rows = Vec::new(alloc);
-    while rows.len() < builder.len() {
-        let row = builder.row(alloc, templates, form, builder.seen(rows.len()))?;
-        rows.push(row)?;
-    }
+    let rows = builder.complete(alloc, templates, form)?;
     Ok(TermGraph {
         seens: builder.into_seens(),
         rows,

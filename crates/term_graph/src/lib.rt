@@ -2,7 +2,9 @@
 #![tactic(auto)]
 
 mod builder;
+mod ending;
 mod graph;
 mod place;
 
+pub use builder::Builder;
 pub use graph::{TermGraph, build_graph};

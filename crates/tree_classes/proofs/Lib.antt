@@ -1,1 +1,4 @@
 pub mod Classed
+pub mod Numbering
+pub mod Beginnings
+pub mod Decided

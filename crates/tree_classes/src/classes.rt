@@ -36,6 +36,13 @@ impl TreeClasses {
         self.blocks.get(node).copied().unwrap_or(0)
     }
 
+    /// For each node the first one that is the same tree.
+    pub fn firsts(&self) -> &[usize]
+        ensures { result.now ≡ self.now.blocks }
+    {
+        self.blocks.as_slice()
+    }
+
     /// Whether a class is cyclic, by its first node.
     pub fn is_cyclic(&self, first: usize) -> bool
         ensures { result ≡ is_cyclic self.now.marks first }

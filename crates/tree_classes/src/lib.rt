@@ -2,5 +2,9 @@
 #![tactic(auto)]
 
 mod classes;
+mod numbers;
+mod tops;
 
 pub use classes::{TreeClasses, find_classes};
+pub use numbers::Numbers;
+pub use tops::find_tops;

@@ -5,7 +5,7 @@ use Rattle.clap.specs.Words.{Row, found_of, rows_of}
 use Rattle.akl_args.proofs.LimitLaws.{reading_within}
 use Rattle.akl_args.proofs.SeenLaws.{refused}
 use Rattle.akl_args.proofs.SplitLaws.{simple, split}
-use Rattle.akl_args.specs.Asked.{SaysIfTraced, asked_in}
+use Rattle.akl_args.specs.Asked.{SaysFlags, asked_in}
 use Rattle.akl_args.specs.Command.{table}
 use Rattle.akl_args.specs.Limits.{IsWithinLimits}
 use Rattle.akl_args.specs.Seen.{refusal_of}
@@ -29,8 +29,8 @@ same_length f (x ∷ xs) = ap suc (same_length f xs)
 asked : (words : List (List ℕ)) (rows : List Row) (count : ℕ) → refusal_of words ≡ None → rows ≡ matches_of table words → count ≡ length words → asked_in rows count ≡ reading words
 asked words rows count accepted is long = ap₂ asked_in is long ∙ (split words accepted).asked
 
-traced : (words : List (List ℕ)) (rows : List Row) → refusal_of words ≡ None → rows ≡ matches_of table words → SaysIfTraced rows
-traced words rows accepted is = subst SaysIfTraced (sym is) (split words accepted).trace
+flagged : (words : List (List ℕ)) (rows : List Row) → refusal_of words ≡ None → rows ≡ matches_of table words → SaysFlags rows
+flagged words rows accepted is = subst SaysFlags (sym is) (split words accepted).flags
 
 -- the options of a reading are within the limits
 within : (wanted : Result Options WordsError) (options : Options) → wanted ≡ Ok options → IfOk wanted IsWithinLimits → IsWithinLimits options
@@ -48,7 +48,7 @@ split-requires c = (split (map string_bytes c.args.words.now) c.in_ok-test_words
 
 pub options_of-requires : goal.options_of-requires
 options_of-requires c =
-    traced (map string_bytes c.args.words.now) (rows_of (found_of c.in-Ok.matches)) c.in_ok-test_words.ensures.passes (c.in-Ok.ensures.rows simple).0
+    flagged (map string_bytes c.args.words.now) (rows_of (found_of c.in-Ok.matches)) c.in_ok-test_words.ensures.passes (c.in-Ok.ensures.rows simple).0
 
 pub returns-in-Ok-clause-options : goal.returns-in-Ok-clause-options
 returns-in-Ok-clause-options c =

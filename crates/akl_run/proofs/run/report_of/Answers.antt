@@ -10,6 +10,7 @@ returns g c =
       refusal = refl;
       journal = c.into_journal.ensures;
       receipts = refl;
+      models = refl;
       writing = report_written (λ k. outlet (g.K.Sink.written k) (g.K.Sink.faults k) 0) c.args.run _ _ c.write_run-ended.new.out.sink.now _ (search rules) _ c.write_run-ended.result c.status_of.result c.written.result c.status_of.ensures
           c.new-out.ensures.start c.written.ensures c.write_run-ended.ensures.whole c.write_run-ended.ensures.broken;
     }

@@ -11,9 +11,10 @@ use Rattle.cycle_marks.specs.Rows as edges
 use Rattle.tree_parts.specs.Firsts.{AreFirsts}
 use Rattle.tree_parts.specs.Parts as parts
 use Rattle.tree_classes.specs.Classes.{AreClasses}
-use Rattle.answer_lines.specs.Keys.{top_key}
-use Rattle.answer_lines.proofs.Beginnings.{tell-beginnings, even}
-use Rattle.answer_lines.proofs.Decided.{edges-within, entries-within, written, long-written, forest-lines, long-forest-lines}
+use Rattle.tree_classes.specs.Keys.{top_key}
+use Rattle.tree_classes.proofs.Beginnings.{tell-beginnings, even}
+use Rattle.tree_classes.proofs.Decided.{edges-within, entries-within}
+use Rattle.answer_lines.proofs.Decided.{written, long-written, forest-lines, long-forest-lines}
 use Rattle.answer_lines.proofs.answer.answer_lines.Goals as goal
 
 pub find_components-requires : goal.find_components-requires

@@ -1,0 +1,12 @@
+pub mod Solved
+pub mod Merged
+pub mod Numbered
+pub mod Steps
+pub mod Found
+pub mod CellLists
+pub mod VariableLists
+pub mod StartNodes
+pub mod GivenLists
+pub mod Occurring
+pub mod ModelTables
+pub mod CellLines

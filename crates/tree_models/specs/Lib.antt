@@ -1,0 +1,10 @@
+pub mod Tables
+pub mod Solutions
+pub mod Laws
+pub mod Visiting
+pub mod Cells
+pub mod Texts
+pub mod Starts
+pub mod Variables
+pub mod Made
+pub mod Found

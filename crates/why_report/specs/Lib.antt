@@ -1,0 +1,5 @@
+pub mod Waits
+pub mod Sights
+pub mod Classes
+pub mod Texts
+pub mod Written
