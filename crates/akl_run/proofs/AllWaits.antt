@@ -7,7 +7,7 @@ use Rattle.akl_terms.specs.declared.name.Name.{Name}
 use Rattle.akl_terms.specs.declared.program.Program.{Program}
 use Rattle.akl_model.specs.Config.{Found, no_goals, box_at}
 use Rattle.step_commit.specs.Cores.{CoreValue}
-use Rattle.why_report.specs.Waits.{IsWaitingText}
+use Rattle.why_report.specs.Texts.{IsWaitingText}
 use Rattle.root_answers.specs.Roots.{OfRoot, root_box}
 use Rattle.akl_run.specs.declared.output.Unwritten.{Unwritten}
 use Rattle.akl_run.specs.Outputs.{Outlet, HasAppended, HasBrokenOff, ShortOf}

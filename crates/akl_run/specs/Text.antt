@@ -9,7 +9,7 @@ use Rattle.tree_models.specs.Texts.{IsModelText}
 use Rattle.root_answers.specs.Text.{IsTextOf}
 use Rattle.root_answers.specs.Models.{names_shown}
 use Rattle.root_answers.specs.Roots.{root_box}
-use Rattle.why_report.specs.Waits.{IsWaitingText}
+use Rattle.why_report.specs.Texts.{IsWaitingText}
 use Rattle.akl_args.specs.declared.flag.Flags.{Flags}
 use Rattle.akl_run.specs.Runs.{Run}
 use Rattle.akl_run.specs.Traces.{trace_text}

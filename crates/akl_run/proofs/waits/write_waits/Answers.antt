@@ -1,6 +1,6 @@
 use Rattle.std.proofs.Common.{◌∙◌, ◌+◌, ◌++◌, get_or, sym, subst, ap, refl}
 use Rattle.akl_terms.specs.declared.name.Name.{Name}
-use Rattle.why_report.specs.Waits.{IsWaitingText}
+use Rattle.why_report.specs.Texts.{IsWaitingText}
 use Rattle.root_answers.specs.Roots.{OfRoot, root_box}
 use Rattle.akl_run.specs.Written.{AreFirstWaits}
 use Rattle.akl_run.proofs.Appended.{nothing_appended, appended_both}
