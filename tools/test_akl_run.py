@@ -143,8 +143,11 @@ class Docs(unittest.TestCase):
         shown = dict(re.findall(r"^\[(\w+\.akl)\]\([^)]*\):\n\n```\n(.*?)```$", text, re.MULTILINE | re.DOTALL))
         files = {it.name: it.read_text(encoding="utf-8") for it in (TOP / "examples/tutorial").iterdir()}
         self.assertEqual(shown, files)
-        run = r'^\$ \./akl --query "(.*)"((?: --[a-z]+(?:=\d+)?)?) < examples/(.*)\n((?:.*\n)*?)```$'
-        runs = [f"{file}{option}: {query}\n{printed}" for query, option, file, printed in re.findall(run, text, re.M)]
+        run = r'^\$ \./(?:akl|(akl_steps)) --query "(.*)"((?: --[a-z]+(?:=\d+)?)*) < examples/(.*)\n((?:.*\n)*?)```$'
+        runs = [
+            f"{steps and steps + ' '}{file}{options}: {query}\n{printed}"
+            for steps, query, options, file, printed in re.findall(run, text, re.M)
+        ]
         gate = (TOP / "crates/example_runs/stdout").read_text(encoding="utf-8")
         self.assertEqual("".join(runs), gate[gate.index("tutorial/") :])
 

@@ -116,20 +116,13 @@ class Examples(unittest.TestCase):
 
 
 class Docs(unittest.TestCase):
-    """The runs and the pictures that the docs show."""
+    """The pictures that the docs show."""
 
     def test_pictures(self):
         for name in ("merge", "search"):
             command = [sys.executable, str(TOP / "tools/akl-picture"), "--svg", str(TOP / f"examples/{name}.akl")]
             drawn = subprocess.run(command, capture_output=True, env={**os.environ, "AKL_STEPS": STEPS}, check=True).stdout
             self.assertEqual((TOP / f"docs/pictures/{name}.svg").read_bytes(), drawn)
-
-    def test_tutorial(self):
-        text = (TOP / "docs/TUTORIAL.md").read_text(encoding="utf-8")
-        shown = re.findall(r'^\$ \./akl_steps --query "(.*)"((?: --[a-z]+(?:=\d+)?)*) < (.*)\n((?:.*\n)*?)```$', text, re.M)
-        self.assertGreater(len(shown), 1)
-        for query, words, file, printed in shown:
-            self.assertEqual(run(STEPS, TOP / file, query, *words.split())[0], printed)
 
 
 if __name__ == "__main__":

@@ -4,13 +4,14 @@
 use akl_outside::{MemorySink, MemorySource, NoGate};
 use akl_run::{refusal_line, run_akl};
 use anyhow::Result;
+use shown_run::show_run;
 use std::alloc::Global;
 use std::fs;
 use std::str::from_utf8;
 use std::sync::Wait;
 use std::thread::Threads;
 
-// A file, perhaps an option behind it, and a query: a run a line.
+// A file, perhaps options behind it, and a query: a run of `akl` a line, or of `akl_steps` where that stands first.
 const RUNS: &str = r"
 counter.akl: open_port(P,S), counter(S,0), send(add(2,A),P), send(add(3,B),P), ask(A,B,P,Sum)
 producer.akl: produce(5,L), consume(L,0,Sum)
@@ -86,40 +87,81 @@ tutorial/nondeterminate.akl --trace: fruit(X)
 tutorial/waiting.akl --why: philosopher(F,G,A), philosopher(G,F,B)
 tutorial/waiting.akl: philosopher(F,G,A), philosopher(G,F,B), G = down
 tutorial/arithmetic.akl --why: X is Y * 2, Z is 1 // 0
+akl_steps tutorial/append.akl: append([1,2],[3],Z)
+akl_steps tutorial/conditional.akl --tree --to=3: light(X,What), X = green
 tutorial/append.akl --workers=4: append([1,2],[3],Z)
 ";
 
-// What a query over a program answers, by one more word where the option isn't empty, or the line of its refusal.
-fn answered<R: Threads + Wait + Sync>(
-    rt: &R,
-    alloc: Global,
-    program: &str,
-    option: &str,
-    query: &str,
-) -> Result<String> {
+// The words of a command: a query, and options with spaces between.
+fn words_of(alloc: Global, options: &str, query: &str) -> Result<Vec<String>> {
     let mut words = Vec::new(alloc);
     words.push(String::from_str(alloc, "--query")?)?;
     words.push(String::from_str(alloc, query)?)?;
-    if !option.is_empty() {
+    for option in options.split_whitespace() {
         words.push(String::from_str(alloc, option)?)?;
     }
-    let bytes = Vec::from_slice(alloc, program.as_bytes())?;
-    let mut source = MemorySource::new(bytes, 4096, Vec::new(alloc));
-    let mut sink = MemorySink::new(alloc, 4096, 100_000, Vec::new(alloc))?;
-    let report = run_akl(rt, alloc, &words, &mut source, &mut sink, &NoGate);
+    Ok(words)
+}
+
+// Does as `akl` does with these words, and answers what it says of a refusal.
+fn answer<R: Threads + Wait + Sync>(
+    rt: &R,
+    alloc: Global,
+    words: &[String],
+    program: &mut MemorySource,
+    out: &mut MemorySink,
+) -> Result<Vec<u8>> {
+    let report = run_akl(rt, alloc, words, program, out, &NoGate);
     let line = refusal_line(alloc, report.status, &report.refusal)?;
-    let mut text = String::from_str(alloc, from_utf8(sink.bytes())?)?;
-    text.push_str(from_utf8(&line)?)?;
-    Ok(text)
+    Ok(line)
+}
+
+// Does as `akl_steps` does with these words, and answers what it says of a refusal.
+fn show<R: Threads + Wait + Sync>(
+    rt: &R,
+    alloc: Global,
+    words: &[String],
+    program: &mut MemorySource,
+    out: &mut MemorySink,
+) -> Result<Vec<u8>> {
+    let mut errors = MemorySink::new(alloc, 4096, 100_000, Vec::new(alloc))?;
+    let _status = show_run(rt, alloc, words, program, false, out, &mut errors);
+    let line = Vec::from_slice(alloc, errors.bytes())?;
+    Ok(line)
+}
+
+// What the text of a program is read from.
+fn source_of(rt: &HostRuntime, file: &str) -> Result<MemorySource> {
+    let alloc = rt.alloc();
+    let program = fs::read_to_string(rt, file)?;
+    let bytes = Vec::from_slice(alloc, program.as_bytes())?;
+    Ok(MemorySource::new(bytes, 4096, Vec::new(alloc)))
+}
+
+// Does what a command asks that stands in a line: a file, perhaps options behind it, and a query. Prints what it writes.
+fn run(rt: &HostRuntime, line: &str, is_shown: bool) -> Result<()> {
+    let alloc = rt.alloc();
+    let (named, query) = line.split_once(": ").unwrap_or((line, ""));
+    let (file, options) = named.split_once(' ').unwrap_or((named, ""));
+    let mut source = source_of(rt, file)?;
+    let mut out = MemorySink::new(alloc, 4096, 100_000, Vec::new(alloc))?;
+    let words = words_of(alloc, options, query)?;
+    let said = if is_shown {
+        show(rt, alloc, &words, &mut source, &mut out)?
+    } else {
+        answer(rt, alloc, &words, &mut source, &mut out)?
+    };
+    print!(rt; "{}{}", from_utf8(out.bytes())?, from_utf8(&said)?)?;
+    Ok(())
 }
 
 fn main(rt: HostRuntime) -> Result<()> {
-    for run in RUNS.lines().skip(1) {
-        let (named, query) = run.split_once(": ").unwrap_or((run, ""));
-        let (file, option) = named.split_once(' ').unwrap_or((named, ""));
-        let program = fs::read_to_string(&rt, file)?;
-        let text = answered(&rt, rt.alloc(), program.as_str(), option, query)?;
-        print!(rt; "{run}\n{text}")?;
+    for row in RUNS.lines().skip(1) {
+        println!(rt; "{row}")?;
+        match row.strip_prefix("akl_steps ") {
+            Some(line) => run(&rt, line, true)?,
+            None => run(&rt, row, false)?,
+        }
     }
     Ok(())
 }

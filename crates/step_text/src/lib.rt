@@ -17,6 +17,6 @@ mod tree;
 
 pub use names::SourceNames;
 pub use origins::{Alternative, Origins, Scope};
-pub use replay::{Replay, Replayed};
+pub use replay::Replay;
 pub use scene::Words;
 pub use tree::push_tree;

@@ -5,15 +5,16 @@ use akl_terms::{Definition, Program, Text};
 use std::alloc::{AllocError, Global};
 use std::collections::BTreeMap;
 
-/// The variables' names of each clause of a definition, by their numbers.
-type Clauses = Vec<Vec<Text>>;
+/// The places of definitions in a program, by what tells each from all others.
+type Places = BTreeMap<String, usize>;
 
 /// The names that variables have in the text of a program and of a query.
 #[derive(Drop)]
 pub struct SourceNames {
     query: Vec<Text>,
-    // For each definition of the program, in order.
-    definitions: Vec<Clauses>,
+    clauses: Vec<SourceClause>,
+    // For each definition of the program, in order, the places of its clauses among all.
+    definitions: Vec<Vec<usize>>,
 }
 
 // What tells one definition from all others.
@@ -49,22 +50,69 @@ fn key_of_definition(alloc: Global, definition: &Definition) -> Result<String, A
     )
 }
 
-// The names of clauses, by what these define.
-fn grouped(
+// Adds the place of a definition.
+fn add_place(
     alloc: Global,
-    clauses: Vec<SourceClause>,
-) -> Result<BTreeMap<String, Clauses>, AllocError> {
-    let mut groups = BTreeMap::new(alloc);
-    for clause in clauses {
-        let key = key_of_clause(alloc, &clause)?;
-        let mut names = match groups.remove(key.as_str()) {
-            Some(names) => names,
-            None => Vec::new(alloc),
-        };
-        names.push(clause.names)?;
-        groups.insert(key, names)?;
+    places: &mut Places,
+    definition: &Definition,
+    at: usize,
+) -> Result<(), AllocError> {
+    let key = key_of_definition(alloc, definition)?;
+    places.insert(key, at)?;
+    Ok(())
+}
+
+// Adds the places of definitions.
+fn add_places(
+    alloc: Global,
+    places: &mut Places,
+    definitions: &[Definition],
+) -> Result<(), AllocError> {
+    for (at, definition) in definitions.iter().enumerate() {
+        add_place(alloc, places, definition, at)?;
     }
-    Ok(groups)
+    Ok(())
+}
+
+// The place of the definition to which a clause belongs, if it is there.
+fn place_of(
+    alloc: Global,
+    places: &Places,
+    clause: &SourceClause,
+) -> Result<Option<usize>, AllocError> {
+    let key = key_of_clause(alloc, clause)?;
+    Ok(places.get(key.as_str()).copied())
+}
+
+// Adds lists without clauses, so many.
+fn add_lists(alloc: Global, lists: &mut Vec<Vec<usize>>, count: usize) -> Result<(), AllocError> {
+    for _ in 0..count {
+        lists.push(Vec::new(alloc))?;
+    }
+    Ok(())
+}
+
+// Adds the place of a clause to the list of its definition.
+fn add_clause(lists: &mut [Vec<usize>], definition: usize, at: usize) -> Result<(), AllocError> {
+    if let Some(list) = lists.get_mut(definition) {
+        list.push(at)?;
+    }
+    Ok(())
+}
+
+// Adds the place of each clause to the list of its definition.
+fn add_clauses(
+    alloc: Global,
+    lists: &mut [Vec<usize>],
+    places: &Places,
+    clauses: &[SourceClause],
+) -> Result<(), AllocError> {
+    for (at, clause) in clauses.iter().enumerate() {
+        if let Some(definition) = place_of(alloc, places, clause)? {
+            add_clause(lists, definition, at)?;
+        }
+    }
+    Ok(())
 }
 
 impl SourceNames {
@@ -75,17 +123,21 @@ impl SourceNames {
         clauses: Vec<SourceClause>,
         query: Vec<Text>,
     ) -> Result<SourceNames, AllocError> {
-        let mut groups = grouped(alloc, clauses)?;
-        let mut definitions = Vec::new(alloc);
-        for definition in program.definitions.as_slice() {
-            let key = key_of_definition(alloc, definition)?;
-            let names = match groups.remove(key.as_str()) {
-                Some(names) => names,
-                None => Vec::new(alloc),
-            };
-            definitions.push(names)?;
-        }
-        Ok(SourceNames { query, definitions })
+        let mut names = SourceNames {
+            query,
+            clauses,
+            definitions: Vec::new(alloc),
+        };
+        names.find(alloc, program.definitions.as_slice())?;
+        Ok(names)
+    }
+
+    // Finds the clauses of each definition.
+    fn find(&mut self, alloc: Global, definitions: &[Definition]) -> Result<(), AllocError> {
+        let mut places = BTreeMap::new(alloc);
+        add_places(alloc, &mut places, definitions)?;
+        add_lists(alloc, &mut self.definitions, definitions.len())?;
+        add_clauses(alloc, &mut self.definitions, &places, &self.clauses)
     }
 
     /// The names of the query's variables, in order.
@@ -93,13 +145,16 @@ impl SourceNames {
         self.query.as_slice()
     }
 
+    // A clause of a definition, if it is there.
+    fn at(&self, definition: u32, clause: usize) -> Option<&SourceClause> {
+        let at = self.definitions.get(definition as usize)?.get(clause)?;
+        self.clauses.get(*at)
+    }
+
     /// The names of a clause's variables, in order; none where there is no such clause.
     pub fn clause(&self, definition: u32, clause: usize) -> &[Text] {
-        match self.definitions.get(definition as usize) {
-            Some(clauses) => match clauses.get(clause) {
-                Some(names) => names.as_slice(),
-                None => &[],
-            },
+        match self.at(definition, clause) {
+            Some(found) => found.names.as_slice(),
             None => &[],
         }
     }

@@ -12,7 +12,7 @@ const FRAME: Name = Name {
 };
 
 /// Of which text the variables of a frame are.
-#[derive(Clone, Copy, PartialEq, Eq)]
+#[derive(Clone, Copy)]
 pub enum Scope {
     Query,
     /// The clause of this place in its definition.
@@ -46,19 +46,25 @@ fn definition_of(call: Goal) -> Option<u32> {
 
 impl Origins {
     /// Those of a query before its first step.
-    pub fn new(alloc: Global) -> Result<Origins, AllocError> {
-        let mut scopes = BTreeMap::new(alloc);
-        scopes.insert(FRAME, Scope::Query)?;
-        Ok(Origins {
-            scopes,
+    pub fn new(alloc: Global) -> Origins {
+        Origins {
+            scopes: BTreeMap::new(alloc),
             calls: BTreeMap::new(alloc),
             alternatives: BTreeMap::new(alloc),
-        })
+        }
     }
 
     /// Of which text the variables of a frame are, where they are of one.
     pub fn scope(&self, frame: Name) -> Option<Scope> {
+        if frame == FRAME {
+            return Some(Scope::Query);
+        }
         self.scopes.get(&frame).copied()
+    }
+
+    /// Whether the variables of a frame are the query's.
+    pub fn is_query(&self, frame: Name) -> bool {
+        matches!(self.scope(frame), Some(Scope::Query))
     }
 
     /// The call that became a choice.
@@ -79,15 +85,42 @@ impl Origins {
         Ok(())
     }
 
+    // A box becomes an alternative of a choice that was a call.
+    fn add_box(
+        &mut self,
+        call: Goal,
+        alternative: Alternative,
+        made: &NewBox,
+    ) -> Result<(), AllocError> {
+        self.alternatives.insert(made.name, alternative)?;
+        let Some(definition) = definition_of(call) else {
+            return Ok(());
+        };
+        let clause = alternative.clause;
+        let frames = made.store.get().frames()?;
+        self.add_frames(&frames, Scope::Clause { definition, clause })
+    }
+
     /// A call becomes the choice of these boxes.
     pub fn fork(&mut self, choice: Name, call: Goal, boxes: &[NewBox]) -> Result<(), AllocError> {
         self.calls.insert(choice, call)?;
         for (clause, made) in boxes.iter().enumerate() {
-            self.alternatives
-                .insert(made.name, Alternative { choice, clause })?;
-            if let Some(definition) = definition_of(call) {
-                let frames = made.store.get().frames()?;
-                self.add_frames(&frames, Scope::Clause { definition, clause })?;
+            self.add_box(call, Alternative { choice, clause }, made)?;
+        }
+        Ok(())
+    }
+
+    // The new frames have their variables from where the old ones have them. Their names come to the new ones.
+    fn rename(
+        &mut self,
+        old: &[Name],
+        new: &[Name],
+        names: &mut BTreeMap<Name, Name>,
+    ) -> Result<(), AllocError> {
+        for (old, new) in old.iter().zip(new) {
+            names.insert(*old, *new)?;
+            if let Some(scope) = self.scope(*old) {
+                self.scopes.insert(*new, scope)?;
             }
         }
         Ok(())
@@ -102,11 +135,19 @@ impl Origins {
     ) -> Result<(), AllocError> {
         let old = inner.store.get().frames()?;
         let new = copy.store.get().frames()?;
-        for (old, new) in old.iter().zip(new.iter()) {
-            names.insert(*old, *new)?;
-            if let Some(scope) = self.scope(*old) {
-                self.scopes.insert(*new, scope)?;
-            }
+        self.rename(&old, &new, names)
+    }
+
+    // A choice has a copy: it is the call that the old one was, under the new names of frames.
+    fn copy_call(
+        &mut self,
+        old: Name,
+        new: Name,
+        names: &BTreeMap<Name, Name>,
+    ) -> Result<(), AllocError> {
+        if let Some(Goal { code, frame }) = self.call(old) {
+            let frame = names.get(&frame).copied().unwrap_or(frame);
+            self.calls.insert(new, Goal { code, frame })?;
         }
         Ok(())
     }
@@ -118,12 +159,8 @@ impl Origins {
         copy: &BoxCopy,
         names: &BTreeMap<Name, Name>,
     ) -> Result<(), AllocError> {
-        for (old, new) in inner.goals.iter().zip(copy.goals.iter()) {
-            if let Some(call) = self.call(old.name) {
-                let frame = names.get(&call.frame).copied().unwrap_or(call.frame);
-                let code = call.code;
-                self.calls.insert(new.0, Goal { code, frame })?;
-            }
+        for (old, (new, _)) in inner.goals.iter().zip(&copy.goals) {
+            self.copy_call(old.name, *new, names)?;
         }
         Ok(())
     }
@@ -150,37 +187,36 @@ impl Origins {
         self.copy_alternative(inner, copy)
     }
 
-    /// A box is split at an alternative: it and the boxes inside it have copies but the alternative.
-    pub fn split(
+    // The boxes but the alternative have these copies, with their frames and as alternatives.
+    fn copy_boxes(
         &mut self,
-        alloc: Global,
         alternative: Name,
-        inside: &Inside,
+        boxes: &[InnerBox],
         copies: &[BoxCopy],
+        names: &mut BTreeMap<Name, Name>,
     ) -> Result<(), AllocError> {
-        let mut names = BTreeMap::new(alloc);
         let mut at = 0usize;
-        for inner in &inside.boxes {
+        for inner in boxes {
             if inner.name != alternative {
                 if let Some(copy) = copies.get(at) {
-                    self.copy_box(inner, copy, &mut names)?;
+                    self.copy_box(inner, copy, names)?;
                 }
                 at = at.saturating_add(1);
             }
         }
-        self.copy_all_calls(alternative, inside, copies, &names)
+        Ok(())
     }
 
-    // The choices of copies are the calls that the old ones were, under the new names of frames.
-    fn copy_all_calls(
+    // The choices in the boxes but the alternative have those in these copies.
+    fn copy_choices(
         &mut self,
         alternative: Name,
-        inside: &Inside,
+        boxes: &[InnerBox],
         copies: &[BoxCopy],
         names: &BTreeMap<Name, Name>,
     ) -> Result<(), AllocError> {
         let mut at = 0usize;
-        for inner in &inside.boxes {
+        for inner in boxes {
             if inner.name != alternative {
                 if let Some(copy) = copies.get(at) {
                     self.copy_calls(inner, copy, names)?;
@@ -189,5 +225,19 @@ impl Origins {
             }
         }
         Ok(())
+    }
+
+    /// A box is split at an alternative: it and the boxes inside it have copies but the alternative.
+    pub fn split(
+        &mut self,
+        alloc: Global,
+        alternative: Name,
+        inside: &Inside,
+        copies: &[BoxCopy],
+    ) -> Result<(), AllocError> {
+        let boxes = inside.boxes.as_slice();
+        let mut names = BTreeMap::new(alloc);
+        self.copy_boxes(alternative, boxes, copies, &mut names)?;
+        self.copy_choices(alternative, boxes, copies, &names)
     }
 }

@@ -8,7 +8,7 @@ use crate::candidates::candidate_for;
 use crate::names::SourceNames;
 use crate::origins::Origins;
 use crate::scene::Words;
-use crate::sentences::sentence;
+use crate::sentences::push_sentence;
 use akl_model::Label;
 use akl_terms::{Name, Program};
 use box_tree::{Plan, Sight, Step};
@@ -24,16 +24,7 @@ pub struct Replay {
     pub origins: Origins,
 }
 
-/// What came of a label.
-#[derive(Drop)]
-pub enum Replayed {
-    /// The step was made. It has a sentence where one was asked.
-    Made(String),
-    /// The label's rule doesn't apply, or all labels of the budget are made.
-    Refused,
-}
-
-// Appends the label of a plan, and makes its step; or the plan is refused.
+// Appends the label of a plan, and makes its step. Answers whether it could be made: not where all labels of the budget are.
 fn commit(alloc: Global, core: &mut Core, plan: Plan) -> Result<bool, AllocError>
     requires { MayCommit core.old plan }
     ensures { core.new.table.program ≡ core.old.table.program }
@@ -75,31 +66,53 @@ fn learn(alloc: Global, origins: &mut Origins, seen: &Seen, plan: &Plan) -> Resu
     }
 }
 
-// The sentence of a plan, where one is wanted.
-fn told(
-    alloc: Global,
+// Adds the sentence of a plan to a text, where one is given.
+fn tell(
     words: Words<'_>,
     seen: &Seen,
     plan: &Plan,
-    wanted: bool,
-) -> Result<String, AllocError> {
-    if wanted {
-        sentence(alloc, words, seen.view(), plan)
-    } else {
-        Ok(String::new(alloc))
+    sentence: Option<&mut Vec<u8>>,
+) -> Result<(), AllocError> {
+    match sentence {
+        Some(out) => push_sentence(words, out, seen.view(), plan),
+        None => Ok(()),
     }
 }
 
 impl Replay {
     /// The run from its start on.
-    pub fn new(alloc: Global, core: Core) -> Result<Replay, AllocError> {
-        Ok(Replay {
+    pub fn new(alloc: Global, core: Core) -> Replay
+        ensures { result.core ≡ core }
+    {
+        Replay {
             core,
-            origins: Origins::new(alloc)?,
-        })
+            origins: Origins::new(alloc),
+        }
     }
 
-    // Makes the step of a plan that was made of what was seen.
+    // Tells of a plan, and learns where that comes from which it makes.
+    fn prepare(
+        &mut self,
+        alloc: Global,
+        program: &Program,
+        names: &SourceNames,
+        seen: &Seen,
+        plan: &Plan,
+        sentence: Option<&mut Vec<u8>>,
+    ) -> Result<(), AllocError>
+        ensures { self.new.core ≡ self.old.core }
+    {
+        let origins = &self.origins;
+        let words = Words {
+            program,
+            names,
+            origins,
+        };
+        tell(words, seen, plan, sentence)?;
+        learn(alloc, &mut self.origins, seen, plan)
+    }
+
+    // Makes the step of a label whose plan was made of what was seen.
     fn make(
         &mut self,
         alloc: Global,
@@ -107,23 +120,13 @@ impl Replay {
         names: &SourceNames,
         seen: &Seen,
         plan: Plan,
-        wanted: bool,
-    ) -> Result<Replayed, AllocError>
+        sentence: Option<&mut Vec<u8>>,
+    ) -> Result<bool, AllocError>
         requires { MayCommit self.old.core plan }
         ensures { self.new.core.table.program ≡ self.old.core.table.program }
     {
-        let words = Words {
-            program,
-            names,
-            origins: &self.origins,
-        };
-        let text = told(alloc, words, seen, &plan, wanted)?;
-        learn(alloc, &mut self.origins, seen, &plan)?;
-        if commit(alloc, &mut self.core, plan)? {
-            Ok(Replayed::Made(text))
-        } else {
-            Ok(Replayed::Refused)
-        }
+        self.prepare(alloc, program, names, seen, &plan, sentence)?;
+        commit(alloc, &mut self.core, plan)
     }
 
     // Makes the step of a label whose place was seen.
@@ -134,8 +137,8 @@ impl Replay {
         names: &SourceNames,
         seen: &Seen,
         label: Label,
-        wanted: bool,
-    ) -> Result<Replayed, AllocError>
+        sentence: Option<&mut Vec<u8>>,
+    ) -> Result<bool, AllocError>
         requires program { program.now ≡ self.old.core.table.program }
         requires seen { IsSeen seen.now }
         requires sight { IsSight self.old.core label.place label.worker (view_in seen.now) }
@@ -144,31 +147,32 @@ impl Replay {
         match next_of(alloc, program, seen)? {
             Next::Plan(plan) => {
                 if plan.label().alternative == label.alternative {
-                    self.make(alloc, program, names, seen, plan, wanted)
+                    self.make(alloc, program, names, seen, plan, sentence)
                 } else {
-                    Ok(Replayed::Refused)
+                    Ok(false)
                 }
             }
-            Next::Idle(_idle) => Ok(Replayed::Refused),
+            Next::Idle(_idle) => Ok(false),
         }
     }
 
-    /// Makes the step of a label, and its sentence where one is wanted.
+    /// Makes the step of a label, and adds its sentence to a text where one is given. Answers whether the step could be made:
+    /// not where the label's rule doesn't apply, or all labels of the budget are made.
     pub fn step(
         &mut self,
         alloc: Global,
         program: &Program,
         names: &SourceNames,
         label: Label,
-        wanted: bool,
-    ) -> Result<Replayed, AllocError>
+        sentence: Option<&mut Vec<u8>>,
+    ) -> Result<bool, AllocError>
         requires { program.now ≡ self.old.core.table.program }
         ensures { self.new.core.table.program ≡ self.old.core.table.program }
     {
         let candidate = candidate_for(alloc, &self.core, &self.origins, label)?;
         match see(alloc, &self.core, label.place, label.worker, candidate)? {
-            Some(seen) => self.step_at(alloc, program, names, &seen, label, wanted),
-            None => Ok(Replayed::Refused),
+            Some(seen) => self.step_at(alloc, program, names, &seen, label, sentence),
+            None => Ok(false),
         }
     }
 }

@@ -3,10 +3,10 @@
 use crate::names::SourceNames;
 use crate::origins::{Origins, Scope};
 use akl_terms::{Name, Program, Seen, Term, Text, Var};
+use line_text::{push_name, push_number, push_text};
 use local_store::{Chain, Shared, Store};
 use rational_unify::Lookup;
 use std::alloc::AllocError;
-use std::fmt::Write;
 
 /// The most bindings that are followed from a variable to its value.
 const MOST_BINDINGS: usize = 100_000;
@@ -36,20 +36,27 @@ impl<'a> Words<'a> {
     }
 }
 
+// Adds `_` and the number of a variable.
+fn push_nameless(out: &mut Vec<u8>, index: u32) -> Result<(), AllocError> {
+    push_text(out, "_")?;
+    push_number(out, index as u64)
+}
+
 // Adds the name of a variable in a text; one without a name has its number.
-fn push_name(out: &mut String, names: &[Text], index: u32) -> Result<(), AllocError> {
+fn push_written(out: &mut Vec<u8>, names: &[Text], index: u32) -> Result<(), AllocError> {
     match names.get(index as usize) {
-        Some(name) if name.as_str() != "_" => out.push_str(name.as_str()),
-        _ => write!(out, "_{index}"),
+        Some(name) if name.as_str() != "_" => push_text(out, name.as_str()),
+        _ => push_nameless(out, index),
     }
 }
 
 /// Adds `#` and a name: its number, behind that of the worker where it isn't the first.
-pub(crate) fn push_mark(out: &mut String, name: Name) -> Result<(), AllocError> {
+pub(crate) fn push_mark(out: &mut Vec<u8>, name: Name) -> Result<(), AllocError> {
+    push_text(out, "#")?;
     if name.worker > 1 {
-        write!(out, "#{}.{}", name.worker, name.number)
+        push_name(out, name)
     } else {
-        write!(out, "#{}", name.number)
+        push_number(out, name.number)
     }
 }
 
@@ -65,16 +72,20 @@ impl<'a> Scene<'a> {
         }
     }
 
+    /// What a variable is bound to by the stores.
+    pub(crate) fn bound(self, variable: Var) -> Option<Term> {
+        Chain::new(&self.words.program.templates, self.stores).get(variable)
+    }
+
     // What is known of this by the stores.
     fn follow(self, first: Seen) -> Seen {
         let templates = &self.words.program.templates;
-        let chain = Chain::new(templates, self.stores);
         let mut seen = first;
         for _ in 0..MOST_BINDINGS {
             let Seen::Free(variable) = seen else {
                 return seen;
             };
-            let Some(next) = chain.get(variable) else {
+            let Some(next) = self.bound(variable) else {
                 return seen;
             };
             seen = templates.look(next);
@@ -107,16 +118,16 @@ impl<'a> Scene<'a> {
     }
 
     /// Adds the name of a variable: as the query has it, or as a clause has it with `#` and the number of its frame.
-    pub(crate) fn push_variable(self, out: &mut String, variable: Var) -> Result<(), AllocError> {
+    pub(crate) fn push_variable(self, out: &mut Vec<u8>, variable: Var) -> Result<(), AllocError> {
         match self.words.origins.scope(variable.frame) {
-            Some(Scope::Query) => push_name(out, self.words.names.query(), variable.index),
+            Some(Scope::Query) => push_written(out, self.words.names.query(), variable.index),
             Some(Scope::Clause { definition, clause }) => {
                 let names = self.words.names.clause(definition, clause);
-                push_name(out, names, variable.index)?;
+                push_written(out, names, variable.index)?;
                 push_mark(out, variable.frame)
             }
             None => {
-                write!(out, "_{}", variable.index)?;
+                push_nameless(out, variable.index)?;
                 push_mark(out, variable.frame)
             }
         }

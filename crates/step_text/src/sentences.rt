@@ -1,327 +1,379 @@
 //! A step in the words of the source.
 
-use crate::goals::{push_box, push_choice, push_goal, push_goals, push_name};
+use crate::goals::{push_box, push_choice, push_goal, push_listed, push_ordinal};
+use crate::origins::Alternative;
 use crate::scene::{Scene, Words};
 use crate::terms::push_term;
 use akl_model::Rule;
 use akl_terms::{Code, Goal, Name, Place, Term};
 use box_tree::{HeldOp, Plan, Sight, Step, View};
+use line_text::{push_name, push_number, push_text};
 use local_store::{Chain, Consistency, Shared, Store, consistent};
-use std::alloc::{AllocError, Global};
-use std::fmt::Write;
+use std::alloc::AllocError;
 
-// The stores of a view's boxes with another one as the innermost.
-fn stores_with(
-    alloc: Global,
+// Adds the stores of a view's boxes to others, with another one as the innermost.
+fn share_stores(
+    stores: &mut Vec<Shared<Store>>,
     view: &View,
     store: &Shared<Store>,
-) -> Result<Vec<Shared<Store>>, AllocError> {
-    let mut stores = Vec::new(alloc);
+) -> Result<(), AllocError> {
     let count = view.stores().len().saturating_sub(1);
     for outer in view.stores().iter().take(count) {
         stores.push(outer.share()?)?;
     }
     stores.push(store.share()?)?;
-    Ok(stores)
+    Ok(())
+}
+
+// Adds a term with what is known once the innermost box has another store.
+fn push_then(
+    scene: Scene<'_>,
+    out: &mut Vec<u8>,
+    view: &View,
+    store: &Shared<Store>,
+    term: Term,
+) -> Result<(), AllocError> {
+    let mut stores = Vec::new(*out.allocator());
+    share_stores(&mut stores, view, store)?;
+    push_term(scene.words.at(&stores), out, term)
 }
 
 // Adds in which box something stands, unless it is the query's first one.
-fn push_inside(
-    alloc: Global,
-    scene: Scene<'_>,
-    out: &mut String,
-    view: &View,
-) -> Result<(), AllocError> {
+fn push_inside(scene: Scene<'_>, out: &mut Vec<u8>, view: &View) -> Result<(), AllocError> {
     match view.path().last() {
         Some(name) if *name != Name::default() => {
-            out.push_str(", in ")?;
-            push_box(alloc, scene, out, *name)
+            push_text(out, ", in ")?;
+            push_box(scene, out, *name)
         }
         _ => Ok(()),
     }
 }
 
-// The same of an equation that is told.
+// Adds an equation that is told.
 fn push_tell(
-    alloc: Global,
     scene: Scene<'_>,
-    out: &mut String,
+    out: &mut Vec<u8>,
     goal: Goal,
     view: &View,
 ) -> Result<(), AllocError> {
-    push_goal(alloc, scene, out, goal)?;
-    out.push_str(" is told")?;
-    push_inside(alloc, scene, out, view)
+    push_goal(scene, out, goal)?;
+    push_text(out, " is told")?;
+    push_inside(scene, out, view)
 }
 
-// The same of a call that becomes a choice.
+// Adds what a call becomes: a choice of so many alternatives.
+fn push_becomes(out: &mut Vec<u8>, code: Code, count: usize) -> Result<(), AllocError> {
+    if let Code::Collect { .. } = code {
+        return push_text(out, " begins to collect");
+    }
+    push_text(out, " becomes a choice of ")?;
+    push_number(out, count as u64)?;
+    push_text(
+        out,
+        if count == 1 {
+            " alternative"
+        } else {
+            " alternatives"
+        },
+    )
+}
+
+// The sentence of a call that becomes a choice.
 fn push_fork(
-    alloc: Global,
     scene: Scene<'_>,
-    out: &mut String,
+    out: &mut Vec<u8>,
     goal: Goal,
     view: &View,
     count: usize,
 ) -> Result<(), AllocError> {
-    push_goal(alloc, scene, out, goal)?;
-    match (goal.code, count) {
-        (Code::Collect { .. }, _) => out.push_str(" begins to collect")?,
-        (_, 1) => out.push_str(" becomes a choice of 1 alternative")?,
-        (_, _) => write!(out, " becomes a choice of {count} alternatives")?,
-    }
-    push_inside(alloc, scene, out, view)
+    push_goal(scene, out, goal)?;
+    push_becomes(out, goal.code, count)?;
+    push_inside(scene, out, view)
 }
 
-// The same of an arithmetic goal.
-fn push_eval(
-    alloc: Global,
+// Adds what came of an arithmetic goal.
+fn push_value(
     scene: Scene<'_>,
-    out: &mut String,
+    out: &mut Vec<u8>,
     goal: Goal,
     view: &View,
     step: &Step,
 ) -> Result<(), AllocError> {
-    push_goal(alloc, scene, out, goal)?;
     match (step, goal.code) {
-        (Step::Confirm, _) => out.push_str(" holds")?,
-        (Step::Refute, _) => out.push_str(" doesn't hold")?,
-        (Step::Tell { store, .. }, Code::Arith { left, .. }) => {
-            out.push_str(" gives ")?;
-            let stores = stores_with(alloc, view, store)?;
-            let node = left;
+        (Step::Confirm, _) => push_text(out, " holds"),
+        (Step::Refute, _) => push_text(out, " doesn't hold"),
+        (Step::Tell { store, .. }, Code::Arith { left: node, .. }) => {
+            push_text(out, " gives ")?;
             let frame = goal.frame;
-            push_term(
-                alloc,
-                scene.words.at(&stores),
-                out,
-                Term::Mol { node, frame },
-            )?;
+            push_then(scene, out, view, store, Term::Mol { node, frame })
         }
-        _ => {}
+        _ => Ok(()),
     }
-    push_inside(alloc, scene, out, view)
 }
 
-// The same of a port that is opened.
-fn push_open(
-    alloc: Global,
+// The sentence of an arithmetic goal.
+fn push_eval(
     scene: Scene<'_>,
-    out: &mut String,
+    out: &mut Vec<u8>,
     goal: Goal,
     view: &View,
     step: &Step,
 ) -> Result<(), AllocError> {
-    push_goal(alloc, scene, out, goal)?;
-    if let (Step::Tell { store, .. }, Code::OpenPort { port, .. }) = (step, goal.code) {
-        out.push_str(" makes ")?;
-        let stores = stores_with(alloc, view, store)?;
-        let node = port;
-        let frame = goal.frame;
-        push_term(
-            alloc,
-            scene.words.at(&stores),
-            out,
-            Term::Mol { node, frame },
-        )?;
-    }
-    push_inside(alloc, scene, out, view)
+    push_goal(scene, out, goal)?;
+    push_value(scene, out, goal, view, step)?;
+    push_inside(scene, out, view)
 }
 
-// The same of a message that is sent.
-fn push_send(
-    alloc: Global,
+// Adds which port is made.
+fn push_port(
     scene: Scene<'_>,
-    out: &mut String,
+    out: &mut Vec<u8>,
+    goal: Goal,
+    view: &View,
+    step: &Step,
+) -> Result<(), AllocError> {
+    match (step, goal.code) {
+        (Step::Tell { store, .. }, Code::OpenPort { port: node, .. }) => {
+            push_text(out, " makes ")?;
+            let frame = goal.frame;
+            push_then(scene, out, view, store, Term::Mol { node, frame })
+        }
+        _ => Ok(()),
+    }
+}
+
+// The sentence of a port that is opened.
+fn push_open(
+    scene: Scene<'_>,
+    out: &mut Vec<u8>,
+    goal: Goal,
+    view: &View,
+    step: &Step,
+) -> Result<(), AllocError> {
+    push_goal(scene, out, goal)?;
+    push_port(scene, out, goal, view, step)?;
+    push_inside(scene, out, view)
+}
+
+// The sentence of a message that is sent.
+fn push_send(
+    scene: Scene<'_>,
+    out: &mut Vec<u8>,
     goal: Goal,
     view: &View,
 ) -> Result<(), AllocError> {
-    push_goal(alloc, scene, out, goal)?;
-    out.push_str(" puts the message at the end of the stream")?;
-    push_inside(alloc, scene, out, view)
+    push_goal(scene, out, goal)?;
+    push_text(out, " puts the message at the end of the stream")?;
+    push_inside(scene, out, view)
+}
+
+// Adds which two terms of a box clash, where some do.
+fn push_clash(scene: Scene<'_>, out: &mut Vec<u8>) -> Result<(), AllocError> {
+    let alloc = *out.allocator();
+    let chain = Chain::new(&scene.words.program.templates, scene.stores);
+    match consistent(alloc, &chain)? {
+        Consistency::Clash { left, right } => {
+            push_text(out, ": ")?;
+            push_term(scene, out, left)?;
+            push_text(out, " isn't ")?;
+            push_term(scene, out, right)
+        }
+        _ => Ok(()),
+    }
 }
 
 // Adds why a box fails.
 fn push_cause(
-    alloc: Global,
     scene: Scene<'_>,
-    out: &mut String,
+    out: &mut Vec<u8>,
     failing: Option<Name>,
 ) -> Result<(), AllocError> {
-    if let Some(goal) = failing {
-        if scene.words.origins.call(goal).is_some() {
-            out.push_str(": no alternative is left of ")?;
-            return push_choice(alloc, scene, out, goal);
-        }
-        return out.push_str(": it has the goal fail");
+    let Some(goal) = failing else {
+        return push_clash(scene, out);
+    };
+    if scene.words.origins.call(goal).is_some() {
+        push_text(out, ": no alternative is left of ")?;
+        return push_choice(scene, out, goal);
     }
-    let chain = Chain::new(&scene.words.program.templates, scene.stores);
-    if let Consistency::Clash { left, right } = consistent(alloc, &chain)? {
-        out.push_str(": ")?;
-        push_term(alloc, scene, out, left)?;
-        out.push_str(" isn't ")?;
-        push_term(alloc, scene, out, right)?;
-    }
-    Ok(())
+    push_text(out, ": it has the goal fail")
 }
 
 // The sentence of a box that fails.
 fn push_fail(
-    alloc: Global,
     scene: Scene<'_>,
-    out: &mut String,
+    out: &mut Vec<u8>,
     name: Name,
     sight: Sight,
 ) -> Result<(), AllocError> {
-    push_box(alloc, scene, out, name)?;
-    out.push_str(" fails")?;
+    push_box(scene, out, name)?;
+    push_text(out, " fails")?;
     match sight {
-        Sight::Box { failing } => push_cause(alloc, scene, out, failing),
+        Sight::Box { failing } => push_cause(scene, out, failing),
         Sight::Atom(_) | Sight::Choice { .. } => Ok(()),
     }
 }
 
+// What is known of an alternative, where there is one.
+fn known(scene: Scene<'_>, alternative: Option<Name>) -> Option<Alternative> {
+    scene.words.origins.alternative(alternative?)
+}
+
 // Adds which alternative of a choice.
 fn push_alternative(
-    alloc: Global,
     scene: Scene<'_>,
-    out: &mut String,
+    out: &mut Vec<u8>,
     alternative: Option<Name>,
     choice: Name,
 ) -> Result<(), AllocError> {
-    let known = match alternative {
-        Some(name) => scene.words.origins.alternative(name),
-        None => None,
-    };
-    match known {
-        Some(of) => write!(out, "alternative {} of ", of.clause.saturating_add(1))?,
-        None => out.push_str("the alternative of ")?,
+    match known(scene, alternative) {
+        Some(of) => push_ordinal(out, of.clause)?,
+        None => push_text(out, "the alternative")?,
     }
-    push_choice(alloc, scene, out, choice)
+    push_text(out, " of ")?;
+    push_choice(scene, out, choice)
 }
 
 // The sentence of a guard that cuts.
 fn push_cut(
-    alloc: Global,
     scene: Scene<'_>,
-    out: &mut String,
+    out: &mut Vec<u8>,
     goal: Name,
     view: &View,
     plan: &Plan,
 ) -> Result<(), AllocError> {
-    out.push_str("the guard of ")?;
-    push_alternative(alloc, scene, out, plan.label().alternative, goal)?;
+    push_text(out, "the guard of ")?;
+    push_alternative(scene, out, plan.label().alternative, goal)?;
     let others = match view.sight() {
         Sight::Choice {
             op: HeldOp::Condition,
         } => " holds, and those to its right go",
         _ => " holds, and all others go",
     };
-    out.push_str(others)?;
-    push_inside(alloc, scene, out, view)
+    push_text(out, others)?;
+    push_inside(scene, out, view)
 }
 
-// Adds goals that come, where there are some.
-fn push_coming(
-    alloc: Global,
+// Adds goals that come.
+fn push_goals(
     scene: Scene<'_>,
-    out: &mut String,
-    goals: &[Goal],
+    out: &mut Vec<u8>,
+    goals: &[(Name, Goal)],
+) -> Result<(), AllocError> {
+    for (at, (_, goal)) in goals.iter().enumerate() {
+        push_listed(scene, out, at, *goal)?;
+    }
+    Ok(())
+}
+
+// Adds goals that come with another store of the innermost box, where there are some.
+fn push_coming(
+    scene: Scene<'_>,
+    out: &mut Vec<u8>,
+    view: &View,
+    store: &Shared<Store>,
+    goals: &[(Name, Goal)],
 ) -> Result<(), AllocError> {
     if goals.is_empty() {
         return Ok(());
     }
-    out.push_str("; now ")?;
-    push_goals(alloc, scene, out, goals)
+    push_text(out, "; now ")?;
+    let mut stores = Vec::new(*out.allocator());
+    share_stores(&mut stores, view, store)?;
+    push_goals(scene.words.at(&stores), out, goals)
 }
 
 // The sentence of the last alternative, which joins the box around.
 fn push_promote(
-    alloc: Global,
     scene: Scene<'_>,
-    out: &mut String,
+    out: &mut Vec<u8>,
     goal: Name,
     view: &View,
     plan: &Plan,
 ) -> Result<(), AllocError> {
-    push_alternative(alloc, scene, out, plan.label().alternative, goal)?;
-    out.push_str(" is promoted")?;
-    push_inside(alloc, scene, out, view)?;
-    if let Step::Join { store, goals, .. } = plan.step() {
-        let stores = stores_with(alloc, view, store)?;
-        let mut atoms = Vec::new(alloc);
-        for (_, atom) in goals {
-            atoms.push(*atom)?;
-        }
-        push_coming(alloc, scene.words.at(&stores), out, &atoms)?;
+    push_alternative(scene, out, plan.label().alternative, goal)?;
+    push_text(out, " is promoted")?;
+    push_inside(scene, out, view)?;
+    match plan.step() {
+        Step::Join { store, goals, .. } => push_coming(scene, out, view, store, goals),
+        _ => Ok(()),
     }
-    Ok(())
+}
+
+// Adds the list of what was collected.
+fn push_list(
+    scene: Scene<'_>,
+    out: &mut Vec<u8>,
+    view: &View,
+    step: &Step,
+) -> Result<(), AllocError> {
+    match (step, view.sight()) {
+        (
+            Step::Join { store, .. },
+            Sight::Choice {
+                op: HeldOp::Collect(list),
+            },
+        ) => {
+            push_text(out, ": ")?;
+            push_then(scene, out, view, store, list)
+        }
+        _ => Ok(()),
+    }
 }
 
 // The sentence of solutions that are collected.
 fn push_collected(
-    alloc: Global,
     scene: Scene<'_>,
-    out: &mut String,
+    out: &mut Vec<u8>,
     goal: Name,
     view: &View,
     plan: &Plan,
 ) -> Result<(), AllocError> {
-    push_choice(alloc, scene, out, goal)?;
-    write!(out, " has {} solutions", view.alternatives().len())?;
-    if let (
-        Step::Join { store, .. },
-        Sight::Choice {
-            op: HeldOp::Collect(list),
-        },
-    ) = (plan.step(), view.sight())
-    {
-        let stores = stores_with(alloc, view, store)?;
-        out.push_str(": ")?;
-        push_term(alloc, scene.words.at(&stores), out, list)?;
-    }
-    push_inside(alloc, scene, out, view)
-}
-
-// The sentence of a box that is split.
-fn push_split(
-    alloc: Global,
-    scene: Scene<'_>,
-    out: &mut String,
-    name: Name,
-    plan: &Plan,
-) -> Result<(), AllocError> {
-    push_box(alloc, scene, out, name)?;
-    out.push_str(" is split: it keeps ")?;
-    match plan.label().alternative {
-        Some(alternative) => push_box_choice(alloc, scene, out, alternative)?,
-        None => out.push_str("one alternative")?,
-    }
-    if let Step::Split { copy, .. } = plan.step() {
-        out.push_str(", and its copy ")?;
-        push_name(out, *copy)?;
-        out.push_str(" has the others")?;
-    }
-    Ok(())
+    push_choice(scene, out, goal)?;
+    push_text(out, " has ")?;
+    push_number(out, view.alternatives().len() as u64)?;
+    push_text(out, " solutions")?;
+    push_list(scene, out, view, plan.step())?;
+    push_inside(scene, out, view)
 }
 
 // Adds which alternative a box is, of a choice in the box of the scene.
-fn push_box_choice(
-    alloc: Global,
-    scene: Scene<'_>,
-    out: &mut String,
-    name: Name,
-) -> Result<(), AllocError> {
+fn push_kept(scene: Scene<'_>, out: &mut Vec<u8>, name: Name) -> Result<(), AllocError> {
     match scene.words.origins.alternative(name) {
-        Some(of) => push_alternative(alloc, scene, out, Some(name), of.choice),
+        Some(of) => push_alternative(scene, out, Some(name), of.choice),
         None => push_name(out, name),
     }
 }
 
+// Adds which box is the copy of one that is split.
+fn push_copy(out: &mut Vec<u8>, step: &Step) -> Result<(), AllocError> {
+    let Step::Split { copy, .. } = step else {
+        return Ok(());
+    };
+    push_text(out, ", and its copy ")?;
+    push_name(out, *copy)?;
+    push_text(out, " has the others")
+}
+
+// The sentence of a box that is split.
+fn push_split(
+    scene: Scene<'_>,
+    out: &mut Vec<u8>,
+    name: Name,
+    plan: &Plan,
+) -> Result<(), AllocError> {
+    push_box(scene, out, name)?;
+    push_text(out, " is split: it keeps ")?;
+    match plan.label().alternative {
+        Some(alternative) => push_kept(scene, out, alternative)?,
+        None => push_text(out, "one alternative")?,
+    }
+    push_copy(out, plan.step())
+}
+
 // The sentence of a rule at an atom.
 fn push_at_atom(
-    alloc: Global,
     scene: Scene<'_>,
-    out: &mut String,
+    out: &mut Vec<u8>,
     atom: Goal,
     view: &View,
     plan: &Plan,
@@ -329,50 +381,55 @@ fn push_at_atom(
     let step = plan.step();
     match (plan.label().rule, step) {
         (_, Step::Fork { alternatives, .. }) => {
-            push_fork(alloc, scene, out, atom, view, alternatives.len())
+            push_fork(scene, out, atom, view, alternatives.len())
         }
-        (Rule::Eval, _) => push_eval(alloc, scene, out, atom, view, step),
-        (Rule::Open, _) => push_open(alloc, scene, out, atom, view, step),
-        (Rule::Send, _) => push_send(alloc, scene, out, atom, view),
-        _ => push_tell(alloc, scene, out, atom, view),
+        (Rule::Eval, _) => push_eval(scene, out, atom, view, step),
+        (Rule::Open, _) => push_open(scene, out, atom, view, step),
+        (Rule::Send, _) => push_send(scene, out, atom, view),
+        _ => push_tell(scene, out, atom, view),
     }
 }
 
 // The sentence of a rule at a choice.
 fn push_at_choice(
-    alloc: Global,
     scene: Scene<'_>,
-    out: &mut String,
+    out: &mut Vec<u8>,
     goal: Name,
     view: &View,
     plan: &Plan,
 ) -> Result<(), AllocError> {
     match plan.label().rule {
-        Rule::Cut => push_cut(alloc, scene, out, goal, view, plan),
-        Rule::Collect => push_collected(alloc, scene, out, goal, view, plan),
-        _ => push_promote(alloc, scene, out, goal, view, plan),
+        Rule::Cut => push_cut(scene, out, goal, view, plan),
+        Rule::Collect => push_collected(scene, out, goal, view, plan),
+        _ => push_promote(scene, out, goal, view, plan),
     }
 }
 
-/// The sentence of a plan that was made of a view.
-pub(crate) fn sentence(
-    alloc: Global,
+// The sentence of a rule at a box.
+fn push_at_box(
+    scene: Scene<'_>,
+    out: &mut Vec<u8>,
+    name: Name,
+    sight: Sight,
+    plan: &Plan,
+) -> Result<(), AllocError> {
+    match plan.label().rule {
+        Rule::Split => push_split(scene, out, name, plan),
+        _ => push_fail(scene, out, name, sight),
+    }
+}
+
+/// Adds the sentence of a plan that was made of a view.
+pub(crate) fn push_sentence(
     words: Words<'_>,
+    out: &mut Vec<u8>,
     view: &View,
     plan: &Plan,
-) -> Result<String, AllocError> {
-    let mut text = String::new(alloc);
-    let out = &mut text;
+) -> Result<(), AllocError> {
     let scene = words.at(view.stores());
     match (view.place(), view.sight()) {
-        (Place::Goal(_), Sight::Atom(atom)) => {
-            push_at_atom(alloc, scene, out, atom, view, plan)?;
-        }
-        (Place::Goal(goal), _) => push_at_choice(alloc, scene, out, goal, view, plan)?,
-        (Place::Box(name), sight) => match plan.label().rule {
-            Rule::Split => push_split(alloc, scene, out, name, plan)?,
-            _ => push_fail(alloc, scene, out, name, sight)?,
-        },
+        (Place::Goal(_), Sight::Atom(atom)) => push_at_atom(scene, out, atom, view, plan),
+        (Place::Goal(goal), _) => push_at_choice(scene, out, goal, view, plan),
+        (Place::Box(name), sight) => push_at_box(scene, out, name, sight, plan),
     }
-    Ok(text)
 }

@@ -3,9 +3,8 @@
 use crate::scene::{Scene, push_mark};
 use akl_terms::{Name, Seen, Term};
 use answer_text::push_constant;
-use std::alloc::{AllocError, Global};
-use std::fmt::Write;
-use std::str::from_utf8;
+use line_text::push_text;
+use std::alloc::AllocError;
 
 /// The most parts of a term that are written; of a cyclic term there is no end of them.
 const MOST_PARTS: usize = 200;
@@ -50,11 +49,17 @@ fn level_right(level: Level) -> Level {
     }
 }
 
-// Adds a symbol as a source writes it.
-pub(crate) fn push_symbol(alloc: Global, out: &mut String, symbol: &str) -> Result<(), AllocError> {
-    let mut bytes = Vec::new(alloc);
-    push_constant(&mut bytes, symbol)?;
-    out.push_str(from_utf8(&bytes).unwrap_or("?"))
+// Adds an integer.
+fn push_integer(out: &mut Vec<u8>, value: i128) -> Result<(), AllocError> {
+    let alloc = *out.allocator();
+    let digits = format!(in alloc; "{value}")?;
+    push_text(out, digits.as_str())
+}
+
+// Leaves a piece to be written.
+fn leave(pieces: &mut Vec<Piece>, piece: Piece) -> Result<(), AllocError> {
+    pieces.push(piece)?;
+    Ok(())
 }
 
 // Leaves the arguments to be written, with commas between, and the closing bracket.
@@ -64,12 +69,12 @@ fn leave_arguments(
     count: u32,
     frame: Name,
 ) -> Result<(), AllocError> {
-    pieces.push(Piece::Text(")"))?;
+    leave(pieces, Piece::Text(")"))?;
     for k in (0..count).rev() {
         let node = first.saturating_add(k);
-        pieces.push(Piece::Whole(Term::Mol { node, frame }, Level::Sum))?;
+        leave(pieces, Piece::Whole(Term::Mol { node, frame }, Level::Sum))?;
         if k > 0 {
-            pieces.push(Piece::Text(","))?;
+            leave(pieces, Piece::Text(","))?;
         }
     }
     Ok(())
@@ -78,15 +83,23 @@ fn leave_arguments(
 // Leaves the head and the tail of a cell to be written.
 fn leave_cell(pieces: &mut Vec<Piece>, first: u32, frame: Name) -> Result<(), AllocError> {
     let node = first.saturating_add(1);
-    pieces.push(Piece::Tail(Term::Mol { node, frame }))?;
-    pieces.push(Piece::Whole(Term::Mol { node: first, frame }, Level::Sum))?;
-    Ok(())
+    leave(pieces, Piece::Tail(Term::Mol { node, frame }))?;
+    leave(
+        pieces,
+        Piece::Whole(Term::Mol { node: first, frame }, Level::Sum),
+    )
+}
+
+// Opens a bracket, and leaves the closing one to be written.
+fn open_bracket(out: &mut Vec<u8>, pieces: &mut Vec<Piece>) -> Result<(), AllocError> {
+    push_text(out, "(")?;
+    leave(pieces, Piece::Text(")"))
 }
 
 // Leaves the operands and the operator between them to be written, in brackets where the operator doesn't bind as close as
 // it must.
 fn leave_operands(
-    out: &mut String,
+    out: &mut Vec<u8>,
     pieces: &mut Vec<Piece>,
     (level, text): (Level, &'static str),
     least: Level,
@@ -94,21 +107,24 @@ fn leave_operands(
     frame: Name,
 ) -> Result<(), AllocError> {
     if level < least {
-        out.push_str("(")?;
-        pieces.push(Piece::Text(")"))?;
+        open_bracket(out, pieces)?;
     }
     let node = first.saturating_add(1);
-    pieces.push(Piece::Whole(Term::Mol { node, frame }, level_right(level)))?;
-    pieces.push(Piece::Text(text))?;
-    pieces.push(Piece::Whole(Term::Mol { node: first, frame }, level))?;
-    Ok(())
+    leave(
+        pieces,
+        Piece::Whole(Term::Mol { node, frame }, level_right(level)),
+    )?;
+    leave(pieces, Piece::Text(text))?;
+    leave(
+        pieces,
+        Piece::Whole(Term::Mol { node: first, frame }, level),
+    )
 }
 
 // Begins a structure.
 fn begin_structure(
-    alloc: Global,
     scene: Scene<'_>,
-    out: &mut String,
+    out: &mut Vec<u8>,
     pieces: &mut Vec<Piece>,
     seen: Seen,
     least: Level,
@@ -124,10 +140,10 @@ fn begin_structure(
     };
     let name = scene.symbol(symbol);
     if count == 0 {
-        return push_symbol(alloc, out, name);
+        return push_constant(out, name);
     }
     if count == 2 && name == "." {
-        out.push_str("[")?;
+        push_text(out, "[")?;
         return leave_cell(pieces, first, frame);
     }
     if count == 2 {
@@ -135,99 +151,99 @@ fn begin_structure(
             return leave_operands(out, pieces, operator, least, first, frame);
         }
     }
-    push_symbol(alloc, out, name)?;
-    out.push_str("(")?;
+    push_constant(out, name)?;
+    push_text(out, "(")?;
     leave_arguments(pieces, first, count, frame)
 }
 
 // Begins a term.
 fn begin_whole(
-    alloc: Global,
     scene: Scene<'_>,
-    out: &mut String,
+    out: &mut Vec<u8>,
     pieces: &mut Vec<Piece>,
     term: Term,
     least: Level,
 ) -> Result<(), AllocError> {
     match scene.value(term) {
         Seen::Free(variable) => scene.push_variable(out, variable),
-        Seen::Int(value) => write!(out, "{value}"),
+        Seen::Int(value) => push_integer(out, value),
         Seen::Port(port) => {
-            out.push_str("port")?;
+            push_text(out, "port")?;
             push_mark(out, port)
         }
-        seen => begin_structure(alloc, scene, out, pieces, seen, least),
+        seen => begin_structure(scene, out, pieces, seen, least),
     }
+}
+
+// Begins a tail that is no list.
+fn begin_rest(out: &mut Vec<u8>, pieces: &mut Vec<Piece>, term: Term) -> Result<(), AllocError> {
+    push_text(out, "|")?;
+    leave(pieces, Piece::Text("]"))?;
+    leave(pieces, Piece::Whole(term, Level::Sum))
 }
 
 // Begins the tail of a list.
 fn begin_tail(
     scene: Scene<'_>,
-    out: &mut String,
+    out: &mut Vec<u8>,
     pieces: &mut Vec<Piece>,
     term: Term,
 ) -> Result<(), AllocError> {
-    if let Seen::Struct {
+    let Seen::Struct {
         symbol,
         first,
         count,
         frame,
     } = scene.value(term)
-    {
-        let name = scene.symbol(symbol);
-        if count == 0 && name == "[]" {
-            return out.push_str("]");
-        }
-        if count == 2 && name == "." {
-            out.push_str(",")?;
-            return leave_cell(pieces, first, frame);
-        }
+    else {
+        return begin_rest(out, pieces, term);
+    };
+    let name = scene.symbol(symbol);
+    if count == 0 && name == "[]" {
+        return push_text(out, "]");
     }
-    out.push_str("|")?;
-    pieces.push(Piece::Text("]"))?;
-    pieces.push(Piece::Whole(term, Level::Sum))?;
-    Ok(())
+    if count == 2 && name == "." {
+        push_text(out, ",")?;
+        return leave_cell(pieces, first, frame);
+    }
+    begin_rest(out, pieces, term)
 }
 
 // Begins a piece.
 fn begin(
-    alloc: Global,
     scene: Scene<'_>,
-    out: &mut String,
+    out: &mut Vec<u8>,
     pieces: &mut Vec<Piece>,
     piece: Piece,
 ) -> Result<(), AllocError> {
     match piece {
-        Piece::Text(text) => out.push_str(text),
-        Piece::Whole(term, least) => begin_whole(alloc, scene, out, pieces, term, least),
+        Piece::Text(text) => push_text(out, text),
+        Piece::Whole(term, least) => begin_whole(scene, out, pieces, term, least),
         Piece::Tail(term) => begin_tail(scene, out, pieces, term),
     }
 }
 
 // Adds a piece of which no parts are written any more.
-fn cut_short(out: &mut String, piece: Piece) -> Result<(), AllocError> {
+fn cut_short(out: &mut Vec<u8>, piece: Piece) -> Result<(), AllocError> {
     match piece {
-        Piece::Text(text) => out.push_str(text),
-        Piece::Whole(_, _) => out.push_str(".."),
-        Piece::Tail(_) => out.push_str("|..]"),
+        Piece::Text(text) => push_text(out, text),
+        Piece::Whole(_, _) => push_text(out, ".."),
+        Piece::Tail(_) => push_text(out, "|..]"),
     }
 }
 
-/// Adds a term with what is known of it. Where it has many parts, some have `..` in their place.
-pub(crate) fn push_term(
-    alloc: Global,
+// Adds the parts of the pieces that are left, and of those that these leave.
+fn push_pieces(
     scene: Scene<'_>,
-    out: &mut String,
-    term: Term,
+    out: &mut Vec<u8>,
+    pieces: &mut Vec<Piece>,
 ) -> Result<(), AllocError> {
-    let mut pieces = Vec::new(alloc);
-    pieces.push(Piece::Whole(term, Level::Sum))?;
     for written in 0..MOST_PIECES {
         let Some(piece) = pieces.pop() else {
             return Ok(());
         };
         if written < MOST_PARTS {
-            begin(alloc, scene, out, &mut pieces, piece)?;
+            begin(scene, out, pieces, piece)?;
         } else {
             cut_short(out, piece)?;
         }
@@ -235,12 +251,36 @@ pub(crate) fn push_term(
     Ok(())
 }
 
+/// Adds a term with what is known of it. Where it has many parts, some have `..` in their place.
+pub(crate) fn push_term(scene: Scene<'_>, out: &mut Vec<u8>, term: Term) -> Result<(), AllocError> {
+    let mut pieces = Vec::new(*out.allocator());
+    leave(&mut pieces, Piece::Whole(term, Level::Sum))?;
+    push_pieces(scene, out, &mut pieces)
+}
+
+// Adds so many neighbouring nodes under a frame, with commas between.
+fn push_nodes(
+    scene: Scene<'_>,
+    out: &mut Vec<u8>,
+    first: u32,
+    count: u32,
+    frame: Name,
+) -> Result<(), AllocError> {
+    for k in 0..count {
+        if k > 0 {
+            push_text(out, ",")?;
+        }
+        let node = first.saturating_add(k);
+        push_term(scene, out, Term::Mol { node, frame })?;
+    }
+    Ok(())
+}
+
 /// Adds so many neighbouring nodes under a frame, in brackets behind what they are the arguments of; nothing where there are
 /// none.
 pub(crate) fn push_arguments(
-    alloc: Global,
     scene: Scene<'_>,
-    out: &mut String,
+    out: &mut Vec<u8>,
     first: u32,
     count: u32,
     frame: Name,
@@ -248,13 +288,7 @@ pub(crate) fn push_arguments(
     if count == 0 {
         return Ok(());
     }
-    out.push_str("(")?;
-    for k in 0..count {
-        if k > 0 {
-            out.push_str(",")?;
-        }
-        let node = first.saturating_add(k);
-        push_term(alloc, scene, out, Term::Mol { node, frame })?;
-    }
-    out.push_str(")")
+    push_text(out, "(")?;
+    push_nodes(scene, out, first, count, frame)?;
+    push_text(out, ")")
 }

@@ -1,16 +1,18 @@
 //! The boxes and goals of a run as an indented tree.
 
-ghost use Rattle.std.specs.Prelude.{◌≡◌};
+ghost use Rattle.std.specs.Prelude.{◌≡◌, IfOk};
+ghost use Rattle.place_steps.specs.Seen.{view_in, IsSeen, IsSeenBy};
 
 use crate::equations::{push_line, push_told, push_values};
-use crate::goals::{push_choice, push_goal, push_goals, push_name};
+use crate::goals::{push_choice, push_goal, push_listed, push_ordinal};
 use crate::scene::{Scene, Words};
 use crate::states::push_state;
-use akl_terms::{Name, Place};
-use box_tree::{Held, HeldOp, InnerBox, InnerGoal, Inside, LookError, View};
+use akl_terms::{Goal, Name, Place};
+use box_tree::{Held, HeldOp, InnerBox, InnerGoal, Inside, LookError};
+use line_text::{push_name, push_text};
+use place_steps::{Seen, first_candidate, see};
 use std::alloc::{AllocError, Global};
 use std::collections::BTreeMap;
-use std::fmt::Write;
 use step_commit::Core;
 
 /// What has lines of its own: a box, by its place among those inside a root box, or a goal of such a box.
@@ -27,32 +29,68 @@ struct Entry {
     part: Part,
 }
 
-// Where the boxes are, by their names.
-fn places_of(alloc: Global, boxes: &[InnerBox]) -> Result<BTreeMap<Name, usize>, AllocError> {
-    let mut places = BTreeMap::new(alloc);
+/// A root box and those inside it, with where each of them is.
+#[derive(Clone, Copy)]
+struct Boxes<'a> {
+    list: &'a [InnerBox],
+    places: &'a BTreeMap<Name, usize>,
+}
+
+// Adds where the boxes are, by their names.
+fn add_places(places: &mut BTreeMap<Name, usize>, boxes: &[InnerBox]) -> Result<(), AllocError> {
     for (at, inner) in boxes.iter().enumerate() {
         places.insert(inner.name, at)?;
     }
-    Ok(places)
+    Ok(())
 }
 
-// A view of a place, if it is there.
-fn view_at(alloc: Global, core: &Core, place: Place) -> Result<Option<View>, AllocError> {
-    match core.look(alloc, place, 1) {
-        Ok(view) => Ok(Some(view)),
-        Err(LookError::Gone) => Ok(None),
-        Err(LookError::Memory(error)) => Err(error),
-    }
+// What is seen of a place, if it is there.
+fn seen_at(alloc: Global, core: &Core, place: Place) -> Result<Option<Seen>, AllocError>
+    ensures { IfOk result (IsSeenBy core.now place 1) }
+{
+    let candidate = first_candidate(alloc, core, place)?;
+    see(alloc, core, place, 1, candidate)
 }
 
 // How a choice decides between its alternatives.
 fn operator_text(op: HeldOp) -> &'static str {
     match op {
-        HeldOp::Condition => "a choice by ->",
-        HeldOp::Commit => "a choice by |",
-        HeldOp::Choice => "a choice by ?",
-        HeldOp::Collect(_) => "collects",
+        HeldOp::Condition => ": a choice by ->",
+        HeldOp::Commit => ": a choice by |",
+        HeldOp::Choice => ": a choice by ?",
+        HeldOp::Collect(_) => ": collects",
     }
+}
+
+// Adds what a goal is.
+fn push_held(scene: Scene<'_>, out: &mut Vec<u8>, goal: &InnerGoal) -> Result<(), AllocError> {
+    match &goal.held {
+        Held::Atom(atom) => push_goal(scene, out, *atom),
+        Held::Choice { op, .. } => {
+            push_choice(scene, out, goal.name)?;
+            push_text(out, operator_text(*op))
+        }
+    }
+}
+
+// Adds the line of a goal that was seen.
+fn push_seen_goal(
+    alloc: Global,
+    words: Words<'_>,
+    out: &mut Vec<u8>,
+    depth: usize,
+    goal: &InnerGoal,
+    seen: &Seen,
+) -> Result<(), AllocError>
+    requires program { words.program.now ≡ (view_in seen.now).table.program }
+    requires seen { IsSeen seen.now }
+{
+    let scene = words.at(seen.view().stores());
+    push_line(out, depth)?;
+    push_name(out, goal.name)?;
+    push_text(out, " ")?;
+    push_held(scene, out, goal)?;
+    push_state(alloc, words.program, scene, out, seen)
 }
 
 // Adds the line of a goal.
@@ -60,64 +98,86 @@ fn push_goal_line(
     alloc: Global,
     core: &Core,
     words: Words<'_>,
-    out: &mut String,
+    out: &mut Vec<u8>,
     depth: usize,
     goal: &InnerGoal,
 ) -> Result<(), AllocError>
     requires { words.program.now ≡ core.now.table.program }
 {
-    let place = Place::Goal(goal.name);
-    let Some(view) = view_at(alloc, core, place)? else {
-        return Ok(());
-    };
-    let scene = words.at(view.stores());
-    push_line(out, depth)?;
-    push_name(out, goal.name)?;
-    out.push_str(" ")?;
-    match &goal.held {
-        Held::Atom(atom) => push_goal(alloc, scene, out, *atom)?,
-        Held::Choice { op, .. } => {
-            push_choice(alloc, scene, out, goal.name)?;
-            out.push_str(": ")?;
-            out.push_str(operator_text(*op))?;
-        }
+    match seen_at(alloc, core, Place::Goal(goal.name))? {
+        Some(seen) => push_seen_goal(alloc, words, out, depth, goal, &seen),
+        None => Ok(()),
     }
-    push_state(alloc, words.program, core, scene, out, place)
 }
 
 // Adds what a box is, and whether its goals are solved.
-fn push_kind(out: &mut String, words: Words<'_>, inner: &InnerBox) -> Result<(), AllocError> {
+fn push_kind(out: &mut Vec<u8>, words: Words<'_>, inner: &InnerBox) -> Result<(), AllocError> {
     push_name(out, inner.name)?;
+    push_text(out, " ")?;
     match words.origins.alternative(inner.name) {
-        Some(of) => write!(out, " alternative {}", of.clause.saturating_add(1))?,
-        None => out.push_str(" root box")?,
+        Some(of) => push_ordinal(out, of.clause)?,
+        None => push_text(out, "root box")?,
     }
-    if inner.goals.is_empty() {
-        out.push_str(", solved")?;
+    push_text(
+        out,
+        if inner.goals.is_empty() {
+            ", solved"
+        } else {
+            ""
+        },
+    )
+}
+
+// Adds the line of the goals that come where a box is promoted, if there are some.
+fn push_body(
+    scene: Scene<'_>,
+    out: &mut Vec<u8>,
+    depth: usize,
+    body: &[Goal],
+) -> Result<(), AllocError> {
+    for (at, goal) in body.iter().enumerate() {
+        if at == 0 {
+            push_line(out, depth)?;
+            push_text(out, "then ")?;
+        }
+        push_listed(scene, out, at, *goal)?;
     }
     Ok(())
 }
 
 // Adds the lines of what a box was told, and of the goals that come where it is promoted.
 fn push_contents(
-    alloc: Global,
     scene: Scene<'_>,
-    out: &mut String,
+    out: &mut Vec<u8>,
     depth: usize,
     inner: &InnerBox,
 ) -> Result<(), AllocError> {
     let store = inner.store.get();
     if inner.holder.is_none() {
-        return push_values(alloc, scene, out, depth, store);
+        return push_values(scene, out, depth, store);
     }
-    push_told(alloc, scene, out, depth, store, false)?;
-    push_told(alloc, scene, out, depth, store, true)?;
-    if !inner.body.is_empty() {
-        push_line(out, depth)?;
-        out.push_str("then ")?;
-        push_goals(alloc, scene, out, &inner.body)?;
-    }
-    Ok(())
+    push_told(scene, out, depth, store, false)?;
+    push_told(scene, out, depth, store, true)?;
+    push_body(scene, out, depth, &inner.body)
+}
+
+// Adds the lines of a box that was seen, without its goals.
+fn push_seen_box(
+    alloc: Global,
+    words: Words<'_>,
+    out: &mut Vec<u8>,
+    depth: usize,
+    inner: &InnerBox,
+    seen: &Seen,
+) -> Result<(), AllocError>
+    requires program { words.program.now ≡ (view_in seen.now).table.program }
+    requires seen { IsSeen seen.now }
+{
+    let scene = words.at(seen.view().stores());
+    push_line(out, depth)?;
+    push_kind(out, words, inner)?;
+    push_state(alloc, words.program, scene, out, seen)?;
+    push_contents(scene, out, depth.saturating_add(1), inner)
 }
 
 // Adds the lines of a box, without its goals.
@@ -125,21 +185,16 @@ fn push_box_lines(
     alloc: Global,
     core: &Core,
     words: Words<'_>,
-    out: &mut String,
+    out: &mut Vec<u8>,
     depth: usize,
     inner: &InnerBox,
 ) -> Result<(), AllocError>
     requires { words.program.now ≡ core.now.table.program }
 {
-    let place = Place::Box(inner.name);
-    let Some(view) = view_at(alloc, core, place)? else {
-        return Ok(());
-    };
-    let scene = words.at(view.stores());
-    push_line(out, depth)?;
-    push_kind(out, words, inner)?;
-    push_state(alloc, words.program, core, scene, out, place)?;
-    push_contents(alloc, scene, out, depth.saturating_add(1), inner)
+    match seen_at(alloc, core, Place::Box(inner.name))? {
+        Some(seen) => push_seen_box(alloc, words, out, depth, inner, &seen),
+        None => Ok(()),
+    }
 }
 
 // Leaves the goals of a box to be written, the first last.
@@ -150,18 +205,30 @@ fn leave_goals(
     count: usize,
 ) -> Result<(), AllocError> {
     for k in (0..count).rev() {
-        entries.push(Entry {
-            depth,
-            part: Part::Goal(at, k),
-        })?;
+        let part = Part::Goal(at, k);
+        entries.push(Entry { depth, part })?;
+    }
+    Ok(())
+}
+
+// Leaves a box to be written, if it is there.
+fn leave_box(
+    boxes: Boxes<'_>,
+    entries: &mut Vec<Entry>,
+    depth: usize,
+    name: Name,
+) -> Result<(), AllocError> {
+    if let Some(at) = boxes.places.get(&name) {
+        let part = Part::Inner(*at);
+        entries.push(Entry { depth, part })?;
     }
     Ok(())
 }
 
 // Leaves the alternatives of a goal to be written, the first last.
 fn leave_alternatives(
+    boxes: Boxes<'_>,
     entries: &mut Vec<Entry>,
-    places: &BTreeMap<Name, usize>,
     depth: usize,
     goal: &InnerGoal,
 ) -> Result<(), AllocError> {
@@ -169,14 +236,16 @@ fn leave_alternatives(
         return Ok(());
     };
     for name in alternatives.iter().rev() {
-        if let Some(at) = places.get(name) {
-            entries.push(Entry {
-                depth,
-                part: Part::Inner(*at),
-            })?;
-        }
+        leave_box(boxes, entries, depth, *name)?;
     }
     Ok(())
+}
+
+impl<'a> Boxes<'a> {
+    // A goal of a box, by their places.
+    fn goal(self, at: usize, k: usize) -> Option<&'a InnerGoal> {
+        self.list.get(at)?.goals.get(k)
+    }
 }
 
 // Adds the lines of an entry, and leaves what stands in it to be written.
@@ -184,9 +253,8 @@ fn push_entry(
     alloc: Global,
     core: &Core,
     words: Words<'_>,
-    out: &mut String,
-    boxes: &[InnerBox],
-    places: &BTreeMap<Name, usize>,
+    out: &mut Vec<u8>,
+    boxes: Boxes<'_>,
     entries: &mut Vec<Entry>,
     entry: Entry,
 ) -> Result<(), AllocError>
@@ -195,64 +263,90 @@ fn push_entry(
     let depth = entry.depth.saturating_add(1);
     match entry.part {
         Part::Inner(at) => {
-            if let Some(inner) = boxes.get(at) {
+            if let Some(inner) = boxes.list.get(at) {
                 push_box_lines(alloc, core, words, out, entry.depth, inner)?;
                 leave_goals(entries, depth, at, inner.goals.len())?;
             }
         }
         Part::Goal(at, k) => {
-            if let Some(goal) = goal_at(boxes, at, k) {
+            if let Some(goal) = boxes.goal(at, k) {
                 push_goal_line(alloc, core, words, out, entry.depth, goal)?;
-                leave_alternatives(entries, places, depth, goal)?;
+                leave_alternatives(boxes, entries, depth, goal)?;
             }
         }
     }
     Ok(())
 }
 
-// A goal of a box, by their places.
-fn goal_at(boxes: &[InnerBox], at: usize, k: usize) -> Option<&InnerGoal> {
-    boxes.get(at)?.goals.get(k)
+// Adds the lines of the entries that are left, so many at most, and of those that these leave.
+fn push_entries(
+    alloc: Global,
+    core: &Core,
+    words: Words<'_>,
+    out: &mut Vec<u8>,
+    boxes: Boxes<'_>,
+    entries: &mut Vec<Entry>,
+    most: usize,
+) -> Result<(), AllocError>
+    requires { words.program.now ≡ core.now.table.program }
+{
+    for _ in 0..most {
+        let Some(entry) = entries.pop() else {
+            return Ok(());
+        };
+        push_entry(alloc, core, words, out, boxes, entries, entry)?;
+    }
+    Ok(())
 }
 
-// What is written first: a box.
-fn first_entry(
+// Adds the lines of a box, and of all that stands inside it.
+fn push_whole(
     alloc: Global,
-    places: &BTreeMap<Name, usize>,
+    core: &Core,
+    words: Words<'_>,
+    out: &mut Vec<u8>,
     depth: usize,
     name: Name,
-) -> Result<Vec<Entry>, AllocError> {
+    boxes: Boxes<'_>,
+    most: usize,
+) -> Result<(), AllocError>
+    requires { words.program.now ≡ core.now.table.program }
+{
     let mut entries = Vec::new(alloc);
-    if let Some(at) = places.get(&name) {
-        let part = Part::Inner(*at);
-        entries.push(Entry { depth, part })?;
-    }
-    Ok(entries)
+    leave_box(boxes, &mut entries, depth, name)?;
+    push_entries(alloc, core, words, out, boxes, &mut entries, most)
 }
 
-// Adds the lines of a root box, and of all that stands inside it.
+// The same of a root box of which this was found inside.
 fn push_inside(
     alloc: Global,
     core: &Core,
     words: Words<'_>,
-    out: &mut String,
+    out: &mut Vec<u8>,
     depth: usize,
     name: Name,
     inside: &Inside,
 ) -> Result<(), AllocError>
     requires { words.program.now ≡ core.now.table.program }
 {
-    let boxes = inside.boxes.as_slice();
-    let places = places_of(alloc, boxes)?;
-    let mut entries = first_entry(alloc, &places, depth, name)?;
+    let list = inside.boxes.as_slice();
+    let mut places = BTreeMap::new(alloc);
+    add_places(&mut places, list)?;
+    let boxes = Boxes {
+        list,
+        places: &places,
+    };
     // Each box and each goal comes once.
-    for _ in 0..inside.views.len() {
-        let Some(entry) = entries.pop() else {
-            return Ok(());
-        };
-        push_entry(alloc, core, words, out, boxes, &places, &mut entries, entry)?;
-    }
-    Ok(())
+    push_whole(
+        alloc,
+        core,
+        words,
+        out,
+        depth,
+        name,
+        boxes,
+        inside.views.len(),
+    )
 }
 
 // The same of a root box, if it is there.
@@ -260,7 +354,7 @@ fn push_root(
     alloc: Global,
     core: &Core,
     words: Words<'_>,
-    out: &mut String,
+    out: &mut Vec<u8>,
     depth: usize,
     name: Name,
 ) -> Result<(), AllocError>
@@ -283,7 +377,7 @@ pub fn push_tree(
     alloc: Global,
     core: &Core,
     words: Words<'_>,
-    out: &mut String,
+    out: &mut Vec<u8>,
     depth: usize,
 ) -> Result<(), AllocError>
     requires { words.program.now ≡ core.now.table.program }

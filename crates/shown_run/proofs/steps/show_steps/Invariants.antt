@@ -1,5 +1,5 @@
 use Rattle.std.proofs.Common.{◌≡◌}
-use Rattle.akl_steps.proofs.shown.show_steps.Given as goal
+use Rattle.shown_run.proofs.steps.show_steps.Given as goal
 
 -- the core has the program still
 abbrev pub invariant-loop-label : goal.invariant-loop-label

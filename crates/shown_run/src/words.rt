@@ -27,11 +27,11 @@ pub struct Asked {
     pub last: bool,
 }
 
-/// What the words are.
+/// What a command line is.
 #[derive(Drop)]
-pub enum Words {
+pub enum Command {
     Help,
-    Run(Asked),
+    Show(Asked),
     /// The word of this number, from 0, is refused.
     Refused(usize),
 }
@@ -93,43 +93,44 @@ impl Asked {
         }
         Ok(self.take_number(name, value))
     }
-}
 
-// The name and the value of an option in one word.
-fn joined(word: &str) -> Option<(&str, &str)> {
-    word.split_once('=')
+    // Takes these words. Answers the number of the one that is refused, if one is; of one that is missing it is behind the last.
+    fn take_words(&mut self, alloc: Global, words: &[String]) -> Result<Option<usize>, AllocError> {
+        let mut open: Option<&str> = None;
+        for (at, word) in words.iter().enumerate() {
+            let word = word.as_str();
+            if let Some(name) = open {
+                if !self.take_option(alloc, name, word)? {
+                    return Ok(Some(at));
+                }
+                open = None;
+            } else if let Some((name, value)) = word.split_once('=') {
+                if !self.take_option(alloc, name, value)? {
+                    return Ok(Some(at));
+                }
+            } else if !self.take_flag(word) {
+                open = Some(word);
+            }
+        }
+        let is_missing = open.is_some() || self.query.is_empty();
+        Ok(is_missing.then_some(words.len()))
+    }
 }
 
 // What these words ask for, where none is `--help`.
-fn read_asked(alloc: Global, words: &[String]) -> Result<Words, AllocError> {
+fn read_asked(alloc: Global, words: &[String]) -> Result<Command, AllocError> {
     let mut asked = nothing_asked(alloc);
-    let mut open: Option<&str> = None;
-    for (at, word) in words.iter().enumerate() {
-        let word = word.as_str();
-        if let Some(name) = open {
-            if !asked.take_option(alloc, name, word)? {
-                return Ok(Words::Refused(at));
-            }
-            open = None;
-        } else if let Some((name, value)) = joined(word) {
-            if !asked.take_option(alloc, name, value)? {
-                return Ok(Words::Refused(at));
-            }
-        } else if !asked.take_flag(word) {
-            open = Some(word);
-        }
+    match asked.take_words(alloc, words)? {
+        None => Ok(Command::Show(asked)),
+        Some(at) => Ok(Command::Refused(at)),
     }
-    if open.is_some() || asked.query.is_empty() {
-        return Ok(Words::Refused(words.len()));
-    }
-    Ok(Words::Run(asked))
 }
 
 /// What the words ask for.
-pub fn read_words(alloc: Global, words: &[String]) -> Result<Words, AllocError> {
+pub fn read_words(alloc: Global, words: &[String]) -> Result<Command, AllocError> {
     if let [word] = words {
         if word.as_str() == "--help" {
-            return Ok(Words::Help);
+            return Ok(Command::Help);
         }
     }
     read_asked(alloc, words)

@@ -30,16 +30,21 @@ fn program_clauses(alloc: Global, text: &[u8]) -> Result<Vec<SourceClause>, Allo
     lift(alloc, clauses)
 }
 
-// The names of a query's variables, and the clauses that are made of its choices.
-fn query_clauses(alloc: Global, text: &[u8]) -> Result<(Vec<Text>, Vec<SourceClause>), AllocError>
+// The names of a query's variables. Adds the clauses that are made of its choices.
+fn query_names(
+    alloc: Global,
+    text: &[u8],
+    clauses: &mut Vec<SourceClause>,
+) -> Result<Vec<Text>, AllocError>
     requires { length text.now ≤ 10000 }
 {
     let Ok(written) = read_query(alloc, text) else {
-        return Ok((Vec::new(alloc), Vec::new(alloc)));
+        return Ok(Vec::new(alloc));
     };
     let asked = scoped_query(alloc, written)?;
-    let (query, clauses) = lift_query(alloc, asked, FIRST_ASKED)?;
-    Ok((query.names, clauses))
+    let (query, mut made) = lift_query(alloc, asked, FIRST_ASKED)?;
+    clauses.append(&mut made)?;
+    Ok(query.names)
 }
 
 // The names of all variables.
@@ -52,8 +57,7 @@ fn names_of(
     requires { length query.now ≤ 10000 }
 {
     let mut clauses = program_clauses(alloc, text)?;
-    let (names, mut asked) = query_clauses(alloc, query)?;
-    clauses.append(&mut asked)?;
+    let names = query_names(alloc, query, &mut clauses)?;
     SourceNames::new(alloc, program, clauses, names)
 }
 
