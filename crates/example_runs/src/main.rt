@@ -130,38 +130,46 @@ fn show<R: Threads + Wait + Sync>(
     Ok(line)
 }
 
-// What the text of a program is read from.
-fn source_of(rt: &HostRuntime, file: &str) -> Result<MemorySource> {
-    let alloc = rt.alloc();
-    let program = fs::read_to_string(rt, file)?;
-    let bytes = Vec::from_slice(alloc, program.as_bytes())?;
-    Ok(MemorySource::new(bytes, 4096, Vec::new(alloc)))
-}
-
-// Does what a command asks that stands in a line: a file, perhaps options behind it, and a query. Prints what it writes.
-fn run(rt: &HostRuntime, line: &str, is_shown: bool) -> Result<()> {
-    let alloc = rt.alloc();
-    let (named, query) = line.split_once(": ").unwrap_or((line, ""));
-    let (file, options) = named.split_once(' ').unwrap_or((named, ""));
-    let mut source = source_of(rt, file)?;
-    let mut out = MemorySink::new(alloc, 4096, 100_000, Vec::new(alloc))?;
+// What a command says over a program, of which these are the options and the query.
+fn said<R: Threads + Wait + Sync>(
+    rt: &R,
+    alloc: Global,
+    program: &str,
+    options: &str,
+    query: &str,
+    is_shown: bool,
+) -> Result<String> {
     let words = words_of(alloc, options, query)?;
-    let said = if is_shown {
+    let bytes = Vec::from_slice(alloc, program.as_bytes())?;
+    let mut source = MemorySource::new(bytes, 4096, Vec::new(alloc));
+    let mut out = MemorySink::new(alloc, 4096, 100_000, Vec::new(alloc))?;
+    let line = if is_shown {
         show(rt, alloc, &words, &mut source, &mut out)?
     } else {
         answer(rt, alloc, &words, &mut source, &mut out)?
     };
-    print!(rt; "{}{}", from_utf8(out.bytes())?, from_utf8(&said)?)?;
-    Ok(())
+    let mut text = String::from_str(alloc, from_utf8(out.bytes())?)?;
+    text.push_str(from_utf8(&line)?)?;
+    Ok(text)
+}
+
+// The command of a row, and whether it is `akl_steps`.
+fn command_of(row: &str) -> (&str, bool) {
+    match row.strip_prefix("akl_steps ") {
+        Some(line) => (line, true),
+        None => (row, false),
+    }
 }
 
 fn main(rt: HostRuntime) -> Result<()> {
     for row in RUNS.lines().skip(1) {
-        println!(rt; "{row}")?;
-        match row.strip_prefix("akl_steps ") {
-            Some(line) => run(&rt, line, true)?,
-            None => run(&rt, row, false)?,
-        }
+        let (line, is_shown) = command_of(row);
+        let (named, query) = line.split_once(": ").unwrap_or((line, ""));
+        let (file, options) = named.split_once(' ').unwrap_or((named, ""));
+        let program = fs::read_to_string(&rt, file)?;
+        let alloc = rt.alloc();
+        let text = said(&rt, alloc, program.as_str(), options, query, is_shown)?;
+        print!(rt; "{row}\n{text}")?;
     }
     Ok(())
 }
