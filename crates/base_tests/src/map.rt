@@ -1,6 +1,6 @@
 //! `persist_map`: that calls succeed, that maps which share nodes stay, and use from other threads.
 use persist_map::{BufferedMap, PMap};
-use std::alloc::AllocError;
+use std::alloc::{AllocError, Global};
 use std::ops::Range;
 use std::process::Abort;
 use std::str::SplitWhitespace;
@@ -10,20 +10,22 @@ use std::thread::join;
 type Values = [Option<u32>; 64];
 
 /// Whether a map has these values and no other, in the order of their keys.
-fn agree(map: &PMap<u32, u32>, values: &Values) -> bool {
-    let mut pairs = map.walk();
+fn agree(alloc: Global, map: &PMap<u32, u32>, values: &Values) -> Result<bool, AllocError> {
+    let mut entries = Vec::new(alloc);
+    map.push_entries(&mut entries)?;
+    let mut pairs = entries.iter();
     for (at, value) in values.iter().enumerate() {
         if map.get(&(at as u32)) != value.as_ref() {
-            return false;
+            return Ok(false);
         }
         if let Some(value) = value {
             match pairs.next() {
                 Some((key, found)) if *key as usize == at && found == value => {}
-                _ => return false,
+                _ => return Ok(false),
             }
         }
     }
-    pairs.next().is_none()
+    Ok(pairs.next().is_none())
 }
 
 /// Takes a key out or sets its value, in place or not, and gives what stands there then.
@@ -51,6 +53,7 @@ fn mixed(number: u32) -> u64 {
 /// Makes changes of these numbers.
 fn make_changes(
     rt: &impl Abort,
+    alloc: Global,
     map: &mut PMap<u32, u32>,
     values: &mut Values,
     numbers: Range<u32>,
@@ -59,7 +62,7 @@ fn make_changes(
         let bits = mixed(number);
         let key = (bits >> 40) % 64;
         values[key as usize] = change(map, (bits >> 50) % 8, key as u32, number)?;
-        assert!(rt; agree(map, values), "at {number}");
+        assert!(rt; agree(alloc, map, values)?, "at {number}");
     }
     Ok(())
 }
@@ -67,13 +70,14 @@ fn make_changes(
 /// Makes further changes, which leave a map that shares nodes as it was.
 fn change_beside(
     rt: &impl Abort,
+    alloc: Global,
     map: &mut PMap<u32, u32>,
     values: &mut Values,
 ) -> Result<(), AllocError> {
     let shared = map.share()?;
     let then = *values;
-    make_changes(rt, map, values, 300..600)?;
-    assert!(rt; agree(&shared, &then));
+    make_changes(rt, alloc, map, values, 300..600)?;
+    assert!(rt; agree(alloc, &shared, &then)?);
     assert!(rt; 4 < shared.height() && shared.height() < 10);
     Ok(())
 }
@@ -82,8 +86,8 @@ fn change_beside(
 fn a_map_has_its_values_and_those_that_share_nodes_stay(rt: HostRuntime) -> Result<(), AllocError> {
     let mut map = PMap::new(rt.alloc());
     let mut values = [None; 64];
-    make_changes(&rt, &mut map, &mut values, 0..300)?;
-    change_beside(&rt, &mut map, &mut values)?;
+    make_changes(&rt, rt.alloc(), &mut map, &mut values, 0..300)?;
+    change_beside(&rt, rt.alloc(), &mut map, &mut values)?;
     Ok(())
 }
 

@@ -15,8 +15,7 @@ use Rattle.persist_map.specs.Contents.{IsSearchTree, entries_of}
 use Rattle.persist_map.specs.Changes.{IsBetween}
 use Rattle.persist_map.specs.Newest.{with_entries, HasNoneAbove, ComeBehind, MayFollow}
 use Rattle.persist_map.proofs.Changes.{all_insert_entry}
-use Rattle.persist_map.proofs.Greatest.{is_above-equal}
-use Rattle.persist_map.proofs.Later.{is_above-above}
+use Rattle.persist_map.proofs.Greatest.{is_above-above, is_above-equal}
 use Rattle.persist_map.proofs.Sides.{all_weaker, insert_entry-above_front, Less-from_greater, Greater-from_less}
 
 below_above : {K : Type 0} (cmp : K → K → Ordering) → IsTotalOrder cmp → (greatest : Option K) (k y : K) → is_above cmp k greatest ≡ true → is_above cmp y greatest ≡ false → cmp y k ≡ Less

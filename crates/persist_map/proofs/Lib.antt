@@ -4,7 +4,6 @@ pub mod Following
 pub mod Forks
 pub mod Greatest
 pub mod Heights
-pub mod Later
 pub mod Newest
 pub mod Removals
 pub mod Settings

@@ -1,5 +1,5 @@
 -- What a tree contains, how high it is, and when it is balanced.
-use Rattle.std.specs.Prelude.{◌≡◌, ℕ, ◌+◌, ◌≤◌, max, List, [], ◌∷◌, ◌++◌}
+use Rattle.std.specs.Prelude.{◌≡◌, ℕ, ◌+◌, ◌*◌, ◌^◌, ◌<◌, ◌≤◌, max, List, [], ◌∷◌, ◌++◌}
 use Rattle.std.specs.declared.cmp.Ordering.{Ordering}
 use Rattle.persist_map.specs.declared.tree.Tree.{Tree, Leaf, Fork'}
 use Rattle.persist_map.specs.declared.tree.Fork.{Fork}
@@ -18,6 +18,11 @@ height_of (Fork' _ left key value right _) = max (height_of left) (height_of rig
 -- neither number is more than d above the other
 abbrev pub DifferByAtMost : ℕ → ℕ → ℕ → Type 0
 DifferByAtMost d m n = (m ≤ n + d) × (n ≤ m + d)
+
+-- h is the height of a tree of n entries whose sides have half of the others each, and so at each fork
+pub record IsHeightByHalves (n h : ℕ) : Type 0 where
+  pub at_least : n < 2 ^ h
+  pub at_most : 2 ^ h ≤ 2 * n + 1
 
 -- each fork keeps its height, and its sides differ in height by at most one
 abbrev pub IsBalanced : {K V : Type 0} → Tree K V → Type 0

@@ -1,5 +1,5 @@
 -- A map is seen as the list of its entries, in the order of their keys.
-use Rattle.std.specs.Prelude.{◌≡◌, Bool, true, cond, List, Option, None, Some, filter}
+use Rattle.std.specs.Prelude.{◌≡◌, Bool, true, cond, List, Option, None, Some}
 use Rattle.std.specs.declared.cmp.Ordering.{Ordering}
 use Rattle.std.specs.Ordering.{is_lt}
 use Rattle.std.specs.Map.{lookup, keys_of}
@@ -22,10 +22,6 @@ ChangesOnly {K} cmp old new k w = (q : K) → value_at cmp new q ≡ cond (is_at
 abbrev pub is_above : {K : Type 0} → (K → K → Ordering) → K → Option K → Bool
 is_above cmp k None = true
 is_above cmp k (Some last) = is_lt (cmp last k)
-
--- the entries whose keys are above `last`
-abbrev pub entries_after : {K V : Type 0} → (K → K → Ordering) → Option K → List (K × V) → List (K × V)
-entries_after cmp last entries = filter (λ e. is_above cmp e.0 last) entries
 
 -- a clone is equal to what it is a clone of
 abbrev pub ClonesAreEqual : {T : Type 0} → (T → T → Type 0) → Type 0

@@ -3,12 +3,21 @@ ghost use Rattle.std.specs.Prelude.{◌≡◌, ◌<◌, true, false, length, Lis
 ghost use Rattle.std.specs.declared.cmp.Ordering.TheVariants.{Less};
 ghost use Rattle.std.specs.List.{AllByRecursion};
 ghost use Rattle.std.specs.Map.{keys_of};
-ghost use Rattle.persist_map.specs.Entries.{ClonesAreEqual};
+ghost use Rattle.persist_map.specs.Entries.{ClonesAreEqual, is_above};
 ghost use Rattle.persist_map.specs.Newest.{with_entries, ComeBehind, MayFollow};
 
 use crate::map::PMap;
-use crate::walk::is_above;
 use std::alloc::{AllocError, Global};
+
+/// Whether the key is above `last`, as each key is where there is none.
+pub(crate) fn is_above<K: Ord>(key: &K, last: Option<&K>) -> bool
+    ensures { result ≡ is_above K.cmp key.now (option_copied last.entry) }
+{
+    match last {
+        None => true,
+        Some(last) => last.cmp(key).is_lt(),
+    }
+}
 
 /// Whether the key of the first entry is above `greatest`, and those of the others are above it. Where there are no
 /// entries, nothing is in the way.

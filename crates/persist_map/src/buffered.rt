@@ -2,12 +2,11 @@
 ghost use Rattle.std.specs.Prelude.{◌≡◌, List, [], Some, cond, IfOk, IfErr, option_copied};
 ghost use Rattle.std.specs.Option.{option_or};
 ghost use Rattle.std.specs.BTreeMap.{insert_entry};
-ghost use Rattle.persist_map.specs.Entries.{value_at, ChangesOnly, ClonesAreEqual, is_above};
+ghost use Rattle.persist_map.specs.Entries.{IsOrdered, value_at, ChangesOnly, ClonesAreEqual, is_above};
 ghost use Rattle.persist_map.specs.Newest.{with_entries, place_of, HasNoneAbove};
 
-use crate::behind::{append, come_behind};
+use crate::behind::{append, come_behind, is_above};
 use crate::map::PMap;
-use crate::walk::is_above;
 use std::alloc::{AllocError, Global};
 use std::marker::Model;
 
@@ -54,6 +53,20 @@ impl<K: Ord + Copy, V: Copy> BufferedMap<K, V> {
             greatest: None,
             newest: Vec::new(alloc),
         }
+    }
+
+    /// The map of entries that are in the order of their keys, each key once. All stand in its tree; no keys are
+    /// compared.
+    pub fn of_sorted(alloc: Global, entries: &[(K, V)]) -> Result<BufferedMap<K, V>, AllocError>
+        requires { IsOrdered K.cmp entries.now }
+        ensures { IfOk result (λ m. m ≡ entries.now) }
+    {
+        Ok(BufferedMap {
+            alloc,
+            settled: PMap::of_sorted(alloc, entries)?,
+            greatest: last_key(entries),
+            newest: Vec::new(alloc),
+        })
     }
 
     /// The value at the key, or `None` exactly where the key is not there. The key is compared to each of the list before
@@ -167,6 +180,16 @@ fn greatest_of<K: Ord + Copy, V>(greatest: Option<K>, entries: &[(K, V)]) -> Opt
     greatest
 }
 
+// The key of the last of entries in order, above which none of them has a key.
+fn last_key<K: Ord + Copy, V>(entries: &[(K, V)]) -> Option<K>
+    ensures { IsOrdered K.cmp entries.now → HasNoneAbove K.cmp result entries.now }
+{
+    match entries.split_last() {
+        Some((last, _)) => Some(last.0),
+        None => None,
+    }
+}
+
 // The entries of a tree.
 fn entries_in<K: Ord + Copy, V: Copy>(
     alloc: Global,
@@ -175,9 +198,7 @@ fn entries_in<K: Ord + Copy, V: Copy>(
     ensures { IfOk result (λ list. list.items ≡ map.now) }
 {
     let mut list = Vec::new(alloc);
-    for (key, value) in map.walk() {
-        list.push((*key, *value))?;
-    }
+    map.push_entries(&mut list)?;
     Ok(list)
 }
 

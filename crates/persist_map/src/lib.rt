@@ -17,8 +17,6 @@ mod change;
 mod map;
 mod tree;
 mod turning;
-mod walk;
 
 pub use buffered::BufferedMap;
 pub use map::PMap;
-pub use walk::Walk;

@@ -1,5 +1,5 @@
 //! The map.
-ghost use Rattle.std.specs.Prelude.{◌≡◌, ◌+◌, ◌/◌, ◌^◌, ◌<◌, ◌≤◌, ◌∷◌, ◌++◌, [], length, Some, None, IfOk, IfErr, option_copied};
+ghost use Rattle.std.specs.Prelude.{◌≡◌, ◌+◌, ◌/◌, ◌^◌, ◌<◌, ◌≤◌, ◌∷◌, ◌++◌, [], length, Some, None, IfOk, OnOk, IfErr, option_copied};
 ghost use Rattle.std.specs.BTreeMap.{is_at, insert_entry};
 ghost use Rattle.std.specs.Map.{remove_entry, keys_of};
 ghost use Rattle.std.specs.List.{AllByRecursion};
@@ -7,7 +7,6 @@ ghost use Rattle.std.specs.declared.cmp.Ordering.TheVariants.{Less};
 ghost use Rattle.persist_map.specs.Entries.{IsOrdered, value_at, ChangesOnly, ClonesAreEqual};
 
 use crate::tree::Tree;
-use crate::walk::Walk;
 use std::alloc::{AllocError, Global};
 use std::marker::Model;
 
@@ -60,14 +59,6 @@ impl<K: Ord, V> PMap<K, V> {
         self.tree.height()
     }
 
-    /// The entries, in the order of their keys. It takes no memory, and neither does a step of it.
-    pub fn walk(&self) -> Walk<'_, K, V>
-        ensures all { result ≡ self.now }
-        ensures ordered { IsOrdered K.cmp self.now }
-    {
-        Walk::new(&self.tree)
-    }
-
     /// An equal map that shares all nodes. It makes no node: want of memory comes only where a count of owners is full.
     pub fn share(&self) -> Result<PMap<K, V>, AllocError>
         ensures { IfOk result (λ m. m ≡ self.now) }
@@ -75,6 +66,27 @@ impl<K: Ord, V> PMap<K, V> {
         Ok(PMap {
             alloc: self.alloc,
             tree: self.tree.share()?,
+        })
+    }
+}
+
+impl<K: Ord + Copy, V: Copy> PMap<K, V> {
+    /// The entries, in the order of their keys, come to the end of a list. Each node is met once.
+    pub fn push_entries(&self, list: &mut Vec<(K, V)>) -> Result<(), AllocError>
+        ensures all { OnOk result (list.new.items ≡ list.old.items ++ self.now) }
+        ensures ordered { IsOrdered K.cmp self.now }
+    {
+        self.tree.push_entries(list)
+    }
+
+    /// The map of entries that are in the order of their keys, each key once. No keys are compared.
+    pub fn of_sorted(alloc: Global, entries: &[(K, V)]) -> Result<PMap<K, V>, AllocError>
+        requires { IsOrdered K.cmp entries.now }
+        ensures { IfOk result (λ m. m ≡ entries.now) }
+    {
+        Ok(PMap {
+            alloc,
+            tree: Tree::of_sorted(alloc, entries)?,
         })
     }
 }

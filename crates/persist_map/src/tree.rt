@@ -1,7 +1,7 @@
 //! A search tree of shared nodes, balanced by height.
-ghost use Rattle.std.specs.Prelude.{◌≡◌, IfOk, option_copied};
+ghost use Rattle.std.specs.Prelude.{◌≡◌, ◌++◌, length, IfOk, OnOk, option_copied};
 ghost use Rattle.persist_map.specs.Entries.{IsOrdered, value_at, ClonesAreEqual};
-ghost use Rattle.persist_map.specs.Contents.{entries_of, height_of, DifferByAtMost, IsBalanced, IsBalancedFork, IsSearchTree};
+ghost use Rattle.persist_map.specs.Contents.{entries_of, height_of, DifferByAtMost, IsHeightByHalves, IsBalanced, IsBalancedFork, IsSearchTree};
 ghost use Rattle.persist_map.specs.Changes.{IsSameTree, IsJoined, IsSet, IsTakenOut, IsSplit, IsTogether};
 
 use std::alloc::{AllocError, Global};
@@ -94,6 +94,39 @@ impl<K: Ord, V> Tree<K, V> {
             };
         }
         None
+    }
+}
+
+impl<K: Copy, V: Copy> Tree<K, V> {
+    /// The entries, from left to right, come to the end of a list.
+    pub fn push_entries(&self, list: &mut Vec<(K, V)>) -> Result<(), AllocError>
+        ensures { OnOk result (list.new.items ≡ list.old.items ++ entries_of self.now) }
+    {
+        let Tree::Fork(fork) = self else {
+            return Ok(());
+        };
+        let fork: &Fork<K, V> = fork;
+        fork.left.push_entries(list)?;
+        list.push((fork.key, fork.value))?;
+        fork.right.push_entries(list)
+    }
+}
+
+impl<K: Copy + Drop, V: Copy + Drop> Tree<K, V> {
+    /// The tree of these entries, from left to right, with the middle one at the top and each side made likewise.
+    pub fn of_sorted(alloc: Global, entries: &[(K, V)]) -> Result<Tree<K, V>, AllocError>
+        ensures entries { IfOk result (λ t. entries_of t ≡ entries.now) }
+        ensures balanced { IfOk result (λ t. IsBalanced t) }
+        ensures height { IfOk result (λ t. IsHeightByHalves (length entries.now) (height_of t)) }
+    {
+        if entries.is_empty() {
+            return Ok(Tree::Leaf);
+        }
+        let middle = entries.len() / 2;
+        let left = Tree::of_sorted(alloc, &entries[..middle])?;
+        let right = Tree::of_sorted(alloc, &entries[middle + 1..])?;
+        let (key, value) = entries[middle];
+        Tree::fork(alloc, left, key, value, right)
     }
 }
 

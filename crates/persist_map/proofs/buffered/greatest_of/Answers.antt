@@ -1,6 +1,6 @@
-use Rattle.std.proofs.Common.{◌≡◌, List, take, refl, sym, ap, subst, arith}
+use Rattle.std.proofs.Common.{List, take, refl, sym, ap}
 use Rattle.std.specs.BTreeMap.{insert_entry}
-use Rattle.persist_map.specs.Newest.{with_entries, HasNoneAbove}
+use Rattle.persist_map.specs.Newest.{with_entries}
 use Rattle.persist_map.proofs.Greatest.{HasNoneAbove-insert_entry}
 use Rattle.persist_map.proofs.Newest.{with_entries-next}
 use Rattle.persist_map.proofs.buffered.greatest_of.Goals as goal

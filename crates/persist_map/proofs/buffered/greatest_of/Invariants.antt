@@ -1,4 +1,4 @@
-use Rattle.std.proofs.Common.{◌≡◌, List, take}
+use Rattle.std.proofs.Common.{List, take}
 use Rattle.persist_map.specs.Newest.{with_entries, HasNoneAbove}
 use Rattle.persist_map.proofs.buffered.greatest_of.Given as goal
 
