@@ -163,6 +163,14 @@ module _ (nodes : List Node) (known : List (Var × Term)) (pair : code.Equation)
       let k : KeepsEnds nodes other old cur = follows-keeps nodes known other pair.left old cur f f' left l h w.1.0 in
       follows-older nodes known other pair.right cur new f' f'' right r k.solved w.1.1 (follows-older nodes known other pair.left old cur f f' left l h w.1.0 o)
 
+-- the chain of an added binding's variable ends where its term's does
+pub added-end : (nodes : List Node) (known added : List (Var × Term)) (x : Var) (t : Term) → IsTold (bindings_in nodes added) (variable x) (tree nodes t) → IsSolved nodes (known ++ added)
+    → BindNew known added → end_of nodes (known ++ added) (variable x) ≡ end_of nodes (known ++ added) (tree nodes t)
+added-end nodes known added x t m h n = bound-end (BindNew-bound nodes known added (variable x) (tree nodes t) n m)
+  where
+    bound-end : {b c : Tree} → IsBound (bound_in nodes (known ++ added)) b c → end_of nodes (known ++ added) b ≡ end_of nodes (known ++ added) c
+    bound-end (bound {x = y} {t = u} e) = walk-bound (bound_in nodes (known ++ added)) (length (known ++ added)) y u h.ends e
+
 -- the chain of an added binding's term was followed
 module _ (nodes : List Node) (known other cur mid new : List (Var × Term)) (f f' : List Var) (x : Var) (t end : Term) (l : Follows nodes known t cur mid f f' end) (r : Rebinds mid new x end)
     (m : IsTold (bindings_in nodes cur) (variable x) (tree nodes t)) (h : IsSolved nodes (other ++ cur)) (n : BindNew other cur) (a : AgreeOn l.path known other) where
@@ -170,10 +178,7 @@ module _ (nodes : List Node) (known other cur mid new : List (Var × Term)) (f f
   followed = follows-keeps nodes known other t cur mid f f' end l h a
 
   binding-end : tree nodes end ≡ end_of nodes (other ++ mid) (variable x)
-  binding-end = follows-end nodes known other t cur mid f f' end l h a ∙ sym (bound-end (BindNew-bound nodes other cur (variable x) (tree nodes t) n m)) ∙ sym (followed.ends (variable x))
-    where
-      bound-end : {b c : Tree} → IsBound (bound_in nodes (other ++ cur)) b c → end_of nodes (other ++ cur) b ≡ end_of nodes (other ++ cur) c
-      bound-end (bound {x = y} {t = u} e) = walk-bound (bound_in nodes (other ++ cur)) (length (other ++ cur)) y u h.ends e
+  binding-end = follows-end nodes known other t cur mid f f' end l h a ∙ sym (added-end nodes other cur x t m h n) ∙ sym (followed.ends (variable x))
 
   settled-keeps : KeepsEnds nodes other cur new
   settled-keeps = KeepsEnds-on nodes other cur mid new followed (rebound-keeps nodes other mid new x end followed.solved r binding-end)

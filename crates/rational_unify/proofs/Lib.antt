@@ -9,6 +9,7 @@ pub mod Shortening
 pub mod Heads
 pub mod Indexing
 pub mod Turns
+pub mod Passes
 pub mod OlderEnds
 pub mod Following
 pub mod Taking

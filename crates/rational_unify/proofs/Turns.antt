@@ -217,62 +217,64 @@ module _ (nodes : List Node) (known : List (Var × Term)) (es : List code.Equati
     differ = c.differ;
   }
 
-  module _ (arranged : IsArranged nodes) (new : Work) (fresh : BindNew known old.added) (a : Advances nodes last old new) where
-    su : IsDone (end_of nodes (known ++ old.added)) (IsTold (equations_in nodes old.pending)) (IsTold (equations_in nodes old.compared)) (tree nodes pair.left) (tree nodes a.left)
-    su = end-done nodes (known ++ old.added) old.compared (IsTold (equations_in nodes old.pending)) pair.left last.left a.left solved at_left a.is_left
+  -- two terms stand for those of the pair
+  module _ (u v : Term) (is_left : IsLinked old.compared last.left u) (is_right : IsLinked old.compared last.right v) where
+    su : IsDone (end_of nodes (known ++ old.added)) (IsTold (equations_in nodes old.pending)) (IsTold (equations_in nodes old.compared)) (tree nodes pair.left) (tree nodes u)
+    su = end-done nodes (known ++ old.added) old.compared (IsTold (equations_in nodes old.pending)) pair.left last.left u solved at_left is_left
 
-    tv : IsDone (end_of nodes (known ++ old.added)) (IsTold (equations_in nodes old.pending)) (IsTold (equations_in nodes old.compared)) (tree nodes pair.right) (tree nodes a.right)
-    tv = end-done nodes (known ++ old.added) old.compared (IsTold (equations_in nodes old.pending)) pair.right last.right a.right solved at_right a.is_right
+    tv : IsDone (end_of nodes (known ++ old.added)) (IsTold (equations_in nodes old.pending)) (IsTold (equations_in nodes old.compared)) (tree nodes pair.right) (tree nodes v)
+    tv = end-done nodes (known ++ old.added) old.compared (IsTold (equations_in nodes old.pending)) pair.right last.right v solved at_right is_right
 
-    to : (A : List (Var × Term)) (P C : List code.Equation) → IsWorkOn nodes known es A P C → BindNew known A → new.added ≡ A → new.pending ≡ P → new.compared ≡ C → GoesOn nodes known es new
-    to A P C k f p q r = record { kept = rw (p, q, r) k; fresh = rw p f }
-
-    on_same : tree nodes a.left ≡ tree nodes a.right → IsWorkOn nodes known es old.added old.pending old.compared
-    on_same e = work-same (bound_in nodes (known ++ old.added)) (length (known ++ old.added)) (tree nodes pair.left) (tree nodes pair.right) (tree nodes a.left) (tree nodes a.right) w
+    pub on_same : tree nodes u ≡ tree nodes v → IsWorkOn nodes known es old.added old.pending old.compared
+    on_same e = work-same (bound_in nodes (known ++ old.added)) (length (known ++ old.added)) (tree nodes pair.left) (tree nodes pair.right) (tree nodes u) (tree nodes v) w
         (equations-last nodes old.pending pair) (equations-left nodes old.pending (pair ∷ [])) (equations-but-last nodes old.pending pair) su tv e
 
-    bound-free : (x : Var) (r : Term) → Meets nodes a.left a.right (Bind x r) → (found_in (known ++ old.added) x ≡ None) × IsFree (bound_in nodes (known ++ old.added)) (tree nodes r)
-    bound-free x r m = bind-free nodes (known ++ old.added) old.compared last.left last.right a.left a.right x r (work-heads nodes known es old.added (old.pending ++ pair ∷ []) old.compared w)
-        (end-free nodes (known ++ old.added) (tree nodes pair.left) last.left solved at_left) (end-free nodes (known ++ old.added) (tree nodes pair.right) last.right solved at_right) a.is_left a.is_right m
+    pub bound-free : (x : Var) (r : Term) → Meets nodes u v (Bind x r) → (found_in (known ++ old.added) x ≡ None) × IsFree (bound_in nodes (known ++ old.added)) (tree nodes r)
+    bound-free x r m = bind-free nodes (known ++ old.added) old.compared last.left last.right u v x r (work-heads nodes known es old.added (old.pending ++ pair ∷ []) old.compared w)
+        (end-free nodes (known ++ old.added) (tree nodes pair.left) last.left solved at_left) (end-free nodes (known ++ old.added) (tree nodes pair.right) last.right solved at_right) is_left is_right m
 
-    on_bind : (x : Var) (r : Term) → Meets nodes a.left a.right (Bind x r) → IsWorkOn nodes known es (old.added ++ (x, r) ∷ []) old.pending old.compared
+    pub on_bind : (x : Var) (r : Term) → Meets nodes u v (Bind x r) → IsWorkOn nodes known es (old.added ++ (x, r) ∷ []) old.pending old.compared
     on_bind x r m =
         subst (λ (l : List (Var × Term)). IsWork (Tells nodes known es) (bound_in nodes l) (length l) (IsTold (equations_in nodes old.pending)) (IsTold (equations_in nodes old.compared)))
         (append_assoc known old.added ((x, r) ∷ []))
         (subst (λ (n : ℕ). IsWork (Tells nodes known es) (bound_in nodes ((known ++ old.added) ++ (x, r) ∷ [])) n (IsTold (equations_in nodes old.pending)) (IsTold (equations_in nodes old.compared)))
         (sym (length-push (known ++ old.added) (x, r)))
-        (work-bind (bound_in nodes (known ++ old.added)) (length (known ++ old.added)) (tree nodes pair.left) (tree nodes pair.right) (tree nodes a.left) (tree nodes a.right) w
+        (work-bind (bound_in nodes (known ++ old.added)) (length (known ++ old.added)) (tree nodes pair.left) (tree nodes pair.right) (tree nodes u) (tree nodes v) w
         (equations-last nodes old.pending pair) (equations-left nodes old.pending (pair ∷ [])) (equations-but-last nodes old.pending pair) su tv
         (bound_in nodes ((known ++ old.added) ++ (x, r) ∷ [])) x (tree nodes r)
         (one_more-adds nodes (known ++ old.added) x r (bound-free x r m).0 (bound-free x r m).1 m.1) (sides m.0)))
       where
-        sides : ((tree nodes a.left ≡ variable x) × (r ≡ a.right)) ⊎ ((tree nodes a.right ≡ variable x) × (r ≡ a.left))
-            → ((tree nodes a.left ≡ variable x) × (tree nodes a.right ≡ tree nodes r)) ⊎ ((tree nodes a.right ≡ variable x) × (tree nodes a.left ≡ tree nodes r))
+        sides : ((tree nodes u ≡ variable x) × (r ≡ v)) ⊎ ((tree nodes v ≡ variable x) × (r ≡ u))
+            → ((tree nodes u ≡ variable x) × (tree nodes v ≡ tree nodes r)) ⊎ ((tree nodes v ≡ variable x) × (tree nodes u ≡ tree nodes r))
         sides (inl e) = inl (e.0, ap (tree nodes) (sym e.1))
         sides (inr e) = inr (e.0, ap (tree nodes) (sym e.1))
 
-    on_agree : (p : Pairs) → Meets nodes a.left a.right (Agree p)
-        → IsWorkOn nodes known es old.added (old.pending ++ argument_pairs p p.count) (old.compared ++ record { left = a.left; right = a.right } ∷ [])
-    on_agree p m = work-agree (bound_in nodes (known ++ old.added)) (length (known ++ old.added)) (tree nodes pair.left) (tree nodes pair.right) (tree nodes a.left) (tree nodes a.right) w
+    pub on_agree : IsArranged nodes → (p : Pairs) → Meets nodes u v (Agree p)
+        → IsWorkOn nodes known es old.added (old.pending ++ argument_pairs p p.count) (old.compared ++ record { left = u; right = v } ∷ [])
+    on_agree arranged p m = work-agree (bound_in nodes (known ++ old.added)) (length (known ++ old.added)) (tree nodes pair.left) (tree nodes pair.right) (tree nodes u) (tree nodes v) w
         (equations-last nodes old.pending pair) (equations-left nodes old.pending (pair ∷ [])) (equations-but-last nodes old.pending pair) su tv
-        (symbol_head p.symbol p.count) (left-head nodes arranged a.left a.right p m) (right-head nodes arranged a.left a.right p m)
+        (symbol_head p.symbol p.count) (left-head nodes arranged u v p m) (right-head nodes arranged u v p m)
         (equations-left nodes old.pending (argument_pairs p p.count))
-        (λ x y o. equations-right nodes old.pending (argument_pairs p p.count) x y (arguments-wait nodes arranged a.left a.right p m x y o))
-        (λ x y o. elim (equations-either nodes old.pending (argument_pairs p p.count) x y o) [ inl i ↦ inl i | inr i ↦ inr (only-arguments nodes arranged a.left a.right p m p.count (omega arith) x y i) ])
-        (equations-left nodes old.compared (record { left = a.left; right = a.right } ∷ []))
-        (equations-last nodes old.compared (record { left = a.left; right = a.right }))
-        (equations-but-last nodes old.compared (record { left = a.left; right = a.right }))
+        (λ x y o. equations-right nodes old.pending (argument_pairs p p.count) x y (arguments-wait nodes arranged u v p m x y o))
+        (λ x y o. elim (equations-either nodes old.pending (argument_pairs p p.count) x y o) [ inl i ↦ inl i | inr i ↦ inr (only-arguments nodes arranged u v p m p.count (omega arith) x y i) ])
+        (equations-left nodes old.compared (record { left = u; right = v } ∷ []))
+        (equations-last nodes old.compared (record { left = u; right = v }))
+        (equations-but-last nodes old.compared (record { left = u; right = v }))
+
+  module _ (arranged : IsArranged nodes) (new : Work) (fresh : BindNew known old.added) (a : Advances nodes last old new) where
+    to : (A : List (Var × Term)) (P C : List code.Equation) → IsWorkOn nodes known es A P C → BindNew known A → new.added ≡ A → new.pending ≡ P → new.compared ≡ C → GoesOn nodes known es new
+    to A P C k f p q r = record { kept = rw (p, q, r) k; fresh = rw p f }
 
     -- a turn without a clash
     pub turn-goes : GoesOn nodes known es new
     turn-goes = each a.meet
       where
         each : Meet nodes a.left a.right old new → GoesOn nodes known es new
-        each (same e n) = to old.added old.pending old.compared (on_same e) fresh
+        each (same e n) = to old.added old.pending old.compared (on_same a.left a.right a.is_left a.is_right e) fresh
             (ap (λ (k : Work). k.added) n) (ap (λ (k : Work). k.pending) n) (ap (λ (k : Work). k.compared) n)
-        each (bind {x = x} {u = r} m p l q c) = to (old.added ++ (x, r) ∷ []) old.pending old.compared (on_bind x r m)
-            (BindNew-push known old.added x r fresh (bound-free x r m).0) p q c
-        each (agree {p = p} m few c l q e) = to old.added (old.pending ++ argument_pairs p p.count) (old.compared ++ record { left = a.left; right = a.right } ∷ []) (on_agree p m) fresh e q c
+        each (bind {x = x} {u = r} m p l q c) = to (old.added ++ (x, r) ∷ []) old.pending old.compared (on_bind a.left a.right a.is_left a.is_right x r m)
+            (BindNew-push known old.added x r fresh (bound-free a.left a.right a.is_left a.is_right x r m).0) p q c
+        each (agree {p = p} m few c l q e) = to old.added (old.pending ++ argument_pairs p p.count) (old.compared ++ record { left = a.left; right = a.right } ∷ []) (on_agree a.left a.right a.is_left a.is_right arranged p m) fresh e q c
 
 -- nothing has been done yet
 pub turn-starts : (nodes : List Node) (known : List (Var × Term)) (es : List code.Equation) → IsSolved nodes known → IsWorkOn nodes known es [] es []

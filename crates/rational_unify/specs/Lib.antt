@@ -6,3 +6,4 @@ pub mod Forms
 pub mod Shortened
 pub mod Followed
 pub mod Meeting
+pub mod Passing

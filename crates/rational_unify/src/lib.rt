@@ -9,6 +9,7 @@ mod index;
 mod known;
 mod meet;
 mod older;
+mod one_pass;
 mod pending;
 mod solver;
 

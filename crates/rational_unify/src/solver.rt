@@ -15,6 +15,7 @@ use crate::chain::{Followed, follow};
 use crate::compared::Compared;
 use crate::known::Lookup;
 use crate::meet::{Meeting, compare};
+use crate::one_pass::solve_few;
 use crate::pending::Pending;
 use akl_terms::{Equation, Templates, Term, Var};
 use std::alloc::{AllocError, Global};
@@ -74,6 +75,9 @@ pub fn solve_only<K: Lookup>(
     ensures solves { IfOk result (Solves templates.now.nodes (K.bindings known.now) equations.now) }
     ensures older { IfOk result (AddsOlder templates.now.nodes (K.bindings known.now)) }
 {
+    if let Some(solved) = solve_few(alloc, templates, known, equations)? {
+        return Ok(solved);
+    }
     let mut followed = Followed::new(alloc);
     solved_along(alloc, templates, known, equations, &mut followed)
 }
