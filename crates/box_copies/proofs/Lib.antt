@@ -6,8 +6,6 @@ pub mod Loops
 pub mod Sets
 pub mod Renamers
 pub mod Lists
-pub mod TimesBound
-pub mod OlderForms
 pub mod Outside
 pub mod SolvedCopies
 pub mod Making

@@ -10,7 +10,7 @@ use Rattle.akl_terms.specs.declared.term.Term.{Term}
 use Rattle.akl_terms.specs.Names.{same_name}
 use Rattle.rational_unify.specs.Older.{EachOlder}
 use Rattle.rational_unify.proofs.OlderEnds.{EachOlder-push}
-use Rattle.local_store.specs.Stored.{Stored, with_frame, with_port, with_binding, with_bindings}
+use Rattle.local_store.specs.Stored.{Stored, with_frame, with_port}
 use Rattle.box_tree.specs.declared.entries.Held.{Held}
 use Rattle.box_tree.specs.declared.inside.InnerGoal.{InnerGoal}
 use Rattle.box_tree.specs.declared.inside.InnerBox.{InnerBox}
@@ -18,7 +18,7 @@ use Rattle.box_tree.specs.declared.step.BoxCopy.{BoxCopy}
 use Rattle.box_copies.specs.declared.names.NewNames.{NewNames}
 use Rattle.box_copies.specs.Renamer.{port_by, binding_by, with_frames, with_ports}
 use Rattle.box_copies.specs.Made.{own_names, kept, kept_names, without, IsHeldAs, AreGoalsAs, IsBoxBy, AreBoxesBy}
-use Rattle.box_copies.proofs.Stored.{frames_more, ports_more, joins_more}
+use Rattle.box_copies.proofs.Stored.{frames_more, ports_more}
 
 pub map_more : {A B : Type 0} (f : A → B) (xs : List A) (x : A) → map f (xs ++ x ∷ []) ≡ map f xs ++ f x ∷ []
 map_more f [] x = refl
@@ -29,25 +29,14 @@ taken f xs i d h = ap (map f) (take_more xs i d h) ∙ map_more f (take i xs) (g
 
 -- stores
 
-pub frames_next : (f : Name → Name) (s t u : Stored) (xs : List Name) (i : ℕ) (d y : Name) → i < length xs → t ≡ with_frames s (map f (take i xs)) → y ≡ f (get_or xs i d) → u ≡ with_frame t y
-    → u ≡ with_frames s (map f (take (i + 1) xs))
-frames_next f s t u xs i d y h e q r =
-    r ∙ ap (λ (x : Stored). with_frame x y) e ∙ ap (with_frame (with_frames s (map f (take i xs)))) q ∙ sym (frames_more s (map f (take i xs)) (f (get_or xs i d))) ∙ ap (with_frames s) (sym (taken f xs i d h))
+pub frames_next : (s t u : Stored) (xs : List Name) (i : ℕ) (d : Name) → i < length xs → t ≡ with_frames s (take i xs) → u ≡ with_frame t (get_or xs i d) → u ≡ with_frames s (take (i + 1) xs)
+frames_next s t u xs i d h e r = r ∙ ap (λ (x : Stored). with_frame x (get_or xs i d)) e ∙ sym (frames_more s (take i xs) (get_or xs i d)) ∙ ap (with_frames s) (sym (take_more xs i d h))
 
 pub ports_next : (f : Name → Name) (s t u : Stored) (xs : List (Name × Term)) (i : ℕ) (d y : Name × Term) → i < length xs → t ≡ with_ports s (map (port_by f) (take i xs)) → y ≡ port_by f (get_or xs i d)
     → u ≡ with_port t y.0 y.1 → u ≡ with_ports s (map (port_by f) (take (i + 1) xs))
 ports_next f s t u xs i d y h e q r =
     r ∙ ap (λ (x : Stored). with_port x y.0 y.1) e ∙ ap (λ (p : Name × Term). with_port (with_ports s (map (port_by f) (take i xs))) p.0 p.1) q
     ∙ sym (ports_more s (map (port_by f) (take i xs)) (port_by f (get_or xs i d))) ∙ ap (with_ports s) (sym (taken (port_by f) xs i d h))
-
-bindings_more : (s : Stored) (cs : List (Var × Term)) (c : Var × Term) → with_bindings s (cs ++ c ∷ []) ≡ with_binding (with_bindings s cs) c.0 c.1
-bindings_more s cs c = ap (λ (bs : List (Var × Term)). record s { bindings = bs }) (joins_more s.bindings cs c)
-
-pub bindings_next : (f : Name → Name) (s t u : Stored) (xs : List (Var × Term)) (i : ℕ) (d y : Var × Term) → i < length xs → t ≡ with_bindings s (map (binding_by f) (take i xs)) → y ≡ binding_by f (get_or xs i d)
-    → u ≡ with_binding t y.0 y.1 → u ≡ with_bindings s (map (binding_by f) (take (i + 1) xs))
-bindings_next f s t u xs i d y h e q r =
-    r ∙ ap (λ (x : Stored). with_binding x y.0 y.1) e ∙ ap (λ (p : Var × Term). with_binding (with_bindings s (map (binding_by f) (take i xs))) p.0 p.1) q
-    ∙ sym (bindings_more s (map (binding_by f) (take i xs)) (binding_by f (get_or xs i d))) ∙ ap (with_bindings s) (sym (taken (binding_by f) xs i d h))
 
 -- names but one
 

@@ -18,7 +18,7 @@ use Rattle.rational_unify.specs.Solving.{bindings_in}
 use Rattle.rational_unify.specs.Forms.{IsFormOf}
 use Rattle.rational_unify.proofs.FormLaws.{form-consistent}
 use Rattle.rational_unify.proofs.Walks.{bound_falls}
-use Rattle.box_copies.proofs.TimesBound.{bound-told}
+use Rattle.local_store.proofs.Parts.{bound-told}
 
 module _ (f : Name → Name) where
   abbrev pub IsFixed : Tree → Type 0

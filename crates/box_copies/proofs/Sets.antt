@@ -1,6 +1,6 @@
 -- Names as they are listed, put in order and once each.
 use Rattle.std.proofs.Common.{◌≡◌, ℕ, zero, suc, ◌+◌, ◌<◌, ◌≤◌, List, [], ◌∷◌, ◌++◌, map, take, get_or, append-nil, append_assoc, false, length, Some, sym, ap, ◌∙◌, subst, refl, inl, inr, lt_of_not-le, slice_index_or, arith}
-use Rattle.std.proofs.lemmas.Cmp.{nat_cmp_total, on_total, then_total, tied_itself}
+use Rattle.std.proofs.lemmas.Cmp.{tied_itself}
 use Rattle.std.proofs.lemmas.List.{take_all}
 use Rattle.std.proofs.lemmas.Bool.Decides.{nat_tests}
 use Rattle.std.proofs.lemmas.List.Kept.{Contains-dedup, Contains-from_dedup, IsStrictlySortedBy-dedup}
@@ -9,7 +9,7 @@ use Rattle.std.specs.Prelude.{slice_get}
 use Rattle.std.specs.Result.{OnOk}
 use Rattle.std.specs.declared.result.Result.{Result}
 use Rattle.std.specs.declared.result.Result.TheVariants.{Ok, Err}
-use Rattle.std.specs.Cmp.{IsTotalOrder, IsEquivalence}
+use Rattle.std.specs.Cmp.{IsEquivalence}
 use Rattle.std.specs.declared.cmp.Ordering.TheVariants.{Less, Equal, Greater}
 use Rattle.std.specs.Ordering.{is_lt, is_eq, ordering_index, ordering_reverse}
 use Rattle.std.specs.List.{Contains, dedup}
@@ -19,7 +19,7 @@ use Rattle.akl_terms.specs.Names.{same_name, name_cmp}
 use Rattle.akl_terms.proofs.SameNames.{same_name-equal, same_name-refl}
 use Rattle.akl_model.specs.Config.{IsIn}
 use Rattle.rational_unify.proofs.Taking.{get-index}
-use Rattle.local_store.proofs.Orders.{name-same}
+use Rattle.local_store.proofs.Orders.{name-same, name-total}
 use Rattle.box_copies.specs.Made.{Adds}
 use Rattle.box_copies.proofs.Loops.{taken}
 
@@ -52,9 +52,6 @@ on_ok P Q (Err e) f p = p
 
 -- in order, and once each
 
-name_total : IsTotalOrder name_cmp
-name_total = then_total (on_total (λ (n : Name). n.worker) nat_cmp_total) (on_total (λ (n : Name). n.number) nat_cmp_total)
-
 same_back : (m n : Name) → same_name m n ≡ same_name n m
 same_back m n = grind (arith, nat_tests)
 
@@ -83,7 +80,7 @@ adds_listed xs ys zs p e = record {
 }
 
 pub increasing_listed : (ys zs : List Name) → IsSorted name_cmp ys → zs ≡ dedup same_name ys → IsStrictlySortedBy name_cmp zs
-increasing_listed ys zs h e = subst (IsStrictlySortedBy name_cmp) (sym e) (IsStrictlySortedBy-dedup name_total (λ x y. sym (name-same x y)) ys h)
+increasing_listed ys zs h e = subst (IsStrictlySortedBy name_cmp) (sym e) (IsStrictlySortedBy-dedup name-total (λ x y. sym (name-same x y)) ys h)
 
 -- a name that is searched for in them
 
@@ -92,18 +89,18 @@ unfolding IsStrictlySortedBy
 weakly [] h k m d e w = absurd (omega arith)
 weakly (x ∷ xs) h k zero d e w = absurd (omega arith)
 weakly (x ∷ []) h k (suc m) d e w = absurd (omega arith)
-weakly (x ∷ y ∷ xs) h zero (suc zero) d e w = ap is_lt (name_total.antisymm y x ∙ ap ordering_reverse h.0.0)
+weakly (x ∷ y ∷ xs) h zero (suc zero) d e w = ap is_lt (name-total.antisymm y x ∙ ap ordering_reverse h.0.0)
 weakly (x ∷ y ∷ xs) h zero (suc (suc m)) d e w = absurd (omega arith)
 weakly (x ∷ y ∷ xs) h (suc k) (suc m) d e w = weakly (y ∷ xs) h.1 k m d (omega arith) (omega arith)
 
 searchable : (xs : List Name) (n : Name) → IsStrictlySortedBy name_cmp xs → IsNonDecreasingBy (λ y. ordering_index (name_cmp y n)) xs
-searchable xs n h = searchable_from_sorted name_total (λ (y : Name). y) xs n (λ k d low high. weakly xs h k (k + 1) d refl high)
+searchable xs n h = searchable_from_sorted name-total (λ (y : Name). y) xs n (λ k d low high. weakly xs h k (k + 1) d refl high)
 
 pub absent : (xs : List Name) (n : Name) (i : ℕ) → IsStrictlySortedBy name_cmp xs → (IsNonDecreasingBy (λ y. ordering_index (name_cmp y n)) xs → IsPartitionPoint (λ y. name_cmp y n ≡ Less) (λ y. name_cmp y n ≡ Greater) xs i) → IsIn n xs → ⊥
 absent xs n i h found among =
     let w = in_contains n xs among in
     let p = found (searchable xs n h) in
-    let here : name_cmp (slice_index_or xs w.0 n) n ≡ Equal = ap (λ (y : Name). name_cmp y n) w.2 ∙ tied_itself name_total n in
+    let here : name_cmp (slice_index_or xs w.0 n) n ≡ Equal = ap (λ (y : Name). name_cmp y n) w.2 ∙ tied_itself name-total n in
     let front : w.0 < i = lt_of_not-le (λ (g : i ≤ w.0). let above : name_cmp (slice_index_or xs w.0 n) n ≡ Greater = p.1 w.0 n g w.1 in cc) in
     let below : name_cmp (slice_index_or xs w.0 n) n ≡ Less = p.0 w.0 n (omega arith) front in
     cc

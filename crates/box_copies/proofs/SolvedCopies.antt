@@ -17,9 +17,8 @@ use Rattle.rational_unify.proofs.Chains.{found-first}
 use Rattle.rational_unify.proofs.OlderEnds.{LeadOlder-append, EachOlder-found}
 use Rattle.local_store.specs.Stored.{Stored, joins}
 use Rattle.local_store.specs.Chained.{bindings_from, ToldBy, times_bound, BindOnce, IsSolvedChain}
-use Rattle.local_store.proofs.Once.{once-second, once-found}
-use Rattle.box_copies.proofs.TimesBound.{times-append, times-joins, times-none}
-use Rattle.box_copies.proofs.OlderForms.{older-form, older-chain}
+use Rattle.local_store.proofs.Once.{times-append, times-joins, times-none, once-second, once-found}
+use Rattle.local_store.proofs.OlderForms.{older-form, older-chain}
 use Rattle.box_copies.specs.Renamer.{binding_by}
 use Rattle.box_copies.proofs.Outside.{bound_fixed}
 

@@ -4,17 +4,20 @@ use Rattle.std.specs.Prelude.{if◌then◌else◌}
 use Rattle.std.specs.Ordering.{match_ordering}
 use Rattle.std.specs.declared.cmp.Ordering.{Ordering}
 use Rattle.std.specs.BTreeMap.{insert_entry}
+use Rattle.std.specs.Map.{keys_of}
+use Rattle.std.specs.List.Sorted.{IsStrictlySortedBy}
 use Rattle.akl_terms.specs.declared.name.Name.{Name}
 use Rattle.akl_terms.specs.declared.name.Var.{Var}
 use Rattle.akl_terms.specs.declared.term.Node.{Node}
 use Rattle.akl_terms.specs.declared.term.Term.{Term}
 use Rattle.akl_terms.specs.Tree.{Tree}
 use Rattle.akl_terms.specs.Equal.{IsTold}
-use Rattle.akl_terms.specs.Names.{name_cmp}
+use Rattle.akl_terms.specs.Names.{name_cmp, var_cmp}
 use Rattle.akl_model.specs.Ordered.{IsIncreasing}
 use Rattle.constraint_laws.specs.StandingGrows.{AreToldIn}
 use Rattle.rational_unify.specs.Solving.{bindings_in}
-use Rattle.local_store.specs.Stored.{Stored, var_before, joined, joins, with_frame, with_port}
+use Rattle.local_store.specs.Stored.{Stored, nothing, portless, var_before, joined, joins, with_frame, with_port, with_bindings}
+use Rattle.local_store.proofs.InOrder.{joins-in_order}
 use Rattle.box_copies.specs.Renamer.{with_frames, with_ports}
 use Rattle.box_copies.proofs.Orders.{named_last, after_all, before_last}
 
@@ -30,10 +33,6 @@ frames_more s (m ∷ ns) n = frames_more (with_frame s m) ns n
 pub ports_more : (s : Stored) (ps : List (Name × Term)) (p : Name × Term) → with_ports s (ps ++ p ∷ []) ≡ with_port (with_ports s ps) p.0 p.1
 ports_more s [] p = refl
 ports_more s (q ∷ ps) p = ports_more (with_port s q.0 q.1) ps p
-
-pub joins_more : (bs cs : List (Var × Term)) (c : Var × Term) → joins bs (cs ++ c ∷ []) ≡ joined (joins bs cs) c.0 c.1
-joins_more bs [] c = refl
-joins_more bs (d ∷ cs) c = joins_more (joined bs d.0 d.1) cs c
 
 -- the other parts stay
 
@@ -88,6 +87,19 @@ ports_from s xs (p ∷ ps) e h =
 
 pub ports_are : (s : Stored) (ps : List (Name × Term)) → s.ports ≡ [] → IsIncreasing (firsts ps) → (with_ports s ps).ports ≡ ps
 ports_are s ps e h = ports_from s [] ps e h
+
+-- frames and bindings that come in order, and ports behind them
+
+pub in_order : (ns : List Name) (bs : List (Var × Term)) → IsIncreasing ns → IsStrictlySortedBy var_cmp (keys_of bs) → portless ns bs ≡ with_bindings (with_frames nothing ns) bs
+in_order ns bs h o = λ i. record {
+  frames = sym (frames_are nothing ns refl h) i;
+  bindings = sym (ap (λ (l : List (Var × Term)). joins l bs) (frames_bindings nothing ns) ∙ joins-in_order bs o) i;
+  ports = sym (frames_ports nothing ns) i;
+}
+
+pub ports_behind : (s : Stored) (bs : List (Var × Term)) (ps : List (Name × Term)) → with_ports (with_bindings s bs) ps ≡ with_bindings (with_ports s ps) bs
+ports_behind s bs [] = refl
+ports_behind s bs (p ∷ ps) = ports_behind (with_port s p.0 p.1) bs ps
 
 -- bindings that come tell the same in any order
 

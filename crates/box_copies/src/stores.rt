@@ -1,12 +1,12 @@
 //! The store of a copy.
 
 ghost use Rattle.std.specs.Prelude.{◌≡◌, IfOk, OnOk, map};
-ghost use Rattle.local_store.specs.Stored.{with_bindings};
+ghost use Rattle.local_store.specs.Stored.{nothing, with_bindings};
 ghost use Rattle.box_copies.specs.Renamer.{swapped_name, term_by, port_by, binding_by, with_frames, with_ports, store_by};
 
 use crate::names::NewNames;
 use akl_terms::{Name, Term, Var};
-use local_store::Store;
+use local_store::{Store, are_bound_in_order, are_increasing};
 use std::alloc::{AllocError, Global};
 
 /// A term under new names.
@@ -23,14 +23,73 @@ pub(crate) fn swapped_term(names: &NewNames, term: Term) -> Term
     }
 }
 
-// The frames come, under new names.
-fn add_frames(names: &NewNames, frames: &[Name], copy: &mut Store) -> Result<(), AllocError>
-    ensures { OnOk result (copy.new ≡ with_frames copy.old (map (swapped_name names.now) frames.now)) }
+// Frames under new names.
+fn swapped_frames(alloc: Global, names: &NewNames, frames: &[Name]) -> Result<Vec<Name>, AllocError>
+    ensures { IfOk result (λ v. v.items ≡ map (swapped_name names.now) frames.now) }
+{
+    let mut swapped = Vec::with_capacity(alloc, frames.len())?;
+    for frame in frames {
+        swapped.push(names.swapped(*frame))?;
+    }
+    Ok(swapped)
+}
+
+// A binding under new names.
+fn swapped_binding(names: &NewNames, binding: &(Var, Term)) -> (Var, Term)
+    ensures { result ≡ binding_by (swapped_name names.now) binding.now }
+{
+    let variable = Var {
+        frame: names.swapped(binding.0.frame),
+        index: binding.0.index,
+    };
+    (variable, swapped_term(names, binding.1))
+}
+
+// Bindings under new names.
+fn swapped_bindings(
+    alloc: Global,
+    names: &NewNames,
+    bindings: &[(Var, Term)],
+) -> Result<Vec<(Var, Term)>, AllocError>
+    ensures { IfOk result (λ v. v.items ≡ map (binding_by (swapped_name names.now)) bindings.now) }
+{
+    let mut swapped = Vec::with_capacity(alloc, bindings.len())?;
+    for binding in bindings {
+        swapped.push(swapped_binding(names, binding))?;
+    }
+    Ok(swapped)
+}
+
+// The frames come.
+fn add_frames(frames: &[Name], store: &mut Store) -> Result<(), AllocError>
+    ensures { OnOk result (store.new ≡ with_frames store.old frames.now) }
 {
     for frame in frames {
-        copy.add_frame(names.swapped(*frame))?;
+        store.add_frame(*frame)?;
     }
     Ok(())
+}
+
+// The store of frames and bindings that come one after another, made at once where they are in order.
+fn store_of(alloc: Global, frames: &[Name], bindings: &[(Var, Term)]) -> Result<Store, AllocError>
+    ensures { IfOk result (λ s. s ≡ with_bindings (with_frames nothing frames.now) bindings.now) }
+{
+    if are_increasing(frames) && are_bound_in_order(bindings) {
+        return Store::of_sorted(alloc, frames, bindings);
+    }
+    let mut store = Store::new(alloc);
+    add_frames(frames, &mut store)?;
+    store.add_all(bindings)?;
+    Ok(store)
+}
+
+// The frames and bindings of a store, under new names.
+fn copied_bindings(alloc: Global, names: &NewNames, store: &Store) -> Result<Store, AllocError>
+    ensures { IfOk result (λ s. s ≡ with_bindings (with_frames nothing (map (swapped_name names.now) store.now.frames)) (map (binding_by (swapped_name names.now)) store.now.bindings)) }
+{
+    let frames = swapped_frames(alloc, names, store.frames()?.as_slice())?;
+    let bindings = swapped_bindings(alloc, names, store.bindings()?.as_slice())?;
+    store_of(alloc, frames.as_slice(), bindings.as_slice())
 }
 
 // The ports come, under new names.
@@ -43,24 +102,6 @@ fn add_ports(names: &NewNames, ports: &[(Name, Term)], copy: &mut Store) -> Resu
     Ok(())
 }
 
-// The bindings come, under new names.
-fn add_bindings(
-    names: &NewNames,
-    bindings: &[(Var, Term)],
-    copy: &mut Store,
-) -> Result<(), AllocError>
-    ensures { OnOk result (copy.new ≡ with_bindings copy.old (map (binding_by (swapped_name names.now)) bindings.now)) }
-{
-    for (variable, term) in bindings {
-        let swapped = Var {
-            frame: names.swapped(variable.frame),
-            index: variable.index,
-        };
-        copy.add_binding(swapped, swapped_term(names, *term))?;
-    }
-    Ok(())
-}
-
 /// A store under new names.
 pub(crate) fn copied_store(
     alloc: Global,
@@ -69,9 +110,7 @@ pub(crate) fn copied_store(
 ) -> Result<Store, AllocError>
     ensures { IfOk result (λ s. s ≡ store_by names.now store.now) }
 {
-    let mut copy = Store::new(alloc);
-    add_frames(names, store.frames()?.as_slice(), &mut copy)?;
+    let mut copy = copied_bindings(alloc, names, store)?;
     add_ports(names, store.ports()?.as_slice(), &mut copy)?;
-    add_bindings(names, store.bindings()?.as_slice(), &mut copy)?;
     Ok(copy)
 }

@@ -11,6 +11,8 @@ pub mod NewlyBound
 pub mod EachLeads
 pub mod Replaced
 pub mod Parts
+pub mod OlderForms
 pub mod Resolved
 pub mod Joining
 pub mod Listing
+pub mod InOrder

@@ -11,7 +11,7 @@ use Rattle.rational_unify.proofs.Chains.{found-first, found-second}
 use Rattle.local_store.specs.Stored.{var_before, joined, joins}
 use Rattle.local_store.specs.Chained.{times_bound, BindOnce}
 
-times-append : (x : Var) (bs cs : List (Var × Term)) → times_bound x (bs ++ cs) ≡ times_bound x bs + times_bound x cs
+pub times-append : (x : Var) (bs cs : List (Var × Term)) → times_bound x (bs ++ cs) ≡ times_bound x bs + times_bound x cs
 times-append x [] cs = omega arith
 times-append x (b ∷ bs) cs = let h : times_bound x (bs ++ cs) ≡ times_bound x bs + times_bound x cs = times-append x bs cs in omega arith
 
@@ -25,7 +25,7 @@ times-joined x (b ∷ bs) y t = on (var_before y b.0) (times-joined x bs y t)
     on true h = refl
     on false h = omega arith
 
-times-joins : (x : Var) (bs more : List (Var × Term)) → times_bound x (joins bs more) ≡ times_bound x bs + times_bound x more
+pub times-joins : (x : Var) (bs more : List (Var × Term)) → times_bound x (joins bs more) ≡ times_bound x bs + times_bound x more
 times-joins x bs [] = omega arith
 times-joins x bs ((y, t) ∷ more) =
     let h : times_bound x (joins (joined bs y t) more) ≡ times_bound x (joined bs y t) + times_bound x more = times-joins x (joined bs y t) more in
@@ -33,7 +33,7 @@ times-joins x bs ((y, t) ∷ more) =
     omega arith
 
 -- a variable without a binding has none of them
-times-none : (x : Var) (bs : List (Var × Term)) → found_in bs x ≡ None → times_bound x bs ≡ 0
+pub times-none : (x : Var) (bs : List (Var × Term)) → found_in bs x ≡ None → times_bound x bs ≡ 0
 times-none x [] e = refl
 times-none x (b ∷ bs) e = on (same_var b.0 x) e (times-none x bs)
   where

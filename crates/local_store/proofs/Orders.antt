@@ -43,6 +43,9 @@ module _ (x y : Var) where
   var-same = is_same (nat_cmp x.frame.worker y.frame.worker) (nat_cmp x.frame.number y.frame.number) (nat_cmp x.index y.index)
       (tells x.frame.worker y.frame.worker) (tells x.frame.number y.frame.number) (tells x.index y.index)
 
+pub name-total : IsTotalOrder name_cmp
+name-total = then_total (on_total (λ (n : Name). n.worker) nat_cmp_total) (on_total (λ (n : Name). n.number) nat_cmp_total)
+
 pub key_total : IsTotalOrder key_cmp
 key_total = then_total
     (then_total (then_total (on_total (λ (k : Var × ℕ). k.0.frame.worker) nat_cmp_total) (on_total (λ (k : Var × ℕ). k.0.frame.number) nat_cmp_total)) (on_total (λ (k : Var × ℕ). k.0.index) nat_cmp_total))

@@ -23,7 +23,7 @@ use Rattle.local_store.proofs.EachLeads.{each-older}
 use Rattle.local_store.proofs.Replaced.{length-append}
 
 -- what a list binds is told by it
-bound-told : (nodes : List Node) (bs : List (Var × Term)) (s t : Tree) → IsBound (bound_in nodes bs) s t → IsTold (bindings_in nodes bs) s t
+pub bound-told : (nodes : List Node) (bs : List (Var × Term)) (s t : Tree) → IsBound (bound_in nodes bs) s t → IsTold (bindings_in nodes bs) s t
 bound-told nodes bs s t m = elim (bound-either nodes [] bs s t m) [ inl x ↦ absurd (none x) | inr y ↦ y ]
   where
     none : {s t : Tree} → IsBound (bound_in nodes []) s t → ⊥

@@ -18,6 +18,10 @@ key_cmp a b = ordering_then (var_cmp a.0 b.0) (nat_cmp a.1 b.1)
 abbrev pub bindings_of : List ((Var × ℕ) × Term) → List (Var × Term)
 bindings_of entries = map (λ e. (e.0.0, e.1)) entries
 
+-- bindings of different variables, each as the first of its variable
+abbrev pub first_entries : List (Var × Term) → List ((Var × ℕ) × Term)
+first_entries bindings = map (λ b. ((b.0, 0), b.1)) bindings
+
 abbrev pub value_of : List (Name × Unit {0}) → List ((Var × ℕ) × Term) → List (Name × Term) → Stored
 value_of frames bindings ports = record { frames = keys_of frames; bindings = bindings_of bindings; ports = ports }
 

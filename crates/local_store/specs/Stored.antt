@@ -16,6 +16,10 @@ pub record Stored : Type 0 where
 abbrev pub nothing : Stored
 nothing = record { frames = []; bindings = []; ports = [] }
 
+-- with these frames and bindings, and no ports
+abbrev pub portless : List Name → List (Var × Term) → Stored
+portless frames bindings = record { frames = frames; bindings = bindings; ports = [] }
+
 -- without its bindings
 abbrev pub unbound : Stored → Stored
 unbound s = record { frames = s.frames; bindings = []; ports = s.ports }

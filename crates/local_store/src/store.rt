@@ -1,11 +1,13 @@
 //! The store of one box.
 ghost use Rattle.std.specs.Prelude.{◌≡◌, ◌+◌, IfOk, IfErr};
 ghost use Rattle.std.specs.Map.{keys_of, lookup};
-ghost use Rattle.akl_terms.specs.Names.{same_name};
+ghost use Rattle.std.specs.List.Sorted.{IsStrictlySortedBy};
+ghost use Rattle.akl_terms.specs.Names.{same_name, name_cmp, var_cmp};
 ghost use Rattle.rational_unify.specs.Known.{found_in};
-ghost use Rattle.local_store.specs.Stored.{nothing, unbound, is_named, with_frame, with_port, with_binding, with_bindings};
+ghost use Rattle.local_store.specs.Stored.{nothing, portless, unbound, is_named, with_frame, with_port, with_binding, with_bindings};
 ghost use Rattle.local_store.specs.Telling.{clashed};
 
+use crate::in_order::{bindings_in_order, frames_in_order};
 use akl_terms::{Name, Term, Var};
 use persist_map::BufferedMap;
 use smallvec::SmallVec;
@@ -61,6 +63,26 @@ impl Store {
             next: 1,
             ports: BufferedMap::new(alloc),
         }
+    }
+
+    /// The store of these frames and bindings, without ports. The frames are in increasing order, and the bindings in that
+    /// of their variables, one for each: trees are made of them at once, with nothing compared.
+    pub fn of_sorted(
+        alloc: Global,
+        frames: &[Name],
+        bindings: &[(Var, Term)],
+    ) -> Result<Store, AllocError>
+        requires frames { IsStrictlySortedBy name_cmp frames.now }
+        requires bindings { IsStrictlySortedBy var_cmp (keys_of bindings.now) }
+        ensures { IfOk result (λ s. s ≡ portless frames.now bindings.now) }
+    {
+        Ok(Store {
+            alloc,
+            frames: frames_in_order(alloc, frames)?,
+            bindings: bindings_in_order(alloc, bindings)?,
+            next: 1,
+            ports: BufferedMap::new(alloc),
+        })
     }
 
     /// An equal store, in constant time. Want of memory comes only where there are entries that aren't in a tree yet, or

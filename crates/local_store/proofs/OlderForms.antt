@@ -24,7 +24,7 @@ use Rattle.rational_unify.proofs.Walks.{IsFree, EndsWithin-leads}
 use Rattle.local_store.specs.Stored.{Stored}
 use Rattle.local_store.specs.Chained.{bindings_from, BindOnce, IsSolvedChain}
 use Rattle.local_store.proofs.Once.{new-once}
-use Rattle.box_copies.proofs.TimesBound.{bound-told}
+use Rattle.local_store.proofs.Parts.{bound-told}
 
 -- how many bindings are of a variable or of an older one
 
