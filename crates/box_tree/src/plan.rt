@@ -1,12 +1,13 @@
 //! Plans, each right for every journal that goes on from the one that it saw and leaves alone what it read.
 
-ghost use Rattle.std.specs.Prelude.{◌≡◌, length};
+ghost use Rattle.std.specs.Prelude.{◌≡◌, length, IfOk};
 ghost use Rattle.box_tree.specs.Plans.{PlanValue, IsRight};
 
 use crate::step::Step;
 use crate::view::View;
 use akl_model::{Item, Label};
 use akl_terms::Var;
+use std::alloc::{AllocError, Global};
 use std::marker::Model;
 use std::snapshot::Snapshot;
 
@@ -15,13 +16,19 @@ use std::snapshot::Snapshot;
 #[derive(Drop)]
 pub struct Plan {
     view: Snapshot<View>,
+    parts: Box<PlanParts>,
+    ghost same_length: { parts.value.seen ≡ length view.value.journal },
+}
+
+// The parts of a plan, which stand in a box since a plan passes through many results.
+#[derive(Drop)]
+struct PlanParts {
     seen: u64,
     label: Label,
     reads: Vec<Item>,
     names: u64,
     step: Step,
     binds: Vec<Var>,
-    ghost same_length: { seen ≡ length view.value.journal },
 }
 
 impl Model for Plan {
@@ -29,47 +36,51 @@ impl Model for Plan {
 
     ghost Value = { PlanValue };
 
-    ghost view = { λ p. record { table = p.view.value.table; journal = p.view.value.journal; label = p.label; reads = p.reads.items; names = p.names; step = p.step; binds = p.binds.items } };
+    ghost view = { λ p. record { table = p.view.value.table; journal = p.view.value.journal; label = p.parts.value.label; reads = p.parts.value.reads.items; names = p.parts.value.names; step = p.parts.value.step; binds = p.parts.value.binds.items } };
 
-    ghost invariant = { λ p. IsRight (record { table = p.view.value.table; journal = p.view.value.journal; label = p.label; reads = p.reads.items; names = p.names; step = p.step; binds = p.binds.items }) };
+    ghost invariant = { λ p. IsRight (record { table = p.view.value.table; journal = p.view.value.journal; label = p.parts.value.label; reads = p.parts.value.reads.items; names = p.parts.value.names; step = p.parts.value.step; binds = p.parts.value.binds.items }) };
 }
 
 impl Plan {
-    /// A plan of what is right for its view.
+    /// A plan of what is right for its view. An `Err` is want of memory.
     pub fn new(
+        alloc: Global,
         view: &View,
         label: Label,
         reads: Vec<Item>,
         names: u64,
         step: Step,
         binds: Vec<Var>,
-    ) -> Plan
+    ) -> Result<Plan, AllocError>
         requires { IsRight (record { table = view.now.table; journal = view.now.journal; label = label; reads = reads.items; names = names; step = step; binds = binds.items }) }
-        ensures { result ≡ record { table = view.now.table; journal = view.now.journal; label = label; reads = reads.items; names = names; step = step; binds = binds.items } }
+        ensures { IfOk result (λ plan. plan ≡ record { table = view.now.table; journal = view.now.journal; label = label; reads = reads.items; names = names; step = step; binds = binds.items }) }
     {
-        Plan {
-            view: Snapshot::of(view),
-            seen: view.seen,
+        let parts = PlanParts {
+            seen: view.seen(),
             label,
             reads,
             names,
             step,
             binds,
-        }
+        };
+        Ok(Plan {
+            view: Snapshot::of(view),
+            parts: Box::new(alloc, parts)?,
+        })
     }
 
     /// How many labels the journal had when the plan's place was looked at.
     pub fn seen(&self) -> u64
         ensures { result ≡ length self.now.journal }
     {
-        self.seen
+        self.parts.seen
     }
 
     /// The label.
     pub fn label(&self) -> Label
         ensures { result ≡ self.now.label }
     {
-        self.label
+        self.parts.label
     }
 
     /// The items that were read.
@@ -77,14 +88,14 @@ impl Plan {
         ensures reads { result.now ≡ self.now.reads }
         ensures right { IsRight self.now }
     {
-        self.reads.as_slice()
+        self.parts.reads.as_slice()
     }
 
     /// How many names the label draws.
     pub fn names(&self) -> u64
         ensures { result ≡ self.now.names }
     {
-        self.names
+        self.parts.names
     }
 
     /// Variables that the label binds or makes equal in the box of its place, enough of them: to each such variable one
@@ -92,20 +103,20 @@ impl Plan {
     pub fn binds(&self) -> &[Var]
         ensures { result.now ≡ self.now.binds }
     {
-        self.binds.as_slice()
+        self.parts.binds.as_slice()
     }
 
     /// What the plan makes.
     pub fn step(&self) -> &Step
         ensures { result.now ≡ self.now.step }
     {
-        &self.step
+        &self.parts.step
     }
 
     /// What the plan makes.
     pub fn into_step(self) -> Step
         ensures { result ≡ self.step }
     {
-        self.step
+        Box::into_inner(self.parts).step
     }
 }

@@ -14,7 +14,7 @@ use crate::entries::{BoxEntry, GoalEntry};
 use crate::starting::after;
 use crate::step::Step;
 use crate::telling::solved_when;
-use crate::view::{LookError, View};
+use crate::view::{LookError, View, ViewParts};
 use crate::way::Way;
 use akl_model::{Item, Label};
 use akl_terms::{Name, Place, Program, Query, ShownTerm};
@@ -112,9 +112,7 @@ impl Table {
             latest,
             whole,
         )?;
-        Ok(View {
-            table: Snapshot::of(self),
-            journal: Snapshot::of(journal),
+        let parts = ViewParts {
             place,
             worker,
             seen: journal.len() as u64,
@@ -125,6 +123,11 @@ impl Table {
             sight: standing.sight,
             alternatives,
             body,
+        };
+        Ok(View {
+            table: Snapshot::of(self),
+            journal: Snapshot::of(journal),
+            parts: parts.boxed(alloc)?,
         })
     }
 

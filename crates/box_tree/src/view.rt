@@ -1,6 +1,6 @@
 //! What is seen of a place.
 
-ghost use Rattle.std.specs.Prelude.{◌≡◌, length};
+ghost use Rattle.std.specs.Prelude.{◌≡◌, length, IfOk};
 ghost use Rattle.box_tree.specs.Views.{IsViewOf};
 
 use crate::entries::HeldOp;
@@ -9,7 +9,7 @@ use crate::table::Table;
 use akl_model::Label;
 use akl_terms::{Goal, Name, Place, Program, Query, Templates, Term};
 use local_store::{Chain, Shared, Store};
-use std::alloc::AllocError;
+use std::alloc::{AllocError, Global};
 use std::marker::Model;
 use std::snapshot::Snapshot;
 
@@ -60,6 +60,13 @@ pub struct Alternative {
 pub struct View {
     pub(crate) table: Snapshot<Table>,
     pub(crate) journal: Snapshot<Vec<Label>>,
+    pub(crate) parts: Box<ViewParts>,
+    ghost same_length: { parts.value.seen ≡ length journal.value.items },
+}
+
+// The parts of a view, which stand in a box since a view passes through results.
+#[derive(Drop)]
+pub(crate) struct ViewParts {
     pub(crate) place: Place,
     pub(crate) worker: u32,
     pub(crate) seen: u64,
@@ -70,7 +77,6 @@ pub struct View {
     pub(crate) sight: Sight,
     pub(crate) alternatives: Vec<Alternative>,
     pub(crate) body: Vec<Goal>,
-    ghost same_length: { seen ≡ length journal.value.items },
 }
 
 impl Model for View {
@@ -78,9 +84,18 @@ impl Model for View {
 
     ghost Value = { ViewValue };
 
-    ghost view = { λ v. record { table = v.table.value; journal = v.journal.value.items; place = v.place; worker = v.worker; next = v.next; path = v.path.items; stores = v.stores.items; known = v.known; sight = v.sight; alternatives = v.alternatives.items; body = v.body.items } };
+    ghost view = { λ v. record { table = v.table.value; journal = v.journal.value.items; place = v.parts.value.place; worker = v.parts.value.worker; next = v.parts.value.next; path = v.parts.value.path.items; stores = v.parts.value.stores.items; known = v.parts.value.known; sight = v.parts.value.sight; alternatives = v.parts.value.alternatives.items; body = v.parts.value.body.items } };
 
-    ghost invariant = { λ v. IsViewOf (record { table = v.table.value; journal = v.journal.value.items; place = v.place; worker = v.worker; next = v.next; path = v.path.items; stores = v.stores.items; known = v.known; sight = v.sight; alternatives = v.alternatives.items; body = v.body.items }) };
+    ghost invariant = { λ v. IsViewOf (record { table = v.table.value; journal = v.journal.value.items; place = v.parts.value.place; worker = v.parts.value.worker; next = v.parts.value.next; path = v.parts.value.path.items; stores = v.parts.value.stores.items; known = v.parts.value.known; sight = v.parts.value.sight; alternatives = v.parts.value.alternatives.items; body = v.parts.value.body.items }) };
+}
+
+impl ViewParts {
+    // The parts in a box of their own. An `Err` is want of memory.
+    pub(crate) fn boxed(self, alloc: Global) -> Result<Box<ViewParts>, AllocError>
+        ensures { IfOk result (λ parts. parts.value ≡ self) }
+    {
+        Ok(Box::new(alloc, self)?)
+    }
 }
 
 impl View {
@@ -89,42 +104,42 @@ impl View {
         ensures place { result ≡ self.now.place }
         ensures seen { IsViewOf self.now }
     {
-        self.place
+        self.parts.place
     }
 
     /// The worker that looked.
     pub fn worker(&self) -> u32
         ensures { result ≡ self.now.worker }
     {
-        self.worker
+        self.parts.worker
     }
 
     /// How many labels the journal had.
     pub fn seen(&self) -> u64
         ensures { result ≡ length self.now.journal }
     {
-        self.seen
+        self.parts.seen
     }
 
     /// The worker's next number.
     pub fn next(&self) -> u64
         ensures { result ≡ self.now.next }
     {
-        self.next
+        self.parts.next
     }
 
     /// The boxes from the root box down to the place's box: the box itself, or the one in which the goal stands.
     pub fn path(&self) -> &[Name]
         ensures { result.now ≡ self.now.path }
     {
-        self.path.as_slice()
+        self.parts.path.as_slice()
     }
 
     /// What stands at the place.
     pub fn sight(&self) -> Sight
         ensures { result ≡ self.now.sight }
     {
-        self.sight
+        self.parts.sight
     }
 
     /// The alternatives of the choice at the place, in order; none at another place.
@@ -132,28 +147,28 @@ impl View {
         ensures alternatives { result.now ≡ self.now.alternatives }
         ensures seen { IsViewOf self.now }
     {
-        self.alternatives.as_slice()
+        self.parts.alternatives.as_slice()
     }
 
     /// The body of the only alternative; no goals where there is none or more than one.
     pub fn body(&self) -> &[Goal]
         ensures { result.now ≡ self.now.body }
     {
-        self.body.as_slice()
+        self.parts.body.as_slice()
     }
 
     /// The stores of the boxes from the root box down to the place's box.
     pub fn stores(&self) -> &[Shared<Store>]
         ensures { result.now ≡ self.now.stores }
     {
-        self.stores.as_slice()
+        self.parts.stores.as_slice()
     }
 
     /// How many of the outermost of these stores are known to be solved together.
     pub fn known(&self) -> usize
         ensures { result ≡ self.now.known }
     {
-        self.known
+        self.parts.known
     }
 
     /// The stores of these boxes, with how many of the outermost are known to be solved together.
@@ -165,6 +180,6 @@ impl View {
         ensures known { result.known ≡ self.now.known }
         ensures seen { IsViewOf self.now }
     {
-        Chain::of_solved(templates, self.stores.as_slice(), self.known)
+        Chain::of_solved(templates, self.parts.stores.as_slice(), self.parts.known)
     }
 }

@@ -109,5 +109,6 @@ fn collect_quiet(
         solved,
         goals: Vec::new(alloc),
     };
-    Ok(Some(Plan::new(view, label, reads, names, step, binds)))
+    let plan = Plan::new(alloc, view, label, reads, names, step, binds)?;
+    Ok(Some(plan))
 }

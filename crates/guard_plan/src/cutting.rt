@@ -38,7 +38,8 @@ pub(crate) fn cut(
     };
     let reads = goal_and_stores(alloc, goal, view.path())?;
     let label = label_for(view, Rule::Cut, alternative);
-    Ok(Some(Plan::new(view, label, reads, 0, Step::Cut, Vec::new(alloc))))
+    let plan = Plan::new(alloc, view, label, reads, 0, Step::Cut, Vec::new(alloc))?;
+    Ok(Some(plan))
 }
 
 // The alternatives that leave fewer than there are, where others stand beside them: with `->` all but the last, with

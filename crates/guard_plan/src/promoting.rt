@@ -65,7 +65,8 @@ pub(crate) fn promote(
         solved,
         goals,
     };
-    Ok(Some(Plan::new(view, label, reads, names, step, binds)))
+    let plan = Plan::new(alloc, view, label, reads, names, step, binds)?;
+    Ok(Some(plan))
 }
 
 // These goals under names from this one on.

@@ -31,7 +31,8 @@ pub(crate) fn goal_plan(
 {
     let reads = goal_and_stores(alloc, goal, view.path())?;
     let label = label_of(view, rule);
-    Ok(Some(Plan::new(view, label, reads, names, step, binds)))
+    let plan = Plan::new(alloc, view, label, reads, names, step, binds)?;
+    Ok(Some(plan))
 }
 
 // The plan of a rule that tells an equation to the box of its goal.

@@ -53,7 +53,6 @@ fn new_box(
     let goals = named_goals(alloc, frame, clause.guard.as_slice())?;
     let body = goals_of(alloc, frame, clause.body.as_slice())?;
     let (store, solved) = head_store(alloc, chain, call, frame, clause)?;
-    let store = Shared::new(alloc, store)?;
     Ok(NewBox {
         name,
         store,
@@ -82,7 +81,7 @@ fn head_store(
     call: Call,
     frame: Name,
     clause: &Clause,
-) -> Result<(Store, bool), AllocError>
+) -> Result<(Shared<Store>, bool), AllocError>
     ensures { IfOk result (λ r. IsNewStore chain.now.nodes chain.now.stores chain.now.known frame (heads_of call frame clause.now) r.0 r.1) }
 {
     let equations = head_equations(alloc, call, frame, clause)?;

@@ -66,5 +66,6 @@ fn fail_by(alloc: Global, view: &View, item: Item) -> Result<Option<Plan>, Alloc
 {
     let reads = one_item(alloc, item)?;
     let label = label_of(view, Rule::Fail);
-    Ok(Some(Plan::new(view, label, reads, 0, Step::Fail, Vec::new(alloc))))
+    let plan = Plan::new(alloc, view, label, reads, 0, Step::Fail, Vec::new(alloc))?;
+    Ok(Some(plan))
 }

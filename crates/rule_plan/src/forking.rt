@@ -55,7 +55,8 @@ pub(crate) fn fork(
     let chain = view.chain(&program.templates);
     let alternatives = new_boxes(alloc, &chain, call, first, found.clauses.as_slice())?;
     let step = Step::Fork { op, alternatives };
-    Ok(Some(Plan::new(view, label, reads, names, step, Vec::new(alloc))))
+    let plan = Plan::new(alloc, view, label, reads, names, step, Vec::new(alloc))?;
+    Ok(Some(plan))
 }
 
 // The operator of the choice that a call of a definition with this operator becomes.

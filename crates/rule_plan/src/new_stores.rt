@@ -17,7 +17,7 @@ pub(crate) fn new_store(
     chain: &Chain,
     frame: Name,
     equations: &[Equation],
-) -> Result<(Store, bool), AllocError>
+) -> Result<(Shared<Store>, bool), AllocError>
     ensures { IfOk result (λ r. IsNewStore chain.now.nodes chain.now.stores chain.now.known frame equations.now r.0 r.1) }
 {
     if chain.known() == chain.stores().len() {
@@ -32,7 +32,7 @@ fn over_solved(
     chain: &Chain,
     frame: Name,
     equations: &[Equation],
-) -> Result<(Store, bool), AllocError>
+) -> Result<(Shared<Store>, bool), AllocError>
     requires known { chain.now.known ≡ length chain.now.stores }
     requires solved { IsSolvedChain chain.now.nodes chain.now.stores }
     ensures { IfOk result (λ r. IsNewStore chain.now.nodes chain.now.stores chain.now.known frame equations.now r.0 r.1) }
@@ -41,6 +41,7 @@ fn over_solved(
     let mut store = Store::new(alloc);
     store.add_frame(frame)?;
     let consistent = add_solved(&mut store, &solved)?;
+    let store = Shared::new(alloc, store)?;
     Ok((store, consistent))
 }
 
@@ -67,13 +68,14 @@ fn over_others(
     chain: &Chain,
     frame: Name,
     equations: &[Equation],
-) -> Result<(Store, bool), AllocError>
+) -> Result<(Shared<Store>, bool), AllocError>
     requires { chain.now.known ≢ length chain.now.stores }
     ensures { IfOk result (λ r. IsNewStore chain.now.nodes chain.now.stores chain.now.known frame equations.now r.0 r.1) }
 {
     let stores = path_with(alloc, chain.stores(), frame)?;
     let inner = Chain::of_solved(chain.templates(), stores.as_slice(), chain.known());
     let ToldStore { store, .. } = told(alloc, &inner, equations)?;
+    let store = Shared::new(alloc, store)?;
     Ok((store, false))
 }
 

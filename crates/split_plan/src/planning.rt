@@ -48,5 +48,6 @@ pub fn plan_split(
     }
     let reads = split_reads(alloc, &path[..depth], inside.boxes.as_slice())?;
     let step = Step::Split { copy, copies };
-    Ok(Some(Plan::new(view, label, reads, names, step, Vec::new(alloc))))
+    let plan = Plan::new(alloc, view, label, reads, names, step, Vec::new(alloc))?;
+    Ok(Some(plan))
 }

@@ -40,8 +40,8 @@ not_split e = cc
 pub returns : goal.returns
 returns c =
     let v = c.args.view.now in
-    let right : IsRight c.new-3.result = search rules in
+    let right : IsRight c.in_ok-plan.plan = search rules in
     let joined = rw (c.chain.ensures.nodes, c.chain.ensures.stores, c.chain.ensures.known, c.alternatives-3.ensures.alternatives, c.as_slice.ensures.value, c.worker.ensures, c.next-next.ensures, c.requires.program) at c.in_ok-store.ensures in
     let known = gathered_known v.table.program.templates.nodes v.stores v.known v.alternatives (frames_of v.worker v.next v.alternatives) c.in-Some.equations.items c.in_ok-store.field-0 joined c.label_of-label.ensures.seen.known.within in
-    plan_of v c.new-3.result _ _ _ _ _ right c.new-3.ensures Rule.Collect _ c.label_of-label.ensures.label
+    plan_of v c.in_ok-plan.plan _ _ _ _ _ right c.in_ok-plan.ensures Rule.Collect _ c.label_of-label.ensures.label
     (subst (λ (s : Stored). IsKnownGathered v s c.in_ok-store.field-0.solved) (sym c.in_ok-store-2.ensures) known) not_split

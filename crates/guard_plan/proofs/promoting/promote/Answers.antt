@@ -64,4 +64,4 @@ pub returns : goal.returns
 returns c =
     let answer = rw (c.of_solved-chain.ensures, c.as_slice.ensures.value, c.in_ok-push.ensures.items, c.in_ok-stores.ensures, c.in_ok-share.ensures, c.stores.ensures, c.requires.program) at c.in_ok-store.ensures in
     let known = joined_known c.args.view.now.table.program.templates.nodes c.args.view.now.stores c.args.only.now.store c.args.only.now.known c.in_ok-store.field-0 answer in
-    plan_of c.args.view.now c.new-2.result _ _ _ _ _ (search rules) c.new-2.ensures Rule.Promote _ c.label_for-label.ensures.label (rw c.requires.only (known, tt)) (λ e. cc)
+    plan_of c.args.view.now c.in_ok-plan.plan _ _ _ _ _ (search rules) c.in_ok-plan.ensures Rule.Promote _ c.label_for-label.ensures.label (rw c.requires.only (known, tt)) (λ e. cc)

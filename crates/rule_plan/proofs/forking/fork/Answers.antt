@@ -63,5 +63,5 @@ new-requires-2 c =
 pub returns : goal.returns
 returns c =
     let made = rw (c.chain-chain.ensures.nodes, c.chain-chain.ensures.stores, c.chain-chain.ensures.known, c.worker.ensures, c.next-next.ensures, c.as_slice-3.ensures, c.requires.program) at c.in_ok-alternatives.ensures in
-    plan_of c.args.view.now c.new-2.result _ _ _ _ _ (search rules) c.new-2.ensures Rule.Fork _ c.label_of-label.ensures.label
+    plan_of c.args.view.now c.in_ok-plan.plan _ _ _ _ _ (search rules) c.in_ok-plan.ensures Rule.Fork _ c.label_of-label.ensures.label
     (all_known c.args.view.now c.args.call c.args.view.now.worker c.args.view.now.next c.in-Some.found.now.clauses c.in_ok-alternatives.alternatives.items made) (λ e. cc)

@@ -29,7 +29,7 @@ invariant_of-result-2 c =
     let latest : c.known_of-known.result.1 ≡ latest_in T 0 path = c.known_of-known.ensures.latest ∙ ap (latest_in T 0) c.as_slice.ensures.value in
     let whole : c.in-Some.whole ≡ length path + 1 = omega (arith, c.in-Some.ensures, c.len.ensures, ap length c.as_slice-2.ensures.value) in
     let names : standing.alternatives.now ≡ names_at T c.args.place = c.in_ok-standing.ensures.standing.alternatives in
-    rw (c.of.ensures, c.of-2.ensures) (view_of c.args.self.now c.args.journal.now.items c.requires c.args.place c.args.worker standing.home standing.sight path way.stores.items c.known_of-known.result.0 c.next_of.result
+    rw (c.of.ensures, c.of-2.ensures, c.in_ok-boxed.ensures) (view_of c.args.self.now c.args.journal.now.items c.requires c.args.place c.args.worker standing.home standing.sight path way.stores.items c.known_of-known.result.0 c.next_of.result
     c.in_ok-alternatives.alternatives.items c.in_ok-alternatives.body.items c.in_ok-standing.ensures.standing.sight c.in_ok-path.ensures.path c.in_ok-path.ensures.stores known c.next_of.ensures
     (c.in_ok-alternatives.ensures.alternatives ∙ (λ i. map (seen_as c.args.self.now (known i) (latest i) (whole i)) (names i))) (c.in_ok-alternatives.ensures.body ∙ ap (body_of_only T) names))
 
@@ -43,12 +43,12 @@ returns-clause-seen c =
     let latest : c.known_of-known.result.1 ≡ latest_in T 0 path = c.known_of-known.ensures.latest ∙ ap (latest_in T 0) c.as_slice.ensures.value in
     let whole : c.in-Some.whole ≡ length path + 1 = omega (arith, c.in-Some.ensures, c.len.ensures, ap length c.as_slice-2.ensures.value) in
     let names : standing.alternatives.now ≡ names_at T c.args.place = c.in_ok-standing.ensures.standing.alternatives in
-    rw (c.of.ensures, c.of-2.ensures) (view_of c.args.self.now c.args.journal.now.items c.requires c.args.place c.args.worker standing.home standing.sight path way.stores.items c.known_of-known.result.0 c.next_of.result
+    rw (c.of.ensures, c.of-2.ensures, c.in_ok-boxed.ensures) (view_of c.args.self.now c.args.journal.now.items c.requires c.args.place c.args.worker standing.home standing.sight path way.stores.items c.known_of-known.result.0 c.next_of.result
     c.in_ok-alternatives.alternatives.items c.in_ok-alternatives.body.items c.in_ok-standing.ensures.standing.sight c.in_ok-path.ensures.path c.in_ok-path.ensures.stores known c.next_of.ensures
     (c.in_ok-alternatives.ensures.alternatives ∙ (λ i. map (seen_as c.args.self.now (known i) (latest i) (whole i)) (names i))) (c.in_ok-alternatives.ensures.body ∙ ap (body_of_only T) names))
 
 pub returns-clause-known : goal.returns-clause-known
-returns-clause-known c = c.known_of-known.ensures.known ∙ ap (known_in (table_of c.args.self.now) 0) c.as_slice.ensures.value
+returns-clause-known c = rw c.in_ok-boxed.ensures (c.known_of-known.ensures.known ∙ ap (known_in (table_of c.args.self.now) 0) c.as_slice.ensures.value)
 
 pub returns-clause-alternatives : goal.returns-clause-alternatives
 returns-clause-alternatives c =
@@ -58,4 +58,4 @@ returns-clause-alternatives c =
     let known : c.known_of-known.result.0 ≡ known_in T 0 path = c.known_of-known.ensures.known ∙ ap (known_in T 0) c.as_slice.ensures.value in
     let latest : c.known_of-known.result.1 ≡ latest_in T 0 path = c.known_of-known.ensures.latest ∙ ap (latest_in T 0) c.as_slice.ensures.value in
     let whole : c.in-Some.whole ≡ length path + 1 = omega (arith, c.in-Some.ensures, c.len.ensures, ap length c.as_slice-2.ensures.value) in
-    c.in_ok-alternatives.ensures.alternatives ∙ (λ i. map (seen_as c.args.self.now (known i) (latest i) (whole i)) (c.in_ok-standing.ensures.standing.alternatives i))
+    rw c.in_ok-boxed.ensures (c.in_ok-alternatives.ensures.alternatives ∙ (λ i. map (seen_as c.args.self.now (known i) (latest i) (whole i)) (c.in_ok-standing.ensures.standing.alternatives i)))
