@@ -7,7 +7,8 @@ use Rattle.std.specs.List.{list_all}
 use Rattle.name_map.specs.declared.page.Page.{Page}
 use Rattle.name_map.specs.declared.page.Chunk.{Chunk}
 use Rattle.name_map.specs.declared.numbers.Numbers.{Numbers}
-use Rattle.name_map.specs.Pages.{within, in_slot, in_page, in_chunk, in_numbers, is_free, is_bare, PutsInPage, PutsInChunk}
+use Rattle.name_map.specs.Free.{is_free}
+use Rattle.name_map.specs.Pages.{within, in_slot, in_page, in_chunk, in_numbers, is_bare, PutsInPage, PutsInChunk}
 use lib.Dec.{eqb}
 
 above_zero : (j : ℕ) → eqb (suc j) 0 ≡ false
@@ -68,16 +69,16 @@ module _ {V : Type 0} where
   none_in_free (None ∷ xs) e (suc i) = none_in_free xs e i
   none_in_free (Some v ∷ xs) e i = absurd (cc)
 
-  none_in_bare_page : (n : ℕ) (xs : List (Option V)) (i : ℕ) → (length xs == 0) ≡ true → within in_slot xs i ≡ None
-  none_in_bare_page n [] i e = refl
-  none_in_bare_page n (x ∷ xs) i e = let none : length (x ∷ xs) ≡ 0 = grind (arith, nat_tests) in absurd (omega arith)
+  pub none_in_empty : (xs : List (Option V)) (i : ℕ) → (length xs == 0) ≡ true → within in_slot xs i ≡ None
+  none_in_empty [] i e = refl
+  none_in_empty (x ∷ xs) i e = let none : length (x ∷ xs) ≡ 0 = grind (arith, nat_tests) in absurd (omega arith)
 
   pub none_in_bare : (xs : List (Page V)) → list_all is_bare xs ≡ true → (n i : ℕ) → within (in_page n) xs i ≡ None
   none_in_bare [] e n i = refl
   none_in_bare (x ∷ xs) e n i = on (is_bare x) refl (none_in_bare xs) e i
     where
       on : (b : Bool) → is_bare x ≡ b → (list_all is_bare xs ≡ true → (m j : ℕ) → within (in_page m) xs j ≡ None) → (b && list_all is_bare xs) ≡ true → (j : ℕ) → within (in_page n) (x ∷ xs) j ≡ None
-      on true is rest all zero = none_in_bare_page n x.slots.items (n % 8) is
+      on true is rest all zero = none_in_empty x.slots.items (n % 8) is
       on true is rest all (suc j) = rest all n j
       on false is rest all j = absurd (cc)
 

@@ -1,5 +1,5 @@
 -- Where a name's value is: in a page of 8 slots, 64 of which are a chunk, of the chunks of the name's worker.
-use Rattle.std.specs.Prelude.{◌≡◌, ℕ, zero, suc, ◌+◌, ◌*◌, ◌/◌, ◌%◌, ◌==◌, ◌&&◌, not, Bool, true, List, [], ◌∷◌, length, Option, None, Some, is_some, if◌then◌else◌}
+use Rattle.std.specs.Prelude.{◌≡◌, ℕ, zero, suc, ◌+◌, ◌*◌, ◌/◌, ◌%◌, ◌==◌, ◌&&◌, Bool, true, List, [], ◌∷◌, length, Option, None, Some, if◌then◌else◌}
 use lib.Dec.{eqb}
 use Rattle.akl_terms.specs.declared.name.Name.{Name}
 use Rattle.name_map.specs.declared.page.Page.{Page}
@@ -47,10 +47,7 @@ module _ {V : Type 0} where
   abbrev pub entries : List (Numbers V) → List (Name × V)
   entries workers = entries_from 0 workers
 
--- a slot without a value, and a page without slots
-abbrev pub is_free : {V : Type 0} → Option V → Bool
-is_free slot = not (is_some slot)
-
+-- a page without slots
 abbrev pub is_bare : {V : Type 0} → Page V → Bool
 is_bare page = length page.slots.items == 0
 

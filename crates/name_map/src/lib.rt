@@ -4,5 +4,6 @@
 mod map;
 mod numbers;
 mod page;
+mod spare;
 
 pub use map::NameMap;

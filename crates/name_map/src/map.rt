@@ -10,13 +10,15 @@ ghost use Rattle.name_map.specs.Lending.{lends_get};
 ghost use Rattle.name_map.specs.Pages.{value_at};
 
 use crate::numbers::Numbers;
+use crate::spare::Spare;
 use akl_terms::Name;
 use std::alloc::{AllocError, Global};
 use std::marker::Model;
 
 /// A map from names to values. A look-up takes the same time whatever is there. Eight names that follow one another
-/// share a page, which takes memory while one of them is there, or while it is the page that was begun last. Contracts
-/// see the names with their values, in increasing order of the names.
+/// share a page, which takes memory while one of them is there, or while it is the page that was begun last. Of the
+/// pages of a worker's names that were emptied one keeps its memory, for the next page that is begun. Contracts see the
+/// names with their values, in increasing order of the names.
 #[derive(Drop)]
 pub struct NameMap<V> {
     alloc: Global,
@@ -46,6 +48,7 @@ fn make_workers<V: Drop>(
         workers.push(Numbers {
             chunks: Vec::new(alloc),
             newest: 0,
+            spare: Spare::new(alloc),
         })?;
     }
     Ok(())

@@ -7,6 +7,7 @@ ghost use Rattle.name_map.specs.Lending.{lends_number};
 ghost use Rattle.name_map.specs.Pages.{in_chunk, in_numbers, within, Same, Puts};
 
 use crate::page::{Chunk, chunk_of, page_of, slot_of};
+use crate::spare::Spare;
 use std::alloc::{AllocError, Global};
 
 /// The values of one worker's names.
@@ -15,6 +16,8 @@ pub(crate) struct Numbers<V> {
     pub(crate) chunks: Vec<Chunk<V>>,
     // The last page that was begun, by its number among all pages. It keeps its memory when nothing is in it.
     pub(crate) newest: u64,
+    // For the next page that is begun.
+    pub(crate) spare: Spare<V>,
 }
 
 // Makes the chunks up to this one.
@@ -60,7 +63,7 @@ impl<V> Numbers<V> {
     {
         self.begin_page(alloc, number / 8);
         make_chunks(alloc, &mut self.chunks, chunk_of(number))?;
-        self.chunks[chunk_of(number)].insert(alloc, number, value)
+        self.chunks[chunk_of(number)].insert(alloc, &mut self.spare, number, value)
     }
 
     pub(crate) fn remove(&mut self, alloc: Global, number: u64) -> Option<V>
@@ -99,7 +102,7 @@ impl<V> Numbers<V> {
         }
     }
 
-    // Gives back the memory of a page where nothing is in it. The chunk of the newest page isn't asked for more, as that page
+    // Gives up the slots of a page where nothing is in it. The chunk of the newest page isn't asked for more, as that page
     // has memory.
     fn free_page(&mut self, alloc: Global, page: u64)
     where
@@ -108,7 +111,7 @@ impl<V> Numbers<V> {
     {
         let has_newest = page / 64 == self.newest / 64;
         if let Some(chunk) = self.chunks.get_mut((page / 64) as usize) {
-            chunk.free_page(alloc, (page % 64) as usize, has_newest);
+            chunk.free_page(alloc, &mut self.spare, (page % 64) as usize, has_newest);
         }
     }
 }

@@ -2,9 +2,12 @@
 
 ghost use Rattle.std.specs.Prelude.{◌≡◌, ◌+◌, ◌*◌, ◌/◌, ◌%◌, ◌≤◌, ◌^◌, vec_len, is_some, Some, OnOk, OnErr};
 ghost use Rattle.std.specs.List.{list_all};
-ghost use Rattle.name_map.specs.Pages.{is_free, is_bare, in_slot, in_page, in_chunk, within, PutsInPage, PutsInChunk};
+ghost use Rattle.name_map.specs.Free.{is_free};
+ghost use Rattle.name_map.specs.Pages.{is_bare, in_slot, in_page, in_chunk, within, PutsInPage, PutsInChunk};
 
+use crate::spare::Spare;
 use std::alloc::{AllocError, Global};
+use std::mem;
 
 /// The values of eight numbers that follow one another. Without slots it has no memory of its own.
 #[derive(Drop)]
@@ -44,11 +47,37 @@ fn make_slots<V: Drop>(slots: &mut Vec<Option<V>>) -> Result<(), AllocError>
     ensures there { OnOk result (8 ≤ vec_len slots.new) }
     ensures same { (i : _) → within in_slot slots.new.items i ≡ within in_slot slots.old.items i }
 {
-    slots.reserve_exact(8usize.saturating_sub(slots.len()))?;
+    let missing = 8usize.saturating_sub(slots.len());
+    if missing == 0 {
+        return Ok(());
+    }
+    slots.reserve_exact(missing)?;
     while slots.len() < 8 {
         slots.push(None)?;
     }
     Ok(())
+}
+
+// Takes the slots that were kept, where a page has none.
+fn take_spare<V: Drop>(alloc: Global, slots: &mut Vec<Option<V>>, spare: &mut Spare<V>)
+    ensures { (i : _) → within in_slot slots.new.items i ≡ within in_slot slots.old.items i }
+{
+    if slots.is_empty() {
+        *slots = spare.take(alloc);
+    }
+}
+
+// Has a page have its slots: those that were kept, or else new ones.
+fn begin_slots<V: Drop>(
+    alloc: Global,
+    slots: &mut Vec<Option<V>>,
+    spare: &mut Spare<V>,
+) -> Result<(), AllocError>
+    ensures there { OnOk result (8 ≤ vec_len slots.new) }
+    ensures same { (i : _) → within in_slot slots.new.items i ≡ within in_slot slots.old.items i }
+{
+    take_spare(alloc, slots, spare);
+    make_slots(slots)
 }
 
 // Makes the pages of a chunk.
@@ -56,7 +85,11 @@ fn make_pages<V: Drop>(alloc: Global, pages: &mut Vec<Page<V>>) -> Result<(), Al
     ensures there { OnOk result (64 ≤ vec_len pages.new) }
     ensures same { (n : _) (i : _) → within (in_page n) pages.new.items i ≡ within (in_page n) pages.old.items i }
 {
-    pages.reserve_exact(64usize.saturating_sub(pages.len()))?;
+    let missing = 64usize.saturating_sub(pages.len());
+    if missing == 0 {
+        return Ok(());
+    }
+    pages.reserve_exact(missing)?;
     while pages.len() < 64 {
         pages.push(Page {
             slots: Vec::new(alloc),
@@ -72,61 +105,79 @@ impl<V> Page<V> {
         self.slots.iter().all(|slot| slot.is_none())
     }
 
-    // Gives back the memory where nothing is there. The answer is whether it did.
-    fn free(&mut self, alloc: Global) -> bool
+    // Gives up its slots where nothing is there. The answer is whether it did.
+    fn free(&mut self, alloc: Global, spare: &mut Spare<V>) -> bool
     where
         V: Drop,
         ensures { (n : _) → in_page n self.new ≡ in_page n self.old }
     {
         let empty = self.is_empty();
         if empty {
-            self.slots = Vec::new(alloc);
+            spare.keep(mem::replace(&mut self.slots, Vec::new(alloc)));
         }
         empty
     }
 
-    fn insert(&mut self, number: u64, value: V) -> Result<(), AllocError>
+    fn insert(
+        &mut self,
+        alloc: Global,
+        spare: &mut Spare<V>,
+        number: u64,
+        value: V,
+    ) -> Result<(), AllocError>
     where
         V: Drop,
         ensures put { OnOk result (PutsInPage self.old self.new number (Some value)) }
         ensures unchanged { OnErr result ((n : _) → in_page n self.new ≡ in_page n self.old) }
     {
-        make_slots(&mut self.slots)?;
+        begin_slots(alloc, &mut self.slots, spare)?;
         self.slots[slot_of(number)] = Some(value);
         Ok(())
     }
 }
 
 impl<V> Chunk<V> {
-    pub(crate) fn insert(&mut self, alloc: Global, number: u64, value: V) -> Result<(), AllocError>
+    pub(crate) fn insert(
+        &mut self,
+        alloc: Global,
+        spare: &mut Spare<V>,
+        number: u64,
+        value: V,
+    ) -> Result<(), AllocError>
     where
         V: Drop,
         ensures put { OnOk result (PutsInChunk self.old self.new number (Some value)) }
         ensures unchanged { OnErr result ((n : _) → in_chunk n self.new ≡ in_chunk n self.old) }
     {
         make_pages(alloc, &mut self.pages)?;
-        self.pages[page_of(number)].insert(number, value)
+        self.pages[page_of(number)].insert(alloc, spare, number, value)
     }
 
-    /// Gives back the memory of a page where nothing is in it, and that of all pages where none has any. The pages stay where
-    /// they are kept.
-    pub(crate) fn free_page(&mut self, alloc: Global, index: usize, keep: bool)
+    /// Gives up the slots of a page where nothing is in it, and the memory of all pages where none has any. The pages stay
+    /// where they are kept.
+    pub(crate) fn free_page(
+        &mut self,
+        alloc: Global,
+        spare: &mut Spare<V>,
+        index: usize,
+        keep: bool,
+    )
     where
         V: Drop,
         ensures { (n : _) → in_chunk n self.new ≡ in_chunk n self.old }
     {
-        if self.free_one(alloc, index) && !keep && self.is_bare() {
+        if self.free_one(alloc, spare, index) && !keep && self.is_bare() {
             self.pages = Vec::new(alloc);
         }
     }
 
-    fn free_one(&mut self, alloc: Global, index: usize) -> bool
+    fn free_one(&mut self, alloc: Global, spare: &mut Spare<V>, index: usize) -> bool
     where
         V: Drop,
         ensures { (n : _) → in_chunk n self.new ≡ in_chunk n self.old }
     {
         match self.pages.get_mut(index) {
-            Some(page) => page.free(alloc),
+            Some(page) => page.free(alloc, spare),
             None => false,
         }
     }

@@ -7,5 +7,5 @@ use Rattle.name_map.proofs.map.make_workers.Goals as goal
 
 pub loop-alloc-preserved : goal.loop-alloc-preserved
 loop-alloc-preserved g c = λ m. ap (λ (xs : List (Numbers g.row.V.Denot)). value_at xs m) c.in_ok-push.ensures.items
-    ∙ within_push (in_numbers m.number) c.loop-alloc.workers.items m.worker (record { chunks = c.new.result; newest = 0 }) (ap (λ (xs : List (Chunk g.row.V.Denot)). within (in_chunk m.number) xs (m.number / 512)) c.new.ensures.items)
+    ∙ within_push (in_numbers m.number) c.loop-alloc.workers.items m.worker (record { chunks = c.new.result; newest = 0; spare = c.new-in-loop-alloc.result }) (ap (λ (xs : List (Chunk g.row.V.Denot)). within (in_chunk m.number) xs (m.number / 512)) c.new.ensures.items)
     ∙ c.loop-alloc.invariant m
