@@ -1,10 +1,10 @@
 -- What holds of a walk from turn to turn.
-use Rattle.std.proofs.Common.{◌≡◌, ℕ, ℤ, ◌+◌, ◌-◌, ◌*◌, ◌<◌, ◌^◌, List, [], ◌∷◌, ◌++◌, Some, None, Bool, true, false, cond, refl, sym, ◌∙◌, ap, subst, arith, ◌⊎◌, inl, inr}
+use Rattle.std.proofs.Common.{◌≡◌, ℕ, ℤ, ◌+◌, ◌-◌, ◌*◌, ◌<◌, ◌^◌, List, [], ◌∷◌, ◌++◌, Option, Some, None, IfSome, Bool, true, false, cond, refl, sym, ◌∙◌, ap, subst, arith, ◌⊎◌, inl, inr}
 use Rattle.std.proofs.lemmas.Bool.Decides.{nat_tests}
 use Rattle.std.specs.Map.{lookup}
 use Rattle.akl_terms.specs.declared.name.Var.{Var}
 use Rattle.akl_terms.specs.declared.term.Term.{Term}
-use Rattle.akl_terms.specs.Tree.{Tree, variable, head_of}
+use Rattle.akl_terms.specs.Tree.{Tree, variable, integer, head_of}
 use Rattle.akl_terms.specs.Equal.{Equations, IsTold, Equal, same, turned, joined, IsConsistent}
 use Rattle.akl_terms.specs.Template.{Template, tree}
 use Rattle.akl_terms.specs.Arithmetic.{operation_of, binary, calculated, HasValue, number, WaitsOn, here, in_left, in_right}
@@ -154,6 +154,9 @@ module _ (t : Template) (bs : List (Var × Term)) (E : Equations) (f : IsFormOf 
   to_end : (s : Tree) → Equal E s (end_of t.nodes bs s)
   to_end s = form-follows t.nodes bs (IsTold E) f s
 
+  pub number-is : (s : Tree) (z : ℤ) → end_of t.nodes bs s ≡ integer z → HasValue t.symbols E s z
+  number-is s z e = arithmetic.number (subst (Equal E s) e (to_end s))
+
   free-waits : (s : Tree) (x : Var) → end_of t.nodes bs s ≡ variable x → WaitsOn t.symbols E s x
   free-waits s x e =
       let q : Equal E s (variable x) = subst (Equal E s) e (to_end s) in
@@ -169,6 +172,14 @@ module _ (t : Template) (bs : List (Var × Term)) (E : Equations) (f : IsFormOf 
     applied = subst (Equal E s) a.applied (to_end s);
     place = subst (Equal E s) a.place (to_end s);
   }
+
+  -- an operation over two numbers
+  applied-is : (s : Tree) (of : Application) (x y z : ℤ) → IsApplication t (end_of t.nodes bs s) of → end_of t.nodes bs (tree t.nodes of.left) ≡ integer x
+      → end_of t.nodes bs (tree t.nodes of.right) ≡ integer y → calculated (meaning of.operation) x y ≡ Some z → HasValue t.symbols E s z
+  applied-is s of x y z a l r d =
+      let o : IsOperation t E of s = is_operation s of a in
+      calculated-value t.symbols E consistent s (tree t.nodes of.left) (tree t.nodes of.right) o.symbol (meaning of.operation) o.applied o.named
+      x (number-is (tree t.nodes of.left) x l) y (number-is (tree t.nodes of.right) y r) z d
 
   -- how far operations are, after one is begun or walked
   updated : (old new : Walk) (place : Place) (o : Progress) (p : Place) (q : Progress) → ((r : Place) → progress_at new r ≡ cond (same_place place r) o (progress_at old r)) → progress_at new p ≡ q
@@ -208,7 +219,7 @@ module _ (t : Template) (bs : List (Var × Term)) (E : Equations) (f : IsFormOf 
     begins-stops s of w h a (inside_itself e) = again-stuck t E consistent old.walking.items root (tree t.nodes s) of.place h.is_at (h.inside of.place e) (is_operation (tree t.nodes s) of a).place
 
     enters-goes : (s : Term) (step : Step) → IsWalk t E root old (Enter s) → Enters t bs old new s (Go step) → IsWalk t E root new step
-    enters-goes s step h (number {z = z} e k) = stays (Enter s) (Leave z) h k (tree t.nodes s, h.is_at, arithmetic.number (subst (Equal E (tree t.nodes s)) e (to_end (tree t.nodes s))))
+    enters-goes s step h (number {z = z} e k) = stays (Enter s) (Leave z) h k (tree t.nodes s, h.is_at, number-is (tree t.nodes s) z e)
     enters-goes s step h (operation {of = of} a b) = begins-goes s of step h a b
 
     enters-stops : (s : Term) (w : Walked) → IsWalk t E root old (Enter s) → Enters t bs old new s (Stop w) → Comes t.symbols E root w
@@ -285,6 +296,13 @@ module _ (t : Template) (bs : List (Var × Term)) (E : Equations) (f : IsFormOf 
     pub turn-stops : (step : Step) (w : Walked) → IsWalk t E root old step → Turns t bs old new step (Stop w) → Comes t.symbols E root w
     turn-stops (Enter s) w h u = enters-stops s w h u
     turn-stops (Leave z) w h u = leaves-stops z w h u
+
+-- the value of an operation over two numbers, where it has one
+pub applied-to-numbers : (t : Template) (bs : List (Var × Term)) (s : Tree) (of : Application) (x y : ℤ) → IsApplication t (end_of t.nodes bs s) of → end_of t.nodes bs (tree t.nodes of.left) ≡ integer x
+    → end_of t.nodes bs (tree t.nodes of.right) ≡ integer y → (r : Option ℤ) → r ≡ calculated (meaning of.operation) x y
+    → IfSome r (λ z. (E : Equations) → IsFormOf t.nodes bs (IsTold E) → HasValue t.symbols E s z)
+applied-to-numbers t bs s of x y a l k None e = tt
+applied-to-numbers t bs s of x y a l k (Some z) e = λ E f. applied-is t bs E f s of x y z a l k (sym e)
 
 -- nothing is begun
 pub walk-starts : (t : Template) (E : Equations) (s : Term) (w : Walk) → w.walking.items ≡ [] → w.progress.entries ≡ [] → IsWalk t E (tree t.nodes s) w (Enter s)

@@ -1,6 +1,7 @@
 //! The walk of an expression.
 
-ghost use Rattle.std.specs.Prelude.{◌≡◌, ◌+◌, ◌<◌, ◌^◌, IfOk};
+ghost use Rattle.std.specs.Prelude.{◌≡◌, ◌+◌, ◌<◌, ◌^◌, IfOk, IfSome};
+ghost use Rattle.akl_terms.specs.Arithmetic.{HasValue};
 ghost use Rattle.akl_terms.specs.Equal.{Equations, IsTold};
 ghost use Rattle.akl_terms.specs.Template.{tree};
 ghost use Rattle.rational_unify.specs.Known.{IsSolved};
@@ -61,6 +62,9 @@ pub fn walk_expression<K: Lookup>(
         → Comes templates.now.symbols E (tree templates.now.nodes term) walked) }
     ensures end { IfOk result (λ walked. WalksToEnd templates.now.nodes (K.bindings known.now) walked) }
 {
+    if let Some(value) = flat_value(templates, known, term) {
+        return Ok(Walked::Is(value));
+    }
     let mut walk = Walk {
         walking: Vec::new(alloc),
         progress: HashMap::new(alloc),
@@ -73,6 +77,27 @@ pub fn walk_expression<K: Lookup>(
             Turn::Stop(walked) => return Ok(walked),
         }
     }
+}
+
+/// The value of an integer, or of one operation over two integers, read through bindings. `None` where the expression is
+/// something else, and where the operation is undefined over them.
+fn flat_value<K: Lookup>(templates: &Templates, known: &K, term: Term) -> Option<i128>
+    requires { IsSolved templates.now.nodes (K.bindings known.now) }
+    ensures { IfSome result (λ z. (E : Equations) → IsFormOf templates.now.nodes (K.bindings known.now) (IsTold E)
+        → HasValue templates.now.symbols E (tree templates.now.nodes term) z) }
+{
+    let of = match read_expression(templates, known, term) {
+        Expression::Number(n) => return Some(n),
+        Expression::Apply(of) => of,
+        _ => return None,
+    };
+    let Expression::Number(left) = read_expression(templates, known, of.left) else {
+        return None;
+    };
+    let Expression::Number(right) = read_expression(templates, known, of.right) else {
+        return None;
+    };
+    of.operation.calculate(left, right)
 }
 
 /// How far an operation is.
