@@ -11,6 +11,7 @@ use Rattle.box_tree.specs.contracts.table.Table as Table
 use Rattle.step_commit.specs.contracts.state.Core as Core
 use Rattle.name_map.specs.contracts.page.Page as Page
 use Rattle.name_map.specs.contracts.page.Chunk as Chunk
+use Rattle.name_map.specs.contracts.spare.Spare as Spare
 use Rattle.name_map.specs.contracts.numbers.Numbers as Numbers
 use Rattle.name_map.specs.contracts.map.NameMap as NameMap
 use Rattle.wake_lists.specs.contracts.token_set.TokenSet as TokenSet
@@ -20,6 +21,9 @@ use Rattle.scheduler.specs.contracts.splits.Splits as Splits
 use Rattle.scheduler.specs.contracts.scheduler.Scheduler as Scheduler
 use Rattle.task_pool.proofs.hand.Hand.TheSendSync as hands
 use Rattle.turn_lock.proofs.lock.Pass.TheSendSync as passes
+use Rattle.par_workers.specs.contracts.lying.Lying as Lying
+use Rattle.par_workers.specs.contracts.tokens.Tokens as Tokens
+use Rattle.par_workers.specs.contracts.planning.Planning as Planning
 use Rattle.par_workers.specs.contracts.shared.Made as Made
 use Rattle.par_workers.specs.contracts.shared.SharedRun as SharedRun
 use Rattle.par_workers.specs.contracts.signals.Signals as Signals
@@ -50,8 +54,11 @@ Page-send V s = search (owned.crosses, sendable) depth 60 fits 20000
 Chunk-send : (V : RattleType) → IsSend V → IsSend (Chunk.the_row V)
 Chunk-send V s = let a = Page-send V s in search (owned.crosses, sendable) depth 60 fits 20000
 
+Spare-send : (V : RattleType) → IsSend V → IsSend (Spare.the_row V)
+Spare-send V s = search (owned.crosses, sendable) depth 60 fits 20000
+
 Numbers-send : (V : RattleType) → IsSend V → IsSend (Numbers.the_row V)
-Numbers-send V s = let a = Chunk-send V s in search (owned.crosses, sendable) depth 60 fits 20000
+Numbers-send V s = let a = Chunk-send V s in let b = Spare-send V s in search (owned.crosses, sendable) depth 60 fits 20000
 
 NameMap-send : (V : RattleType) → IsSend V → IsSend (NameMap.the_row V)
 NameMap-send V s = let a = Numbers-send V s in search (owned.crosses, sendable) depth 60 fits 20000
@@ -74,8 +81,17 @@ Scheduler-send = let a = Core-send in let b = Open-send in let c = Waits-send in
 Made-send : IsSend Made.the_row
 Made-send = search (owned.crosses, sendable) depth 60 fits 20000
 
+Lying-send : IsSend Lying.the_row
+Lying-send = search (owned.crosses, sendable) depth 60 fits 20000
+
+Tokens-send : IsSend Tokens.the_row
+Tokens-send = let a = Lying-send in search (owned.crosses, maps.crosses, sendable) depth 60 fits 20000
+
+Planning-send : IsSend Planning.the_row
+Planning-send = search (owned.crosses, sendable) depth 60 fits 20000
+
 pub SharedRun-send : IsSend SharedRun.the_row
-SharedRun-send = let a = Scheduler-send in let b = Made-send in search (owned.crosses, maps.crosses, sendable) depth 60 fits 20000
+SharedRun-send = let a = Scheduler-send in let b = Made-send in let c = Tokens-send in let d = Planning-send in search (owned.crosses, maps.crosses, sendable) depth 60 fits 20000
 
 pub Signals-sync : IsSync Signals.the_row
 Signals-sync = search (owned.crosses, sendable) depth 60 fits 20000

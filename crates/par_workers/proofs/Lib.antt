@@ -3,10 +3,12 @@ mod Cores
 mod Crews
 mod Crossing
 mod Dealing
+mod Entries
 mod Held
 mod Holding
 mod Labels
 mod LookedAgain
+mod Outside
 mod Runs
 mod SharedLooks
 mod TakenOut

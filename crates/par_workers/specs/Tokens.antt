@@ -1,4 +1,4 @@
--- The tokens that are held: with a worker, in a deque, or among those of late places.
+-- The tokens that are held: with a worker, in a deque, or lying with the run, as those of late places and of copies do.
 use Rattle.std.specs.Prelude.{◌≡◌, ℕ, true, List, [], ◌∷◌, Option, Some, None, IfSome, ◌⊎◌}
 use Rattle.wake_lists.specs.Open.{Opening, Openings, opening_at}
 use Rattle.wake_lists.specs.TokenSets.{is_token_in}
@@ -27,12 +27,12 @@ pub record IsTakenFrom (before : List ℕ) (taken : Option ℕ) (now : List ℕ)
   pub was : IfSome taken (λ (t : ℕ). is_token_in t before ≡ true)
   pub stay : (t : ℕ) → is_token_in t before ≡ true → (taken ≡ Some t) ⊎ (is_token_in t now ≡ true)
 
--- the tokens that are held, and those that are among the late ones
+-- the tokens that are held, and those that lie with the run: the late ones, and those of copies
 pub record TokensValue : Type 0 where
   pub held : List ℕ
-  pub late : List ℕ
+  pub lying : List ℕ
 
--- a token is in a worker's line, or in another list: that of the late ones, or of what was put into the worker's deque
+-- a token is in a worker's line, or in another list: that of what lies with the run, or of what was put into the worker's deque
 abbrev pub IsAtHand : ℕ → List ℕ → List ℕ → Type 0
 IsAtHand token line rest = (is_token_in token line ≡ true) ⊎ (is_token_in token rest ≡ true)
 

@@ -24,9 +24,10 @@ pub enum Chosen {
 
 impl SharedRun {
     /// Looks at the place of the first of a worker's tokens whose place is there, and doesn't come last; the first is the one
-    /// that it has drawn. Where there is none, and no worker plans, it looks at a late place that isn't put off: these come
-    /// last of all. A worker that gives way looks at none, unless it has drawn a token. Want of memory stops all workers, and so
-    /// do many turns in a row in which none planned or found a place.
+    /// that it has drawn. A worker without tokens takes those of a copy first. Where there is no such place, it looks at a late
+    /// one that isn't put off, and in whose root box no other worker plans: these come last of all. A worker that gives way
+    /// looks at none, unless it has drawn a token. Want of memory stops all workers, and so do many turns in a row in which none
+    /// planned or found a place.
     pub(crate) fn choose(
         &mut self,
         alloc: Global,
@@ -42,15 +43,13 @@ impl SharedRun {
             return Chosen::End;
         }
         if gives_way && drawn.is_none() {
+            self.planning.end(worker);
             return Chosen::Wait;
         }
         match self.try_choose(alloc, worker, drawn, tokens) {
-            Ok(Some(look)) => {
-                self.begin_planning();
-                Chosen::At(look)
-            }
+            Ok(Some(look)) => self.choose_at(worker, look),
             Ok(None) => {
-                if self.is_to_wait() {
+                if self.is_to_wait(worker) {
                     Chosen::Wait
                 } else {
                     Chosen::End
@@ -63,19 +62,28 @@ impl SharedRun {
         }
     }
 
-    // A worker plans from now on.
-    fn begin_planning(&mut self)
-        ensures { self.new ≡ self.old }
+    // The worker plans from now on where it looked.
+    fn choose_at(&mut self, worker: u32, look: Look) -> Chosen
+        requires { IsSeenIn self.old worker look.sight }
+        ensures same { self.new ≡ self.old }
+        ensures chosen { IsChosenIn self.old worker result }
     {
-        self.planning = self.planning.saturating_add(1);
         self.vain = 0;
+        match self.planning.begin(worker, look.sight.root()) {
+            Ok(()) => Chosen::At(look),
+            Err(_) => {
+                self.stop();
+                Chosen::End
+            }
+        }
     }
 
-    // Whether a worker that found no place is to wait for one.
-    fn is_to_wait(&mut self) -> bool
+    // Whether a worker that found no place, and so plans nowhere, is to wait for one.
+    fn is_to_wait(&mut self, worker: u32) -> bool
         ensures { self.new ≡ self.old }
     {
-        self.vain = if self.planning > 0 {
+        self.planning.end(worker);
+        self.vain = if self.planning.is_any() {
             0
         } else {
             self.vain.saturating_add(1)
@@ -86,7 +94,7 @@ impl SharedRun {
         !self.stops && !self.scheduler.is_quiet()
     }
 
-    // The look at the next place, if one is found. Late places are looked at only while no worker plans.
+    // The look at the next place, if one is found.
     fn try_choose(
         &mut self,
         alloc: Global,
@@ -97,15 +105,14 @@ impl SharedRun {
         ensures same { self.new ≡ self.old }
         ensures look { IfOk result (λ found. IfSome found (λ look. IsSeenIn self.old worker look.sight)) }
     {
-        let with_late = self.planning == 0;
         find_next(
             alloc,
             &mut self.scheduler,
             &mut self.tokens,
+            &self.planning,
             worker,
             drawn,
             tokens,
-            with_late,
         )
     }
 }

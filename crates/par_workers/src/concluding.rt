@@ -10,9 +10,9 @@ ghost use Rattle.place_steps.specs.declared.next.Next.TheVariants as next;
 
 use crate::shared::{Made, SharedRun};
 use crate::tokens::Tokens;
-use akl_model::Receipt;
-use akl_terms::Steps;
-use box_tree::Plan;
+use akl_model::{Label, Receipt, Rule};
+use akl_terms::{Name, Place, Steps};
+use box_tree::{Plan, Table};
 use idle_places::Idle;
 use place_steps::Next;
 use scheduler::{Committed, Scheduler, SettleError};
@@ -58,7 +58,6 @@ impl SharedRun {
             Some(Next::Idle(idle)) => self.settle(alloc, worker, token, idle, tokens),
             None => self.put_off(token, tokens),
         }
-        self.end_planning();
     }
 
     // Commits a plan for the place with this token. One that is stale is dropped.
@@ -83,7 +82,9 @@ impl SharedRun {
         }
         match self.scheduler.commit(alloc, plan, steps) {
             Ok(Committed { receipt, opened }) => {
-                let made = Made::of(&receipt.label, self.scheduler.core().table());
+                let table = self.scheduler.core().table();
+                let made = Made::of(&receipt.label, table);
+                let split = split_root(table, &receipt.label);
                 self.past.push_reserved(made);
                 receipts.push_reserved(receipt);
                 take_opened(
@@ -91,6 +92,7 @@ impl SharedRun {
                     &mut self.tokens,
                     &self.scheduler,
                     token,
+                    split,
                     opened,
                     tokens,
                 );
@@ -116,11 +118,13 @@ impl SharedRun {
             Ok(Some(opened)) => {
                 let taken = self
                     .tokens
-                    .take_in(&self.scheduler, token, &[opened], tokens);
+                    .take_in(&self.scheduler, token, None, &[opened], tokens);
                 stop_unless(&mut self.stops, taken);
             }
             Ok(None) => {
-                let taken = self.tokens.take_in(&self.scheduler, token, &[], tokens);
+                let taken = self
+                    .tokens
+                    .take_in(&self.scheduler, token, None, &[], tokens);
                 stop_unless(&mut self.stops, taken);
             }
             Err(SettleError::Stale { item: _, stamp: _ } | SettleError::LookInside) => {
@@ -146,12 +150,19 @@ impl SharedRun {
         let kept = self.tokens.keep(&self.scheduler, token, tokens);
         stop_unless(&mut self.stops, kept);
     }
+}
 
-    // A worker plans no more.
-    fn end_planning(&mut self)
-        ensures { self.new ≡ self.old }
-    {
-        self.planning = self.planning.saturating_sub(1);
+// The root box that a label split; `None` where it split none.
+fn split_root(table: &Table, label: &Label) -> Option<Name> {
+    let Rule::Split = label.rule else {
+        return None;
+    };
+    let Place::Box(name) = label.place else {
+        return None;
+    };
+    match table.outside(name) {
+        Some(_) => None,
+        None => Some(name),
     }
 }
 
@@ -161,12 +172,13 @@ fn take_opened(
     tokens: &mut Tokens,
     scheduler: &Scheduler,
     token: u64,
+    split: Option<Name>,
     opened: SmallVec<u64, 4>,
     line: &mut VecDeque<u64>,
 )
     ensures { (before : _) → KeepsTokens before scheduler.now.openings opened.items → (stops.old ≡ false → AreHeld before tokens.old.held) → stops.new ≡ false → AreHeld scheduler.now.openings tokens.new.held }
 {
-    let taken = tokens.take_in(scheduler, token, opened.as_slice(), line);
+    let taken = tokens.take_in(scheduler, token, split, opened.as_slice(), line);
     stop_unless(stops, taken);
 }
 

@@ -3,9 +3,13 @@
 
 mod choosing;
 mod concluding;
+mod copies;
 mod crew;
 mod late;
 mod looking;
+mod lying;
+mod planning;
+mod roots;
 mod run;
 mod shared;
 mod signals;

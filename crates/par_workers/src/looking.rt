@@ -9,8 +9,9 @@ ghost use Rattle.par_workers.specs.Turns.{IsSightBy, IsSightOf};
 ghost use Rattle.par_workers.specs.Looks.{IsAtHandOrGone, IsNotLost};
 
 use crate::late::comes_last;
+use crate::planning::Planning;
 use crate::tokens::Tokens;
-use akl_terms::Place;
+use akl_terms::{Name, Place};
 use box_tree::{LookError, View};
 use place_steps::{Seen, see};
 use scheduler::{Attention, Scheduler};
@@ -27,6 +28,17 @@ pub enum Sight {
     Tried(View),
 }
 
+impl Sight {
+    /// The root box of the place.
+    pub(crate) fn root(&self) -> Option<Name> {
+        let view = match self {
+            Sight::Whole(seen) => seen.view(),
+            Sight::Tried(view) => view,
+        };
+        view.path().first().copied()
+    }
+}
+
 /// What a worker saw of a place, and the token that led it there.
 #[derive(Drop)]
 pub struct Look {
@@ -35,27 +47,28 @@ pub struct Look {
 }
 
 /// Looks at the place of the first of a worker's tokens whose place is there, and doesn't come last; the first is the one that
-/// it has drawn. Where there is none, it looks at a late place that isn't put off, if it is to. An `Err`, for want of memory,
+/// it has drawn. Where the worker has no token, it first takes those of the copy that was made last. Where there is no such
+/// place, it looks at a late one that isn't put off, and in whose root box no other worker plans. An `Err`, for want of memory,
 /// may lose a token.
 pub(crate) fn find_next(
     alloc: Global,
     scheduler: &mut Scheduler,
     tokens: &mut Tokens,
+    planning: &Planning,
     worker: u32,
     drawn: Option<u64>,
     line: &mut VecDeque<u64>,
-    with_late: bool,
 ) -> Result<Option<Look>, AllocError>
     ensures core { scheduler.new.core ≡ scheduler.old.core }
     ensures look { IfOk result (λ found. IfSome found (λ look. IsSightOf scheduler.old.core worker look.sight)) }
     ensures held { AreHeld scheduler.old.openings tokens.old.held → AreHeld scheduler.new.openings tokens.new.held }
-    ensures stay { IfOk result (λ found. (token : _) → IsAtHand token line.old.items tokens.old.late → IsNotLost token found line.new.items tokens.new.late tokens.new.held) }
-    ensures drawn { IfOk result (λ found. (token : _) → drawn ≡ Some token → IsNotLost token found line.new.items tokens.new.late tokens.new.held) }
+    ensures stay { IfOk result (λ found. (token : _) → IsAtHand token line.old.items tokens.old.lying → IsNotLost token found line.new.items tokens.new.lying tokens.new.held) }
+    ensures drawn { IfOk result (λ found. (token : _) → drawn ≡ Some token → IsNotLost token found line.new.items tokens.new.lying tokens.new.held) }
 {
     if let Some(token) = drawn {
         line.push_front(token)?;
     }
-    find_at_hand(alloc, scheduler, tokens, worker, line, with_late)
+    find_at_hand(alloc, scheduler, tokens, planning, worker, line)
 }
 
 // The same by the tokens at hand alone.
@@ -63,33 +76,58 @@ fn find_at_hand(
     alloc: Global,
     scheduler: &mut Scheduler,
     tokens: &mut Tokens,
+    planning: &Planning,
     worker: u32,
     line: &mut VecDeque<u64>,
-    with_late: bool,
 ) -> Result<Option<Look>, AllocError>
     ensures core { scheduler.new.core ≡ scheduler.old.core }
     ensures look { IfOk result (λ found. IfSome found (λ look. IsSightOf scheduler.old.core worker look.sight)) }
     ensures held { AreHeld scheduler.old.openings tokens.old.held → AreHeld scheduler.new.openings tokens.new.held }
-    ensures stay { IfOk result (λ found. (token : _) → IsAtHand token line.old.items tokens.old.late → IsNotLost token found line.new.items tokens.new.late tokens.new.held) }
+    ensures stay { IfOk result (λ found. (token : _) → IsAtHand token line.old.items tokens.old.lying → IsNotLost token found line.new.items tokens.new.lying tokens.new.held) }
 {
-    sort_late(scheduler, tokens, line)?;
+    gather(scheduler, tokens, planning, worker, line)?;
     let found = look_through(alloc, scheduler, tokens, worker, line)?;
-    if found.is_some() || !with_late {
+    if found.is_some() {
         return Ok(found);
     }
-    look_at_late(alloc, scheduler, tokens, worker)
+    look_at_late(alloc, scheduler, tokens, planning, worker)
 }
 
-// The token of the next place among the last comes to a worker's, if it is one of these no more.
-fn sort_late(
+// What lies with the run comes to a worker's: the token of the next place among the last in whose root boxes no other plans, if
+// it is one of these no more; then the tokens of the last copy where the worker has none, and at times those of the first.
+fn gather(
     scheduler: &Scheduler,
     tokens: &mut Tokens,
+    planning: &Planning,
+    worker: u32,
     line: &mut VecDeque<u64>,
 ) -> Result<(), AllocError>
     ensures held { tokens.new.held ≡ tokens.old.held }
-    ensures stay { OnOk result (StayAtHand line.old.items tokens.old.late line.new.items tokens.new.late) }
+    ensures stay { OnOk result (StayAtHand line.old.items tokens.old.lying line.new.items tokens.new.lying) }
 {
-    match tokens.take_next(scheduler) {
+    sort_late(scheduler, tokens, planning, worker, line)?;
+    if line.is_empty() {
+        tokens.take_last_copy(scheduler, line)
+    } else if tokens.pass_copies() {
+        tokens.take_first_copy(scheduler, line)
+    } else {
+        Ok(())
+    }
+}
+
+// The token of the next place among the last in whose root boxes no other plans comes to a worker's, if it is one of these no
+// more.
+fn sort_late(
+    scheduler: &Scheduler,
+    tokens: &mut Tokens,
+    planning: &Planning,
+    worker: u32,
+    line: &mut VecDeque<u64>,
+) -> Result<(), AllocError>
+    ensures held { tokens.new.held ≡ tokens.old.held }
+    ensures stay { OnOk result (StayAtHand line.old.items tokens.old.lying line.new.items tokens.new.lying) }
+{
+    match tokens.take_next(scheduler, planning, worker) {
         Some(token) => tokens.keep(scheduler, token, line),
         None => Ok(()),
     }
@@ -107,14 +145,14 @@ fn look_through(
     ensures core { scheduler.new.core ≡ scheduler.old.core }
     ensures look { IfOk result (λ found. IfSome found (λ look. IsSightOf scheduler.old.core worker look.sight)) }
     ensures held { AreHeld scheduler.old.openings tokens.old.held → AreHeld scheduler.new.openings tokens.new.held }
-    ensures stay { IfOk result (λ found. (token : _) → IsAtHand token line.old.items tokens.old.late → IsNotLost token found line.new.items tokens.new.late tokens.new.held) }
+    ensures stay { IfOk result (λ found. (token : _) → IsAtHand token line.old.items tokens.old.lying → IsNotLost token found line.new.items tokens.new.lying tokens.new.held) }
 {
     for _ in 0..line.len() {
         let Some(token) = line.pop_front() else {
             break;
         };
         if comes_last(scheduler, token) {
-            tokens.put_last(token)?;
+            tokens.put_last(scheduler, token)?;
             continue;
         }
         if let Some(sight) = see_open(alloc, scheduler, tokens, worker, token)? {
@@ -124,20 +162,21 @@ fn look_through(
     Ok(None)
 }
 
-// Looks at a late place that isn't put off.
+// Looks at a late place that isn't put off, and in whose root box no other worker plans.
 fn look_at_late(
     alloc: Global,
     scheduler: &mut Scheduler,
     tokens: &mut Tokens,
+    planning: &Planning,
     worker: u32,
 ) -> Result<Option<Look>, AllocError>
     ensures core { scheduler.new.core ≡ scheduler.old.core }
     ensures look { IfOk result (λ found. IfSome found (λ look. IsSightOf scheduler.old.core worker look.sight)) }
     ensures held { AreHeld scheduler.old.openings tokens.old.held → AreHeld scheduler.new.openings tokens.new.held }
-    ensures stay { IfOk result (λ found. (line : _) (token : _) → IsAtHandOrGone token line tokens.old.late tokens.old.held → IsNotLost token found line tokens.new.late tokens.new.held) }
+    ensures stay { IfOk result (λ found. (line : _) (token : _) → IsAtHandOrGone token line tokens.old.lying tokens.old.held → IsNotLost token found line tokens.new.lying tokens.new.held) }
 {
     for _ in 0..tokens.late_count() {
-        let Some(token) = tokens.take_last(scheduler) else {
+        let Some(token) = tokens.take_last(scheduler, planning, worker) else {
             break;
         };
         if let Some(sight) = see_open(alloc, scheduler, tokens, worker, token)? {
@@ -159,7 +198,7 @@ fn see_open(
     ensures core { scheduler.new.core ≡ scheduler.old.core }
     ensures sight { IfOk result (λ found. IfSome found (IsSightOf scheduler.old.core worker)) }
     ensures held { AreHeld scheduler.old.openings tokens.old.held → AreHeld scheduler.new.openings tokens.new.held }
-    ensures late { tokens.new.late ≡ tokens.old.late }
+    ensures lying { tokens.new.lying ≡ tokens.old.lying }
     ensures gone { IfOk result (λ found. IfNone found (is_token_in token tokens.new.held ≡ false)) }
     ensures still { (other : _) → is_token_in other tokens.old.held ≡ false → is_token_in other tokens.new.held ≡ false }
 {

@@ -3,6 +3,7 @@
 ghost use Rattle.std.specs.Prelude.{◌≡◌, ◌≤◌, [], length, IfOk};
 ghost use Rattle.par_workers.specs.Shared.{core_after, IsShared};
 
+use crate::planning::Planning;
 use crate::tokens::Tokens;
 use akl_model::Label;
 use box_tree::Table;
@@ -34,7 +35,7 @@ impl Made {
     }
 }
 
-/// The state of a run with its open places and their tokens. It has besides how many workers plan, how many turns in a row
+/// The state of a run with its open places and their tokens. It has besides in which root boxes workers plan, how many turns in a row
 /// found nothing while none planned, and whether all workers are to stop; unless they are, the token of each open place is
 /// held. It remembers in no bytes the core with which the run began, and what was made since.
 #[derive(Drop)]
@@ -43,7 +44,7 @@ pub struct SharedRun {
     pub(crate) past: Vec<Made>,
     pub(crate) scheduler: Scheduler,
     pub(crate) tokens: Tokens,
-    pub(crate) planning: u32,
+    pub(crate) planning: Planning,
     pub(crate) vain: u32,
     pub(crate) stops: bool,
 }
@@ -95,7 +96,7 @@ impl SharedRun {
             past: Vec::new(alloc),
             scheduler,
             tokens,
-            planning: 0,
+            planning: Planning::new(alloc),
             vain: 0,
             stops: dealt.is_err(),
         })
@@ -106,6 +107,11 @@ impl SharedRun {
         ensures { self.new ≡ self.old }
     {
         self.stops = true;
+    }
+
+    /// Whether a copy lies with the run, whose tokens no worker has.
+    pub(crate) fn has_copy(&self) -> bool {
+        self.tokens.have_copy()
     }
 
     /// The state of the run.

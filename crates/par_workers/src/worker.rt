@@ -160,8 +160,9 @@ impl Worker {
         );
         let chosen = run.choose(alloc, worker, drawn, waits.are_many(), &mut self.tokens);
         waits.leave(signals);
+        let copied = run.has_copy();
         lock.unlock(turn, run, &mut self.pass);
-        self.offer(signals);
+        self.share(signals, copied);
         chosen
     }
 
@@ -210,6 +211,18 @@ impl Worker {
                 return;
             }
             let _ = self.tokens.pop_front();
+        }
+    }
+
+    // Where another worker has nothing to do, it is told that a copy lies with the run, or is offered a token if none does.
+    fn share(&mut self, signals: &Signals, copied: bool)
+        ensures pass { self.new.pass ≡ self.old.pass }
+        ensures number { self.new.number ≡ self.old.number }
+    {
+        if !copied {
+            self.offer(signals);
+        } else if signals.is_anyone_idle() {
+            signals.ring();
         }
     }
 

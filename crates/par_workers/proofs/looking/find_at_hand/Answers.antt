@@ -9,7 +9,7 @@ returns-clause-stay c =
     let line = c.look_through.new.line.items in
     let tokens = c.look_through.new.tokens in
     IfOk-weaker c.look_at_late.result _ _
-    (λ found stay t at. stay line t (none_found c.in_ok-found.found (sym c.is_some.ensures ∙ c.if-is_some.false) t line tokens.late tokens.held (c.in_ok-found.ensures.stay t (c.in_ok-sort_late.ensures.stay t at)))) c.look_at_late.ensures.stay
+    (λ found stay t at. stay line t (none_found c.in_ok-found.found (sym c.is_some.ensures ∙ c.if-is_some.false) t line tokens.lying tokens.held (c.in_ok-found.ensures.stay t (c.in_ok-gather.ensures.stay t at)))) c.look_at_late.ensures.stay
 
 pub returns-clause-held : goal.returns-clause-held
-returns-clause-held c = λ all. c.look_at_late.ensures.held (c.look_through.ensures.held (subst (λ (held : List ℕ). AreHeld c.args.scheduler.now.openings held) (sym c.sort_late.ensures.held) all))
+returns-clause-held c = λ all. c.look_at_late.ensures.held (c.look_through.ensures.held (subst (λ (held : List ℕ). AreHeld c.args.scheduler.now.openings held) (sym c.gather.ensures.held) all))

@@ -26,8 +26,8 @@ invariant_of-self-in-Ok g c =
     let d = c.commit.new.self.core in
     let found = subst (λ (x : SharedValue). IsFoundBefore x c.args.worker (Next.Plan c.args.plan)) (sym c.self.view_is) c.requires.plan in
     let most = subst (λ (x : SharedValue). c.args.worker ≤ x.begun.workers) (sym c.self.view_is) c.requires.worker.1 in
-    let core = subst IsCore c.core.ensures.core c.table.ensures.core in
-    let table = c.of-made.ensures.table ∙ c.table.ensures.table ∙ ap (λ (e : CoreValue). e.table) c.core.ensures.core in
+    let core = subst IsCore c.core.ensures.core c.table-table.ensures.core in
+    let table = c.of-made.ensures.table ∙ c.table-table.ensures.table ∙ ap (λ (e : CoreValue). e.table) c.core.ensures.core in
     record {
       shared = subst (λ (ms : List Made). IsShared (record { begun = v.begun.value; past = ms }) d)
           (sym (c.push_reserved.ensures.items ∙ ap (λ (ms : List Made). ms ++ c.of-made.result ∷ []) c.reserve.ensures.items))

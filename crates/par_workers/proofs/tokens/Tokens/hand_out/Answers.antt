@@ -14,7 +14,7 @@ loop-token-preserved c =
       keeps = λ t e. c.hand_out_one.ensures.keeps t (c.loop-token.invariant.keeps t e);
       held = next_held c.args.opened.now c.loop-token.token-index was.held now.held c.hand_out_one.ensures.keeps c.in_ok-hand_out_one.ensures.held c.loop-token.invariant.held;
       stay = λ t a. c.hand_out_one.ensures.stay t (c.loop-token.invariant.stay t a);
-      comes = more_new c.args.self.now.held was.held now.held c.loop-token.own.items was.late c.hand_out_one.new.own.items now.late c.loop-token.invariant.comes c.hand_out_one.ensures.stay c.in_ok-hand_out_one.ensures.comes;
+      comes = more_new c.args.self.now.held was.held now.held c.loop-token.own.items was.lying c.hand_out_one.new.own.items now.lying c.loop-token.invariant.comes c.hand_out_one.ensures.stay c.in_ok-hand_out_one.ensures.comes;
     }
 
 pub returns-clause-held : goal.returns-clause-held
