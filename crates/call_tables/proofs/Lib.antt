@@ -1,0 +1,5 @@
+pub mod MiddleBoxes
+pub mod MiddleRows
+pub mod StampsBetween
+pub mod AfterCall
+pub mod CallStep

@@ -1,0 +1,8 @@
+//! What a call at once makes of a flat table.
+//!
+//! The crate holds definitions and a law; nothing of it is called at run time.
+#![tactic(auto)]
+
+mod laws;
+
+pub use laws::call_steps;
