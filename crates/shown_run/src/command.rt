@@ -1,19 +1,20 @@
 //! What a command line asks.
 
 ghost use Rattle.std.specs.Prelude.{◌≤◌, length};
+ghost use Rattle.box_tree.specs.Tables.{HasVariables, HasShownVariables};
 
 use crate::help::HELP;
-use crate::load::prepared;
-use crate::steps::{Shown, show};
+use crate::load::{Ready, prepared};
+use crate::steps::show;
 use crate::unshown::Unshown;
 use crate::words::{Asked, Command, read_words};
 use akl_outside::{Sink, Source, read_up_to, write_all};
 use akl_run::{Status, Stop, refusal_line};
 use akl_syntax::SyntaxError;
-use line_text::{push_number, push_text};
 use std::alloc::{AllocError, Global};
 use std::sync::Wait;
 use std::thread::Threads;
+use step_text::{Page, SourceNames};
 
 /// One byte more than a program may have.
 const MOST_READ: usize = 1_000_001;
@@ -35,6 +36,26 @@ fn say_stop<E: Sink>(alloc: Global, stop: &Stop, errors: &mut E) -> Status {
     stop.status
 }
 
+// Shows the run that is asked of a query that is ready.
+fn show_ready<R: Threads + Wait + Sync, K: Sink, E: Sink>(
+    rt: &R,
+    alloc: Global,
+    ready: &Ready,
+    asked: &Asked,
+    progress: bool,
+    out: &mut K,
+    errors: &mut E,
+) -> Result<Status, Stop>
+    requires variables { HasVariables ready.now.loaded.program ready.now.loaded.query ready.now.loaded.first_variable }
+    requires shown { HasShownVariables ready.now.loaded.query }
+{
+    let names = SourceNames::new(alloc, &ready.written.clauses, &ready.written.query)?;
+    match show(rt, alloc, ready, &names, asked, progress, out, errors) {
+        Ok(status) => Ok(status),
+        Err(unshown) => Err(unshown.stop()),
+    }
+}
+
 // Shows the run that is asked over the program that a text is.
 fn show_text<R: Threads + Wait + Sync, K: Sink, E: Sink>(
     rt: &R,
@@ -54,15 +75,7 @@ fn show_text<R: Threads + Wait + Sync, K: Sink, E: Sink>(
         return Err(Stop::text(Status::Query, error));
     }
     let ready = prepared(alloc, text, query)?;
-    let shown = Shown {
-        ready: &ready,
-        asked,
-        progress,
-    };
-    match show(rt, alloc, shown, out, errors) {
-        Ok(status) => Ok(status),
-        Err(unshown) => Err(unshown.stop()),
-    }
+    show_ready(rt, alloc, &ready, asked, progress, out, errors)
 }
 
 // Shows the run that is asked over the program that a source has.
@@ -87,18 +100,13 @@ fn show_help<K: Sink>(out: &mut K) -> Result<Status, Stop> {
     }
 }
 
-// Adds which word is refused.
-fn push_refused(line: &mut Vec<u8>, at: usize) -> Result<(), AllocError> {
-    push_text(line, "akl_steps: word ")?;
-    push_number(line, at as u64)?;
-    push_text(line, " is refused; --help tells the words\n")
-}
-
 // The line that says which word is refused.
 fn refused_line(alloc: Global, at: usize) -> Result<Vec<u8>, AllocError> {
-    let mut line = Vec::new(alloc);
-    push_refused(&mut line, at)?;
-    Ok(line)
+    let mut page = Page::new(alloc);
+    page.push("akl_steps: word ");
+    page.push_number(at as u64);
+    page.push(" is refused; --help tells the words\n");
+    page.finish()
 }
 
 /// Says that the word of this number, from 0, is refused. Answers the status.

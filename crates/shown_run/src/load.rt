@@ -6,19 +6,26 @@ ghost use Rattle.box_tree.specs.Tables.{HasVariables, HasShownVariables};
 use akl_lift::{lift, lift_query};
 use akl_run::{Loaded, Stop, load_asked, load_program};
 use akl_syntax::{SourceClause, read_program, read_query};
-use akl_terms::{Program, Text};
+use akl_terms::Text;
 use std::alloc::{AllocError, Global};
-use step_text::SourceNames;
 use variable_scopes::{scoped_clauses, scoped_query};
 
 /// The number of a query's first inline choice, which is above those of all programs.
 const FIRST_ASKED: u32 = 1_000_000;
 
-/// A query that is ready to run, with the names of its variables and of those of the program.
+/// What has the names of all variables: the clauses of a program and of what was made of its query's choices, and the names
+/// of the query's variables.
+#[derive(Drop)]
+pub struct Written {
+    pub clauses: Vec<SourceClause>,
+    pub query: Vec<Text>,
+}
+
+/// A query that is ready to run, with what has the names of its variables and of those of the program.
 #[derive(Drop)]
 pub struct Ready {
     pub loaded: Loaded,
-    pub names: SourceNames,
+    pub written: Written,
 }
 
 // The clauses of a program, with those that are made of its choices.
@@ -47,18 +54,13 @@ fn query_names(
     Ok(query.names)
 }
 
-// The names of all variables.
-fn names_of(
-    alloc: Global,
-    program: &Program,
-    text: &[u8],
-    query: &[u8],
-) -> Result<SourceNames, AllocError>
+// What has the names of all variables.
+fn written_of(alloc: Global, text: &[u8], query: &[u8]) -> Result<Written, AllocError>
     requires { length query.now ≤ 10000 }
 {
     let mut clauses = program_clauses(alloc, text)?;
-    let names = query_names(alloc, query, &mut clauses)?;
-    SourceNames::new(alloc, program, clauses, names)
+    let query = query_names(alloc, query, &mut clauses)?;
+    Ok(Written { clauses, query })
 }
 
 // A query over the program that a text is.
@@ -86,6 +88,6 @@ pub fn prepared(alloc: Global, text: &[u8], query: &[u8]) -> Result<Ready, Stop>
     ensures shown { IfOk result (λ r. HasShownVariables r.loaded.query) }
 {
     let loaded = loaded_of(alloc, text, query)?;
-    let names = names_of(alloc, &loaded.program, text, query)?;
-    Ok(Ready { loaded, names })
+    let written = written_of(alloc, text, query)?;
+    Ok(Ready { loaded, written })
 }

@@ -5,81 +5,69 @@ ghost use Rattle.box_tree.specs.Tables.{HasVariables, HasShownVariables};
 
 use crate::labels::{Labels, labels_of, start};
 use crate::load::Ready;
-use crate::outcome::show_end;
+use crate::outcome::{show_end, show_page};
 use crate::unshown::Unshown;
 use crate::words::Asked;
 use akl_model::Label;
 use akl_outside::{Sink, write_all};
 use akl_run::{Status, trace_line};
-use line_text::{push_number, push_text};
 use std::alloc::{AllocError, Global};
 use std::sync::Wait;
 use std::thread::Threads;
-use step_text::{Replay, Words, push_tree};
+use step_commit::Core;
+use step_text::{Origins, Page, SourceNames, Words, make_step, push_tree};
 
 /// After so many steps the progress is shown anew.
 const STRIDE: u64 = 1024;
 
 /// What is run.
 #[derive(Clone, Copy)]
-pub struct Shown<'a> {
-    pub ready: &'a Ready,
-    pub asked: &'a Asked,
+struct Shown<'a> {
+    ready: &'a Ready,
+    names: &'a SourceNames<'a>,
+    asked: &'a Asked,
     /// Whether the progress is shown on standard error.
-    pub progress: bool,
+    progress: bool,
+}
+
+/// A run that is made once more, a label at a time.
+#[derive(Drop)]
+struct Replay {
+    core: Core,
+    /// Where all that the run has made comes from.
+    origins: Origins,
 }
 
 // Adds the beginning of a step's line: its number, or its line of a trace.
-fn push_head(
-    alloc: Global,
-    text: &mut Vec<u8>,
-    at: u64,
-    label: &Label,
-    trace: bool,
-) -> Result<(), AllocError> {
-    if trace {
-        let mut line = trace_line(alloc, at, label)?;
-        let _end = line.pop();
-        text.extend_from_slice(&line)?;
-    } else {
-        push_text(text, "step ")?;
-        push_number(text, at)?;
+fn push_head(alloc: Global, page: &mut Page, at: u64, label: &Label, trace: bool) {
+    if !trace {
+        page.push("step ");
+        page.push_number(at);
+        return page.push(": ");
     }
-    push_text(text, ": ")
+    match trace_line(alloc, at, label) {
+        Ok(mut line) => {
+            let _end = line.pop();
+            page.push_bytes(&line);
+            page.push(": ");
+        }
+        Err(_) => page.lack(),
+    }
 }
 
 // Adds the boxes and goals, where they are asked, and the end of the line.
-fn push_state(
-    alloc: Global,
-    text: &mut Vec<u8>,
-    shown: Shown<'_>,
-    replay: &Replay,
-) -> Result<(), AllocError>
+fn push_state(page: &mut Page, shown: Shown<'_>, replay: &Replay)
     requires { shown.ready.now.loaded.program ≡ replay.now.core.table.program }
 {
     if shown.asked.tree {
         let words = Words {
             program: &shown.ready.loaded.program,
-            names: &shown.ready.names,
+            names: shown.names,
             origins: &replay.origins,
         };
-        push_tree(alloc, &replay.core, words, text, 2)?;
+        push_tree(&replay.core, words, page, 2);
     }
-    push_text(text, "\n")
-}
-
-// Adds the query before its first step.
-fn push_start(
-    alloc: Global,
-    text: &mut Vec<u8>,
-    shown: Shown<'_>,
-    replay: &Replay,
-) -> Result<(), AllocError>
-    requires { shown.ready.now.loaded.program ≡ replay.now.core.table.program }
-{
-    push_text(text, "query: ")?;
-    push_text(text, shown.asked.query.as_str())?;
-    push_state(alloc, text, shown, replay)
+    page.push("\n");
 }
 
 // Shows the query before its first step, where that is asked.
@@ -94,16 +82,17 @@ fn show_start<K: Sink>(
     if shown.asked.from > 0 || shown.asked.last {
         return Ok(());
     }
-    let mut text = Vec::new(alloc);
-    push_start(alloc, &mut text, shown, replay)?;
-    write_all(out, &text)?;
-    Ok(())
+    let mut page = Page::new(alloc);
+    page.push("query: ");
+    page.push(shown.asked.query.as_str());
+    push_state(&mut page, shown, replay);
+    show_page(page, out)
 }
 
 // Makes the step of a label, and adds what is shown of it. Answers whether it could be made.
 fn push_step(
     alloc: Global,
-    text: &mut Vec<u8>,
+    page: &mut Page,
     shown: Shown<'_>,
     replay: &mut Replay,
     at: u64,
@@ -112,12 +101,18 @@ fn push_step(
     requires { shown.ready.now.loaded.program ≡ replay.old.core.table.program }
     ensures { replay.new.core.table.program ≡ replay.old.core.table.program }
 {
-    let Ready { loaded, names } = shown.ready;
-    push_head(alloc, text, at, label, shown.asked.trace)?;
-    let made = replay.step(alloc, &loaded.program, names, *label, Some(&mut *text))?;
-    if made {
-        push_state(alloc, text, shown, replay)?;
-    }
+    let program = &shown.ready.loaded.program;
+    push_head(alloc, page, at, label, shown.asked.trace);
+    let made = make_step(
+        alloc,
+        &mut replay.core,
+        &mut replay.origins,
+        program,
+        shown.names,
+        *label,
+        Some(&mut *page),
+    )?;
+    push_state(page, shown, replay);
     Ok(made)
 }
 
@@ -133,16 +128,16 @@ fn show_step<K: Sink>(
     requires { shown.ready.now.loaded.program ≡ replay.old.core.table.program }
     ensures { replay.new.core.table.program ≡ replay.old.core.table.program }
 {
-    let mut text = Vec::new(alloc);
-    let made = push_step(alloc, &mut text, shown, replay, at, label)?;
+    let mut page = Page::new(alloc);
+    let made = push_step(alloc, &mut page, shown, replay, at, label)?;
     if made {
-        write_all(out, &text)?;
+        show_page(page, out)?;
     }
     Ok(made)
 }
 
 // Makes the step of a label, and shows it where that is wanted. Answers whether it could be made.
-fn make_step<K: Sink>(
+fn show_wanted<K: Sink>(
     alloc: Global,
     shown: Shown<'_>,
     replay: &mut Replay,
@@ -157,8 +152,16 @@ fn make_step<K: Sink>(
     if wanted {
         return show_step(alloc, shown, replay, at, label, out);
     }
-    let Ready { loaded, names } = shown.ready;
-    let made = replay.step(alloc, &loaded.program, names, *label, None)?;
+    let program = &shown.ready.loaded.program;
+    let made = make_step(
+        alloc,
+        &mut replay.core,
+        &mut replay.origins,
+        program,
+        shown.names,
+        *label,
+        None,
+    )?;
     Ok(made)
 }
 
@@ -169,15 +172,6 @@ fn is_shown(asked: &Asked, at: u64, count: u64) -> bool {
     } else {
         asked.from <= at
     }
-}
-
-// Adds how far it is.
-fn push_progress(text: &mut Vec<u8>, at: u64, count: u64) -> Result<(), AllocError> {
-    push_text(text, "\r")?;
-    push_number(text, at)?;
-    push_text(text, " of ")?;
-    push_number(text, count)?;
-    push_text(text, " steps")
 }
 
 // Shows how far it is, where that is wanted.
@@ -191,10 +185,13 @@ fn show_progress<E: Sink>(
     if !shown.progress || at % STRIDE != 0 {
         return Ok(());
     }
-    let mut text = Vec::new(alloc);
-    push_progress(&mut text, at, count)?;
-    write_all(errors, &text)?;
-    Ok(())
+    let mut page = Page::new(alloc);
+    page.push("\r");
+    page.push_number(at);
+    page.push(" of ");
+    page.push_number(count);
+    page.push(" steps");
+    show_page(page, errors)
 }
 
 // Makes the steps of these labels and shows those that are asked. Answers whether all could be made.
@@ -217,7 +214,7 @@ fn show_steps<K: Sink, E: Sink>(
         }
         at = at.saturating_add(1);
         let wanted = is_shown(shown.asked, at, count);
-        if !make_step(alloc, shown, replay, at, label, wanted, out)? {
+        if !show_wanted(alloc, shown, replay, at, label, wanted, out)? {
             return Ok(false);
         }
         show_progress(alloc, shown, at, count, errors)?;
@@ -264,22 +261,31 @@ fn show_labels<K: Sink, E: Sink>(
 {
     let asked = shown.asked;
     let core = start(alloc, shown.ready, asked.workers, asked.budget)?;
-    let mut replay = Replay::new(alloc, core);
+    let origins = Origins::new(alloc);
+    let mut replay = Replay { core, origins };
     show_replay(alloc, shown, &mut replay, labels, out, errors)
 }
 
-/// Shows the run that is asked, and answers the status.
+/// Shows the run that is asked, and answers the status. With `progress` it says on `errors` how far it is.
 pub fn show<R: Threads + Wait + Sync, K: Sink, E: Sink>(
     rt: &R,
     alloc: Global,
-    shown: Shown<'_>,
+    ready: &Ready,
+    names: &SourceNames<'_>,
+    asked: &Asked,
+    progress: bool,
     out: &mut K,
     errors: &mut E,
 ) -> Result<Status, Unshown>
-    requires variables { HasVariables shown.ready.now.loaded.program shown.ready.now.loaded.query shown.ready.now.loaded.first_variable }
-    requires shown { HasShownVariables shown.ready.now.loaded.query }
+    requires variables { HasVariables ready.now.loaded.program ready.now.loaded.query ready.now.loaded.first_variable }
+    requires shown { HasShownVariables ready.now.loaded.query }
 {
-    let asked = shown.asked;
-    let labels = labels_of(rt, alloc, shown.ready, asked.workers, asked.budget)?;
+    let shown = Shown {
+        ready,
+        names,
+        asked,
+        progress,
+    };
+    let labels = labels_of(rt, alloc, ready, asked.workers, asked.budget)?;
     show_labels(alloc, shown, &labels, out, errors)
 }

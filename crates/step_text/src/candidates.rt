@@ -42,12 +42,6 @@ fn candidate_by(
     }
 }
 
-// The choice that holds the alternative of a label, if it has one.
-fn choice_of(origins: &Origins, label: Label) -> Option<Name> {
-    let alternative = origins.alternative(label.alternative?)?;
-    Some(alternative.choice)
-}
-
 /// The alternative at which the box of a label could be split: by the choice that holds the label's alternative, or by the
 /// first one.
 pub(crate) fn candidate_for(
@@ -58,8 +52,8 @@ pub(crate) fn candidate_for(
 ) -> Result<Option<Name>, AllocError>
     ensures { IfOk result (IsCandidateAt core.now label.place) }
 {
-    if let (Place::Box(name), Some(choice)) = (label.place, choice_of(origins, label)) {
-        if let Some(found) = candidate_by(alloc, core, name, choice)? {
+    if let (Place::Box(name), Some(of)) = (label.place, origins.alternative_of(label)) {
+        if let Some(found) = candidate_by(alloc, core, name, of.choice)? {
             return Ok(Some(found));
         }
     }

@@ -8,6 +8,7 @@ mod equations;
 mod goals;
 mod names;
 mod origins;
+mod page;
 mod replay;
 mod scene;
 mod sentences;
@@ -17,6 +18,7 @@ mod tree;
 
 pub use names::SourceNames;
 pub use origins::{Alternative, Origins, Scope};
-pub use replay::Replay;
+pub use page::Page;
+pub use replay::make_step;
 pub use scene::Words;
 pub use tree::push_tree;

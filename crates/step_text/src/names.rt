@@ -1,160 +1,101 @@
 //! The names that variables have in a text.
 
 use akl_syntax::{Head, SourceClause};
-use akl_terms::{Definition, Program, Text};
+use akl_terms::Text;
 use std::alloc::{AllocError, Global};
 use std::collections::BTreeMap;
 
-/// The places of definitions in a program, by what tells each from all others.
-type Places = BTreeMap<String, usize>;
-
 /// The names that variables have in the text of a program and of a query.
 #[derive(Drop)]
-pub struct SourceNames {
-    query: Vec<Text>,
-    clauses: Vec<SourceClause>,
-    // For each definition of the program, in order, the places of its clauses among all.
-    definitions: Vec<Vec<usize>>,
+pub struct SourceNames<'a> {
+    query: &'a [Text],
+    // For each definition of the program, in order, those of its clauses.
+    definitions: Vec<Vec<&'a [Text]>>,
 }
 
-// What tells one definition from all others.
-fn key_text(
-    alloc: Global,
-    lifted: Option<u32>,
-    symbol: &str,
-    arity: usize,
-) -> Result<String, AllocError> {
-    match lifted {
-        Some(number) => format!(in alloc; "{number}"),
-        None => format!(in alloc; "{arity} {symbol}"),
-    }
-}
-
-// The same of what a clause defines.
-fn key_of_clause(alloc: Global, clause: &SourceClause) -> Result<String, AllocError> {
-    let arity = clause.arguments.len();
+// What tells what a clause defines from all else that is defined.
+fn key_of(alloc: Global, clause: &SourceClause) -> Result<String, AllocError> {
     match &clause.head {
-        Head::Named(symbol) => key_text(alloc, None, symbol.as_str(), arity),
-        Head::Lifted { number, .. } => key_text(alloc, Some(*number), "", arity),
-    }
-}
-
-// The same of a definition.
-fn key_of_definition(alloc: Global, definition: &Definition) -> Result<String, AllocError> {
-    let symbol = definition.key.symbol.as_str();
-    key_text(
-        alloc,
-        definition.lifted,
-        symbol,
-        definition.key.arity as usize,
-    )
-}
-
-// Adds the place of a definition.
-fn add_place(
-    alloc: Global,
-    places: &mut Places,
-    definition: &Definition,
-    at: usize,
-) -> Result<(), AllocError> {
-    let key = key_of_definition(alloc, definition)?;
-    places.insert(key, at)?;
-    Ok(())
-}
-
-// Adds the places of definitions.
-fn add_places(
-    alloc: Global,
-    places: &mut Places,
-    definitions: &[Definition],
-) -> Result<(), AllocError> {
-    for (at, definition) in definitions.iter().enumerate() {
-        add_place(alloc, places, definition, at)?;
-    }
-    Ok(())
-}
-
-// The place of the definition to which a clause belongs, if it is there.
-fn place_of(
-    alloc: Global,
-    places: &Places,
-    clause: &SourceClause,
-) -> Result<Option<usize>, AllocError> {
-    let key = key_of_clause(alloc, clause)?;
-    Ok(places.get(key.as_str()).copied())
-}
-
-// Adds lists without clauses, so many.
-fn add_lists(alloc: Global, lists: &mut Vec<Vec<usize>>, count: usize) -> Result<(), AllocError> {
-    for _ in 0..count {
-        lists.push(Vec::new(alloc))?;
-    }
-    Ok(())
-}
-
-// Adds the place of a clause to the list of its definition.
-fn add_clause(lists: &mut [Vec<usize>], definition: usize, at: usize) -> Result<(), AllocError> {
-    if let Some(list) = lists.get_mut(definition) {
-        list.push(at)?;
-    }
-    Ok(())
-}
-
-// Adds the place of each clause to the list of its definition.
-fn add_clauses(
-    alloc: Global,
-    lists: &mut [Vec<usize>],
-    places: &Places,
-    clauses: &[SourceClause],
-) -> Result<(), AllocError> {
-    for (at, clause) in clauses.iter().enumerate() {
-        if let Some(definition) = place_of(alloc, places, clause)? {
-            add_clause(lists, definition, at)?;
+        Head::Named(symbol) => {
+            let arity = clause.arguments.len();
+            format!(in alloc; "{arity} {}", symbol.as_str())
         }
+        Head::Lifted { number, .. } => format!(in alloc; "{number}"),
+    }
+}
+
+// The number of what a clause defines: the one that it has, or the next.
+fn number_of(
+    alloc: Global,
+    numbers: &mut BTreeMap<String, usize>,
+    clause: &SourceClause,
+) -> Result<usize, AllocError> {
+    let next = numbers.len();
+    let key = key_of(alloc, clause)?;
+    if let Some(number) = numbers.get(key.as_str()) {
+        return Ok(*number);
+    }
+    numbers.insert(key, next)?;
+    Ok(next)
+}
+
+// Adds the names of a clause to those of its definition, which may be the next.
+fn add_clause<'a>(
+    alloc: Global,
+    definitions: &mut Vec<Vec<&'a [Text]>>,
+    number: usize,
+    clause: &'a SourceClause,
+) -> Result<(), AllocError> {
+    if number == definitions.len() {
+        definitions.push(Vec::new(alloc))?;
+    }
+    if let Some(clauses) = definitions.get_mut(number) {
+        clauses.push(&clause.names)?;
     }
     Ok(())
 }
 
-impl SourceNames {
+// Adds the names of each clause to those of its definition. Definitions are in order of their first clauses.
+fn add_clauses<'a>(
+    alloc: Global,
+    definitions: &mut Vec<Vec<&'a [Text]>>,
+    clauses: &'a [SourceClause],
+) -> Result<(), AllocError> {
+    let mut numbers = BTreeMap::new(alloc);
+    for clause in clauses {
+        let number = number_of(alloc, &mut numbers, clause)?;
+        add_clause(alloc, definitions, number, clause)?;
+    }
+    Ok(())
+}
+
+impl<'a> SourceNames<'a> {
     /// The names in the clauses of a program and of what was made of its query's choices, and in the query.
     pub fn new(
         alloc: Global,
-        program: &Program,
-        clauses: Vec<SourceClause>,
-        query: Vec<Text>,
-    ) -> Result<SourceNames, AllocError> {
-        let mut names = SourceNames {
-            query,
-            clauses,
-            definitions: Vec::new(alloc),
-        };
-        names.find(alloc, program.definitions.as_slice())?;
-        Ok(names)
-    }
-
-    // Finds the clauses of each definition.
-    fn find(&mut self, alloc: Global, definitions: &[Definition]) -> Result<(), AllocError> {
-        let mut places = BTreeMap::new(alloc);
-        add_places(alloc, &mut places, definitions)?;
-        add_lists(alloc, &mut self.definitions, definitions.len())?;
-        add_clauses(alloc, &mut self.definitions, &places, &self.clauses)
+        clauses: &'a [SourceClause],
+        query: &'a [Text],
+    ) -> Result<SourceNames<'a>, AllocError> {
+        let mut definitions = Vec::new(alloc);
+        add_clauses(alloc, &mut definitions, clauses)?;
+        Ok(SourceNames { query, definitions })
     }
 
     /// The names of the query's variables, in order.
-    pub fn query(&self) -> &[Text] {
-        self.query.as_slice()
+    pub fn query(&self) -> &'a [Text] {
+        self.query
     }
 
-    // A clause of a definition, if it is there.
-    fn at(&self, definition: u32, clause: usize) -> Option<&SourceClause> {
-        let at = self.definitions.get(definition as usize)?.get(clause)?;
-        self.clauses.get(*at)
+    // Those of a clause of a definition, if it is there.
+    fn at(&self, definition: u32, clause: usize) -> Option<&'a [Text]> {
+        let clauses = self.definitions.get(definition as usize)?;
+        clauses.get(clause).copied()
     }
 
     /// The names of a clause's variables, in order; none where there is no such clause.
-    pub fn clause(&self, definition: u32, clause: usize) -> &[Text] {
+    pub fn clause(&self, definition: u32, clause: usize) -> &'a [Text] {
         match self.at(definition, clause) {
-            Some(found) => found.names.as_slice(),
+            Some(names) => names,
             None => &[],
         }
     }

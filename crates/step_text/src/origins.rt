@@ -1,5 +1,6 @@
 //! Where the frames, the choices and the boxes of a run come from.
 
+use akl_model::Label;
 use akl_terms::{Code, Goal, Name};
 use box_tree::{BoxCopy, InnerBox, Inside, NewBox};
 use std::alloc::{AllocError, Global};
@@ -75,6 +76,11 @@ impl Origins {
     /// The alternative that a box is, where it is one.
     pub fn alternative(&self, name: Name) -> Option<Alternative> {
         self.alternatives.get(&name).copied()
+    }
+
+    /// The alternative of a label, where it has one.
+    pub fn alternative_of(&self, label: Label) -> Option<Alternative> {
+        self.alternative(label.alternative?)
     }
 
     // These frames have their variables from a text.
@@ -176,6 +182,19 @@ impl Origins {
         Ok(())
     }
 
+    /// A box is split at an alternative: it and the boxes inside it have copies but the alternative.
+    pub fn split(
+        &mut self,
+        alloc: Global,
+        alternative: Name,
+        inside: &Inside,
+        copies: &[BoxCopy],
+    ) -> Result<(), AllocError> {
+        let mut names = BTreeMap::new(alloc);
+        self.copy_boxes(alternative, &inside.boxes, copies, &mut names)?;
+        self.copy_choices(alternative, &inside.boxes, copies, &names)
+    }
+
     // A box that has a copy, with its frames and as an alternative.
     fn copy_box(
         &mut self,
@@ -225,19 +244,5 @@ impl Origins {
             }
         }
         Ok(())
-    }
-
-    /// A box is split at an alternative: it and the boxes inside it have copies but the alternative.
-    pub fn split(
-        &mut self,
-        alloc: Global,
-        alternative: Name,
-        inside: &Inside,
-        copies: &[BoxCopy],
-    ) -> Result<(), AllocError> {
-        let boxes = inside.boxes.as_slice();
-        let mut names = BTreeMap::new(alloc);
-        self.copy_boxes(alternative, boxes, copies, &mut names)?;
-        self.copy_choices(alternative, boxes, copies, &names)
     }
 }

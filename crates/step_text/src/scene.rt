@@ -2,11 +2,10 @@
 
 use crate::names::SourceNames;
 use crate::origins::{Origins, Scope};
+use crate::page::Page;
 use akl_terms::{Name, Program, Seen, Term, Text, Var};
-use line_text::{push_name, push_number, push_text};
 use local_store::{Chain, Shared, Store};
 use rational_unify::Lookup;
-use std::alloc::AllocError;
 
 /// The most bindings that are followed from a variable to its value.
 const MOST_BINDINGS: usize = 100_000;
@@ -15,66 +14,66 @@ const MOST_BINDINGS: usize = 100_000;
 #[derive(Clone, Copy)]
 pub struct Words<'a> {
     pub program: &'a Program,
-    pub names: &'a SourceNames,
+    pub names: &'a SourceNames<'a>,
     pub origins: &'a Origins,
 }
 
-/// What is needed to write of a place: also the stores of the boxes from the root box down to its own.
+/// What is needed to write of a place in a box.
 #[derive(Clone, Copy)]
 pub(crate) struct Scene<'a> {
     pub words: Words<'a>,
-    pub stores: &'a [Shared<Store>],
+    /// The stores of the boxes around, from the root box down.
+    around: &'a [Shared<Store>],
+    /// The box's own store; where there is none, there are none around.
+    own: Option<&'a Shared<Store>>,
 }
 
 impl<'a> Words<'a> {
     /// Writes of a place in a box whose stores, from the root box down to its own, are these.
     pub(crate) fn at(self, stores: &'a [Shared<Store>]) -> Scene<'a> {
+        let (own, around) = match stores.split_last() {
+            Some((own, around)) => (Some(own), around),
+            None => (None, stores),
+        };
         Scene {
             words: self,
-            stores,
+            around,
+            own,
         }
     }
-}
 
-// Adds `_` and the number of a variable.
-fn push_nameless(out: &mut Vec<u8>, index: u32) -> Result<(), AllocError> {
-    push_text(out, "_")?;
-    push_number(out, index as u64)
-}
-
-// Adds the name of a variable in a text; one without a name has its number.
-fn push_written(out: &mut Vec<u8>, names: &[Text], index: u32) -> Result<(), AllocError> {
-    match names.get(index as usize) {
-        Some(name) if name.as_str() != "_" => push_text(out, name.as_str()),
-        _ => push_nameless(out, index),
-    }
-}
-
-/// Adds `#` and a name: its number, behind that of the worker where it isn't the first.
-pub(crate) fn push_mark(out: &mut Vec<u8>, name: Name) -> Result<(), AllocError> {
-    push_text(out, "#")?;
-    if name.worker > 1 {
-        push_name(out, name)
-    } else {
-        push_number(out, name.number)
+    // The names of a frame's variables in the text that they are of, if they are of one.
+    fn names_under(self, frame: Name) -> &'a [Text] {
+        match self.origins.scope(frame) {
+            Some(Scope::Query) => self.names.query(),
+            Some(Scope::Clause { definition, clause }) => self.names.clause(definition, clause),
+            None => &[],
+        }
     }
 }
 
 impl<'a> Scene<'a> {
     /// The same for the box around.
     pub(crate) fn outside(self) -> Scene<'a> {
-        match self.stores.split_last() {
-            Some((_, stores)) => Scene {
-                words: self.words,
-                stores,
-            },
-            None => self,
+        self.words.at(self.around)
+    }
+
+    /// The same once the box has another store.
+    pub(crate) fn with(self, store: &'a Shared<Store>) -> Scene<'a> {
+        Scene {
+            words: self.words,
+            around: self.around,
+            own: Some(store),
         }
     }
 
     /// What a variable is bound to by the stores.
     pub(crate) fn bound(self, variable: Var) -> Option<Term> {
-        Chain::new(&self.words.program.templates, self.stores).get(variable)
+        let own = self.own?.get().first_binding(variable);
+        if own.is_some() {
+            return own;
+        }
+        Chain::new(&self.words.program.templates, self.around).get(variable)
     }
 
     // What is known of this by the stores.
@@ -117,19 +116,19 @@ impl<'a> Scene<'a> {
         }
     }
 
-    /// Adds the name of a variable: as the query has it, or as a clause has it with `#` and the number of its frame.
-    pub(crate) fn push_variable(self, out: &mut Vec<u8>, variable: Var) -> Result<(), AllocError> {
-        match self.words.origins.scope(variable.frame) {
-            Some(Scope::Query) => push_written(out, self.words.names.query(), variable.index),
-            Some(Scope::Clause { definition, clause }) => {
-                let names = self.words.names.clause(definition, clause);
-                push_written(out, names, variable.index)?;
-                push_mark(out, variable.frame)
+    /// Adds the name of a variable: as the query has it, or as a clause has it with `#` and the number of its frame; `_` and its
+    /// number where it has none.
+    pub(crate) fn push_variable(self, page: &mut Page, variable: Var) {
+        let Var { frame, index } = variable;
+        match self.words.names_under(frame).get(index as usize) {
+            Some(name) if name.as_str() != "_" => page.push(name.as_str()),
+            _ => {
+                page.push("_");
+                page.push_number(index as u64);
             }
-            None => {
-                push_nameless(out, variable.index)?;
-                push_mark(out, variable.frame)
-            }
+        }
+        if !self.words.origins.is_query(frame) {
+            page.push_mark(frame);
         }
     }
 }

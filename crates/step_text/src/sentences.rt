@@ -1,435 +1,218 @@
 //! A step in the words of the source.
 
-use crate::goals::{push_box, push_choice, push_goal, push_listed, push_ordinal};
-use crate::origins::Alternative;
+use crate::goals::{push_alternative, push_box, push_choice, push_goal};
+use crate::page::Page;
 use crate::scene::{Scene, Words};
 use crate::terms::push_term;
 use akl_model::Rule;
 use akl_terms::{Code, Goal, Name, Place, Term};
 use box_tree::{HeldOp, Plan, Sight, Step, View};
-use line_text::{push_name, push_number, push_text};
-use local_store::{Chain, Consistency, Shared, Store, consistent};
-use std::alloc::AllocError;
-
-// Adds the stores of a view's boxes to others, with another one as the innermost.
-fn share_stores(
-    stores: &mut Vec<Shared<Store>>,
-    view: &View,
-    store: &Shared<Store>,
-) -> Result<(), AllocError> {
-    let count = view.stores().len().saturating_sub(1);
-    for outer in view.stores().iter().take(count) {
-        stores.push(outer.share()?)?;
-    }
-    stores.push(store.share()?)?;
-    Ok(())
-}
-
-// Adds a term with what is known once the innermost box has another store.
-fn push_then(
-    scene: Scene<'_>,
-    out: &mut Vec<u8>,
-    view: &View,
-    store: &Shared<Store>,
-    term: Term,
-) -> Result<(), AllocError> {
-    let mut stores = Vec::new(*out.allocator());
-    share_stores(&mut stores, view, store)?;
-    push_term(scene.words.at(&stores), out, term)
-}
+use local_store::{Chain, Consistency, consistent};
 
 // Adds in which box something stands, unless it is the query's first one.
-fn push_inside(scene: Scene<'_>, out: &mut Vec<u8>, view: &View) -> Result<(), AllocError> {
+fn push_inside(scene: Scene<'_>, page: &mut Page, view: &View) {
     match view.path().last() {
         Some(name) if *name != Name::default() => {
-            push_text(out, ", in ")?;
-            push_box(scene, out, *name)
+            page.push(", in ");
+            push_box(scene, page, *name);
         }
-        _ => Ok(()),
+        _ => {}
     }
-}
-
-// Adds an equation that is told.
-fn push_tell(
-    scene: Scene<'_>,
-    out: &mut Vec<u8>,
-    goal: Goal,
-    view: &View,
-) -> Result<(), AllocError> {
-    push_goal(scene, out, goal)?;
-    push_text(out, " is told")?;
-    push_inside(scene, out, view)
 }
 
 // Adds what a call becomes: a choice of so many alternatives.
-fn push_becomes(out: &mut Vec<u8>, code: Code, count: usize) -> Result<(), AllocError> {
+fn push_becomes(page: &mut Page, code: Code, count: usize) {
     if let Code::Collect { .. } = code {
-        return push_text(out, " begins to collect");
+        return page.push(" begins to collect");
     }
-    push_text(out, " becomes a choice of ")?;
-    push_number(out, count as u64)?;
-    push_text(
-        out,
-        if count == 1 {
-            " alternative"
-        } else {
-            " alternatives"
-        },
-    )
+    page.push(" becomes a choice of ");
+    page.push_number(count as u64);
+    page.push(if count == 1 {
+        " alternative"
+    } else {
+        " alternatives"
+    });
 }
 
-// The sentence of a call that becomes a choice.
-fn push_fork(
-    scene: Scene<'_>,
-    out: &mut Vec<u8>,
-    goal: Goal,
-    view: &View,
-    count: usize,
-) -> Result<(), AllocError> {
-    push_goal(scene, out, goal)?;
-    push_becomes(out, goal.code, count)?;
-    push_inside(scene, out, view)
+// Adds what came of a goal by which its box was told something.
+fn push_told(scene: Scene<'_>, page: &mut Page, goal: Goal) {
+    let (text, node) = match goal.code {
+        Code::Arith { left, .. } => (" gives ", left),
+        Code::OpenPort { port, .. } => (" makes ", port),
+        Code::Send { .. } => return page.push(" puts the message at the end of the stream"),
+        _ => return page.push(" is told"),
+    };
+    page.push(text);
+    let frame = goal.frame;
+    push_term(scene, page, Term::Mol { node, frame });
 }
 
-// Adds what came of an arithmetic goal.
-fn push_value(
-    scene: Scene<'_>,
-    out: &mut Vec<u8>,
-    goal: Goal,
-    view: &View,
-    step: &Step,
-) -> Result<(), AllocError> {
-    match (step, goal.code) {
-        (Step::Confirm, _) => push_text(out, " holds"),
-        (Step::Refute, _) => push_text(out, " doesn't hold"),
-        (Step::Tell { store, .. }, Code::Arith { left: node, .. }) => {
-            push_text(out, " gives ")?;
-            let frame = goal.frame;
-            push_then(scene, out, view, store, Term::Mol { node, frame })
-        }
-        _ => Ok(()),
+// Adds what came of a goal that is no choice.
+fn push_outcome(scene: Scene<'_>, page: &mut Page, goal: Goal, step: &Step) {
+    match step {
+        Step::Fork { alternatives, .. } => push_becomes(page, goal.code, alternatives.len()),
+        Step::Confirm => page.push(" holds"),
+        Step::Refute => page.push(" doesn't hold"),
+        Step::Tell { store, .. } => push_told(scene.with(store), page, goal),
+        _ => {}
     }
 }
 
-// The sentence of an arithmetic goal.
-fn push_eval(
-    scene: Scene<'_>,
-    out: &mut Vec<u8>,
-    goal: Goal,
-    view: &View,
-    step: &Step,
-) -> Result<(), AllocError> {
-    push_goal(scene, out, goal)?;
-    push_value(scene, out, goal, view, step)?;
-    push_inside(scene, out, view)
-}
-
-// Adds which port is made.
-fn push_port(
-    scene: Scene<'_>,
-    out: &mut Vec<u8>,
-    goal: Goal,
-    view: &View,
-    step: &Step,
-) -> Result<(), AllocError> {
-    match (step, goal.code) {
-        (Step::Tell { store, .. }, Code::OpenPort { port: node, .. }) => {
-            push_text(out, " makes ")?;
-            let frame = goal.frame;
-            push_then(scene, out, view, store, Term::Mol { node, frame })
-        }
-        _ => Ok(()),
-    }
-}
-
-// The sentence of a port that is opened.
-fn push_open(
-    scene: Scene<'_>,
-    out: &mut Vec<u8>,
-    goal: Goal,
-    view: &View,
-    step: &Step,
-) -> Result<(), AllocError> {
-    push_goal(scene, out, goal)?;
-    push_port(scene, out, goal, view, step)?;
-    push_inside(scene, out, view)
-}
-
-// The sentence of a message that is sent.
-fn push_send(
-    scene: Scene<'_>,
-    out: &mut Vec<u8>,
-    goal: Goal,
-    view: &View,
-) -> Result<(), AllocError> {
-    push_goal(scene, out, goal)?;
-    push_text(out, " puts the message at the end of the stream")?;
-    push_inside(scene, out, view)
+// The sentence of a rule at a goal that is no choice.
+fn push_at_atom(scene: Scene<'_>, page: &mut Page, goal: Goal, view: &View, plan: &Plan) {
+    push_goal(scene, page, goal);
+    push_outcome(scene, page, goal, plan.step());
+    push_inside(scene, page, view);
 }
 
 // Adds which two terms of a box clash, where some do.
-fn push_clash(scene: Scene<'_>, out: &mut Vec<u8>) -> Result<(), AllocError> {
-    let alloc = *out.allocator();
-    let chain = Chain::new(&scene.words.program.templates, scene.stores);
-    match consistent(alloc, &chain)? {
-        Consistency::Clash { left, right } => {
-            push_text(out, ": ")?;
-            push_term(scene, out, left)?;
-            push_text(out, " isn't ")?;
-            push_term(scene, out, right)
+fn push_clash(scene: Scene<'_>, page: &mut Page, view: &View) {
+    let chain = Chain::new(&scene.words.program.templates, view.stores());
+    match consistent(page.alloc(), &chain) {
+        Ok(Consistency::Clash { left, right }) => {
+            page.push(": ");
+            push_term(scene, page, left);
+            page.push(" isn't ");
+            push_term(scene, page, right);
         }
-        _ => Ok(()),
+        Ok(_) => {}
+        Err(_) => page.lack(),
     }
 }
 
 // Adds why a box fails.
-fn push_cause(
-    scene: Scene<'_>,
-    out: &mut Vec<u8>,
-    failing: Option<Name>,
-) -> Result<(), AllocError> {
+fn push_cause(scene: Scene<'_>, page: &mut Page, view: &View, failing: Option<Name>) {
     let Some(goal) = failing else {
-        return push_clash(scene, out);
+        return push_clash(scene, page, view);
     };
-    if scene.words.origins.call(goal).is_some() {
-        push_text(out, ": no alternative is left of ")?;
-        return push_choice(scene, out, goal);
+    if scene.words.origins.call(goal).is_none() {
+        return page.push(": it has the goal fail");
     }
-    push_text(out, ": it has the goal fail")
+    page.push(": no alternative is left of ");
+    push_choice(scene, page, goal);
 }
 
 // The sentence of a box that fails.
-fn push_fail(
-    scene: Scene<'_>,
-    out: &mut Vec<u8>,
-    name: Name,
-    sight: Sight,
-) -> Result<(), AllocError> {
-    push_box(scene, out, name)?;
-    push_text(out, " fails")?;
-    match sight {
-        Sight::Box { failing } => push_cause(scene, out, failing),
-        Sight::Atom(_) | Sight::Choice { .. } => Ok(()),
+fn push_fail(scene: Scene<'_>, page: &mut Page, name: Name, view: &View) {
+    push_box(scene, page, name);
+    page.push(" fails");
+    if let Sight::Box { failing } = view.sight() {
+        push_cause(scene, page, view, failing);
     }
 }
 
-// What is known of an alternative, where there is one.
-fn known(scene: Scene<'_>, alternative: Option<Name>) -> Option<Alternative> {
-    scene.words.origins.alternative(alternative?)
-}
-
-// Adds which alternative of a choice.
-fn push_alternative(
-    scene: Scene<'_>,
-    out: &mut Vec<u8>,
-    alternative: Option<Name>,
-    choice: Name,
-) -> Result<(), AllocError> {
-    match known(scene, alternative) {
-        Some(of) => push_ordinal(out, of.clause)?,
-        None => push_text(out, "the alternative")?,
+// Adds which alternative of a choice a plan is of.
+fn push_planned(scene: Scene<'_>, page: &mut Page, plan: &Plan, choice: Name) {
+    match scene.words.origins.alternative_of(plan.label()) {
+        Some(of) => push_alternative(scene, page, of.clause, choice),
+        None => {
+            page.push("the alternative of ");
+            push_choice(scene, page, choice);
+        }
     }
-    push_text(out, " of ")?;
-    push_choice(scene, out, choice)
 }
 
 // The sentence of a guard that cuts.
-fn push_cut(
-    scene: Scene<'_>,
-    out: &mut Vec<u8>,
-    goal: Name,
-    view: &View,
-    plan: &Plan,
-) -> Result<(), AllocError> {
-    push_text(out, "the guard of ")?;
-    push_alternative(scene, out, plan.label().alternative, goal)?;
-    let others = match view.sight() {
+fn push_cut(scene: Scene<'_>, page: &mut Page, choice: Name, view: &View, plan: &Plan) {
+    page.push("the guard of ");
+    push_planned(scene, page, plan, choice);
+    page.push(match view.sight() {
         Sight::Choice {
             op: HeldOp::Condition,
         } => " holds, and those to its right go",
         _ => " holds, and all others go",
-    };
-    push_text(out, others)?;
-    push_inside(scene, out, view)
+    });
+    push_inside(scene, page, view);
 }
 
 // Adds goals that come.
-fn push_goals(
-    scene: Scene<'_>,
-    out: &mut Vec<u8>,
-    goals: &[(Name, Goal)],
-) -> Result<(), AllocError> {
+fn push_coming(scene: Scene<'_>, page: &mut Page, goals: &[(Name, Goal)]) {
     for (at, (_, goal)) in goals.iter().enumerate() {
-        push_listed(scene, out, at, *goal)?;
+        page.push(if at == 0 { "; now " } else { ", " });
+        push_goal(scene, page, *goal);
     }
-    Ok(())
-}
-
-// Adds goals that come with another store of the innermost box, where there are some.
-fn push_coming(
-    scene: Scene<'_>,
-    out: &mut Vec<u8>,
-    view: &View,
-    store: &Shared<Store>,
-    goals: &[(Name, Goal)],
-) -> Result<(), AllocError> {
-    if goals.is_empty() {
-        return Ok(());
-    }
-    push_text(out, "; now ")?;
-    let mut stores = Vec::new(*out.allocator());
-    share_stores(&mut stores, view, store)?;
-    push_goals(scene.words.at(&stores), out, goals)
 }
 
 // The sentence of the last alternative, which joins the box around.
-fn push_promote(
-    scene: Scene<'_>,
-    out: &mut Vec<u8>,
-    goal: Name,
-    view: &View,
-    plan: &Plan,
-) -> Result<(), AllocError> {
-    push_alternative(scene, out, plan.label().alternative, goal)?;
-    push_text(out, " is promoted")?;
-    push_inside(scene, out, view)?;
-    match plan.step() {
-        Step::Join { store, goals, .. } => push_coming(scene, out, view, store, goals),
-        _ => Ok(()),
+fn push_promote(scene: Scene<'_>, page: &mut Page, choice: Name, view: &View, plan: &Plan) {
+    push_planned(scene, page, plan, choice);
+    page.push(" is promoted");
+    push_inside(scene, page, view);
+    if let Step::Join { store, goals, .. } = plan.step() {
+        push_coming(scene.with(store), page, goals);
     }
 }
 
 // Adds the list of what was collected.
-fn push_list(
-    scene: Scene<'_>,
-    out: &mut Vec<u8>,
-    view: &View,
-    step: &Step,
-) -> Result<(), AllocError> {
-    match (step, view.sight()) {
-        (
-            Step::Join { store, .. },
-            Sight::Choice {
-                op: HeldOp::Collect(list),
-            },
-        ) => {
-            push_text(out, ": ")?;
-            push_then(scene, out, view, store, list)
-        }
-        _ => Ok(()),
+fn push_list(scene: Scene<'_>, page: &mut Page, sight: Sight, step: &Step) {
+    let Step::Join { store, .. } = step else {
+        return;
+    };
+    if let Sight::Choice {
+        op: HeldOp::Collect(list),
+    } = sight
+    {
+        page.push(": ");
+        push_term(scene.with(store), page, list);
     }
 }
 
 // The sentence of solutions that are collected.
-fn push_collected(
-    scene: Scene<'_>,
-    out: &mut Vec<u8>,
-    goal: Name,
-    view: &View,
-    plan: &Plan,
-) -> Result<(), AllocError> {
-    push_choice(scene, out, goal)?;
-    push_text(out, " has ")?;
-    push_number(out, view.alternatives().len() as u64)?;
-    push_text(out, " solutions")?;
-    push_list(scene, out, view, plan.step())?;
-    push_inside(scene, out, view)
-}
-
-// Adds which alternative a box is, of a choice in the box of the scene.
-fn push_kept(scene: Scene<'_>, out: &mut Vec<u8>, name: Name) -> Result<(), AllocError> {
-    match scene.words.origins.alternative(name) {
-        Some(of) => push_alternative(scene, out, Some(name), of.choice),
-        None => push_name(out, name),
-    }
-}
-
-// Adds which box is the copy of one that is split.
-fn push_copy(out: &mut Vec<u8>, step: &Step) -> Result<(), AllocError> {
-    let Step::Split { copy, .. } = step else {
-        return Ok(());
-    };
-    push_text(out, ", and its copy ")?;
-    push_name(out, *copy)?;
-    push_text(out, " has the others")
-}
-
-// The sentence of a box that is split.
-fn push_split(
-    scene: Scene<'_>,
-    out: &mut Vec<u8>,
-    name: Name,
-    plan: &Plan,
-) -> Result<(), AllocError> {
-    push_box(scene, out, name)?;
-    push_text(out, " is split: it keeps ")?;
-    match plan.label().alternative {
-        Some(alternative) => push_kept(scene, out, alternative)?,
-        None => push_text(out, "one alternative")?,
-    }
-    push_copy(out, plan.step())
-}
-
-// The sentence of a rule at an atom.
-fn push_at_atom(
-    scene: Scene<'_>,
-    out: &mut Vec<u8>,
-    atom: Goal,
-    view: &View,
-    plan: &Plan,
-) -> Result<(), AllocError> {
-    let step = plan.step();
-    match (plan.label().rule, step) {
-        (_, Step::Fork { alternatives, .. }) => {
-            push_fork(scene, out, atom, view, alternatives.len())
-        }
-        (Rule::Eval, _) => push_eval(scene, out, atom, view, step),
-        (Rule::Open, _) => push_open(scene, out, atom, view, step),
-        (Rule::Send, _) => push_send(scene, out, atom, view),
-        _ => push_tell(scene, out, atom, view),
-    }
+fn push_collected(scene: Scene<'_>, page: &mut Page, choice: Name, view: &View, plan: &Plan) {
+    push_choice(scene, page, choice);
+    page.push(" has ");
+    page.push_number(view.alternatives().len() as u64);
+    page.push(" solutions");
+    push_list(scene, page, view.sight(), plan.step());
+    push_inside(scene, page, view);
 }
 
 // The sentence of a rule at a choice.
-fn push_at_choice(
-    scene: Scene<'_>,
-    out: &mut Vec<u8>,
-    goal: Name,
-    view: &View,
-    plan: &Plan,
-) -> Result<(), AllocError> {
+fn push_at_choice(scene: Scene<'_>, page: &mut Page, choice: Name, view: &View, plan: &Plan) {
     match plan.label().rule {
-        Rule::Cut => push_cut(scene, out, goal, view, plan),
-        Rule::Collect => push_collected(scene, out, goal, view, plan),
-        _ => push_promote(scene, out, goal, view, plan),
+        Rule::Cut => push_cut(scene, page, choice, view, plan),
+        Rule::Collect => push_collected(scene, page, choice, view, plan),
+        _ => push_promote(scene, page, choice, view, plan),
+    }
+}
+
+// Adds what a box that is split keeps, an alternative of a choice in the box of the scene.
+fn push_kept(scene: Scene<'_>, page: &mut Page, alternative: Option<Name>) {
+    let Some(name) = alternative else {
+        return page.push("one alternative");
+    };
+    match scene.words.origins.alternative(name) {
+        Some(of) => push_alternative(scene, page, of.clause, of.choice),
+        None => page.push_name(name),
+    }
+}
+
+// The sentence of a box that is split.
+fn push_split(scene: Scene<'_>, page: &mut Page, name: Name, plan: &Plan) {
+    push_box(scene, page, name);
+    page.push(" is split: it keeps ");
+    push_kept(scene, page, plan.label().alternative);
+    if let Step::Split { copy, .. } = plan.step() {
+        page.push(", and its copy ");
+        page.push_name(*copy);
+        page.push(" has the others");
     }
 }
 
 // The sentence of a rule at a box.
-fn push_at_box(
-    scene: Scene<'_>,
-    out: &mut Vec<u8>,
-    name: Name,
-    sight: Sight,
-    plan: &Plan,
-) -> Result<(), AllocError> {
+fn push_at_box(scene: Scene<'_>, page: &mut Page, name: Name, view: &View, plan: &Plan) {
     match plan.label().rule {
-        Rule::Split => push_split(scene, out, name, plan),
-        _ => push_fail(scene, out, name, sight),
+        Rule::Split => push_split(scene, page, name, plan),
+        _ => push_fail(scene, page, name, view),
     }
 }
 
 /// Adds the sentence of a plan that was made of a view.
-pub(crate) fn push_sentence(
-    words: Words<'_>,
-    out: &mut Vec<u8>,
-    view: &View,
-    plan: &Plan,
-) -> Result<(), AllocError> {
+pub(crate) fn push_sentence(words: Words<'_>, page: &mut Page, view: &View, plan: &Plan) {
     let scene = words.at(view.stores());
     match (view.place(), view.sight()) {
-        (Place::Goal(_), Sight::Atom(atom)) => push_at_atom(scene, out, atom, view, plan),
-        (Place::Goal(goal), _) => push_at_choice(scene, out, goal, view, plan),
-        (Place::Box(name), sight) => push_at_box(scene, out, name, sight, plan),
+        (Place::Goal(_), Sight::Atom(goal)) => push_at_atom(scene, page, goal, view, plan),
+        (Place::Goal(choice), _) => push_at_choice(scene, page, choice, view, plan),
+        (Place::Box(name), _) => push_at_box(scene, page, name, view, plan),
     }
 }

@@ -3,10 +3,10 @@
 ghost use Rattle.std.specs.Prelude.{◌≡◌};
 ghost use Rattle.place_steps.specs.Seen.{view_in, IsSeen};
 
+use crate::page::Page;
 use crate::scene::Scene;
 use akl_model::Rule;
 use akl_terms::{Program, Var};
-use line_text::push_text;
 use place_steps::{Next, Seen, next_of};
 use std::alloc::{AllocError, Global};
 use std::collections::BTreeSet;
@@ -27,17 +27,11 @@ fn ready_text(rule: Rule) -> &'static str {
     }
 }
 
-// Adds the name of a variable to a set.
-fn add_name(
-    alloc: Global,
-    scene: Scene<'_>,
-    names: &mut BTreeSet<Vec<u8>>,
-    variable: Var,
-) -> Result<(), AllocError> {
-    let mut name = Vec::new(alloc);
-    scene.push_variable(&mut name, variable)?;
-    names.insert(name)?;
-    Ok(())
+// The name of a variable.
+fn name_of(alloc: Global, scene: Scene<'_>, variable: Var) -> Result<Vec<u8>, AllocError> {
+    let mut page = Page::new(alloc);
+    scene.push_variable(&mut page, variable);
+    page.finish()
 }
 
 // Adds the names of the variables to which these are bound to a set.
@@ -49,47 +43,38 @@ fn add_names(
 ) -> Result<(), AllocError> {
     for variable in on {
         if let Some(end) = scene.end_of(*variable) {
-            add_name(alloc, scene, names, end)?;
+            names.insert(name_of(alloc, scene, end)?)?;
         }
     }
     Ok(())
 }
 
-// Adds for which of these variables a place waits.
-fn push_names(out: &mut Vec<u8>, names: &BTreeSet<Vec<u8>>) -> Result<(), AllocError> {
+// Adds for which variables a place waits.
+fn push_names(page: &mut Page, names: &BTreeSet<Vec<u8>>) {
     for (at, name) in names.iter().enumerate() {
-        push_text(out, if at == 0 { ", waits for " } else { ", " })?;
-        out.extend_from_slice(name)?;
+        page.push(if at == 0 { ", waits for " } else { ", " });
+        page.push_bytes(name);
     }
-    Ok(())
 }
 
 // Adds what a place waits for, each variable once.
-fn push_waits(
-    alloc: Global,
-    scene: Scene<'_>,
-    out: &mut Vec<u8>,
-    on: &[Var],
-) -> Result<(), AllocError> {
-    let mut names = BTreeSet::new(alloc);
-    add_names(alloc, scene, &mut names, on)?;
-    push_names(out, &names)
+fn push_waits(scene: Scene<'_>, page: &mut Page, on: &[Var]) {
+    let mut names = BTreeSet::new(page.alloc());
+    if add_names(page.alloc(), scene, &mut names, on).is_err() {
+        return page.lack();
+    }
+    push_names(page, &names);
 }
 
 /// Adds what a place that was seen comes to next; what it waits for, where no rule applies there. Nothing is added of a place
 /// that waits for no variable.
-pub(crate) fn push_state(
-    alloc: Global,
-    program: &Program,
-    scene: Scene<'_>,
-    out: &mut Vec<u8>,
-    seen: &Seen,
-) -> Result<(), AllocError>
+pub(crate) fn push_state(program: &Program, scene: Scene<'_>, page: &mut Page, seen: &Seen)
     requires program { program.now ≡ (view_in seen.now).table.program }
     requires seen { IsSeen seen.now }
 {
-    match next_of(alloc, program, seen)? {
-        Next::Plan(plan) => push_text(out, ready_text(plan.label().rule)),
-        Next::Idle(idle) => push_waits(alloc, scene, out, idle.on()),
+    match next_of(page.alloc(), program, seen) {
+        Ok(Next::Plan(plan)) => page.push(ready_text(plan.label().rule)),
+        Ok(Next::Idle(idle)) => push_waits(scene, page, idle.on()),
+        Err(_) => page.lack(),
     }
 }

@@ -3,45 +3,29 @@
 ghost use Rattle.std.specs.Prelude.{◌≡◌, IfOk};
 ghost use Rattle.place_steps.specs.Seen.{view_in, IsSeen, IsSeenBy};
 
-use crate::equations::{push_line, push_told, push_values};
-use crate::goals::{push_choice, push_goal, push_listed, push_ordinal};
+use crate::equations::{push_told, push_values};
+use crate::goals::{push_choice, push_goal, push_ordinal};
+use crate::page::Page;
 use crate::scene::{Scene, Words};
 use crate::states::push_state;
 use akl_terms::{Goal, Name, Place};
 use box_tree::{Held, HeldOp, InnerBox, InnerGoal, Inside, LookError};
-use line_text::{push_name, push_text};
 use place_steps::{Seen, first_candidate, see};
 use std::alloc::{AllocError, Global};
-use std::collections::BTreeMap;
 use step_commit::Core;
 
-/// What has lines of its own: a box, by its place among those inside a root box, or a goal of such a box.
+/// What has lines of its own: a box or a goal.
 #[derive(Clone, Copy)]
-enum Part {
-    Inner(usize),
-    Goal(usize, usize),
+enum Part<'a> {
+    Box(&'a InnerBox),
+    Goal(&'a InnerGoal),
 }
 
 /// What has lines of its own, so many levels deep.
 #[derive(Clone, Copy)]
-struct Entry {
+struct Entry<'a> {
     depth: usize,
-    part: Part,
-}
-
-/// A root box and those inside it, with where each of them is.
-#[derive(Clone, Copy)]
-struct Boxes<'a> {
-    list: &'a [InnerBox],
-    places: &'a BTreeMap<Name, usize>,
-}
-
-// Adds where the boxes are, by their names.
-fn add_places(places: &mut BTreeMap<Name, usize>, boxes: &[InnerBox]) -> Result<(), AllocError> {
-    for (at, inner) in boxes.iter().enumerate() {
-        places.insert(inner.name, at)?;
-    }
-    Ok(())
+    part: Part<'a>,
 }
 
 // What is seen of a place, if it is there.
@@ -63,327 +47,218 @@ fn operator_text(op: HeldOp) -> &'static str {
 }
 
 // Adds what a goal is.
-fn push_held(scene: Scene<'_>, out: &mut Vec<u8>, goal: &InnerGoal) -> Result<(), AllocError> {
+fn push_held(scene: Scene<'_>, page: &mut Page, goal: &InnerGoal) {
+    page.push_name(goal.name);
+    page.push(" ");
     match &goal.held {
-        Held::Atom(atom) => push_goal(scene, out, *atom),
+        Held::Atom(atom) => push_goal(scene, page, *atom),
         Held::Choice { op, .. } => {
-            push_choice(scene, out, goal.name)?;
-            push_text(out, operator_text(*op))
+            push_choice(scene, page, goal.name);
+            page.push(operator_text(*op));
         }
-    }
-}
-
-// Adds the line of a goal that was seen.
-fn push_seen_goal(
-    alloc: Global,
-    words: Words<'_>,
-    out: &mut Vec<u8>,
-    depth: usize,
-    goal: &InnerGoal,
-    seen: &Seen,
-) -> Result<(), AllocError>
-    requires program { words.program.now ≡ (view_in seen.now).table.program }
-    requires seen { IsSeen seen.now }
-{
-    let scene = words.at(seen.view().stores());
-    push_line(out, depth)?;
-    push_name(out, goal.name)?;
-    push_text(out, " ")?;
-    push_held(scene, out, goal)?;
-    push_state(alloc, words.program, scene, out, seen)
-}
-
-// Adds the line of a goal.
-fn push_goal_line(
-    alloc: Global,
-    core: &Core,
-    words: Words<'_>,
-    out: &mut Vec<u8>,
-    depth: usize,
-    goal: &InnerGoal,
-) -> Result<(), AllocError>
-    requires { words.program.now ≡ core.now.table.program }
-{
-    match seen_at(alloc, core, Place::Goal(goal.name))? {
-        Some(seen) => push_seen_goal(alloc, words, out, depth, goal, &seen),
-        None => Ok(()),
     }
 }
 
 // Adds what a box is, and whether its goals are solved.
-fn push_kind(out: &mut Vec<u8>, words: Words<'_>, inner: &InnerBox) -> Result<(), AllocError> {
-    push_name(out, inner.name)?;
-    push_text(out, " ")?;
+fn push_kind(words: Words<'_>, page: &mut Page, inner: &InnerBox) {
+    page.push_name(inner.name);
+    page.push(" ");
     match words.origins.alternative(inner.name) {
-        Some(of) => push_ordinal(out, of.clause)?,
-        None => push_text(out, "root box")?,
+        Some(of) => push_ordinal(page, of.clause),
+        None => page.push("root box"),
     }
-    push_text(
-        out,
-        if inner.goals.is_empty() {
-            ", solved"
-        } else {
-            ""
-        },
-    )
+    if inner.goals.is_empty() {
+        page.push(", solved");
+    }
 }
 
 // Adds the line of the goals that come where a box is promoted, if there are some.
-fn push_body(
-    scene: Scene<'_>,
-    out: &mut Vec<u8>,
-    depth: usize,
-    body: &[Goal],
-) -> Result<(), AllocError> {
+fn push_body(scene: Scene<'_>, page: &mut Page, depth: usize, body: &[Goal]) {
     for (at, goal) in body.iter().enumerate() {
         if at == 0 {
-            push_line(out, depth)?;
-            push_text(out, "then ")?;
+            page.push_line(depth);
         }
-        push_listed(scene, out, at, *goal)?;
+        page.push(if at == 0 { "then " } else { ", " });
+        push_goal(scene, page, *goal);
     }
-    Ok(())
 }
 
 // Adds the lines of what a box was told, and of the goals that come where it is promoted.
-fn push_contents(
-    scene: Scene<'_>,
-    out: &mut Vec<u8>,
-    depth: usize,
-    inner: &InnerBox,
-) -> Result<(), AllocError> {
+fn push_contents(scene: Scene<'_>, page: &mut Page, depth: usize, inner: &InnerBox) {
     let store = inner.store.get();
     if inner.holder.is_none() {
-        return push_values(scene, out, depth, store);
+        return push_values(scene, page, depth, store);
     }
-    push_told(scene, out, depth, store, false)?;
-    push_told(scene, out, depth, store, true)?;
-    push_body(scene, out, depth, &inner.body)
+    push_told(scene, page, depth, store);
+    push_body(scene, page, depth, &inner.body);
 }
 
-// Adds the lines of a box that was seen, without its goals.
-fn push_seen_box(
-    alloc: Global,
-    words: Words<'_>,
-    out: &mut Vec<u8>,
-    depth: usize,
-    inner: &InnerBox,
-    seen: &Seen,
-) -> Result<(), AllocError>
+impl<'a> Part<'a> {
+    // Where it is.
+    fn place(self) -> Place {
+        match self {
+            Part::Box(inner) => Place::Box(inner.name),
+            Part::Goal(goal) => Place::Goal(goal.name),
+        }
+    }
+
+    // Adds what it is.
+    fn push_kind(self, scene: Scene<'_>, page: &mut Page) {
+        match self {
+            Part::Box(inner) => push_kind(scene.words, page, inner),
+            Part::Goal(goal) => push_held(scene, page, goal),
+        }
+    }
+}
+
+// Adds the lines of a part that was seen, without those of what stands in it.
+fn push_seen(words: Words<'_>, page: &mut Page, entry: Entry<'_>, seen: &Seen)
     requires program { words.program.now ≡ (view_in seen.now).table.program }
     requires seen { IsSeen seen.now }
 {
+    let Entry { depth, part } = entry;
     let scene = words.at(seen.view().stores());
-    push_line(out, depth)?;
-    push_kind(out, words, inner)?;
-    push_state(alloc, words.program, scene, out, seen)?;
-    push_contents(scene, out, depth.saturating_add(1), inner)
+    page.push_line(depth);
+    part.push_kind(scene, page);
+    push_state(words.program, scene, page, seen);
+    if let Part::Box(inner) = part {
+        push_contents(scene, page, depth.saturating_add(1), inner);
+    }
 }
 
-// Adds the lines of a box, without its goals.
-fn push_box_lines(
-    alloc: Global,
-    core: &Core,
-    words: Words<'_>,
-    out: &mut Vec<u8>,
-    depth: usize,
-    inner: &InnerBox,
-) -> Result<(), AllocError>
+// Adds the lines of a part, without those of what stands in it.
+fn push_entry(core: &Core, words: Words<'_>, page: &mut Page, entry: Entry<'_>)
     requires { words.program.now ≡ core.now.table.program }
 {
-    match seen_at(alloc, core, Place::Box(inner.name))? {
-        Some(seen) => push_seen_box(alloc, words, out, depth, inner, &seen),
-        None => Ok(()),
+    match seen_at(page.alloc(), core, entry.part.place()) {
+        Ok(Some(seen)) => push_seen(words, page, entry, &seen),
+        Ok(None) => {}
+        Err(_) => page.lack(),
     }
 }
 
-// Leaves the goals of a box to be written, the first last.
-fn leave_goals(
-    entries: &mut Vec<Entry>,
+// Leaves a part to be written.
+fn leave<'a>(page: &mut Page, entries: &mut Vec<Entry<'a>>, depth: usize, part: Part<'a>) {
+    if entries.push(Entry { depth, part }).is_err() {
+        page.lack();
+    }
+}
+
+// Leaves goals to be written, the first last.
+fn leave_goals<'a>(
+    page: &mut Page,
+    entries: &mut Vec<Entry<'a>>,
     depth: usize,
-    at: usize,
-    count: usize,
-) -> Result<(), AllocError> {
-    for k in (0..count).rev() {
-        let part = Part::Goal(at, k);
-        entries.push(Entry { depth, part })?;
+    goals: &'a [InnerGoal],
+) {
+    for goal in goals.iter().rev() {
+        leave(page, entries, depth, Part::Goal(goal));
     }
-    Ok(())
 }
 
-// Leaves a box to be written, if it is there.
-fn leave_box(
-    boxes: Boxes<'_>,
-    entries: &mut Vec<Entry>,
+// The box of this name among these, if it is one of them.
+fn named(boxes: &[InnerBox], name: Name) -> Option<&InnerBox> {
+    for inner in boxes {
+        if inner.name == name {
+            return Some(inner);
+        }
+    }
+    None
+}
+
+// Leaves those of these boxes that have these names to be written, the first last.
+fn leave_boxes<'a>(
+    page: &mut Page,
+    entries: &mut Vec<Entry<'a>>,
     depth: usize,
-    name: Name,
-) -> Result<(), AllocError> {
-    if let Some(at) = boxes.places.get(&name) {
-        let part = Part::Inner(*at);
-        entries.push(Entry { depth, part })?;
-    }
-    Ok(())
-}
-
-// Leaves the alternatives of a goal to be written, the first last.
-fn leave_alternatives(
-    boxes: Boxes<'_>,
-    entries: &mut Vec<Entry>,
-    depth: usize,
-    goal: &InnerGoal,
-) -> Result<(), AllocError> {
-    let Held::Choice { alternatives, .. } = &goal.held else {
-        return Ok(());
-    };
-    for name in alternatives.iter().rev() {
-        leave_box(boxes, entries, depth, *name)?;
-    }
-    Ok(())
-}
-
-impl<'a> Boxes<'a> {
-    // A goal of a box, by their places.
-    fn goal(self, at: usize, k: usize) -> Option<&'a InnerGoal> {
-        self.list.get(at)?.goals.get(k)
+    boxes: &'a [InnerBox],
+    names: &[Name],
+) {
+    for name in names.iter().rev() {
+        if let Some(inner) = named(boxes, *name) {
+            leave(page, entries, depth, Part::Box(inner));
+        }
     }
 }
 
-// Adds the lines of an entry, and leaves what stands in it to be written.
-fn push_entry(
-    alloc: Global,
-    core: &Core,
-    words: Words<'_>,
-    out: &mut Vec<u8>,
-    boxes: Boxes<'_>,
-    entries: &mut Vec<Entry>,
-    entry: Entry,
-) -> Result<(), AllocError>
-    requires { words.program.now ≡ core.now.table.program }
-{
+// Leaves what stands in a part to be written: the goals of a box, or the alternatives of a choice.
+fn leave_inside<'a>(
+    page: &mut Page,
+    entries: &mut Vec<Entry<'a>>,
+    boxes: &'a [InnerBox],
+    entry: Entry<'a>,
+) {
     let depth = entry.depth.saturating_add(1);
     match entry.part {
-        Part::Inner(at) => {
-            if let Some(inner) = boxes.list.get(at) {
-                push_box_lines(alloc, core, words, out, entry.depth, inner)?;
-                leave_goals(entries, depth, at, inner.goals.len())?;
-            }
-        }
-        Part::Goal(at, k) => {
-            if let Some(goal) = boxes.goal(at, k) {
-                push_goal_line(alloc, core, words, out, entry.depth, goal)?;
-                leave_alternatives(boxes, entries, depth, goal)?;
+        Part::Box(inner) => leave_goals(page, entries, depth, &inner.goals),
+        Part::Goal(goal) => {
+            if let Held::Choice { alternatives, .. } = &goal.held {
+                leave_boxes(page, entries, depth, boxes, alternatives);
             }
         }
     }
-    Ok(())
 }
 
-// Adds the lines of the entries that are left, so many at most, and of those that these leave.
-fn push_entries(
-    alloc: Global,
+// Adds the lines of the parts that are left, so many at most, and of those that these leave.
+fn push_entries<'a>(
     core: &Core,
     words: Words<'_>,
-    out: &mut Vec<u8>,
-    boxes: Boxes<'_>,
-    entries: &mut Vec<Entry>,
+    page: &mut Page,
+    entries: &mut Vec<Entry<'a>>,
+    boxes: &'a [InnerBox],
     most: usize,
-) -> Result<(), AllocError>
+)
     requires { words.program.now ≡ core.now.table.program }
 {
     for _ in 0..most {
         let Some(entry) = entries.pop() else {
-            return Ok(());
+            return;
         };
-        push_entry(alloc, core, words, out, boxes, entries, entry)?;
+        push_entry(core, words, page, entry);
+        leave_inside(page, entries, boxes, entry);
     }
-    Ok(())
 }
 
-// Adds the lines of a box, and of all that stands inside it.
-fn push_whole(
-    alloc: Global,
-    core: &Core,
-    words: Words<'_>,
-    out: &mut Vec<u8>,
-    depth: usize,
-    name: Name,
-    boxes: Boxes<'_>,
-    most: usize,
-) -> Result<(), AllocError>
-    requires { words.program.now ≡ core.now.table.program }
-{
-    let mut entries = Vec::new(alloc);
-    leave_box(boxes, &mut entries, depth, name)?;
-    push_entries(alloc, core, words, out, boxes, &mut entries, most)
-}
-
-// The same of a root box of which this was found inside.
+// Adds the lines of a root box of which this was found inside.
 fn push_inside(
-    alloc: Global,
     core: &Core,
     words: Words<'_>,
-    out: &mut Vec<u8>,
+    page: &mut Page,
     depth: usize,
     name: Name,
     inside: &Inside,
-) -> Result<(), AllocError>
+)
     requires { words.program.now ≡ core.now.table.program }
 {
-    let list = inside.boxes.as_slice();
-    let mut places = BTreeMap::new(alloc);
-    add_places(&mut places, list)?;
-    let boxes = Boxes {
-        list,
-        places: &places,
-    };
+    let boxes = inside.boxes.as_slice();
+    let mut entries = Vec::new(page.alloc());
+    leave_boxes(page, &mut entries, depth, boxes, &[name]);
     // Each box and each goal comes once.
-    push_whole(
-        alloc,
-        core,
-        words,
-        out,
-        depth,
-        name,
-        boxes,
-        inside.views.len(),
-    )
+    push_entries(core, words, page, &mut entries, boxes, inside.views.len());
 }
 
-// The same of a root box, if it is there.
-fn push_root(
-    alloc: Global,
-    core: &Core,
-    words: Words<'_>,
-    out: &mut Vec<u8>,
-    depth: usize,
-    name: Name,
-) -> Result<(), AllocError>
+// Adds the lines of a root box, if it is there.
+fn push_root(core: &Core, words: Words<'_>, page: &mut Page, depth: usize, name: Name)
     requires { words.program.now ≡ core.now.table.program }
 {
-    match core.look(alloc, Place::Box(name), 1) {
-        Ok(_) => {
-            let inside = core.look_inside(alloc, name, 1)?;
-            push_inside(alloc, core, words, out, depth, name, &inside)
-        }
-        Err(LookError::Gone) => Ok(()),
-        Err(LookError::Memory(error)) => Err(error),
+    match core.look(page.alloc(), Place::Box(name), 1) {
+        Ok(_view) => {}
+        Err(LookError::Gone) => return,
+        Err(LookError::Memory(_)) => return page.lack(),
+    }
+    match core.look_inside(page.alloc(), name, 1) {
+        Ok(inside) => push_inside(core, words, page, depth, name, &inside),
+        Err(_) => page.lack(),
     }
 }
 
 /// Adds the lines of all boxes and goals of a run, each on a line that is so many levels deep at least: of a box what it was
 /// told, of a choice its operator, of an alternative whether its guard is solved, and of each place which rule applies there,
 /// or which variables it waits for.
-pub fn push_tree(
-    alloc: Global,
-    core: &Core,
-    words: Words<'_>,
-    out: &mut Vec<u8>,
-    depth: usize,
-) -> Result<(), AllocError>
+pub fn push_tree(core: &Core, words: Words<'_>, page: &mut Page, depth: usize)
     requires { words.program.now ≡ core.now.table.program }
 {
     for name in core.roots() {
-        push_root(alloc, core, words, out, depth, *name)?;
+        push_root(core, words, page, depth, *name);
     }
-    Ok(())
 }
