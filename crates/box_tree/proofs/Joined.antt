@@ -124,7 +124,7 @@ unset_more t u v names at d l a b = record {
 pub unset_all : (t u : TableValue) (names : List Name) (at : ℕ) → length names ≤ at → IsUnsetBy t u names (drop at names) → SetsBoxes t u (unset names (table_of t).box_of)
 unset_all t u names at l a = record { rows = λ m. ap (λ (ns : List Name). unset ns (table_of u).box_of m) (sym (drop_all at names l)) ∙ a.rows m; rest = a.rest }
 
-module _ (t u v w x : TableValue) (g home : Name) (store : Stored) (solved_at : Option ℕ) (goals : List (Name × Goal)) (failing : Option Name) (number worker count : ℕ) (names : List Name) (next : List ℕ) where
+module _ (t u v w x : TableValue) (g home : Name) (store : Stored) (solved_at : Option ℕ) (goals : List (Name × Goal)) (failing : Option Name) (others number worker count : ℕ) (names : List Name) (next : List ℕ) where
   row_joins : IsFresh (table_of t) (map (λ (y : Name × Atom). y.0) (named_atoms t.program.templates.nodes goals)) → Some home ≡ home_in ((table_of t).goal_of g) → names ≡ firsts goals → failing ≡ first_fail (named_atoms t.program.templates.nodes goals)
       → (r : BoxRow) → IsIncreasing r.goals → told_row g store solved_at number (named_row names failing r) ≡ joined_row g store solved_at (named_atoms t.program.templates.nodes goals) number r
   row_joins f h ns fs r o =
@@ -137,12 +137,12 @@ module _ (t u v w x : TableValue) (g home : Name) (store : Stored) (solved_at : 
       drawn : (m : Name) → IsIn m (map (λ (y : Name × Atom). y.0) (named_atoms t.program.templates.nodes goals)) → g ≡ m → ⊥
       drawn m i e = let z : (table_of t).goal_of g ≡ None = ap (table_of t).goal_of e ∙ f.no_goal m i in let k : Some home ≡ None = h ∙ ap home_in z in cc
 
-  pub joined : number ≡ t.steps + 1 → IsFresh (table_of t) (map (λ (y : Name × Atom). y.0) (named_atoms t.program.templates.nodes goals)) → Some home ≡ home_in ((table_of t).goal_of g)
+  pub joined : number ≡ others + t.steps + 1 → IsFresh (table_of t) (map (λ (y : Name × Atom). y.0) (named_atoms t.program.templates.nodes goals)) → Some home ≡ home_in ((table_of t).goal_of g)
       → ((r : BoxRow) → (table_of t).box_of home ≡ Some r → IsIncreasing r.goals) → names ≡ firsts goals → failing ≡ first_fail (named_atoms t.program.templates.nodes goals)
       → ((k : ℕ) → slice_index next k ≡ slice_index (raised worker count t.next) k)
       → SetsRows t u (changed_box (Some home) (named_row names failing) (table_of t).box_of) (atoms_with home number (named_atoms t.program.templates.nodes goals) (table_of t))
       → SetsBoxes u v (changed_box (Some home) (told_row g store solved_at number) (table_of u).box_of) → SetsGoals v w (set g None (table_of v).goal_of) → (alternatives : List Name) → alternatives ≡ alternatives_of ((table_of t).goal_of g) → SetsBoxes w x (unset alternatives (table_of w).box_of)
-      → Becomes t (record x { next = next; steps = number }) (after_join g store solved_at (named_atoms t.program.templates.nodes goals) worker count (table_of t))
+      → Becomes t (record x { next = next; steps = number }) (after_join g store solved_at (named_atoms t.program.templates.nodes goals) worker count (record (table_of t) { steps = others + t.steps }))
   joined nb f h o ns fs nx a b d alternatives known e =
       let all : List (Name × Atom) = named_atoms t.program.templates.nodes goals in
       let vu : v ≡ record t { boxes = v.boxes; goals = u.goals } = b.rest ∙ ap (λ (k : TableValue). record k { boxes = v.boxes }) a.rest in
@@ -154,7 +154,7 @@ module _ (t u v w x : TableValue) (g home : Name) (store : Stored) (solved_at : 
         table = record {
           nodes = ap (λ (k : TableValue). k.program.templates.nodes) rest;
           boxes = λ m. e.rows m ∙ ap (λ (ks : List Name). unset ks (table_of w).box_of m) known ∙ unset_alike (alternatives_of ((table_of t).goal_of g)) (table_of w).box_of
-              (changed_box (home_in ((table_of t).goal_of g)) (joined_row g store solved_at all (t.steps + 1)) (table_of t).box_of) (λ i.
+              (changed_box (home_in ((table_of t).goal_of g)) (joined_row g store solved_at all (others + t.steps + 1)) (table_of t).box_of) (λ i.
               ap (λ (k : TableValue). (table_of k).box_of i) d.rest ∙ b.rows i
               ∙ changed_twice home (told_row g store solved_at number) (named_row names failing) (joined_row g store solved_at all number) (table_of t).box_of (table_of u).box_of a.boxes (λ r q. row_joins f h ns fs r (o r q)) i
               ∙ ap (λ (k : Option Name). changed_box k (joined_row g store solved_at all number) (table_of t).box_of i) h

@@ -188,7 +188,12 @@ pub record MayApply (t : TableValue) (l : Label) (step : Step) : Type 0 where
   pub fresh : DrawsFresh (table_of t) (step_of t.program.templates.nodes step)
   pub ordered : DrawsInOrder (step_of t.program.templates.nodes step)
 
-pub record Applied (t : TableValue) (l : Label) (at : Option ℕ) (names : ℕ) (step : Step) (u : TableValue) : Type 0 where
+-- the table before the last label of a step: a call's step, with which goals join a box, is that of its last label, before which come so many others
+abbrev pub before_last : ℕ → laws.Step → Table → Table
+before_last others (laws.joins new solved goals) T = record T { steps = others + T.steps }
+before_last others step T = T
+
+pub record Applied (t : TableValue) (l : Label) (others : ℕ) (at : Option ℕ) (names : ℕ) (step : Step) (u : TableValue) : Type 0 where
   pub program : u.program ≡ t.program
   pub query : u.query ≡ t.query
-  pub leads : Leads (table_of t) l at names (step_of t.program.templates.nodes step) (table_of u)
+  pub leads : Leads (before_last others (step_of t.program.templates.nodes step) (table_of t)) l at names (step_of t.program.templates.nodes step) (table_of u)

@@ -1,7 +1,8 @@
 //! Plans, each right for every journal that goes on from the one that it saw and leaves alone what it read.
 
 ghost use Rattle.std.specs.Prelude.{◌≡◌, length, IfOk};
-ghost use Rattle.box_tree.specs.Plans.{PlanValue, IsRight};
+ghost use Rattle.std.specs.Prelude.{[]};
+ghost use Rattle.box_tree.specs.Plans.{PlanValue, IsRight, IsRightLabel, IsRightCall};
 
 use crate::step::Step;
 use crate::view::View;
@@ -11,8 +12,8 @@ use std::alloc::{AllocError, Global};
 use std::marker::Model;
 use std::snapshot::Snapshot;
 
-/// A label that was planned, with what it read and what it makes. It remembers in no bytes the view of which it was
-/// made.
+/// A label that was planned, or the labels of a call, with what was read and what they make. It remembers in no bytes the
+/// view of which it was made.
 #[derive(Drop)]
 pub struct Plan {
     view: Snapshot<View>,
@@ -25,6 +26,7 @@ pub struct Plan {
 struct PlanParts {
     seen: u64,
     label: Label,
+    more: Vec<Label>,
     reads: Vec<Item>,
     names: u64,
     step: Step,
@@ -36,13 +38,13 @@ impl Model for Plan {
 
     ghost Value = { PlanValue };
 
-    ghost view = { λ p. record { table = p.view.value.table; journal = p.view.value.journal; label = p.parts.value.label; reads = p.parts.value.reads.items; names = p.parts.value.names; step = p.parts.value.step; binds = p.parts.value.binds.items } };
+    ghost view = { λ p. record { table = p.view.value.table; journal = p.view.value.journal; label = p.parts.value.label; more = p.parts.value.more.items; reads = p.parts.value.reads.items; names = p.parts.value.names; step = p.parts.value.step; binds = p.parts.value.binds.items } };
 
-    ghost invariant = { λ p. IsRight (record { table = p.view.value.table; journal = p.view.value.journal; label = p.parts.value.label; reads = p.parts.value.reads.items; names = p.parts.value.names; step = p.parts.value.step; binds = p.parts.value.binds.items }) };
+    ghost invariant = { λ p. IsRight (record { table = p.view.value.table; journal = p.view.value.journal; label = p.parts.value.label; more = p.parts.value.more.items; reads = p.parts.value.reads.items; names = p.parts.value.names; step = p.parts.value.step; binds = p.parts.value.binds.items }) };
 }
 
 impl Plan {
-    /// A plan of what is right for its view. An `Err` is want of memory.
+    /// A plan of one label that is right for its view. An `Err` is want of memory.
     pub fn new(
         alloc: Global,
         view: &View,
@@ -52,12 +54,43 @@ impl Plan {
         step: Step,
         binds: Vec<Var>,
     ) -> Result<Plan, AllocError>
-        requires { IsRight (record { table = view.now.table; journal = view.now.journal; label = label; reads = reads.items; names = names; step = step; binds = binds.items }) }
-        ensures { IfOk result (λ plan. plan ≡ record { table = view.now.table; journal = view.now.journal; label = label; reads = reads.items; names = names; step = step; binds = binds.items }) }
+        requires { IsRightLabel (record { table = view.now.table; journal = view.now.journal; label = label; more = []; reads = reads.items; names = names; step = step; binds = binds.items }) }
+        ensures { IfOk result (λ plan. plan ≡ record { table = view.now.table; journal = view.now.journal; label = label; more = []; reads = reads.items; names = names; step = step; binds = binds.items }) }
     {
         let parts = PlanParts {
             seen: view.seen(),
             label,
+            more: Vec::new(alloc),
+            reads,
+            names,
+            step,
+            binds,
+        };
+        Ok(Plan {
+            view: Snapshot::of(view),
+            parts: Box::new(alloc, parts)?,
+        })
+    }
+
+    /// A plan of the labels of a call, the first one and those behind it, that is right for its view. An `Err` is want of
+    /// memory.
+    pub fn of_call(
+        alloc: Global,
+        view: &View,
+        label: Label,
+        more: Vec<Label>,
+        reads: Vec<Item>,
+        names: u64,
+        step: Step,
+        binds: Vec<Var>,
+    ) -> Result<Plan, AllocError>
+        requires { IsRightCall (record { table = view.now.table; journal = view.now.journal; label = label; more = more.items; reads = reads.items; names = names; step = step; binds = binds.items }) }
+        ensures { IfOk result (λ plan. plan ≡ record { table = view.now.table; journal = view.now.journal; label = label; more = more.items; reads = reads.items; names = names; step = step; binds = binds.items }) }
+    {
+        let parts = PlanParts {
+            seen: view.seen(),
+            label,
+            more,
             reads,
             names,
             step,
@@ -76,11 +109,18 @@ impl Plan {
         self.parts.seen
     }
 
-    /// The label.
+    /// The first label.
     pub fn label(&self) -> Label
         ensures { result ≡ self.now.label }
     {
         self.parts.label
+    }
+
+    /// The labels behind the first one, of a call; none of a plan of one label.
+    pub fn more(&self) -> &[Label]
+        ensures { result.now ≡ self.now.more }
+    {
+        self.parts.more.as_slice()
     }
 
     /// The items that were read.
@@ -91,14 +131,14 @@ impl Plan {
         self.parts.reads.as_slice()
     }
 
-    /// How many names the label draws.
+    /// How many names the labels draw.
     pub fn names(&self) -> u64
         ensures { result ≡ self.now.names }
     {
         self.parts.names
     }
 
-    /// Variables that the label binds or makes equal in the box of its place, enough of them: to each such variable one
+    /// Variables that the labels bind or make equal in the box of its place, enough of them: to each such variable one
     /// of them is equal by the equations of the outermost box around. One may be listed more than once.
     pub fn binds(&self) -> &[Var]
         ensures { result.now ≡ self.now.binds }

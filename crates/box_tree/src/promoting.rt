@@ -12,6 +12,7 @@ ghost use Rattle.box_tree.specs.Drops.{IsOfRun};
 use crate::forking::first_fail;
 use crate::named::push_names;
 use crate::short::ShortList;
+use crate::starting::after_others;
 use crate::table::Table;
 use akl_terms::{Goal, Name};
 use local_store::{Shared, Store};
@@ -118,7 +119,8 @@ impl Table {
     }
 
     /// All alternatives of a choice, which are solved, join the box in which the choice stands. This gets a store and new
-    /// goals, for which a worker draws so many names. An `Err` leaves the table as it was.
+    /// goals, for which a worker draws so many names. So many other labels come before the one that does it: those of a
+    /// call, whose goal is an atom still. An `Err` leaves the table as it was.
     pub(crate) fn join(
         &mut self,
         alloc: Global,
@@ -126,19 +128,19 @@ impl Table {
         store: Shared<Store>,
         solved_at: Option<u64>,
         goals: Vec<(Name, Goal)>,
-        number: u64,
+        others: u64,
         worker: u32,
         count: u64,
     ) -> Result<(), AllocError>
-        requires number { number ≡ self.old.steps + 1 }
         requires run { IsOfRun self.old }
         requires fresh { IsFresh (table_of self.old) (map (λ x. x.0) (named_atoms self.old.program.templates.nodes goals.items)) }
-        ensures made { OnOk result (Becomes self.old self.new (after_join goal store solved_at (named_atoms self.old.program.templates.nodes goals.items) worker count (table_of self.old))) }
+        ensures made { OnOk result (Becomes self.old self.new (after_join goal store solved_at (named_atoms self.old.program.templates.nodes goals.items) worker count (record (table_of self.old) { steps = others + self.old.steps }))) }
         ensures unchanged { IfErr result (λ _. self.new ≡ self.old) }
     {
         let Some(home) = self.home_of(goal) else {
             return Err(AllocError);
         };
+        let number = after_others(self.steps, others)?;
         let alternatives = self.names_of(alloc, goal)?;
         let names = goal_names(alloc, goals.as_slice())?;
         let failing = first_fail(goals.as_slice());

@@ -56,6 +56,13 @@ pub(crate) fn after(number: u64) -> Result<u64, AllocError>
     number.checked_add(1).ok_or(AllocError)
 }
 
+// The number of the last of some labels: so many others come before it.
+pub(crate) fn after_others(number: u64, others: u64) -> Result<u64, AllocError>
+    ensures { IfOk result (λ last. last ≡ others + number + 1) }
+{
+    after(others.checked_add(number).ok_or(AllocError)?)
+}
+
 // What the query's box shows, as terms.
 fn shown_terms(
     alloc: Global,

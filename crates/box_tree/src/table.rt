@@ -210,20 +210,21 @@ impl Table {
         }
     }
 
-    /// Makes the step of a label that draws so many names. `at` is how many labels there are, where the step was
-    /// planned over this very table. An `Err` leaves the table as it was; it comes for want of memory, where a count
-    /// would pass its word, from a fork, a cut or a join of a goal that isn't there, and from a split where no choice
-    /// holds the alternative or the same one holds the box.
+    /// Makes the step of a label that draws so many names, or of the labels of a call: a join may come with so many
+    /// others. `at` is how many labels there are, where the step was planned over this very table. An `Err` leaves the
+    /// table as it was; it comes for want of memory, where a count would pass its word, from a fork, a cut or a join of a
+    /// goal that isn't there, and from a split where no choice holds the alternative or the same one holds the box.
     pub fn apply(
         &mut self,
         alloc: Global,
         label: Label,
+        others: u64,
         names: u64,
         step: Step,
         at: Option<u64>,
     ) -> Result<(), AllocError>
         requires { MayApply self.old label step }
-        ensures applied { IfOk result (λ _. Applied self.old label at names step self.new) }
+        ensures applied { IfOk result (λ _. Applied self.old label others at names step self.new) }
         ensures unchanged { IfErr result (λ _. self.new ≡ self.old) }
     {
         let number = after(self.steps)?;
@@ -256,7 +257,7 @@ impl Table {
             } => {
                 let goal = goal_at(label.place);
                 let solved_at = solved_when(at, solved);
-                self.join(alloc, goal, store, solved_at, goals, number, worker, names)
+                self.join(alloc, goal, store, solved_at, goals, others, worker, names)
             }
             Step::Refute => {
                 self.refute(goal_at(label.place), number);
