@@ -19,7 +19,7 @@ use Rattle.box_tree.specs.declared.view.Sight.{Sight}
 use Rattle.box_tree.specs.Tables.{goal_atom, op_held, table_of, step_of}
 use Rattle.box_tree.specs.Views.{ViewValue, IsViewOf, AreSeen, alternatives_held, alternatives_at, only_body}
 use Rattle.box_tree.specs.Edits.{named_atoms}
-use Rattle.box_tree.specs.Plans.{IsRight}
+use Rattle.box_tree.specs.Plans.{IsRightLabel}
 use Rattle.guard_plan.specs.Guards.{IsGuarded, IsTestable, IsNoisyOver, HasQuiet, HoldsInside, cutting, numbered_goals}
 use Rattle.guard_plan.specs.Planned.{HasNoRule}
 use Rattle.guard_plan.proofs.Chains.{long_push}
@@ -52,7 +52,7 @@ module _ (v : ViewValue) (i : IsViewOf v) (g : Name) (o : HeldOp) (p : v.place �
       one b e = many (sym (counted v i shown.0 v.alternatives are_placed) ∙ ap count_of e)
 
   pub cut_planned : length v.alternatives ≢ 1 → (n : Name) → HasQuiet v.table.program.templates.nodes v.stores (cutting o v.alternatives) n
-      → IsRight (record { table = v.table; journal = v.journal; label = record { rule = Rule.Cut; place = v.place; alternative = Some n; worker = v.worker }; reads = Item.Goal g ∷ map Item.Store v.path; names = 0; step = Step.Cut; binds = [] })
+      → IsRightLabel (record { table = v.table; journal = v.journal; label = record { rule = Rule.Cut; place = v.place; alternative = Some n; worker = v.worker }; more = []; reads = Item.Goal g ∷ map Item.Store v.path; names = 0; step = Step.Cut; binds = [] })
   cut_planned many n q = cut_right v i g o shown.0 p shown.1 are_placed many n q
 
   -- where there is
@@ -97,5 +97,5 @@ module _ (v : ViewValue) (i : IsViewOf v) (g : Name) (o : HeldOp) (p : v.place �
         → AnswersPromoted v.table.program.templates.nodes (v.stores ++ a.store ∷ []) known t
         → (binds : List Var) → AreMembers v.table.program.templates.nodes v.stores t.bound.items binds → (step : Step)
         → step_of v.table.program.templates.nodes step ≡ laws.joins t.store t.solved (named_atoms v.table.program.templates.nodes (numbered_goals v.worker v.next v.body))
-        → IsRight (record { table = v.table; journal = v.journal; label = record { rule = Rule.Promote; place = v.place; alternative = Some a.name; worker = v.worker }; reads = Item.Goal g ∷ map Item.Store v.path; names = length v.body; step = step; binds = binds })
+        → IsRightLabel (record { table = v.table; journal = v.journal; label = record { rule = Rule.Promote; place = v.place; alternative = Some a.name; worker = v.worker }; more = []; reads = Item.Goal g ∷ map Item.Store v.path; names = length v.body; step = step; binds = binds })
     only_planned solved holds few t known answer binds m step q = promote_right v i g o only.0 only.1 p held a only.3 body guarded (solved_empty only.1 (sym only.3.seen.solved ∙ solved)) holds few t known answer binds m step q

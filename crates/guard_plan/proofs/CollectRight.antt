@@ -44,7 +44,7 @@ use Rattle.table_laws.specs.Steps.{IsGathered, JoinsGoal, ReadsFor, numbered, Is
 use Rattle.box_tree.specs.declared.step.Step.{Step}
 use Rattle.box_tree.specs.Tables.{all_rules, table_of, step_of}
 use Rattle.box_tree.specs.Views.{ViewValue, IsViewOf}
-use Rattle.box_tree.specs.Plans.{IsRead, IsRight}
+use Rattle.box_tree.specs.Plans.{IsRead, IsRightLabel}
 use Rattle.step_laws.specs.Bound.{AreBoundIn}
 use Rattle.box_tree.proofs.BoundHere.{told_bound}
 use Rattle.guard_plan.specs.Guards.{AreAllSolved, AreQuietOver}
@@ -249,7 +249,7 @@ module _ (v : ViewValue) (i : IsViewOf v) (g : Name) (list : Term) (bs : Boxes) 
       (oldest_at v i j.joined.bound.items binds n)
 
   pub collect_right : (binds : List Var) → AreMembers v.table.program.templates.nodes v.stores t.bound.items binds → (step : Step) → step_of v.table.program.templates.nodes step ≡ laws.joins t.store t.solved []
-      → IsRight (record { table = v.table; journal = v.journal; label = label; reads = Item.Goal g ∷ map Item.Store v.path; names = length v.alternatives; step = step; binds = binds })
+      → IsRightLabel (record { table = v.table; journal = v.journal; label = label; more = []; reads = Item.Goal g ∷ map Item.Store v.path; names = length v.alternatives; step = step; binds = binds })
   collect_right binds m step e = record {
     table = i.table;
     result = after i.table.config label i.site change;

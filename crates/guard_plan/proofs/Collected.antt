@@ -17,7 +17,7 @@ use Rattle.box_tree.specs.declared.step.Step.{Step}
 use Rattle.box_tree.specs.declared.view.Sight.{Sight}
 use Rattle.box_tree.specs.Tables.{step_of}
 use Rattle.box_tree.specs.Views.{ViewValue, IsViewOf}
-use Rattle.box_tree.specs.Plans.{IsRight}
+use Rattle.box_tree.specs.Plans.{IsRightLabel}
 use Rattle.guard_plan.specs.Guards.{IsTestable, AreAllSolved, AreQuietOver}
 use Rattle.guard_plan.specs.Collecting.{AreCollected, frames_of, IsList, IsJoined}
 use Rattle.guard_plan.specs.Planned.{HasNoRule}
@@ -54,5 +54,5 @@ module _ (v : ViewValue) (i : IsViewOf v) (g : Name) (t : Term) (p : v.place ≡
       → IsJoined v.table.program.templates.nodes v.stores v.known v.alternatives (frames_of v.worker v.next v.alternatives) es answer
       → (binds : List Var) → AreMembers v.table.program.templates.nodes v.stores answer.bound.items binds → (step : Step)
       → step_of v.table.program.templates.nodes step ≡ laws.joins answer.store answer.solved []
-      → IsRight (record { table = v.table; journal = v.journal; label = record { rule = Rule.Collect; place = v.place; alternative = None; worker = v.worker }; reads = Item.Goal g ∷ map Item.Store v.path; names = length v.alternatives; step = step; binds = binds })
+      → IsRightLabel (record { table = v.table; journal = v.journal; label = record { rule = Rule.Collect; place = v.place; alternative = None; worker = v.worker }; more = []; reads = Item.Goal g ∷ map Item.Store v.path; names = length v.alternatives; step = step; binds = binds })
   collect_planned solved quiet few es l answer j binds m step e = collect_right v i g t (shown v i g (HeldOp.Collect t) p s).0 p (shown v i g (HeldOp.Collect t) p s).1 seen solved quiet few es l answer j binds m step e

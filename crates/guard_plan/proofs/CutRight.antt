@@ -26,7 +26,7 @@ use Rattle.box_tree.specs.declared.step.Step.{Step}
 use Rattle.box_tree.specs.declared.view.Alternative.{Alternative}
 use Rattle.box_tree.specs.Tables.{all_rules, is_empty, op_held}
 use Rattle.box_tree.specs.Views.{ViewValue, IsViewOf}
-use Rattle.box_tree.specs.Plans.{IsRead, IsRight}
+use Rattle.box_tree.specs.Plans.{IsRead, IsRightLabel}
 use Rattle.box_tree.proofs.BoundHere.{kept_bound}
 use Rattle.guard_plan.proofs.Sites.{stand}
 use Rattle.guard_plan.specs.Guards.{IsNoisyOver, HasQuiet, cutting}
@@ -213,7 +213,7 @@ module _ (v : ViewValue) (i : IsViewOf v) where
     abbrev applies : Applies all_rules v.table.program i.table.config label (after i.table.config label i.site change)
     applies = record { in_force = inr (inr (inr (inl refl))); site = i.site; is_site = i.is_site; change = change; makes = makes; result = refl }
 
-    pub cut_right : IsRight (record { table = v.table; journal = v.journal; label = label; reads = Item.Goal g ∷ map Item.Store v.path; names = 0; step = Step.Cut; binds = [] })
+    pub cut_right : IsRightLabel (record { table = v.table; journal = v.journal; label = label; more = []; reads = Item.Goal g ∷ map Item.Store v.path; names = 0; step = Step.Cut; binds = [] })
     cut_right = record {
       table = i.table;
       result = after i.table.config label i.site change;

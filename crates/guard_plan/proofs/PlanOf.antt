@@ -1,5 +1,5 @@
 -- A plan that is made of a view.
-use Rattle.std.proofs.Common.{◌≡◌, ℕ, List, Option, refl, sym, ◌∙◌, ap, subst}
+use Rattle.std.proofs.Common.{◌≡◌, ℕ, List, [], Option, refl, sym, ◌∙◌, ap, subst}
 use Rattle.akl_terms.specs.declared.name.Name.{Name}
 use Rattle.akl_terms.specs.declared.name.Var.{Var}
 use Rattle.akl_model.specs.declared.item.Item.{Item}
@@ -12,10 +12,10 @@ use Rattle.guard_plan.specs.Planned.{IsPlanOf}
 use Rattle.guard_plan.specs.Solved.{SaysSolved}
 
 pub plan_of : (v : ViewValue) (p : PlanValue) (label : Label) (reads : List Item) (names : ℕ) (step : Step) (binds : List Var) → IsRight p
-    → p ≡ record { table = v.table; journal = v.journal; label = label; reads = reads; names = names; step = step; binds = binds }
+    → p ≡ record { table = v.table; journal = v.journal; label = label; more = []; reads = reads; names = names; step = step; binds = binds }
     → (rule : Rule) (alternative : Option Name) → label ≡ record { rule = rule; place = v.place; alternative = alternative; worker = v.worker } → SaysSolved v rule step → (rule ≡ Rule.Split → ⊥)
-    → IsPlanOf v p × (p.label.rule ≡ Rule.Split → ⊥)
-plan_of v p label reads names step binds right is rule alternative e solved other = subst (λ (q : PlanValue). IsPlanOf v q × (q.label.rule ≡ Rule.Split → ⊥)) (sym is) (
+    → IsPlanOf v p × (p.label.rule ≡ Rule.Split → ⊥) × (p.more ≡ [])
+plan_of v p label reads names step binds right is rule alternative e solved other = subst (λ (q : PlanValue). IsPlanOf v q × (q.label.rule ≡ Rule.Split → ⊥) × (q.more ≡ [])) (sym is) (
   record {
     right = subst IsRight is right;
     table = refl;
@@ -25,4 +25,5 @@ plan_of v p label reads names step binds right is rule alternative e solved othe
     solved = subst (λ (l : Label). SaysSolved v l.rule step) (sym e) solved;
   },
   λ split. other (sym (ap (λ (l : Label). l.rule) e) ∙ split),
+  refl,
 )

@@ -38,7 +38,7 @@ use Rattle.box_tree.specs.declared.view.Alternative.{Alternative}
 use Rattle.box_tree.specs.Tables.{all_rules, goal_atom, op_held, table_of, step_of}
 use Rattle.box_tree.specs.Views.{ViewValue, IsViewOf}
 use Rattle.box_tree.specs.Edits.{named_atoms}
-use Rattle.box_tree.specs.Plans.{IsRead, IsRight}
+use Rattle.box_tree.specs.Plans.{IsRead, IsRightLabel}
 use Rattle.step_laws.specs.Bound.{AreBoundIn}
 use Rattle.box_tree.proofs.BoundHere.{told_bound}
 use Rattle.guard_plan.specs.Guards.{IsGuarded, HoldsInside, numbered_goals}
@@ -185,7 +185,7 @@ module _ (v : ViewValue) (i : IsViewOf v) (g : Name) (o : HeldOp) (b : Content) 
         (oldest_at v i t.bound.items binds m)
 
     pub promote_right : (binds : List Var) → AreMembers v.table.program.templates.nodes v.stores t.bound.items binds → (step : Step) → step_of v.table.program.templates.nodes step ≡ laws.joins t.store t.solved (named_atoms v.table.program.templates.nodes (numbered_goals v.worker v.next v.body))
-        → IsRight (record { table = v.table; journal = v.journal; label = label; reads = Item.Goal g ∷ map Item.Store v.path; names = length v.body; step = step; binds = binds })
+        → IsRightLabel (record { table = v.table; journal = v.journal; label = label; more = []; reads = Item.Goal g ∷ map Item.Store v.path; names = length v.body; step = step; binds = binds })
     promote_right binds m step e = record {
       table = i.table;
       result = after i.table.config label i.site change;

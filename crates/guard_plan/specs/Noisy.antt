@@ -67,7 +67,7 @@ IsNoiseAt v (Sight.Choice HeldOp.Commit) noise = HasNoise v.table.program.templa
 IsNoiseAt v (Sight.Choice (HeldOp.Collect t)) noise = AreAllSolved v.alternatives → HasNoise v.table.program.templates.nodes v.stores v.alternatives noise
 IsNoiseAt v sight noise = Unit {0}
 
--- a right plan of a rule other than Split, or none where no such rule applies, with what the tests of guards found
+-- a right plan of one label, of a rule other than Split, or none where no such rule applies, with what the tests of guards found
 abbrev pub IsTriedBy : ViewValue → List Noise → Option PlanValue → Type 0
 IsTriedBy v noise None = HasNoRule v × IsNoiseAt v v.sight noise
-IsTriedBy v noise (Some p) = IsPlanOf v p × (p.label.rule ≡ Rule.Split → ⊥)
+IsTriedBy v noise (Some p) = IsPlanOf v p × (p.label.rule ≡ Rule.Split → ⊥) × (p.more ≡ [])

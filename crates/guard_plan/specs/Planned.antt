@@ -1,5 +1,5 @@
 -- What a planner answers.
-use Rattle.std.specs.Prelude.{◌≡◌, Option, Some, None}
+use Rattle.std.specs.Prelude.{◌≡◌, [], Option, Some, None}
 use Rattle.akl_model.specs.declared.label.Rule.{Rule}
 use Rattle.akl_model.specs.declared.label.Label.{Label}
 use Rattle.akl_model.specs.Config.{Config}
@@ -28,7 +28,7 @@ pub record HasNoRule (v : ViewValue) : Type 0 where
   pub none : (t : IsTableOf all_rules (run_of v.table v.journal) (table_of v.table)) (l : Label) (d : Config)
       → Applies all_rules v.table.program t.config l d → l.place ≡ v.place → (l.rule ≡ Rule.Split → ⊥) → ⊥
 
--- a right plan of a rule other than Split, or none where no such rule applies
+-- a right plan of one label, of a rule other than Split, or none where no such rule applies
 abbrev pub IsPlannedBy : ViewValue → Option PlanValue → Type 0
 IsPlannedBy v None = HasNoRule v
-IsPlannedBy v (Some p) = IsPlanOf v p × (p.label.rule ≡ Rule.Split → ⊥)
+IsPlannedBy v (Some p) = IsPlanOf v p × (p.label.rule ≡ Rule.Split → ⊥) × (p.more ≡ [])

@@ -34,7 +34,7 @@ use Rattle.class_members.specs.Members.{AreMembers}
 use Rattle.box_tree.specs.declared.step.Step.{Step}
 use Rattle.box_tree.specs.declared.view.Sight.{Sight}
 use Rattle.box_tree.specs.Views.{ViewValue, IsViewOf}
-use Rattle.box_tree.specs.Plans.{IsRead, IsRight}
+use Rattle.box_tree.specs.Plans.{IsRead, IsRightLabel}
 use Rattle.rule_plan.specs.AtGoals.{label_at, plan_at}
 use Rattle.guard_plan.specs.Planned.{HasNoRule}
 use Rattle.guard_plan.proofs.Sites.{whole_stands, shows_at}
@@ -108,7 +108,7 @@ module _ (v : ViewValue) (i : IsViewOf v) (g frame : Name) (test : Test) (l r : 
     reads = subst (λ (q : Place). Reads (IsRead (plan_at v Rule.Eval g 0 Step.Fail []).reads) Rule.Eval q None i.site) (sym p) (goal_reads v i g)
 
     -- a comparison that holds
-    pub holds_right : Evaluates v.table.program.templates.symbols stored test left right (truth true) → IsRight (plan_at v Rule.Eval g 0 Step.Confirm [])
+    pub holds_right : Evaluates v.table.program.templates.symbols stored test left right (truth true) → IsRightLabel (plan_at v Rule.Eval g 0 Step.Confirm [])
     holds_right e =
         let m : conditions.Makes (Allows v.table.program) v.table.program (slice_index i.table.config.next v.worker) (label_at v Rule.Eval) i.site (becomes i.site.content (without_goal g i.site.goals) 0) =
         makes (truth true) (becomes i.site.content (without_goal g i.site.goals) 0) e refl refl in
@@ -116,7 +116,7 @@ module _ (v : ViewValue) (i : IsViewOf v) (g frame : Name) (test : Test) (l r : 
         [] (keeps_bound v i g Rule.Eval eval_in_force (becomes i.site.content (without_goal g i.site.goals) 0) m i.site.content (without_goal g i.site.goals) refl refl)
 
     -- one that fails
-    pub fails_right : Evaluates v.table.program.templates.symbols stored test left right (truth false) → IsRight (plan_at v Rule.Eval g 0 Step.Refute [])
+    pub fails_right : Evaluates v.table.program.templates.symbols stored test left right (truth false) → IsRightLabel (plan_at v Rule.Eval g 0 Step.Refute [])
     fails_right e =
         let m : conditions.Makes (Allows v.table.program) v.table.program (slice_index i.table.config.next v.worker) (label_at v Rule.Eval) i.site (becomes i.site.content (with_content g (an_atom Atom.fail) i.site.goals) 0) =
         makes (truth false) (becomes i.site.content (with_content g (an_atom Atom.fail) i.site.goals) 0) e refl refl in
@@ -126,7 +126,7 @@ module _ (v : ViewValue) (i : IsViewOf v) (g frame : Name) (test : Test) (l r : 
     -- a value is told
     pub value_right : (z : ℤ) → Evaluates v.table.program.templates.symbols stored test left right (value z) → (t : ToldStore)
         → AnswersTold v.table.program.templates.nodes v.stores v.known (value_equation frame l z ∷ []) t
-        → (binds : List Var) → AreMembers v.table.program.templates.nodes v.stores t.bound.items binds → IsRight (plan_at v Rule.Eval g 0 (Step.Tell t.store t.solved) binds)
+        → (binds : List Var) → AreMembers v.table.program.templates.nodes v.stores t.bound.items binds → IsRightLabel (plan_at v Rule.Eval g 0 (Step.Tell t.store t.solved) binds)
     value_right z e t a binds b =
         let m : conditions.Makes (Allows v.table.program) v.table.program (slice_index i.table.config.next v.worker) (label_at v Rule.Eval) i.site (becomes (telling left (integer z) i.site.content) (without_goal g i.site.goals) 0) =
         makes (value z) (becomes (telling left (integer z) i.site.content) (without_goal g i.site.goals) 0) e refl refl in

@@ -24,7 +24,7 @@ use Rattle.box_tree.specs.declared.step.Step.{Step}
 use Rattle.box_tree.specs.declared.view.Sight.{Sight}
 use Rattle.box_tree.specs.Tables.{all_rules, table_of}
 use Rattle.box_tree.specs.Views.{ViewValue, IsViewOf}
-use Rattle.box_tree.specs.Plans.{IsRead, IsRight}
+use Rattle.box_tree.specs.Plans.{IsRead, IsRightLabel}
 use Rattle.box_tree.proofs.BoundHere.{gone_bound}
 use Rattle.rule_plan.specs.Failed.{FailsFor}
 use Rattle.guard_plan.specs.Planned.{HasNoRule}
@@ -63,7 +63,7 @@ module _ (v : ViewValue) (item : Item) (f : FailsFor v item) where
   abbrev applies : Applies all_rules v.table.program f.seen.table.config (fail_label v) (after f.seen.table.config (fail_label v) f.seen.site (record { boxes = no_boxes; drawn = 0 }))
   applies = record { in_force = fail_in_force; site = f.seen.site; is_site = f.seen.is_site; change = record { boxes = no_boxes; drawn = 0 }; makes = makes; result = refl }
 
-  pub fail_right : IsRight (record { table = v.table; journal = v.journal; label = fail_label v; reads = item ∷ []; names = 0; step = Step.Fail; binds = [] })
+  pub fail_right : IsRightLabel (record { table = v.table; journal = v.journal; label = fail_label v; more = []; reads = item ∷ []; names = 0; step = Step.Fail; binds = [] })
   fail_right = record {
     table = f.seen.table;
     result = after f.seen.table.config (fail_label v) f.seen.site (record { boxes = no_boxes; drawn = 0 });

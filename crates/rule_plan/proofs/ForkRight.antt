@@ -27,7 +27,7 @@ use Rattle.box_tree.specs.declared.step.Step.{Step}
 use Rattle.box_tree.specs.declared.view.Sight.{Sight}
 use Rattle.box_tree.specs.Tables.{all_rules, op_held, table_of, new_box, step_of}
 use Rattle.box_tree.specs.Views.{ViewValue, IsViewOf}
-use Rattle.box_tree.specs.Plans.{IsRead, IsRight}
+use Rattle.box_tree.specs.Plans.{IsRead, IsRightLabel}
 use Rattle.box_tree.proofs.BoundHere.{kept_bound}
 use Rattle.rule_plan.specs.declared.heads.Call.{Call}
 use Rattle.rule_plan.specs.Made.{called_as, called, AreMade}
@@ -101,7 +101,7 @@ module _ (v : ViewValue) (i : IsViewOf v) (g : Name) (d : ℕ) (call : Call) (p 
     abbrev applies : Applies all_rules v.table.program i.table.config (fork_label v) (after i.table.config (fork_label v) i.site change)
     applies = record { in_force = inr (inl refl); site = i.site; is_site = i.is_site; change = change; makes = makes; result = refl }
 
-    pub fork_right : IsRight (record { table = v.table; journal = v.journal; label = fork_label v; reads = Item.Goal g ∷ []; names = drawn_by x.clauses; step = step; binds = [] })
+    pub fork_right : IsRightLabel (record { table = v.table; journal = v.journal; label = fork_label v; more = []; reads = Item.Goal g ∷ []; names = drawn_by x.clauses; step = step; binds = [] })
     fork_right = record {
       table = i.table;
       result = after i.table.config (fork_label v) i.site change;

@@ -19,7 +19,7 @@ use Rattle.table_laws.specs.Steps.{Makes, ReadsFor, IsSolvedIn}
 use Rattle.box_tree.specs.declared.step.Step.{Step}
 use Rattle.box_tree.specs.Tables.{all_rules, table_of, step_of}
 use Rattle.box_tree.specs.Views.{ViewValue, IsViewOf}
-use Rattle.box_tree.specs.Plans.{IsRead, IsRight}
+use Rattle.box_tree.specs.Plans.{IsRead, IsRightLabel}
 use Rattle.step_laws.specs.Bound.{AreBoundIn}
 use Rattle.box_tree.proofs.BoundHere.{kept_bound, told_bound}
 use Rattle.rule_plan.specs.AtGoals.{label_at, plan_at}
@@ -50,7 +50,7 @@ module _ (v : ViewValue) (i : IsViewOf v) (g : Name) (rule : Rule) (force : IsIn
       → Makes v.table.program (label_at v rule) (slice_index i.table.config.next v.worker) i.site (step_of v.table.program.templates.nodes step)
       → IsSolvedIn (table_of v.table) i.site (step_of v.table.program.templates.nodes step)
       → ReadsFor (IsRead (Item.Goal g ∷ map Item.Store v.path)) (label_at v rule) i.site (step_of v.table.program.templates.nodes step)
-      → (binds : List Var) → AreBoundIn i.table.config (after i.table.config (label_at v rule) i.site change) i.site binds → IsRight (plan_at v rule g change.drawn step binds)
+      → (binds : List Var) → AreBoundIn i.table.config (after i.table.config (label_at v rule) i.site change) i.site binds → IsRightLabel (plan_at v rule g change.drawn step binds)
   goal_right h held step made solved reads binds bound = record {
     table = i.table;
     result = after i.table.config (label_at v rule) i.site change;

@@ -33,7 +33,7 @@ use Rattle.class_members.specs.Members.{AreMembers}
 use Rattle.box_tree.specs.declared.step.Step.{Step}
 use Rattle.box_tree.specs.declared.view.Sight.{Sight}
 use Rattle.box_tree.specs.Views.{ViewValue, IsViewOf}
-use Rattle.box_tree.specs.Plans.{IsRead, IsRight}
+use Rattle.box_tree.specs.Plans.{IsRead, IsRightLabel}
 use Rattle.rule_plan.specs.AtGoals.{label_at, plan_at}
 use Rattle.guard_plan.proofs.Sites.{stand, found, shows_at}
 use Rattle.rule_plan.proofs.InForce.{open_in_force}
@@ -91,8 +91,8 @@ module _ (v : ViewValue) (i : IsViewOf v) (g frame : Name) (l r : ℕ) (p : v.pl
   }
 
   pub open_right : (new : stored.Stored) → new ≡ stored.with_port t.store (next_name v) (Mol r frame)
-      → (binds : List Var) → AreMembers v.table.program.templates.nodes v.stores t.bound.items binds → IsRight (plan_at v Rule.Open g 1 (Step.Tell new t.solved) binds)
-  open_right new is binds m = subst (λ (k : stored.Stored). IsRight (plan_at v Rule.Open g 1 (Step.Tell k t.solved) binds)) (sym is)
+      → (binds : List Var) → AreMembers v.table.program.templates.nodes v.stores t.bound.items binds → IsRightLabel (plan_at v Rule.Open g 1 (Step.Tell new t.solved) binds)
+  open_right new is binds m = subst (λ (k : stored.Stored). IsRightLabel (plan_at v Rule.Open g 1 (Step.Tell k t.solved) binds)) (sym is)
       (goal_right v i g Rule.Open open_in_force change makes (an_atom (Atom.open_port left stream)) held (Step.Tell (stored.with_port t.store (next_name v) (Mol r frame)) t.solved) (
         g,
         p,

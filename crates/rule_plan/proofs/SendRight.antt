@@ -44,7 +44,7 @@ use Rattle.box_tree.specs.declared.step.Step.{Step}
 use Rattle.box_tree.specs.declared.view.Sight.{Sight}
 use Rattle.box_tree.specs.Tables.{all_rules}
 use Rattle.box_tree.specs.Views.{ViewValue, IsViewOf}
-use Rattle.box_tree.specs.Plans.{IsRead, IsRight}
+use Rattle.box_tree.specs.Plans.{IsRead, IsRightLabel}
 use Rattle.rule_plan.specs.AtGoals.{label_at, plan_at}
 use Rattle.guard_plan.specs.Planned.{HasNoRule}
 use Rattle.rule_plan.specs.Solving.{ResolvesAll, GoesToPort}
@@ -180,8 +180,8 @@ module _ (v : ViewValue) (g frame : Name) (m r : ℕ) (q : Name) (goes : GoesToP
       ∙ ap (with_tail q (cell (v.table.program.cell + 1))) old
 
   pub send_right : (new : Stored) → new ≡ sent_store v t.store q
-      → (binds : List Var) → AreMembers v.table.program.templates.nodes v.stores t.bound.items binds → IsRight (plan_at v Rule.Send g 1 (Step.Tell new t.solved) binds)
-  send_right new is binds b = subst (λ (k : Stored). IsRight (plan_at v Rule.Send g 1 (Step.Tell k t.solved) binds)) (sym is)
+      → (binds : List Var) → AreMembers v.table.program.templates.nodes v.stores t.bound.items binds → IsRightLabel (plan_at v Rule.Send g 1 (Step.Tell new t.solved) binds)
+  send_right new is binds b = subst (λ (k : Stored). IsRightLabel (plan_at v Rule.Send g 1 (Step.Tell k t.solved) binds)) (sym is)
       (goal_right v i g Rule.Send send_in_force change makes (an_atom (Atom.send (term_at v.table.program.templates.nodes frame m) (term_at v.table.program.templates.nodes frame r))) (held v i g frame m r p s)
       (Step.Tell (sent_store v t.store q) t.solved) (
         g,

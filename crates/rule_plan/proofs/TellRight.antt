@@ -21,7 +21,7 @@ use Rattle.class_members.specs.Members.{AreMembers}
 use Rattle.box_tree.specs.declared.step.Step.{Step}
 use Rattle.box_tree.specs.declared.view.Sight.{Sight}
 use Rattle.box_tree.specs.Views.{ViewValue, IsViewOf}
-use Rattle.box_tree.specs.Plans.{IsRead, IsRight}
+use Rattle.box_tree.specs.Plans.{IsRead, IsRightLabel}
 use Rattle.rule_plan.specs.AtGoals.{label_at, plan_at}
 use Rattle.guard_plan.proofs.Sites.{shows_at}
 use Rattle.rule_plan.proofs.InForce.{tell_in_force}
@@ -55,7 +55,7 @@ module _ (v : ViewValue) (i : IsViewOf v) (g frame : Name) (l r : ℕ) (p : v.pl
     few_names = omega arith;
   }
 
-  pub tell_right : (binds : List Var) → AreMembers v.table.program.templates.nodes v.stores t.bound.items binds → IsRight (plan_at v Rule.Tell g 0 (Step.Tell t.store t.solved) binds)
+  pub tell_right : (binds : List Var) → AreMembers v.table.program.templates.nodes v.stores t.bound.items binds → IsRightLabel (plan_at v Rule.Tell g 0 (Step.Tell t.store t.solved) binds)
   tell_right binds m = goal_right v i g Rule.Tell tell_in_force change makes (an_atom (Atom.equation left right)) held (Step.Tell t.store t.solved) (
     g,
     p,

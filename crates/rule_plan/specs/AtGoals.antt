@@ -11,7 +11,7 @@ use Rattle.local_store.specs.Telling.{AnswersTold}
 use Rattle.class_members.specs.Members.{AreMembers}
 use Rattle.box_tree.specs.declared.step.Step.{Step}
 use Rattle.box_tree.specs.Views.{ViewValue}
-use Rattle.box_tree.specs.Plans.{PlanValue, IsRight}
+use Rattle.box_tree.specs.Plans.{PlanValue, IsRightLabel}
 
 -- the label of a rule at the place of a view, by its worker
 abbrev pub label_at : ViewValue → Rule → Label
@@ -20,12 +20,12 @@ label_at v rule = record { rule = rule; place = v.place; alternative = None; wor
 -- the plan of a rule at a goal, which read the goal and the constraints down to its box, and binds these variables
 abbrev pub plan_at : ViewValue → Rule → Name → ℕ → Step → List Var → PlanValue
 plan_at v rule goal names step binds =
-    record { table = v.table; journal = v.journal; label = label_at v rule; reads = Item.Goal goal ∷ map Item.Store v.path; names = names; step = step; binds = binds }
+    record { table = v.table; journal = v.journal; label = label_at v rule; more = []; reads = Item.Goal goal ∷ map Item.Store v.path; names = names; step = step; binds = binds }
 
 -- the plan of a rule by which the box gets this store is right, with enough members of what is bound
 abbrev pub IsToldRightly : ViewValue → Rule → Name → ℕ → ToldStore → Type 0
 IsToldRightly v rule goal names t = (binds : List Var) → AreMembers v.table.program.templates.nodes v.stores t.bound.items binds
-    → IsRight (plan_at v rule goal names (Step.Tell t.store t.solved) binds)
+    → IsRightLabel (plan_at v rule goal names (Step.Tell t.store t.solved) binds)
 
 -- the plan of a rule that tells this equation is right, with each store in which it is told and enough members of what that binds
 abbrev pub TellsRightly : ViewValue → Rule → Name → code.Equation → Type 0

@@ -6,7 +6,7 @@ ghost use Rattle.akl_terms.specs.declared.program.Code.{Code};
 ghost use Rattle.akl_model.specs.declared.label.Rule.{Rule};
 ghost use Rattle.box_tree.specs.declared.view.Sight.{Sight};
 ghost use Rattle.box_tree.specs.Views.{IsViewOf};
-ghost use Rattle.box_tree.specs.Plans.{IsRight};
+ghost use Rattle.box_tree.specs.Plans.{IsRightLabel};
 ghost use Rattle.guard_plan.specs.Planned.{IsPlannedBy};
 ghost use Rattle.guard_plan.specs.Solved.{SaysSolved};
 ghost use Rattle.rule_plan.specs.AtGoals.{plan_at};
@@ -71,7 +71,7 @@ pub(crate) fn eval(
 
 // The plan of Eval with a step that tells nothing.
 fn eval_plan(alloc: Global, view: &View, goal: Name, step: Step) -> Result<Option<Plan>, AllocError>
-    requires right { IsRight (plan_at view.now Rule.Eval goal 0 step []) }
+    requires right { IsRightLabel (plan_at view.now Rule.Eval goal 0 step []) }
     requires solved { SaysSolved view.now Rule.Eval step }
     ensures { IfOk result (IsPlannedBy view.now) }
 {

@@ -22,7 +22,7 @@ use Rattle.box_tree.specs.declared.inside.Inside.{Inside}
 use Rattle.box_tree.specs.Tables.{all_rules, table_of}
 use Rattle.box_tree.specs.Views.{ViewValue, IsViewOf, run_of}
 use Rattle.box_tree.specs.Insides.{IsInsideOf, IsCandidateOf}
-use Rattle.box_tree.specs.Plans.{IsRead, IsRight}
+use Rattle.box_tree.specs.Plans.{IsRead, IsRightLabel}
 use Rattle.box_tree.proofs.BoundHere.{kept_bound}
 use Rattle.guard_plan.proofs.Sites.{stand}
 use Rattle.box_copies.specs.declared.copying.Copied.{Copied}
@@ -66,7 +66,7 @@ module _ (v : ViewValue) (i : IsViewOf v) (n a : Name) (p : v.place ≡ Place.Bo
   applies = record { in_force = each_in_force Rule.Split; site = i.site; is_site = i.is_site; change = change; makes = makes; result = refl }
 
   pub split_right : (inside : Inside) → IsInsideOf v.table v.journal n v.worker inside → (around : List Name) → around ≡ names_around i.site
-      → IsRight (record { table = v.table; journal = v.journal; label = split_label v a; reads = map Item.Store around ++ items_in inside.boxes.items; names = c.names; step = Step.Split c.copy c.copies; binds = [] })
+      → IsRightLabel (record { table = v.table; journal = v.journal; label = split_label v a; more = []; reads = map Item.Store around ++ items_in inside.boxes.items; names = c.names; step = Step.Split c.copy c.copies; binds = [] })
   split_right inside h around is_around = record {
     table = i.table;
     result = after i.table.config (split_label v a) i.site change;
@@ -83,7 +83,7 @@ module _ (v : ViewValue) (i : IsViewOf v) (n a : Name) (p : v.place ≡ Place.Bo
 -- by what is asked of a call
 pub split_planned : (v : ViewValue) (i : IsViewOf v) (a : Name) (k : IsCandidate v a) (inside : Inside) (h : IsInsideOfBox v inside) → IsStable v.table.program i.site → (c : Copied) → IsSplitInto v a c → c.names < 2 ^ 32
     → (around : List Name) → around ≡ names_around i.site
-    → IsRight (record { table = v.table; journal = v.journal; label = split_label v a; reads = map Item.Store around ++ items_in inside.boxes.items; names = c.names; step = Step.Split c.copy c.copies; binds = [] })
+    → IsRightLabel (record { table = v.table; journal = v.journal; label = split_label v a; more = []; reads = map Item.Store around ++ items_in inside.boxes.items; names = c.names; step = Step.Split c.copy c.copies; binds = [] })
 split_planned v i a k inside h stable c x few around is_around =
     split_right v i h.name a h.place (candidate_point v i h.name h.place a (subst (λ (m : Name). IsCandidateOf (table_of v.table) m (Some a)) same k.candidate)) stable c x few inside h.inside around is_around
   where

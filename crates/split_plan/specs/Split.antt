@@ -1,5 +1,5 @@
 -- What a planner of Split answers.
-use Rattle.std.specs.Prelude.{◌≡◌, Option, Some, None}
+use Rattle.std.specs.Prelude.{◌≡◌, [], Option, Some, None}
 use Rattle.akl_terms.specs.declared.name.Name.{Name}
 use Rattle.akl_terms.specs.declared.name.Place.{Place}
 use Rattle.akl_model.specs.declared.label.Rule.{Rule}
@@ -24,7 +24,7 @@ pub record HasNoSplit (v : ViewValue) : Type 0 where
   pub none : (t : IsTableOf all_rules (run_of v.table v.journal) (table_of v.table)) (l : Label) (d : Config)
       → Applies all_rules v.table.program t.config l d → l.place ≡ v.place → l.rule ≡ Rule.Split → ⊥
 
--- a right plan of Split, or none where it doesn't apply
+-- a right plan of one label, a Split, or none where it doesn't apply
 abbrev pub IsSplitBy : ViewValue → Option PlanValue → Type 0
 IsSplitBy v None = HasNoSplit v
-IsSplitBy v (Some p) = IsPlanOf v p × (p.label.rule ≡ Rule.Split)
+IsSplitBy v (Some p) = IsPlanOf v p × (p.label.rule ≡ Rule.Split) × (p.more ≡ [])

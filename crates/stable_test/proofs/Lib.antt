@@ -10,6 +10,7 @@ pub mod AwaitedAtoms
 pub mod Reaches
 pub mod Tested
 pub mod NoPlainRule
+pub mod FirstApplies
 pub mod SiteReaches
 pub mod TouchedAt
 pub mod StableSite

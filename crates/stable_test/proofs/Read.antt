@@ -18,16 +18,20 @@ use Rattle.guard_plan.specs.Planned.{IsPlanOf, HasNoRule, IsPlannedBy}
 use Rattle.stable_test.specs.Frames.{with_all_frames}
 use Rattle.stable_test.specs.Reaching.{ReachesNoneAt}
 use Rattle.stable_test.specs.Seen.{IsSeenInside, IsStill}
+use Rattle.stable_test.proofs.FirstApplies.{FirstApplies, first_applies}
 use Rattle.stable_test.proofs.StableViews.{all_still, all_stable}
 
 -- where a rule other than Split is planned, one applies
 pub planned : (v : ViewValue) (q : PlanValue) → IsPlanOf v q → (q.label.rule ≡ Rule.Split → ⊥) → HasNoRule v → ⊥
 planned v q w n h = h.none there.0 q.label there.1 there.2 w.place n
   where
+    first : FirstApplies q
+    first = first_applies q w.right
+
     there : (k : IsTableOf all_rules (run_of v.table v.journal) (table_of v.table)) × (d : Config) × Applies all_rules v.table.program k.config q.label d
     there = subst (λ (t : TableValue). (k : IsTableOf all_rules (run_of t v.journal) (table_of t)) × (d : Config) × Applies all_rules t.program k.config q.label d) w.table
         (subst (λ (j : List Label). (k : IsTableOf all_rules (run_of q.table j) (table_of q.table)) × (d : Config) × Applies all_rules q.table.program k.config q.label d) w.journal
-        (w.right.table, w.right.result, w.right.applies))
+        (first.table, first.result, first.applies))
 
 -- no plan comes exactly where none applies
 pub none_planned : (v : ViewValue) (o : Option PlanValue) → IsPlannedBy v o → (none : Bool) → is_some o ≡ not none → IsTrue none ↔ HasNoRule v
