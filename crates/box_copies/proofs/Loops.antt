@@ -8,15 +8,13 @@ use Rattle.akl_terms.specs.declared.name.Var.{Var}
 use Rattle.akl_terms.specs.declared.term.Node.{Node}
 use Rattle.akl_terms.specs.declared.term.Term.{Term}
 use Rattle.akl_terms.specs.Names.{same_name}
-use Rattle.rational_unify.specs.Older.{EachOlder}
-use Rattle.rational_unify.proofs.OlderEnds.{EachOlder-push}
 use Rattle.local_store.specs.Stored.{Stored, with_frame, with_port}
 use Rattle.box_tree.specs.declared.entries.Held.{Held}
 use Rattle.box_tree.specs.declared.inside.InnerGoal.{InnerGoal}
 use Rattle.box_tree.specs.declared.inside.InnerBox.{InnerBox}
 use Rattle.box_tree.specs.declared.step.BoxCopy.{BoxCopy}
 use Rattle.box_copies.specs.declared.names.NewNames.{NewNames}
-use Rattle.box_copies.specs.Renamer.{port_by, binding_by, with_frames, with_ports}
+use Rattle.box_copies.specs.Renamer.{port_by, with_frames, with_ports}
 use Rattle.box_copies.specs.Made.{own_names, kept, kept_names, without, IsHeldAs, AreGoalsAs, IsBoxBy, AreBoxesBy}
 use Rattle.box_copies.proofs.Stored.{frames_more, ports_more}
 
@@ -158,11 +156,6 @@ pub kept_stays : (a : Name) (bs : List InnerBox) (i : ℕ) (b : InnerBox) → i 
 kept_stays a bs i b h e n = ap (kept_names a) (take_more bs i b h ∙ ap (λ (y : InnerBox). take i bs ++ y ∷ []) (sym e)) ∙ names_same a (take i bs) b n
 
 -- bindings that lead to older variables under other names
-
-pub older_next : (nodes : List Node) (f : Name → Name) (xs : List (Var × Term)) (i : ℕ) (d y : Var × Term) → i < length xs → EachOlder nodes (map (binding_by f) (take i xs)) → y ≡ binding_by f (get_or xs i d)
-    → EachOlder nodes (y ∷ []) → EachOlder nodes (map (binding_by f) (take (i + 1) xs))
-older_next nodes f xs i d y h e q o =
-    subst (EachOlder nodes) (ap (λ (c : Var × Term). map (binding_by f) (take i xs) ++ c ∷ []) q ∙ sym (taken (binding_by f) xs i d h)) (EachOlder-push nodes (map (binding_by f) (take i xs)) y e o.0)
 
 pub all_more : {A : Type 0} (P : A → Type 0) (xs : List A) (x : A) → AllByRecursion P xs → P x → AllByRecursion P (xs ++ x ∷ [])
 all_more P [] x h p = (p, tt)

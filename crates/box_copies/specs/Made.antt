@@ -1,11 +1,13 @@
 -- Which names get new ones, and what a copy is made of.
-use Rattle.std.specs.Prelude.{◌≡◌, List, [], ◌∷◌, ◌++◌, map, Bool, ◌&&◌, Option, None, option_map, if◌then◌else◌, ◌⊎◌, ⊤}
+use Rattle.std.specs.Prelude.{◌≡◌, List, [], ◌∷◌, ◌++◌, map, Bool, ◌&&◌, true, Option, None, option_map, if◌then◌else◌, ◌⊎◌, ⊤}
+use Rattle.std.specs.List.{AllByRecursion}
 use Rattle.akl_terms.specs.declared.name.Name.{Name}
 use Rattle.akl_terms.specs.declared.term.Node.{Node}
 use Rattle.akl_terms.specs.declared.term.Term.{Term}
 use Rattle.akl_terms.specs.Names.{same_name}
 use Rattle.akl_model.specs.Config.{IsIn}
 use Rattle.rational_unify.specs.Older.{EachOlder}
+use Rattle.local_store.specs.Stored.{Stored}
 use Rattle.box_tree.specs.declared.entries.Held.{Held}
 use Rattle.box_tree.specs.declared.inside.InnerGoal.{InnerGoal}
 use Rattle.box_tree.specs.declared.inside.InnerBox.{InnerBox}
@@ -56,6 +58,10 @@ holder_by f top b = if same_name b.name top then None else option_map f b.holder
 abbrev pub LeadsOlderBy : (Name → Name) → List Node → InnerBox → Type 0
 LeadsOlderBy f nodes b = EachOlder nodes (map (binding_by f) b.store.bindings)
 
+-- those of a store do, where they are to
+abbrev pub LeadsOlder : List Node → (Name → Name) → Bool → Stored → Type 0
+LeadsOlder nodes f older s = older ≡ true → EachOlder nodes (map (binding_by f) s.bindings)
+
 -- the copy of a box, which counts as solved where the box does, if all copies' bindings lead to older variables
 pub record IsBoxBy (s : NewNames) (older : Bool) (top a : Name) (b : InnerBox) (k : BoxCopy) : Type 0 where
   pub name : k.name ≡ swapped_name s b.name
@@ -71,3 +77,12 @@ abbrev pub AreBoxesBy : NewNames → Bool → Name → Name → List InnerBox �
 AreBoxesBy s older top a [] [] = ⊤
 AreBoxesBy s older top a (b ∷ bs) (k ∷ ks) = IsBoxBy s older top a b k × AreBoxesBy s older top a bs ks
 AreBoxesBy s older top a bs ks = ⊥
+
+-- and all of them do, where they are to
+abbrev pub AreCopiedBy : NewNames → List Node → Bool → Name → Name → List InnerBox → List BoxCopy → Type 0
+AreCopiedBy s nodes older top a bs ks = AreBoxesBy s older top a bs ks × (older ≡ true → AllByRecursion (LeadsOlderBy (swapped_name s) nodes) bs)
+
+-- they count as solved where the boxes do, or none does
+pub record AreCopies (s : NewNames) (nodes : List Node) (top a : Name) (bs : List InnerBox) (ks : List BoxCopy) : Type 0 where
+  pub older : Bool
+  pub copied : AreCopiedBy s nodes older top a bs ks

@@ -1,20 +1,17 @@
 //! The copies of a box and of the boxes inside it.
 
-ghost use Rattle.std.specs.Prelude.{◌≡◌, IfOk, IsTrue, map};
-ghost use Rattle.std.specs.List.{AllByRecursion};
-ghost use Rattle.rational_unify.specs.Older.{EachOlder};
-ghost use Rattle.box_copies.specs.Renamer.{swapped_name, binding_by};
-ghost use Rattle.box_copies.specs.Made.{holder_by, kept, LeadsOlderBy, IsBoxBy, AreBoxesBy};
+ghost use Rattle.std.specs.Prelude.{◌≡◌, IfOk, MatchOption, true};
+ghost use Rattle.box_copies.specs.Renamer.{swapped_name};
+ghost use Rattle.box_copies.specs.Made.{holder_by, kept, LeadsOlder, IsBoxBy, AreCopiedBy, AreCopies};
 ghost use Rattle.box_copies.specs.Copies.{IsInsideOfBox, IsSplitInto};
 
 use crate::gathering::copied_names;
 use crate::goals::{copied_body, copied_goals, copied_shown, swapped_collected};
 use crate::names::NewNames;
-use crate::stores::{copied_store, swapped_term};
-use akl_terms::{Name, Place, Templates, Term, Var};
+use crate::stores::copied_store;
+use akl_terms::{Name, Place, Templates};
 use box_tree::{BoxCopy, InnerBox, Inside, View};
 use local_store::Shared;
-use rational_unify::leads_older;
 use std::alloc::{AllocError, Global};
 
 /// The copies that a split makes.
@@ -26,55 +23,6 @@ pub struct Copied {
     pub copies: Vec<BoxCopy>,
     /// How many names the split draws.
     pub names: u64,
-}
-
-// Whether each binding leads to an older variable under new names.
-fn each_leads_older(names: &NewNames, templates: &Templates, bindings: &[(Var, Term)]) -> bool
-    ensures { IsTrue result → EachOlder templates.now.nodes (map (binding_by (swapped_name names.now)) bindings.now) }
-{
-    for (variable, term) in bindings {
-        let swapped = Var {
-            frame: names.swapped(variable.frame),
-            index: variable.index,
-        };
-        if !leads_older(templates, &[(swapped, swapped_term(names, *term))]) {
-            return false;
-        }
-    }
-    true
-}
-
-// Whether the bindings of a box lead to older variables under new names.
-fn leads_older_by(
-    names: &NewNames,
-    templates: &Templates,
-    inner: &InnerBox,
-) -> Result<bool, AllocError>
-    ensures { IfOk result (λ older. IsTrue older → LeadsOlderBy (swapped_name names.now) templates.now.nodes inner.now) }
-{
-    let bindings = inner.store.get().bindings()?;
-    Ok(each_leads_older(names, templates, bindings.as_slice()))
-}
-
-// Whether the bindings of boxes but the alternative lead to older variables under new names: names of several workers
-// may come in another order than the old ones.
-fn all_lead_older(
-    names: &NewNames,
-    templates: &Templates,
-    boxes: &[InnerBox],
-    alternative: Name,
-) -> Result<bool, AllocError>
-    ensures { IfOk result (λ older. IsTrue older → AllByRecursion (LeadsOlderBy (swapped_name names.now) templates.now.nodes) (kept alternative boxes.now)) }
-{
-    for inner in boxes {
-        if inner.name != alternative {
-            let older = leads_older_by(names, templates, inner)?;
-            if !older {
-                return Ok(false);
-            }
-        }
-    }
-    Ok(true)
 }
 
 // The choice that holds a copy; none for that of the box that is split.
@@ -90,19 +38,23 @@ fn copied_holder(names: &NewNames, inner: &InnerBox, top: Name) -> Option<Name>
     }
 }
 
-// The copy of a box. It counts as solved where the box does, if all copies' bindings lead to older variables.
+// The copy of a box. It counts as solved where the box does, if all copies' bindings are to lead to older variables; `None`
+// where its own are to and don't.
 fn copied_box(
     alloc: Global,
     names: &NewNames,
+    templates: &Templates,
     older: bool,
     inner: &InnerBox,
     top: Name,
     alternative: Name,
-) -> Result<BoxCopy, AllocError>
-    ensures { IfOk result (IsBoxBy names.now older top alternative inner.now) }
+) -> Result<Option<BoxCopy>, AllocError>
+    ensures { IfOk result (λ found. MatchOption found (older ≡ true) (λ k. IsBoxBy names.now older top alternative inner.now k × LeadsOlder templates.now.nodes (swapped_name names.now) older inner.now.store)) }
 {
-    let store = copied_store(alloc, names, inner.store.get())?;
-    Ok(BoxCopy {
+    let Some(store) = copied_store(alloc, names, templates, older, inner.store.get())? else {
+        return Ok(None);
+    };
+    Ok(Some(BoxCopy {
         name: names.swapped(inner.name),
         holder: copied_holder(names, inner, top),
         store: Shared::new(alloc, store)?,
@@ -111,27 +63,53 @@ fn copied_box(
         body: copied_body(alloc, names, inner.body.as_slice())?,
         shown: copied_shown(alloc, names, inner.shown.as_slice())?,
         collected: swapped_collected(names, inner.collected),
-    })
+    }))
 }
 
-// The copies of boxes but the alternative.
+// The copies of boxes but the alternative; `None` where all their bindings are to lead to older variables, and some don't:
+// names of several workers may come in another order than the old ones.
 fn copied_boxes(
     alloc: Global,
     names: &NewNames,
+    templates: &Templates,
     older: bool,
     boxes: &[InnerBox],
     top: Name,
     alternative: Name,
-) -> Result<Vec<BoxCopy>, AllocError>
-    ensures { IfOk result (λ v. AreBoxesBy names.now older top alternative (kept alternative boxes.now) v.items) }
+) -> Result<Option<Vec<BoxCopy>>, AllocError>
+    ensures { IfOk result (λ found. MatchOption found (older ≡ true) (λ v. AreCopiedBy names.now templates.now.nodes older top alternative (kept alternative boxes.now) v.items)) }
 {
     let mut copies = Vec::new(alloc);
     for inner in boxes {
         if inner.name != alternative {
-            copies.push(copied_box(alloc, names, older, inner, top, alternative)?)?;
+            let Some(copy) = copied_box(alloc, names, templates, older, inner, top, alternative)?
+            else {
+                return Ok(None);
+            };
+            copies.push(copy)?;
         }
     }
-    Ok(copies)
+    Ok(Some(copies))
+}
+
+// The copies of boxes but the alternative. They count as solved where the boxes do, if all bindings lead to older variables.
+fn all_copied(
+    alloc: Global,
+    names: &NewNames,
+    templates: &Templates,
+    boxes: &[InnerBox],
+    top: Name,
+    alternative: Name,
+) -> Result<Vec<BoxCopy>, AllocError>
+    ensures { IfOk result (λ v. AreCopies names.now templates.now.nodes top alternative (kept alternative boxes.now) v.items) }
+{
+    if let Some(copies) = copied_boxes(alloc, names, templates, true, boxes, top, alternative)? {
+        return Ok(copies);
+    }
+    match copied_boxes(alloc, names, templates, false, boxes, top, alternative)? {
+        Some(copies) => Ok(copies),
+        None => unreachable!(),
+    }
 }
 
 /// The copies that the split of a box makes at a solved alternative of a choice directly in it: of the box that was
@@ -156,8 +134,7 @@ pub fn copies_of(
     let old = copied_names(alloc, boxes, alternative)?;
     let count = old.len() as u64;
     let names = NewNames::new(alloc, old, view.worker(), view.next())?;
-    let older = all_lead_older(&names, templates, boxes, alternative)?;
-    let copies = copied_boxes(alloc, &names, older, boxes, name, alternative)?;
+    let copies = all_copied(alloc, &names, templates, boxes, name, alternative)?;
     Ok(Copied {
         copy: names.swapped(name),
         copies,

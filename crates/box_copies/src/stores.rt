@@ -1,12 +1,14 @@
 //! The store of a copy.
 
-ghost use Rattle.std.specs.Prelude.{◌≡◌, IfOk, OnOk, map};
+ghost use Rattle.std.specs.Prelude.{◌≡◌, IfOk, OnOk, MatchOption, map, true};
 ghost use Rattle.local_store.specs.Stored.{nothing, with_bindings};
+ghost use Rattle.box_copies.specs.Made.{LeadsOlder};
 ghost use Rattle.box_copies.specs.Renamer.{swapped_name, term_by, port_by, binding_by, with_frames, with_ports, store_by};
 
 use crate::names::NewNames;
-use akl_terms::{Name, Term, Var};
+use akl_terms::{Name, Templates, Term, Var};
 use local_store::{Store, are_bound_in_order, are_increasing};
+use rational_unify::leads_older;
 use std::alloc::{AllocError, Global};
 
 /// A term under new names.
@@ -83,13 +85,24 @@ fn store_of(alloc: Global, frames: &[Name], bindings: &[(Var, Term)]) -> Result<
     Ok(store)
 }
 
-// The frames and bindings of a store, under new names.
-fn copied_bindings(alloc: Global, names: &NewNames, store: &Store) -> Result<Store, AllocError>
-    ensures { IfOk result (λ s. s ≡ with_bindings (with_frames nothing (map (swapped_name names.now) store.now.frames)) (map (binding_by (swapped_name names.now)) store.now.bindings)) }
+// The frames and bindings of a store, under new names; `None` where the bindings are to lead to older variables and don't.
+fn copied_bindings(
+    alloc: Global,
+    names: &NewNames,
+    templates: &Templates,
+    older: bool,
+    store: &Store,
+) -> Result<Option<Store>, AllocError>
+    ensures { IfOk result (λ found. MatchOption found (older ≡ true) (λ s. (s ≡ with_bindings (with_frames nothing (map (swapped_name names.now) store.now.frames)) (map (binding_by (swapped_name names.now)) store.now.bindings))
+        × LeadsOlder templates.now.nodes (swapped_name names.now) older store.now)) }
 {
-    let frames = swapped_frames(alloc, names, store.frames()?.as_slice())?;
     let bindings = swapped_bindings(alloc, names, store.bindings()?.as_slice())?;
-    store_of(alloc, frames.as_slice(), bindings.as_slice())
+    if older && !leads_older(templates, bindings.as_slice()) {
+        return Ok(None);
+    }
+    let frames = swapped_frames(alloc, names, store.frames()?.as_slice())?;
+    let copy = store_of(alloc, frames.as_slice(), bindings.as_slice())?;
+    Ok(Some(copy))
 }
 
 // The ports come, under new names.
@@ -102,15 +115,19 @@ fn add_ports(names: &NewNames, ports: &[(Name, Term)], copy: &mut Store) -> Resu
     Ok(())
 }
 
-/// A store under new names.
+/// A store under new names; `None` where its bindings are to lead to older variables, and don't under these.
 pub(crate) fn copied_store(
     alloc: Global,
     names: &NewNames,
+    templates: &Templates,
+    older: bool,
     store: &Store,
-) -> Result<Store, AllocError>
-    ensures { IfOk result (λ s. s ≡ store_by names.now store.now) }
+) -> Result<Option<Store>, AllocError>
+    ensures { IfOk result (λ found. MatchOption found (older ≡ true) (λ s. (s ≡ store_by names.now store.now) × LeadsOlder templates.now.nodes (swapped_name names.now) older store.now)) }
 {
-    let mut copy = copied_bindings(alloc, names, store)?;
+    let Some(mut copy) = copied_bindings(alloc, names, templates, older, store)? else {
+        return Ok(None);
+    };
     add_ports(names, store.ports()?.as_slice(), &mut copy)?;
-    Ok(copy)
+    Ok(Some(copy))
 }
