@@ -30,7 +30,7 @@ use Rattle.table_laws.specs.Steps.{Step, tells, forks, fails, cuts, joins, refut
 use Rattle.step_laws.specs.Bound.{first_equations, outermost_equations, AreBoundIn}
 
 -- of boxes with the same contents down to them the outermost one's equations are the same
-same_outermost : (f g : Found) → IsSameBox f g → outermost_equations f ≡ outermost_equations g
+pub same_outermost : (f g : Found) → IsSameBox f g → outermost_equations f ≡ outermost_equations g
 same_outermost f g s = λ i. first_equations (s.around i ++ s.content i ∷ [])
 
 module _ (rules : List Rule) (p : Program) (q : Query) (journal further : List Label) (c d : Config) (l : Label) (e : Config) (a : Applies rules p c l e) (list : List Var)

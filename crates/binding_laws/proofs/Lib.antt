@@ -1,3 +1,5 @@
 pub mod BindsLater
 pub mod ListedOutside
 pub mod StepOutside
+pub mod CallBindsAgain
+pub mod CallOutside

@@ -1,5 +1,5 @@
 -- The variables that a plan lists: they are enough at a later configuration, and tell whether one that is external to their box is bound.
-use Rattle.std.specs.Prelude.{◌≡◌, List, ◌++◌, length, Some, slice_index}
+use Rattle.std.specs.Prelude.{◌≡◌, ℕ, List, ◌++◌, length, Some, slice_index}
 use Rattle.akl_terms.specs.declared.name.Name.{Name}
 use Rattle.akl_terms.specs.declared.name.Var.{Var}
 use Rattle.akl_terms.specs.declared.program.Program.{Program}
@@ -8,12 +8,14 @@ use Rattle.akl_terms.specs.Touching.{IsOutside}
 use Rattle.constraint_laws.specs.Touched.{IsAmong}
 use Rattle.akl_model.specs.declared.label.Rule.{Rule}
 use Rattle.akl_model.specs.declared.label.Label.{Label}
-use Rattle.akl_model.specs.Config.{IsIn, Config, Found, box_at}
+use Rattle.akl_model.specs.Config.{IsIn, with_names, Config, Found, box_at, home_of}
 use Rattle.akl_model.specs.Derivations.{Applies, Derives, Replays}
 use Rattle.akl_model.specs.Changes.{Binds}
 use Rattle.akl_model.specs.Stable.{only, frames_of}
+use Rattle.akl_model.specs.Names.{HasDistinctNames}
 use Rattle.plan_laws.specs.Right.{NoneBy}
 use Rattle.plan_laws.specs.Stamps as stamps
+use Rattle.call_laws.specs.AtOnce.{IsAtOnce, at_once, AreInForce, IsAtOnceIn}
 use Rattle.table_laws.specs.Rows.{Table}
 use Rattle.table_laws.specs.Stamped.{Run, IsTableOf}
 use Rattle.table_laws.specs.Steps.{Step, tells, joins, Makes, ReadsFor}
@@ -26,6 +28,11 @@ BindsLaterLaw = (rules : List Rule) (p : Program) (q : Query) (journal further :
     → Replays rules p q journal c → Derives rules p c further d → NoneBy l further
     → ReadsFor (stamps.IsStamped rules p q (journal ++ further) (length journal)) l a.site step → Makes p l (slice_index c.next l.worker) a.site step → AreBoundIn c e a.site list
     → (result : Config) (now : Applies rules p d l result) → AreBoundIn d result now.site list
+
+-- variables that the net change of a call at once binds, enough of them, are so of the same call in another configuration
+abbrev pub CallBindsAgainLaw : Type 0
+CallBindsAgainLaw = (rules : List Rule) → AreInForce rules → (p : Program) (c : Config) → HasDistinctNames c → (w : ℕ) (g : Name) (f : Found) → home_of g c.roots ≡ Some f → (x : IsAtOnce p c w g f)
+    → (d : Config) → HasDistinctNames d → (y : IsAtOnceIn rules x d) → (list : List Var) → AreBoundIn c (at_once x) f list → AreBoundIn d (at_once y.again) y.site list
 
 -- from c to d a variable is bound in a box to which it is external
 pub record BindsOutside (c d : Config) (n : Name) : Type 0 where
@@ -56,3 +63,9 @@ abbrev pub StepOutsideLaw : Type 0
 StepOutsideLaw = (rules : List Rule) (r : Run) (T : Table) (l : Label) (d : Config) (t : IsTableOf rules r T) (a : Applies rules r.program t.config l d) (step : Step)
     → Makes r.program l (slice_index t.config.next l.worker) a.site step → (list : List Var) → AreBoundIn t.config d a.site list
     → (BindsOutside t.config d a.site.content.name → HasOuterIn list step) × (HasOuterIn list step → BindsOutside t.config d a.site.content.name)
+
+-- and of a call at once by the frames that its box has afterwards
+abbrev pub CallOutsideLaw : Type 0
+CallOutsideLaw = (rules : List Rule) → AreInForce rules → (p : Program) (q : Query) (journal : List Label) (c : Config) → Replays rules p q journal c → (w : ℕ) (g : Name) (f : Found) → home_of g c.roots ≡ Some f
+    → (x : IsAtOnce p c w g f) → (list : List Var) → AreBoundIn c (at_once x) f list → (frames : List Name) → frames ≡ with_names x.last.frames f.content.frames
+    → (BindsOutside c (at_once x) f.content.name → HasOuter list frames) × (HasOuter list frames → BindsOutside c (at_once x) f.content.name)

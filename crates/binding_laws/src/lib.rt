@@ -5,4 +5,4 @@
 
 mod laws;
 
-pub use laws::{binding_later, listed_outside};
+pub use laws::{binding_later, call_binding_again, listed_outside};
