@@ -1,44 +1,38 @@
 -- A plan that nothing made stale leads the run on.
-use Rattle.std.proofs.Common.{◌≡◌, ℕ, ◌+◌, ◌≤◌, List, [], ◌∷◌, ◌++◌, length, Bool, true, false, Option, Some, None, refl, sym, ap, subst, ◌∙◌, inl, inr, arith}
+use Rattle.std.proofs.Common.{◌≡◌, ℕ, ◌+◌, ◌≤◌, List, [], ◌∷◌, ◌++◌, length, true, false, Option, Some, None, refl, sym, ap, subst, ◌∙◌, arith}
 use Rattle.std.specs.Prelude.{IsSome, nat_le, slice_index}
 use Rattle.std.proofs.lemmas.List.{length-append}
 use Rattle.std.proofs.lemmas.Bool.Decides.{nat_tests}
 use Rattle.akl_terms.specs.declared.name.Name.{Name}
 use Rattle.akl_terms.specs.declared.name.Place.{Place}
-use Rattle.akl_terms.specs.declared.term.Node.{Node}
 use Rattle.akl_terms.specs.declared.program.Program.{Program}
 use Rattle.akl_terms.specs.declared.program.Query.{Query}
 use Rattle.akl_model.specs.declared.item.Item.{Item}
 use Rattle.akl_model.specs.declared.label.Rule.{Rule}
 use Rattle.akl_model.specs.declared.label.Label.{Label}
-use Rattle.akl_model.specs.Config.{IsIn, Config, Found}
+use Rattle.akl_model.specs.Config.{IsIn, Config, Found, box_at}
 use Rattle.akl_model.specs.Instances.{start}
 use Rattle.akl_model.specs.Derivations.{Applies, Derives}
 use Rattle.akl_model.specs.Wakes.{names_around, names_down_to}
 use Rattle.akl_model.proofs.Results.{Derives-prefix, Derives-one}
 use Rattle.akl_model.proofs.NamesKept.{Stand, replay-stands, site-box}
-use Rattle.akl_model.proofs.Scoped.{IsIn-left}
-use Rattle.local_store.specs.Stored.{Stored}
-use Rattle.local_store.specs.Chained.{IsSolvedChain}
 use Rattle.plan_laws.specs.Right.{Reads, NoneBy, IsRightOn}
 use Rattle.plan_laws.specs.Stamps as stamps
 use Rattle.plan_laws.proofs.Right.{reads_map}
 use Rattle.plan_laws.proofs.StampLaws.{stamped_right}
-use Rattle.table_laws.specs.Rows.{BoxRow, GoalRow, Table, store_in, stores_along}
-use Rattle.table_laws.specs.Unfolds.{UnchangedSince}
+use Rattle.table_laws.specs.Rows.{BoxRow, GoalRow, Table}
 use Rattle.table_laws.specs.Kept.{SharesStores}
 use Rattle.table_laws.specs.Stamped.{Run, LastChange, IsStamped, IsTableOf, store_stamp, goals_stamp, goal_stamp, stamp_in}
-use Rattle.table_laws.specs.Steps.{NewBox, Step, tells, forks, fails, cuts, joins, refutes, confirms, splits, Makes, ReadsFor, IsSolvedIf, AreSolvedIf, IsSolvedIn, IsSolvedSince, IsSolvedWhen}
+use Rattle.table_laws.specs.Steps.{Step, tells, forks, fails, cuts, joins, refutes, confirms, splits, Makes, ReadsFor, IsSolvedIn, IsSolvedSince, IsSolvedWhen}
 use Rattle.table_laws.specs.Writes.{IsTable}
-use Rattle.table_laws.proofs.Stores.{unchanged_at}
 use Rattle.table_laws.proofs.Later.{later_law}
 use Rattle.table_laws.specs.Laws.{started}
 use Rattle.table_laws.proofs.Started.{start_law}
 use Rattle.box_tree.specs.Tables.{all_rules, TableValue, table_of, step_of}
-use Rattle.box_tree.specs.Plans.{PlanValue, IsRead, IsRight}
-use Rattle.box_tree.proofs.Seen.{path_there}
+use Rattle.box_tree.specs.Plans.{PlanValue, IsRead, IsRightLabel}
 use Rattle.step_commit.specs.Cores.{CoreValue, IsCore, MayCommit, is_within, AllWithin}
 use Rattle.step_commit.specs.Solving.{solved_at}
+use Rattle.step_commit.proofs.StillSolved.{IsOld, AreOld, still_solved, solved_over, all_over, down_old, around_old}
 
 pub some_of : {A : Type 0} {a b : A} → Some a ≡ Some b → a ≡ b
 some_of e = cc
@@ -97,10 +91,10 @@ pub record IsPlanned (p : Program) (q : Query) (journal : List Label) (T : Table
   pub reads_all : ReadsFor (IsRead reads) l applies.site step
   pub there : (i : Item) → IsRead reads i → IsSome (stamp_in T i)
 
-of_plan : (p : PlanValue) → IsRight p → IsPlanned p.table.program p.table.query p.journal (table_of p.table) p.label p.reads p.names (step_of p.table.program.templates.nodes p.step)
+of_plan : (p : PlanValue) → IsRightLabel p → IsPlanned p.table.program p.table.query p.journal (table_of p.table) p.label p.reads p.names (step_of p.table.program.templates.nodes p.step)
 of_plan p r = record { table = r.table; result = r.result; applies = r.applies; makes = r.makes; solved = r.solved; drawn = r.names; reads_all = r.reads; there = r.there }
 
-pub planned : (c : CoreValue) (p : PlanValue) → IsRight p → MayCommit c p → IsPlanned c.table.program c.table.query p.journal (table_of p.table) p.label p.reads p.names (step_of c.table.program.templates.nodes p.step)
+pub planned : (c : CoreValue) (p : PlanValue) → IsRightLabel p → MayCommit c p → IsPlanned c.table.program c.table.query p.journal (table_of p.table) p.label p.reads p.names (step_of c.table.program.templates.nodes p.step)
 planned c p r m = subst (λ (x : Program). IsPlanned x c.table.query p.journal (table_of p.table) p.label p.reads p.names (step_of x.templates.nodes p.step)) m.program
     (subst (λ (y : Query). IsPlanned p.table.program y p.journal (table_of p.table) p.label p.reads p.names (step_of p.table.program.templates.nodes p.step)) m.query (of_plan p r))
 
@@ -119,8 +113,9 @@ module _ (p : Program) (q : Query) (journal further : List Label) (S T : Table) 
       let d : (m : Config) × Derives all_rules p (start p q) journal m × Derives all_rules p m further t.config = Derives-prefix all_rules p (start p q) t.config journal further t.replays.derives in
       subst (λ (m : Config). Derives all_rules p m further t.config) (Derives-one all_rules p (start p q) d.0 x.config journal d.1 x.replays.derives) d.2
 
-module _ (p : Program) (q : Query) (journal further : List Label) (S T : Table) (l : Label) (reads : List Item) (names : ℕ) (step : Step) (x : IsPlanned p q journal S l reads names step)
-    (t : IsTableOf all_rules (record { program = p; query = q; journal = journal ++ further }) T) (none : NoneBy l further) (within : AllWithin T reads (length journal)) where
+-- what was read has stamps that say it was changed by no label behind the front
+module _ (p : Program) (q : Query) (journal further : List Label) (T : Table) (reads : List Item) (t : IsTableOf all_rules (record { program = p; query = q; journal = journal ++ further }) T)
+    (within : AllWithin T reads (length journal)) where
   unseen : (o : Option ℕ) (i : Item) → stamp_in T i ≡ o → is_within o (length journal) ≡ true → stamps.IsStamped all_rules p q (journal ++ further) (length journal) i
   unseen None i e w = absurd cc
   unseen (Some k) i e w = record { number = k; last = stamp_last all_rules (record { program = p; query = q; journal = journal ++ further }) T t.stamped i k e; early = within_is k w }
@@ -128,8 +123,13 @@ module _ (p : Program) (q : Query) (journal further : List Label) (S T : Table) 
       within_is : (k : ℕ) → nat_le k (length journal) ≡ true → k ≤ length journal
       within_is k w = grind (arith, nat_tests)
 
+  pub read_stamped : (i : Item) → IsRead reads i → stamps.IsStamped all_rules p q (journal ++ further) (length journal) i
+  read_stamped i r = unseen (stamp_in T i) i refl (within i r)
+
+module _ (p : Program) (q : Query) (journal further : List Label) (S T : Table) (l : Label) (reads : List Item) (names : ℕ) (step : Step) (x : IsPlanned p q journal S l reads names step)
+    (t : IsTableOf all_rules (record { program = p; query = q; journal = journal ++ further }) T) (none : NoneBy l further) (within : AllWithin T reads (length journal)) where
   stamped : (i : Item) → IsRead reads i → stamps.IsStamped all_rules p q (journal ++ further) (length journal) i
-  stamped i r = unseen (stamp_in T i) i refl (within i r)
+  stamped = read_stamped p q journal further T reads t within
 
   pub leads_on : LeadsOn p q (journal ++ further) T t l names step
   leads_on =
@@ -154,57 +154,28 @@ module _ (p : Program) (q : Query) (journal further : List Label) (S T : Table) 
     same_down : names_down_to x.applies.site ≡ names_down_to w.applies.site
     same_down = (λ i. same_around i ++ (right.same_site ∙ ap (λ (f : Found). f.content.name) its_site) i ∷ [])
 
-    -- a box is there, and no label behind the front changed its store
-    abbrev IsOld : Name → Type 0
-    IsOld m = (row : BoxRow) × (T.box_of m ≡ Some row) × (row.changed ≤ length journal)
-
-    abbrev AreOld : List Name → Type 0
-    AreOld ms = (m : Name) → IsIn m ms → IsOld m
-
     module _ (shares : SharesStores S T (length journal)) where
-      same_along : (ms : List Name) → AreOld ms → stores_along S ms ≡ stores_along T ms
-      same_along [] h = refl
-      same_along (m ∷ ms) h =
-          let old : IsOld m = h m (inl refl) in
-          ap (λ (s : Stored). s ∷ stores_along S ms) (shares m old.0 old.1 old.2 ∙ ap store_in (sym old.1)) ∙ ap (λ (ss : List Stored). store_in (T.box_of m) ∷ ss) (same_along ms (λ k i. h k (inr i)))
+      nodes : S.nodes ≡ T.nodes
+      nodes = x.table.nodes ∙ sym t.nodes
 
-      -- so what was solved over such stores still is
-      still_solved : (before now : List Name) (more : List Stored) → before ≡ now → AreOld now → IsSolvedChain S.nodes (stores_along S before ++ more) → IsSolvedChain T.nodes (stores_along T now ++ more)
-      still_solved before now more same old h =
-          subst (λ (nodes : List Node). IsSolvedChain nodes (stores_along T now ++ more)) (x.table.nodes ∙ sym t.nodes)
-          (subst (λ (ss : List Stored). IsSolvedChain S.nodes (ss ++ more)) (ap (stores_along S) same ∙ same_along now old) h)
+      stand : Stand t.config
+      stand = replay-stands all_rules p q (journal ++ further) t.config t.replays
 
-      solved_over : (b : Bool) (before now : List Name) (new : Stored) → before ≡ now → AreOld now → IsSolvedIf b S before new → IsSolvedIf b T now new
-      solved_over false before now new same old h = tt
-      solved_over true before now new same old h = still_solved before now (new ∷ []) same old h
+      site_there : box_at w.applies.site.content.name t.config.roots ≡ Some w.applies.site
+      site_there = site-box l.place t.config.roots w.applies.site stand.once w.applies.is_site
 
-      all_over : (news : List NewBox) (before now : List Name) → before ≡ now → AreOld now → AreSolvedIf S before news → AreSolvedIf T now news
-      all_over [] before now same old h = tt
-      all_over (n ∷ ns) before now same old h = (solved_over n.solved before now n.store same old h.0, all_over ns before now same old h.1)
-
-      -- boxes down to the place are there, so they are old where none of them was changed
-      unchanged_old : (ms : List Name) → ((m : Name) → IsIn m ms → IsIn m (names_down_to w.applies.site)) → UnchangedSince T (length journal) ms → AreOld ms
-      unchanged_old ms down u m i =
-          let stand : Stand t.config = replay-stands all_rules p q (journal ++ further) t.config t.replays in
-          let row : (r : BoxRow) × (T.box_of m ≡ Some r) =
-          path_there T t.config t.unfolds stand.once w.applies.site.content.name w.applies.site (site-box l.place t.config.roots w.applies.site stand.once w.applies.is_site) m (down m i) in
-          (row.0, row.1, unchanged_at T (length journal) ms m row.0 u i row.1)
-
-      around_old : UnchangedSince T (length journal) (names_around w.applies.site) → AreOld (names_around w.applies.site)
-      around_old = unchanged_old (names_around w.applies.site) (λ m i. IsIn-left m (names_around w.applies.site) (w.applies.site.content.name ∷ []) i)
-
-      -- and so are boxes whose stores were read
-      read_old : (m : Name) → IsRead reads (Item.Store m) → IsOld m
+      -- boxes whose stores were read are old
+      read_old : (m : Name) → IsRead reads (Item.Store m) → IsOld T (length journal) m
       read_old m r = on (T.box_of m) refl (within (Item.Store m) r)
         where
           at_most : (k : ℕ) → nat_le k (length journal) ≡ true → k ≤ length journal
           at_most k e = grind (arith, nat_tests)
 
-          on : (o : Option BoxRow) → T.box_of m ≡ o → is_within (store_stamp o) (length journal) ≡ true → IsOld m
+          on : (o : Option BoxRow) → T.box_of m ≡ o → is_within (store_stamp o) (length journal) ≡ true → IsOld T (length journal) m
           on None e h = absurd (let z : false ≡ true = h in cc)
           on (Some row) e h = (row, e, at_most row.changed h)
 
-      split_read : (n : Name) → l.rule ≡ Rule.Split → l.place ≡ Place.Box n → Reads (IsRead reads) l.rule l.place l.alternative x.applies.site → AreOld (names_around w.applies.site)
+      split_read : (n : Name) → l.rule ≡ Rule.Split → l.place ≡ Place.Box n → Reads (IsRead reads) l.rule l.place l.alternative x.applies.site → AreOld T (length journal) (names_around w.applies.site)
       split_read n r k h m i =
           let read : Reads (IsRead reads) Rule.Split (Place.Box n) l.alternative x.applies.site =
           subst (λ (y : Place). Reads (IsRead reads) Rule.Split y l.alternative x.applies.site) k (subst (λ (y : Rule). Reads (IsRead reads) y l.place l.alternative x.applies.site) r h) in
@@ -218,17 +189,17 @@ module _ (p : Program) (q : Query) (journal further : List Label) (S T : Table) 
 
       since : (made : Step) → Makes p l (slice_index x.table.config.next l.worker) x.applies.site made → ReadsFor (IsRead reads) l x.applies.site made
           → IsSolvedIn S x.applies.site made → IsSolvedSince (solved_at (length (journal ++ further)) (length journal) made) T w.applies.site made
-      since (tells new solved) m r h = (before_now, λ u. solved_over solved (names_around x.applies.site) (names_around w.applies.site) new same_around (around_old u) h)
-      since (forks op news) m r h = (before_now, λ u. all_over news (names_down_to x.applies.site) (names_down_to w.applies.site) same_down (unchanged_old (names_down_to w.applies.site) (λ k i. i) u) h)
+      since (tells new solved) m r h = (before_now, λ u. solved_over S T (length journal) nodes shares solved (names_around x.applies.site) (names_around w.applies.site) new same_around (around_old T t.config t.unfolds stand.once (length journal) w.applies.site site_there u) h)
+      since (forks op news) m r h = (before_now, λ u. all_over S T (length journal) nodes shares news (names_down_to x.applies.site) (names_down_to w.applies.site) same_down (down_old T t.config t.unfolds stand.once (length journal) w.applies.site site_there u) h)
       since fails m r h = (before_now, λ u. tt)
       since cuts m r h = (before_now, λ u. tt)
-      since (joins new solved goals) m r h = (before_now, λ u. solved_over solved (names_around x.applies.site) (names_around w.applies.site) new same_around (around_old u) h)
+      since (joins new solved goals) m r h = (before_now, λ u. solved_over S T (length journal) nodes shares solved (names_around x.applies.site) (names_around w.applies.site) new same_around (around_old T t.config t.unfolds stand.once (length journal) w.applies.site site_there u) h)
       since refutes m r h = (before_now, λ u. tt)
       since confirms m r h = (before_now, λ u. tt)
       since (splits copy copies) m r h = (
         sym t.stamped.steps,
         λ k stores is inside solved.
-            still_solved (names_around x.applies.site) (names_around w.applies.site) (stores ++ k.store ∷ []) same_around (split_read m.1.0 m.0 m.1.2 r) (h k stores is inside solved),
+            still_solved S T (length journal) nodes shares (names_around x.applies.site) (names_around w.applies.site) (stores ++ k.store ∷ []) same_around (split_read m.1.0 m.0 m.1.2 r) (h k stores is inside solved),
       )
 
   -- where the tables share the stores that no label changed since, the step's stores are solved as of the labels that the plan had seen

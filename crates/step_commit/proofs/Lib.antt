@@ -1,5 +1,9 @@
 pub mod LastChanges
+pub mod StillSolved
 pub mod Committed
+pub mod CallsAgain
+pub mod CallsNow
+pub mod CallNames
 pub mod Stale
 pub mod InOrder
 pub mod Made

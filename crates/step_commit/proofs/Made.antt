@@ -1,5 +1,6 @@
 -- What a commit makes of a core.
-use Rattle.std.proofs.Common.{◌≡◌, ℕ, ◌+◌, ◌<◌, List, [], ◌∷◌, ◌++◌, length, Option, Some, None, refl, sym, ap, subst, ◌∙◌, arith}
+use Rattle.std.proofs.Common.{◌≡◌, ℕ, suc, ◌+◌, ◌<◌, List, [], ◌∷◌, ◌++◌, length, map, Option, Some, None, refl, sym, ap, subst, ◌∙◌, arith}
+use Rattle.std.specs.Prelude.{slice_index}
 use Rattle.std.proofs.lemmas.List.{length-append}
 use Rattle.akl_terms.specs.declared.name.Name.{Name}
 use Rattle.akl_terms.specs.declared.name.Place.{Place}
@@ -9,28 +10,43 @@ use Rattle.akl_model.specs.declared.item.Item.{Item}
 use Rattle.akl_model.specs.declared.label.Rule.{Rule}
 use Rattle.akl_model.specs.declared.label.Label.{Label}
 use Rattle.akl_model.specs.declared.label.Receipt.{Receipt}
-use Rattle.akl_model.specs.Config.{Config, Found}
+use Rattle.akl_model.specs.Config.{Atom, Config, Found}
+use Rattle.akl_model.specs.Instances.{drawn_by}
+use Rattle.akl_model.specs.Ordered.{IsIncreasing}
+use Rattle.akl_model.proofs.NamesKept.{replay-stands}
 use Rattle.akl_model.specs.Rules.{Change, Reading, change_by}
 use Rattle.akl_model.specs.Derivations.{Applies}
+use Rattle.call_laws.specs.AtOnce.{by}
+use Rattle.call_tables.specs.Calls.{after_call}
+use Rattle.call_tables.proofs.CallStep.{call_step}
 use Rattle.table_laws.specs.Rows.{Table}
 use Rattle.table_laws.specs.Stamped.{IsTableOf}
 use Rattle.table_laws.specs.Steps as laws
 use Rattle.table_laws.specs.Steps.{Makes, IsSolvedWhen}
-use Rattle.table_laws.specs.Writes.{Leads}
+use Rattle.table_laws.specs.Writes.{IsTable, IsFresh as IsNewTo, DrawsFresh, solved_when, after_join, Leads}
 use Rattle.table_laws.proofs.Fresh.{fresh_step}
+use Rattle.table_laws.proofs.NewGoals.{numbered_increase}
 use Rattle.table_laws.proofs.StepMakes.{step_law}
 use Rattle.box_tree.specs.declared.step.Step.{Step}
-use Rattle.box_tree.specs.Tables.{all_rules, TableValue, table_of, step_of, FitsPlace, MayApply, Applied}
+use Rattle.box_tree.specs.Tables.{all_rules, TableValue, table_of, step_of, FitsPlace, DrawsInOrder, MayApply, before_last, Applied}
 use Rattle.box_tree.specs.Views.{run_of}
-use Rattle.box_tree.specs.Plans.{PlanValue, IsRight}
+use Rattle.box_tree.specs.Plans.{PlanValue, IsRightLabel, IsRightCall, IsRight, of_label, of_call}
 use Rattle.step_commit.specs.Cores.{CoreValue, IsCore, MayCommit, IsFresh, IsStale, Commits, AllWithin, IsFirstStale, IsFirstUnseen, solved_in}
 use Rattle.step_commit.specs.Solving.{solved_at}
 use Rattle.step_commit.proofs.Committed.{IsPlanned, planned, LeadsOn, leads_on, solved_now}
+use Rattle.step_commit.proofs.CallsNow.{all_in_force, IsPlannedCall, planned_call, CallsOn, calls_on, call_solved_now}
+use Rattle.step_commit.proofs.CallNames.{later_fresh}
 use Rattle.step_commit.proofs.Stale.{looked, unchanged_here, stale, all_within}
 use Rattle.step_commit.proofs.InOrder.{makes_ordered}
 
 some_none : {A : Type 0} {x : A} → None ≡ Some x → ⊥
 some_none e = cc
+
+first_same : (l k : Label) (ls ks : List Label) → l ∷ ls ≡ k ∷ ks → l ≡ k
+first_same l k ls ks e = cc
+
+rest_same : (l k : Label) (ls ks : List Label) → l ∷ ls ≡ k ∷ ks → ls ≡ ks
+rest_same l k ls ks e = cc
 
 -- Fail stands at a box
 fail_place : (p : Program) (v : Reading) (w n : ℕ) (r : Rule) (place : Place) (a : Option Name) (f : Found) (c : Change) → r ≡ Rule.Fail → change_by p v w n r place a f ≡ Some c → FitsPlace place laws.fails a
@@ -58,48 +74,139 @@ fits rules p c l d n a laws.confirms m = fits_goal l.place l.alternative m.1.0 l
 fits rules p c l d n a (laws.splits copy copies) m = fits_box l.place l.alternative m.1.0 m.1.1 (laws.splits copy copies) m.1.2 m.1.3 tt
 fits rules p c l d n a laws.fails m = fail_place p a.makes.reading l.worker _ l.rule l.place l.alternative a.site a.change m a.makes.change
 
-module _ (c : CoreValue) (k : IsCore c) (p : PlanValue) (r : IsRight p) (m : MayCommit c p) (within : AllWithin (table_of c.table) p.reads (length p.journal)) where
+-- what a plan makes of the table of a core: its step may be made there, and leads to a table of the run that goes on with its labels
+record Leading (c : CoreValue) (p : PlanValue) (m : MayCommit c p) : Type 0 where
+  may : MayApply c.table p.label p.step
+  next : (u : TableValue) → Applied c.table p.label (length p.more) (Some (solved_in c p)) p.names p.step u → IsTableOf all_rules (run_of c.table ((p.journal ++ m.further) ++ p.label ∷ p.more)) (table_of u)
+
+-- without other labels a step's table is the table itself
+alone : (step : laws.Step) (T : Table) → before_last 0 step T ≡ T
+alone (laws.tells new solved) T = refl
+alone (laws.forks op news) T = refl
+alone laws.fails T = refl
+alone laws.cuts T = refl
+alone (laws.joins new solved goals) T = let none : 0 + T.steps ≡ T.steps = omega arith in (λ i. record T { steps = none i })
+alone laws.refutes T = refl
+alone laws.confirms T = refl
+alone (laws.splits copy copies) T = refl
+
+module _ (c : CoreValue) (k : IsCore c) (p : PlanValue) (m : MayCommit c p) (within : AllWithin (table_of c.table) p.reads (length p.journal)) where
   abbrev step : laws.Step
   step = step_of c.table.program.templates.nodes p.step
-
-  x : IsPlanned c.table.program c.table.query p.journal (table_of p.table) p.label p.reads p.names step
-  x = planned c p r m
 
   t : IsTableOf all_rules (run_of c.table (p.journal ++ m.further)) (table_of c.table)
   t = subst (λ (j : List Label). IsTableOf all_rules (run_of c.table j) (table_of c.table)) m.front k.table
 
-  on : LeadsOn c.table.program c.table.query (p.journal ++ m.further) (table_of c.table) t p.label p.names step
-  on = leads_on c.table.program c.table.query p.journal m.further (table_of p.table) (table_of c.table) p.label p.reads p.names step x t m.none_by within
+  same_length : length (p.journal ++ m.further) ≡ length c.journal
+  same_length = ap length (sym m.front)
 
+  module _ (only : p.more ≡ []) (r : IsRightLabel p) where
+    x : IsPlanned c.table.program c.table.query p.journal (table_of p.table) p.label p.reads p.names step
+    x = planned c p r m
+
+    on : LeadsOn c.table.program c.table.query (p.journal ++ m.further) (table_of c.table) t p.label p.names step
+    on = leads_on c.table.program c.table.query p.journal m.further (table_of p.table) (table_of c.table) p.label p.reads p.names step x t m.none_by within
+
+    solved : IsSolvedWhen (Some (solved_in c p)) (table_of c.table) on.applies.site step
+    solved = subst (λ (n : ℕ). IsSolvedWhen (Some (solved_at n (length p.journal) step)) (table_of c.table) on.applies.site step) same_length
+        (solved_now c.table.program c.table.query p.journal m.further (table_of p.table) (table_of c.table) p.label p.reads p.names step x t m.none_by within m.same_stores on)
+
+    leads : (u : TableValue) → Applied c.table p.label (length p.more) (Some (solved_in c p)) p.names p.step u → Leads (table_of c.table) p.label (Some (solved_in c p)) p.names step (table_of u)
+    leads u a = subst (λ (T : Table). Leads T p.label (Some (solved_in c p)) p.names step (table_of u)) (ap (λ (ls : List Label). before_last (length ls) step (table_of c.table)) only ∙ alone step (table_of c.table)) a.leads
+
+    of_one : Leading c p m
+    of_one = record {
+      may = record {
+        run = run_of c.table (p.journal ++ m.further);
+        table = t;
+        fits = fits all_rules c.table.program t.config p.label on.result _ on.applies step on.makes;
+        fresh = fresh_step all_rules (run_of c.table (p.journal ++ m.further)) (table_of c.table) p.label on.result t on.applies step on.makes;
+        ordered = makes_ordered all_rules (run_of c.table (p.journal ++ m.further)) (table_of c.table) p.label on.result t on.applies step on.makes;
+      };
+      next = λ u a. subst (λ (ls : List Label). IsTableOf all_rules (run_of c.table ((p.journal ++ m.further) ++ p.label ∷ ls)) (table_of u)) (sym only)
+          (step_law all_rules (run_of c.table (p.journal ++ m.further)) (table_of c.table) (table_of u) p.label on.result t on.applies step (Some (solved_in c p)) on.makes solved
+          (subst (λ (n : ℕ). Leads (table_of c.table) p.label (Some (solved_in c p)) n step (table_of u)) on.drawn (leads u a))).0;
+    }
+
+  module _ (r : IsRightCall p) where
+    y : IsPlannedCall c.table.program c.table.query p.journal (table_of p.table) p.label p.more p.reads p.names step p.binds
+    y = planned_call c p r m
+
+    called : CallsOn c.table.program c.table.query p.journal m.further (table_of p.table) (table_of c.table) p.label p.more p.reads p.names step p.binds y t
+    called = calls_on c.table.program c.table.query p.journal m.further (table_of p.table) (table_of c.table) p.label p.more p.reads p.names step p.binds y t m.none_by within
+
+    abbrev joining : laws.Step
+    joining = laws.joins y.new y.is_solved y.goals
+
+    -- its first label is a fork of the goal, and behind it come the others
+    first : p.label ≡ by p.label.worker Rule.Fork (Place.Goal y.goal) None
+    first = first_same p.label (by p.label.worker Rule.Fork (Place.Goal y.goal) None) p.more (called.again.again.sift_labels ++ called.again.again.end_labels) called.labels
+
+    others : length p.more ≡ length (called.again.again.sift_labels ++ called.again.again.end_labels)
+    others = ap length (rest_same p.label (by p.label.worker Rule.Fork (Place.Goal y.goal) None) p.more (called.again.again.sift_labels ++ called.again.again.end_labels) called.labels)
+
+    fits_call : FitsPlace p.label.place step p.label.alternative
+    fits_call = subst (λ (s : laws.Step). FitsPlace p.label.place s p.label.alternative) (sym y.step_is) (fits_goal p.label.place p.label.alternative y.goal joining (ap (λ (l : Label). l.place) first) tt)
+
+    fresh_call : DrawsFresh (table_of c.table) step
+    fresh_call = subst (DrawsFresh (table_of c.table)) (sym y.step_is) (subst (λ (xs : List (Name × Atom)). IsNewTo (table_of c.table) (map (λ (z : Name × Atom). z.0) xs)) (sym called.makes.body)
+        (later_fresh (table_of c.table) t.config t.unfolds (replay-stands all_rules c.table.program c.table.query (p.journal ++ m.further) t.config t.replays) p.label.worker
+        (slice_index t.config.next p.label.worker + drawn_by called.again.again.called.clauses) (omega arith) called.again.again.last.body))
+
+    ordered_call : DrawsInOrder step
+    ordered_call = subst DrawsInOrder (sym y.step_is) (subst (λ (xs : List (Name × Atom)). IsIncreasing (map (λ (z : Name × Atom). z.0) xs)) (sym called.makes.body)
+        (numbered_increase p.label.worker (slice_index t.config.next p.label.worker + drawn_by called.again.again.called.clauses) called.again.again.last.body))
+
+    module _ (u : TableValue) (a : Applied c.table p.label (length p.more) (Some (solved_in c p)) p.names p.step u) where
+      leads_joining : Leads (record (table_of c.table) { steps = length p.more + c.table.steps }) (by p.label.worker Rule.Fork (Place.Goal y.goal) None) (Some (length p.journal)) p.names joining (table_of u)
+      leads_joining = subst (λ (l : Label). Leads (record (table_of c.table) { steps = length p.more + c.table.steps }) l (Some (length p.journal)) p.names joining (table_of u)) first
+          (subst (λ (s : laws.Step). Leads (before_last (length p.more) s (table_of c.table)) p.label (Some (solved_at (length c.journal) (length p.journal) s)) p.names s (table_of u)) y.step_is a.leads)
+
+      so_many : length p.more + c.table.steps ≡ c.table.steps + length (called.again.again.sift_labels ++ called.again.again.end_labels)
+      so_many = let e : length p.more ≡ length (called.again.again.sift_labels ++ called.again.again.end_labels) = others in omega arith
+
+      after : IsTable (table_of u) (after_call y.goal y.new (solved_when (Some (length p.journal)) y.is_solved) y.goals p.label.worker (drawn_by called.again.again.called.clauses + length called.again.again.last.body)
+          (length (called.again.again.sift_labels ++ called.again.again.end_labels)) (table_of c.table))
+      after = subst (λ (n : ℕ). IsTable (table_of u) (after_join y.goal y.new (solved_when (Some (length p.journal)) y.is_solved) y.goals p.label.worker n
+          (record (table_of c.table) { steps = c.table.steps + length (called.again.again.sift_labels ++ called.again.again.end_labels) }))) called.drawn
+          (subst (λ (n : ℕ). IsTable (table_of u) (after_join y.goal y.new (solved_when (Some (length p.journal)) y.is_solved) y.goals p.label.worker p.names (record (table_of c.table) { steps = n }))) so_many leads_joining)
+
+      table_after : IsTableOf all_rules (run_of c.table ((p.journal ++ m.further) ++ p.label ∷ p.more)) (table_of u)
+      table_after = subst (λ (ls : List Label). IsTableOf all_rules (run_of c.table ((p.journal ++ m.further) ++ ls)) (table_of u)) (sym called.labels)
+          (call_step all_rules all_in_force (run_of c.table (p.journal ++ m.further)) (table_of c.table) (table_of u) t p.label.worker y.goal called.again.site called.again.is_home called.again.again (Some (length p.journal)) y.is_solved
+          y.alternative y.new y.goals called.makes
+          (call_solved_now c.table.program c.table.query p.journal m.further (table_of p.table) (table_of c.table) p.label p.more p.reads p.names step p.binds y t m.same_stores called) after).0
+
+    of_several : Leading c p m
+    of_several = record {
+      may = record { run = run_of c.table (p.journal ++ m.further); table = t; fits = fits_call; fresh = fresh_call; ordered = ordered_call };
+      next = table_after;
+    }
+
+leading : (c : CoreValue) → IsCore c → (p : PlanValue) → IsRight p → (m : MayCommit c p) → AllWithin (table_of c.table) p.reads (length p.journal) → Leading c p m
+leading c k p (of_label only r) m within = of_one c k p m within only r
+leading c k p (of_call r) m within = of_several c k p m within r
+
+module _ (c : CoreValue) (k : IsCore c) (p : PlanValue) (r : IsRight p) (m : MayCommit c p) (within : AllWithin (table_of c.table) p.reads (length p.journal)) where
   pub may_apply : MayApply c.table p.label p.step
-  may_apply = record {
-    run = run_of c.table (p.journal ++ m.further);
-    table = t;
-    fits = fits all_rules c.table.program t.config p.label on.result _ on.applies step on.makes;
-    fresh = fresh_step all_rules (run_of c.table (p.journal ++ m.further)) (table_of c.table) p.label on.result t on.applies step on.makes;
-    ordered = makes_ordered all_rules (run_of c.table (p.journal ++ m.further)) (table_of c.table) p.label on.result t on.applies step on.makes;
-  }
+  may_apply = (leading c k p r m within).may
 
-  solved : IsSolvedWhen (Some (solved_in c p)) (table_of c.table) on.applies.site step
-  solved = subst (λ (n : ℕ). IsSolvedWhen (Some (solved_at n (length p.journal) step)) (table_of c.table) on.applies.site step) (ap length (sym m.front))
-      (solved_now c.table.program c.table.query p.journal m.further (table_of p.table) (table_of c.table) p.label p.reads p.names step x t m.none_by within m.same_stores on)
+  module _ (u : TableValue) (a : Applied c.table p.label (length p.more) (Some (solved_in c p)) p.names p.step u) where
+    next : IsTableOf all_rules (run_of c.table ((p.journal ++ m.further) ++ p.label ∷ p.more)) (table_of u)
+    next = (leading c k p r m within).next u a
 
-  module _ (u : TableValue) (a : Applied c.table p.label (Some (solved_in c p)) p.names p.step u) where
-    next : IsTableOf all_rules (run_of c.table ((p.journal ++ m.further) ++ p.label ∷ [])) (table_of u)
-    next = (step_law all_rules (run_of c.table (p.journal ++ m.further)) (table_of c.table) (table_of u) p.label on.result t on.applies step (Some (solved_in c p)) on.makes solved
-        (subst (λ (n : ℕ). Leads (table_of c.table) p.label (Some (solved_in c p)) n step (table_of u)) on.drawn a.leads)).0
-
-    pub core_on : (journal : List Label) → journal ≡ c.journal ++ p.label ∷ [] → length c.journal < c.budget → IsCore (record { table = u; journal = journal; workers = c.workers; budget = c.budget })
-    core_on journal e less = subst (λ (j : List Label). IsCore (record { table = u; journal = j; workers = c.workers; budget = c.budget })) (sym (e ∙ ap (λ (j : List Label). j ++ p.label ∷ []) m.front)) (record {
-      table = subst (λ (q : Query). IsTableOf all_rules (record { program = u.program; query = q; journal = (p.journal ++ m.further) ++ p.label ∷ [] }) (table_of u)) (sym a.query)
-          (subst (λ (y : Program). IsTableOf all_rules (record { program = y; query = c.table.query; journal = (p.journal ++ m.further) ++ p.label ∷ [] }) (table_of u)) (sym a.program) next);
+    pub core_on : (journal : List Label) → journal ≡ c.journal ++ p.label ∷ p.more → length p.more + length c.journal < c.budget → IsCore (record { table = u; journal = journal; workers = c.workers; budget = c.budget })
+    core_on journal e less = subst (λ (j : List Label). IsCore (record { table = u; journal = j; workers = c.workers; budget = c.budget })) (sym (e ∙ ap (λ (j : List Label). j ++ p.label ∷ p.more) m.front)) (record {
+      table = subst (λ (q : Query). IsTableOf all_rules (record { program = u.program; query = q; journal = (p.journal ++ m.further) ++ p.label ∷ p.more }) (table_of u)) (sym a.query)
+          (subst (λ (y : Program). IsTableOf all_rules (record { program = y; query = c.table.query; journal = (p.journal ++ m.further) ++ p.label ∷ p.more }) (table_of u)) (sym a.program) next);
       within =
-          let i : length ((p.journal ++ m.further) ++ p.label ∷ []) ≡ length (p.journal ++ m.further) + length (p.label ∷ []) = length-append (p.journal ++ m.further) (p.label ∷ []) in
+          let i : length ((p.journal ++ m.further) ++ p.label ∷ p.more) ≡ length (p.journal ++ m.further) + length (p.label ∷ p.more) = length-append (p.journal ++ m.further) (p.label ∷ p.more) in
           let j : length c.journal ≡ length (p.journal ++ m.further) = ap length m.front in
-          omega (arith, i, j, less);
+          let h : length (p.label ∷ p.more) ≡ suc (length p.more) = refl in
+          omega (arith, i, j, h, less);
     })
 
-    pub commits : (journal : List Label) (receipt : Receipt) → journal ≡ c.journal ++ p.label ∷ [] → receipt ≡ record { at = length c.journal + 1; seen = length p.journal; label = p.label } → length c.journal < c.budget
+    pub commits : (journal : List Label) (receipt : Receipt) → journal ≡ c.journal ++ p.label ∷ p.more → receipt ≡ record { at = length c.journal + 1; seen = length p.journal; label = p.label } → length p.more + length c.journal < c.budget
         → Commits c p (record { table = u; journal = journal; workers = c.workers; budget = c.budget }) receipt
     commits journal receipt e f less = record {
       fixed = record { program = a.program; query = a.query; workers = refl; budget = refl };
@@ -111,7 +218,7 @@ module _ (c : CoreValue) (k : IsCore c) (p : PlanValue) (r : IsRight p) (m : May
 
 -- what is found of the items of a plan
 module _ (c : CoreValue) (k : IsCore c) (p : PlanValue) (r : IsRight p) (m : MayCommit c p) where
-  pub fresh : length c.journal < c.budget → AllWithin (table_of c.table) p.reads (length p.journal) → IsFresh c p
+  pub fresh : length p.more + length c.journal < c.budget → AllWithin (table_of c.table) p.reads (length p.journal) → IsFresh c p
   fresh less within = record { unspent = less; unchanged = λ i j. unchanged_here c k p.table p.journal p.reads (looked c p r m) i (within i j) }
 
   pub not_fresh : (item : Item) (stamp : Option ℕ) → IsFirstUnseen (table_of c.table) p.reads (length p.journal) item stamp → IsStale c p.journal p.reads item stamp
@@ -127,7 +234,7 @@ found_as T xs ys m n o q f g e h = subst (λ (k : ℕ). IsFirstStale T ys k q) g
 pub may_apply_as : (t u : TableValue) (l k : Label) (a b : Step) → t ≡ u → l ≡ k → a ≡ b → MayApply t l a → MayApply u k b
 may_apply_as t u l k a b e f g h = subst (λ (x : Step). MayApply u k x) g (subst (λ (x : Label). MayApply u x a) f (subst (λ (x : TableValue). MayApply x l a) e h))
 
-pub applied_as : (t s : TableValue) (l k : Label) (at by m n : ℕ) (a b : Step) (u : TableValue) → t ≡ s → l ≡ k → at ≡ by → m ≡ n → a ≡ b → Applied t l (Some at) m a u → Applied s k (Some by) n b u
-applied_as t s l k at by m n a b u e f o g i h =
-    subst (λ (x : Step). Applied s k (Some by) n x u) i (subst (λ (x : ℕ). Applied s k (Some by) x a u) g (subst (λ (x : ℕ). Applied s k (Some x) m a u) o
-    (subst (λ (x : Label). Applied s x (Some at) m a u) f (subst (λ (x : TableValue). Applied x l (Some at) m a u) e h))))
+pub applied_as : (t s : TableValue) (l k : Label) (v w at now m n : ℕ) (a b : Step) (u : TableValue) → t ≡ s → l ≡ k → v ≡ w → at ≡ now → m ≡ n → a ≡ b → Applied t l v (Some at) m a u → Applied s k w (Some now) n b u
+applied_as t s l k v w at now m n a b u e f j o g i h =
+    subst (λ (x : Step). Applied s k w (Some now) n x u) i (subst (λ (x : ℕ). Applied s k w (Some now) x a u) g (subst (λ (x : ℕ). Applied s k w (Some x) m a u) o
+    (subst (λ (x : ℕ). Applied s k x (Some at) m a u) j (subst (λ (x : Label). Applied s x v (Some at) m a u) f (subst (λ (x : TableValue). Applied x l v (Some at) m a u) e h)))))

@@ -1,5 +1,5 @@
 -- The state of a run, and when a plan is committed to it.
-use Rattle.std.specs.Prelude.{◌≡◌, ℕ, ◌+◌, ◌≤◌, ◌<◌, nat_le, Bool, true, false, List, [], ◌∷◌, ◌++◌, length, Option, Some, None}
+use Rattle.std.specs.Prelude.{◌≡◌, ℕ, ◌+◌, ◌≤◌, ◌<◌, nat_le, Bool, true, false, List, ◌∷◌, ◌++◌, length, Option, Some, None}
 use Rattle.akl_model.specs.declared.item.Item.{Item}
 use Rattle.akl_model.specs.declared.label.Label.{Label}
 use Rattle.akl_model.specs.declared.label.Receipt.{Receipt}
@@ -64,27 +64,28 @@ pub record IsStale (c : CoreValue) (seen : List Label) (reads : List Item) (item
   pub is_stamp : stamp ≡ stamp_in (table_of c.table) item
   pub as_kept : (k : ℕ) → stamp ≡ Some k → k ≡ number
 
--- a plan isn't refused: there are fewer labels than the budget allows, and none that the plan didn't see changed an item that it read
+-- a plan isn't refused: the budget has room for its labels, and no label that the plan didn't see changed an item that it read
 pub record IsFresh (c : CoreValue) (p : PlanValue) : Type 0 where
-  pub unspent : length c.journal < c.budget
+  pub unspent : length p.more + length c.journal < c.budget
   pub unchanged : (i : Item) → IsRead p.reads i → IsUnchanged c p.journal i
 
 -- after how many labels the stores of a plan's step were solved
 abbrev pub solved_in : CoreValue → PlanValue → ℕ
 solved_in c p = solved_at (length c.journal) (length p.journal) (step_of c.table.program.templates.nodes p.step)
 
--- the plan's label is the next one of the journal, and its step made the table
+-- the plan's labels are the next ones of the journal, and its step made the table; the receipt is that of the first one
 pub record Commits (c : CoreValue) (p : PlanValue) (d : CoreValue) (r : Receipt) : Type 0 where
   pub fixed : KeepsFixed c d
-  pub journal : d.journal ≡ c.journal ++ p.label ∷ []
-  pub made : Applied c.table p.label (Some (solved_in c p)) p.names p.step d.table
+  pub journal : d.journal ≡ c.journal ++ p.label ∷ p.more
+  pub made : Applied c.table p.label (length p.more) (Some (solved_in c p)) p.names p.step d.table
   pub receipt : r ≡ record { at = length c.journal + 1; seen = length p.journal; label = p.label }
   pub fresh : IsFresh c p
 
--- why a plan isn't committed; want of memory is free
+-- why a plan isn't committed: no label has room in the budget, or some have and not all, or what was read has changed; want of memory is free
 abbrev pub IsRefused : CoreValue → PlanValue → CommitError → Type 0
 IsRefused c p (CommitError.Spent budget) = (budget ≡ c.budget) × (length c.journal ≡ c.budget)
-IsRefused c p (CommitError.Stale item stamp) = (length c.journal < c.budget) × IsStale c p.journal p.reads item stamp
+IsRefused c p (CommitError.Short left) = (length c.journal + left ≡ c.budget) × (0 < left) × (left ≤ length p.more)
+IsRefused c p (CommitError.Stale item stamp) = (length p.more + length c.journal < c.budget) × IsStale c p.journal p.reads item stamp
 IsRefused c p (CommitError.Memory error) = Unit {0}
 
 -- the item is there, and was last changed by one of the first labels, so many as are given

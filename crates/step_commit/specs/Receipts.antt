@@ -1,5 +1,5 @@
 -- What each worker keeps of a journal.
-use Rattle.std.specs.Prelude.{◌≡◌, ℕ, suc, ◌+◌, ◌<◌, ◌==◌, List, [], ◌∷◌, map, if◌then◌else◌}
+use Rattle.std.specs.Prelude.{◌≡◌, ℕ, suc, ◌+◌, ◌<◌, ◌==◌, List, [], ◌∷◌, map, if◌then◌else◌, ◌⊎◌}
 use Rattle.std.specs.List.{AllByRecursion}
 use Rattle.akl_model.specs.declared.label.Label.{Label}
 use Rattle.akl_model.specs.declared.label.Receipt.{Receipt}
@@ -13,9 +13,18 @@ labels_of worker before (l ∷ ls) = if l.worker == worker then (suc before, l) 
 abbrev pub ArePlannedBefore : List Receipt → Type 0
 ArePlannedBefore = AllByRecursion (λ (r : Receipt). r.seen < r.at)
 
--- each label was planned by all labels before it
+-- each label was planned by all labels before it, or together with the label before it, whose receipt has these numbers
+abbrev pub ArePlannedOn : ℕ → ℕ → List Receipt → Type 0
+ArePlannedOn at seen [] = Unit {0}
+ArePlannedOn at seen (r ∷ rs) = ((r.at ≡ r.seen + 1) ⊎ ((r.at ≡ at + 1) × (r.seen ≡ seen))) × ArePlannedOn r.at r.seen rs
+
 abbrev pub ArePlannedLast : List Receipt → Type 0
-ArePlannedLast = AllByRecursion (λ (r : Receipt). r.at ≡ r.seen + 1)
+ArePlannedLast = ArePlannedOn 0 0
+
+-- the receipts of labels that were planned together: each label comes behind the one before it
+abbrev pub receipts_from : ℕ → ℕ → List Label → List Receipt
+receipts_from at seen [] = []
+receipts_from at seen (l ∷ ls) = record { at = at; seen = seen; label = l } ∷ receipts_from (at + 1) seen ls
 
 -- a worker's receipts are its labels, each once and in order
 pub record AreReceiptsBy (worker : ℕ) (journal : List Label) (rs : List Receipt) : Type 0 where

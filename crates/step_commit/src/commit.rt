@@ -8,6 +8,8 @@ use std::alloc::AllocError;
 pub enum CommitError {
     /// The journal has as many labels as the budget allows. This is tested first.
     Spent { budget: u64 },
+    /// The budget has room for so many labels more, and not for all of the plan. A plan of one label may be made instead.
+    Short { left: u64 },
     /// A label that the plan didn't see changed an item that it read: the first such item, with the number of the last
     /// label that changed it, or `None` where the item has gone.
     Stale { item: Item, stamp: Option<u64> },

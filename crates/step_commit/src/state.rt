@@ -1,6 +1,6 @@
 //! The state of a run.
 
-ghost use Rattle.std.specs.Prelude.{◌≡◌, IfOk, IfErr, IfSome, IfNone, Some, [], length, true};
+ghost use Rattle.std.specs.Prelude.{◌≡◌, ◌+◌, ◌∷◌, ◌++◌, IfOk, IfErr, OnOk, OnErr, IfSome, IfNone, Some, [], length, true};
 ghost use Rattle.box_tree.specs.Tables.{table_of, goals_in, is_empty, shown_in, shown_trees_of, HasVariables, HasShownVariables};
 ghost use Rattle.box_tree.specs.Views.{is_there, IsUnseen, all_places};
 ghost use Rattle.box_tree.specs.Paths.{known_in, alternatives_seen};
@@ -68,6 +68,13 @@ impl Core {
         ensures { result ≡ length self.now.journal }
     {
         self.journal.len() as u64
+    }
+
+    /// For how many labels the budget has room still.
+    pub fn left(&self) -> u64
+        ensures { length self.now.journal + result ≡ self.now.budget }
+    {
+        self.budget - self.journal.len() as u64
     }
 
     /// The table.
@@ -143,18 +150,22 @@ impl Core {
         first_stale(&self.table, reads, seen)
     }
 
-    /// Why a plan can't be committed, whatever memory there is: all labels of the budget are made, or the plan is stale.
-    /// `None` exactly where neither is so.
+    /// Why a plan can't be committed, whatever memory there is: all labels of the budget are made, or the budget has no
+    /// room for all labels of the plan, or the plan is stale. `None` exactly where none of these is so.
     pub fn refusal(&self, plan: &Plan) -> Option<CommitError>
         requires { MayCommit self.now plan.now }
         ensures refused { IfSome result (IsRefused self.now plan.now) }
         ensures fresh { IfNone result (IsFresh self.now plan.now) }
         ensures known { (error : _) → result ≡ Some (variants.Memory error) → ⊥ }
     {
-        if self.journal.len() as u64 == self.budget {
+        let left = self.left();
+        if left == 0 {
             return Some(CommitError::Spent {
                 budget: self.budget,
             });
+        }
+        if plan.more().len() as u64 >= left {
+            return Some(CommitError::Short { left });
         }
         // A plan that has seen all labels can't be stale.
         if self.journal.len() as u64 == plan.seen() {
@@ -181,28 +192,30 @@ impl Core {
         }
     }
 
-    /// Appends the label of a plan that isn't refused, and makes its step. An `Err` leaves the core as it was.
+    /// Appends the labels of a plan that isn't refused, and makes their step. The receipt is that of the first one; those
+    /// behind it come one after another, and were planned by the same labels. An `Err` leaves the core as it was.
     pub fn append(&mut self, alloc: Global, plan: Plan) -> Result<Receipt, AllocError>
         requires may { MayCommit self.old plan }
         requires fresh { IsFresh self.old plan }
         ensures committed { IfOk result (Commits self.old plan self.new) }
         ensures unchanged { IfErr result (λ _. self.new ≡ self.old) }
     {
-        let before = self.journal.len() as u64;
+        let before = self.journal.len();
         let seen = plan.seen();
         let label = plan.label();
+        let others = plan.more().len() as u64;
         let names = plan.names();
         let at = self.solved_at(&plan);
-        self.journal.push(label)?;
+        push_labels(&mut self.journal, label, plan.more())?;
         if let Err(error) = self
             .table
-            .apply(alloc, label, names, plan.into_step(), Some(at))
+            .apply(alloc, label, others, names, plan.into_step(), Some(at))
         {
-            let _ = self.journal.pop();
+            self.journal.truncate(before);
             return Err(error);
         }
         Ok(Receipt {
-            at: before + 1,
+            at: before as u64 + 1,
             seen,
             label,
         })
@@ -214,6 +227,19 @@ impl Core {
     {
         self.journal
     }
+}
+
+// A label and those behind it come to the end of a journal. An `Err` leaves it as it was.
+fn push_labels(journal: &mut Vec<Label>, label: Label, more: &[Label]) -> Result<(), AllocError>
+    ensures pushed { OnOk result (journal.new.items ≡ journal.old.items ++ label ∷ more.now) }
+    ensures unchanged { OnErr result (journal.new.items ≡ journal.old.items) }
+{
+    journal.push(label)?;
+    if let Err(error) = journal.extend_from_slice(more) {
+        let _ = journal.pop();
+        return Err(error);
+    }
+    Ok(())
 }
 
 // The first item that a label after the first ones, so many as are given, has changed, with its stamp.

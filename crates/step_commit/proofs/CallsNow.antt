@@ -1,0 +1,177 @@
+-- A call at once that nothing made stale leads the run on by all its labels.
+use Rattle.std.proofs.Common.{◌≡◌, ℕ, ◌+◌, Bool, List, ◌∷◌, ◌++◌, length, map, Some, refl, sym, ap, subst, ◌∙◌, inl, inr, arith}
+use Rattle.std.specs.Prelude.{slice_index}
+use Rattle.std.proofs.lemmas.List.{length-append}
+use Rattle.akl_terms.specs.declared.name.Name.{Name}
+use Rattle.akl_terms.specs.declared.name.Var.{Var}
+use Rattle.akl_terms.specs.declared.name.Place.{Place}
+use Rattle.akl_terms.specs.declared.program.Program.{Program}
+use Rattle.akl_terms.specs.declared.program.Query.{Query}
+use Rattle.akl_terms.specs.Equal.{Equations, IsTold}
+use Rattle.akl_terms.specs.Standing.{StandFor}
+use Rattle.akl_model.specs.declared.item.Item.{Item}
+use Rattle.akl_model.specs.declared.label.Label.{Label}
+use Rattle.akl_model.specs.Config.{Atom, Content, Config, with_names, with_ports, Found, equations_of, whole, home_of}
+use Rattle.akl_model.specs.Instances.{drawn_by}
+use Rattle.akl_model.specs.Names.{HasDistinctNames}
+use Rattle.akl_model.specs.Wakes.{names_around}
+use Rattle.akl_model.proofs.NamesKept.{Stand, replay-stands, site-box}
+use Rattle.rational_unify.specs.Solving.{bindings_in}
+use Rattle.local_store.specs.Stored.{Stored}
+use Rattle.step_laws.specs.Bound.{AreBoundIn}
+use Rattle.step_laws.specs.Stays.{GoesOn, IsSameBox}
+use Rattle.step_laws.proofs.Same.{same}
+use Rattle.plan_laws.specs.Right.{NoneBy}
+use Rattle.plan_laws.proofs.Right.{next_same}
+use Rattle.plan_laws.proofs.StampLaws.{stamped}
+use Rattle.call_laws.specs.Wherever.{Follows, IsAsIn}
+use Rattle.call_laws.specs.AtOnce.{IsAtOnce, labels_at_once, at_once, AreInForce, IsAtOnceIn, MeetsCall}
+use Rattle.call_laws.specs.Wakes.{TellsNothing}
+use Rattle.call_laws.proofs.ByContents.{same_as, derived_follows}
+use Rattle.call_tables.specs.Calls.{CallsGoal}
+use Rattle.table_laws.specs.Rows.{Table}
+use Rattle.table_laws.specs.Kept.{SharesStores}
+use Rattle.table_laws.specs.Stamped.{IsTableOf}
+use Rattle.table_laws.specs.Steps.{Step, joins, numbered, IsSolvedIn, IsSolvedWhen}
+use Rattle.box_tree.specs.Tables.{all_rules, table_of, step_of}
+use Rattle.box_tree.specs.Plans.{PlanValue, IsRead, IsRightCall, ReadsCall}
+use Rattle.step_commit.specs.Cores.{CoreValue, MayCommit, AllWithin}
+use Rattle.step_commit.proofs.Committed.{goes, read_stamped}
+use Rattle.step_commit.proofs.CallsAgain.{silent_again}
+use Rattle.step_commit.proofs.StillSolved.{solved_over, around_old}
+
+pub all_in_force : AreInForce all_rules
+all_in_force = record {
+  fork = inr (inl refl);
+  fail = inr (inr (inl refl));
+  cut = inr (inr (inr (inl refl)));
+  tell = inl refl;
+  eval = inr (inr (inr (inr (inr (inl refl)))));
+  promote = inr (inr (inr (inr (inl refl))));
+}
+
+-- all that the type of a call's plan keeps, over a program and a query
+pub record IsPlannedCall (p : Program) (q : Query) (journal : List Label) (T : Table) (l : Label) (more : List Label) (reads : List Item) (names : ℕ) (step : Step) (binds : List Var) : Type 0 where
+  pub table : IsTableOf all_rules (record { program = p; query = q; journal = journal }) T
+  pub goal : Name
+  pub site : Found
+  pub is_home : home_of goal table.config.roots ≡ Some site
+  pub calls : IsAtOnce p table.config l.worker goal site
+  pub labels : l ∷ more ≡ labels_at_once calls
+  pub tells_nothing : TellsNothing calls
+  pub alternative : Stored
+  pub new : Stored
+  pub is_solved : Bool
+  pub goals : List (Name × Atom)
+  pub makes : CallsGoal calls alternative new goals
+  pub step_is : step ≡ joins new is_solved goals
+  pub solved : IsSolvedIn T site (joins new is_solved goals)
+  pub drawn : names ≡ drawn_by calls.called.clauses + length calls.last.body
+  pub reads_call : ReadsCall (IsRead reads) goal site
+  pub bound : AreBoundIn table.config (at_once calls) site binds
+
+of_plan : (p : PlanValue) → IsRightCall p → IsPlannedCall p.table.program p.table.query p.journal (table_of p.table) p.label p.more p.reads p.names (step_of p.table.program.templates.nodes p.step) p.binds
+of_plan p r = record {
+  table = r.table;
+  goal = r.goal;
+  site = r.site;
+  is_home = r.is_home;
+  calls = r.calls;
+  labels = r.labels;
+  tells_nothing = r.tells_nothing;
+  alternative = r.alternative;
+  new = r.new;
+  is_solved = r.is_solved;
+  goals = r.goals;
+  makes = r.makes;
+  step_is = r.step;
+  solved = r.solved;
+  drawn = r.names;
+  reads_call = r.reads;
+  bound = r.binds;
+}
+
+pub planned_call : (c : CoreValue) (p : PlanValue) → IsRightCall p → MayCommit c p
+    → IsPlannedCall c.table.program c.table.query p.journal (table_of p.table) p.label p.more p.reads p.names (step_of c.table.program.templates.nodes p.step) p.binds
+planned_call c p r m = subst (λ (x : Program). IsPlannedCall x c.table.query p.journal (table_of p.table) p.label p.more p.reads p.names (step_of x.templates.nodes p.step) p.binds) m.program
+    (subst (λ (y : Query). IsPlannedCall p.table.program y p.journal (table_of p.table) p.label p.more p.reads p.names (step_of p.table.program.templates.nodes p.step) p.binds) m.query (of_plan p r))
+
+-- the same call in the same box, with the same last alternative and the same names, has the same stores and goals
+makes_again : (p : Program) (c d : Config) (w : ℕ) (g : Name) (f e : Found) (x : IsAtOnce p c w g f) (y : IsAtOnce p d w g e) → IsSameBox f e → y.last ≡ x.last → drawn_by y.called.clauses ≡ drawn_by x.called.clauses
+    → slice_index d.next w ≡ slice_index c.next w → (alternative new : Stored) (goals : List (Name × Atom)) → CallsGoal x alternative new goals → CallsGoal y alternative new goals
+makes_again p c d w g f e x y box last drawn next alternative new goals m = record {
+  alternative_frames = m.alternative_frames ∙ ap (λ (b : Content). b.frames) (sym last);
+  alternative_ports = m.alternative_ports ∙ ap (λ (b : Content). b.ports) (sym last);
+  alternative_stands = λ D h. subst (λ (es : Equations). StandFor (IsTold (D ++ bindings_in p.templates.nodes alternative.bindings)) (IsTold es)) joined
+      (m.alternative_stands D (subst (λ (es : Equations). StandFor (IsTold D) (IsTold es)) (sym equations) h));
+  frames = m.frames ∙ (λ i. with_names ((sym last) i).frames (box.content i).frames);
+  ports = m.ports ∙ (λ i. with_ports ((sym last) i).ports (box.content i).ports);
+  stands = λ D h. subst (λ (es : Equations). StandFor (IsTold (D ++ bindings_in p.templates.nodes new.bindings)) (IsTold es)) joined
+      (m.stands D (subst (λ (es : Equations). StandFor (IsTold D) (IsTold es)) (sym (ap equations_of box.around)) h));
+  body = m.body ∙ (λ i. numbered w ((sym next) i + (sym drawn) i) ((sym last) i).body);
+}
+  where
+    equations : whole f ≡ whole e
+    equations = (λ i. equations_of (box.around i) ++ (box.content i).equations)
+
+    joined : whole f ++ x.last.equations ≡ whole e ++ y.last.equations
+    joined = (λ i. equations i ++ ((sym last) i).equations)
+
+module _ (p : Program) (q : Query) (journal further : List Label) (S T : Table) (l : Label) (more : List Label) (reads : List Item) (names : ℕ) (step : Step) (binds : List Var) (x : IsPlannedCall p q journal S l more reads names step binds)
+    (t : IsTableOf all_rules (record { program = p; query = q; journal = journal ++ further }) T) where
+  -- the call is one of the later configuration, in the same boxes, and its step is what it makes there
+  pub record CallsOn : Type 0 where
+    pub again : IsAtOnceIn all_rules x.calls t.config
+    pub labels : l ∷ more ≡ labels_at_once again.again
+    pub tells_nothing : TellsNothing again.again
+    pub makes : CallsGoal again.again x.alternative x.new x.goals
+    pub drawn : names ≡ drawn_by again.again.called.clauses + length again.again.last.body
+    pub same_around : names_around x.site ≡ names_around again.site
+
+  on : GoesOn all_rules p x.table.config further t.config
+  on = record { query = q; journal = journal; replays = x.table.replays; derives = goes p q journal further S T x.table t }
+
+  module _ (none : NoneBy l further) (within : AllWithin T reads (length journal)) where
+    follows : HasDistinctNames x.table.config × Follows x.table.config t.config
+    follows = derived_follows all_rules p x.table.config further t.config on
+
+    as_it_was : (i : Item) → IsRead reads i → IsAsIn x.table.config t.config i
+    as_it_was i r = same_as x.table.config t.config i (same all_rules p x.table.config further t.config on.derives i
+        (stamped all_rules p q journal further x.table.config t.config i x.table.replays on.derives (read_stamped p q journal further T reads t within i r)))
+
+    next : slice_index t.config.next l.worker ≡ slice_index x.table.config.next l.worker
+    next = next_same all_rules p x.table.config l further t.config (replay-stands all_rules p q journal x.table.config x.table.replays) on.derives none
+
+    meets : MeetsCall x.table.config l.worker x.goal x.site t.config
+    meets = record {
+      follows = follows.1;
+      next = next;
+      goal = as_it_was (Item.Goal x.goal) x.reads_call.goal;
+      stores = λ m i. as_it_was (Item.Store m) (x.reads_call.stores m i);
+    }
+
+    again : (a : IsAtOnceIn all_rules x.calls t.config) × TellsNothing a.again
+    again = silent_again all_rules all_in_force p x.table.config follows.0 l.worker x.goal x.site x.is_home x.calls x.tells_nothing t.config meets
+
+    pub calls_on : CallsOn
+    calls_on = record {
+      again = again.0;
+      labels = x.labels ∙ sym again.0.same_labels;
+      tells_nothing = again.1;
+      makes = makes_again p x.table.config t.config l.worker x.goal x.site again.0.site x.calls again.0.again again.0.same again.0.same_last again.0.same_names next x.alternative x.new x.goals x.makes;
+      drawn = x.drawn ∙ (λ i. (sym again.0.same_names) i + length ((sym again.0.same_last) i).body);
+      same_around = ap (map (λ (b : Content). b.name)) again.0.same.around;
+    }
+
+  -- where the tables share the stores that no label changed since, its store is solved as of the labels that the plan had seen
+  pub call_solved_now : SharesStores S T (length journal) → (w : CallsOn) → IsSolvedWhen (Some (length journal)) T w.again.site (joins x.new x.is_solved x.goals)
+  call_solved_now shares w = (
+    let e : T.steps ≡ length (journal ++ further) = t.stamped.steps in
+        let h : length (journal ++ further) ≡ length journal + length further = length-append journal further in
+        omega (arith, e, h),
+    λ u. solved_over S T (length journal) (x.table.nodes ∙ sym t.nodes) shares x.is_solved (names_around x.site) (names_around w.again.site) x.new w.same_around
+        (around_old T t.config t.unfolds stand.once (length journal) w.again.site (site-box (Place.Goal x.goal) t.config.roots w.again.site stand.once w.again.is_home) u) x.solved,
+  )
+    where
+      stand : Stand t.config
+      stand = replay-stands all_rules p q (journal ++ further) t.config t.replays
