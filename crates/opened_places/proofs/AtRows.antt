@@ -1,31 +1,26 @@
 -- What a table's rows say of goals and boxes, and of what stands about a label's place.
-use Rattle.std.proofs.Common.{◌≡◌, ◌≤◌, List, Option, Some, None, refl, sym, ◌∙◌, ap}
+use Rattle.std.proofs.Common.{◌≡◌, ◌≤◌, Option, Some, None, refl, sym, ◌∙◌, ap}
 use Rattle.std.specs.Prelude.{option_map, option_and_then}
 use Rattle.akl_terms.specs.declared.name.Name.{Name}
 use Rattle.akl_terms.specs.declared.name.Place.{Place}
-use Rattle.akl_model.specs.declared.label.Rule.{Rule}
 use Rattle.akl_model.specs.declared.label.Label.{Label}
 use Rattle.akl_model.specs.Config.{Boxes, Config, Held, held_in, Found, box_at, home_of, site_of}
-use Rattle.akl_model.specs.Derivations.{Applies}
 use Rattle.akl_model.specs.Changes.{shape_of, shape_at}
 use Rattle.akl_model.specs.Wakes.{holder_in}
 use Rattle.akl_model.proofs.Options.{some_value, map_some, map_none, none_where}
 use Rattle.akl_model.proofs.Finds.{times}
-use Rattle.akl_model.proofs.NamesKept.{box-itself}
+use Rattle.akl_model.proofs.NamesKept.{box-itself, site-box}
 use Rattle.step_laws.specs.Holders.{IsHeldBy}
 use Rattle.step_laws.proofs.Whereabouts.{home_in}
-use Rattle.step_laws.proofs.Holders.{alternative_at, held_around}
+use Rattle.step_laws.proofs.Holders.{held_around}
 use Rattle.table_laws.specs.Rows.{BoxRow, GoalRow, Table}
 use Rattle.table_laws.specs.Unfolds.{IsBoxRow, Spot, spot_in, spot_of, Unfolds}
-use Rattle.table_laws.specs.Stamped.{Run, IsTableOf}
 use Rattle.table_laws.specs.Writes as writes
 use Rattle.table_laws.proofs.Frame.{row_of, neither}
 use Rattle.table_laws.proofs.Insides.{goal_row, spot_none}
 use Rattle.opened_places.specs.declared.around.Holder.{Holder}
 use Rattle.opened_places.specs.declared.around.Around.{Around}
 use Rattle.opened_places.specs.Exact.{IsAround, site_in}
-use Rattle.opened_places.proofs.AtSite.{before, was_there}
-use Rattle.opened_places.proofs.ChangedWays.{HoldsSite}
 
 pub spot_home : (g : Name) (roots : Boxes) (v : Spot) → spot_in g roots ≡ Some v → (f : Found) × (home_of g roots ≡ Some f) × (shape_at g roots ≡ Some v.shape)
 spot_home g roots v e = on (home_of g roots) refl e
@@ -66,37 +61,32 @@ module _ (T : Table) (c : Config) (u : Unfolds T c) where
       not_both : {o : Option BoxRow} {r : BoxRow} → o ≡ None → o ≡ Some r → ⊥
       not_both i j = cc
 
-module _ (rules : List Rule) (r : Run) (T : Table) (l : Label) (d : Config) (t : IsTableOf rules r T) (a : Applies rules r.program t.config l d) (x : Around) (k : IsAround T l x) where
-  once : (m : Name) → times m t.config.roots ≤ 1
-  once = (before rules r.program r.query r.journal t.config l d t.replays a).once
+-- of the box of a label's place
+module _ (T : Table) (c : Config) (u : Unfolds T c) (once : (m : Name) → times m c.roots ≤ 1) (l : Label) (site : Found) (is_site : site_of l.place c.roots ≡ Some site) (x : Around) (k : IsAround T l x) where
+  pub site_there : box_at site.content.name c.roots ≡ Some site
+  site_there = site-box l.place c.roots site once is_site
 
-  there : box_at a.site.content.name t.config.roots ≡ Some a.site
-  there = was_there rules r.program r.query r.journal t.config l d t.replays a
-
-  pub home_is : x.home ≡ a.site.content.name
-  home_is = on l.place k.home a.is_site
+  pub home_is : x.home ≡ site.content.name
+  home_is = on l.place k.home is_site
     where
-      on : (place : Place) → site_in T place ≡ Some x.home → site_of place t.config.roots ≡ Some a.site → x.home ≡ a.site.content.name
+      on : (place : Place) → site_in T place ≡ Some x.home → site_of place c.roots ≡ Some site → x.home ≡ site.content.name
       on (Place.Goal g) e i =
-          let w : (row : GoalRow) × (T.goal_of g ≡ Some row) × (row.home ≡ a.site.content.name) = row_of_goal T t.config t.unfolds once g a.site i in
+          let w : (row : GoalRow) × (T.goal_of g ≡ Some row) × (row.home ≡ site.content.name) = row_of_goal T c u once g site i in
           some_value (sym e ∙ ap writes.home_in w.1) ∙ w.2
-      on (Place.Box n) e i = some_value (sym e) ∙ box-itself n t.config.roots a.site i
+      on (Place.Box n) e i = some_value (sym e) ∙ box-itself n c.roots site i
 
-  pub holder_is : option_map (λ (h : Holder). h.goal) x.holder ≡ holder_in a.site.content.name t.config.roots
+  pub holder_is : option_map (λ (h : Holder). h.goal) x.holder ≡ holder_in site.content.name c.roots
   holder_is =
-      let w : (v : BoxRow) × (T.box_of a.site.content.name ≡ Some v) × IsBoxRow T t.config.roots a.site v = row_of T t.config t.unfolds a.site.content.name a.site there in
+      let w : (v : BoxRow) × (T.box_of site.content.name ≡ Some v) × IsBoxRow T c.roots site v = row_of T c u site.content.name site site_there in
       k.holder ∙ ap (λ (n : Name). writes.holder_in_row (T.box_of n)) home_is ∙ ap writes.holder_in_row w.1 ∙ w.2.holder
 
-  pub holder_by : (g : Name) → holder_in a.site.content.name t.config.roots ≡ Some g → (h : Holder) × (x.holder ≡ Some h) × (h.goal ≡ g)
+  pub holder_by : (g : Name) → holder_in site.content.name c.roots ≡ Some g → (h : Holder) × (x.holder ≡ Some h) × (h.goal ≡ g)
   holder_by g e = map_some (λ (h : Holder). h.goal) x.holder g (holder_is ∙ e)
 
-  pub holds_by : (g : Name) → HoldsSite a g → (h : Holder) × (x.holder ≡ Some h) × (h.goal ≡ g)
-  holds_by g y = holder_by g (alternative_at t.config.roots once a.site.content.name g y.home y.op y.alternatives y.is_home y.held y.among).holder
+  pub held_by : (h : Holder) → x.holder ≡ Some h → IsHeldBy site.content.name h.goal site c.roots
+  held_by h e = held_around c.roots once site.content.name h.goal site site_there (sym holder_is ∙ ap (option_map (λ (h : Holder). h.goal)) e)
 
-  pub held_by : (h : Holder) → x.holder ≡ Some h → IsHeldBy a.site.content.name h.goal a.site t.config.roots
-  held_by h e = held_around t.config.roots once a.site.content.name h.goal a.site there (sym holder_is ∙ ap (option_map (λ (h : Holder). h.goal)) e)
-
-  pub holder_home_is : (h : Holder) (e : Found) → x.holder ≡ Some h → home_of h.goal t.config.roots ≡ Some e → h.home ≡ e.content.name
+  pub holder_home_is : (h : Holder) (e : Found) → x.holder ≡ Some h → home_of h.goal c.roots ≡ Some e → h.home ≡ e.content.name
   holder_home_is h e i j =
-      let w : (row : GoalRow) × (T.goal_of h.goal ≡ Some row) × (row.home ≡ e.content.name) = row_of_goal T t.config t.unfolds once h.goal e j in
+      let w : (row : GoalRow) × (T.goal_of h.goal ≡ Some row) × (row.home ≡ e.content.name) = row_of_goal T c u once h.goal e j in
       some_value (sym (k.holder_home h i) ∙ ap writes.home_in w.1) ∙ w.2

@@ -1,5 +1,5 @@
 -- What a label makes of its goal and of the box of its place.
-use Rattle.std.proofs.Common.{◌≡◌, List, Some, None, sym, ◌∙◌, ap, subst, inl, inr}
+use Rattle.std.proofs.Common.{◌≡◌, ◌≤◌, List, Some, None, sym, ◌∙◌, ap, subst, inl, inr}
 use Rattle.std.specs.Prelude.{option_map, slice_index}
 use Rattle.akl_terms.specs.declared.name.Name.{Name}
 use Rattle.akl_terms.specs.declared.name.Place.{Place}
@@ -10,18 +10,30 @@ use Rattle.akl_model.specs.declared.label.Label.{Label}
 use Rattle.akl_model.specs.Config.{Config, held_in, Found, box_at, home_of}
 use Rattle.akl_model.specs.Rules.{change_by}
 use Rattle.akl_model.specs.Derivations.{Applies, Replays}
-use Rattle.akl_model.specs.Changes.{shape_of, shape_at, goal_names, goals_at}
+use Rattle.akl_model.specs.Changes.{shape_of, shape_at, goals_at}
+use Rattle.akl_model.specs.Wakes.{holder_in}
 use Rattle.akl_model.proofs.Options.{some_value}
+use Rattle.akl_model.proofs.Finds.{times}
 use Rattle.akl_model.proofs.NamesKept.{Stand, replay-stands, stands_after, home-box}
+use Rattle.step_laws.specs.Holders.{IsHeldBy}
 use Rattle.step_laws.specs.Likeness.{IsLike}
 use Rattle.step_laws.specs.ChangedItems.{goal_of, IsReplaced}
 use Rattle.step_laws.proofs.Whereabouts.{home_in}
-use Rattle.step_laws.proofs.GoalEdits.{HasGoal, has_names}
+use Rattle.step_laws.proofs.GoalEdits.{HasGoal}
 use Rattle.step_laws.proofs.Becomes.{IsBox, Becomes, BecomesAt, Fate, goes, changes}
 use Rattle.step_laws.proofs.Steps.{found, made, not_old, old_goal, site_stands, site_now, site_there, later_step, Later}
 use Rattle.step_laws.proofs.Stays.{like_home, shape_held}
 use Rattle.step_laws.proofs.Deeper.{home_found}
 use Rattle.step_laws.proofs.Replaced.{goal_rule, replaced_law}
+use Rattle.step_laws.proofs.Holders.{alternative_at}
+use Rattle.table_laws.specs.Rows.{Table}
+use Rattle.table_laws.specs.Stamped.{Run, IsTableOf}
+use Rattle.opened_places.specs.declared.around.Holder.{Holder}
+use Rattle.opened_places.specs.declared.around.Around.{Around}
+use Rattle.opened_places.specs.Exact.{IsAround}
+use Rattle.opened_places.proofs.ChangedWays.{HoldsSite}
+use Rattle.opened_places.proofs.GoesFrom.{goals_differ}
+use Rattle.opened_places.proofs.AtRows as rows
 
 module _ (rules : List Rule) (p : Program) (q : Query) (journal : List Label) (c : Config) (l : Label) (d : Config) (replays : Replays rules p q journal c) (a : Applies rules p c l d) where
   pub before : Stand c
@@ -93,9 +105,27 @@ module _ (rules : List Rule) (p : Program) (q : Query) (journal : List Label) (c
 
     -- where it isn't, its box has another set of goals
     pub names_differ : home_of g d.roots ≡ None → goals_at a.site.content.name c.roots ≡ goals_at a.site.content.name d.roots → ⊥
-    names_differ z e =
-        let n : goal_names a.site.goals ≡ goal_names b.goals =
-        some_value (sym (ap (option_map (λ (f : Found). goal_names f.goals)) was_there) ∙ e ∙ ap (option_map (λ (f : Found). goal_names f.goals)) now_there) in
-        let h : HasGoal g b.goals = has_names g a.site.goals b.goals n (b.was, its) in
-        let k : home_of g d.roots ≡ Some (site_now b) = home_found d.roots afterwards.once g a.site.content.name (site_now b) h.0 now_there h.1 in
-        absurd cc
+    names_differ z = goals_differ c d afterwards g a.site (site_now b) was_there now_there (b.was, its) z
+
+-- what stands about the label's place, by a table's rows
+module _ (rules : List Rule) (r : Run) (T : Table) (l : Label) (d : Config) (t : IsTableOf rules r T) (a : Applies rules r.program t.config l d) (x : Around) (k : IsAround T l x) where
+  once : (m : Name) → times m t.config.roots ≤ 1
+  once = (before rules r.program r.query r.journal t.config l d t.replays a).once
+
+  pub home_is : x.home ≡ a.site.content.name
+  home_is = rows.home_is T t.config t.unfolds once l a.site a.is_site x k
+
+  pub holder_is : option_map (λ (h : Holder). h.goal) x.holder ≡ holder_in a.site.content.name t.config.roots
+  holder_is = rows.holder_is T t.config t.unfolds once l a.site a.is_site x k
+
+  pub holder_by : (g : Name) → holder_in a.site.content.name t.config.roots ≡ Some g → (h : Holder) × (x.holder ≡ Some h) × (h.goal ≡ g)
+  holder_by = rows.holder_by T t.config t.unfolds once l a.site a.is_site x k
+
+  pub holds_by : (g : Name) → HoldsSite a g → (h : Holder) × (x.holder ≡ Some h) × (h.goal ≡ g)
+  holds_by g y = holder_by g (alternative_at t.config.roots once a.site.content.name g y.home y.op y.alternatives y.is_home y.held y.among).holder
+
+  pub held_by : (h : Holder) → x.holder ≡ Some h → IsHeldBy a.site.content.name h.goal a.site t.config.roots
+  held_by = rows.held_by T t.config t.unfolds once l a.site a.is_site x k
+
+  pub holder_home_is : (h : Holder) (e : Found) → x.holder ≡ Some h → home_of h.goal t.config.roots ≡ Some e → h.home ≡ e.content.name
+  holder_home_is = rows.holder_home_is T t.config t.unfolds once l a.site a.is_site x k

@@ -30,7 +30,6 @@ use Rattle.opened_places.proofs.ChangedWays.{Way, new_goal, new_box, goal_itself
 use Rattle.opened_places.proofs.GoalTurns.{AreHolders}
 use Rattle.opened_places.proofs.HolderTurns as held
 use Rattle.opened_places.proofs.AtSite as site
-use Rattle.opened_places.proofs.AtRows as rows
 
 -- Fail makes no boxes, at a box, and names no alternative
 record IsFail (place : Place) (alternative : Option Name) (f : Found) (c : Change) : Type 0 where
@@ -75,7 +74,7 @@ module _ (rules : List Rule) (r : Run) (T : Table) (l : Label) (d : Config) (t :
   no_goal g f i j = let z : home_of g d.roots ≡ None = subst (λ (bs : Boxes). home_of g bs ≡ None) left_roots (home_none a.site.content.name t.config.roots s.once still g i) in cc
 
   abbrev by : (h : Holder) → x.holder ≡ Some h → IsHeldBy a.site.content.name h.goal a.site t.config.roots
-  by h e = rows.held_by rules r T l d t a x k h e
+  by h e = site.held_by rules r T l d t a x k h e
 
   -- the choice that held the box hasn't it any more
   differs : (h : Holder) → x.holder ≡ Some h → shape_at h.goal t.config.roots ≡ shape_at h.goal d.roots → ⊥

@@ -21,7 +21,7 @@ use Rattle.opened_places.specs.declared.around.Around.{Around}
 use Rattle.opened_places.proofs.ListedPlaces.{new_places, listed}
 use Rattle.opened_places.specs.Exact.{IsAround, AreExactly}
 use Rattle.opened_places.proofs.Members.{part_boxes, part_goals, box_named, goal_named, new_parts, new_parts_places, new_parts_names, either_some, new_box_in, in_new_box, new_goal_in, in_new_goal}
-use Rattle.opened_places.proofs.SetRows.{some_none, set_itself, replaced_none, changed_none, kept_goals}
+use Rattle.opened_places.proofs.SetRows.{some_none, set_itself, replaced_none, changed_none, kept_part}
 use Rattle.opened_places.proofs.AtSite as site
 use Rattle.opened_places.proofs.AtRows as rows
 use Rattle.opened_places.proofs.GoalTurns as turns
@@ -60,7 +60,7 @@ module _ (rules : List Rule) (r : Run) (T : Table) (l : Label) (d : Config) (t :
       on (n ∷ ns) = refl
 
   coming : Comes t.config d (part_boxes (new_parts news)) (part_goals (new_parts news))
-  coming = comes rules r T U l d t a v (part_boxes (new_parts news)) (part_goals (new_parts news))
+  coming = comes T U t.config d t.unfolds v (site.before rules r.program r.query r.journal t.config l d t.replays a) (site.afterwards rules r.program r.query r.journal t.config l d t.replays a) (part_boxes (new_parts news)) (part_goals (new_parts news))
       (λ m w i j. elim (or_some (new_box_of g None (T.steps + 1) news m) (changed_box (home_in (T.goal_of g)) (failing_by g op news) T.box_of m) w j) [
         | inl e ↦ new_box_in g None (T.steps + 1) news m w e
         | inr e ↦ absurd (some_none (changed_none (home_in (T.goal_of g)) (failing_by g op news) T.box_of m i) e.1)
@@ -90,7 +90,7 @@ module _ (rules : List Rule) (r : Run) (T : Table) (l : Label) (d : Config) (t :
   same = same_goals rules r T U l d t a v makes.1.0 makes.1.1 (λ w y i j.
       elim (or_some (new_box_of g None (T.steps + 1) news a.site.content.name) (changed_box (home_in (T.goal_of g)) (failing_by g op news) T.box_of a.site.content.name) y j) [
         | inl e ↦ absurd (some_none (fresh.no_box a.site.content.name (drawn_box a.site.content.name (new_box_in g None (T.steps + 1) news a.site.content.name y e))) i)
-        | inr e ↦ kept_goals (home_in (T.goal_of g)) (failing_by g op news) T.box_of a.site.content.name w y keeps i e.1
+        | inr e ↦ kept_part (λ (q : BoxRow). q.goals) (home_in (T.goal_of g)) (failing_by g op news) T.box_of a.site.content.name w y keeps i e.1
       ])
 
   pub forked : (x : Around) (k : IsAround T l x) → AreExactly t.config d (listed l.place x (forks op news))

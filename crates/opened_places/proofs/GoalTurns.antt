@@ -22,7 +22,6 @@ use Rattle.opened_places.specs.Exact.{IsAround, AreExactly}
 use Rattle.opened_places.proofs.Members.{one_left, one_right, one_either, part_places, part_boxes, part_goals, box_one, goal_one, one_part}
 use Rattle.opened_places.proofs.ChangedWays.{HoldsSite, Way, new_goal, new_box, goal_itself, goal_box, holder_itself, holder_box, site_itself, site_holder, way}
 use Rattle.opened_places.proofs.AtSite as site
-use Rattle.opened_places.proofs.AtRows as rows
 
 -- what comes: these boxes, and these goals
 pub record Comes (c d : Config) (boxes goals : List Name) : Type 0 where
@@ -48,7 +47,7 @@ module _ (rules : List Rule) (r : Run) (T : Table) (l : Label) (d : Config) (t :
   the_list = Place.Goal g ∷ Place.Box x.home ∷ (held ++ part_places parts)
 
   home_is : x.home ≡ a.site.content.name
-  home_is = rows.home_is rules r T l d t a x k
+  home_is = site.home_is rules r T l d t a x k
 
   was : home_of g t.config.roots ≡ Some a.site
   was = site.home_was rules r.program r.query r.journal t.config l d t.replays a g at.0 at.1 is_goal

@@ -8,11 +8,11 @@ use Rattle.akl_model.specs.Wakes.{IsOneOf}
 use Rattle.table_laws.specs.Steps.{Step, tells, forks, fails, cuts, joins, refutes, confirms, splits}
 use Rattle.table_laws.specs.Walks.{ListsEach}
 use Rattle.table_laws.specs.Going.{OwnGoalGoes, boxes_going}
-use Rattle.table_laws.proofs.GoneSteps.{gone_listed_law}
 use Rattle.box_tree.specs.declared.step.Step as declared
-use Rattle.box_tree.specs.Tables.{all_rules, TableValue, table_of, step_of}
+use Rattle.box_tree.specs.Tables.{TableValue, table_of, step_of}
 use Rattle.box_tree.specs.Views.{run_of}
 use Rattle.opened_places.specs.Gone.{AreGone, own_places, places_at}
+use Rattle.opened_places.proofs.GoneBy.{listed_by}
 use Rattle.opened_places.proofs.Members.{one_left, one_right, one_either}
 use Rattle.opened_places.proofs.PlacesAt.{of_listed, listed_of}
 
@@ -41,17 +41,17 @@ in_own place own (splits copy copies) i = absurd i
 -- places that are listed, whatever the nodes, are those that go
 pub listed_gone : (v : TableValue) (l : Label) (step : declared.Step) (tops names : List Name) (places : List Place) → ((nodes : List Node) → tops ≡ boxes_going (table_of v) (step_of nodes step) l.place l.alternative)
     → ListsEach (table_of v) tops names → ((nodes : List Node) → places ≡ own_places l.place (step_of nodes step) ++ places_at (table_of v) names) → AreGone v l step places
-listed_gone v l step tops names places is_going lists e = λ journal t d a makes.
+listed_gone v l step tops names places is_going lists e = λ journal t more d leads.
     let T = table_of v in
     let made : Step = step_of v.program.templates.nodes step in
     let each : ListsEach T (boxes_going T made l.place l.alternative) names = subst (λ (ns : List Name). ListsEach T ns names) (is_going v.program.templates.nodes) lists in
     let same : places ≡ own_places l.place made ++ places_at T names = e v.program.templates.nodes in
     record {
-      listed = λ p x. subst (IsOneOf p) (sym same) (elim ((gone_listed_law all_rules (run_of v journal) T l d t a made makes names each p).0 x) [
+      listed = λ p x. subst (IsOneOf p) (sym same) (elim ((listed_by (run_of v journal) T t l more made d leads names each p).0 x) [
         | inl y ↦ one_left p (own_places l.place made) (places_at T names) (own_in p l.place made y.0 y.1)
         | inr y ↦ one_right p (own_places l.place made) (places_at T names) (listed_of T names p y)
       ]);
-      gone = λ p i. (gone_listed_law all_rules (run_of v journal) T l d t a made makes names each p).1 (elim (one_either p (own_places l.place made) (places_at T names) (subst (IsOneOf p) same i)) [
+      gone = λ p i. (listed_by (run_of v journal) T t l more made d leads names each p).1 (elim (one_either p (own_places l.place made) (places_at T names) (subst (IsOneOf p) same i)) [
         | inl j ↦ inl (in_own p l.place made j)
         | inr j ↦ inr (of_listed T names p j)
       ]);

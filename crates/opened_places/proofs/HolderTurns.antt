@@ -31,7 +31,6 @@ use Rattle.opened_places.proofs.ListedPlaces.{holder_places}
 use Rattle.opened_places.specs.Exact.{IsAround}
 use Rattle.opened_places.proofs.GoalTurns.{AreHolders}
 use Rattle.opened_places.proofs.AtSite as site
-use Rattle.opened_places.proofs.AtRows as rows
 
 module _ (rules : List Rule) (r : Run) (T : Table) (l : Label) (d : Config) (t : IsTableOf rules r T) (a : Applies rules r.program t.config l d) (x : Around) (k : IsAround T l x) where
   s : Stand t.config
@@ -41,12 +40,12 @@ module _ (rules : List Rule) (r : Run) (T : Table) (l : Label) (d : Config) (t :
   later = site.afterwards rules r.program r.query r.journal t.config l d t.replays a
 
   -- the box of the place doesn't stand around the box of the choice that holds it, nor is it this one
-  pub apart : (h : Holder) (e : x.holder ≡ Some h) → IsIn a.site.content.name (names_down_to (rows.held_by rules r T l d t a x k h e).home) → ⊥
-  apart h e i = site_apart rules r.program t.config l d s a (subst (IsIn a.site.content.name) (sym (rows.held_by rules r T l d t a x k h e).names) i)
+  pub apart : (h : Holder) (e : x.holder ≡ Some h) → IsIn a.site.content.name (names_down_to (site.held_by rules r T l d t a x k h e).home) → ⊥
+  apart h e i = site_apart rules r.program t.config l d s a (subst (IsIn a.site.content.name) (sym (site.held_by rules r T l d t a x k h e).names) i)
 
   module _ (h : Holder) (e : x.holder ≡ Some h) where
     abbrev by : IsHeldBy a.site.content.name h.goal a.site t.config.roots
-    by = rows.held_by rules r T l d t a x k h e
+    by = site.held_by rules r T l d t a x k h e
 
     home_there : box_at by.home.content.name t.config.roots ≡ Some by.home
     home_there = home-box h.goal t.config.roots by.home s.once by.is_home
@@ -71,16 +70,16 @@ module _ (rules : List Rule) (r : Run) (T : Table) (l : Label) (d : Config) (t :
     pub home_named : (f : Found) → home_of h.goal d.roots ≡ Some f → f.content.name ≡ h.home
     home_named f z =
         let like : IsLike by.home f = like_home t.config d s later (later_step rules r.program t.config l d s a) h.goal by.home f by.is_home z in
-        sym like.name ∙ sym (rows.holder_home_is rules r T l d t a x k h by.home e by.is_home)
+        sym like.name ∙ sym (site.holder_home_is rules r T l d t a x k h by.home e by.is_home)
 
   -- where the choice has other alternatives
   pub holders : ((h : Holder) → x.holder ≡ Some h → shape_at h.goal t.config.roots ≡ shape_at h.goal d.roots → ⊥) → AreHolders t a (holder_places x.holder)
   holders differs = record {
     itself = λ i y.
-        let w : (h : Holder) × (x.holder ≡ Some h) × (h.goal ≡ i) = rows.holds_by rules r T l d t a x k i y in
+        let w : (h : Holder) × (x.holder ≡ Some h) × (h.goal ≡ i) = site.holds_by rules r T l d t a x k i y in
         subst (λ (o : Option Holder). IsOneOf (Place.Goal i) (holder_places o)) (sym w.1) (inl (ap Place.Goal (sym w.2)));
     home = λ i f y z.
-        let w : (h : Holder) × (x.holder ≡ Some h) × (h.goal ≡ i) = rows.holds_by rules r T l d t a x k i y in
+        let w : (h : Holder) × (x.holder ≡ Some h) × (h.goal ≡ i) = site.holds_by rules r T l d t a x k i y in
         subst (λ (o : Option Holder). IsOneOf (Place.Box f.content.name) (holder_places o)) (sym w.1)
         (inr (inl (ap Place.Box (home_named w.0 w.1 f (subst (λ (j : Name). home_of j d.roots ≡ Some f) (sym w.2) z)))));
     changed = λ p y. on p x.holder refl y;

@@ -5,11 +5,13 @@ pub mod ChangedWays
 pub mod AtSite
 pub mod AtRows
 pub mod SetRows
+pub mod GoesFrom
 pub mod GoalGoes
 pub mod GoalTurns
 pub mod HolderTurns
 pub mod RowSteps
 pub mod RefuteStep
+pub mod JoinRows
 pub mod PromoteStep
 pub mod ForkStep
 pub mod CutStep
@@ -17,6 +19,7 @@ pub mod FailStep
 pub mod SplitSteps
 pub mod ExactSteps
 pub mod PlacesAt
+pub mod GoneBy
 pub mod GoneListed
 pub mod RunRows
 pub mod InnerPlaces
@@ -28,4 +31,8 @@ pub mod OldAround
 pub mod NewAround
 pub mod CopyAround
 pub mod AroundPath
+pub mod Leading
+pub mod CallWays
+pub mod CallPlaces
+pub mod CallAround
 pub mod AroundSteps

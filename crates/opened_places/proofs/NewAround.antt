@@ -22,13 +22,13 @@ use Rattle.step_laws.specs.Likeness.{IsLike}
 use Rattle.step_laws.proofs.Becomes.{BecomesAt}
 use Rattle.step_laws.proofs.Holders.{held_around}
 use Rattle.step_laws.proofs.Stays.{like_home}
-use Rattle.step_laws.proofs.Steps.{site_now}
+use Rattle.step_laws.proofs.Steps.{site_stands, site_now}
 use Rattle.local_store.specs.Stored.{Stored}
 use Rattle.table_laws.specs.Rows.{BoxRow, GoalRow, Table}
 use Rattle.table_laws.specs.Unfolds.{IsBoxRow, Unfolds}
 use Rattle.table_laws.specs.Stamped.{Run, IsTableOf}
 use Rattle.table_laws.specs.Steps.{NewBox, forks, joins, Makes}
-use Rattle.table_laws.specs.Writes.{IsFresh, set, changed_box, home_in as home_in_row, new_box_of, new_goal_of, new_row, names_drawn, atom_among, home_or, failing_by, forked_row}
+use Rattle.table_laws.specs.Writes.{IsFresh, set, changed_box, home_in as home_in_row, new_box_of, new_goal_of, new_row, names_drawn, atom_among, home_or, failing_by, forked_row, solved_when}
 use Rattle.table_laws.proofs.Frame.{found_of}
 use Rattle.table_laws.proofs.Fresh.{fresh_step}
 use Rattle.opened_places.specs.Placed.{placed, StandsSo, goals_placed}
@@ -36,6 +36,7 @@ use Rattle.opened_places.specs.Listed.{new_placed}
 use Rattle.opened_places.proofs.InnerPlaces.{all_append, all_goals}
 use Rattle.opened_places.proofs.Members.{firsts, searched, atom_row_in, in_atom_row, in_new_box, in_new_goal, new_parts, part_boxes, part_goals}
 use Rattle.opened_places.proofs.SetRows.{some_none}
+use Rattle.opened_places.proofs.JoinRows.{AreJoined, new_goal_row}
 use Rattle.opened_places.proofs.AtSite as site
 use Rattle.opened_places.proofs.AtRows as rows
 use Rattle.opened_places.proofs.StillAround as still
@@ -115,6 +116,28 @@ new_goal_part n [] i new j = absurd new
 new_goal_part n (m ∷ ms) i (inl e) j = IsIn-left i (firsts m.goals) (part_goals (new_parts ms)) (subst (λ (k : NewBox). IsIn i (firsts k.goals)) e j)
 new_goal_part n (m ∷ ms) i (inr new) j = IsIn-right i (firsts m.goals) (part_goals (new_parts ms)) (new_goal_part n ms i new j)
 
+module _ (U : Table) (d : Config) (v : Unfolds U d) (later : Stand d) where
+  -- a goal that comes into a box
+  goal_in : (i : Name) (w : GoalRow) (f : Found) → U.goal_of i ≡ Some w → box_at w.home d.roots ≡ Some f → home_of i d.roots ≡ Some f
+  goal_in i w f e j =
+      let k : (f : Found) × (home_of i d.roots ≡ Some f) × (shape_at i d.roots ≡ Some w.shape) = rows.row_home U d v i w e in
+      let z : (row : GoalRow) × (U.goal_of i ≡ Some row) × (row.home ≡ k.0.content.name) = rows.row_of_goal U d v later.once i k.0 k.1 in
+      let same : w.home ≡ k.0.content.name = ap (λ (y : GoalRow). y.home) (some_value (sym e ∙ z.1)) ∙ z.2 in
+      let found : box_at w.home d.roots ≡ Some k.0 = ap (λ (n : Name). box_at n d.roots) same ∙ home-box i d.roots k.0 later.once k.1 in
+      k.1 ∙ sym found ∙ j
+
+  -- goals that join a box stand in it
+  module _ (T : Table) (g : Name) (new : Stored) (solved_at : Option ℕ) (goals : List (Name × Atom)) (number : ℕ) (joined : AreJoined T U g new solved_at goals number) (row : GoalRow) (its : T.goal_of g ≡ Some row)
+      (e f : Found) (home : row.home ≡ e.content.name) (there : box_at e.content.name d.roots ≡ Some f) (down : names_down_to f ≡ names_down_to e) where
+    joined_at : (i : Name) → IsIn i (firsts goals) → StandsSo d.roots (placed (Place.Goal i) (names_down_to e))
+    joined_at i j =
+        let w : (w : GoalRow) × (atom_among (home_or (T.goal_of g) g) number goals i ≡ Some w) × (U.goal_of i ≡ Some w) = new_goal_row T U g new solved_at goals number joined i j in
+        let home : w.0.home ≡ e.content.name = atom_home (home_or (T.goal_of g) g) number goals i w.0 w.1 ∙ ap (λ (o : Option GoalRow). home_or o g) its ∙ home in
+        ap (option_map names_down_to) (goal_in i w.0 f w.2 (ap (λ (n : Name). box_at n d.roots) home ∙ there)) ∙ ap Some down
+
+    pub joined_all : AllByRecursion (StandsSo d.roots) (goals_placed (names_down_to e) (firsts goals))
+    joined_all = all_goals (StandsSo d.roots) (names_down_to e) (firsts goals) joined_at
+
 module _ (rules : List Rule) (r : Run) (T : Table) (l : Label) (d : Config) (t : IsTableOf rules r T) (a : Applies rules r.program t.config l d) where
   later : Stand d
   later = site.afterwards rules r.program r.query r.journal t.config l d t.replays a
@@ -137,40 +160,15 @@ module _ (rules : List Rule) (r : Run) (T : Table) (l : Label) (d : Config) (t :
     home_row : (row : GoalRow) × (T.goal_of g ≡ Some row) × (row.home ≡ a.site.content.name)
     home_row = rows.row_of_goal T t.config t.unfolds (site.before rules r.program r.query r.journal t.config l d t.replays a).once g a.site home_was
 
-  -- a goal that comes into a box
-  goal_in : (U : Table) (v : Unfolds U d) (i : Name) (w : GoalRow) (f : Found) → U.goal_of i ≡ Some w → box_at w.home d.roots ≡ Some f → home_of i d.roots ≡ Some f
-  goal_in U v i w f e j =
-      let k : (f : Found) × (home_of i d.roots ≡ Some f) × (shape_at i d.roots ≡ Some w.shape) = rows.row_home U d v i w e in
-      let z : (row : GoalRow) × (U.goal_of i ≡ Some row) × (row.home ≡ k.0.content.name) = rows.row_of_goal U d v later.once i k.0 k.1 in
-      let same : w.home ≡ k.0.content.name = ap (λ (y : GoalRow). y.home) (some_value (sym e ∙ z.1)) ∙ z.2 in
-      let found : box_at w.home d.roots ≡ Some k.0 = ap (λ (n : Name). box_at n d.roots) same ∙ home-box i d.roots k.0 later.once k.1 in
-      k.1 ∙ sym found ∙ j
-
   -- promoted goals stand in the box of the place
   module _ (new : Stored) (solved : Bool) (goals : List (Name × Atom)) (makes : Makes r.program l (slice_index t.config.next l.worker) a.site (joins new solved goals)) where
-    abbrev g : Name
-    g = makes.0
-
-    U : Table
-    U = promote.U rules r T l d t a new solved goals makes
-
-    like : (f : Found) → box_at a.site.content.name d.roots ≡ Some f → names_down_to f ≡ names_down_to a.site
-    like f e = still.site_down rules r.program r.query r.journal t.config l d t.replays a f e
-
-    promoted_at : (i : Name) → IsIn i (firsts goals) → StandsSo d.roots (placed (Place.Goal i) (names_down_to a.site))
-    unfolding U
-    promoted_at i j =
-        let row : (row : GoalRow) × (T.goal_of g ≡ Some row) × (row.home ≡ a.site.content.name) = home_row g makes.1 in
-        let w : (w : GoalRow) × (atom_among (promote.home rules r T l d t a new solved goals makes) (T.steps + 1) goals i ≡ Some w) = in_atom_row (promote.home rules r T l d t a new solved goals makes) (T.steps + 1) goals i j in
-        let home : w.0.home ≡ a.site.content.name =
-        atom_home (promote.home rules r T l d t a new solved goals makes) (T.steps + 1) goals i w.0 w.1 ∙ ap (λ (o : Option GoalRow). home_or o g) row.1 ∙ row.2 in
-        let there : U.goal_of i ≡ Some w.0 = left_some (atom_among (promote.home rules r T l d t a new solved goals makes) (T.steps + 1) goals i) (set g None T.goal_of i) w.0 w.1 in
-        let f : Found = now g makes.1 in
-        let found : box_at w.0.home d.roots ≡ Some f = ap (λ (n : Name). box_at n d.roots) home ∙ now_there g makes.1 in
-        ap (option_map names_down_to) (goal_in U (promote.v rules r T l d t a new solved goals makes) i w.0 f there found) ∙ ap Some (like f (now_there g makes.1))
-
     pub promoted_all : AllByRecursion (StandsSo d.roots) (goals_placed (names_down_to a.site) (firsts goals))
-    promoted_all = all_goals (StandsSo d.roots) (names_down_to a.site) (firsts goals) promoted_at
+    promoted_all =
+        let row : (row : GoalRow) × (T.goal_of makes.0 ≡ Some row) × (row.home ≡ a.site.content.name) = home_row makes.0 makes.1 in
+        joined_all (promote.U rules r T l d t a new solved goals makes) d (promote.v rules r T l d t a new solved goals makes) later T makes.0 new (solved_when None solved) goals (T.steps + 1)
+        (promote.joined rules r T l d t a new solved goals makes) row.0 row.1 a.site (now makes.0 makes.1) row.2 (now_there makes.0 makes.1)
+        (still.site_down t.config d (site.before rules r.program r.query r.journal t.config l d t.replays a) later (site.further rules r.program r.query r.journal t.config l d t.replays a) a.site (now makes.0 makes.1)
+        (site_stands rules r.program t.config l d (site.before rules r.program r.query r.journal t.config l d t.replays a) a) (now_there makes.0 makes.1))
 
   -- the boxes of a fork
   module _ (op : Operator) (news : List NewBox) (makes : Makes r.program l (slice_index t.config.next l.worker) a.site (forks op news)) where
@@ -207,7 +205,7 @@ module _ (rules : List Rule) (r : Run) (T : Table) (l : Label) (d : Config) (t :
         let w : (w : GoalRow) × (new_goal_of (T.steps + 1) news i ≡ Some w) = in_new_goal (T.steps + 1) news i (new_goal_part n news i new j) in
         let there : V.goal_of i ≡ Some w.0 = left_some (new_goal_of (T.steps + 1) news i) (set h (option_map (forked_row op news (T.steps + 1)) (T.goal_of h)) T.goal_of i) w.0 w.1 in
         let home : w.0.home ≡ n.name = new_home (T.steps + 1) n news i w.0 new j (fresh.once i) w.1 in
-        ap (option_map names_down_to) (goal_in V v i w.0 x.found there (ap (λ (m : Name). box_at m d.roots) home ∙ x.is_found))
+        ap (option_map names_down_to) (goal_in V d v later i w.0 x.found there (ap (λ (m : Name). box_at m d.roots) home ∙ x.is_found))
         ∙ (λ k. Some ((x.around k) ++ (sym (box-itself n.name d.roots x.found x.is_found) k) ∷ []))
 
     new_all : (some : List NewBox) → ((n : NewBox) → IsNewOf n some → IsNewOf n news) → AllByRecursion (StandsSo d.roots) (new_placed (names_down_to a.site) some)

@@ -32,37 +32,35 @@ use Rattle.opened_places.proofs.GoalTurns.{Comes}
 pub same_table : (T : Table) → IsTable T T
 same_table T = record { nodes = refl; boxes = λ n. refl; goals = λ g. refl; roots = refl; roots_changed = refl; next = λ w. refl; steps = refl }
 
-module _ (rules : List Rule) (r : Run) (T U : Table) (l : Label) (d : Config) (t : IsTableOf rules r T) (a : Applies rules r.program t.config l d) (v : Unfolds U d) where
-  s : Stand t.config
-  s = site.before rules r.program r.query r.journal t.config l d t.replays a
-
-  later : Stand d
-  later = site.afterwards rules r.program r.query r.journal t.config l d t.replays a
-
+module _ (T U : Table) (c d : Config) (u : Unfolds T c) (v : Unfolds U d) (s : Stand c) (later : Stand d) where
   -- the rows that are new are those of what comes
   pub comes : (boxes goals : List Name)
       → ((m : Name) (w : BoxRow) → T.box_of m ≡ None → U.box_of m ≡ Some w → IsIn m boxes) → ((m : Name) → IsIn m boxes → (T.box_of m ≡ None) × ((w : BoxRow) × (U.box_of m ≡ Some w)))
       → ((i : Name) (w : GoalRow) → T.goal_of i ≡ None → U.goal_of i ≡ Some w → IsIn i goals) → ((i : Name) → IsIn i goals → (T.goal_of i ≡ None) × ((w : GoalRow) × (U.goal_of i ≡ Some w)))
-      → Comes t.config d boxes goals
+      → Comes c d boxes goals
   comes boxes goals box_in in_box goal_in in_goal = record {
     box_in = λ m f i j.
         let w : (w : BoxRow) × (U.box_of m ≡ Some w) × IsBoxRow U d.roots f w = row_of U d v m f j in
-        box_in m w.0 (rows.no_box_row T t.config t.unfolds m i) w.1;
+        box_in m w.0 (rows.no_box_row T c u m i) w.1;
     in_box = λ m i.
         let w : (T.box_of m ≡ None) × ((w : BoxRow) × (U.box_of m ≡ Some w)) = in_box m i in
         let f : (f : Found) × (box_at m d.roots ≡ Some f) × IsBoxRow U d.roots f w.1.0 = found_of U d v m w.1.0 w.1.1 in
-        (rows.box_gone T t.config t.unfolds m w.0, (f.0, f.1));
+        (rows.box_gone T c u m w.0, (f.0, f.1));
     goal_in = λ i f j k.
         let w : (w : GoalRow) × (U.goal_of i ≡ Some w) × (w.home ≡ f.content.name) = rows.row_of_goal U d v later.once i f k in
-        goal_in i w.0 (rows.no_goal_row T t.config t.unfolds i j) w.1;
+        goal_in i w.0 (rows.no_goal_row T c u i j) w.1;
     in_goal = λ i j.
         let w : (T.goal_of i ≡ None) × ((w : GoalRow) × (U.goal_of i ≡ Some w)) = in_goal i j in
         let f : (f : Found) × (home_of i d.roots ≡ Some f) × (shape_at i d.roots ≡ Some w.1.0.shape) = rows.row_home U d v i w.1.0 w.1.1 in
-        (rows.goal_gone T t.config t.unfolds s.once i w.0, (f.0, f.1));
+        (rows.goal_gone T c u s.once i w.0, (f.0, f.1));
   }
 
-  pub nothing_comes : ((m : Name) → T.box_of m ≡ None → U.box_of m ≡ None) → ((i : Name) → T.goal_of i ≡ None → U.goal_of i ≡ None) → Comes t.config d [] []
+  pub nothing_comes : ((m : Name) → T.box_of m ≡ None → U.box_of m ≡ None) → ((i : Name) → T.goal_of i ≡ None → U.goal_of i ≡ None) → Comes c d [] []
   nothing_comes boxes goals = comes [] [] (λ m w i j. some_none (boxes m i) j) (λ m z. absurd z) (λ m w i j. some_none (goals m i) j) (λ m z. absurd z)
+
+module _ (rules : List Rule) (r : Run) (T U : Table) (l : Label) (d : Config) (t : IsTableOf rules r T) (a : Applies rules r.program t.config l d) (v : Unfolds U d) where
+  s : Stand t.config
+  s = site.before rules r.program r.query r.journal t.config l d t.replays a
 
   -- the row of the label's goal
   pub its_row : (g : Name) → l.place ≡ Place.Goal g → (row : GoalRow) × (T.goal_of g ≡ Some row)
@@ -103,7 +101,7 @@ module _ (rules : List Rule) (r : Run) (T : Table) (l : Label) (d : Config) (t :
       (λ m f i j. none.box_in m f i j) none.goal_in (λ i z. absurd z))
     where
       none : Comes t.config d [] []
-      none = nothing_comes rules r T U l d t a v (λ m i. boxes m ∙ changed_none (home_in (T.goal_of g)) change T.box_of m i) (λ i j. goals i ∙ emptied_none g T.goal_of i j)
+      none = nothing_comes T U t.config d t.unfolds v (site.before rules r.program r.query r.journal t.config l d t.replays a) (site.afterwards rules r.program r.query r.journal t.config l d t.replays a) (λ m i. boxes m ∙ changed_none (home_in (T.goal_of g)) change T.box_of m i) (λ i j. goals i ∙ emptied_none g T.goal_of i j)
 
   pub told : (new : Stored) (solved : Bool) → Makes r.program l (slice_index t.config.next l.worker) a.site (tells new solved) → AreExactly t.config d (listed l.place x (tells new solved))
   told new solved makes =

@@ -39,14 +39,14 @@ pub changed_none : (o : Option Name) (change : BoxRow → BoxRow) (at : Name →
 changed_none None change at m e = e
 changed_none (Some n) change at m e = replaced_none n change at m e
 
--- a box has the goals that it had, where the change keeps these
-pub kept_goals : (o : Option Name) (change : BoxRow → BoxRow) (at : Name → Option BoxRow) (m : Name) (w v : BoxRow) → ((r : BoxRow) → (change r).goals ≡ r.goals) → at m ≡ Some w
-    → changed_box o change at m ≡ Some v → v.goals ≡ w.goals
-kept_goals None change at m w v keeps i j = ap (λ (r : BoxRow). r.goals) (some_value (sym j ∙ i))
-kept_goals (Some n) change at m w v keeps i j = elim (set_or n (option_map change (at n)) at m) [
+-- a part of a box's row is what it was, where the change keeps it
+pub kept_part : {A : Type 0} (part : BoxRow → A) (o : Option Name) (change : BoxRow → BoxRow) (at : Name → Option BoxRow) (m : Name) (w v : BoxRow) → ((r : BoxRow) → part (change r) ≡ part r) → at m ≡ Some w
+    → changed_box o change at m ≡ Some v → part v ≡ part w
+kept_part part None change at m w v keeps i j = ap part (some_value (sym j ∙ i))
+kept_part part (Some n) change at m w v keeps i j = elim (set_or n (option_map change (at n)) at m) [
   | inl y ↦
       let z : (u : BoxRow) × (at n ≡ Some u) × (change u ≡ v) = map_some change (at n) v (sym y.1 ∙ j) in
       let q : z.0 ≡ w = some_value (sym z.1 ∙ ap at (sym y.0) ∙ i) in
-      ap (λ (r : BoxRow). r.goals) (sym z.2) ∙ keeps z.0 ∙ ap (λ (r : BoxRow). r.goals) q
-  | inr y ↦ ap (λ (r : BoxRow). r.goals) (some_value (sym j ∙ y ∙ i))
+      ap part (sym z.2) ∙ keeps z.0 ∙ ap part q
+  | inr y ↦ ap part (some_value (sym j ∙ y ∙ i))
 ]

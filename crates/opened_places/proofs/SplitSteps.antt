@@ -46,7 +46,6 @@ use Rattle.opened_places.proofs.GoalTurns.{Comes, AreHolders}
 use Rattle.opened_places.proofs.GoalTurns as turns
 use Rattle.opened_places.proofs.HolderTurns as held_by
 use Rattle.opened_places.proofs.AtSite as site
-use Rattle.opened_places.proofs.AtRows as rows
 
 row_holder : (o : Option BoxRow) (v : BoxRow) → o ≡ Some v → writes.holder_in_row o ≡ v.holder
 row_holder o v e = ap writes.holder_in_row e
@@ -208,7 +207,7 @@ module _ (rules : List Rule) (r : Run) (T : Table) (l : Label) (d : Config) (t :
         (names ∙ beside.names_now rules r.program r.query r.journal t.config l d t.replays a copy two h.goal by)
       where
         by : IsHeldBy a.site.content.name h.goal a.site t.config.roots
-        by = rows.held_by rules r T l d t a x k h e
+        by = site.held_by rules r T l d t a x k h e
 
         is : shape_at h.goal d.roots ≡ Some (of_choice by.op (box_names (edited a.site.content.name a.change.boxes by.alternatives)))
         is = shape_held h.goal d.roots (beside.home_now rules r.program r.query r.journal t.config l d t.replays a copy two h.goal by) (a_choice by.op (edited a.site.content.name a.change.boxes by.alternatives))

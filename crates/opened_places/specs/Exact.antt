@@ -1,15 +1,13 @@
 -- What is listed is what changes.
-use Rattle.std.specs.Prelude.{◌≡◌, List, Option, Some, option_map, slice_index}
+use Rattle.std.specs.Prelude.{◌≡◌, List, Option, Some, option_map}
 use Rattle.std.specs.List.{AllByRecursion}
 use Rattle.akl_terms.specs.declared.name.Name.{Name}
 use Rattle.akl_terms.specs.declared.name.Place.{Place}
 use Rattle.akl_model.specs.declared.label.Label.{Label}
 use Rattle.akl_model.specs.Config.{Config}
-use Rattle.akl_model.specs.Derivations.{Applies}
 use Rattle.akl_model.specs.Wakes.{IsOneOf}
 use Rattle.table_laws.specs.Rows.{Table}
 use Rattle.table_laws.specs.Stamped.{IsTableOf}
-use Rattle.table_laws.specs.Steps.{Makes}
 use Rattle.table_laws.specs.Writes.{home_in, holder_in_row}
 use Rattle.box_tree.specs.declared.step.Step.{Step}
 use Rattle.box_tree.specs.Tables.{all_rules, TableValue, table_of, step_of}
@@ -17,6 +15,7 @@ use Rattle.box_tree.specs.Views.{run_of}
 use Rattle.opened_places.specs.declared.around.Holder.{Holder}
 use Rattle.opened_places.specs.declared.around.Around.{Around}
 use Rattle.opened_places.specs.Changed.{IsChanged}
+use Rattle.opened_places.specs.Leading.{LeadsTo}
 use Rattle.opened_places.specs.Placed.{PlacedValue, places_of, StandsSo}
 
 -- the box of a place, by a table's rows
@@ -41,7 +40,7 @@ pub record AreChangedTo (c d : Config) (places : List PlacedValue) : Type 0 wher
   pub exactly : AreExactly c d (places_of places)
   pub around : AllByRecursion (StandsSo d.roots) places
 
--- so they are wherever the label applies to the configuration of the table, and makes the step there
+-- so they are wherever the step leads on from the configuration of the table by the label, or by a call of which it is the first
 abbrev pub AreChanged : TableValue → Label → Step → List PlacedValue → Type 0
-AreChanged v l step places = (journal : List Label) (t : IsTableOf all_rules (run_of v journal) (table_of v)) (d : Config) (a : Applies all_rules v.program t.config l d)
-    → Makes v.program l (slice_index t.config.next l.worker) a.site (step_of v.program.templates.nodes step) → AreChangedTo t.config d places
+AreChanged v l step places = (journal : List Label) (t : IsTableOf all_rules (run_of v journal) (table_of v)) (more : List Label) (d : Config)
+    → LeadsTo v.program t.config l more (step_of v.program.templates.nodes step) d → AreChangedTo t.config d places

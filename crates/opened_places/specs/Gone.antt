@@ -1,10 +1,9 @@
 -- The places that go with a step.
-use Rattle.std.specs.Prelude.{◌≡◌, List, [], ◌∷◌, ◌++◌, map, slice_index}
+use Rattle.std.specs.Prelude.{◌≡◌, List, [], ◌∷◌, ◌++◌, map}
 use Rattle.akl_terms.specs.declared.name.Name.{Name}
 use Rattle.akl_terms.specs.declared.name.Place.{Place}
 use Rattle.akl_model.specs.declared.label.Label.{Label}
 use Rattle.akl_model.specs.Config.{Config}
-use Rattle.akl_model.specs.Derivations.{Applies}
 use Rattle.akl_model.specs.Wakes.{IsOneOf}
 use Rattle.table_laws.specs.Rows.{Table}
 use Rattle.table_laws.specs.Walks.{ListsEach}
@@ -14,16 +13,17 @@ use Rattle.table_laws.specs.Going.{IsGone}
 use Rattle.box_tree.specs.declared.step.Step.{Step}
 use Rattle.box_tree.specs.Tables.{all_rules, TableValue, table_of, step_of, goals_in}
 use Rattle.box_tree.specs.Views.{run_of}
+use Rattle.opened_places.specs.Leading.{LeadsTo}
 
 -- the places are exactly those that go
 pub record AreAllGone (c d : Config) (places : List Place) : Type 0 where
   pub listed : (place : Place) → IsGone c d place → IsOneOf place places
   pub gone : (place : Place) → IsOneOf place places → IsGone c d place
 
--- so they are wherever the label applies to the configuration of the table, and makes the step there
+-- so they are wherever the step leads on from the configuration of the table by the label, or by a call of which it is the first
 abbrev pub AreGone : TableValue → Label → Step → List Place → Type 0
-AreGone v l step places = (journal : List Label) (t : IsTableOf all_rules (run_of v journal) (table_of v)) (d : Config) (a : Applies all_rules v.program t.config l d)
-    → laws.Makes v.program l (slice_index t.config.next l.worker) a.site (step_of v.program.templates.nodes step) → AreAllGone t.config d places
+AreGone v l step places = (journal : List Label) (t : IsTableOf all_rules (run_of v journal) (table_of v)) (more : List Label) (d : Config)
+    → LeadsTo v.program t.config l more (step_of v.program.templates.nodes step) d → AreAllGone t.config d places
 
 -- by the step: the goal of the place, where it goes by itself
 abbrev pub own_places : Place → laws.Step → List Place

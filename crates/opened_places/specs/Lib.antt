@@ -1,5 +1,6 @@
 pub mod Placed
 pub mod Changed
+pub mod Leading
 pub mod Exact
 pub mod Copies
 pub mod Listed

@@ -164,10 +164,10 @@ fn push_inside_each(
     Ok(())
 }
 
-/// The places that are there before a label's step is made and aren't afterwards, wherever the label applies in the
-/// configuration of the table and the step is what it makes there: the goal that it takes away, the alternative that is
-/// promoted, and each box that fails or is cut off with all that stands in it. It takes as long as they are many, and the
-/// alternatives of the choice that is cut or split. An `Err` comes for want of memory.
+/// The places that are there before a step is made and aren't afterwards, wherever the step leads on from the configuration
+/// of the table, by this label or by a call at once of which it is the first: the goal that it takes away, the alternative
+/// that is promoted, and each box that fails or is cut off with all that stands in it. It takes as long as they are many, and
+/// the alternatives of the choice that is cut or split. An `Err` comes for want of memory.
 pub fn gone_places(
     alloc: Global,
     table: &Table,

@@ -224,11 +224,11 @@ fn path_around(alloc: Global, table: &Table, around: Around) -> Result<ShortList
     }
 }
 
-/// The places that a label changes by its step, so that it opens them, each with the boxes around it once the step is
-/// made: what is new, a goal that changes with its box, a box whose constraint or set of goals changes, and the choice
-/// that holds a box whose set of goals changes. They are exactly these wherever the label applies in the configuration of
-/// the table and the step is what it makes there. It takes as long as they are many, times their depth. An `Err` comes
-/// for want of memory, and of a split whose copies hold one another in a ring, which no label makes.
+/// The places that a step changes, so that it opens them, each with the boxes around it once the step is made: what is
+/// new, a goal that changes with its box, a box whose constraint or set of goals changes, and the choice that holds a box
+/// whose set of goals changes. They are exactly these wherever the step leads on from the configuration of the table, by
+/// this label or by a call at once of which it is the first. It takes as long as they are many, times their depth. An
+/// `Err` comes for want of memory, and of a split whose copies hold one another in a ring, which no label makes.
 pub fn changed_places(
     alloc: Global,
     table: &Table,

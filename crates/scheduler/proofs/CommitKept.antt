@@ -1,5 +1,5 @@
 -- A commit keeps what a scheduler is, and makes of it what it is to.
-use Rattle.std.proofs.Common.{◌≡◌, ℕ, true, List, [], ◌∷◌, ◌++◌, Option, sym, subst, ◌⊎◌, inl, inr}
+use Rattle.std.proofs.Common.{◌≡◌, ℕ, true, List, ◌∷◌, ◌++◌, Option, sym, subst, ◌⊎◌, inl, inr}
 use Rattle.std.specs.Prelude.{⊤}
 use Rattle.akl_terms.specs.declared.name.Var.{Var}
 use Rattle.akl_terms.specs.declared.name.Place.{Place}
@@ -9,13 +9,11 @@ use Rattle.akl_model.specs.declared.label.Label.{Label}
 use Rattle.akl_model.specs.declared.label.Receipt.{Receipt}
 use Rattle.akl_model.specs.Config.{Config}
 use Rattle.akl_model.specs.Instances.{start}
-use Rattle.akl_model.specs.Derivations.{Applies, Replays}
+use Rattle.akl_model.specs.Derivations.{Replays}
 use Rattle.akl_model.specs.Wakes.{Wait, IsKept, IsOneOf, Opens, IsOpenAfterCommit, IsKeptAfterCommit}
 use Rattle.akl_model.proofs.Results.{Derives-one}
 use Rattle.sleep_laws.specs.Runs.{Runs}
-use Rattle.sleep_laws.proofs.Replayed.{replay_further}
 use Rattle.wait_laws.specs.Kept.{AreLeftByCommit}
-use Rattle.wait_laws.proofs.KeptByCommit.{kept_by_commit}
 use Rattle.table_laws.specs.Steps as laws
 use Rattle.box_tree.specs.Tables.{all_rules, step_of, table_of}
 use Rattle.box_tree.specs.Plans.{PlanValue, IsRight}
@@ -44,7 +42,8 @@ use Rattle.scheduler.proofs.OpenPlaces.{open_places, all_listed}
 use Rattle.scheduler.proofs.CoreTables.{one_config}
 use Rattle.scheduler.proofs.Effecting.{opened_so}
 use Rattle.scheduler.proofs.LabelFacts.{commit_facts}
-use Rattle.scheduler.proofs.PlanNow.{IsMadeAt, made_now}
+use Rattle.scheduler.proofs.Leading as leading
+use Rattle.scheduler.proofs.PlanNow.{IsMadeTo, IsMadeAt, made_now}
 use Rattle.scheduler.proofs.SplitsAfter.{label_splits}
 
 -- what is opened where other lists have the same waits and places
@@ -93,27 +92,22 @@ module _ (s : SchedulerValue) (h : IsScheduler s) (p : PlanValue) (right : IsRig
   abbrev made_step : laws.Step
   made_step = step_of P.templates.nodes p.step
 
-  made : IsMadeAt P t.config l made_step p.binds
-  made = made_now s.core h.core p right may fresh t
-
   -- it leads to the configuration of the core afterwards
-  replays_now : Replays all_rules P Q (s.core.journal ++ l ∷ []) u.config
+  replays_now : Replays all_rules P Q (s.core.journal ++ l ∷ p.more) u.config
   replays_now = subst (λ (j : List Label). Replays all_rules P Q j u.config) commits.journal
       (subst (λ (x : Query). Replays all_rules P x core.journal u.config) commits.fixed.query (subst (λ (x : Program). Replays all_rules x core.table.query core.journal u.config) commits.fixed.program u.replays))
 
-  leads : made.result ≡ u.config
-  leads = Derives-one all_rules P (start P Q) made.result u.config (s.core.journal ++ l ∷ []) (replay_further all_rules P Q s.core.journal t.config l made.result t.replays made.applies).derives replays_now.derives
+  made : IsMadeTo P t.config l p.more made_step p.binds u.config
+  made =
+      let x : IsMadeAt P t.config l p.more made_step p.binds = made_now s.core h.core p right may fresh t in
+      subst (IsMadeTo P t.config l p.more made_step p.binds) (Derives-one all_rules P (start P Q) x.result u.config (s.core.journal ++ l ∷ p.more) (leading.replays_on s.core.table s.core.journal t l p.more made_step x.result x.made.leads).derives replays_now.derives) x.made
 
-  applies : Applies all_rules P t.config l u.config
-  applies = subst (Applies all_rules P t.config l) leads made.applies
-
-  all_gone : AreAllGone t.config made.result gone
-  all_gone = are_gone s.core.journal t made.result made.applies made.makes
+  all_gone : AreAllGone t.config u.config gone
+  all_gone = are_gone s.core.journal t p.more u.config made.leads
 
   facts : CommitFacts t.config u.config l.place h.now h.kept ps gone
-  facts = subst (λ (x : Config). CommitFacts t.config x l.place h.now h.kept ps gone) leads
-      (commit_facts s.core.table s.core.journal t l made.result made.applies made_step made.makes gone all_gone h.now h.kept h.run h.waits ps
-      (opened_so s.core.table s.core.journal t p made.result made.applies made.makes made.bound gone all_gone h.now h.kept h.waits s.waits h.listed ps listed))
+  facts = commit_facts s.core.table s.core.journal t l p.more made_step u.config made.leads gone all_gone h.now h.kept h.run h.waits ps
+      (opened_so s.core.table s.core.journal t p u.config made gone all_gone h.now h.kept h.waits s.waits h.listed ps listed)
 
   abbrev now : Openings
   now = after_going own l.place gone mid
@@ -147,7 +141,7 @@ module _ (s : SchedulerValue) (h : IsScheduler s) (p : PlanValue) (right : IsRig
   run_now = subst (λ (x : Program). Runs all_rules x core.table.query core.journal u.config (open_places now) left) (sym commits.fixed.program)
       (subst (λ (x : Query). Runs all_rules P x core.journal u.config (open_places now) left) (sym commits.fixed.query)
       (subst (λ (j : List Label). Runs all_rules P Q j u.config (open_places now) left) (sym commits.journal)
-      (Runs.commits h.run (record { applies = applies; opens = λ place o. are_open.all place (after_all place o); keeps = left_so.all }))))
+      (leading.runs_on s.core.table s.core.journal t l p.more made_step u.config h.now h.kept (open_places now) left made.leads made.silent h.run (record { opens = λ place o. are_open.all place (after_all place o); keeps = left_so.all }))))
 
   pub committed_scheduler : IsScheduler (record { core = core; openings = now; waits = w2 })
   committed_scheduler = record {
@@ -157,7 +151,7 @@ module _ (s : SchedulerValue) (h : IsScheduler s) (p : PlanValue) (right : IsRig
     kept = left;
     listed = listed_now;
     run = run_now;
-    waits = kept_by_commit all_rules P Q s.core.journal t.config l u.config t.replays applies h.now h.kept (open_places now) left h.waits is_before left_so;
+    waits = leading.waits_on s.core.table s.core.journal t l p.more made_step u.config h.now h.kept (open_places now) left made.leads made.silent h.waits is_before left_so;
     apart = after.now_apart t.config u.config l h.now h.kept ps gone facts s.openings h.are_open h.standing h.apart mid ts opened own token;
     standing = after.standing_after t.config u.config l h.now h.kept ps gone facts s.openings h.are_open h.standing h.apart mid ts opened own token;
   }

@@ -1,7 +1,7 @@
 -- The places that are listed for a plan are those that its label opens.
 use Rattle.std.proofs.Common.{◌≡◌, Bool, true, false, List, [], ◌∷◌, Option, Some, None, refl, sym, ap, subst, ◌∙◌, inl, inr}
 use Rattle.opened_places.proofs.Members.{one_left, one_right, one_either}
-use Rattle.std.specs.Prelude.{slice_index, is_some, option_map, IsSomeAnd}
+use Rattle.std.specs.Prelude.{is_some, option_map, IsSomeAnd}
 use Rattle.std.specs.List.{AllByRecursion}
 use Rattle.akl_terms.specs.declared.name.Name.{Name}
 use Rattle.akl_terms.specs.declared.name.Var.{Var}
@@ -9,17 +9,14 @@ use Rattle.akl_terms.specs.declared.name.Place.{Place}
 use Rattle.akl_terms.specs.declared.term.Node.{Node}
 use Rattle.akl_model.specs.declared.label.Label.{Label}
 use Rattle.akl_model.specs.Config.{IsIn, Config, Found, box_at, home_of}
-use Rattle.akl_model.specs.Derivations.{Applies}
+use Rattle.akl_model.proofs.NamesKept.{Stand}
 use Rattle.akl_model.specs.Changes.{Binds}
 use Rattle.akl_model.specs.Wakes.{names_around, names_down_to, boxes_around, StandsIn, Wait, IsKept, IsOneOf, IsThere, Opens}
 use Rattle.constraint_laws.proofs.SameTerms.{Either}
 use Rattle.constraint_laws.specs.Touched.{IsAmong}
-use Rattle.step_laws.specs.Bound.{AreBoundIn}
 use Rattle.step_laws.proofs.Decide.{there_or}
 use Rattle.step_laws.proofs.There.{there_site}
 use Rattle.wait_laws.specs.Waits.{AreWaits}
-use Rattle.wait_laws.proofs.Sites.{adds_at_site}
-use Rattle.wait_laws.proofs.Woken as waking
 use Rattle.table_laws.specs.Stamped.{IsTableOf}
 use Rattle.table_laws.specs.Steps as laws
 use Rattle.box_tree.specs.declared.step.Step.{Step}
@@ -27,13 +24,13 @@ use Rattle.box_tree.specs.Tables.{all_rules, TableValue, table_of, step_of}
 use Rattle.box_tree.specs.Views.{run_of}
 use Rattle.box_tree.specs.Plans.{PlanValue}
 use Rattle.binding_laws.specs.Bindings.{BindsOutside, HasOuterIn}
-use Rattle.binding_laws.proofs.StepOutside.{step_outside}
 use Rattle.opened_places.specs.Changed.{IsChanged, IsWoken, IsBoundOutside}
 use Rattle.opened_places.specs.Placed.{PlacedValue, places_of, StandsSo}
 use Rattle.opened_places.specs.Exact.{AreChangedTo}
 use Rattle.opened_places.specs.Inner.{AreAllInside}
 use Rattle.opened_places.specs.Gone.{AreAllGone}
 use Rattle.opened_places.proofs.AtRows.{home_is}
+use Rattle.opened_places.proofs.Leading.{site_by, is_site_by, stands_by, later_by}
 use Rattle.opened_places.proofs.OpenedWays.{opens_law}
 use Rattle.opened_places.proofs.StillAround.{still_around}
 use Rattle.scheduler.specs.Openings.{AreListed}
@@ -43,7 +40,10 @@ use Rattle.scheduler.specs.Listing.{waiting_on, places_but, binds_outer, AreInne
 use Rattle.wake_lists.specs.Waits.{waits_on}
 use Rattle.scheduler.proofs.DroppedWaits.{Waiting}
 use Rattle.scheduler.proofs.CommitFacts.{stands_there}
+use Rattle.scheduler.proofs.Leading as leading
 use Rattle.scheduler.proofs.ListedOthers.{waits_listed, listed_waits, stays_listed, listed_stays, outer_so, so_outer}
+use Rattle.scheduler.proofs.PlanNow.{IsMadeTo}
+use Rattle.scheduler.proofs.Woken.{AddsAt, woken}
 use Rattle.scheduler.proofs.PlacedThose.{of_placed, one_placed, those_keep, those_come, came_so}
 
 each_of : (P : PlacedValue → Type 0) (ps : List PlacedValue) → AllByRecursion P ps → (p : PlacedValue) → IsPlacedIn p ps → P p
@@ -85,21 +85,29 @@ is_new c d (Place.Box b) m h = let w : (f : Found) × (box_at b d.roots ≡ Some
     none None n = refl
     none (Some f) n = absurd (n refl)
 
-module _ (v : TableValue) (journal : List Label) (t : IsTableOf all_rules (run_of v journal) (table_of v)) (p : PlanValue) (d : Config) (a : Applies all_rules v.program t.config p.label d)
-    (makes : laws.Makes v.program p.label (slice_index t.config.next p.label.worker) a.site (step_of v.program.templates.nodes p.step)) (bound : AreBoundIn t.config d a.site p.binds)
+module _ (v : TableValue) (journal : List Label) (t : IsTableOf all_rules (run_of v journal) (table_of v)) (p : PlanValue) (d : Config) (made : IsMadeTo v.program t.config p.label p.more (step_of v.program.templates.nodes p.step) p.binds d)
     (gone : List Place) (all_gone : AreAllGone t.config d gone) (before : List Place) (kept : List Wait) (waits : AreWaits t.config before kept) (ws : Waiting) (listed : AreListed ws kept)
     (places : List PlacedValue) (x : AreListedFor v ws p gone places) where
   abbrev c : Config
   c = t.config
 
+  abbrev step : laws.Step
+  step = step_of v.program.templates.nodes p.step
+
+  abbrev site : Found
+  site = site_by v.program t.config p.label p.more (step_of v.program.templates.nodes p.step) d made.leads
+
   abbrev n : Name
-  n = a.site.content.name
+  n = site.content.name
+
+  before_commit : Stand c
+  before_commit = leading.stands v journal t p.label p.more step d
 
   same_home : x.around.home ≡ n
-  same_home = home_is all_rules (run_of v journal) (table_of v) p.label d t a x.around x.is_around
+  same_home = home_is (table_of v) c t.unfolds before_commit.once p.label site (is_site_by v.program c p.label p.more step d made.leads) x.around x.is_around
 
   still : (place : Place) → IsThere place c.roots → IsThere place d.roots → boxes_around place c.roots ≡ boxes_around place d.roots
-  still = still_around all_rules v.program v.query journal c p.label d t.replays a
+  still = still_around c d before_commit (stands_by v.program c p.label p.more step d before_commit made.leads) (later_by v.program c p.label p.more step d before_commit made.leads)
 
   now_in : (m : Name) (place : Place) → IsThere place d.roots → StandsIn m c.roots place → StandsIn m d.roots place
   now_in m place h s = subst (λ (o : Option (List Name)). IsSomeAnd o (IsIn m)) (still place (stands_there m c.roots place s) h) s
@@ -108,13 +116,16 @@ module _ (v : TableValue) (journal : List Label) (t : IsTableOf all_rules (run_o
   was_in m place h s = subst (λ (o : Option (List Name)). IsSomeAnd o (IsIn m)) (sym (still place h (stands_there m d.roots place s))) s
 
   changed : AreChangedTo c d x.adds.changed
-  changed = x.adds.are_changed journal t d a makes
+  changed = x.adds.are_changed journal t p.more d made.leads
+
+  at_site : AddsAt c d p.label.place site
+  at_site = leading.adds_at v journal t p.label p.more step d made.leads
 
   is_woken : (place : Place) → ((b : Name) (y : Var) → IsKept kept place y → Binds c d b y → (z : Var) × IsKept kept place z × IsAmong z p.binds) × ((z : Var) → IsKept kept place z → IsAmong z p.binds → Binds c d n z)
-  is_woken place = waking.woken all_rules v.program v.query journal c p.label d t.replays a before kept waits p.binds bound place
+  is_woken place = woken c d (leading.good v journal t p.label p.more step d) p.label.place site at_site before kept waits p.binds made.bound place
 
-  outside : (BindsOutside c d n → HasOuterIn p.binds (step_of v.program.templates.nodes p.step)) × (HasOuterIn p.binds (step_of v.program.templates.nodes p.step) → BindsOutside c d n)
-  outside = step_outside all_rules (run_of v journal) (table_of v) p.label d t a (step_of v.program.templates.nodes p.step) makes p.binds bound
+  outside : (BindsOutside c d n → HasOuterIn p.binds step) × (HasOuterIn p.binds step → BindsOutside c d n)
+  outside = leading.seen_outside v journal t p.label p.more step d made.leads p.binds made.bound
 
   -- the others
   abbrev all : List Place
@@ -189,7 +200,7 @@ module _ (v : TableValue) (journal : List Label) (t : IsTableOf all_rules (run_o
       by_outside k = on (there_or place c.roots)
         where
           same : k.box ≡ n
-          same = adds_at_site all_rules v.program v.query journal c p.label d t.replays a k.box k.binds.adds
+          same = at_site.alone k.box k.binds.adds
 
           outer : binds_outer p.binds p.step ≡ true
           outer = outer_step p.binds v.program.templates.nodes p.step (outside.0 (subst (BindsOutside c d) same (record { variable = k.variable; binds = k.binds; outside = k.outside })))

@@ -1,6 +1,5 @@
--- What a label that applies does to places.
-use Rattle.std.proofs.Common.{◌≡◌, ℕ, List, [], ◌∷◌, Option, Some, refl, sym, subst, ◌∙◌, ◌⊎◌, inl, inr, arith, ◌≤◌}
-use Rattle.scheduler.proofs.OpeningLists.{some_none}
+-- What the labels of a plan do to places.
+use Rattle.std.proofs.Common.{◌≡◌, List, [], ◌∷◌, Some, sym, subst, ◌∙◌, ◌⊎◌, inl, inr, arith, ◌≤◌}
 use Rattle.std.specs.Prelude.{slice_index}
 use Rattle.akl_terms.specs.declared.name.Name.{Name}
 use Rattle.akl_terms.specs.declared.name.Place.{Place}
@@ -8,10 +7,8 @@ use Rattle.akl_terms.specs.declared.program.Program.{Program}
 use Rattle.akl_model.specs.declared.label.Rule.{Rule}
 use Rattle.akl_model.specs.declared.label.Label.{Label}
 use Rattle.akl_model.specs.Config.{IsIn, Config, Found, Held, held_in, box_at, home_of, site_of}
-use Rattle.akl_model.specs.Rules.{Change, Reading, change_by}
-use Rattle.akl_model.specs.Derivations.{Applies, IsReady}
 use Rattle.akl_model.specs.Wakes.{names_around, names_down_to, StandsIn, Wait, IsOneOf, IsThere, Opens}
-use Rattle.akl_model.proofs.NamesKept.{Stand, box-itself, replay-stands, stands_after}
+use Rattle.akl_model.proofs.NamesKept.{Stand, box-itself}
 use Rattle.akl_model.proofs.Scoped.{IsIn-right, IsIn-either}
 use Rattle.step_laws.specs.Likeness.{IsOld}
 use Rattle.step_laws.specs.Whereabouts.{Stands}
@@ -19,7 +16,7 @@ use Rattle.step_laws.proofs.There.{site_there, there_site}
 use Rattle.step_laws.proofs.Whereabouts.{found_in, in_found, home_in, in_home}
 use Rattle.step_laws.proofs.Deeper.{Over, over, home_found}
 use Rattle.step_laws.proofs.GoalEdits.{HasGoal}
-use Rattle.step_laws.proofs.Steps.{Later, later_step}
+use Rattle.step_laws.proofs.Steps.{Later}
 use Rattle.sleep_laws.specs.Runs.{Runs, IsAwake, is_open, has_open}
 use Rattle.sleep_laws.proofs.DownTo.{down_to, stands_down}
 use Rattle.sleep_laws.proofs.IdlePlaces.{awake}
@@ -28,17 +25,20 @@ use Rattle.table_laws.specs.Going.{IsGone, boxes_going}
 use Rattle.table_laws.specs.Writes.{IsGoalInsideOne}
 use Rattle.table_laws.specs.Stamped.{IsTableOf}
 use Rattle.table_laws.specs.Steps as laws
-use Rattle.table_laws.proofs.GoneSteps.{gone_law}
 use Rattle.table_laws.proofs.Insides.{held_directly}
 use Rattle.box_tree.specs.Tables.{all_rules, TableValue, table_of}
 use Rattle.box_tree.specs.Views.{run_of}
 use Rattle.opened_places.specs.Placed.{PlacedValue}
 use Rattle.opened_places.specs.Gone.{AreAllGone}
+use Rattle.opened_places.specs.Leading.{LeadsTo}
+use Rattle.opened_places.proofs.GoneBy.{gone_by}
+use Rattle.opened_places.proofs.Leading.{site_by, is_site_by, stands_by, later_by}
 use Rattle.opened_places.proofs.OpenedWays.{opens_law}
 use Rattle.opened_places.proofs.StillAround.{still_around, changed_there}
 use Rattle.scheduler.specs.Openings.{name_at}
 use Rattle.scheduler.specs.Effects.{AreOpenedBy}
 use Rattle.scheduler.proofs.CommitFacts.{CommitFacts, stands_there}
+use Rattle.scheduler.proofs.Leading as leading
 use Rattle.scheduler.proofs.Starting.{drawn_there}
 
 -- a box in which something stands is there
@@ -76,47 +76,39 @@ was_there c d s t w (Place.Goal g) o h =
       | inr x ↦ let b : HasGoal g x.before.goals = x.goals g k.1 o in site_there (Place.Goal g) c.roots x.before (in_home g b.0 c.roots x.before s.once x.stood b.1)
     ]
 
--- a label of a goal counts
-goal_counts : (p : Program) (v : Reading) (w n : ℕ) (r : Rule) (place : Place) (alternative : Option Name) (f : Found) (ch : Change) (g : Name) → place ≡ Place.Goal g → change_by p v w n r place alternative f ≡ Some ch → r ≡ Rule.Fail → ⊥
-goal_counts p v w n r place alternative f ch g e i k = some_none (subst (λ (x : Rule). change_by p v w n x (Place.Goal g) alternative f ≡ Some ch) k (subst (λ (x : Place). change_by p v w n r x alternative f ≡ Some ch) e i)) refl
-
 awake_goal : (rules : List Rule) (p : Program) (c : Config) (now : List Place) (place : Place) (g : Name) → place ≡ Place.Goal g → IsAwake rules p c now place → IsOneOf place now
 awake_goal rules p c now place g e (is_open o) = o
 awake_goal rules p c now _ g e (has_open other only_split o s) = cc
 
-module _ (v : TableValue) (journal : List Label) (t : IsTableOf all_rules (run_of v journal) (table_of v)) (l : Label) (d : Config) (a : Applies all_rules v.program t.config l d)
-    (step : laws.Step) (makes : laws.Makes v.program l (slice_index t.config.next l.worker) a.site step)
+module _ (v : TableValue) (journal : List Label) (t : IsTableOf all_rules (run_of v journal) (table_of v)) (l : Label) (more : List Label) (step : laws.Step) (d : Config) (w : LeadsTo v.program t.config l more step d)
     (gone : List Place) (all_gone : AreAllGone t.config d gone) (before : List Place) (kept : List Wait) (run : Runs all_rules v.program v.query journal t.config before kept) (waits : AreWaits t.config before kept)
     (ps : List PlacedValue) (effects : AreOpenedBy t.config d kept ps) where
   abbrev c : Config
   c = t.config
 
   s : Stand c
-  s = replay-stands all_rules v.program v.query journal c t.replays
+  s = leading.stands v journal t l more step d
 
   u : Stand d
-  u = stands_after all_rules v.program c l d s a
+  u = stands_by v.program c l more step d s w
 
   later : Later c d
-  later = later_step all_rules v.program c l d s a
-
-  ready : (g : Name) → l.place ≡ Place.Goal g → IsReady all_rules v.program c l.place
-  ready g e = record { label = l; is_place = refl; result = d; applies = a; counts = λ x. goal_counts v.program a.makes.reading l.worker (slice_index c.next l.worker) l.rule l.place l.alternative a.site a.change g e a.makes.change x.fails }
+  later = later_by v.program c l more step d s w
 
   unopened : (place : Place) → IsOneOf place before → (IsThere place d.roots → ⊥) → Opens kept c d place → ⊥
   unopened place i m o = elim ((opens_law kept c d place).0 o) [
-    | inl k ↦ m (changed_there all_rules v.program v.query journal c l d t.replays a place k)
-    | inr w ↦ elim w [ inl k ↦ waits.closed place k.variable k.kept i | inr k ↦ m (stands_there k.box d.roots place k.stands) ]
+    | inl k ↦ m (changed_there c d s u later place k)
+    | inr y ↦ elim y [ inl k ↦ waits.closed place k.variable k.kept i | inr k ↦ m (stands_there k.box d.roots place k.stands) ]
   ]
 
   within : (g : Name) → IsOneOf (Place.Goal g) gone → (Place.Goal g ≡ l.place) ⊎ ((n : Name) × IsOneOf (Place.Box n) gone × StandsIn n c.roots (Place.Goal g))
-  within g i = elim ((gone_law all_rules (run_of v journal) (table_of v) l d t a step makes (Place.Goal g)).0 (all_gone.gone (Place.Goal g) i)) [
+  within g i = elim ((gone_by (run_of v journal) (table_of v) t l more step d w (Place.Goal g)).0 (all_gone.gone (Place.Goal g) i)) [
     | inl k ↦ inl (sym k.1)
     | inr k ↦ inr (k.inside.box, box_gone k, in_box k)
   ]
     where
       is_gone : (k : IsGoalInsideOne (table_of v) (boxes_going (table_of v) step l.place l.alternative) g) → IsGone c d (Place.Box k.inside.box)
-      is_gone k = (gone_law all_rules (run_of v journal) (table_of v) l d t a step makes (Place.Box k.inside.box)).1 (record { alternative = k.alternative; goes = k.goes; inside = k.inside.inside })
+      is_gone k = (gone_by (run_of v journal) (table_of v) t l more step d w (Place.Box k.inside.box)).1 (record { alternative = k.alternative; goes = k.goes; inside = k.inside.inside })
 
       box_gone : (k : IsGoalInsideOne (table_of v) (boxes_going (table_of v) step l.place l.alternative) g) → IsOneOf (Place.Box k.inside.box) gone
       box_gone k = all_gone.listed (Place.Box k.inside.box) (is_gone k)
@@ -130,14 +122,14 @@ module _ (v : TableValue) (journal : List Label) (t : IsTableOf all_rules (run_o
 
   pub commit_facts : CommitFacts c d l.place before kept ps gone
   commit_facts = record {
-    still = still_around all_rules v.program v.query journal c l d t.replays a;
+    still = still_around c d s u later;
     old = was_there c d s u later;
-    grows = λ n o. let w : slice_index c.next n.worker ≤ slice_index d.next n.worker = later.next n.worker in omega arith;
+    grows = λ n o. let x : slice_index c.next n.worker ≤ slice_index d.next n.worker = later.next n.worker in omega arith;
     drawn = drawn_there d u;
     was_drawn = drawn_there c s;
     within = within_there d u;
-    own_there = site_there l.place c.roots a.site a.is_site;
-    own_open = λ g e. awake_goal all_rules v.program c before l.place g e (awake all_rules v.program v.query journal c before kept run l.place (ready g e));
+    own_there = site_there l.place c.roots (site_by v.program c l more step d w) (is_site_by v.program c l more step d w);
+    own_open = λ g e. awake_goal all_rules v.program c before l.place g e (awake all_rules v.program v.query journal c before kept run l.place (leading.ready v journal t l more step d w g e));
     waits = waits;
     unopened = unopened;
     effects = effects;

@@ -15,9 +15,11 @@ pub mod PlacedThose
 pub mod CoreTables
 pub mod Starting
 pub mod ListedOthers
+pub mod Woken
+pub mod Leading
+pub mod PlanNow
 pub mod Effecting
 pub mod LabelFacts
-pub mod PlanNow
 pub mod SettleAfter
 pub mod KeptTokens
 pub mod CommitKept

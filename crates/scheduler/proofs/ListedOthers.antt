@@ -145,8 +145,8 @@ so_outer xs frames w = on xs w.listed
 
 -- the places that go, each once
 pub gone_same : (v : TableValue) (l : Label) (step : Step) (places once : List Place) → AreGone v l step places → AreSameOnce places once → AreGone v l step once
-gone_same v l step places once g s = λ journal t d a m.
-    let x : AreAllGone t.config d places = g journal t d a m in
+gone_same v l step places once g s = λ journal t more d w.
+    let x : AreAllGone t.config d places = g journal t more d w in
     record { listed = λ p i. s.all p (x.listed p i); gone = λ p i. x.gone p (s.only p i) }
 
 -- what a call says where it didn't fail

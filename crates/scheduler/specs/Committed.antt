@@ -34,7 +34,7 @@ pub record SuspectsAreUrgent (s d : SchedulerValue) (p : PlanValue) : Type 0 whe
   pub elsewhere : (t : TableIn s.core) (u : TableIn d.core) (kept : List Wait) (n : Name) (f : Found) → AreListed s.waits kept → Opens kept t.config u.config (Place.Box n) → site_of p.label.place t.config.roots ≡ Some f
       → is_elsewhere (told_by f.content.name p.step) n ≡ true → IsUrgentAt d.openings (Place.Box n)
 
--- the core goes on by the plan's label, open and kept is just what a commit leaves so, under the tokens that were, the new tokens are those of the
+-- the core goes on by the plan's labels, open and kept is just what a commit leaves so, under the tokens that were, the new tokens are those of the
 -- places that weren't open, and of the turns this holds
 pub record CommitsWithTurns (their_turns : Type 0) (s : SchedulerValue) (p : PlanValue) (d : SchedulerValue) (r : Committed) : Type 0 where
   pub commits : Commits s.core p d.core r.receipt

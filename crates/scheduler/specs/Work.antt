@@ -3,7 +3,7 @@ use Rattle.std.specs.Prelude.{◌≡◌, ℕ, ◌+◌, ◌≤◌, List, [], ◌�
 use Rattle.akl_terms.specs.declared.name.Var.{Var}
 use Rattle.akl_terms.specs.declared.name.Place.{Place}
 use Rattle.akl_model.specs.Config.{Config}
-use Rattle.akl_model.specs.Derivations.{Applies}
+use Rattle.akl_model.specs.Derivations.{Derives}
 use Rattle.akl_model.specs.Wakes.{Wait, IsKept, IsOneOf, Opens}
 use Rattle.table_laws.specs.Going.{IsGone}
 use Rattle.box_tree.specs.declared.step.Step.{Step}
@@ -23,6 +23,8 @@ use Rattle.scheduler.specs.Schedulers.{SchedulerValue}
 pub record Work : Type 0 where
   -- the items that its plan read
   pub reads : ℕ
+  -- the labels that it makes behind its first one
+  pub labels : ℕ
   -- the contents that it writes, and the places that it takes away
   pub writes : ℕ
   -- the places that it opens
@@ -34,7 +36,7 @@ pub record Work : Type 0 where
 
 -- a step for each
 abbrev pub steps_of : Work → ℕ
-steps_of w = w.reads + w.writes + w.opened + w.around + w.waits
+steps_of w = w.reads + w.labels + w.writes + w.opened + w.around + w.waits
 
 -- the contents that a step writes: its stores and its goals
 abbrev pub boxes_written : List NewBox → ℕ
@@ -60,12 +62,12 @@ abbrev pub IsEachWaitOnce : List Wait → Type 0
 IsEachWaitOnce [] = ⊤
 IsEachWaitOnce (w ∷ ws) = (IsKept ws w.place w.on → ⊥) × IsEachWaitOnce ws
 
--- a label that leads from c to d opens the place, which stands in these boxes
+-- a commit that leads from c to d opens the place, which stands in these boxes
 pub record IsOpenedWith (kept : List Wait) (c d : Config) (p : PlacedValue) : Type 0 where
   pub opens : Opens kept c d p.place
   pub around : StandsNow c d p
 
--- the waits of a place come to their end where the label opens it or takes it away
+-- the waits of a place come to their end where the commit opens it or takes it away
 pub data EndsWaits (kept : List Wait) (c d : Config) (place : Place) : Type 0 where
   opens : Opens kept c d place → EndsWaits kept c d place
   goes : IsGone c d place → EndsWaits kept c d place
@@ -75,7 +77,7 @@ abbrev pub boxes_around_all : List PlacedValue → ℕ
 boxes_around_all [] = 0
 boxes_around_all (p ∷ ps) = length p.around + boxes_around_all ps
 
--- the work of a label that leads from c to d by this step, where these waits are kept: no place is counted that it doesn't take away or open, no wait
+-- the work of a commit that leads from c to d by this step, where these waits are kept: no place is counted that it doesn't take away or open, no wait
 -- that doesn't come to its end, and nothing twice
 pub record IsLabelWork (kept : List Wait) (c d : Config) (step : Step) (w : Work) : Type 0 where
   pub gone : List Place
@@ -93,11 +95,11 @@ pub record IsLabelWork (kept : List Wait) (c d : Config) (step : Step) (w : Work
   pub ended_once : IsEachWaitOnce ended
   pub waits : w.waits ≡ length ended
 
--- the work of a plan's commit: it only looks at the items that the plan read, or the plan's label applies, and it does what this does, too
+-- the work of a plan's commit: it only looks at the items that the plan read, or the plan's labels lead on, and it does what these do, too
 pub data IsWorkOf (s : SchedulerValue) (p : PlanValue) (w : Work) : Type 0 where
-  looks : w ≡ record { reads = length p.reads; writes = 0; opened = 0; around = 0; waits = 0 } → IsWorkOf s p w
-  labels : (t : TableIn s.core) (d : Config) (kept : List Wait) → Applies all_rules s.core.table.program t.config p.label d → AreListed s.waits kept → w.reads ≡ length p.reads → IsLabelWork kept t.config d p.step w
-      → IsWorkOf s p w
+  looks : w ≡ record { reads = length p.reads; labels = 0; writes = 0; opened = 0; around = 0; waits = 0 } → IsWorkOf s p w
+  labels : (t : TableIn s.core) (d : Config) (kept : List Wait) → Derives all_rules s.core.table.program t.config (p.label ∷ p.more) d → AreListed s.waits kept → w.reads ≡ length p.reads → w.labels ≡ length p.more
+      → IsLabelWork kept t.config d p.step w → IsWorkOf s p w
 
 -- a commit counts no more steps than it has work
 pub record TakesSteps (s : SchedulerValue) (p : PlanValue) (before now : ℕ) : Type 0 where

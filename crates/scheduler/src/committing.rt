@@ -10,7 +10,7 @@ ghost use Rattle.scheduler.specs.Committed.{CommitsAndOpens, CommitsWithTurns, O
 ghost use Rattle.scheduler.specs.Work.{TakesSteps};
 ghost use Rattle.scheduler.specs.Counting.{TakesLabelSteps};
 
-use crate::counting::{count, count_contents};
+use crate::counting::{count, count_written};
 use crate::dropping::{drop_gone, drop_opened, leave_gone, place_under};
 use crate::effects::Effects;
 use crate::opening::{close_all, open_all};
@@ -25,27 +25,29 @@ use std::alloc::{AllocError, Global};
 use std::sync::ledger::Ledger;
 use step_commit::CommitError;
 
-/// A label that was committed.
+/// A plan that was committed.
 #[derive(Drop)]
 pub struct Committed {
+    /// The receipt of its first label; those behind it were planned by the same labels.
     pub receipt: Receipt,
     /// The tokens of the places that it opened and that weren't open before, each once.
     pub opened: SmallVec<u64, 4>,
 }
 
 impl Scheduler {
-    /// Appends the plan's label, makes its step, and opens exactly the places that it can have made ready: those that are
+    /// Appends the plan's labels, makes their step, and opens exactly the places that it can have made ready: those that are
     /// new or changed, those that wait on a variable that it binds or makes equal, and all in a box whose equations come to
-    /// bind a variable from outside. Of these the boxes are urgent that have a goal by which they fail, that the label
-    /// leaves unsolved, or that may clash with what it tells. Its own place closes where it has gone. An `Err` leaves all as
-    /// it was.
+    /// bind a variable from outside. Of these the boxes are urgent that have a goal by which they fail, that the step
+    /// leaves unsolved, or that may clash with what it tells. The labels' own place closes where it has gone. An `Err` leaves
+    /// all as it was.
     ///
-    /// It counts at most a step for each item that the plan read, each content that it writes, each place that it takes
-    /// away, each place that it opens, each box around such a place, and each wait of a place that it opens or takes away.
-    /// The stamps and the contents are counted before the core reads and writes them. Not counted is what closes: a box's
-    /// count of what is open in it goes down once for each time that it went up, as a place opened; and a choice by which its
-    /// box could be split is given up once for each time that it was kept. Nor are the looks by which these places are found,
-    /// nor those by which it is found which of them are such choices, nor those by which they get their turns.
+    /// It counts at most a step for each item that the plan read, each label behind the first one, each content that it
+    /// writes, each place that it takes away, each place that it opens, each box around such a place, and each wait of a place
+    /// that it opens or takes away. The stamps, the labels and the contents are counted before the core reads and writes them.
+    /// Not counted is what closes: a box's count of what is open in it goes down once for each time that it went up, as a place
+    /// opened; and a choice by which its box could be split is given up once for each time that it was kept. Nor are the looks
+    /// by which these places are found, nor those by which it is found which of them are such choices, nor those by which they
+    /// get their turns.
     pub fn commit<L: Ledger>(
         &mut self,
         alloc: Global,
@@ -110,7 +112,7 @@ impl Scheduler {
         let ended = splits_of(alloc, self.core.table(), &self.splits, places, gone)?;
         let place = plan.label().place;
         let own = self.open.token_of(place);
-        count_contents(plan.step(), steps);
+        count_written(&plan, steps);
         let opened = open_all(alloc, &mut self.open, places, steps)?;
         match self.core.append(alloc, plan) {
             Ok(receipt) => {

@@ -1,10 +1,10 @@
 //! Steps that are counted for calls which count none themselves.
 
-ghost use Rattle.std.specs.Prelude.{◌≡◌, ◌+◌};
+ghost use Rattle.std.specs.Prelude.{◌≡◌, ◌+◌, length};
 ghost use Rattle.scheduler.specs.Work.{contents, boxes_written, copies_written};
 
 use akl_terms::Steps;
-use box_tree::{BoxCopy, NewBox, Step};
+use box_tree::{BoxCopy, NewBox, Plan, Step};
 use std::sync::ledger::Ledger;
 
 /// Counts so many steps.
@@ -16,8 +16,16 @@ pub(crate) fn count<L: Ledger>(number: usize, steps: &mut Steps<L>)
     }
 }
 
-/// Counts a step for each content that a step of a plan writes.
-pub(crate) fn count_contents<L: Ledger>(step: &Step, steps: &mut Steps<L>)
+/// Counts a step for each content that a plan's step writes, and for each label behind the plan's first one.
+pub(crate) fn count_written<L: Ledger>(plan: &Plan, steps: &mut Steps<L>)
+    ensures { steps.new ≡ steps.old + (contents plan.now.step + length plan.now.more) }
+{
+    count_contents(plan.step(), steps);
+    count(plan.more().len(), steps);
+}
+
+// Counts a step for each content that a step of a plan writes.
+fn count_contents<L: Ledger>(step: &Step, steps: &mut Steps<L>)
     ensures { steps.new ≡ steps.old + contents step.now }
 {
     match step {

@@ -16,9 +16,7 @@ use Rattle.scheduler.specs.declared.splits.Split.{Split}
 use Rattle.scheduler.specs.Splits.{splits_at, DropsSplits, EndsThose, KeepsSplits}
 use Rattle.scheduler.specs.Committed.{CommitsWithTurns, OpensAmong}
 use Rattle.scheduler.specs.declared.committing.Committed.{Committed}
-use Rattle.box_tree.specs.declared.step.Step.{Step}
 use Rattle.opened_places.specs.Placed.{places_of}
-use Rattle.scheduler.specs.Work.{contents}
 use Rattle.scheduler.specs.Counting.{DropBySteps, TakesLabelSteps}
 use Rattle.scheduler.proofs.CountedWaits.{drop_both}
 use Rattle.scheduler.proofs.UnderTokens.{drops_opened, counts_opened, own_silent}
@@ -84,9 +82,8 @@ returns-in_err-opened-clause-steps g c =
     let gone : AreGone s.core.table c.args.plan.label c.args.plan.step c.args.gone.now = subst (λ (x : SchedulerValue). AreGone x.core.table c.args.plan.label c.args.plan.step c.args.gone.now) (sym c.self.view_is) c.requires.gone in
     let listed : AreListedFor s.core.table s.waits c.args.plan c.args.gone.now c.args.places.now =
     subst (λ (x : SchedulerValue). AreListedFor x.core.table x.waits c.args.plan c.args.gone.now c.args.places.now) (sym c.self.view_is) c.requires.places in
-    let written : c.count_contents.new.steps ≡ c.args.steps.now + contents c.args.plan.step = c.count_contents.ensures ∙ ap (λ (x : Step). c.args.steps.now + contents x) c.step.ensures in
     subst (λ (x : SchedulerValue). TakesLabelSteps x c.args.plan c.args.steps.now c.open_all.new.steps) c.self.view_is
-    (opening_within s c.self.invariant.scheduler c.args.plan right may fresh c.args.gone.now gone c.requires.once c.args.places.now listed c.args.steps.now c.count_contents.new.steps c.open_all.new.steps written c.open_all.ensures.steps)
+    (opening_within s c.self.invariant.scheduler c.args.plan right may fresh c.args.gone.now gone c.requires.once c.args.places.now listed c.args.steps.now c.count_written.new.steps c.open_all.new.steps c.count_written.ensures c.open_all.ensures.steps)
 
 pub returns-clause-steps : goal.returns-clause-steps
 returns-clause-steps g c =
@@ -97,9 +94,8 @@ returns-clause-steps g c =
     let gone : AreGone s.core.table c.args.plan.label c.args.plan.step c.args.gone.now = subst (λ (x : SchedulerValue). AreGone x.core.table c.args.plan.label c.args.plan.step c.args.gone.now) (sym c.self.view_is) c.requires.gone in
     let listed : AreListedFor s.core.table s.waits c.args.plan c.args.gone.now c.args.places.now =
     subst (λ (x : SchedulerValue). AreListedFor x.core.table x.waits c.args.plan c.args.gone.now c.args.places.now) (sym c.self.view_is) c.requires.places in
-    let written : c.count_contents.new.steps ≡ c.args.steps.now + contents c.args.plan.step = c.count_contents.ensures ∙ ap (λ (x : Step). c.args.steps.now + contents x) c.step.ensures in
     subst (λ (x : SchedulerValue). TakesLabelSteps x c.args.plan c.args.steps.now c.open_all.new.steps) c.self.view_is
-    (opening_within s c.self.invariant.scheduler c.args.plan right may fresh c.args.gone.now gone c.requires.once c.args.places.now listed c.args.steps.now c.count_contents.new.steps c.open_all.new.steps written c.open_all.ensures.steps)
+    (opening_within s c.self.invariant.scheduler c.args.plan right may fresh c.args.gone.now gone c.requires.once c.args.places.now listed c.args.steps.now c.count_written.new.steps c.open_all.new.steps c.count_written.ensures c.open_all.ensures.steps)
 
 pub returns-in-Ok-clause-steps : goal.returns-in-Ok-clause-steps
 returns-in-Ok-clause-steps g c =
@@ -114,9 +110,8 @@ returns-in-Ok-clause-steps g c =
     let gone : AreGone s.core.table c.args.plan.label c.args.plan.step c.args.gone.now = subst (λ (x : SchedulerValue). AreGone x.core.table c.args.plan.label c.args.plan.step c.args.gone.now) (sym c.self.view_is) c.requires.gone in
     let listed : AreListedFor s.core.table s.waits c.args.plan c.args.gone.now c.args.places.now =
     subst (λ (x : SchedulerValue). AreListedFor x.core.table x.waits c.args.plan c.args.gone.now c.args.places.now) (sym c.self.view_is) c.requires.places in
-    let written : c.count_contents.new.steps ≡ c.args.steps.now + contents c.args.plan.step = c.count_contents.ensures ∙ ap (λ (x : Step). c.args.steps.now + contents x) c.step.ensures in
     subst (λ (x : SchedulerValue). TakesLabelSteps x c.args.plan c.args.steps.now c.drop_gone.new.steps) c.self.view_is
-    (dropping_within s c.self.invariant.scheduler c.args.plan right may fresh c.args.gone.now gone c.requires.once c.args.places.now listed c.args.steps.now c.count_contents.new.steps c.open_all.new.steps c.drop_gone.new.steps written c.open_all.ensures.steps
+    (dropping_within s c.self.invariant.scheduler c.args.plan right may fresh c.args.gone.now gone c.requires.once c.args.places.now listed c.args.steps.now c.count_written.new.steps c.open_all.new.steps c.drop_gone.new.steps c.count_written.ensures c.open_all.ensures.steps
     (drop_both s.waits c.drop_opened.new.waits (places_of c.args.places.now) c.args.gone.now c.open_all.new.steps c.drop_opened.new.steps c.drop_gone.new.steps dropped counted c.drop_gone.ensures.steps))
 
 pub returns-in-Ok-clause-opened : goal.returns-in-Ok-clause-opened
