@@ -1,0 +1,26 @@
+-- What is known of a call that is made at once.
+use Rattle.std.proofs.Common.{ℕ, ◌+◌, ◌<◌, ◌^◌, List, [], length, refl, subst}
+use Rattle.akl_terms.specs.declared.name.Name.{Name}
+use Rattle.akl_terms.specs.declared.program.Definition.{Definition}
+use Rattle.akl_model.specs.declared.label.Label.{Label}
+use Rattle.akl_model.specs.Instances.{drawn_by}
+use Rattle.local_store.specs.Chained.{IsSolvedChain, IsKnown}
+use Rattle.local_store.proofs.Known.{whole-known}
+use Rattle.box_tree.specs.Views.{ViewValue}
+use Rattle.call_plan.specs.declared.heads.Arguments.{Arguments}
+use Rattle.call_plan.specs.declared.sifting.Left.{Left}
+use Rattle.call_plan.specs.Called.{IsCalled, Remains}
+use Rattle.call_plan.specs.Chosen.{IsChosen}
+
+module _ (v : ViewValue) (g : Name) (a : Arguments) (called : Definition) (drawn : ℕ) (h : IsCalled v g a called drawn) where
+  pub call_known : IsKnown v.table.program.templates.nodes v.stores (length v.stores)
+  call_known = subst (IsKnown v.table.program.templates.nodes v.stores) h.known h.seen.known
+
+  pub call_solved : IsSolvedChain v.table.program.templates.nodes v.stores
+  call_solved = whole-known v.table.program.templates.nodes v.stores v.known h.seen.known h.known
+
+  pub call_numbers : v.next + drawn < 2 ^ 64 → v.next + drawn_by called.clauses < 2 ^ 64
+  call_numbers l = subst (λ (n : ℕ). v.next + n < 2 ^ 64) h.drawn_is l
+
+  pub call_remains : (labels : List Label) (left : Left) → IsChosen v.table.program.templates.symbols v.table.program.templates.nodes v.stores a v.worker v.next called.op called.clauses [] labels left → Remains v g called.op left drawn labels
+  call_remains labels left c = record { arguments = a; called = called; is_called = h; op_is = refl; chosen = c }

@@ -1,0 +1,12 @@
+pub mod HeadStores
+pub mod EvaluatedGoals
+pub mod SiftedCalls
+pub mod ForkedCall
+pub mod LastLeft
+pub mod BoundAtOnce
+pub mod Remaining
+pub mod CallFound
+pub mod HeadSolved
+pub mod SiftingOn
+pub mod EvaluatingOn
+pub mod CalledFacts

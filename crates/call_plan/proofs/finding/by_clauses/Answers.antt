@@ -1,0 +1,5 @@
+use Rattle.call_plan.proofs.CalledFacts.{call_solved}
+use Rattle.call_plan.proofs.finding.by_clauses.Goals as goal
+
+pub may_go-requires : goal.may_go-requires
+may_go-requires c = rw (c.chain-chain.ensures.nodes, c.chain-chain.ensures.stores, c.requires.program) (call_solved c.args.view.now c.args.goal c.args.arguments c.args.called.now c.args.drawn c.requires.called)

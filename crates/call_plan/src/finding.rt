@@ -1,0 +1,174 @@
+//! A call at once.
+
+ghost use Rattle.std.specs.Prelude.{◌≡◌, ◌+◌, ◌<◌, ◌^◌, List, length, IfOk, IfSome};
+ghost use Rattle.akl_terms.specs.declared.name.Place.{Place};
+ghost use Rattle.akl_terms.specs.declared.program.Code.{Code};
+ghost use Rattle.akl_terms.specs.declared.term.Node.{Node};
+ghost use Rattle.table_laws.specs.Steps as laws;
+ghost use Rattle.box_tree.specs.declared.view.Sight.{Sight};
+ghost use Rattle.box_tree.specs.Edits.{named_atoms};
+ghost use Rattle.box_tree.specs.Tables.{step_of};
+ghost use Rattle.rule_plan.specs.Made.{named_under};
+ghost use Rattle.call_plan.specs.Called.{IsCalled, Remains, Ends};
+ghost use Rattle.call_plan.specs.Found.{IsCallPlan};
+
+use crate::choosing::chosen;
+use crate::heads::Arguments;
+use crate::joining::{joined, named_goals};
+use crate::labels::{cuts_others, push_end};
+use crate::names::{MOST, names_of};
+use crate::prospects::may_go;
+use crate::sifting::Left;
+use akl_model::{Label, Rule};
+use akl_terms::{Code, Definition, Name, Op, Program};
+use box_tree::{Plan, Step, View};
+use class_members::members;
+use guard_plan::{goal_and_stores, label_of};
+use local_store::{Shared, ToldStore};
+use std::alloc::{AllocError, Global};
+
+/// The plan of a call at once, at the place of a view; `None` where it isn't seen at once which one of the clauses is left.
+/// An `Err` is want of memory.
+pub fn call_at_once(
+    alloc: Global,
+    program: &Program,
+    view: &View,
+    goal: Name,
+    definition: u32,
+    arguments: Arguments,
+) -> Result<Option<Plan>, AllocError>
+    requires program { program.now ≡ view.now.table.program }
+    requires place { view.now.place ≡ Place.Goal goal }
+    requires sight { view.now.sight ≡ Sight.Atom (record { code = Code.Call definition arguments.first arguments.count; frame = arguments.frame }) }
+    ensures { IfOk result (λ found. IfSome found (IsCallPlan view.now)) }
+{
+    let Some(called) = program.definitions.as_slice().get(definition as usize) else {
+        return Ok(None);
+    };
+    let Some(drawn) = names_of(called.clauses.as_slice()) else {
+        return Ok(None);
+    };
+    let chain = view.chain(&program.templates);
+    if chain.known() != chain.stores().len() {
+        return Ok(None);
+    }
+    by_clauses(alloc, program, view, goal, arguments, called, drawn)
+}
+
+// The same of a definition whose clauses' alternatives draw so many names, over stores that are known to be solved.
+fn by_clauses(
+    alloc: Global,
+    program: &Program,
+    view: &View,
+    goal: Name,
+    arguments: Arguments,
+    called: &Definition,
+    drawn: u64,
+) -> Result<Option<Plan>, AllocError>
+    requires program { program.now ≡ view.now.table.program }
+    requires called { IsCalled view.now goal arguments called.now drawn }
+    ensures { IfOk result (λ found. IfSome found (IsCallPlan view.now)) }
+{
+    let next = view.next();
+    next.checked_add(drawn).ok_or(AllocError)?;
+    let first = Name {
+        worker: view.worker(),
+        number: next,
+    };
+    let clauses = called.clauses.as_slice();
+    let chain = view.chain(&program.templates);
+    if !may_go(&chain, arguments, called.op, clauses) {
+        return Ok(None);
+    }
+    let mut labels = Vec::new(alloc);
+    let found = chosen(
+        alloc,
+        &chain,
+        arguments,
+        called.op,
+        first,
+        clauses,
+        &mut labels,
+    )?;
+    let Some(left) = found else {
+        return Ok(None);
+    };
+    by_left(alloc, program, view, goal, called.op, &left, drawn, labels)
+}
+
+// The same of the clause that is left.
+fn by_left(
+    alloc: Global,
+    program: &Program,
+    view: &View,
+    goal: Name,
+    op: Op,
+    left: &Left,
+    drawn: u64,
+    mut labels: Vec<Label>,
+) -> Result<Option<Plan>, AllocError>
+    requires program { program.now ≡ view.now.table.program }
+    requires remains { Remains view.now goal op left.now drawn labels.items }
+    ensures { IfOk result (λ found. IfSome found (IsCallPlan view.now)) }
+{
+    if left.clause.body.len() as u64 > MOST {
+        return Ok(None);
+    }
+    let found = joined(alloc, &program.templates, view.stores(), op, &left.store)?;
+    let Some(told) = found else {
+        return Ok(None);
+    };
+    push_end(&mut labels, goal, left.name, cuts_others(op, left.behind))?;
+    planned(alloc, program, view, goal, op, left, drawn, labels, told)
+}
+
+// The plan of a call with these labels behind its fork and this store of its box.
+fn planned(
+    alloc: Global,
+    program: &Program,
+    view: &View,
+    goal: Name,
+    op: Op,
+    left: &Left,
+    drawn: u64,
+    more: Vec<Label>,
+    told: ToldStore,
+) -> Result<Option<Plan>, AllocError>
+    requires program { program.now ≡ view.now.table.program }
+    requires ends { Ends view.now goal op left.now drawn more.items told }
+    ensures { IfOk result (λ found. IfSome found (IsCallPlan view.now)) }
+{
+    let codes = left.clause.body.as_slice();
+    let count = codes.len() as u64;
+    let names = drawn.checked_add(count).ok_or(AllocError)?;
+    let first = view.next().checked_add(drawn).ok_or(AllocError)?;
+    first.checked_add(count).ok_or(AllocError)?;
+    let label = label_of(view, Rule::Fork);
+    let chain = view.chain(&program.templates);
+    let binds = members(alloc, &chain, told.bound.as_slice())?;
+    let reads = goal_and_stores(alloc, goal, view.path())?;
+    let step = join_of(alloc, told, left.frame, first, codes)?;
+    let plan = Plan::of_call(alloc, view, label, more, reads, names, step, binds)?;
+    Ok(Some(plan))
+}
+
+// The step by which a box gets this store and these atoms under a frame as goals.
+fn join_of(
+    alloc: Global,
+    told: ToldStore,
+    frame: Name,
+    first: u64,
+    codes: &[Code],
+) -> Result<Step, AllocError>
+    requires { first + length codes.now < 2 ^ 64 }
+    ensures { IfOk result (λ step. (nodes : List Node) → step_of nodes step ≡ laws.joins told.store told.solved (named_atoms nodes (named_under frame first codes.now))) }
+{
+    let ToldStore { store, solved, .. } = told;
+    let goals = named_goals(alloc, frame, first, codes)?;
+    let store = Shared::new(alloc, store)?;
+    Ok(Step::Join {
+        store,
+        solved,
+        goals,
+    })
+}

@@ -1,0 +1,76 @@
+//! What the alternative of a call that is promoted makes of the box of the call.
+
+ghost use Rattle.std.specs.Prelude.{◌≡◌, ◌+◌, ◌<◌, ◌^◌, ◌∷◌, ◌++◌, [], length, true, IfOk, IfSome};
+ghost use Rattle.local_store.specs.Chained.{IsKnown};
+ghost use Rattle.guard_plan.specs.Guards.{KeepsApartInside};
+ghost use Rattle.rule_plan.specs.Made.{named_under};
+ghost use Rattle.call_plan.specs.Joins.{Joins, HoldsFor};
+
+use akl_terms::{Code, Goal, Name, Op, Templates};
+use entail_test::Quietness;
+use guard_plan::{quietness, shared};
+use local_store::{Chain, Shared, Store, ToldStore, promoted};
+use std::alloc::{AllocError, Global};
+
+// The innermost store of a path with all that the store of an alternative has, which is known to be solved with them;
+// `None` where its guard doesn't hold: with `->` and `|` it has to be quiet.
+pub(crate) fn joined(
+    alloc: Global,
+    templates: &Templates,
+    path: &[Shared<Store>],
+    op: Op,
+    own: &Shared<Store>,
+) -> Result<Option<ToldStore>, AllocError>
+    requires some { 0 < length path.now }
+    requires solved { IsKnown templates.now.nodes (path.now ++ own.now ∷ []) (length path.now + 1) }
+    requires apart { KeepsApartInside templates.now.nodes (path.now ++ own.now ∷ []) }
+    ensures { IfOk result (λ found. IfSome found (Joins templates.now.nodes path.now op own.now)) }
+{
+    let mut stores = shared(alloc, path)?;
+    stores.push(own.share()?)?;
+    let chain = Chain::of_solved(templates, stores.as_slice(), stores.len());
+    if !holds(alloc, op, &chain)? {
+        return Ok(None);
+    }
+    let told = promoted(alloc, &chain)?;
+    Ok(Some(told))
+}
+
+// Whether the guard holds of an alternative whose store is the innermost of a chain that is known to be solved.
+fn holds(alloc: Global, op: Op, chain: &Chain) -> Result<bool, AllocError>
+    requires { KeepsApartInside chain.now.nodes chain.now.stores }
+    ensures { IfOk result (λ holds. holds ≡ true → HoldsFor op chain.now.nodes chain.now.stores) }
+{
+    match op {
+        Op::Choice => Ok(true),
+        Op::Condition | Op::Commit => match quietness(alloc, chain)? {
+            Quietness::Quiet => Ok(true),
+            Quietness::Noisy { .. } => Ok(false),
+            Quietness::Inconsistent { .. } => Ok(false),
+        },
+        Op::Collect => Ok(false),
+    }
+}
+
+// Atoms under a frame as goals, with names of the frame's worker from a number on.
+pub(crate) fn named_goals(
+    alloc: Global,
+    frame: Name,
+    first: u64,
+    codes: &[Code],
+) -> Result<Vec<(Name, Goal)>, AllocError>
+    requires { first + length codes.now < 2 ^ 64 }
+    ensures { IfOk result (λ goals. goals.items ≡ named_under frame first codes.now) }
+{
+    let mut goals = Vec::with_capacity(alloc, codes.len())?;
+    let mut number = first;
+    for code in codes {
+        let name = Name {
+            worker: frame.worker,
+            number,
+        };
+        goals.push((name, Goal { code: *code, frame }))?;
+        number += 1;
+    }
+    Ok(goals)
+}

@@ -1,0 +1,117 @@
+//! Whether a call may go at once, by what its arguments begin with.
+
+ghost use Rattle.local_store.specs.Chained.{IsSolvedChain};
+
+use crate::heads::Arguments;
+use akl_terms::{Clause, Code, Name, Op, Seen, Term};
+use local_store::Chain;
+use rational_unify::chain_end;
+
+// How a clause's head stands to the arguments of a call, by what these begin with.
+#[derive(Clone, Copy)]
+enum Fit {
+    Clashes,
+    // An argument is still a variable, where the head isn't.
+    Waits,
+    Fits,
+}
+
+// How what an argument begins with stands to what the head has in its place.
+fn fit_between(argument: Seen, head: Seen) -> Fit {
+    match (argument, head) {
+        (_, Seen::Free(_)) => Fit::Fits,
+        (Seen::Free(_), _) => Fit::Waits,
+        (Seen::Int(left), Seen::Int(right)) if left == right => Fit::Fits,
+        (
+            Seen::Struct {
+                symbol: left,
+                count: left_count,
+                ..
+            },
+            Seen::Struct {
+                symbol: right,
+                count: right_count,
+                ..
+            },
+        ) if left == right && left_count == right_count => Fit::Fits,
+        _ => Fit::Clashes,
+    }
+}
+
+// What a node under a frame begins with, by the stores of a chain that is solved.
+fn known_at(chain: &Chain, node: u32, frame: Name) -> Seen
+    requires { IsSolvedChain chain.now.nodes chain.now.stores }
+{
+    let templates = chain.templates();
+    templates.look(chain_end(templates, chain, Term::Mol { node, frame }))
+}
+
+// How a clause's head stands to the arguments of a call over a chain that is solved.
+fn fit_of(chain: &Chain, arguments: Arguments, clause: &Clause) -> Fit
+    requires { IsSolvedChain chain.now.nodes chain.now.stores }
+{
+    let frame = arguments.frame;
+    let mut fit = Fit::Fits;
+    for index in 0..arguments.count.min(clause.count) {
+        let node = clause.first.saturating_add(index);
+        let head = chain.templates().look(Term::Mol { node, frame });
+        if let Seen::Free(_) = head {
+            continue;
+        }
+        let argument = known_at(chain, arguments.first.saturating_add(index), frame);
+        match fit_between(argument, head) {
+            Fit::Clashes => return Fit::Clashes,
+            Fit::Waits => fit = Fit::Waits,
+            Fit::Fits => {}
+        }
+    }
+    fit
+}
+
+// Whether the goals of a guard are comparisons, which may be decided at once.
+fn has_comparisons_alone(clause: &Clause) -> bool {
+    clause
+        .guard
+        .as_slice()
+        .iter()
+        .all(|code| matches!(code, Code::Arith { .. }))
+}
+
+// The same where the first clause that is left goes, with `->` and `|`.
+fn first_may_go(chain: &Chain, arguments: Arguments, clauses: &[Clause]) -> bool
+    requires { IsSolvedChain chain.now.nodes chain.now.stores }
+{
+    for clause in clauses {
+        match fit_of(chain, arguments, clause) {
+            Fit::Clashes => {}
+            Fit::Waits => return false,
+            Fit::Fits => return has_comparisons_alone(clause),
+        }
+    }
+    false
+}
+
+// The same where the one that is left has to be the only one, with `?`.
+fn only_one_may_go(chain: &Chain, arguments: Arguments, clauses: &[Clause]) -> bool
+    requires { IsSolvedChain chain.now.nodes chain.now.stores }
+{
+    let mut left = 0usize;
+    for clause in clauses {
+        if !matches!(fit_of(chain, arguments, clause), Fit::Clashes) && clause.guard.is_empty() {
+            left = left.saturating_add(1);
+        }
+    }
+    left <= 1
+}
+
+// Whether it may be seen at once which clause of a call is left. It is a quick look, which spares those who look closely all
+// the calls that have to wait or to be split.
+pub(crate) fn may_go(chain: &Chain, arguments: Arguments, op: Op, clauses: &[Clause]) -> bool
+    requires { IsSolvedChain chain.now.nodes chain.now.stores }
+{
+    match op {
+        Op::Condition | Op::Commit => first_may_go(chain, arguments, clauses),
+        Op::Choice => only_one_may_go(chain, arguments, clauses),
+        Op::Collect => false,
+    }
+}

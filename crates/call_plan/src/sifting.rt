@@ -1,0 +1,135 @@
+//! Which of a call's clauses is left.
+
+ghost use Rattle.std.specs.Prelude.{◌≡◌, ◌+◌, ◌<◌, ◌^◌, length, true, IfOk, MatchOption};
+ghost use Rattle.akl_model.specs.Instances.{drawn_by};
+ghost use Rattle.local_store.specs.Chained.{IsSolvedChain, IsKnown};
+ghost use Rattle.rule_plan.specs.Made.{IsNewStore, store_with};
+ghost use Rattle.local_store.specs.Stored.{with_bindings};
+ghost use Rattle.call_plan.specs.Sifted.{head_codes, Clashes, AddsGoing, AddsLeft, IsSifted};
+
+use crate::guards::{Guard, guard_of};
+use crate::heads::{Arguments, head_equations};
+use crate::labels::failing;
+use akl_model::Label;
+use akl_terms::{Clause, Name, Term, Var};
+use local_store::{Chain, Shared, Store};
+use rational_unify::{Solved, solve_only};
+use std::alloc::{AllocError, Global};
+
+/// A clause that is left of a call, with the name, the frame and the store of its alternative, whether its guard is known to
+/// hold, and the clauses behind it.
+#[derive(Drop)]
+pub(crate) struct Left<'a> {
+    pub(crate) clause: &'a Clause,
+    pub(crate) name: Name,
+    pub(crate) frame: Name,
+    pub(crate) store: Shared<Store>,
+    pub(crate) holds: bool,
+    pub(crate) behind: &'a [Clause],
+}
+
+// The first of these clauses whose alternative doesn't fail over a chain that is solved; `None` where there is none. The
+// labels of the alternatives up to there come to the list. They draw their names from the first one on.
+pub(crate) fn first_left<'a>(
+    alloc: Global,
+    chain: &Chain,
+    arguments: Arguments,
+    first: Name,
+    clauses: &'a [Clause],
+    labels: &mut Vec<Label>,
+) -> Result<Option<Left<'a>>, AllocError>
+    requires known { IsKnown chain.now.nodes chain.now.stores (length chain.now.stores) }
+    requires numbers { first.number + drawn_by clauses.now < 2 ^ 64 }
+    ensures { IfOk result (IsSifted chain.now.symbols chain.now.nodes chain.now.stores arguments first.worker first.number clauses.now labels.old.items labels.new.items) }
+{
+    let mut name = first;
+    let mut rest = clauses;
+    while let Some((clause, behind)) = rest.split_first() {
+        if let Some(left) = left_of(alloc, chain, arguments, name, clause, behind, labels)? {
+            return Ok(Some(left));
+        }
+        name.number += 2 + clause.guard.len() as u64;
+        rest = behind;
+    }
+    Ok(None)
+}
+
+// A clause whose alternative doesn't fail, before those behind it; `None` where its head clashes or a comparison of its guard
+// fails. The labels of the alternative come to the list.
+fn left_of<'a>(
+    alloc: Global,
+    chain: &Chain,
+    arguments: Arguments,
+    name: Name,
+    clause: &'a Clause,
+    behind: &'a [Clause],
+    labels: &mut Vec<Label>,
+) -> Result<Option<Left<'a>>, AllocError>
+    requires known { IsKnown chain.now.nodes chain.now.stores (length chain.now.stores) }
+    requires numbers { name.number + (2 + length clause.now.guard) < 2 ^ 64 }
+    ensures { IfOk result (λ found. MatchOption found (AddsGoing chain.now.symbols chain.now.nodes chain.now.stores arguments name.worker name.number clause.now labels.old.items labels.new.items)
+        (AddsLeft chain.now.symbols chain.now.nodes chain.now.stores arguments name.worker name.number clause.now behind.now labels.old.items labels.new.items)) }
+{
+    let frame = Name {
+        worker: name.worker,
+        number: name.number + 1,
+    };
+    let Some(store) = head_store(alloc, chain, arguments, frame, clause)? else {
+        labels.push(failing(name))?;
+        return Ok(None);
+    };
+    let holds = match guard_of(alloc, chain, &store, frame, clause.guard.as_slice(), labels)? {
+        Guard::Holds => true,
+        Guard::Open => false,
+        Guard::Fails => {
+            labels.push(failing(name))?;
+            return Ok(None);
+        }
+    };
+    Ok(Some(Left {
+        clause,
+        name,
+        frame,
+        store,
+        holds,
+        behind,
+    }))
+}
+
+// The store of a clause's alternative over a chain that is solved: it has this frame, and what is found for
+// the head; `None` where the head clashes.
+fn head_store(
+    alloc: Global,
+    chain: &Chain,
+    arguments: Arguments,
+    frame: Name,
+    clause: &Clause,
+) -> Result<Option<Shared<Store>>, AllocError>
+    requires { IsSolvedChain chain.now.nodes chain.now.stores }
+    ensures { IfOk result (λ found. MatchOption found (Clashes chain.now.nodes chain.now.stores arguments frame clause.now)
+        (λ s. IsNewStore chain.now.nodes chain.now.stores (length chain.now.stores) frame (head_codes arguments frame clause.now) s true)) }
+{
+    let equations = head_equations(alloc, arguments, frame, clause)?;
+    let solved = solve_only(alloc, chain.templates(), chain, equations.as_slice())?;
+    match solved {
+        Solved::Clash { .. } => Ok(None),
+        Solved::Added(bindings) => {
+            let store = store_of(alloc, frame, bindings.as_slice())?;
+            Ok(Some(store))
+        }
+    }
+}
+
+// A store that has a frame and these bindings.
+fn store_of(
+    alloc: Global,
+    frame: Name,
+    bindings: &[(Var, Term)],
+) -> Result<Shared<Store>, AllocError>
+    ensures { IfOk result (λ s. s ≡ with_bindings (store_with frame) bindings.now) }
+{
+    let mut store = Store::new(alloc);
+    store.add_frame(frame)?;
+    store.add_all(bindings)?;
+    Shared::new(alloc, store)
+}
