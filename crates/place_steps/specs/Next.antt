@@ -1,5 +1,5 @@
 -- What comes next at a place.
-use Rattle.std.specs.Prelude.{◌≡◌, false, Some}
+use Rattle.std.specs.Prelude.{◌≡◌, ◌<◌, ℕ, false, [], length, Some, ◌⊎◌}
 use Rattle.akl_model.specs.Config.{Found, site_of}
 use Rattle.table_laws.specs.Stamped.{IsTableOf}
 use Rattle.box_tree.specs.Tables.{all_rules, table_of}
@@ -19,3 +19,13 @@ pub record IsFoundIdleBy (v : ViewValue) (i : IdleValue) : Type 0 where
 abbrev pub IsNext : ViewValue → Next → Type 0
 IsNext v (Next.Plan p) = IsPlanOf v p
 IsNext v (Next.Idle i) = IsFoundIdleBy v i
+
+-- a plan has one label
+abbrev pub IsAlone : Next → Type 0
+IsAlone (Next.Plan p) = p.more ≡ []
+IsAlone (Next.Idle i) = Unit {0}
+
+-- a plan has one label, or no more labels than there is room for
+abbrev pub HasRoom : ℕ → Next → Type 0
+HasRoom room (Next.Plan p) = (p.more ≡ []) ⊎ (length p.more < room)
+HasRoom room (Next.Idle i) = Unit {0}

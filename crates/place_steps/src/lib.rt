@@ -1,6 +1,7 @@
 //! What comes next at a place that a worker looked at: a plan, or a reason to sleep.
 #![tactic(auto)]
 
+mod calls;
 mod candidates;
 mod next;
 mod seen;

@@ -6,8 +6,9 @@ ghost use Rattle.guard_plan.specs.Planned.{HasNoRule};
 ghost use Rattle.guard_plan.specs.Noisy.{IsNoiseAt};
 ghost use Rattle.split_plan.specs.Split.{IsSplitBy};
 ghost use Rattle.place_steps.specs.Seen.{view_in, IsSeen, IsBareRoot, IsSeenInside};
-ghost use Rattle.place_steps.specs.Next.{IsNext};
+ghost use Rattle.place_steps.specs.Next.{IsNext, IsAlone, HasRoom};
 
+use crate::calls::call_of;
 use crate::seen::Seen;
 use akl_terms::{Name, Program};
 use box_tree::{Inside, Plan, View};
@@ -28,11 +29,26 @@ pub enum Next {
 }
 
 /// What comes next at a place that was seen: a right plan of a rule that applies there, or what the place waits on, as none
-/// applies. An `Err` is want of memory, or of names for a split.
-pub fn next_of(alloc: Global, program: &Program, seen: &Seen) -> Result<Next, AllocError>
+/// applies. At a call of which it is seen which clause is left, the plan has all labels up to the goals of this clause, if
+/// there is room for so many; at all others it has one label. An `Err` is want of memory, or of names for a split.
+pub fn next_of(alloc: Global, program: &Program, seen: &Seen, room: u64) -> Result<Next, AllocError>
     requires program { program.now ≡ (view_in seen.now).table.program }
     requires seen { IsSeen seen.now }
-    ensures { IfOk result (IsNext (view_in seen.now)) }
+    ensures next { IfOk result (IsNext (view_in seen.now)) }
+    ensures room { IfOk result (HasRoom room) }
+{
+    match call_of(alloc, program, seen, room)? {
+        Some(found) => Ok(Next::Plan(found)),
+        None => single_next(alloc, program, seen),
+    }
+}
+
+// The same where a plan has one label.
+fn single_next(alloc: Global, program: &Program, seen: &Seen) -> Result<Next, AllocError>
+    requires program { program.now ≡ (view_in seen.now).table.program }
+    requires seen { IsSeen seen.now }
+    ensures next { IfOk result (IsNext (view_in seen.now)) }
+    ensures alone { IfOk result IsAlone }
 {
     let mut noise = Vec::new(alloc);
     if let Some(found) = plan_with_noise(alloc, program, seen.view(), &mut noise)? {
@@ -61,7 +77,8 @@ fn goal_next(
     requires place { view.now.place ≡ Place.Goal goal }
     requires noise { IsNoiseAt view.now view.now.sight noise.now }
     requires none { HasNoRule view.now }
-    ensures { IfOk result (IsNext view.now) }
+    ensures next { IfOk result (IsNext view.now) }
+    ensures alone { IfOk result IsAlone }
 {
     let idle = idle_goal(alloc, program, view, goal, noise)?;
     Ok(Next::Idle(idle))
@@ -71,7 +88,8 @@ fn goal_next(
 fn root_next(alloc: Global, view: &View) -> Result<Next, AllocError>
     requires root { IsBareRoot view.now }
     requires none { HasNoRule view.now }
-    ensures { IfOk result (IsNext view.now) }
+    ensures next { IfOk result (IsNext view.now) }
+    ensures alone { IfOk result IsAlone }
 {
     let idle = idle_root(alloc, view)?;
     Ok(Next::Idle(idle))
@@ -88,7 +106,8 @@ fn box_next(
     requires program { program.now ≡ view.now.table.program }
     requires inside { IsSeenInside view.now inside.now alternative }
     requires none { HasNoRule view.now }
-    ensures { IfOk result (IsNext view.now) }
+    ensures next { IfOk result (IsNext view.now) }
+    ensures alone { IfOk result IsAlone }
 {
     match split_of(alloc, program, view, inside, alternative)? {
         Some(found) => Ok(Next::Plan(found)),

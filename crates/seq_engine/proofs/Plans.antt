@@ -1,5 +1,6 @@
 -- Plans that were made of the whole journal.
-use Rattle.std.proofs.Common.{◌≡◌, ℕ, ◌+◌, ◌<◌, ◌≤◌, List, [], ◌∷◌, ◌++◌, length, Option, Some, sym, ◌∙◌, ap, subst, ◌⊎◌, inl, inr, arith}
+use Rattle.std.proofs.Common.{◌≡◌, ℕ, ◌+◌, ◌-◌, ◌<◌, ◌≤◌, List, [], ◌∷◌, ◌++◌, length, drop, Option, Some, sym, ◌∙◌, ap, subst, ◌⊎◌, inl, inr, arith}
+use Rattle.std.proofs.Math.Seq.{drop-append_seam}
 use Rattle.std.proofs.lemmas.List.{length-append}
 use Rattle.akl_terms.specs.declared.name.Place.{Place}
 use Rattle.akl_terms.specs.declared.program.Program.{Program}
@@ -20,18 +21,29 @@ use Rattle.box_tree.specs.Views.{ViewValue, run_of}
 use Rattle.box_tree.specs.Plans.{PlanValue, IsRight}
 use Rattle.guard_plan.specs.Planned.{IsPlanOf}
 use Rattle.idle_places.specs.Idling.{IdleValue}
+use Rattle.place_steps.specs.declared.next.Next.{Next}
+use Rattle.place_steps.specs.Next.{HasRoom}
 use Rattle.place_steps.specs.Seen.{IsSight}
-use Rattle.step_commit.specs.Cores.{CoreValue, MayCommit, IsStale, Commits}
+use Rattle.stable_test.proofs.FirstApplies.{FirstApplies, first_applies}
+use Rattle.step_commit.specs.declared.commit.CommitError.{CommitError}
+use Rattle.step_commit.specs.Cores.{CoreValue, MayCommit, IsStale, IsRefused, Commits}
+use Rattle.step_commit.specs.Receipts.{AreBy, receipts_from}
 use Rattle.scheduler.specs.Settled.{MaySettle, IsSeenEnough}
 use Rattle.scheduler.specs.Schedulers.{SchedulerValue}
 use Rattle.scheduler.proofs.Fronts as fronts
 use Rattle.scheduler.proofs.Fronts.{front_now}
 use Rattle.seq_engine.specs.Runs.{IsPlanNow, IsSpent, Follows}
 use Rattle.seq_engine.specs.Attending.{IsIdleNow}
+use Rattle.seq_engine.proofs.OneWorker.{labels_by}
 
--- a plan of a view of the whole journal
-pub plan_now : (c : CoreValue) (place : Place) (v : ViewValue) (p : PlanValue) → IsSight c place 1 v → IsPlanOf v p → IsPlanNow c p
-plan_now c place v p s x = record { right = x.right; table = x.table ∙ s.table; journal = x.journal ∙ s.journal; worker = x.worker ∙ s.seer }
+-- a plan of a view of the whole journal, of one label, or with room for all
+pub plan_now : (c : CoreValue) (place : Place) (v : ViewValue) (p : PlanValue) → IsSight c place 1 v → IsPlanOf v p → (p.more ≡ []) ⊎ (length p.more + length c.journal < c.budget) → IsPlanNow c p
+plan_now c place v p s x room = record { right = x.right; table = x.table ∙ s.table; journal = x.journal ∙ s.journal; worker = x.worker ∙ s.seer; room = room }
+
+-- by what the budget has left
+pub next_now : (c : CoreValue) (place : Place) (v : ViewValue) (p : PlanValue) (left : ℕ) → IsSight c place 1 v → IsPlanOf v p → HasRoom left (Next.Plan p) → length c.journal + left ≡ c.budget → IsPlanNow c p
+next_now c place v p left s x (inl alone) e = plan_now c place v p s x (inl alone)
+next_now c place v p left s x (inr less) e = plan_now c place v p s x (inr (omega (arith, less, e)))
 
 -- it shows that some place is ready
 
@@ -40,8 +52,9 @@ HasReady t j = (x : IsTableOf all_rules (run_of t j) (table_of t)) → (place : 
 
 planned_ready : (p : PlanValue) → IsRight p → HasReady p.table p.journal
 planned_ready p r x =
-    let same : r.table.config ≡ x.config = Derives-one all_rules p.table.program (start p.table.program p.table.query) r.table.config x.config p.journal r.table.replays.derives x.replays.derives in
-    some_place_ready all_rules p.table.program p.table.query p.journal x.config x.replays p.label r.result (subst (λ (k : Config). Applies all_rules p.table.program k p.label r.result) same r.applies)
+    let w : FirstApplies p = first_applies p r in
+    let same : w.table.config ≡ x.config = Derives-one all_rules p.table.program (start p.table.program p.table.query) w.table.config x.config p.journal w.table.replays.derives x.replays.derives in
+    some_place_ready all_rules p.table.program p.table.query p.journal x.config x.replays p.label w.result (subst (λ (k : Config). Applies all_rules p.table.program k p.label w.result) same w.applies)
 
 pub spent : (c : CoreValue) (p : PlanValue) → IsPlanNow c p → length c.journal ≡ c.budget → IsSpent c
 spent c p x b = (b, subst (λ (j : List Label). HasReady c.table j) x.journal (subst (λ (t : TableValue). HasReady t p.journal) x.table (planned_ready p x.right)))
@@ -80,12 +93,31 @@ not_stale c seen reads i o e x =
     let same : length seen ≡ length c.journal = ap length e in
     absurd (omega (arith, within, unseen, same))
 
-pub follows : (c d : CoreValue) (p : PlanValue) (r : Receipt) (before afterwards : List Receipt) → p.label.worker ≡ 1 → p.journal ≡ c.journal → Commits c p d r → afterwards ≡ before ++ r ∷ [] → Follows c before d afterwards
-follows c d p r before afterwards w s x e = record {
+-- and has room in the budget
+pub not_short : (c : CoreValue) (p : PlanValue) (left : ℕ) → IsPlanNow c p → IsRefused c p (CommitError.Short left) → ⊥
+not_short c p left x r = on x.room
+  where
+    on : (p.more ≡ []) ⊎ (length p.more + length c.journal < c.budget) → ⊥
+    on (inl alone) = let none : length p.more ≡ 0 = ap length alone in let some : 0 < left = r.1 in let few : left ≤ length p.more = r.2 in absurd (omega (arith, none, some, few))
+    on (inr less) = let all : length c.journal + left ≡ c.budget = r.0 in let few : left ≤ length p.more = r.2 in absurd (omega (arith, less, all, few))
+
+-- the labels of a commit are those of the journal from the first one on
+pub last_labels : (c d : CoreValue) (p : PlanValue) (r : Receipt) → Commits c p d r → drop (r.at - 1) d.journal ≡ p.label ∷ p.more
+last_labels c d p r x =
+    let e : r.at ≡ length c.journal + 1 = ap (λ (z : Receipt). z.at) x.receipt in
+    let n : r.at - 1 ≡ length c.journal = omega (arith, e) in
+    (λ i. drop (n i) (x.journal i)) ∙ drop-append_seam c.journal (p.label ∷ p.more)
+
+pub follows : (c d : CoreValue) (p : PlanValue) (r : Receipt) (before afterwards : List Receipt) → IsPlanNow c p → Commits c p d r → afterwards ≡ before ++ receipts_from r.at r.seen (drop (r.at - 1) d.journal)
+    → Follows c before d afterwards
+follows c d p r before afterwards now x e = record {
   fixed = x.fixed;
   label = p.label;
+  more = p.more;
   unspent = x.fresh.unspent;
   journal = x.journal;
-  worker = w;
-  receipts = e ∙ ap (λ (z : Receipt). before ++ z ∷ []) x.receipt ∙ ap (λ (ls : List Label). before ++ record { at = length c.journal + 1; seen = length ls; label = p.label } ∷ []) s;
+  by_one = subst (λ (w : ℕ). AreBy w (p.label ∷ p.more)) now.worker (labels_by p now.right);
+  receipts = e ∙ ap (λ (ls : List Label). before ++ receipts_from r.at r.seen ls) (last_labels c d p r x)
+      ∙ ap (λ (z : Receipt). before ++ receipts_from z.at z.seen (p.label ∷ p.more)) x.receipt
+      ∙ ap (λ (ls : List Label). before ++ receipts_from (length c.journal + 1) (length ls) (p.label ∷ p.more)) now.journal;
 }

@@ -101,7 +101,7 @@ fn attend(
         scheduler.forget(token);
         return Ok(Attended::Closed);
     };
-    match next_of(alloc, program, &seen)? {
+    match next_of(alloc, program, &seen, scheduler.core().left())? {
         Next::Plan(found) => Ok(Attended::Planned(found)),
         Next::Idle(idle) => {
             settle(alloc, scheduler, &idle)?;

@@ -1,9 +1,10 @@
-//! One label of a run, or its end.
+//! One commit of a run, or its end.
 
 ghost use Rattle.std.specs.Prelude.{◌≡◌, IfOk};
 ghost use Rattle.seq_engine.specs.Runs.{HasStepped, IsPlanNow};
 
 use crate::attending::next_plan;
+use crate::receipts::push_receipts;
 use akl_model::Receipt;
 use akl_terms::{Program, Steps};
 use box_tree::Plan;
@@ -15,7 +16,7 @@ use step_commit::CommitError;
 /// What a step of a run came to.
 #[derive(Clone, Copy)]
 pub enum Stepped {
-    /// A label was committed.
+    /// The labels of a plan were committed.
     Committed,
     /// No place is ready.
     Quiet,
@@ -23,7 +24,7 @@ pub enum Stepped {
     Spent,
 }
 
-// Commits a plan that was made in this very state, and keeps its receipt; or all labels of the budget are made.
+// Commits a plan that was made in this very state, and keeps the receipts of its labels; or all labels of the budget are made.
 fn commit<L: Ledger>(
     alloc: Global,
     scheduler: &mut Scheduler,
@@ -36,16 +37,21 @@ fn commit<L: Ledger>(
 {
     match scheduler.commit(alloc, plan, steps) {
         Ok(committed) => {
-            receipts.push(committed.receipt)?;
+            let first = committed.receipt;
+            let labels = &scheduler.core().journal()[first.at as usize - 1..];
+            receipts.reserve(labels.len())?;
+            push_receipts(receipts, first.at, first.seen, labels);
             Ok(Stepped::Committed)
         }
         Err(CommitError::Spent { budget: _ }) => Ok(Stepped::Spent),
-        Err(CommitError::Stale { item: _, stamp: _ }) => unreachable!(),
+        Err(CommitError::Short { left: _ } | CommitError::Stale { item: _, stamp: _ }) => {
+            unreachable!()
+        }
         Err(CommitError::Memory(error)) => Err(error),
     }
 }
 
-/// Plans at the open places until a rule applies, and commits its label as worker 1. The commit's steps are counted.
+/// Plans at the open places until a rule applies, and commits the plan's labels as worker 1. The commit's steps are counted.
 pub(crate) fn step<L: Ledger>(
     alloc: Global,
     program: &Program,

@@ -12,4 +12,4 @@ pub settle-requires : goal.settle-requires
 settle-requires c =
     let sight : IsSight c.args.scheduler.now.core c.args.place 1 (view_in c.in-Some.seen) =
     subst (λ (k : CoreValue). IsSight k c.args.place 1 (view_in c.in-Some.seen)) c.core.ensures.core (subst (IsSeenBy c.core.result.now c.args.place 1) c.in-Some.is c.in_ok-seen.ensures).1 in
-    idle_now c.args.scheduler.now c.args.token c.args.place (view_in c.in-Some.seen) c.in-Idle.idle c.requires.open c.requires.rest sight (subst (IsNext (view_in c.in-Some.seen)) c.in-Idle.is c.in_ok-found.ensures)
+    idle_now c.args.scheduler.now c.args.token c.args.place (view_in c.in-Some.seen) c.in-Idle.idle c.requires.open c.requires.rest sight (subst (IsNext (view_in c.in-Some.seen)) c.in-Idle.is c.in_ok-found.ensures.next)

@@ -4,7 +4,7 @@ use Rattle.guard_plan.specs.Planned.{HasNoRule}
 use Rattle.guard_plan.specs.Noisy.{IsNoiseAt, IsTriedBy}
 use Rattle.place_steps.specs.declared.seen.Seen.{Seen}
 use Rattle.place_steps.specs.Seen.{view_in}
-use Rattle.place_steps.proofs.next.next_of.Goals as goal
+use Rattle.place_steps.proofs.next.single_next.Goals as goal
 
 pub goal_next-requires-clause-noise : goal.goal_next-requires-clause-noise
 goal_next-requires-clause-noise c =
