@@ -1,26 +1,30 @@
 -- The core to which labels led, and what was found of it before.
-use Rattle.std.proofs.Common.{◌≡◌, ◌≢◌, ℕ, suc, ◌+◌, ◌<◌, ◌≤◌, List, [], ◌∷◌, ◌++◌, All, Some, inl, inr, length, sym, refl, ap, ◌∙◌, subst, arith, append-nil, length-append}
-use Rattle.std.proofs.lemmas.List.{map-append, length-map}
+use Rattle.std.proofs.Common.{◌≡◌, ◌≢◌, ℕ, suc, ◌+◌, ◌<◌, ◌≤◌, List, [], ◌∷◌, ◌++◌, All, Some, inl, inr, length, drop, ◌-◌, sym, refl, ap, ◌∙◌, subst, arith, append-nil, length-append}
+use Rattle.std.proofs.Math.Seq.{drop-append_seam}
 use Rattle.std.proofs.lemmas.List.Elements.{All-nil, All-cons, All-head, All-tail}
 use Rattle.akl_terms.specs.declared.name.Name.{Name}
 use Rattle.akl_model.specs.declared.label.Label.{Label}
 use Rattle.akl_model.specs.declared.label.Receipt.{Receipt}
 use Rattle.plan_laws.specs.Right.{NoneBy}
-use Rattle.table_laws.specs.Rows.{BoxRow, store_in}
+use Rattle.table_laws.specs.Rows.{BoxRow, Table, store_in}
+use Rattle.table_laws.specs.Steps as laws
+use Rattle.table_laws.specs.Steps.{tells, forks, fails, cuts, joins, refutes, confirms, splits}
 use Rattle.table_laws.specs.Kept.{HadStore, KeepsStores, SharesStores}
 use Rattle.table_laws.proofs.KeptStores.{store_kept}
-use Rattle.box_tree.specs.Tables.{TableValue, table_of, step_of}
-use Rattle.box_tree.specs.Plans.{PlanValue}
+use Rattle.box_tree.specs.Tables.{TableValue, table_of, step_of, before_last}
+use Rattle.box_tree.specs.Plans.{PlanValue, IsRight}
 use Rattle.idle_places.specs.Idling.{IdleValue}
 use Rattle.step_commit.specs.Cores.{CoreValue, IsCore, KeepsFixed, MayCommit, Commits, solved_in}
+use Rattle.step_commit.specs.Receipts.{receipts_from, AreBy}
 use Rattle.scheduler.specs.Settled.{MaySettle}
 use Rattle.scheduler.proofs.Fronts as fronts
 use Rattle.scheduler.proofs.Fronts.{IsFront}
 use Rattle.place_steps.specs.declared.next.Next.{Next}
-use Rattle.par_workers.specs.declared.shared.Made.{Made}
-use Rattle.par_workers.specs.Shared.{SharedValue, label_in, maker, labels_in, table_after, core_after, KeepStores, IsShared}
+use Rattle.seq_engine.proofs.OneWorker.{labels_by}
+use Rattle.par_workers.specs.declared.made.Made.{Made}
+use Rattle.par_workers.specs.Shared.{SharedValue, labels_made, maker, labels_in, table_after, core_after, KeepStores, IsShared, AreReceiptsOf}
 use Rattle.par_workers.specs.Turns.{IsTakenOf, IsFoundBefore, HasConcluded}
-use Rattle.par_workers.proofs.Labels.{receipts_more, by_workers-more}
+use Rattle.par_workers.proofs.Labels.{labels_in-append, labels_in-more, all_by, made_by, receipts_more, by_workers-more}
 
 same_core : (c d : CoreValue) → c.table ≡ d.table → c.journal ≡ d.journal → c.workers ≡ d.workers → c.budget ≡ d.budget → c ≡ d
 same_core c d t j w b =
@@ -44,35 +48,64 @@ table_after-append t (m ∷ ms) ns = table_after-append m.table.value ms ns
 had_store : (count : ℕ) (t : TableValue) (ms : List Made) → KeepStores count t ms → (n : Name) (row : BoxRow) → (table_of (table_after t ms)).box_of n ≡ Some row → row.changed ≤ count → HadStore ((table_of t).box_of n) row
 had_store count t [] k n row e old = (row, e, refl, refl)
 had_store count t (m ∷ ms) k n row e old =
-    let there : HadStore ((table_of m.table.value).box_of n) row = had_store (suc count) m.table.value ms k.1 n row e (omega (arith, old)) in
+    let there : HadStore ((table_of m.table.value).box_of n) row = had_store (count + length (labels_made m)) m.table.value ms k.1 n row e (omega (arith, old)) in
     elim (k.0 n there.0 there.1) [
       | inl new ↦ absurd (omega (arith, old, new, there.3))
       | inr was ↦ (was.0, was.1, was.2 ∙ there.2, was.3 ∙ there.3)
     ]
 
-keeps_behind : (count : ℕ) (t : TableValue) (ms ns : List Made) → KeepStores count t (ms ++ ns) → KeepStores (count + length ms) (table_after t ms) ns
-keeps_behind count t [] ns k = subst (λ (i : ℕ). KeepStores i t ns) (let e : count ≡ count + 0 = omega arith in e) k
-keeps_behind count t (m ∷ ms) ns k =
-    subst (λ (i : ℕ). KeepStores i (table_after m.table.value ms) ns) (let e : suc count + length ms ≡ count + suc (length ms) = omega arith in e) (keeps_behind (suc count) m.table.value ms ns k.1)
+count_more : (count : ℕ) (m : Made) (ms : List Made) → count + length (labels_made m) + length (labels_in ms) ≡ count + length (labels_in (m ∷ ms))
+count_more count m ms = let e : length (labels_in (m ∷ ms)) ≡ length (labels_made m) + length (labels_in ms) = length-append (labels_made m) (labels_in ms) in omega (arith, e)
 
-keeps_more : (count : ℕ) (t : TableValue) (ms : List Made) (m : Made) → KeepStores count t ms → KeepsStores (suc (count + length ms)) (table_of (table_after t ms)) (table_of m.table.value) → KeepStores count t (ms ++ m ∷ [])
-keeps_more count t [] m k next = (subst (λ (i : ℕ). KeepsStores (suc i) (table_of t) (table_of m.table.value)) (let e : count + 0 ≡ count = omega arith in e) next, tt)
+keeps_behind : (count : ℕ) (t : TableValue) (ms ns : List Made) → KeepStores count t (ms ++ ns) → KeepStores (count + length (labels_in ms)) (table_after t ms) ns
+keeps_behind count t [] ns k = subst (λ (i : ℕ). KeepStores i t ns) (let e : count ≡ count + 0 = omega arith in e) k
+keeps_behind count t (m ∷ ms) ns k = subst (λ (i : ℕ). KeepStores i (table_after m.table.value ms) ns) (count_more count m ms) (keeps_behind (count + length (labels_made m)) m.table.value ms ns k.1)
+
+keeps_more : (count : ℕ) (t : TableValue) (ms : List Made) (m : Made) → KeepStores count t ms → KeepsStores (count + length (labels_in ms) + length (labels_made m)) (table_of (table_after t ms)) (table_of m.table.value) → KeepStores count t (ms ++ m ∷ [])
+keeps_more count t [] m k next = (subst (λ (i : ℕ). KeepsStores (i + length (labels_made m)) (table_of t) (table_of m.table.value)) (let e : count + 0 ≡ count = omega arith in e) next, tt)
 keeps_more count t (l ∷ ls) m k next =
-    (k.0, keeps_more (suc count) l.table.value ls m k.1 (subst (λ (i : ℕ). KeepsStores (suc i) (table_of (table_after l.table.value ls)) (table_of m.table.value)) (let e : count + suc (length ls) ≡ suc count + length ls = omega arith in e) next))
+    (k.0, keeps_more (count + length (labels_made l)) l.table.value ls m k.1 (subst (λ (i : ℕ). KeepsStores (i + length (labels_made m)) (table_of (table_after l.table.value ls)) (table_of m.table.value)) (sym (count_more count l ls)) next))
 
 -- so the table that was seen has those stores that no label behind it changed
-shared_stores : (first : TableValue) (seen further : List Made) (t u : TableValue) (count : ℕ) → t ≡ table_after first seen → u ≡ table_after first (seen ++ further) → count ≡ length seen
+shared_stores : (first : TableValue) (seen further : List Made) (t u : TableValue) (count : ℕ) → t ≡ table_after first seen → u ≡ table_after first (seen ++ further) → count ≡ length (labels_in seen)
     → KeepStores 0 first (seen ++ further) → SharesStores (table_of t) (table_of u) count
 shared_stores first seen further t u count was now number keeps n row e old =
     let last : u ≡ table_after (table_after first seen) further = now ∙ table_after-append first seen further in
     let had : HadStore ((table_of (table_after first seen)).box_of n) row =
-    had_store (length seen) (table_after first seen) further (subst (λ (i : ℕ). KeepStores i (table_after first seen) further) (let e : 0 + length seen ≡ length seen = omega arith in e) (keeps_behind 0 first seen further keeps)) n row (ap (λ (x : TableValue). (table_of x).box_of n) (sym last) ∙ e) (subst (λ (k : ℕ). row.changed ≤ k) number old) in
+    had_store (length (labels_in seen)) (table_after first seen) further (subst (λ (i : ℕ). KeepStores i (table_after first seen) further) (let e : 0 + length (labels_in seen) ≡ length (labels_in seen) = omega arith in e) (keeps_behind 0 first seen further keeps)) n row (ap (λ (x : TableValue). (table_of x).box_of n) (sym last) ∙ e) (subst (λ (k : ℕ). row.changed ≤ k) number old) in
     ap (λ (x : TableValue). store_in ((table_of x).box_of n)) was ∙ ap store_in had.1 ∙ had.2
+
+none_append : (l : Label) (xs ys : List Label) → NoneBy l xs → NoneBy l ys → NoneBy l (xs ++ ys)
+none_append l [] ys first rest = rest
+none_append l (x ∷ xs) ys first rest = (first.0, none_append l xs ys first.1 rest)
+
+none_of : (l : Label) (worker : ℕ) (ls : List Label) → l.worker ≢ worker → AreBy worker ls → NoneBy l ls
+none_of l worker [] differs are = tt
+none_of l worker (k ∷ ks) differs are = (λ same. differs (same ∙ are.0), none_of l worker ks differs are.1)
 
 none_by : (l : Label) (worker : ℕ) (ms : List Made) → l.worker ≡ worker → All (λ m. maker m ≢ worker) ms → NoneBy l (labels_in ms)
 none_by l worker [] by all = tt
 none_by l worker (m ∷ ms) by all =
-    (λ same. All-head (λ m. maker m ≢ worker) m ms all (sym same ∙ by), none_by l worker ms by (All-tail (λ m. maker m ≢ worker) m ms all))
+    none_append l (labels_made m) (labels_in ms) (none_of l (maker m) (labels_made m) (λ same. All-head (λ m. maker m ≢ worker) m ms all (sym same ∙ by)) (made_by m))
+    (none_by l worker ms by (All-tail (λ m. maker m ≢ worker) m ms all))
+
+-- before its last label a step finds the boxes of the table
+kept_before : (others number : ℕ) (step : laws.Step) (T U : Table) → KeepsStores number (before_last others step T) U → KeepsStores number T U
+kept_before others number (tells new solved) T U k = k
+kept_before others number (forks op news) T U k = k
+kept_before others number fails T U k = k
+kept_before others number cuts T U k = k
+kept_before others number (joins new solved goals) T U k = k
+kept_before others number refutes T U k = k
+kept_before others number confirms T U k = k
+kept_before others number (splits copy copies) T U k = k
+
+-- a commit keeps the stores that don't come with the plan's last label
+pub kept_by : (c d : CoreValue) (p : PlanValue) (r : Receipt) → Commits c p d r → KeepsStores (table_of d.table).steps (table_of c.table) (table_of d.table)
+kept_by c d p r made =
+    let step = step_of c.table.program.templates.nodes p.step in
+    kept_before (length p.more) (table_of d.table).steps step (table_of c.table) (table_of d.table)
+    (store_kept (before_last (length p.more) step (table_of c.table)) (table_of d.table) p.label (Some (solved_in c p)) p.names step made.made.leads)
 
 -- a run of no labels
 pub shared_start : (c : CoreValue) → c.journal ≡ [] → IsShared (record { begun = c; past = [] }) c
@@ -92,10 +125,10 @@ module _ (s : SharedValue) (c : CoreValue) (worker : ℕ) (n : Next) (is : IsSha
   front_before = record {
     program = ap (λ (t : TableValue). t.program) taken.table ∙ taken.fixed.program ∙ sym is.fixed.program;
     query = ap (λ (t : TableValue). t.query) taken.table ∙ taken.fixed.query ∙ sym is.fixed.query;
-    front = ap (λ (d : CoreValue). d.journal) is.core ∙ ap labels_in f.goes.1 ∙ map-append label_in f.seen f.goes.0
+    front = ap (λ (d : CoreValue). d.journal) is.core ∙ ap labels_in f.goes.1 ∙ labels_in-append f.seen f.goes.0
         ∙ ap (λ (ls : List Label). ls ++ labels_in f.goes.0) (sym taken.journal);
     same_stores = shared_stores s.begun.table f.seen f.goes.0 f.found.view.table c.table (length f.found.view.journal) taken.table
-        (ap (λ (d : CoreValue). d.table) is.core ∙ ap (table_after s.begun.table) f.goes.1) (ap (λ (ls : List Label). length ls) taken.journal ∙ length-map f.seen label_in)
+        (ap (λ (d : CoreValue). d.table) is.core ∙ ap (table_after s.begun.table) f.goes.1) (ap (λ (ls : List Label). length ls) taken.journal)
         (subst (KeepStores 0 s.begun.table) f.goes.1 is.stores);
   }
 
@@ -113,44 +146,59 @@ may_commit s c worker p is f =
 pub may_settle : (s : SharedValue) (c : CoreValue) (worker : ℕ) (i : IdleValue) → IsShared s c → IsFoundBefore s worker (Next.Idle i) → MaySettle c i
 may_settle s c worker i is f = fronts.may_settle c i (labels_in f.goes.0) (front_of s c worker (Next.Idle i) is f i.table i.journal f.found.next.idle.0 f.found.next.idle.1)
 
--- a plan's label follows
+-- a plan's labels follow
 pub shared_more : (s : SharedValue) (c d : CoreValue) (worker : ℕ) (p : PlanValue) (r : Receipt) (m : Made) → IsShared s c → IsFoundBefore s worker (Next.Plan p)
-    → 1 ≤ worker → worker ≤ s.begun.workers → IsCore d → Commits c p d r → m.label.value ≡ r.label → m.table.value ≡ d.table → IsShared (record { begun = s.begun; past = s.past ++ m ∷ [] }) d
-shared_more s c d worker p r m is f least most core made label table =
-    let of_plan : label_in m ≡ p.label = label ∙ ap (λ (q : Receipt). q.label) made.receipt in
-    let by : maker m ≡ worker = ap (λ (l : Label). l.worker) of_plan ∙ f.found.next.worker ∙ f.found.taken.seer in
-    let count : (table_of d.table).steps ≡ suc (length s.past) =
-    core.table.stamped.steps ∙ ap (λ (ls : List Label). length ls) made.journal ∙ length-append c.journal (p.label ∷ []) ∙ (let e : length c.journal + 1 ≡ suc (length c.journal) = omega arith in e)
-    ∙ ap (λ (e : CoreValue). suc (length e.journal)) is.core ∙ ap suc (length-map s.past label_in) in
-    let keeps : KeepsStores (suc (length s.past)) (table_of c.table) (table_of d.table) =
-    subst (λ (k : ℕ). KeepsStores k (table_of c.table) (table_of d.table)) count
-    (store_kept (table_of c.table) (table_of d.table) p.label (Some (solved_in c p)) p.names (step_of c.table.program.templates.nodes p.step) made.made.leads) in
+    → 1 ≤ worker → worker ≤ s.begun.workers → IsCore d → Commits c p d r → m.plan.value ≡ p → m.table.value ≡ d.table → IsShared (record { begun = s.begun; past = s.past ++ m ∷ [] }) d
+shared_more s c d worker p r m is f least most core made plan table =
+    let of_plan : labels_made m ≡ p.label ∷ p.more = ap (λ (q : PlanValue). q.label ∷ q.more) plan in
+    let by : maker m ≡ worker = ap (λ (q : PlanValue). q.label.worker) plan ∙ f.found.next.worker ∙ f.found.taken.seer in
+    let journal : d.journal ≡ labels_in s.past ++ labels_made m = made.journal ∙ ap (λ (e : CoreValue). e.journal ++ p.label ∷ p.more) is.core ∙ ap (λ (ls : List Label). labels_in s.past ++ ls) (sym of_plan) in
+    let count : (table_of d.table).steps ≡ length (labels_in s.past) + length (labels_made m) =
+    core.table.stamped.steps ∙ ap (λ (ls : List Label). length ls) journal ∙ length-append (labels_in s.past) (labels_made m) in
+    let keeps : KeepsStores (length (labels_in s.past) + length (labels_made m)) (table_of c.table) (table_of d.table) =
+    subst (λ (k : ℕ). KeepsStores k (table_of c.table) (table_of d.table)) count (kept_by c d p r made) in
     let fixed = fixed_on s.begun c d is.fixed made.fixed in record {
-      core = same_core d (core_after s.begun (s.past ++ m ∷ [])) (sym table ∙ sym (table_after-more s.begun.table s.past m))
-          (made.journal ∙ ap (λ (e : CoreValue). e.journal ++ p.label ∷ []) is.core ∙ ap (λ (l : Label). labels_in s.past ++ l ∷ []) (sym of_plan) ∙ sym (map-append label_in s.past (m ∷ [])))
-          fixed.workers fixed.budget;
+      core = same_core d (core_after s.begun (s.past ++ m ∷ [])) (sym table ∙ sym (table_after-more s.begun.table s.past m)) (journal ∙ sym (labels_in-more s.past m)) fixed.workers fixed.budget;
       fixed = fixed;
       workers = by_workers-more s.begun.workers s.past m is.workers (subst (λ n. 1 ≤ n) (sym by) least) (subst (λ n. n ≤ s.begun.workers) (sym by) most);
       stores = keeps_more 0 s.begun.table s.past m is.stores
-          (subst (λ (i : ℕ). KeepsStores (suc i) (table_of (table_after s.begun.table s.past)) (table_of m.table.value)) (let e : length s.past ≡ 0 + length s.past = omega arith in e)
-          (subst (λ (t : TableValue). KeepsStores (suc (length s.past)) (table_of (table_after s.begun.table s.past)) (table_of t)) (sym table)
-          (subst (λ (t : TableValue). KeepsStores (suc (length s.past)) (table_of t) (table_of d.table)) (ap (λ (e : CoreValue). e.table) is.core) keeps)));
+          (subst (λ (i : ℕ). KeepsStores (i + length (labels_made m)) (table_of (table_after s.begun.table s.past)) (table_of m.table.value)) (let e : length (labels_in s.past) ≡ 0 + length (labels_in s.past) = omega arith in e)
+          (subst (λ (t : TableValue). KeepsStores (length (labels_in s.past) + length (labels_made m)) (table_of (table_after s.begun.table s.past)) (table_of t)) (sym table)
+          (subst (λ (t : TableValue). KeepsStores (length (labels_in s.past) + length (labels_made m)) (table_of t) (table_of d.table)) (ap (λ (e : CoreValue). e.table) is.core) keeps)));
     }
 
 pub concluded_more : (s : SharedValue) (c d : CoreValue) (worker : ℕ) (p : PlanValue) (r : Receipt) (m : Made) (rs : List Receipt) → IsShared s c → IsFoundBefore s worker (Next.Plan p)
-    → Commits c p d r → m.label.value ≡ r.label → HasConcluded worker s rs (record { begun = s.begun; past = s.past ++ m ∷ [] }) (rs ++ r ∷ [])
-concluded_more s c d worker p r m rs is f made label =
-    let of_plan : label_in m ≡ p.label = label ∙ ap (λ (q : Receipt). q.label) made.receipt in
-    let by : maker m ≡ worker = ap (λ (l : Label). l.worker) of_plan ∙ f.found.next.worker ∙ f.found.taken.seer in
-    let count : length c.journal ≡ length s.past = ap (λ (e : CoreValue). length e.journal) is.core ∙ length-map s.past label_in in
+    → Commits c p d r → m.plan.value ≡ p → HasConcluded worker s rs (record { begun = s.begun; past = s.past ++ m ∷ [] }) (rs ++ receipts_from r.at r.seen (p.label ∷ p.more))
+concluded_more s c d worker p r m rs is f made plan =
+    let by : maker m ≡ worker = ap (λ (q : PlanValue). q.label.worker) plan ∙ f.found.next.worker ∙ f.found.taken.seer in
+    let count : length c.journal ≡ length (labels_in s.past) = ap (λ (e : CoreValue). length e.journal) is.core in
     let front : length c.journal ≡ length f.found.view.journal + length (labels_in f.goes.0) = ap (λ (ls : List Label). length ls) (front_before s c worker (Next.Plan p) is f).front ∙ length-append f.found.view.journal (labels_in f.goes.0) in
     let seen : r.seen ≡ length f.found.view.journal = ap (λ (q : Receipt). q.seen) made.receipt ∙ ap (λ (ls : List Label). length ls) f.found.next.journal in
     let number : r.at ≡ length c.journal + 1 = ap (λ (q : Receipt). q.at) made.receipt in
     let before : r.seen < r.at = omega (arith, front, seen, number) in record {
       begun = refl;
       goes = (m ∷ [], refl, All-cons (λ m. maker m ≡ worker) m [] by (All-nil (λ m. maker m ≡ worker)));
-      receipts = receipts_more worker s.past m rs r by (ap (λ (q : Receipt). q.at) made.receipt ∙ ap (λ n. n + 1) count) before (sym label);
+      receipts = λ are. subst (λ (q : PlanValue). AreReceiptsOf worker (s.past ++ m ∷ []) (rs ++ receipts_from r.at r.seen (q.label ∷ q.more))) plan
+          (receipts_more worker s.past m rs r.at r.seen by (number ∙ ap (λ n. n + 1) count) before are);
     }
+
+-- its labels are the last ones of the journal
+module _ (c d : CoreValue) (p : PlanValue) (r : Receipt) (made : Commits c p d r) where
+  number : r.at ≡ length c.journal + 1
+  number = ap (λ (q : Receipt). q.at) made.receipt
+
+  pub labels_behind : drop (r.at - 1) d.journal ≡ p.label ∷ p.more
+  labels_behind = ap (λ (n : ℕ). drop (n - 1) d.journal) number ∙ ap (λ (n : ℕ). drop n d.journal) (let e : length c.journal + 1 - 1 ≡ length c.journal = omega arith in e)
+      ∙ ap (drop (length c.journal)) made.journal ∙ drop-append_seam c.journal (p.label ∷ p.more)
+
+  pub number_within : (1 ≤ r.at) × (r.at ≤ length d.journal)
+  number_within =
+      let long : length d.journal ≡ length c.journal + suc (length p.more) = ap (λ (ls : List Label). length ls) made.journal ∙ length-append c.journal (p.label ∷ p.more) in
+      (omega (arith, number), omega (arith, number, long))
+
+-- all of them are by the plan's worker
+pub plan_by : (p q : PlanValue) → q ≡ p → IsRight p → All (λ (l : Label). l.worker ≡ q.label.worker) q.more
+plan_by p q same right = subst (λ (k : PlanValue). All (λ (l : Label). l.worker ≡ k.label.worker) k.more) (sym same) (all_by p.label.worker p.more (labels_by p right).1)
 
 pub concluded_none : (worker : ℕ) (s : SharedValue) (rs : List Receipt) → HasConcluded worker s rs s rs
 concluded_none worker s rs = record { begun = refl; goes = ([], sym (append-nil s.past), All-nil (λ m. maker m ≡ worker)); receipts = λ are. are }

@@ -7,7 +7,7 @@ use Rattle.turn_lock.specs.declared.view.Joined.{Joined}
 use Rattle.akl_model.specs.declared.label.Label.{Label}
 use Rattle.akl_model.specs.declared.label.Receipt.{Receipt}
 use Rattle.step_commit.specs.Receipts.{AreReceipts, AreBy}
-use Rattle.par_workers.specs.declared.shared.Made.{Made}
+use Rattle.par_workers.specs.declared.made.Made.{Made}
 use Rattle.par_workers.specs.declared.worker.Worker.{Worker}
 use Rattle.par_workers.specs.Shared.{maker, labels_in, AreReceiptsOf}
 use Rattle.par_workers.specs.Crews.{AreNumbered, AreOfJoined, lists}

@@ -24,7 +24,7 @@ use Rattle.turn_lock.proofs.lock.Pass.TheSendSync as passes
 use Rattle.par_workers.specs.contracts.lying.Lying as Lying
 use Rattle.par_workers.specs.contracts.tokens.Tokens as Tokens
 use Rattle.par_workers.specs.contracts.planning.Planning as Planning
-use Rattle.par_workers.specs.contracts.shared.Made as Made
+use Rattle.par_workers.specs.contracts.made.Made as Made
 use Rattle.par_workers.specs.contracts.shared.SharedRun as SharedRun
 use Rattle.par_workers.specs.contracts.signals.Signals as Signals
 use Rattle.par_workers.specs.contracts.worker.Worker as Worker

@@ -12,7 +12,7 @@ use Rattle.seq_engine.specs.declared.run.Finished.{Finished}
 use Rattle.seq_engine.specs.declared.run.End.{End}
 use Rattle.seq_engine.specs.Runs.{HasRunOn, EndsAs}
 use Rattle.par_workers.specs.declared.run.Finished as many
-use Rattle.par_workers.specs.declared.shared.Made.{Made}
+use Rattle.par_workers.specs.declared.made.Made.{Made}
 use Rattle.par_workers.specs.Shared.{SharedValue, maker, labels_in, AreByWorkers, IsShared}
 use Rattle.par_workers.specs.Crews.{AreOfJoined, lists}
 use Rattle.par_workers.specs.Runs.{AreShared, HasRunMany}

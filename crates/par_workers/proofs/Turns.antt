@@ -8,7 +8,7 @@ use Rattle.box_tree.specs.Tables.{TableValue}
 use Rattle.box_tree.specs.Views.{ViewValue}
 use Rattle.step_commit.specs.Cores.{CoreValue}
 use Rattle.place_steps.specs.declared.next.Next.{Next}
-use Rattle.par_workers.specs.declared.shared.Made.{Made}
+use Rattle.par_workers.specs.declared.made.Made.{Made}
 use Rattle.par_workers.specs.declared.choosing.Chosen.{Chosen}
 use Rattle.par_workers.specs.declared.concluding.Planned.{Planned}
 use Rattle.par_workers.specs.Shared.{SharedValue, maker, AreReceiptsOf}

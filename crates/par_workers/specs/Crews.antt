@@ -5,7 +5,7 @@ use Rattle.akl_terms.specs.declared.program.Program.{Program}
 use Rattle.akl_model.specs.declared.label.Receipt.{Receipt}
 use Rattle.turn_lock.specs.Passes.{view}
 use Rattle.turn_lock.specs.declared.view.Joined.{Joined}
-use Rattle.par_workers.specs.declared.shared.Made.{Made}
+use Rattle.par_workers.specs.declared.made.Made.{Made}
 use Rattle.par_workers.specs.declared.worker.Worker.{Worker}
 use Rattle.par_workers.specs.Shared.{AreReceiptsOf}
 

@@ -1,5 +1,5 @@
 -- What a worker knows in its turns and between them.
-use Rattle.std.specs.Prelude.{◌≡◌, ℕ, ◌≤◌, false, List, Option, Some, None}
+use Rattle.std.specs.Prelude.{◌≡◌, ℕ, ◌+◌, ◌≤◌, false, List, length, Option, Some, None}
 use Rattle.turn_lock.specs.Histories.{GoesOnBy, GoesOnWithout}
 use Rattle.turn_lock.specs.declared.view.View.{View}
 use Rattle.akl_model.specs.declared.label.Receipt.{Receipt}
@@ -10,7 +10,8 @@ use Rattle.step_commit.specs.Cores.{CoreValue, KeepsFixed}
 use Rattle.place_steps.specs.declared.next.Next.{Next}
 use Rattle.place_steps.specs.Seen.{IsSeen, IsSight, view_in}
 use Rattle.place_steps.specs.Next.{IsNext}
-use Rattle.par_workers.specs.declared.shared.Made.{Made}
+use Rattle.par_workers.specs.declared.made.Made.{Made}
+use Rattle.par_workers.specs.declared.concluding.Planned.{Planned}
 use Rattle.par_workers.specs.declared.choosing.Chosen.{Chosen}
 use Rattle.par_workers.specs.declared.looking.Sight.{Sight}
 use Rattle.par_workers.specs.Shared.{SharedValue, maker, labels_in, core_after, AreReceiptsOf}
@@ -70,8 +71,18 @@ pub record IsFoundBefore (s : SharedValue) (worker : ℕ) (n : Next) : Type 0 wh
 abbrev pub IsNumber : ℕ → View CoreValue Made → Type 0
 IsNumber number v = (v.number ≡ number) × (1 ≤ number) × (number ≤ v.fixed.workers)
 
--- a run goes on by labels of a worker, which has the receipts of all its labels if it had those of them before
+-- a run goes on by plans of a worker, which has the receipts of all its labels if it had those of them before
 pub record HasConcluded (worker : ℕ) (s : SharedValue) (rs : List Receipt) (d : SharedValue) (ss : List Receipt) : Type 0 where
   pub begun : d.begun ≡ s.begun
   pub goes : GoesOnBy maker worker s.past d.past
   pub receipts : AreReceiptsOf worker s.past rs → AreReceiptsOf worker d.past ss
+
+-- of how many labels there is to be room for the receipts
+abbrev pub label_count : Option Planned → ℕ
+label_count None = 0
+label_count (Some p) = of_next p.next
+  where
+    of_next : Option Next → ℕ
+    of_next None = 0
+    of_next (Some (Next.Plan plan)) = length plan.more + 1
+    of_next (Some (Next.Idle idle)) = 0

@@ -1,14 +1,16 @@
 //! What a worker planned, committed or settled.
 
-ghost use Rattle.std.specs.Prelude.{◌≡◌, ◌≤◌, ◌<◌, ◌||◌, false, is_err, IfSome, vec_len, vec_capacity};
+ghost use Rattle.std.specs.Prelude.{◌≡◌, ◌≤◌, ◌+◌, ◌-◌, ◌||◌, ◌++◌, false, is_err, drop, length, IfSome, vec_len, vec_capacity};
+ghost use Rattle.step_commit.specs.Receipts.{receipts_from};
 ghost use Rattle.turn_lock.specs.Histories.{GoesOnBy};
 ghost use Rattle.scheduler.specs.Openings.{KeepsTokens};
 ghost use Rattle.par_workers.specs.Shared.{maker, AreReceiptsOf};
 ghost use Rattle.par_workers.specs.Tokens.{AreHeld};
-ghost use Rattle.par_workers.specs.Turns.{IsFoundBefore, HasConcluded};
+ghost use Rattle.par_workers.specs.Turns.{IsFoundBefore, HasConcluded, label_count};
 ghost use Rattle.place_steps.specs.declared.next.Next.TheVariants as next;
 
-use crate::shared::{Made, SharedRun};
+use crate::made::Made;
+use crate::shared::SharedRun;
 use crate::tokens::Tokens;
 use akl_model::{Label, Receipt, Rule};
 use akl_terms::{Name, Place, Steps};
@@ -16,11 +18,13 @@ use box_tree::{Plan, Table};
 use idle_places::Idle;
 use place_steps::Next;
 use scheduler::{Committed, Scheduler, SettleError};
+use seq_engine::push_receipts;
 use smallvec::SmallVec;
 use std::alloc::{AllocError, Global};
 use std::collections::VecDeque;
+use std::snapshot::Snapshot;
 use std::sync::ledger::Ledger;
-use step_commit::CommitError;
+use step_commit::{CommitError, Core};
 
 /// What comes next at a place, where this is known, and the token that led there.
 #[derive(Drop)]
@@ -29,11 +33,25 @@ pub struct Planned {
     pub next: Option<Next>,
 }
 
+/// How many labels were planned.
+pub(crate) fn label_count(planned: &Option<Planned>) -> usize
+    ensures { result ≡ label_count planned.now }
+{
+    let Some(found) = planned else {
+        return 0;
+    };
+    let Some(Next::Plan(plan)) = &found.next else {
+        return 0;
+    };
+    plan.more().len() + 1
+}
+
 impl SharedRun {
-    /// Commits or settles what a worker planned, if it planned anything; there is room for a receipt. The token of the place
+    /// Commits or settles what a worker planned, if it planned anything; there is room for the receipts. The token of the place
     /// itself comes back to the worker's where it is still open, before all others, and the tokens of places that this opens
-    /// come too: of urgent ones first, of others last. What is stale comes last. Where all labels of the budget are made, or
-    /// memory is wanting, all workers are to stop.
+    /// come too: of urgent ones first, of others last. What is stale comes last, but the place of a call at once that is
+    /// refused comes first, and `true` is answered: a plan of one label is to be made there. Where all labels of the budget are
+    /// made, or memory is wanting, all workers are to stop.
     pub(crate) fn conclude<L: Ledger>(
         &mut self,
         alloc: Global,
@@ -42,25 +60,31 @@ impl SharedRun {
         receipts: &mut Vec<Receipt>,
         tokens: &mut VecDeque<u64>,
         steps: &mut Steps<L>,
-    )
+    ) -> bool
         requires worker { (1 ≤ worker) × (worker ≤ self.old.begun.workers) }
         requires planned { IfSome planned (λ p. IfSome p.next (IsFoundBefore self.old worker)) }
-        requires room { vec_len receipts.old < vec_capacity receipts.old }
+        requires room { vec_len receipts.old + label_count planned ≤ vec_capacity receipts.old }
         ensures { HasConcluded worker self.old receipts.old.items self.new receipts.new.items }
     {
         let Some(Planned { token, next }) = planned else {
-            return;
+            return false;
         };
         match next {
             Some(Next::Plan(plan)) => self.commit(
                 alloc, worker, plan, token, receipts, tokens, steps,
             ),
-            Some(Next::Idle(idle)) => self.settle(alloc, worker, token, idle, tokens),
-            None => self.put_off(token, tokens),
+            Some(Next::Idle(idle)) => {
+                self.settle(alloc, worker, token, idle, tokens);
+                false
+            }
+            None => {
+                self.put_off(token, tokens);
+                false
+            }
         }
     }
 
-    // Commits a plan for the place with this token. One that is stale is dropped.
+    // Commits a plan for the place with this token; `true` where it is a call at once that is refused.
     fn commit<L: Ledger>(
         &mut self,
         alloc: Global,
@@ -70,23 +94,25 @@ impl SharedRun {
         receipts: &mut Vec<Receipt>,
         tokens: &mut VecDeque<u64>,
         steps: &mut Steps<L>,
-    )
+    ) -> bool
         requires worker { (1 ≤ worker) × (worker ≤ self.old.begun.workers) }
         requires plan { IsFoundBefore self.old worker (next.Plan plan) }
-        requires room { vec_len receipts.old < vec_capacity receipts.old }
+        requires room { vec_len receipts.old + (length plan.more + 1) ≤ vec_capacity receipts.old }
         ensures { HasConcluded worker self.old receipts.old.items self.new receipts.new.items }
     {
         if self.past.reserve(1).is_err() {
             self.stop();
-            return;
+            return false;
         }
+        let is_call = !plan.more().is_empty();
+        let planned = Snapshot::of(&plan);
         match self.scheduler.commit(alloc, plan, steps) {
             Ok(Committed { receipt, opened }) => {
-                let table = self.scheduler.core().table();
-                let made = Made::of(&receipt.label, table);
-                let split = split_root(table, &receipt.label);
+                let core = self.scheduler.core();
+                let made = Made::of(planned, core.table());
+                let split = split_root(core.table(), &receipt.label);
+                push_labels(core, receipt, receipts);
                 self.past.push_reserved(made);
-                receipts.push_reserved(receipt);
                 take_opened(
                     &mut self.stops,
                     &mut self.tokens,
@@ -96,9 +122,16 @@ impl SharedRun {
                     opened,
                     tokens,
                 );
+                false
             }
-            Err(CommitError::Stale { item: _, stamp: _ }) => self.keep(token, tokens),
-            Err(CommitError::Spent { budget: _ } | CommitError::Memory(_)) => self.stop(),
+            Err(CommitError::Short { left: _ } | CommitError::Stale { item: _, stamp: _ }) => {
+                self.take_refused(token, is_call, tokens);
+                is_call
+            }
+            Err(CommitError::Spent { budget: _ } | CommitError::Memory(_)) => {
+                self.stop();
+                false
+            }
         }
     }
 
@@ -143,6 +176,19 @@ impl SharedRun {
         self.keep(token, tokens);
     }
 
+    // The token of a place whose plan is refused comes to a worker's: that of a call at once before all others.
+    fn take_refused(&mut self, token: u64, is_call: bool, tokens: &mut VecDeque<u64>)
+        ensures { self.new ≡ self.old }
+    {
+        if !is_call {
+            return self.keep(token, tokens);
+        }
+        let taken = self
+            .tokens
+            .take_in(&self.scheduler, token, None, &[], tokens);
+        stop_unless(&mut self.stops, taken);
+    }
+
     // A token comes to a worker's, that of an urgent place before the others, or to those of late places.
     fn keep(&mut self, token: u64, tokens: &mut VecDeque<u64>)
         ensures { self.new ≡ self.old }
@@ -150,6 +196,16 @@ impl SharedRun {
         let kept = self.tokens.keep(&self.scheduler, token, tokens);
         stop_unless(&mut self.stops, kept);
     }
+}
+
+// The receipts come of the last labels of a core's journal, from this one on, which were planned together.
+fn push_labels(core: &Core, first: Receipt, receipts: &mut Vec<Receipt>)
+    requires number { (1 ≤ first.at) × (first.at ≤ length core.now.journal) }
+    requires room { vec_len receipts.old + length (drop (first.at - 1) core.now.journal) ≤ vec_capacity receipts.old }
+    ensures { receipts.new.items ≡ receipts.old.items ++ receipts_from first.at first.seen (drop (first.at - 1) core.now.journal) }
+{
+    let labels = &core.journal()[first.at as usize - 1..];
+    push_receipts(receipts, first.at, first.seen, labels);
 }
 
 // The root box that a label split; `None` where it split none.

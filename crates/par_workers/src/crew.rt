@@ -45,6 +45,7 @@ pub(crate) fn hire(
             receipts: Vec::new(alloc),
             hand,
             tokens: VecDeque::new(alloc),
+            room: 1,
         })?;
         number += 1;
     }
@@ -98,6 +99,7 @@ pub(crate) fn dismiss(
             receipts: list,
             hand: _,
             tokens: _,
+            room: _,
         } = worker;
         lock.join(first, pass);
         receipts.push(list)?;

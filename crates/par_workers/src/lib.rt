@@ -8,6 +8,7 @@ mod crew;
 mod late;
 mod looking;
 mod lying;
+mod made;
 mod planning;
 mod roots;
 mod run;

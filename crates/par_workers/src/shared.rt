@@ -3,10 +3,9 @@
 ghost use Rattle.std.specs.Prelude.{◌≡◌, ◌≤◌, [], length, IfOk};
 ghost use Rattle.par_workers.specs.Shared.{core_after, IsShared};
 
+use crate::made::Made;
 use crate::planning::Planning;
 use crate::tokens::Tokens;
-use akl_model::Label;
-use box_tree::Table;
 use scheduler::Scheduler;
 use std::alloc::{AllocError, Global};
 use std::marker::Model;
@@ -14,26 +13,6 @@ use std::snapshot::Snapshot;
 use step_commit::Core;
 use task_pool::Hand;
 use turn_lock::Booked;
-
-/// A label that was made, with the table after it. It remembers them in no bytes.
-#[derive(Drop)]
-pub struct Made {
-    pub label: Snapshot<Label>,
-    pub table: Snapshot<Table>,
-}
-
-impl Made {
-    /// This label, with this table after it.
-    pub(crate) fn of(label: &Label, table: &Table) -> Made
-        ensures label { result.label.value ≡ label.now }
-        ensures table { result.table.value ≡ table.now }
-    {
-        Made {
-            label: Snapshot::of(label),
-            table: Snapshot::of(table),
-        }
-    }
-}
 
 /// The state of a run with its open places and their tokens. It has besides in which root boxes workers plan, how many turns in a row
 /// found nothing while none planned, and whether all workers are to stop; unless they are, the token of each open place is
@@ -107,6 +86,11 @@ impl SharedRun {
         ensures { self.new ≡ self.old }
     {
         self.stops = true;
+    }
+
+    /// For how many labels the budget has room still.
+    pub(crate) fn left(&self) -> u64 {
+        self.scheduler.core().left()
     }
 
     /// Whether a copy lies with the run, whose tokens no worker has.

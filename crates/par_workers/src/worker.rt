@@ -9,7 +9,7 @@ ghost use Rattle.par_workers.specs.Tokens.{StayAtHand};
 ghost use Rattle.par_workers.specs.Turns.{run_seen, IsNumber, IsChosenIn, IsFoundIn, HasSeen, view_of};
 
 use crate::choosing::Chosen;
-use crate::concluding::Planned;
+use crate::concluding::{Planned, label_count};
 use crate::looking::{Look, Sight};
 use crate::shared::SharedRun;
 use crate::signals::Signals;
@@ -43,6 +43,8 @@ pub struct Worker {
     pub hand: Hand,
     /// The tokens that it has outside of its deque.
     pub tokens: VecDeque<u64>,
+    /// How many labels its next plan may have.
+    pub room: u64,
     ghost numbered: { IsNumber number (view pass) },
     ghost idle: { HasNoTurn pass },
     ghost exact: { AreReceiptsOf number (view pass).seen receipts.items } by { Prim.hlevel props },
@@ -114,7 +116,7 @@ impl Worker {
                 Chosen::At(look) => {
                     vain.end(signals);
                     gate.before_plan(self.number);
-                    let Ok(found) = plan_at(alloc, program, look) else {
+                    let Ok(found) = plan_at(alloc, program, look, self.room) else {
                         break;
                     };
                     planned = Some(found);
@@ -125,7 +127,7 @@ impl Worker {
     }
 
     // One turn: what was planned is committed or settled, and the next place is chosen, that of the token that was drawn
-    // before all others.
+    // before all others. After a call at once that is refused, the next plan has one label.
     fn turn<R: Wait, L: Ledger>(
         &mut self,
         rt: &R,
@@ -143,14 +145,14 @@ impl Worker {
         ensures number { self.new.number ≡ self.old.number }
         ensures chosen { IsChosenIn (run_seen (view self.new.pass)) self.new.number result }
     {
-        if self.receipts.reserve(1).is_err() {
+        if self.receipts.reserve(label_count(&planned)).is_err() {
             return Chosen::End;
         }
         waits.ask(signals);
         let (turn, mut run) = lock.lock(rt, &mut self.pass);
         waits.have(signals);
         let worker = self.number;
-        run.conclude(
+        let refused = run.conclude(
             alloc,
             worker,
             planned,
@@ -159,6 +161,7 @@ impl Worker {
             steps,
         );
         let chosen = run.choose(alloc, worker, drawn, waits.are_many(), &mut self.tokens);
+        self.room = if refused { 1 } else { run.left() };
         waits.leave(signals);
         let copied = run.has_copy();
         lock.unlock(turn, run, &mut self.pass);
@@ -245,14 +248,15 @@ impl Worker {
     }
 }
 
-// What comes next at a place that a worker looked at; at one that is tried only where a rule other than Split applies.
-fn plan_at(alloc: Global, program: &Program, look: Look) -> Result<Planned, AllocError>
+// What comes next at a place that a worker looked at, by a plan of at most so many labels, or of one; at a place that is tried
+// only where a rule other than Split applies.
+fn plan_at(alloc: Global, program: &Program, look: Look, room: u64) -> Result<Planned, AllocError>
     requires seen { HasSeen look.sight }
     requires program { program.now ≡ (view_of look.sight).table.program }
     ensures { IfOk result (λ planned. IfSome planned.next (IsNext (view_of look.sight))) }
 {
     let next = match &look.sight {
-        Sight::Whole(seen) => Some(next_of(alloc, program, seen)?),
+        Sight::Whole(seen) => Some(next_of(alloc, program, seen, room)?),
         Sight::Tried(view) => plan_tried(alloc, program, view)?,
     };
     Ok(Planned {

@@ -5,7 +5,7 @@ use Rattle.turn_lock.specs.declared.view.View.{View}
 use Rattle.turn_lock.specs.declared.view.Joined.{Joined}
 use Rattle.turn_lock.specs.Passes.{view}
 use Rattle.step_commit.specs.Cores.{CoreValue}
-use Rattle.par_workers.specs.declared.shared.Made.{Made}
+use Rattle.par_workers.specs.declared.made.Made.{Made}
 use Rattle.par_workers.specs.declared.worker.Worker.{Worker}
 use Rattle.par_workers.specs.Shared.{AreReceiptsOf}
 use Rattle.par_workers.specs.Crews.{lists}

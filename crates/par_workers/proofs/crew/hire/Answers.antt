@@ -5,7 +5,7 @@ use Rattle.task_pool.specs.Places.{Standing}
 use Rattle.turn_lock.specs.declared.view.View.{View}
 use Rattle.turn_lock.specs.Passes.{IsPassOf}
 use Rattle.step_commit.specs.Cores.{CoreValue}
-use Rattle.par_workers.specs.declared.shared.Made.{Made}
+use Rattle.par_workers.specs.declared.made.Made.{Made}
 use Rattle.par_workers.specs.declared.worker.Worker.{Worker}
 use Rattle.par_workers.proofs.Crews.{numbered-push}
 use Rattle.par_workers.proofs.crew.hire.Goals as goal

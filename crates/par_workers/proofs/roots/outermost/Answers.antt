@@ -1,4 +1,4 @@
-use Rattle.std.proofs.Common.{◌<◌, length, Option, Some, sym, ◌∙◌, subst}
+use Rattle.std.proofs.Common.{◌<◌, length, Option, sym, ◌∙◌, subst}
 use Rattle.akl_terms.specs.declared.name.Name.{Name}
 use Rattle.box_tree.specs.Tables.{TableValue, table_of}
 use Rattle.box_tree.specs.Paths.{outside_of}

@@ -1,6 +1,6 @@
 use Rattle.std.proofs.Common.{false, List, [], sym, subst}
 use Rattle.step_commit.specs.Cores.{CoreValue}
-use Rattle.par_workers.specs.declared.shared.Made.{Made}
+use Rattle.par_workers.specs.declared.made.Made.{Made}
 use Rattle.par_workers.specs.Shared.{IsShared}
 use Rattle.par_workers.proofs.Cores.{shared_start}
 use Rattle.par_workers.proofs.Holding.{first_held, had_memory}
