@@ -20,12 +20,12 @@ IsStatusOf Status.Suspended o = (k : ℕ) × (o ≡ suspended k)
 IsStatusOf Status.Budget o = o ≡ out_of_budget
 IsStatusOf s o = ⊥
 
--- each label of these lists was planned by all labels before it
+-- each label of these lists was planned by all labels before it, or together with the label before it
 abbrev pub AreAllPlannedLast : List (List Receipt) → Type 0
 AreAllPlannedLast = AllByRecursion ArePlannedLast
 
 -- each label is by one of the workers 1 to so many, and there is a list for each of them, worker 1's first: its labels with their places in
--- the journal, each once and in order, planned by labels before it; a worker alone planned each by all of them
+-- the journal, each once and in order, planned by labels before it; a worker alone planned each by all of them, or together with the label before it
 pub record AreOfWorkers (workers : ℕ) (journal : List Label) (receipts : List (List Receipt)) : Type 0 where
   pub labels : AreByWorkers workers journal
   pub count : length receipts ≡ workers

@@ -114,7 +114,7 @@ fn step_at(
     requires sight { IsSight core.old label.place label.worker (view_in seen.now) }
     ensures { core.new.table.program ≡ core.old.table.program }
 {
-    match next_of(alloc, program, seen)? {
+    match next_of(alloc, program, seen, 1)? {
         Next::Plan(plan) => {
             if plan.label().alternative == label.alternative {
                 make(alloc, core, origins, program, names, seen, plan, page)

@@ -72,7 +72,7 @@ pub(crate) fn push_state(program: &Program, scene: Scene<'_>, page: &mut Page, s
     requires program { program.now ≡ (view_in seen.now).table.program }
     requires seen { IsSeen seen.now }
 {
-    match next_of(page.alloc(), program, seen) {
+    match next_of(page.alloc(), program, seen, 1) {
         Ok(Next::Plan(plan)) => page.push(ready_text(plan.label().rule)),
         Ok(Next::Idle(idle)) => push_waits(scene, page, idle.on()),
         Err(_) => page.lack(),
