@@ -34,7 +34,7 @@ fn looked(
     let Some(seen) = see(alloc, scheduler.core(), place, 1, candidate)? else {
         return Ok(None);
     };
-    let next = next_of(alloc, program, &seen)?;
+    let next = next_of(alloc, program, &seen, 1)?;
     Ok(Some(next))
 }
 
@@ -71,6 +71,7 @@ fn push_refused(text: &mut String, error: CommitError) -> Result<bool, AllocErro
     match error {
         CommitError::Memory(_) => return Ok(false),
         CommitError::Spent { budget: _ } => text.push_str("spent")?,
+        CommitError::Short { left } => write!(text, "room for {left}")?,
         CommitError::Stale { item, stamp: _ } => {
             text.push_str("stale ")?;
             push_item(text, item)?;

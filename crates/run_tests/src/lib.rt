@@ -11,6 +11,8 @@ mod batches;
 #[cfg(test)]
 mod brackets;
 #[cfg(test)]
+mod budgets;
+#[cfg(test)]
 mod cases;
 #[cfg(test)]
 mod choices;

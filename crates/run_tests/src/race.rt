@@ -1,6 +1,6 @@
 //! Two plans over one state.
 
-ghost use Rattle.std.specs.Prelude.{◌≡◌, IfOk, IfErr, IfSome, OnOk};
+ghost use Rattle.std.specs.Prelude.{◌≡◌, [], IfOk, IfErr, IfSome, OnOk};
 ghost use Rattle.step_commit.specs.Cores.{IsCore, MayCommit, Commits};
 ghost use Rattle.box_tree.specs.Tables.{HasVariables, HasShownVariables};
 
@@ -29,7 +29,7 @@ r(1). s(2). => r(X), s(Y) => 1 goal 0.2 | 2 goal 0.3 => at 2, seen 0 / step 1 fo
 p :- -> true. p :- q -> true. q :- -> true. => p => 1 goal 0.2; 1 goal 0.2 | 2 goal 1.4 => goal 1.4 is gone / step 1 fork goal 0.2 by 1 / step 2 cut goal 0.2 of 1.0 by 1
 ";
 
-// A plan of a worker at a place; `None` where the place isn't there, or no rule applies.
+// A plan of one label of a worker at a place; `None` where the place isn't there, or no rule applies.
 fn planned(
     alloc: Global,
     program: &Program,
@@ -37,7 +37,7 @@ fn planned(
     turn: Turn,
 ) -> Result<Option<Plan>, AllocError>
     requires { program.now ≡ core.now.table.program }
-    ensures { IfOk result (λ found. IfSome found (λ p. (p.table ≡ core.now.table) × (p.journal ≡ core.now.journal) × (p.label.worker ≡ turn.worker))) }
+    ensures { IfOk result (λ found. IfSome found (λ p. (p.table ≡ core.now.table) × (p.journal ≡ core.now.journal) × (p.label.worker ≡ turn.worker) × (p.more ≡ []))) }
 {
     match core.look(alloc, turn.place, turn.worker) {
         Ok(view) => plan(alloc, program, &view),

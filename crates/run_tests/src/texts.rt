@@ -58,6 +58,7 @@ pub fn push_refused(text: &mut String, error: CommitError) -> Result<(), AllocEr
     match error {
         CommitError::Memory(error) => Err(error),
         CommitError::Spent { budget: _ } => text.push_str("spent"),
+        CommitError::Short { left } => write!(text, "room for {left}"),
         CommitError::Stale { item, stamp } => {
             push_item(text, item)?;
             match stamp {
