@@ -110,7 +110,7 @@ class Examples(unittest.TestCase):
         command = [sys.executable, str(TOP / "tools/akl-picture"), str(TOP / "examples/merge.akl")]
         page = subprocess.run(command, capture_output=True, text=True, env={**os.environ, "AKL_STEPS": STEPS}, check=True).stdout
         self.assertEqual(set(re.findall(r"https?://[^\"' ]*", page)), {"http://www.w3.org/2000/svg"})
-        self.assertIn("19 steps, 1 answer: done.", page)
+        self.assertIn("17 steps, 1 answer: done.", page)
         found = subprocess.run([*command, "q("], capture_output=True, env={**os.environ, "AKL_STEPS": STEPS}, check=False)
         self.assertEqual(found.returncode, 6)
 
