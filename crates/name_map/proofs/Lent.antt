@@ -6,6 +6,10 @@ pub on_none : {A : Type 0} (P : Type 0) (r : Option A) → r ≡ None → OnSome
 on_none P None e = tt
 on_none P (Some x) e = absurd (cc)
 
+pub on_some : {A : Type 0} {P : Type 0} (r : Option A) (x : A) → r ≡ Some x → OnSome r P → P
+on_some None x e p = absurd (cc)
+on_some (Some y) x e p = p
+
 pub on_any : {A : Type 0} {P : Type 0} (r : Option A) → P → OnSome r P
 on_any None p = tt
 on_any (Some x) p = p

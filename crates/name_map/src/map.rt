@@ -3,7 +3,7 @@
 ghost use Rattle.std.specs.Prelude.{◌≡◌, ◌<◌, ◌++◌, [], vec_len, is_some, option_copied, OnOk, OnErr};
 ghost use Rattle.std.specs.Option.{option_copied_mut};
 ghost use Rattle.std.specs.Borrow.{sem};
-ghost use Rattle.std.specs.Map.{lookup};
+ghost use Rattle.std.specs.Map.{lookup, keys_of};
 ghost use Rattle.akl_terms.specs.Names.{same_name};
 ghost use Rattle.name_map.specs.Entries.{IsPut, IsTakenOut};
 ghost use Rattle.name_map.specs.Lending.{lends_get};
@@ -111,5 +111,19 @@ impl<V> NameMap<V> {
         self.workers
             .get_mut(name.worker as usize)?
             .remove(self.alloc, name.number)
+    }
+
+    /// Adds the names at the end of a list, in increasing order. An `Err` comes for want of memory, and where a number
+    /// would pass its word.
+    pub fn push_names(&self, list: &mut Vec<Name>) -> Result<(), AllocError>
+        ensures { OnOk result (list.new.items ≡ list.old.items ++ keys_of self.now) }
+    {
+        for index in 0..self.workers.len() {
+            let Ok(worker) = u32::try_from(index) else {
+                return Err(AllocError);
+            };
+            self.workers[index].push_names(worker, list)?;
+        }
+        Ok(())
     }
 }

@@ -1,13 +1,15 @@
 //! The values of one worker's names, by their numbers.
 
-ghost use Rattle.std.specs.Prelude.{◌≡◌, ◌*◌, ◌<◌, length, vec_len, None, Some, option_copied, OnOk, OnErr};
+ghost use Rattle.std.specs.Prelude.{◌≡◌, ◌*◌, ◌<◌, ◌++◌, [], length, vec_len, is_some, None, Some, option_copied, OnOk, OnErr};
 ghost use Rattle.std.specs.Option.{option_copied_mut};
 ghost use Rattle.std.specs.Borrow.{sem};
+ghost use Rattle.std.specs.Map.{keys_of};
 ghost use Rattle.name_map.specs.Lending.{lends_number};
-ghost use Rattle.name_map.specs.Pages.{in_chunk, in_numbers, within, Same, Puts};
+ghost use Rattle.name_map.specs.Pages.{in_chunk, in_numbers, listed, within, Same, Puts};
 
 use crate::page::{Chunk, chunk_of, page_of, slot_of};
 use crate::spare::Spare;
+use akl_terms::Name;
 use std::alloc::{AllocError, Global};
 
 /// The values of one worker's names.
@@ -46,6 +48,12 @@ impl<V> Numbers<V> {
         page.slots.get(slot_of(number))?.as_ref()
     }
 
+    fn contains(&self, number: u64) -> bool
+        ensures { result ≡ is_some (in_numbers number self.now) }
+    {
+        self.get(number).is_some()
+    }
+
     pub(crate) fn get_mut(&mut self, number: u64) -> Option<&mut V>
         ensures* writes_back { sem 𝓛 (lends_number V.row self.entry number result) }
         ensures value { option_copied_mut result ≡ in_numbers number self.old }
@@ -78,6 +86,22 @@ impl<V> Numbers<V> {
             self.free_page(alloc, page);
         }
         Some(value)
+    }
+
+    /// Adds the names of the numbers that have a value at the end of a list, in increasing order. An `Err` comes for want
+    /// of memory, and where a number would pass its word.
+    pub(crate) fn push_names(&self, worker: u32, list: &mut Vec<Name>) -> Result<(), AllocError>
+        ensures { OnOk result (list.new.items ≡ list.old.items ++ keys_of (listed worker 0 (length self.now.chunks.items * 512) (λ n. in_numbers n self.now) [])) }
+    {
+        let Some(count) = (self.chunks.len() as u64).checked_mul(512) else {
+            return Err(AllocError);
+        };
+        for number in 0..count {
+            if self.contains(number) {
+                list.push(Name { worker, number })?;
+            }
+        }
+        Ok(())
     }
 
     fn take(&mut self, number: u64) -> Option<V>
