@@ -1,20 +1,20 @@
 -- Entries that come, and are taken out again.
-use Rattle.std.proofs.Common.{◌≡◌, Bool, true, false, List, [], ◌∷◌, ◌++◌, Option, Some, None, refl, sym, ap, ◌∙◌, ◌⊎◌, inl, inr}
+use Rattle.std.proofs.Common.{◌≡◌, Bool, true, false, List, [], ◌∷◌, ◌++◌, Some, None, refl, sym, ap, ◌∙◌, ◌⊎◌, inl, inr}
 use Rattle.std.specs.Prelude.{if◌then◌else◌, cond, ◌||◌}
 use Rattle.std.specs.Map.{lookup, remove_entry}
-use Rattle.std.specs.BTreeMap.{BTreeMap, is_at, get, insert_entry}
+use Rattle.std.specs.BTreeMap.{insert_entry}
 use Rattle.std.specs.Ordering.{is_eq, match_ordering}
 use Rattle.std.specs.declared.cmp.Ordering.{Ordering}
 use Rattle.akl_terms.specs.declared.name.Name.{Name}
-use Rattle.akl_terms.specs.contracts.name.NameOrd.TheImpl.{cmp-value}
-use Rattle.akl_terms.specs.Names.{same_name}
+use Rattle.akl_terms.specs.Names.{same_name, name_cmp}
 use Rattle.akl_terms.proofs.SameNames.{same_name-equal, same_name-refl}
 use Rattle.akl_model.specs.Config.{IsIn}
+use Rattle.name_map.specs.Entries.{Finds, IsPut, IsTakenOut}
 use Rattle.box_tree.specs.declared.entries.BoxEntry.{BoxEntry}
 use Rattle.box_tree.specs.declared.entries.GoalEntry.{GoalEntry}
 use Rattle.box_tree.specs.Tables.{TableValue}
 use Rattle.box_tree.specs.Edits.{is_among, without, AddsOnly, Clears}
-use Rattle.box_tree.proofs.Maps.{same_is, get_is}
+use Rattle.box_tree.proofs.Maps.{same_is, put_there}
 
 skip : {A : Type 0} (b : Bool) (x y : A) → b ≡ true → (if b then x else y) ≡ x
 skip true x y e = refl
@@ -38,26 +38,26 @@ in_among m (n ∷ ns) e = on (same_name m n) refl e (λ h. in_among m ns h)
     on false r e k = inr (k e)
 
 module _ {A : Type 0} (names : List Name) where
-  pub without_insert : (es : List (Name × A)) (k : Name) (v : A) → is_among k names ≡ true → without names (insert_entry cmp-value.it es k v) ≡ without names es
+  pub without_insert : (es : List (Name × A)) (k : Name) (v : A) → is_among k names ≡ true → without names (insert_entry name_cmp es k v) ≡ without names es
   without_insert [] k v i = skip (is_among k names) [] ((k, v) ∷ []) i
-  without_insert (e ∷ es) k v i = on (cmp-value.it k e.0) (same_is k e.0) (without_insert es k v i)
+  without_insert (e ∷ es) k v i = on (name_cmp k e.0) (same_is k e.0) (without_insert es k v i)
     where
-      on : (o : Ordering) → is_eq o ≡ same_name k e.0 → without names (insert_entry cmp-value.it es k v) ≡ without names es
-          → without names (match_ordering o ((k, v) ∷ e ∷ es) ((e.0, v) ∷ es) (e ∷ insert_entry cmp-value.it es k v)) ≡ without names (e ∷ es)
+      on : (o : Ordering) → is_eq o ≡ same_name k e.0 → without names (insert_entry name_cmp es k v) ≡ without names es
+          → without names (match_ordering o ((k, v) ∷ e ∷ es) ((e.0, v) ∷ es) (e ∷ insert_entry name_cmp es k v)) ≡ without names (e ∷ es)
       on Ordering.Less q h = skip (is_among k names) (without names (e ∷ es)) ((k, v) ∷ without names (e ∷ es)) i
       on Ordering.Equal q h =
           let w : is_among e.0 names ≡ true = ap (λ (n : Name). is_among n names) (sym (same_name-equal k e.0 (sym q))) ∙ i in
           skip (is_among e.0 names) (without names es) ((e.0, v) ∷ without names es) w ∙ sym (skip (is_among e.0 names) (without names es) (e ∷ without names es) w)
       on Ordering.Greater q h = ap (λ (x : List (Name × A)). if is_among e.0 names then x else e ∷ x) h
 
-  pub without_remove : (es : List (Name × A)) (k : Name) → is_among k names ≡ true → without names (remove_entry (is_at (cmp-value.it k)) es) ≡ without names es
+  pub without_remove : (es : List (Name × A)) (k : Name) → is_among k names ≡ true → without names (remove_entry (same_name k) es) ≡ without names es
   without_remove [] k i = refl
-  without_remove (e ∷ es) k i = on (is_at (cmp-value.it k) e.0) (same_is k e.0) (without_remove es k i)
+  without_remove (e ∷ es) k i = on (same_name k e.0) refl (without_remove es k i)
     where
-      on : (b : Bool) → b ≡ same_name k e.0 → without names (remove_entry (is_at (cmp-value.it k)) es) ≡ without names es
-          → without names (cond b es (e ∷ remove_entry (is_at (cmp-value.it k)) es)) ≡ without names (e ∷ es)
+      on : (b : Bool) → same_name k e.0 ≡ b → without names (remove_entry (same_name k) es) ≡ without names es
+          → without names (cond b es (e ∷ remove_entry (same_name k) es)) ≡ without names (e ∷ es)
       on true q h =
-          let w : is_among e.0 names ≡ true = ap (λ (n : Name). is_among n names) (sym (same_name-equal k e.0 (sym q))) ∙ i in
+          let w : is_among e.0 names ≡ true = ap (λ (n : Name). is_among n names) (sym (same_name-equal k e.0 q)) ∙ i in
           sym (skip (is_among e.0 names) (without names es) (e ∷ without names es) w)
       on false q h = ap (λ (x : List (Name × A)). if is_among e.0 names then x else e ∷ x) h
 
@@ -91,19 +91,17 @@ adds_then t u v own some a b sub = record {
 pub adds_more : (t u : TableValue) (own all : List Name) → AddsOnly t u own → ((m : Name) → IsIn m own → IsIn m all) → AddsOnly t u all
 adds_more t u own all a sub = adds_then t t u all own (adds_nothing t all) a sub
 
-pub adds_box : (t : TableValue) (n : Name) (boxes boxes' : BTreeMap Name BoxEntry) (e : BoxEntry) → t.boxes ≡ boxes.entries → boxes'.entries ≡ insert_entry cmp-value.it boxes.entries n e
-    → AddsOnly t (record t { boxes = boxes'.entries }) (n ∷ [])
-adds_box t n boxes boxes' e is puts = record {
-  boxes = λ names h. ap (without names) puts ∙ without_insert names boxes.entries n e (among_in n names (h n (inl refl))) ∙ ap (without names) (sym is);
+pub adds_box : (t : TableValue) (n : Name) (boxes : List (Name × BoxEntry)) (e : BoxEntry) → IsPut t.boxes boxes n e → AddsOnly t (record t { boxes = boxes }) (n ∷ [])
+adds_box t n boxes e put = record {
+  boxes = λ names h. ap (without names) put.entries ∙ without_insert names t.boxes n e (among_in n names (h n (inl refl)));
   goals = λ names h. refl;
   rest = refl;
 }
 
-pub adds_goal : (t : TableValue) (g : Name) (goals goals' : BTreeMap Name GoalEntry) (e : GoalEntry) → t.goals ≡ goals.entries → goals'.entries ≡ insert_entry cmp-value.it goals.entries g e
-    → AddsOnly t (record t { goals = goals'.entries }) (g ∷ [])
-adds_goal t g goals goals' e is puts = record {
+pub adds_goal : (t : TableValue) (g : Name) (goals : List (Name × GoalEntry)) (e : GoalEntry) → IsPut t.goals goals g e → AddsOnly t (record t { goals = goals }) (g ∷ [])
+adds_goal t g goals e put = record {
   boxes = λ names h. refl;
-  goals = λ names h. ap (without names) puts ∙ without_insert names goals.entries g e (among_in g names (h g (inl refl))) ∙ ap (without names) (sym is);
+  goals = λ names h. ap (without names) put.entries ∙ without_insert names t.goals g e (among_in g names (h g (inl refl)));
   rest = refl;
 }
 
@@ -148,35 +146,31 @@ clears_then t u v ns n a b = record {
     on_goals m (inr i) = b.goals m i
 
 -- an entry of each map goes
-module _ (t : TableValue) (n : Name) (boxes boxes' : BTreeMap Name BoxEntry) (goals goals' : BTreeMap Name GoalEntry) where
-  pub clears_one : t.boxes ≡ boxes.entries → t.goals ≡ goals.entries
-      → boxes'.entries ≡ remove_entry (is_at (cmp-value.it n)) boxes.entries → goals'.entries ≡ remove_entry (is_at (cmp-value.it n)) goals.entries
-      → ((q : Name) → get cmp-value.it boxes' q ≡ cond (is_at (cmp-value.it n) q) None (get cmp-value.it boxes q))
-      → ((q : Name) → get cmp-value.it goals' q ≡ cond (is_at (cmp-value.it n) q) None (get cmp-value.it goals q))
-      → Clears t (record t { boxes = boxes'.entries; goals = goals'.entries }) (n ∷ [])
-  clears_one bi gi br gr bu gu = record {
-    only = record {
-      boxes = λ names h. ap (without names) br ∙ without_remove names boxes.entries n (among_in n names (h n (inl refl))) ∙ ap (without names) (sym bi);
-      goals = λ names h. ap (without names) gr ∙ without_remove names goals.entries n (among_in n names (h n (inl refl))) ∙ ap (without names) (sym gi);
-      rest = refl;
-    };
-    boxes = λ m i. gone m i (is_at (cmp-value.it n) m) (same_is n m) (lookup (same_name m) boxes'.entries) (get cmp-value.it boxes m) (sym (get_is m boxes') ∙ bu m);
-    boxes_stay = λ m e. still (is_at (cmp-value.it n) m) (lookup (same_name m) boxes'.entries) (get cmp-value.it boxes m) (sym (get_is m boxes') ∙ bu m) (get_is m boxes ∙ ap (lookup (same_name m)) (sym bi) ∙ e);
-    goals = λ m i. gone m i (is_at (cmp-value.it n) m) (same_is n m) (lookup (same_name m) goals'.entries) (get cmp-value.it goals m) (sym (get_is m goals') ∙ gu m);
-    goals_stay = λ m e. still (is_at (cmp-value.it n) m) (lookup (same_name m) goals'.entries) (get cmp-value.it goals m) (sym (get_is m goals') ∙ gu m) (get_is m goals ∙ ap (lookup (same_name m)) (sym gi) ∙ e);
-  }
+module _ {A : Type 0} (n : Name) (old new : List (Name × A)) (finds : Finds old new n None) where
+  none_here : (m : Name) → IsIn m (n ∷ []) → lookup (same_name m) new ≡ None
+  none_here m (inl e) = ap (λ (k : Name). lookup (same_name k) new) e ∙ put_there n old new None finds
+  none_here m (inr i) = absurd i
+
+  none_still : (m : Name) → lookup (same_name m) old ≡ None → lookup (same_name m) new ≡ None
+  none_still m e = finds m ∙ on (same_name m n) e
     where
-      same : (m : Name) → IsIn m (n ∷ []) → same_name n m ≡ true
-      same m (inl e) = ap (same_name n) e ∙ same_name-refl n
-      same m (inr i) = absurd i
+      on : (b : Bool) → lookup (same_name m) old ≡ None → (if b then None else lookup (same_name m) old) ≡ None
+      on true e = refl
+      on false e = e
 
-      gone : {A : Type 0} (m : Name) → IsIn m (n ∷ []) → (b : Bool) → b ≡ same_name n m → (x y : Option A) → x ≡ cond b None y → x ≡ None
-      gone m i true q x y e = e
-      gone m i false q x y e = let s : same_name n m ≡ true = same m i in cc
-
-      still : {A : Type 0} (b : Bool) (x y : Option A) → x ≡ cond b None y → y ≡ None → x ≡ None
-      still true x y e z = e
-      still false x y e z = e ∙ z
+pub clears_one : (t : TableValue) (n : Name) (boxes : List (Name × BoxEntry)) (goals : List (Name × GoalEntry)) → IsTakenOut t.boxes boxes n → IsTakenOut t.goals goals n
+    → Clears t (record t { boxes = boxes; goals = goals }) (n ∷ [])
+clears_one t n boxes goals out gone = record {
+  only = record {
+    boxes = λ names h. ap (without names) out.entries ∙ without_remove names t.boxes n (among_in n names (h n (inl refl)));
+    goals = λ names h. ap (without names) gone.entries ∙ without_remove names t.goals n (among_in n names (h n (inl refl)));
+    rest = refl;
+  };
+  boxes = none_here n t.boxes boxes out.finds;
+  boxes_stay = none_still n t.boxes boxes out.finds;
+  goals = none_here n t.goals goals gone.finds;
+  goals_stay = none_still n t.goals goals gone.finds;
+}
 
 -- what came and was taken out again leaves all as it was
 pub undone : (t u v : TableValue) (own : List Name) → AddsOnly t u own → Clears u v own → ((m : Name) → IsIn m own → lookup (same_name m) t.boxes ≡ None) → ((m : Name) → IsIn m own → lookup (same_name m) t.goals ≡ None) → v ≡ t

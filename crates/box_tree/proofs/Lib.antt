@@ -25,4 +25,5 @@ mod Removed
 mod Copied
 mod Halved
 pub mod BoundHere
+pub mod AllInForce
 pub mod FirstCandidates

@@ -1,88 +1,57 @@
--- Maps by names.
-use Rattle.std.proofs.Common.{◌≡◌, ℕ, Bool, true, false, List, [], ◌∷◌, Option, Some, None, refl, sym, ap, ◌∙◌, arith}
-use Rattle.std.proofs.lemmas.Bool.Decides.{nat_tests}
-use Rattle.std.specs.Prelude.{if◌then◌else◌, option_map, cond, ◌&&◌, ◌==◌, IsSome}
-use Rattle.std.specs.Map.{lookup, set_value}
+-- Entries by names, and sets of names.
+use Rattle.std.proofs.Common.{◌≡◌, Bool, true, false, List, [], ◌∷◌, Option, Some, None, refl, sym, ap, subst, ◌∙◌}
+use Rattle.std.specs.Prelude.{if◌then◌else◌, option_map, cond, IsSome}
+use Rattle.std.specs.List.{AllByRecursion}
+use Rattle.std.specs.List.Sorted.{IsStrictlySortedBy}
+use Rattle.std.specs.Map.{lookup, keys_of}
 use Rattle.std.specs.Set.{remove_key}
-use Rattle.std.specs.BTreeMap.{BTreeMap, is_at, get}
-use Rattle.std.specs.Ordering.{is_eq, nat_cmp, ordering_then}
+use Rattle.std.specs.BTreeMap.{is_at, insert_entry}
+use Rattle.std.specs.Ordering.{is_eq, match_ordering}
 use Rattle.std.specs.declared.cmp.Ordering.{Ordering}
 use Rattle.akl_terms.specs.declared.name.Name.{Name}
 use Rattle.akl_terms.specs.contracts.name.NameOrd.TheImpl.{cmp-value}
-use Rattle.akl_terms.specs.Names.{same_name}
+use Rattle.akl_terms.specs.Names.{same_name, name_cmp}
 use Rattle.akl_terms.proofs.SameNames.{same_name-equal, same_name-refl}
 use Rattle.akl_model.proofs.Options.{some_value}
+use Rattle.name_map.specs.Entries.{Finds, IsPut}
+use Rattle.name_map.proofs.NameOrder.{name_is}
 use Rattle.table_laws.specs.Writes.{set, less_name}
 
-nat_is : (x y : ℕ) → is_eq (nat_cmp x y) ≡ (x == y)
-nat_is x y = grind (arith, nat_tests)
-
-then_is : (a b : Ordering) → is_eq (ordering_then a b) ≡ (is_eq a && is_eq b)
-then_is Ordering.Less b = refl
-then_is Ordering.Equal b = refl
-then_is Ordering.Greater b = refl
-
-both_is : (a b c d : Bool) → a ≡ c → b ≡ d → (a && b) ≡ (c && d)
-both_is a b c d e f = cc
-
 pub same_is : (m k : Name) → is_at (cmp-value.it m) k ≡ same_name m k
-same_is m k = then_is (nat_cmp m.worker k.worker) (nat_cmp m.number k.number) ∙ both_is (is_eq (nat_cmp m.worker k.worker)) (is_eq (nat_cmp m.number k.number)) (m.worker == k.worker) (m.number == k.number) (nat_is m.worker k.worker) (nat_is m.number k.number)
+same_is m k = name_is m k
 
-lookup_is : {X : Type 0} (s t : Name → Bool) (es : List (Name × X)) → ((k : Name) → s k ≡ t k) → lookup s es ≡ lookup t es
-lookup_is s t [] e = refl
-lookup_is s t (x ∷ es) e = on (s x.0) (t x.0) (e x.0) (lookup_is s t es e)
-  where
-    on : (a b : Bool) → a ≡ b → lookup s es ≡ lookup t es → cond a (Some x.1) (lookup s es) ≡ cond b (Some x.1) (lookup t es)
-    on true true e f = refl
-    on false false e f = f
-    on true false e f = cc
-    on false true e f = cc
+row_if : {A B : Type 0} (f : A → B) (here : Bool) (x y : Option A) → option_map f (if here then x else y) ≡ (if here then option_map f x else option_map f y)
+row_if f true x y = refl
+row_if f false x y = refl
 
-pub get_is : {X : Type 0} (m : Name) (t : BTreeMap Name X) → get cmp-value.it t m ≡ lookup (same_name m) t.entries
-get_is m t = lookup_is (is_at (cmp-value.it m)) (same_name m) t.entries (same_is m)
+module _ {X Y : Type 0} (f : X → Y) (n : Name) (old new : List (Name × X)) where
+  -- what a change of one name's entry leaves in rows
+  pub updated : (w : Option X) → Finds old new n w → (m : Name)
+      → option_map f (lookup (same_name m) new) ≡ set n (option_map f w) (λ q. option_map f (lookup (same_name q) old)) m
+  updated w finds m = ap (option_map f) (finds m) ∙ row_if f (same_name m n) w (lookup (same_name m) old)
 
-pub same_back : (m k : Name) → same_name m k ≡ same_name k m
-same_back m k = both_is (m.worker == k.worker) (m.number == k.number) (k.worker == m.worker) (k.number == m.number) (turned m.worker k.worker) (turned m.number k.number)
-  where
-    turned : (x y : ℕ) → (x == y) ≡ (y == x)
-    turned x y = grind (arith, nat_tests)
+  -- a row that is written through its entry
+  pub written : (change : Y → Y) (x y : X) → lookup (same_name n) old ≡ Some x → Finds old new n (Some y) → f y ≡ change (f x) → (m : Name)
+      → option_map f (lookup (same_name m) new) ≡ set n (option_map change (option_map f (lookup (same_name n) old))) (λ q. option_map f (lookup (same_name q) old)) m
+  written change x y here finds row m =
+      let e : Some (f y) ≡ option_map change (option_map f (lookup (same_name n) old)) = ap (λ (r : Y). Some r) row ∙ ap (λ (o : Option X). option_map change (option_map f o)) (sym here) in
+      updated (Some y) finds m ∙ ap (λ (o : Option Y). set n o (λ q. option_map f (lookup (same_name q) old)) m) e
 
-cond_if : {A B : Type 0} (f : A → B) (s t : Bool) (x y : Option A) → s ≡ t → option_map f (cond s x y) ≡ (if t then option_map f x else option_map f y)
-cond_if f true true x y e = refl
-cond_if f false false x y e = refl
-cond_if f true false x y e = cc
-cond_if f false true x y e = cc
-
--- what an update of a map leaves in rows
-pub updated : {X Y : Type 0} (f : X → Y) (k : Name) (t u : BTreeMap Name X) (w : Option X) (m : Name) → get cmp-value.it u m ≡ cond (is_at (cmp-value.it k) m) w (get cmp-value.it t m)
-    → option_map f (lookup (same_name m) u.entries) ≡ set k (option_map f w) (λ q. option_map f (lookup (same_name q) t.entries)) m
-updated f k t u w m e =
-    ap (option_map f) (sym (get_is m u) ∙ e ∙ ap (cond (is_at (cmp-value.it k) m) w) (get_is m t))
-    ∙ cond_if f (is_at (cmp-value.it k) m) (same_name m k) w (lookup (same_name m) t.entries) (same_is k m ∙ same_back k m)
-
--- a row that is written through its entry
-module _ {X Y : Type 0} (f : X → Y) (change : Y → Y) (n : Name) (t u : BTreeMap Name X) where
-  pub written : (old new : X) → get cmp-value.it t n ≡ Some old → ((q : Name) → get cmp-value.it u q ≡ cond (is_at (cmp-value.it n) q) (Some new) (get cmp-value.it t q)) → f new ≡ change (f old) → (m : Name)
-      → option_map f (lookup (same_name m) u.entries) ≡ set n (option_map change (option_map f (lookup (same_name n) t.entries))) (λ q. option_map f (lookup (same_name q) t.entries)) m
-  written old new is puts row m =
-      let here : lookup (same_name n) t.entries ≡ Some old = sym (get_is n t) ∙ is in
-      let e : Some (f new) ≡ option_map change (option_map f (lookup (same_name n) t.entries)) = ap (λ (r : Y). Some r) row ∙ ap (λ (o : Option X). option_map change (option_map f o)) (sym here) in
-      updated f n t u (Some new) m (puts m) ∙ ap (λ (o : Option Y). set n o (λ q. option_map f (lookup (same_name q) t.entries)) m) e
-
-  -- where a map has no entry, writing through it changes nothing
-  pub unwritten : get cmp-value.it t n ≡ None → u ≡ t → (m : Name)
-      → option_map f (lookup (same_name m) u.entries) ≡ set n (option_map change (option_map f (lookup (same_name n) t.entries))) (λ q. option_map f (lookup (same_name q) t.entries)) m
-  unwritten is same m = ap (λ (b : BTreeMap Name X). option_map f (lookup (same_name m) b.entries)) same ∙ on (same_name m n) refl (sym (get_is n t) ∙ is)
+  -- where a name has no entry, writing through it changes nothing
+  pub unwritten : (change : Y → Y) → lookup (same_name n) old ≡ None → new ≡ old → (m : Name)
+      → option_map f (lookup (same_name m) new) ≡ set n (option_map change (option_map f (lookup (same_name n) old))) (λ q. option_map f (lookup (same_name q) old)) m
+  unwritten change none same m = ap (λ (es : List (Name × X)). option_map f (lookup (same_name m) es)) same ∙ on (same_name m n) refl none
     where
-      on : (s : Bool) → same_name m n ≡ s → lookup (same_name n) t.entries ≡ None
-          → option_map f (lookup (same_name m) t.entries) ≡ (if s then option_map change (option_map f (lookup (same_name n) t.entries)) else option_map f (lookup (same_name m) t.entries))
+      on : (b : Bool) → same_name m n ≡ b → lookup (same_name n) old ≡ None
+          → option_map f (lookup (same_name m) old) ≡ (if b then option_map change (option_map f (lookup (same_name n) old)) else option_map f (lookup (same_name m) old))
       on false e h = refl
-      on true e h = ap (λ (k : Name). option_map f (lookup (same_name k) t.entries)) (same_name-equal m n e) ∙ ap (option_map f) h ∙ sym (ap (λ (o : Option X). option_map change (option_map f o)) h)
+      on true e h = ap (λ (k : Name). option_map f (lookup (same_name k) old)) (same_name-equal m n e) ∙ ap (option_map f) h ∙ sym (ap (λ (o : Option X). option_map change (option_map f o)) h)
 
 -- what was put is found
-pub put_there : {X : Type 0} (n : Name) (t u : BTreeMap Name X) (w : Option X) → ((q : Name) → get cmp-value.it u q ≡ cond (is_at (cmp-value.it n) q) w (get cmp-value.it t q)) → lookup (same_name n) u.entries ≡ w
-put_there n t u w puts = sym (get_is n u) ∙ puts n ∙ ap (λ (b : Bool). cond b w (get cmp-value.it t n)) (same_is n n ∙ same_name-refl n)
+pub put_there : {X : Type 0} (n : Name) (old new : List (Name × X)) (w : Option X) → Finds old new n w → lookup (same_name n) new ≡ w
+put_there n old new w finds = finds n ∙ ap (λ (b : Bool). if b then w else lookup (same_name n) old) (same_name-refl n)
 
+-- what holds where a value is there
 pub is_some_if : {A : Type 0} (o : Option A) (x : A) → o ≡ Some x → IsSome o
 is_some_if None x e = cc
 is_some_if (Some y) x e = refl
@@ -98,20 +67,33 @@ removed_is g (k ∷ ks) = on (is_at (cmp-value.it g) k) (same_name g k) (same_is
     on false true e f = cc
 
 -- what a search in a map finds
-pub found_at : {X : Type 0} (n : Name) (t : BTreeMap Name X) (es : List (Name × X)) (e : X) → t.entries ≡ es → Some e ≡ get cmp-value.it t n → lookup (same_name n) es ≡ Some e
-found_at n t es e w i = ap (lookup (same_name n)) (sym w) ∙ sym (get_is n t) ∙ sym i
+pub found_at : {X : Type 0} (n : Name) (inside seen : List (Name × X)) (e : X) → inside ≡ seen → Some e ≡ lookup (same_name n) inside → lookup (same_name n) seen ≡ Some e
+found_at n inside seen e same is = ap (lookup (same_name n)) (sym same) ∙ sym is
 
-pub missing_at : {X : Type 0} (n : Name) (t : BTreeMap Name X) (es : List (Name × X)) → t.entries ≡ es → None ≡ get cmp-value.it t n → lookup (same_name n) es ≡ None
-missing_at n t es w i = ap (lookup (same_name n)) (sym w) ∙ sym (get_is n t) ∙ sym i
-
--- a value that is written over itself
-set_kept : {X : Type 0} (test : Name → Bool) (es : List (Name × X)) (w : X) → lookup test es ≡ Some w → set_value test es w ≡ es
-set_kept test [] w e = refl
-set_kept test (x ∷ es) w e = on (test x.0) e (set_kept test es w)
+none_before : {X : Type 0} (n : Name) (es : List (Name × X)) → AllByRecursion (λ (m : Name). name_cmp n m ≡ Ordering.Less) (keys_of es) → lookup (same_name n) es ≡ None
+none_before n [] h = refl
+none_before n (e ∷ es) h = on (same_name n e.0) (sym (same_is n e.0) ∙ ap is_eq h.0) (none_before n es h.1)
   where
-    on : (b : Bool) → cond b (Some x.1) (lookup test es) ≡ Some w → (lookup test es ≡ Some w → set_value test es w ≡ es) → cond b ((x.0, w) ∷ es) (x ∷ set_value test es w) ≡ x ∷ es
-    on true e k = ap (λ v. (x.0, v) ∷ es) (sym (some_value e))
-    on false e k = ap (λ (ys : List (Name × _)). x ∷ ys) (k e)
+    on : (b : Bool) → b ≡ false → lookup (same_name n) es ≡ None → cond b (Some e.1) (lookup (same_name n) es) ≡ None
+    on true q k = cc
+    on false q k = k
 
-pub set_same : {X : Type 0} (n : Name) (t : BTreeMap Name X) (w : X) → get cmp-value.it t n ≡ Some w → set_value (is_at (cmp-value.it n)) t.entries w ≡ t.entries
-set_same n t w e = set_kept (is_at (cmp-value.it n)) t.entries w e
+put_kept : {X : Type 0} (n : Name) (es : List (Name × X)) (x : X) → lookup (same_name n) es ≡ Some x → IsStrictlySortedBy name_cmp (keys_of (insert_entry name_cmp es n x)) → insert_entry name_cmp es n x ≡ es
+unfolding IsStrictlySortedBy
+put_kept n [] x e s = cc
+put_kept n (d ∷ es) x e s = on (name_cmp n d.0) (same_name n d.0) (same_is n d.0) e s (put_kept n es x)
+  where
+    on : (o : Ordering) (b : Bool) → is_eq o ≡ b → cond b (Some d.1) (lookup (same_name n) es) ≡ Some x
+        → IsStrictlySortedBy name_cmp (keys_of (match_ordering o ((n, x) ∷ d ∷ es) ((d.0, x) ∷ es) (d ∷ insert_entry name_cmp es n x)))
+        → (lookup (same_name n) es ≡ Some x → IsStrictlySortedBy name_cmp (keys_of (insert_entry name_cmp es n x)) → insert_entry name_cmp es n x ≡ es)
+        → match_ordering o ((n, x) ∷ d ∷ es) ((d.0, x) ∷ es) (d ∷ insert_entry name_cmp es n x) ≡ d ∷ es
+    on Ordering.Less true q e s k = cc
+    on Ordering.Less false q e s k = let z : lookup (same_name n) es ≡ None = none_before n es s.0.1 in cc
+    on Ordering.Equal true q e s k = ap (λ v. (d.0, v) ∷ es) (sym (some_value e))
+    on Ordering.Equal false q e s k = cc
+    on Ordering.Greater true q e s k = cc
+    on Ordering.Greater false q e s k = ap (λ (ys : List (Name × _)). d ∷ ys) (k e s.1)
+
+-- a value that is put where it stands already
+pub put_same : {X : Type 0} (n : Name) (old new : List (Name × X)) (x : X) → lookup (same_name n) old ≡ Some x → IsPut old new n x → new ≡ old
+put_same n old new x here put = put.entries ∙ put_kept n old x here (subst (λ (es : List (Name × _)). IsStrictlySortedBy name_cmp (keys_of es)) put.entries put.ordered)

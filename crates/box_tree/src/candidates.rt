@@ -38,7 +38,7 @@ impl Table {
     pub fn candidate_at(&self, goal: Name) -> Option<Name>
         ensures { result ≡ candidate_at (table_of self.now) ((table_of self.now).goal_of goal) }
     {
-        match self.goals.get(&goal) {
+        match self.goals.get(goal) {
             Some(entry) => match &entry.held {
                 Held::Atom(_) => None,
                 Held::Choice {
@@ -64,7 +64,7 @@ impl Table {
     fn since(&self, goal: Name) -> u64
         ensures { result ≡ since_of self.now goal }
     {
-        match self.goals.get(&goal) {
+        match self.goals.get(goal) {
             Some(entry) => entry.held.since(),
             None => 0,
         }

@@ -66,7 +66,7 @@ impl Table {
     pub fn alternatives_of(&self, goal: Name) -> &[Name]
         ensures { result.now ≡ alternatives_of ((table_of self.now).goal_of goal) }
     {
-        match self.goals.get(&goal) {
+        match self.goals.get(goal) {
             Some(entry) => entry.held.alternatives(),
             None => &[],
         }
@@ -82,7 +82,7 @@ impl Table {
     ) -> Result<Alternative, AllocError>
         ensures { IfOk result (λ a. a ≡ seen_as self.now known latest whole name) }
     {
-        let Some(entry) = self.boxes.get(&name) else {
+        let Some(entry) = self.boxes.get(name) else {
             return Err(AllocError);
         };
         entry.seen(name, known, latest, whole)
@@ -119,7 +119,7 @@ impl Table {
         ensures alternatives { IfOk result (λ p. p.0.items ≡ seen_as self.now known latest whole name ∷ []) }
         ensures body { IfOk result (λ p. map (goal_atom self.now.program.templates.nodes) p.1.items ≡ body_in ((table_of self.now).box_of name)) }
     {
-        let Some(entry) = self.boxes.get(&name) else {
+        let Some(entry) = self.boxes.get(name) else {
             return Err(AllocError);
         };
         let alternative = entry.seen(name, known, latest, whole)?;

@@ -14,7 +14,7 @@ impl Table {
     fn make_fail(&mut self, goal: Name, number: u64)
         ensures { SetsGoals self.old self.new (set goal (option_map (refuted_row number) ((table_of self.old).goal_of goal)) (table_of self.old).goal_of) }
     {
-        if let Some(entry) = self.goals.get_mut(&goal) {
+        if let Some(entry) = self.goals.get_mut(goal) {
             let code = Code::Fail;
             entry.held = Held::Atom(Goal { code, frame: goal });
             entry.changed = number;
@@ -39,7 +39,7 @@ impl Table {
         let Some(name) = home else {
             return;
         };
-        if let Some(entry) = self.boxes.get_mut(&name) {
+        if let Some(entry) = self.boxes.get_mut(name) {
             entry.goals.remove(&goal);
             entry.goals_changed = number;
         }

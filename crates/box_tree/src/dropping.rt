@@ -33,7 +33,7 @@ impl Table {
     ) -> Result<(), AllocError>
         ensures { OnOk result (names.new.items ≡ names.old.items ++ boxes_directly_in (table_of self.now) name) }
     {
-        let Some(entry) = self.boxes.get(&name) else {
+        let Some(entry) = self.boxes.get(name) else {
             return Ok(());
         };
         for goal in entry.goals.iter() {
@@ -96,7 +96,7 @@ impl Table {
     fn drop_box(&mut self, name: Name)
         ensures { DropsBoxes self.old self.new (name ∷ []) }
     {
-        if let Some(entry) = self.boxes.remove(&name) {
+        if let Some(entry) = self.boxes.remove(name) {
             self.drop_goals(&entry.goals);
         }
     }

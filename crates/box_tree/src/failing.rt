@@ -79,7 +79,7 @@ impl Table {
     pub fn holder_of(&self, name: Name) -> Option<Name>
         ensures { result ≡ holder_in_row ((table_of self.now).box_of name) }
     {
-        match self.boxes.get(&name) {
+        match self.boxes.get(name) {
             Some(entry) => entry.holder,
             None => None,
         }
@@ -90,7 +90,7 @@ impl Table {
         ensures lost { SetsGoals self.old self.new (set goal (option_map (left_row name number) ((table_of self.old).goal_of goal)) (table_of self.old).goal_of) }
         ensures home { result ≡ emptied_home ((table_of self.new).goal_of goal) }
     {
-        let Some(entry) = self.goals.get_mut(&goal) else {
+        let Some(entry) = self.goals.get_mut(goal) else {
             return None;
         };
         entry.held.lose(name);

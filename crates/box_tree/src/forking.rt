@@ -190,8 +190,8 @@ impl Table {
     fn drop_entry(&mut self, name: Name)
         ensures { Clears self.old self.new (name ∷ []) }
     {
-        self.boxes.remove(&name);
-        self.goals.remove(&name);
+        self.boxes.remove(name);
+        self.goals.remove(name);
     }
 
     /// The entries of names go.
@@ -207,7 +207,7 @@ impl Table {
     pub(crate) fn make_choice(&mut self, goal: Name, op: HeldOp, names: Vec<Name>, number: u64)
         ensures { SetsGoals self.old self.new (set goal (option_map (choice_row (op_held self.old.program.templates.nodes op) names.items number) ((table_of self.old).goal_of goal)) (table_of self.old).goal_of) }
     {
-        if let Some(entry) = self.goals.get_mut(&goal) {
+        if let Some(entry) = self.goals.get_mut(goal) {
             entry.held = Held::Choice {
                 op,
                 alternatives: names,
@@ -224,7 +224,7 @@ impl Table {
         let Some(name) = home else {
             return;
         };
-        if let Some(entry) = self.boxes.get_mut(&name) {
+        if let Some(entry) = self.boxes.get_mut(name) {
             entry.failing = Some(goal);
         }
     }

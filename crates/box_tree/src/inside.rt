@@ -123,7 +123,7 @@ impl Table {
         ensures held { IfOk result (IsInnerGoal self.now) }
         ensures since { IfOk result (λ g. since_held g.held ≡ since_of self.now name) }
     {
-        let Some(entry) = self.goals.get(&name) else {
+        let Some(entry) = self.goals.get(name) else {
             return Err(AllocError);
         };
         let held = entry.held.duplicate(alloc)?;
@@ -170,7 +170,7 @@ impl Table {
         ensures name { IfOk result (λ b. b.name ≡ name) }
         ensures row { IfOk result (IsInnerBox self.now) }
     {
-        let Some(entry) = self.boxes.get(&name) else {
+        let Some(entry) = self.boxes.get(name) else {
             return Err(AllocError);
         };
         let solved = self.is_solved_down_to(alloc, name, entry)?;

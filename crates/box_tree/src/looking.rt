@@ -47,11 +47,11 @@ impl Table {
         ensures { result ≡ sight_in self.now place }
     {
         match place {
-            Place::Goal(name) => match self.goals.get(&name) {
+            Place::Goal(name) => match self.goals.get(name) {
                 Some(entry) => Some((entry.home, sight_held(&entry.held))),
                 None => None,
             },
-            Place::Box(name) => match self.boxes.get(&name) {
+            Place::Box(name) => match self.boxes.get(name) {
                 Some(entry) => Some((
                     name,
                     Sight::Box {
@@ -67,7 +67,7 @@ impl Table {
     pub fn outside(&self, name: Name) -> Option<Name>
         ensures { result ≡ outside_of (table_of self.now) name }
     {
-        match self.boxes.get(&name) {
+        match self.boxes.get(name) {
             Some(entry) => self.home_around(entry.holder),
             None => None,
         }
@@ -103,7 +103,7 @@ impl Table {
         ensures { IfOk result (λ goals. goals.items ≡ goals_in ((table_of self.now).box_of name)) }
     {
         let mut goals = Vec::new(alloc);
-        let Some(entry) = self.boxes.get(&name) else {
+        let Some(entry) = self.boxes.get(name) else {
             return Ok(goals);
         };
         for goal in entry.goals.iter() {
@@ -164,7 +164,7 @@ impl Table {
     pub(crate) fn solving_of(&self, name: Name) -> (Option<u64>, u64)
         ensures { result ≡ solving_in ((table_of self.now).box_of name) }
     {
-        match self.boxes.get(&name) {
+        match self.boxes.get(name) {
             Some(entry) => entry.solving(),
             None => (None, 0),
         }

@@ -67,7 +67,7 @@ impl Table {
         ensures named { OnOk result (SetsBoxes self.old self.new (changed_box (Some home) (named_row names.now failing) (table_of self.old).box_of)) }
         ensures unchanged { OnErr result (self.new ≡ self.old) }
     {
-        let Some(entry) = self.boxes.get_mut(&home) else {
+        let Some(entry) = self.boxes.get_mut(home) else {
             return Ok(());
         };
         let Ok(()) = add_names(&mut entry.goals, names) else {
@@ -108,7 +108,7 @@ impl Table {
     fn drop_alternative(&mut self, name: Name)
         ensures { SetsBoxes self.old self.new (set name None (table_of self.old).box_of) }
     {
-        self.boxes.remove(&name);
+        self.boxes.remove(name);
     }
 
     // The alternatives of a goal.

@@ -30,10 +30,10 @@ impl Table {
         ensures standing { IfOk result (IsStandingAt self.now (Place.Goal name)) }
         ensures unseen { IfErr result (IsUnseen (table_of self.now) (Place.Goal name)) }
     {
-        let Some(goal) = self.goals.get(&name) else {
+        let Some(goal) = self.goals.get(name) else {
             return Err(LookError::Gone);
         };
-        let Some(entry) = self.boxes.get(&goal.home) else {
+        let Some(entry) = self.boxes.get(goal.home) else {
             return Err(LookError::Memory(AllocError));
         };
         Ok(Standing {
@@ -49,7 +49,7 @@ impl Table {
         ensures standing { IfOk result (IsStandingAt self.now (Place.Box name)) }
         ensures unseen { IfErr result (IsUnseen (table_of self.now) (Place.Box name)) }
     {
-        let Some(entry) = self.boxes.get(&name) else {
+        let Some(entry) = self.boxes.get(name) else {
             return Err(LookError::Gone);
         };
         Ok(Standing {

@@ -15,8 +15,8 @@ use crate::named::goal_set;
 use crate::table::Table;
 use akl_terms::{Goal, Name, Program, Query, ShownTerm, Term};
 use local_store::{Shared, Store};
+use name_map::BoxedMap;
 use std::alloc::{AllocError, Global};
-use std::collections::BTreeMap;
 use std::snapshot::Snapshot;
 
 /// The box of a query.
@@ -144,8 +144,8 @@ impl Table {
         Ok(Table {
             program: Snapshot::of(program),
             query: Snapshot::of(query),
-            boxes: BTreeMap::new(alloc),
-            goals: BTreeMap::new(alloc),
+            boxes: BoxedMap::new(alloc),
+            goals: BoxedMap::new(alloc),
             roots,
             roots_changed: 0,
             next,

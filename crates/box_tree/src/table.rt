@@ -18,8 +18,8 @@ use crate::view::{LookError, View, ViewParts};
 use crate::way::Way;
 use akl_model::{Item, Label};
 use akl_terms::{Name, Place, Program, Query, ShownTerm};
+use name_map::BoxedMap;
 use std::alloc::{AllocError, Global};
-use std::collections::BTreeMap;
 use std::marker::Model;
 use std::snapshot::Snapshot;
 
@@ -52,8 +52,8 @@ fn box_at(place: Place) -> Name
 pub struct Table {
     pub(crate) program: Snapshot<Program>,
     pub(crate) query: Snapshot<Query>,
-    pub(crate) boxes: BTreeMap<Name, BoxEntry>,
-    pub(crate) goals: BTreeMap<Name, GoalEntry>,
+    pub(crate) boxes: BoxedMap<BoxEntry>,
+    pub(crate) goals: BoxedMap<GoalEntry>,
     pub(crate) roots: Vec<Name>,
     pub(crate) roots_changed: u64,
     // The next number of each worker, 0 for those past the end.
@@ -67,7 +67,7 @@ impl Model for Table {
 
     ghost Value = { TableValue };
 
-    ghost view = { λ t. record { program = t.program.value; query = t.query.value; boxes = t.boxes.entries; goals = t.goals.entries; roots = t.roots.items; roots_changed = t.roots_changed; next = t.next.items; steps = t.steps } };
+    ghost view = { λ t. record { program = t.program.value; query = t.query.value; boxes = t.boxes; goals = t.goals; roots = t.roots.items; roots_changed = t.roots_changed; next = t.next.items; steps = t.steps } };
 }
 
 impl Table {
@@ -137,15 +137,15 @@ impl Table {
     {
         match item {
             Item::Roots => Some(self.roots_changed),
-            Item::Store(name) => match self.boxes.get(&name) {
+            Item::Store(name) => match self.boxes.get(name) {
                 Some(entry) => Some(entry.changed),
                 None => None,
             },
-            Item::Goals(name) => match self.boxes.get(&name) {
+            Item::Goals(name) => match self.boxes.get(name) {
                 Some(entry) => Some(entry.goals_changed),
                 None => None,
             },
-            Item::Goal(name) => match self.goals.get(&name) {
+            Item::Goal(name) => match self.goals.get(name) {
                 Some(entry) => Some(entry.changed),
                 None => None,
             },
@@ -158,26 +158,30 @@ impl Table {
         ensures { IfOk result (λ places. places.items ≡ all_places self.now) }
     {
         let mut places = Vec::new(alloc);
-        self.push_boxes(&mut places)?;
-        self.push_goals(&mut places)?;
+        self.push_boxes(alloc, &mut places)?;
+        self.push_goals(alloc, &mut places)?;
         Ok(places)
     }
 
     // The boxes come to the end of the places.
-    fn push_boxes(&self, places: &mut Vec<Place>) -> Result<(), AllocError>
+    fn push_boxes(&self, alloc: Global, places: &mut Vec<Place>) -> Result<(), AllocError>
         ensures { OnOk result (places.new.items ≡ places.old.items ++ map (λ e. Place.Box e.0) self.now.boxes) }
     {
-        for name in self.boxes.keys() {
+        let mut names = Vec::new(alloc);
+        self.boxes.push_names(&mut names)?;
+        for name in names.as_slice() {
             places.push(Place::Box(*name))?;
         }
         Ok(())
     }
 
     // The goals come to the end of the places.
-    fn push_goals(&self, places: &mut Vec<Place>) -> Result<(), AllocError>
+    fn push_goals(&self, alloc: Global, places: &mut Vec<Place>) -> Result<(), AllocError>
         ensures { OnOk result (places.new.items ≡ places.old.items ++ map (λ e. Place.Goal e.0) self.now.goals) }
     {
-        for name in self.goals.keys() {
+        let mut names = Vec::new(alloc);
+        self.goals.push_names(&mut names)?;
+        for name in names.as_slice() {
             places.push(Place::Goal(*name))?;
         }
         Ok(())
@@ -194,7 +198,7 @@ impl Table {
     pub fn is_solved(&self, name: Name) -> bool
         ensures { result ≡ is_empty (goals_in ((table_of self.now).box_of name)) }
     {
-        match self.boxes.get(&name) {
+        match self.boxes.get(name) {
             Some(entry) => entry.goals.is_empty(),
             None => true,
         }
@@ -204,7 +208,7 @@ impl Table {
     pub fn shown_of(&self, name: Name) -> &[ShownTerm]
         ensures { shown_trees_of self.now result.now ≡ shown_in ((table_of self.now).box_of name) }
     {
-        match self.boxes.get(&name) {
+        match self.boxes.get(name) {
             Some(entry) => entry.shown.as_slice(),
             None => &[],
         }

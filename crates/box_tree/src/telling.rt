@@ -45,7 +45,7 @@ impl Table {
     pub fn home_of(&self, goal: Name) -> Option<Name>
         ensures { result ≡ home_in ((table_of self.now).goal_of goal) }
     {
-        match self.goals.get(&goal) {
+        match self.goals.get(goal) {
             Some(entry) => Some(entry.home),
             None => None,
         }
@@ -65,7 +65,7 @@ impl Table {
         let Some(name) = home else {
             return;
         };
-        if let Some(entry) = self.boxes.get_mut(&name) {
+        if let Some(entry) = self.boxes.get_mut(name) {
             // The store before it is dropped first, so that nothing else holds what they have in common.
             entry.store = store;
             entry.store.settle();
@@ -81,7 +81,7 @@ impl Table {
         ensures home { result ≡ home_in ((table_of self.old).goal_of goal) }
         ensures dropped { SetsGoals self.old self.new (set goal None (table_of self.old).goal_of) }
     {
-        match self.goals.remove(&goal) {
+        match self.goals.remove(goal) {
             Some(entry) => Some(entry.home),
             None => None,
         }

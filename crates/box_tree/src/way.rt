@@ -42,7 +42,7 @@ impl Way {
     fn pass(&mut self, alloc: Global, table: &Table, name: Name) -> Result<Option<Name>, AllocError>
         ensures { IfOk result (λ outside. Passes (table_of table.now) name self.old outside self.new) }
     {
-        let Some(entry) = table.boxes.get(&name) else {
+        let Some(entry) = table.boxes.get(name) else {
             return Err(AllocError);
         };
         self.path.push(alloc, name)?;

@@ -45,7 +45,7 @@ use Rattle.opened_places.proofs.GoalTurns.{Comes}
 use Rattle.opened_places.proofs.GoesFrom.{goals_differ, exactly_goes}
 use Rattle.opened_places.proofs.JoinRows.{AreJoined}
 use Rattle.opened_places.proofs.JoinRows as join
-use Rattle.opened_places.proofs.Leading.{all_in_force}
+use Rattle.box_tree.proofs.AllInForce.{all_in_force}
 use Rattle.opened_places.proofs.ListedPlaces.{holder_place}
 use Rattle.opened_places.proofs.Members.{firsts}
 use Rattle.opened_places.proofs.NewAround.{joined_all}

@@ -1,5 +1,5 @@
 -- What is common to a step of one label and to that of a call at once: the box of its place, and the derivation.
-use Rattle.std.proofs.Common.{◌≡◌, List, ◌∷◌, Some, None, refl, sym, subst, inl, inr}
+use Rattle.std.proofs.Common.{◌≡◌, List, ◌∷◌, Some, None, refl, sym, subst}
 use Rattle.akl_terms.specs.declared.name.Place.{Place}
 use Rattle.akl_terms.specs.declared.program.Program.{Program}
 use Rattle.akl_model.specs.declared.label.Rule.{Rule}
@@ -9,21 +9,12 @@ use Rattle.akl_model.specs.Derivations.{Derives}
 use Rattle.akl_model.proofs.NamesKept.{Stand, derived-stands}
 use Rattle.step_laws.proofs.Steps.{Later, later}
 use Rattle.table_laws.specs.Steps.{Step}
-use Rattle.call_laws.specs.AtOnce.{by, labels_at_once, AreInForce}
+use Rattle.call_laws.specs.AtOnce.{by, labels_at_once}
 use Rattle.call_laws.proofs.Between.{distinct_of}
 use Rattle.call_laws.proofs.Calls.{at_once_law}
 use Rattle.box_tree.specs.Tables.{all_rules}
+use Rattle.box_tree.proofs.AllInForce.{all_in_force}
 use Rattle.opened_places.specs.Leading.{CallsTo, LeadsTo, by_label, by_call}
-
-pub all_in_force : AreInForce all_rules
-all_in_force = record {
-  fork = inr (inl refl);
-  fail = inr (inr (inl refl));
-  cut = inr (inr (inr (inl refl)));
-  tell = inl refl;
-  eval = inr (inr (inr (inr (inr (inl refl)))));
-  promote = inr (inr (inr (inr (inl refl))));
-}
 
 module _ (p : Program) (c : Config) (l : Label) (more : List Label) (step : Step) (d : Config) where
   -- the first label of a call is its fork

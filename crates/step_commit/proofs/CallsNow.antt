@@ -1,5 +1,5 @@
 -- A call at once that nothing made stale leads the run on by all its labels.
-use Rattle.std.proofs.Common.{◌≡◌, ℕ, ◌+◌, Bool, List, ◌∷◌, ◌++◌, length, map, Some, refl, sym, ap, subst, ◌∙◌, inl, inr, arith}
+use Rattle.std.proofs.Common.{◌≡◌, ℕ, ◌+◌, Bool, List, ◌∷◌, ◌++◌, length, map, Some, sym, ap, subst, ◌∙◌, arith}
 use Rattle.std.specs.Prelude.{slice_index}
 use Rattle.std.proofs.lemmas.List.{length-append}
 use Rattle.akl_terms.specs.declared.name.Name.{Name}
@@ -25,7 +25,7 @@ use Rattle.plan_laws.specs.Right.{NoneBy}
 use Rattle.plan_laws.proofs.Right.{next_same}
 use Rattle.plan_laws.proofs.StampLaws.{stamped}
 use Rattle.call_laws.specs.Wherever.{Follows, IsAsIn}
-use Rattle.call_laws.specs.AtOnce.{IsAtOnce, labels_at_once, at_once, AreInForce, IsAtOnceIn, MeetsCall}
+use Rattle.call_laws.specs.AtOnce.{IsAtOnce, labels_at_once, at_once, IsAtOnceIn, MeetsCall}
 use Rattle.call_laws.specs.Wakes.{TellsNothing}
 use Rattle.call_laws.proofs.ByContents.{same_as, derived_follows}
 use Rattle.call_tables.specs.Calls.{CallsGoal}
@@ -35,20 +35,11 @@ use Rattle.table_laws.specs.Stamped.{IsTableOf}
 use Rattle.table_laws.specs.Steps.{Step, joins, numbered, IsSolvedIn, IsSolvedWhen}
 use Rattle.box_tree.specs.Tables.{all_rules, table_of, step_of}
 use Rattle.box_tree.specs.Plans.{PlanValue, IsRead, IsRightCall, ReadsCall}
+use Rattle.box_tree.proofs.AllInForce.{all_in_force}
 use Rattle.step_commit.specs.Cores.{CoreValue, MayCommit, AllWithin}
 use Rattle.step_commit.proofs.Committed.{goes, read_stamped}
 use Rattle.step_commit.proofs.CallsAgain.{silent_again}
 use Rattle.step_commit.proofs.StillSolved.{solved_over, around_old}
-
-pub all_in_force : AreInForce all_rules
-all_in_force = record {
-  fork = inr (inl refl);
-  fail = inr (inr (inl refl));
-  cut = inr (inr (inr (inl refl)));
-  tell = inl refl;
-  eval = inr (inr (inr (inr (inr (inl refl)))));
-  promote = inr (inr (inr (inr (inl refl))));
-}
 
 -- all that the type of a call's plan keeps, over a program and a query
 pub record IsPlannedCall (p : Program) (q : Query) (journal : List Label) (T : Table) (l : Label) (more : List Label) (reads : List Item) (names : ℕ) (step : Step) (binds : List Var) : Type 0 where

@@ -34,7 +34,8 @@ use Rattle.box_tree.specs.Plans.{PlanValue, IsRightLabel, IsRightCall, IsRight, 
 use Rattle.step_commit.specs.Cores.{CoreValue, IsCore, MayCommit, IsFresh, IsStale, Commits, AllWithin, IsFirstStale, IsFirstUnseen, solved_in}
 use Rattle.step_commit.specs.Solving.{solved_at}
 use Rattle.step_commit.proofs.Committed.{IsPlanned, planned, LeadsOn, leads_on, solved_now}
-use Rattle.step_commit.proofs.CallsNow.{all_in_force, IsPlannedCall, planned_call, CallsOn, calls_on, call_solved_now}
+use Rattle.box_tree.proofs.AllInForce.{all_in_force}
+use Rattle.step_commit.proofs.CallsNow.{IsPlannedCall, planned_call, CallsOn, calls_on, call_solved_now}
 use Rattle.step_commit.proofs.CallNames.{later_fresh}
 use Rattle.step_commit.proofs.Stale.{looked, unchanged_here, stale, all_within}
 use Rattle.step_commit.proofs.InOrder.{makes_ordered}

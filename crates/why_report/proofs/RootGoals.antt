@@ -37,7 +37,7 @@ use Rattle.box_tree.specs.Tables.{all_rules, goal_atom, table_of}
 use Rattle.box_tree.specs.Views.{ViewValue, IsViewOf}
 use Rattle.box_tree.proofs.ToldChains.{told_stands}
 use Rattle.guard_plan.proofs.Sites.{whole_stands, stores_path}
-use Rattle.stable_test.proofs.NoPlainRule.{each_in_force}
+use Rattle.box_tree.proofs.AllInForce.{each_in_force}
 use Rattle.stable_test.proofs.Reaches.{atom_waits_stand}
 use Rattle.root_answers.specs.Roots.{root_box}
 use Rattle.why_laws.specs.Watched.{Watches, by_atom, by_choice}

@@ -5,12 +5,12 @@ use Rattle.box_tree.proofs.Maps.{found_at}
 use Rattle.box_tree.proofs.table.Table.inner_box.Goals as goal
 
 pub is_solved_down_to-requires-clause-entry : goal.is_solved_down_to-requires-clause-entry
-is_solved_down_to-requires-clause-entry c = found_at c.args.name c.self.inside.boxes c.args.self.now.boxes c.in-Some.entry.now (ap (λ (v : TableValue). v.boxes) c.self.view_is) c.in-Some.ensures.value
+is_solved_down_to-requires-clause-entry c = found_at c.args.name c.self.inside.boxes c.args.self.now.boxes c.in-Some.entry.now (ap (λ (v : TableValue). v.boxes) c.self.view_is) c.in-Some.ensures
 
 pub returns-clause-row : goal.returns-clause-row
 returns-clause-row c =
     let t : TableValue = c.args.self.now in
-    let found = found_at c.args.name c.self.inside.boxes t.boxes c.in-Some.entry.now (ap (λ (v : TableValue). v.boxes) c.self.view_is) c.in-Some.ensures.value in
+    let found = found_at c.args.name c.self.inside.boxes t.boxes c.in-Some.entry.now (ap (λ (v : TableValue). v.boxes) c.self.view_is) c.in-Some.ensures in
     record {
       row = box_row t.program.templates.nodes c.in-Some.entry.now;
       there = ap (option_map (box_row t.program.templates.nodes)) found;

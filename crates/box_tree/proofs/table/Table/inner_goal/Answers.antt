@@ -11,11 +11,11 @@ use Rattle.box_tree.proofs.table.Table.inner_goal.Goals as goal
 pub returns-clause-held : goal.returns-clause-held
 returns-clause-held c =
     let t : TableValue = c.args.self.now in
-    let found = found_at c.args.name c.self.inside.goals t.goals c.in-Some.entry.now (ap (λ (v : TableValue). v.goals) c.self.view_is) c.in-Some.ensures.value in
+    let found = found_at c.args.name c.self.inside.goals t.goals c.in-Some.entry.now (ap (λ (v : TableValue). v.goals) c.self.view_is) c.in-Some.ensures in
     ap (λ (o : Option GoalEntry). option_map (λ (r : GoalRow). r.shape) (option_map (goal_row t.program.templates.nodes) o)) found ∙ ap (λ (s : Shape). Some s) (sym (c.in_ok-held.ensures.shape t.program.templates.nodes))
 
 pub returns-clause-since : goal.returns-clause-since
 returns-clause-since c =
     let t : TableValue = c.args.self.now in
-    let found = found_at c.args.name c.self.inside.goals t.goals c.in-Some.entry.now (ap (λ (v : TableValue). v.goals) c.self.view_is) c.in-Some.ensures.value in
+    let found = found_at c.args.name c.self.inside.goals t.goals c.in-Some.entry.now (ap (λ (v : TableValue). v.goals) c.self.view_is) c.in-Some.ensures in
     c.in_ok-held.ensures.since ∙ sym (ap since_in found)

@@ -10,10 +10,10 @@ use Rattle.box_tree.proofs.table.Table.only_seen.Goals as goal
 pub returns-clause-alternatives : goal.returns-clause-alternatives
 returns-clause-alternatives c =
     c.in_ok-alternatives.ensures ∙ ap (λ (a : Alternative). a ∷ [])
-    (c.in_ok-alternative.ensures c.args.self.now (found_at c.args.name c.self.inside.boxes c.args.self.now.boxes c.in-Some.entry.now (ap (λ (v : TableValue). v.boxes) c.self.view_is) c.in-Some.ensures.value))
+    (c.in_ok-alternative.ensures c.args.self.now (found_at c.args.name c.self.inside.boxes c.args.self.now.boxes c.in-Some.entry.now (ap (λ (v : TableValue). v.boxes) c.self.view_is) c.in-Some.ensures))
 
 pub returns-clause-body : goal.returns-clause-body
 returns-clause-body c =
     ap (map (goal_atom c.args.self.now.program.templates.nodes)) (c.in_ok-body.ensures.items ∙ c.as_slice.ensures.value)
     ∙ sym (ap (λ (o : Option BoxEntry). body_in (option_map (box_row c.args.self.now.program.templates.nodes) o))
-    (found_at c.args.name c.self.inside.boxes c.args.self.now.boxes c.in-Some.entry.now (ap (λ (v : TableValue). v.boxes) c.self.view_is) c.in-Some.ensures.value))
+    (found_at c.args.name c.self.inside.boxes c.args.self.now.boxes c.in-Some.entry.now (ap (λ (v : TableValue). v.boxes) c.self.view_is) c.in-Some.ensures))

@@ -1,7 +1,6 @@
-use Rattle.std.proofs.Common.{◌≡◌, ◌++◌, map}
+use Rattle.std.proofs.Common.{◌≡◌, ◌++◌, map, take}
 use Rattle.akl_terms.specs.declared.name.Place.{Place}
 use Rattle.box_tree.proofs.table.Table.push_boxes.Given as goal
 
--- the places so far, and those of the names that are left
 abbrev pub invariant-loop-name : goal.invariant-loop-name
-invariant-loop-name l = l.places.items ++ map Place.Box l.name-iterator ≡ l.fn.places.items ++ map (λ e. Place.Box e.0) l.self.boxes
+invariant-loop-name l = l.places.items ≡ l.fn.places.items ++ map Place.Box (take l.name-index l.name-items)

@@ -1,4 +1,4 @@
-use Rattle.std.proofs.Common.{refl, Some, subst, [], ◌∷◌}
+use Rattle.std.proofs.Common.{Some, subst, [], ◌∷◌}
 use Rattle.table_laws.specs.Writes.{set}
 use Rattle.box_tree.specs.Tables.{TableValue, table_of, goal_row}
 use Rattle.box_tree.specs.Edits.{SetsGoals, AddsOnly}
@@ -8,11 +8,11 @@ use Rattle.box_tree.proofs.table.Table.put_goal.Goals as goal
 
 pub returns-clause-put : goal.returns-clause-put
 returns-clause-put c =
-    let t : TableValue = record { program = c.self.inside.program.value; query = c.self.inside.query.value; boxes = c.self.inside.boxes.entries; goals = c.self.inside.goals.entries; roots = c.self.inside.roots.items; roots_changed = c.self.inside.roots_changed; next = c.self.inside.next.items; steps = c.self.inside.steps } in
-    subst (λ (v : TableValue). SetsGoals v (record t { goals = c.insert.new.self.entries }) (set c.args.name (Some (goal_row v.program.templates.nodes c.args.entry)) (table_of v).goal_of)) c.self.view_is
-    (sets_goal t c.args.name c.self.inside.goals c.insert.new.self (Some c.args.entry) refl (λ q. c.in_ok-insert.ensures.updates.0 q))
+    let t : TableValue = record { program = c.self.inside.program.value; query = c.self.inside.query.value; boxes = c.self.inside.boxes; goals = c.self.inside.goals; roots = c.self.inside.roots.items; roots_changed = c.self.inside.roots_changed; next = c.self.inside.next.items; steps = c.self.inside.steps } in
+    subst (λ (v : TableValue). SetsGoals v (record t { goals = c.insert.new.self }) (set c.args.name (Some (goal_row v.program.templates.nodes c.args.entry)) (table_of v).goal_of)) c.self.view_is
+    (sets_goal t c.args.name c.insert.new.self (Some c.args.entry) c.in_ok-insert.ensures.put.finds)
 
 pub returns-clause-only : goal.returns-clause-only
 returns-clause-only c =
-    let t : TableValue = record { program = c.self.inside.program.value; query = c.self.inside.query.value; boxes = c.self.inside.boxes.entries; goals = c.self.inside.goals.entries; roots = c.self.inside.roots.items; roots_changed = c.self.inside.roots_changed; next = c.self.inside.next.items; steps = c.self.inside.steps } in
-    subst (λ (v : TableValue). AddsOnly v (record t { goals = c.insert.new.self.entries }) (c.args.name ∷ [])) c.self.view_is (adds_goal t c.args.name c.self.inside.goals c.insert.new.self c.args.entry refl c.in_ok-insert.ensures.entries)
+    let t : TableValue = record { program = c.self.inside.program.value; query = c.self.inside.query.value; boxes = c.self.inside.boxes; goals = c.self.inside.goals; roots = c.self.inside.roots.items; roots_changed = c.self.inside.roots_changed; next = c.self.inside.next.items; steps = c.self.inside.steps } in
+    subst (λ (v : TableValue). AddsOnly v (record t { goals = c.insert.new.self }) (c.args.name ∷ [])) c.self.view_is (adds_goal t c.args.name c.insert.new.self c.args.entry c.in_ok-insert.ensures.put)

@@ -10,4 +10,4 @@ pub returns-in-Some : goal.returns-in-Some
 returns-in-Some c =
     c.solving.ensures c.args.self.now.program.templates.nodes
     ∙ sym (ap (λ (o : Option BoxEntry). solving_in (option_map (box_row c.args.self.now.program.templates.nodes) o))
-    (found_at c.args.name c.self.inside.boxes c.args.self.now.boxes c.in-Some.entry.now (ap (λ (v : TableValue). v.boxes) c.self.view_is) c.in-Some.ensures.value))
+    (found_at c.args.name c.self.inside.boxes c.args.self.now.boxes c.in-Some.entry.now (ap (λ (v : TableValue). v.boxes) c.self.view_is) c.in-Some.ensures))

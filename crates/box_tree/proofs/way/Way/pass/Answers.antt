@@ -11,7 +11,7 @@ use Rattle.box_tree.proofs.way.Way.pass.Goals as goal
 pub returns : goal.returns
 returns c =
     let t : TableValue = c.args.table.now in
-    let row = ap (option_map (box_row t.program.templates.nodes)) (found_at c.args.name c.table.inside.boxes t.boxes c.in-Some.entry.now (ap (λ (v : TableValue). v.boxes) c.table.view_is) c.in-Some.ensures.value) in
+    let row = ap (option_map (box_row t.program.templates.nodes)) (found_at c.args.name c.table.inside.boxes t.boxes c.in-Some.entry.now (ap (λ (v : TableValue). v.boxes) c.table.view_is) c.in-Some.ensures) in
     record {
       path = c.in_ok-push.ensures;
       stores = c.in_ok-push-2.ensures ∙ ap (λ (s : Stored). c.args.self.now.stores.items ++ s ∷ []) (c.in_ok-store.ensures ∙ sym (ap store_in row));
