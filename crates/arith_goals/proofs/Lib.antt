@@ -1,5 +1,6 @@
 mod Comparing
 mod Expressing
+mod Flat
 mod Forming
 mod Modulus
 mod Naming

@@ -19,7 +19,7 @@ use Rattle.arith_goals.specs.Answers.{WalksToEnd}
 
 module _ (t : Template) (bs : List (Var × Term)) (h : IsSolved t.nodes bs) where
   -- a variable in which a chain ends is the end of its own
-  own-end : (s : Tree) (x : Var) → end_of t.nodes bs s ≡ variable x → end_of t.nodes bs (variable x) ≡ variable x
+  pub own-end : (s : Tree) (x : Var) → end_of t.nodes bs s ≡ variable x → end_of t.nodes bs (variable x) ≡ variable x
   own-end s x e = end-free t.nodes bs x (free_found t.nodes bs x (subst (IsFree (bound_in t.nodes bs)) e (walk-free (bound_in t.nodes bs) (length bs) s (h.ends s))))
 
   module _ (old new : Walk) where

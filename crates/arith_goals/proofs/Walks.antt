@@ -19,13 +19,14 @@ use Rattle.arith_goals.specs.declared.walk.Walk.{Walk}
 use Rattle.arith_goals.specs.declared.walk.Progress.{Progress}
 use Rattle.arith_goals.specs.declared.walk.Progress.TheVariants.{Ahead, Begun, Value}
 use Rattle.arith_goals.specs.declared.walk.Walked.{Walked}
+use Rattle.arith_goals.specs.declared.walk.Walked.TheVariants as walked
 use Rattle.arith_goals.specs.declared.walk.Walking.{Walking}
 use Rattle.arith_goals.specs.declared.walk.Walking.TheVariants.{Left, Right}
 use Rattle.arith_goals.specs.declared.walk.Step.{Step}
 use Rattle.arith_goals.specs.declared.walk.Step.TheVariants.{Enter, Leave}
 use Rattle.arith_goals.specs.declared.walk.Turn.TheVariants.{Go, Stop}
 use Rattle.arith_goals.specs.Operations.{meaning}
-use Rattle.arith_goals.specs.Expressions.{tree_there, IsApplication}
+use Rattle.arith_goals.specs.Expressions.{tree_there, IsApplication, IsOther}
 use Rattle.arith_goals.specs.Walking.{same_place, or_ahead, progress_at, IsSame, Begins, known, inside_itself, begins, Enters, number, free, other, operation, Leaves, last, to_right, undefined, out, Turns}
 use Rattle.arith_goals.specs.Answers.{IsStuck, Comes}
 use Rattle.arith_goals.proofs.Expressing.{other-stuck, left-stuck, right-stuck, calculated-value, undefined-stuck}
@@ -109,11 +110,11 @@ module _ (t : Template) (E : Equations) where
   path (v ∷ ws) w s u l = further (to_operand w s l.0) (path ws v (operand w) u l.1)
 
   module _ (c : IsConsistent E) where
-    stuck-in : (w : Walking) (s : Tree) → IsWalkingIn w s → IsStuck t.symbols E (operand w) → IsStuck t.symbols E s
+    pub stuck-in : (w : Walking) (s : Tree) → IsWalkingIn w s → IsStuck t.symbols E (operand w) → IsStuck t.symbols E s
     stuck-in (Left of) s i k = left-stuck t.symbols E c s (T of.left) (T of.right) i.symbol (meaning of.operation) i.applied i.named k
     stuck-in (Right of x) s i k = right-stuck t.symbols E c s (T of.left) (T of.right) i.0.symbol (meaning of.operation) i.0.applied i.0.named x i.1 k
 
-    waits-in : (w : Walking) (s : Tree) (x : Var) → IsWalkingIn w s → WaitsOn t.symbols E (operand w) x → WaitsOn t.symbols E s x
+    pub waits-in : (w : Walking) (s : Tree) (x : Var) → IsWalkingIn w s → WaitsOn t.symbols E (operand w) x → WaitsOn t.symbols E s x
     waits-in (Left of) s x i k = in_left i.applied i.named k
     waits-in (Right of y) s x i k = in_right i.0.applied i.0.named i.1 k
 
@@ -146,9 +147,14 @@ module _ (t : Template) (E : Equations) where
     pub walked : (p : Place) (z : ℤ) → progress_at w p ≡ Value z → HasValue t.symbols E (tree_there t p) z
     pub inside : (p : Place) → progress_at w p ≡ Begun → IsWalkedAt p w.walking.items
 
+-- what an operation comes to over two values
+abbrev pub of_calculated : Option ℤ → Walked
+of_calculated (Some z) = walked.Is z
+of_calculated None = walked.Never
+
 -- a walk over a solved form of the equations
 module _ (t : Template) (bs : List (Var × Term)) (E : Equations) (f : IsFormOf t.nodes bs (IsTold E)) where
-  consistent : IsConsistent E
+  pub consistent : IsConsistent E
   consistent = form-consistent t.nodes bs (IsTold E) f
 
   to_end : (s : Tree) → Equal E s (end_of t.nodes bs s)
@@ -157,7 +163,7 @@ module _ (t : Template) (bs : List (Var × Term)) (E : Equations) (f : IsFormOf 
   pub number-is : (s : Tree) (z : ℤ) → end_of t.nodes bs s ≡ integer z → HasValue t.symbols E s z
   number-is s z e = arithmetic.number (subst (Equal E s) e (to_end s))
 
-  free-waits : (s : Tree) (x : Var) → end_of t.nodes bs s ≡ variable x → WaitsOn t.symbols E s x
+  pub free-waits : (s : Tree) (x : Var) → end_of t.nodes bs s ≡ variable x → WaitsOn t.symbols E s x
   free-waits s x e =
       let q : Equal E s (variable x) = subst (Equal E s) e (to_end s) in
       here q (λ d. no (structured-end (IsTold E) (end_of t.nodes bs) (form-stays t.nodes bs (IsTold E) f) (form-holds t.nodes bs (IsTold E) f) to_end s d.0 d.1 (joined q d.2) d.3))
@@ -165,7 +171,10 @@ module _ (t : Template) (bs : List (Var × Term)) (E : Equations) (f : IsFormOf 
       no : HasHead (end_of t.nodes bs s) → ⊥
       no h = let z : None ≡ Some h.0 = sym (ap head_of e) ∙ h.1 in cc
 
-  is_operation : (s : Tree) (of : Application) → IsApplication t (end_of t.nodes bs s) of → IsOperation t E of s
+  pub end-stuck : (s : Tree) → IsOther t (end_of t.nodes bs s) → IsStuck t.symbols E s
+  end-stuck s o = other-stuck t.symbols E consistent s (end_of t.nodes bs s) o.head (to_end s) o.is_head o.no_integer o.no_operation
+
+  pub is_operation : (s : Tree) (of : Application) → IsApplication t (end_of t.nodes bs s) of → IsOperation t E of s
   is_operation s of a = record {
     symbol = a.symbol;
     named = a.named;
@@ -173,13 +182,15 @@ module _ (t : Template) (bs : List (Var × Term)) (E : Equations) (f : IsFormOf 
     place = subst (Equal E s) a.place (to_end s);
   }
 
-  -- an operation over two numbers
-  applied-is : (s : Tree) (of : Application) (x y z : ℤ) → IsApplication t (end_of t.nodes bs s) of → end_of t.nodes bs (tree t.nodes of.left) ≡ integer x
-      → end_of t.nodes bs (tree t.nodes of.right) ≡ integer y → calculated (meaning of.operation) x y ≡ Some z → HasValue t.symbols E s z
-  applied-is s of x y z a l r d =
+  -- an operation over two operands that have values
+  pub applied-comes : (s : Tree) (of : Application) (x y : ℤ) → IsApplication t (end_of t.nodes bs s) of → HasValue t.symbols E (tree t.nodes of.left) x
+      → HasValue t.symbols E (tree t.nodes of.right) y → (r : Option ℤ) → calculated (meaning of.operation) x y ≡ r → Comes t.symbols E s (of_calculated r)
+  applied-comes s of x y a l m (Some z) d =
       let o : IsOperation t E of s = is_operation s of a in
-      calculated-value t.symbols E consistent s (tree t.nodes of.left) (tree t.nodes of.right) o.symbol (meaning of.operation) o.applied o.named
-      x (number-is (tree t.nodes of.left) x l) y (number-is (tree t.nodes of.right) y r) z d
+      calculated-value t.symbols E consistent s (tree t.nodes of.left) (tree t.nodes of.right) o.symbol (meaning of.operation) o.applied o.named x l y m z d
+  applied-comes s of x y a l m None d =
+      let o : IsOperation t E of s = is_operation s of a in
+      undefined-stuck t.symbols E consistent s (tree t.nodes of.left) (tree t.nodes of.right) o.symbol (meaning of.operation) o.applied o.named x l y m d
 
   -- how far operations are, after one is begun or walked
   updated : (old new : Walk) (place : Place) (o : Progress) (p : Place) (q : Progress) → ((r : Place) → progress_at new r ≡ cond (same_place place r) o (progress_at old r)) → progress_at new p ≡ q
@@ -224,8 +235,7 @@ module _ (t : Template) (bs : List (Var × Term)) (E : Equations) (f : IsFormOf 
 
     enters-stops : (s : Term) (w : Walked) → IsWalk t E root old (Enter s) → Enters t bs old new s (Stop w) → Comes t.symbols E root w
     enters-stops s w h (free {x = x} e) = waits-around t E consistent old.walking.items root (tree t.nodes s) x h.is_at (free-waits (tree t.nodes s) x e)
-    enters-stops s w h (other o) = stuck-around t E consistent old.walking.items root (tree t.nodes s) h.is_at
-        (other-stuck t.symbols E consistent (tree t.nodes s) (end_of t.nodes bs (tree t.nodes s)) o.head (to_end (tree t.nodes s)) o.is_head o.no_integer o.no_operation)
+    enters-stops s w h (other o) = stuck-around t E consistent old.walking.items root (tree t.nodes s) h.is_at (end-stuck (tree t.nodes s) o)
     enters-stops s w h (operation {of = of} a b) = begins-stops s of w h a b
 
     -- the operand that is left, and the operation around it
@@ -296,13 +306,6 @@ module _ (t : Template) (bs : List (Var × Term)) (E : Equations) (f : IsFormOf 
     pub turn-stops : (step : Step) (w : Walked) → IsWalk t E root old step → Turns t bs old new step (Stop w) → Comes t.symbols E root w
     turn-stops (Enter s) w h u = enters-stops s w h u
     turn-stops (Leave z) w h u = leaves-stops z w h u
-
--- the value of an operation over two numbers, where it has one
-pub applied-to-numbers : (t : Template) (bs : List (Var × Term)) (s : Tree) (of : Application) (x y : ℤ) → IsApplication t (end_of t.nodes bs s) of → end_of t.nodes bs (tree t.nodes of.left) ≡ integer x
-    → end_of t.nodes bs (tree t.nodes of.right) ≡ integer y → (r : Option ℤ) → r ≡ calculated (meaning of.operation) x y
-    → IfSome r (λ z. (E : Equations) → IsFormOf t.nodes bs (IsTold E) → HasValue t.symbols E s z)
-applied-to-numbers t bs s of x y a l k None e = tt
-applied-to-numbers t bs s of x y a l k (Some z) e = λ E f. applied-is t bs E f s of x y z a l k (sym e)
 
 -- nothing is begun
 pub walk-starts : (t : Template) (E : Equations) (s : Term) (w : Walk) → w.walking.items ≡ [] → w.progress.entries ≡ [] → IsWalk t E (tree t.nodes s) w (Enter s)

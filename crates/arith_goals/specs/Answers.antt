@@ -1,5 +1,5 @@
 -- What is answered of expressions and of arithmetic goals.
-use Rattle.std.specs.Prelude.{◌≡◌, ℕ, ℤ, List, true, false}
+use Rattle.std.specs.Prelude.{◌≡◌, ℕ, ℤ, List, true, false, Option, Some, None}
 use Rattle.akl_terms.specs.declared.name.Var.{Var}
 use Rattle.akl_terms.specs.declared.program.Code.{Code}
 use Rattle.akl_terms.specs.declared.program.Goal.{Goal}
@@ -15,6 +15,8 @@ use Rattle.rational_unify.specs.Known.{end_of}
 use Rattle.rational_unify.specs.Solving.{bindings_in}
 use Rattle.local_store.specs.Chained.{Chained, bindings_from}
 use Rattle.local_store.specs.Asking.{AreSolvedBindings}
+use Rattle.arith_goals.specs.declared.expression.Expression.{Expression}
+use Rattle.arith_goals.specs.declared.expression.Expression.TheVariants as expression
 use Rattle.arith_goals.specs.declared.walk.Walked.{Walked}
 use Rattle.arith_goals.specs.declared.walk.Walked.TheVariants as walked
 use Rattle.arith_goals.specs.declared.goals.ArithValue.{ArithValue}
@@ -30,6 +32,13 @@ abbrev pub Comes : List (List ℕ) → Equations → Tree → Walked → Type 0
 Comes symbols E t (walked.Is z) = HasValue symbols E t z
 Comes symbols E t (walked.Waits x) = WaitsOn symbols E t x
 Comes symbols E t walked.Never = IsStuck symbols E t
+
+-- what an expression comes to that is no operation
+abbrev pub at_once : Expression → Option Walked
+at_once (expression.Number z) = Some (walked.Is z)
+at_once (expression.Free x) = Some (walked.Waits x)
+at_once expression.Other = Some walked.Never
+at_once (expression.Apply of) = None
 
 -- no answer, and nothing to wait on
 pub record IsGoalStuck (symbols : List (List ℕ)) (E : Equations) (test : Test) (l r : Tree) : Type 0 where

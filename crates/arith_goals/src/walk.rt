@@ -1,13 +1,14 @@
 //! The walk of an expression.
 
 ghost use Rattle.std.specs.Prelude.{◌≡◌, ◌+◌, ◌<◌, ◌^◌, IfOk, IfSome};
-ghost use Rattle.akl_terms.specs.Arithmetic.{HasValue};
+ghost use Rattle.akl_terms.specs.Tree.{Tree};
 ghost use Rattle.akl_terms.specs.Equal.{Equations, IsTold};
 ghost use Rattle.akl_terms.specs.Template.{tree};
-ghost use Rattle.rational_unify.specs.Known.{IsSolved};
+ghost use Rattle.rational_unify.specs.Known.{IsSolved, end_of};
 ghost use Rattle.rational_unify.specs.Forms.{IsFormOf};
 ghost use Rattle.arith_goals.specs.Walking.{Begins, Enters, Keeps, Leaves, Turns, progress_at};
-ghost use Rattle.arith_goals.specs.Answers.{Comes, WalksToEnd};
+ghost use Rattle.arith_goals.specs.Answers.{Comes, WalksToEnd, at_once};
+ghost use Rattle.arith_goals.specs.Expressions.{IsApplication};
 
 use crate::expression::{Application, Expression, Place, read_expression};
 use akl_terms::{Templates, Term, Var};
@@ -62,8 +63,8 @@ pub fn walk_expression<K: Lookup>(
         → Comes templates.now.symbols E (tree templates.now.nodes term) walked) }
     ensures end { IfOk result (λ walked. WalksToEnd templates.now.nodes (K.bindings known.now) walked) }
 {
-    if let Some(value) = flat_value(templates, known, term) {
-        return Ok(Walked::Is(value));
+    if let Some(walked) = walk_flat(templates, known, term) {
+        return Ok(walked);
     }
     let mut walk = Walk {
         walking: Vec::new(alloc),
@@ -79,25 +80,53 @@ pub fn walk_expression<K: Lookup>(
     }
 }
 
-/// The value of an integer, or of one operation over two integers, read through bindings. `None` where the expression is
-/// something else, and where the operation is undefined over them.
-fn flat_value<K: Lookup>(templates: &Templates, known: &K, term: Term) -> Option<i128>
-    requires { IsSolved templates.now.nodes (K.bindings known.now) }
-    ensures { IfSome result (λ z. (E : Equations) → IsFormOf templates.now.nodes (K.bindings known.now) (IsTold E)
-        → HasValue templates.now.symbols E (tree templates.now.nodes term) z) }
+/// What an expression comes to that is no operation; `None` of an operation.
+fn at_once(expression: Expression) -> Option<Walked>
+    ensures { result ≡ at_once expression }
 {
-    let of = match read_expression(templates, known, term) {
-        Expression::Number(n) => return Some(n),
-        Expression::Apply(of) => of,
-        _ => return None,
+    match expression {
+        Expression::Number(n) => Some(Walked::Is(n)),
+        Expression::Free(variable) => Some(Walked::Waits(variable)),
+        Expression::Other => Some(Walked::Never),
+        Expression::Apply(_) => None,
+    }
+}
+
+/// What an expression comes to that is no operation, or one over operands that are none, read through bindings. `None` where
+/// an operand is an operation.
+fn walk_flat<K: Lookup>(templates: &Templates, known: &K, term: Term) -> Option<Walked>
+    requires { IsSolved templates.now.nodes (K.bindings known.now) }
+    ensures comes { IfSome result (λ walked. (E : Equations) → IsFormOf templates.now.nodes (K.bindings known.now) (IsTold E)
+        → Comes templates.now.symbols E (tree templates.now.nodes term) walked) }
+    ensures end { IfSome result (WalksToEnd templates.now.nodes (K.bindings known.now)) }
+{
+    match read_expression(templates, known, term) {
+        Expression::Apply(of) => walk_operation(templates, known, of),
+        plain => at_once(plain),
+    }
+}
+
+/// What an operation comes to over operands that are none; `None` where one of them is.
+fn walk_operation<K: Lookup>(templates: &Templates, known: &K, of: Application) -> Option<Walked>
+    requires { IsSolved templates.now.nodes (K.bindings known.now) }
+    ensures comes { IfSome result (λ walked. (E : Equations) → IsFormOf templates.now.nodes (K.bindings known.now) (IsTold E)
+        → (t : Tree) → IsApplication templates.now (end_of templates.now.nodes (K.bindings known.now) t) of → Comes templates.now.symbols E t walked) }
+    ensures end { IfSome result (WalksToEnd templates.now.nodes (K.bindings known.now)) }
+{
+    let left = match at_once(read_expression(templates, known, of.left))? {
+        Walked::Is(value) => value,
+        Walked::Waits(on) => return Some(Walked::Waits(on)),
+        Walked::Never => return Some(Walked::Never),
     };
-    let Expression::Number(left) = read_expression(templates, known, of.left) else {
-        return None;
+    let right = match at_once(read_expression(templates, known, of.right))? {
+        Walked::Is(value) => value,
+        Walked::Waits(on) => return Some(Walked::Waits(on)),
+        Walked::Never => return Some(Walked::Never),
     };
-    let Expression::Number(right) = read_expression(templates, known, of.right) else {
-        return None;
-    };
-    of.operation.calculate(left, right)
+    match of.operation.calculate(left, right) {
+        Some(value) => Some(Walked::Is(value)),
+        None => Some(Walked::Never),
+    }
 }
 
 /// How far an operation is.
