@@ -49,7 +49,7 @@ use Rattle.rule_plan.specs.Made.{named_under}
 use Rattle.call_plan.specs.declared.sifting.Left.{Left}
 use Rattle.call_plan.specs.Called.{Remains, Ends}
 use Rattle.call_plan.specs.Ended.{cuts_others, end_labels}
-use Rattle.call_plan.specs.Sifted.{name_at, frame_at}
+use Rattle.call_plan.specs.Sifted.{name_at, frame_at, store_of}
 use Rattle.call_plan.specs.Found.{IsCallPlan}
 use Rattle.call_plan.proofs.BoundAtOnce.{box_bound}
 use Rattle.call_plan.proofs.LastLeft.{operator, left_behind, ends_of}
@@ -107,15 +107,15 @@ module _ (v : ViewValue) (g : Name) (op : Op) (left : Left) (drawn : ℕ) (more 
       ∙ ap (λ (cs : List Clause). e.before ++ end_labels g (name_at v.worker passed_one.number) (cuts_others op cs)) passed_one.left.behind)
 
   -- the store of the box
-  ports_once : (n : Name) → times_in n (port_names (ports_in nodes left.store.ports)) + times_in n (port_names i.site.content.ports) ≤ 1
+  ports_once : (n : Name) → times_in n (port_names (ports_in nodes (store_of left).ports)) + times_in n (port_names i.site.content.ports) ≤ 1
   ports_once n =
       let f : times n (only i.site) + times_path n i.site.around ≤ times n i.table.config.roots = found_path n i.site.content.name i.table.config.roots i.site (found v i) in
       let o : times n i.table.config.roots ≤ 1 = (stand v i).once n in
-      let z : times_in n (port_names (ports_in nodes left.store.ports)) ≡ 0 = ap (λ (l : List (Name × Term)). times_in n (port_names (ports_in nodes l))) (last_ports v g op left drawn e.before r) in
+      let z : times_in n (port_names (ports_in nodes (store_of left).ports)) ≡ 0 = ap (λ (l : List (Name × Term)). times_in n (port_names (ports_in nodes l))) (last_ports v g op left drawn e.before r) in
       let u : times n (only i.site) ≡ times_of n i.site.content + (times_inside n i.site.goals + 0) = refl in
       omega arith
 
-  ports_none : ports_in nodes left.store.ports ≡ []
+  ports_none : ports_in nodes (store_of left).ports ≡ []
   ports_none = ap (ports_in nodes) (last_ports v g op left drawn e.before r)
 
   abbrev goals : List (Name × Atom)
@@ -128,14 +128,14 @@ module _ (v : ViewValue) (g : Name) (op : Op) (left : Left) (drawn : ℕ) (more 
       ∙ numbered_atoms nodes v.worker (passed_one.number + 1) (slice_index i.table.config.next v.worker + drawn_by r.called.clauses) left.clause.now.body
       ∙ ap (numbered v.worker (slice_index i.table.config.next v.worker + drawn_by r.called.clauses)) (sym body_is)
 
-  calls_goal : CallsGoal calls left.store told.store goals
+  calls_goal : CallsGoal calls (store_of left) told.store goals
   calls_goal = record {
     alternative_frames = last_frames v g op left drawn e.before r;
     alternative_ports = ports_none;
     alternative_stands = last_stands v g op left drawn e.before r;
-    frames = joined_frames v i left.store (length v.stores + 1) told e.joins.promoted ∙ ap (λ (l : List Name). with_names l i.site.content.frames) (last_frames v g op left drawn e.before r);
-    ports = joined_ports v i left.store (length v.stores + 1) told e.joins.promoted ports_once ∙ ap (λ (l : List Port). with_ports l i.site.content.ports) ports_none;
-    stands = joined_stands v i left.store (length v.stores + 1) told e.joins.promoted alternative.equations (last_whole v g op left drawn e.before r);
+    frames = joined_frames v i (store_of left) (length v.stores + 1) told e.joins.promoted ∙ ap (λ (l : List Name). with_names l i.site.content.frames) (last_frames v g op left drawn e.before r);
+    ports = joined_ports v i (store_of left) (length v.stores + 1) told e.joins.promoted ports_once ∙ ap (λ (l : List Port). with_ports l i.site.content.ports) ports_none;
+    stands = joined_stands v i (store_of left) (length v.stores + 1) told e.joins.promoted alternative.equations (last_whole v g op left drawn e.before r);
     body = goals_are;
   }
 
@@ -157,8 +157,8 @@ module _ (v : ViewValue) (g : Name) (op : Op) (left : Left) (drawn : ℕ) (more 
 
   bound : (binds : List Var) → AreMembers nodes v.stores told.bound.items binds → AreBoundIn i.table.config (at_once calls) i.site binds
   bound binds m = box_bound i.table.config (at_once calls) i.site content rest (found v i) box_now binds
-      (joined_at v i left.store (length v.stores + 1) told e.joins.promoted binds m alternative.equations
-      (subst (λ (E : Equations). StandFor (IsTold (told_in nodes (v.stores ++ left.store ∷ []))) (IsTold E)) (append_assoc (environment i.site) i.site.content.equations alternative.equations) (last_whole v g op left drawn e.before r)))
+      (joined_at v i (store_of left) (length v.stores + 1) told e.joins.promoted binds m alternative.equations
+      (subst (λ (E : Equations). StandFor (IsTold (told_in nodes (v.stores ++ (store_of left) ∷ []))) (IsTold E)) (append_assoc (environment i.site) i.site.content.equations alternative.equations) (last_whole v g op left drawn e.before r)))
       (oldest_at v i told.bound.items binds m)
 
   abbrev pub value : Step → List Var → PlanValue
@@ -182,13 +182,13 @@ module _ (v : ViewValue) (g : Name) (op : Op) (left : Left) (drawn : ℕ) (more 
     calls = calls;
     labels = labels_are;
     tells_nothing = (all_sift v g op left drawn e.before r).1;
-    alternative = left.store;
+    alternative = (store_of left);
     new = told.store;
     is_solved = told.solved;
     goals = goals;
     makes = calls_goal;
     step = joins;
-    solved = joined_solved v i left.store (length v.stores + 1) told e.joins.promoted told.solved refl;
+    solved = joined_solved v i (store_of left) (length v.stores + 1) told e.joins.promoted told.solved refl;
     names = ap (λ (n : ℕ). n + length left.clause.now.body) r.is_called.drawn_is ∙ ap (λ (n : ℕ). drawn_by r.called.clauses + n) (sym long_body);
     reads = record { goal = (goal_reads v i g).0; stores = (goal_reads v i g).1 };
     binds = bound binds members;

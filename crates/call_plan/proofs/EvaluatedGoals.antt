@@ -1,11 +1,9 @@
 -- Goals of an alternative that are comparisons are evaluated one after another, and its equations stay.
-use Rattle.std.proofs.Common.{◌≡◌, ℕ, ◌+◌, ◌<◌, List, [], ◌∷◌, Bool, true, false, cond, Some, refl, sym, ◌∙◌, ap, subst, inl, arith}
+use Rattle.std.proofs.Common.{◌≡◌, ℕ, ◌+◌, List, [], ◌∷◌, Bool, true, false, Some, refl, sym, ◌∙◌, ap, subst, inl, arith}
 use Rattle.std.specs.Prelude.{if◌then◌else◌}
-use Rattle.std.proofs.lemmas.Bool.Decides.{nat_tests}
 use Rattle.akl_terms.specs.declared.name.Name.{Name}
 use Rattle.akl_terms.specs.declared.program.Code.{Code}
 use Rattle.akl_terms.specs.declared.program.Program.{Program}
-use Rattle.akl_terms.specs.Names.{is_before}
 use Rattle.akl_terms.specs.Arithmetic.{truth}
 use Rattle.akl_terms.specs.Equal.{IsTold, IsConsistent}
 use Rattle.akl_terms.specs.Standing.{StandFor}
@@ -15,7 +13,7 @@ use Rattle.constraint_laws.specs.Standing.{StandsForConsistent}
 use Rattle.constraint_laws.proofs.Stands.{answer_stands}
 use Rattle.akl_model.specs.declared.label.Rule.{Rule}
 use Rattle.akl_model.specs.declared.label.Label.{Label}
-use Rattle.akl_model.specs.Config.{Atom, Content, box, no_boxes, Goals, no_goals, atom, goal, an_atom, held_in, with_goal, with_content, without_goal, Found, whole}
+use Rattle.akl_model.specs.Config.{Atom, Content, box, no_boxes, Goals, no_goals, atom, goal, an_atom, held_in, with_content, without_goal, Found, whole}
 use Rattle.akl_model.specs.Instances.{atom_of, atoms_of, with_atoms}
 use Rattle.akl_model.specs.Rules.{answer, becomes, eval}
 use Rattle.akl_model.specs.Conditions.{HasFailed, Makes, ComesTo}
@@ -25,6 +23,7 @@ use Rattle.local_store.specs.Stored.{Stored}
 use Rattle.local_store.specs.Chained.{bindings_from}
 use Rattle.table_laws.specs.Rows.{told_in}
 use Rattle.box_tree.proofs.ToldChains.{told_stands}
+use Rattle.rule_plan.proofs.NewBoxes.{atoms_behind}
 use Rattle.call_laws.specs.AtOnce.{inner, Works, rests, works}
 use Rattle.call_laws.specs.Untold.{KeepsEquations}
 use Rattle.call_plan.specs.Sifted.{evaluation, Comes, Evaluated, all_hold, one_fails, one_holds}
@@ -35,23 +34,6 @@ Reduces p w next f b gs ls hs = (x : Works p w next f b gs ls b hs) × KeepsEqua
 
 pub rest_so : (p : Program) (w next : ℕ) (f : Found) (b : Content) (gs : Goals) → Reduces p w next f b gs [] gs
 rest_so p w next f b gs = (rests b gs, tt)
-
--- goals under names that are drawn in order
-
-goal_behind : (w n m : ℕ) (a b : Atom) (gs : Goals) → n < m
-    → with_goal (record { worker = w; number = m }) (an_atom b) (atom (record { worker = w; number = n }) a gs)
-    ≡ atom (record { worker = w; number = n }) a (with_goal (record { worker = w; number = m }) (an_atom b) gs)
-goal_behind w n m a b gs h =
-    let f : is_before (record { worker = w; number = m }) (record { worker = w; number = n }) ≡ false = grind (arith, nat_tests) in
-    ap (λ (c : Bool). cond c (atom (record { worker = w; number = m }) b (atom (record { worker = w; number = n }) a gs))
-    (atom (record { worker = w; number = n }) a (with_goal (record { worker = w; number = m }) (an_atom b) gs))) f
-
-atoms_behind : (w n m : ℕ) (a : Atom) (rest : List Atom) (gs : Goals) → n < m
-    → with_atoms w m rest (atom (record { worker = w; number = n }) a gs) ≡ atom (record { worker = w; number = n }) a (with_atoms w m rest gs)
-atoms_behind w n m a [] gs h = refl
-atoms_behind w n m a (b ∷ rest) gs h =
-    ap (λ (hs : Goals). with_atoms w (m + 1) rest hs) (goal_behind w n m a b gs h)
-    ∙ atoms_behind w n (m + 1) a rest (with_goal (record { worker = w; number = m }) (an_atom b) gs) (omega arith)
 
 module _ (p : Program) (next : ℕ) (f : Found) (b : Content) (ss : List Stored) (frame : Name) (stands : StandFor (IsTold (told_in p.templates.nodes ss)) (IsTold (whole (inner f b no_goals))))
     (consistent : IsConsistent (whole (inner f b no_goals))) where

@@ -1,18 +1,15 @@
 -- What the store of an alternative stands for, over the stores around it.
 use Rattle.std.proofs.Common.{◌≡◌, ℕ, zero, suc, ◌+◌, ◌≤◌, List, [], ◌∷◌, ◌++◌, length, take, true, refl, sym, ◌∙◌, ap, subst, ◌⊎◌, inl, inr, append-nil, arith}
-use Rattle.std.proofs.lemmas.List.{map-append}
 use Rattle.akl_terms.specs.declared.name.Name.{Name}
 use Rattle.akl_terms.specs.declared.term.Node.{Node}
 use Rattle.akl_terms.specs.declared.term.Equation as code
-use Rattle.akl_terms.specs.declared.term.Term.TheVariants.{Mol}
 use Rattle.akl_terms.specs.declared.program.Clause.{Clause}
 use Rattle.akl_terms.specs.Equal.{Equations, IsTold, EqualBy, told, IsConsistent}
 use Rattle.akl_terms.specs.Standing.{StandFor}
-use Rattle.akl_terms.specs.Template.{equation_of}
 use Rattle.akl_terms.specs.Tree.{Tree}
 use Rattle.akl_terms.proofs.EqualLaws.{IsTold-left, IsTold-right, IsTold-either}
 use Rattle.akl_terms.proofs.StandingLaws.{StandFor-follows, StandFor-back, StandFor-on}
-use Rattle.akl_model.specs.Instances.{term_at, terms_from, head_equations}
+use Rattle.akl_model.specs.Instances.{terms_from, head_equations}
 use Rattle.constraint_laws.proofs.StandsGrow.{stands_with_more}
 use Rattle.rational_unify.specs.Solving.{bindings_in, equations_in}
 use Rattle.local_store.specs.Stored.{Stored}
@@ -22,46 +19,12 @@ use Rattle.table_laws.specs.Rows.{told_in}
 use Rattle.table_laws.proofs.Stores.{told_join}
 use Rattle.box_tree.proofs.ToldChains.{from_told, to_told, around_push}
 use Rattle.guard_plan.proofs.Chains.{innermost_push, long_push}
-use Rattle.rule_plan.specs.Made.{heads, store_with, IsNewStore}
+use Rattle.rule_plan.specs.Made.{store_with, IsNewStore}
+use Rattle.rule_plan.proofs.Framed.{take_front}
+use Rattle.rule_plan.proofs.NewBoxes.{heads_stand}
 use Rattle.rule_plan.proofs.Storing.{tells_stands, told_over}
 use Rattle.call_plan.specs.declared.heads.Arguments.{Arguments}
 use Rattle.call_plan.specs.Sifted.{head_codes, Clashes}
-
--- equations of arguments with head arguments, in another order
-
-heads_told : (nodes : List Node) (f : Name) (i n : ℕ) (g : Name) (j m : ℕ) (s t : Tree) → IsTold (equations_in nodes (heads f i n g j m)) s t → IsTold (head_equations (terms_from nodes f i n) (terms_from nodes g j m)) s t
-heads_told nodes f i zero g j zero s t x = x
-heads_told nodes f i zero g j (suc m) s t x = x
-heads_told nodes f i (suc n) g j zero s t x = x
-heads_told nodes f i (suc n) g j (suc m) s t x =
-    elim (IsTold-either (equations_in nodes (heads f (suc i) n g (suc j) m)) (record { left = term_at nodes f i; right = term_at nodes g j } ∷ []) s t
-    (subst (λ (E : Equations). IsTold E s t) (map-append (equation_of nodes) (heads f (suc i) n g (suc j) m) (record { left = Mol i f; right = Mol j g } ∷ [])) x)) [
-      | inl y ↦ inr (heads_told nodes f (suc i) n g (suc j) m s t y)
-      | inr y ↦ elim y [ inl p ↦ inl p | inr z ↦ absurd z ]
-    ]
-
-told_heads : (nodes : List Node) (f : Name) (i n : ℕ) (g : Name) (j m : ℕ) (s t : Tree) → IsTold (head_equations (terms_from nodes f i n) (terms_from nodes g j m)) s t → IsTold (equations_in nodes (heads f i n g j m)) s t
-told_heads nodes f i zero g j zero s t x = x
-told_heads nodes f i zero g j (suc m) s t x = x
-told_heads nodes f i (suc n) g j zero s t x = x
-told_heads nodes f i (suc n) g j (suc m) s t (inl p) =
-    subst (λ (E : Equations). IsTold E s t) (sym (map-append (equation_of nodes) (heads f (suc i) n g (suc j) m) (record { left = Mol i f; right = Mol j g } ∷ [])))
-    (IsTold-right (equations_in nodes (heads f (suc i) n g (suc j) m)) (record { left = term_at nodes f i; right = term_at nodes g j } ∷ []) s t (inl p))
-told_heads nodes f i (suc n) g j (suc m) s t (inr y) =
-    subst (λ (E : Equations). IsTold E s t) (sym (map-append (equation_of nodes) (heads f (suc i) n g (suc j) m) (record { left = Mol i f; right = Mol j g } ∷ [])))
-    (IsTold-left (equations_in nodes (heads f (suc i) n g (suc j) m)) (record { left = term_at nodes f i; right = term_at nodes g j } ∷ []) s t (told_heads nodes f (suc i) n g (suc j) m s t y))
-
-heads_stand : (nodes : List Node) (W : Equations) (f : Name) (i n : ℕ) (g : Name) (j m : ℕ)
-    → StandFor (IsTold (W ++ equations_in nodes (heads f i n g j m))) (IsTold (W ++ head_equations (terms_from nodes f i n) (terms_from nodes g j m)))
-heads_stand nodes W f i n g j m = StandFor-follows
-    (λ s t x. told (elim (IsTold-either W (equations_in nodes (heads f i n g j m)) s t x) [
-      | inl y ↦ IsTold-left W (head_equations (terms_from nodes f i n) (terms_from nodes g j m)) s t y
-      | inr y ↦ IsTold-right W (head_equations (terms_from nodes f i n) (terms_from nodes g j m)) s t (heads_told nodes f i n g j m s t y)
-    ]))
-    (λ s t x. told (elim (IsTold-either W (head_equations (terms_from nodes f i n) (terms_from nodes g j m)) s t x) [
-      | inl y ↦ IsTold-left W (equations_in nodes (heads f i n g j m)) s t y
-      | inr y ↦ IsTold-right W (equations_in nodes (heads f i n g j m)) s t (told_heads nodes f i n g j m s t y)
-    ]))
 
 -- a store with a frame alone, innermost, tells nothing
 told_frame : (nodes : List Node) (path : List Stored) (frame : Name) → told_in nodes (path ++ store_with frame ∷ []) ≡ told_in nodes path
@@ -127,11 +90,6 @@ store_solved nodes path a frame c known store h =
 
 -- a chain that is known to be solved with one more store is known to be
 
-take_front : (k : ℕ) (ss ts : List Stored) → k ≤ length ss → take k (ss ++ ts) ≡ take k ss
-take_front zero ss ts h = refl
-take_front (suc k) [] ts h = absurd (omega arith)
-take_front (suc k) (s ∷ ss) ts h = ap (λ (l : List Stored). s ∷ l) (take_front k ss ts (omega arith))
-
 take_all : (k : ℕ) (ss : List Stored) → length ss ≤ k → take k ss ≡ ss
 take_all zero [] h = refl
 take_all zero (s ∷ ss) h = absurd (omega arith)
@@ -151,3 +109,7 @@ known_push nodes path s h c = record {
     | inr l ↦ subst (IsSolvedChain nodes) (sym (take_all k (path ++ s ∷ []) (let e : length (path ++ s ∷ []) ≡ length path + 1 = long_push path s in let u : length path + 1 ≤ k = l in omega arith))) c
   ];
 }
+
+-- and the others are solved without it
+pub front_solved : (nodes : List Node) (path : List Stored) (s : Stored) → IsKnown nodes (path ++ s ∷ []) (length path + 1) → IsSolvedChain nodes path
+front_solved nodes path s k = subst (IsSolvedChain nodes) (take_front (length path) path (s ∷ []) (omega arith) ∙ take_all (length path) path (omega arith)) (k.each (length path) (omega arith))

@@ -3,6 +3,7 @@ pub mod EvaluatedGoals
 pub mod SiftedCalls
 pub mod ForkedCall
 pub mod LastLeft
+pub mod PlainJoined
 pub mod BoundAtOnce
 pub mod Remaining
 pub mod CallFound

@@ -31,7 +31,8 @@ use Rattle.call_plan.specs.declared.sifting.Left.{Left}
 use Rattle.call_plan.specs.Called.{Remains}
 use Rattle.call_plan.specs.Chosen.{IsChosen, OthersGo}
 use Rattle.call_plan.specs.Joins.{HoldsFor}
-use Rattle.call_plan.specs.Sifted.{frame_at, head_codes, Leaves}
+use Rattle.call_plan.specs.Owns.{IsPlainOwn}
+use Rattle.call_plan.specs.Sifted.{frame_at, head_codes, Leaves, store_of}
 use Rattle.call_plan.proofs.HeadStores.{head_stands, all_stand, all_consistent, store_frames, store_ports, store_solved, known_push}
 use Rattle.call_plan.proofs.SiftedCalls.{content, guard_goals, forked, Sift, Passed, passed, all_stay}
 use Rattle.call_plan.proofs.ForkedCall.{apart}
@@ -130,24 +131,24 @@ module _ (v : ViewValue) (g : Name) (op : Op) (left : Left) (drawn : ℕ) (befor
   is_op = ap (λ (o : Op). operator_of o None) r.op_is ∙ is_operator op (λ e. absurd (subst (λ (o : Op). OthersGo v.table.program.templates.symbols nodes v.stores r.arguments o left chosen.middle before) e chosen.others))
 
   -- its store
-  abbrev store : IsNewStore nodes v.stores (length v.stores) (frame_at v.worker one.number) (head_codes r.arguments (frame_at v.worker one.number) one.clause) left.store true
+  abbrev store : IsNewStore nodes v.stores (length v.stores) (frame_at v.worker one.number) (head_codes r.arguments (frame_at v.worker one.number) one.clause) (store_of left) true
   store = one.left.store
 
-  pub last_stands : (D : Equations) → StandFor (IsTold D) (IsTold (whole i.site)) → StandFor (IsTold (D ++ bindings_in nodes left.store.bindings)) (IsTold (whole i.site ++ last.equations))
-  last_stands = head_stands nodes v.stores (whole i.site) (whole_stands v i) r.arguments (frame_at v.worker one.number) one.clause (length v.stores) left.store store
+  pub last_stands : (D : Equations) → StandFor (IsTold D) (IsTold (whole i.site)) → StandFor (IsTold (D ++ bindings_in nodes (store_of left).bindings)) (IsTold (whole i.site ++ last.equations))
+  last_stands = head_stands nodes v.stores (whole i.site) (whole_stands v i) r.arguments (frame_at v.worker one.number) one.clause (length v.stores) (store_of left) store
 
-  pub last_whole : StandFor (IsTold (told_in nodes (v.stores ++ left.store ∷ []))) (IsTold (whole i.site ++ last.equations))
-  last_whole = all_stand nodes v.stores (whole i.site) (whole_stands v i) r.arguments (frame_at v.worker one.number) one.clause (length v.stores) left.store store
+  pub last_whole : StandFor (IsTold (told_in nodes (v.stores ++ (store_of left) ∷ []))) (IsTold (whole i.site ++ last.equations))
+  last_whole = all_stand nodes v.stores (whole i.site) (whole_stands v i) r.arguments (frame_at v.worker one.number) one.clause (length v.stores) (store_of left) store
 
-  pub last_frames : left.store.frames ≡ last.frames
-  last_frames = store_frames nodes v.stores (whole i.site) (whole_stands v i) r.arguments (frame_at v.worker one.number) one.clause (length v.stores) left.store store
+  pub last_frames : (store_of left).frames ≡ last.frames
+  last_frames = store_frames nodes v.stores (whole i.site) (whole_stands v i) r.arguments (frame_at v.worker one.number) one.clause (length v.stores) (store_of left) store
 
-  pub last_ports : left.store.ports ≡ []
-  last_ports = store_ports nodes v.stores (whole i.site) (whole_stands v i) r.arguments (frame_at v.worker one.number) one.clause (length v.stores) left.store store
+  pub last_ports : (store_of left).ports ≡ []
+  last_ports = store_ports nodes v.stores (whole i.site) (whole_stands v i) r.arguments (frame_at v.worker one.number) one.clause (length v.stores) (store_of left) store
 
-  pub last_known : IsKnown nodes (v.stores ++ left.store ∷ []) (length v.stores + 1)
-  last_known = known_push nodes v.stores left.store (subst (IsKnown nodes v.stores) r.is_called.known i.known)
-      (store_solved nodes v.stores r.arguments (frame_at v.worker one.number) one.clause (length v.stores) left.store store)
+  pub last_known : IsKnown nodes (v.stores ++ (store_of left) ∷ []) (length v.stores + 1)
+  last_known = known_push nodes v.stores (store_of left) (subst (IsKnown nodes v.stores) r.is_called.known i.known)
+      (store_solved nodes v.stores r.arguments (frame_at v.worker one.number) one.clause (length v.stores) (store_of left) store)
 
   around_is : environment (inner i.site last no_goals) ≡ whole i.site
   around_is = equations-snoc i.site.around i.site.content
@@ -155,28 +156,31 @@ module _ (v : ViewValue) (g : Name) (op : Op) (left : Left) (drawn : ℕ) (befor
   around_stands : StandFor (IsTold (told_in nodes v.stores)) (IsTold (environment (inner i.site last no_goals)))
   around_stands = subst (λ (E : Equations). StandFor (IsTold (told_in nodes v.stores)) (IsTold E)) (sym around_is) (whole_stands v i)
 
-  inner_stands : StandFor (IsTold (told_in nodes (v.stores ++ left.store ∷ []))) (IsTold (environment (inner i.site last no_goals) ++ last.equations))
-  inner_stands = subst (λ (E : Equations). StandFor (IsTold (told_in nodes (v.stores ++ left.store ∷ []))) (IsTold (E ++ last.equations))) (sym around_is) last_whole
+  inner_stands : StandFor (IsTold (told_in nodes (v.stores ++ (store_of left) ∷ []))) (IsTold (environment (inner i.site last no_goals) ++ last.equations))
+  inner_stands = subst (λ (E : Equations). StandFor (IsTold (told_in nodes (v.stores ++ (store_of left) ∷ []))) (IsTold (E ++ last.equations))) (sym around_is) last_whole
 
-  local : (y : Var) → IsLocal left.store.frames y → IsLocal (frames_of (only (inner i.site last last_goals))) y
+  local : (y : Var) → IsLocal (store_of left).frames y → IsLocal (frames_of (only (inner i.site last last_goals))) y
   local y l = IsLocal-left last.frames (frames_inside last_goals ++ []) y (subst (λ (fs : List Name). IsLocal fs y) last_frames l)
 
-  pub last_apart : KeepsApartInside nodes (v.stores ++ left.store ∷ [])
-  last_apart = keeps_inside nodes v.stores left.store (environment (inner i.site last no_goals)) last.equations around_stands inner_stands (frames_of (only (inner i.site last last_goals))) local
+  pub last_apart : KeepsApartInside nodes (v.stores ++ (store_of left) ∷ [])
+  last_apart = keeps_inside nodes v.stores (store_of left) (environment (inner i.site last no_goals)) last.equations around_stands inner_stands (frames_of (only (inner i.site last last_goals))) local
       (apart all_rules in_force v.table.program v.table.query v.journal i.table.config i.table.replays v.worker g i.site is_home r.is_called.definition arguments r.is_called.held r.called r.is_called.is_definition
       (operator op) is_op few last last_goals one.among)
     where
       few : drawn_by r.called.clauses < 2 ^ 32
       few = subst (λ (n : ℕ). n < 2 ^ 32) r.is_called.drawn_is r.is_called.few_names
 
-  quiet_here : IsQuietInside nodes (v.stores ++ left.store ∷ []) → IsQuiet (environment (inner i.site last no_goals)) (IsLocal last.frames) last.equations
+  quiet_here : IsQuietInside nodes (v.stores ++ (store_of left) ∷ []) → IsQuiet (environment (inner i.site last no_goals)) (IsLocal last.frames) last.equations
   quiet_here q = subst (λ (fs : List Name). IsQuiet (environment (inner i.site last no_goals)) (IsLocal fs) last.equations) last_frames
-      (quiet_box nodes v.stores left.store (environment (inner i.site last no_goals)) last.equations around_stands inner_stands q)
+      (quiet_box nodes v.stores (store_of left) (environment (inner i.site last no_goals)) last.equations around_stands inner_stands q)
+
+  pub last_plain : IsPlainOwn nodes v.stores left.frame left.own
+  last_plain = one.left.plain
 
   -- its guard holds
-  pub last_holds : (o : Op) → HoldsFor o nodes (v.stores ++ left.store ∷ []) → Holds o (inner i.site last no_goals)
+  pub last_holds : (o : Op) → HoldsFor o nodes (v.stores ++ (store_of left) ∷ []) → Holds o (inner i.site last no_goals)
   last_holds Op.Choice h = subst (λ (E : Equations). IsConsistent (E ++ last.equations)) (sym around_is)
-      (all_consistent nodes v.stores (whole i.site) (whole_stands v i) r.arguments (frame_at v.worker one.number) one.clause (length v.stores) left.store store)
+      (all_consistent nodes v.stores (whole i.site) (whole_stands v i) r.arguments (frame_at v.worker one.number) one.clause (length v.stores) (store_of left) store)
   last_holds Op.Condition q = quiet_here q
   last_holds Op.Commit q = quiet_here q
   last_holds Op.Collect h = absurd h

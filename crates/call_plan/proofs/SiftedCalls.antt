@@ -21,7 +21,7 @@ use Rattle.call_laws.specs.AtOnce.{inner, Fails, by, ends, fails, stays}
 use Rattle.call_laws.specs.Untold.{KeepEquations}
 use Rattle.call_plan.specs.declared.heads.Arguments.{Arguments}
 use Rattle.call_plan.specs.declared.sifting.Left.{Left}
-use Rattle.call_plan.specs.Sifted.{name_at, frame_at, Evaluated, IsHeadStore, Goes, clashes, refuted, IsLeft, Leaves, none_left, goes, is_left}
+use Rattle.call_plan.specs.Sifted.{name_at, frame_at, Evaluated, IsHeadStore, Goes, clashes, refuted, IsLeft, Leaves, none_left, goes, is_left, store_of}
 use Rattle.call_plan.proofs.HeadStores.{clash_fails, all_stand, all_consistent}
 use Rattle.call_plan.proofs.EvaluatedGoals.{Reduces, rest_so, Outcome, outcome}
 
@@ -133,5 +133,5 @@ module _ (p : Program) (path : List Stored) (f : Found) (stands : StandFor (IsTo
     left = h;
     names = refl;
     among = inl (refl, refl, refl);
-    sifts = λ q ks bs s. stays_on (content n c) (guard_goals n c) no_goals (forked (n + (2 + length c.guard)) cs) ls ks bs (guard_out n c l.store h.store ls true (h.guard q)) s;
+    sifts = λ q ks bs s. stays_on (content n c) (guard_goals n c) no_goals (forked (n + (2 + length c.guard)) cs) ls ks bs (guard_out n c (store_of l) h.store ls true (h.guard q)) s;
   }

@@ -13,7 +13,8 @@ use Rattle.call_laws.specs.AtOnce.{by}
 use Rattle.call_plan.specs.declared.guards.Guard.{Guard}
 use Rattle.call_plan.specs.declared.heads.Arguments.{Arguments}
 use Rattle.call_plan.specs.declared.sifting.Left.{Left}
-use Rattle.call_plan.specs.Sifted.{name_at, frame_at, Clashes, Evaluated, IsHeadStore, Goes, clashes, refuted, IsLeft, AddsGoing, AddsLeft, Leaves, none_left, goes, is_left, IsSifted}
+use Rattle.call_plan.specs.Owns.{IsPlainOwn}
+use Rattle.call_plan.specs.Sifted.{name_at, frame_at, Clashes, Evaluated, IsHeadStore, Goes, clashes, refuted, IsLeft, AddsGoing, AddsLeft, Leaves, none_left, goes, is_left, IsSifted, store_of}
 use Rattle.call_plan.specs.Guarded.{ComesOut, IsGuarded}
 
 two_on : (n : ℕ) → n + 1 + 1 ≡ n + 2
@@ -84,9 +85,9 @@ module _ (symbols : List (List ℕ)) (nodes : List Node) (path : List Stored) (a
       goes = refuted store g.evaluations h (subst (λ (m : ℕ). Evaluated symbols nodes (path ++ store ∷ []) (frame_at w n) m c.guard g.evaluations false) (two_on n) g.comes);
     }
 
-  pub guard_stays : (w n : ℕ) (c : Clause) (cs : List Clause) (old new : List Label) (l : Left) (out : Guard) → l.clause.now ≡ c → l.name ≡ name_at w n → l.frame ≡ frame_at w n → IsHeadStore nodes path a w n c l.store → l.behind.now ≡ cs
-      → IsGuarded symbols nodes (path ++ l.store ∷ []) (frame_at w n) (n + 1 + 1) c.guard old new out → (l.holds ≡ true → out ≡ Guard.Holds) → AddsLeft symbols nodes path a w n c cs old new l
-  guard_stays w n c cs old new l out clause name frame store behind g holds = record {
+  pub guard_stays : (w n : ℕ) (c : Clause) (cs : List Clause) (old new : List Label) (l : Left) (out : Guard) → l.clause.now ≡ c → l.name ≡ name_at w n → l.frame ≡ frame_at w n → IsHeadStore nodes path a w n c (store_of l) → IsPlainOwn nodes path l.frame l.own → l.behind.now ≡ cs
+      → IsGuarded symbols nodes (path ++ store_of l ∷ []) (frame_at w n) (n + 1 + 1) c.guard old new out → (l.holds ≡ true → out ≡ Guard.Holds) → AddsLeft symbols nodes path a w n c cs old new l
+  guard_stays w n c cs old new l out clause name frame store plain behind g holds = record {
     evaluations = g.evaluations;
     labels = g.labels;
     left = record {
@@ -94,8 +95,9 @@ module _ (symbols : List (List ℕ)) (nodes : List Node) (path : List Stored) (a
       name = name;
       frame = frame;
       store = store;
-      guard = λ q. subst (λ (m : ℕ). Evaluated symbols nodes (path ++ l.store ∷ []) (frame_at w n) m c.guard g.evaluations true) (two_on n)
-          (subst (ComesOut symbols nodes (path ++ l.store ∷ []) (frame_at w n) (n + 1 + 1) c.guard g.evaluations) (holds q) g.comes);
+      plain = plain;
+      guard = λ q. subst (λ (m : ℕ). Evaluated symbols nodes (path ++ store_of l ∷ []) (frame_at w n) m c.guard g.evaluations true) (two_on n)
+          (subst (ComesOut symbols nodes (path ++ store_of l ∷ []) (frame_at w n) (n + 1 + 1) c.guard g.evaluations) (holds q) g.comes);
       behind = behind;
     };
   }

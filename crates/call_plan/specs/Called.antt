@@ -12,6 +12,8 @@ use Rattle.box_tree.specs.Views.{ViewValue, IsViewOf}
 use Rattle.call_plan.specs.declared.heads.Arguments.{Arguments}
 use Rattle.call_plan.specs.declared.sifting.Left.{Left}
 use Rattle.call_plan.specs.Chosen.{IsChosen}
+use Rattle.call_plan.specs.Owns.{BindsFree}
+use Rattle.call_plan.specs.Sifted.{store_of}
 use Rattle.call_plan.specs.Ended.{cuts_others, end_labels}
 use Rattle.call_plan.specs.Joins.{Joins}
 
@@ -39,5 +41,6 @@ pub record Ends (v : ViewValue) (g : Name) (op : Op) (left : Left) (drawn : ℕ)
   pub before : List Label
   pub remains : Remains v g op left drawn before
   pub labels : more ≡ before ++ end_labels g left.name (cuts_others op left.behind.now)
-  pub joins : Joins v.table.program.templates.nodes v.stores op left.store told
+  pub joins : Joins v.table.program.templates.nodes v.stores op (store_of left) told
+  pub free : BindsFree v.stores left.own told.bound.items
   pub few_goals : length left.clause.now.body < 2 ^ 32

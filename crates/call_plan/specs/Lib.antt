@@ -1,3 +1,4 @@
+pub mod Owns
 pub mod Sifted
 pub mod Guarded
 pub mod Chosen

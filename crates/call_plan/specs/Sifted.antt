@@ -19,7 +19,9 @@ use Rattle.local_store.specs.Telling.{ToldAlso}
 use Rattle.call_laws.specs.AtOnce.{by}
 use Rattle.rule_plan.specs.Made.{heads, store_with, IsNewStore}
 use Rattle.call_plan.specs.declared.heads.Arguments.{Arguments}
+use Rattle.call_plan.specs.declared.own.Own.{Own}
 use Rattle.call_plan.specs.declared.sifting.Left.{Left}
+use Rattle.call_plan.specs.Owns.{stored, IsPlainOwn}
 
 -- the equations between the arguments of a call and those of a clause's head under a frame
 abbrev pub head_codes : Arguments → Name → Clause → List code.Equation
@@ -55,6 +57,15 @@ pub data Evaluated (symbols : List (List ℕ)) (nodes : List Node) (ss : List St
 abbrev pub IsHeadStore : List Node → List Stored → Arguments → ℕ → ℕ → Clause → Stored → Type 0
 IsHeadStore nodes path a w n c store = IsNewStore nodes path (length path) (frame_at w n) (head_codes a (frame_at w n) c) store true
 
+-- what an alternative tells is what its head tells
+pub record IsOwn (nodes : List Node) (path : List Stored) (a : Arguments) (frame : Name) (c : Clause) (own : Own) : Type 0 where
+  pub store : IsNewStore nodes path (length path) frame (head_codes a frame c) (stored frame own) true
+  pub plain : IsPlainOwn nodes path frame own
+
+-- the store of the alternative of a clause that is left
+abbrev pub store_of : Left → Stored
+store_of l = stored l.frame l.own
+
 -- an alternative fails, after these labels: its head clashes, or a comparison of its guard fails
 pub data Goes (symbols : List (List ℕ)) (nodes : List Node) (path : List Stored) (a : Arguments) (w : ℕ) (n : ℕ) (c : Clause) : List Label → Type 0 where
   clashes : Clashes nodes path a (frame_at w n) c → Goes symbols nodes path a w n c []
@@ -65,8 +76,9 @@ pub record IsLeft (symbols : List (List ℕ)) (nodes : List Node) (path : List S
   pub clause : l.clause.now ≡ c
   pub name : l.name ≡ name_at w n
   pub frame : l.frame ≡ frame_at w n
-  pub store : IsHeadStore nodes path a w n c l.store
-  pub guard : l.holds ≡ true → Evaluated symbols nodes (path ++ l.store ∷ []) (frame_at w n) (n + 2) c.guard ls true
+  pub store : IsHeadStore nodes path a w n c (store_of l)
+  pub plain : IsPlainOwn nodes path l.frame l.own
+  pub guard : l.holds ≡ true → Evaluated symbols nodes (path ++ store_of l ∷ []) (frame_at w n) (n + 2) c.guard ls true
   pub behind : l.behind.now ≡ others
 
 -- these labels come to others

@@ -9,6 +9,9 @@ ghost use Rattle.box_tree.specs.declared.view.Sight.{Sight};
 ghost use Rattle.box_tree.specs.Edits.{named_atoms};
 ghost use Rattle.box_tree.specs.Tables.{step_of};
 ghost use Rattle.rule_plan.specs.Made.{named_under};
+ghost use Rattle.local_store.specs.Chained.{IsKnown};
+ghost use Rattle.class_members.specs.Members.{AreMembers};
+ghost use Rattle.call_plan.specs.Owns.{BindsFree};
 ghost use Rattle.call_plan.specs.Called.{IsCalled, Remains, Ends};
 ghost use Rattle.call_plan.specs.Found.{IsCallPlan};
 
@@ -17,14 +20,15 @@ use crate::heads::Arguments;
 use crate::joining::{joined, named_goals};
 use crate::labels::{cuts_others, push_end};
 use crate::names::{MOST, names_of};
+use crate::own::Own;
 use crate::prospects::may_go;
 use crate::sifting::Left;
 use akl_model::{Label, Rule};
-use akl_terms::{Code, Definition, Name, Op, Program};
+use akl_terms::{Code, Definition, Name, Op, Program, Var};
 use box_tree::{Plan, Step, View};
 use class_members::members;
 use guard_plan::{goal_and_stores, label_of};
-use local_store::{Shared, ToldStore};
+use local_store::{Chain, Shared, ToldStore};
 use std::alloc::{AllocError, Global};
 
 /// The plan of a call at once, at the place of a view; `None` where it isn't seen at once which one of the clauses is left.
@@ -114,7 +118,14 @@ fn by_left(
     if left.clause.body.len() as u64 > MOST {
         return Ok(None);
     }
-    let found = joined(alloc, &program.templates, view.stores(), op, &left.store)?;
+    let found = joined(
+        alloc,
+        &program.templates,
+        view.stores(),
+        op,
+        left.frame,
+        &left.own,
+    )?;
     let Some(told) = found else {
         return Ok(None);
     };
@@ -145,11 +156,35 @@ fn planned(
     first.checked_add(count).ok_or(AllocError)?;
     let label = label_of(view, Rule::Fork);
     let chain = view.chain(&program.templates);
-    let binds = members(alloc, &chain, told.bound.as_slice())?;
+    let binds = binds_of(alloc, &chain, &left.own, told.bound.as_slice())?;
     let reads = goal_and_stores(alloc, goal, view.path())?;
     let step = join_of(alloc, told, left.frame, first, codes)?;
     let plan = Plan::of_call(alloc, view, label, more, reads, names, step, binds)?;
     Ok(Some(plan))
+}
+
+// Enough members of the classes of what an alternative binds or makes equal over a chain that is known to be solved. In a
+// root box these are the variables themselves, where its bindings are plain.
+fn binds_of(alloc: Global, chain: &Chain, own: &Own, bound: &[Var]) -> Result<Vec<Var>, AllocError>
+    requires known { IsKnown chain.now.nodes chain.now.stores (length chain.now.stores) }
+    requires free { BindsFree chain.now.stores own.now bound.now }
+    ensures { IfOk result (λ list. AreMembers chain.now.nodes chain.now.stores bound.now list.items) }
+{
+    if let Own::Plain(_) = own {
+        if chain.stores().len() == 1 {
+            return copied(alloc, bound);
+        }
+    }
+    members(alloc, chain, bound)
+}
+
+// A list of these variables.
+fn copied(alloc: Global, variables: &[Var]) -> Result<Vec<Var>, AllocError>
+    ensures { IfOk result (λ list. list.items ≡ variables.now) }
+{
+    let mut list = Vec::with_capacity(alloc, variables.len())?;
+    list.extend_from_slice(variables)?;
+    Ok(list)
 }
 
 // The step by which a box gets this store and these atoms under a frame as goals.

@@ -4,14 +4,16 @@ ghost use Rattle.std.specs.Prelude.{◌≡◌, ◌+◌, ◌<◌, ◌^◌, ◌∷
 ghost use Rattle.akl_terms.specs.Equal.{IsConsistentBy};
 ghost use Rattle.local_store.specs.Chained.{ToldBy, IsKnown};
 ghost use Rattle.call_plan.specs.Guarded.{IsGuarded};
+ghost use Rattle.call_plan.specs.Owns.{stored};
 ghost use Rattle.call_plan.specs.Sifted.{Comes};
 
 use crate::labels::evaluation;
+use crate::own::Own;
 use akl_model::Label;
 use akl_terms::{Code, Goal, Name};
 use arith_goals::{ArithValue, evaluate};
 use guard_plan::shared;
-use local_store::{Chain, Consistency, Shared, Store, consistent};
+use local_store::{Chain, Consistency, consistent};
 use std::alloc::{AllocError, Global};
 
 /// What is known of a guard's goals: they hold, or one of them fails, or neither is seen at once.
@@ -22,25 +24,25 @@ pub(crate) enum Guard {
     Open,
 }
 
-// What comes of the goals of a guard under a frame, in an alternative whose store is known to be solved over a chain. The labels by
+// What comes of the goals of a guard under a frame, in an alternative of which it is known that its store is solved over a chain. The labels by
 // which they are evaluated come to the list, with the names behind that of the frame.
 pub(crate) fn guard_of(
     alloc: Global,
     chain: &Chain,
-    own: &Shared<Store>,
+    own: &Own,
     frame: Name,
     codes: &[Code],
     labels: &mut Vec<Label>,
 ) -> Result<Guard, AllocError>
-    requires known { IsKnown chain.now.nodes (chain.now.stores ++ own.now ∷ []) (length chain.now.stores + 1) }
+    requires known { IsKnown chain.now.nodes (chain.now.stores ++ stored frame own.now ∷ []) (length chain.now.stores + 1) }
     requires numbers { frame.number + length codes.now < 2 ^ 64 }
-    ensures { IfOk result (IsGuarded chain.now.symbols chain.now.nodes (chain.now.stores ++ own.now ∷ []) frame (frame.number + 1) codes.now labels.old.items labels.new.items) }
+    ensures { IfOk result (IsGuarded chain.now.symbols chain.now.nodes (chain.now.stores ++ stored frame own.now ∷ []) frame (frame.number + 1) codes.now labels.old.items labels.new.items) }
 {
     match codes.first() {
         None => Ok(Guard::Holds),
         Some(Code::Arith { .. }) => {
             let mut stores = shared(alloc, chain.stores())?;
-            stores.push(own.share()?)?;
+            stores.push(own.store(alloc, frame)?)?;
             let inside = Chain::of_solved(chain.templates(), stores.as_slice(), stores.len());
             evaluated(alloc, &inside, frame, codes, labels)
         }

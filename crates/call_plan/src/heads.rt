@@ -6,6 +6,7 @@ ghost use Rattle.call_plan.specs.Sifted.{head_codes};
 
 use akl_terms::{Clause, Equation, Name, Term};
 use guard_plan::node_after;
+use plain_heads::Row;
 use smallvec::SmallVec;
 use std::alloc::{AllocError, Global};
 
@@ -15,6 +16,19 @@ pub struct Arguments {
     pub frame: Name,
     pub first: u32,
     pub count: u32,
+}
+
+impl Arguments {
+    // Their nodes as a row.
+    pub(crate) fn row(self) -> Row
+        ensures { result ≡ record { frame = self.frame; first = self.first; count = self.count } }
+    {
+        Row {
+            frame: self.frame,
+            first: self.first,
+            count: self.count,
+        }
+    }
 }
 
 // The equations between the arguments of a call and those of a clause's head under a frame, the last first. The solver

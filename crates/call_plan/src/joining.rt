@@ -1,20 +1,71 @@
 //! What the alternative of a call that is promoted makes of the box of the call.
 
 ghost use Rattle.std.specs.Prelude.{◌≡◌, ◌+◌, ◌<◌, ◌^◌, ◌∷◌, ◌++◌, [], length, true, IfOk, IfSome};
-ghost use Rattle.local_store.specs.Chained.{IsKnown};
+ghost use Rattle.local_store.specs.Chained.{bindings_from, IsKnown};
 ghost use Rattle.guard_plan.specs.Guards.{KeepsApartInside};
 ghost use Rattle.rule_plan.specs.Made.{named_under};
+ghost use Rattle.plain_heads.specs.Plain.{ArePlain};
+ghost use Rattle.plain_heads.specs.Joined.{own_store, AreFree};
 ghost use Rattle.call_plan.specs.Joins.{Joins, HoldsFor};
+ghost use Rattle.call_plan.specs.Owns.{stored, IsPlainOwn, BindsFree};
 
-use akl_terms::{Code, Goal, Name, Op, Templates};
+use crate::own::Own;
+use akl_terms::{Code, Goal, Name, Op, Templates, Term, Var};
 use entail_test::Quietness;
 use guard_plan::{quietness, shared};
 use local_store::{Chain, Shared, Store, ToldStore, promoted};
 use std::alloc::{AllocError, Global};
 
-// The innermost store of a path with all that the store of an alternative has, which is known to be solved with them;
-// `None` where its guard doesn't hold: with `->` and `|` it has to be quiet.
+// The innermost store of a path with all that an alternative tells, which is known to be solved with them; `None` where its
+// guard doesn't hold: with `->` and `|` it has to be quiet.
 pub(crate) fn joined(
+    alloc: Global,
+    templates: &Templates,
+    path: &[Shared<Store>],
+    op: Op,
+    frame: Name,
+    own: &Own,
+) -> Result<Option<ToldStore>, AllocError>
+    requires some { 0 < length path.now }
+    requires solved { IsKnown templates.now.nodes (path.now ++ stored frame own.now ∷ []) (length path.now + 1) }
+    requires apart { KeepsApartInside templates.now.nodes (path.now ++ stored frame own.now ∷ []) }
+    requires plain { IsPlainOwn templates.now.nodes path.now frame own.now }
+    ensures joins { IfOk result (λ found. IfSome found (Joins templates.now.nodes path.now op (stored frame own.now))) }
+    ensures free { IfOk result (λ found. IfSome found (λ told. BindsFree path.now own.now told.bound.items)) }
+{
+    match own {
+        Own::Plain(bindings) => {
+            plain_joined(alloc, templates, path, op, frame, bindings.as_slice())
+        }
+        Own::Store(store) => store_joined(alloc, templates, path, op, store),
+    }
+}
+
+// The same of an alternative that has a frame and plain bindings, which are quiet.
+fn plain_joined(
+    alloc: Global,
+    templates: &Templates,
+    path: &[Shared<Store>],
+    op: Op,
+    frame: Name,
+    bindings: &[(Var, Term)],
+) -> Result<Option<ToldStore>, AllocError>
+    requires some { 0 < length path.now }
+    requires solved { IsKnown templates.now.nodes (path.now ++ own_store frame bindings.now ∷ []) (length path.now + 1) }
+    requires apart { KeepsApartInside templates.now.nodes (path.now ++ own_store frame bindings.now ∷ []) }
+    requires plain { ArePlain templates.now.nodes (bindings_from path.now) frame bindings.now }
+    ensures joins { IfOk result (λ found. IfSome found (Joins templates.now.nodes path.now op (own_store frame bindings.now))) }
+    ensures free { IfOk result (λ found. IfSome found (λ told. AreFree (bindings_from path.now) told.bound.items)) }
+{
+    if let Op::Collect = op {
+        return Ok(None);
+    }
+    let told = plain_heads::joined(alloc, templates, path, frame, bindings)?;
+    Ok(Some(told))
+}
+
+// The same of an alternative that has this store.
+fn store_joined(
     alloc: Global,
     templates: &Templates,
     path: &[Shared<Store>],

@@ -8,8 +8,11 @@ mod heads;
 mod joining;
 mod labels;
 mod names;
+mod own;
 mod prospects;
 mod sifting;
+mod waiting;
 
 pub use finding::call_at_once;
 pub use heads::Arguments;
+pub use waiting::waits_for;

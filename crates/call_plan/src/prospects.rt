@@ -3,24 +3,28 @@
 ghost use Rattle.local_store.specs.Chained.{IsSolvedChain};
 
 use crate::heads::Arguments;
-use akl_terms::{Clause, Code, Name, Op, Seen, Term};
+use akl_terms::{Clause, Code, Name, Op, Seen, Term, Var};
 use local_store::Chain;
 use rational_unify::chain_end;
 
 // How a clause's head stands to the arguments of a call, by what these begin with.
 #[derive(Clone, Copy)]
-enum Fit {
+pub(crate) enum Fit {
     Clashes,
-    // An argument is still a variable, where the head isn't.
-    Waits,
+    // An argument is still this variable, where the head isn't one.
+    Waits(Var),
     Fits,
 }
 
 // How what an argument begins with stands to what the head has in its place.
 fn fit_between(argument: Seen, head: Seen) -> Fit {
+    if let Seen::Free(_) = head {
+        return Fit::Fits;
+    }
+    if let Seen::Free(variable) = argument {
+        return Fit::Waits(variable);
+    }
     match (argument, head) {
-        (_, Seen::Free(_)) => Fit::Fits,
-        (Seen::Free(_), _) => Fit::Waits,
         (Seen::Int(left), Seen::Int(right)) if left == right => Fit::Fits,
         (
             Seen::Struct {
@@ -39,15 +43,16 @@ fn fit_between(argument: Seen, head: Seen) -> Fit {
 }
 
 // What a node under a frame begins with, by the stores of a chain that is solved.
-fn known_at(chain: &Chain, node: u32, frame: Name) -> Seen
+pub(crate) fn known_at(chain: &Chain, node: u32, frame: Name) -> Seen
     requires { IsSolvedChain chain.now.nodes chain.now.stores }
 {
     let templates = chain.templates();
     templates.look(chain_end(templates, chain, Term::Mol { node, frame }))
 }
 
-// How a clause's head stands to the arguments of a call over a chain that is solved.
-fn fit_of(chain: &Chain, arguments: Arguments, clause: &Clause) -> Fit
+// How a clause's head stands to the arguments of a call over a chain that is solved. Of the arguments that are still variables,
+// where the head isn't one, the last is told.
+pub(crate) fn fit_of(chain: &Chain, arguments: Arguments, clause: &Clause) -> Fit
     requires { IsSolvedChain chain.now.nodes chain.now.stores }
 {
     let frame = arguments.frame;
@@ -61,7 +66,7 @@ fn fit_of(chain: &Chain, arguments: Arguments, clause: &Clause) -> Fit
         let argument = known_at(chain, arguments.first.saturating_add(index), frame);
         match fit_between(argument, head) {
             Fit::Clashes => return Fit::Clashes,
-            Fit::Waits => fit = Fit::Waits,
+            Fit::Waits(variable) => fit = Fit::Waits(variable),
             Fit::Fits => {}
         }
     }
@@ -84,7 +89,7 @@ fn first_may_go(chain: &Chain, arguments: Arguments, clauses: &[Clause]) -> bool
     for clause in clauses {
         match fit_of(chain, arguments, clause) {
             Fit::Clashes => {}
-            Fit::Waits => return false,
+            Fit::Waits(_) => return false,
             Fit::Fits => return has_comparisons_alone(clause),
         }
     }

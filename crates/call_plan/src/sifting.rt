@@ -3,27 +3,28 @@
 ghost use Rattle.std.specs.Prelude.{◌≡◌, ◌+◌, ◌<◌, ◌^◌, length, true, IfOk, MatchOption};
 ghost use Rattle.akl_model.specs.Instances.{drawn_by};
 ghost use Rattle.local_store.specs.Chained.{IsSolvedChain, IsKnown};
-ghost use Rattle.rule_plan.specs.Made.{IsNewStore, store_with};
-ghost use Rattle.local_store.specs.Stored.{with_bindings};
-ghost use Rattle.call_plan.specs.Sifted.{head_codes, Clashes, AddsGoing, AddsLeft, IsSifted};
+ghost use Rattle.rule_plan.specs.Made.{IsNewStore};
+ghost use Rattle.call_plan.specs.Sifted.{head_codes, Clashes, IsOwn, AddsGoing, AddsLeft, IsSifted};
 
 use crate::guards::{Guard, guard_of};
 use crate::heads::{Arguments, head_equations};
 use crate::labels::failing;
+use crate::own::{Own, store_of};
 use akl_model::Label;
-use akl_terms::{Clause, Name, Term, Var};
+use akl_terms::{Clause, Name};
 use local_store::{Chain, Shared, Store};
+use plain_heads::{Met, Row, meet};
 use rational_unify::{Solved, solve_only};
 use std::alloc::{AllocError, Global};
 
-/// A clause that is left of a call, with the name, the frame and the store of its alternative, whether its guard is known to
+/// A clause that is left of a call, with the name and the frame of its alternative and what that tells, whether its guard is known to
 /// hold, and the clauses behind it.
 #[derive(Drop)]
 pub(crate) struct Left<'a> {
     pub(crate) clause: &'a Clause,
     pub(crate) name: Name,
     pub(crate) frame: Name,
-    pub(crate) store: Shared<Store>,
+    pub(crate) own: Own,
     pub(crate) holds: bool,
     pub(crate) behind: &'a [Clause],
 }
@@ -74,11 +75,11 @@ fn left_of<'a>(
         worker: name.worker,
         number: name.number + 1,
     };
-    let Some(store) = head_store(alloc, chain, arguments, frame, clause)? else {
+    let Some(own) = own_of(alloc, chain, arguments, frame, clause)? else {
         labels.push(failing(name))?;
         return Ok(None);
     };
-    let holds = match guard_of(alloc, chain, &store, frame, clause.guard.as_slice(), labels)? {
+    let holds = match guard_of(alloc, chain, &own, frame, clause.guard.as_slice(), labels)? {
         Guard::Holds => true,
         Guard::Open => false,
         Guard::Fails => {
@@ -90,10 +91,40 @@ fn left_of<'a>(
         clause,
         name,
         frame,
-        store,
+        own,
         holds,
         behind,
     }))
+}
+
+// What a clause's alternative with this frame tells over a chain that is solved; `None` where the head clashes.
+fn own_of(
+    alloc: Global,
+    chain: &Chain,
+    arguments: Arguments,
+    frame: Name,
+    clause: &Clause,
+) -> Result<Option<Own>, AllocError>
+    requires { IsSolvedChain chain.now.nodes chain.now.stores }
+    ensures { IfOk result (λ found. MatchOption found (Clashes chain.now.nodes chain.now.stores arguments frame clause.now)
+        (IsOwn chain.now.nodes chain.now.stores arguments frame clause.now)) }
+{
+    let head = Row {
+        frame,
+        first: clause.first,
+        count: clause.count,
+    };
+    match meet(alloc, chain, arguments.row(), head)? {
+        Met::Clashes => Ok(None),
+        Met::Binds(bindings) => Ok(Some(Own::Plain(bindings))),
+        Met::Unsure => {
+            let found = head_store(alloc, chain, arguments, frame, clause)?;
+            match found {
+                Some(store) => Ok(Some(Own::Store(store))),
+                None => Ok(None),
+            }
+        }
+    }
 }
 
 // The store of a clause's alternative over a chain that is solved: it has this frame, and what is found for
@@ -118,18 +149,4 @@ fn head_store(
             Ok(Some(store))
         }
     }
-}
-
-// A store that has a frame and these bindings.
-fn store_of(
-    alloc: Global,
-    frame: Name,
-    bindings: &[(Var, Term)],
-) -> Result<Shared<Store>, AllocError>
-    ensures { IfOk result (λ s. s ≡ with_bindings (store_with frame) bindings.now) }
-{
-    let mut store = Store::new(alloc);
-    store.add_frame(frame)?;
-    store.add_all(bindings)?;
-    Shared::new(alloc, store)
 }

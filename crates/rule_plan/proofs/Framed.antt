@@ -14,7 +14,7 @@ use Rattle.local_store.proofs.Layers.{from-last}
 use Rattle.guard_plan.proofs.Chains.{long_push}
 use Rattle.rule_plan.specs.Made.{store_with}
 
-take_front : (k : ℕ) (ss ts : List Stored) → k ≤ length ss → take k (ss ++ ts) ≡ take k ss
+pub take_front : (k : ℕ) (ss ts : List Stored) → k ≤ length ss → take k (ss ++ ts) ≡ take k ss
 take_front zero ss ts h = refl
 take_front (suc k) [] ts h = absurd (omega arith)
 take_front (suc k) (s ∷ ss) ts h = ap (λ (l : List Stored). s ∷ l) (take_front k ss ts (omega arith))

@@ -56,7 +56,7 @@ told_heads nodes f i (suc n) g j (suc m) s t (inr y) =
     subst (λ (E : Equations). IsTold E s t) (sym (map-append (equation_of nodes) (heads f (suc i) n g (suc j) m) (record { left = Mol i f; right = Mol j g } ∷ [])))
     (IsTold-left (equations_in nodes (heads f (suc i) n g (suc j) m)) (record { left = term_at nodes f i; right = term_at nodes g j } ∷ []) s t (told_heads nodes f (suc i) n g (suc j) m s t y))
 
-heads_stand : (nodes : List Node) (W : Equations) (f : Name) (i n : ℕ) (g : Name) (j m : ℕ)
+pub heads_stand : (nodes : List Node) (W : Equations) (f : Name) (i n : ℕ) (g : Name) (j m : ℕ)
     → StandFor (IsTold (W ++ equations_in nodes (heads f i n g j m))) (IsTold (W ++ head_equations (terms_from nodes f i n) (terms_from nodes g j m)))
 heads_stand nodes W f i n g j m = StandFor-follows
     (λ s t x. told (elim (IsTold-either W (equations_in nodes (heads f i n g j m)) s t x) [
@@ -82,7 +82,7 @@ goal_behind w n m a b gs h =
     ap (λ (c : Bool). cond c (atom (record { worker = w; number = m }) b (atom (record { worker = w; number = n }) a gs))
     (atom (record { worker = w; number = n }) a (with_goal (record { worker = w; number = m }) (an_atom b) gs))) f
 
-atoms_behind : (w n m : ℕ) (a : Atom) (rest : List Atom) (gs : Goals) → n < m
+pub atoms_behind : (w n m : ℕ) (a : Atom) (rest : List Atom) (gs : Goals) → n < m
     → with_atoms w m rest (atom (record { worker = w; number = n }) a gs) ≡ atom (record { worker = w; number = n }) a (with_atoms w m rest gs)
 atoms_behind w n m a [] gs h = refl
 atoms_behind w n m a (b ∷ rest) gs h =

@@ -1,0 +1,41 @@
+-- The guard of an alternative with plain bindings holds.
+use Rattle.std.proofs.Common.{◌≡◌, ◌+◌, List, [], ◌∷◌, ◌++◌, length, refl, sym, subst, arith}
+use Rattle.akl_terms.specs.declared.name.Name.{Name}
+use Rattle.akl_terms.specs.declared.name.Var.{Var}
+use Rattle.akl_terms.specs.declared.term.Node.{Node}
+use Rattle.akl_terms.specs.declared.term.Term.{Term}
+use Rattle.akl_terms.specs.declared.program.Op.{Op}
+use Rattle.akl_terms.specs.Equal.{IsConsistentBy}
+use Rattle.rational_unify.proofs.FormLaws.{form-consistent}
+use Rattle.local_store.specs.Stored.{Stored}
+use Rattle.local_store.specs.Chained.{bindings_from, ToldBy, IsKnown, around}
+use Rattle.box_tree.proofs.ToldChains.{around_push}
+use Rattle.guard_plan.specs.Guards.{KeepsApartInside, IsQuietInside}
+use Rattle.plain_heads.specs.Plain.{ArePlain}
+use Rattle.plain_heads.specs.Joined.{own_store, AreFree}
+use Rattle.plain_heads.proofs.Members.{root_members}
+use Rattle.plain_heads.proofs.Quiet.{quiet_plain}
+use Rattle.class_members.specs.Members.{AreMembers}
+use Rattle.call_plan.specs.Joins.{HoldsFor}
+use Rattle.call_plan.proofs.HeadStores.{front_solved}
+
+module _ (nodes : List Node) (path : List Stored) (frame : Name) (bs : List (Var × Term)) (plain : ArePlain nodes (bindings_from path) frame bs) (k : IsKnown nodes (path ++ own_store frame bs ∷ []) (length path + 1))
+    (apart : KeepsApartInside nodes (path ++ own_store frame bs ∷ [])) where
+  consistent : IsConsistentBy (ToldBy nodes (around (path ++ own_store frame bs ∷ [])))
+  consistent = subst (λ (ss : List Stored). IsConsistentBy (ToldBy nodes ss)) (sym (around_push path (own_store frame bs)))
+      (form-consistent nodes (bindings_from path) (ToldBy nodes path) (front_solved nodes path (own_store frame bs) k).form)
+
+  quiet : IsQuietInside nodes (path ++ own_store frame bs ∷ [])
+  quiet = quiet_plain nodes path frame bs plain k (apart consistent)
+
+  pub plain_holds : (op : Op) → (op ≡ Op.Collect → ⊥) → HoldsFor op nodes (path ++ own_store frame bs ∷ [])
+  plain_holds Op.Choice n = tt
+  plain_holds Op.Condition n = quiet
+  plain_holds Op.Commit n = quiet
+  plain_holds Op.Collect n = absurd (n refl)
+
+-- in a root box what is bound to nothing is all that is listed of its classes
+pub one_store : (nodes : List Node) (ss : List Stored) → length ss ≡ 1 → IsKnown nodes ss (length ss) → (xs : List Var) → AreFree (bindings_from ss) xs → AreMembers nodes ss xs xs
+one_store nodes [] e k xs h = absurd (omega (arith, e))
+one_store nodes (s ∷ []) e k xs h = root_members nodes s k xs h
+one_store nodes (s ∷ t ∷ ss) e k xs h = absurd (omega (arith, e))

@@ -1,0 +1,14 @@
+use Rattle.call_plan.proofs.HeadSolved.{met_clashes, met_binds}
+use Rattle.call_plan.proofs.sifting.own_of.Goals as goal
+
+pub returns-in-Clashes : goal.returns-in-Clashes
+returns-in-Clashes c = met_clashes c.args.chain.now.nodes c.args.chain.now.stores c.args.arguments c.args.frame c.args.clause.now c.requires
+    (rw (c.in-Clashes.is, c.row.ensures) at c.in_ok-meet.ensures)
+
+pub returns-in-Binds : goal.returns-in-Binds
+returns-in-Binds c =
+    let met = rw (c.in-Binds.is, c.row.ensures) at c.in_ok-meet.ensures in
+    record {
+      store = met_binds c.args.chain.now.nodes c.args.chain.now.stores c.args.arguments c.args.frame c.args.clause.now c.requires c.in-Binds.bindings.items met.1 met.2;
+      plain = met.0;
+    }

@@ -1,0 +1,25 @@
+-- What an alternative tells over the stores around it.
+use Rattle.std.specs.Prelude.{List, ⊤}
+use Rattle.akl_terms.specs.declared.name.Name.{Name}
+use Rattle.akl_terms.specs.declared.name.Var.{Var}
+use Rattle.akl_terms.specs.declared.term.Node.{Node}
+use Rattle.local_store.specs.Stored.{Stored}
+use Rattle.local_store.specs.Chained.{bindings_from}
+use Rattle.plain_heads.specs.Plain.{ArePlain}
+use Rattle.plain_heads.specs.Joined.{own_store, AreFree}
+use Rattle.call_plan.specs.declared.own.Own.{Own}
+
+-- the store of an alternative with a frame
+abbrev pub stored : Name → Own → Stored
+stored frame (Own.Plain bs) = own_store frame bs.items
+stored frame (Own.Store s) = s
+
+-- bindings that aren't put into a store are plain
+abbrev pub IsPlainOwn : List Node → List Stored → Name → Own → Type 0
+IsPlainOwn nodes path frame (Own.Plain bs) = ArePlain nodes (bindings_from path) frame bs.items
+IsPlainOwn nodes path frame (Own.Store s) = ⊤
+
+-- and of what they bind or make equal nothing is bound around them
+abbrev pub BindsFree : List Stored → Own → List Var → Type 0
+BindsFree path (Own.Plain bs) xs = AreFree (bindings_from path) xs
+BindsFree path (Own.Store s) xs = ⊤

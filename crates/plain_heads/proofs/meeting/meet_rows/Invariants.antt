@@ -1,0 +1,8 @@
+use Rattle.local_store.specs.Chained.{bindings_from}
+use Rattle.plain_heads.specs.Plain.{ArePlain}
+use Rattle.plain_heads.proofs.Along.{Along}
+use Rattle.plain_heads.proofs.meeting.meet_rows.Given as goal
+
+abbrev pub invariant-loop-index : goal.invariant-loop-index
+invariant-loop-index l = ArePlain l.chain.nodes (bindings_from l.chain.stores) l.frame l.bindings.items
+    × Along l.chain.nodes (bindings_from l.chain.stores) l.arguments.frame l.arguments.first l.head.count l.head.frame l.head.first l.head.count l.fn.bindings.items l.bindings.items l.index
