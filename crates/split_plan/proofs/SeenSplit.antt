@@ -2,6 +2,7 @@
 use Rattle.std.proofs.Common.{◌≡◌, ℕ, ◌-◌, ◌+◌, Bool, true, false, List, [], ◌∷◌, ◌++◌, length, take, refl, sym, ◌∙◌, ap, subst, arith, length-append}
 use Rattle.std.proofs.lemmas.List.{length-map}
 use Rattle.std.specs.Prelude.{IsTrue, ◌↔◌}
+use Rattle.std.specs.List.{AllByRecursion}
 use Rattle.akl_terms.specs.declared.name.Name.{Name}
 use Rattle.akl_terms.specs.declared.name.Place.{Place}
 use Rattle.akl_terms.specs.declared.program.Program.{Program}
@@ -11,9 +12,11 @@ use Rattle.akl_model.specs.Wakes.{names_around}
 use Rattle.box_tree.specs.declared.inside.Inside.{Inside}
 use Rattle.box_tree.specs.Views.{ViewValue, IsViewOf}
 use Rattle.box_tree.specs.Insides.{IsInsideOf}
+use Rattle.guard_plan.specs.Planned.{HasNoRule}
 use Rattle.stable_test.specs.Seen.{IsSeenInside}
+use Rattle.stable_test.proofs.StillInside.{still_inside}
 use Rattle.box_copies.specs.Copies.{IsInsideOfBox}
-use Rattle.split_plan.specs.Split.{HasNoSplit}
+use Rattle.split_plan.specs.Split.{IsStill, HasNoSplit}
 use Rattle.split_plan.proofs.CandidateRows.{there, no_split}
 
 front_taken : (ns : List Name) (n : Name) → take (length ns) (ns ++ n ∷ []) ≡ ns
@@ -42,6 +45,11 @@ module _ (v : ViewValue) (i : IsViewOf v) where
     is_site = there v i n e;
     deep = sym (length-map i.site.around (λ (b : Content). b.name)) ∙ sym long ∙ sym d;
   }
+
+  -- no rule applies at any place that is seen
+  pub all_still : (inside : Inside) → IsInsideOfBox v inside → (p : Program) → p ≡ v.table.program → (depth : ℕ) → depth ≡ length v.path - 1 → IsStill v → AllByRecursion HasNoRule inside.views.items
+  all_still inside x p same depth d still = still_inside p depth inside (seen_inside x.name x.place inside x.inside p same depth d)
+      (λ t l e a q n. still.none.none t l e a (q ∙ sym x.place) n) (still.inside x.name x.place)
 
   -- a box that isn't stable isn't split
   pub unstable : (inside : Inside) → IsInsideOfBox v inside → (p : Program) → p ≡ v.table.program → (depth : ℕ) → depth ≡ length v.path - 1 → (stable : Bool)

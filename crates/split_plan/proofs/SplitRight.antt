@@ -28,7 +28,7 @@ use Rattle.guard_plan.proofs.Sites.{stand}
 use Rattle.box_copies.specs.declared.copying.Copied.{Copied}
 use Rattle.box_copies.specs.Copies.{IsInsideOfBox, IsSplitInto}
 use Rattle.box_copies.proofs.Splits.{split_made, split_draws, split_solved}
-use Rattle.stable_test.proofs.NoPlainRule.{each_in_force}
+use Rattle.box_tree.proofs.AllInForce.{each_in_force}
 use Rattle.split_plan.specs.Split.{IsCandidate}
 use Rattle.split_plan.specs.Read.{items_in}
 use Rattle.split_plan.proofs.Candidates.{IsPoint}

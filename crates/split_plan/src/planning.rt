@@ -1,8 +1,8 @@
 //! Plans of Split.
 
-ghost use Rattle.std.specs.Prelude.{◌≡◌, IfOk, IfSome, Some};
+ghost use Rattle.std.specs.Prelude.{◌≡◌, true, IfOk, IfSome, Some};
 ghost use Rattle.box_copies.specs.Copies.{IsInsideOfBox};
-ghost use Rattle.split_plan.specs.Split.{IsCandidate, IsSplitBy};
+ghost use Rattle.split_plan.specs.Split.{IsCandidate, IsStill, IsSplitBy};
 
 use crate::reading::split_reads;
 use akl_model::Rule;
@@ -19,23 +19,28 @@ const MOST: u64 = 4294967295;
 /// A right plan of Split for the box that was looked at, by its worker, at the alternative at which it could be split;
 /// `None` exactly where Split doesn't apply there, as the box isn't stable. An `Err` is want of memory, or of names:
 /// the copies would draw 4,294,967,296 or more.
+///
+/// Whether a rule other than Split applies at some place inside is tried by a plan for each, unless it is `known` that none
+/// does.
 pub fn plan_split(
     alloc: Global,
     program: &Program,
     view: &View,
     inside: &Inside,
     alternative: Name,
+    known: bool,
 ) -> Result<Option<Plan>, AllocError>
     requires program { program.now ≡ view.now.table.program }
     requires inside { IsInsideOfBox view.now inside.now }
     requires candidate { IsCandidate view.now alternative }
+    requires known { known ≡ true → IsStill view.now }
     ensures split { IfOk result (IsSplitBy view.now) }
     ensures alternative { IfOk result (λ found. IfSome found (λ p. p.label.alternative ≡ Some alternative)) }
 {
     let label = label_for(view, Rule::Split, alternative);
     let path = view.path();
     let depth = path.len().saturating_sub(1);
-    if !is_stable(alloc, program, depth, inside)? {
+    if !is_stable(alloc, program, depth, inside, known)? {
         return Ok(None);
     }
     let Copied {

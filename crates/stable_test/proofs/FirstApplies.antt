@@ -1,28 +1,16 @@
 -- The first label of a right plan applies to what its view unfolds to.
 use Rattle.std.proofs.Common.{◌≡◌, List, ◌∷◌, sym, subst}
-use Rattle.akl_model.specs.declared.label.Rule.{Rule}
 use Rattle.akl_model.specs.declared.label.Label.{Label}
 use Rattle.akl_model.specs.Config.{Config}
 use Rattle.akl_model.specs.Derivations.{Applies}
 use Rattle.akl_model.proofs.NamesKept.{Stand, replay-stands}
-use Rattle.call_laws.specs.AtOnce.{AreInForce}
 use Rattle.call_laws.proofs.Alternatives.{between}
 use Rattle.call_laws.proofs.Calls.{calling, forked, fork_applies}
 use Rattle.table_laws.specs.Stamped.{IsTableOf}
 use Rattle.box_tree.specs.Tables.{all_rules, table_of}
 use Rattle.box_tree.specs.Views.{run_of}
 use Rattle.box_tree.specs.Plans.{PlanValue, IsRightCall, IsRight, of_label, of_call}
-use Rattle.stable_test.proofs.NoPlainRule.{each_in_force}
-
-in_force : AreInForce all_rules
-in_force = record {
-  fork = each_in_force Rule.Fork;
-  fail = each_in_force Rule.Fail;
-  cut = each_in_force Rule.Cut;
-  tell = each_in_force Rule.Tell;
-  eval = each_in_force Rule.Eval;
-  promote = each_in_force Rule.Promote;
-}
+use Rattle.box_tree.proofs.AllInForce.{all_in_force}
 
 -- it applies, alone or as the fork of a call
 pub record FirstApplies (p : PlanValue) : Type 0 where
@@ -41,13 +29,13 @@ module _ (p : PlanValue) (r : IsRightCall p) where
   s = replay-stands all_rules p.table.program p.table.query p.journal c r.table.replays
 
   abbrev forked_to : Config
-  forked_to = between (calling all_rules in_force p.table.program c s p.label.worker r.goal r.site r.is_home r.calls) (forked all_rules in_force p.table.program c s p.label.worker r.goal r.site r.is_home r.calls)
+  forked_to = between (calling all_rules all_in_force p.table.program c s p.label.worker r.goal r.site r.is_home r.calls) (forked all_rules all_in_force p.table.program c s p.label.worker r.goal r.site r.is_home r.calls)
 
   call_applies : FirstApplies p
   call_applies = record {
     table = r.table;
     result = forked_to;
-    applies = subst (λ (l : Label). Applies all_rules p.table.program c l forked_to) (sym (first r.labels)) (fork_applies all_rules in_force p.table.program c s p.label.worker r.goal r.site r.is_home r.calls);
+    applies = subst (λ (l : Label). Applies all_rules p.table.program c l forked_to) (sym (first r.labels)) (fork_applies all_rules all_in_force p.table.program c s p.label.worker r.goal r.site r.is_home r.calls);
   }
 
 pub first_applies : (p : PlanValue) → IsRight p → FirstApplies p

@@ -16,6 +16,7 @@ pub mod TouchedAt
 pub mod StableSite
 pub mod StableViews
 pub mod RootStable
+pub mod StillInside
 pub mod Read
 pub mod InnerViews
 pub mod InsideTouched

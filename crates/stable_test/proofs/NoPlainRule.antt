@@ -1,5 +1,5 @@
 -- A rule other than Split may be used at a box, or at a goal directly in it, only where a label applies.
-use Rattle.std.proofs.Common.{◌≡◌, ℕ, ◌<◌, ◌^◌, List, Option, Some, None, refl, sym, subst, inl, inr, arith}
+use Rattle.std.proofs.Common.{◌≡◌, ℕ, ◌<◌, ◌^◌, List, Option, Some, None, refl, sym, subst, arith}
 use Rattle.std.specs.Prelude.{slice_index}
 use Rattle.akl_terms.specs.declared.name.Name.{Name}
 use Rattle.akl_terms.specs.declared.name.Place.{Place}
@@ -15,20 +15,6 @@ use Rattle.akl_model.proofs.NamesKept.{Stand}
 use Rattle.akl_model.proofs.RuleCases.{PlainCase, tells, forks, evaluates, opens, sends, fails, cuts, promotes, collects, Makes-plain}
 use Rattle.step_laws.proofs.AgainIn.{other_next}
 use Rattle.step_laws.proofs.Deeper.{home_found}
-use Rattle.box_tree.specs.Tables.{all_rules}
-
--- each rule is in force
-pub each_in_force : (r : Rule) → IsInForce all_rules r
-each_in_force Rule.Tell = inl refl
-each_in_force Rule.Fork = inr (inl refl)
-each_in_force Rule.Fail = inr (inr (inl refl))
-each_in_force Rule.Cut = inr (inr (inr (inl refl)))
-each_in_force Rule.Promote = inr (inr (inr (inr (inl refl))))
-each_in_force Rule.Eval = inr (inr (inr (inr (inr (inl refl)))))
-each_in_force Rule.Open = inr (inr (inr (inr (inr (inr (inl refl))))))
-each_in_force Rule.Send = inr (inr (inr (inr (inr (inr (inr (inl refl)))))))
-each_in_force Rule.Split = inr (inr (inr (inr (inr (inr (inr (inr (inl refl))))))))
-each_in_force Rule.Collect = inr (inr (inr (inr (inr (inr (inr (inr (inr (inl refl)))))))))
 
 -- no rule in force other than Split applies at a place of a configuration
 abbrev pub NoneAppliesAt : List Rule → Program → Config → Place → Type 0

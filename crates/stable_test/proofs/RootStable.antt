@@ -24,7 +24,7 @@ use Rattle.stable_test.specs.Frames.{with_all_frames}
 use Rattle.stable_test.specs.Seen.{IsSeenInside, IsStill, IsOfProgram}
 use Rattle.stable_test.proofs.EachInside.{IsDown, each_in, holds_down}
 use Rattle.stable_test.proofs.PathStores.{is_inside, goal_inside_down}
-use Rattle.stable_test.proofs.NoPlainRule.{each_in_force}
+use Rattle.box_tree.proofs.AllInForce.{each_in_force}
 use Rattle.stable_test.proofs.StableSite.{IsStillBox, IsStillGoal, still_stable}
 use Rattle.stable_test.proofs.StableViews.{look, every, stands, same_program, none_applies, all_still}
 

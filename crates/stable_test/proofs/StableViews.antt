@@ -33,7 +33,8 @@ use Rattle.stable_test.proofs.EachInside.{IsDown}
 use Rattle.stable_test.proofs.PathStores.{HasFrame, frame_has, has_frame, is_inside, box_down, goal_down, goal_inside_down}
 use Rattle.stable_test.proofs.SiteReaches.{deep_stores, apart, consistent_site, site_consistent, reached_site, reaches_site, site_reaches}
 use Rattle.stable_test.proofs.TouchedAt.{touched_listed, none_listed}
-use Rattle.stable_test.proofs.NoPlainRule.{each_in_force, NoneAppliesAt}
+use Rattle.box_tree.proofs.AllInForce.{each_in_force}
+use Rattle.stable_test.proofs.NoPlainRule.{NoneAppliesAt}
 use Rattle.stable_test.proofs.StableSite.{IsStillBox, IsStillGoal, still_stable, stable_none, stable_reaches, view_box, view_goal}
 use Rattle.stable_test.proofs.AllFrames.{all_local, local_all, all_unbound, box_frame, frame_box}
 

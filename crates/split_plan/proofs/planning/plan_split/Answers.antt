@@ -2,13 +2,17 @@ use Rattle.std.proofs.Common.{◌-◌, ◌<◌, List, length, take, ◌∙◌, a
 use Rattle.std.specs.Prelude.{◌^◌}
 use Rattle.akl_terms.specs.declared.name.Name.{Name}
 use Rattle.akl_terms.specs.declared.program.Program.{Program}
-use Rattle.split_plan.proofs.SeenSplit.{around_is, seen_inside, unstable, stable_site}
+use Rattle.split_plan.proofs.SeenSplit.{around_is, seen_inside, all_still, unstable, stable_site}
 use Rattle.split_plan.proofs.SplitRight.{split_planned}
 use Rattle.split_plan.proofs.planning.plan_split.Goals as goal
 
-pub is_stable-requires : goal.is_stable-requires
-is_stable-requires c = seen_inside c.args.view.now c.label_for-label.ensures.seen c.requires.inside.name c.requires.inside.place c.args.inside.now c.requires.inside.inside c.args.program.now c.requires.program
+pub is_stable-requires-clause-inside : goal.is_stable-requires-clause-inside
+is_stable-requires-clause-inside c = seen_inside c.args.view.now c.label_for-label.ensures.seen c.requires.inside.name c.requires.inside.place c.args.inside.now c.requires.inside.inside c.args.program.now c.requires.program
     c.saturating_sub-depth.result (c.saturating_sub-depth.ensures ∙ ap (λ (ns : List Name). length ns - 1) c.path-path.ensures)
+
+pub is_stable-requires-clause-known : goal.is_stable-requires-clause-known
+is_stable-requires-clause-known c = λ k. all_still c.args.view.now c.label_for-label.ensures.seen c.args.inside.now c.requires.inside c.args.program.now c.requires.program
+    c.saturating_sub-depth.result (c.saturating_sub-depth.ensures ∙ ap (λ (ns : List Name). length ns - 1) c.path-path.ensures) (c.requires.known k)
 
 pub returns-then-not-branch-clause-split : goal.returns-then-not-branch-clause-split
 returns-then-not-branch-clause-split c = unstable c.args.view.now c.label_for-label.ensures.seen c.args.inside.now c.requires.inside c.args.program.now c.requires.program
