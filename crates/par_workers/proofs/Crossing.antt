@@ -14,9 +14,12 @@ use Rattle.name_map.specs.contracts.page.Chunk as Chunk
 use Rattle.name_map.specs.contracts.spare.Spare as Spare
 use Rattle.name_map.specs.contracts.numbers.Numbers as Numbers
 use Rattle.name_map.specs.contracts.map.NameMap as NameMap
+use Rattle.name_map.specs.contracts.boxed.Boxed as Boxed
+use Rattle.name_map.specs.contracts.boxed_map.BoxedMap as BoxedMap
 use Rattle.wake_lists.specs.contracts.token_set.TokenSet as TokenSet
 use Rattle.wake_lists.specs.contracts.open.Open as Open
 use Rattle.wake_lists.specs.contracts.waits.Waits as Waits
+use Rattle.scheduler.specs.contracts.hints.Hints as Hints
 use Rattle.scheduler.specs.contracts.splits.Splits as Splits
 use Rattle.scheduler.specs.contracts.scheduler.Scheduler as Scheduler
 use Rattle.task_pool.proofs.hand.Hand.TheSendSync as hands
@@ -42,12 +45,6 @@ BoxEntry-send = let a = Store-send in let b = Store-sync in search (owned.crosse
 GoalEntry-send : IsSend GoalEntry.the_row
 GoalEntry-send = search (owned.crosses, maps.crosses, sendable) depth 60 fits 20000
 
-Table-send : IsSend Table.the_row
-Table-send = let a = BoxEntry-send in let b = GoalEntry-send in search (owned.crosses, maps.crosses, sendable) depth 60 fits 20000
-
-Core-send : IsSend Core.the_row
-Core-send = let a = Table-send in search (owned.crosses, sendable) depth 60 fits 20000
-
 Page-send : (V : RattleType) → IsSend V → IsSend (Page.the_row V)
 Page-send V s = search (owned.crosses, sendable) depth 60 fits 20000
 
@@ -63,6 +60,18 @@ Numbers-send V s = let a = Chunk-send V s in let b = Spare-send V s in search (o
 NameMap-send : (V : RattleType) → IsSend V → IsSend (NameMap.the_row V)
 NameMap-send V s = let a = Numbers-send V s in search (owned.crosses, sendable) depth 60 fits 20000
 
+Boxed-send : (V : RattleType) → IsSend V → IsSend (Boxed.the_row V)
+Boxed-send V s = search (owned.crosses, sendable) depth 60 fits 20000
+
+BoxedMap-send : (V : RattleType) → IsSend V → IsSend (BoxedMap.the_row V)
+BoxedMap-send V s = let a = NameMap-send (Boxed.the_row V) (Boxed-send V s) in search (owned.crosses, sendable) depth 60 fits 20000
+
+Table-send : IsSend Table.the_row
+Table-send = let a = BoxedMap-send BoxEntry.the_row BoxEntry-send in let b = BoxedMap-send GoalEntry.the_row GoalEntry-send in search (owned.crosses, sendable) depth 60 fits 20000
+
+Core-send : IsSend Core.the_row
+Core-send = let a = Table-send in search (owned.crosses, sendable) depth 60 fits 20000
+
 TokenSet-send : IsSend TokenSet.the_row
 TokenSet-send = search (owned.crosses, maps.crosses, sendable) depth 60 fits 20000
 
@@ -75,8 +84,11 @@ Waits-send = search (NameMap-send, owned.crosses, maps.crosses, sendable) depth 
 Splits-send : IsSend Splits.the_row
 Splits-send = search (owned.crosses, maps.crosses, sendable) depth 60 fits 20000
 
+Hints-send : IsSend Hints.the_row
+Hints-send = search (owned.crosses, maps.crosses, sendable) depth 60 fits 20000
+
 Scheduler-send : IsSend Scheduler.the_row
-Scheduler-send = let a = Core-send in let b = Open-send in let c = Waits-send in let d = Splits-send in search sendable depth 60 fits 20000
+Scheduler-send = let a = Core-send in let b = Open-send in let c = Waits-send in let d = Splits-send in let e = Hints-send in search (owned.crosses, maps.crosses, sendable) depth 60 fits 20000
 
 Made-send : IsSend Made.the_row
 Made-send = search (owned.crosses, sendable) depth 60 fits 20000

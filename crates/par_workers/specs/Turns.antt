@@ -30,11 +30,13 @@ pub record IsTakenOf (s : SharedValue) (worker : ℕ) (v : ViewValue) : Type 0 w
 -- the view of what was seen
 abbrev pub view_of : Sight → ViewValue
 view_of (Sight.Whole seen) = view_in seen
+view_of (Sight.Early seen) = view_in seen
 view_of (Sight.Tried view) = view
 
 -- of a place that was seen whole, all was seen that tells what comes next there
 abbrev pub HasSeen : Sight → Type 0
 HasSeen (Sight.Whole seen) = IsSeen seen
+HasSeen (Sight.Early seen) = IsSeen seen
 HasSeen (Sight.Tried view) = Unit {0}
 
 -- a worker saw a place, or the place isn't there

@@ -13,7 +13,7 @@ use crate::made::Made;
 use crate::shared::SharedRun;
 use crate::tokens::Tokens;
 use akl_model::{Label, Receipt, Rule};
-use akl_terms::{Name, Place, Steps};
+use akl_terms::{Name, Place, Steps, Var};
 use box_tree::{Plan, Table};
 use idle_places::Idle;
 use place_steps::Next;
@@ -31,6 +31,8 @@ use step_commit::{CommitError, Core};
 pub struct Planned {
     pub token: u64,
     pub next: Option<Next>,
+    /// The variable that stands in the way of a call that waits for it.
+    pub on: Option<Var>,
 }
 
 /// How many labels were planned.
@@ -66,7 +68,7 @@ impl SharedRun {
         requires room { vec_len receipts.old + label_count planned ≤ vec_capacity receipts.old }
         ensures { HasConcluded worker self.old receipts.old.items self.new receipts.new.items }
     {
-        let Some(Planned { token, next }) = planned else {
+        let Some(Planned { token, next, on }) = planned else {
             return false;
         };
         match next {
@@ -78,7 +80,7 @@ impl SharedRun {
                 false
             }
             None => {
-                self.put_off(token, tokens);
+                self.put_off(token, on, tokens);
                 false
             }
         }
@@ -167,11 +169,11 @@ impl SharedRun {
         }
     }
 
-    // A busy box in which no rule was found is late.
-    fn put_off(&mut self, token: u64, tokens: &mut VecDeque<u64>)
+    // A busy box in which no rule was found is late, and so is a call that waits for a variable.
+    fn put_off(&mut self, token: u64, on: Option<Var>, tokens: &mut VecDeque<u64>)
         ensures { self.new ≡ self.old }
     {
-        let postponed = self.scheduler.postpone(token);
+        let postponed = self.scheduler.wait_for(token, on);
         stop_unless(&mut self.stops, postponed);
         self.keep(token, tokens);
     }

@@ -13,7 +13,7 @@ use crate::planning::Planning;
 use crate::tokens::Tokens;
 use akl_terms::{Name, Place};
 use box_tree::{LookError, View};
-use place_steps::{Seen, see};
+use place_steps::{Seen, see, see_still};
 use scheduler::{Attention, Scheduler};
 use std::alloc::{AllocError, Global};
 use std::collections::VecDeque;
@@ -24,6 +24,8 @@ use step_commit::Core;
 pub enum Sight {
     /// Enough to tell what comes next there.
     Whole(Seen),
+    /// The same of a goal that may wait until it is known which clause is left of its call.
+    Early(Seen),
     /// A place that is only tried by the rules other than Split: a box without what stands inside it.
     Tried(View),
 }
@@ -32,7 +34,7 @@ impl Sight {
     /// The root box of the place.
     pub(crate) fn root(&self) -> Option<Name> {
         let view = match self {
-            Sight::Whole(seen) => seen.view(),
+            Sight::Whole(seen) | Sight::Early(seen) => seen.view(),
             Sight::Tried(view) => view,
         };
         view.path().first().copied()
@@ -206,10 +208,10 @@ fn see_open(
         tokens.let_go(token);
         return Ok(None);
     };
-    let found = if scheduler.attention_at(token, place) == Attention::Whole {
-        see_whole(alloc, scheduler, place, worker)?
-    } else {
-        see_tried(alloc, scheduler.core(), place, worker)?
+    let found = match scheduler.attention_at(token, place) {
+        Attention::Whole => see_whole(alloc, scheduler, place, worker)?,
+        Attention::Early => see_early(alloc, scheduler, place, worker)?,
+        Attention::Tried | Attention::PutOff => see_tried(alloc, scheduler.core(), place, worker)?,
     };
     if found.is_none() {
         close(scheduler, token);
@@ -238,8 +240,25 @@ fn see_whole(
     ensures { IfOk result (IsSightBy scheduler.now.core place worker) }
 {
     let candidate = scheduler.candidate_at(place);
-    match see(alloc, scheduler.core(), place, worker, candidate)? {
+    match see_still(alloc, scheduler.core(), place, worker, candidate)? {
         Some(seen) => Ok(Some(Sight::Whole(seen))),
+        None => Ok(None),
+    }
+}
+
+// The same of a goal that may wait.
+fn see_early(
+    alloc: Global,
+    scheduler: &Scheduler,
+    place: Place,
+    worker: u32,
+) -> Result<Option<Sight>, AllocError>
+    requires { IsAtRest scheduler.now.openings place }
+    ensures { IfOk result (IsSightBy scheduler.now.core place worker) }
+{
+    let candidate = scheduler.candidate_at(place);
+    match see(alloc, scheduler.core(), place, worker, candidate)? {
+        Some(seen) => Ok(Some(Sight::Early(seen))),
         None => Ok(None),
     }
 }

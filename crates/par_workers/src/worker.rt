@@ -4,6 +4,7 @@ ghost use Rattle.std.specs.Prelude.{◌≡◌, ◌<◌, IfOk, IfSome};
 ghost use Rattle.std.proofs.Props.{props};
 ghost use Rattle.turn_lock.specs.Passes.{view, IsPassOf, HasNoTurn};
 ghost use Rattle.place_steps.specs.Next.{IsNext};
+ghost use Rattle.place_steps.specs.Seen.{view_in, IsSeen};
 ghost use Rattle.par_workers.specs.Shared.{AreReceiptsOf};
 ghost use Rattle.par_workers.specs.Tokens.{StayAtHand};
 ghost use Rattle.par_workers.specs.Turns.{run_seen, IsNumber, IsChosenIn, IsFoundIn, HasSeen, view_of};
@@ -17,9 +18,9 @@ use crate::vain_turns::VainTurns;
 use crate::vain_waits::VainWaits;
 use akl_model::Receipt;
 use akl_outside::Gate;
-use akl_terms::{Program, Steps};
+use akl_terms::{Program, Steps, Var};
 use box_tree::View;
-use place_steps::{Next, next_of};
+use place_steps::{Early, Next, Seen, early_next, next_of};
 use rule_plan::plan;
 use std::alloc::{AllocError, Global};
 use std::collections::VecDeque;
@@ -255,14 +256,33 @@ fn plan_at(alloc: Global, program: &Program, look: Look, room: u64) -> Result<Pl
     requires program { program.now ≡ (view_of look.sight).table.program }
     ensures { IfOk result (λ planned. IfSome planned.next (IsNext (view_of look.sight))) }
 {
-    let next = match &look.sight {
-        Sight::Whole(seen) => Some(next_of(alloc, program, seen, room)?),
-        Sight::Tried(view) => plan_tried(alloc, program, view)?,
+    let (next, on) = match &look.sight {
+        Sight::Whole(seen) => (Some(next_of(alloc, program, seen, room)?), None),
+        Sight::Early(seen) => plan_early(alloc, program, seen, room)?,
+        Sight::Tried(view) => (plan_tried(alloc, program, view)?, None),
     };
     Ok(Planned {
         token: look.token,
         next,
+        on,
     })
+}
+
+// What comes next at a goal, or the variable for which its call waits until it is known which clause is left.
+fn plan_early(
+    alloc: Global,
+    program: &Program,
+    seen: &Seen,
+    room: u64,
+) -> Result<(Option<Next>, Option<Var>), AllocError>
+    requires program { program.now ≡ (view_in seen.now).table.program }
+    requires seen { IsSeen seen.now }
+    ensures { IfOk result (λ found. IfSome found.0 (IsNext (view_in seen.now))) }
+{
+    match early_next(alloc, program, seen, room)? {
+        Early::Next(next) => Ok((Some(next), None)),
+        Early::Waits(variable) => Ok((None, Some(variable))),
+    }
 }
 
 // A right plan of a rule other than Split, if one applies.

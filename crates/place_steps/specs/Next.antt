@@ -9,6 +9,7 @@ use Rattle.idle_places.specs.Idling.{IdleValue}
 use Rattle.idle_places.specs.Later.{HasNoReason}
 use Rattle.idle_plan.specs.Idling.{IsIdleBy}
 use Rattle.place_steps.specs.declared.next.Next.{Next}
+use Rattle.place_steps.specs.declared.next.Early.{Early}
 
 -- a place was found idle by a view of it; one that didn't look inside had no reason to be ready there
 pub record IsFoundIdleBy (v : ViewValue) (i : IdleValue) : Type 0 where
@@ -29,3 +30,12 @@ IsAlone (Next.Idle i) = Unit {0}
 abbrev pub HasRoom : ℕ → Next → Type 0
 HasRoom room (Next.Plan p) = (p.more ≡ []) ⊎ (length p.more < room)
 HasRoom room (Next.Idle i) = Unit {0}
+
+-- so it is where a call may wait, of which nothing is said then
+abbrev pub IsEarly : ViewValue → Early → Type 0
+IsEarly v (Early.Next n) = IsNext v n
+IsEarly v (Early.Waits x) = Unit {0}
+
+abbrev pub HasEarlyRoom : ℕ → Early → Type 0
+HasEarlyRoom room (Early.Next n) = HasRoom room n
+HasEarlyRoom room (Early.Waits x) = Unit {0}

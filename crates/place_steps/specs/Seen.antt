@@ -1,12 +1,14 @@
 -- What a worker saw of a place.
-use Rattle.std.specs.Prelude.{◌≡◌, ℕ, true, false, Option, Some, None}
+use Rattle.std.specs.Prelude.{◌≡◌, ℕ, true, false, List, Option, Some, None}
 use Rattle.akl_terms.specs.declared.name.Name.{Name}
 use Rattle.akl_terms.specs.declared.name.Place.{Place}
+use Rattle.akl_model.specs.declared.label.Label.{Label}
 use Rattle.box_tree.specs.declared.inside.Inside.{Inside}
-use Rattle.box_tree.specs.Tables.{table_of}
+use Rattle.box_tree.specs.Tables.{TableValue, table_of}
 use Rattle.box_tree.specs.Views.{ViewValue, is_there}
 use Rattle.box_tree.specs.Insides.{IsCandidateOf}
 use Rattle.box_copies.specs.Copies.{IsInsideOfBox}
+use Rattle.stable_test.specs.Seen.{NoneReadyInside}
 use Rattle.idle_plan.specs.Idling.{IsAtRootBox}
 use Rattle.step_commit.specs.Cores.{CoreValue}
 use Rattle.place_steps.specs.declared.seen.Seen.{Seen}
@@ -15,7 +17,7 @@ use Rattle.place_steps.specs.declared.seen.Seen.{Seen}
 abbrev pub view_in : Seen → ViewValue
 view_in (Seen.Goal goal view) = view
 view_in (Seen.Root view) = view
-view_in (Seen.Box view inside alternative) = view
+view_in (Seen.Box view inside alternative still) = view
 
 -- a box could be split at this alternative, if at any; of a goal nothing is said
 abbrev pub IsCandidateAt : CoreValue → Place → Option Name → Type 0
@@ -37,11 +39,19 @@ pub record IsSeenInside (v : ViewValue) (i : Inside) (alternative : Option Name)
   pub inside : IsInsideOfBox v i
   pub candidate : HasCandidate v alternative
 
+-- no place inside of a box is ready, by a table and its journal; of a goal nothing is said
+abbrev pub IsStillAt : TableValue → List Label → Place → Type 0
+IsStillAt t journal place = (n : Name) → place ≡ Place.Box n → NoneReadyInside t journal n
+
 -- what was seen is what its view is of
 abbrev pub IsSeen : Seen → Type 0
 IsSeen (Seen.Goal goal view) = view.place ≡ Place.Goal goal
 IsSeen (Seen.Root view) = IsBareRoot view
-IsSeen (Seen.Box view inside alternative) = IsSeenInside view inside alternative
+IsSeen (Seen.Box view inside alternative still) = IsSeenInside view inside alternative × (still ≡ true → IsStillAt view.table view.journal view.place)
+
+-- the same of the state of a run
+abbrev pub IsStillIn : CoreValue → Place → Type 0
+IsStillIn c place = IsStillAt c.table c.journal place
 
 -- a worker has looked at a place, which is there
 pub record IsSight (c : CoreValue) (place : Place) (worker : ℕ) (v : ViewValue) : Type 0 where

@@ -7,9 +7,9 @@ ghost use Rattle.guard_plan.specs.Planned.{IsPlanOf};
 ghost use Rattle.place_steps.specs.Seen.{view_in, IsSeen};
 
 use crate::seen::Seen;
-use akl_terms::{Code, Goal, Name, Program};
+use akl_terms::{Code, Goal, Name, Program, Var};
 use box_tree::{Plan, Sight, View};
-use call_plan::{Arguments, call_at_once};
+use call_plan::{Arguments, call_at_once, waits_for};
 use std::alloc::{AllocError, Global};
 
 // The plan of a call at once at a place that was seen; `None` where no call is there, where it isn't seen at once which clause
@@ -67,4 +67,31 @@ fn atom_call(
         }
         _ => Ok(None),
     }
+}
+
+// The variable that stands in the way of a call at a place that was seen, where it isn't known yet which clause is left of it;
+// `None` where none is found.
+pub(crate) fn call_waits(program: &Program, seen: &Seen) -> Option<Var>
+    requires { program.now ≡ (view_in seen.now).table.program }
+{
+    let Seen::Goal { view, .. } = seen else {
+        return None;
+    };
+    let Sight::Atom(atom) = view.sight() else {
+        return None;
+    };
+    let Code::Call {
+        definition,
+        first,
+        count,
+    } = atom.code
+    else {
+        return None;
+    };
+    let arguments = Arguments {
+        frame: atom.frame,
+        first,
+        count,
+    };
+    waits_for(program, view, definition, arguments)
 }

@@ -7,5 +7,5 @@ mod next;
 mod seen;
 
 pub use candidates::first_candidate;
-pub use next::{Next, next_of};
-pub use seen::{Seen, see};
+pub use next::{Early, Next, early_next, next_of};
+pub use seen::{Seen, see, see_still};

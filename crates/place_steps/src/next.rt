@@ -1,16 +1,16 @@
 //! What comes next at a place.
 
-ghost use Rattle.std.specs.Prelude.{◌≡◌, IfOk};
+ghost use Rattle.std.specs.Prelude.{◌≡◌, true, IfOk};
 ghost use Rattle.akl_terms.specs.declared.name.Place.{Place};
 ghost use Rattle.guard_plan.specs.Planned.{HasNoRule};
 ghost use Rattle.guard_plan.specs.Noisy.{IsNoiseAt};
-ghost use Rattle.split_plan.specs.Split.{IsSplitBy};
-ghost use Rattle.place_steps.specs.Seen.{view_in, IsSeen, IsBareRoot, IsSeenInside};
-ghost use Rattle.place_steps.specs.Next.{IsNext, IsAlone, HasRoom};
+ghost use Rattle.split_plan.specs.Split.{IsStill, IsSplitBy};
+ghost use Rattle.place_steps.specs.Seen.{view_in, IsSeen, IsBareRoot, IsSeenInside, IsStillAt};
+ghost use Rattle.place_steps.specs.Next.{IsNext, IsAlone, HasRoom, IsEarly, HasEarlyRoom};
 
-use crate::calls::call_of;
+use crate::calls::{call_of, call_waits};
 use crate::seen::Seen;
-use akl_terms::{Name, Program};
+use akl_terms::{Name, Program, Var};
 use box_tree::{Inside, Plan, View};
 use guard_plan::Noise;
 use idle_places::Idle;
@@ -43,6 +43,40 @@ pub fn next_of(alloc: Global, program: &Program, seen: &Seen, room: u64) -> Resu
     }
 }
 
+/// What comes next at a place, or why nothing does yet.
+#[derive(Drop)]
+pub enum Early {
+    /// It comes next.
+    Next(Next),
+    /// The place is a call of which it isn't known yet which clause is left; it may be once this variable is bound.
+    Waits(Var),
+}
+
+/// What comes next at a place that was seen, but for a call of which it isn't known yet which clause is left, so that it may
+/// wait for this. An `Err` is want of memory, or of names for a split.
+pub fn early_next(
+    alloc: Global,
+    program: &Program,
+    seen: &Seen,
+    room: u64,
+) -> Result<Early, AllocError>
+    requires program { program.now ≡ (view_in seen.now).table.program }
+    requires seen { IsSeen seen.now }
+    ensures next { IfOk result (IsEarly (view_in seen.now)) }
+    ensures room { IfOk result (HasEarlyRoom room) }
+{
+    if let Some(found) = call_of(alloc, program, seen, room)? {
+        return Ok(Early::Next(Next::Plan(found)));
+    }
+    match call_waits(program, seen) {
+        Some(variable) => Ok(Early::Waits(variable)),
+        None => {
+            let next = single_next(alloc, program, seen)?;
+            Ok(Early::Next(next))
+        }
+    }
+}
+
 // The same where a plan has one label.
 fn single_next(alloc: Global, program: &Program, seen: &Seen) -> Result<Next, AllocError>
     requires program { program.now ≡ (view_in seen.now).table.program }
@@ -61,7 +95,8 @@ fn single_next(alloc: Global, program: &Program, seen: &Seen) -> Result<Next, Al
             view,
             inside,
             alternative,
-        } => box_next(alloc, program, view, inside, *alternative),
+            still,
+        } => box_next(alloc, program, view, inside, *alternative, *still),
     }
 }
 
@@ -102,14 +137,16 @@ fn box_next(
     view: &View,
     inside: &Inside,
     alternative: Option<Name>,
+    still: bool,
 ) -> Result<Next, AllocError>
     requires program { program.now ≡ view.now.table.program }
     requires inside { IsSeenInside view.now inside.now alternative }
+    requires still { still ≡ true → IsStillAt view.now.table view.now.journal view.now.place }
     requires none { HasNoRule view.now }
     ensures next { IfOk result (IsNext view.now) }
     ensures alone { IfOk result IsAlone }
 {
-    match split_of(alloc, program, view, inside, alternative)? {
+    match split_of(alloc, program, view, inside, alternative, still)? {
         Some(found) => Ok(Next::Plan(found)),
         None => {
             let idle = idle_box(alloc, program, view, inside)?;
@@ -125,13 +162,15 @@ fn split_of(
     view: &View,
     inside: &Inside,
     alternative: Option<Name>,
+    still: bool,
 ) -> Result<Option<Plan>, AllocError>
     requires program { program.now ≡ view.now.table.program }
     requires inside { IsSeenInside view.now inside.now alternative }
+    requires still { still ≡ true → IsStill view.now }
     ensures { IfOk result (IsSplitBy view.now) }
 {
     match alternative {
-        Some(name) => plan_split(alloc, program, view, inside, name),
+        Some(name) => plan_split(alloc, program, view, inside, name, still),
         None => Ok(None),
     }
 }

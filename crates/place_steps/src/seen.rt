@@ -1,10 +1,10 @@
 //! What a worker saw of a place, enough to tell what comes next there.
 
-ghost use Rattle.std.specs.Prelude.{◌≡◌, IfOk};
+ghost use Rattle.std.specs.Prelude.{◌≡◌, true, IfOk};
 ghost use Rattle.akl_terms.specs.declared.name.Place.{Place};
 ghost use Rattle.box_tree.specs.Tables.{table_of};
 ghost use Rattle.box_tree.specs.Insides.{IsCandidateOf};
-ghost use Rattle.place_steps.specs.Seen.{view_in, IsSight, IsCandidateAt, IsSeen, IsSeenBy};
+ghost use Rattle.place_steps.specs.Seen.{view_in, IsSight, IsCandidateAt, IsSeen, IsSeenBy, IsStillIn};
 
 use akl_terms::{Name, Place};
 use box_tree::{Inside, LookError, View};
@@ -23,11 +23,13 @@ pub enum Seen {
     Root {
         view: View,
     },
-    /// Another box, with all that stands inside it, and the alternative at which it could be split.
+    /// Another box, with all that stands inside it, the alternative at which it could be split, and whether it is known that
+    /// no place inside it is ready.
     Box {
         view: View,
         inside: Inside,
         alternative: Option<Name>,
+        still: bool,
     },
 }
 
@@ -57,6 +59,37 @@ pub fn see(
     requires { IsCandidateAt core.now place alternative }
     ensures { IfOk result (IsSeenBy core.now place worker) }
 {
+    see_as(alloc, core, place, worker, alternative, false)
+}
+
+/// The same of a place of which it is known that no place inside it is ready, so that none is planned for a split.
+pub fn see_still(
+    alloc: Global,
+    core: &Core,
+    place: Place,
+    worker: u32,
+    alternative: Option<Name>,
+) -> Result<Option<Seen>, AllocError>
+    requires candidate { IsCandidateAt core.now place alternative }
+    requires still { IsStillIn core.now place }
+    ensures { IfOk result (IsSeenBy core.now place worker) }
+{
+    see_as(alloc, core, place, worker, alternative, true)
+}
+
+// The same, and whether it is known that no place inside is ready.
+fn see_as(
+    alloc: Global,
+    core: &Core,
+    place: Place,
+    worker: u32,
+    alternative: Option<Name>,
+    still: bool,
+) -> Result<Option<Seen>, AllocError>
+    requires candidate { IsCandidateAt core.now place alternative }
+    requires still { still ≡ true → IsStillIn core.now place }
+    ensures { IfOk result (IsSeenBy core.now place worker) }
+{
     let view = match core.look(alloc, place, worker) {
         Ok(view) => view,
         Err(LookError::Gone) => return Ok(None),
@@ -65,7 +98,7 @@ pub fn see(
     match place {
         Place::Goal(goal) => Ok(Some(Seen::Goal { goal, view })),
         Place::Box(name) => {
-            let seen = see_box(alloc, core, name, worker, view, alternative)?;
+            let seen = see_box(alloc, core, name, worker, view, alternative, still)?;
             Ok(Some(seen))
         }
     }
@@ -79,9 +112,11 @@ fn see_box(
     worker: u32,
     view: View,
     alternative: Option<Name>,
+    still: bool,
 ) -> Result<Seen, AllocError>
     requires sight { IsSight core.now (Place.Box name) worker view }
     requires candidate { IsCandidateOf (table_of core.now.table) name alternative }
+    requires still { still ≡ true → IsStillIn core.now (Place.Box name) }
     ensures seen { IfOk result IsSeen }
     ensures sight { IfOk result (λ seen. IsSight core.now (Place.Box name) worker (view_in seen)) }
 {
@@ -93,5 +128,6 @@ fn see_box(
         view,
         inside,
         alternative,
+        still,
     })
 }

@@ -44,3 +44,17 @@ whole_rests s token (Place.Box m) e n f = ap (λ (k : Name). is_busy k s.opening
     on (Some Urgency.Urgent) true h = cc
     on (Some Urgency.Ordinary) true h = cc
     on (Some Urgency.Late) true h = cc
+
+-- and so is what may wait, which is a goal
+pub early_rests : (s : SchedulerValue) (token : ℕ) (place : Place) → attention_of s token place ≡ Attention.Early → IsAtRest s.openings place
+early_rests s token (Place.Goal g) e n f = let no : Place.Goal g ≡ Place.Box n = f in absurd cc
+early_rests s token (Place.Box m) e n f = on (urgency_at token s.openings) (is_busy m s.openings) e
+  where
+    on : (u : Option Urgency) (b : Bool) → box_attention u b ≡ Attention.Early → is_busy n s.openings ≡ false
+    on None false h = cc
+    on None true h = cc
+    on (Some Urgency.Urgent) b h = cc
+    on (Some Urgency.Ordinary) false h = cc
+    on (Some Urgency.Ordinary) true h = cc
+    on (Some Urgency.Late) false h = cc
+    on (Some Urgency.Late) true h = cc

@@ -45,7 +45,8 @@ use Rattle.binding_laws.proofs.StepOutside.{step_outside}
 use Rattle.box_tree.specs.Tables.{all_rules, TableValue, table_of}
 use Rattle.box_tree.specs.Views.{run_of}
 use Rattle.opened_places.specs.Leading.{LeadsTo, by_label, by_call}
-use Rattle.opened_places.proofs.Leading.{all_in_force, fork_first, site_by, is_site_by, derives_by, stands_by, later_by}
+use Rattle.box_tree.proofs.AllInForce.{all_in_force}
+use Rattle.opened_places.proofs.Leading.{fork_first, site_by, is_site_by, derives_by, stands_by, later_by}
 use Rattle.scheduler.proofs.OpeningLists.{some_none}
 use Rattle.scheduler.proofs.Woken.{AddsAt}
 

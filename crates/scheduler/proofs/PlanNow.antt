@@ -20,7 +20,8 @@ use Rattle.box_tree.specs.Plans.{PlanValue, IsRead, IsRightLabel, IsRight, of_la
 use Rattle.binding_laws.proofs.BindsLater.{binds_later}
 use Rattle.binding_laws.proofs.CallBindsAgain.{call_binds_again}
 use Rattle.step_commit.specs.Cores.{CoreValue, IsCore, MayCommit, IsFresh, AllWithin}
-use Rattle.step_commit.proofs.CallsNow.{all_in_force, IsPlannedCall, planned_call, CallsOn, calls_on}
+use Rattle.box_tree.proofs.AllInForce.{all_in_force}
+use Rattle.step_commit.proofs.CallsNow.{IsPlannedCall, planned_call, CallsOn, calls_on}
 use Rattle.step_commit.proofs.Committed.{IsPlanned, LeadsOn, leads_on, goes, read_stamped, reads_for}
 use Rattle.step_commit.proofs.Made.{seen_all}
 use Rattle.opened_places.specs.Leading.{LeadsTo, by_label, by_call}

@@ -81,7 +81,7 @@ impl Scheduler {
         ensures unchanged { IfErr result (λ _. self.new ≡ self.old) }
         ensures steps { TakesLabelSteps self.old plan steps.old steps.new }
     {
-        let effects = Effects::of(alloc, self.core.table(), &self.waits, &plan)?;
+        let effects = Effects::of(alloc, self.core.table(), &self.waits, &self.hints, &plan)?;
         let opened = effects.opened.as_slice();
         let gone = effects.gone.as_slice();
         let committed = self.commit_opening(alloc, plan, opened, gone, steps)?;

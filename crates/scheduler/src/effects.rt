@@ -16,6 +16,7 @@ ghost use Rattle.scheduler.specs.Turns.{AreHintsFor};
 ghost use Rattle.scheduler.specs.Listing.{waiting_on, places_but, has_outer, binds_outer, AreInner, AreOthers, AreOthersOnce, AddsOthers, AreListedFor};
 
 use crate::dropping::is_among;
+use crate::hints::Hints;
 use crate::once::each_once;
 use crate::placing::push_those;
 use crate::turns::TurnHints;
@@ -44,6 +45,7 @@ impl Effects {
         alloc: Global,
         table: &Table,
         waits: &Waits,
+        sooner: &Hints,
         plan: &Plan,
     ) -> Result<Effects, AllocError>
         requires { IsOfRun table.now }
@@ -57,7 +59,7 @@ impl Effects {
         };
         let gone = gone_once(alloc, table, plan)?;
         let opened = opened_by(alloc, table, waits, plan, around, gone.as_slice())?;
-        let hints = TurnHints::of(alloc, around.home, plan)?;
+        let hints = TurnHints::of(alloc, around.home, plan, sooner)?;
         Ok(Effects {
             gone,
             opened,

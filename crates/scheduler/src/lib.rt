@@ -8,6 +8,7 @@ mod committing;
 mod counting;
 mod dropping;
 mod effects;
+mod hints;
 mod once;
 mod opening;
 mod placing;

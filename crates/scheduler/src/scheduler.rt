@@ -7,10 +7,11 @@ ghost use Rattle.scheduler.specs.Schedulers.{IsScheduler, AllOpen, IsQuiet, HasG
 ghost use Rattle.scheduler.specs.Opening.{AreOpened};
 ghost use Rattle.scheduler.specs.AllPlaces.{AreAllOpen, AreAllPlaced};
 
+use crate::hints::Hints;
 use crate::opening::open_all;
 use crate::placing::push_those;
 use crate::splits::Splits;
-use akl_terms::{Name, Place, Steps};
+use akl_terms::{Name, Place, Steps, Var};
 use opened_places::Placed;
 use std::alloc::{AllocError, Global};
 use std::marker::{Brand, Model};
@@ -29,6 +30,8 @@ pub struct Scheduler {
     pub(crate) splits: Splits,
     // The labels since late places came as ordinary ones.
     pub(crate) labels: usize,
+    // The late calls that come as ordinary places once a variable is bound.
+    pub(crate) hints: Hints,
 }
 
 impl Model for Scheduler {
@@ -57,6 +60,7 @@ impl Scheduler {
             waits: Waits::new(alloc),
             splits: Splits::new(alloc),
             labels: 0,
+            hints: Hints::new(alloc),
         })
     }
 
@@ -116,6 +120,32 @@ impl Scheduler {
         ensures unchanged { IfErr result (λ _. self.new ≡ self.old) }
     {
         self.open.put_last(token, Urgency::Late)
+    }
+
+    /// The same, but it is ordinary again once this variable is bound, if there is one, the place is a goal and memory suffices.
+    pub fn wait_for(&mut self, token: u64, on: Option<Var>) -> Result<(), AllocError>
+        ensures put { IfOk result (λ _. IsPutLast self.old.openings self.new.openings Urgency.Late token) }
+        ensures places { untimed self.new.openings ≡ untimed self.old.openings }
+        ensures core { self.new.core ≡ self.old.core }
+        ensures waits { self.new.waits ≡ self.old.waits }
+        ensures unchanged { IfErr result (λ _. self.new ≡ self.old) }
+    {
+        self.postpone(token)?;
+        self.hint(token, on);
+        Ok(())
+    }
+
+    // Once this variable is bound, if there is one, the open goal with this token is ordinary again, if memory suffices.
+    fn hint(&mut self, token: u64, on: Option<Var>)
+        ensures { self.new ≡ self.old }
+    {
+        let Some(variable) = on else {
+            return;
+        };
+        if let Some(Place::Goal(goal)) = self.open.place_of(token) {
+            let most = self.open.count().saturating_mul(2);
+            let _ = self.hints.add(variable, goal, most);
+        }
     }
 
     /// Closes the open place with this token, which has gone.

@@ -9,8 +9,9 @@ ghost use Rattle.wake_lists.specs.declared.turn.Urgency.{Urgency};
 ghost use Rattle.scheduler.specs.Turns.{urgency_seen, told_by, unsolved_by, unsolved_among, unless_solved, is_elsewhere, may_fail, IsUrgentAt, AreUrgent, AreUrgentBoxes, StayUrgent, AreHints};
 
 use crate::attention::collects;
+use crate::hints::Hints;
 use crate::scheduler::Scheduler;
-use akl_terms::{Name, Place};
+use akl_terms::{Name, Place, Var};
 use box_tree::{NewBox, Plan, Sight, Step, Table};
 use opened_places::Placed;
 use smallvec::SmallVec;
@@ -28,19 +29,28 @@ pub(crate) struct TurnHints {
     forked: Option<Place>,
     /// The place of the label.
     own: Place,
+    /// The variables that it binds, of those on which late calls wait.
+    bound: SmallVec<Var, 2>,
 }
 
 impl TurnHints {
     /// What the label of a plan tells, whose place is this box or stands in it.
-    pub(crate) fn of(alloc: Global, home: Name, plan: &Plan) -> Result<TurnHints, AllocError>
+    pub(crate) fn of(
+        alloc: Global,
+        home: Name,
+        plan: &Plan,
+        sooner: &Hints,
+    ) -> Result<TurnHints, AllocError>
         ensures { IfOk result (AreHints home plan.now.step) }
     {
         let unsolved = unsolved_by(alloc, home, plan.step())?;
+        let bound = sooner.bound_by(plan)?;
         Ok(TurnHints {
             unsolved,
             told: told_by(home, plan.step()),
             forked: forked_by(plan),
             own: plan.label().place,
+            bound,
         })
     }
 }
@@ -118,7 +128,7 @@ fn forked_by(plan: &Plan) -> Option<Place> {
 }
 
 // As many labels are made for each open place before all late places come again.
-const LABELS_A_PLACE: usize = 16;
+pub(crate) const LABELS_A_PLACE: usize = 16;
 
 impl Scheduler {
     /// Gives turns to the places that a label opened, and to those that went with it.
@@ -136,6 +146,7 @@ impl Scheduler {
         ensures waits { self.new.waits ≡ self.old.waits }
     {
         resume_late(&mut self.open, &mut self.labels);
+        resume_bound(&mut self.open, &mut self.hints, hints.bound.as_slice());
         order_all(&mut self.open, self.core.table(), places, gone, hints);
     }
 }
@@ -149,6 +160,26 @@ fn resume_late(open_places: &mut Open, labels: &mut usize)
     } else {
         *labels = 0;
         open_places.resume_late();
+    }
+}
+
+// The goals that come sooner as these variables are bound aren't late.
+fn resume_bound(open_places: &mut Open, sooner: &mut Hints, bound: &[Var])
+    ensures { untimed open_places.new ≡ untimed open_places.old }
+{
+    for variable in bound {
+        if let Some(goals) = sooner.take(*variable) {
+            resume_goals(open_places, goals.as_slice());
+        }
+    }
+}
+
+// These goals aren't late.
+fn resume_goals(open_places: &mut Open, goals: &[Name])
+    ensures { untimed open_places.new ≡ untimed open_places.old }
+{
+    for goal in goals {
+        resume(open_places, Place::Goal(*goal));
     }
 }
 

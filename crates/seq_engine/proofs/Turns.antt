@@ -1,5 +1,5 @@
 -- Turns of open places, one after another.
-use Rattle.std.proofs.Common.{◌≡◌, ◌<◌, ℕ, List, Some, refl, sym, ◌∙◌, ap, subst}
+use Rattle.std.proofs.Common.{◌≡◌, ◌<◌, ℕ, ◌+◌, List, length, Some, refl, sym, ◌∙◌, ap, subst}
 use Rattle.akl_terms.specs.declared.name.Place.{Place}
 use Rattle.akl_model.specs.declared.label.Label.{Label}
 use Rattle.akl_model.specs.Config.{Found, site_of}
@@ -10,7 +10,8 @@ use Rattle.box_tree.specs.Plans.{PlanValue}
 use Rattle.idle_places.specs.Idling.{IdleValue}
 use Rattle.idle_places.specs.Later.{HasNoReason}
 use Rattle.place_steps.specs.Seen.{IsSight}
-use Rattle.place_steps.specs.Next.{IsFoundIdleBy}
+use Rattle.place_steps.specs.declared.next.Next.{Next}
+use Rattle.place_steps.specs.Next.{IsFoundIdleBy, IsNext, HasRoom}
 use Rattle.wake_lists.specs.Open.{Openings, closed}
 use Rattle.scheduler.specs.Schedulers.{SchedulerValue}
 use Rattle.scheduler.specs.Resting.{IsAtRest}
@@ -18,7 +19,8 @@ use Rattle.scheduler.specs.Weights.{weight}
 use Rattle.scheduler.proofs.Weights.{closed_lighter, untimed_weight}
 use Rattle.seq_engine.specs.declared.attending.Attended.{Attended}
 use Rattle.seq_engine.specs.Runs.{IsPlanNow}
-use Rattle.seq_engine.specs.Attending.{IsOpenUnder, HasWaited, HasClosed, IsIdleNow, HasAttended}
+use Rattle.seq_engine.specs.Attending.{IsOpenUnder, HasWaited, HasClosed, IsIdleNow, IsNextNow, HasAttended}
+use Rattle.seq_engine.proofs.Plans.{next_now}
 
 pub waits_none : (s : SchedulerValue) → HasWaited s s
 waits_none s = record { core = refl; places = refl }
@@ -57,3 +59,9 @@ idle_now s token place v i o r x y = record {
       subst (HasNone s.core.table s.core.journal) (sym y.idle.2)
       (subst (λ (j : List Label). HasNone s.core.table j v.place) x.journal (subst (λ (t : TableValue). HasNone t v.journal v.place) x.table (y.no_reason e)));
 }
+
+-- and so is what comes next there
+pub comes_now : (s : SchedulerValue) (token : ℕ) (place : Place) (v : ViewValue) (n : Next) (left : ℕ) → IsOpenUnder s token place → IsAtRest s.openings place → IsSight s.core place 1 v → IsNext v n → HasRoom left n
+    → length s.core.journal + left ≡ s.core.budget → IsNextNow s n
+comes_now s token place v (Next.Plan p) left o r x y room e = next_now s.core place v p left x y room e
+comes_now s token place v (Next.Idle i) left o r x y room e = idle_now s token place v i o r x y

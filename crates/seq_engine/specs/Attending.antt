@@ -11,6 +11,7 @@ use Rattle.scheduler.specs.Openings.{IsOpenAt}
 use Rattle.scheduler.specs.Resting.{IsAtRest}
 use Rattle.scheduler.specs.Schedulers.{SchedulerValue}
 use Rattle.scheduler.specs.Weights.{weight}
+use Rattle.place_steps.specs.declared.next.Next.{Next}
 use Rattle.seq_engine.specs.declared.attending.Attended.{Attended}
 use Rattle.seq_engine.specs.Runs.{IsPlanNow, IsQuiet}
 
@@ -48,6 +49,11 @@ pub record IsIdleNow (s : SchedulerValue) (i : IdleValue) : Type 0 where
   pub at_rest : IsAtRest s.openings i.place
   pub no_reason : i.inside ≡ false → (t : TableIn s.core) (f : Found) → site_of i.place t.config.roots ≡ Some f → HasNoReason f
 
+-- a plan was made of all of the journal, or an open place in which nothing is open was found idle by it
+abbrev pub IsNextNow : SchedulerValue → Next → Type 0
+IsNextNow s (Next.Plan p) = IsPlanNow s.core p
+IsNextNow s (Next.Idle i) = IsIdleNow s i
+
 -- the journal has a plan, or no place changed
 abbrev pub HasTried : SchedulerValue → SchedulerValue → Option PlanValue → Type 0
 HasTried s d None = HasWaited s d
@@ -57,6 +63,11 @@ abbrev pub HasAttended : SchedulerValue → SchedulerValue → Attended → Type
 HasAttended s d Attended.Quiet = (d.core ≡ s.core) × IsQuiet d.core
 HasAttended s d (Attended.Planned p) = (d.core ≡ s.core) × IsPlanNow d.core p
 HasAttended s d Attended.Closed = HasClosed s d
+
+-- something came of an open place, or it waits behind all others
+abbrev pub HasCome : SchedulerValue → SchedulerValue → Option Attended → Type 0
+HasCome s d None = HasWaited s d
+HasCome s d (Some a) = HasAttended s d a
 
 abbrev pub HasPlan : SchedulerValue → SchedulerValue → Option PlanValue → Type 0
 HasPlan s d None = (d.core ≡ s.core) × IsQuiet d.core

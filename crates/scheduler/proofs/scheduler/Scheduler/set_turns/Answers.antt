@@ -8,7 +8,7 @@ use Rattle.scheduler.proofs.scheduler.Scheduler.set_turns.Goals as goal
 pub invariant_of-self : goal.invariant_of-self
 invariant_of-self c =
     let s : SchedulerValue = record { core = c.self.inside.core; openings = c.self.inside.open; waits = c.self.inside.waits } in
-    let same : untimed c.order_all.new.open_places ≡ untimed s.openings = c.order_all.ensures.places ∙ c.resume_late.ensures in
+    let same : untimed c.order_all.new.open_places ≡ untimed s.openings = c.order_all.ensures.places ∙ c.resume_bound.ensures ∙ c.resume_late.ensures in
     record {
       scheduler = untimed_scheduler s c.self.invariant.scheduler c.order_all.new.open_places same;
       splits = untimed_splits s.core.table s.openings c.order_all.new.open_places c.self.inside.splits same c.self.invariant.splits;

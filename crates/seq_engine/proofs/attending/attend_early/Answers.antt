@@ -1,0 +1,17 @@
+use Rattle.std.proofs.Common.{◌≡◌, ◌+◌, length, subst}
+use Rattle.step_commit.specs.Cores.{CoreValue}
+use Rattle.place_steps.specs.Seen.{view_in, IsSight, IsSeenBy}
+use Rattle.place_steps.specs.Next.{IsEarly, HasEarlyRoom}
+use Rattle.seq_engine.proofs.Turns.{forgotten, comes_now}
+use Rattle.seq_engine.proofs.attending.attend_early.Goals as goal
+
+pub returns-in_default : goal.returns-in_default
+returns-in_default c = forgotten c.args.scheduler.now c.forget.new.self c.args.token c.args.place c.requires.open c.forget.ensures.closed
+
+pub follow-requires : goal.follow-requires
+follow-requires c =
+    let sight : IsSight c.args.scheduler.now.core c.args.place 1 (view_in c.in-Some.seen) =
+    subst (λ (k : CoreValue). IsSight k c.args.place 1 (view_in c.in-Some.seen)) c.core.ensures.core (subst (IsSeenBy c.core.result.now c.args.place 1) c.in-Some.is c.in_ok-seen.ensures).1 in
+    comes_now c.args.scheduler.now c.args.token c.args.place (view_in c.in-Some.seen) c.in-Next.next c.left.result c.requires.open c.requires.rest sight
+    (subst (IsEarly (view_in c.in-Some.seen)) c.in-Next.is c.in_ok-next.ensures.next) (subst (HasEarlyRoom c.left.result) c.in-Next.is c.in_ok-next.ensures.room)
+    (subst (λ (k : CoreValue). length k.journal + c.left.result ≡ k.budget) c.core-2.ensures.core c.left.ensures)
