@@ -88,7 +88,7 @@ tutorial/waiting.akl --why: philosopher(F,G,A), philosopher(G,F,B)
 tutorial/waiting.akl: philosopher(F,G,A), philosopher(G,F,B), G = down
 tutorial/arithmetic.akl --why: X is Y * 2, Z is 1 // 0
 akl_steps tutorial/append.akl: append([1,2],[3],Z)
-akl_steps tutorial/conditional.akl --tree --to=3: light(X,What), X = green
+akl_steps tutorial/conditional.akl --tree: light(X,What)
 tutorial/append.akl --workers=4: append([1,2],[3],Z)
 ";
 
