@@ -160,7 +160,7 @@ fn a_worker_plans_while_another_is_held(rt: HostRuntime) -> Result<(), AllocErro
 fn four_workers_plan_over_one_state(rt: HostRuntime) -> Result<(), AllocError> {
     let gate = MeetGate::new(4, 10_000_000);
     let query = "p(A), p(B), p(C), p(D)";
-    let reply = answer_at(&rt, rt.alloc(), "p(a) :- -> true.", query, &gate)?;
+    let reply = answer_at(&rt, rt.alloc(), "p(X) :- X < 1 ? true.", query, &gate)?;
     expect(&rt, &reply.text, "2 / suspended 1", query);
     assert!(rt; gate.met());
     assert_eq!(rt; reply.labels, 4);
