@@ -47,78 +47,45 @@ in-front : {K : Type 0} (cmp : K → K → Ordering) → IsTotalOrder cmp → (x
 unfolding IsStrictlySortedBy
 in-front cmp o x y ks less h = ((less, above-all cmp o x y ks less h.0), h)
 
-names-in-front : (x y : Name) (l : List Name) → name_cmp x y ≡ Less → IsStrictlySortedBy name_cmp (y ∷ l) → IsStrictlySortedBy name_cmp (x ∷ y ∷ l)
-names-in-front x y l e h = in-front name_cmp name-total x y l e h
-
-bindings-in-front : (x y : Var × Term) (l : List (Var × Term)) → var_cmp x.0 y.0 ≡ Less → IsOrdered var_cmp (y ∷ l) → IsOrdered var_cmp (x ∷ y ∷ l)
-bindings-in-front x y l e h = in-front var_cmp var_total x.0 y.0 (keys_of l) e h
-
-few-names : (l : List Name) → length l ≤ 1 → IsStrictlySortedBy name_cmp l
-unfolding IsStrictlySortedBy
-few-names [] h = tt
-few-names (n ∷ []) h = (tt, tt)
-few-names (n ∷ m ∷ l) h = absurd (omega arith)
-
-few-bindings : (l : List (Var × Term)) → length l ≤ 1 → IsOrdered var_cmp l
-unfolding IsStrictlySortedBy
-few-bindings [] h = tt
-few-bindings (b ∷ []) h = (tt, tt)
-few-bindings (b ∷ c ∷ l) h = absurd (omega arith)
-
-pub names-further : (ns : List Name) (at : ℕ) (d e : Name) → 0 < at → at < length ns → is_lt (name_cmp (slice_index_or ns (at - 1) d) (slice_index_or ns at e)) ≡ true
-    → IsStrictlySortedBy name_cmp (drop (at + 1 - 1) ns) → IsStrictlySortedBy name_cmp (drop (at - 1) ns)
-names-further ns at d e some more less h = one-further (IsStrictlySortedBy name_cmp) (λ a b. name_cmp a b ≡ Less) names-in-front ns at d e some more (Less-from_is_lt _ less) h
-
-pub names-end : (ns : List Name) (at : ℕ) → length ns ≤ at → IsStrictlySortedBy name_cmp (drop (at - 1) ns)
-names-end ns at h = at-end (IsStrictlySortedBy name_cmp) (λ a b. name_cmp a b ≡ Less) names-in-front ns at few-names h
-
-pub bindings-further : (bs : List (Var × Term)) (at : ℕ) (d e : Var × Term) → 0 < at → at < length bs → is_lt (var_cmp (slice_index_or bs (at - 1) d).0 (slice_index_or bs at e).0) ≡ true
-    → IsOrdered var_cmp (drop (at + 1 - 1) bs) → IsOrdered var_cmp (drop (at - 1) bs)
-bindings-further bs at d e some more less h = one-further (IsOrdered var_cmp) (λ a b. var_cmp a.0 b.0 ≡ Less) bindings-in-front bs at d e some more (Less-from_is_lt _ less) h
-
-pub bindings-end : (bs : List (Var × Term)) (at : ℕ) → length bs ≤ at → IsOrdered var_cmp (drop (at - 1) bs)
-bindings-end bs at h = at-end (IsOrdered var_cmp) (λ a b. var_cmp a.0 b.0 ≡ Less) bindings-in-front bs at few-bindings h
-
--- where two that stand side by side aren't in order, the list isn't
-
 not-less : (o : Ordering) → o ≡ Less → is_lt o ≡ false → ⊥
 not-less Less e h = cc
 not-less Equal e h = cc
 not-less Greater e h = cc
 
-names-side_by_side : (ns : List Name) (at : ℕ) (d e : Name) → suc at < length ns → IsStrictlySortedBy name_cmp ns → name_cmp (slice_index_or ns at d) (slice_index_or ns (suc at) e) ≡ Less
-unfolding IsStrictlySortedBy
-names-side_by_side [] at d e h s = absurd (omega arith)
-names-side_by_side (n ∷ []) at d e h s = absurd (omega arith)
-names-side_by_side (n ∷ m ∷ ns) zero d e h s = s.0.0
-names-side_by_side (n ∷ m ∷ ns) (suc at) d e h s = names-side_by_side (m ∷ ns) at d e (omega arith) s.1
+-- lists whose elements have keys in order
+module _ {A K : Type 0} (key : A → K) (cmp : K → K → Ordering) (o : IsTotalOrder cmp) where
+  abbrev pub IsInOrder : List A → Type 0
+  IsInOrder l = IsStrictlySortedBy cmp (map key l)
 
-pub names-apart : (ns : List Name) (at : ℕ) (d e : Name) → 0 < at → at < length ns → is_lt (name_cmp (slice_index_or ns (at - 1) d) (slice_index_or ns at e)) ≡ false → IsStrictlySortedBy name_cmp ns → ⊥
-names-apart ns at d e some more h s =
-    let place : suc (at - 1) ≡ at = omega arith in
-    let less = subst (λ (k : ℕ). name_cmp (slice_index_or ns (at - 1) d) (slice_index_or ns k e) ≡ Less) place (names-side_by_side ns (at - 1) d e (omega arith) s) in
-    not-less _ less h
+  keys-in-front : (x y : A) (l : List A) → cmp (key x) (key y) ≡ Less → IsInOrder (y ∷ l) → IsInOrder (x ∷ y ∷ l)
+  keys-in-front x y l e h = in-front cmp o (key x) (key y) (map key l) e h
 
-bindings-side_by_side : (bs : List (Var × Term)) (at : ℕ) (d e : Var × Term) → suc at < length bs → IsOrdered var_cmp bs → var_cmp (slice_index_or bs at d).0 (slice_index_or bs (suc at) e).0 ≡ Less
-unfolding IsStrictlySortedBy
-bindings-side_by_side [] at d e h s = absurd (omega arith)
-bindings-side_by_side (b ∷ []) at d e h s = absurd (omega arith)
-bindings-side_by_side (b ∷ c ∷ bs) zero d e h s = s.0.0
-bindings-side_by_side (b ∷ c ∷ bs) (suc at) d e h s = bindings-side_by_side (c ∷ bs) at d e (omega arith) s.1
+  few-keys : (l : List A) → length l ≤ 1 → IsInOrder l
+  unfolding IsStrictlySortedBy
+  few-keys [] h = tt
+  few-keys (x ∷ []) h = (tt, tt)
+  few-keys (x ∷ y ∷ l) h = absurd (omega arith)
 
-pub bindings-apart : (bs : List (Var × Term)) (at : ℕ) (d e : Var × Term) → 0 < at → at < length bs → is_lt (var_cmp (slice_index_or bs (at - 1) d).0 (slice_index_or bs at e).0) ≡ false → IsOrdered var_cmp bs → ⊥
-bindings-apart bs at d e some more h s =
-    let place : suc (at - 1) ≡ at = omega arith in
-    let less = subst (λ (k : ℕ). var_cmp (slice_index_or bs (at - 1) d).0 (slice_index_or bs k e).0 ≡ Less) place (bindings-side_by_side bs (at - 1) d e (omega arith) s) in
-    not-less _ less h
+  pub keys-further : (xs : List A) (at : ℕ) (d e : A) → 0 < at → at < length xs → is_lt (cmp (key (slice_index_or xs (at - 1) d)) (key (slice_index_or xs at e))) ≡ true
+      → IsInOrder (drop (at + 1 - 1) xs) → IsInOrder (drop (at - 1) xs)
+  keys-further xs at d e some more less h = one-further IsInOrder (λ x y. cmp (key x) (key y) ≡ Less) keys-in-front xs at d e some more (Less-from_is_lt _ less) h
 
--- frames as they are kept
-abbrev pub frame_entries : List Name → List (Name × Unit {0})
-frame_entries frames = map (λ n. (n, tt)) frames
+  pub keys-end : (xs : List A) (at : ℕ) → length xs ≤ at → IsInOrder (drop (at - 1) xs)
+  keys-end xs at h = at-end IsInOrder (λ x y. cmp (key x) (key y) ≡ Less) keys-in-front xs at few-keys h
 
-pub keys-frames : (ns : List Name) → keys_of (frame_entries ns) ≡ ns
-keys-frames [] = refl
-keys-frames (n ∷ ns) = ap (λ (l : List Name). n ∷ l) (keys-frames ns)
+  -- where two that stand side by side aren't in order, the list isn't
+  side_by_side : (xs : List A) (at : ℕ) (d e : A) → suc at < length xs → IsInOrder xs → cmp (key (slice_index_or xs at d)) (key (slice_index_or xs (suc at) e)) ≡ Less
+  unfolding IsStrictlySortedBy
+  side_by_side [] at d e h s = absurd (omega arith)
+  side_by_side (x ∷ []) at d e h s = absurd (omega arith)
+  side_by_side (x ∷ y ∷ xs) zero d e h s = s.0.0
+  side_by_side (x ∷ y ∷ xs) (suc at) d e h s = side_by_side (y ∷ xs) at d e (omega arith) s.1
+
+  pub keys-apart : (xs : List A) (at : ℕ) (d e : A) → 0 < at → at < length xs → is_lt (cmp (key (slice_index_or xs (at - 1) d)) (key (slice_index_or xs at e))) ≡ false → IsInOrder xs → ⊥
+  keys-apart xs at d e some more h s =
+      let place : suc (at - 1) ≡ at = omega arith in
+      let less = subst (λ (k : ℕ). cmp (key (slice_index_or xs (at - 1) d)) (key (slice_index_or xs k e)) ≡ Less) place (side_by_side xs (at - 1) d e (omega arith) s) in
+      not-less _ less h
 
 -- bindings of different variables, as they are kept
 
@@ -129,6 +96,11 @@ bindings-first (b ∷ bs) = ap (λ (l : List (Var × Term)). b ∷ l) (bindings-
 first-above : (x : Var) (bs : List (Var × Term)) → AllByRecursion (λ y. var_cmp x y ≡ Less) (keys_of bs) → AllByRecursion (λ k. key_cmp (x, 0) k ≡ Less) (keys_of (first_entries bs))
 first-above x [] h = tt
 first-above x (b ∷ bs) h = (rw h.0 refl, first-above x bs h.1)
+
+-- what kept bindings are of
+pub keys-bindings : (es : List Entry) → keys_of (bindings_of es) ≡ map (λ (e : Entry). e.0.0) es
+keys-bindings [] = refl
+keys-bindings (e ∷ es) = ap (λ (l : List Var). e.0.0 ∷ l) (keys-bindings es)
 
 pub first-ordered : (bs : List (Var × Term)) → IsOrdered var_cmp bs → IsOrdered key_cmp (first_entries bs)
 unfolding IsStrictlySortedBy

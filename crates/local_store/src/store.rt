@@ -6,8 +6,8 @@ ghost use Rattle.akl_terms.specs.Names.{same_name, name_cmp, var_cmp};
 ghost use Rattle.rational_unify.specs.Known.{found_in};
 ghost use Rattle.local_store.specs.Stored.{nothing, portless, unbound, is_named, with_frame, with_port, with_binding, with_bindings};
 ghost use Rattle.local_store.specs.Telling.{clashed};
+ghost use Rattle.local_store.specs.Kept.{bindings_of, first_entries};
 
-use crate::in_order::{bindings_in_order, frames_in_order};
 use akl_terms::{Name, Term, Var};
 use persist_map::BufferedMap;
 use smallvec::SmallVec;
@@ -65,21 +65,23 @@ impl Store {
         }
     }
 
-    /// The store of these frames and bindings, without ports. The frames are in increasing order, and the bindings in that
-    /// of their variables, one for each: trees are made of them at once, with nothing compared.
+    /// The store of these frames and bindings, as a store keeps them, without ports. The frames are in increasing order, and
+    /// the bindings in that of their variables, one for each, under the number 0: trees are made of them at once, with
+    /// nothing compared.
     pub fn of_sorted(
         alloc: Global,
-        frames: &[Name],
-        bindings: &[(Var, Term)],
+        frames: &[(Name, ())],
+        bindings: &[((Var, u64), Term)],
     ) -> Result<Store, AllocError>
-        requires frames { IsStrictlySortedBy name_cmp frames.now }
-        requires bindings { IsStrictlySortedBy var_cmp (keys_of bindings.now) }
-        ensures { IfOk result (λ s. s ≡ portless frames.now bindings.now) }
+        requires frames { IsStrictlySortedBy name_cmp (keys_of frames.now) }
+        requires bindings { IsStrictlySortedBy var_cmp (keys_of (bindings_of bindings.now)) }
+        requires first { bindings.now ≡ first_entries (bindings_of bindings.now) }
+        ensures { IfOk result (λ s. s ≡ portless (keys_of frames.now) (bindings_of bindings.now)) }
     {
         Ok(Store {
             alloc,
-            frames: frames_in_order(alloc, frames)?,
-            bindings: bindings_in_order(alloc, bindings)?,
+            frames: BufferedMap::of_sorted(alloc, frames)?,
+            bindings: BufferedMap::of_sorted(alloc, bindings)?,
             next: 1,
             ports: BufferedMap::new(alloc),
         })
@@ -246,10 +248,18 @@ impl Store {
     }
 
     /// The frames in increasing order of names, as they are kept.
-    pub(crate) fn frame_entries(&self) -> Result<Vec<(Name, ())>, AllocError>
+    pub fn frame_entries(&self) -> Result<Vec<(Name, ())>, AllocError>
         ensures { IfOk result (λ list. keys_of list.items ≡ self.now.frames) }
     {
         self.frames.entries()
+    }
+
+    /// The bindings in the order of `bindings`, as they are kept: each under its variable and a number, which is 0 for the
+    /// first of its variable.
+    pub fn binding_entries(&self) -> Result<Vec<((Var, u64), Term)>, AllocError>
+        ensures { IfOk result (λ list. bindings_of list.items ≡ self.now.bindings) }
+    {
+        self.bindings.entries()
     }
 
     /// The bindings in increasing order of variables, those of one variable in the order in which they were added.

@@ -150,7 +150,7 @@ impl<K: Ord + Copy, V: Copy> BufferedMap<K, V> {
     pub fn entries(&self) -> Result<Vec<(K, V)>, AllocError>
         ensures { IfOk result (λ list. list.items ≡ self.now) }
     {
-        let mut list = entries_in(self.alloc, &self.settled)?;
+        let mut list = entries_in(self.alloc, &self.settled, self.newest.len())?;
         for entry in &self.newest {
             put(&mut list, entry.0, entry.1)?;
         }
@@ -190,14 +190,17 @@ fn last_key<K: Ord + Copy, V>(entries: &[(K, V)]) -> Option<K>
     }
 }
 
-// The entries of a tree.
+// The entries of a tree, in a list with room for some more. A small tree's list is made as long as the tree may be, so that it
+// isn't moved as it grows.
 fn entries_in<K: Ord + Copy, V: Copy>(
     alloc: Global,
     map: &PMap<K, V>,
+    more: usize,
 ) -> Result<Vec<(K, V)>, AllocError>
     ensures { IfOk result (λ list. list.items ≡ map.now) }
 {
-    let mut list = Vec::new(alloc);
+    let most = (1usize << map.height().min(6)).saturating_sub(1);
+    let mut list = Vec::with_capacity(alloc, most.saturating_add(more))?;
     map.push_entries(&mut list)?;
     Ok(list)
 }

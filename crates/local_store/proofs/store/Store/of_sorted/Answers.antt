@@ -1,14 +1,19 @@
-use Rattle.std.proofs.Common.{ap, ◌∙◌}
-use Rattle.local_store.specs.Kept.{bindings_of}
-use Rattle.local_store.proofs.InOrder.{bindings-first, first-kept}
+use Rattle.std.proofs.Common.{◌≡◌, sym, ap, ◌∙◌, subst}
+use Rattle.std.specs.Map.{keys_of}
+use Rattle.persist_map.specs.Entries.{IsOrdered}
+use Rattle.local_store.specs.Kept.{key_cmp, bindings_of, IsKept}
+use Rattle.local_store.proofs.InOrder.{first-ordered, first-kept}
 use Rattle.local_store.proofs.store.Store.of_sorted.Goals as goal
 
+pub of_sorted-requires-2 : goal.of_sorted-requires-2
+of_sorted-requires-2 c = subst (IsOrdered key_cmp) (sym c.requires.first) (first-ordered (bindings_of c.args.bindings.now) c.requires.bindings)
+
 pub invariant_of-result : goal.invariant_of-result
-invariant_of-result c = rw c.in_ok-bindings_in_order.ensures (first-kept c.args.bindings.now c.requires.bindings)
+invariant_of-result c = subst (λ es. IsKept es 1) (sym (c.in_ok-of_sorted-2.ensures ∙ c.requires.first)) (first-kept (bindings_of c.args.bindings.now) c.requires.bindings)
 
 pub returns : goal.returns
 returns c = λ i. record {
-  frames = c.in_ok-frames_in_order.ensures i;
-  bindings = (ap bindings_of c.in_ok-bindings_in_order.ensures ∙ bindings-first c.args.bindings.now) i;
+  frames = ap keys_of c.in_ok-of_sorted.ensures i;
+  bindings = ap bindings_of c.in_ok-of_sorted-2.ensures i;
   ports = c.new.ensures i;
 }
