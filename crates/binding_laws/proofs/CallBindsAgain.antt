@@ -1,6 +1,5 @@
 -- A call at once binds the same where it is made again in the same box.
 use Rattle.std.proofs.Common.{◌≡◌, ℕ, List, ◌++◌, Some, sym, ap, subst, ◌∙◌}
-use Rattle.std.specs.Prelude.{◌+◌, slice_index}
 use Rattle.akl_terms.specs.declared.name.Name.{Name}
 use Rattle.akl_terms.specs.declared.name.Var.{Var}
 use Rattle.akl_terms.specs.declared.program.Program.{Program}
@@ -11,40 +10,34 @@ use Rattle.constraint_laws.specs.Oldest.{HasOldest}
 use Rattle.constraint_laws.specs.Touched.{IsAmong}
 use Rattle.akl_model.specs.declared.label.Rule.{Rule}
 use Rattle.akl_model.specs.Config.{Content, without_goal, Config, Found, equations_of, whole, box_at, home_of}
-use Rattle.akl_model.specs.Instances.{drawn_by, with_atoms}
-use Rattle.akl_model.specs.Rules.{joining}
 use Rattle.akl_model.specs.Names.{HasDistinctNames}
 use Rattle.akl_model.specs.Changes.{Binds}
-use Rattle.akl_model.proofs.NamesKept.{Stand, derived-stands}
+use Rattle.akl_model.proofs.NamesKept.{Stand}
 use Rattle.akl_model.proofs.Options.{some_value}
 use Rattle.step_laws.specs.Bound.{outermost_equations, AreBoundIn}
 use Rattle.step_laws.specs.Stays.{IsSameBox}
-use Rattle.step_laws.proofs.Whereabouts.{in_found}
-use Rattle.call_laws.specs.AtOnce.{IsAtOnce, labels_at_once, at_once, AreInForce, IsAtOnceIn}
-use Rattle.call_laws.proofs.Between.{stand_of, was_found, stands_now}
-use Rattle.call_laws.proofs.Calls.{at_once_law}
+use Rattle.call_laws.specs.AtOnce.{with_named, IsAtOnce, at_once, AreInForce, IsAtOnceIn}
+use Rattle.call_laws.proofs.Between.{stand_of, was_found}
+use Rattle.call_laws.proofs.CallPassage.{end_home}
 use Rattle.binding_laws.proofs.BindsLater.{same_outermost}
 
 -- the box of the goal afterwards
 abbrev pub box_after : {p : Program} {c : Config} {w : ℕ} {g : Name} {f : Found} → IsAtOnce p c w g f → Found
 box_after {p} {c} {w} {g} {f} x = record {
   around = f.around;
-  content = joining x.last f.content;
-  goals = with_atoms w (slice_index c.next w + drawn_by x.called.clauses) x.last.body (without_goal g f.goals);
+  content = x.after;
+  goals = with_named x.goals_left (without_goal g f.goals);
 }
 
 module _ (rules : List Rule) (force : AreInForce rules) (p : Program) (c : Config) (distinct : HasDistinctNames c) (w : ℕ) (g : Name) (f : Found) (is_home : home_of g c.roots ≡ Some f) (x : IsAtOnce p c w g f) where
   abbrev s : Stand c
   s = stand_of c distinct
 
-  was_there : box_at f.content.name c.roots ≡ Some f
+  pub was_there : box_at f.content.name c.roots ≡ Some f
   was_there = was_found c s g f is_home
 
-  after_stands : Stand (at_once x)
-  after_stands = derived-stands rules p c (at_once x) (labels_at_once x) s (at_once_law rules force p c distinct w g f is_home x)
-
   pub is_there : box_at f.content.name (at_once x).roots ≡ Some (box_after x)
-  is_there = in_found (at_once x).roots (box_after x) after_stands.once (stands_now c s g f is_home (joining x.last f.content) (with_atoms w (slice_index c.next w + drawn_by x.called.clauses) x.last.body (without_goal g f.goals)))
+  is_there = end_home rules force p c s w g f is_home x ⊥ (λ u. absurd u)
 
 -- between boxes with the same contents, down to them and after a change, the same is bound
 binds_as : (c e d h : Config) (m n : Name) (f k a b : Found) → box_at m c.roots ≡ Some f → box_at m e.roots ≡ Some a → box_at n d.roots ≡ Some k → box_at n h.roots ≡ Some b → IsSameBox f k → IsSameBox a b
@@ -93,7 +86,7 @@ call_binds_again rules force p c distinct w g f is_home x d apart y list bound =
     is_now = is_there rules force p d apart w g y.site y.is_home y.again
 
     joined : IsSameBox (box_after x) (box_after y.again)
-    joined = record { around = y.same.around; content = (λ i. joining ((sym y.same_last) i) (y.same.content i)) }
+    joined = record { around = y.same.around; content = sym y.same_after }
 
     back : IsSameBox y.site f
     back = record { around = sym y.same.around; content = sym y.same.content }

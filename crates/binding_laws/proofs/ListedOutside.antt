@@ -22,7 +22,7 @@ use Rattle.step_laws.specs.Bound.{first_equations, outermost_equations, AreBound
 use Rattle.binding_laws.specs.Bindings.{BindsOutside, HasOuter}
 
 -- boxes begin with the outermost one
-first_of : (boxes : List Content) (b : Content) → (outermost : Content) × (inner : List Content) × (boxes ++ b ∷ [] ≡ outermost ∷ inner) × (first_equations (boxes ++ b ∷ []) ≡ outermost.equations)
+pub first_of : (boxes : List Content) (b : Content) → (outermost : Content) × (inner : List Content) × (boxes ++ b ∷ [] ≡ outermost ∷ inner) × (first_equations (boxes ++ b ∷ []) ≡ outermost.equations)
 first_of [] b = (b, [], refl, refl)
 first_of (k ∷ ks) b = (k, ks ++ b ∷ [], refl, refl)
 

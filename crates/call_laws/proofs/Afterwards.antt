@@ -1,31 +1,27 @@
 -- After a call at once the goal is gone, nothing has a name of the alternatives, and the goal's box has other goals.
 use Rattle.std.proofs.Common.{◌≡◌, ◌+◌, ◌≤◌, ◌<◌, List, ◌∷◌, ◌++◌, length, Bool, true, false, Some, None, refl, sym, ◌∙◌, ap, subst, inl, inr, arith}
 use Rattle.std.proofs.lemmas.List.{length-append}
-use Rattle.std.specs.Prelude.{slice_index, option_map}
+use Rattle.std.specs.Prelude.{slice_index}
 use Rattle.akl_terms.specs.declared.name.Name.{Name}
-use Rattle.akl_terms.specs.declared.name.Place.{Place}
 use Rattle.akl_terms.specs.Names.{same_name}
 use Rattle.akl_terms.proofs.SameNames.{same_name-equal, same_name-refl}
 use Rattle.akl_model.specs.Config.{Content, Boxes, no_boxes, box, Goals, Held, an_atom, held_in, without_goal, Found, box_at, home_of, edited_inside}
 use Rattle.akl_model.specs.Instances.{with_atoms}
 use Rattle.akl_model.specs.Rules.{joining}
-use Rattle.akl_model.specs.Changes.{goal_names, goals_at}
-use Rattle.akl_model.specs.Wakes.{Wait, IsThere, Opens, changed_goals}
 use Rattle.akl_model.proofs.Options.{some_value, map_some}
 use Rattle.akl_model.proofs.Finds.{times_of, times_inside}
 use Rattle.akl_model.proofs.Drawn.{drawn_times, drawn_place}
-use Rattle.akl_model.proofs.NamesKept.{Stand, box-itself}
+use Rattle.akl_model.proofs.NamesKept.{box-itself}
 use Rattle.akl_model.proofs.ScopesAlong.{only_once}
 use Rattle.step_laws.specs.Likeness.{IsOld}
 use Rattle.step_laws.specs.Whereabouts.{BoxIn, InGoals, Stands}
 use Rattle.step_laws.proofs.Deeper.{in_deeper}
 use Rattle.step_laws.proofs.Edits.{AfterEdit, outside, replaced, edit_in, edited_held, held_edited}
-use Rattle.step_laws.proofs.GoalEdits.{HasGoal, has_names, without_in, without_gone, without_other, with_atoms_in, with_atoms_other}
+use Rattle.step_laws.proofs.GoalEdits.{HasGoal, without_in, without_gone, without_other, with_atoms_in, with_atoms_other}
 use Rattle.step_laws.proofs.Steps.{old_box, old_goal}
-use Rattle.step_laws.proofs.There.{there_site}
-use Rattle.step_laws.proofs.Whereabouts.{found_in, in_found, home_in, in_home}
-use Rattle.call_laws.proofs.Between.{was_found, stood, stands_now}
-use Rattle.call_laws.proofs.Alternatives.{Calling, IsNewName, IsPassing, its_goal, new_goal, new_box}
+use Rattle.step_laws.proofs.Whereabouts.{found_in, home_in, in_home}
+use Rattle.call_laws.proofs.Between.{was_found, stood}
+use Rattle.call_laws.proofs.Alternatives.{Calling, IsNewName}
 use Rattle.call_laws.proofs.Sifted.{joined_to}
 use Rattle.call_laws.proofs.Outside.{not_old}
 
@@ -128,26 +124,3 @@ module _ (k : Calling) (a : Content) where
 
   pub box_left : (n : Name) (e : Found) → box_at n (joined_to k a).roots ≡ Some e → IsNewName k n → ⊥
   box_left n e x h = (stands_left e (found_in n (joined_to k a).roots e x)).name (subst (IsNewName k) (box-itself n (joined_to k a).roots e x) h)
-
-  pub passing_gone : (place : Place) → IsPassing k place → IsThere place (joined_to k a).roots → ⊥
-  passing_gone _ its_goal h = let f : (f : Found) × (home_of k.goal (joined_to k a).roots ≡ Some f) = there_site (Place.Goal k.goal) (joined_to k a).roots h in (home_left k.goal f.0 f.1).1 refl
-  passing_gone _ (new_goal m n) h = let f : (f : Found) × (home_of m (joined_to k a).roots ≡ Some f) = there_site (Place.Goal m) (joined_to k a).roots h in (home_left m f.0 f.1).0 n
-  passing_gone _ (new_box m n) h = let f : (f : Found) × (box_at m (joined_to k a).roots ≡ Some f) = there_site (Place.Box m) (joined_to k a).roots h in box_left m f.0 f.1 n
-
-  -- the net change opens the call's box
-  pub box_opened : Stand (joined_to k a) → (waits : List Wait) → Opens waits k.config (joined_to k a) (Place.Box k.home.content.name)
-  box_opened t waits = changed_goals was is differ
-    where
-      was : box_at k.home.content.name k.config.roots ≡ Some k.home
-      was = was_found k.config k.stand k.goal k.home k.is_home
-
-      now : Found
-      now = record { around = k.home.around; content = joining a k.home.content; goals = goals_now }
-
-      is : box_at k.home.content.name (joined_to k a).roots ≡ Some (record { around = k.home.around; content = joining a k.home.content; goals = goals_now })
-      is = in_found (joined_to k a).roots (record { around = k.home.around; content = joining a k.home.content; goals = goals_now }) t.once (stands_now k.config k.stand k.goal k.home k.is_home (joining a k.home.content) goals_now)
-
-      differ : goals_at k.home.content.name k.config.roots ≡ goals_at k.home.content.name (joined_to k a).roots → ⊥
-      differ e =
-          let q : goal_names k.home.goals ≡ goal_names goals_now = some_value (sym (ap (option_map (λ (f : Found). goal_names f.goals)) was) ∙ e ∙ ap (option_map (λ (f : Found). goal_names f.goals)) is) in
-          (goals_left k.goal (has_names k.goal k.home.goals goals_now q (an_atom k.body, k.held))).1 refl

@@ -97,7 +97,7 @@ adds_none rules p c l d s a keeps n x =
     on (at_site b q r) = x.more (ap (λ (u : Found). u.content.equations) r ∙ keeps b.content b.goals b.rest b.is_change ∙ sym (ap (λ (u : Found). u.content.equations) q))
     on (inside b j i m q r) = x.more (ap (λ (u : Found). u.content.equations) r ∙ sym (ap (λ (u : Found). u.content.equations) q))
 
-in_force : (rules : List Rule) → AreInForce rules → (r : Rule) → IsOfGuard r → IsInForce rules r
+pub in_force : (rules : List Rule) → AreInForce rules → (r : Rule) → IsOfGuard r → IsInForce rules r
 in_force rules force Rule.Tell x = force.tell
 in_force rules force Rule.Eval x = force.eval
 in_force rules force _ x = absurd x

@@ -1,14 +1,15 @@
 -- A call at once is right by contents.
-use Rattle.std.proofs.Common.{◌≡◌, ℕ, ◌+◌, List, [], ◌∷◌, ◌++◌, Some, None, refl, sym, ◌∙◌, ap, subst}
+use Rattle.std.proofs.Common.{◌≡◌, ℕ, ◌+◌, List, [], ◌∷◌, ◌++◌, length, Some, None, refl, sym, ◌∙◌, ap, subst}
 use Rattle.std.specs.Prelude.{slice_index}
 use Rattle.akl_terms.specs.declared.name.Name.{Name}
 use Rattle.akl_terms.specs.declared.program.Program.{Program}
+use Rattle.akl_terms.specs.Equal.{IsConsistent}
 use Rattle.akl_model.specs.declared.item.Item.{Item}
 use Rattle.akl_model.specs.declared.label.Rule.{Rule}
 use Rattle.akl_model.specs.declared.label.Label.{Label}
-use Rattle.akl_model.specs.Config.{Atom, Operator, Content, Boxes, no_boxes, box, Goals, no_goals, Config, held_in, Found, home_of}
+use Rattle.akl_model.specs.Config.{Atom, Operator, Content, Boxes, no_boxes, box, Goals, no_goals, Config, held_in, Found, equations_of, home_of}
 use Rattle.akl_model.specs.Instances.{instances}
-use Rattle.akl_model.specs.Rules.{alternative_of}
+use Rattle.akl_model.specs.Rules.{joining, alternative_of}
 use Rattle.akl_model.specs.Conditions.{IsQuietBox, GuardHolds}
 use Rattle.akl_model.specs.Names.{HasDistinctNames}
 use Rattle.akl_model.proofs.NamesKept.{Stand}
@@ -21,7 +22,7 @@ use Rattle.akl_terms.specs.declared.name.Place.{Place}
 use Rattle.akl_model.specs.Conditions.{Makes}
 use Rattle.akl_model.specs.Stable.{Allows}
 use Rattle.akl_model.specs.Instances.{drawn_by}
-use Rattle.call_laws.specs.AtOnce.{Works, rests, works, by, inner, Fails, Sifts, ends, fails, stays, Ends, promotes, cuts, IsAtOnce, AreInForce, IsAtOnceIn, MeetsCall}
+use Rattle.call_laws.specs.AtOnce.{Tells, Works, rests, works, by, inner, Fails, Sifts, ends, fails, stays, Ends, promotes, cuts, IsAtOnce, AreInForce, IsAtOnceIn, MeetsCall}
 use Rattle.call_laws.proofs.Between.{stand_of}
 use Rattle.call_laws.proofs.ByContents.{later_of, as_same}
 use Rattle.call_laws.proofs.CallEdits.{alternative_same}
@@ -73,6 +74,13 @@ at_once_wherever rules force p c distinct w g f is_home x d m =
       end_labels = x.end_labels;
       ends = ends_again f k.0 q w g x.op x.last x.left x.end_labels x.ends;
       few_goals = x.few_goals;
+      body_labels = x.body_labels;
+      after = x.after;
+      goals_left = x.goals_left;
+      body = subst (λ (n : ℕ). Tells p w (n + drawn_by x.called.clauses + length x.last.body) k.0.around (joining x.last k.0.content) (n + drawn_by x.called.clauses) x.last.body x.body_labels x.after x.goals_left) (sym m.next)
+          (subst (λ (b : Content). Tells p w (slice_index c.next w + drawn_by x.called.clauses + length x.last.body) k.0.around (joining x.last b) (slice_index c.next w + drawn_by x.called.clauses) x.last.body x.body_labels x.after x.goals_left) q.content
+          (subst (λ (bs : List Content). Tells p w (slice_index c.next w + drawn_by x.called.clauses + length x.last.body) bs (joining x.last f.content) (slice_index c.next w + drawn_by x.called.clauses) x.last.body x.body_labels x.after x.goals_left) q.around x.body));
+      consistent = subst (λ (bs : List Content). IsConsistent (equations_of bs ++ x.after.equations)) q.around x.consistent;
     } in
     record {
       site = k.0;
@@ -82,5 +90,7 @@ at_once_wherever rules force p c distinct w g f is_home x d m =
       same_labels = refl;
       same_names = refl;
       same_last = refl;
+      same_after = refl;
+      same_left = refl;
       derives = at_once_law rules force p d m.follows.distinct w g k.0 k.1 y;
     }

@@ -1,18 +1,10 @@
--- Lists of places and of waits without a place, and the list of the places that a call at once touches.
-use Rattle.std.proofs.Common.{◌≡◌, ℕ, zero, suc, ◌+◌, ◌<◌, List, [], ◌∷◌, ◌++◌, Bool, true, false, refl, sym, ◌∙◌, ap, subst, ◌⊎◌, inl, inr, arith}
-use Rattle.std.specs.Prelude.{slice_index}
-use Rattle.akl_terms.specs.declared.name.Name.{Name}
+-- Lists of places and of waits without a place.
+use Rattle.std.proofs.Common.{◌≡◌, List, [], ◌∷◌, ◌++◌, sym, ◌∙◌, ◌⊎◌, inl, inr}
 use Rattle.akl_terms.specs.declared.name.Var.{Var}
 use Rattle.akl_terms.specs.declared.name.Place.{Place}
-use Rattle.akl_terms.specs.Names.{same_name}
-use Rattle.akl_terms.proofs.SameNames.{same_name-equal, same_name-refl}
-use Rattle.akl_model.specs.Names.{one_if}
 use Rattle.akl_model.specs.Wakes.{IsOneOf, Wait, IsKept}
-use Rattle.akl_model.proofs.Drawn.{drawn_times}
 use Rattle.constraint_laws.proofs.SameTerms.{Either}
 use Rattle.step_laws.proofs.Decide.{place_or}
-use Rattle.call_laws.proofs.Alternatives.{Calling, IsPassing, its_goal, new_goal, new_box}
-use Rattle.call_laws.proofs.Outside.{IsTouched, its_box, passes}
 
 pub one_of_left : (place : Place) (xs ys : List Place) → IsOneOf place xs → IsOneOf place (xs ++ ys)
 one_of_left place [] ys h = absurd h
@@ -96,48 +88,3 @@ module _ (q : Place) where
       on (inl e) u f = let v : IsKept ws place x × (place ≡ q → ⊥) = f u in (inr v.0, v.1)
       on (inr n) (inl u) f = (inl u, λ v. n (u.0 ∙ v))
       on (inr n) (inr u) f = let v : IsKept ws place x × (place ≡ q → ⊥) = f u in (inr v.0, v.1)
-
--- the places of drawn names
-abbrev pub drawn_places : ℕ → ℕ → ℕ → List Place
-drawn_places w next zero = []
-drawn_places w next (suc n) = Place.Goal (record { worker = w; number = next }) ∷ Place.Box (record { worker = w; number = next }) ∷ drawn_places w (next + 1) n
-
-drawn_one : (m : Name) (w next n : ℕ) → 0 < drawn_times m w next n → IsOneOf (Place.Goal m) (drawn_places w next n) × IsOneOf (Place.Box m) (drawn_places w next n)
-drawn_one m w next zero h = absurd (omega arith)
-drawn_one m w next (suc n) h = on (same_name m (record { worker = w; number = next })) refl h (λ u. drawn_one m w (next + 1) n u)
-  where
-    on : (t : Bool) → same_name m (record { worker = w; number = next }) ≡ t → 0 < one_if t + drawn_times m w (next + 1) n
-        → (0 < drawn_times m w (next + 1) n → IsOneOf (Place.Goal m) (drawn_places w (next + 1) n) × IsOneOf (Place.Box m) (drawn_places w (next + 1) n))
-        → IsOneOf (Place.Goal m) (drawn_places w next (suc n)) × IsOneOf (Place.Box m) (drawn_places w next (suc n))
-    on true q u f = (inl (ap Place.Goal (same_name-equal m (record { worker = w; number = next }) q)), inr (inl (ap Place.Box (same_name-equal m (record { worker = w; number = next }) q))))
-    on false q u f = let v : IsOneOf (Place.Goal m) (drawn_places w (next + 1) n) × IsOneOf (Place.Box m) (drawn_places w (next + 1) n) = f (omega arith) in (inr (inr v.0), inr (inr v.1))
-
-one_drawn : (k : Calling) (w next n : ℕ) → ((m : Name) → 0 < drawn_times m w next n → IsPassing k (Place.Goal m) × IsPassing k (Place.Box m)) → (place : Place) → IsOneOf place (drawn_places w next n) → IsPassing k place
-one_drawn k w next zero f place h = absurd h
-one_drawn k w next (suc n) f place h = on h (λ u. one_drawn k w (next + 1) n (λ m v. f m (omega arith)) place u)
-  where
-    its : one_if (same_name (record { worker = w; number = next }) (record { worker = w; number = next })) ≡ 1
-    its = ap one_if (same_name-refl (record { worker = w; number = next }))
-
-    first : IsPassing k (Place.Goal (record { worker = w; number = next })) × IsPassing k (Place.Box (record { worker = w; number = next }))
-    first = f (record { worker = w; number = next }) (let u : one_if (same_name (record { worker = w; number = next }) (record { worker = w; number = next })) ≡ 1 = its in omega arith)
-
-    on : IsOneOf place (drawn_places w next (suc n)) → (IsOneOf place (drawn_places w (next + 1) n) → IsPassing k place) → IsPassing k place
-    on (inl e) rest = subst (IsPassing k) (sym e) first.0
-    on (inr (inl e)) rest = subst (IsPassing k) (sym e) first.1
-    on (inr (inr u)) rest = rest u
-
--- the call, its box and the places of new names
-abbrev pub touched_places : Calling → List Place
-touched_places k = Place.Goal k.goal ∷ Place.Box k.home.content.name ∷ drawn_places k.worker (slice_index k.config.next k.worker) k.drawn
-
-pub touched_listed : (k : Calling) (place : Place) → IsTouched k place → IsOneOf place (touched_places k)
-touched_listed k _ its_box = inr (inl refl)
-touched_listed k _ (passes _ its_goal) = inl refl
-touched_listed k _ (passes _ (new_goal m h)) = inr (inr (drawn_one m k.worker (slice_index k.config.next k.worker) k.drawn h).0)
-touched_listed k _ (passes _ (new_box m h)) = inr (inr (drawn_one m k.worker (slice_index k.config.next k.worker) k.drawn h).1)
-
-pub listed_touched : (k : Calling) (place : Place) → IsOneOf place (touched_places k) → IsTouched k place
-listed_touched k place (inl e) = subst (IsTouched k) (sym e) (passes (Place.Goal k.goal) its_goal)
-listed_touched k place (inr (inl e)) = subst (IsTouched k) (sym e) its_box
-listed_touched k place (inr (inr h)) = passes place (one_drawn k k.worker (slice_index k.config.next k.worker) k.drawn (λ m u. (new_goal m u, new_box m u)) place h)

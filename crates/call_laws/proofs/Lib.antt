@@ -4,6 +4,11 @@ pub mod OnTop
 pub mod Agreeing
 pub mod CallEdits
 pub mod Alternatives
+pub mod BodyGoals
+pub mod BodySteps
+pub mod GoalLabels
+pub mod Further
+pub mod Passages
 pub mod Sifted
 pub mod Calls
 pub mod CallsAgain
@@ -13,8 +18,12 @@ pub mod Elsewhere
 pub mod Outside
 pub mod Afterwards
 pub mod OpensAlike
+pub mod CallPassage
 pub mod Less
 pub mod Drops
+pub mod AllPlaces
+pub mod Waits
+pub mod Reopens
 pub mod NetRuns
 pub mod NetKept
 pub mod NetOpens

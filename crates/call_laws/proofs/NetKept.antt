@@ -8,49 +8,30 @@ use Rattle.akl_terms.specs.declared.program.Program.{Program}
 use Rattle.akl_terms.specs.declared.program.Query.{Query}
 use Rattle.akl_model.specs.declared.label.Rule.{Rule}
 use Rattle.akl_model.specs.declared.label.Label.{Label}
-use Rattle.akl_model.specs.Config.{Boxes, box, no_boxes, no_goals, Goals, Config, held_in, an_atom, a_choice, Found, box_at, home_of}
-use Rattle.akl_model.specs.Changes.{shape_of, shape_at, goal_names}
-use Rattle.akl_model.specs.Derivations.{Replays}
-use Rattle.akl_model.specs.Wakes.{IsOneOf, IsThere, Wait, IsKept, Opens, new_goal as opens_goal, new_box as opens_box, changed_goal, box_of_changed_goal, changed_constraint, changed_goals, holder_of_changed_goals, woken, bound_outside, IsKeptAfterCommit}
-use Rattle.akl_model.proofs.Options.{some_value}
-use Rattle.akl_model.proofs.NamesKept.{Stand, box-itself, replay-stands, stands_after}
+use Rattle.akl_model.specs.Config.{Content, Boxes, box, no_boxes, no_goals, Goals, Config, held_in, without_goal, Found, box_at, home_of}
+use Rattle.akl_model.specs.Rules.{joining}
+use Rattle.akl_model.specs.Changes.{goal_names}
+use Rattle.akl_model.specs.Derivations.{Applies, Replays}
+use Rattle.akl_model.specs.Wakes.{IsOneOf, IsThere, Wait, IsKept, Opens, IsKeptAfterCommit}
+use Rattle.akl_model.proofs.NamesKept.{Stand, replay-stands, stands_after}
 use Rattle.sleep_laws.proofs.Replayed.{replay_further}
-use Rattle.step_laws.specs.Likeness.{IsOld}
 use Rattle.step_laws.specs.Stays.{HaveShape}
-use Rattle.step_laws.specs.Whereabouts.{Stands}
-use Rattle.step_laws.proofs.GoalEdits.{HasGoal}
-use Rattle.step_laws.proofs.Stays.{shape_held}
-use Rattle.step_laws.proofs.Steps.{old_box, old_goal}
 use Rattle.step_laws.proofs.There.{site_there, there_site}
-use Rattle.step_laws.proofs.Whereabouts.{found_in, home_in}
 use Rattle.wait_laws.specs.Kept.{AreLeftByCommit}
 use Rattle.wait_laws.specs.Waits.{AreWaits}
 use Rattle.wait_laws.proofs.KeptByCommit.{kept_by_commit}
-use Rattle.call_laws.specs.AtOnce.{by, IsAtOnce, at_once, AreInForce}
-use Rattle.call_laws.specs.Between.{with_choice}
+use Rattle.call_laws.specs.AtOnce.{by, with_named, IsAtOnce, at_once, AreInForce}
 use Rattle.call_laws.specs.Wakes.{TellsNothing}
-use Rattle.call_laws.proofs.Between.{is_choice, home}
 use Rattle.call_laws.proofs.Alternatives.{Calling, between, AreNew, IsPassing, its_goal, new_goal, new_box, Steps, stops, goes}
-use Rattle.call_laws.proofs.Afterwards.{passing_gone, box_opened}
-use Rattle.call_laws.proofs.Calls.{calling, forked, fork_applies, fork_adds, forked_new, forked_stand, middle, steps, last_stand, last_new, promoted}
-use Rattle.call_laws.proofs.Less.{waits_less, waits_less_in, waits_less_of}
-use Rattle.call_laws.proofs.OpensAlike.{alike_back, other_name, last_opens, net_opens}
-use Rattle.call_laws.proofs.Outside.{Before, alike_some, not_old, IsTouched, its_box, passes, outside_itself, outside, opened_between}
-
--- other waits of a place open it as well, or there is a reason
-pub opens_or : (P : Type 0) (waits others : List Wait) (c d : Config) (place : Place) → ((x : Var) → IsKept waits place x → IsKept others place x ⊎ P) → Opens waits c d place → Opens others c d place ⊎ P
-opens_or P waits others c d _ h (opens_goal e i) = inl (opens_goal e i)
-opens_or P waits others c d _ h (opens_box e i) = inl (opens_box e i)
-opens_or P waits others c d _ h (changed_goal e i x) = inl (changed_goal e i x)
-opens_or P waits others c d _ h (box_of_changed_goal g e i x) = inl (box_of_changed_goal g e i x)
-opens_or P waits others c d _ h (changed_constraint e i x) = inl (changed_constraint e i x)
-opens_or P waits others c d _ h (changed_goals e i x) = inl (changed_goals e i x)
-opens_or P waits others c d _ h (holder_of_changed_goals n e i x j) = inl (holder_of_changed_goals n e i x j)
-opens_or P waits others c d _ h (woken n {x} y b) = elim (h x y) [ inl z ↦ inl (woken n z b) | inr z ↦ inr z ]
-opens_or P waits others c d _ h (bound_outside n b o s) = inl (bound_outside n b o s)
-
-pub opens_too : (waits others : List Wait) (c d : Config) (place : Place) → ((x : Var) → IsKept waits place x → IsKept others place x) → Opens waits c d place → Opens others c d place
-opens_too waits others c d place h o = elim (opens_or ⊥ waits others c d place (λ x y. inl (h x y)) o) [ inl y ↦ y | inr y ↦ absurd y ]
+use Rattle.call_laws.proofs.BodySteps.{homed, Reduces, rests, reduces}
+use Rattle.call_laws.proofs.CallPassage.{body_passage, body_goals, drawn, joined_stands, told_behind, end_further, passed, box_opens, promote_opens, behind_opens}
+use Rattle.call_laws.proofs.Calls.{calling, forked, fork_applies, fork_adds, forked_new, forked_stand, middle, steps, promoted}
+use Rattle.call_laws.proofs.Further.{there_further, further_along}
+use Rattle.call_laws.proofs.OpensAlike.{alike_back, other_name}
+use Rattle.call_laws.proofs.Outside.{Before, alike_some, IsTouched, its_box, passes, outside_itself, outside, opened_between}
+use Rattle.call_laws.proofs.Passages.{opens_first, opens_then}
+use Rattle.call_laws.proofs.Sifted.{joined_to}
+use Rattle.call_laws.proofs.Waits.{opens_too}
 
 -- what is there before the call, and doesn't pass with it, is there between its labels
 pub there_between : (k : Calling) (bs : Boxes) → Stand (between k bs) → AreNew k bs → (place : Place) → IsThere place k.config.roots → (IsPassing k place → ⊥) → IsThere place (between k bs).roots
@@ -67,46 +48,13 @@ there_between k bs s new (Place.Box n) there h =
     (alike_back (λ (u v : Goals). goal_names u ≡ goal_names v) (λ (u v : Goals). goal_names v ≡ goal_names u) (λ u v q. q) (box_at n k.config.roots) (box_at n (between k bs).roots) ((outside k bs s new).boxes n (λ i. h (new_box n i)))) f.1 in
     site_there (Place.Box n) (between k bs).roots e.before e.found
 
--- a place that is there before the call is touched only where it is the call or its box
-pub untouched : (k : Calling) (place : Place) → IsThere place k.config.roots → (place ≡ Place.Goal k.goal → ⊥) → (place ≡ Place.Box k.home.content.name → ⊥) → IsTouched k place → ⊥
-untouched k _ there n m its_box = m refl
-untouched k _ there n m (passes _ its_goal) = n refl
-untouched k _ there n m (passes _ (new_goal i h)) =
-    let f : (f : Found) × (home_of i k.config.roots ≡ Some f) = there_site (Place.Goal i) k.config.roots there in
-    let y : Stands f.0 k.config.roots × HasGoal i f.0.goals = home_in i k.config.roots f.0 f.1 in
-    not_old k i h (old_goal k.config k.stand i f.0 y.0 y.1)
-untouched k _ there n m (passes _ (new_box i h)) =
-    let f : (f : Found) × (box_at i k.config.roots ≡ Some f) = there_site (Place.Box i) k.config.roots there in
-    not_old k i h (subst (IsOld k.config) (sym (box-itself i k.config.roots f.0 f.1)) (old_box k.config k.stand f.0 (found_in i k.config.roots f.0 f.1)))
-
--- over the labels between the first and the last, waits of places that these don't touch stay kept
-module _ (k : Calling) (q : Query) (waits : List Wait) (there : (place : Place) (x : Var) → IsKept waits place x → IsThere place k.config.roots) (free : (place : Place) (x : Var) → IsKept waits place x → IsTouched k place → ⊥) where
-  kept_along : (bs : Boxes) (ls : List Label) (cs : Boxes) → Steps k ⊤ bs ls cs → (journal : List Label) → Replays k.rules k.program q journal (between k bs) → AreNew k bs → AreWaits (between k bs) [] waits
-      → AreWaits (between k cs) [] waits × Replays k.rules k.program q (journal ++ ls) (between k cs)
-  kept_along _ _ _ (stops bs) journal r n h = (h, subst (λ (ls : List Label). Replays k.rules k.program q ls (between k bs)) (sym (append-nil journal)) r)
-  kept_along _ _ _ (goes l bs cs ls ds new at a none x) journal r n h =
-      let s : Stand (between k bs) = replay-stands k.rules k.program q journal (between k bs) r in
-      let t : Stand (between k cs) = stands_after k.rules k.program (between k bs) l (between k cs) s a in
-      let left : AreLeftByCommit waits (between k bs) (between k cs) waits = record {
-        each = λ place v y. record {
-          kept = y;
-          unopened = λ o. free place v y (opened_between k waits (between k bs) (outside k bs s n) cs t new (none tt) place o);
-          there = there_between k cs t new place (there place v y) (λ i. free place v y (passes place i));
-        };
-        all = λ place v y. y.kept;
-      } in
-      let w : AreWaits (between k ds) [] waits × Replays k.rules k.program q ((journal ++ l ∷ []) ++ ls) (between k ds) =
-      kept_along cs ls ds x (journal ++ l ∷ []) (replay_further k.rules k.program q journal (between k bs) l (between k cs) r a) new
-      (kept_by_commit k.rules k.program q journal (between k bs) l (between k cs) r a [] waits [] waits h (λ place o. absurd o) left) in
-      (w.0, subst (λ (js : List Label). Replays k.rules k.program q js (between k ds)) (append_assoc journal (l ∷ []) ls) w.1)
-
-module _ (rules : List Rule) (force : AreInForce rules) (p : Program) (q : Query) (journal : List Label) (c : Config) (r : Replays rules p q journal c) (w : ℕ) (g : Name) (f : Found) (is_home : home_of g c.roots ≡ Some f)
-    (x : IsAtOnce p c w g f) (tells : TellsNothing x) (before : List Place) (waits : List Wait) (h : AreWaits c before waits) where
+module _ (rules : List Rule) (force : AreInForce rules) (p : Program) (q : Query) (c : Config) (s : Stand c) (w : ℕ) (g : Name) (f : Found) (is_home : home_of g c.roots ≡ Some f) (x : IsAtOnce p c w g f) (tells : TellsNothing x)
+    (before : List Place) (waits : List Wait) (h : AreWaits c before waits) (waits_now : List Wait) (left : AreLeftByCommit waits c (at_once x) waits_now) where
   abbrev k : Calling
-  k = calling rules force p c (replay-stands rules p q journal c r) w g f is_home x
+  k = calling rules force p c s w g f is_home x
 
   abbrev first : Boxes
-  first = forked rules force p c (replay-stands rules p q journal c r) w g f is_home x
+  first = forked rules force p c s w g f is_home x
 
   abbrev last : Boxes
   last = box x.last no_goals no_boxes
@@ -117,106 +65,96 @@ module _ (rules : List Rule) (force : AreInForce rules) (p : Program) (q : Query
   abbrev promote : Label
   promote = by w Rule.Promote (Place.Goal g) (Some x.last.name)
 
-  -- the waits but those of the call and of its box
-  abbrev fewer : List Wait
-  fewer = waits_less (Place.Goal g) (waits_less (Place.Box f.content.name) waits)
+  abbrev m : ℕ
+  m = drawn rules force p c s w g f is_home x ⊤ (λ u. tells)
 
-  fewer_of : (place : Place) (v : Var) → IsKept fewer place v → IsKept waits place v × (place ≡ Place.Goal g → ⊥) × (place ≡ Place.Box f.content.name → ⊥)
-  fewer_of place v y =
-      let u : IsKept (waits_less (Place.Box f.content.name) waits) place v × (place ≡ Place.Goal g → ⊥) = waits_less_of (Place.Goal g) place v (waits_less (Place.Box f.content.name) waits) y in
-      let z : IsKept waits place v × (place ≡ Place.Box f.content.name → ⊥) = waits_less_of (Place.Box f.content.name) place v waits u.0 in
-      (z.0, u.1, z.1)
+  still : (place : Place) (v : Var) → IsKept waits_now place v → IsKeptAfterCommit waits c (at_once x) place v
+  still place v y = left.each place v y
 
-  fewer_in : (place : Place) (v : Var) → (place ≡ Place.Goal g → ⊥) → (place ≡ Place.Box f.content.name → ⊥) → IsKept waits place v → IsKept fewer place v
-  fewer_in place v n m y = elim (waits_less_in (Place.Box f.content.name) place v waits y) [
-    | inl e ↦ absurd (m e)
-    | inr z ↦ elim (waits_less_in (Place.Goal g) place v (waits_less (Place.Box f.content.name) waits) z) [ inl e ↦ absurd (n e) | inr u ↦ u ]
-  ]
+  -- the waits that are left at the end are kept at each configuration between
+  record StillKept (journal : List Label) (n : Config) : Type 0 where
+    pub are_waits : AreWaits n [] waits_now
+    pub replays : Replays rules p q journal n
 
-  there : (place : Place) (v : Var) → IsKept fewer place v → IsThere place c.roots
-  there place v y = h.there place v (fewer_of place v y).0
+  over : (journal : List Label) (n : Config) (l : Label) (o : Config) → StillKept journal n → Applies rules p n l o → ((place : Place) (v : Var) → IsKept waits_now place v → Opens waits_now n o place → ⊥)
+      → ((place : Place) (v : Var) → IsKept waits_now place v → IsThere place o.roots) → StillKept (journal ++ l ∷ []) o
+  over journal n l o r a shut there = record {
+    are_waits = kept_by_commit rules p q journal n l o r.replays a [] waits_now [] waits_now r.are_waits (λ place i. absurd i) (record { each = λ place v y. record { kept = y; unopened = shut place v y; there = there place v y }; all = λ place v y. y.kept });
+    replays = replay_further rules p q journal n l o r.replays a;
+  }
 
-  free : (place : Place) (v : Var) → IsKept fewer place v → IsTouched k place → ⊥
-  free place v y = let z : IsKept waits place v × (place ≡ Place.Goal g → ⊥) × (place ≡ Place.Box f.content.name → ⊥) = fewer_of place v y in untouched k place (there place v y) z.1 z.2
-
-  first_stands : Stand (between k first)
-  first_stands = forked_stand rules force p c (replay-stands rules p q journal c r) w g f is_home x
-
-  first_names : AreNew k first
-  first_names = forked_new rules force p c (replay-stands rules p q journal c r) w g f is_home x
-
-  -- the call becomes a choice
-  chosen : home_of g (between k first).roots ≡ Some (with_choice f g x.op first)
-  chosen = home c (replay-stands rules p q journal c r) g f is_home k.body x.held x.op first (between k first).next first_stands
-
-  differs : shape_at g c.roots ≡ shape_at g (between k first).roots → ⊥
-  differs e =
-      let u : shape_at g c.roots ≡ Some (shape_of (an_atom k.body)) = shape_held g c.roots f (an_atom k.body) is_home x.held in
-      let v : shape_at g (between k first).roots ≡ Some (shape_of (a_choice x.op first)) = shape_held g (between k first).roots (with_choice f g x.op first) (a_choice x.op first) chosen
-      (is_choice c (replay-stands rules p q journal c r) g f is_home k.body x.held x.op first (between k first).next) in
-      let y : shape_of (an_atom k.body) ≡ shape_of (a_choice x.op first) = some_value (sym u ∙ e ∙ v) in
-      cc
-
-  forks : AreWaits (between k first) [] fewer
-  forks = kept_by_commit rules p q journal c fork (between k first) r (fork_applies rules force p c (replay-stands rules p q journal c r) w g f is_home x) before waits [] fewer h (λ place o. absurd o) (record {
-    each = λ place v y. record {
-      kept = (fewer_of place v y).0;
-      unopened = λ o. free place v y (opened_between k waits c (outside_itself k) first first_stands first_names (fork_adds rules force p c (replay-stands rules p q journal c r) w g f is_home x) place o);
-      there = there_between k first first_stands first_names place (there place v y) (λ i. free place v y (passes place i));
+  begin : (journal : List Label) → Replays rules p q journal c → StillKept journal c
+  begin journal r = record {
+    are_waits = record {
+      there = λ place v y. h.there place v (still place v y).kept;
+      closed = λ place v y i. i;
+      scoped = λ place v y. h.scoped place v (still place v y).kept;
+      oldest = λ place v y e i good free u o. left.all place u (record { kept = h.oldest place v (still place v y).kept e i good free u o; unopened = (still place v y).unopened; there = (still place v y).there });
     };
-    all = λ place v y. fewer_in place v (λ e. y.unopened (subst (Opens waits c (between k first)) (sym e) (changed_goal is_home chosen differs)))
-        (λ e. y.unopened (subst (Opens waits c (between k first)) (sym e) (box_of_changed_goal g is_home chosen differs))) y.kept;
-  })
+    replays = r;
+  }
 
-  sifts : AreWaits (between k last) [] fewer × Replays rules p q ((journal ++ fork ∷ []) ++ middle rules force p c (replay-stands rules p q journal c r) w g f is_home x ⊤ (λ u. tells)) (between k last)
-  sifts = kept_along k q fewer there free first (middle rules force p c (replay-stands rules p q journal c r) w g f is_home x ⊤ (λ u. tells)) last (steps rules force p c (replay-stands rules p q journal c r) w g f is_home x ⊤ (λ u. tells))
-      (journal ++ fork ∷ []) (replay_further rules p q journal c fork (between k first) r (fork_applies rules force p c (replay-stands rules p q journal c r) w g f is_home x)) first_names forks
+  -- none of these waits is of a place that the net change opens
+  untold : (place : Place) (v : Var) → IsKept waits_now place v → Opens waits_now c (at_once x) place → ⊥
+  untold place v y o = (still place v y).unopened (opens_too waits_now waits c (at_once x) place (λ u i. (still place u i).kept) o)
 
-  last_stands : Stand (between k last)
-  last_stands = last_stand rules force p c (replay-stands rules p q journal c r) w g f is_home x ⊤ (λ u. tells)
+  untouched : (place : Place) (v : Var) → IsKept waits_now place v → IsTouched k place → ⊥
+  untouched _ v y its_box = (still (Place.Box f.content.name) v y).unopened (box_opens rules force p c s w g f is_home x ⊤ (λ u. tells) waits)
+  untouched _ v y (passes place i) = passed rules force p c s w g f is_home x ⊤ (λ u. tells) place i (still place v y).there
 
-  last_names : AreNew k last
-  last_names = last_new rules force p c (replay-stands rules p q journal c r) w g f is_home x ⊤ (λ u. tells)
+  there_still : (bs : Boxes) → Stand (between k bs) → AreNew k bs → (place : Place) (v : Var) → IsKept waits_now place v → IsThere place (between k bs).roots
+  there_still bs t new place v y = there_between k bs t new place (h.there place v (still place v y).kept) (λ i. passed rules force p c s w g f is_home x ⊤ (λ u. tells) place i (still place v y).there)
 
-  at_end : Stand (at_once x)
-  at_end = stands_after rules p (between k last) promote (at_once x) last_stands (promoted rules force p c (replay-stands rules p q journal c r) w g f is_home x ⊤ (λ u. tells))
+  sifts : (bs : Boxes) (ls : List Label) (cs : Boxes) → Steps k ⊤ bs ls cs → (journal : List Label) → Stand (between k bs) → AreNew k bs → StillKept journal (between k bs) → StillKept (journal ++ ls) (between k cs)
+  sifts _ _ _ (stops bs) journal t n r = subst (λ (ls : List Label). StillKept ls (between k bs)) (sym (append-nil journal)) r
+  sifts _ _ _ (goes l bs cs ls ds new at a none y) journal t n r =
+      let u : Stand (between k cs) = stands_after rules p (between k bs) l (between k cs) t a in
+      subst (λ (js : List Label). StillKept js (between k ds)) (append_assoc journal (l ∷ []) ls)
+      (sifts cs ls ds y (journal ++ l ∷ []) u new
+      (over journal (between k bs) l (between k cs) r a (λ place v z o. untouched place v z (opened_between k waits_now (between k bs) (outside k bs t n) cs u new (none tt) place o)) (there_still cs u new)))
 
-  module _ (now : List Place) (waits_now : List Wait) (opens : (place : Place) → IsOneOf place now → IsOneOf place before ⊎ Opens waits c (at_once x) place) (left : AreLeftByCommit waits c (at_once x) waits_now) where
-    left_last : AreLeftByCommit fewer (between k last) (at_once x) waits_now
-    left_last = record { each = each; all = all }
-      where
-        each : (place : Place) (v : Var) → IsKept waits_now place v → IsKeptAfterCommit fewer (between k last) (at_once x) place v
-        each place v y =
-            let z : IsKeptAfterCommit waits c (at_once x) place v = left.each place v y in
-            record {
-              kept = fewer_in place v (λ e. passing_gone k x.last (Place.Goal g) its_goal (subst (λ (o : Place). IsThere o (at_once x).roots) e z.there))
-                  (λ e. z.unopened (subst (Opens waits c (at_once x)) (sym e) (box_opened k x.last at_end waits))) z.kept;
-              unopened = λ o. z.unopened (net_opens k last last_stands last_names x.last waits place (opens_too fewer waits (between k last) (at_once x) place (λ u i. (fewer_of place u i).0) o));
-              there = z.there;
-            }
+  tells_on : (b : Content) (gs : Goals) (ls : List Label) → Reduces k m b gs ls x.after (with_named x.goals_left (without_goal g f.goals)) → b.name ≡ f.content.name → Stand (homed k m b gs)
+      → ((place : Place) (v : Var) → IsKept waits_now place v → Opens waits_now (homed k m b gs) (at_once x) place → ⊥) → (journal : List Label) → StillKept journal (homed k m b gs) → StillKept (journal ++ ls) (at_once x)
+  tells_on _ _ _ (rests b gs) its t shut journal r = subst (λ (ls : List Label). StillKept ls (at_once x)) (sym (append-nil journal)) r
+  tells_on _ _ _ (reduces b gs l b1 gs1 ls b2 gs2 y z) its t shut journal r =
+      let u : Stand (homed k m b1 gs1) = stands_after rules p (homed k m b gs) l (homed k m b1 gs1) t y.applies in
+      let v : _ = body_passage k m b gs l b1 gs1 ls x.after (with_named x.goals_left (without_goal g f.goals)) y z its t x.consistent in
+      subst (λ (js : List Label). StillKept js (at_once x)) (append_assoc journal (l ∷ []) ls)
+      (tells_on b1 gs1 ls z (y.name ∙ its) u (λ place i j o. shut place i j (opens_then f.content.name (homed k m b gs) (homed k m b1 gs1) (at_once x) v waits_now place (still place i j).there o)) (journal ++ l ∷ [])
+      (over journal (homed k m b gs) l (homed k m b1 gs1) r y.applies
+      (λ place i j o. shut place i j (opens_first f.content.name (homed k m b gs) (homed k m b1 gs1) (at_once x) v waits_now place (still place i j).there o))
+      (λ place i j. there_further f.content.name (homed k m b1 gs1) (at_once x) (further_along k m b1 gs1 ls x.after (with_named x.goals_left (without_goal g f.goals)) z (y.name ∙ its) u) place (still place i j).there)))
 
-        all : (place : Place) (v : Var) → IsKeptAfterCommit fewer (between k last) (at_once x) place v → IsKept waits_now place v
-        all place v y =
-            let z : IsKept waits place v × (place ≡ Place.Goal g → ⊥) × (place ≡ Place.Box f.content.name → ⊥) = fewer_of place v y.kept in
-            left.all place v (record {
-              kept = z.0;
-              unopened = λ o. y.unopened (opens_too waits fewer (between k last) (at_once x) place (λ u i. fewer_in place u z.1 z.2 i) (last_opens k last last_stands last_names x.last waits place o));
-              there = y.there;
-            })
+  module _ (journal : List Label) (r : Replays rules p q journal c) where
+    forks : StillKept (journal ++ fork ∷ []) (between k first)
+    forks = over journal c fork (between k first) (begin journal r) (fork_applies rules force p c s w g f is_home x)
+        (λ place v y o. untouched place v y (opened_between k waits_now c (outside_itself k) first (forked_stand rules force p c s w g f is_home x) (forked_new rules force p c s w g f is_home x) (fork_adds rules force p c s w g f is_home x) place o))
+        (there_still first (forked_stand rules force p c s w g f is_home x) (forked_new rules force p c s w g f is_home x))
 
-    promotes : AreWaits (at_once x) [] waits_now
-    promotes = kept_by_commit rules p q ((journal ++ fork ∷ []) ++ middle rules force p c (replay-stands rules p q journal c r) w g f is_home x ⊤ (λ u. tells)) (between k last) promote (at_once x) sifts.1
-        (promoted rules force p c (replay-stands rules p q journal c r) w g f is_home x ⊤ (λ u. tells)) [] fewer [] waits_now sifts.0 (λ place o. absurd o) left_last
+    sifted : StillKept ((journal ++ fork ∷ []) ++ middle rules force p c s w g f is_home x ⊤ (λ u. tells)) (between k last)
+    sifted = sifts first (middle rules force p c s w g f is_home x ⊤ (λ u. tells)) last (steps rules force p c s w g f is_home x ⊤ (λ u. tells)) (journal ++ fork ∷ []) (forked_stand rules force p c s w g f is_home x)
+        (forked_new rules force p c s w g f is_home x) forks
 
-    pub waits_left : AreWaits (at_once x) now waits_now
-    waits_left = record {
-      there = promotes.there;
-      closed = λ place v y o. elim (opens place o) [ inl b ↦ h.closed place v (left.each place v y).kept b | inr b ↦ (left.each place v y).unopened b ];
-      scoped = promotes.scoped;
-      oldest = promotes.oldest;
+    promotes : StillKept (((journal ++ fork ∷ []) ++ middle rules force p c s w g f is_home x ⊤ (λ u. tells)) ++ promote ∷ []) (joined_to k x.last)
+    promotes = over ((journal ++ fork ∷ []) ++ middle rules force p c s w g f is_home x ⊤ (λ u. tells)) (between k last) promote (joined_to k x.last) sifted (promoted rules force p c s w g f is_home x ⊤ (λ u. tells))
+        (λ place v y o. untold place v y (promote_opens rules force p c s w g f is_home x ⊤ (λ u. tells) waits_now place (still place v y).there o))
+        (λ place v y. there_further f.content.name (joined_to k x.last) (at_once x) (end_further rules force p c s w g f is_home x ⊤ (λ u. tells)) place (still place v y).there)
+
+    told : StillKept ((((journal ++ fork ∷ []) ++ middle rules force p c s w g f is_home x ⊤ (λ u. tells)) ++ promote ∷ []) ++ x.body_labels) (at_once x)
+    told = tells_on (joining x.last f.content) (body_goals rules force p c s w g f is_home x ⊤ (λ u. tells)) x.body_labels (told_behind rules force p c s w g f is_home x ⊤ (λ u. tells)) refl (joined_stands rules force p c s w g f is_home x ⊤ (λ u. tells))
+        (λ place v y o. untold place v y (behind_opens rules force p c s w g f is_home x ⊤ (λ u. tells) waits_now place (still place v y).there o))
+        (((journal ++ fork ∷ []) ++ middle rules force p c s w g f is_home x ⊤ (λ u. tells)) ++ promote ∷ []) promotes
+
+    pub waits_left : (now : List Place) → ((place : Place) → IsOneOf place now → IsOneOf place before ⊎ Opens waits c (at_once x) place) → AreWaits (at_once x) now waits_now
+    waits_left now opens = record {
+      there = told.are_waits.there;
+      closed = λ place v y o. elim (opens place o) [ inl b ↦ h.closed place v (still place v y).kept b | inr b ↦ (still place v y).unopened b ];
+      scoped = told.are_waits.scoped;
+      oldest = told.are_waits.oldest;
     }
 
 pub net_kept : (rules : List Rule) → AreInForce rules → (p : Program) (q : Query) (journal : List Label) (c : Config) → Replays rules p q journal c → (w : ℕ) (g : Name) (f : Found) → home_of g c.roots ≡ Some f
     → (x : IsAtOnce p c w g f) → TellsNothing x → (before : List Place) (waits : List Wait) (now : List Place) (waits_now : List Wait) → AreWaits c before waits
     → ((place : Place) → IsOneOf place now → IsOneOf place before ⊎ Opens waits c (at_once x) place) → AreLeftByCommit waits c (at_once x) waits_now → AreWaits (at_once x) now waits_now
-net_kept rules force p q journal c r w g f is_home x tells before waits now waits_now h opens left = waits_left rules force p q journal c r w g f is_home x tells before waits h now waits_now opens left
+net_kept rules force p q journal c r w g f is_home x tells before waits now waits_now h opens left =
+    waits_left rules force p q c (replay-stands rules p q journal c r) w g f is_home x tells before waits h waits_now left journal r now opens

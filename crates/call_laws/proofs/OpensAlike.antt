@@ -6,19 +6,17 @@ use Rattle.akl_terms.specs.declared.name.Place.{Place}
 use Rattle.akl_terms.specs.Names.{same_name}
 use Rattle.akl_terms.specs.Touching.{IsOutside as IsExternal}
 use Rattle.akl_terms.proofs.SameNames.{same_name-equal}
-use Rattle.akl_model.specs.Config.{Content, Boxes, Goals, Config, held_in, Found, equations_of, box_at, home_of}
+use Rattle.akl_model.specs.Config.{Boxes, Goals, Config, held_in, Found, equations_of, box_at, home_of}
 use Rattle.akl_model.specs.Stable.{only, frames_of}
 use Rattle.akl_model.specs.Changes.{goal_names, Binds}
 use Rattle.akl_model.specs.Wakes.{Wait, Opens, new_goal, new_box, changed_goal, box_of_changed_goal, changed_constraint, changed_goals, holder_of_changed_goals, woken, bound_outside}
 use Rattle.akl_model.proofs.Options.{some_value}
 use Rattle.akl_model.proofs.NamesKept.{Stand}
 use Rattle.step_laws.specs.Stays.{HaveShape}
-use Rattle.call_laws.proofs.Alternatives.{Calling, between, AreNew}
-use Rattle.call_laws.proofs.Afterwards.{home_left, box_left}
+use Rattle.call_laws.proofs.Alternatives.{Calling, between, IsNewName, AreNew}
 use Rattle.call_laws.proofs.Bound.{binds_from}
 use Rattle.call_laws.proofs.Elsewhere.{Alike, neither, both}
 use Rattle.call_laws.proofs.Outside.{alike_constraint, alike_names, alike_shape, none_alike, Before, alike_some, outside}
-use Rattle.call_laws.proofs.Sifted.{joined_to}
 
 pub alike_back : (R S : Goals → Goals → Type 0) → ((u v : Goals) → R u v → S v u) → (x y : Option Found) → Alike R x y → Alike S y x
 alike_back R S h _ _ neither = neither
@@ -60,18 +58,19 @@ other_name k g n = on (same_name g k.goal) refl
     on true q = absurd (n (same_name-equal g k.goal q))
     on false q = refl
 
--- of those the configurations before the call and before its last label
-module _ (k : Calling) (bs : Boxes) (s : Stand (between k bs)) (new : AreNew k bs) (a : Content) where
-  boxes_alike : (n : Name) (f : Found) → box_at n (joined_to k a).roots ≡ Some f → Alike (λ (u v : Goals). goal_names u ≡ goal_names v) (box_at n k.config.roots) (box_at n (between k bs).roots)
-  boxes_alike n f i = (outside k bs s new).boxes n (box_left k a n f i)
+-- of those the configurations before the call and before its last label, where nothing that goes with it is there afterwards
+module _ (k : Calling) (bs : Boxes) (s : Stand (between k bs)) (new : AreNew k bs) (d : Config) (box_gone : (n : Name) (f : Found) → box_at n d.roots ≡ Some f → IsNewName k n → ⊥)
+    (goal_gone : (g : Name) (f : Found) → home_of g d.roots ≡ Some f → (IsNewName k g → ⊥) × (g ≡ k.goal → ⊥)) where
+  boxes_alike : (n : Name) (f : Found) → box_at n d.roots ≡ Some f → Alike (λ (u v : Goals). goal_names u ≡ goal_names v) (box_at n k.config.roots) (box_at n (between k bs).roots)
+  boxes_alike n f i = (outside k bs s new).boxes n (box_gone n f i)
 
-  homes_alike : (g : Name) (f : Found) → home_of g (joined_to k a).roots ≡ Some f → Alike (λ (u v : Goals). HaveShape (held_in g u) (held_in g v)) (home_of g k.config.roots) (home_of g (between k bs).roots)
-  homes_alike g f i = (outside k bs s new).homes g (home_left k a g f i).0 (other_name k g (home_left k a g f i).1)
+  homes_alike : (g : Name) (f : Found) → home_of g d.roots ≡ Some f → Alike (λ (u v : Goals). HaveShape (held_in g u) (held_in g v)) (home_of g k.config.roots) (home_of g (between k bs).roots)
+  homes_alike g f i = (outside k bs s new).homes g (goal_gone g f i).0 (other_name k g (goal_gone g f i).1)
 
-  pub last_opens : (waits : List Wait) (place : Place) → Opens waits k.config (joined_to k a) place → Opens waits (between k bs) (joined_to k a) place
-  last_opens waits = opens_alike waits k.config (between k bs) (joined_to k a) boxes_alike homes_alike
+  pub last_opens : (waits : List Wait) (place : Place) → Opens waits k.config d place → Opens waits (between k bs) d place
+  last_opens waits = opens_alike waits k.config (between k bs) d boxes_alike homes_alike
 
-  pub net_opens : (waits : List Wait) (place : Place) → Opens waits (between k bs) (joined_to k a) place → Opens waits k.config (joined_to k a) place
-  net_opens waits = opens_alike waits (between k bs) k.config (joined_to k a)
+  pub net_opens : (waits : List Wait) (place : Place) → Opens waits (between k bs) d place → Opens waits k.config d place
+  net_opens waits = opens_alike waits (between k bs) k.config d
       (λ n f i. alike_back (λ (u v : Goals). goal_names u ≡ goal_names v) (λ (u v : Goals). goal_names u ≡ goal_names v) (λ u v q. sym q) (box_at n k.config.roots) (box_at n (between k bs).roots) (boxes_alike n f i))
       (λ g f i. alike_back (λ (u v : Goals). HaveShape (held_in g u) (held_in g v)) (λ (u v : Goals). HaveShape (held_in g u) (held_in g v)) (λ u v q. sym q) (home_of g k.config.roots) (home_of g (between k bs).roots) (homes_alike g f i))

@@ -12,7 +12,7 @@ use Rattle.akl_model.specs.Instances.{with_atoms}
 use Rattle.akl_model.specs.Rules.{nothing, becomes, cut, joining, promote, count_of, kept_by, alternative_of}
 use Rattle.akl_model.specs.Conditions.{IsSolved, IsQuietBox, GuardHolds, MayCut, MayPromote}
 use Rattle.akl_model.specs.Derivations.{raised, Applies}
-use Rattle.akl_model.specs.Changes.{Adds}
+use Rattle.akl_model.specs.Changes.{box_names, Adds}
 use Rattle.akl_model.proofs.Options.{and_some}
 use Rattle.akl_model.proofs.Finds.{times}
 use Rattle.akl_model.proofs.Drawn.{times-kept_by}
@@ -136,6 +136,12 @@ promote_applies k a s guard few = record {
     roots_after : edited k.home.content.name (box (joining a k.home.content) (with_atoms k.worker (slice_index (raised k.worker k.drawn k.config.next) k.worker) a.body (without_goal k.goal (choice_site k a).goals)) no_boxes) (between k (box a no_goals no_boxes)).roots ≡ (joined_to k a).roots
     roots_after = edited_twice k.home.content.name k.home.content (choice_site k a).goals (box (joining a k.home.content) (with_atoms k.worker (slice_index (raised k.worker k.drawn k.config.next) k.worker) a.body (without_goal k.goal (choice_site k a).goals)) no_boxes) (same_name-refl k.home.content.name) k.config.roots
         ∙ (λ j. edited k.home.content.name (box (joining a k.home.content) (with_atoms k.worker (raised_own k.worker k.drawn k.config.next j) a.body (content_without k.goal k.op (box a no_goals no_boxes) k.home.goals j)) no_boxes) k.config.roots)
+
+-- its box stays one
+pub promote_one : (k : Calling) (a : Content) (s : Stand (between k (box a no_goals no_boxes))) (guard : GuardHolds k.op (inner k.home a no_goals)) (few : length a.body < 2 ^ 32)
+    → (box_names (promote_applies k a s guard few).change.boxes ≡ (promote_applies k a s guard few).site.content.name ∷ []) × ((promote_applies k a s guard few).site.content.name ≡ k.home.content.name)
+unfolding promote_applies
+promote_one k a s guard few = (refl, refl)
 
 guard_of : (q : Operator) (n : Name) (a : Found) (bs : Boxes) → count_of (kept_by q n bs) < count_of bs → IsQuietBox a → GuardHolds q a
 guard_of Operator.nondeterminate n a bs h i = absurd (omega arith)

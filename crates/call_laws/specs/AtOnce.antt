@@ -1,4 +1,4 @@
--- A call at once: its fork, the failure of alternatives that clash, the cut and the promotion of the one that is left, as one list of labels with one net change.
+-- A call at once: its fork, the failure of alternatives that clash, the cut and the promotion of the one that is left, and what is told at once of its body, as one list of labels with one net change.
 use Rattle.std.specs.Prelude.{◌≡◌, ℕ, ◌+◌, ◌<◌, ◌^◌, List, [], ◌∷◌, ◌++◌, length, Option, Some, None, slice_get, slice_index, ◌⊎◌, ⊤}
 use Rattle.akl_terms.specs.declared.name.Name.{Name}
 use Rattle.akl_terms.specs.declared.name.Place.{Place}
@@ -9,9 +9,9 @@ use Rattle.akl_terms.specs.Equal.{IsConsistent}
 use Rattle.akl_model.specs.declared.label.Rule.{Rule}
 use Rattle.akl_model.specs.declared.label.Label.{Label}
 use Rattle.akl_model.specs.declared.item.Item.{Item}
-use Rattle.akl_model.specs.Config.{IsIn, Held, Atom, Operator, Content, Boxes, no_boxes, box, Goals, no_goals, Config, an_atom, held_in, without_goal, Found, whole, home_of, edited}
-use Rattle.akl_model.specs.Instances.{instances, drawn_by, with_atoms}
-use Rattle.akl_model.specs.Rules.{operator_of, count_of, kept_by, alternative_of, joining}
+use Rattle.akl_model.specs.Config.{IsIn, Held, Atom, Operator, Content, Boxes, no_boxes, box, Goals, no_goals, atom, Config, an_atom, held_in, with_goal, without_goal, Found, equations_of, whole, home_of, edited}
+use Rattle.akl_model.specs.Instances.{instances, drawn_by}
+use Rattle.akl_model.specs.Rules.{becomes, telling, operator_of, count_of, kept_by, alternative_of, joining}
 use Rattle.akl_model.specs.Conditions.{HasFailed, IsQuietBox, GuardHolds, Makes}
 use Rattle.akl_model.specs.Stable.{Allows}
 use Rattle.akl_model.specs.Derivations.{IsInForce, raised, Derives}
@@ -31,7 +31,7 @@ Fails f = (IsConsistent (whole f) → ⊥) ⊎ HasFailed f.goals
 abbrev pub by : ℕ → Rule → Place → Option Name → Label
 by w r place alternative = record { rule = r; place = place; alternative = alternative; worker = w }
 
--- the rules that a guard's goals may be reduced by
+-- the rules by which goals of a guard, or of the body, may be reduced
 abbrev pub IsOfGuard : Rule → Type 0
 IsOfGuard Rule.Tell = ⊤
 IsOfGuard Rule.Eval = ⊤
@@ -58,6 +58,24 @@ pub data Ends (w : ℕ) (g : Name) (f : Found) (o : Operator) (a : Content) : Bo
   cuts : (bs : Boxes) → alternative_of f a.name bs ≡ Some (inner f a no_goals) → kept_by o a.name bs ≡ box a no_goals no_boxes → count_of (kept_by o a.name bs) < count_of bs → IsQuietBox (inner f a no_goals)
       → Ends w g f o a bs (by w Rule.Cut (Place.Goal g) (Some a.name) ∷ by w Rule.Promote (Place.Goal g) (Some a.name) ∷ [])
 
+-- the goals of a list stand among others
+abbrev pub with_named : List (Name × Atom) → Goals → Goals
+with_named [] gs = gs
+with_named (x ∷ xs) gs = with_named xs (with_goal x.0 (an_atom x.1) gs)
+
+-- of the goals of a body, which have a worker's names from a number on, some are reduced in order: each goes by a label that draws no names, which tells the box an equation, or nothing where a comparison holds.
+-- The others are left. Each label is seen with its goal alone, as what stands besides makes no difference to it
+pub data Tells (p : Program) (w next : ℕ) (around : List Content) : Content → ℕ → List Atom → List Label → Content → List (Name × Atom) → Type 0 where
+  finishes : (b : Content) (n : ℕ) → Tells p w next around b n [] [] b []
+  leaves : (b : Content) (n : ℕ) (a : Atom) (rest : List Atom) (ls : List Label) (b2 : Content) (left : List (Name × Atom)) → Tells p w next around b (n + 1) rest ls b2 left
+      → Tells p w next around b n (a ∷ rest) ls b2 ((record { worker = w; number = n }, a) ∷ left)
+  tells : (r : Rule) (b : Content) (n : ℕ) (a : Atom) (s t : Tree) (rest : List Atom) (ls : List Label) (b2 : Content) (left : List (Name × Atom)) → IsOfGuard r
+      → Makes (Allows p) p next (by w r (Place.Goal (record { worker = w; number = n })) None) (record { around = around; content = b; goals = atom (record { worker = w; number = n }) a no_goals }) (becomes (telling s t b) no_goals 0)
+      → Tells p w next around (telling s t b) (n + 1) rest ls b2 left → Tells p w next around b n (a ∷ rest) (by w r (Place.Goal (record { worker = w; number = n })) None ∷ ls) b2 left
+  holds : (r : Rule) (b : Content) (n : ℕ) (a : Atom) (rest : List Atom) (ls : List Label) (b2 : Content) (left : List (Name × Atom)) → IsOfGuard r
+      → Makes (Allows p) p next (by w r (Place.Goal (record { worker = w; number = n })) None) (record { around = around; content = b; goals = atom (record { worker = w; number = n }) a no_goals }) (becomes b no_goals 0)
+      → Tells p w next around b (n + 1) rest ls b2 left → Tells p w next around b n (a ∷ rest) (by w r (Place.Goal (record { worker = w; number = n })) None ∷ ls) b2 left
+
 -- what is known of the equations and of the counts of names, for the call g of the box f, of a definition that doesn't collect
 pub record IsAtOnce (p : Program) (c : Config) (w : ℕ) (g : Name) (f : Found) : Type 0 where
   pub definition : ℕ
@@ -75,14 +93,19 @@ pub record IsAtOnce (p : Program) (c : Config) (w : ℕ) (g : Name) (f : Found) 
   pub end_labels : List Label
   pub ends : Ends w g f op last left end_labels
   pub few_goals : length last.body < 2 ^ 32
+  pub body_labels : List Label
+  pub after : Content
+  pub goals_left : List (Name × Atom)
+  pub body : Tells p w (slice_index c.next w + drawn_by called.clauses + length last.body) f.around (joining last f.content) (slice_index c.next w + drawn_by called.clauses) last.body body_labels after goals_left
+  pub consistent : IsConsistent (equations_of f.around ++ after.equations)
 
 abbrev pub labels_at_once : {p : Program} {c : Config} {w : ℕ} {g : Name} {f : Found} → IsAtOnce p c w g f → List Label
-labels_at_once {p} {c} {w} {g} {f} x = by w Rule.Fork (Place.Goal g) None ∷ (x.sift_labels ++ x.end_labels)
+labels_at_once {p} {c} {w} {g} {f} x = by w Rule.Fork (Place.Goal g) None ∷ ((x.sift_labels ++ x.end_labels) ++ x.body_labels)
 
--- the net change: the goal goes, and the frames, the equations and the goals of the body of the one that was left join its box. All names count as drawn
+-- the net change: the goal goes, and the frames and the equations of the one that was left, what is told of its body, and the other goals of the body join its box. All names count as drawn
 abbrev pub at_once : {p : Program} {c : Config} {w : ℕ} {g : Name} {f : Found} → IsAtOnce p c w g f → Config
 at_once {p} {c} {w} {g} {f} x = record {
-  roots = edited f.content.name (box (joining x.last f.content) (with_atoms w (slice_index c.next w + drawn_by x.called.clauses) x.last.body (without_goal g f.goals)) no_boxes) c.roots;
+  roots = edited f.content.name (box x.after (with_named x.goals_left (without_goal g f.goals)) no_boxes) c.roots;
   next = raised w (drawn_by x.called.clauses + length x.last.body) c.next;
 }
 
@@ -108,6 +131,8 @@ pub record IsAtOnceIn {p : Program} {c : Config} {w : ℕ} {g : Name} {f : Found
   pub same_labels : labels_at_once again ≡ labels_at_once x
   pub same_names : drawn_by again.called.clauses ≡ drawn_by x.called.clauses
   pub same_last : again.last ≡ x.last
+  pub same_after : again.after ≡ x.after
+  pub same_left : again.goals_left ≡ x.goals_left
   pub derives : Derives rules p d (labels_at_once x) (at_once again)
 
 -- the list of labels is right by contents: it reads the goal, and the constraints down to the box in which this stands

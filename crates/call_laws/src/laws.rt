@@ -3,7 +3,7 @@
 ghost use Rattle.call_laws.specs.Agreeing.{UnwrittenLaw, OwnStoreLaw};
 ghost use Rattle.call_laws.specs.AtOnce.{AtOnceLaw, AtOnceWhereverLaw};
 ghost use Rattle.call_laws.specs.Between.{NetBindsLaw};
-ghost use Rattle.call_laws.specs.Example.{ThreeLabels};
+ghost use Rattle.call_laws.specs.Example.{ThreeLabels, CallWithBody};
 ghost use Rattle.call_laws.specs.Lists.{ListLaw, DerivesOnLaw, OnTopLaw};
 ghost use Rattle.call_laws.specs.Wakes.{NetOpensLaw, NetRunsLaw, NetKeptLaw, DropsGoneLaw};
 ghost use Rattle.call_laws.specs.Wherever.{WhereverLaw, FollowsLaw, AsReadLaw, NextAfterLaw};
@@ -33,17 +33,20 @@ pub fn same_afterwards()
     ensures own_store { OwnStoreLaw }
 {}
 
-/// A call is forked, alternatives that clash fail, others are cut away, and the one that is left is
-/// promoted: the labels lead on one after another, to the configuration in which the goal has gone
-/// and the frames, the equations and the goals of that alternative's body have joined its box. They
+/// A call is forked, alternatives that clash fail, others are cut away, the one that is left is
+/// promoted, and goals of its body are told or evaluated in order: the labels lead on one after another,
+/// to the configuration in which the goal has gone and the frames and the equations of that alternative,
+/// what is told of its body, and the other goals of the body have joined its box. They
 /// lead on with the same net change from every configuration that follows the one for which they were
 /// made, has the worker's next number, and agrees on the goal and on the constraints down to its box.
-/// The last three labels of the model's example of a run are such a call. What is bound in the goal's
+/// The last three labels of the model's example of a run are such a call, and so are those of a call
+/// of which an equation of the body is told and a call is left. What is bound in the goal's
 /// box from before the call is what is bound there from each configuration between.
 pub fn call_at_once()
     ensures leads { AtOnceLaw }
     ensures wherever { AtOnceWhereverLaw }
     ensures example { ThreeLabels }
+    ensures body { CallWithBody }
     ensures binds { NetBindsLaw }
 {}
 

@@ -20,7 +20,7 @@ use Rattle.call_tables.proofs.MiddleRows.{last_row, middle_table}
 
 module _ (k : Calling) (a : Content) (store : Stored) (changed goals_changed chosen others more : ℕ) (T U : Table) (new : Stored) (solved_at : Option ℕ) (goals : List (Name × Atom))
     (row : (v : GoalRow) × (T.goal_of k.goal ≡ Some v) × (spot_of v ≡ record { home = k.home.content.name; shape = of_atom k.body })) (apart : k.home.content.name ≡ a.name → ⊥) (none : T.box_of a.name ≡ None)
-    (is : IsTable U (after_call k.goal new solved_at goals k.worker (k.drawn + more) others T)) where
+    (is : IsTable U (after_call k.goal new solved_at goals k.worker (k.drawn + more) (T.steps + others + 1) (T.steps + others + 1) (T.steps + others + 1) T)) where
   abbrev V : Table
   V = middle_table k a store changed goals_changed chosen others T
 

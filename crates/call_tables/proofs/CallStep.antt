@@ -1,55 +1,54 @@
 -- What a call at once makes of a table is a table of the run that goes on with its labels.
-use Rattle.std.proofs.Common.{◌≡◌, ℕ, ◌+◌, ◌≤◌, List, [], ◌∷◌, ◌++◌, length, Bool, true, false, Option, Some, None, refl, sym, ◌∙◌, ap, subst, inl, inr, arith, append_assoc}
-use Rattle.std.proofs.lemmas.List.{length-append}
+use Rattle.std.proofs.Common.{◌≡◌, ℕ, ◌+◌, ◌≤◌, ◌<◌, List, [], ◌∷◌, ◌++◌, length, Bool, true, false, Option, Some, None, refl, sym, ◌∙◌, ap, subst, inl, inr, arith, append_assoc, append-nil}
 use Rattle.std.specs.Prelude.{slice_index, option_map}
 use Rattle.akl_terms.specs.declared.name.Name.{Name}
 use Rattle.akl_terms.specs.declared.name.Place.{Place}
-use Rattle.akl_terms.specs.declared.term.Node.{Node}
+use Rattle.akl_terms.specs.declared.name.Var.{Var}
+use Rattle.akl_terms.specs.declared.term.Term.{Term}
 use Rattle.akl_terms.specs.Equal.{Equations, IsTold}
 use Rattle.akl_terms.specs.Names.{same_name}
 use Rattle.akl_terms.specs.Standing.{StandFor}
 use Rattle.akl_terms.proofs.SameNames.{same_name-refl}
-use Rattle.constraint_laws.proofs.SameTerms.{name_or}
-use Rattle.akl_model.specs.declared.item.Item.{Item}
 use Rattle.akl_model.specs.declared.label.Rule.{Rule}
 use Rattle.akl_model.specs.declared.label.Label.{Label}
-use Rattle.akl_model.specs.Config.{Atom, Boxes, no_boxes, box, no_goals, an_atom, Found, whole, box_at, home_of}
-use Rattle.akl_model.specs.Instances.{drawn_by}
-use Rattle.akl_model.specs.Changes.{of_atom, of_choice, by_store, IsLastChange}
-use Rattle.akl_model.specs.Derivations.{Applies, Replays}
+use Rattle.akl_model.specs.Config.{IsIn, Atom, Content, Goals, an_atom, with_names, without_goal, or_else, Found, environment, whole, home_of}
+use Rattle.akl_model.specs.Instances.{drawn_by, with_atoms}
+use Rattle.akl_model.specs.Rules.{joining}
+use Rattle.akl_model.specs.Changes.{of_atom, goal_names}
+use Rattle.akl_model.specs.Derivations.{raised}
+use Rattle.akl_model.specs.Names.{one_if}
 use Rattle.akl_model.specs.Wakes.{names_around}
-use Rattle.akl_model.proofs.Finds.{box_at-none}
+use Rattle.akl_model.proofs.Finds.{zero_or, times, times_of, times_inside}
+use Rattle.akl_model.proofs.Drawn.{drawn_place, times_held, times-without}
 use Rattle.akl_model.proofs.NamesKept.{Stand, replay-stands}
-use Rattle.akl_model.proofs.NextNumbers.{next_own}
-use Rattle.akl_model.proofs.Options.{some_value, map_some, none_or}
-use Rattle.plan_laws.proofs.StampLaws.{old_stamp}
-use Rattle.sleep_laws.proofs.Replayed.{replay_further}
-use Rattle.step_laws.specs.Likeness.{IsOld}
-use Rattle.step_laws.proofs.Steps.{old_box, old_goal}
-use Rattle.step_laws.proofs.Whereabouts.{home_in}
+use Rattle.akl_model.proofs.Options.{map_none, map_some}
+use Rattle.akl_model.proofs.ScopesAlong.{times_path}
+use Rattle.step_laws.proofs.Whereabouts.{in_counted, held_none, home_of-none}
 use Rattle.rational_unify.specs.Solving.{bindings_in}
 use Rattle.local_store.specs.Stored.{Stored}
-use Rattle.local_store.specs.Chained.{IsSolvedChain}
-use Rattle.call_laws.specs.AtOnce.{by, IsAtOnce, labels_at_once, at_once, AreInForce}
-use Rattle.call_laws.specs.Between.{with_choice}
-use Rattle.call_laws.proofs.Alternatives.{Calling, between, IsNewName, AreNew, named}
-use Rattle.call_laws.proofs.Between.{stood, is_choice, home, unknown}
+use Rattle.call_laws.specs.AtOnce.{by, with_named, IsAtOnce, labels_at_once, at_once, AreInForce}
+use Rattle.call_laws.proofs.Alternatives.{Calling}
+use Rattle.call_laws.proofs.Between.{stood, was_found}
+use Rattle.call_laws.proofs.BodyGoals.{named}
+use Rattle.call_laws.proofs.BodySteps.{homed, ToldMore, told_more}
+use Rattle.call_laws.proofs.Calls.{calling, middle, joined_stand, all_labels}
 use Rattle.call_laws.proofs.CallEdits.{raised_own}
-use Rattle.call_laws.proofs.Calls.{calling, forked, fork_applies, forked_new, forked_stand, end_steps, middle, steps, last_stand, last_new, promoted, all_labels}
-use Rattle.call_laws.proofs.Outside.{not_old}
 use Rattle.table_laws.specs.Rows.{BoxRow, GoalRow, Table, ports_in}
-use Rattle.table_laws.specs.Stamped.{Run, followed_by, IsStamped, IsTableOf}
-use Rattle.table_laws.specs.Steps.{joins, numbered, Makes, IsSolvedIf, IsSolvedWhen}
-use Rattle.table_laws.specs.Unfolds.{IsBoxRow, spot_of}
-use Rattle.table_laws.specs.Writes.{IsTable, solved_when, after_join}
-use Rattle.table_laws.proofs.Frame.{neither, found_of}
+use Rattle.table_laws.specs.Stamped.{Run, IsTableOf}
+use Rattle.table_laws.specs.Steps.{joins, numbered, IsSolvedWhen}
+use Rattle.table_laws.specs.Unfolds.{IsBoxRow, Spot, spot_of}
+use Rattle.table_laws.specs.Walks.{alternatives_in, alternatives_of}
+use Rattle.table_laws.specs.Writes.{IsTable, set, unset, less_name, home_in, home_or, changed_box, atom_among, or_fails, solved_when}
+use Rattle.table_laws.proofs.Along.{named_path}
+use Rattle.table_laws.proofs.Frame.{row_of}
 use Rattle.table_laws.proofs.Insides.{spot_held, spot_none}
-use Rattle.table_laws.proofs.Sets.{set_here, set_other, other_by}
-use Rattle.table_laws.proofs.StepMakes.{step_law}
-use Rattle.call_tables.specs.Calls.{CallsGoal, after_call, after_labels}
-use Rattle.call_tables.proofs.AfterCall.{joined_table}
-use Rattle.call_tables.proofs.MiddleRows.{IsStoreOf, last_row, middle_table, unchanged, stores_around, middle_unfolds}
-use Rattle.call_tables.proofs.StampsBetween.{each_stamped, IsElsewhere, apart_itself, apart_between, unchanged_between, stamps_along, replays_along}
+use Rattle.table_laws.proofs.NewGoals.{NotHeld, names_more}
+use Rattle.table_laws.proofs.Reducing.{names_without}
+use Rattle.call_tables.specs.Calls.{StandOver, CallsGoal, last_told, promoted_at, told_at, ended_at, called_row, after_call, after_labels}
+use Rattle.call_tables.proofs.BodyLists.{names_in, names_left, fails_left, tells_any, none_told, told_further}
+use Rattle.call_tables.proofs.BodyRows.{row}
+use Rattle.call_tables.proofs.BodyTables.{IsAt, stg, body_tables}
+use Rattle.call_tables.proofs.Joined.{joined_after}
 
 module _ (rules : List Rule) (force : AreInForce rules) (r : Run) (T : Table) (t : IsTableOf rules r T) (w : ℕ) (g : Name) (f : Found) (is_home : home_of g t.config.roots ≡ Some f) (x : IsAtOnce r.program t.config w g f) where
   abbrev s : Stand t.config
@@ -58,221 +57,239 @@ module _ (rules : List Rule) (force : AreInForce rules) (r : Run) (T : Table) (t
   abbrev k : Calling
   k = calling rules force r.program t.config s w g f is_home x
 
-  abbrev first : Boxes
-  first = forked rules force r.program t.config s w g f is_home x
+  abbrev home : Name
+  home = f.content.name
 
-  abbrev last : Boxes
-  last = box x.last no_goals no_boxes
+  abbrev drawn : ℕ
+  drawn = drawn_by x.called.clauses + length x.last.body
 
-  abbrev fork : Label
-  fork = by w Rule.Fork (Place.Goal g) None
+  -- the names of the body's goals are from here on
+  abbrev first : ℕ
+  first = slice_index t.config.next w + drawn_by x.called.clauses
 
-  abbrev promote : Label
-  promote = by w Rule.Promote (Place.Goal g) (Some x.last.name)
+  abbrev base : Goals
+  base = without_goal g f.goals
 
-  abbrev others : List Label
-  others = middle rules force r.program t.config s w g f is_home x ⊥ (λ q. absurd q)
+  abbrev promoted : ℕ
+  promoted = promoted_at x T.steps
 
-  -- the run up to the last label
-  abbrev early : Run
-  early = record r { journal = (r.journal ++ fork ∷ []) ++ others }
+  abbrev all_goals : List (Name × Atom)
+  all_goals = numbered w first x.last.body
 
-  fork_replays : Replays rules r.program r.query (r.journal ++ fork ∷ []) (between k first)
-  fork_replays = replay_further rules r.program r.query r.journal t.config fork (between k first) t.replays (fork_applies rules force r.program t.config s w g f is_home x)
+  abbrev journal : List Label
+  journal = ((r.journal ++ by w Rule.Fork (Place.Goal g) None ∷ []) ++ middle rules force r.program t.config s w g f is_home x ⊥ (λ q. absurd q)) ++ by w Rule.Promote (Place.Goal g) (Some x.last.name) ∷ []
 
-  first_names : AreNew k first
-  first_names = forked_new rules force r.program t.config s w g f is_home x
-
-  early_replays : Replays rules r.program r.query ((r.journal ++ fork ∷ []) ++ others) (between k last)
-  early_replays = replays_along k r.query first others last (steps rules force r.program t.config s w g f is_home x ⊥ (λ q. absurd q)) (r.journal ++ fork ∷ []) fork_replays
-
-  -- what has nothing to do with the call keeps its stamp
-  stamp_kept : (item : Item) → IsElsewhere k item → (m : ℕ) → IsLastChange by_store rules r.program r.query r.journal item m → IsLastChange by_store rules r.program r.query ((r.journal ++ fork ∷ []) ++ others) item m
-  stamp_kept item h m y = stamps_along k r.query first others last (steps rules force r.program t.config s w g f is_home x ⊥ (λ q. absurd q)) (r.journal ++ fork ∷ []) fork_replays first_names item h m
-      (old_stamp by_store rules r.program r.query r.journal t.config fork (between k first) item m t.replays (fork_applies rules force r.program t.config s w g f is_home x)
-      (unchanged_between k t.config (between k first) (apart_itself k) (apart_between k first (forked_stand rules force r.program t.config s w g f is_home x) first_names) item h) y)
-
-  store_stamp : (m : ℕ) × IsLastChange by_store rules r.program r.query ((r.journal ++ fork ∷ []) ++ others) (Item.Store x.last.name) m
-  store_stamp = each_stamped rules r.program r.query ((r.journal ++ fork ∷ []) ++ others) (between k last) early_replays (Item.Store x.last.name) tt
-
-  goals_stamp : (m : ℕ) × IsLastChange by_store rules r.program r.query ((r.journal ++ fork ∷ []) ++ others) (Item.Goals x.last.name) m
-  goals_stamp = each_stamped rules r.program r.query ((r.journal ++ fork ∷ []) ++ others) (between k last) early_replays (Item.Goals x.last.name) tt
-
-  goal_stamp : (m : ℕ) × IsLastChange by_store rules r.program r.query ((r.journal ++ fork ∷ []) ++ others) (Item.Goal g) m
-  goal_stamp = each_stamped rules r.program r.query ((r.journal ++ fork ∷ []) ++ others) (between k last) early_replays (Item.Goal g) tt
-
-  last_stands : Stand (between k last)
-  last_stands = last_stand rules force r.program t.config s w g f is_home x ⊥ (λ q. absurd q)
-
-  last_names : AreNew k last
-  last_names = last_new rules force r.program t.config s w g f is_home x ⊥ (λ q. absurd q)
-
-  last_new_name : IsNewName k x.last.name
-  last_new_name = named k no_boxes x.last no_goals no_boxes last_stands last_names
-
-  box_old : (n : Name) (row : BoxRow) → T.box_of n ≡ Some row → IsNewName k n → ⊥
-  box_old n row e h =
-      let u : (e : Found) × (box_at n t.config.roots ≡ Some e) × IsBoxRow T t.config.roots e row = found_of T t.config t.unfolds n row e in
-      let z : box_at n t.config.roots ≡ None = box_at-none n t.config.roots (unknown t.config s g f is_home w (drawn_by x.called.clauses) n h) in
-      let y : box_at n t.config.roots ≡ Some u.0 = u.1 in
-      cc
-
-  goal_old_name : (i : Name) (row : GoalRow) → T.goal_of i ≡ Some row → IsNewName k i → ⊥
-  goal_old_name i row e h = elim (none_or (home_of i t.config.roots)) [
-    | inl q ↦
-        let z : Some (spot_of row) ≡ None = sym (ap (option_map spot_of) e) ∙ t.unfolds.goals i ∙ spot_none i t.config.roots q in
-        cc
-    | inr v ↦ let y : _ = home_in i t.config.roots v.0 v.1 in not_old k i h (old_goal t.config s i v.0 y.0 y.1)
+  -- names that are drawn later stand nowhere
+  nowhere : (j : ℕ) → first ≤ j → times (named w j) t.config.roots ≡ 0
+  nowhere j h = elim (zero_or (times (named w j) t.config.roots)) [
+    | inl e ↦ e
+    | inr i ↦ let b : j < slice_index t.config.next w = s.below (named w j) i in let u : slice_index t.config.next w + drawn_by x.called.clauses ≤ j = h in absurd (omega arith)
   ]
 
-  how_many : length (x.sift_labels ++ x.end_labels) ≡ 1 + length others
-  how_many =
-      let e : x.end_labels ≡ (end_steps rules force r.program t.config s w g f is_home x ⊥ (λ q. absurd q)).before ++ promote ∷ [] = (end_steps rules force r.program t.config s w g f is_home x ⊥ (λ q. absurd q)).labels in
-      let a : length (x.sift_labels ++ x.end_labels) ≡ length x.sift_labels + length x.end_labels = length-append x.sift_labels x.end_labels in
-      let b : length x.end_labels ≡ length ((end_steps rules force r.program t.config s w g f is_home x ⊥ (λ q. absurd q)).before ++ promote ∷ []) = ap length e in
-      let c : length ((end_steps rules force r.program t.config s w g f is_home x ⊥ (λ q. absurd q)).before ++ promote ∷ []) ≡ length (end_steps rules force r.program t.config s w g f is_home x ⊥ (λ q. absurd q)).before + length (promote ∷ []) =
-      length-append (end_steps rules force r.program t.config s w g f is_home x ⊥ (λ q. absurd q)).before (promote ∷ []) in
-      let d : length others ≡ length x.sift_labels + length (end_steps rules force r.program t.config s w g f is_home x ⊥ (λ q. absurd q)).before = length-append x.sift_labels (end_steps rules force r.program t.config s w g f is_home x ⊥ (λ q. absurd q)).before in
+  new_times : (j : ℕ) → first ≤ j → times_inside (named w j) (without_goal g f.goals) ≡ 0
+  new_times j h =
+      let a : times_inside (named w j) (without_goal g f.goals) + (one_if (same_name (named w j) g) + times_held (named w j) (an_atom k.body)) ≡ times_inside (named w j) f.goals = times-without (named w j) g (an_atom k.body) f.goals x.held in
+      let b : times_of (named w j) f.content + (times_inside (named w j) f.goals + 0) + times_path (named w j) f.around ≤ times (named w j) t.config.roots =
+      in_counted (named w j) f.around f.content f.goals t.config.roots (stood t.config s g f is_home) in
+      let c : times (named w j) t.config.roots ≡ 0 = nowhere j h in
       omega arith
 
-  module _ (at : Option ℕ) (solved : Bool) (alternative new : Stored) (goals : List (Name × Atom)) (calls : CallsGoal x alternative new goals) (chain : IsSolvedWhen at T f (joins new solved goals)) where
-    abbrev V : Table
-    V = middle_table k x.last alternative store_stamp.0 goals_stamp.0 goal_stamp.0 (length (x.sift_labels ++ x.end_labels)) T
+  new_goals : (j : ℕ) → first ≤ j → T.goal_of (named w j) ≡ None
+  new_goals j h = map_none spot_of (T.goal_of (named w j)) (t.unfolds.goals (named w j) ∙ spot_none (named w j) t.config.roots (home_of-none (named w j) t.config.roots (nowhere j h)))
 
-    stamped : IsStamped rules early V
-    stamped = record {
-      steps =
-          let a : T.steps ≡ length r.journal = t.stamped.steps in
-          let b : length ((r.journal ++ fork ∷ []) ++ others) ≡ length (r.journal ++ fork ∷ []) + length others = length-append (r.journal ++ fork ∷ []) others in
-          let c : length (r.journal ++ fork ∷ []) ≡ length r.journal + length (fork ∷ []) = length-append r.journal (fork ∷ []) in
-          let d : length (x.sift_labels ++ x.end_labels) ≡ 1 + length others = how_many in
-          omega arith;
-      store = λ n row e. elim (name_or n x.last.name) [
-        | inl q ↦ subst (λ (v : Name). IsLastChange by_store rules r.program r.query ((r.journal ++ fork ∷ []) ++ others) (Item.Store v) row.changed) (sym q)
-            (subst (λ (v : BoxRow). IsLastChange by_store rules r.program r.query ((r.journal ++ fork ∷ []) ++ others) (Item.Store x.last.name) v.changed) (last_is n row q e) store_stamp.1)
-        | inr o ↦ let y : T.box_of n ≡ Some row = sym (not_last n o) ∙ e in stamp_kept (Item.Store n) (box_old n row y) row.changed (t.stamped.store n row y)
-      ];
-      goals = λ n row e. elim (name_or n x.last.name) [
-        | inl q ↦ subst (λ (v : Name). IsLastChange by_store rules r.program r.query ((r.journal ++ fork ∷ []) ++ others) (Item.Goals v) row.goals_changed) (sym q)
-            (subst (λ (v : BoxRow). IsLastChange by_store rules r.program r.query ((r.journal ++ fork ∷ []) ++ others) (Item.Goals x.last.name) v.goals_changed) (last_is n row q e) goals_stamp.1)
-        | inr o ↦ let y : T.box_of n ≡ Some row = sym (not_last n o) ∙ e in stamp_kept (Item.Goals n) (box_old n row y) row.goals_changed (t.stamped.goals n row y)
-      ];
-      goal = λ i row e. elim (name_or i g) [
-        | inl q ↦ subst (λ (v : Name). IsLastChange by_store rules r.program r.query ((r.journal ++ fork ∷ []) ++ others) (Item.Goal v) row.changed) (sym q)
-            (subst (λ (v : GoalRow). IsLastChange by_store rules r.program r.query ((r.journal ++ fork ∷ []) ++ others) (Item.Goal g) v.changed) (call_is i row q e) goal_stamp.1)
-        | inr o ↦ let y : T.goal_of i ≡ Some row = sym (not_call i o) ∙ e in stamp_kept (Item.Goal i) (goal_old_name i row y, o) row.changed (t.stamped.goal i row y)
-      ];
-      roots = stamp_kept Item.Roots tt T.roots_changed t.stamped.roots;
+  not_held : NotHeld w first x.last.body base
+  not_held i h =
+      let d : (i.worker ≡ w) × (first ≤ i.number) × (i.number < first + length x.last.body) = drawn_place i w first (length x.last.body) h in
+      let e : named w i.number ≡ i = λ j. record { worker = sym d.0 j; number = i.number } in
+      held_none i base (subst (λ (o : Name). times_inside o base ≡ 0) e (new_times i.number d.1))
+
+  -- the box isn't around itself
+  apart : (n : Name) → IsIn n (names_around f) → n ≡ home → ⊥
+  apart n i q = named_path home f.around (
+      let b : times_of home f.content + (times_inside home f.goals + 0) + times_path home f.around ≤ times home t.config.roots = in_counted home f.around f.content f.goals t.config.roots (stood t.config s g f is_home) in
+      let c : times home t.config.roots ≤ 1 = s.once home in
+      let e : 1 ≤ times_of home f.content = its_name in
+      omega arith) (subst (λ (m : Name). IsIn m (names_around f)) q i)
+    where
+      its_name : 1 ≤ times_of f.content.name f.content
+      its_name = let u : one_if (same_name f.content.name f.content.name) ≡ 1 = ap one_if (same_name-refl f.content.name) in omega arith
+
+  -- its row, and that of the call
+
+  abbrev old : (v : BoxRow) × (T.box_of f.content.name ≡ Some v) × IsBoxRow T t.config.roots f v
+  old = row_of T t.config t.unfolds f.content.name f (was_found t.config s g f is_home)
+
+  goal_row : (v : GoalRow) × (T.goal_of g ≡ Some v) × (spot_of v ≡ record { home = f.content.name; shape = of_atom k.body })
+  goal_row = map_some spot_of (T.goal_of g) (record { home = f.content.name; shape = of_atom k.body }) (t.unfolds.goals g ∙ spot_held g t.config.roots f (an_atom k.body) is_home x.held)
+
+  home_there : home_in (T.goal_of g) ≡ Some home
+  home_there = ap home_in goal_row.1 ∙ ap (λ (v : Spot). Some v.home) goal_row.2
+
+  home_name : home_or (T.goal_of g) g ≡ home
+  home_name = ap (λ (o : Option GoalRow). home_or o g) goal_row.1 ∙ ap (λ (v : Spot). v.home) goal_row.2
+
+  none_held : alternatives_of (T.goal_of g) ≡ []
+  none_held = ap alternatives_of goal_row.1 ∙ ap (λ (v : Spot). alternatives_in v.shape) goal_row.2
+
+  abbrev fails : Option Name
+  fails = or_fails old.0.failing all_goals
+
+  -- the names of goals that are left, and by which the box fails
+
+  names_of_left : (left : List (Name × Atom)) → goal_names (with_named left base) ≡ with_names (names_in left) (goal_names base) → goal_names (with_named left base) ≡ with_names (names_in left) (less_name g old.0.goals)
+  names_of_left left e = e ∙ ap (with_names (names_in left)) (names_without g f.goals ∙ ap (less_name g) (sym old.2.goals))
+
+  names_of_all : goal_names (with_atoms w first x.last.body base) ≡ with_names (names_in all_goals) (less_name g old.0.goals)
+  names_of_all = names_more w first x.last.body base not_held ∙ ap (with_names (names_in all_goals)) (names_without g f.goals ∙ ap (less_name g) (sym old.2.goals))
+
+  same_fails : (o : Option Name) → or_fails o all_goals ≡ or_fails o x.goals_left
+  same_fails None = fails_left r.program w (slice_index t.config.next w + drawn_by x.called.clauses + length x.last.body) f.around (joining x.last f.content) first x.last.body x.body_labels x.after x.goals_left x.body
+  same_fails (Some i) = refl
+
+  module _ (next : List ℕ) where
+    -- the tables between are as the call's step makes them
+    module _ (store : Stored) (solved_at : Option ℕ) (names : List Name) (goals : List (Name × Atom)) (told ended : ℕ) (names_are : names ≡ with_names (names_in goals) (less_name g old.0.goals)) (fails_as : or_fails old.0.failing all_goals ≡ or_fails old.0.failing goals) where
+      abbrev S : Table
+      S = stg rules force r T t w g f is_home x promoted next fails old.0 old.1 first new_goals apart store solved_at names goals told ended
+
+      abbrev C : Table
+      C = after_call g store solved_at goals w drawn promoted told ended T
+
+      rows_same : option_map (row T g home promoted next fails old.0 old.1 store solved_at names told ended) (T.box_of home) ≡ option_map (called_row g store solved_at goals told ended) (T.box_of home)
+      rows_same = ap (option_map (row T g home promoted next fails old.0 old.1 store solved_at names told ended)) old.1
+          ∙ (λ i. Some (record old.0 { store = store; changed = told; solved_at = solved_at; goals = names_are i; goals_changed = ended; failing = fails_as i })) ∙ sym (ap (option_map (called_row g store solved_at goals told ended)) old.1)
+
+      boxes_same : (n : Name) → S.box_of n ≡ C.box_of n
+      boxes_same n = ap (λ (o : Option BoxRow). set home o T.box_of n) rows_same
+          ∙ (λ i. unset (sym none_held i) (changed_box (sym home_there i) (called_row g store solved_at goals told ended) T.box_of) n)
+
+      goals_same : (n : Name) → S.goal_of n ≡ C.goal_of n
+      goals_same n = ap (λ (h : Name). or_else (atom_among h promoted goals n) (set g None T.goal_of n)) (sym home_name)
+
+    module _ (at : Option ℕ) (solved : Bool) (alternative new : Stored) (goals : List (Name × Atom)) (calls : CallsGoal x alternative new goals) (chain : IsSolvedWhen at T f (joins new solved goals)) (is_next : (v : ℕ) → slice_index next v ≡ slice_index (raised w drawn T.next) v) where
+      abbrev begun : Equations
+      begun = f.content.equations ++ x.last.equations
+
+      abbrev told_none : Bool
+      told_none = tells_any r.program w (slice_index t.config.next w + drawn_by x.called.clauses + length x.last.body) f.around (joining x.last f.content) first x.last.body x.body_labels x.after x.goals_left x.body
+
+      -- the store of the box once the alternative has joined it
+      record FirstStore : Type 0 where
+        pub store : Stored
+        pub at_first : Option ℕ
+        pub is_solved : Bool
+        pub chained : IsSolvedWhen at_first T f (joins store is_solved all_goals)
+        pub frames : store.frames ≡ with_names x.last.frames f.content.frames
+        pub ports : ports_in r.program.templates.nodes store.ports ≡ ports_in r.program.templates.nodes new.ports
+        pub stands : StandOver r.program.templates.nodes (environment f) (whole f ++ x.last.equations) store.bindings
+        pub is_last : told_none ≡ false → (store ≡ new) × (solved_when at_first is_solved ≡ solved_when at solved)
+
+      solved_alike : (o : Option ℕ) → IsSolvedWhen o T f (joins new solved goals) → IsSolvedWhen o T f (joins new solved all_goals)
+      solved_alike None h = tt
+      solved_alike (Some j) h = h
+
+      first_store : FirstStore
+      first_store = on told_none refl
+        where
+          on : (c : Bool) → told_none ≡ c → FirstStore
+          on false q = record {
+            store = new;
+            at_first = at;
+            is_solved = solved;
+            chained = solved_alike at chain;
+            frames = calls.frames;
+            ports = refl;
+            stands = λ D h. subst (λ (E : Equations). StandFor (IsTold (D ++ bindings_in r.program.templates.nodes new.bindings)) (IsTold E))
+                (ap (λ (b : Content). environment f ++ b.equations) (none_told r.program w (slice_index t.config.next w + drawn_by x.called.clauses + length x.last.body) f.around (joining x.last f.content) first x.last.body x.body_labels x.after x.goals_left x.body q)
+                ∙ sym (append_assoc (environment f) f.content.equations x.last.equations)) (calls.stands D h);
+            is_last = λ h. (refl, refl);
+          }
+          on true q =
+              let more : ToldMore r.program w (slice_index t.config.next w + drawn_by x.called.clauses + length x.last.body) f.around (joining x.last f.content) x.after =
+              told_more r.program w (slice_index t.config.next w + drawn_by x.called.clauses + length x.last.body) f.around (joining x.last f.content) first x.last.body x.body_labels x.after x.goals_left x.body in
+              let z : (bindings : List (Var × Term)) × StandOver r.program.templates.nodes (environment f) (environment f ++ (begun ++ [])) bindings = calls.between [] more.more more.equations in
+              record {
+                store = record new { bindings = z.0 };
+                at_first = None;
+                is_solved = false;
+                chained = tt;
+                frames = calls.frames;
+                ports = refl;
+                stands = λ D h. subst (λ (E : Equations). StandFor (IsTold (D ++ bindings_in r.program.templates.nodes z.0)) (IsTold E))
+                    (ap (λ (E : Equations). environment f ++ E) (append-nil begun) ∙ sym (append_assoc (environment f) f.content.equations x.last.equations)) (z.1 D h);
+                is_last = λ h. let c : true ≡ false = sym q ∙ h in cc;
+              }
+
+      start : IsAt rules r journal (stg rules force r T t w g f is_home x promoted next fails old.0 old.1 first new_goals apart first_store.store (solved_when first_store.at_first first_store.is_solved) (goal_names (with_atoms w first x.last.body base)) all_goals promoted promoted)
+          (homed k drawn (joining x.last f.content) (with_atoms w first x.last.body base))
+      start = joined_after rules force r T t w g f is_home x first_store.at_first first_store.is_solved alternative first_store.store calls.alternative_frames calls.alternative_ports calls.alternative_stands first_store.frames (first_store.ports ∙ calls.ports)
+          first_store.stands first_store.chained
+          (stg rules force r T t w g f is_home x promoted next fails old.0 old.1 first new_goals apart first_store.store (solved_when first_store.at_first first_store.is_solved) (goal_names (with_atoms w first x.last.body base)) all_goals promoted promoted)
+          (record {
+            nodes = refl;
+            boxes = boxes_same first_store.store (solved_when first_store.at_first first_store.is_solved) (goal_names (with_atoms w first x.last.body base)) all_goals promoted promoted names_of_all refl;
+            goals = goals_same first_store.store (solved_when first_store.at_first first_store.is_solved) (goal_names (with_atoms w first x.last.body base)) all_goals promoted promoted names_of_all refl;
+            roots = refl;
+            roots_changed = refl;
+            next = is_next;
+            steps = refl;
+          })
+
+      next_now : slice_index t.config.next w + drawn_by x.called.clauses + length x.last.body ≡ slice_index (raised w drawn t.config.next) w
+      next_now = let e : slice_index (raised w drawn t.config.next) w ≡ slice_index t.config.next w + (drawn_by x.called.clauses + length x.last.body) = raised_own w drawn t.config.next in omega arith
+
+      body_after : IsAt rules r (journal ++ x.body_labels)
+          (stg rules force r T t w g f is_home x promoted next fails old.0 old.1 first new_goals apart new (solved_when at solved) (goal_names (with_named x.goals_left base)) x.goals_left (told_at x T.steps) (ended_at x T.steps)) (at_once x)
+      body_after = subst (λ (o : ℕ). IsAt rules r (journal ++ x.body_labels)
+          (stg rules force r T t w g f is_home x promoted next fails old.0 old.1 first new_goals apart new (solved_when at solved) (goal_names (with_named x.goals_left base)) x.goals_left o (ended_at x T.steps)) (at_once x)) told_now
+          (body_tables rules force r T t w g f is_home x promoted next fails old.0 old.1 first new_goals apart at solved new goals chain begun x.after calls.between calls.stands (slice_index t.config.next w + drawn_by x.called.clauses + length x.last.body)
+          next_now (joining x.last f.content) first x.last.body x.body_labels x.after x.goals_left x.body refl base [] refl (joined_stand rules force r.program t.config s w g f is_home x ⊥ (λ q. absurd q)) (let q : first ≤ first = omega arith in q)
+          new_times (λ j h. refl) [] (sym (append-nil begun)) calls.frames calls.ports first_store.store (solved_when first_store.at_first first_store.is_solved) promoted promoted late first_store.is_last journal start)
+        where
+          late : T.steps ≤ promoted_at x T.steps
+          late = let q : promoted_at x T.steps ≡ T.steps + length (x.sift_labels ++ x.end_labels) + 1 = refl in omega arith
+
+          told_now : last_told r.program w (slice_index t.config.next w + drawn_by x.called.clauses + length x.last.body) f.around (joining x.last f.content) first x.last.body x.body_labels x.after x.goals_left x.body promoted promoted ≡ told_at x T.steps
+          told_now = ap (λ (o : ℕ). last_told r.program w (slice_index t.config.next w + drawn_by x.called.clauses + length x.last.body) f.around (joining x.last f.content) first x.last.body x.body_labels x.after x.goals_left x.body o o) (let q : promoted ≡ promoted + 0 = omega arith in q)
+              ∙ told_further r.program w (slice_index t.config.next w + drawn_by x.called.clauses + length x.last.body) f.around promoted (joining x.last f.content) first x.last.body x.body_labels x.after x.goals_left x.body 0 0
+
+  labels : journal ++ x.body_labels ≡ r.journal ++ labels_at_once x
+  labels = append_assoc ((r.journal ++ fork_one) ++ others) promote_one x.body_labels ∙ append_assoc (r.journal ++ fork_one) others (promote_one ++ x.body_labels) ∙ append_assoc r.journal fork_one (others ++ (promote_one ++ x.body_labels))
+      ∙ ap (λ (ls : List Label). r.journal ++ ls) (sym (all_labels rules force r.program t.config s w g f is_home x ⊥ (λ q. absurd q)))
+    where
+      fork_one : List Label
+      fork_one = by w Rule.Fork (Place.Goal g) None ∷ []
+
+      others : List Label
+      others = middle rules force r.program t.config s w g f is_home x ⊥ (λ q. absurd q)
+
+      promote_one : List Label
+      promote_one = by w Rule.Promote (Place.Goal g) (Some x.last.name) ∷ []
+
+  module _ (U : Table) (at : Option ℕ) (solved : Bool) (alternative new : Stored) (goals : List (Name × Atom)) (calls : CallsGoal x alternative new goals) (chain : IsSolvedWhen at T f (joins new solved goals))
+      (is : IsTable U (after_call g new (solved_when at solved) goals w drawn (promoted_at x T.steps) (told_at x T.steps) (ended_at x T.steps) T)) where
+    names_now : goal_names (with_named x.goals_left base) ≡ with_names (names_in x.goals_left) (less_name g old.0.goals)
+    names_now = names_of_left x.goals_left (names_left r.program w (slice_index t.config.next w + drawn_by x.called.clauses + length x.last.body) f.around (joining x.last f.content) first x.last.body x.body_labels x.after x.goals_left x.body base new_times)
+
+    its_table : IsTable U (after_call g new (solved_when at solved) x.goals_left w drawn (promoted_at x T.steps) (told_at x T.steps) (ended_at x T.steps) T)
+    its_table = subst (λ (xs : List (Name × Atom)). IsTable U (after_call g new (solved_when at solved) xs w drawn (promoted_at x T.steps) (told_at x T.steps) (ended_at x T.steps) T)) calls.body is
+
+    same_table : stg rules force r T t w g f is_home x promoted U.next fails old.0 old.1 first new_goals apart new (solved_when at solved) (goal_names (with_named x.goals_left base)) x.goals_left (told_at x T.steps) (ended_at x T.steps) ≡ U
+    same_table = λ i. record {
+      nodes = sym its_table.nodes i;
+      box_of = λ n. (boxes_same U.next new (solved_when at solved) (goal_names (with_named x.goals_left base)) x.goals_left (told_at x T.steps) (ended_at x T.steps) names_now (same_fails old.0.failing) n ∙ sym (its_table.boxes n)) i;
+      goal_of = λ n. (goals_same U.next new (solved_when at solved) (goal_names (with_named x.goals_left base)) x.goals_left (told_at x T.steps) (ended_at x T.steps) names_now (same_fails old.0.failing) n ∙ sym (its_table.goals n)) i;
+      roots = sym its_table.roots i;
+      roots_changed = sym its_table.roots_changed i;
+      next = U.next;
+      steps = sym its_table.steps i;
     }
-      where
-        not_last : (n : Name) → (n ≡ x.last.name → ⊥) → V.box_of n ≡ T.box_of n
-        not_last n o = set_other x.last.name n (Some (last_row k x.last alternative store_stamp.0 goals_stamp.0)) T.box_of (other_by n x.last.name o)
 
-        last_is : (n : Name) (row : BoxRow) → n ≡ x.last.name → V.box_of n ≡ Some row → last_row k x.last alternative store_stamp.0 goals_stamp.0 ≡ row
-        last_is n row q e = some_value (sym (set_here x.last.name n (Some (last_row k x.last alternative store_stamp.0 goals_stamp.0)) T.box_of (subst (λ (v : Name). same_name v x.last.name ≡ true) (sym q) (same_name-refl x.last.name))) ∙ e)
-
-        not_call : (i : Name) → (i ≡ g → ⊥) → V.goal_of i ≡ T.goal_of i
-        not_call i o = set_other g i (Some (record { home = f.content.name; shape = of_choice x.op (x.last.name ∷ []); changed = goal_stamp.0 })) T.goal_of (other_by i g o)
-
-        call_is : (i : Name) (row : GoalRow) → i ≡ g → V.goal_of i ≡ Some row → record { home = f.content.name; shape = of_choice x.op (x.last.name ∷ []); changed = goal_stamp.0 } ≡ row
-        call_is i row q e = some_value (sym (set_here g i (Some (record { home = f.content.name; shape = of_choice x.op (x.last.name ∷ []); changed = goal_stamp.0 })) T.goal_of (subst (λ (v : Name). same_name v g ≡ true) (sym q) (same_name-refl g))) ∙ e)
-
-    store_of : IsStoreOf T.nodes f x.last alternative
-    store_of = record {
-      frames = calls.alternative_frames;
-      ports = ap (λ (nodes : List Node). ports_in nodes alternative.ports) t.nodes ∙ calls.alternative_ports;
-      stands = subst (λ (nodes : List Node). (D : Equations) → StandFor (IsTold D) (IsTold (whole f)) → StandFor (IsTold (D ++ bindings_in nodes alternative.bindings)) (IsTold (whole f ++ x.last.equations))) (sym t.nodes) calls.alternative_stands;
-    }
-
-    abbrev early_table : IsTableOf rules early V
-    early_table = record {
-      config = between k last;
-      replays = early_replays;
-      nodes = t.nodes;
-      unfolds = middle_unfolds k x.last last_stands last_names (λ z. z) T t.unfolds alternative store_of store_stamp.0 goals_stamp.0 goal_stamp.0 (length (x.sift_labels ++ x.end_labels));
-      stamped = stamped;
-    }
-
-    -- the last label
-
-    leads : Applies rules r.program (between k last) promote (at_once x)
-    leads = promoted rules force r.program t.config s w g f is_home x ⊥ (λ q. absurd q)
-
-    abbrev site : Found
-    site = with_choice f g x.op last
-
-    site_is : with_choice f g x.op last ≡ leads.site
-    site_is = some_value (sym (home t.config s g f is_home k.body x.held x.op last (between k last).next last_stands) ∙ leads.is_site)
-
-    next_now : slice_index (between k last).next w ≡ slice_index t.config.next w + drawn_by x.called.clauses
-    next_now = raised_own w (drawn_by x.called.clauses) t.config.next
-
-    drawn_now : leads.change.drawn ≡ length x.last.body
-    drawn_now =
-        let a : slice_index (at_once x).next w ≡ slice_index (between k last).next w + leads.change.drawn = next_own rules r.program (between k last) promote (at_once x) leads in
-        let b : slice_index (at_once x).next w ≡ slice_index t.config.next w + (drawn_by x.called.clauses + length x.last.body) = raised_own w (drawn_by x.called.clauses + length x.last.body) t.config.next in
-        let c : slice_index (between k last).next w ≡ slice_index t.config.next w + drawn_by x.called.clauses = next_now in
-        omega arith
-
-    makes : Makes r.program promote (slice_index (between k last).next w) leads.site (joins new solved goals)
-    makes = subst (λ (e : Found). Makes r.program promote (slice_index (between k last).next w) e (joins new solved goals)) site_is (
-      g,
-      refl,
-      record {
-        operator = x.op;
-        alternatives = last;
-        held = is_choice t.config s g f is_home k.body x.held x.op last (between k last).next;
-        joined = x.last;
-        origin = inl (record { rule = refl; alternative = refl; only = refl });
-        frames = calls.frames;
-        ports = calls.ports;
-        stands = calls.stands;
-        body = calls.body ∙ ap (λ (n : ℕ). numbered w n x.last.body) (sym next_now);
-      },
-    )
-
-    solved_now : (o : Option ℕ) (is_solved : Bool) → IsSolvedWhen o T f (joins new is_solved goals) → IsSolvedWhen o V (with_choice f g x.op last) (joins new is_solved goals)
-    solved_now None is_solved h = tt
-    solved_now (Some j) is_solved h = (
-      let a : j ≤ T.steps = h.0 in omega arith,
-      λ z. still is_solved (h.1 (unchanged k x.last last_stands last_names (λ y. y) T t.unfolds alternative store_of store_stamp.0 goals_stamp.0 goal_stamp.0 (length (x.sift_labels ++ x.end_labels)) j f (stood t.config s g f is_home) z)),
-    )
-      where
-        still : (is_solved : Bool) → IsSolvedIf is_solved T (names_around f) new → IsSolvedIf is_solved V (names_around f) new
-        still false y = tt
-        still true y = subst (λ (ss : List Stored). IsSolvedChain T.nodes (ss ++ new ∷ []))
-            (sym (stores_around k x.last last_stands last_names (λ z. z) T t.unfolds alternative store_of store_stamp.0 goals_stamp.0 goal_stamp.0 (length (x.sift_labels ++ x.end_labels)) f (stood t.config s g f is_home))) y
-
-    -- the table after it
-
-    goal_row : (v : GoalRow) × (T.goal_of g ≡ Some v) × (spot_of v ≡ record { home = f.content.name; shape = of_atom k.body })
-    goal_row = map_some spot_of (T.goal_of g) (record { home = f.content.name; shape = of_atom k.body }) (t.unfolds.goals g ∙ spot_held g t.config.roots f (an_atom k.body) is_home x.held)
-
-    none_there : T.box_of x.last.name ≡ None
-    none_there = neither (IsBoxRow T t.config.roots) (box_at x.last.name t.config.roots) (T.box_of x.last.name) (t.unfolds.boxes x.last.name)
-        (box_at-none x.last.name t.config.roots (unknown t.config s g f is_home w (drawn_by x.called.clauses) x.last.name last_new_name))
-
-    home_apart : f.content.name ≡ x.last.name → ⊥
-    home_apart q = not_old k x.last.name last_new_name (subst (IsOld t.config) q (old_box t.config s f (stood t.config s g f is_home)))
-
-    module _ (U : Table) (is : IsTable U (after_call g new (solved_when at solved) goals w (drawn_by x.called.clauses + length x.last.body) (length (x.sift_labels ++ x.end_labels)) T)) where
-      is_after : IsTable U (after_join g new (solved_when at solved) goals w leads.change.drawn V)
-      is_after = subst (λ (n : ℕ). IsTable U (after_join g new (solved_when at solved) goals w n V)) (sym drawn_now)
-          (joined_table k x.last alternative store_stamp.0 goals_stamp.0 goal_stamp.0 (length (x.sift_labels ++ x.end_labels)) (length x.last.body) T U new (solved_when at solved) goals goal_row home_apart none_there is)
-
-      labels : ((r.journal ++ fork ∷ []) ++ others) ++ promote ∷ [] ≡ r.journal ++ labels_at_once x
-      labels = append_assoc (r.journal ++ fork ∷ []) others (promote ∷ []) ∙ append_assoc r.journal (fork ∷ []) (others ++ promote ∷ [])
-          ∙ ap (λ (ls : List Label). r.journal ++ ls) (sym (all_labels rules force r.program t.config s w g f is_home x ⊥ (λ q. absurd q)))
-
-      stepped : (u : IsTableOf rules (followed_by early promote) U) × (u.config ≡ at_once x)
-      stepped = step_law rules early V U promote (at_once x) early_table leads (joins new solved goals) at makes
-          (subst (λ (e : Found). IsSolvedWhen at V e (joins new solved goals)) site_is (solved_now at solved chain)) is_after
-
-      pub table_after : (u : IsTableOf rules (after_labels r x) U) × (u.config ≡ at_once x)
-      table_after = subst (λ (js : List Label). (u : IsTableOf rules (record r { journal = js }) U) × (u.config ≡ at_once x)) labels stepped
+    pub table_after : (u : IsTableOf rules (after_labels r x) U) × (u.config ≡ at_once x)
+    table_after = subst (λ (js : List Label). IsAt rules r js U (at_once x)) labels (subst (λ (Q : Table). IsAt rules r (journal ++ x.body_labels) Q (at_once x)) same_table (body_after U.next at solved alternative new goals calls chain is.next))
 
 pub call_step : (rules : List Rule) → AreInForce rules → (r : Run) (T U : Table) (t : IsTableOf rules r T) (w : ℕ) (g : Name) (f : Found) → home_of g t.config.roots ≡ Some f → (x : IsAtOnce r.program t.config w g f)
     → (at : Option ℕ) (solved : Bool) (alternative new : Stored) (goals : List (Name × Atom)) → CallsGoal x alternative new goals → IsSolvedWhen at T f (joins new solved goals)
-    → IsTable U (after_call g new (solved_when at solved) goals w (drawn_by x.called.clauses + length x.last.body) (length (x.sift_labels ++ x.end_labels)) T)
+    → IsTable U (after_call g new (solved_when at solved) goals w (drawn_by x.called.clauses + length x.last.body) (promoted_at x T.steps) (told_at x T.steps) (ended_at x T.steps) T)
     → (u : IsTableOf rules (after_labels r x) U) × (u.config ≡ at_once x)
-call_step rules force r T U t w g f is_home x at solved alternative new goals calls chain is = table_after rules force r T t w g f is_home x at solved alternative new goals calls chain U is
+call_step rules force r T U t w g f is_home x at solved alternative new goals calls chain is = table_after rules force r T t w g f is_home x U at solved alternative new goals calls chain is

@@ -2,4 +2,8 @@ pub mod MiddleBoxes
 pub mod MiddleRows
 pub mod StampsBetween
 pub mod AfterCall
+pub mod Joined
+pub mod BodyLists
+pub mod BodyRows
+pub mod BodyTables
 pub mod CallStep

@@ -53,7 +53,7 @@ held_here g a (choice i o bs gs) e = let w : _ = not_here g i (a_choice o bs) (h
     on true q r = goal_first g g (an_atom a) (held_in g (choice i o bs gs)) (same_name-refl g)
     on false q r = past g i (a_choice o bs) (held_in g (with_goal g (an_atom a) gs)) (Some (an_atom a)) q r
 
-names_with : (g : Name) (a : Atom) (gs : Goals) → held_in g gs ≡ None → goal_names (with_goal g (an_atom a) gs) ≡ with_name g (goal_names gs)
+pub names_with : (g : Name) (a : Atom) (gs : Goals) → held_in g gs ≡ None → goal_names (with_goal g (an_atom a) gs) ≡ with_name g (goal_names gs)
 names_with g a no_goals e = refl
 names_with g a (atom i b gs) e = let w : _ = not_here g i (an_atom b) (held_in g gs) e in on (is_before g i) (same_name g i) w.0 (names_with g a gs w.1)
   where
@@ -218,11 +218,11 @@ with_two a b e (m ∷ ms) = on (bool_or (same_name a m)) (bool_or (is_before a m
         let v : (same_name m b ≡ false) × (same_name b m ≡ false) × (is_before b m ≡ false) = after_facts m b z in
         ap (with_name b) (with_later a m ms p q) ∙ with_later b m (with_name a ms) v.1 v.2 ∙ ap (λ (ns : List Name). m ∷ ns) r ∙ sym (with_later a m (with_name b ms) p q) ∙ ap (with_name a) (sym (with_later b m ms v.1 v.2))
 
-with_names_after : (x : Name) (ns ms : List Name) → IsBeforeAll x ns → with_names ns (with_name x ms) ≡ with_name x (with_names ns ms)
+pub with_names_after : (x : Name) (ns ms : List Name) → IsBeforeAll x ns → with_names ns (with_name x ms) ≡ with_name x (with_names ns ms)
 with_names_after x [] ms h = refl
 with_names_after x (n ∷ ns) ms h = ap (with_name n) (with_names_after x ns ms h.1) ∙ with_two x n h.0 (with_names ns ms)
 
-number_before : (w n k : ℕ) → n < k → is_before (named w n) (named w k) ≡ true
+pub number_before : (w n k : ℕ) → n < k → is_before (named w n) (named w k) ≡ true
 number_before w n k h = grind (arith, nat_tests)
 
 before_numbered : (w n k : ℕ) (atoms : List Atom) → n < k → IsBeforeAll (named w n) (map (λ (x : Name × Atom). x.0) (numbered w k atoms))
