@@ -53,12 +53,12 @@ pub fn evaluate(alloc: Global, chain: &Chain, goal: Goal) -> Result<ArithValue, 
     match take_stores(alloc, templates, &mut form, &chain.stores()[known..])? {
         // Not where the chain is consistent.
         Some(_) => Ok(ArithValue::Never),
-        None => answer(alloc, templates, &form, goal),
+        None => evaluate_over(alloc, templates, &form, goal),
     }
 }
 
-/// What an arithmetic goal comes to, read through bindings.
-fn answer<K: Lookup>(
+/// What an arithmetic goal comes to, read through bindings that are a solved form.
+pub fn evaluate_over<K: Lookup>(
     alloc: Global,
     templates: &Templates,
     known: &K,

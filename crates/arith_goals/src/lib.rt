@@ -6,4 +6,4 @@ mod goals;
 mod operation;
 mod walk;
 
-pub use goals::{ArithValue, evaluate};
+pub use goals::{ArithValue, evaluate, evaluate_over};

@@ -15,11 +15,11 @@ pub returns-clause-answers : goal.returns-clause-answers
 returns-clause-answers c =
     let part = c.known-known.ensures.solved.each c.known-known.result (omega arith) in
     let t = rw (c.in-None.is, c.new.ensures, c.templates-templates.ensures.nodes, c.outer-base.ensures.stores, c.stores.ensures) at c.in_ok-take_stores.ensures.taken in
-    IfOk-weaker c.answer.result _ _ (λ a h. answers-chain c.args.chain.now c.known-known.result c.take_stores.new.form.added _ c.templates-templates.result.now c.args.goal a part t
-    (rw (c.in_ok-take_stores.ensures.known, c.outer-base.ensures.stores) refl) c.templates-templates.ensures.nodes c.templates-templates.ensures.symbols h) c.answer.ensures.answers
+    IfOk-weaker c.evaluate_over.result _ _ (λ a h. answers-chain c.args.chain.now c.known-known.result c.take_stores.new.form.added _ c.templates-templates.result.now c.args.goal a part t
+    (rw (c.in_ok-take_stores.ensures.known, c.outer-base.ensures.stores) refl) c.templates-templates.ensures.nodes c.templates-templates.ensures.symbols h) c.evaluate_over.ensures.answers
 
 pub returns-clause-end : goal.returns-clause-end
 returns-clause-end c =
     let t = rw (c.in-None.is, c.new.ensures, c.templates-templates.ensures.nodes, c.outer-base.ensures.stores, c.stores.ensures) at c.in_ok-take_stores.ensures.taken in
-    IfOk-weaker c.answer.result _ _ (λ a h. waits-chain c.args.chain.now c.known-known.result c.take_stores.new.form.added _ c.templates-templates.result.now.nodes a c.known-known.ensures.known t
-    (rw (c.in_ok-take_stores.ensures.known, c.outer-base.ensures.stores) refl) c.templates-templates.ensures.nodes h) c.answer.ensures.end
+    IfOk-weaker c.evaluate_over.result _ _ (λ a h. waits-chain c.args.chain.now c.known-known.result c.take_stores.new.form.added _ c.templates-templates.result.now.nodes a c.known-known.ensures.known t
+    (rw (c.in_ok-take_stores.ensures.known, c.outer-base.ensures.stores) refl) c.templates-templates.ensures.nodes h) c.evaluate_over.ensures.end

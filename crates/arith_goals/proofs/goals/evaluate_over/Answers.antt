@@ -5,7 +5,7 @@ use Rattle.akl_terms.specs.declared.term.Term.TheVariants.{Mol}
 use Rattle.akl_terms.specs.Template.{tree}
 use Rattle.akl_terms.specs.Arithmetic.{gives, right_of_is}
 use Rattle.arith_goals.proofs.Comparing.{is-stuck}
-use Rattle.arith_goals.proofs.goals.answer.Goals as goal
+use Rattle.arith_goals.proofs.goals.evaluate_over.Goals as goal
 
 pub returns-in-Is-2-clause-answers : goal.returns-in-Is-2-clause-answers
 returns-in-Is-2-clause-answers g c = λ E f.

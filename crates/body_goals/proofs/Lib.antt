@@ -1,0 +1,5 @@
+pub mod Finding
+pub mod OneBinding
+pub mod Taking
+pub mod Reductions
+pub mod InOrder

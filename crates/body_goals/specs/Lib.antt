@@ -1,0 +1,4 @@
+pub mod Takes
+pub mod Binds
+pub mod Goals
+pub mod Reduced
