@@ -8,18 +8,20 @@ use Rattle.akl_terms.specs.declared.term.Term.{Term}
 use Rattle.akl_terms.specs.Tree.{Tree, variable, integer, port, symbol}
 use Rattle.akl_terms.specs.Template.{tree}
 use Rattle.rational_unify.specs.Known.{found_in, end_of}
-use Rattle.rational_unify.proofs.Chains.{found-second}
+use Rattle.rational_unify.specs.Solving.{BindNew}
+use Rattle.rational_unify.proofs.Chains.{found-second, found-none}
 use Rattle.rational_unify.proofs.Ends.{end-bound}
 use Rattle.local_store.specs.declared.telling.ToldStore.{ToldStore}
-use Rattle.local_store.specs.Stored.{Stored, with_frame, with_bindings}
-use Rattle.local_store.specs.Chained.{bindings_from, innermost, around, IsSolvedChain, IsKnown}
+use Rattle.local_store.specs.Stored.{Stored, joins, with_frame, with_bindings}
+use Rattle.local_store.specs.Chained.{bindings_from, innermost, around, BindOnce, IsSolvedChain, IsKnown}
 use Rattle.local_store.specs.Bound.{AreFound, bound_by, variable_in}
 use Rattle.local_store.specs.Promoting.{named_too, AnswersPromoted}
 use Rattle.local_store.proofs.InOrder.{joins-in_order}
 use Rattle.local_store.proofs.Joining.{innermost-found, joins-innermost, promotes-chain}
 use Rattle.local_store.proofs.Known.{whole-known}
-use Rattle.local_store.proofs.Layers.{from-last}
-use Rattle.plain_heads.specs.Joined.{own_store, listed, AreFree}
+use Rattle.local_store.proofs.Layers.{joins-found, from-last, from-innermost}
+use Rattle.local_store.proofs.Once.{new-once}
+use Rattle.plain_heads.specs.Joined.{own_store, listed, AreFree, KeepsBound}
 use Rattle.plain_heads.specs.Plain.{ArePlain, IsFurther}
 use Rattle.plain_heads.proofs.Orders.{other_frame}
 use Rattle.plain_heads.proofs.Passing.{stays}
@@ -39,7 +41,7 @@ around_last [] s = refl
 around_last (t ∷ []) s = refl
 around_last (t ∷ u ∷ ss) s = ap (λ (l : List Stored). t ∷ l) (around_last (u ∷ ss) s)
 
-all_both : {A : Type 0} (P : A → Type 0) (xs ys : List A) → AllByRecursion P xs → AllByRecursion P ys → AllByRecursion P (xs ++ ys)
+pub all_both : {A : Type 0} (P : A → Type 0) (xs ys : List A) → AllByRecursion P xs → AllByRecursion P ys → AllByRecursion P (xs ++ ys)
 all_both P [] ys h k = k
 all_both P (x ∷ xs) ys h k = (h.0, all_both P xs ys h.1 k)
 
@@ -89,6 +91,16 @@ module _ (nodes : List Node) (path : List Stored) (frame : Name) (bs : List (Var
     bound_is : bound_by nodes (bindings_from whole) (innermost whole).bindings ≡ listed nodes bs
     bound_is = ap (bound_by nodes (bindings_from whole)) innermost_is
         ∙ ends bs (subst (AreFound (bindings_from whole)) innermost_is (innermost-found nodes whole (length path + 1) (sym (long_last path (own_store frame bs))) k)) plain.further
+
+    new_bindings : BindNew ((innermost path).bindings ++ bindings_from (around path)) bs
+    new_bindings = subst (λ (l : List (Var × Term)). BindNew l bs) (from-innermost path)
+        (new-once (bindings_from path) bs (subst BindOnce (from-last path (own_store frame bs) ∙ ap (λ (l : List (Var × Term)). l ++ bindings_from path) own_bindings) solved.once))
+
+    pub kept_bound : (store : Stored) → store ≡ with_bindings (with_frame (innermost path) frame) bs → KeepsBound path store
+    kept_bound store is x e =
+        let outer : List (Var × Term) = bindings_from (around path) in
+        let a : found_in (joins (innermost path).bindings bs ++ outer) x ≡ None = ap (λ (s : Stored). found_in (s.bindings ++ outer) x) (sym is) ∙ ap (λ (l : List (Var × Term)). found_in l x) (sym (from-last (around path) store)) ∙ e in
+        ap (λ (l : List (Var × Term)). found_in l x) (from-innermost path) ∙ (found-none ((innermost path).bindings ++ outer) bs x (sym (joins-found (innermost path).bindings outer bs new_bindings x) ∙ a)).0
 
     names : named_too (innermost (around whole)) (innermost whole) ≡ with_frame (innermost path) frame
     names = ap (λ (s : Stored). named_too (innermost (around whole)) s) (innermost_last path (own_store frame bs)) ∙ ap (λ (ss : List Stored). with_frame (innermost ss) frame) (around_last path (own_store frame bs))

@@ -9,6 +9,7 @@ use Rattle.akl_terms.specs.Template.{tree}
 use Rattle.rational_unify.specs.Known.{found_in}
 use Rattle.local_store.specs.Bound.{variable_in}
 use Rattle.local_store.specs.Stored.{Stored, nothing, with_frame, with_bindings}
+use Rattle.local_store.specs.Chained.{bindings_from, replaced}
 
 -- the store of a frame that has these bindings
 abbrev pub own_store : Name → List (Var × Term) → Stored
@@ -22,3 +23,7 @@ listed nodes (b ∷ bs) = b.0 ∷ variable_in (tree nodes b.1) ++ listed nodes b
 -- known bindings bind none of these variables
 abbrev pub AreFree : List (Var × Term) → List Var → Type 0
 AreFree known xs = AllByRecursion (λ x. found_in known x ≡ None) xs
+
+-- with another store in the innermost place nothing is free that was bound
+abbrev pub KeepsBound : List Stored → Stored → Type 0
+KeepsBound path store = (x : Var) → found_in (bindings_from (replaced path store)) x ≡ None → found_in (bindings_from path) x ≡ None

@@ -4,7 +4,7 @@ ghost use Rattle.std.specs.Prelude.{◌≡◌, ◌+◌, ◌<◌, ◌++◌, ◌�
 ghost use Rattle.local_store.specs.Chained.{bindings_from, IsKnown};
 ghost use Rattle.local_store.specs.Promoting.{AnswersPromoted};
 ghost use Rattle.plain_heads.specs.Plain.{ArePlain};
-ghost use Rattle.plain_heads.specs.Joined.{own_store, listed, AreFree};
+ghost use Rattle.plain_heads.specs.Joined.{own_store, listed, AreFree, KeepsBound};
 
 use akl_terms::{Name, Seen, Templates, Term, Var};
 use local_store::{Shared, Store, ToldStore};
@@ -25,6 +25,7 @@ pub fn joined(
     requires solved { IsKnown templates.now.nodes (path.now ++ own_store frame bindings.now ∷ []) (length path.now + 1) }
     ensures promoted { IfOk result (AnswersPromoted templates.now.nodes (path.now ++ own_store frame bindings.now ∷ []) (length path.now + 1)) }
     ensures free { IfOk result (λ told. AreFree (bindings_from path.now) told.bound.items) }
+    ensures kept { IfOk result (λ told. KeepsBound path.now told.store) }
 {
     let mut store = path[path.len() - 1].get().share()?;
     store.add_frame(frame)?;
