@@ -16,14 +16,15 @@ use Rattle.akl_model.proofs.NamesKept.{replay-stands}
 use Rattle.akl_model.proofs.OrdersKept.{replay_ordered}
 use Rattle.step_laws.proofs.Whereabouts.{found_in, in_home}
 use Rattle.local_store.specs.Stored.{Stored}
+use Rattle.call_tables.specs.Calls.{called_row}
 use Rattle.table_laws.specs.Rows.{BoxRow, GoalRow, Table}
 use Rattle.table_laws.specs.Walks.{alternatives_of}
 use Rattle.table_laws.specs.Unfolds.{IsBoxRow}
-use Rattle.table_laws.specs.Writes.{set, unset, home_in, home_or, less_name, changed_box, told_row, joined_row, first_fail, or_fails, atom_among, after_join, IsFresh}
+use Rattle.table_laws.specs.Writes.{set, unset, home_in, home_or, less_name, changed_box, first_fail, or_fails, atom_among, IsFresh}
 use Rattle.table_laws.proofs.Frame.{found_of}
 use Rattle.table_laws.proofs.Insides.{goal_row, held_directly}
 use Rattle.box_tree.specs.Tables.{TableValue, table_of, goals_in, all_rules}
-use Rattle.box_tree.specs.Edits.{SetsBoxes, SetsGoals, SetsRows, Becomes, AreNew, named_row, named_atoms, atoms_with}
+use Rattle.box_tree.specs.Edits.{SetsBoxes, SetsGoals, SetsRows, IsJoined, told_first, AreNew, named_row, named_atoms, atoms_with}
 use Rattle.box_tree.specs.Drops.{IsOfRun}
 use Rattle.box_tree.proofs.GoalsInOrder.{names_increase, stood_ordered}
 use Rattle.box_tree.proofs.News.{firsts, names_atoms}
@@ -124,26 +125,26 @@ unset_more t u v names at d l a b = record {
 pub unset_all : (t u : TableValue) (names : List Name) (at : ℕ) → length names ≤ at → IsUnsetBy t u names (drop at names) → SetsBoxes t u (unset names (table_of t).box_of)
 unset_all t u names at l a = record { rows = λ m. ap (λ (ns : List Name). unset ns (table_of u).box_of m) (sym (drop_all at names l)) ∙ a.rows m; rest = a.rest }
 
-module _ (t u v w x : TableValue) (g home : Name) (store : Stored) (solved_at : Option ℕ) (goals : List (Name × Goal)) (failing : Option Name) (others number worker count : ℕ) (names : List Name) (next : List ℕ) where
+module _ (t u v w x : TableValue) (g home : Name) (store : Stored) (solved_at : Option ℕ) (goals : List (Name × Goal)) (failing : Option Name) (others told behind promoted told_at ended worker count : ℕ) (names : List Name) (next : List ℕ) where
   row_joins : IsFresh (table_of t) (map (λ (y : Name × Atom). y.0) (named_atoms t.program.templates.nodes goals)) → Some home ≡ home_in ((table_of t).goal_of g) → names ≡ firsts goals → failing ≡ first_fail (named_atoms t.program.templates.nodes goals)
-      → (r : BoxRow) → IsIncreasing r.goals → told_row g store solved_at number (named_row names failing r) ≡ joined_row g store solved_at (named_atoms t.program.templates.nodes goals) number r
+      → (r : BoxRow) → IsIncreasing r.goals → told_first g store solved_at told_at ended (named_row names failing r) ≡ called_row g store solved_at (named_atoms t.program.templates.nodes goals) told_at ended r
   row_joins f h ns fs r o =
       let same : names ≡ map (λ (y : Name × Atom). y.0) (named_atoms t.program.templates.nodes goals) = ns ∙ sym (names_atoms t.program.templates.nodes goals) in
       let gs : less_name g (with_names names r.goals) ≡ with_names (map (λ (y : Name × Atom). y.0) (named_atoms t.program.templates.nodes goals)) (less_name g r.goals) =
       sym (less_with_names g names r.goals (λ m i e. drawn m (subst (IsIn m) same i) e) o) ∙ ap (λ (ms : List Name). with_names ms (less_name g r.goals)) same in
       let fails : option_or r.failing failing ≡ or_fails r.failing (named_atoms t.program.templates.nodes goals) = or_first r.failing failing (named_atoms t.program.templates.nodes goals) fs in
-      λ i. record r { store = store; changed = number; solved_at = solved_at; goals = gs i; goals_changed = number; failing = fails i }
+      λ i. record r { store = store; changed = told_at; solved_at = solved_at; goals = gs i; goals_changed = ended; failing = fails i }
     where
       drawn : (m : Name) → IsIn m (map (λ (y : Name × Atom). y.0) (named_atoms t.program.templates.nodes goals)) → g ≡ m → ⊥
       drawn m i e = let z : (table_of t).goal_of g ≡ None = ap (table_of t).goal_of e ∙ f.no_goal m i in let k : Some home ≡ None = h ∙ ap home_in z in cc
 
-  pub joined : number ≡ others + t.steps + 1 → IsFresh (table_of t) (map (λ (y : Name × Atom). y.0) (named_atoms t.program.templates.nodes goals)) → Some home ≡ home_in ((table_of t).goal_of g)
+  pub joined : t.steps < promoted → promoted + behind ≡ others + t.steps + 1 → told_at ≡ promoted + told → ended ≡ promoted + behind → IsFresh (table_of t) (map (λ (y : Name × Atom). y.0) (named_atoms t.program.templates.nodes goals)) → Some home ≡ home_in ((table_of t).goal_of g)
       → ((r : BoxRow) → (table_of t).box_of home ≡ Some r → IsIncreasing r.goals) → names ≡ firsts goals → failing ≡ first_fail (named_atoms t.program.templates.nodes goals)
       → ((k : ℕ) → slice_index next k ≡ slice_index (raised worker count t.next) k)
-      → SetsRows t u (changed_box (Some home) (named_row names failing) (table_of t).box_of) (atoms_with home number (named_atoms t.program.templates.nodes goals) (table_of t))
-      → SetsBoxes u v (changed_box (Some home) (told_row g store solved_at number) (table_of u).box_of) → SetsGoals v w (set g None (table_of v).goal_of) → (alternatives : List Name) → alternatives ≡ alternatives_of ((table_of t).goal_of g) → SetsBoxes w x (unset alternatives (table_of w).box_of)
-      → Becomes t (record x { next = next; steps = number }) (after_join g store solved_at (named_atoms t.program.templates.nodes goals) worker count (record (table_of t) { steps = others + t.steps }))
-  joined nb f h o ns fs nx a b d alternatives known e =
+      → SetsRows t u (changed_box (Some home) (named_row names failing) (table_of t).box_of) (atoms_with home promoted (named_atoms t.program.templates.nodes goals) (table_of t))
+      → SetsBoxes u v (changed_box (Some home) (told_first g store solved_at told_at ended) (table_of u).box_of) → SetsGoals v w (set g None (table_of v).goal_of) → (alternatives : List Name) → alternatives ≡ alternatives_of ((table_of t).goal_of g) → SetsBoxes w x (unset alternatives (table_of w).box_of)
+      → IsJoined t (record x { next = next; steps = ended }) g store solved_at (named_atoms t.program.templates.nodes goals) others told behind worker count
+  joined later nb is_told is_ended f h o ns fs nx a b d alternatives known e =
       let all : List (Name × Atom) = named_atoms t.program.templates.nodes goals in
       let vu : v ≡ record t { boxes = v.boxes; goals = u.goals } = b.rest ∙ ap (λ (k : TableValue). record k { boxes = v.boxes }) a.rest in
       let wt : w ≡ record t { boxes = v.boxes; goals = w.goals } = d.rest ∙ ap (λ (k : TableValue). record k { goals = w.goals }) vu in
@@ -151,22 +152,27 @@ module _ (t u v w x : TableValue) (g home : Name) (store : Stored) (solved_at : 
       record {
         program = ap (λ (k : TableValue). k.program) rest;
         query = ap (λ (k : TableValue). k.query) rest;
-        table = record {
-          nodes = ap (λ (k : TableValue). k.program.templates.nodes) rest;
-          boxes = λ m. e.rows m ∙ ap (λ (ks : List Name). unset ks (table_of w).box_of m) known ∙ unset_alike (alternatives_of ((table_of t).goal_of g)) (table_of w).box_of
-              (changed_box (home_in ((table_of t).goal_of g)) (joined_row g store solved_at all (others + t.steps + 1)) (table_of t).box_of) (λ i.
-              ap (λ (k : TableValue). (table_of k).box_of i) d.rest ∙ b.rows i
-              ∙ changed_twice home (told_row g store solved_at number) (named_row names failing) (joined_row g store solved_at all number) (table_of t).box_of (table_of u).box_of a.boxes (λ r q. row_joins f h ns fs r (o r q)) i
-              ∙ ap (λ (k : Option Name). changed_box k (joined_row g store solved_at all number) (table_of t).box_of i) h
-              ∙ ap (λ (k : ℕ). changed_box (home_in ((table_of t).goal_of g)) (joined_row g store solved_at all k) (table_of t).box_of i) nb) m;
-          goals = λ m. ap (λ (k : TableValue). (table_of k).goal_of m) e.rest ∙ d.rows m
-              ∙ ap (λ (r : Option GoalRow). if same_name m g then None else r) (ap (λ (k : TableValue). (table_of k).goal_of m) b.rest ∙ a.goals m)
-              ∙ goal_rows (table_of t) home number all g m (not_among (table_of t) home home number all g f h)
-              ∙ ap (λ (k : Name). or_else (atom_among k number all m) (set g None (table_of t).goal_of m)) (home_is ((table_of t).goal_of g) home g h)
-              ∙ ap (λ (k : ℕ). or_else (atom_among (home_or ((table_of t).goal_of g) g) k all m) (set g None (table_of t).goal_of m)) nb;
-          roots = ap (λ (k : TableValue). k.roots) rest;
-          roots_changed = ap (λ (k : TableValue). k.roots_changed) rest;
-          next = nx;
-          steps = nb;
+        joins = record {
+          promoted = promoted;
+          later = later;
+          number = nb;
+          table = record {
+            nodes = ap (λ (k : TableValue). k.program.templates.nodes) rest;
+            boxes = λ m. e.rows m ∙ ap (λ (ks : List Name). unset ks (table_of w).box_of m) known ∙ unset_alike (alternatives_of ((table_of t).goal_of g)) (table_of w).box_of
+                (changed_box (home_in ((table_of t).goal_of g)) (called_row g store solved_at all (promoted + told) (promoted + behind)) (table_of t).box_of) (λ i.
+                ap (λ (k : TableValue). (table_of k).box_of i) d.rest ∙ b.rows i
+                ∙ changed_twice home (told_first g store solved_at told_at ended) (named_row names failing) (called_row g store solved_at all told_at ended) (table_of t).box_of (table_of u).box_of a.boxes (λ r q. row_joins f h ns fs r (o r q)) i
+                ∙ ap (λ (k : Option Name). changed_box k (called_row g store solved_at all told_at ended) (table_of t).box_of i) h
+                ∙ ap (λ (k : ℕ). changed_box (home_in ((table_of t).goal_of g)) (called_row g store solved_at all k ended) (table_of t).box_of i) is_told
+                ∙ ap (λ (k : ℕ). changed_box (home_in ((table_of t).goal_of g)) (called_row g store solved_at all (promoted + told) k) (table_of t).box_of i) is_ended) m;
+            goals = λ m. ap (λ (k : TableValue). (table_of k).goal_of m) e.rest ∙ d.rows m
+                ∙ ap (λ (r : Option GoalRow). if same_name m g then None else r) (ap (λ (k : TableValue). (table_of k).goal_of m) b.rest ∙ a.goals m)
+                ∙ goal_rows (table_of t) home promoted all g m (not_among (table_of t) home home promoted all g f h)
+                ∙ ap (λ (k : Name). or_else (atom_among k promoted all m) (set g None (table_of t).goal_of m)) (home_is ((table_of t).goal_of g) home g h);
+            roots = ap (λ (k : TableValue). k.roots) rest;
+            roots_changed = ap (λ (k : TableValue). k.roots_changed) rest;
+            next = nx;
+            steps = is_ended;
+          };
         };
       }

@@ -8,6 +8,7 @@ mod KeptAndCut
 mod Naming
 pub mod GoalsInOrder
 mod Joined
+pub mod LeadsBy
 pub mod CutOff
 mod News
 mod Numbers

@@ -16,7 +16,7 @@ use Rattle.box_tree.specs.declared.inside.InnerBox.{InnerBox}
 use Rattle.box_tree.specs.declared.inside.Inside.{Inside}
 use Rattle.box_tree.specs.Tables.{TableValue, table_of}
 use Rattle.box_tree.specs.Views.{ViewValue}
-use Rattle.box_tree.specs.Insides.{IsInnerBox, IsPlaceInside, IsViewInside, HasView, IsInsideOf}
+use Rattle.box_tree.specs.Insides.{IsInnerBox, IsPlaceInside, IsViewInside, HasView, AreBoxesInside, IsInsideOf}
 use Rattle.box_tree.specs.Places.{goal_places, places_in, IsSeenBy}
 use Rattle.box_tree.proofs.Begins.{in_left, in_right}
 
@@ -89,6 +89,9 @@ module _ (t : TableValue) where
     | inr j ↦ placed_inside n bs a.1 (λ m k. h m (inr k)) p j
   ]
 
+  pub boxes_listed : (n : Name) (names : List Name) → ListsInside (table_of t) n names → (bs : List InnerBox) → box_names bs ≡ names → AllByRecursion (IsInnerBox t) bs → AreBoxesInside t n bs
+  boxes_listed n names lists bs named boxes = record { listed = subst (ListsInside (table_of t) n) (sym named) lists; boxes = boxes }
+
   module _ (journal : List Label) (n : Name) (worker : ℕ) where
     -- the views are of these places
     all_views : (vs : List ViewValue) → AllByRecursion (IsSeenBy t journal worker) vs → ((p : Place) → IsOneOf p (map (λ (v : ViewValue). v.place) vs) → IsPlaceInside (table_of t) n p) → AllByRecursion (IsViewInside t journal n worker) vs
@@ -100,21 +103,17 @@ module _ (t : TableValue) where
     viewed (v ∷ vs) p (inl e) = inl (sym e)
     viewed (v ∷ vs) p (inr i) = inr (viewed vs p i)
 
-    pub all_inside : (i : Inside) (names : List Name) (places : List Place) → ListsInside (table_of t) n names → box_names i.boxes.items ≡ names → AllByRecursion (IsInnerBox t) i.boxes.items → places ≡ places_in i.boxes.items
+    pub all_inside : (i : Inside) → AreBoxesInside t n i.boxes.items → (places : List Place) → places ≡ places_in i.boxes.items
         → map (λ (v : ViewValue). v.place) i.views.items ≡ places → AllByRecursion (IsSeenBy t journal worker) i.views.items → IsInsideOf t journal n worker i
-    all_inside i names places lists named boxes placed seen views = record {
-      listed = subst (ListsInside (table_of t) n) (sym named) lists;
-      boxes = boxes;
-      views = all_views i.views.items views (λ p j. placed_inside n i.boxes.items boxes (λ m k. lists.inside m (subst (IsIn m) named k)) p (subst (IsOneOf p) same j));
+    all_inside i are places placed seen views = record {
+      boxes = are;
+      views = all_views i.views.items views (λ p j. placed_inside n i.boxes.items are.boxes are.listed.inside p (subst (IsOneOf p) same j));
       each = each;
     }
       where
         same : map (λ (v : ViewValue). v.place) i.views.items ≡ places_in i.boxes.items
         same = seen ∙ placed
 
-        listed : (m : Name) → IsInside (table_of t) n m → IsIn m (box_names i.boxes.items)
-        listed m x = subst (IsIn m) (sym named) (lists.each m x)
-
         each : (p : Place) → IsPlaceInside (table_of t) n p → HasView i.views.items p
-        each (Place.Box m) x = viewed i.views.items (Place.Box m) (subst (IsOneOf (Place.Box m)) (sym same) (box_placed m i.boxes.items (listed m x)))
-        each (Place.Goal g) x = viewed i.views.items (Place.Goal g) (subst (IsOneOf (Place.Goal g)) (sym same) (inner_placed x.box g i.boxes.items boxes (listed x.box x.inside) x.goal))
+        each (Place.Box m) x = viewed i.views.items (Place.Box m) (subst (IsOneOf (Place.Box m)) (sym same) (box_placed m i.boxes.items (are.listed.each m x)))
+        each (Place.Goal g) x = viewed i.views.items (Place.Goal g) (subst (IsOneOf (Place.Goal g)) (sym same) (inner_placed x.box g i.boxes.items are.boxes (are.listed.each x.box x.inside) x.goal))

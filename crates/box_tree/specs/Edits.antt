@@ -11,13 +11,14 @@ use Rattle.akl_model.specs.Config.{IsIn, Operator, Atom, or_else, with_names}
 use Rattle.akl_model.specs.Names.{times_in}
 use Rattle.akl_model.specs.Changes.{Shape, of_choice}
 use Rattle.akl_model.specs.Derivations.{raised}
+use Rattle.local_store.specs.Stored.{Stored}
 use Rattle.table_laws.specs.Rows.{BoxRow, GoalRow, Table}
 use Rattle.table_laws.specs.Steps as laws
-use Rattle.table_laws.specs.Writes.{IsTable, less_name, new_box_of, new_goal_of, atom_among, shape_among}
+use Rattle.table_laws.specs.Writes.{IsTable, told_row, less_name, new_box_of, new_goal_of, atom_among, shape_among}
 use Rattle.box_tree.specs.declared.entries.Held.{Held}
 use Rattle.box_tree.specs.declared.entries.HeldOp.{HeldOp}
 use Rattle.box_tree.specs.declared.step.NewBox.{NewBox}
-use Rattle.box_tree.specs.Tables.{TableValue, table_of, goal_atom, shape_held}
+use Rattle.box_tree.specs.Tables.{TableValue, Joins, table_of, goal_atom, shape_held}
 
 -- boxes get these rows, and all else stays
 pub record SetsBoxes (t u : TableValue) (new : Name → Option BoxRow) : Type 0 where
@@ -39,6 +40,16 @@ pub record Becomes (t u : TableValue) (T : Table) : Type 0 where
   pub program : u.program ≡ t.program
   pub query : u.query ≡ t.query
   pub table : IsTable (table_of u) T
+
+-- a box has the row of one that is told by a label, and loses a goal by another
+abbrev pub told_first : Name → Stored → Option ℕ → ℕ → ℕ → BoxRow → BoxRow
+told_first g new solved_at told number r = record (told_row g new solved_at number r) { changed = told }
+
+-- goals have joined a box
+pub record IsJoined (t u : TableValue) (g : Name) (store : Stored) (solved_at : Option ℕ) (goals : List (Name × Atom)) (others told behind worker count : ℕ) : Type 0 where
+  pub program : u.program ≡ t.program
+  pub query : u.query ≡ t.query
+  pub joins : Joins t g store solved_at goals others told behind worker count (table_of u)
 
 -- entries whose names are none of these
 abbrev pub is_among : Name → List Name → Bool

@@ -62,10 +62,14 @@ abbrev pub HasView : List ViewValue → Place → Type 0
 HasView [] place = ⊥
 HasView (v ∷ vs) place = (v.place ≡ place) ⊎ HasView vs place
 
--- the box and all boxes inside it, each once, and a view of each place, and of no others
+-- the box and all boxes inside it, each once
+pub record AreBoxesInside (t : TableValue) (n : Name) (bs : List InnerBox) : Type 0 where
+  pub listed : ListsInside (table_of t) n (map (λ (b : InnerBox). b.name) bs)
+  pub boxes : AllByRecursion (IsInnerBox t) bs
+
+-- these, and a view of each place, and of no others
 pub record IsInsideOf (t : TableValue) (journal : List Label) (n : Name) (worker : ℕ) (i : Inside) : Type 0 where
-  pub listed : ListsInside (table_of t) n (map (λ (b : InnerBox). b.name) i.boxes.items)
-  pub boxes : AllByRecursion (IsInnerBox t) i.boxes.items
+  pub boxes : AreBoxesInside t n i.boxes.items
   pub views : AllByRecursion (IsViewInside t journal n worker) i.views.items
   pub each : (place : Place) → IsPlaceInside (table_of t) n place → HasView i.views.items place
 

@@ -14,10 +14,15 @@ use Rattle.table_laws.specs.Stamped.{IsTableOf, stamp_in}
 use Rattle.table_laws.specs.Steps.{joins, Makes, ReadsFor, IsSolvedIn}
 use Rattle.call_laws.specs.AtOnce.{IsAtOnce, labels_at_once, at_once}
 use Rattle.call_laws.specs.Wakes.{TellsNothing}
-use Rattle.call_tables.specs.Calls.{CallsGoal}
+use Rattle.call_tables.specs.Calls.{CallsGoal, told_of_body}
 use Rattle.box_tree.specs.declared.step.Step.{Step}
 use Rattle.box_tree.specs.Tables.{all_rules, TableValue, table_of, step_of}
 use Rattle.box_tree.specs.Views.{run_of}
+
+-- how many labels come behind the one by which goals join a box, up to the last one that tells it an equation, and in all; none where no goals join
+abbrev pub labels_behind : Step → ℕ × ℕ
+labels_behind (Step.Join store solved goals told behind) = (told, behind)
+labels_behind step = (0, 0)
 
 -- the table and the journal of the view that a plan was made of; its first label and those behind it, the items that it read, how many names its labels draw, the step
 -- that they make together, and variables that they bind or make equal
@@ -69,13 +74,14 @@ pub record IsRightCall (v : PlanValue) : Type 0 where
   pub goals : List (Name × Atom)
   pub makes : CallsGoal calls alternative new goals
   pub step : step_of v.table.program.templates.nodes v.step ≡ joins new is_solved goals
+  pub behind : labels_behind v.step ≡ (told_of_body calls, length calls.body_labels)
   pub solved : IsSolvedIn (table_of v.table) site (joins new is_solved goals)
   pub names : v.names ≡ drawn_by calls.called.clauses + length calls.last.body
   pub reads : ReadsCall (IsRead v.reads) goal site
   pub binds : AreBoundIn table.config (at_once calls) site v.binds
   pub there : (i : Item) → IsRead v.reads i → IsSome (stamp_in (table_of v.table) i)
 
--- a plan is of one label, or of a call
+-- a plan is of one label, behind which none comes, or of a call
 pub data IsRight (v : PlanValue) : Type 0 where
-  of_label : v.more ≡ [] → IsRightLabel v → IsRight v
+  of_label : v.more ≡ [] → labels_behind v.step ≡ (0, 0) → IsRightLabel v → IsRight v
   of_call : IsRightCall v → IsRight v

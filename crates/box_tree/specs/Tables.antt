@@ -17,9 +17,11 @@ use Rattle.akl_model.specs.Instances.{atom_of}
 use Rattle.akl_model.specs.Changes.{Shape, of_atom, of_choice}
 use Rattle.akl_terms.specs.declared.name.Place.{Place}
 use Rattle.akl_model.specs.declared.label.Label.{Label}
+use Rattle.local_store.specs.Stored.{Stored}
 use Rattle.table_laws.specs.Rows.{BoxRow, GoalRow, Table}
 use Rattle.table_laws.specs.Stamped.{Run, IsTableOf}
-use Rattle.table_laws.specs.Writes.{DrawsFresh, Leads}
+use Rattle.call_tables.specs.Calls.{after_call}
+use Rattle.table_laws.specs.Writes.{IsTable, DrawsFresh, Leads, solved_when}
 use Rattle.table_laws.specs.Steps as laws
 use Rattle.box_tree.specs.declared.entries.Held.{Held}
 use Rattle.box_tree.specs.declared.entries.HeldOp.{HeldOp}
@@ -116,7 +118,7 @@ step_of nodes (Step.Tell store solved) = laws.tells store solved
 step_of nodes (Step.Fork op alternatives) = laws.forks (op_held nodes op) (map (new_box nodes) alternatives.items)
 step_of nodes Step.Fail = laws.fails
 step_of nodes Step.Cut = laws.cuts
-step_of nodes (Step.Join store solved goals) = laws.joins store solved (map (λ (x : Name × Goal). (x.0, goal_atom nodes x.1)) goals.items)
+step_of nodes (Step.Join store solved goals told behind) = laws.joins store solved (map (λ (x : Name × Goal). (x.0, goal_atom nodes x.1)) goals.items)
 step_of nodes Step.Refute = laws.refutes
 step_of nodes Step.Confirm = laws.confirms
 step_of nodes (Step.Split copy copies) = laws.splits copy (map (box_copy nodes) copies.items)
@@ -188,12 +190,24 @@ pub record MayApply (t : TableValue) (l : Label) (step : Step) : Type 0 where
   pub fresh : DrawsFresh (table_of t) (step_of t.program.templates.nodes step)
   pub ordered : DrawsInOrder (step_of t.program.templates.nodes step)
 
--- the table before the last label of a step: a call's step, with which goals join a box, is that of its last label, before which come so many others
-abbrev pub before_last : ℕ → laws.Step → Table → Table
-before_last others (laws.joins new solved goals) T = record T { steps = others + T.steps }
-before_last others step T = T
+-- goals join a box by one of the labels of a step, of which the first comes with so many others. Its number is `promoted`; so many labels come behind it, and so many of these up to the last one that
+-- tells the box an equation
+pub record Joins (t : TableValue) (g : Name) (store : Stored) (solved_at : Option ℕ) (goals : List (Name × Atom)) (others told behind worker count : ℕ) (U : Table) : Type 0 where
+  pub promoted : ℕ
+  pub later : t.steps < promoted
+  pub number : promoted + behind ≡ others + t.steps + 1
+  pub table : IsTable U (after_call g store solved_at goals worker count promoted (promoted + told) (promoted + behind) (table_of t))
+
+-- the step of a label leads from table to table, or that of the labels of a call, with which goals join a box
+abbrev pub LeadsBy : TableValue → Label → ℕ → Option ℕ → ℕ → Step → Table → Type 0
+LeadsBy t l others at names (Step.Join store solved goals told behind) U = of_place l.place
+  where
+    of_place : Place → Type 0
+    of_place (Place.Goal g) = Joins t g store (solved_when at solved) (map (λ (x : Name × Goal). (x.0, goal_atom t.program.templates.nodes x.1)) goals.items) others told behind l.worker names U
+    of_place (Place.Box n) = ⊥
+LeadsBy t l others at names step U = Leads (table_of t) l at names (step_of t.program.templates.nodes step) U
 
 pub record Applied (t : TableValue) (l : Label) (others : ℕ) (at : Option ℕ) (names : ℕ) (step : Step) (u : TableValue) : Type 0 where
   pub program : u.program ≡ t.program
   pub query : u.query ≡ t.query
-  pub leads : Leads (before_last others (step_of t.program.templates.nodes step) (table_of t)) l at names (step_of t.program.templates.nodes step) (table_of u)
+  pub leads : LeadsBy t l others at names step (table_of u)

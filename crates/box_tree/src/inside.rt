@@ -10,7 +10,7 @@ ghost use Rattle.table_laws.specs.Stamped.{IsTableOf};
 ghost use Rattle.box_tree.specs.Tables.{all_rules, table_of, shape_held};
 ghost use Rattle.box_tree.specs.Drops.{IsOfRun};
 ghost use Rattle.box_tree.specs.Views.{run_of, is_there};
-ghost use Rattle.box_tree.specs.Insides.{IsInnerGoal, IsSolvedDownTo, IsInnerBox, IsInsideOf, since_held, since_of};
+ghost use Rattle.box_tree.specs.Insides.{IsInnerGoal, IsSolvedDownTo, IsInnerBox, AreBoxesInside, IsInsideOf, since_held, since_of};
 ghost use Rattle.box_tree.specs.Places.{goal_places, places_in, IsSeenBy};
 
 use crate::entries::{BoxEntry, Held};
@@ -242,6 +242,16 @@ impl Table {
         Ok(views)
     }
 
+    /// A box and all boxes inside it, each once. An `Err` comes for want of memory.
+    pub fn boxes_inside(&self, alloc: Global, name: Name) -> Result<Vec<InnerBox>, AllocError>
+        requires { IsOfRun self.now }
+        ensures { IfOk result (λ boxes. AreBoxesInside self.now name boxes.items) }
+    {
+        let names = self.inside(alloc, name)?;
+        let boxes = self.inner_boxes(alloc, names.as_slice())?;
+        Ok(boxes)
+    }
+
     /// All that stands in a box and inside it, as a worker sees it. An `Err` comes for want of memory.
     pub fn look_inside(
         &self,
@@ -254,8 +264,7 @@ impl Table {
         requires there { is_there (table_of self.now) (Place.Box name) ≡ true }
         ensures { IfOk result (IsInsideOf self.now journal.now.items name worker) }
     {
-        let names = self.inside(alloc, name)?;
-        let boxes = self.inner_boxes(alloc, names.as_slice())?;
+        let boxes = self.boxes_inside(alloc, name)?;
         let places = places_in(alloc, boxes.as_slice())?;
         let views = self.views_at(alloc, journal, places.as_slice(), worker)?;
         Ok(Inside { boxes, views })

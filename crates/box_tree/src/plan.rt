@@ -2,7 +2,7 @@
 
 ghost use Rattle.std.specs.Prelude.{◌≡◌, length, IfOk};
 ghost use Rattle.std.specs.Prelude.{[]};
-ghost use Rattle.box_tree.specs.Plans.{PlanValue, IsRight, IsRightLabel, IsRightCall};
+ghost use Rattle.box_tree.specs.Plans.{PlanValue, IsRight, IsRightLabel, IsRightCall, labels_behind};
 
 use crate::step::Step;
 use crate::view::View;
@@ -54,7 +54,8 @@ impl Plan {
         step: Step,
         binds: Vec<Var>,
     ) -> Result<Plan, AllocError>
-        requires { IsRightLabel (record { table = view.now.table; journal = view.now.journal; label = label; more = []; reads = reads.items; names = names; step = step; binds = binds.items }) }
+        requires right { IsRightLabel (record { table = view.now.table; journal = view.now.journal; label = label; more = []; reads = reads.items; names = names; step = step; binds = binds.items }) }
+        requires alone { labels_behind step ≡ (0, 0) }
         ensures { IfOk result (λ plan. plan ≡ record { table = view.now.table; journal = view.now.journal; label = label; more = []; reads = reads.items; names = names; step = step; binds = binds.items }) }
     {
         let parts = PlanParts {

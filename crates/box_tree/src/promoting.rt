@@ -1,12 +1,12 @@
 //! The alternatives of a choice join the box in which the choice stands.
 
-ghost use Rattle.std.specs.Prelude.{◌≡◌, ◌+◌, Some, map, IfOk, IfErr, OnOk, OnErr};
+ghost use Rattle.std.specs.Prelude.{◌≡◌, ◌+◌, ◌<◌, Some, map, IfOk, IfErr, OnOk, OnErr};
 ghost use Rattle.akl_model.specs.Config.{with_names};
 ghost use Rattle.akl_model.specs.Ordered.{IsIncreasing};
-ghost use Rattle.table_laws.specs.Writes.{set, changed_box, unset, IsFresh, after_join};
+ghost use Rattle.table_laws.specs.Writes.{set, changed_box, unset, IsFresh};
 ghost use Rattle.table_laws.specs.Walks.{alternatives_of};
 ghost use Rattle.box_tree.specs.Tables.{table_of, goals_in};
-ghost use Rattle.box_tree.specs.Edits.{SetsBoxes, SetsRows, AddsOnly, Becomes, AreNew, less_names, named_row, named_atoms, atoms_with};
+ghost use Rattle.box_tree.specs.Edits.{SetsBoxes, SetsRows, AddsOnly, IsJoined, AreNew, less_names, named_row, named_atoms, atoms_with};
 ghost use Rattle.box_tree.specs.Drops.{IsOfRun};
 
 use crate::forking::first_fail;
@@ -52,6 +52,32 @@ fn add_names(set: &mut BTreeSet<Name>, names: &[Name]) -> Result<(), AllocError>
         at -= 1;
     }
     Ok(())
+}
+
+// The numbers of labels by which goals join a box: of the one by which they do, of the last one that tells the box an
+// equation, and of the last of all.
+#[derive(Drop)]
+struct JoinNumbers {
+    promoted: u64,
+    told: u64,
+    ended: u64,
+}
+
+// These numbers, where so many labels come with the first one, so many behind the one by which goals join, and so many
+// of these up to the last one that tells.
+fn join_numbers(steps: u64, others: u64, told: u64, behind: u64) -> Result<JoinNumbers, AllocError>
+    ensures later { IfOk result (λ numbers. steps < numbers.promoted) }
+    ensures number { IfOk result (λ numbers. numbers.promoted + behind ≡ others + steps + 1) }
+    ensures told { IfOk result (λ numbers. numbers.told ≡ numbers.promoted + told) }
+    ensures ended { IfOk result (λ numbers. numbers.ended ≡ numbers.promoted + behind) }
+{
+    let before = others.checked_sub(behind).ok_or(AllocError)?;
+    let promoted = after_others(steps, before)?;
+    Ok(JoinNumbers {
+        promoted,
+        told: promoted.checked_add(told).ok_or(AllocError)?,
+        ended: promoted.checked_add(behind).ok_or(AllocError)?,
+    })
 }
 
 impl Table {
@@ -119,8 +145,9 @@ impl Table {
     }
 
     /// All alternatives of a choice, which are solved, join the box in which the choice stands. This gets a store and new
-    /// goals, for which a worker draws so many names. So many other labels come before the one that does it: those of a
-    /// call, whose goal is an atom still. An `Err` leaves the table as it was.
+    /// goals, for which a worker draws so many names. So many other labels come with the one that does it: those of a
+    /// call, whose goal is an atom still. So many of them come behind it, and so many of these up to the last one that
+    /// tells the box an equation. An `Err` leaves the table as it was.
     pub(crate) fn join(
         &mut self,
         alloc: Global,
@@ -129,31 +156,40 @@ impl Table {
         solved_at: Option<u64>,
         goals: Vec<(Name, Goal)>,
         others: u64,
+        told: u64,
+        behind: u64,
         worker: u32,
         count: u64,
     ) -> Result<(), AllocError>
         requires run { IsOfRun self.old }
         requires fresh { IsFresh (table_of self.old) (map (λ x. x.0) (named_atoms self.old.program.templates.nodes goals.items)) }
-        ensures made { OnOk result (Becomes self.old self.new (after_join goal store solved_at (named_atoms self.old.program.templates.nodes goals.items) worker count (record (table_of self.old) { steps = others + self.old.steps }))) }
+        ensures made { OnOk result (IsJoined self.old self.new goal store solved_at (named_atoms self.old.program.templates.nodes goals.items) others told behind worker count) }
         ensures unchanged { IfErr result (λ _. self.new ≡ self.old) }
     {
         let Some(home) = self.home_of(goal) else {
             return Err(AllocError);
         };
-        let number = after_others(self.steps, others)?;
+        let numbers = join_numbers(self.steps, others, told, behind)?;
         let alternatives = self.names_of(alloc, goal)?;
         let names = goal_names(alloc, goals.as_slice())?;
         let failing = first_fail(goals.as_slice());
         let next = self.raised(alloc, worker, count)?;
-        let Ok(()) = self.put_body(home, goals, names.as_slice(), failing, number) else {
+        let Ok(()) = self.put_body(home, goals, names.as_slice(), failing, numbers.promoted) else {
             self.drop_entries(names.as_slice());
             return Err(AllocError);
         };
-        self.tell_box(Some(home), goal, store, solved_at, number);
+        self.tell_box(
+            Some(home),
+            goal,
+            store,
+            solved_at,
+            numbers.told,
+            numbers.ended,
+        );
         let _ = self.drop_goal(goal);
         self.drop_alternatives(alternatives.as_slice());
         self.raise(worker, next);
-        self.steps = number;
+        self.steps = numbers.ended;
         Ok(())
     }
 }

@@ -52,11 +52,14 @@ pub enum Step {
     /// The choice loses the alternatives for which a solved one, that of the label, leaves no room.
     Cut,
     /// All alternatives of the choice, which are solved, join the box. This gets a store, which may be solved over the
-    /// stores around it, and new goals, atoms in increasing order of names.
+    /// stores around it, and new goals, atoms in increasing order of names. Of a call so many labels come behind the one
+    /// by which they join, and so many of these up to the last one that tells the box an equation; none else.
     Join {
         store: Shared<Store>,
         solved: bool,
         goals: Vec<(Name, Goal)>,
+        told: u64,
+        behind: u64,
     },
     /// The goal becomes `fail`, by which its box fails.
     Refute,

@@ -215,9 +215,10 @@ impl Table {
     }
 
     /// Makes the step of a label that draws so many names, or of the labels of a call: a join may come with so many
-    /// others. `at` is how many labels there are, where the step was planned over this very table. An `Err` leaves the
-    /// table as it was; it comes for want of memory, where a count would pass its word, from a fork, a cut or a join of a
-    /// goal that isn't there, and from a split where no choice holds the alternative or the same one holds the box.
+    /// others, of which some may come behind it. `at` is how many labels there are, where the step was planned over this
+    /// very table. An `Err` leaves the table as it was; it comes for want of memory, where a count would pass its word,
+    /// from a fork, a cut or a join of a goal that isn't there, from a join behind which more labels come than there are,
+    /// and from a split where no choice holds the alternative or the same one holds the box.
     pub fn apply(
         &mut self,
         alloc: Global,
@@ -258,10 +259,14 @@ impl Table {
                 store,
                 solved,
                 goals,
+                told,
+                behind,
             } => {
                 let goal = goal_at(label.place);
                 let solved_at = solved_when(at, solved);
-                self.join(alloc, goal, store, solved_at, goals, others, worker, names)
+                self.join(
+                    alloc, goal, store, solved_at, goals, others, told, behind, worker, names,
+                )
             }
             Step::Refute => {
                 self.refute(goal_at(label.place), number);

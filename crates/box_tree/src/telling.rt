@@ -3,7 +3,7 @@
 ghost use Rattle.std.specs.Prelude.{◌≡◌, ◌+◌, None, IfErr, OnOk};
 ghost use Rattle.table_laws.specs.Writes.{set, home_in, changed_box, told_row, solved_when, after_tell};
 ghost use Rattle.box_tree.specs.Tables.{table_of};
-ghost use Rattle.box_tree.specs.Edits.{SetsBoxes, SetsGoals, Becomes};
+ghost use Rattle.box_tree.specs.Edits.{SetsBoxes, SetsGoals, Becomes, told_first};
 
 use crate::table::Table;
 use akl_terms::Name;
@@ -36,7 +36,7 @@ impl Table {
     {
         self.draw(alloc, worker, count)?;
         let home = self.drop_goal(goal);
-        self.tell_box(home, goal, store, solved_at, number);
+        self.tell_box(home, goal, store, solved_at, number, number);
         self.steps = number;
         Ok(())
     }
@@ -51,16 +51,17 @@ impl Table {
         }
     }
 
-    /// A box gets a store and loses a goal.
+    /// A box gets a store, by a label of one number, and loses a goal, by one of another.
     pub(crate) fn tell_box(
         &mut self,
         home: Option<Name>,
         goal: Name,
         store: Shared<Store>,
         solved_at: Option<u64>,
+        told: u64,
         number: u64,
     )
-        ensures { SetsBoxes self.old self.new (changed_box home (told_row goal store solved_at number) (table_of self.old).box_of) }
+        ensures { SetsBoxes self.old self.new (changed_box home (told_first goal store solved_at told number) (table_of self.old).box_of) }
     {
         let Some(name) = home else {
             return;
@@ -69,7 +70,7 @@ impl Table {
             // The store before it is dropped first, so that nothing else holds what they have in common.
             entry.store = store;
             entry.store.settle();
-            entry.changed = number;
+            entry.changed = told;
             entry.solved_at = solved_at;
             entry.goals.remove(&goal);
             entry.goals_changed = number;

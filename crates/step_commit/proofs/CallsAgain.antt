@@ -1,16 +1,18 @@
 -- A call at once whose guards tell nothing is one again where it is made in another configuration.
-use Rattle.std.proofs.Common.{◌≡◌, ℕ, ◌+◌, List, ◌++◌, ◌∷◌, [], Some, None, refl, sym, subst}
+use Rattle.std.proofs.Common.{◌≡◌, ℕ, ◌+◌, List, ◌++◌, ◌∷◌, [], length, Some, None, refl, sym, subst}
 use Rattle.std.specs.Prelude.{slice_index}
 use Rattle.akl_terms.specs.declared.name.Name.{Name}
 use Rattle.akl_terms.specs.declared.name.Place.{Place}
 use Rattle.akl_terms.specs.declared.program.Program.{Program}
+use Rattle.akl_terms.specs.Equal.{IsConsistent}
 use Rattle.akl_model.specs.declared.item.Item.{Item}
 use Rattle.akl_model.specs.declared.label.Rule.{Rule}
 use Rattle.akl_model.specs.declared.label.Label.{Label}
 use Rattle.akl_model.specs.Conditions.{Makes}
-use Rattle.akl_model.specs.Config.{Atom, Content, Boxes, no_boxes, box, Goals, Config, held_in, Found, home_of}
+use Rattle.akl_model.specs.Config.{Atom, Content, Boxes, no_boxes, box, Goals, Config, held_in, Found, equations_of, home_of}
 use Rattle.akl_model.specs.Instances.{instances, drawn_by}
 use Rattle.akl_model.specs.Names.{HasDistinctNames}
+use Rattle.akl_model.specs.Rules.{joining}
 use Rattle.akl_model.specs.Stable.{Allows}
 use Rattle.akl_model.proofs.NamesKept.{Stand}
 use Rattle.step_laws.specs.Stays.{IsSameBox}
@@ -18,13 +20,14 @@ use Rattle.step_laws.proofs.Stays.{goal_stays, same_box}
 use Rattle.step_laws.proofs.Steps.{Later}
 use Rattle.step_laws.proofs.Whereabouts.{home_in}
 use Rattle.plan_laws.proofs.Again.{atom_shape}
-use Rattle.call_laws.specs.AtOnce.{Works, rests, works, by, inner, Fails, Sifts, ends, fails, stays, IsAtOnce, AreInForce, IsAtOnceIn, MeetsCall}
+use Rattle.call_laws.specs.AtOnce.{Tells, Works, rests, works, by, inner, Fails, Sifts, ends, fails, stays, IsAtOnce, labels_at_once, AreInForce, IsAtOnceIn, MeetsCall}
 use Rattle.call_laws.specs.Untold.{KeepsEquations, KeepEquations}
 use Rattle.call_laws.specs.Wakes.{TellsNothing}
 use Rattle.call_laws.proofs.Between.{stand_of}
 use Rattle.call_laws.proofs.ByContents.{later_of, as_same}
 use Rattle.call_laws.proofs.Calls.{at_once_law}
 use Rattle.call_laws.proofs.CallsAgain.{ends_again}
+use Rattle.call_tables.specs.Calls.{last_told, told_of_body}
 
 module _ (f k : Found) (same : IsSameBox f k) where
   inner_same : (b : Content) (gs : Goals) → inner f b gs ≡ inner k b gs
@@ -51,8 +54,17 @@ module _ (f k : Found) (same : IsSameBox f k) where
       let y : (y : Sifts p w next k bs ls cs) × KeepEquations p w next k bs ls cs y = sifts_again p w next bs ls cs x t.1 in
       (stays b gs b2 gs2 ks bs ls cs v.0 y.0, (v.1, y.1))
 
+-- what is told of the body of a call is told again in another box with these contents, behind as many labels
+module _ (p : Program) (w more : ℕ) (last : Content) (ls : List Label) (after : Content) (left : List (Name × Atom)) (told : ℕ) where
+  abbrev TellsSo : ℕ → List Content → Content → Type 0
+  TellsSo n around b = (y : Tells p w (n + more + length last.body) around (joining last b) (n + more) last.body ls after left)
+      × (last_told p w (n + more + length last.body) around (joining last b) (n + more) last.body ls after left y 0 0 ≡ told)
+
+  tells_again : (n m : ℕ) (f k : Found) → n ≡ m → IsSameBox f k → TellsSo n f.around f.content → TellsSo m k.around k.content
+  tells_again n m f k e q x = subst (λ (i : ℕ). TellsSo i k.around k.content) e (subst (λ (b : Content). TellsSo n k.around b) q.content (subst (λ (bs : List Content). TellsSo n bs f.content) q.around x))
+
 pub silent_again : (rules : List Rule) → AreInForce rules → (p : Program) (c : Config) → HasDistinctNames c → (w : ℕ) (g : Name) (f : Found) → home_of g c.roots ≡ Some f
-    → (x : IsAtOnce p c w g f) → TellsNothing x → (d : Config) → MeetsCall c w g f d → (a : IsAtOnceIn rules x d) × TellsNothing a.again
+    → (x : IsAtOnce p c w g f) → TellsNothing x → (d : Config) → MeetsCall c w g f d → (a : IsAtOnceIn rules x d) × TellsNothing a.again × (told_of_body a.again ≡ told_of_body x) × (a.again.body_labels ≡ x.body_labels)
 silent_again rules force p c distinct w g f is_home x tells d m =
     let s : Stand c = stand_of c distinct in
     let t : Stand d = stand_of d m.follows.distinct in
@@ -64,6 +76,8 @@ silent_again rules force p c distinct w g f is_home x tells d m =
     subst (λ (n : ℕ). (v : Sifts p w (n + drawn_by x.called.clauses) k.0 (instances p.templates.nodes w n x.arguments x.called.clauses) x.sift_labels x.left)
     × KeepEquations p w (n + drawn_by x.called.clauses) k.0 (instances p.templates.nodes w n x.arguments x.called.clauses) x.sift_labels x.left v) (sym m.next)
     (sifts_again f k.0 q p w (slice_index c.next w + drawn_by x.called.clauses) (instances p.templates.nodes w (slice_index c.next w) x.arguments x.called.clauses) x.sift_labels x.left x.sifts tells) in
+    let bodied : TellsSo p w (drawn_by x.called.clauses) x.last x.body_labels x.after x.goals_left (told_of_body x) (slice_index d.next w) k.0.around k.0.content =
+    tells_again p w (drawn_by x.called.clauses) x.last x.body_labels x.after x.goals_left (told_of_body x) (slice_index c.next w) (slice_index d.next w) f k.0 (sym m.next) q (x.body, refl) in
     let y : IsAtOnce p d w g k.0 = record {
       definition = x.definition;
       arguments = x.arguments;
@@ -80,16 +94,25 @@ silent_again rules force p c distinct w g f is_home x tells d m =
       end_labels = x.end_labels;
       ends = ends_again f k.0 q w g x.op x.last x.left x.end_labels x.ends;
       few_goals = x.few_goals;
+      body_labels = x.body_labels;
+      after = x.after;
+      goals_left = x.goals_left;
+      body = bodied.0;
+      consistent = subst (λ (bs : List Content). IsConsistent (equations_of bs ++ x.after.equations)) q.around x.consistent;
     } in (
       record {
         site = k.0;
         is_home = k.1;
         same = q;
         again = y;
-        same_labels = refl;
+        same_labels = refl {a = labels_at_once x};
         same_names = refl;
         same_last = refl;
+        same_after = refl;
+        same_left = refl;
         derives = at_once_law rules force p d m.follows.distinct w g k.0 k.1 y;
       },
       sifted.1,
+      bodied.1,
+      refl,
     )

@@ -6,17 +6,17 @@ use Rattle.akl_terms.specs.declared.name.Name.{Name}
 use Rattle.akl_terms.specs.declared.name.Var.{Var}
 use Rattle.akl_terms.specs.declared.name.Place.{Place}
 use Rattle.akl_terms.specs.declared.program.Program.{Program}
+use Rattle.akl_terms.specs.declared.term.Node.{Node}
+use Rattle.akl_terms.specs.declared.term.Term.{Term}
 use Rattle.akl_terms.specs.declared.program.Query.{Query}
-use Rattle.akl_terms.specs.Equal.{Equations, IsTold}
-use Rattle.akl_terms.specs.Standing.{StandFor}
+use Rattle.akl_terms.specs.Equal.{Equations}
 use Rattle.akl_model.specs.declared.item.Item.{Item}
 use Rattle.akl_model.specs.declared.label.Label.{Label}
-use Rattle.akl_model.specs.Config.{Atom, Content, Config, with_names, with_ports, Found, equations_of, whole, home_of}
+use Rattle.akl_model.specs.Config.{Atom, Content, Config, with_names, with_ports, Found, equations_of, environment, whole, home_of}
 use Rattle.akl_model.specs.Instances.{drawn_by}
 use Rattle.akl_model.specs.Names.{HasDistinctNames}
 use Rattle.akl_model.specs.Wakes.{names_around}
 use Rattle.akl_model.proofs.NamesKept.{Stand, replay-stands, site-box}
-use Rattle.rational_unify.specs.Solving.{bindings_in}
 use Rattle.local_store.specs.Stored.{Stored}
 use Rattle.step_laws.specs.Bound.{AreBoundIn}
 use Rattle.step_laws.specs.Stays.{GoesOn, IsSameBox}
@@ -28,13 +28,13 @@ use Rattle.call_laws.specs.Wherever.{Follows, IsAsIn}
 use Rattle.call_laws.specs.AtOnce.{IsAtOnce, labels_at_once, at_once, IsAtOnceIn, MeetsCall}
 use Rattle.call_laws.specs.Wakes.{TellsNothing}
 use Rattle.call_laws.proofs.ByContents.{same_as, derived_follows}
-use Rattle.call_tables.specs.Calls.{CallsGoal}
+use Rattle.call_tables.specs.Calls.{StandOver, CallsGoal, told_of_body}
 use Rattle.table_laws.specs.Rows.{Table}
 use Rattle.table_laws.specs.Kept.{SharesStores}
 use Rattle.table_laws.specs.Stamped.{IsTableOf}
-use Rattle.table_laws.specs.Steps.{Step, joins, numbered, IsSolvedIn, IsSolvedWhen}
+use Rattle.table_laws.specs.Steps.{Step, joins, IsSolvedIn, IsSolvedWhen}
 use Rattle.box_tree.specs.Tables.{all_rules, table_of, step_of}
-use Rattle.box_tree.specs.Plans.{PlanValue, IsRead, IsRightCall, ReadsCall}
+use Rattle.box_tree.specs.Plans.{PlanValue, IsRead, IsRightCall, ReadsCall, labels_behind}
 use Rattle.box_tree.proofs.AllInForce.{all_in_force}
 use Rattle.step_commit.specs.Cores.{CoreValue, MayCommit, AllWithin}
 use Rattle.step_commit.proofs.Committed.{goes, read_stamped}
@@ -42,7 +42,7 @@ use Rattle.step_commit.proofs.CallsAgain.{silent_again}
 use Rattle.step_commit.proofs.StillSolved.{solved_over, around_old}
 
 -- all that the type of a call's plan keeps, over a program and a query
-pub record IsPlannedCall (p : Program) (q : Query) (journal : List Label) (T : Table) (l : Label) (more : List Label) (reads : List Item) (names : ℕ) (step : Step) (binds : List Var) : Type 0 where
+pub record IsPlannedCall (p : Program) (q : Query) (journal : List Label) (T : Table) (l : Label) (more : List Label) (reads : List Item) (names : ℕ) (step : Step) (behind : ℕ × ℕ) (binds : List Var) : Type 0 where
   pub table : IsTableOf all_rules (record { program = p; query = q; journal = journal }) T
   pub goal : Name
   pub site : Found
@@ -56,12 +56,13 @@ pub record IsPlannedCall (p : Program) (q : Query) (journal : List Label) (T : T
   pub goals : List (Name × Atom)
   pub makes : CallsGoal calls alternative new goals
   pub step_is : step ≡ joins new is_solved goals
+  pub behind_is : behind ≡ (told_of_body calls, length calls.body_labels)
   pub solved : IsSolvedIn T site (joins new is_solved goals)
   pub drawn : names ≡ drawn_by calls.called.clauses + length calls.last.body
   pub reads_call : ReadsCall (IsRead reads) goal site
   pub bound : AreBoundIn table.config (at_once calls) site binds
 
-of_plan : (p : PlanValue) → IsRightCall p → IsPlannedCall p.table.program p.table.query p.journal (table_of p.table) p.label p.more p.reads p.names (step_of p.table.program.templates.nodes p.step) p.binds
+of_plan : (p : PlanValue) → IsRightCall p → IsPlannedCall p.table.program p.table.query p.journal (table_of p.table) p.label p.more p.reads p.names (step_of p.table.program.templates.nodes p.step) (labels_behind p.step) p.binds
 of_plan p r = record {
   table = r.table;
   goal = r.goal;
@@ -76,6 +77,7 @@ of_plan p r = record {
   goals = r.goals;
   makes = r.makes;
   step_is = r.step;
+  behind_is = r.behind;
   solved = r.solved;
   drawn = r.names;
   reads_call = r.reads;
@@ -83,32 +85,43 @@ of_plan p r = record {
 }
 
 pub planned_call : (c : CoreValue) (p : PlanValue) → IsRightCall p → MayCommit c p
-    → IsPlannedCall c.table.program c.table.query p.journal (table_of p.table) p.label p.more p.reads p.names (step_of c.table.program.templates.nodes p.step) p.binds
-planned_call c p r m = subst (λ (x : Program). IsPlannedCall x c.table.query p.journal (table_of p.table) p.label p.more p.reads p.names (step_of x.templates.nodes p.step) p.binds) m.program
-    (subst (λ (y : Query). IsPlannedCall p.table.program y p.journal (table_of p.table) p.label p.more p.reads p.names (step_of p.table.program.templates.nodes p.step) p.binds) m.query (of_plan p r))
+    → IsPlannedCall c.table.program c.table.query p.journal (table_of p.table) p.label p.more p.reads p.names (step_of c.table.program.templates.nodes p.step) (labels_behind p.step) p.binds
+planned_call c p r m = subst (λ (x : Program). IsPlannedCall x c.table.query p.journal (table_of p.table) p.label p.more p.reads p.names (step_of x.templates.nodes p.step) (labels_behind p.step) p.binds) m.program
+    (subst (λ (y : Query). IsPlannedCall p.table.program y p.journal (table_of p.table) p.label p.more p.reads p.names (step_of p.table.program.templates.nodes p.step) (labels_behind p.step) p.binds) m.query (of_plan p r))
 
--- the same call in the same box, with the same last alternative and the same names, has the same stores and goals
-makes_again : (p : Program) (c d : Config) (w : ℕ) (g : Name) (f e : Found) (x : IsAtOnce p c w g f) (y : IsAtOnce p d w g e) → IsSameBox f e → y.last ≡ x.last → drawn_by y.called.clauses ≡ drawn_by x.called.clauses
-    → slice_index d.next w ≡ slice_index c.next w → (alternative new : Stored) (goals : List (Name × Atom)) → CallsGoal x alternative new goals → CallsGoal y alternative new goals
-makes_again p c d w g f e x y box last drawn next alternative new goals m = record {
+stands_again : (nodes : List Node) (around around2 E E2 : Equations) (bindings : List (Var × Term)) → around ≡ around2 → E ≡ E2 → StandOver nodes around E bindings → StandOver nodes around2 E2 bindings
+stands_again nodes around around2 E E2 bindings a e s = subst (λ (es : Equations). StandOver nodes around2 es bindings) e (subst (λ (es : Equations). StandOver nodes es E bindings) a s)
+
+-- the same call in the same box, with the same last alternative and the same rest of its body, has the same stores and goals
+makes_again : (p : Program) (c d : Config) (w : ℕ) (g : Name) (f e : Found) (x : IsAtOnce p c w g f) (y : IsAtOnce p d w g e) → IsSameBox f e → y.last ≡ x.last → y.after ≡ x.after → y.goals_left ≡ x.goals_left
+    → (alternative new : Stored) (goals : List (Name × Atom)) → CallsGoal x alternative new goals → CallsGoal y alternative new goals
+makes_again p c d w g f e x y box last after left alternative new goals m = record {
   alternative_frames = m.alternative_frames ∙ ap (λ (b : Content). b.frames) (sym last);
   alternative_ports = m.alternative_ports ∙ ap (λ (b : Content). b.ports) (sym last);
-  alternative_stands = λ D h. subst (λ (es : Equations). StandFor (IsTold (D ++ bindings_in p.templates.nodes alternative.bindings)) (IsTold es)) joined
-      (m.alternative_stands D (subst (λ (es : Equations). StandFor (IsTold D) (IsTold es)) (sym equations) h));
+  alternative_stands = stands_again p.templates.nodes (whole f) (whole e) (whole f ++ x.last.equations) (whole e ++ y.last.equations) alternative.bindings equations (λ i. equations i ++ ((sym last) i).equations) m.alternative_stands;
+  between = λ E more is.
+      let was : x.after.equations ≡ (f.content.equations ++ x.last.equations) ++ (E ++ more) = ap (λ (b : Content). b.equations) (sym after) ∙ is ∙ sym (λ i. joined i ++ (E ++ more)) in
+      let s : (bindings : List (Var × Term)) × StandOver p.templates.nodes (environment f) (environment f ++ ((f.content.equations ++ x.last.equations) ++ E)) bindings = m.between E more was in (
+        s.0,
+        stands_again p.templates.nodes (environment f) (environment e) (environment f ++ ((f.content.equations ++ x.last.equations) ++ E)) (environment e ++ ((e.content.equations ++ y.last.equations) ++ E)) s.0
+            around (λ i. around i ++ (joined i ++ E)) s.1,
+      );
   frames = m.frames ∙ (λ i. with_names ((sym last) i).frames (box.content i).frames);
   ports = m.ports ∙ (λ i. with_ports ((sym last) i).ports (box.content i).ports);
-  stands = λ D h. subst (λ (es : Equations). StandFor (IsTold (D ++ bindings_in p.templates.nodes new.bindings)) (IsTold es)) joined
-      (m.stands D (subst (λ (es : Equations). StandFor (IsTold D) (IsTold es)) (sym (ap equations_of box.around)) h));
-  body = m.body ∙ (λ i. numbered w ((sym next) i + (sym drawn) i) ((sym last) i).body);
+  stands = stands_again p.templates.nodes (environment f) (environment e) (environment f ++ x.after.equations) (environment e ++ y.after.equations) new.bindings around (λ i. around i ++ ((sym after) i).equations) m.stands;
+  body = m.body ∙ sym left;
 }
   where
+    around : environment f ≡ environment e
+    around = ap equations_of box.around
+
     equations : whole f ≡ whole e
-    equations = (λ i. equations_of (box.around i) ++ (box.content i).equations)
+    equations = (λ i. around i ++ (box.content i).equations)
 
-    joined : whole f ++ x.last.equations ≡ whole e ++ y.last.equations
-    joined = (λ i. equations i ++ ((sym last) i).equations)
+    joined : f.content.equations ++ x.last.equations ≡ e.content.equations ++ y.last.equations
+    joined = (λ i. (box.content i).equations ++ ((sym last) i).equations)
 
-module _ (p : Program) (q : Query) (journal further : List Label) (S T : Table) (l : Label) (more : List Label) (reads : List Item) (names : ℕ) (step : Step) (binds : List Var) (x : IsPlannedCall p q journal S l more reads names step binds)
+module _ (p : Program) (q : Query) (journal further : List Label) (S T : Table) (l : Label) (more : List Label) (reads : List Item) (names : ℕ) (step : Step) (behind : ℕ × ℕ) (binds : List Var) (x : IsPlannedCall p q journal S l more reads names step behind binds)
     (t : IsTableOf all_rules (record { program = p; query = q; journal = journal ++ further }) T) where
   -- the call is one of the later configuration, in the same boxes, and its step is what it makes there
   pub record CallsOn : Type 0 where
@@ -116,6 +129,7 @@ module _ (p : Program) (q : Query) (journal further : List Label) (S T : Table) 
     pub labels : l ∷ more ≡ labels_at_once again.again
     pub tells_nothing : TellsNothing again.again
     pub makes : CallsGoal again.again x.alternative x.new x.goals
+    pub behind_is : behind ≡ (told_of_body again.again, length again.again.body_labels)
     pub drawn : names ≡ drawn_by again.again.called.clauses + length again.again.last.body
     pub same_around : names_around x.site ≡ names_around again.site
 
@@ -141,7 +155,7 @@ module _ (p : Program) (q : Query) (journal further : List Label) (S T : Table) 
       stores = λ m i. as_it_was (Item.Store m) (x.reads_call.stores m i);
     }
 
-    again : (a : IsAtOnceIn all_rules x.calls t.config) × TellsNothing a.again
+    again : (a : IsAtOnceIn all_rules x.calls t.config) × TellsNothing a.again × (told_of_body a.again ≡ told_of_body x.calls) × (a.again.body_labels ≡ x.calls.body_labels)
     again = silent_again all_rules all_in_force p x.table.config follows.0 l.worker x.goal x.site x.is_home x.calls x.tells_nothing t.config meets
 
     pub calls_on : CallsOn
@@ -149,7 +163,8 @@ module _ (p : Program) (q : Query) (journal further : List Label) (S T : Table) 
       again = again.0;
       labels = x.labels ∙ sym again.0.same_labels;
       tells_nothing = again.1;
-      makes = makes_again p x.table.config t.config l.worker x.goal x.site again.0.site x.calls again.0.again again.0.same again.0.same_last again.0.same_names next x.alternative x.new x.goals x.makes;
+      makes = makes_again p x.table.config t.config l.worker x.goal x.site again.0.site x.calls again.0.again again.0.same again.0.same_last again.0.same_after again.0.same_left x.alternative x.new x.goals x.makes;
+      behind_is = x.behind_is ∙ (λ i. ((sym again.2) i, length ((sym again.3) i)));
       drawn = x.drawn ∙ (λ i. (sym again.0.same_names) i + length ((sym again.0.same_last) i).body);
       same_around = ap (map (λ (b : Content). b.name)) again.0.same.around;
     }

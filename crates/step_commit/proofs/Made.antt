@@ -14,29 +14,29 @@ use Rattle.akl_model.specs.Config.{Atom, Config, Found}
 use Rattle.akl_model.specs.Instances.{drawn_by}
 use Rattle.akl_model.specs.Ordered.{IsIncreasing}
 use Rattle.akl_model.proofs.NamesKept.{replay-stands}
-use Rattle.akl_model.specs.Rules.{Change, Reading, change_by}
+use Rattle.akl_model.specs.Rules.{Change, Reading, change_by, joining}
 use Rattle.akl_model.specs.Derivations.{Applies}
-use Rattle.call_laws.specs.AtOnce.{by}
-use Rattle.call_tables.specs.Calls.{after_call}
+use Rattle.call_laws.specs.AtOnce.{by, IsAtOnce}
+use Rattle.call_tables.specs.Calls.{told_of_body, promoted_at, told_at, ended_at, after_call}
 use Rattle.call_tables.proofs.CallStep.{call_step}
 use Rattle.table_laws.specs.Rows.{Table}
 use Rattle.table_laws.specs.Stamped.{IsTableOf}
 use Rattle.table_laws.specs.Steps as laws
 use Rattle.table_laws.specs.Steps.{Makes, IsSolvedWhen}
-use Rattle.table_laws.specs.Writes.{IsTable, IsFresh as IsNewTo, DrawsFresh, solved_when, after_join, Leads}
+use Rattle.table_laws.specs.Writes.{IsTable, IsFresh as IsNewTo, DrawsFresh, solved_when, Leads}
 use Rattle.table_laws.proofs.Fresh.{fresh_step}
-use Rattle.table_laws.proofs.NewGoals.{numbered_increase}
 use Rattle.table_laws.proofs.StepMakes.{step_law}
 use Rattle.box_tree.specs.declared.step.Step.{Step}
-use Rattle.box_tree.specs.Tables.{all_rules, TableValue, table_of, step_of, FitsPlace, DrawsInOrder, MayApply, before_last, Applied}
+use Rattle.box_tree.specs.Tables.{all_rules, TableValue, table_of, step_of, FitsPlace, DrawsInOrder, MayApply, Joins, LeadsBy, Applied}
 use Rattle.box_tree.specs.Views.{run_of}
-use Rattle.box_tree.specs.Plans.{PlanValue, IsRightLabel, IsRightCall, IsRight, of_label, of_call}
+use Rattle.box_tree.specs.Plans.{PlanValue, IsRightLabel, IsRightCall, IsRight, of_label, of_call, labels_behind}
+use Rattle.box_tree.proofs.LeadsBy.{leads_alone, joined_by}
 use Rattle.step_commit.specs.Cores.{CoreValue, IsCore, MayCommit, IsFresh, IsStale, Commits, AllWithin, IsFirstStale, IsFirstUnseen, solved_in}
 use Rattle.step_commit.specs.Solving.{solved_at}
 use Rattle.step_commit.proofs.Committed.{IsPlanned, planned, LeadsOn, leads_on, solved_now}
 use Rattle.box_tree.proofs.AllInForce.{all_in_force}
 use Rattle.step_commit.proofs.CallsNow.{IsPlannedCall, planned_call, CallsOn, calls_on, call_solved_now}
-use Rattle.step_commit.proofs.CallNames.{later_fresh}
+use Rattle.step_commit.proofs.CallNames.{left_fresh, left_increase}
 use Rattle.step_commit.proofs.Stale.{looked, unchanged_here, stale, all_within}
 use Rattle.step_commit.proofs.InOrder.{makes_ordered}
 
@@ -80,17 +80,6 @@ record Leading (c : CoreValue) (p : PlanValue) (m : MayCommit c p) : Type 0 wher
   may : MayApply c.table p.label p.step
   next : (u : TableValue) → Applied c.table p.label (length p.more) (Some (solved_in c p)) p.names p.step u → IsTableOf all_rules (run_of c.table ((p.journal ++ m.further) ++ p.label ∷ p.more)) (table_of u)
 
--- without other labels a step's table is the table itself
-alone : (step : laws.Step) (T : Table) → before_last 0 step T ≡ T
-alone (laws.tells new solved) T = refl
-alone (laws.forks op news) T = refl
-alone laws.fails T = refl
-alone laws.cuts T = refl
-alone (laws.joins new solved goals) T = let none : 0 + T.steps ≡ T.steps = omega arith in (λ i. record T { steps = none i })
-alone laws.refutes T = refl
-alone laws.confirms T = refl
-alone (laws.splits copy copies) T = refl
-
 module _ (c : CoreValue) (k : IsCore c) (p : PlanValue) (m : MayCommit c p) (within : AllWithin (table_of c.table) p.reads (length p.journal)) where
   abbrev step : laws.Step
   step = step_of c.table.program.templates.nodes p.step
@@ -101,7 +90,7 @@ module _ (c : CoreValue) (k : IsCore c) (p : PlanValue) (m : MayCommit c p) (wit
   same_length : length (p.journal ++ m.further) ≡ length c.journal
   same_length = ap length (sym m.front)
 
-  module _ (only : p.more ≡ []) (r : IsRightLabel p) where
+  module _ (only : p.more ≡ []) (none : labels_behind p.step ≡ (0, 0)) (r : IsRightLabel p) where
     x : IsPlanned c.table.program c.table.query p.journal (table_of p.table) p.label p.reads p.names step
     x = planned c p r m
 
@@ -113,7 +102,8 @@ module _ (c : CoreValue) (k : IsCore c) (p : PlanValue) (m : MayCommit c p) (wit
         (solved_now c.table.program c.table.query p.journal m.further (table_of p.table) (table_of c.table) p.label p.reads p.names step x t m.none_by within m.same_stores on)
 
     leads : (u : TableValue) → Applied c.table p.label (length p.more) (Some (solved_in c p)) p.names p.step u → Leads (table_of c.table) p.label (Some (solved_in c p)) p.names step (table_of u)
-    leads u a = subst (λ (T : Table). Leads T p.label (Some (solved_in c p)) p.names step (table_of u)) (ap (λ (ls : List Label). before_last (length ls) step (table_of c.table)) only ∙ alone step (table_of c.table)) a.leads
+    leads u a = leads_alone c.table p.label (Some (solved_in c p)) p.names (table_of u) p.step none
+        (subst (λ (ls : List Label). LeadsBy c.table p.label (length ls) (Some (solved_in c p)) p.names p.step (table_of u)) only a.leads)
 
     of_one : Leading c p m
     of_one = record {
@@ -130,53 +120,62 @@ module _ (c : CoreValue) (k : IsCore c) (p : PlanValue) (m : MayCommit c p) (wit
     }
 
   module _ (r : IsRightCall p) where
-    y : IsPlannedCall c.table.program c.table.query p.journal (table_of p.table) p.label p.more p.reads p.names step p.binds
+    y : IsPlannedCall c.table.program c.table.query p.journal (table_of p.table) p.label p.more p.reads p.names step (labels_behind p.step) p.binds
     y = planned_call c p r m
 
-    called : CallsOn c.table.program c.table.query p.journal m.further (table_of p.table) (table_of c.table) p.label p.more p.reads p.names step p.binds y t
-    called = calls_on c.table.program c.table.query p.journal m.further (table_of p.table) (table_of c.table) p.label p.more p.reads p.names step p.binds y t m.none_by within
+    called : CallsOn c.table.program c.table.query p.journal m.further (table_of p.table) (table_of c.table) p.label p.more p.reads p.names step (labels_behind p.step) p.binds y t
+    called = calls_on c.table.program c.table.query p.journal m.further (table_of p.table) (table_of c.table) p.label p.more p.reads p.names step (labels_behind p.step) p.binds y t m.none_by within
 
-    abbrev joining : laws.Step
-    joining = laws.joins y.new y.is_solved y.goals
+    abbrev join_step : laws.Step
+    join_step = laws.joins y.new y.is_solved y.goals
+
+    abbrev again : IsAtOnce c.table.program t.config p.label.worker y.goal called.again.site
+    again = called.again.again
+
+    abbrev before : List Label
+    before = again.sift_labels ++ again.end_labels
 
     -- its first label is a fork of the goal, and behind it come the others
     first : p.label ≡ by p.label.worker Rule.Fork (Place.Goal y.goal) None
-    first = first_same p.label (by p.label.worker Rule.Fork (Place.Goal y.goal) None) p.more (called.again.again.sift_labels ++ called.again.again.end_labels) called.labels
+    first = first_same p.label (by p.label.worker Rule.Fork (Place.Goal y.goal) None) p.more (before ++ again.body_labels) called.labels
 
-    others : length p.more ≡ length (called.again.again.sift_labels ++ called.again.again.end_labels)
-    others = ap length (rest_same p.label (by p.label.worker Rule.Fork (Place.Goal y.goal) None) p.more (called.again.again.sift_labels ++ called.again.again.end_labels) called.labels)
+    others : length p.more ≡ length before + length again.body_labels
+    others = ap length (rest_same p.label (by p.label.worker Rule.Fork (Place.Goal y.goal) None) p.more (before ++ again.body_labels) called.labels) ∙ length-append before again.body_labels
 
     fits_call : FitsPlace p.label.place step p.label.alternative
-    fits_call = subst (λ (s : laws.Step). FitsPlace p.label.place s p.label.alternative) (sym y.step_is) (fits_goal p.label.place p.label.alternative y.goal joining (ap (λ (l : Label). l.place) first) tt)
+    fits_call = subst (λ (s : laws.Step). FitsPlace p.label.place s p.label.alternative) (sym y.step_is) (fits_goal p.label.place p.label.alternative y.goal join_step (ap (λ (l : Label). l.place) first) tt)
 
     fresh_call : DrawsFresh (table_of c.table) step
     fresh_call = subst (DrawsFresh (table_of c.table)) (sym y.step_is) (subst (λ (xs : List (Name × Atom)). IsNewTo (table_of c.table) (map (λ (z : Name × Atom). z.0) xs)) (sym called.makes.body)
-        (later_fresh (table_of c.table) t.config t.unfolds (replay-stands all_rules c.table.program c.table.query (p.journal ++ m.further) t.config t.replays) p.label.worker
-        (slice_index t.config.next p.label.worker + drawn_by called.again.again.called.clauses) (omega arith) called.again.again.last.body))
+        (left_fresh c.table.program p.label.worker (slice_index t.config.next p.label.worker + drawn_by again.called.clauses + length again.last.body) called.again.site.around (table_of c.table) t.config t.unfolds
+        (replay-stands all_rules c.table.program c.table.query (p.journal ++ m.further) t.config t.replays) (joining again.last called.again.site.content)
+        (slice_index t.config.next p.label.worker + drawn_by again.called.clauses) again.last.body again.body_labels again.after again.goals_left (omega arith) again.body))
 
     ordered_call : DrawsInOrder step
     ordered_call = subst DrawsInOrder (sym y.step_is) (subst (λ (xs : List (Name × Atom)). IsIncreasing (map (λ (z : Name × Atom). z.0) xs)) (sym called.makes.body)
-        (numbered_increase p.label.worker (slice_index t.config.next p.label.worker + drawn_by called.again.again.called.clauses) called.again.again.last.body))
+        (left_increase c.table.program p.label.worker (slice_index t.config.next p.label.worker + drawn_by again.called.clauses + length again.last.body) called.again.site.around (joining again.last called.again.site.content)
+        (slice_index t.config.next p.label.worker + drawn_by again.called.clauses) again.last.body again.body_labels again.after again.goals_left again.body))
 
     module _ (u : TableValue) (a : Applied c.table p.label (length p.more) (Some (solved_in c p)) p.names p.step u) where
-      leads_joining : Leads (record (table_of c.table) { steps = length p.more + c.table.steps }) (by p.label.worker Rule.Fork (Place.Goal y.goal) None) (Some (length p.journal)) p.names joining (table_of u)
-      leads_joining = subst (λ (l : Label). Leads (record (table_of c.table) { steps = length p.more + c.table.steps }) l (Some (length p.journal)) p.names joining (table_of u)) first
-          (subst (λ (s : laws.Step). Leads (before_last (length p.more) s (table_of c.table)) p.label (Some (solved_at (length c.journal) (length p.journal) s)) p.names s (table_of u)) y.step_is a.leads)
+      joins_box : Joins c.table y.goal y.new (solved_when (Some (length p.journal)) y.is_solved) y.goals (length p.more) (told_of_body again) (length again.body_labels) p.label.worker p.names (table_of u)
+      joins_box = joined_by c.table p.label (length p.more) (Some (length p.journal)) p.names (table_of u) y.goal p.step y.new y.is_solved y.goals (told_of_body again) (length again.body_labels) y.step_is called.behind_is
+          (ap (λ (l : Label). l.place) first) (subst (λ (s : laws.Step). LeadsBy c.table p.label (length p.more) (Some (solved_at (length c.journal) (length p.journal) s)) p.names p.step (table_of u)) y.step_is a.leads)
 
-      so_many : length p.more + c.table.steps ≡ c.table.steps + length (called.again.again.sift_labels ++ called.again.again.end_labels)
-      so_many = let e : length p.more ≡ length (called.again.again.sift_labels ++ called.again.again.end_labels) = others in omega arith
+      its_number : joins_box.promoted ≡ promoted_at again c.table.steps
+      its_number = let e : length p.more ≡ length before + length again.body_labels = others in let n : joins_box.promoted + length again.body_labels ≡ length p.more + c.table.steps + 1 = joins_box.number in omega (arith, e, n)
 
-      after : IsTable (table_of u) (after_call y.goal y.new (solved_when (Some (length p.journal)) y.is_solved) y.goals p.label.worker (drawn_by called.again.again.called.clauses + length called.again.again.last.body)
-          (length (called.again.again.sift_labels ++ called.again.again.end_labels)) (table_of c.table))
-      after = subst (λ (n : ℕ). IsTable (table_of u) (after_join y.goal y.new (solved_when (Some (length p.journal)) y.is_solved) y.goals p.label.worker n
-          (record (table_of c.table) { steps = c.table.steps + length (called.again.again.sift_labels ++ called.again.again.end_labels) }))) called.drawn
-          (subst (λ (n : ℕ). IsTable (table_of u) (after_join y.goal y.new (solved_when (Some (length p.journal)) y.is_solved) y.goals p.label.worker p.names (record (table_of c.table) { steps = n }))) so_many leads_joining)
+      after : IsTable (table_of u) (after_call y.goal y.new (solved_when (Some (length p.journal)) y.is_solved) y.goals p.label.worker (drawn_by again.called.clauses + length again.last.body)
+          (promoted_at again c.table.steps) (told_at again c.table.steps) (ended_at again c.table.steps) (table_of c.table))
+      after = subst (λ (n : ℕ). IsTable (table_of u) (after_call y.goal y.new (solved_when (Some (length p.journal)) y.is_solved) y.goals p.label.worker (drawn_by again.called.clauses + length again.last.body)
+          n (n + told_of_body again) (n + length again.body_labels) (table_of c.table))) its_number
+          (subst (λ (n : ℕ). IsTable (table_of u) (after_call y.goal y.new (solved_when (Some (length p.journal)) y.is_solved) y.goals p.label.worker n
+          joins_box.promoted (joins_box.promoted + told_of_body again) (joins_box.promoted + length again.body_labels) (table_of c.table))) called.drawn joins_box.table)
 
       table_after : IsTableOf all_rules (run_of c.table ((p.journal ++ m.further) ++ p.label ∷ p.more)) (table_of u)
       table_after = subst (λ (ls : List Label). IsTableOf all_rules (run_of c.table ((p.journal ++ m.further) ++ ls)) (table_of u)) (sym called.labels)
-          (call_step all_rules all_in_force (run_of c.table (p.journal ++ m.further)) (table_of c.table) (table_of u) t p.label.worker y.goal called.again.site called.again.is_home called.again.again (Some (length p.journal)) y.is_solved
+          (call_step all_rules all_in_force (run_of c.table (p.journal ++ m.further)) (table_of c.table) (table_of u) t p.label.worker y.goal called.again.site called.again.is_home again (Some (length p.journal)) y.is_solved
           y.alternative y.new y.goals called.makes
-          (call_solved_now c.table.program c.table.query p.journal m.further (table_of p.table) (table_of c.table) p.label p.more p.reads p.names step p.binds y t m.same_stores called) after).0
+          (call_solved_now c.table.program c.table.query p.journal m.further (table_of p.table) (table_of c.table) p.label p.more p.reads p.names step (labels_behind p.step) p.binds y t m.same_stores called) after).0
 
     of_several : Leading c p m
     of_several = record {
@@ -185,7 +184,7 @@ module _ (c : CoreValue) (k : IsCore c) (p : PlanValue) (m : MayCommit c p) (wit
     }
 
 leading : (c : CoreValue) → IsCore c → (p : PlanValue) → IsRight p → (m : MayCommit c p) → AllWithin (table_of c.table) p.reads (length p.journal) → Leading c p m
-leading c k p (of_label only r) m within = of_one c k p m within only r
+leading c k p (of_label only none r) m within = of_one c k p m within only none r
 leading c k p (of_call r) m within = of_several c k p m within r
 
 module _ (c : CoreValue) (k : IsCore c) (p : PlanValue) (r : IsRight p) (m : MayCommit c p) (within : AllWithin (table_of c.table) p.reads (length p.journal)) where

@@ -190,7 +190,7 @@ pub record IsLooked (c : CoreValue) (table : TableValue) (journal : List Label) 
   pub there : (i : Item) → IsRead reads i → IsSome (stamp_in (table_of table) i)
 
 pub looked : (c : CoreValue) (p : PlanValue) → IsRight p → MayCommit c p → IsLooked c p.table p.journal p.reads
-looked c p (of_label alone r) m = record { further = m.further; front = m.front; before = (planned c p r m).table; there = r.there }
+looked c p (of_label alone none r) m = record { further = m.further; front = m.front; before = (planned c p r m).table; there = r.there }
 looked c p (of_call r) m = record { further = m.further; front = m.front; before = (planned_call c p r m).table; there = r.there }
 
 module _ (c : CoreValue) (k : IsCore c) (table : TableValue) (journal : List Label) (reads : List Item) (x : IsLooked c table journal reads) where

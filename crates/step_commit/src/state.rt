@@ -4,7 +4,7 @@ ghost use Rattle.std.specs.Prelude.{◌≡◌, ◌+◌, ◌∷◌, ◌++◌, IfO
 ghost use Rattle.box_tree.specs.Tables.{table_of, goals_in, is_empty, shown_in, shown_trees_of, HasVariables, HasShownVariables};
 ghost use Rattle.box_tree.specs.Views.{is_there, IsUnseen, all_places};
 ghost use Rattle.box_tree.specs.Paths.{known_in, alternatives_seen};
-ghost use Rattle.box_tree.specs.Insides.{IsInsideOf};
+ghost use Rattle.box_tree.specs.Insides.{AreBoxesInside, IsInsideOf};
 ghost use Rattle.akl_terms.specs.declared.name.Place.{Place};
 ghost use Rattle.step_commit.specs.Cores.{IsCore, MayCommit, IsFresh, Commits, IsRefused, IsFirstStale, is_within, solved_in};
 ghost use Rattle.step_commit.specs.declared.commit.CommitError.TheVariants as variants;
@@ -12,7 +12,7 @@ ghost use Rattle.step_commit.specs.declared.commit.CommitError.TheVariants as va
 use crate::commit::CommitError;
 use akl_model::{Item, Label, Receipt};
 use akl_terms::{Name, Place, Program, Query, ShownTerm};
-use box_tree::{Inside, LookError, Plan, Step, Table, View};
+use box_tree::{InnerBox, Inside, LookError, Plan, Step, Table, View};
 use std::alloc::{AllocError, Global};
 use std::marker::Model;
 
@@ -112,6 +112,13 @@ impl Core {
         ensures { IfOk result (IsInsideOf self.now.table self.now.journal name worker) }
     {
         self.table.look_inside(alloc, &self.journal, name, worker)
+    }
+
+    /// A box and all boxes inside it, each once. An `Err` is want of memory.
+    pub fn boxes_inside(&self, alloc: Global, name: Name) -> Result<Vec<InnerBox>, AllocError>
+        ensures { IfOk result (λ boxes. AreBoxesInside self.now.table name boxes.items) }
+    {
+        self.table.boxes_inside(alloc, name)
     }
 
     /// All boxes and goals: boxes first, each in increasing order of names.

@@ -1,10 +1,10 @@
-use Rattle.std.proofs.Common.{◌+◌, List, map, sym, ap, ◌∙◌, subst}
+use Rattle.std.proofs.Common.{◌+◌, ◌<◌, List, map, sym, ap, ◌∙◌, subst}
 use Rattle.akl_terms.specs.declared.name.Name.{Name}
 use Rattle.akl_terms.specs.declared.program.Goal.{Goal}
 use Rattle.akl_model.specs.Config.{Atom}
-use Rattle.table_laws.specs.Writes.{first_fail, after_join, IsFresh}
+use Rattle.table_laws.specs.Writes.{first_fail, IsFresh}
 use Rattle.box_tree.specs.Tables.{TableValue, table_of, goals_in}
-use Rattle.box_tree.specs.Edits.{Becomes, AddsOnly, Clears, AreNew, named_atoms}
+use Rattle.box_tree.specs.Edits.{IsJoined, AddsOnly, Clears, AreNew, named_atoms}
 use Rattle.box_tree.proofs.Adding.{undone}
 use Rattle.box_tree.proofs.News.{firsts, names_atoms}
 use Rattle.box_tree.proofs.Forked.{fresh_boxes, fresh_goals}
@@ -35,7 +35,10 @@ returns-clause-made c =
     let failing = c.first_fail-failing.ensures t.program.templates.nodes ∙ ap (λ (xs : List (Name × Goal)). first_fail (named_atoms t.program.templates.nodes xs)) c.as_slice-2.ensures.value in
     let kept = ap (λ (x : TableValue). x.next) c.drop_alternatives.ensures.rest ∙ ap (λ (x : TableValue). x.next) c.drop_goal.ensures.dropped.rest ∙ ap (λ (x : TableValue). x.next) c.tell_box.ensures.rest ∙ ap (λ (x : TableValue). x.next) c.in-Ok.ensures.put.rest in
     let raises = raised_later c.args.worker c.args.count c.in_ok-next.next t.next c.drop_alternatives.new.self.next c.raise.new.self.next kept c.in_ok-next.ensures c.raise.ensures.numbers in
-    subst (λ (x : TableValue). Becomes t (record x { steps = c.in_ok-number.number })
-    (after_join c.args.goal c.args.store c.args.solved_at (named_atoms t.program.templates.nodes c.args.goals.items) c.args.worker c.args.count (record (table_of t) { steps = c.args.others + t.steps }))) (sym (c.self-2.view_is ∙ c.raise.ensures.rest))
-    (joined t c.put_body.new.self c.tell_box.new.self c.drop_goal.new.self c.drop_alternatives.new.self c.args.goal c.in-Some.home c.args.store c.args.solved_at c.args.goals.items c.first_fail-failing.result c.args.others c.in_ok-number.number c.args.worker c.args.count
-    c.as_slice-3.result.now c.raise.new.self.next (c.in_ok-number.ensures ∙ ap (λ (v : TableValue). c.args.others + v.steps + 1) c.self.view_is) c.requires.fresh c.in-Some.ensures (goals_increase t c.requires.run c.in-Some.home) names failing raises c.in-Ok.ensures.put c.tell_box.ensures c.drop_goal.ensures.dropped c.as_slice-4.result.now (c.as_slice-4.ensures.value ∙ c.in_ok-alternatives.ensures) c.drop_alternatives.ensures)
+    subst (λ (x : TableValue). IsJoined t (record x { steps = c.in_ok-numbers.numbers.ended }) c.args.goal c.args.store c.args.solved_at (named_atoms t.program.templates.nodes c.args.goals.items)
+    c.args.others c.args.told c.args.behind c.args.worker c.args.count) (sym (c.self-2.view_is ∙ c.raise.ensures.rest))
+    (joined t c.put_body.new.self c.tell_box.new.self c.drop_goal.new.self c.drop_alternatives.new.self c.args.goal c.in-Some.home c.args.store c.args.solved_at c.args.goals.items c.first_fail-failing.result
+    c.args.others c.args.told c.args.behind c.in_ok-numbers.numbers.promoted c.in_ok-numbers.numbers.told c.in_ok-numbers.numbers.ended c.args.worker c.args.count
+    c.as_slice-3.result.now c.raise.new.self.next (subst (λ (v : TableValue). v.steps < c.in_ok-numbers.numbers.promoted) c.self.view_is c.in_ok-numbers.ensures.later)
+    (c.in_ok-numbers.ensures.number ∙ ap (λ (v : TableValue). c.args.others + v.steps + 1) c.self.view_is) c.in_ok-numbers.ensures.told c.in_ok-numbers.ensures.ended
+    c.requires.fresh c.in-Some.ensures (goals_increase t c.requires.run c.in-Some.home) names failing raises c.in-Ok.ensures.put c.tell_box.ensures c.drop_goal.ensures.dropped c.as_slice-4.result.now (c.as_slice-4.ensures.value ∙ c.in_ok-alternatives.ensures) c.drop_alternatives.ensures)

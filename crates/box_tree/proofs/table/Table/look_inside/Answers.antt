@@ -5,15 +5,11 @@ use Rattle.box_tree.specs.Places.{places_in}
 use Rattle.box_tree.proofs.Within.{all_inside}
 use Rattle.box_tree.proofs.table.Table.look_inside.Goals as goal
 
-pub inside-requires : goal.inside-requires
-inside-requires c = (run_of c.args.self.now c.args.journal.now.items, c.requires.table)
-
-pub inner_boxes-requires : goal.inner_boxes-requires
-inner_boxes-requires c = (run_of c.args.self.now c.args.journal.now.items, c.requires.table)
+pub boxes_inside-requires : goal.boxes_inside-requires
+boxes_inside-requires c = (run_of c.args.self.now c.args.journal.now.items, c.requires.table)
 
 pub returns : goal.returns
 returns c =
     let i : Inside = record { boxes = c.in_ok-boxes.boxes; views = c.in_ok-views.views } in
-    all_inside c.args.self.now c.args.journal.now.items c.args.name c.args.worker i c.in_ok-names.names.items c.in_ok-places.places.items
-    c.in_ok-names.ensures (c.in_ok-boxes.ensures.names ∙ c.as_slice.ensures.value) c.in_ok-boxes.ensures.rows (c.in_ok-places.ensures ∙ ap places_in c.as_slice-2.ensures.value)
-    (c.in_ok-views.ensures.places ∙ c.as_slice-3.ensures.value) c.in_ok-views.ensures.seen
+    all_inside c.args.self.now c.args.journal.now.items c.args.name c.args.worker i c.in_ok-boxes.ensures c.in_ok-places.places.items (c.in_ok-places.ensures ∙ ap places_in c.as_slice.ensures.value)
+    (c.in_ok-views.ensures.places ∙ c.as_slice-2.ensures.value) c.in_ok-views.ensures.seen

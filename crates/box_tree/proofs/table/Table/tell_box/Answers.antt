@@ -2,7 +2,7 @@ use Rattle.std.proofs.Common.{sym, ap, ◌∙◌, List}
 use Rattle.std.specs.Option.{option_copied_mut}
 use Rattle.akl_terms.specs.declared.name.Name.{Name}
 use Rattle.local_store.specs.Stored.{Stored}
-use Rattle.table_laws.specs.Writes.{told_row}
+use Rattle.box_tree.specs.Edits.{told_first}
 use Rattle.box_tree.specs.declared.entries.BoxEntry.{BoxEntry}
 use Rattle.box_tree.specs.Tables.{TableValue, box_row}
 use Rattle.name_map.proofs.Lent.{on_some}
@@ -18,12 +18,12 @@ returns c =
       | in-Some-get_mut w ↦
           let old : BoxEntry = w.in-Some-get_mut.entry.now in
           let is = sym c.get_mut.ensures.value ∙ ap option_copied_mut w.in-Some-get_mut.is in
-          let new : BoxEntry = record { holder = old.holder; store = w.settle.new.self; changed = c.args.number; solved_at = c.args.solved_at; goals = w.remove.new.self; goals_changed = c.args.number; failing = old.failing; body = old.body; shown = old.shown; collected = old.collected } in
-          rw w.self-inside-is (rw (sym c.self.view_is) (writes_box t c.in-Some.name (c.get_mut.follows.lender new) (told_row c.args.goal c.args.store c.args.solved_at c.args.number) old new is
+          let new : BoxEntry = record { holder = old.holder; store = w.settle.new.self; changed = c.args.told; solved_at = c.args.solved_at; goals = w.remove.new.self; goals_changed = c.args.number; failing = old.failing; body = old.body; shown = old.shown; collected = old.collected } in
+          rw w.self-inside-is (rw (sym c.self.view_is) (writes_box t c.in-Some.name (c.get_mut.follows.lender new) (told_first c.args.goal c.args.store c.args.solved_at c.args.told c.args.number) old new is
           (on_some c.get_mut.result _ w.in-Some-get_mut.is (c.get_mut.follows.holds new)).finds
           (ap (λ (s : Stored). record (box_row t.program.templates.nodes new) { store = s }) w.settle.ensures
           ∙ ap (λ (ks : List Name). record (box_row t.program.templates.nodes new) { store = c.args.store; goals = ks }) (w.remove.ensures.keys ∙ removed_is c.args.goal old.goals.keys))))
       | in_default-get_mut w ↦
           let none = sym c.get_mut.ensures.value ∙ ap option_copied_mut w.in_default-get_mut.is in
-          rw w.self-inside-is (rw (sym c.self.view_is) (writes_no_box t c.in-Some.name c.get_mut.follows.lender-at-none (told_row c.args.goal c.args.store c.args.solved_at c.args.number) none c.get_mut.follows.holds-at-none))
+          rw w.self-inside-is (rw (sym c.self.view_is) (writes_no_box t c.in-Some.name c.get_mut.follows.lender-at-none (told_first c.args.goal c.args.store c.args.solved_at c.args.told c.args.number) none c.get_mut.follows.holds-at-none))
     ])
