@@ -28,6 +28,6 @@ IsKnownGathered v store solved = IsTrue solved
 abbrev pub SaysSolved : ViewValue → Rule → Step → Type 0
 SaysSolved v rule (Step.Tell store solved) = IsKnownWith v (replaced v.stores store) solved
 SaysSolved v rule (Step.Fork op boxes) = AllByRecursion (λ b. IsKnownWith v (v.stores ++ b.store ∷ []) b.solved) boxes.items
-SaysSolved v Rule.Promote (Step.Join store solved goals) = AllByRecursion (IsKnownJoined v solved) v.alternatives
-SaysSolved v Rule.Collect (Step.Join store solved goals) = IsKnownGathered v store solved
+SaysSolved v Rule.Promote (Step.Join store solved goals told behind) = AllByRecursion (IsKnownJoined v solved) v.alternatives
+SaysSolved v Rule.Collect (Step.Join store solved goals told behind) = IsKnownGathered v store solved
 SaysSolved v rule step = ⊤

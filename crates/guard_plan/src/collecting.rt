@@ -108,6 +108,8 @@ fn collect_quiet(
         store,
         solved,
         goals: Vec::new(alloc),
+        told: 0,
+        behind: 0,
     };
     let plan = Plan::new(alloc, view, label, reads, names, step, binds)?;
     Ok(Some(plan))

@@ -64,6 +64,8 @@ pub(crate) fn promote(
         store,
         solved,
         goals,
+        told: 0,
+        behind: 0,
     };
     let plan = Plan::new(alloc, view, label, reads, names, step, binds)?;
     Ok(Some(plan))

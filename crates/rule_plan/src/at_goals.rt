@@ -2,7 +2,7 @@
 
 ghost use Rattle.std.specs.Prelude.{◌≡◌, IfOk};
 ghost use Rattle.local_store.specs.Chained.{replaced};
-ghost use Rattle.box_tree.specs.Plans.{IsRightLabel};
+ghost use Rattle.box_tree.specs.Plans.{IsRightLabel, labels_behind};
 ghost use Rattle.rule_plan.specs.AtGoals.{plan_at, IsToldRightly, TellsRightly};
 ghost use Rattle.guard_plan.specs.Planned.{IsPlannedBy};
 ghost use Rattle.guard_plan.specs.Solved.{SaysSolved, IsKnownWith};
@@ -26,6 +26,7 @@ pub(crate) fn goal_plan(
     binds: Vec<Var>,
 ) -> Result<Option<Plan>, AllocError>
     requires right { IsRightLabel (plan_at view.now rule goal names step binds.items) }
+    requires alone { labels_behind step ≡ (0, 0) }
     requires solved { SaysSolved view.now rule step }
     ensures { IfOk result (IsPlannedBy view.now) }
 {

@@ -6,7 +6,7 @@ ghost use Rattle.akl_terms.specs.declared.program.Code.{Code};
 ghost use Rattle.akl_model.specs.declared.label.Rule.{Rule};
 ghost use Rattle.box_tree.specs.declared.view.Sight.{Sight};
 ghost use Rattle.box_tree.specs.Views.{IsViewOf};
-ghost use Rattle.box_tree.specs.Plans.{IsRightLabel};
+ghost use Rattle.box_tree.specs.Plans.{IsRightLabel, labels_behind};
 ghost use Rattle.guard_plan.specs.Planned.{IsPlannedBy};
 ghost use Rattle.guard_plan.specs.Solved.{SaysSolved};
 ghost use Rattle.rule_plan.specs.AtGoals.{plan_at};
@@ -72,6 +72,7 @@ pub(crate) fn eval(
 // The plan of Eval with a step that tells nothing.
 fn eval_plan(alloc: Global, view: &View, goal: Name, step: Step) -> Result<Option<Plan>, AllocError>
     requires right { IsRightLabel (plan_at view.now Rule.Eval goal 0 step []) }
+    requires alone { labels_behind step ≡ (0, 0) }
     requires solved { SaysSolved view.now Rule.Eval step }
     ensures { IfOk result (IsPlannedBy view.now) }
 {

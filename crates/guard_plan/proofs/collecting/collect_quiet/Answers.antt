@@ -23,14 +23,14 @@ returns-in_default c =
 pub joined_store-requires-clause-some : goal.joined_store-requires-clause-some
 joined_store-requires-clause-some c = rw c.chain.ensures.stores (some_stores c.args.view.now c.label_of-label.ensures.seen)
 
-pub new-requires-3 : goal.new-requires-3
-new-requires-3 c =
+pub new-requires-3-clause-right : goal.new-requires-3-clause-right
+new-requires-3-clause-right c =
     let list = rw (c.in-Some.is, c.alternatives-2.ensures.alternatives, c.worker.ensures, c.next-next.ensures, c.requires.program) at c.in_ok-equations.ensures in
     let joined = rw (c.chain.ensures.nodes, c.chain.ensures.stores, c.chain.ensures.known, c.alternatives-3.ensures.alternatives, c.as_slice.ensures.value, c.worker.ensures, c.next-next.ensures, c.requires.program) at c.in_ok-store.ensures in
     let members = rw (c.chain-2.ensures.nodes, c.chain-2.ensures.stores, c.as_slice-2.ensures, c.requires.program) at c.in_ok-binds.ensures.members in
     rw (c.label_of-label.ensures.label, c.in_ok-reads.ensures, c.path.ensures, c.alternatives.ensures.alternatives)
     (collect_planned c.args.view.now c.label_of-label.ensures.seen c.args.goal c.args.list c.requires.place c.requires.sight c.requires.solved (rw c.requires.program at c.requires.quiet) c.requires.few
-    c.in-Some.equations.items list c.in_ok-store.field-0 joined c.in_ok-binds.binds.items members (Step.Join c.in_ok-store-2.store c.in_ok-store.field-0.solved c.new-2.result)
+    c.in-Some.equations.items list c.in_ok-store.field-0 joined c.in_ok-binds.binds.items members (Step.Join c.in_ok-store-2.store c.in_ok-store.field-0.solved c.new-2.result 0 0)
     (ap (λ (s : Stored). laws.joins s c.in_ok-store.field-0.solved (named_atoms c.args.view.now.table.program.templates.nodes c.new-2.result.items)) c.in_ok-store-2.ensures
     ∙ ap (λ (l : List (Name × Goal)). laws.joins c.in_ok-store.field-0.store c.in_ok-store.field-0.solved (named_atoms c.args.view.now.table.program.templates.nodes l)) c.new-2.ensures.items))
 

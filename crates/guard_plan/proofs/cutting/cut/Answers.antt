@@ -13,8 +13,8 @@ returns-in_default c =
       noise_of_cut c.args.view.now c.args.op c.requires.guarded c.requires.sight c.first_quiet.new.noise.items c.requires.not_one noisy.1,
     )
 
-pub new-requires-2 : goal.new-requires-2
-new-requires-2 c =
+pub new-requires-2-clause-right : goal.new-requires-2-clause-right
+new-requires-2-clause-right c =
     let found = rw (c.in-Some.is, c.stores.ensures, c.candidates-candidates.ensures, c.alternatives.ensures.alternatives, c.requires.program) at c.in_ok-found.ensures in
     rw (c.label_for-label.ensures.label, c.new.ensures.items, c.in_ok-reads.ensures, c.path.ensures)
     (cut_planned c.args.view.now c.alternatives.ensures.seen c.args.goal c.args.op c.requires.place c.requires.sight c.requires.not_one c.in-Some.alternative found)

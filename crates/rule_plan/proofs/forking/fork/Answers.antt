@@ -49,8 +49,8 @@ returns-in_default-names_of c =
     fork_none c.args.view.now c.label_of-label.ensures.seen c.args.goal c.args.definition c.args.call c.requires.place c.requires.sight
     (λ x o e u. subst (λ (y : Definition). 2 ^ 32 ≤ drawn_by y.clauses) (one_value (sym is ∙ e)) many)
 
-pub new-requires-2 : goal.new-requires-2
-new-requires-2 c =
+pub new-requires-2-clause-right : goal.new-requires-2-clause-right
+new-requires-2-clause-right c =
     let is = rw (c.as_slice.ensures, c.requires.program) at (get_at c.as_slice.result.now c.args.definition c.in-Some.found.now c.in-Some.ensures.lookup.3.0 c.in-Some.ensures.lookup.1) in
     let operator = sym (ap (option_map (op_held c.args.view.now.table.program.templates.nodes)) (sym c.in-Some-operator_of.is) ∙ c.operator_of.ensures c.args.view.now.table.program.templates.nodes) in
     let names = rw c.as_slice-2.ensures at c.in-Some-names_of.ensures in
