@@ -1,66 +1,50 @@
 -- The plan of a call at once is right.
-use Rattle.std.proofs.Common.{◌≡◌, ℕ, ◌+◌, ◌≤◌, ◌<◌, ◌^◌, Bool, true, false, List, [], ◌∷◌, ◌++◌, length, map, Some, None, refl, sym, ◌∙◌, ap, subst, arith, append_assoc, length-append}
-use Rattle.std.specs.Prelude.{slice_index}
-use Rattle.std.proofs.lemmas.List.{length-map}
+use Rattle.std.proofs.Common.{◌≡◌, ℕ, ◌+◌, ◌<◌, ◌^◌, Bool, true, false, List, ◌∷◌, ◌++◌, length, map, Some, None, refl, sym, ◌∙◌, ap, subst, arith, length-append}
 use Rattle.akl_terms.specs.declared.name.Name.{Name}
 use Rattle.akl_terms.specs.declared.name.Var.{Var}
 use Rattle.akl_terms.specs.declared.name.Place.{Place}
 use Rattle.akl_terms.specs.declared.term.Node.{Node}
-use Rattle.akl_terms.specs.declared.term.Term.{Term}
-use Rattle.akl_terms.specs.declared.program.Code.{Code}
 use Rattle.akl_terms.specs.declared.program.Clause.{Clause}
 use Rattle.akl_terms.specs.declared.program.Op.{Op}
-use Rattle.akl_terms.specs.Equal.{Equations, IsTold}
-use Rattle.akl_terms.specs.Standing.{StandFor}
+use Rattle.constraint_laws.specs.Oldest.{HasOldest}
 use Rattle.akl_model.specs.declared.item.Item.{Item}
 use Rattle.akl_model.specs.declared.label.Rule.{Rule}
 use Rattle.akl_model.specs.declared.label.Label.{Label}
-use Rattle.akl_model.specs.Config.{Atom, Content, box, Goals, no_goals, an_atom, with_names, Port, with_ports, without_goal, environment, box_at}
-use Rattle.akl_model.specs.Instances.{atom_of, atoms_of, with_atoms, drawn_by}
-use Rattle.akl_model.specs.Renaming.{port_names}
-use Rattle.akl_model.specs.Names.{times_in}
-use Rattle.akl_model.specs.Rules.{joining}
-use Rattle.akl_model.specs.Stable.{only}
-use Rattle.akl_model.proofs.Finds.{times, times_of, times_inside}
-use Rattle.akl_model.proofs.ScopesAlong.{times_path, found_path}
-use Rattle.akl_model.proofs.NamesKept.{Stand, stands_after}
-use Rattle.step_laws.specs.Bound.{AreBoundIn}
-use Rattle.step_laws.proofs.Whereabouts.{in_found}
+use Rattle.akl_model.specs.Config.{Atom, Content, box, Goals, no_goals, an_atom, without_goal, environment, whole, box_at}
+use Rattle.akl_model.specs.Instances.{drawn_by}
+use Rattle.akl_model.specs.Wakes.{names_around}
+use Rattle.step_laws.specs.Bound.{outermost_equations, AreBoundIn}
 use Rattle.local_store.specs.declared.telling.ToldStore.{ToldStore}
+use Rattle.local_store.specs.Bound.{AreNewlyBound}
+use Rattle.local_store.specs.Stored.{Stored}
 use Rattle.class_members.specs.Members.{AreMembers}
-use Rattle.table_laws.specs.Rows.{told_in, ports_in}
 use Rattle.table_laws.specs.Steps as laws
-use Rattle.table_laws.specs.Steps.{numbered}
-use Rattle.call_laws.specs.AtOnce.{by, IsAtOnce, labels_at_once, at_once}
-use Rattle.call_laws.proofs.Between.{stands_now}
-use Rattle.call_laws.proofs.Calls.{last_stand, promoted}
+use Rattle.table_laws.specs.Steps.{IsSolvedIf}
+use Rattle.call_laws.specs.AtOnce.{by, with_named, IsAtOnce, labels_at_once, at_once}
+use Rattle.call_laws.proofs.CallPassage.{end_home}
 use Rattle.call_tables.specs.Calls.{CallsGoal}
 use Rattle.box_tree.specs.declared.step.Step.{Step}
-use Rattle.box_tree.specs.Tables.{all_rules, step_of}
+use Rattle.box_tree.specs.Tables.{table_of, all_rules, step_of}
 use Rattle.box_tree.specs.Views.{ViewValue, IsViewOf}
 use Rattle.box_tree.specs.Edits.{named_atoms}
-use Rattle.box_tree.specs.Plans.{PlanValue, IsRightCall, IsRight}
+use Rattle.box_tree.specs.Plans.{PlanValue, labels_behind, IsRightCall, IsRight}
 use Rattle.guard_plan.specs.Solved.{SaysSolved}
-use Rattle.guard_plan.proofs.JoinRight.{joined_frames, joined_ports, joined_solved, joined_stands}
-use Rattle.guard_plan.proofs.BoundAt.{oldest_at, joined_at}
 use Rattle.guard_plan.proofs.ReadItems.{goal_reads, items_there}
 use Rattle.guard_plan.proofs.Sites.{stand, found}
-use Rattle.rule_plan.specs.Made.{named_under}
+use Rattle.body_goals.specs.declared.body.Body.{Body}
 use Rattle.call_plan.specs.declared.sifting.Left.{Left}
-use Rattle.call_plan.specs.Called.{Remains, Ends}
+use Rattle.call_plan.specs.Called.{Remains, Ends, IsReducedCall}
 use Rattle.call_plan.specs.Ended.{cuts_others, end_labels}
-use Rattle.call_plan.specs.Sifted.{name_at, frame_at, store_of}
+use Rattle.call_plan.specs.Sifted.{name_at, store_of}
 use Rattle.call_plan.specs.Found.{IsCallPlan}
+use Rattle.call_plan.proofs.BodyTold.{BodyTold}
 use Rattle.call_plan.proofs.BoundAtOnce.{box_bound}
+use Rattle.call_plan.proofs.CallJoined.{alternative, passed_one, long_body, few_goals, ports_none}
+use Rattle.call_plan.proofs.CallTold.{along, body_told, solved_if, newly_bound, oldest_bound}
 use Rattle.call_plan.proofs.LastLeft.{operator, left_behind, ends_of}
-use Rattle.call_plan.proofs.Remaining.{in_force, is_home, One, one, arguments, last, after_last, all_sift, is_op, last_stands, last_whole, last_frames, last_ports, last_holds}
+use Rattle.call_plan.proofs.Remaining.{in_force, is_home, arguments, after_last, all_sift, is_op, last_stands, last_frames, last_holds}
 
--- atoms under a frame are numbered as goals
-numbered_atoms : (nodes : List Node) (w m n : ℕ) (codes : List Code) → named_atoms nodes (named_under (name_at w m) n codes) ≡ numbered w n (atoms_of nodes (name_at w m) codes)
-numbered_atoms nodes w m n [] = refl
-numbered_atoms nodes w m n (c ∷ cs) = ap (λ (l : List (Name × Atom)). (name_at w n, atom_of nodes (name_at w m) c) ∷ l) (numbered_atoms nodes w m (n + 1) cs)
-
-module _ (v : ViewValue) (g : Name) (op : Op) (left : Left) (drawn : ℕ) (more : List Label) (told : ToldStore) (e : Ends v g op left drawn more told) where
+module _ (v : ViewValue) (g : Name) (op : Op) (left : Left) (drawn : ℕ) (promotes : List Label) (joined : ToldStore) (e : Ends v g op left drawn promotes joined) (more : List Label) where
   abbrev nodes : List Node
   nodes = v.table.program.templates.nodes
 
@@ -70,96 +54,14 @@ module _ (v : ViewValue) (g : Name) (op : Op) (left : Left) (drawn : ℕ) (more 
   abbrev i : IsViewOf v
   i = r.is_called.seen
 
-  abbrev passed_one : One v g op left drawn e.before r
-  passed_one = one v g op left drawn e.before r
+  abbrev last : Content
+  last = alternative v g op left drawn promotes joined e
 
-  abbrev alternative : Content
-  alternative = last v g op left drawn e.before r
+  abbrev number : ℕ
+  number = (passed_one v g op left drawn promotes joined e).number
 
-  body_is : alternative.body ≡ atoms_of nodes (frame_at v.worker passed_one.number) left.clause.now.body
-  body_is = ap (λ (c : Clause). atoms_of nodes (frame_at v.worker passed_one.number) c.body) (sym passed_one.left.clause)
-
-  pub long_body : length alternative.body ≡ length left.clause.now.body
-  long_body = ap (λ (l : List Atom). length l) body_is ∙ length-map left.clause.now.body (atom_of nodes (frame_at v.worker passed_one.number))
-
-  abbrev pub calls : IsAtOnce v.table.program i.table.config v.worker g i.site
-  calls = record {
-    definition = r.is_called.definition;
-    arguments = arguments v g op left drawn e.before r;
-    held = r.is_called.held;
-    called = r.called;
-    is_called = r.is_called.is_definition;
-    op = operator op;
-    is_operator = is_op v g op left drawn e.before r;
-    few_names = subst (λ (n : ℕ). n < 2 ^ 32) r.is_called.drawn_is r.is_called.few_names;
-    sift_labels = e.before;
-    left = box alternative no_goals (left_behind nodes v.worker (after_last v g op left drawn e.before r) (arguments v g op left drawn e.before r) op passed_one.behind);
-    sifts = (all_sift v g op left drawn e.before r).0;
-    last = alternative;
-    end_labels = end_labels g (name_at v.worker passed_one.number) (cuts_others op passed_one.behind);
-    ends = ends_of nodes v.worker (after_last v g op left drawn e.before r) (arguments v g op left drawn e.before r) g i.site alternative op passed_one.behind (last_holds v g op left drawn e.before r op e.joins.holds);
-    few_goals = let l : length alternative.body ≡ length left.clause.now.body = long_body in let u : length left.clause.now.body < 2 ^ 32 = e.few_goals in omega arith;
-  }
-
-  labels_are : by v.worker Rule.Fork (Place.Goal g) None ∷ more ≡ labels_at_once calls
-  labels_are = ap (λ (ls : List Label). by v.worker Rule.Fork (Place.Goal g) None ∷ ls) (e.labels
-      ∙ ap (λ (n : Name). e.before ++ end_labels g n (cuts_others op left.behind.now)) passed_one.left.name
-      ∙ ap (λ (cs : List Clause). e.before ++ end_labels g (name_at v.worker passed_one.number) (cuts_others op cs)) passed_one.left.behind)
-
-  -- the store of the box
-  ports_once : (n : Name) → times_in n (port_names (ports_in nodes (store_of left).ports)) + times_in n (port_names i.site.content.ports) ≤ 1
-  ports_once n =
-      let f : times n (only i.site) + times_path n i.site.around ≤ times n i.table.config.roots = found_path n i.site.content.name i.table.config.roots i.site (found v i) in
-      let o : times n i.table.config.roots ≤ 1 = (stand v i).once n in
-      let z : times_in n (port_names (ports_in nodes (store_of left).ports)) ≡ 0 = ap (λ (l : List (Name × Term)). times_in n (port_names (ports_in nodes l))) (last_ports v g op left drawn e.before r) in
-      let u : times n (only i.site) ≡ times_of n i.site.content + (times_inside n i.site.goals + 0) = refl in
-      omega arith
-
-  ports_none : ports_in nodes (store_of left).ports ≡ []
-  ports_none = ap (ports_in nodes) (last_ports v g op left drawn e.before r)
-
-  abbrev goals : List (Name × Atom)
-  goals = named_atoms nodes (named_under left.frame (v.next + drawn) left.clause.now.body)
-
-  goals_are : goals ≡ numbered v.worker (slice_index i.table.config.next v.worker + drawn_by r.called.clauses) alternative.body
-  goals_are = ap (λ (n : Name). named_atoms nodes (named_under n (v.next + drawn) left.clause.now.body)) passed_one.left.frame
-      ∙ ap (λ (n : ℕ). named_atoms nodes (named_under (frame_at v.worker passed_one.number) (n + drawn) left.clause.now.body)) i.next
-      ∙ ap (λ (n : ℕ). named_atoms nodes (named_under (frame_at v.worker passed_one.number) (slice_index i.table.config.next v.worker + n) left.clause.now.body)) r.is_called.drawn_is
-      ∙ numbered_atoms nodes v.worker (passed_one.number + 1) (slice_index i.table.config.next v.worker + drawn_by r.called.clauses) left.clause.now.body
-      ∙ ap (numbered v.worker (slice_index i.table.config.next v.worker + drawn_by r.called.clauses)) (sym body_is)
-
-  calls_goal : CallsGoal calls (store_of left) told.store goals
-  calls_goal = record {
-    alternative_frames = last_frames v g op left drawn e.before r;
-    alternative_ports = ports_none;
-    alternative_stands = last_stands v g op left drawn e.before r;
-    frames = joined_frames v i (store_of left) (length v.stores + 1) told e.joins.promoted ∙ ap (λ (l : List Name). with_names l i.site.content.frames) (last_frames v g op left drawn e.before r);
-    ports = joined_ports v i (store_of left) (length v.stores + 1) told e.joins.promoted ports_once ∙ ap (λ (l : List Port). with_ports l i.site.content.ports) ports_none;
-    stands = joined_stands v i (store_of left) (length v.stores + 1) told e.joins.promoted alternative.equations (last_whole v g op left drawn e.before r);
-    body = goals_are;
-  }
-
-  -- what is bound
-  abbrev content : Content
-  content = joining alternative i.site.content
-
-  abbrev rest : Goals
-  rest = with_atoms v.worker (slice_index i.table.config.next v.worker + drawn_by r.called.clauses) alternative.body (without_goal g i.site.goals)
-
-  after_stand : Stand (at_once calls)
-  after_stand = stands_after all_rules v.table.program _ _ (at_once calls)
-      (last_stand all_rules in_force v.table.program i.table.config (stand v i) v.worker g i.site (is_home v g op left drawn e.before r) calls ⊥ (λ q. absurd q))
-      (promoted all_rules in_force v.table.program i.table.config (stand v i) v.worker g i.site (is_home v g op left drawn e.before r) calls ⊥ (λ q. absurd q))
-
-  box_now : box_at i.site.content.name (at_once calls).roots ≡ Some (record { around = i.site.around; content = content; goals = rest })
-  box_now = in_found (at_once calls).roots (record { around = i.site.around; content = content; goals = rest }) after_stand.once
-      (stands_now i.table.config (stand v i) g i.site (is_home v g op left drawn e.before r) content rest)
-
-  bound : (binds : List Var) → AreMembers nodes v.stores told.bound.items binds → AreBoundIn i.table.config (at_once calls) i.site binds
-  bound binds m = box_bound i.table.config (at_once calls) i.site content rest (found v i) box_now binds
-      (joined_at v i (store_of left) (length v.stores + 1) told e.joins.promoted binds m alternative.equations
-      (subst (λ (E : Equations). StandFor (IsTold (told_in nodes (v.stores ++ (store_of left) ∷ []))) (IsTold E)) (append_assoc (environment i.site) i.site.content.equations alternative.equations) (last_whole v g op left drawn e.before r)))
-      (oldest_at v i told.bound.items binds m)
+  abbrev all_drawn : ℕ
+  all_drawn = drawn_by r.called.clauses
 
   abbrev pub value : Step → List Var → PlanValue
   value step binds = record {
@@ -173,58 +75,132 @@ module _ (v : ViewValue) (g : Name) (op : Op) (left : Left) (drawn : ℕ) (more 
     binds = binds;
   }
 
-  pub call_right : (step : Step) (binds : List Var) → step_of nodes step ≡ laws.joins told.store told.solved goals → AreMembers nodes v.stores told.bound.items binds → IsRightCall (value step binds)
-  call_right step binds joins members = record {
-    table = i.table;
-    goal = g;
-    site = i.site;
-    is_home = is_home v g op left drawn e.before r;
-    calls = calls;
-    labels = labels_are;
-    tells_nothing = (all_sift v g op left drawn e.before r).1;
-    alternative = (store_of left);
-    new = told.store;
-    is_solved = told.solved;
-    goals = goals;
-    makes = calls_goal;
-    step = joins;
-    solved = joined_solved v i (store_of left) (length v.stores + 1) told e.joins.promoted told.solved refl;
-    names = ap (λ (n : ℕ). n + length left.clause.now.body) r.is_called.drawn_is ∙ ap (λ (n : ℕ). drawn_by r.called.clauses + n) (sym long_body);
-    reads = record { goal = (goal_reads v i g).0; stores = (goal_reads v i g).1 };
-    binds = bound binds members;
-    there = λ j h. items_there v i g (an_atom (Atom.call r.is_called.definition (arguments v g op left drawn e.before r) None)) r.is_called.held j h;
-  }
+  -- with what is told of its body
+  module _ (labels : List Label) (after : Content) (goals_left : List (Name × Atom)) (new : ToldStore) (told_of : ℕ) (b : BodyTold v.table.program i.table.config v.worker i.site last all_drawn labels after goals_left new.store told_of) where
+    abbrev pub calls : IsAtOnce v.table.program i.table.config v.worker g i.site
+    calls = record {
+      definition = r.is_called.definition;
+      arguments = arguments v g op left drawn e.before r;
+      held = r.is_called.held;
+      called = r.called;
+      is_called = r.is_called.is_definition;
+      op = operator op;
+      is_operator = is_op v g op left drawn e.before r;
+      few_names = subst (λ (n : ℕ). n < 2 ^ 32) r.is_called.drawn_is r.is_called.few_names;
+      sift_labels = e.before;
+      left = box last no_goals (left_behind nodes v.worker (after_last v g op left drawn e.before r) (arguments v g op left drawn e.before r) op (passed_one v g op left drawn promotes joined e).behind);
+      sifts = (all_sift v g op left drawn e.before r).0;
+      last = last;
+      end_labels = end_labels g (name_at v.worker number) (cuts_others op (passed_one v g op left drawn promotes joined e).behind);
+      ends = ends_of nodes v.worker (after_last v g op left drawn e.before r) (arguments v g op left drawn e.before r) g i.site last op (passed_one v g op left drawn promotes joined e).behind (last_holds v g op left drawn e.before r op e.joins.holds);
+      few_goals = few_goals v g op left drawn promotes joined e;
+      body_labels = labels;
+      after = after;
+      goals_left = goals_left;
+      body = b.body;
+      consistent = b.consistent;
+    }
 
-  some_end : (a : Name) (others : Bool) → 0 < length (end_labels g a others)
-  some_end a true = omega arith
-  some_end a false = omega arith
+    labels_are : more ≡ (e.before ++ end_labels g left.name (cuts_others op left.behind.now)) ++ labels → by v.worker Rule.Fork (Place.Goal g) None ∷ more ≡ labels_at_once calls
+    labels_are q = ap (λ (ls : List Label). by v.worker Rule.Fork (Place.Goal g) None ∷ ls) (q
+        ∙ ap (λ (n : Name). (e.before ++ end_labels g n (cuts_others op left.behind.now)) ++ labels) (passed_one v g op left drawn promotes joined e).left.name
+        ∙ ap (λ (cs : List Clause). (e.before ++ end_labels g (name_at v.worker number) (cuts_others op cs)) ++ labels) (passed_one v g op left drawn promotes joined e).left.behind)
+
+    calls_goal : (goals : List (Name × Atom)) → goals ≡ goals_left → CallsGoal calls (store_of left) new.store goals
+    calls_goal goals q = record {
+      alternative_frames = last_frames v g op left drawn e.before r;
+      alternative_ports = ports_none v g op left drawn promotes joined e;
+      alternative_stands = last_stands v g op left drawn e.before r;
+      between = b.between;
+      frames = b.frames;
+      ports = b.ports;
+      stands = b.stands;
+      body = q;
+    }
+
+    -- what is bound
+    abbrev rest : Goals
+    rest = with_named goals_left (without_goal g i.site.goals)
+
+    box_now : box_at i.site.content.name (at_once calls).roots ≡ Some (record { around = i.site.around; content = after; goals = rest })
+    box_now = end_home all_rules in_force v.table.program i.table.config (stand v i) v.worker g i.site (is_home v g op left drawn e.before r) calls ⊥ (λ q. absurd q)
+
+    bound : (binds : List Var) → AreNewlyBound (outermost_equations i.site) (whole i.site) (environment i.site ++ after.equations) binds → HasOldest (outermost_equations i.site) binds → AreBoundIn i.table.config (at_once calls) i.site binds
+    bound binds newly oldest = box_bound i.table.config (at_once calls) i.site after rest (found v i) box_now binds newly oldest
+
+    pub right_by : more ≡ (e.before ++ end_labels g left.name (cuts_others op left.behind.now)) ++ labels → (goals : List (Name × Atom)) → goals ≡ goals_left → (step : Step) → step_of nodes step ≡ laws.joins new.store new.solved goals
+        → labels_behind step ≡ (told_of, length labels) → IsSolvedIf new.solved (table_of v.table) (names_around i.site) new.store → (binds : List Var)
+        → AreNewlyBound (outermost_equations i.site) (whole i.site) (environment i.site ++ after.equations) binds → HasOldest (outermost_equations i.site) binds → IsRightCall (value step binds)
+    right_by labelled goals named step joins behind solved binds newly oldest = record {
+      table = i.table;
+      goal = g;
+      site = i.site;
+      is_home = is_home v g op left drawn e.before r;
+      calls = calls;
+      labels = labels_are labelled;
+      tells_nothing = (all_sift v g op left drawn e.before r).1;
+      alternative = store_of left;
+      new = new.store;
+      is_solved = new.solved;
+      goals = goals;
+      makes = calls_goal goals named;
+      step = joins;
+      behind = behind ∙ (λ j. (sym b.last_is j, length labels));
+      solved = solved;
+      names = ap (λ (n : ℕ). n + length left.clause.now.body) r.is_called.drawn_is ∙ ap (λ (n : ℕ). all_drawn + n) (sym (long_body v g op left drawn promotes joined e));
+      reads = record { goal = (goal_reads v i g).0; stores = (goal_reads v i g).1 };
+      binds = bound binds newly oldest;
+      there = λ j h. items_there v i g (an_atom (Atom.call r.is_called.definition (arguments v g op left drawn e.before r) None)) r.is_called.held j h;
+    }
+
+-- the labels of a call end with one at least
+some_end : (g a : Name) (others : Bool) → 0 < length (end_labels g a others)
+some_end g a true = omega arith
+some_end g a false = omega arith
+
+says_solved : (v : ViewValue) (nodes : List Node) (step : Step) (store : Stored) (is_solved : Bool) (joined : List (Name × Atom)) → step_of nodes step ≡ laws.joins store is_solved joined → SaysSolved v Rule.Fork step
+says_solved v nodes (Step.Tell store solved) s b gs q = cc
+says_solved v nodes (Step.Fork o alternatives) s b gs q = cc
+says_solved v nodes Step.Fail s b gs q = tt
+says_solved v nodes Step.Cut s b gs q = tt
+says_solved v nodes (Step.Join store solved goals told behind) s b gs q = tt
+says_solved v nodes Step.Refute s b gs q = tt
+says_solved v nodes Step.Confirm s b gs q = tt
+says_solved v nodes (Step.Split copy copies) s b gs q = tt
+
+module _ (v : ViewValue) (g : Name) (op : Op) (left : Left) (drawn : ℕ) (more : List Label) (told : ToldStore) (body : Body) (t : IsReducedCall v g op left drawn more told body) where
+  abbrev goals : List (Name × Atom)
+  goals = named_atoms v.table.program.templates.nodes body.goals.items
+
+  abbrev pub plan_value : Step → List Var → PlanValue
+  plan_value = value v g op left drawn t.labels t.joined t.ends more
+
+  labelled : more ≡ (t.ends.before ++ end_labels g left.name (cuts_others op left.behind.now)) ++ t.reduced.labels
+  labelled = t.reduced.all_labels ∙ ap (λ (ls : List Label). ls ++ t.reduced.labels) t.ends.labels
+
+  pub call_right : (step : Step) (binds : List Var) → step_of v.table.program.templates.nodes step ≡ laws.joins told.store told.solved goals → labels_behind step ≡ (body.told, body.behind) → AreMembers v.table.program.templates.nodes v.stores told.bound.items binds → IsRightCall (plan_value step binds)
+  call_right step binds joins behind members = right_by v g op left drawn t.labels t.joined t.ends more t.reduced.labels (along v g op left drawn more told body t).after goals told body.told (body_told v g op left drawn more told body t) labelled goals refl step joins
+      (behind ∙ ap (λ (n : ℕ). (body.told, n)) t.reduced.behind) (solved_if v g op left drawn more told body t told.solved refl) binds
+      (newly_bound v g op left drawn more told body t binds members) (oldest_bound v g op left drawn more told body t binds members)
 
   some_more : 0 < length more
   some_more =
-      let l : length more ≡ length e.before + length (end_labels g left.name (cuts_others op left.behind.now))
-      = ap (λ (ls : List Label). length ls) e.labels ∙ length-append e.before (end_labels g left.name (cuts_others op left.behind.now)) in
-      let s : 0 < length (end_labels g left.name (cuts_others op left.behind.now)) = some_end left.name (cuts_others op left.behind.now) in
+      let l : length more ≡ length (t.ends.before ++ end_labels g left.name (cuts_others op left.behind.now)) + length t.reduced.labels
+      = ap (λ (ls : List Label). length ls) labelled ∙ length-append (t.ends.before ++ end_labels g left.name (cuts_others op left.behind.now)) t.reduced.labels in
+      let m : length (t.ends.before ++ end_labels g left.name (cuts_others op left.behind.now)) ≡ length t.ends.before + length (end_labels g left.name (cuts_others op left.behind.now)) =
+      length-append t.ends.before (end_labels g left.name (cuts_others op left.behind.now)) in
+      let s : 0 < length (end_labels g left.name (cuts_others op left.behind.now)) = some_end g left.name (cuts_others op left.behind.now) in
       omega arith
 
-  says_solved : (step : Step) → step_of nodes step ≡ laws.joins told.store told.solved goals → SaysSolved v Rule.Fork step
-  says_solved (Step.Tell store solved) q = cc
-  says_solved (Step.Fork o alternatives) q = cc
-  says_solved Step.Fail q = tt
-  says_solved Step.Cut q = tt
-  says_solved (Step.Join store solved gs) q = tt
-  says_solved Step.Refute q = tt
-  says_solved Step.Confirm q = tt
-  says_solved (Step.Split copy copies) q = tt
-
-  pub call_planned : (p : PlanValue) (step : Step) (binds : List Var) → IsRight p → p ≡ value step binds → step_of nodes step ≡ laws.joins told.store told.solved goals → IsCallPlan v p
+  pub call_planned : (p : PlanValue) (step : Step) (binds : List Var) → IsRight p → p ≡ plan_value step binds → step_of v.table.program.templates.nodes step ≡ laws.joins told.store told.solved goals → IsCallPlan v p
   call_planned p step binds right is joins = subst (IsCallPlan v) (sym is) (record {
     plan = record {
       right = subst IsRight is right;
       table = refl;
       journal = refl;
-      place = sym r.is_called.is_place;
+      place = sym t.ends.remains.is_called.is_place;
       worker = refl;
-      solved = says_solved step joins;
+      solved = says_solved v v.table.program.templates.nodes step told.store told.solved goals joins;
     };
     forks = refl;
     several = some_more;

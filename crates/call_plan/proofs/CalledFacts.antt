@@ -1,16 +1,22 @@
 -- What is known of a call that is made at once.
-use Rattle.std.proofs.Common.{ℕ, ◌+◌, ◌<◌, ◌^◌, List, [], length, refl, subst}
+use Rattle.std.proofs.Common.{◌≡◌, ℕ, ◌+◌, ◌<◌, ◌^◌, List, [], length, true, refl, subst}
 use Rattle.akl_terms.specs.declared.name.Name.{Name}
 use Rattle.akl_terms.specs.declared.program.Definition.{Definition}
 use Rattle.akl_model.specs.declared.label.Label.{Label}
 use Rattle.akl_model.specs.Instances.{drawn_by}
-use Rattle.local_store.specs.Chained.{IsSolvedChain, IsKnown}
+use Rattle.akl_terms.specs.declared.program.Op.{Op}
+use Rattle.akl_terms.specs.declared.term.Node.{Node}
+use Rattle.local_store.specs.declared.telling.ToldStore.{ToldStore}
+use Rattle.local_store.specs.Stored.{Stored}
+use Rattle.local_store.specs.Chained.{replaced, IsSolvedChain, IsKnown}
 use Rattle.local_store.proofs.Known.{whole-known}
 use Rattle.box_tree.specs.Views.{ViewValue}
+use Rattle.box_tree.proofs.ToldChains.{around_push}
 use Rattle.call_plan.specs.declared.heads.Arguments.{Arguments}
 use Rattle.call_plan.specs.declared.sifting.Left.{Left}
 use Rattle.call_plan.specs.Called.{IsCalled, Remains}
 use Rattle.call_plan.specs.Chosen.{IsChosen}
+use Rattle.call_plan.specs.Joins.{Joins}
 
 module _ (v : ViewValue) (g : Name) (a : Arguments) (called : Definition) (drawn : ℕ) (h : IsCalled v g a called drawn) where
   pub call_known : IsKnown v.table.program.templates.nodes v.stores (length v.stores)
@@ -24,3 +30,9 @@ module _ (v : ViewValue) (g : Name) (a : Arguments) (called : Definition) (drawn
 
   pub call_remains : (labels : List Label) (left : Left) → IsChosen v.table.program.templates.symbols v.table.program.templates.nodes v.stores a v.worker v.next called.op called.clauses [] labels left → Remains v g called.op left drawn labels
   call_remains labels left c = record { arguments = a; called = called; is_called = h; op_is = refl; chosen = c }
+
+-- the store of the box makes a solved chain with those around it, where it says so
+pub joined_solved : (nodes : List Node) (path : List Stored) (op : Op) (own : Stored) (told : ToldStore) → Joins nodes path op own told → told.solved ≡ true → IsSolvedChain nodes (replaced path told.store)
+joined_solved nodes path op own told j q =
+    let w : _ = j.promoted.is_solved.0 q in
+    subst (λ (ss : List Stored). IsSolvedChain nodes (replaced ss told.store)) (around_push path own) (j.promoted.promotes.solved w.0 w.1 w.2)

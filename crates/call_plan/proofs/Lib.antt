@@ -6,7 +6,12 @@ pub mod LastLeft
 pub mod PlainJoined
 pub mod BoundAtOnce
 pub mod Remaining
+pub mod BodyTold
+pub mod CallJoined
 pub mod CallFound
+pub mod CallTold
+pub mod BodyReduced
+pub mod BoundThen
 pub mod HeadSolved
 pub mod SiftingOn
 pub mod EvaluatingOn

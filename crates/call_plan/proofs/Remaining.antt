@@ -140,6 +140,9 @@ module _ (v : ViewValue) (g : Name) (op : Op) (left : Left) (drawn : ℕ) (befor
   pub last_whole : StandFor (IsTold (told_in nodes (v.stores ++ (store_of left) ∷ []))) (IsTold (whole i.site ++ last.equations))
   last_whole = all_stand nodes v.stores (whole i.site) (whole_stands v i) r.arguments (frame_at v.worker one.number) one.clause (length v.stores) (store_of left) store
 
+  pub last_good : IsConsistent (whole i.site ++ last.equations)
+  last_good = all_consistent nodes v.stores (whole i.site) (whole_stands v i) r.arguments (frame_at v.worker one.number) one.clause (length v.stores) (store_of left) store
+
   pub last_frames : (store_of left).frames ≡ last.frames
   last_frames = store_frames nodes v.stores (whole i.site) (whole_stands v i) r.arguments (frame_at v.worker one.number) one.clause (length v.stores) (store_of left) store
 
@@ -179,8 +182,7 @@ module _ (v : ViewValue) (g : Name) (op : Op) (left : Left) (drawn : ℕ) (befor
 
   -- its guard holds
   pub last_holds : (o : Op) → HoldsFor o nodes (v.stores ++ (store_of left) ∷ []) → Holds o (inner i.site last no_goals)
-  last_holds Op.Choice h = subst (λ (E : Equations). IsConsistent (E ++ last.equations)) (sym around_is)
-      (all_consistent nodes v.stores (whole i.site) (whole_stands v i) r.arguments (frame_at v.worker one.number) one.clause (length v.stores) (store_of left) store)
+  last_holds Op.Choice h = subst (λ (E : Equations). IsConsistent (E ++ last.equations)) (sym around_is) last_good
   last_holds Op.Condition q = quiet_here q
   last_holds Op.Commit q = quiet_here q
   last_holds Op.Collect h = absurd h

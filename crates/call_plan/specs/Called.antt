@@ -1,5 +1,5 @@
 -- What is known of a call before it is found at once.
-use Rattle.std.specs.Prelude.{◌≡◌, ℕ, ◌<◌, ◌^◌, List, [], ◌++◌, length, Some, None, slice_get}
+use Rattle.std.specs.Prelude.{◌≡◌, ℕ, ◌+◌, ◌<◌, ◌^◌, List, [], ◌++◌, length, Some, None, slice_get}
 use Rattle.akl_terms.specs.declared.name.Name.{Name}
 use Rattle.akl_terms.specs.declared.name.Place.{Place}
 use Rattle.akl_terms.specs.declared.program.Definition.{Definition}
@@ -8,11 +8,14 @@ use Rattle.akl_model.specs.declared.label.Label.{Label}
 use Rattle.akl_model.specs.Config.{Atom, an_atom, held_in}
 use Rattle.akl_model.specs.Instances.{terms_from, drawn_by}
 use Rattle.local_store.specs.declared.telling.ToldStore.{ToldStore}
+use Rattle.local_store.specs.Chained.{around}
+use Rattle.body_goals.specs.declared.body.Body.{Body}
+use Rattle.body_goals.specs.Reduced.{IsReduced}
 use Rattle.box_tree.specs.Views.{ViewValue, IsViewOf}
 use Rattle.call_plan.specs.declared.heads.Arguments.{Arguments}
 use Rattle.call_plan.specs.declared.sifting.Left.{Left}
 use Rattle.call_plan.specs.Chosen.{IsChosen}
-use Rattle.call_plan.specs.Owns.{BindsFree}
+use Rattle.call_plan.specs.Owns.{BindsFree, OwnKeepsBound}
 use Rattle.call_plan.specs.Sifted.{store_of}
 use Rattle.call_plan.specs.Ended.{cuts_others, end_labels}
 use Rattle.call_plan.specs.Joins.{Joins}
@@ -36,11 +39,19 @@ pub record Remains (v : ViewValue) (g : Name) (op : Op) (left : Left) (drawn : �
   pub op_is : called.op ≡ op
   pub chosen : IsChosen v.table.program.templates.symbols v.table.program.templates.nodes v.stores arguments v.worker v.next op called.clauses [] labels left
 
--- it joins the box of the call by all labels behind the fork, with few goals
+-- it joins the box of the call by all labels behind the fork up to its promotion, with few goals
 pub record Ends (v : ViewValue) (g : Name) (op : Op) (left : Left) (drawn : ℕ) (more : List Label) (told : ToldStore) : Type 0 where
   pub before : List Label
   pub remains : Remains v g op left drawn before
   pub labels : more ≡ before ++ end_labels g left.name (cuts_others op left.behind.now)
   pub joins : Joins v.table.program.templates.nodes v.stores op (store_of left) told
   pub free : BindsFree v.stores left.own told.bound.items
+  pub kept : OwnKeepsBound v.stores left.own told.store
   pub few_goals : length left.clause.now.body < 2 ^ 32
+
+-- then goals of its body are reduced, and these are left of it
+pub record IsReducedCall (v : ViewValue) (g : Name) (op : Op) (left : Left) (drawn : ℕ) (more : List Label) (told : ToldStore) (body : Body) : Type 0 where
+  pub labels : List Label
+  pub joined : ToldStore
+  pub ends : Ends v g op left drawn labels joined
+  pub reduced : IsReduced v.table.program.templates.symbols v.table.program.templates.nodes (around v.stores) left.frame (v.next + drawn) left.clause.now.body joined told labels more body

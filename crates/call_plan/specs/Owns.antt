@@ -6,7 +6,7 @@ use Rattle.akl_terms.specs.declared.term.Node.{Node}
 use Rattle.local_store.specs.Stored.{Stored}
 use Rattle.local_store.specs.Chained.{bindings_from}
 use Rattle.plain_heads.specs.Plain.{ArePlain}
-use Rattle.plain_heads.specs.Joined.{own_store, AreFree}
+use Rattle.plain_heads.specs.Joined.{own_store, AreFree, KeepsBound}
 use Rattle.call_plan.specs.declared.own.Own.{Own}
 
 -- the store of an alternative with a frame
@@ -23,3 +23,8 @@ IsPlainOwn nodes path frame (Own.Store s) = ⊤
 abbrev pub BindsFree : List Stored → Own → List Var → Type 0
 BindsFree path (Own.Plain bs) xs = AreFree (bindings_from path) xs
 BindsFree path (Own.Store s) xs = ⊤
+
+-- and with a store in the place of the innermost one around them nothing is free that was bound
+abbrev pub OwnKeepsBound : List Stored → Own → Stored → Type 0
+OwnKeepsBound path (Own.Plain bs) store = KeepsBound path store
+OwnKeepsBound path (Own.Store s) store = ⊤

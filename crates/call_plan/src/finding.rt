@@ -7,24 +7,26 @@ ghost use Rattle.akl_terms.specs.declared.term.Node.{Node};
 ghost use Rattle.table_laws.specs.Steps as laws;
 ghost use Rattle.box_tree.specs.declared.view.Sight.{Sight};
 ghost use Rattle.box_tree.specs.Edits.{named_atoms};
+ghost use Rattle.box_tree.specs.Plans.{labels_behind};
 ghost use Rattle.box_tree.specs.Tables.{step_of};
-ghost use Rattle.rule_plan.specs.Made.{named_under};
 ghost use Rattle.local_store.specs.Chained.{IsKnown};
 ghost use Rattle.class_members.specs.Members.{AreMembers};
 ghost use Rattle.call_plan.specs.Owns.{BindsFree};
-ghost use Rattle.call_plan.specs.Called.{IsCalled, Remains, Ends};
+ghost use Rattle.call_plan.specs.Called.{IsCalled, Remains, IsReducedCall};
 ghost use Rattle.call_plan.specs.Found.{IsCallPlan};
 
+use crate::bodies::body_of;
 use crate::choosing::chosen;
 use crate::heads::Arguments;
-use crate::joining::{joined, named_goals};
+use crate::joining::joined;
 use crate::labels::{cuts_others, push_end};
 use crate::names::{MOST, names_of};
 use crate::own::Own;
 use crate::prospects::may_go;
 use crate::sifting::Left;
 use akl_model::{Label, Rule};
-use akl_terms::{Code, Definition, Name, Op, Program, Var};
+use akl_terms::{Definition, Name, Op, Program, Var};
+use body_goals::Body;
 use box_tree::{Plan, Step, View};
 use class_members::members;
 use guard_plan::{goal_and_stores, label_of};
@@ -126,14 +128,17 @@ fn by_left(
         left.frame,
         &left.own,
     )?;
-    let Some(told) = found else {
+    let Some(mut told) = found else {
         return Ok(None);
     };
     push_end(&mut labels, goal, left.name, cuts_others(op, left.behind))?;
-    planned(alloc, program, view, goal, op, left, drawn, labels, told)
+    let body = body_of(alloc, program, view, left, drawn, &mut told, &mut labels)?;
+    planned(
+        alloc, program, view, goal, op, left, drawn, labels, told, body,
+    )
 }
 
-// The plan of a call with these labels behind its fork and this store of its box.
+// The plan of a call with these labels behind its fork, this store of its box and what is left of the clause's body.
 fn planned(
     alloc: Global,
     program: &Program,
@@ -144,21 +149,19 @@ fn planned(
     drawn: u64,
     more: Vec<Label>,
     told: ToldStore,
+    body: Body,
 ) -> Result<Option<Plan>, AllocError>
     requires program { program.now ≡ view.now.table.program }
-    requires ends { Ends view.now goal op left.now drawn more.items told }
+    requires reduced { IsReducedCall view.now goal op left.now drawn more.items told body }
     ensures { IfOk result (λ found. IfSome found (IsCallPlan view.now)) }
 {
     let codes = left.clause.body.as_slice();
-    let count = codes.len() as u64;
-    let names = drawn.checked_add(count).ok_or(AllocError)?;
-    let first = view.next().checked_add(drawn).ok_or(AllocError)?;
-    first.checked_add(count).ok_or(AllocError)?;
+    let names = drawn.checked_add(codes.len() as u64).ok_or(AllocError)?;
     let label = label_of(view, Rule::Fork);
     let chain = view.chain(&program.templates);
     let binds = binds_of(alloc, &chain, &left.own, told.bound.as_slice())?;
     let reads = goal_and_stores(alloc, goal, view.path())?;
-    let step = join_of(alloc, told, left.frame, first, codes)?;
+    let step = join_of(alloc, told, body)?;
     let plan = Plan::of_call(alloc, view, label, more, reads, names, step, binds)?;
     Ok(Some(plan))
 }
@@ -187,23 +190,23 @@ fn copied(alloc: Global, variables: &[Var]) -> Result<Vec<Var>, AllocError>
     Ok(list)
 }
 
-// The step by which a box gets this store and these atoms under a frame as goals.
-fn join_of(
-    alloc: Global,
-    told: ToldStore,
-    frame: Name,
-    first: u64,
-    codes: &[Code],
-) -> Result<Step, AllocError>
-    requires { first + length codes.now < 2 ^ 64 }
-    ensures { IfOk result (λ step. (nodes : List Node) → step_of nodes step ≡ laws.joins told.store told.solved (named_atoms nodes (named_under frame first codes.now))) }
+// The step by which a box gets this store, and what is left of a body as goals.
+fn join_of(alloc: Global, told: ToldStore, body: Body) -> Result<Step, AllocError>
+    ensures joins { IfOk result (λ step. (nodes : List Node) → step_of nodes step ≡ laws.joins told.store told.solved (named_atoms nodes body.goals.items)) }
+    ensures behind { IfOk result (λ step. labels_behind step ≡ (body.told, body.behind)) }
 {
     let ToldStore { store, solved, .. } = told;
-    let goals = named_goals(alloc, frame, first, codes)?;
+    let Body {
+        goals,
+        told,
+        behind,
+    } = body;
     let store = Shared::new(alloc, store)?;
     Ok(Step::Join {
         store,
         solved,
         goals,
+        told,
+        behind,
     })
 }

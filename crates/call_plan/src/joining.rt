@@ -1,16 +1,15 @@
 //! What the alternative of a call that is promoted makes of the box of the call.
 
-ghost use Rattle.std.specs.Prelude.{◌≡◌, ◌+◌, ◌<◌, ◌^◌, ◌∷◌, ◌++◌, [], length, true, IfOk, IfSome};
+ghost use Rattle.std.specs.Prelude.{◌≡◌, ◌+◌, ◌<◌, ◌∷◌, ◌++◌, [], length, true, IfOk, IfSome};
 ghost use Rattle.local_store.specs.Chained.{bindings_from, IsKnown};
 ghost use Rattle.guard_plan.specs.Guards.{KeepsApartInside};
-ghost use Rattle.rule_plan.specs.Made.{named_under};
 ghost use Rattle.plain_heads.specs.Plain.{ArePlain};
-ghost use Rattle.plain_heads.specs.Joined.{own_store, AreFree};
+ghost use Rattle.plain_heads.specs.Joined.{own_store, AreFree, KeepsBound};
 ghost use Rattle.call_plan.specs.Joins.{Joins, HoldsFor};
-ghost use Rattle.call_plan.specs.Owns.{stored, IsPlainOwn, BindsFree};
+ghost use Rattle.call_plan.specs.Owns.{stored, IsPlainOwn, BindsFree, OwnKeepsBound};
 
 use crate::own::Own;
-use akl_terms::{Code, Goal, Name, Op, Templates, Term, Var};
+use akl_terms::{Name, Op, Templates, Term, Var};
 use entail_test::Quietness;
 use guard_plan::{quietness, shared};
 use local_store::{Chain, Shared, Store, ToldStore, promoted};
@@ -32,6 +31,7 @@ pub(crate) fn joined(
     requires plain { IsPlainOwn templates.now.nodes path.now frame own.now }
     ensures joins { IfOk result (λ found. IfSome found (Joins templates.now.nodes path.now op (stored frame own.now))) }
     ensures free { IfOk result (λ found. IfSome found (λ told. BindsFree path.now own.now told.bound.items)) }
+    ensures kept { IfOk result (λ found. IfSome found (λ told. OwnKeepsBound path.now own.now told.store)) }
 {
     match own {
         Own::Plain(bindings) => {
@@ -56,6 +56,7 @@ fn plain_joined(
     requires plain { ArePlain templates.now.nodes (bindings_from path.now) frame bindings.now }
     ensures joins { IfOk result (λ found. IfSome found (Joins templates.now.nodes path.now op (own_store frame bindings.now))) }
     ensures free { IfOk result (λ found. IfSome found (λ told. AreFree (bindings_from path.now) told.bound.items)) }
+    ensures kept { IfOk result (λ found. IfSome found (λ told. KeepsBound path.now told.store)) }
 {
     if let Op::Collect = op {
         return Ok(None);
@@ -101,27 +102,4 @@ fn holds(alloc: Global, op: Op, chain: &Chain) -> Result<bool, AllocError>
         },
         Op::Collect => Ok(false),
     }
-}
-
-// Atoms under a frame as goals, with names of the frame's worker from a number on.
-pub(crate) fn named_goals(
-    alloc: Global,
-    frame: Name,
-    first: u64,
-    codes: &[Code],
-) -> Result<Vec<(Name, Goal)>, AllocError>
-    requires { first + length codes.now < 2 ^ 64 }
-    ensures { IfOk result (λ goals. goals.items ≡ named_under frame first codes.now) }
-{
-    let mut goals = Vec::with_capacity(alloc, codes.len())?;
-    let mut number = first;
-    for code in codes {
-        let name = Name {
-            worker: frame.worker,
-            number,
-        };
-        goals.push((name, Goal { code: *code, frame }))?;
-        number += 1;
-    }
-    Ok(goals)
 }

@@ -1,6 +1,8 @@
-//! Calls at once: from what is seen of a call to all labels up to the goals of the one clause that is left.
+//! Calls at once: from what is seen of a call to all its labels, up to the promotion of the one clause that is left and behind it
+//! those of goals of its body.
 #![tactic(auto)]
 
+mod bodies;
 mod choosing;
 mod finding;
 mod guards;

@@ -1,4 +1,6 @@
 use Rattle.guard_plan.proofs.Sites.{some_stores}
+use Rattle.call_plan.specs.Owns.{stored}
+use Rattle.call_plan.proofs.CalledFacts.{joined_solved}
 use Rattle.call_plan.proofs.Remaining.{last_known, last_apart, last_plain}
 use Rattle.call_plan.proofs.finding.by_left.Goals as goal
 
@@ -13,3 +15,8 @@ joined-requires-clause-apart c = rw (c.stores.ensures, c.requires.program) (last
 
 pub joined-requires-clause-plain : goal.joined-requires-clause-plain
 joined-requires-clause-plain c = rw (c.stores.ensures, c.requires.program) (last_plain c.args.view.now c.args.goal c.args.op c.args.left.now c.args.drawn c.args.labels.items c.requires.remains)
+
+pub body_of-requires-clause-solved : goal.body_of-requires-clause-solved
+body_of-requires-clause-solved c =
+    let joins = rw (c.in-Some.is, c.stores.ensures, c.requires.program) at c.in_ok-found.ensures.joins in
+    joined_solved c.args.view.now.table.program.templates.nodes c.args.view.now.stores c.args.op (stored c.args.left.now.frame c.args.left.now.own) c.in-Some.told joins

@@ -1,6 +1,7 @@
 use Rattle.std.proofs.Common.{◌≡◌, ℕ, ◌+◌, ◌<◌, ◌^◌, length, Option, Some, None, SomeIff, sym, ◌∙◌, rules}
 use Rattle.call_plan.proofs.CalledFacts.{call_known}
 use Rattle.call_plan.proofs.CallFound.{call_right, call_planned}
+use Rattle.call_plan.proofs.CallTold.{reduced_free}
 use Rattle.call_plan.proofs.finding.planned.Goals as goal
 
 sum_is : (r : Option ℕ) (m n s : ℕ) → SomeIff r (m + n < 2 ^ 64) (m + n) → r ≡ Some s → s ≡ m + n
@@ -9,25 +10,24 @@ sum_is (Some x) m n s h e = let k : x ≡ s = cc in sym k ∙ h.1
 
 pub binds_of-requires-clause-known : goal.binds_of-requires-clause-known
 binds_of-requires-clause-known c =
-    let r = c.requires.ends.remains in
+    let r = c.requires.reduced.ends.remains in
     rw (c.chain-chain.ensures.nodes, c.chain-chain.ensures.stores, c.requires.program) (call_known c.args.view.now c.args.goal r.arguments r.called c.args.drawn r.is_called)
 
 pub binds_of-requires-clause-free : goal.binds_of-requires-clause-free
-binds_of-requires-clause-free c = rw (c.chain-chain.ensures.stores, c.as_slice.ensures) c.requires.ends.free
+binds_of-requires-clause-free c =
+    rw (c.chain-chain.ensures.stores, c.as_slice.ensures) (reduced_free c.args.view.now c.args.goal c.args.op c.args.left.now c.args.drawn c.args.more.items c.args.told c.args.body c.requires.reduced)
 
 pub of_call-requires : goal.of_call-requires
 of_call-requires c =
     let names = sum_is c.checked_add.result c.args.drawn (length c.args.left.now.clause.now.body) c.in_ok-names.names (rw c.as_slice-codes.ensures at c.checked_add.ensures) c.in_ok-names.ensures.ok_part in
-    let first = sum_is c.checked_add-2.result c.args.view.now.next c.args.drawn c.in_ok-first.first (rw c.next.ensures at c.checked_add-2.ensures) c.in_ok-first.ensures.ok_part in
-    let joins = rw (c.as_slice-codes.ensures, first) at (c.in_ok-step.ensures c.args.view.now.table.program.templates.nodes) in
+    let joins = c.in_ok-step.ensures.joins c.args.view.now.table.program.templates.nodes in
     let members = rw (c.chain-chain.ensures.nodes, c.chain-chain.ensures.stores, c.as_slice.ensures, c.requires.program) at c.in_ok-binds.ensures in
-    rw (c.label_of-label.ensures.label, c.requires.ends.remains.is_called.is_place, c.in_ok-reads.ensures, c.path.ensures, names)
-    (call_right c.args.view.now c.args.goal c.args.op c.args.left.now c.args.drawn c.args.more.items c.args.told c.requires.ends c.in_ok-step.step c.in_ok-binds.binds.items joins members)
+    rw (c.label_of-label.ensures.label, c.requires.reduced.ends.remains.is_called.is_place, c.in_ok-reads.ensures, c.path.ensures, names)
+    (call_right c.args.view.now c.args.goal c.args.op c.args.left.now c.args.drawn c.args.more.items c.args.told c.args.body c.requires.reduced c.in_ok-step.step c.in_ok-binds.binds.items joins c.in_ok-step.ensures.behind members)
 
 pub returns : goal.returns
 returns c =
     let names = sum_is c.checked_add.result c.args.drawn (length c.args.left.now.clause.now.body) c.in_ok-names.names (rw c.as_slice-codes.ensures at c.checked_add.ensures) c.in_ok-names.ensures.ok_part in
-    let first = sum_is c.checked_add-2.result c.args.view.now.next c.args.drawn c.in_ok-first.first (rw c.next.ensures at c.checked_add-2.ensures) c.in_ok-first.ensures.ok_part in
-    let joins = rw (c.as_slice-codes.ensures, first) at (c.in_ok-step.ensures c.args.view.now.table.program.templates.nodes) in
-    call_planned c.args.view.now c.args.goal c.args.op c.args.left.now c.args.drawn c.args.more.items c.args.told c.requires.ends c.in_ok-plan.plan c.in_ok-step.step c.in_ok-binds.binds.items (search rules)
-    (rw (c.label_of-label.ensures.label, c.requires.ends.remains.is_called.is_place, c.in_ok-reads.ensures, c.path.ensures, names) at c.in_ok-plan.ensures) joins
+    let joins = c.in_ok-step.ensures.joins c.args.view.now.table.program.templates.nodes in
+    call_planned c.args.view.now c.args.goal c.args.op c.args.left.now c.args.drawn c.args.more.items c.args.told c.args.body c.requires.reduced c.in_ok-plan.plan c.in_ok-step.step c.in_ok-binds.binds.items (search rules)
+    (rw (c.label_of-label.ensures.label, c.requires.reduced.ends.remains.is_called.is_place, c.in_ok-reads.ensures, c.path.ensures, names) at c.in_ok-plan.ensures) joins

@@ -8,4 +8,5 @@ returns c = record {
     promoted = c.in_ok-told.ensures.promoted;
   };
   free = c.in_ok-told.ensures.free;
+  kept = c.in_ok-told.ensures.kept;
 }
