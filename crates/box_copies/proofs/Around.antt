@@ -24,10 +24,9 @@ use Rattle.table_laws.specs.Copying.{IsNameCopied, AreNamesCopied, swapping}
 use Rattle.table_laws.proofs.Insides.{IsUnder, under, named_counted}
 use Rattle.table_laws.proofs.Swapping.{swap_other, equations_alike, equations_itself, frames_stand, ports_stand}
 use Rattle.box_tree.specs.declared.inside.InnerBox.{InnerBox}
-use Rattle.box_tree.specs.declared.inside.Inside.{Inside}
 use Rattle.box_tree.specs.Tables.{all_rules, table_of}
 use Rattle.box_tree.specs.Views.{ViewValue, IsViewOf}
-use Rattle.box_tree.specs.Insides.{IsInnerBox, IsInsideOf}
+use Rattle.box_tree.specs.Insides.{IsInnerBox, AreBoxesInside}
 use Rattle.box_copies.specs.Made.{own_names, kept}
 use Rattle.box_copies.proofs.Ordered.{owned_counted}
 use Rattle.box_copies.proofs.Lists.{Among}
@@ -37,7 +36,7 @@ path_less : (m : Name) (A B : List Content) → times_path m A ≤ times_path m 
 path_less m [] B = omega arith
 path_less m (b ∷ A) B = let h : times_path m A ≤ times_path m (A ++ B) = path_less m A B in omega arith
 
-module _ (v : ViewValue) (seen : IsViewOf v) (i : Inside) (n a : Name) (inside : IsInsideOf v.table v.journal n v.worker i) (place : v.place ≡ Place.Box n) where
+module _ (v : ViewValue) (seen : IsViewOf v) (boxes : List InnerBox) (n a : Name) (inside : AreBoxesInside v.table n boxes) (place : v.place ≡ Place.Box n) where
   abbrev roots : Boxes
   roots = seen.table.config.roots
 
@@ -72,13 +71,13 @@ module _ (v : ViewValue) (seen : IsViewOf v) (i : Inside) (n a : Name) (inside :
   -- so none of the names around it is one that is copied
   not_copied : (m : Name) → 0 < times_path m seen.site.around → IsNameCopied (table_of v.table) n a m → ⊥
   not_copied m h c =
-      let w : (b : InnerBox) × Among b (kept a i.boxes.items) × IsIn m (own_names b) = copied_own v seen i n a inside m c in
-      let x : IsInnerBox v.table w.0 = is_inner v seen i n a inside w.0 w.1 in
-      let e : (e : Found) × (box_at w.0.name roots ≡ Some e) × IsBoxRow (table_of v.table) roots e x.row = its_box v seen i n a inside w.0 w.1 in
-      let own : 1 ≤ times m (only e.0) = owned_counted m [] e.0.content e.0.goals (only e.0) (inl (refl, refl, refl)) (its_own v seen i n a inside w.0 w.1 m w.2) in
+      let w : (b : InnerBox) × Among b (kept a boxes) × IsIn m (own_names b) = copied_own v seen boxes n a inside m c in
+      let x : IsInnerBox v.table w.0 = is_inner v seen boxes n a inside w.0 w.1 in
+      let e : (e : Found) × (box_at w.0.name roots ≡ Some e) × IsBoxRow (table_of v.table) roots e x.row = its_box v seen boxes n a inside w.0 w.1 in
+      let own : 1 ≤ times m (only e.0) = owned_counted m [] e.0.content e.0.goals (only e.0) (inl (refl, refl, refl)) (its_own v seen boxes n a inside w.0 w.1 m w.2) in
       let both : times m (only e.0) + times_path m e.0.around ≤ times m roots = found_path m w.0.name roots e.0 e.1 in
       let o : times m roots ≤ 1 = stand.once m in
-      let more : times_path m seen.site.around ≤ times_path m e.0.around = around_more m w.0.name e.0 (is_copied v seen i n a inside w.0 w.1).inside e.1 in
+      let more : times_path m seen.site.around ≤ times_path m e.0.around = around_more m w.0.name e.0 (is_copied v seen boxes n a inside w.0 w.1).inside e.1 in
       omega arith
 
   module _ (names : List Name) (olds : AreNamesCopied (table_of v.table) n a names) where

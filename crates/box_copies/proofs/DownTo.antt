@@ -39,12 +39,11 @@ use Rattle.table_laws.proofs.Frame.{around_stands}
 use Rattle.table_laws.proofs.Insides.{IsUnder, under, goal_row, held_directly}
 use Rattle.box_tree.specs.declared.inside.InnerGoal.{InnerGoal}
 use Rattle.box_tree.specs.declared.inside.InnerBox.{InnerBox}
-use Rattle.box_tree.specs.declared.inside.Inside.{Inside}
 use Rattle.box_tree.specs.declared.step.BoxCopy.{BoxCopy}
 use Rattle.box_tree.specs.Tables.{table_of, box_copy}
 use Rattle.box_tree.specs.Paths.{home_at, outside_of, IsPath}
 use Rattle.box_tree.specs.Views.{ViewValue, IsViewOf}
-use Rattle.box_tree.specs.Insides.{IsInnerBox, IsInsideOf}
+use Rattle.box_tree.specs.Insides.{IsInnerBox, AreBoxesInside}
 use Rattle.box_tree.proofs.Looks.{stores_append}
 use Rattle.box_tree.proofs.Seen.{PathOf, path_found}
 use Rattle.box_tree.proofs.ToldChains.{told_stands}
@@ -80,9 +79,9 @@ module _ (P : Var × Term → Type 0) where
   all_joins bs [] h g = h
   all_joins bs (c ∷ cs) h g = all_joins (joined bs c.0 c.1) cs (all_joined bs c.0 c.1 h g.0) g.1
 
-module _ (v : ViewValue) (seen : IsViewOf v) (i : Inside) (n a : Name) (inside : IsInsideOf v.table v.journal n v.worker i) (place : v.place ≡ Place.Box n) (s : NewNames)
-    (olds : AreNamesCopied (table_of v.table) n a s.old.items) (older : Bool) (ks : List BoxCopy) (are : AreBoxesBy s older n a (kept a i.boxes.items) ks)
-    (lead : older ≡ true → AllByRecursion (LeadsOlderBy (swapped_name s) v.table.program.templates.nodes) (kept a i.boxes.items)) where
+module _ (v : ViewValue) (seen : IsViewOf v) (boxes : List InnerBox) (n a : Name) (inside : AreBoxesInside v.table n boxes) (place : v.place ≡ Place.Box n) (s : NewNames)
+    (olds : AreNamesCopied (table_of v.table) n a s.old.items) (older : Bool) (ks : List BoxCopy) (are : AreBoxesBy s older n a (kept a boxes) ks)
+    (lead : older ≡ true → AllByRecursion (LeadsOlderBy (swapped_name s) v.table.program.templates.nodes) (kept a boxes)) where
   abbrev T : Table
   T = table_of v.table
 
@@ -93,7 +92,7 @@ module _ (v : ViewValue) (seen : IsViewOf v) (i : Inside) (n a : Name) (inside :
   roots = seen.table.config.roots
 
   abbrev some : List InnerBox
-  some = kept a i.boxes.items
+  some = kept a boxes
 
   abbrev swap : Name → Name
   swap = swapped_name s
@@ -105,13 +104,13 @@ module _ (v : ViewValue) (seen : IsViewOf v) (i : Inside) (n a : Name) (inside :
   outer = stores_along T (names_around seen.site)
 
   stands_once : Stand seen.table.config
-  stands_once = stand v seen i n a inside place
+  stands_once = stand v seen boxes n a inside place
 
   site_there : box_at n roots ≡ Some seen.site
-  site_there = there v seen i n a inside place
+  site_there = there v seen boxes n a inside place
 
   abbrev row_of : (b : InnerBox) → Among b some → IsInnerBox v.table b
-  row_of b j = is_inner v seen i n a inside b j
+  row_of b j = is_inner v seen boxes n a inside b j
 
   -- the way out from a box, with the stores of the copies down to its copy
   record LeadsTo (b : InnerBox) (stores : List Stored) : Type 0 where
@@ -127,13 +126,13 @@ module _ (v : ViewValue) (seen : IsViewOf v) (i : Inside) (n a : Name) (inside :
   held_by b j q = on (held_or roots stands_once.once b.name e.0 e.1)
     where
       e : (e : Found) × (box_at b.name roots ≡ Some e) × IsBoxRow T roots e (row_of b j).row
-      e = its_box v seen i n a inside b j
+      e = its_box v seen boxes n a inside b j
 
       its_name : b.name ≡ e.0.content.name
       its_name = box-itself b.name roots e.0 e.1
 
       u : IsUnder T seen.table.config seen.table.unfolds stands_once.once n b.name
-      u = under T seen.table.config seen.table.unfolds stands_once.once n b.name seen.site site_there (is_copied v seen i n a inside b j).inside
+      u = under T seen.table.config seen.table.unfolds stands_once.once n b.name seen.site site_there (is_copied v seen boxes n a inside b j).inside
 
       named : IsIn n (names_down_to e.0)
       named = subst (λ (f : Found). IsIn n (names_down_to f)) (some_value (sym u.is_found ∙ e.1)) u.named
@@ -170,7 +169,7 @@ module _ (v : ViewValue) (seen : IsViewOf v) (i : Inside) (n a : Name) (inside :
       on false q r = let h : (g : Name) × (b.holder ≡ Some g) = held_by b j q in let z : None ≡ Some (swap h.0) = sym r ∙ ap (option_map swap) h.1 in absurd cc
 
   copy_bindings : (b : InnerBox) (j : Among b some) (k : BoxCopy) → IsBoxBy s older n a b k → k.store.bindings ≡ joins [] (map (binding_by swap) b.store.bindings)
-  copy_bindings b j k is = bindings v seen i n a inside s olds older ks are b j k is
+  copy_bindings b j k is = bindings v seen boxes n a inside s olds older ks are b j k is
 
   copy_older : (b : InnerBox) → Among b some → (k : BoxCopy) → IsBoxBy s older n a b k → older ≡ true → EachOlder nodes k.store.bindings
   copy_older b j k is q = subst (EachOlder nodes) (sym (copy_bindings b j k is))
@@ -179,7 +178,7 @@ module _ (v : ViewValue) (seen : IsViewOf v) (i : Inside) (n a : Name) (inside :
   -- the home of a goal directly in a box
   home_is : (b : InnerBox) → Among b some → (g : Name) → IsIn g (map (λ (h : InnerGoal). h.name) b.goals.items) → home_in (T.goal_of g) ≡ Some b.name
   home_is b j g l =
-      let e : (e : Found) × (box_at b.name roots ≡ Some e) × IsBoxRow T roots e (row_of b j).row = its_box v seen i n a inside b j in
+      let e : (e : Found) × (box_at b.name roots ≡ Some e) × IsBoxRow T roots e (row_of b j).row = its_box v seen boxes n a inside b j in
       let d : IsDirectlyIn T b.name g = record { row = (row_of b j).row; there = (row_of b j).there; named = subst (IsIn g) (row_of b j).goals l } in
       let h : (h : Held) × (held_in g e.0.goals ≡ Some h) = held_directly T seen.table.config seen.table.unfolds stands_once.once b.name g e.0 e.1 d in
       let at : home_of g roots ≡ Some e.0 = home_found roots stands_once.once g b.name e.0 h.0 e.1 h.1 in
@@ -209,7 +208,7 @@ module _ (v : ViewValue) (seen : IsViewOf v) (i : Inside) (n a : Name) (inside :
           held = map_some swap b.holder g q
 
           same : held.0 ≡ goal.0
-          same = sym (twice v seen i n a inside s olds older ks are held.0) ∙ ap swap (held.2 ∙ goal.2) ∙ twice v seen i n a inside s olds older ks are goal.0
+          same = sym (twice v seen boxes n a inside s olds older ks are held.0) ∙ ap swap (held.2 ∙ goal.2) ∙ twice v seen boxes n a inside s olds older ks are goal.0
 
           outside : outside_of T b.name ≡ Some c.name
           outside = ap (λ (o : Option _). home_at T (holder_in_row o)) (row_of b j).there ∙ ap (home_at T) (sym (row_of b j).holder ∙ held.1 ∙ ap (λ (m : Name). Some m) same) ∙ home_is c l goal.0 goal.1
@@ -232,12 +231,12 @@ module _ (v : ViewValue) (seen : IsViewOf v) (i : Inside) (n a : Name) (inside :
       subst (IsSolvedChain nodes) (stores_append T to.path (w.0.name ∷ []) ∙ (λ z. to.parts z ++ (ap store_in (row_of w.0 w.2).there ∙ sym (row_of w.0 w.2).store) z ∷ []) ∙ append_assoc outer to.below (w.0.store ∷ []))
       ((row_of w.0 w.2).solved both.0 (to.path ++ w.0.name ∷ []) to.is_path) in
       subst (λ (y : laws.BoxCopy). IsSolvedChain nodes (outer ++ (stores ++ y.store ∷ []))) (sym w.4)
-      (copied_chain swap (twice v seen i n a inside s olds older ks are) nodes (environment seen.site) stays outer (to.below ++ w.0.store ∷ []) (stores ++ w.1.store ∷ []) stands chain
+      (copied_chain swap (twice v seen boxes n a inside s olds older ks are) nodes (environment seen.site) stays outer (to.below ++ w.0.store ∷ []) (stores ++ w.1.store ∷ []) stands chain
       (stores_more swap to.below stores w.0.store w.1.store to.made (copy_bindings w.0 w.2 w.1 w.3))
       (all_more (λ (x : Stored). EachOlder nodes x.bindings) stores w.1.store (to.each both.1) (copy_older w.0 w.2 w.1 w.3 both.1)))
     where
       stays : map (renamed_equation swap) (environment seen.site) ≡ environment seen.site
-      stays = subst (λ (f : Name → Name). map (renamed_equation f) (environment seen.site) ≡ environment seen.site) (λ z. swapping s.old.items (sym same_worker z) (sym same_next z)) (equations_stay v seen i n a inside place s.old.items olds)
+      stays = subst (λ (f : Name → Name). map (renamed_equation f) (environment seen.site) ≡ environment seen.site) (λ z. swapping s.old.items (sym same_worker z) (sym same_next z)) (equations_stay v seen boxes n a inside place s.old.items olds)
 
       stands : StandFor (ToldBy nodes outer) (IsTold (environment seen.site))
       stands = StandFor-on (told_stands nodes outer) (around_stands T seen.table.config stands_once seen.table.unfolds n seen.site site_there)

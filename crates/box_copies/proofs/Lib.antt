@@ -3,6 +3,7 @@ pub mod Orders
 pub mod Ordered
 pub mod Stored
 pub mod Loops
+pub mod Kept
 pub mod Sets
 pub mod Renamers
 pub mod Lists

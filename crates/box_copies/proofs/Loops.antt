@@ -1,11 +1,9 @@
 -- One more turn of each loop that makes a copy.
-use Rattle.std.proofs.Common.{◌≡◌, ℕ, ◌+◌, ◌<◌, List, [], ◌∷◌, ◌++◌, length, map, take, get_or, Bool, true, false, refl, sym, ap, ◌∙◌, subst, append_assoc}
-use Rattle.std.proofs.lemmas.List.{take_more}
+use Rattle.std.proofs.Common.{◌≡◌, ℕ, ◌+◌, ◌<◌, ◌≤◌, List, [], ◌∷◌, ◌++◌, length, map, take, drop, set, get_or, Bool, true, false, refl, sym, ap, ◌∙◌, subst, append_assoc, arith}
+use Rattle.std.proofs.lemmas.List.{take_more, append-nil, take_all, drop_all, drop_more, take_more_set, drop-set-lt}
 use Rattle.std.specs.Prelude.{if◌then◌else◌, not}
 use Rattle.akl_terms.specs.declared.name.Name.{Name}
 use Rattle.std.specs.List.{AllByRecursion}
-use Rattle.akl_terms.specs.declared.name.Var.{Var}
-use Rattle.akl_terms.specs.declared.term.Node.{Node}
 use Rattle.akl_terms.specs.declared.term.Term.{Term}
 use Rattle.akl_terms.specs.Names.{same_name}
 use Rattle.local_store.specs.Stored.{Stored, with_frame, with_port}
@@ -24,6 +22,16 @@ map_more f (y ∷ xs) x = ap (λ (l : List _). f y ∷ l) (map_more f xs x)
 
 pub taken : {A B : Type 0} (f : A → B) (xs : List A) (i : ℕ) (d : A) → i < length xs → map f (take (i + 1) xs) ≡ map f (take i xs) ++ f (get_or xs i d) ∷ []
 taken f xs i d h = ap (map f) (take_more xs i d h) ∙ map_more f (take i xs) (get_or xs i d)
+
+-- elements that are changed in their places
+pub changed_next : {A : Type 0} (f : A → A) (all xs : List A) (i : ℕ) (d y : A) → i < length xs → y ≡ f (get_or xs i d) → all ≡ take i xs ++ map f (drop i xs) → all ≡ take (i + 1) (set xs i y) ++ map f (drop (i + 1) (set xs i y))
+changed_next f all xs i d y h q a =
+    let onward : i < i + 1 = omega arith in
+    a ∙ ap (λ (l : List _). take i xs ++ map f l) (drop_more xs i d h) ∙ ap (λ (z : _). take i xs ++ z ∷ map f (drop (i + 1) xs)) (sym q) ∙ sym (append_assoc (take i xs) (y ∷ []) (map f (drop (i + 1) xs)))
+    ∙ (λ j. sym (take_more_set xs i y h) j ++ map f (sym (drop-set-lt (i + 1) xs i y onward) j))
+
+pub changed_all : {A : Type 0} (f : A → A) (all xs : List A) (i : ℕ) → length xs ≤ i → all ≡ take i xs ++ map f (drop i xs) → xs ≡ all
+changed_all f all xs i h a = sym (a ∙ (λ j. take_all i xs h j ++ map f (drop_all i xs h j)) ∙ append-nil xs)
 
 -- stores
 

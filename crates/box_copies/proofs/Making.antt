@@ -34,13 +34,12 @@ use Rattle.table_laws.proofs.Swapping.{swap_renames, swap_twice}
 use Rattle.table_laws.proofs.Copies.{IsAmong, among_found, found_among}
 use Rattle.box_tree.specs.declared.inside.InnerGoal.{InnerGoal}
 use Rattle.box_tree.specs.declared.inside.InnerBox.{InnerBox}
-use Rattle.box_tree.specs.declared.inside.Inside.{Inside}
 use Rattle.box_tree.specs.declared.step.BoxCopy.{BoxCopy}
 use Rattle.box_tree.specs.Tables.{all_rules, table_of, goal_atom, shown_tree, box_copy}
 use Rattle.box_tree.specs.Views.{ViewValue, IsViewOf, run_of}
-use Rattle.box_tree.specs.Insides.{IsInnerBox, IsInsideOf}
+use Rattle.box_tree.specs.Insides.{IsInnerBox, AreBoxesInside}
 use Rattle.box_copies.specs.declared.names.NewNames.{NewNames}
-use Rattle.box_copies.specs.Copies.{IsInsideOfBox}
+use Rattle.box_copies.specs.Copies.{AreBoxesOf}
 use Rattle.box_copies.specs.Swaps.{AreBelow}
 use Rattle.box_copies.specs.Renamer.{swapped_name, port_by, binding_by, with_frames, with_ports}
 use Rattle.box_copies.specs.Made.{Adds, own_names, kept, kept_names, IsBoxBy, AreBoxesBy}
@@ -65,15 +64,12 @@ map_alike : (f h : Name → Name) (xs : List Name) → ((x : Name) → IsIn x xs
 map_alike f h [] e = refl
 map_alike f h (x ∷ xs) e = λ i. e x (inl refl) i ∷ map_alike f h xs (λ y j. e y (inr j)) i
 
-module _ (v : ViewValue) (seen : IsViewOf v) (i : Inside) (n a : Name) (inside : IsInsideOf v.table v.journal n v.worker i) where
+module _ (v : ViewValue) (seen : IsViewOf v) (boxes : List InnerBox) (n a : Name) (inside : AreBoxesInside v.table n boxes) where
   abbrev T : Table
   T = table_of v.table
 
   abbrev nodes : List Node
   nodes = v.table.program.templates.nodes
-
-  abbrev boxes : List InnerBox
-  boxes = i.boxes.items
 
   abbrev some : List InnerBox
   some = kept a boxes
@@ -172,7 +168,7 @@ module _ (v : ViewValue) (seen : IsViewOf v) (i : Inside) (n a : Name) (inside :
 
   -- the copies
 
-  module _ (s : NewNames) (olds : AreNamesCopied T n a s.old.items) (older : Bool) (ks : List BoxCopy) (are : AreBoxesBy s older n a (kept a i.boxes.items) ks) where
+  module _ (s : NewNames) (olds : AreNamesCopied T n a s.old.items) (older : Bool) (ks : List BoxCopy) (are : AreBoxesBy s older n a (kept a boxes) ks) where
     abbrev swap : Name → Name
     swap = swapped_name s
 
@@ -203,7 +199,7 @@ module _ (v : ViewValue) (seen : IsViewOf v) (i : Inside) (n a : Name) (inside :
 
     -- the copy of a box
 
-    module _ (b : InnerBox) (j : Among b (kept a i.boxes.items)) (k : BoxCopy) (is : IsBoxBy s older n a b k) where
+    module _ (b : InnerBox) (j : Among b (kept a boxes)) (k : BoxCopy) (is : IsBoxBy s older n a b k) where
       abbrev x : IsInnerBox v.table b
       x = is_inner b j
 
@@ -292,5 +288,5 @@ module _ (v : ViewValue) (seen : IsViewOf v) (i : Inside) (n a : Name) (inside :
 box_is : (v : ViewValue) (n m : Name) → v.place ≡ Place.Box n → v.place ≡ Place.Box m → n ≡ m
 box_is v n m e q = let r : Place.Box n ≡ Place.Box m = sym e ∙ q in cc
 
-pub inside_of : (v : ViewValue) (i : Inside) (x : IsInsideOfBox v i) (n : Name) → v.place ≡ Place.Box n → IsInsideOf v.table v.journal n v.worker i
-inside_of v i x n e = subst (λ (m : Name). IsInsideOf v.table v.journal m v.worker i) (box_is v x.name n x.place e) x.inside
+pub inside_of : (v : ViewValue) (bs : List InnerBox) (x : AreBoxesOf v bs) (n : Name) → v.place ≡ Place.Box n → AreBoxesInside v.table n bs
+inside_of v bs x n e = subst (λ (m : Name). AreBoxesInside v.table m bs) (box_is v x.name n x.place e) x.boxes

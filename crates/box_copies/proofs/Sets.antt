@@ -42,10 +42,6 @@ parts_listed old own frames ports goals one two three four a b c d =
     d ∙ ap (λ (l : List Name). l ++ goals) (c ∙ ap (λ (l : List Name). l ++ ports) (b ∙ ap (λ (l : List Name). l ++ frames) a))
     ∙ append_assoc ((old ++ own ∷ []) ++ frames) ports goals ∙ append_assoc (old ++ own ∷ []) frames (ports ++ goals) ∙ append_assoc old (own ∷ []) (frames ++ (ports ++ goals))
 
-pub same_names : (xs : List Name) → map (λ (n : Name). n) xs ≡ xs
-same_names [] = refl
-same_names (x ∷ xs) = ap (λ (l : List Name). x ∷ l) (same_names xs)
-
 pub on_ok : {X E : Type 0} (P Q : Type 0) (r : Result X E) → (P → Q) → OnOk r P → OnOk r Q
 on_ok P Q (Ok x) f p = f p
 on_ok P Q (Err e) f p = p

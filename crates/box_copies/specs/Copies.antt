@@ -7,10 +7,11 @@ use Rattle.local_store.specs.Stored.{Stored}
 use Rattle.local_store.specs.Chained.{around, IsSolvedChain}
 use Rattle.table_laws.specs.Steps as laws
 use Rattle.table_laws.specs.Copying.{AreNamesCopied, swapping, AreMade}
+use Rattle.box_tree.specs.declared.inside.InnerBox.{InnerBox}
 use Rattle.box_tree.specs.declared.inside.Inside.{Inside}
 use Rattle.box_tree.specs.Tables.{table_of, box_copy}
 use Rattle.box_tree.specs.Views.{ViewValue}
-use Rattle.box_tree.specs.Insides.{IsInsideOf}
+use Rattle.box_tree.specs.Insides.{AreBoxesInside, IsInsideOf}
 use Rattle.box_copies.specs.declared.copying.Copied.{Copied}
 
 -- all that stands in the box that was looked at and inside it
@@ -18,6 +19,12 @@ pub record IsInsideOfBox (v : ViewValue) (i : Inside) : Type 0 where
   pub name : Name
   pub place : v.place ≡ Place.Box name
   pub inside : IsInsideOf v.table v.journal name v.worker i
+
+-- the box that was looked at and all boxes inside it
+pub record AreBoxesOf (v : ViewValue) (bs : List InnerBox) : Type 0 where
+  pub name : Name
+  pub place : v.place ≡ Place.Box name
+  pub boxes : AreBoxesInside v.table name bs
 
 -- where a copy counts as solved, the stores of the copies down to it are solved over these around
 abbrev pub AreSolvedOver : List Node → List Stored → List laws.BoxCopy → Type 0

@@ -3,14 +3,14 @@
 ghost use Rattle.std.specs.Prelude.{◌≡◌, IfOk, MatchOption, true};
 ghost use Rattle.box_copies.specs.Renamer.{swapped_name};
 ghost use Rattle.box_copies.specs.Made.{holder_by, kept, LeadsOlder, IsBoxBy, AreCopiedBy, AreCopies};
-ghost use Rattle.box_copies.specs.Copies.{IsInsideOfBox, IsSplitInto};
+ghost use Rattle.box_copies.specs.Copies.{AreBoxesOf, IsSplitInto};
 
 use crate::gathering::copied_names;
 use crate::goals::{copied_body, copied_goals, copied_shown, swapped_collected};
 use crate::names::NewNames;
 use crate::stores::copied_store;
 use akl_terms::{Name, Place, Templates};
-use box_tree::{BoxCopy, InnerBox, Inside, View};
+use box_tree::{BoxCopy, InnerBox, View};
 use local_store::Shared;
 use std::alloc::{AllocError, Global};
 
@@ -120,17 +120,16 @@ pub fn copies_of(
     alloc: Global,
     templates: &Templates,
     view: &View,
-    inside: &Inside,
+    boxes: &[InnerBox],
     alternative: Name,
 ) -> Result<Copied, AllocError>
     requires templates { templates.now.nodes ≡ view.now.table.program.templates.nodes }
-    requires inside { IsInsideOfBox view.now inside.now }
+    requires boxes { AreBoxesOf view.now boxes.now }
     ensures { IfOk result (IsSplitInto view.now alternative) }
 {
     let Place::Box(name) = view.place() else {
         unreachable!();
     };
-    let boxes = inside.boxes.as_slice();
     let old = copied_names(alloc, boxes, alternative)?;
     let count = old.len() as u64;
     let names = NewNames::new(alloc, old, view.worker(), view.next())?;
