@@ -172,8 +172,8 @@ module _ (v : ViewValue) (i : IsViewOf v) (n : Name) (at : v.place ≡ Place.Box
   pub box_watches : Watches (λ (j : Item). IsRead (map Item.Goals around ++ sets_in inside.boxes.items) (by_goals j)) v.place i.site
   box_watches = subst (λ (q : Place). Watches (λ (j : Item). IsRead (map Item.Goals around ++ sets_in inside.boxes.items) (by_goals j)) q i.site) (sym at) (
     each_item (IsRead (map Item.Store around ++ items_in inside.boxes.items)) (λ (j : Item). IsRead (map Item.Goals around ++ sets_in inside.boxes.items) (by_goals j)) (by_split around inside.boxes.items) (only i.site)
-        (all_read v i n same_name inside x around is_around).0,
-    λ m h. by_split around inside.boxes.items (Item.Store m) ((all_read v i n same_name inside x around is_around).1 m h),
+        (all_read v i n same_name inside.boxes.items x.boxes around is_around).0,
+    λ m h. by_split around inside.boxes.items (Item.Store m) ((all_read v i n same_name inside.boxes.items x.boxes around is_around).1 m h),
   )
 
   pub box_reads_there : (j : Item) → IsRead (map Item.Goals around ++ sets_in inside.boxes.items) j → IsSome (stamp_in (table_of v.table) j)
@@ -183,5 +183,5 @@ module _ (v : ViewValue) (i : IsViewOf v) (n : Name) (at : v.place ≡ Place.Box
         subst (λ (k : Item). IsSome (stamp_in (table_of v.table) k)) (sym w.2)
         (set_there (table_of v.table) w.0 (store_there (table_of v.table) i.table.config (stand v i) i.table.unfolds i.site (found v i) w.0
         (IsIn-left w.0 (names_around i.site) (i.site.content.name ∷ []) (subst (IsIn w.0) is_around w.1))))
-    | inr y ↦ reads_there v i n same_name inside x around is_around j (read_right (map Item.Store around) (items_in inside.boxes.items) j (sets_in_items inside.boxes.items j y))
+    | inr y ↦ reads_there v i n same_name inside.boxes.items x.boxes around is_around j (read_right (map Item.Store around) (items_in inside.boxes.items) j (sets_in_items inside.boxes.items j y))
   ]

@@ -17,10 +17,9 @@ use Rattle.table_laws.specs.Stamped.{store_stamp, goals_stamp, goal_stamp, stamp
 use Rattle.table_laws.proofs.Frame.{row_of}
 use Rattle.box_tree.specs.declared.inside.InnerGoal.{InnerGoal}
 use Rattle.box_tree.specs.declared.inside.InnerBox.{InnerBox}
-use Rattle.box_tree.specs.declared.inside.Inside.{Inside}
 use Rattle.box_tree.specs.Tables.{TableValue, table_of, goals_in}
 use Rattle.box_tree.specs.Views.{ViewValue, IsViewOf}
-use Rattle.box_tree.specs.Insides.{IsInnerGoal, IsInnerBox, IsInsideOf}
+use Rattle.box_tree.specs.Insides.{IsInnerGoal, IsInnerBox, AreBoxesInside}
 use Rattle.box_tree.specs.Plans.{IsRead}
 use Rattle.guard_plan.proofs.Sites.{store_there, stand, found}
 use Rattle.guard_plan.proofs.ReadItems.{read_store, stores_read}
@@ -108,36 +107,36 @@ mutual
   items_among U around (atom g a gs) f e = (f g (inl refl), items_among U around gs (λ k i. f k (inr i)) e)
   items_among U around (choice g o bs gs) f e = (f g (inl refl), items_of U around bs e.0, items_among U around gs (λ k i. f k (inr i)) e.1)
 
-module _ (v : ViewValue) (i : IsViewOf v) (n : Name) (is_name : n ≡ i.site.content.name) (inside : Inside) (x : IsInsideOf v.table v.journal n v.worker inside) (around : List Name) (is_around : around ≡ names_around i.site) where
+module _ (v : ViewValue) (i : IsViewOf v) (n : Name) (is_name : n ≡ i.site.content.name) (boxes : List InnerBox) (x : AreBoxesInside v.table n boxes) (around : List Name) (is_around : around ≡ names_around i.site) where
   abbrev pub reads : List Item
-  reads = map Item.Store around ++ items_in inside.boxes.items
+  reads = map Item.Store around ++ items_in boxes
 
-  listed : (u : Found) → IsDown i.table.config (stand v i) i.site.content.name i.site (found v i) u → HasItems (IsRead (map Item.Store around ++ items_in inside.boxes.items)) u
+  listed : (u : Found) → IsDown i.table.config (stand v i) i.site.content.name i.site (found v i) u → HasItems (IsRead (map Item.Store around ++ items_in boxes)) u
   listed u d = (past (Item.Store u.content.name) w.0, past (Item.Goals u.content.name) w.1, λ g j. past (Item.Goal g) (w.2 g (subst (IsIn g) (sym r.2.goals) j)))
     where
       r : (r : BoxRow) × ((table_of v.table).box_of u.content.name ≡ Some r) × IsBoxRow (table_of v.table) i.table.config.roots u r
       r = row_of (table_of v.table) i.table.config i.table.unfolds u.content.name u d.there
 
-      w : OwnItems (IsRead (items_in inside.boxes.items)) u.content.name r.0.goals
-      w = read_box v.table inside.boxes.items x.boxes u.content.name
+      w : OwnItems (IsRead (items_in boxes)) u.content.name r.0.goals
+      w = read_box v.table boxes x.boxes u.content.name
           (x.listed.each u.content.name (subst (λ (m : Name). IsInside (table_of v.table) m u.content.name) (sym is_name) (is_inside (table_of v.table) i.table.config (stand v i) i.table.unfolds i.site.content.name i.site (found v i) u d))) r.0 r.1
 
-      past : (j : Item) → IsRead (items_in inside.boxes.items) j → IsRead (map Item.Store around ++ items_in inside.boxes.items) j
-      past j h = read_right (map Item.Store around) (items_in inside.boxes.items) j h
+      past : (j : Item) → IsRead (items_in boxes) j → IsRead (map Item.Store around ++ items_in boxes) j
+      past j h = read_right (map Item.Store around) (items_in boxes) j h
 
-  pub all_read : EachItem (IsRead (map Item.Store around ++ items_in inside.boxes.items)) (only i.site) × ((m : Name) → IsIn m (names_around i.site) → IsRead (map Item.Store around ++ items_in inside.boxes.items) (Item.Store m))
+  pub all_read : EachItem (IsRead (map Item.Store around ++ items_in boxes)) (only i.site) × ((m : Name) → IsIn m (names_around i.site) → IsRead (map Item.Store around ++ items_in boxes) (Item.Store m))
   all_read = (
-    items_of (IsRead (map Item.Store around ++ items_in inside.boxes.items)) i.site.around (only i.site)
-        (each_down i.table.config (stand v i) i.site.content.name i.site (found v i) (HasItems (IsRead (map Item.Store around ++ items_in inside.boxes.items))) listed),
-    λ m h. read_left (map Item.Store around) (items_in inside.boxes.items) (Item.Store m) (read_store around m (subst (IsIn m) (sym is_around) h)),
+    items_of (IsRead (map Item.Store around ++ items_in boxes)) i.site.around (only i.site)
+        (each_down i.table.config (stand v i) i.site.content.name i.site (found v i) (HasItems (IsRead (map Item.Store around ++ items_in boxes))) listed),
+    λ m h. read_left (map Item.Store around) (items_in boxes) (Item.Store m) (read_store around m (subst (IsIn m) (sym is_around) h)),
   )
 
-  pub reads_there : (j : Item) → IsRead (map Item.Store around ++ items_in inside.boxes.items) j → IsSome (stamp_in (table_of v.table) j)
-  reads_there j h = elim (read_either (map Item.Store around) (items_in inside.boxes.items) j h) [
+  pub reads_there : (j : Item) → IsRead (map Item.Store around ++ items_in boxes) j → IsSome (stamp_in (table_of v.table) j)
+  reads_there j h = elim (read_either (map Item.Store around) (items_in boxes) j h) [
     | inl y ↦
         let w : (m : Name) × IsIn m around × (j ≡ Item.Store m) = stores_read around j y in
         subst (λ (k : Item). IsSome (stamp_in (table_of v.table) k)) (sym w.2)
         (store_there (table_of v.table) i.table.config (stand v i) i.table.unfolds i.site (found v i) w.0
         (IsIn-left w.0 (names_around i.site) (i.site.content.name ∷ []) (subst (IsIn w.0) is_around w.1)))
-    | inr y ↦ boxes_there v.table inside.boxes.items x.boxes j y
+    | inr y ↦ boxes_there v.table boxes x.boxes j y
   ]

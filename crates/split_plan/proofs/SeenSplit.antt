@@ -15,13 +15,17 @@ use Rattle.box_tree.specs.Insides.{IsInsideOf}
 use Rattle.guard_plan.specs.Planned.{HasNoRule}
 use Rattle.stable_test.specs.Seen.{IsSeenInside}
 use Rattle.stable_test.proofs.StillInside.{still_inside}
-use Rattle.box_copies.specs.Copies.{IsInsideOfBox}
+use Rattle.stable_test.proofs.StillRoot.{still_root}
+use Rattle.box_copies.specs.Copies.{IsInsideOfBox, AreBoxesOf}
 use Rattle.split_plan.specs.Split.{IsStill, HasNoSplit}
 use Rattle.split_plan.proofs.CandidateRows.{there, no_split}
 
 front_taken : (ns : List Name) (n : Name) → take (length ns) (ns ++ n ∷ []) ≡ ns
 front_taken [] n = refl
 front_taken (m ∷ ns) n = ap (λ (l : List Name). m ∷ l) (front_taken ns n)
+
+pub boxes_of : (v : ViewValue) (inside : Inside) → IsInsideOfBox v inside → AreBoxesOf v inside.boxes.items
+boxes_of v inside x = record { name = x.name; place = x.place; boxes = x.inside.boxes }
 
 module _ (v : ViewValue) (i : IsViewOf v) where
   pub long : length v.path - 1 ≡ length (names_around i.site)
@@ -57,6 +61,13 @@ module _ (v : ViewValue) (i : IsViewOf v) where
   unstable inside x p same depth d stable h e = no_split v i x.name x.place (λ a s k.
       let t : stable ≡ true = (h (seen_inside x.name x.place inside x.inside p same depth d)).1 (subst (λ (q : Program). IsStable q i.site) (sym same) s) in
       let z : false ≡ true = sym e ∙ t in cc)
+
+  -- a root box where no rule applies and no place inside is ready is stable
+  pub still_site : length v.path ≡ 1 → IsStill v → (n : Name) → v.place ≡ Place.Box n → IsStable v.table.program i.site
+  still_site alone still n e = still_root v i n (there v i n e) deep (λ l d a q split. still.none.none i.table l d a (q ∙ sym e) split) ((still.inside n e).none i.table)
+    where
+      deep : length i.site.around ≡ 0
+      deep = let k : length v.path - 1 ≡ length i.site.around = long ∙ length-map i.site.around (λ (b : Content). b.name) in omega (arith, alone, k)
 
   pub stable_site : (inside : Inside) → IsInsideOfBox v inside → (p : Program) → p ≡ v.table.program → (depth : ℕ) → depth ≡ length v.path - 1 → (stable : Bool)
       → ((s : IsSeenInside p depth inside) → IsTrue stable ↔ IsStable p s.site) → stable ≡ true → IsStable v.table.program i.site

@@ -4,4 +4,4 @@
 mod planning;
 mod reading;
 
-pub use planning::plan_split;
+pub use planning::{plan_root_split, plan_split};

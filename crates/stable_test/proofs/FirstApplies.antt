@@ -39,5 +39,5 @@ module _ (p : PlanValue) (r : IsRightCall p) where
   }
 
 pub first_applies : (p : PlanValue) → IsRight p → FirstApplies p
-first_applies p (of_label alone r) = record { table = r.table; result = r.result; applies = r.applies }
+first_applies p (of_label alone none r) = record { table = r.table; result = r.result; applies = r.applies }
 first_applies p (of_call r) = call_applies p r

@@ -1,5 +1,6 @@
 -- A chain with one more store: what is told before a depth, what is told in all, and the frames from the depth on.
 use Rattle.std.proofs.Common.{◌≡◌, ℕ, zero, suc, ◌+◌, ◌≤◌, arith, ℤ, List, [], ◌∷◌, ◌++◌, length, take, drop, refl, sym, ◌∙◌, ap, subst, ◌⊎◌, inl, inr, append_assoc}
+use Rattle.std.proofs.lemmas.List.{take_all}
 use Rattle.akl_terms.specs.declared.name.Var.{Var}
 use Rattle.akl_terms.specs.declared.term.Node.{Node}
 use Rattle.akl_terms.specs.declared.term.Term.{Term}
@@ -11,8 +12,10 @@ use Rattle.akl_terms.proofs.EqualLaws.{IsTold-left, IsTold-right, IsTold-either}
 use Rattle.akl_terms.proofs.StandingLaws.{StandFor-follows}
 use Rattle.akl_model.proofs.QuietGrows.{IsLocal-left, IsLocal-right}
 use Rattle.rational_unify.specs.Solving.{bindings_in}
+use Rattle.rational_unify.specs.Forms.{IsFormOf}
+use Rattle.rational_unify.specs.Older.{LeadOlder}
 use Rattle.local_store.specs.Stored.{Stored, joined, with_binding}
-use Rattle.local_store.specs.Chained.{bindings_from, ToldBy, IsSolvedChain, IsKnown}
+use Rattle.local_store.specs.Chained.{bindings_from, ToldBy, BindOnce, IsSolvedChain, IsKnown}
 use Rattle.local_store.proofs.Layers.{from-last, bindings-either, bindings-left, bindings-right, told-split, told-take, told-drop}
 use Rattle.guard_plan.proofs.Chains.{long_push}
 use Rattle.entail_test.specs.Asked.{frames_from, environment_at, own_at, whole_at}
@@ -44,6 +47,33 @@ known_more nodes ss s known h = record {
   within = let l : length (ss ++ s ∷ []) ≡ length ss + 1 = long_push ss s in let x : known ≤ length ss = h.within in omega arith;
   each = λ k q. subst (IsSolvedChain nodes) (sym (take_front ss (s ∷ []) k (let x : known ≤ length ss = h.within in omega arith))) (h.each k q);
 }
+
+one_more : (k n : ℕ) → k ≤ n + 1 → (k ≤ n) ⊎ (k ≡ n + 1)
+one_more zero n h = inl (omega arith)
+one_more (suc zero) zero h = inr refl
+one_more (suc (suc k)) zero h = absurd (omega arith)
+one_more (suc k) (suc n) h = elim (one_more k n (omega arith)) [ inl l ↦ inl (omega arith) | inr e ↦ inr (let q : k ≡ n + 1 = e in omega arith) ]
+
+same_solved : (nodes : List Node) (ss ts : List Stored) → bindings_from ss ≡ bindings_from ts → IsSolvedChain nodes ss → IsSolvedChain nodes ts
+same_solved nodes ss ts e h = record {
+  form = subst (λ (bs : List (Var × Term)). IsFormOf nodes bs (IsTold (bindings_in nodes bs))) e h.form;
+  older = subst (LeadOlder nodes) e h.older;
+  once = subst BindOnce e h.once;
+}
+
+-- one that binds nothing leaves all solved
+pub known_unbound : (nodes : List Node) (ss : List Stored) (s : Stored) → s.bindings ≡ [] → IsKnown nodes ss (length ss) → IsKnown nodes (ss ++ s ∷ []) (length ss + 1)
+known_unbound nodes ss s none h = record {
+  within = let l : length (ss ++ s ∷ []) ≡ length ss + 1 = long_push ss s in omega arith;
+  each = λ k q. elim (one_more k (length ss) q) [
+    | inl l ↦ subst (IsSolvedChain nodes) (sym (take_front ss (s ∷ []) k l)) (h.each k l)
+    | inr e ↦ subst (IsSolvedChain nodes) (sym (ap (λ (j : ℕ). take j (ss ++ s ∷ [])) (e ∙ sym (long_push ss s)) ∙ take_all (length (ss ++ s ∷ [])) (ss ++ s ∷ []) (omega arith)))
+        (same_solved nodes ss (ss ++ s ∷ []) (sym (from-last ss s ∙ ap (λ (bs : List (Var × Term)). bs ++ bindings_from ss) none)) (subst (IsSolvedChain nodes) (take_all (length ss) ss (omega arith)) (h.each (length ss) (omega arith))))
+  ];
+}
+
+pub known_fewer : (nodes : List Node) (ss : List Stored) (m n : ℕ) → m ≤ n → IsKnown nodes ss n → IsKnown nodes ss m
+known_fewer nodes ss m n l h = record { within = let x : n ≤ length ss = h.within in omega arith; each = λ k q. h.each k (omega arith) }
 
 frames_either : (M N : List Stored) (x : Var) → IsLocal (frames_from (M ++ N)) x → IsLocal (frames_from M) x ⊎ IsLocal (frames_from N) x
 frames_either [] N x l = inr l

@@ -17,6 +17,7 @@ pub mod StableSite
 pub mod StableViews
 pub mod RootStable
 pub mod StillInside
+pub mod StillRoot
 pub mod Read
 pub mod InnerViews
 pub mod InsideTouched

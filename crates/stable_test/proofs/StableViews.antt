@@ -63,14 +63,14 @@ module _ (p : Program) (depth : ℕ) (i : Inside) (s : IsSeenInside p depth i) w
   frame_to x l = elim (all_local nothing i.boxes.items x l) [
     | inl z ↦ absurd z
     | inr k ↦
-        let w : _ = box_frame s.table i.boxes.items s.inside.boxes x k in
-        has_frame (table_of s.table) s.run.config stands s.run.unfolds s.name s.site s.is_site x (record { box = w.0; inside = s.inside.listed.inside w.0 w.1; frame = w.2 })
+        let w : _ = box_frame s.table i.boxes.items s.inside.boxes.boxes x k in
+        has_frame (table_of s.table) s.run.config stands s.run.unfolds s.name s.site s.is_site x (record { box = w.0; inside = s.inside.boxes.listed.inside w.0 w.1; frame = w.2 })
   ]
 
   frame_from : (x : Var) → IsLocal (frames_of (only s.site)) x → IsLocal (with_all_frames nothing i.boxes.items).frames x
   frame_from x l =
       let h : HasFrame (table_of s.table) s.run.config stands s.run.unfolds s.name s.site s.is_site x = frame_has (table_of s.table) s.run.config stands s.run.unfolds s.name s.site s.is_site x l in
-      local_all nothing i.boxes.items x (inr (frame_box s.table i.boxes.items s.inside.boxes x h.box (s.inside.listed.each h.box h.inside) h.frame))
+      local_all nothing i.boxes.items x (inr (frame_box s.table i.boxes.items s.inside.boxes.boxes x h.box (s.inside.boxes.listed.each h.box h.inside) h.frame))
 
   -- one view
   module _ (v : ViewValue) (w : IsViewInside s.table s.journal s.name s.worker v) where

@@ -10,7 +10,7 @@ use Rattle.akl_terms.proofs.EqualLaws.{IsConsistent-follows, IsTold-left}
 use Rattle.akl_terms.specs.Decided.{Contradicts}
 use Rattle.akl_model.specs.declared.label.Rule.{Rule}
 use Rattle.akl_model.specs.declared.label.Label.{Label}
-use Rattle.akl_model.specs.Config.{IsIn, Content, Boxes, no_boxes, Goals, Config, Found, equations_of, environment, whole, box_at, home_of, site_of}
+use Rattle.akl_model.specs.Config.{IsIn, Content, Held, held_in, Boxes, no_boxes, Goals, Config, Found, equations_of, environment, whole, box_at, home_of, site_of}
 use Rattle.akl_model.specs.Rules.{nothing, Change}
 use Rattle.akl_model.specs.Conditions.{Makes}
 use Rattle.akl_model.specs.Stable.{Allows}
@@ -22,7 +22,8 @@ use Rattle.akl_model.proofs.QuietGrows.{equations-snoc}
 use Rattle.constraint_laws.proofs.Decided.{consistent_or}
 use Rattle.sleep_laws.proofs.BoxSleeps.{fail_ready}
 use Rattle.step_laws.proofs.Deeper.{in_path, chain_at}
-use Rattle.step_laws.proofs.Whereabouts.{found_in}
+use Rattle.step_laws.proofs.Whereabouts.{found_in, in_home}
+use Rattle.akl_model.proofs.Options.{some_value}
 use Rattle.table_laws.specs.Stamped.{IsTableOf}
 use Rattle.box_tree.specs.Tables.{TableValue, all_rules, table_of}
 use Rattle.box_tree.specs.declared.inside.Inside.{Inside}
@@ -91,6 +92,33 @@ module _ (v : ViewValue) (i : IsViewOf v) (n : Name) (f : Found) (e : box_at n i
   environment_consistent : (d : Found) → IsDown i.table.config (stand v i) n f e d → (f ≡ d) ⊎ IsBelow i.table.config (stand v i) n f e d → IsConsistent (environment d)
   environment_consistent d h (inl q) = subst (λ (k : Found). IsConsistent (environment k)) q (front_consistent (environment f) f.content.equations consistent)
   environment_consistent d h (inr b) = along d h [] b.rest (b.around ∙ sym (append_assoc f.around (f.content ∷ []) b.rest)) (subst IsConsistent (sym (equations-snoc f.around f.content)) consistent)
+
+  -- no rule applies at such a place
+  none_at : (d : Found) → IsDown i.table.config (stand v i) n f e d → (place : Place) → site_of place roots ≡ Some d → StandsIn n roots place → NoneAppliesAt all_rules v.table.program i.table.config place
+  none_at d h place at stands l c a q split = unready place stands (record {
+    label = l;
+    is_place = q;
+    result = c;
+    applies = a;
+    counts = λ x. x.inconsistent (subst (λ (k : Found). IsConsistent (environment k)) same (environment_consistent d h (below i.table.config (stand v i) n f e d h)));
+  })
+    where
+      same : d ≡ a.site
+      same = some_value (sym at ∙ ap (λ (k : Place). site_of k roots) (sym q) ∙ a.is_site)
+
+  pub none_at_box : (d : Found) → IsDown i.table.config (stand v i) n f e d → NoneAppliesAt all_rules v.table.program i.table.config (Place.Box d.content.name)
+  none_at_box d h = on (below i.table.config (stand v i) n f e d h)
+    where
+      on : (f ≡ d) ⊎ IsBelow i.table.config (stand v i) n f e d → NoneAppliesAt all_rules v.table.program i.table.config (Place.Box d.content.name)
+      on (inl q) = subst (λ (m : Name). NoneAppliesAt all_rules v.table.program i.table.config (Place.Box m)) (box-itself n roots f e ∙ ap (λ (k : Found). k.content.name) q) none
+      on (inr b) = none_at d h (Place.Box d.content.name) h.there
+          (subst (λ (o : Option Found). IsSomeAnd (option_map names_around o) (IsIn n)) (sym h.there) (stands_under d h b.rest b.around))
+
+  pub none_at_goal : (d : Found) → IsDown i.table.config (stand v i) n f e d → (g : Name) (k : Held) → held_in g d.goals ≡ Some k → NoneAppliesAt all_rules v.table.program i.table.config (Place.Goal g)
+  none_at_goal d h g k held = none_at d h (Place.Goal g) home (subst (λ (o : Option Found). IsSomeAnd (option_map names_down_to o) (IsIn n)) (sym home) h.named)
+    where
+      home : home_of g roots ≡ Some d
+      home = in_home g k roots d (stand v i).once (found_in d.content.name roots d h.there) held
 
   pub none_inside : IsDown i.table.config (stand v i) n f e i.site → HasNoRule v
   none_inside h = on v.place refl (below i.table.config (stand v i) n f e i.site h)

@@ -1,7 +1,8 @@
 -- What is read from a chain with a further store, in which what is waited on is bound.
-use Rattle.std.proofs.Common.{◌≡◌, ℕ, zero, suc, ℤ, ◌≤◌, Bool, false, Option, List, [], ◌∷◌, ◌++◌, length, take, drop, refl, sym, ◌∙◌, ap, subst, inl, inr, arith}
+use Rattle.std.proofs.Common.{◌≡◌, ℕ, zero, suc, ℤ, ◌≤◌, Bool, false, Option, Some, None, List, [], ◌∷◌, ◌++◌, length, take, drop, refl, sym, ◌∙◌, ap, subst, inl, inr, arith}
 use Rattle.std.proofs.lemmas.Bool.{eqb-true}
-use Rattle.std.specs.Prelude.{◌==◌, IsTrue, ◌↔◌}
+use Rattle.std.specs.Prelude.{◌==◌, IsTrue, ◌↔◌, MatchOption}
+use Rattle.std.specs.Global.{Vec}
 use Rattle.akl_terms.specs.declared.name.Name.{Name}
 use Rattle.akl_terms.specs.declared.name.Var.{Var}
 use Rattle.akl_terms.specs.declared.term.Node.{Node}
@@ -22,13 +23,14 @@ use Rattle.local_store.specs.declared.asking.Consistency.{Consistency}
 use Rattle.local_store.specs.declared.asking.Consistency.TheVariants.{Consistent, Clash}
 use Rattle.local_store.specs.Asking.{Decides}
 use Rattle.local_store.proofs.Layers.{told-take}
-use Rattle.entail_test.specs.Asked.{frames_from, environment_at, whole_at, KeepsApart, KeepsApartAt, AreTouchedAt}
+use Rattle.entail_test.specs.Asked.{frames_from, environment_at, whole_at, KeepsApart, KeepsApartAt, AreTouchedAt, IsClashAt, DecidesRead, Reads}
+use Rattle.entail_test.specs.declared.outside.Outside.{Outside}
 use Rattle.entail_test.specs.Touched.{AreTouched}
 use Rattle.box_tree.specs.declared.entries.HeldOp.{HeldOp}
 use Rattle.box_tree.specs.declared.view.Sight.{Sight}
 use Rattle.box_tree.specs.Tables.{goal_atom}
 use Rattle.box_tree.specs.Views.{ViewValue}
-use Rattle.stable_test.specs.Reaching.{IsConsistentAt, AreReached, IsConsistentDown, ReachesNoneAt, AreReachedAt, IsTestable}
+use Rattle.stable_test.specs.Reaching.{IsConsistentAt, AreReached, IsConsistentDown, IsToldAt, ReachesNoneAt, AreReachedAt, IsTestable}
 use Rattle.stable_test.proofs.OneBinding.{TellsAlso, still_consistent, equal_touched, touched_now, touched_before}
 use Rattle.stable_test.proofs.Further.{take_front, told_whole, whole_told, whole_bound}
 use Rattle.stable_test.proofs.Reaches.{waits_free}
@@ -110,6 +112,12 @@ module _ (p : Program) (depth : ℕ) (frames : Stored) (v : ViewValue) (t : IsTe
       u : AreTouchedAt nodes (v.stores ++ frames ∷ []) depth on
       u = h (keeps c) (plain_consistent c)
 
+  -- and where these tell that all together is inconsistent, it is so down to the box
+  pub box_told : (failing : Option Name) → v.sight ≡ Sight.Box failing → (found : Option (Vec Var)) → IsToldAt nodes (v.stores ++ frames ∷ []) depth found
+      → MatchOption found (IsConsistentDown p v → ⊥) (λ on. IsConsistentDown p v × AreReachedAt p depth frames v on.items)
+  box_told failing s None n = λ c. n (plain_consistent (subst (IsConsistentAt down) s c))
+  box_told failing s (Some on) h = box_reached failing s (IsConsistent-follows (record { each = λ {s = a} {t = b} m. told (plain_more a b m) }) h.0) on.items (λ k c. h.1 k)
+
   -- a choice reaches nothing
   pub choice_reached : (op : HeldOp) → v.sight ≡ Sight.Choice op → IsConsistentDown p v × AreReachedAt p depth frames v []
   choice_reached op s = subst (λ (q : Sight). IsConsistentAt down q × AreReached p inner around down q []) (sym s) (tt, record { each = λ x m. absurd m; every = λ x r. absurd r })
@@ -162,6 +170,11 @@ module _ (p : Program) (depth : ℕ) (frames : Stored) (v : ViewValue) (t : IsTe
           u = subst (λ (fs : List Name). AreTouched fs around told_bound list) same_inner
               (subst (λ (E : Equations). AreTouched (frames_from (drop depth (v.stores ++ with_binding frames on (Term.Int z) ∷ []))) E told_bound list) same_around (h bound_keeps bound_consistent))
 
+      pub waiting_told : (found : Option (Vec Var)) → IsToldAt nodes (v.stores ++ with_binding frames on (Term.Int z) ∷ []) depth found
+          → MatchOption found (IsConsistentDown p v → ⊥) (λ list. IsConsistentDown p v × AreReachedAt p depth frames v list.items)
+      waiting_told None n = absurd (n bound_consistent)
+      waiting_told (Some list) h = waiting_reached list.items (λ k b. h.1 k)
+
   -- where all is inconsistent, no box and no atom is as they are asked to be
   pub inconsistent_down : (IsConsistent down → ⊥) → ((op : HeldOp) → v.sight ≡ Sight.Choice op → ⊥) → IsConsistentDown p v → ⊥
   inconsistent_down clash other c = on v.sight refl c
@@ -186,3 +199,11 @@ module _ (p : Program) (depth : ℕ) (frames : Stored) (v : ViewValue) (t : IsTe
 pub no_clash : (ns : List Node) (ss : List Stored) (a : Consistency) → Decides ns ss a → ((left right : Term) → a ≡ Clash left right → ⊥) → IsConsistentBy (ToldBy ns ss)
 no_clash ns ss Consistent d n = d
 no_clash ns ss (Clash left right) d n = absurd (n left right refl)
+
+-- what is read of a chain
+module _ (ns : List Node) (ss : List Stored) (depth : ℕ) (read : Outside) where
+  pub told_touched : (on : Vec Var) → read ≡ Outside.Touched on → DecidesRead ns ss depth read → (KeepsApartAt ns ss depth → Reads ns ss depth read) → IsToldAt ns ss depth (Some on)
+  told_touched on e whole reads = (subst (DecidesRead ns ss depth) e whole, λ k. (subst (Reads ns ss depth) e (reads k)).1)
+
+  pub told_clash : (left right : Term) → read ≡ Outside.Clash left right → DecidesRead ns ss depth read → IsToldAt ns ss depth None
+  told_clash left right e whole = λ c. let k : IsClashAt ns ss depth left right = subst (DecidesRead ns ss depth) e whole in k.1.differ (c.heads k.0 k.1.is_left k.1.is_right)

@@ -1,7 +1,9 @@
 -- What is reached from outside of a box and of all boxes inside it: touched by equations, or equal to a variable that a goal waits on.
-use Rattle.std.specs.Prelude.{◌≡◌, ℕ, ◌≤◌, List, [], ◌∷◌, ◌++◌, length, drop, ◌⊎◌, ⊤}
+use Rattle.std.specs.Prelude.{◌≡◌, ℕ, ◌≤◌, List, [], ◌∷◌, ◌++◌, length, drop, ◌⊎◌, ⊤, Option, Some, None}
+use Rattle.std.specs.Global.{Vec}
 use Rattle.akl_terms.specs.declared.name.Name.{Name}
 use Rattle.akl_terms.specs.declared.name.Var.{Var}
+use Rattle.akl_terms.specs.declared.term.Node.{Node}
 use Rattle.akl_terms.specs.declared.program.Program.{Program}
 use Rattle.akl_terms.specs.Tree.{Tree, variable}
 use Rattle.akl_terms.specs.Equal.{Equations, Equal, IsConsistent, IsStructured}
@@ -11,7 +13,7 @@ use Rattle.constraint_laws.specs.Touched.{IsAmong}
 use Rattle.rational_unify.specs.Solving.{bindings_in}
 use Rattle.local_store.specs.Stored.{Stored}
 use Rattle.local_store.specs.Chained.{bindings_from, IsKnown}
-use Rattle.entail_test.specs.Asked.{frames_from, environment_at, KeepsApartAt}
+use Rattle.entail_test.specs.Asked.{frames_from, environment_at, whole_at, KeepsApartAt, AreTouchedAt}
 use Rattle.box_tree.specs.declared.view.Sight.{Sight}
 use Rattle.box_tree.specs.Tables.{goal_atom}
 use Rattle.box_tree.specs.Views.{ViewValue}
@@ -52,6 +54,11 @@ ReachesNoneAt p depth frames v = ReachesNone p (frames_from (drop depth (v.store
 abbrev pub AreReachedAt : Program → ℕ → Stored → ViewValue → List Var → Type 0
 AreReachedAt p depth frames v on = AreReached p (frames_from (drop depth (v.stores ++ frames ∷ []))) (environment_at p.templates.nodes (v.stores ++ frames ∷ []) depth)
     (bindings_in p.templates.nodes (bindings_from v.stores)) v.sight on
+
+-- what the stores from a depth on touch; nothing, where all together is inconsistent
+abbrev pub IsToldAt : List Node → List Stored → ℕ → Option (Vec Var) → Type 0
+IsToldAt nodes ss depth None = IsConsistent (whole_at nodes ss depth) → ⊥
+IsToldAt nodes ss depth (Some on) = IsConsistent (whole_at nodes ss depth) × (KeepsApartAt nodes ss depth → AreTouchedAt nodes ss depth on.items)
 
 -- what is known of a view: its place is in a box with so many boxes around it, or inside it, and a store has the frames of all boxes there
 pub record IsTestable (p : Program) (depth : ℕ) (frames : Stored) (v : ViewValue) : Type 0 where

@@ -1,16 +1,17 @@
 //! The variables from outside that a place reaches.
 
-ghost use Rattle.std.specs.Prelude.{◌≡◌, ◌≤◌, ◌++◌, ◌∷◌, [], length, IfOk, IsTrue, ◌↔◌, MatchOption};
-ghost use Rattle.akl_terms.specs.Equal.{IsConsistent};
+ghost use Rattle.std.specs.Prelude.{◌≡◌, ◌≤◌, List, ◌++◌, ◌∷◌, [], length, IfOk, IsTrue, ◌↔◌, MatchOption};
+ghost use Rattle.akl_terms.specs.declared.term.Node.{Node};
+ghost use Rattle.local_store.specs.Stored.{Stored};
 ghost use Rattle.local_store.specs.Chained.{IsKnown};
-ghost use Rattle.entail_test.specs.Asked.{KeepsApartAt, AreTouchedAt, whole_at};
-ghost use Rattle.stable_test.specs.Reaching.{IsTestable, IsConsistentDown, ReachesNoneAt, AreReachedAt};
+ghost use Rattle.box_tree.specs.declared.view.Sight.{Sight};
+ghost use Rattle.stable_test.specs.Reaching.{IsTestable, IsConsistentDown, IsToldAt, ReachesNoneAt, AreReachedAt};
 ghost use Rattle.stable_test.specs.Inner.{IsInnerView, ListsTouched};
 
 use crate::awaiting::awaited;
-use akl_terms::{Program, Term, Var};
+use akl_terms::{Goal, Program, Term, Var};
 use box_tree::{Sight, View};
-use entail_test::touches;
+use entail_test::{Outside, outside_of};
 use guard_plan::shared;
 use local_store::{Chain, Consistency, Shared, Store, consistent};
 use std::alloc::{AllocError, Global};
@@ -55,8 +56,7 @@ pub(crate) fn reaches_none(
     }
 }
 
-// What a place reaches; `None` exactly where all is inconsistent at a box or an atom. What an atom waits on is bound to
-// an integer, to see what is told that then.
+// What a place reaches; `None` exactly where all is inconsistent at a box or an atom.
 fn reached_at(
     alloc: Global,
     program: &Program,
@@ -68,45 +68,73 @@ fn reached_at(
     ensures { IfOk result (λ found. MatchOption found (IsConsistentDown program.now view.now → ⊥)
         (λ list. IsConsistentDown program.now view.now × AreReachedAt program.now depth frames.now view.now list.items)) }
 {
-    let atom = match view.sight() {
-        Sight::Choice { .. } => return Ok(Some(Vec::new(alloc))),
-        Sight::Box { .. } => None,
-        Sight::Atom(atom) => Some(atom),
-    };
+    match view.sight() {
+        Sight::Choice { .. } => Ok(Some(Vec::new(alloc))),
+        Sight::Box { .. } => {
+            let known = known_beyond(view);
+            told_with(alloc, program, depth, view, frames.share()?, known)
+        }
+        Sight::Atom(atom) => reached_by(alloc, program, depth, frames, view, atom),
+    }
+}
+
+// The same of an atom. What it waits on is bound to an integer, to see what is told that then.
+fn reached_by(
+    alloc: Global,
+    program: &Program,
+    depth: usize,
+    frames: &Store,
+    view: &View,
+    atom: Goal,
+) -> Result<Option<Vec<Var>>, AllocError>
+    requires testable { IsTestable program.now depth frames.now view.now }
+    requires atom { view.now.sight ≡ Sight.Atom atom }
+    ensures { IfOk result (λ found. MatchOption found (IsConsistentDown program.now view.now → ⊥)
+        (λ list. IsConsistentDown program.now view.now × AreReachedAt program.now depth frames.now view.now list.items)) }
+{
     if let Consistency::Clash { .. } = consistent(alloc, &view.chain(&program.templates))? {
         return Ok(None);
     }
-    let Some(atom) = atom else {
-        let list = touched_with(alloc, program, depth, view, frames.share()?)?;
-        return Ok(Some(list));
-    };
     match awaited(alloc, program, view, atom)? {
         None => Ok(Some(Vec::new(alloc))),
         Some(on) => {
             let bound = frames.with_binding(on, Term::Int(0))?;
-            let list = touched_with(alloc, program, depth, view, bound)?;
-            Ok(Some(list))
+            told_with(alloc, program, depth, view, bound, view.known())
         }
     }
 }
 
-// What the stores down to a place, with a further one, touch from outside of those from a depth on.
-fn touched_with(
+// How many of the stores down to a place are known to be solved together, where one that binds nothing comes behind them.
+fn known_beyond(view: &View) -> usize
+    ensures { (nodes : List Node) (further : Stored) → further.bindings ≡ [] → IsKnown nodes view.now.stores view.now.known → IsKnown nodes (view.now.stores ++ further ∷ []) result }
+{
+    let known = view.known();
+    if known == view.stores().len() {
+        return known.saturating_add(1);
+    }
+    known
+}
+
+// What the stores down to a place, with a further one, tell the variables from outside of those from a depth on; `None` where
+// all is inconsistent. So many of these stores are known to be solved together.
+fn told_with(
     alloc: Global,
     program: &Program,
     depth: usize,
     view: &View,
     further: Store,
-) -> Result<Vec<Var>, AllocError>
+    known: usize,
+) -> Result<Option<Vec<Var>>, AllocError>
     requires program { program.now ≡ view.now.table.program }
     requires depth { depth ≤ length view.now.stores }
-    requires known { IsKnown program.now.templates.nodes view.now.stores view.now.known }
-    ensures { IfOk result (λ on. KeepsApartAt program.now.templates.nodes (view.now.stores ++ further ∷ []) depth
-        → IsConsistent (whole_at program.now.templates.nodes (view.now.stores ++ further ∷ []) depth)
-        → AreTouchedAt program.now.templates.nodes (view.now.stores ++ further ∷ []) depth on.items) }
+    requires known { IsKnown program.now.templates.nodes (view.now.stores ++ further ∷ []) known }
+    ensures { IfOk result (IsToldAt program.now.templates.nodes (view.now.stores ++ further ∷ []) depth) }
 {
     let mut stores = shared(alloc, view.stores())?;
     stores.push(Shared::new(alloc, further)?)?;
-    let chain = Chain::of_solved(&program.templates, stores.as_slice(), view.known());
-    touches(alloc, &chain, depth)
+    let chain = Chain::of_solved(&program.templates, stores.as_slice(), known);
+    match outside_of(alloc, &chain, depth)? {
+        Outside::Touched(on) => Ok(Some(on)),
+        Outside::Clash { .. } => Ok(None),
+    }
 }
