@@ -4,11 +4,10 @@ use Rattle.akl_terms.specs.declared.name.Name.{Name}
 use Rattle.akl_model.specs.Config.{IsIn, Atom, Config, or_else, home_of}
 use Rattle.akl_model.proofs.NamesKept.{Stand}
 use Rattle.akl_model.proofs.Options.{or_some, left_some, none_where}
-use Rattle.local_store.specs.Stored.{Stored}
 use Rattle.table_laws.specs.Rows.{BoxRow, GoalRow, Table}
 use Rattle.table_laws.specs.Unfolds.{Unfolds}
 use Rattle.table_laws.specs.Walks.{alternatives_of}
-use Rattle.table_laws.specs.Writes.{unset, set, changed_box, home_in, atom_among, home_or, joined_row}
+use Rattle.table_laws.specs.Writes.{unset, set, changed_box, home_in, atom_among, home_or}
 use Rattle.opened_places.proofs.Members.{firsts, atom_row_in, in_atom_row}
 use Rattle.opened_places.proofs.SetRows.{some_none, set_itself, emptied_none, changed_none}
 use Rattle.opened_places.proofs.AtRows as rows
@@ -19,13 +18,13 @@ unset_none : (ns : List Name) (at : Name → Option BoxRow) (m : Name) → at m 
 unset_none [] at m e = e
 unset_none (n ∷ ns) at m e = emptied_none n (unset ns at) m (unset_none ns at m e)
 
--- the rows of the next table, where the new ones have this number
-pub record AreJoined (T U : Table) (g : Name) (new : Stored) (solved_at : Option ℕ) (goals : List (Name × Atom)) (number : ℕ) : Type 0 where
-  pub boxes : (m : Name) → U.box_of m ≡ unset (alternatives_of (T.goal_of g)) (changed_box (home_in (T.goal_of g)) (joined_row g new solved_at goals number) T.box_of) m
+-- the rows of the next table, where the new ones have this number, and so the box's changes
+pub record AreJoined (T U : Table) (g : Name) (change : BoxRow → BoxRow) (goals : List (Name × Atom)) (number : ℕ) : Type 0 where
+  pub boxes : (m : Name) → U.box_of m ≡ unset (alternatives_of (T.goal_of g)) (changed_box (home_in (T.goal_of g)) change T.box_of) m
   pub goals_are : (m : Name) → U.goal_of m ≡ or_else (atom_among (home_or (T.goal_of g) g) number goals m) (set g None T.goal_of m)
   pub unused : (m : Name) → IsIn m (firsts goals) → T.goal_of m ≡ None
 
-module _ (T U : Table) (g : Name) (new : Stored) (solved_at : Option ℕ) (goals : List (Name × Atom)) (number : ℕ) (joined : AreJoined T U g new solved_at goals number) where
+module _ (T U : Table) (g : Name) (change : BoxRow → BoxRow) (goals : List (Name × Atom)) (number : ℕ) (joined : AreJoined T U g change goals number) where
   abbrev pub home : Name
   home = home_or (T.goal_of g) g
 
@@ -50,8 +49,8 @@ module _ (T U : Table) (g : Name) (new : Stored) (solved_at : Option ℕ) (goals
   module _ (c d : Config) (u : Unfolds T c) (v : Unfolds U d) (s : Stand c) (later : Stand d) where
     pub coming : Comes c d [] (firsts goals)
     coming = comes T U c d u v s later [] (firsts goals)
-        (λ m w i j. some_none (joined.boxes m ∙ unset_none (alternatives_of (T.goal_of g)) (changed_box (home_in (T.goal_of g)) (joined_row g new solved_at goals number) T.box_of) m
-        (changed_none (home_in (T.goal_of g)) (joined_row g new solved_at goals number) T.box_of m i)) j)
+        (λ m w i j. some_none (joined.boxes m ∙ unset_none (alternatives_of (T.goal_of g)) (changed_box (home_in (T.goal_of g)) change T.box_of) m
+        (changed_none (home_in (T.goal_of g)) change T.box_of m i)) j)
         (λ m z. absurd z) goal_new
         (λ m i. let w : (w : GoalRow) × (atom_among home number goals m ≡ Some w) × (U.goal_of m ≡ Some w) = new_goal_row m i in (joined.unused m i, (w.0, w.2)))
 

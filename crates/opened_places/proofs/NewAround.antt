@@ -28,7 +28,7 @@ use Rattle.table_laws.specs.Rows.{BoxRow, GoalRow, Table}
 use Rattle.table_laws.specs.Unfolds.{IsBoxRow, Unfolds}
 use Rattle.table_laws.specs.Stamped.{Run, IsTableOf}
 use Rattle.table_laws.specs.Steps.{NewBox, forks, joins, Makes}
-use Rattle.table_laws.specs.Writes.{IsFresh, set, changed_box, home_in as home_in_row, new_box_of, new_goal_of, new_row, names_drawn, atom_among, home_or, failing_by, forked_row, solved_when}
+use Rattle.table_laws.specs.Writes.{IsFresh, set, changed_box, home_in as home_in_row, new_box_of, new_goal_of, new_row, names_drawn, atom_among, home_or, failing_by, forked_row}
 use Rattle.table_laws.proofs.Frame.{found_of}
 use Rattle.table_laws.proofs.Fresh.{fresh_step}
 use Rattle.opened_places.specs.Placed.{placed, StandsSo, goals_placed}
@@ -127,11 +127,11 @@ module _ (U : Table) (d : Config) (v : Unfolds U d) (later : Stand d) where
       k.1 ∙ sym found ∙ j
 
   -- goals that join a box stand in it
-  module _ (T : Table) (g : Name) (new : Stored) (solved_at : Option ℕ) (goals : List (Name × Atom)) (number : ℕ) (joined : AreJoined T U g new solved_at goals number) (row : GoalRow) (its : T.goal_of g ≡ Some row)
+  module _ (T : Table) (g : Name) (change : BoxRow → BoxRow) (goals : List (Name × Atom)) (number : ℕ) (joined : AreJoined T U g change goals number) (row : GoalRow) (its : T.goal_of g ≡ Some row)
       (e f : Found) (home : row.home ≡ e.content.name) (there : box_at e.content.name d.roots ≡ Some f) (down : names_down_to f ≡ names_down_to e) where
     joined_at : (i : Name) → IsIn i (firsts goals) → StandsSo d.roots (placed (Place.Goal i) (names_down_to e))
     joined_at i j =
-        let w : (w : GoalRow) × (atom_among (home_or (T.goal_of g) g) number goals i ≡ Some w) × (U.goal_of i ≡ Some w) = new_goal_row T U g new solved_at goals number joined i j in
+        let w : (w : GoalRow) × (atom_among (home_or (T.goal_of g) g) number goals i ≡ Some w) × (U.goal_of i ≡ Some w) = new_goal_row T U g change goals number joined i j in
         let home : w.0.home ≡ e.content.name = atom_home (home_or (T.goal_of g) g) number goals i w.0 w.1 ∙ ap (λ (o : Option GoalRow). home_or o g) its ∙ home in
         ap (option_map names_down_to) (goal_in i w.0 f w.2 (ap (λ (n : Name). box_at n d.roots) home ∙ there)) ∙ ap Some down
 
@@ -165,7 +165,7 @@ module _ (rules : List Rule) (r : Run) (T : Table) (l : Label) (d : Config) (t :
     pub promoted_all : AllByRecursion (StandsSo d.roots) (goals_placed (names_down_to a.site) (firsts goals))
     promoted_all =
         let row : (row : GoalRow) × (T.goal_of makes.0 ≡ Some row) × (row.home ≡ a.site.content.name) = home_row makes.0 makes.1 in
-        joined_all (promote.U rules r T l d t a new solved goals makes) d (promote.v rules r T l d t a new solved goals makes) later T makes.0 new (solved_when None solved) goals (T.steps + 1)
+        joined_all (promote.U rules r T l d t a new solved goals makes) d (promote.v rules r T l d t a new solved goals makes) later T makes.0 (promote.its_box rules r T l d t a new solved goals makes) goals (T.steps + 1)
         (promote.joined rules r T l d t a new solved goals makes) row.0 row.1 a.site (now makes.0 makes.1) row.2 (now_there makes.0 makes.1)
         (still.site_down t.config d (site.before rules r.program r.query r.journal t.config l d t.replays a) later (site.further rules r.program r.query r.journal t.config l d t.replays a) a.site (now makes.0 makes.1)
         (site_stands rules r.program t.config l d (site.before rules r.program r.query r.journal t.config l d t.replays a) a) (now_there makes.0 makes.1))

@@ -9,11 +9,11 @@ use Rattle.akl_model.specs.Config.{Atom, Config, home_of}
 use Rattle.akl_model.specs.Derivations.{Applies}
 use Rattle.akl_model.proofs.NamesKept.{Stand}
 use Rattle.local_store.specs.Stored.{Stored}
-use Rattle.table_laws.specs.Rows.{GoalRow, Table}
+use Rattle.table_laws.specs.Rows.{BoxRow, GoalRow, Table}
 use Rattle.table_laws.specs.Unfolds.{Unfolds}
 use Rattle.table_laws.specs.Stamped.{Run, IsTableOf}
 use Rattle.table_laws.specs.Steps.{joins, Makes}
-use Rattle.table_laws.specs.Writes.{IsFresh, Leads, after_join, solved_when}
+use Rattle.table_laws.specs.Writes.{IsFresh, Leads, joined_row, after_join, solved_when}
 use Rattle.table_laws.proofs.Fresh.{fresh_step}
 use Rattle.opened_places.specs.declared.around.Around.{Around}
 use Rattle.opened_places.proofs.ListedPlaces.{listed}
@@ -40,7 +40,10 @@ module _ (rules : List Rule) (r : Run) (T : Table) (l : Label) (d : Config) (t :
   fresh : IsFresh T (firsts goals)
   fresh = fresh_step rules r T l d t a (joins new solved goals) makes
 
-  pub joined : AreJoined T U makes.0 new (solved_when None solved) goals (T.steps + 1)
+  abbrev pub its_box : BoxRow → BoxRow
+  its_box = joined_row makes.0 new (solved_when None solved) goals (T.steps + 1)
+
+  pub joined : AreJoined T U makes.0 its_box goals (T.steps + 1)
   joined = record { boxes = λ m. refl; goals_are = λ m. refl; unused = fresh.no_goal }
 
   before : Stand t.config
@@ -50,12 +53,12 @@ module _ (rules : List Rule) (r : Run) (T : Table) (l : Label) (d : Config) (t :
   later = site.afterwards rules r.program r.query r.journal t.config l d t.replays a
 
   coming : Comes t.config d [] (firsts goals)
-  coming = join.coming T U makes.0 new (solved_when None solved) goals (T.steps + 1) joined t.config d t.unfolds v before later
+  coming = join.coming T U makes.0 its_box goals (T.steps + 1) joined t.config d t.unfolds v before later
 
   gone : home_of makes.0 d.roots ≡ None
   gone =
       let row : (row : GoalRow) × (T.goal_of makes.0 ≡ Some row) = its_row rules r T U l d t a v makes.0 makes.1 in
-      join.gone T U makes.0 new (solved_when None solved) goals (T.steps + 1) joined t.config d t.unfolds v before later row.0 row.1
+      join.gone T U makes.0 its_box goals (T.steps + 1) joined t.config d t.unfolds v before later row.0 row.1
 
   pub promoted : (x : Around) (k : IsAround T l x) → AreExactly t.config d (listed l.place x (joins new solved goals))
   promoted x k = goes.exactly rules r T l d t a x k makes.0 makes.1 gone (firsts goals) (λ m f i j. coming.box_in m f i j) coming.goal_in coming.in_goal

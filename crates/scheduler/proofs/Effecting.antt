@@ -54,7 +54,7 @@ each_of P (q ∷ qs) a p (inr i) = each_of P qs a.1 p i
 -- a step gives its box a store where a variable is of none of its frames
 outer_step : (xs : List Var) (nodes : List Node) (step : Step) → HasOuterIn xs (step_of nodes step) → binds_outer xs step ≡ true
 outer_step xs nodes (Step.Tell store solved) w = so_outer xs store.frames w
-outer_step xs nodes (Step.Join store solved goals) w = so_outer xs store.frames w
+outer_step xs nodes (Step.Join store solved goals told behind) w = so_outer xs store.frames w
 outer_step xs nodes (Step.Fork op alternatives) w = absurd w
 outer_step xs nodes Step.Fail w = absurd w
 outer_step xs nodes Step.Cut w = absurd w
@@ -64,7 +64,7 @@ outer_step xs nodes (Step.Split copy copies) w = absurd w
 
 step_outer : (xs : List Var) (nodes : List Node) (step : Step) → binds_outer xs step ≡ true → HasOuterIn xs (step_of nodes step)
 step_outer xs nodes (Step.Tell store solved) e = outer_so xs store.frames e
-step_outer xs nodes (Step.Join store solved goals) e = outer_so xs store.frames e
+step_outer xs nodes (Step.Join store solved goals told behind) e = outer_so xs store.frames e
 step_outer xs nodes (Step.Fork op alternatives) e = cc
 step_outer xs nodes Step.Fail e = cc
 step_outer xs nodes Step.Cut e = cc

@@ -9,11 +9,11 @@ use Rattle.akl_terms.specs.declared.program.Query.{Query}
 use Rattle.akl_terms.specs.Equal.{Follows}
 use Rattle.akl_model.specs.declared.label.Rule.{Rule}
 use Rattle.akl_model.specs.declared.label.Label.{Label}
-use Rattle.akl_model.specs.Config.{Content, Config, Goals, Found, whole, box_at, home_of}
+use Rattle.akl_model.specs.Config.{Config, Found, whole, box_at}
 use Rattle.akl_model.specs.Instances.{start}
 use Rattle.akl_model.specs.Rules.{Change, Reading, change_by}
 use Rattle.akl_model.specs.Derivations.{Replays, IsReady}
-use Rattle.akl_model.specs.Changes.{goal_names, Adds}
+use Rattle.akl_model.specs.Changes.{Adds}
 use Rattle.akl_model.specs.Wakes.{Wait, IsOneOf, Opens}
 use Rattle.akl_model.proofs.NamesKept.{Stand, replay-stands, box-itself}
 use Rattle.akl_model.proofs.Results.{Derives-append}
@@ -30,17 +30,14 @@ use Rattle.wait_laws.proofs.KeptByCommit.{kept_by_commit}
 use Rattle.wait_laws.proofs.Sites.{adds_at_site}
 use Rattle.table_laws.specs.Stamped.{IsTableOf}
 use Rattle.table_laws.specs.Steps as laws
-use Rattle.call_laws.specs.AtOnce.{by, IsAtOnce, at_once, AreInForce}
+use Rattle.call_laws.specs.AtOnce.{by, at_once}
 use Rattle.call_laws.specs.Wakes.{TellsNothing, CommitsNet}
-use Rattle.call_laws.proofs.Afterwards.{box_left}
-use Rattle.call_laws.proofs.Alternatives.{IsNewName}
+use Rattle.call_laws.proofs.CallPassage.{adds_net}
 use Rattle.call_laws.proofs.Calls.{fork_applies}
 use Rattle.call_laws.proofs.NetKept.{net_kept}
 use Rattle.call_laws.proofs.NetRuns.{net_runs}
-use Rattle.call_laws.proofs.OpensAlike.{alike_back}
-use Rattle.call_laws.proofs.Outside.{Before, alike_some, outside}
 use Rattle.binding_laws.specs.Bindings.{BindsOutside, HasOuterIn}
-use Rattle.binding_laws.proofs.CallOutside.{call, last, at_last, promote, earlier, last_stands, last_names, last_replays, last_applies, last_site, call_outside_law}
+use Rattle.binding_laws.proofs.CallOutside.{call_outside_law}
 use Rattle.binding_laws.proofs.StepOutside.{step_outside}
 use Rattle.box_tree.specs.Tables.{all_rules, TableValue, table_of}
 use Rattle.box_tree.specs.Views.{run_of}
@@ -54,31 +51,6 @@ use Rattle.scheduler.proofs.Woken.{AddsAt}
 abbrev pub IsSilent : {p : Program} {c : Config} {l : Label} {more : List Label} {step : laws.Step} {d : Config} → LeadsTo p c l more step d → Type 0
 IsSilent {p} {c} {l} {more} {step} {d} (by_label a makes alone) = ⊤
 IsSilent {p} {c} {l} {more} {step} {d} (by_call w) = TellsNothing w.calls
-
--- a call at once adds equations to the box of its goal alone, as its last label does
-module _ (rules : List Rule) (force : AreInForce rules) (p : Program) (q : Query) (journal : List Label) (c : Config) (r : Replays rules p q journal c) (w : ℕ) (g : Name) (f : Found) (is_home : home_of g c.roots ≡ Some f)
-    (x : IsAtOnce p c w g f) where
-  abbrev m : Config
-  m = at_last rules force p q journal c r w g f is_home x
-
-  abbrev Same : Goals → Goals → Type 0
-  Same u v = goal_names u ≡ goal_names v
-
-  abbrev Back : Goals → Goals → Type 0
-  Back u v = goal_names v ≡ goal_names u
-
-  call_adds : (n : Name) → Adds c (at_once x) n → n ≡ f.content.name
-  call_adds n y = adds_at_site rules p q (journal ++ earlier rules force p q journal c r w g f is_home x) m (promote rules force p q journal c r w g f is_home x) (at_once x)
-      (last_replays rules force p q journal c r w g f is_home x) (last_applies rules force p q journal c r w g f is_home x) n
-      (record { before = old.before; afterwards = y.afterwards; was = old.found; is = y.is; more = λ e. y.more (e ∙ ap (λ (b : Content). b.equations) old.content) })
-      ∙ ap (λ (e : Found). e.content.name) (last_site rules force p q journal c r w g f is_home x)
-    where
-      not_new : IsNewName (call rules force p q journal c r w g f is_home x) n → ⊥
-      not_new = box_left (call rules force p q journal c r w g f is_home x) x.last n y.afterwards y.is
-
-      old : Before Back (box_at n m.roots) y.before
-      old = alike_some Back (box_at n m.roots) (box_at n c.roots) y.before (alike_back Same Back (λ u v e. e) (box_at n c.roots) (box_at n m.roots)
-          ((outside (call rules force p q journal c r w g f is_home x) (last rules force p q journal c r w g f is_home x) (last_stands rules force p q journal c r w g f is_home x) (last_names rules force p q journal c r w g f is_home x)).boxes n not_new)) y.was
 
 -- a label of a goal counts
 goal_counts : (p : Program) (v : Reading) (w n : ℕ) (r : Rule) (place : Place) (alternative : Option Name) (f : Found) (ch : Change) (g : Name) → place ≡ Place.Goal g → change_by p v w n r place alternative f ≡ Some ch → r ≡ Rule.Fail → ⊥
@@ -115,7 +87,7 @@ module _ (v : TableValue) (journal : List Label) (t : IsTableOf all_rules (run_o
   -- they add equations to the box of their place alone
   alone : (w : LeadsTo p c l more step d) (n : Name) → Adds c d n → n ≡ (site_by p c l more step d w).content.name
   alone (by_label a makes only) n y = adds_at_site all_rules p q journal c l d t.replays a n y
-  alone (by_call w) n y = call_adds all_rules all_in_force p q journal c t.replays l.worker w.goal w.site w.is_home w.calls n (subst (λ (e : Config). Adds c e n) (sym w.result) y)
+  alone (by_call w) n y = adds_net all_rules all_in_force p c stands l.worker w.goal w.site w.is_home w.calls ⊥ (λ u. absurd u) n (subst (λ (e : Config). Adds c e n) (sym w.result) y)
 
   pub adds_at : (w : LeadsTo p c l more step d) → AddsAt c d l.place (site_by p c l more step d w)
   adds_at w = record { is_site = is_site_by p c l more step d w; alone = alone w; grown = grown w }

@@ -16,7 +16,7 @@ use Rattle.table_laws.specs.Stamped.{IsTableOf}
 use Rattle.table_laws.specs.Steps.{Step}
 use Rattle.box_tree.specs.Tables.{all_rules, table_of, step_of}
 use Rattle.box_tree.specs.Views.{run_of}
-use Rattle.box_tree.specs.Plans.{PlanValue, IsRead, IsRightLabel, IsRight, of_label, of_call}
+use Rattle.box_tree.specs.Plans.{PlanValue, IsRead, IsRightLabel, IsRight, of_label, of_call, labels_behind}
 use Rattle.binding_laws.proofs.BindsLater.{binds_later}
 use Rattle.binding_laws.proofs.CallBindsAgain.{call_binds_again}
 use Rattle.step_commit.specs.Cores.{CoreValue, IsCore, MayCommit, IsFresh, AllWithin}
@@ -65,9 +65,9 @@ module _ (p : Program) (q : Query) (journal further : List Label) (S T : Table) 
         };
       }
 
-  call_on : IsPlannedCall p q journal S l more reads names step binds → IsMadeAt p t.config l more step binds
-  call_on x =
-      let w : CallsOn p q journal further S T l more reads names step binds x t = calls_on p q journal further S T l more reads names step binds x t none within in
+  call_on : (behind : ℕ × ℕ) → IsPlannedCall p q journal S l more reads names step behind binds → IsMadeAt p t.config l more step binds
+  call_on behind x =
+      let w : CallsOn p q journal further S T l more reads names step behind binds x t = calls_on p q journal further S T l more reads names step behind binds x t none within in
       record {
         result = _;
         made = record {
@@ -104,7 +104,7 @@ made_now c k p r m f = subst (λ (j : List Label). (t : IsTableOf all_rules (run
         (subst (λ (y : Query). IsPlannedWith p.table.program y p.journal (table_of p.table) p.label p.reads p.names (step_of p.table.program.templates.nodes p.step) p.binds) m.query (with_binds p one))
 
     on : (t : IsTableOf all_rules (run_of c.table (p.journal ++ m.further)) (table_of c.table)) → IsRight p → IsMadeAt c.table.program t.config p.label p.more (step_of c.table.program.templates.nodes p.step) p.binds
-    on t (of_label only one) =
+    on t (of_label only none one) =
         label_on c.table.program c.table.query p.journal m.further (table_of p.table) (table_of c.table) p.label p.more p.reads p.names (step_of c.table.program.templates.nodes p.step) p.binds t m.none_by within only (planned_with one)
     on t (of_call calls) =
-        call_on c.table.program c.table.query p.journal m.further (table_of p.table) (table_of c.table) p.label p.more p.reads p.names (step_of c.table.program.templates.nodes p.step) p.binds t m.none_by within (planned_call c p calls m)
+        call_on c.table.program c.table.query p.journal m.further (table_of p.table) (table_of c.table) p.label p.more p.reads p.names (step_of c.table.program.templates.nodes p.step) p.binds t m.none_by within (labels_behind p.step) (planned_call c p calls m)

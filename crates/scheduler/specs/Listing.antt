@@ -34,7 +34,7 @@ has_outer xs frames = list_any (λ (x : Var). not (is_named frames x.frame)) xs
 -- so it is for the store that a step gives its box
 abbrev pub binds_outer : List Var → Step → Bool
 binds_outer xs (Step.Tell store solved) = has_outer xs store.frames
-binds_outer xs (Step.Join store solved goals) = has_outer xs store.frames
+binds_outer xs (Step.Join store solved goals told behind) = has_outer xs store.frames
 binds_outer xs (Step.Fork op alternatives) = false
 binds_outer xs Step.Fail = false
 binds_outer xs Step.Cut = false

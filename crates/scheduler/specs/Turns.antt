@@ -36,7 +36,7 @@ is_urgent Urgency.Late = false
 -- the box that a step tells something, where its label's place is this box or stands in it
 abbrev pub told_by : Name → Step → Option Name
 told_by home (Step.Tell store solved) = Some home
-told_by home (Step.Join store solved goals) = Some home
+told_by home (Step.Join store solved goals told behind) = Some home
 told_by home (Step.Fork op alternatives) = None
 told_by home Step.Fail = None
 told_by home Step.Cut = None
@@ -54,7 +54,7 @@ unsolved_among (b ∷ bs) = unless_solved b.solved b.name ++ unsolved_among bs
 -- the boxes whose stores a step leaves unsolved
 abbrev pub unsolved_by : Name → Step → List Name
 unsolved_by home (Step.Tell store solved) = unless_solved solved home
-unsolved_by home (Step.Join store solved goals) = unless_solved solved home
+unsolved_by home (Step.Join store solved goals told behind) = unless_solved solved home
 unsolved_by home (Step.Fork op alternatives) = unsolved_among alternatives.items
 unsolved_by home Step.Fail = []
 unsolved_by home Step.Cut = []

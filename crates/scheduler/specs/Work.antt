@@ -49,7 +49,7 @@ copies_written (k ∷ ks) = 1 + length k.goals.items + copies_written ks
 
 abbrev pub contents : Step → ℕ
 contents (Step.Tell store solved) = 1
-contents (Step.Join store solved goals) = 1 + length goals.items
+contents (Step.Join store solved goals told behind) = 1 + length goals.items
 contents (Step.Fork op alternatives) = 1 + boxes_written alternatives.items
 contents (Step.Split copy copies) = copies_written copies.items
 contents Step.Refute = 1
