@@ -6,12 +6,10 @@ use Rattle.akl_terms.specs.declared.name.Name.{Name}
 use Rattle.akl_model.specs.declared.label.Label.{Label}
 use Rattle.akl_model.specs.declared.label.Receipt.{Receipt}
 use Rattle.plan_laws.specs.Right.{NoneBy}
-use Rattle.table_laws.specs.Rows.{BoxRow, Table, store_in}
-use Rattle.table_laws.specs.Steps as laws
-use Rattle.table_laws.specs.Steps.{tells, forks, fails, cuts, joins, refutes, confirms, splits}
-use Rattle.table_laws.specs.Kept.{HadStore, KeepsStores, SharesStores}
-use Rattle.table_laws.proofs.KeptStores.{store_kept}
-use Rattle.box_tree.specs.Tables.{TableValue, table_of, step_of, before_last}
+use Rattle.table_laws.specs.Rows.{BoxRow, store_in}
+use Rattle.table_laws.specs.Kept.{HadStore, SharesStores}
+use Rattle.box_tree.specs.Tables.{TableValue, table_of}
+use Rattle.box_tree.proofs.LeadsBy.{stores_kept}
 use Rattle.box_tree.specs.Plans.{PlanValue, IsRight}
 use Rattle.idle_places.specs.Idling.{IdleValue}
 use Rattle.step_commit.specs.Cores.{CoreValue, IsCore, KeepsFixed, MayCommit, Commits, solved_in}
@@ -22,7 +20,7 @@ use Rattle.scheduler.proofs.Fronts.{IsFront}
 use Rattle.place_steps.specs.declared.next.Next.{Next}
 use Rattle.seq_engine.proofs.OneWorker.{labels_by}
 use Rattle.par_workers.specs.declared.made.Made.{Made}
-use Rattle.par_workers.specs.Shared.{SharedValue, labels_made, maker, labels_in, table_after, core_after, KeepStores, IsShared, AreReceiptsOf}
+use Rattle.par_workers.specs.Shared.{SharedValue, labels_made, maker, labels_in, table_after, core_after, KeepsAfter, KeepStores, IsShared, AreReceiptsOf}
 use Rattle.par_workers.specs.Turns.{IsTakenOf, IsFoundBefore, HasConcluded}
 use Rattle.par_workers.proofs.Labels.{labels_in-append, labels_in-more, all_by, made_by, receipts_more, by_workers-more}
 
@@ -49,8 +47,9 @@ had_store : (count : ℕ) (t : TableValue) (ms : List Made) → KeepStores count
 had_store count t [] k n row e old = (row, e, refl, refl)
 had_store count t (m ∷ ms) k n row e old =
     let there : HadStore ((table_of m.table.value).box_of n) row = had_store (count + length (labels_made m)) m.table.value ms k.1 n row e (omega (arith, old)) in
-    elim (k.0 n there.0 there.1) [
-      | inl new ↦ absurd (omega (arith, old, new, there.3))
+    let later : count < k.0.0 = k.0.1 in
+    elim (k.0.2 n there.0 there.1) [
+      | inl new ↦ absurd (omega (arith, old, new, later, there.3))
       | inr was ↦ (was.0, was.1, was.2 ∙ there.2, was.3 ∙ there.3)
     ]
 
@@ -61,10 +60,10 @@ keeps_behind : (count : ℕ) (t : TableValue) (ms ns : List Made) → KeepStores
 keeps_behind count t [] ns k = subst (λ (i : ℕ). KeepStores i t ns) (let e : count ≡ count + 0 = omega arith in e) k
 keeps_behind count t (m ∷ ms) ns k = subst (λ (i : ℕ). KeepStores i (table_after m.table.value ms) ns) (count_more count m ms) (keeps_behind (count + length (labels_made m)) m.table.value ms ns k.1)
 
-keeps_more : (count : ℕ) (t : TableValue) (ms : List Made) (m : Made) → KeepStores count t ms → KeepsStores (count + length (labels_in ms) + length (labels_made m)) (table_of (table_after t ms)) (table_of m.table.value) → KeepStores count t (ms ++ m ∷ [])
-keeps_more count t [] m k next = (subst (λ (i : ℕ). KeepsStores (i + length (labels_made m)) (table_of t) (table_of m.table.value)) (let e : count + 0 ≡ count = omega arith in e) next, tt)
+keeps_more : (count : ℕ) (t : TableValue) (ms : List Made) (m : Made) → KeepStores count t ms → KeepsAfter (count + length (labels_in ms)) (table_after t ms) m.table.value → KeepStores count t (ms ++ m ∷ [])
+keeps_more count t [] m k next = (subst (λ (i : ℕ). KeepsAfter i t m.table.value) (let e : count + 0 ≡ count = omega arith in e) next, tt)
 keeps_more count t (l ∷ ls) m k next =
-    (k.0, keeps_more (count + length (labels_made l)) l.table.value ls m k.1 (subst (λ (i : ℕ). KeepsStores (i + length (labels_made m)) (table_of (table_after l.table.value ls)) (table_of m.table.value)) (sym (count_more count l ls)) next))
+    (k.0, keeps_more (count + length (labels_made l)) l.table.value ls m k.1 (subst (λ (i : ℕ). KeepsAfter i (table_after l.table.value ls) m.table.value) (sym (count_more count l ls)) next))
 
 -- so the table that was seen has those stores that no label behind it changed
 shared_stores : (first : TableValue) (seen further : List Made) (t u : TableValue) (count : ℕ) → t ≡ table_after first seen → u ≡ table_after first (seen ++ further) → count ≡ length (labels_in seen)
@@ -89,23 +88,14 @@ none_by l worker (m ∷ ms) by all =
     none_append l (labels_made m) (labels_in ms) (none_of l (maker m) (labels_made m) (λ same. All-head (λ m. maker m ≢ worker) m ms all (sym same ∙ by)) (made_by m))
     (none_by l worker ms by (All-tail (λ m. maker m ≢ worker) m ms all))
 
--- before its last label a step finds the boxes of the table
-kept_before : (others number : ℕ) (step : laws.Step) (T U : Table) → KeepsStores number (before_last others step T) U → KeepsStores number T U
-kept_before others number (tells new solved) T U k = k
-kept_before others number (forks op news) T U k = k
-kept_before others number fails T U k = k
-kept_before others number cuts T U k = k
-kept_before others number (joins new solved goals) T U k = k
-kept_before others number refutes T U k = k
-kept_before others number confirms T U k = k
-kept_before others number (splits copy copies) T U k = k
-
--- a commit keeps the stores that don't come with the plan's last label
-pub kept_by : (c d : CoreValue) (p : PlanValue) (r : Receipt) → Commits c p d r → KeepsStores (table_of d.table).steps (table_of c.table) (table_of d.table)
-kept_by c d p r made =
-    let step = step_of c.table.program.templates.nodes p.step in
-    kept_before (length p.more) (table_of d.table).steps step (table_of c.table) (table_of d.table)
-    (store_kept (before_last (length p.more) step (table_of c.table)) (table_of d.table) p.label (Some (solved_in c p)) p.names step made.made.leads)
+-- a commit keeps the stores that don't come with one of the plan's labels
+pub kept_by : (c d : CoreValue) (p : PlanValue) (r : Receipt) → IsCore c → IsCore d → Commits c p d r → KeepsAfter (length c.journal) c.table d.table
+kept_by c d p r before core made =
+    let was : c.table.steps ≡ length c.journal = before.table.stamped.steps in
+    let is : d.table.steps ≡ length c.journal + suc (length p.more) = core.table.stamped.steps ∙ ap (λ (ls : List Label). length ls) made.journal ∙ length-append c.journal (p.label ∷ p.more) in
+    let kept : KeepsAfter c.table.steps c.table d.table =
+    stores_kept c.table p.label (length p.more) (Some (solved_in c p)) p.names (table_of d.table) (omega (arith, was, is)) p.step made.made.leads in
+    subst (λ (n : ℕ). KeepsAfter n c.table d.table) was kept
 
 -- a run of no labels
 pub shared_start : (c : CoreValue) → c.journal ≡ [] → IsShared (record { begun = c; past = [] }) c
@@ -148,23 +138,19 @@ may_settle s c worker i is f = fronts.may_settle c i (labels_in f.goes.0) (front
 
 -- a plan's labels follow
 pub shared_more : (s : SharedValue) (c d : CoreValue) (worker : ℕ) (p : PlanValue) (r : Receipt) (m : Made) → IsShared s c → IsFoundBefore s worker (Next.Plan p)
-    → 1 ≤ worker → worker ≤ s.begun.workers → IsCore d → Commits c p d r → m.plan.value ≡ p → m.table.value ≡ d.table → IsShared (record { begun = s.begun; past = s.past ++ m ∷ [] }) d
-shared_more s c d worker p r m is f least most core made plan table =
+    → 1 ≤ worker → worker ≤ s.begun.workers → IsCore c → IsCore d → Commits c p d r → m.plan.value ≡ p → m.table.value ≡ d.table → IsShared (record { begun = s.begun; past = s.past ++ m ∷ [] }) d
+shared_more s c d worker p r m is f least most before core made plan table =
     let of_plan : labels_made m ≡ p.label ∷ p.more = ap (λ (q : PlanValue). q.label ∷ q.more) plan in
     let by : maker m ≡ worker = ap (λ (q : PlanValue). q.label.worker) plan ∙ f.found.next.worker ∙ f.found.taken.seer in
     let journal : d.journal ≡ labels_in s.past ++ labels_made m = made.journal ∙ ap (λ (e : CoreValue). e.journal ++ p.label ∷ p.more) is.core ∙ ap (λ (ls : List Label). labels_in s.past ++ ls) (sym of_plan) in
-    let count : (table_of d.table).steps ≡ length (labels_in s.past) + length (labels_made m) =
-    core.table.stamped.steps ∙ ap (λ (ls : List Label). length ls) journal ∙ length-append (labels_in s.past) (labels_made m) in
-    let keeps : KeepsStores (length (labels_in s.past) + length (labels_made m)) (table_of c.table) (table_of d.table) =
-    subst (λ (k : ℕ). KeepsStores k (table_of c.table) (table_of d.table)) count (kept_by c d p r made) in
+    let keeps : KeepsAfter (length (labels_in s.past)) (table_after s.begun.table s.past) m.table.value =
+    subst (λ (n : ℕ). KeepsAfter n (table_after s.begun.table s.past) m.table.value) (ap (λ (e : CoreValue). length e.journal) is.core)
+    (subst (λ (t : TableValue). KeepsAfter (length c.journal) t m.table.value) (ap (λ (e : CoreValue). e.table) is.core) (subst (KeepsAfter (length c.journal) c.table) (sym table) (kept_by c d p r before core made))) in
     let fixed = fixed_on s.begun c d is.fixed made.fixed in record {
       core = same_core d (core_after s.begun (s.past ++ m ∷ [])) (sym table ∙ sym (table_after-more s.begun.table s.past m)) (journal ∙ sym (labels_in-more s.past m)) fixed.workers fixed.budget;
       fixed = fixed;
       workers = by_workers-more s.begun.workers s.past m is.workers (subst (λ n. 1 ≤ n) (sym by) least) (subst (λ n. n ≤ s.begun.workers) (sym by) most);
-      stores = keeps_more 0 s.begun.table s.past m is.stores
-          (subst (λ (i : ℕ). KeepsStores (i + length (labels_made m)) (table_of (table_after s.begun.table s.past)) (table_of m.table.value)) (let e : length (labels_in s.past) ≡ 0 + length (labels_in s.past) = omega arith in e)
-          (subst (λ (t : TableValue). KeepsStores (length (labels_in s.past) + length (labels_made m)) (table_of (table_after s.begun.table s.past)) (table_of t)) (sym table)
-          (subst (λ (t : TableValue). KeepsStores (length (labels_in s.past) + length (labels_made m)) (table_of t) (table_of d.table)) (ap (λ (e : CoreValue). e.table) is.core) keeps)));
+      stores = keeps_more 0 s.begun.table s.past m is.stores (subst (λ (i : ℕ). KeepsAfter i (table_after s.begun.table s.past) m.table.value) (let e : length (labels_in s.past) ≡ 0 + length (labels_in s.past) = omega arith in e) keeps);
     }
 
 pub concluded_more : (s : SharedValue) (c d : CoreValue) (worker : ℕ) (p : PlanValue) (r : Receipt) (m : Made) (rs : List Receipt) → IsShared s c → IsFoundBefore s worker (Next.Plan p)

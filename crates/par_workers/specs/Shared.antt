@@ -1,5 +1,5 @@
 -- What the workers of a run share.
-use Rattle.std.specs.Prelude.{◌≡◌, ℕ, ◌+◌, ◌≤◌, List, [], ◌∷◌, ◌++◌, length}
+use Rattle.std.specs.Prelude.{◌≡◌, ℕ, ◌+◌, ◌≤◌, ◌<◌, List, [], ◌∷◌, ◌++◌, length}
 use Rattle.akl_model.specs.declared.label.Label.{Label}
 use Rattle.akl_model.specs.declared.label.Receipt.{Receipt}
 use Rattle.table_laws.specs.Kept.{KeepsStores}
@@ -39,10 +39,14 @@ abbrev pub AreByWorkers : ℕ → List Label → Type 0
 AreByWorkers workers [] = Unit {0}
 AreByWorkers workers (l ∷ ls) = (1 ≤ l.worker) × (l.worker ≤ workers) × AreByWorkers workers ls
 
--- each table has the stores of the one before it, but for those that came with the last of its own labels, where so many labels were made before
+-- a table has the stores of the one before it, but for those that came with one label, behind the first ones, so many as are given
+abbrev pub KeepsAfter : ℕ → TableValue → TableValue → Type 0
+KeepsAfter count t u = (number : ℕ) × (count < number) × KeepsStores number (table_of t) (table_of u)
+
+-- each table has the stores of the one before it, but for those that came with one of its own labels, where so many labels were made before
 abbrev pub KeepStores : ℕ → TableValue → List Made → Type 0
 KeepStores count t [] = Unit {0}
-KeepStores count t (m ∷ ms) = KeepsStores (count + length (labels_made m)) (table_of t) (table_of m.table.value) × KeepStores (count + length (labels_made m)) m.table.value ms
+KeepStores count t (m ∷ ms) = KeepsAfter count t m.table.value × KeepStores (count + length (labels_made m)) m.table.value ms
 
 -- the core is that to which the plans led, with the fixed part of the first one; the workers are those of the run, and stores stay until labels change them
 pub record IsShared (s : SharedValue) (c : CoreValue) : Type 0 where

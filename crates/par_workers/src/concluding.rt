@@ -108,6 +108,8 @@ impl SharedRun {
         }
         let is_call = !plan.more().is_empty();
         let planned = Snapshot::of(&plan);
+        // By this call it is known that the core is one before its labels.
+        let _ = self.scheduler.core();
         match self.scheduler.commit(alloc, plan, steps) {
             Ok(Committed { receipt, opened }) => {
                 let core = self.scheduler.core();

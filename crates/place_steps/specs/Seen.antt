@@ -1,13 +1,14 @@
 -- What a worker saw of a place.
-use Rattle.std.specs.Prelude.{◌≡◌, ℕ, true, false, List, Option, Some, None}
+use Rattle.std.specs.Prelude.{◌≡◌, ℕ, true, false, List, length, Option, Some, None}
 use Rattle.akl_terms.specs.declared.name.Name.{Name}
 use Rattle.akl_terms.specs.declared.name.Place.{Place}
 use Rattle.akl_model.specs.declared.label.Label.{Label}
+use Rattle.box_tree.specs.declared.inside.InnerBox.{InnerBox}
 use Rattle.box_tree.specs.declared.inside.Inside.{Inside}
 use Rattle.box_tree.specs.Tables.{TableValue, table_of}
 use Rattle.box_tree.specs.Views.{ViewValue, is_there}
 use Rattle.box_tree.specs.Insides.{IsCandidateOf}
-use Rattle.box_copies.specs.Copies.{IsInsideOfBox}
+use Rattle.box_copies.specs.Copies.{IsInsideOfBox, AreBoxesOf}
 use Rattle.stable_test.specs.Seen.{NoneReadyInside}
 use Rattle.idle_plan.specs.Idling.{IsAtRootBox}
 use Rattle.step_commit.specs.Cores.{CoreValue}
@@ -17,6 +18,7 @@ use Rattle.place_steps.specs.declared.seen.Seen.{Seen}
 abbrev pub view_in : Seen → ViewValue
 view_in (Seen.Goal goal view) = view
 view_in (Seen.Root view) = view
+view_in (Seen.Still view boxes alternative) = view
 view_in (Seen.Box view inside alternative still) = view
 
 -- a box could be split at this alternative, if at any; of a goal nothing is said
@@ -34,19 +36,27 @@ pub record IsBareRoot (v : ViewValue) : Type 0 where
   pub root : IsAtRootBox v
   pub candidate : HasCandidate v None
 
+-- no place inside of a box is ready, by a table and its journal; of a goal nothing is said
+abbrev pub IsStillAt : TableValue → List Label → Place → Type 0
+IsStillAt t journal place = (n : Name) → place ≡ Place.Box n → NoneReadyInside t journal n
+
+-- a root box that could be split at this alternative, with all boxes inside it, where no place is ready
+pub record IsStillRoot (v : ViewValue) (bs : List InnerBox) (alternative : Name) : Type 0 where
+  pub root : length v.path ≡ 1
+  pub boxes : AreBoxesOf v bs
+  pub candidate : HasCandidate v (Some alternative)
+  pub still : IsStillAt v.table v.journal v.place
+
 -- a box with all that stands inside it
 pub record IsSeenInside (v : ViewValue) (i : Inside) (alternative : Option Name) : Type 0 where
   pub inside : IsInsideOfBox v i
   pub candidate : HasCandidate v alternative
 
--- no place inside of a box is ready, by a table and its journal; of a goal nothing is said
-abbrev pub IsStillAt : TableValue → List Label → Place → Type 0
-IsStillAt t journal place = (n : Name) → place ≡ Place.Box n → NoneReadyInside t journal n
-
 -- what was seen is what its view is of
 abbrev pub IsSeen : Seen → Type 0
 IsSeen (Seen.Goal goal view) = view.place ≡ Place.Goal goal
 IsSeen (Seen.Root view) = IsBareRoot view
+IsSeen (Seen.Still view boxes alternative) = IsStillRoot view boxes.items alternative
 IsSeen (Seen.Box view inside alternative still) = IsSeenInside view inside alternative × (still ≡ true → IsStillAt view.table view.journal view.place)
 
 -- the same of the state of a run

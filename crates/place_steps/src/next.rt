@@ -5,18 +5,18 @@ ghost use Rattle.akl_terms.specs.declared.name.Place.{Place};
 ghost use Rattle.guard_plan.specs.Planned.{HasNoRule};
 ghost use Rattle.guard_plan.specs.Noisy.{IsNoiseAt};
 ghost use Rattle.split_plan.specs.Split.{IsStill, IsSplitBy};
-ghost use Rattle.place_steps.specs.Seen.{view_in, IsSeen, IsBareRoot, IsSeenInside, IsStillAt};
+ghost use Rattle.place_steps.specs.Seen.{view_in, IsSeen, IsBareRoot, IsStillRoot, IsSeenInside, IsStillAt};
 ghost use Rattle.place_steps.specs.Next.{IsNext, IsAlone, HasRoom, IsEarly, HasEarlyRoom};
 
 use crate::calls::{call_of, call_waits};
 use crate::seen::Seen;
 use akl_terms::{Name, Program, Var};
-use box_tree::{Inside, Plan, View};
+use box_tree::{InnerBox, Inside, Plan, View};
 use guard_plan::Noise;
 use idle_places::Idle;
 use idle_plan::{idle_box, idle_goal, idle_root};
 use rule_plan::plan_with_noise;
-use split_plan::plan_split;
+use split_plan::{plan_root_split, plan_split};
 use std::alloc::{AllocError, Global};
 
 /// What comes next at a place.
@@ -91,6 +91,11 @@ fn single_next(alloc: Global, program: &Program, seen: &Seen) -> Result<Next, Al
     match seen {
         Seen::Goal { goal, view } => goal_next(alloc, program, view, *goal, noise.as_slice()),
         Seen::Root { view } => root_next(alloc, view),
+        Seen::Still {
+            view,
+            boxes,
+            alternative,
+        } => still_next(alloc, program, view, boxes.as_slice(), *alternative),
         Seen::Box {
             view,
             inside,
@@ -128,6 +133,24 @@ fn root_next(alloc: Global, view: &View) -> Result<Next, AllocError>
 {
     let idle = idle_root(alloc, view)?;
     Ok(Next::Idle(idle))
+}
+
+// What comes next at a root box of which it is known that no place inside it is ready: it is split.
+fn still_next(
+    alloc: Global,
+    program: &Program,
+    view: &View,
+    boxes: &[InnerBox],
+    alternative: Name,
+) -> Result<Next, AllocError>
+    requires program { program.now ≡ view.now.table.program }
+    requires still { IsStillRoot view.now boxes.now alternative }
+    requires none { HasNoRule view.now }
+    ensures next { IfOk result (IsNext view.now) }
+    ensures alone { IfOk result IsAlone }
+{
+    let found = plan_root_split(alloc, program, view, boxes, alternative)?;
+    Ok(Next::Plan(found))
 }
 
 // What comes next at a box at which no rule but Split applies.

@@ -7,7 +7,7 @@ ghost use Rattle.box_tree.specs.Insides.{IsCandidateOf};
 ghost use Rattle.place_steps.specs.Seen.{view_in, IsSight, IsCandidateAt, IsSeen, IsSeenBy, IsStillIn};
 
 use akl_terms::{Name, Place};
-use box_tree::{Inside, LookError, View};
+use box_tree::{InnerBox, Inside, LookError, View};
 use std::alloc::{AllocError, Global};
 use step_commit::Core;
 
@@ -22,6 +22,13 @@ pub enum Seen {
     /// A root box at which no choice could be split. What stands inside it isn't seen.
     Root {
         view: View,
+    },
+    /// A root box that could be split at this alternative, with all boxes inside it, of which it is known that no place
+    /// inside it is ready.
+    Still {
+        view: View,
+        boxes: Vec<InnerBox>,
+        alternative: Name,
     },
     /// Another box, with all that stands inside it, the alternative at which it could be split, and whether it is known that
     /// no place inside it is ready.
@@ -39,7 +46,8 @@ impl Seen {
         ensures { result.now ≡ view_in self.now }
     {
         match self {
-            Seen::Goal { view, .. } | Seen::Root { view } | Seen::Box { view, .. } => view,
+            Seen::Goal { view, .. } | Seen::Root { view } => view,
+            Seen::Still { view, .. } | Seen::Box { view, .. } => view,
         }
     }
 }
@@ -120,8 +128,19 @@ fn see_box(
     ensures seen { IfOk result IsSeen }
     ensures sight { IfOk result (λ seen. IsSight core.now (Place.Box name) worker (view_in seen)) }
 {
-    if alternative.is_none() && view.path().len() == 1 {
-        return Ok(Seen::Root { view });
+    if view.path().len() == 1 {
+        match alternative {
+            None => return Ok(Seen::Root { view }),
+            Some(alternative) if still => {
+                let boxes = core.boxes_inside(alloc, name)?;
+                return Ok(Seen::Still {
+                    view,
+                    boxes,
+                    alternative,
+                });
+            }
+            Some(_) => {}
+        }
     }
     let inside = core.look_inside(alloc, name, worker)?;
     Ok(Seen::Box {

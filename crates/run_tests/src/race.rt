@@ -103,6 +103,8 @@ fn race(
     let Some(two) = planned(alloc, program, core, second)? else {
         return text.push_str("no second plan");
     };
+    // By this call it is known that the core is one before its labels.
+    let _ = core.table();
     match commit(alloc, core, one) {
         Ok(_) => match commit(alloc, core, two) {
             Ok(receipt) => push_receipt(text, receipt),

@@ -2,7 +2,7 @@
 
 use akl_model::Label;
 use akl_terms::{Code, Goal, Name};
-use box_tree::{BoxCopy, InnerBox, Inside, NewBox};
+use box_tree::{BoxCopy, InnerBox, NewBox};
 use std::alloc::{AllocError, Global};
 use std::collections::BTreeMap;
 
@@ -187,12 +187,12 @@ impl Origins {
         &mut self,
         alloc: Global,
         alternative: Name,
-        inside: &Inside,
+        boxes: &[InnerBox],
         copies: &[BoxCopy],
     ) -> Result<(), AllocError> {
         let mut names = BTreeMap::new(alloc);
-        self.copy_boxes(alternative, &inside.boxes, copies, &mut names)?;
-        self.copy_choices(alternative, &inside.boxes, copies, &names)
+        self.copy_boxes(alternative, boxes, copies, &mut names)?;
+        self.copy_choices(alternative, boxes, copies, &names)
     }
 
     // A box that has a copy, with its frames and as an alternative.

@@ -12,7 +12,7 @@ use crate::scene::Words;
 use crate::sentences::push_sentence;
 use akl_model::Label;
 use akl_terms::{Name, Program};
-use box_tree::{Plan, Sight, Step};
+use box_tree::{InnerBox, Plan, Sight, Step};
 use place_steps::{Next, Seen, next_of, see};
 use std::alloc::{AllocError, Global};
 use step_commit::Core;
@@ -47,16 +47,25 @@ fn learn(alloc: Global, origins: &mut Origins, seen: &Seen, plan: &Plan) -> Resu
     match seen {
         Seen::Goal { goal, view } => learn_goal(origins, *goal, view.sight(), plan),
         Seen::Root { .. } => Ok(()),
-        Seen::Box { inside, .. } => {
-            if let (Some(alternative), Step::Split { copies, .. }) = (
-                plan.label().alternative,
-                plan.step(),
-            ) {
-                origins.split(alloc, alternative, inside, copies)?;
-            }
-            Ok(())
-        }
+        Seen::Still { boxes, .. } => learn_split(alloc, origins, boxes, plan),
+        Seen::Box { inside, .. } => learn_split(alloc, origins, &inside.boxes, plan),
     }
+}
+
+// Learns where the copies come from that a split makes of these boxes.
+fn learn_split(
+    alloc: Global,
+    origins: &mut Origins,
+    boxes: &[InnerBox],
+    plan: &Plan,
+) -> Result<(), AllocError> {
+    if let (Some(alternative), Step::Split { copies, .. }) = (
+        plan.label().alternative,
+        plan.step(),
+    ) {
+        origins.split(alloc, alternative, boxes, copies)?;
+    }
+    Ok(())
 }
 
 // Tells of a plan, and learns where that comes from which it makes.

@@ -16,5 +16,5 @@ pub commit-requires-in-Ok : goal.commit-requires-in-Ok
 commit-requires-in-Ok c =
     let one : IsOf c.args.core.now c.args.first.worker c.in-Some.one = subst (λ (o : Option PlanValue). IfSome o (IsOf c.args.core.now c.args.first.worker)) c.in-Some.is c.in_ok-one.ensures in
     let two : IsOf c.args.core.now c.args.second.worker c.in-Some-2.two = subst (λ (o : Option PlanValue). IfSome o (IsOf c.args.core.now c.args.second.worker)) c.in-Some-2.is c.in_ok-two.ensures in
-    may_commit_second c.args.core.now c.commit.new.core c.in-Some.one c.in-Some-2.two c.in-Ok.field-0 c.in-Ok.ensures.core one.3 two.0 two.1
+    may_commit_second c.args.core.now c.commit.new.core c.in-Some.one c.in-Some-2.two c.in-Ok.field-0 c.table.ensures.core c.in-Ok.ensures.core one.3 two.0 two.1
     (λ e. c.if-first-second.false (sym one.2 ∙ sym e ∙ two.2)) c.in-Ok.ensures.committed

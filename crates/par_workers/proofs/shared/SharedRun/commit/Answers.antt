@@ -47,12 +47,13 @@ invariant_of-self-in-Ok g c =
     let d = c.commit.new.self.core in
     let found = subst (λ (x : SharedValue). IsFoundBefore x c.args.worker (Next.Plan c.args.plan)) (sym c.self.view_is) c.requires.plan in
     let most = subst (λ (x : SharedValue). c.args.worker ≤ x.begun.workers) (sym c.self.view_is) c.requires.worker.1 in
+    let before : IsCore v.scheduler.core = c.core.ensures.scheduler.core in
     let core = subst IsCore c.core-core.ensures.core c.table.ensures.core in
     let table = c.of-made.ensures.table ∙ c.table.ensures.table ∙ ap (λ (e : CoreValue). e.table) c.core-core.ensures.core in
     record {
       shared = subst (λ (ms : List Made). IsShared (record { begun = v.begun.value; past = ms }) d)
           (sym (c.push_reserved.ensures.items ∙ ap (λ (ms : List Made). ms ++ c.of-made.result ∷ []) c.reserve.ensures.items))
-          (shared_more s v.scheduler.core d c.args.worker c.args.plan c.in-Ok.field-0.receipt c.of-made.result c.self.invariant.shared found c.requires.worker.0 most core c.in-Ok.ensures.committed.commits (c.of-made.ensures.plan ∙ c.of-planned.ensures) table);
+          (shared_more s v.scheduler.core d c.args.worker c.args.plan c.in-Ok.field-0.receipt c.of-made.result c.self.invariant.shared found c.requires.worker.0 most before core c.in-Ok.ensures.committed.commits (c.of-made.ensures.plan ∙ c.of-planned.ensures) table);
       held = c.take_opened.ensures v.scheduler.openings c.in-Ok.ensures.committed.keeps c.self.invariant.held;
     }
 
