@@ -5,6 +5,7 @@ pub mod Forks
 pub mod Greatest
 pub mod Heights
 pub mod Newest
+pub mod Order
 pub mod Removals
 pub mod Settings
 pub mod Sides

@@ -1,5 +1,8 @@
 //! A map whose newest entries stand in a short list beside its tree.
-ghost use Rattle.std.specs.Prelude.{◌≡◌, List, [], Some, cond, IfOk, IfErr, option_copied};
+ghost use Rattle.std.specs.Prelude.{◌≡◌, false, List, [], Some, cond, IfOk, IfErr, option_copied};
+ghost use Rattle.std.specs.declared.cmp.Ordering.TheVariants.{Equal};
+ghost use Rattle.std.specs.List.{AllByRecursion};
+ghost use Rattle.std.specs.Map.{keys_of};
 ghost use Rattle.std.specs.Option.{option_or};
 ghost use Rattle.std.specs.BTreeMap.{insert_entry};
 ghost use Rattle.persist_map.specs.Entries.{IsOrdered, value_at, ChangesOnly, ClonesAreEqual, is_above};
@@ -127,12 +130,33 @@ impl<K: Ord + Copy, V: Copy> BufferedMap<K, V> {
         self.empty_list()
     }
 
-    // Brings the list into the tree, from the oldest entry on, and as a whole what comes behind all that is there.
+    // Puts entries into the tree from the newest on, as long as their keys aren't above all that stand there, nor stand
+    // elsewhere in the list, so that those before them may come behind the tree as a whole.
+    fn put_older(&mut self) -> Result<(), AllocError>
+        requires keys { ClonesAreEqual K.is_clone }
+        requires values { ClonesAreEqual V.is_clone }
+        ensures { self.new ≡ self.old }
+    {
+        while !self.newest.is_empty() {
+            let last = self.newest.len() - 1;
+            let (key, value) = self.newest[last];
+            if is_above(&key, self.greatest.as_ref()) || has_key(&self.newest[..last], &key) {
+                return Ok(());
+            }
+            self.settled.insert(key, value)?;
+            self.newest.truncate(last);
+        }
+        Ok(())
+    }
+
+    // Brings the list into the tree: first what is older than what stands there, then from the oldest entry on, and as a whole
+    // what comes behind all that is there.
     fn empty_list(&mut self) -> Result<(), AllocError>
         requires keys { ClonesAreEqual K.is_clone }
         requires values { ClonesAreEqual V.is_clone }
         ensures { self.new ≡ self.old }
     {
+        self.put_older()?;
         while !come_behind(&self.newest, self.greatest.as_ref()) {
             let (key, value) = self.newest[0];
             self.settled.insert(key, value)?;
@@ -218,6 +242,18 @@ fn newest_at<'a, K: Ord, V>(newest: &'a [(K, V)], key: &K) -> Option<&'a V>
         }
     }
     None
+}
+
+// Whether the key is that of one of the entries.
+fn has_key<K: Ord, V>(entries: &[(K, V)], key: &K) -> bool
+    ensures { result ≡ false → AllByRecursion (λ k. K.cmp key.now k ≡ Equal → ⊥) (keys_of entries.now) }
+{
+    for entry in entries {
+        if key.cmp(&entry.0).is_eq() {
+            return true;
+        }
+    }
+    false
 }
 
 // Sets the pair in entries that are in the order of their keys.
