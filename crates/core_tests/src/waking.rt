@@ -2,7 +2,7 @@
 
 ghost use Rattle.std.specs.Prelude.{◌≡◌, IfOk};
 ghost use Rattle.box_tree.specs.Tables.{HasVariables, HasShownVariables};
-ghost use Rattle.run_tests.specs.Waking.{GoesOnTo};
+ghost use Rattle.core_tests.specs.Waking.{GoesOnTo};
 
 use crate::attending::{attend, attend_between};
 use crate::cases::{Case, case_of, expect};

@@ -5,7 +5,7 @@ ghost use Rattle.box_tree.specs.Tables.{table_of};
 ghost use Rattle.box_tree.specs.Views.{is_there};
 ghost use Rattle.step_commit.specs.Cores.{MayCommit};
 ghost use Rattle.scheduler.specs.Settled.{MaySettle};
-ghost use Rattle.run_tests.specs.Waking.{GoesOnTo, IsFoundAt, IsFoundNow};
+ghost use Rattle.core_tests.specs.Waking.{GoesOnTo, IsFoundAt, IsFoundNow};
 
 use crate::listing::{places_under, push_open, push_places, token_of};
 use crate::texts::{push_item, push_place, rule_name};

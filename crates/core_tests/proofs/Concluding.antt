@@ -14,7 +14,7 @@ use Rattle.step_commit.specs.Cores.{CoreValue, IsCore, MayCommit, Commits, solve
 use Rattle.scheduler.specs.Settled.{MaySettle}
 use Rattle.scheduler.proofs.Fronts as fronts
 use Rattle.scheduler.proofs.Fronts.{front_now}
-use Rattle.run_tests.specs.Waking.{GoesOnTo, IsFoundNow}
+use Rattle.core_tests.specs.Waking.{GoesOnTo, IsFoundNow}
 
 -- of the core as it is
 pub may_commit_now : (c : CoreValue) (p : PlanValue) → p.table ≡ c.table → p.journal ≡ c.journal → MayCommit c p

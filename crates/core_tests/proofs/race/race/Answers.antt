@@ -1,8 +1,8 @@
 use Rattle.std.proofs.Common.{◌≡◌, [], IfSome, ℕ, Option, sym, subst, ◌∙◌}
 use Rattle.box_tree.specs.Plans.{PlanValue}
 use Rattle.step_commit.specs.Cores.{CoreValue}
-use Rattle.run_tests.proofs.Concluding.{may_commit_now, may_commit_second}
-use Rattle.run_tests.proofs.race.race.Goals as goal
+use Rattle.core_tests.proofs.Concluding.{may_commit_now, may_commit_second}
+use Rattle.core_tests.proofs.race.race.Goals as goal
 
 abbrev IsOf : CoreValue → ℕ → PlanValue → Type 0
 IsOf c worker p = (p.table ≡ c.table) × (p.journal ≡ c.journal) × (p.label.worker ≡ worker) × (p.more ≡ [])

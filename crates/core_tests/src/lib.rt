@@ -1,0 +1,26 @@
+//! Tests of one core: two workers, which plan over one state and commit one after the other; its open places, place by place;
+//! and `run_many` with one worker, which no command asks for.
+#![tactic(auto)]
+
+#[cfg(test)]
+mod answering;
+#[cfg(test)]
+mod attending;
+#[cfg(test)]
+mod cases;
+#[cfg(test)]
+mod listing;
+#[cfg(test)]
+mod loading;
+#[cfg(test)]
+mod open_places;
+#[cfg(test)]
+mod places;
+#[cfg(test)]
+mod race;
+#[cfg(test)]
+mod running;
+#[cfg(test)]
+mod texts;
+#[cfg(test)]
+mod waking;
