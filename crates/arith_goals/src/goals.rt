@@ -45,6 +45,9 @@ pub fn evaluate(alloc: Global, chain: &Chain, goal: Goal) -> Result<ArithValue, 
 {
     let templates = chain.templates();
     let known = chain.known();
+    if known == chain.stores().len() {
+        return evaluate_over(alloc, templates, chain, goal);
+    }
     let base = chain.outer(known);
     let mut form = Form {
         known: &base,

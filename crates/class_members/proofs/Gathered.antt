@@ -136,6 +136,13 @@ module _ (nodes : List Node) (bs : List (Var × Term)) where
   pub listed_ends : (xs list : List Var) → AreEnds nodes bs xs list → AreListed nodes bs xs [] list
   listed_ends xs list h = record { each = λ y m. inl (h.each y m); ends = h.every; others = λ y r m. absurd m }
 
+  -- of one variable alone
+  pub listed_end : (x r : Var) (list : List Var) → IsEndOf nodes bs x (Some r) → list ≡ r ∷ [] → AreListed nodes bs (x ∷ []) [] list
+  listed_end x r list e q = subst (AreListed nodes bs (x ∷ []) []) (sym q) (listed_ends (x ∷ []) (r ∷ []) (ends_new [] [] no_ends x r e))
+
+  pub listed_headed : (x : Var) (list : List Var) → IsEndOf nodes bs x None → list ≡ [] → AreListed nodes bs (x ∷ []) [] list
+  listed_headed x list n q = subst (AreListed nodes bs (x ∷ []) []) (sym q) (listed_ends (x ∷ []) [] (ends_headed [] [] no_ends x n))
+
   module _ (xs cs list : List Var) (h : AreListed nodes bs xs cs list) (y : Var) where
     abbrev Found : List Var → Var → Type 0
     Found ds z = IsEndOfOne nodes bs xs z ⊎ (IsAmong z ds × ((r : Var) × IsEndOfOne nodes bs xs r × (end_of nodes bs (variable z) ≡ variable r)))

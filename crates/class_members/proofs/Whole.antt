@@ -1,5 +1,5 @@
 -- What is listed over the stores of a chain that is known to be solved is enough members.
-use Rattle.std.proofs.Common.{◌≡◌, List, [], ◌∷◌, ◌++◌, length, ◌≤◌, None, refl, sym, ap, subst, ◌∙◌, take, drop, append-nil}
+use Rattle.std.proofs.Common.{◌≡◌, List, [], ◌∷◌, ◌++◌, length, get_or, ◌≤◌, ◌<◌, None, refl, sym, ap, subst, ◌∙◌, take, drop, append-nil, arith}
 use Rattle.akl_terms.specs.declared.name.Var.{Var}
 use Rattle.akl_terms.specs.declared.term.Node.{Node}
 use Rattle.akl_terms.specs.declared.term.Term.{Term}
@@ -18,6 +18,21 @@ use Rattle.class_members.proofs.Enough.{are_members, members_unbound}
 none-left : (ss : List Stored) → drop (length ss) ss ≡ []
 none-left [] = refl
 none-left (s ∷ ss) = none-left ss
+
+-- nothing stands inside one store
+no_candidates : (ss : List Stored) → length ss ≡ 1 → candidates_of ss [] ≡ []
+no_candidates [] e = refl
+no_candidates (s ∷ []) e = refl
+no_candidates (s ∷ t ∷ ss) e = absurd (omega arith)
+
+pub only : (of : List Var) (d : Var) → 1 ≤ length of → length of < 2 → of ≡ get_or of 0 d ∷ []
+only [] d l h = absurd (omega arith)
+only (x ∷ []) d l h = refl
+only (x ∷ y ∷ of) d l h = absurd (omega arith)
+
+pub alone_listed : (nodes : List Node) (bs : List (Var × Term)) (ss : List Stored) (of : List Var) (x : Var) (list : List Var) → length ss ≡ 1 → of ≡ x ∷ []
+    → AreListed nodes bs (x ∷ []) [] list → AreListed nodes bs of (candidates_of ss []) list
+alone_listed nodes bs ss of x list e q l = subst (λ (cs : List Var). AreListed nodes bs of cs list) (sym (no_candidates ss e)) (subst (λ (xs : List Var). AreListed nodes bs xs [] list) (sym q) l)
 
 module _ (nodes : List Node) (ss : List Stored) (h : IsKnown nodes ss (length ss)) (of list : List Var) (l : AreListed nodes (bindings_from ss) of (candidates_of ss []) list) where
   all : take (length ss) ss ≡ ss

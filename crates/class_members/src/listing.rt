@@ -1,6 +1,6 @@
 //! Members of classes.
 
-ghost use Rattle.std.specs.Prelude.{◌≡◌, ◌≤◌, IfOk, None, length, take};
+ghost use Rattle.std.specs.Prelude.{◌≡◌, ◌≤◌, ◌∷◌, [], IfOk, None, length, take};
 ghost use Rattle.constraint_laws.specs.Touched.{IsAmong};
 ghost use Rattle.rational_unify.specs.Known.{IsSolved, found_in};
 ghost use Rattle.local_store.specs.Chained.{bindings_from, IsKnown};
@@ -11,7 +11,7 @@ use crate::candidates::candidates_of;
 use crate::ending::Ends;
 use akl_terms::{Templates, Var};
 use local_store::{Chain, take_stores};
-use rational_unify::{AddedBindings, Form, Lookup};
+use rational_unify::{AddedBindings, Form, Lookup, variable_end};
 use std::alloc::{AllocError, Global};
 
 /// Members of the classes of these variables, enough of them that each other member is equal to one by the outermost
@@ -49,8 +49,29 @@ fn members_in(alloc: Global, chain: &Chain, of: &[Var]) -> Result<Vec<Var>, Allo
     ensures members { IfOk result (λ list. AreMembers chain.now.nodes chain.now.stores of.now list.items) }
     ensures unbound { IfOk result (λ list. 1 ≤ length chain.now.stores → (y : _) → IsAmong y list.items → found_in (bindings_from (take 1 chain.now.stores)) y ≡ None) }
 {
+    if chain.stores().len() == 1 {
+        if let [variable] = of {
+            return end_alone(alloc, chain.templates(), chain, *variable);
+        }
+    }
     let candidates = candidates_of(alloc, chain.stores(), &[])?;
     members_among(alloc, chain.templates(), chain, of, candidates.as_slice())
+}
+
+// As `members_among`, of one variable without candidates: the end of its chain.
+fn end_alone<W: Lookup>(
+    alloc: Global,
+    templates: &Templates,
+    whole: &W,
+    variable: Var,
+) -> Result<Vec<Var>, AllocError>
+    requires { IsSolved templates.now.nodes (W.bindings whole.now) }
+    ensures { IfOk result (λ list. AreListed templates.now.nodes (W.bindings whole.now) (variable ∷ []) [] list.items) }
+{
+    match variable_end(templates, whole, variable) {
+        Some(end) => Vec::from_slice(alloc, &[end]),
+        None => Ok(Vec::new(alloc)),
+    }
 }
 
 // The ends of the chains of these variables, and of the candidates those whose chains end in one of them.
