@@ -1,6 +1,5 @@
 -- Goals of a guard come out one after another.
-use Rattle.std.proofs.Common.{◌≡◌, ℕ, ◌+◌, List, [], ◌∷◌, ◌++◌, length, Bool, true, false, None, refl, sym, ◌∙◌, ap, subst, arith, append_assoc, append-nil}
-use Rattle.std.specs.Prelude.{slice_get}
+use Rattle.std.proofs.Common.{◌≡◌, ℕ, ◌+◌, List, [], ◌∷◌, ◌++◌, length, Bool, true, false, refl, sym, ◌∙◌, ap, subst, arith, append_assoc, append-nil}
 use Rattle.akl_terms.specs.declared.name.Name.{Name}
 use Rattle.akl_terms.specs.declared.term.Node.{Node}
 use Rattle.akl_terms.specs.declared.program.Code.{Code}
@@ -57,8 +56,3 @@ module _ (symbols : List (List ℕ)) (nodes : List Node) (ss : List Stored) (fra
 
     pub ends_open : (rest : List Code) → Evaluating labels goal rest → IsGuarded symbols nodes ss frame (frame.number + 1) codes old labels Guard.Open
     ends_open rest p = record { evaluations = p.done; labels = p.labels_are; comes = tt }
-
--- a guard without goals holds
-pub nothing_holds : (symbols : List (List ℕ)) (nodes : List Node) (ss : List Stored) (frame : Name) (n : ℕ) (codes : List Code) (old : List Label) → None ≡ slice_get codes 0 → IsGuarded symbols nodes ss frame n codes old old Guard.Holds
-nothing_holds symbols nodes ss frame n [] old e = record { evaluations = []; labels = sym (append-nil old); comes = all_hold n }
-nothing_holds symbols nodes ss frame n (c ∷ cs) old e = cc

@@ -15,4 +15,5 @@ pub mod BoundThen
 pub mod HeadSolved
 pub mod SiftingOn
 pub mod EvaluatingOn
+pub mod OwnWithin
 pub mod CalledFacts

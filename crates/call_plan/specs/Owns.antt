@@ -1,8 +1,9 @@
 -- What an alternative tells over the stores around it.
-use Rattle.std.specs.Prelude.{List, ⊤}
+use Rattle.std.specs.Prelude.{List, ◌++◌, ⊤}
 use Rattle.akl_terms.specs.declared.name.Name.{Name}
 use Rattle.akl_terms.specs.declared.name.Var.{Var}
 use Rattle.akl_terms.specs.declared.term.Node.{Node}
+use Rattle.akl_terms.specs.declared.term.Term.{Term}
 use Rattle.local_store.specs.Stored.{Stored}
 use Rattle.local_store.specs.Chained.{bindings_from}
 use Rattle.plain_heads.specs.Plain.{ArePlain}
@@ -13,6 +14,14 @@ use Rattle.call_plan.specs.declared.own.Own.{Own}
 abbrev pub stored : Name → Own → Stored
 stored frame (Own.Plain bs) = own_store frame bs.items
 stored frame (Own.Store s) = s
+
+-- what it binds, and what is bound within the stores around it: its own bindings are found first
+abbrev pub bindings_of : Own → List (Var × Term)
+bindings_of (Own.Plain bs) = bs.items
+bindings_of (Own.Store s) = s.bindings
+
+abbrev pub bindings_within : List Stored → Own → List (Var × Term)
+bindings_within path own = bindings_of own ++ bindings_from path
 
 -- bindings that aren't put into a store are plain
 abbrev pub IsPlainOwn : List Node → List Stored → Name → Own → Type 0

@@ -2,13 +2,14 @@
 
 ghost use Rattle.std.specs.Prelude.{◌≡◌, ◌+◌, ◌<◌, ◌^◌, true, length, IfOk, IfSome};
 ghost use Rattle.akl_model.specs.Instances.{drawn_by};
-ghost use Rattle.local_store.specs.Chained.{IsKnown};
+ghost use Rattle.local_store.specs.Chained.{bindings_from, IsKnown};
+ghost use Rattle.plain_heads.specs.Plain.{AreEnds};
 ghost use Rattle.call_plan.specs.Chosen.{IsChosen, OthersGo};
 
 use crate::heads::Arguments;
 use crate::sifting::{Left, first_left};
 use akl_model::Label;
-use akl_terms::{Clause, Name, Op};
+use akl_terms::{Clause, Name, Op, Term};
 use local_store::Chain;
 use std::alloc::{AllocError, Global};
 
@@ -19,22 +20,24 @@ pub(crate) fn chosen<'a>(
     alloc: Global,
     chain: &Chain,
     arguments: Arguments,
+    ends: &[Term],
     op: Op,
     first: Name,
     clauses: &'a [Clause],
     labels: &mut Vec<Label>,
 ) -> Result<Option<Left<'a>>, AllocError>
     requires known { IsKnown chain.now.nodes chain.now.stores (length chain.now.stores) }
+    requires ends { AreEnds chain.now.nodes (bindings_from chain.now.stores) arguments.frame arguments.first ends.now }
     requires numbers { first.number + drawn_by clauses.now < 2 ^ 64 }
     ensures { IfOk result (λ found. IfSome found (IsChosen chain.now.symbols chain.now.nodes chain.now.stores arguments first.worker first.number op clauses.now labels.old.items labels.new.items)) }
 {
-    let Some(left) = first_left(alloc, chain, arguments, first, clauses, labels)? else {
+    let Some(left) = first_left(alloc, chain, arguments, ends, first, clauses, labels)? else {
         return Ok(None);
     };
     if !left.holds {
         return Ok(None);
     }
-    if !others_go(alloc, chain, arguments, op, &left, labels)? {
+    if !others_go(alloc, chain, arguments, ends, op, &left, labels)? {
         return Ok(None);
     }
     Ok(Some(left))
@@ -46,11 +49,13 @@ fn others_go(
     alloc: Global,
     chain: &Chain,
     arguments: Arguments,
+    ends: &[Term],
     op: Op,
     left: &Left,
     labels: &mut Vec<Label>,
 ) -> Result<bool, AllocError>
     requires known { IsKnown chain.now.nodes chain.now.stores (length chain.now.stores) }
+    requires ends { AreEnds chain.now.nodes (bindings_from chain.now.stores) arguments.frame arguments.first ends.now }
     requires numbers { left.now.name.number + (2 + length left.now.clause.now.guard) + drawn_by left.now.behind.now < 2 ^ 64 }
     ensures { IfOk result (λ go. go ≡ true → OthersGo chain.now.symbols chain.now.nodes chain.now.stores arguments op left.now labels.old.items labels.new.items) }
 {
@@ -59,7 +64,7 @@ fn others_go(
         Op::Choice => {
             let mut first = left.name;
             first.number += 2 + left.clause.guard.len() as u64;
-            let next = first_left(alloc, chain, arguments, first, left.behind, labels)?;
+            let next = first_left(alloc, chain, arguments, ends, first, left.behind, labels)?;
             Ok(next.is_none())
         }
         Op::Collect => Ok(false),

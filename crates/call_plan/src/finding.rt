@@ -30,8 +30,13 @@ use body_goals::Body;
 use box_tree::{Plan, Step, View};
 use class_members::members;
 use guard_plan::{goal_and_stores, label_of};
-use local_store::{Chain, Shared, ToldStore};
+use local_store::{Chain, Shared, Store, ToldStore};
+use plain_heads::ends_of;
+use smallvec::SmallVec;
 use std::alloc::{AllocError, Global};
+
+// Most calls have no more labels than this behind their first one.
+const ROOM: usize = 8;
 
 /// The plan of a call at once, at the place of a view; `None` where it isn't seen at once which one of the clauses is left.
 /// An `Err` is want of memory.
@@ -83,14 +88,17 @@ fn by_clauses(
     };
     let clauses = called.clauses.as_slice();
     let chain = view.chain(&program.templates);
-    if !may_go(&chain, arguments, called.op, clauses) {
+    let list = ends_of(alloc, &chain, arguments.row())?;
+    let ends = list.as_slice();
+    if !may_go(&chain, arguments, ends, called.op, clauses) {
         return Ok(None);
     }
-    let mut labels = Vec::new(alloc);
+    let mut labels = Vec::with_capacity(alloc, ROOM)?;
     let found = chosen(
         alloc,
         &chain,
         arguments,
+        ends,
         called.op,
         first,
         clauses,
@@ -158,44 +166,45 @@ fn planned(
     let codes = left.clause.body.as_slice();
     let names = drawn.checked_add(codes.len() as u64).ok_or(AllocError)?;
     let label = label_of(view, Rule::Fork);
+    let ToldStore {
+        store,
+        solved,
+        bound,
+    } = told;
     let chain = view.chain(&program.templates);
-    let binds = binds_of(alloc, &chain, &left.own, told.bound.as_slice())?;
+    let binds = binds_of(alloc, &chain, &left.own, bound)?;
     let reads = goal_and_stores(alloc, goal, view.path())?;
-    let step = join_of(alloc, told, body)?;
+    let step = join_of(alloc, store, solved, body)?;
     let plan = Plan::of_call(alloc, view, label, more, reads, names, step, binds)?;
     Ok(Some(plan))
 }
 
 // Enough members of the classes of what an alternative binds or makes equal over a chain that is known to be solved. In a
 // root box these are the variables themselves, where its bindings are plain.
-fn binds_of(alloc: Global, chain: &Chain, own: &Own, bound: &[Var]) -> Result<Vec<Var>, AllocError>
+fn binds_of(
+    alloc: Global,
+    chain: &Chain,
+    own: &Own,
+    bound: SmallVec<Var, 4>,
+) -> Result<Vec<Var>, AllocError>
     requires known { IsKnown chain.now.nodes chain.now.stores (length chain.now.stores) }
-    requires free { BindsFree chain.now.stores own.now bound.now }
-    ensures { IfOk result (λ list. AreMembers chain.now.nodes chain.now.stores bound.now list.items) }
+    requires free { BindsFree chain.now.stores own.now bound.items }
+    ensures { IfOk result (λ list. AreMembers chain.now.nodes chain.now.stores bound.items list.items) }
 {
     if let Own::Plain(_) = own {
         if chain.stores().len() == 1 {
-            return copied(alloc, bound);
+            let list = bound.into_vec()?;
+            return Ok(list);
         }
     }
-    members(alloc, chain, bound)
-}
-
-// A list of these variables.
-fn copied(alloc: Global, variables: &[Var]) -> Result<Vec<Var>, AllocError>
-    ensures { IfOk result (λ list. list.items ≡ variables.now) }
-{
-    let mut list = Vec::with_capacity(alloc, variables.len())?;
-    list.extend_from_slice(variables)?;
-    Ok(list)
+    members(alloc, chain, bound.as_slice())
 }
 
 // The step by which a box gets this store, and what is left of a body as goals.
-fn join_of(alloc: Global, told: ToldStore, body: Body) -> Result<Step, AllocError>
-    ensures joins { IfOk result (λ step. (nodes : List Node) → step_of nodes step ≡ laws.joins told.store told.solved (named_atoms nodes body.goals.items)) }
+fn join_of(alloc: Global, store: Store, solved: bool, body: Body) -> Result<Step, AllocError>
+    ensures joins { IfOk result (λ step. (nodes : List Node) → step_of nodes step ≡ laws.joins store solved (named_atoms nodes body.goals.items)) }
     ensures behind { IfOk result (λ step. labels_behind step ≡ (body.told, body.behind)) }
 {
-    let ToldStore { store, solved, .. } = told;
     let Body {
         goals,
         told,

@@ -14,6 +14,7 @@ mod own;
 mod prospects;
 mod sifting;
 mod waiting;
+mod within;
 
 pub use finding::call_at_once;
 pub use heads::Arguments;

@@ -3,10 +3,12 @@
 ghost use Rattle.std.specs.Prelude.{◌≡◌, IfOk};
 ghost use Rattle.local_store.specs.Stored.{with_bindings};
 ghost use Rattle.rule_plan.specs.Made.{store_with};
-ghost use Rattle.call_plan.specs.Owns.{stored};
+ghost use Rattle.rational_unify.specs.Known.{found_in};
+ghost use Rattle.call_plan.specs.Owns.{bindings_of};
 
 use akl_terms::{Name, Term, Var};
 use local_store::{Shared, Store};
+use rational_unify::found;
 use std::alloc::{AllocError, Global};
 
 /// What an alternative tells over the stores around it.
@@ -19,13 +21,13 @@ pub(crate) enum Own {
 }
 
 impl Own {
-    // The store of an alternative with this frame.
-    pub(crate) fn store(&self, alloc: Global, frame: Name) -> Result<Shared<Store>, AllocError>
-        ensures { IfOk result (λ s. s ≡ stored frame self.now) }
+    // What a variable is bound to; `None` exactly where it isn't bound.
+    pub(crate) fn first_binding(&self, variable: Var) -> Option<Term>
+        ensures { result ≡ found_in (bindings_of self.now) variable }
     {
         match self {
-            Own::Plain(bindings) => store_of(alloc, frame, bindings.as_slice()),
-            Own::Store(store) => store.share(),
+            Own::Plain(bindings) => found(bindings.as_slice(), variable),
+            Own::Store(store) => store.get().first_binding(variable),
         }
     }
 }

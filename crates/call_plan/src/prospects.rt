@@ -50,9 +50,9 @@ pub(crate) fn known_at(chain: &Chain, node: u32, frame: Name) -> Seen
     templates.look(chain_end(templates, chain, Term::Mol { node, frame }))
 }
 
-// How a clause's head stands to the arguments of a call over a chain that is solved. Of the arguments that are still variables,
-// where the head isn't one, the last is told.
-pub(crate) fn fit_of(chain: &Chain, arguments: Arguments, clause: &Clause) -> Fit
+// How a clause's head stands to the arguments of a call over a chain that is solved, where the first of them are known to end in
+// these terms. Of the arguments that are still variables, where the head isn't one, the last is told.
+pub(crate) fn fit_of(chain: &Chain, arguments: Arguments, ends: &[Term], clause: &Clause) -> Fit
     requires { IsSolvedChain chain.now.nodes chain.now.stores }
 {
     let frame = arguments.frame;
@@ -63,7 +63,10 @@ pub(crate) fn fit_of(chain: &Chain, arguments: Arguments, clause: &Clause) -> Fi
         if let Seen::Free(_) = head {
             continue;
         }
-        let argument = known_at(chain, arguments.first.saturating_add(index), frame);
+        let argument = match ends.get(index as usize) {
+            Some(end) => chain.templates().look(*end),
+            None => known_at(chain, arguments.first.saturating_add(index), frame),
+        };
         match fit_between(argument, head) {
             Fit::Clashes => return Fit::Clashes,
             Fit::Waits(variable) => fit = Fit::Waits(variable),
@@ -83,11 +86,11 @@ fn has_comparisons_alone(clause: &Clause) -> bool {
 }
 
 // The same where the first clause that is left goes, with `->` and `|`.
-fn first_may_go(chain: &Chain, arguments: Arguments, clauses: &[Clause]) -> bool
+fn first_may_go(chain: &Chain, arguments: Arguments, ends: &[Term], clauses: &[Clause]) -> bool
     requires { IsSolvedChain chain.now.nodes chain.now.stores }
 {
     for clause in clauses {
-        match fit_of(chain, arguments, clause) {
+        match fit_of(chain, arguments, ends, clause) {
             Fit::Clashes => {}
             Fit::Waits(_) => return false,
             Fit::Fits => return has_comparisons_alone(clause),
@@ -97,12 +100,14 @@ fn first_may_go(chain: &Chain, arguments: Arguments, clauses: &[Clause]) -> bool
 }
 
 // The same where the one that is left has to be the only one, with `?`.
-fn only_one_may_go(chain: &Chain, arguments: Arguments, clauses: &[Clause]) -> bool
+fn only_one_may_go(chain: &Chain, arguments: Arguments, ends: &[Term], clauses: &[Clause]) -> bool
     requires { IsSolvedChain chain.now.nodes chain.now.stores }
 {
     let mut left = 0usize;
     for clause in clauses {
-        if !matches!(fit_of(chain, arguments, clause), Fit::Clashes) && clause.guard.is_empty() {
+        if !matches!(fit_of(chain, arguments, ends, clause), Fit::Clashes)
+            && clause.guard.is_empty()
+        {
             left = left.saturating_add(1);
         }
     }
@@ -111,12 +116,18 @@ fn only_one_may_go(chain: &Chain, arguments: Arguments, clauses: &[Clause]) -> b
 
 // Whether it may be seen at once which clause of a call is left. It is a quick look, which spares those who look closely all
 // the calls that have to wait or to be split.
-pub(crate) fn may_go(chain: &Chain, arguments: Arguments, op: Op, clauses: &[Clause]) -> bool
+pub(crate) fn may_go(
+    chain: &Chain,
+    arguments: Arguments,
+    ends: &[Term],
+    op: Op,
+    clauses: &[Clause],
+) -> bool
     requires { IsSolvedChain chain.now.nodes chain.now.stores }
 {
     match op {
-        Op::Condition | Op::Commit => first_may_go(chain, arguments, clauses),
-        Op::Choice => only_one_may_go(chain, arguments, clauses),
+        Op::Condition | Op::Commit => first_may_go(chain, arguments, ends, clauses),
+        Op::Choice => only_one_may_go(chain, arguments, ends, clauses),
         Op::Collect => false,
     }
 }

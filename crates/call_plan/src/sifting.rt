@@ -2,7 +2,8 @@
 
 ghost use Rattle.std.specs.Prelude.{◌≡◌, ◌+◌, ◌<◌, ◌^◌, length, true, IfOk, MatchOption};
 ghost use Rattle.akl_model.specs.Instances.{drawn_by};
-ghost use Rattle.local_store.specs.Chained.{IsSolvedChain, IsKnown};
+ghost use Rattle.local_store.specs.Chained.{bindings_from, IsSolvedChain, IsKnown};
+ghost use Rattle.plain_heads.specs.Plain.{AreEnds};
 ghost use Rattle.rule_plan.specs.Made.{IsNewStore};
 ghost use Rattle.call_plan.specs.Sifted.{head_codes, Clashes, IsOwn, AddsGoing, AddsLeft, IsSifted};
 
@@ -11,7 +12,7 @@ use crate::heads::{Arguments, head_equations};
 use crate::labels::failing;
 use crate::own::{Own, store_of};
 use akl_model::Label;
-use akl_terms::{Clause, Name};
+use akl_terms::{Clause, Name, Term};
 use local_store::{Chain, Shared, Store};
 use plain_heads::{Met, Row, meet};
 use rational_unify::{Solved, solve_only};
@@ -35,18 +36,20 @@ pub(crate) fn first_left<'a>(
     alloc: Global,
     chain: &Chain,
     arguments: Arguments,
+    ends: &[Term],
     first: Name,
     clauses: &'a [Clause],
     labels: &mut Vec<Label>,
 ) -> Result<Option<Left<'a>>, AllocError>
     requires known { IsKnown chain.now.nodes chain.now.stores (length chain.now.stores) }
+    requires ends { AreEnds chain.now.nodes (bindings_from chain.now.stores) arguments.frame arguments.first ends.now }
     requires numbers { first.number + drawn_by clauses.now < 2 ^ 64 }
     ensures { IfOk result (IsSifted chain.now.symbols chain.now.nodes chain.now.stores arguments first.worker first.number clauses.now labels.old.items labels.new.items) }
 {
     let mut name = first;
     let mut rest = clauses;
     while let Some((clause, behind)) = rest.split_first() {
-        if let Some(left) = left_of(alloc, chain, arguments, name, clause, behind, labels)? {
+        if let Some(left) = left_of(alloc, chain, arguments, ends, name, clause, behind, labels)? {
             return Ok(Some(left));
         }
         name.number += 2 + clause.guard.len() as u64;
@@ -61,12 +64,14 @@ fn left_of<'a>(
     alloc: Global,
     chain: &Chain,
     arguments: Arguments,
+    ends: &[Term],
     name: Name,
     clause: &'a Clause,
     behind: &'a [Clause],
     labels: &mut Vec<Label>,
 ) -> Result<Option<Left<'a>>, AllocError>
     requires known { IsKnown chain.now.nodes chain.now.stores (length chain.now.stores) }
+    requires ends { AreEnds chain.now.nodes (bindings_from chain.now.stores) arguments.frame arguments.first ends.now }
     requires numbers { name.number + (2 + length clause.now.guard) < 2 ^ 64 }
     ensures { IfOk result (λ found. MatchOption found (AddsGoing chain.now.symbols chain.now.nodes chain.now.stores arguments name.worker name.number clause.now labels.old.items labels.new.items)
         (AddsLeft chain.now.symbols chain.now.nodes chain.now.stores arguments name.worker name.number clause.now behind.now labels.old.items labels.new.items)) }
@@ -75,7 +80,7 @@ fn left_of<'a>(
         worker: name.worker,
         number: name.number + 1,
     };
-    let Some(own) = own_of(alloc, chain, arguments, frame, clause)? else {
+    let Some(own) = own_of(alloc, chain, arguments, ends, frame, clause)? else {
         labels.push(failing(name))?;
         return Ok(None);
     };
@@ -102,10 +107,12 @@ fn own_of(
     alloc: Global,
     chain: &Chain,
     arguments: Arguments,
+    ends: &[Term],
     frame: Name,
     clause: &Clause,
 ) -> Result<Option<Own>, AllocError>
-    requires { IsSolvedChain chain.now.nodes chain.now.stores }
+    requires solved { IsSolvedChain chain.now.nodes chain.now.stores }
+    requires ends { AreEnds chain.now.nodes (bindings_from chain.now.stores) arguments.frame arguments.first ends.now }
     ensures { IfOk result (λ found. MatchOption found (Clashes chain.now.nodes chain.now.stores arguments frame clause.now)
         (IsOwn chain.now.nodes chain.now.stores arguments frame clause.now)) }
 {
@@ -114,7 +121,7 @@ fn own_of(
         first: clause.first,
         count: clause.count,
     };
-    match meet(alloc, chain, arguments.row(), head)? {
+    match meet(alloc, chain, arguments.row(), ends, head)? {
         Met::Clashes => Ok(None),
         Met::Binds(bindings) => Ok(Some(Own::Plain(bindings))),
         Met::Unsure => {

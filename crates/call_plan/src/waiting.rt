@@ -36,7 +36,7 @@ fn first_waits(chain: &Chain, arguments: Arguments, clauses: &[Clause]) -> Optio
     requires { IsSolvedChain chain.now.nodes chain.now.stores }
 {
     for clause in clauses {
-        match fit_of(chain, arguments, clause) {
+        match fit_of(chain, arguments, &[], clause) {
             Fit::Clashes => {}
             Fit::Waits(variable) => return Some(variable),
             Fit::Fits => return guard_waits(chain, arguments, clause),

@@ -1,6 +1,7 @@
 pub mod Compared
 pub mod Orders
 pub mod Rows
+pub mod NodeEnds
 pub mod Passing
 pub mod Along
 pub mod Stores

@@ -24,6 +24,11 @@ use Rattle.plain_heads.specs.declared.meeting.Met.{Met}
 use Rattle.plain_heads.specs.declared.meeting.Turn.{Turn}
 use Rattle.plain_heads.specs.declared.row.Row.{Row}
 
+-- terms in which the chains of neighbouring nodes under a frame end, from this node on
+abbrev pub AreEnds : List Node → List (Var × Term) → Name → ℕ → List Term → Type 0
+AreEnds nodes known f i [] = ⊤
+AreEnds nodes known f i (t ∷ ts) = (tree nodes t ≡ end_of nodes known (tree nodes (Mol i f))) × AreEnds nodes known f (suc i) ts
+
 -- the pairs of neighbouring nodes under two frames, the last first
 abbrev pub pairs_of : Name → ℕ → ℕ → Name → ℕ → ℕ → List code.Equation
 pairs_of f i zero g j m = []

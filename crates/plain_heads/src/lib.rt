@@ -2,10 +2,12 @@
 //! structures of these; and the store that its bindings join.
 #![tactic(auto)]
 
+mod ends;
 mod joining;
 mod meeting;
 mod row;
 
+pub use ends::ends_of;
 pub use joining::joined;
 pub use meeting::{Met, meet};
 pub use row::Row;

@@ -5,7 +5,7 @@ ghost use Rattle.akl_terms.specs.Template.{tree};
 ghost use Rattle.rational_unify.specs.Known.{end_of};
 ghost use Rattle.local_store.specs.Chained.{bindings_from, IsSolvedChain};
 ghost use Rattle.akl_terms.specs.Tree.{symbol_head};
-ghost use Rattle.plain_heads.specs.Plain.{ArePlain, AreRowsOf, Comes, IsTurn, Turns, pairs_of, MayBind, IsBehind, IsBeyond, Compares, ComparesHead, ComparesSeen};
+ghost use Rattle.plain_heads.specs.Plain.{AreEnds, ArePlain, AreRowsOf, Comes, IsTurn, Turns, pairs_of, MayBind, IsBehind, IsBeyond, Compares, ComparesHead, ComparesSeen};
 
 use crate::row::Row;
 use akl_terms::{Name, Seen, Templates, Term, Var};
@@ -32,15 +32,25 @@ enum Turn {
     Unsure,
 }
 
-/// Meets arguments with those of a head, from left to right, over a chain that is solved. An `Err` is want of memory.
-pub fn meet(alloc: Global, chain: &Chain, arguments: Row, head: Row) -> Result<Met, AllocError>
+/// Meets arguments, whose chains end in these terms, with those of a head, from left to right, over a chain that is solved.
+/// An `Err` is want of memory.
+pub fn meet(
+    alloc: Global,
+    chain: &Chain,
+    arguments: Row,
+    ends: &[Term],
+    head: Row,
+) -> Result<Met, AllocError>
     requires solved { IsSolvedChain chain.now.nodes chain.now.stores }
+    requires ends { AreEnds chain.now.nodes (bindings_from chain.now.stores) arguments.frame arguments.first ends.now }
     ensures { IfOk result (Comes chain.now.nodes (bindings_from chain.now.stores) arguments head) }
 {
     let mut bindings = Vec::new(alloc);
     for index in 0..arguments.count.min(head.count) {
-        let end = chain_end(chain.templates(), chain, arguments.at(index)?);
-        match meet_one(chain, end, head.at(index)?, head.frame, &mut bindings)? {
+        let Some(end) = ends.get(index as usize) else {
+            return Ok(Met::Unsure);
+        };
+        match meet_one(chain, *end, head.at(index)?, head.frame, &mut bindings)? {
             Turn::Taken => {}
             Turn::Clashes => return Ok(Met::Clashes),
             Turn::Unsure => return Ok(Met::Unsure),

@@ -1,5 +1,4 @@
 use Rattle.std.proofs.Common.{List, sym, ◌∙◌, ap, subst, length}
-use Rattle.std.proofs.lemmas.Result.{IfOk-weaker}
 use Rattle.akl_terms.specs.declared.name.Var.{Var}
 use Rattle.local_store.specs.Stored.{Stored}
 use Rattle.class_members.specs.Members.{AreMembers}
@@ -9,5 +8,5 @@ use Rattle.call_plan.proofs.finding.binds_of.Goals as goal
 pub returns-then-stores-eq1 : goal.returns-then-stores-eq1
 returns-then-stores-eq1 c =
     let free = rw c.in-Plain.is at c.requires.free in
-    let members = one_store c.args.chain.now.nodes c.args.chain.now.stores (ap (λ (ss : List Stored). length ss) (sym c.stores.ensures) ∙ c.if-stores-eq1.true) c.requires.known c.args.bound.now free in
-    IfOk-weaker c.copied.result _ _ (λ list e. subst (λ (xs : List Var). AreMembers c.args.chain.now.nodes c.args.chain.now.stores c.args.bound.now xs) (sym e) members) c.copied.ensures
+    let members = one_store c.args.chain.now.nodes c.args.chain.now.stores (ap (λ (ss : List Stored). length ss) (sym c.stores.ensures) ∙ c.if-stores-eq1.true) c.requires.known c.args.bound.items free in
+    subst (λ (xs : List Var). AreMembers c.args.chain.now.nodes c.args.chain.now.stores c.args.bound.items xs) (sym c.in_ok-list.ensures.ok) members

@@ -15,13 +15,13 @@ binds_of-requires-clause-known c =
 
 pub binds_of-requires-clause-free : goal.binds_of-requires-clause-free
 binds_of-requires-clause-free c =
-    rw (c.chain-chain.ensures.stores, c.as_slice.ensures) (reduced_free c.args.view.now c.args.goal c.args.op c.args.left.now c.args.drawn c.args.more.items c.args.told c.args.body c.requires.reduced)
+    rw c.chain-chain.ensures.stores (reduced_free c.args.view.now c.args.goal c.args.op c.args.left.now c.args.drawn c.args.more.items c.args.told c.args.body c.requires.reduced)
 
 pub of_call-requires : goal.of_call-requires
 of_call-requires c =
     let names = sum_is c.checked_add.result c.args.drawn (length c.args.left.now.clause.now.body) c.in_ok-names.names (rw c.as_slice-codes.ensures at c.checked_add.ensures) c.in_ok-names.ensures.ok_part in
     let joins = c.in_ok-step.ensures.joins c.args.view.now.table.program.templates.nodes in
-    let members = rw (c.chain-chain.ensures.nodes, c.chain-chain.ensures.stores, c.as_slice.ensures, c.requires.program) at c.in_ok-binds.ensures in
+    let members = rw (c.chain-chain.ensures.nodes, c.chain-chain.ensures.stores, c.requires.program) at c.in_ok-binds.ensures in
     rw (c.label_of-label.ensures.label, c.requires.reduced.ends.remains.is_called.is_place, c.in_ok-reads.ensures, c.path.ensures, names)
     (call_right c.args.view.now c.args.goal c.args.op c.args.left.now c.args.drawn c.args.more.items c.args.told c.args.body c.requires.reduced c.in_ok-step.step c.in_ok-binds.binds.items joins c.in_ok-step.ensures.behind members)
 

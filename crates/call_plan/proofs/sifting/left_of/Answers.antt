@@ -3,22 +3,25 @@ use Rattle.std.proofs.lemmas.Bool.{false≢true}
 use Rattle.local_store.proofs.Known.{whole-known}
 use Rattle.call_plan.specs.Owns.{stored}
 use Rattle.call_plan.specs.Sifted.{frame_at}
-use Rattle.call_plan.proofs.HeadStores.{store_solved, known_push}
+use Rattle.call_plan.proofs.HeadStores.{store_solved}
 use Rattle.call_plan.proofs.SiftingOn.{head_goes, guard_goes, guard_stays}
 use Rattle.call_plan.proofs.sifting.left_of.Goals as goal
 use Rattle.call_plan.proofs.sifting.left_of.Goals.{in-Holds, in-Open}
 
-pub own_of-requires : goal.own_of-requires
-own_of-requires c = whole-known c.args.chain.now.nodes c.args.chain.now.stores (length c.args.chain.now.stores) c.requires.known refl
+pub own_of-requires-clause-solved : goal.own_of-requires-clause-solved
+own_of-requires-clause-solved c = whole-known c.args.chain.now.nodes c.args.chain.now.stores (length c.args.chain.now.stores) c.requires.known refl
 
 pub returns-in_default : goal.returns-in_default
 returns-in_default c = head_goes c.args.chain.now.symbols c.args.chain.now.nodes c.args.chain.now.stores c.args.arguments c.args.name.worker c.args.name.number c.args.clause.now c.args.labels.now.items c.args.labels.now.items
     c.push.new.self.items c.failing.result c.in_ok-push.ensures.items c.failing.ensures refl (rw c.in_default.is at c.in_ok-own.ensures)
 
-pub guard_of-requires-clause-known : goal.guard_of-requires-clause-known
-guard_of-requires-clause-known c = known_push c.args.chain.now.nodes c.args.chain.now.stores (stored (frame_at c.args.name.worker c.args.name.number) c.in-Some.own) c.requires.known
-    (store_solved c.args.chain.now.nodes c.args.chain.now.stores c.args.arguments (frame_at c.args.name.worker c.args.name.number) c.args.clause.now (length c.args.chain.now.stores) (stored (frame_at c.args.name.worker c.args.name.number) c.in-Some.own)
-    (rw c.in-Some.is at c.in_ok-own.ensures).store)
+pub guard_of-requires-clause-solved : goal.guard_of-requires-clause-solved
+guard_of-requires-clause-solved c =
+    store_solved c.args.chain.now.nodes c.args.chain.now.stores c.args.arguments (frame_at c.args.name.worker c.args.name.number) c.args.clause.now (length c.args.chain.now.stores) (stored (frame_at c.args.name.worker c.args.name.number) c.in-Some.own)
+    (rw c.in-Some.is at c.in_ok-own.ensures).store
+
+pub guard_of-requires-clause-plain : goal.guard_of-requires-clause-plain
+guard_of-requires-clause-plain c = (rw c.in-Some.is at c.in_ok-own.ensures).plain
 
 pub returns-in-Fails : goal.returns-in-Fails
 returns-in-Fails c = guard_goes c.args.chain.now.symbols c.args.chain.now.nodes c.args.chain.now.stores c.args.arguments c.args.name.worker c.args.name.number c.args.clause.now c.args.labels.now.items c.guard_of.new.labels.items
