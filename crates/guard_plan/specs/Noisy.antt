@@ -1,10 +1,18 @@
--- What tests of guards found of alternatives that aren't quiet.
+-- What keeps rules from a goal: of a choice, what tests of guards found of alternatives that aren't quiet, and of an arithmetic goal what it waits on.
 use Rattle.std.specs.Prelude.{◌≡◌, ◌-◌, List, [], ◌∷◌, ◌++◌, length, ◌⊎◌, true, Option, Some, None}
 use Rattle.std.specs.List.{AllByRecursion}
+use Rattle.akl_terms.specs.declared.name.Name.{Name}
+use Rattle.akl_terms.specs.declared.name.Var.{Var}
+use Rattle.akl_terms.specs.declared.program.Code.{Code}
+use Rattle.akl_terms.specs.declared.program.Program.{Program}
 use Rattle.akl_terms.specs.declared.term.Node.{Node}
-use Rattle.akl_terms.specs.Equal.{IsConsistent}
+use Rattle.akl_terms.specs.Equal.{Equations, IsConsistent}
 use Rattle.akl_model.specs.declared.label.Rule.{Rule}
+use Rattle.akl_model.specs.Config.{Atom}
+use Rattle.akl_model.specs.Instances.{atom_of}
+use Rattle.akl_model.specs.Stable.{AtomWaitsOn}
 use Rattle.local_store.specs.Stored.{Stored}
+use Rattle.local_store.specs.Chained.{equations_of}
 use Rattle.entail_test.specs.declared.noise.Quietness.{Quietness}
 use Rattle.entail_test.specs.Asked.{whole_at, AreTouchedAt, Answers}
 use Rattle.box_tree.specs.declared.entries.HeldOp.{HeldOp}
@@ -59,15 +67,27 @@ abbrev pub tested : HeldOp → List Alternative → List Alternative
 tested op (only ∷ []) = only ∷ []
 tested op seen = cutting op seen
 
--- what the tests of guards found of what is seen at the place of a view: of a choice by `->` or `|`, and of one that collects where all
--- its alternatives are solved. Nothing is said of anything else
+-- what an atom waits on, where all is consistent: nothing, or this one variable
+abbrev pub ShowsAwaited : Program → Equations → Atom → List Noise → Type 0
+ShowsAwaited p E a [] = IsConsistent E → (x : Var) → AtomWaitsOn p E a x → ⊥
+ShowsAwaited p E a (n ∷ []) = IsConsistent E × ((x : Var) × (n.on.items ≡ x ∷ []) × AtomWaitsOn p E a x)
+ShowsAwaited p E a (n ∷ m ∷ rest) = ⊥
+
+-- the same of an arithmetic goal under the stores of a path. Nothing is said of other atoms
+abbrev pub ShowsArithmetic : Program → List Stored → Name → Code → List Noise → Type 0
+ShowsArithmetic p path frame (Code.Arith test l r) noise = ShowsAwaited p (equations_of p.templates.nodes path) (atom_of p.templates.nodes frame (Code.Arith test l r)) noise
+ShowsArithmetic p path frame code noise = Unit {0}
+
+-- what was found of what is seen at the place of a view: of an arithmetic goal what it waits on; of a choice by `->` or `|`, and of one
+-- that collects where all its alternatives are solved, what the tests of guards found. Nothing is said of anything else
 abbrev pub IsNoiseAt : ViewValue → Sight → List Noise → Type 0
+IsNoiseAt v (Sight.Atom a) noise = ShowsArithmetic v.table.program v.stores a.frame a.code noise
 IsNoiseAt v (Sight.Choice HeldOp.Condition) noise = HasNoise v.table.program.templates.nodes v.stores (tested HeldOp.Condition v.alternatives) noise
 IsNoiseAt v (Sight.Choice HeldOp.Commit) noise = HasNoise v.table.program.templates.nodes v.stores (tested HeldOp.Commit v.alternatives) noise
 IsNoiseAt v (Sight.Choice (HeldOp.Collect t)) noise = AreAllSolved v.alternatives → HasNoise v.table.program.templates.nodes v.stores v.alternatives noise
 IsNoiseAt v sight noise = Unit {0}
 
--- a right plan of one label, of a rule other than Split, or none where no such rule applies, with what the tests of guards found
+-- a right plan of one label, of a rule other than Split, or none where no such rule applies, with what was found then
 abbrev pub IsTriedBy : ViewValue → List Noise → Option PlanValue → Type 0
 IsTriedBy v noise None = HasNoRule v × IsNoiseAt v v.sight noise
 IsTriedBy v noise (Some p) = IsPlanOf v p × (p.label.rule ≡ Rule.Split → ⊥) × (p.more ≡ [])

@@ -16,7 +16,7 @@ use std::alloc::{AllocError, Global};
 pub(crate) const MOST: u64 = 4294967295;
 
 /// What a solved alternative touches that is consistent with the stores around it, but isn't quiet: one variable from
-/// outside of each class.
+/// outside of each class. Or the variable on which an arithmetic goal waits.
 #[derive(Drop)]
 pub struct Noise {
     pub on: Vec<Var>,

@@ -1,15 +1,18 @@
 -- The class on which an atom waits suffices for it.
-use Rattle.std.proofs.Common.{◌≡◌, List, [], ◌∷◌, Some, refl, sym, ◌∙◌, subst, inl, inr}
+use Rattle.std.proofs.Common.{◌≡◌, ℕ, List, [], ◌∷◌, Some, None, refl, sym, ap, ◌∙◌, subst, inl, inr, slice_get}
 use Rattle.akl_terms.specs.declared.name.Name.{Name}
 use Rattle.akl_terms.specs.declared.name.Var.{Var}
 use Rattle.akl_terms.specs.declared.name.Place.{Place}
+use Rattle.akl_terms.specs.declared.program.Code.{Code}
 use Rattle.akl_terms.specs.declared.program.Goal.{Goal}
 use Rattle.akl_terms.specs.declared.program.Program.{Program}
+use Rattle.akl_terms.specs.declared.program.Test.{Test}
 use Rattle.akl_terms.specs.Tree.{variable}
 use Rattle.akl_terms.specs.Equal.{Equations, IsTold, Equal, turned, joined, IsConsistent, IsStructured}
 use Rattle.akl_terms.specs.Standing.{StandFor}
 use Rattle.akl_terms.proofs.StandingLaws.{StandFor-back, StandFor-on}
 use Rattle.akl_model.specs.Config.{Atom, an_atom, a_choice, held_in, Found, whole, site_of, home_of}
+use Rattle.akl_model.specs.Instances.{atom_of}
 use Rattle.akl_model.specs.Stable.{AtomWaitsOn}
 use Rattle.akl_model.specs.Wakes.{Concerns, awaited}
 use Rattle.akl_model.proofs.Options.{some_value}
@@ -26,6 +29,8 @@ use Rattle.box_tree.specs.declared.view.Sight.{Sight}
 use Rattle.box_tree.specs.Tables.{goal_atom}
 use Rattle.box_tree.specs.Views.{ViewValue, IsViewOf}
 use Rattle.box_tree.proofs.ToldChains.{told_stands}
+use Rattle.guard_plan.specs.declared.guards.Noise.{Noise}
+use Rattle.guard_plan.specs.Noisy.{ShowsAwaited, ShowsArithmetic}
 use Rattle.guard_plan.proofs.Sites.{shows_at, whole_stands}
 use Rattle.stable_test.proofs.Reaches.{waits_free, atom_waits_stand}
 use Rattle.idle_plan.specs.Waits.{AreAwaited}
@@ -47,6 +52,27 @@ module _ (p : Program) (ss : List Stored) (atom : Goal) where
     });
     oldest = h.oldest;
   }
+
+  nothing_awaited : ((IsConsistent (equations_of p.templates.nodes ss)) → (x : Var) → AtomWaitsOn p (equations_of p.templates.nodes ss) (goal_atom p.templates.nodes atom) x → ⊥) → AreAwaited p ss atom []
+  nothing_awaited n = record { consistent = λ y m. absurd m; each = λ y m. absurd m; every = λ c x z w e. absurd (n c x w); oldest = λ x w m. absurd m }
+
+  -- of an arithmetic goal by what was found of it
+  module _ (test : Test) (l r : ℕ) (is : atom.code ≡ Code.Arith test l r) where
+    shows : (noise : List Noise) → ShowsArithmetic p ss atom.frame atom.code noise → ShowsAwaited p (equations_of p.templates.nodes ss) (goal_atom p.templates.nodes atom) noise
+    shows noise h = subst (λ (k : Code). ShowsAwaited p (equations_of p.templates.nodes ss) (atom_of p.templates.nodes atom.frame k) noise) (sym is)
+        (subst (λ (k : Code). ShowsArithmetic p ss atom.frame k noise) is h)
+
+    pub none_awaited : (noise : List Noise) → ShowsArithmetic p ss atom.frame atom.code noise → None ≡ slice_get noise 0 → AreAwaited p ss atom []
+    none_awaited [] h e = nothing_awaited (shows [] h)
+    none_awaited (n ∷ rest) h e = cc
+
+    pub found_awaited : (noise : List Noise) → ShowsArithmetic p ss atom.frame atom.code noise → (n : Noise) → Some n ≡ slice_get noise 0 → (list : List Var) → AreMembers p.templates.nodes ss n.on.items list → AreAwaited p ss atom list
+    found_awaited [] h n e list m = cc
+    found_awaited (k ∷ []) h n e list m =
+        let w : IsConsistent (equations_of p.templates.nodes ss) × ((x : Var) × (k.on.items ≡ x ∷ []) × AtomWaitsOn p (equations_of p.templates.nodes ss) (goal_atom p.templates.nodes atom) x) = shows (k ∷ []) h in
+        let same : n ≡ k = cc in
+        members_awaited w.1.0 list w.1.2 (subst (λ (on : List Var). AreMembers p.templates.nodes ss on list) (ap (λ (o : Noise). o.on.items) same ∙ w.1.1) m)
+    found_awaited (k ∷ j ∷ rest) h n e list m = absurd (shows (k ∷ j ∷ rest) h)
 
 module _ (v : ViewValue) (i : IsViewOf v) (g : Name) (a : Goal) (at : v.place ≡ Place.Goal g) (sees : v.sight ≡ Sight.Atom a) (list : List Var) (h : AreAwaited v.table.program v.stores a list) where
   abbrev p : Program

@@ -3,10 +3,10 @@
 ghost use Rattle.std.specs.Prelude.{◌≡◌, ◌++◌, ◌∷◌, [], IfOk, OnOk, IsTrue, ◌↔◌};
 ghost use Rattle.box_tree.specs.declared.entries.HeldOp.{HeldOp};
 ghost use Rattle.guard_plan.specs.Guards.{IsTestable, AreAllSolved};
-ghost use Rattle.guard_plan.specs.Noisy.{AnswersInside, HasNoise, tested};
+ghost use Rattle.guard_plan.specs.Noisy.{AnswersInside, HasNoise, ShowsArithmetic, tested};
 ghost use Rattle.idle_plan.specs.Waits.{AddsTold, AreAwaited, AreCollectWaits, AreMembersOfAll, AreToldBy};
 
-use akl_terms::{Goal, Program, Var};
+use akl_terms::{Code, Goal, Program, Var};
 use box_tree::{Alternative, View};
 use class_members::members;
 use entail_test::Quietness;
@@ -15,8 +15,30 @@ use local_store::{Chain, Consistency, consistent};
 use stable_test::awaited;
 use std::alloc::{AllocError, Global};
 
-// Members of the class on which an atom waits in the box of a view.
+// Members of the class on which an atom waits in the box of a view. That of an arithmetic goal was found when it was
+// evaluated.
 pub(crate) fn waits_of_atom(
+    alloc: Global,
+    program: &Program,
+    view: &View,
+    atom: Goal,
+    noise: &[Noise],
+) -> Result<Vec<Var>, AllocError>
+    requires program { program.now ≡ view.now.table.program }
+    requires noise { ShowsArithmetic program.now view.now.stores atom.frame atom.code noise.now }
+    ensures { IfOk result (λ list. AreAwaited program.now view.now.stores atom list.items) }
+{
+    match atom.code {
+        Code::Arith { .. } => match noise.first() {
+            None => Ok(Vec::new(alloc)),
+            Some(found) => members(alloc, &view.chain(&program.templates), found.on.as_slice()),
+        },
+        _ => waits_of_other(alloc, program, view, atom),
+    }
+}
+
+// The same of an atom of which nothing was found.
+fn waits_of_other(
     alloc: Global,
     program: &Program,
     view: &View,

@@ -17,8 +17,8 @@ use guard_plan::Noise;
 use idle_places::Idle;
 use std::alloc::{AllocError, Global};
 
-/// What a goal that isn't ready waits on, by a view of it, and by what the tests of guards found at a choice. An `Err` is
-/// want of memory.
+/// What a goal that isn't ready waits on, by a view of it, and by what the tests of guards found at a choice, or the
+/// evaluation of an arithmetic goal. An `Err` is want of memory.
 ///
 /// This costs a solution of the stores down to it, as far as they aren't known to be solved, and of a choice by `->` a test
 /// of its last alternative.
@@ -101,7 +101,7 @@ fn waits_of_goal(
     ensures { IfOk result (λ list. AreOwnWaits program.now view.now view.now.sight list.items) }
 {
     match view.sight() {
-        Sight::Atom(atom) => waits_of_atom(alloc, program, view, atom),
+        Sight::Atom(atom) => waits_of_atom(alloc, program, view, atom, noise),
         Sight::Choice { op } => match op {
             HeldOp::Choice => Ok(Vec::new(alloc)),
             HeldOp::Condition => waits_of_condition(alloc, program, view, noise),

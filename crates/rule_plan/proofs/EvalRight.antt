@@ -1,5 +1,5 @@
 -- A plan of Eval is right.
-use Rattle.std.proofs.Common.{◌≡◌, ℕ, ℤ, List, [], ◌∷◌, true, false, Some, None, refl, sym, ◌∙◌, ap, subst, arith}
+use Rattle.std.proofs.Common.{◌≡◌, ℕ, ℤ, List, [], ◌∷◌, ◌++◌, true, false, Option, Some, None, refl, sym, ◌∙◌, ap, subst, arith}
 use Rattle.std.specs.Prelude.{slice_index}
 use Rattle.akl_terms.specs.declared.name.Name.{Name}
 use Rattle.akl_terms.specs.declared.name.Place.{Place}
@@ -34,13 +34,16 @@ use Rattle.class_members.specs.Members.{AreMembers}
 use Rattle.box_tree.specs.declared.step.Step.{Step}
 use Rattle.box_tree.specs.declared.view.Sight.{Sight}
 use Rattle.box_tree.specs.Views.{ViewValue, IsViewOf}
-use Rattle.box_tree.specs.Plans.{IsRead, IsRightLabel}
+use Rattle.box_tree.specs.Plans.{PlanValue, IsRead, IsRightLabel}
 use Rattle.rule_plan.specs.AtGoals.{label_at, plan_at}
-use Rattle.guard_plan.specs.Planned.{HasNoRule}
+use Rattle.guard_plan.specs.declared.guards.Noise.{Noise}
+use Rattle.guard_plan.specs.Noisy.{IsTriedBy}
+use Rattle.guard_plan.specs.Planned.{HasNoRule, IsPlannedBy}
 use Rattle.guard_plan.proofs.Sites.{whole_stands, shows_at}
 use Rattle.box_tree.proofs.ToldChains.{told_stands}
 use Rattle.rule_plan.proofs.InForce.{eval_in_force}
 use Rattle.rule_plan.proofs.AtomNone.{atom_none}
+use Rattle.rule_plan.proofs.Silent.{silent}
 use Rattle.guard_plan.proofs.ReadItems.{goal_reads}
 use Rattle.rule_plan.proofs.GoalRight.{goal_right, keeps_bound, tells_bound}
 use Rattle.rule_plan.proofs.ToldGoals.{same_frames, same_ports, solved_if, tells_goal}
@@ -81,9 +84,13 @@ module _ (v : ViewValue) (i : IsViewOf v) (g frame : Name) (test : Test) (l r : 
   all_stand : StandFor (IsTold stored) (IsTold (whole i.site))
   all_stand = StandFor-on (told_stands v.table.program.templates.nodes v.stores) (whole_stands v i)
 
+  -- a goal that waits on nothing
+  idle_tried : (noise : List Noise) → noise ≡ [] → (IsConsistent stored → (x : Var) → GoalWaitsOn v.table.program.templates.symbols stored test left right x → ⊥) → (o : Option PlanValue) → IsPlannedBy v o → IsTriedBy v noise o
+  idle_tried noise q n o h = subst (λ (l : List Noise). IsTriedBy v l o) (sym q) (silent v [] (Sight.Atom (record { code = Code.Arith test l r; frame = frame })) s n o h)
+
   -- where they clash, Eval doesn't apply
-  pub clash_none : (IsConsistentBy (ToldBy v.table.program.templates.nodes v.stores) → ⊥) → HasNoRule v
-  clash_none bad = atom_none v i g was p held (λ a c e. bad (all_stand.back c))
+  pub clash_tried : (noise : List Noise) → noise ≡ [] → (IsConsistentBy (ToldBy v.table.program.templates.nodes v.stores) → ⊥) → IsTriedBy v noise None
+  clash_tried noise q bad = idle_tried noise q (λ c x w. bad c) None (atom_none v i g was p held (λ a c e. bad (all_stand.back c)))
 
   module _ (consistent : IsConsistentBy (ToldBy v.table.program.templates.nodes v.stores)) where
     by_stores : StandsForConsistent stored (whole i.site)
@@ -141,11 +148,20 @@ module _ (v : ViewValue) (i : IsViewOf v) (g frame : Name) (test : Test) (l r : 
         binds (tells_bound v i g Rule.Eval eval_in_force (becomes (telling left (integer z) i.site.content) (without_goal g i.site.goals) 0) m (telling left (integer z) i.site.content) (without_goal g i.site.goals) refl
         (value_equation frame l z ∷ []) t a refl binds b)
 
+    -- a goal that has an answer waits on nothing
+    pub answer_tried : (a : Answer) → Evaluates v.table.program.templates.symbols stored test left right a → (noise : List Noise) → noise ≡ [] → (o : Option PlanValue) → IsPlannedBy v o → IsTriedBy v noise o
+    answer_tried a e noise q o h = idle_tried noise q (λ c x w. answer_waits v.table.program.templates.symbols stored test left right a x c e w) o h
+
     -- a goal that waits, or never has an answer
 
-    pub waits_none : (x : Var) → GoalWaitsOn v.table.program.templates.symbols stored test left right x → HasNoRule v
+    waits_none : (x : Var) → GoalWaitsOn v.table.program.templates.symbols stored test left right x → HasNoRule v
     waits_none x w = atom_none v i g was p held
         (λ a c e. answer_waits v.table.program.templates.symbols (whole i.site) test left right a x c e (goal_wait_stands v.table.program.templates.symbols stored (whole i.site) by_stores w))
 
-    pub never_none : arithmetic.IsGoalStuck v.table.program.templates.symbols stored test left right → HasNoRule v
-    never_none n = atom_none v i g was p held (λ a c e. n.no_answer a (answer_stands v.table.program.templates.symbols (whole i.site) stored by_box e))
+    pub waits_tried : (x : Var) → GoalWaitsOn v.table.program.templates.symbols stored test left right x
+        → (noise new : List Noise) → noise ≡ [] → (n : Noise) × (n.on.items ≡ x ∷ []) × (new ≡ noise ++ n ∷ []) → IsTriedBy v new None
+    waits_tried x w noise new q m = subst (λ (l : List Noise). IsTriedBy v l None) (sym (m.2 ∙ ap (λ (l : List Noise). l ++ m.0 ∷ []) q))
+        (silent v (m.0 ∷ []) (Sight.Atom (record { code = Code.Arith test l r; frame = frame })) s (consistent, (x, m.1, w)) None (waits_none x w))
+
+    pub never_tried : arithmetic.IsGoalStuck v.table.program.templates.symbols stored test left right → (noise : List Noise) → noise ≡ [] → IsTriedBy v noise None
+    never_tried n noise q = idle_tried noise q (λ c x w. n.no_wait x w) None (atom_none v i g was p held (λ a c e. n.no_answer a (answer_stands v.table.program.templates.symbols (whole i.site) stored by_box e)))

@@ -1,21 +1,24 @@
 //! Plans of Eval.
 
-ghost use Rattle.std.specs.Prelude.{◌≡◌, [], IfOk};
+ghost use Rattle.std.specs.Prelude.{◌≡◌, ◌++◌, ◌∷◌, [], IfOk};
 ghost use Rattle.akl_terms.specs.declared.name.Place.{Place};
 ghost use Rattle.akl_terms.specs.declared.program.Code.{Code};
 ghost use Rattle.akl_model.specs.declared.label.Rule.{Rule};
 ghost use Rattle.box_tree.specs.declared.view.Sight.{Sight};
 ghost use Rattle.box_tree.specs.Views.{IsViewOf};
 ghost use Rattle.box_tree.specs.Plans.{IsRightLabel, labels_behind};
+ghost use Rattle.guard_plan.specs.declared.guards.Noise.{Noise};
+ghost use Rattle.guard_plan.specs.Noisy.{IsTriedBy};
 ghost use Rattle.guard_plan.specs.Planned.{IsPlannedBy};
 ghost use Rattle.guard_plan.specs.Solved.{SaysSolved};
 ghost use Rattle.rule_plan.specs.AtGoals.{plan_at};
 
 use crate::at_goals::{goal_plan, telling_plan};
 use akl_model::Rule;
-use akl_terms::{Code, Equation, Goal, Name, Program, Term, Test};
+use akl_terms::{Code, Equation, Goal, Name, Program, Term, Test, Var};
 use arith_goals::{ArithValue, evaluate};
 use box_tree::{Plan, Step, View};
+use guard_plan::Noise;
 use local_store::{Consistency, consistent};
 use std::alloc::{AllocError, Global};
 
@@ -29,19 +32,21 @@ pub(crate) struct Arithmetic {
 }
 
 // The plan for what an arithmetic goal comes to; `None` where it comes to nothing yet or never, or what is told to its
-// box is inconsistent.
+// box is inconsistent. The variable on which it waits comes to the noise.
 pub(crate) fn eval(
     alloc: Global,
     program: &Program,
     view: &View,
     goal: Name,
     arithmetic: Arithmetic,
+    noise: &mut Vec<Noise>,
 ) -> Result<Option<Plan>, AllocError>
     requires program { program.now ≡ view.now.table.program }
     requires place { view.now.place ≡ Place.Goal goal }
     requires sight { view.now.sight ≡ Sight.Atom (record { code = Code.Arith arithmetic.test arithmetic.left arithmetic.right; frame = arithmetic.frame }) }
     requires seen { IsViewOf view.now }
-    ensures { IfOk result (IsPlannedBy view.now) }
+    requires silent { noise.old.items ≡ [] }
+    ensures { IfOk result (IsTriedBy view.now noise.new.items) }
 {
     let chain = view.chain(&program.templates);
     let Consistency::Consistent = consistent(alloc, &chain)? else {
@@ -64,9 +69,21 @@ pub(crate) fn eval(
         }
         ArithValue::Holds => eval_plan(alloc, view, goal, Step::Confirm),
         ArithValue::Fails => eval_plan(alloc, view, goal, Step::Refute),
-        ArithValue::Waits { .. } => Ok(None),
+        ArithValue::Waits { on } => {
+            push_awaited(alloc, on, noise)?;
+            Ok(None)
+        }
         ArithValue::Never => Ok(None),
     }
+}
+
+// A variable that is waited on comes to the end of the noise.
+fn push_awaited(alloc: Global, on: Var, noise: &mut Vec<Noise>) -> Result<(), AllocError>
+    ensures { IfOk result (λ _. (n : Noise) × (n.on.items ≡ on ∷ []) × (noise.new.items ≡ noise.old.items ++ n ∷ [])) }
+{
+    let on = Vec::from_slice(alloc, &[on])?;
+    noise.push(Noise { on })?;
+    Ok(())
 }
 
 // The plan of Eval with a step that tells nothing.

@@ -29,7 +29,8 @@ pub fn plan(alloc: Global, program: &Program, view: &View) -> Result<Option<Plan
     plan_with_noise(alloc, program, view, &mut noise)
 }
 
-/// The same. Where no rule applies at a choice, what those of its alternatives touch that were tested comes to the noise.
+/// The same. Where no rule applies at a choice, what those of its alternatives touch that were tested comes to the noise,
+/// and so does the variable on which an arithmetic goal waits.
 pub fn plan_with_noise(
     alloc: Global,
     program: &Program,
@@ -42,7 +43,7 @@ pub fn plan_with_noise(
 {
     match view.place() {
         Place::Goal(goal) => match view.sight() {
-            Sight::Atom(atom) => plan_atom(alloc, program, view, goal, atom),
+            Sight::Atom(atom) => plan_atom(alloc, program, view, goal, atom, noise),
             Sight::Choice { op } => plan_guard(alloc, program, view, goal, op, noise),
             Sight::Box { .. } => Ok(None),
         },
@@ -60,12 +61,14 @@ fn plan_atom(
     view: &View,
     goal: Name,
     atom: Goal,
+    noise: &mut Vec<Noise>,
 ) -> Result<Option<Plan>, AllocError>
     requires program { program.now ≡ view.now.table.program }
     requires place { view.now.place ≡ Place.Goal goal }
     requires sight { view.now.sight ≡ Sight.Atom atom }
     requires seen { IsViewOf view.now }
-    ensures { IfOk result (IsPlannedBy view.now) }
+    requires silent { noise.old.items ≡ [] }
+    ensures { IfOk result (IsTriedBy view.now noise.new.items) }
 {
     match atom.code {
         Code::Equal { left, right } => tell(alloc, program, view, goal, atom.frame, left, right),
@@ -76,7 +79,7 @@ fn plan_atom(
                 right,
                 frame: atom.frame,
             };
-            eval(alloc, program, view, goal, arithmetic)
+            eval(alloc, program, view, goal, arithmetic, noise)
         }
         Code::OpenPort { port, stream } => open(
             alloc, program, view, goal, atom.frame, port, stream,
