@@ -148,8 +148,8 @@ class Docs(unittest.TestCase):
             f"{steps and steps + ' '}{file}{options}: {query}\n{printed}"
             for steps, query, options, file, printed in re.findall(run, text, re.M)
         ]
-        gate = (TOP / "crates/example_runs/stdout").read_text(encoding="utf-8")
-        self.assertEqual("".join(runs), gate[gate.index("tutorial/") :])
+        gate = (TOP / "crates/akl_steps/stdout").read_text(encoding="utf-8")
+        self.assertEqual("".join(runs), gate[gate.index("\ntutorial/") + 1 :])
 
     def test_from_prolog(self):
         text = (TOP / "docs/FROM-PROLOG.md").read_text(encoding="utf-8").replace("\\|", "\0")

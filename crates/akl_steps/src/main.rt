@@ -1,11 +1,33 @@
 //! The command `akl_steps`: shows a run as it goes.
+//!
+//! What it writes is tested. Only that it is safe and ends is proved.
 #![tactic(auto)]
 
-use akl_outside::{StreamSink, StreamSource};
-use shown_run::{refuse_words, show_run};
-use std::env;
-use std::io::{self, IsTerminal};
+mod candidates;
+mod command;
+mod equations;
+mod goals;
+mod help;
+mod list;
+mod load;
+mod origins;
+mod page;
+mod replay;
+mod run;
+mod scene;
+mod sentences;
+mod shown;
+mod states;
+mod steps;
+mod streams;
+mod terms;
+mod tree;
+mod words;
+mod written;
+
+use crate::command::{answer, refuse_word};
 use std::process::ExitCode;
+use std::{env, io};
 
 // The words of the command line behind the program's name.
 fn words_given(rt: &HostRuntime) -> io::Result<Vec<String>> {
@@ -17,21 +39,9 @@ fn words_given(rt: &HostRuntime) -> io::Result<Vec<String>> {
 }
 
 fn main(rt: HostRuntime) -> ExitCode {
-    let mut source = StreamSource::new(rt.stdin());
-    let mut out = StreamSink::new(rt.stdout());
-    let mut errors = StreamSink::new(rt.stderr());
-    let progress = rt.stderr().is_terminal();
     let status = match words_given(&rt) {
-        Ok(words) => show_run(
-            &rt,
-            rt.alloc(),
-            &words,
-            &mut source,
-            progress,
-            &mut out,
-            &mut errors,
-        ),
-        Err(_) => refuse_words(rt.alloc(), 0, &mut errors),
+        Ok(words) => answer(&rt, &rt, &words),
+        Err(_) => refuse_word(&rt, 0),
     };
     ExitCode::from(status.number())
 }

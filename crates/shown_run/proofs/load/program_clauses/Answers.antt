@@ -1,5 +1,0 @@
-use Rattle.akl_run.proofs.Texts.{as_program, program_small}
-use Rattle.shown_run.proofs.load.program_clauses.Goals as goal
-
-pub lift-requires : goal.lift-requires
-lift-requires c = program_small (as_program c.in-Ok.ensures.reads c.in_ok-clauses.ensures)
