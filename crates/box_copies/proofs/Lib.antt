@@ -3,7 +3,6 @@ pub mod Orders
 pub mod Ordered
 pub mod Stored
 pub mod Loops
-pub mod Kept
 pub mod Sets
 pub mod Renamers
 pub mod Lists

@@ -4,20 +4,17 @@ use Rattle.std.specs.Prelude.{if◌then◌else◌}
 use Rattle.std.specs.Ordering.{match_ordering}
 use Rattle.std.specs.declared.cmp.Ordering.{Ordering}
 use Rattle.std.specs.BTreeMap.{insert_entry}
-use Rattle.std.specs.Map.{keys_of}
-use Rattle.std.specs.List.Sorted.{IsStrictlySortedBy}
 use Rattle.akl_terms.specs.declared.name.Name.{Name}
 use Rattle.akl_terms.specs.declared.name.Var.{Var}
 use Rattle.akl_terms.specs.declared.term.Node.{Node}
 use Rattle.akl_terms.specs.declared.term.Term.{Term}
 use Rattle.akl_terms.specs.Tree.{Tree}
 use Rattle.akl_terms.specs.Equal.{IsTold}
-use Rattle.akl_terms.specs.Names.{name_cmp, var_cmp}
+use Rattle.akl_terms.specs.Names.{name_cmp}
 use Rattle.akl_model.specs.Ordered.{IsIncreasing}
 use Rattle.constraint_laws.specs.StandingGrows.{AreToldIn}
 use Rattle.rational_unify.specs.Solving.{bindings_in}
-use Rattle.local_store.specs.Stored.{Stored, nothing, portless, var_before, joined, joins, with_frame, with_port, with_bindings}
-use Rattle.local_store.proofs.InOrder.{joins-in_order}
+use Rattle.local_store.specs.Stored.{Stored, nothing, made_of, all_named, var_before, joined, joins, with_frame, with_port, with_bindings}
 use Rattle.box_copies.specs.Renamer.{with_frames, with_ports}
 use Rattle.box_copies.proofs.Orders.{named_last, after_all, before_last}
 
@@ -88,18 +85,20 @@ ports_from s xs (p ∷ ps) e h =
 pub ports_are : (s : Stored) (ps : List (Name × Term)) → s.ports ≡ [] → IsIncreasing (firsts ps) → (with_ports s ps).ports ≡ ps
 ports_are s ps e h = ports_from s [] ps e h
 
--- frames and bindings that come in order, and ports behind them
-
-pub in_order : (ns : List Name) (bs : List (Var × Term)) → IsIncreasing ns → IsStrictlySortedBy var_cmp (keys_of bs) → portless ns bs ≡ with_bindings (with_frames nothing ns) bs
-in_order ns bs h o = λ i. record {
-  frames = sym (frames_are nothing ns refl h) i;
-  bindings = sym (ap (λ (l : List (Var × Term)). joins l bs) (frames_bindings nothing ns) ∙ joins-in_order bs o) i;
-  ports = sym (frames_ports nothing ns) i;
-}
+-- ports behind bindings
 
 pub ports_behind : (s : Stored) (bs : List (Var × Term)) (ps : List (Name × Term)) → with_ports (with_bindings s bs) ps ≡ with_bindings (with_ports s ps) bs
 ports_behind s bs [] = refl
 ports_behind s bs (p ∷ ps) = ports_behind (with_port s p.0 p.1) bs ps
+
+-- frames and bindings that a store is made of
+
+named_all : (s : Stored) (ns : List Name) → with_frames s ns ≡ record { frames = all_named s.frames ns; bindings = s.bindings; ports = s.ports }
+named_all s [] = refl
+named_all s (n ∷ ns) = named_all (with_frame s n) ns
+
+pub made_bound : (ns : List Name) (bs : List (Var × Term)) → made_of ns bs ≡ with_bindings (with_frames nothing ns) bs
+made_bound ns bs = ap (λ (s : Stored). with_bindings s bs) (sym (named_all nothing ns))
 
 -- bindings that come tell the same in any order
 

@@ -1,7 +1,6 @@
 //! The names that get new ones.
 
 ghost use Rattle.std.specs.Prelude.{◌≡◌, ◌++◌, [], IfOk, OnOk, map};
-ghost use Rattle.std.specs.Map.{keys_of};
 ghost use Rattle.std.specs.List.Sorted.{IsStrictlySortedBy};
 ghost use Rattle.akl_terms.specs.Names.{name_cmp};
 ghost use Rattle.box_tree.specs.declared.inside.InnerGoal.{InnerGoal};
@@ -12,10 +11,10 @@ use box_tree::{InnerBox, InnerGoal};
 use std::alloc::{AllocError, Global};
 
 // Frames come to the names.
-fn add_frames(frames: &[(Name, ())], names: &mut Vec<Name>) -> Result<(), AllocError>
-    ensures { OnOk result (names.new.items ≡ names.old.items ++ keys_of frames.now) }
+fn add_frames(frames: &[Name], names: &mut Vec<Name>) -> Result<(), AllocError>
+    ensures { OnOk result (names.new.items ≡ names.old.items ++ frames.now) }
 {
-    for (frame, _) in frames {
+    for frame in frames {
         names.push(*frame)?;
     }
     Ok(())
@@ -47,7 +46,7 @@ fn add_box(inner: &InnerBox, names: &mut Vec<Name>) -> Result<(), AllocError>
 {
     let store = inner.store.get();
     names.push(inner.name)?;
-    add_frames(store.frame_entries()?.as_slice(), names)?;
+    add_frames(store.frames()?.as_slice(), names)?;
     add_ports(store.ports()?.as_slice(), names)?;
     add_goals(inner.goals.as_slice(), names)
 }

@@ -39,7 +39,7 @@ module _ (P : Var × Term → Type 0) where
   all-back [] cs h = h
   all-back (b ∷ bs) cs h = all-back bs cs h.1
 
-  joined-all : (bs : List (Var × Term)) (x : Var) (t : Term) → All bs → P (x, t) → All (joined bs x t)
+  pub joined-all : (bs : List (Var × Term)) (x : Var) (t : Term) → All bs → P (x, t) → All (joined bs x t)
   joined-all [] x t h p = (p, tt)
   joined-all (b ∷ bs) x t h p = on (var_before x b.0) (joined-all bs x t h.1 p)
     where

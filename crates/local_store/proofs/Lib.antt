@@ -1,7 +1,7 @@
 pub mod Answered
 pub mod Orders
-pub mod Bindings
-pub mod Ports
+pub mod SettledFrames
+pub mod SettledValues
 pub mod Layers
 pub mod Once
 pub mod Known
@@ -16,3 +16,5 @@ pub mod Resolved
 pub mod Joining
 pub mod Listing
 pub mod InOrder
+pub mod Places
+pub mod Steps

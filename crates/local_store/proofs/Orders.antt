@@ -1,5 +1,5 @@
 -- The orders of names and variables, and when two of them are one.
-use Rattle.std.proofs.Common.{◌≡◌, ℕ, ◌<◌, refl, sym, subst, arith, Bool, true, false}
+use Rattle.std.proofs.Common.{◌≡◌, ℕ, ◌<◌, refl, arith, Bool, true, false}
 use Rattle.std.proofs.lemmas.Bool.Decides.{nat_tests}
 use Rattle.std.proofs.lemmas.Cmp.{nat_cmp_total, on_total, then_total}
 use Rattle.std.specs.Prelude.{nat_lt, ◌==◌}
@@ -10,7 +10,6 @@ use Rattle.std.specs.Cmp.{IsTotalOrder}
 use Rattle.akl_terms.specs.declared.name.Name.{Name}
 use Rattle.akl_terms.specs.declared.name.Var.{Var}
 use Rattle.akl_terms.specs.Names.{same_name, same_var, name_cmp, var_cmp}
-use Rattle.local_store.specs.Kept.{key_cmp}
 
 -- what a comparison tells
 abbrev Tells : Ordering → ℕ → ℕ → Type 0
@@ -45,14 +44,3 @@ module _ (x y : Var) where
 
 pub name-total : IsTotalOrder name_cmp
 name-total = then_total (on_total (λ (n : Name). n.worker) nat_cmp_total) (on_total (λ (n : Name). n.number) nat_cmp_total)
-
-pub key_total : IsTotalOrder key_cmp
-key_total = then_total
-    (then_total (then_total (on_total (λ (k : Var × ℕ). k.0.frame.worker) nat_cmp_total) (on_total (λ (k : Var × ℕ). k.0.frame.number) nat_cmp_total)) (on_total (λ (k : Var × ℕ). k.0.index) nat_cmp_total))
-    (on_total (λ (k : Var × ℕ). k.1) nat_cmp_total)
-
-pub above : (m n : ℕ) → n < m → nat_cmp m n ≡ Greater
-above m n h = grind (arith, nat_tests)
-
-pub not-below-zero : (n : ℕ) → nat_cmp 0 n ≡ Greater → ⊥
-not-below-zero n e = subst (λ (o : Ordering). Tells o 0 n → ⊥) (sym e) (λ (h : n < 0). absurd (omega arith)) (tells 0 n)

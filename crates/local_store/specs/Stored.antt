@@ -16,10 +16,6 @@ pub record Stored : Type 0 where
 abbrev pub nothing : Stored
 nothing = record { frames = []; bindings = []; ports = [] }
 
--- with these frames and bindings, and no ports
-abbrev pub portless : List Name → List (Var × Term) → Stored
-portless frames bindings = record { frames = frames; bindings = bindings; ports = [] }
-
 -- without its bindings
 abbrev pub unbound : Stored → Stored
 unbound s = record { frames = s.frames; bindings = []; ports = s.ports }
@@ -52,6 +48,15 @@ is_named (m ∷ ms) n = same_name m n || is_named ms n
 abbrev pub named : List Name → Name → List Name
 named [] n = n ∷ []
 named (m ∷ ms) n = match_ordering (name_cmp n m) (n ∷ m ∷ ms) (m ∷ ms) (m ∷ named ms n)
+
+-- with further names, one after another
+abbrev pub all_named : List Name → List Name → List Name
+all_named ns [] = ns
+all_named ns (m ∷ ms) = all_named (named ns m) ms
+
+-- of these frames and bindings, one after another
+abbrev pub made_of : List Name → List (Var × Term) → Stored
+made_of frames bindings = record { frames = all_named [] frames; bindings = joins [] bindings; ports = [] }
 
 abbrev pub with_frame : Stored → Name → Stored
 with_frame s n = record { frames = named s.frames n; bindings = s.bindings; ports = s.ports }

@@ -79,7 +79,8 @@ pub fn solved_store(alloc: Global, chain: &Chain) -> Result<Shared<Store>, Alloc
     let stores = chain.stores();
     let outer = chain.outer(stores.len().saturating_sub(1));
     let store = innermost(alloc, stores)?;
-    resolved(alloc, chain.templates(), &outer, &store)
+    let store = resolved(alloc, chain.templates(), &outer, &store)?;
+    Shared::new(alloc, store)
 }
 
 // A store with what is found for its bindings over a solved form, in their place.
@@ -88,7 +89,7 @@ fn resolved<K: Lookup>(
     templates: &Templates,
     known: &K,
     store: &Store,
-) -> Result<Shared<Store>, AllocError>
+) -> Result<Store, AllocError>
     requires solved { IsSolved templates.now.nodes (K.bindings known.now) }
     requires consistent { (left right : Term) → IsClashOfBindings templates.now.nodes (K.bindings known.now ++ []) store.now.bindings left right → ⊥ }
     ensures { IfOk result (λ s. ResolvesOver templates.now.nodes (K.bindings known.now) store.now s) }
@@ -99,5 +100,5 @@ fn resolved<K: Lookup>(
     };
     // There is no clash.
     take_store(alloc, templates, &mut form, store)?;
-    Shared::new(alloc, store.with_only(form.added.as_slice())?)
+    store.with_only(form.added.as_slice())
 }

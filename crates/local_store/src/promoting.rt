@@ -1,6 +1,5 @@
 //! A box whose store joins that of the box around it.
 ghost use Rattle.std.specs.Prelude.{◌≡◌, ◌<◌, ◌-◌, length, min, IfOk};
-ghost use Rattle.std.specs.Map.{keys_of};
 ghost use Rattle.rational_unify.specs.Known.{IsSolved};
 ghost use Rattle.local_store.specs.Chained.{innermost, around};
 ghost use Rattle.local_store.specs.Telling.{IsUntold};
@@ -118,16 +117,16 @@ fn join<K: Lookup>(
 fn add_names(store: &mut Store, other: &Store) -> Result<(), AllocError>
     ensures { IfOk result (λ _. store.new ≡ named_too store.old other.now) }
 {
-    add_frames(store, other.frame_entries()?)?;
+    add_frames(store, other.frames()?)?;
     add_ports(store, other.ports()?)
 }
 
 // The store also has these frames.
-fn add_frames(store: &mut Store, mut frames: Vec<(Name, ())>) -> Result<(), AllocError>
-    ensures { IfOk result (λ _. store.new ≡ with_frames store.old (keys_of frames.items)) }
+fn add_frames(store: &mut Store, mut frames: Vec<Name>) -> Result<(), AllocError>
+    ensures { IfOk result (λ _. store.new ≡ with_frames store.old frames.items) }
 {
     while let Some(frame) = frames.pop() {
-        store.add_frame(frame.0)?;
+        store.add_frame(frame)?;
     }
     Ok(())
 }

@@ -1,18 +1,22 @@
 //! The store of one box.
-ghost use Rattle.std.specs.Prelude.{◌≡◌, ◌+◌, IfOk, IfErr};
-ghost use Rattle.std.specs.Map.{keys_of, lookup};
-ghost use Rattle.std.specs.List.Sorted.{IsStrictlySortedBy};
-ghost use Rattle.akl_terms.specs.Names.{same_name, name_cmp, var_cmp};
+ghost use Rattle.std.specs.Prelude.{◌≡◌, IfOk, IfErr};
+ghost use Rattle.std.specs.Map.{lookup};
+ghost use Rattle.akl_terms.specs.Names.{same_name};
 ghost use Rattle.rational_unify.specs.Known.{found_in};
-ghost use Rattle.local_store.specs.Stored.{nothing, portless, unbound, is_named, with_frame, with_port, with_binding, with_bindings};
+ghost use Rattle.local_store.specs.Stored.{nothing, made_of, unbound, is_named, with_frame, with_port, with_binding, with_bindings};
 ghost use Rattle.local_store.specs.Telling.{clashed};
-ghost use Rattle.local_store.specs.Kept.{bindings_of, first_entries};
 
+use crate::listed::{first_in, is_among, put_binding, put_frame};
+use crate::settled::Settled;
+use crate::settling::{settle_bindings, settle_frames, settled_of};
 use akl_terms::{Name, Term, Var};
 use persist_map::BufferedMap;
 use smallvec::SmallVec;
 use std::alloc::{AllocError, Global};
 use std::marker::Model;
+
+// How many of the newest bindings, or frames, stand in the list at most.
+const FEW: usize = 8;
 
 /// The variable that a store binds to two terms whose heads differ, where a clash is told to it. No frame has it.
 pub const CLASHING: Var = Var {
@@ -27,28 +31,25 @@ pub const CLASHING: Var = Var {
 ///
 /// Copies share what they have in common, but for the few entries that were added last, which each has in lists of its
 /// own: a change of one adds to its lists and leaves the others as they were. `settle` brings the lists into trees, and so
-/// does a change that finds its list full: each entry at a cost in the order of the logarithm of the store's size, in
-/// place where no copy shares the tree.
+/// does a change that finds its list full: each frame with its bindings at a cost in the order of the number of digits of its
+/// number, in place where no copy shares the tree.
 #[derive(Drop)]
 pub struct Store {
     alloc: Global,
-    frames: BufferedMap<Name, ()>,
-    // Each binding under its variable and a number: 0 for the first of its variable, a new one for each further.
-    bindings: BufferedMap<(Var, u64), Term>,
-    // The number of the next further binding.
-    next: u64,
+    settled: Settled,
+    // What was added last, in the order in which it was added.
+    frames: SmallVec<Name, 1>,
+    bindings: Vec<(Var, Term)>,
     ports: BufferedMap<Name, Term>,
 }
 
 impl Model for Store {
     ghost use Rattle.local_store.specs.Stored.{Stored};
-    ghost use Rattle.local_store.specs.Kept.{value_of, IsKept};
+    ghost use Rattle.local_store.specs.Kept.{value_of};
 
     ghost Value = { Stored };
 
-    ghost view = { λ s. value_of s.frames s.bindings s.ports };
-
-    ghost invariant = { λ s. IsKept s.bindings s.next };
+    ghost view = { λ s. value_of s.settled s.frames.items s.bindings.items s.ports };
 }
 
 impl Store {
@@ -58,31 +59,41 @@ impl Store {
     {
         Store {
             alloc,
-            frames: BufferedMap::new(alloc),
-            bindings: BufferedMap::new(alloc),
-            next: 1,
+            settled: Settled::new(alloc),
+            frames: SmallVec::new(alloc),
+            bindings: Vec::new(alloc),
             ports: BufferedMap::new(alloc),
         }
     }
 
-    /// The store of these frames and bindings, as a store keeps them, without ports. The frames are in increasing order, and
-    /// the bindings in that of their variables, one for each, under the number 0: trees are made of them at once, with
-    /// nothing compared.
-    pub fn of_sorted(
-        alloc: Global,
-        frames: &[(Name, ())],
-        bindings: &[((Var, u64), Term)],
-    ) -> Result<Store, AllocError>
-        requires frames { IsStrictlySortedBy name_cmp (keys_of frames.now) }
-        requires bindings { IsStrictlySortedBy var_cmp (keys_of (bindings_of bindings.now)) }
-        requires first { bindings.now ≡ first_entries (bindings_of bindings.now) }
-        ensures { IfOk result (λ s. s ≡ portless (keys_of frames.now) (bindings_of bindings.now)) }
+    /// The store of these frames and bindings, as if they were added one after another. Where there are at most eight of each
+    /// it takes no more than two pieces of memory.
+    pub fn of(alloc: Global, frames: &[Name], bindings: &[(Var, Term)]) -> Result<Store, AllocError>
+        ensures { IfOk result (λ s. s ≡ made_of frames.now bindings.now) }
     {
+        if frames.len() <= FEW && bindings.len() <= FEW {
+            return Store::listed(alloc, frames, bindings);
+        }
         Ok(Store {
             alloc,
-            frames: BufferedMap::of_sorted(alloc, frames)?,
-            bindings: BufferedMap::of_sorted(alloc, bindings)?,
-            next: 1,
+            settled: settled_of(alloc, frames, bindings)?,
+            frames: SmallVec::new(alloc),
+            bindings: Vec::new(alloc),
+            ports: BufferedMap::new(alloc),
+        })
+    }
+
+    // A store whose frames and bindings all stand in lists.
+    fn listed(alloc: Global, frames: &[Name], bindings: &[(Var, Term)]) -> Result<Store, AllocError>
+        ensures { IfOk result (λ s. s ≡ made_of frames.now bindings.now) }
+    {
+        let mut list = Vec::with_capacity(alloc, bindings.len())?;
+        list.extend_from_slice(bindings)?;
+        Ok(Store {
+            alloc,
+            settled: Settled::new(alloc),
+            frames: SmallVec::from_slice(alloc, frames)?,
+            bindings: list,
             ports: BufferedMap::new(alloc),
         })
     }
@@ -92,11 +103,13 @@ impl Store {
     pub fn share(&self) -> Result<Store, AllocError>
         ensures { IfOk result (λ s. s ≡ self.now) }
     {
+        let mut bindings = Vec::new(self.alloc);
+        bindings.extend_from_slice(&self.bindings)?;
         Ok(Store {
             alloc: self.alloc,
-            frames: self.frames.share()?,
-            bindings: self.bindings.share()?,
-            next: self.next,
+            settled: self.settled.share()?,
+            frames: SmallVec::from_slice(self.alloc, self.frames.as_slice())?,
+            bindings,
             ports: self.ports.share()?,
         })
     }
@@ -106,7 +119,9 @@ impl Store {
         ensures added { IfOk result (λ _. self.new ≡ with_frame self.old frame) }
         ensures unchanged { IfErr result (λ _. self.new ≡ self.old) }
     {
-        self.frames.insert(frame, ())
+        self.make_room();
+        self.frames.push(frame)?;
+        Ok(())
     }
 
     /// Also has the port; one that is there takes the new tail. An `Err`, for want of memory, leaves the store as it
@@ -124,14 +139,8 @@ impl Store {
         ensures added { IfOk result (λ _. self.new ≡ with_binding self.old variable term) }
         ensures unchanged { IfErr result (λ _. self.new ≡ self.old) }
     {
-        if self.first_binding(variable).is_none() {
-            self.bindings.insert((variable, 0), term)?;
-            return Ok(());
-        }
-        let number = self.next;
-        let next = after(number)?;
-        self.bindings.insert((variable, number), term)?;
-        self.next = next;
+        self.make_room();
+        self.bindings.push((variable, term))?;
         Ok(())
     }
 
@@ -176,9 +185,32 @@ impl Store {
     pub fn settle(&mut self)
         ensures { self.new ≡ self.old }
     {
-        let _ = self.frames.settle();
-        let _ = self.bindings.settle();
+        if !self.settled.is_empty() {
+            self.empty_lists();
+        }
         let _ = self.ports.settle();
+    }
+
+    // Brings the lists into the tree where one of them is full.
+    fn make_room(&mut self)
+        ensures { self.new ≡ self.old }
+    {
+        if self.frames.len() >= FEW || self.bindings.len() >= FEW {
+            self.empty_lists();
+        }
+    }
+
+    // Brings the lists into the tree, as far as there is memory.
+    fn empty_lists(&mut self)
+        ensures { self.new ≡ self.old }
+    {
+        settle_frames(
+            self.alloc,
+            &mut self.settled,
+            &mut self.frames,
+            &mut self.bindings,
+        );
+        settle_bindings(self.alloc, &mut self.settled, &mut self.bindings);
     }
 
     /// Also has these bindings, added one after another. After an `Err` it may have some of them.
@@ -206,9 +238,9 @@ impl Store {
     {
         Ok(Store {
             alloc: self.alloc,
-            frames: self.frames.share()?,
-            bindings: BufferedMap::new(self.alloc),
-            next: 1,
+            settled: self.settled.without_bindings(self.alloc)?,
+            frames: SmallVec::from_slice(self.alloc, self.frames.as_slice())?,
+            bindings: Vec::new(self.alloc),
             ports: self.ports.share()?,
         })
     }
@@ -217,7 +249,7 @@ impl Store {
     pub fn has_frame(&self, frame: Name) -> bool
         ensures { result ≡ is_named self.now.frames frame }
     {
-        self.frames.get(&frame).copied().is_some()
+        self.settled.has_frame(frame) || is_among(self.frames.as_slice(), frame)
     }
 
     /// What the first binding of the variable binds it to; `None` exactly where it has no binding.
@@ -225,7 +257,10 @@ impl Store {
     pub fn first_binding(&self, variable: Var) -> Option<Term>
         ensures { result ≡ found_in self.now.bindings variable }
     {
-        self.bindings.get(&(variable, 0)).copied()
+        match self.settled.first_binding(variable) {
+            Some(term) => Some(term),
+            None => first_in(&self.bindings, variable),
+        }
     }
 
     /// The tail of the port; `None` exactly where the store has no such port.
@@ -239,37 +274,20 @@ impl Store {
     pub fn frames(&self) -> Result<Vec<Name>, AllocError>
         ensures { IfOk result (λ list. list.items ≡ self.now.frames) }
     {
-        let entries = self.frames.entries()?;
-        let mut list = Vec::with_capacity(self.alloc, entries.len())?;
-        for entry in &entries {
-            list.push(entry.0)?;
+        let mut list = self.settled.frames(self.alloc)?;
+        for frame in self.frames.as_slice() {
+            put_frame(&mut list, *frame)?;
         }
         Ok(list)
-    }
-
-    /// The frames in increasing order of names, as they are kept.
-    pub fn frame_entries(&self) -> Result<Vec<(Name, ())>, AllocError>
-        ensures { IfOk result (λ list. keys_of list.items ≡ self.now.frames) }
-    {
-        self.frames.entries()
-    }
-
-    /// The bindings in the order of `bindings`, as they are kept: each under its variable and a number, which is 0 for the
-    /// first of its variable.
-    pub fn binding_entries(&self) -> Result<Vec<((Var, u64), Term)>, AllocError>
-        ensures { IfOk result (λ list. bindings_of list.items ≡ self.now.bindings) }
-    {
-        self.bindings.entries()
     }
 
     /// The bindings in increasing order of variables, those of one variable in the order in which they were added.
     pub fn bindings(&self) -> Result<SmallVec<(Var, Term), 4>, AllocError>
         ensures { IfOk result (λ list. list.items ≡ self.now.bindings) }
     {
-        let entries = self.bindings.entries()?;
-        let mut list = SmallVec::with_capacity(self.alloc, entries.len())?;
-        for entry in &entries {
-            list.push((entry.0.0, entry.1))?;
+        let mut list = self.settled.bindings(self.alloc)?;
+        for binding in &self.bindings {
+            put_binding(&mut list, binding.0, binding.1)?;
         }
         Ok(list)
     }
@@ -280,11 +298,4 @@ impl Store {
     {
         self.ports.entries()
     }
-}
-
-// The number after this one. No memory holds as many bindings as there are numbers.
-fn after(number: u64) -> Result<u64, AllocError>
-    ensures { IfOk result (λ next. next ≡ number + 1) }
-{
-    number.checked_add(1).ok_or(AllocError)
 }

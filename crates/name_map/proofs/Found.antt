@@ -17,7 +17,7 @@ use Rattle.name_map.proofs.Within.{within_past}
 abbrev pub named : ℕ → ℕ → Name
 named w n = record { worker = w; number = n }
 
-other_worker_below : (m : Name) (w n : ℕ) → m.worker < w → same_name m (named w n) ≡ false
+pub other_worker_below : (m : Name) (w n : ℕ) → m.worker < w → same_name m (named w n) ≡ false
 other_worker_below m w n h = grind (arith, nat_tests)
 
 other_worker_above : (m : Name) (w n : ℕ) → w < m.worker → same_name m (named w n) ≡ false
@@ -26,7 +26,7 @@ other_worker_above m w n h = grind (arith, nat_tests)
 other_number_below : (m : Name) (w n : ℕ) → m.number < n → same_name m (named w n) ≡ false
 other_number_below m w n h = grind (arith, nat_tests)
 
-other_number_above : (m : Name) (w n : ℕ) → n < m.number → same_name m (named w n) ≡ false
+pub other_number_above : (m : Name) (w n : ℕ) → n < m.number → same_name m (named w n) ≡ false
 other_number_above m w n h = grind (arith, nat_tests)
 
 this_one : (m : Name) (w n : ℕ) → m.worker ≡ w → m.number ≡ n → same_name m (named w n) ≡ true
@@ -38,7 +38,7 @@ less a b h = grind (arith, nat_tests)
 equal : (a : ℕ) → nat_cmp a a ≡ Equal
 equal a = grind (arith, nat_tests)
 
-worker_less : (j : Name) (w n : ℕ) → j.worker < w → name_cmp j (named w n) ≡ Less
+pub worker_less : (j : Name) (w n : ℕ) → j.worker < w → name_cmp j (named w n) ≡ Less
 worker_less j w n h = ap (λ (o : Ordering). ordering_then o (nat_cmp j.number n)) (less j.worker w h)
 
 number_less : (w k n : ℕ) → k < n → name_cmp (named w k) (named w n) ≡ Less
@@ -53,12 +53,12 @@ module _ {V : Type 0} where
   met m w k None es e none = none
   met m w k (Some v) es e none = ap (λ (b : Bool). cond b (Some v) (lookup (same_name m) es)) e
 
-  not_listed : (m : Name) (w k n : ℕ) (f : ℕ → Option V) (es : List (Name × V)) → ((i : ℕ) → k ≤ i → i < k + n → same_name m (named w i) ≡ false)
+  pub not_listed : (m : Name) (w k n : ℕ) (f : ℕ → Option V) (es : List (Name × V)) → ((i : ℕ) → k ≤ i → i < k + n → same_name m (named w i) ≡ false)
       → lookup (same_name m) (listed w k n f es) ≡ lookup (same_name m) es
   not_listed m w k zero f es h = refl
   not_listed m w k (suc n) f es h = skipped m w k (f k) (listed w (k + 1) n f es) (h k (omega arith) (omega arith)) ∙ not_listed m w (k + 1) n f es (λ i p q. h i (omega arith) (omega arith))
 
-  is_listed : (m : Name) (w k n i : ℕ) (f : ℕ → Option V) (es : List (Name × V)) → m.worker ≡ w → m.number ≡ k + i → i < n → lookup (same_name m) es ≡ None
+  pub is_listed : (m : Name) (w k n i : ℕ) (f : ℕ → Option V) (es : List (Name × V)) → m.worker ≡ w → m.number ≡ k + i → i < n → lookup (same_name m) es ≡ None
       → lookup (same_name m) (listed w k n f es) ≡ f m.number
   is_listed m w k zero i f es g e h none = absurd (omega arith)
   is_listed m w k (suc n) zero f es g e h none =
@@ -94,14 +94,14 @@ module _ {V : Type 0} where
   pub found : (workers : List (Numbers V)) (m : Name) → lookup (same_name m) (entries workers) ≡ value_at workers m
   found workers m = found_from m 0 m.worker workers (omega arith)
 
-  abbrev AllAfter : Name → List (Name × V) → Type 0
+  abbrev pub AllAfter : Name → List (Name × V) → Type 0
   AllAfter j es = AllByRecursion (λ (y : Name). name_cmp j y ≡ Less) (keys_of es)
 
   after_value : (j : Name) (w k : ℕ) (o : Option V) (es : List (Name × V)) → name_cmp j (named w k) ≡ Less → AllAfter j es → AllAfter j (with_value o w k es)
   after_value j w k None es h all = all
   after_value j w k (Some v) es h all = (h, all)
 
-  after_listed : (j : Name) (w k n : ℕ) (f : ℕ → Option V) (es : List (Name × V)) → ((i : ℕ) → k ≤ i → name_cmp j (named w i) ≡ Less) → AllAfter j es → AllAfter j (listed w k n f es)
+  pub after_listed : (j : Name) (w k n : ℕ) (f : ℕ → Option V) (es : List (Name × V)) → ((i : ℕ) → k ≤ i → name_cmp j (named w i) ≡ Less) → AllAfter j es → AllAfter j (listed w k n f es)
   after_listed j w k zero f es h all = all
   after_listed j w k (suc n) f es h all = after_value j w k (f k) (listed w (k + 1) n f es) (h k (omega arith)) (after_listed j w (k + 1) n f es (λ i p. h i (omega arith)) all)
 
@@ -114,7 +114,7 @@ module _ {V : Type 0} where
   ordered_value w k None es all h = h
   ordered_value w k (Some v) es all h = (all, h)
 
-  ordered_listed : (w k n : ℕ) (f : ℕ → Option V) (es : List (Name × V)) → ((i : ℕ) → AllAfter (named w i) es) → IsStrictlySortedBy name_cmp (keys_of es) → IsStrictlySortedBy name_cmp (keys_of (listed w k n f es))
+  pub ordered_listed : (w k n : ℕ) (f : ℕ → Option V) (es : List (Name × V)) → ((i : ℕ) → AllAfter (named w i) es) → IsStrictlySortedBy name_cmp (keys_of es) → IsStrictlySortedBy name_cmp (keys_of (listed w k n f es))
   ordered_listed w k zero f es all h = h
   ordered_listed w k (suc n) f es all h =
       ordered_value w k (f k) (listed w (k + 1) n f es) (after_listed (named w k) w (k + 1) n f es (λ i p. number_less w k i (omega arith)) (all k)) (ordered_listed w (k + 1) n f es all h)

@@ -4,6 +4,12 @@ use denote.Param.Send.{IsSend, IsSync, sendable}
 use Rattle.std.proofs.Crossing as owned
 use Rattle.std.proofs.MapsCrossing as maps
 use Rattle.persist_map.proofs.tree.Tree.TheLaws.TheKnot as trees
+use Rattle.frame_map.proofs.tree.Tree.TheLaws.TheKnot as frame_trees
+use Rattle.frame_map.specs.contracts.root.Root as Root
+use Rattle.frame_map.specs.contracts.map.FrameMap as FrameMap
+use Rattle.local_store.specs.contracts.frame_bindings.FrameBindings as FrameBindings
+use Rattle.local_store.specs.contracts.shared.Shared as Shared
+use Rattle.local_store.specs.contracts.settled.Settled as Settled
 use Rattle.local_store.specs.contracts.store.Store as Store
 use Rattle.box_tree.specs.contracts.entries.GoalEntry as GoalEntry
 use Rattle.box_tree.specs.contracts.entries.BoxEntry as BoxEntry
@@ -33,11 +39,47 @@ use Rattle.par_workers.specs.contracts.signals.Signals as Signals
 use Rattle.par_workers.specs.contracts.worker.Worker as Worker
 
 -- each step rests on those before it, since a `search` that goes down through all of them runs out of steps
+FrameBindings-send : IsSend FrameBindings.the_row
+FrameBindings-send = search (owned.crosses, sendable) depth 60 fits 20000
+
+FrameBindings-sync : IsSync FrameBindings.the_row
+FrameBindings-sync = search (owned.crosses, sendable) depth 60 fits 20000
+
+Shared-send : (V : RattleType) → IsSend V → IsSync V → IsSend (Shared.the_row V)
+Shared-send V s y = search (owned.crosses, sendable) depth 60 fits 20000
+
+Shared-sync : (V : RattleType) → IsSend V → IsSync V → IsSync (Shared.the_row V)
+Shared-sync V s y = search (owned.crosses, sendable) depth 60 fits 20000
+
+Root-send : (V : RattleType) → IsSend V → IsSync V → IsSend (Root.the_row V)
+Root-send V s y = search (frame_trees.crosses_both, owned.crosses, sendable) depth 60 fits 20000
+
+Root-sync : (V : RattleType) → IsSend V → IsSync V → IsSync (Root.the_row V)
+Root-sync V s y = search (frame_trees.crosses_both, owned.crosses, sendable) depth 60 fits 20000
+
+FrameMap-send : (V : RattleType) → IsSend V → IsSync V → IsSend (FrameMap.the_row V)
+FrameMap-send V s y = let a = Root-send V s y in search (owned.crosses, sendable) depth 60 fits 20000
+
+FrameMap-sync : (V : RattleType) → IsSend V → IsSync V → IsSync (FrameMap.the_row V)
+FrameMap-sync V s y = let a = Root-sync V s y in search (owned.crosses, sendable) depth 60 fits 20000
+
+Settled-send : IsSend Settled.the_row
+Settled-send =
+    let s = Shared-send FrameBindings.the_row FrameBindings-send FrameBindings-sync in
+    let y = Shared-sync FrameBindings.the_row FrameBindings-send FrameBindings-sync in
+    let a = FrameMap-send (Shared.the_row FrameBindings.the_row) s y in search (owned.crosses, sendable) depth 60 fits 20000
+
+Settled-sync : IsSync Settled.the_row
+Settled-sync =
+    let s = Shared-send FrameBindings.the_row FrameBindings-send FrameBindings-sync in
+    let y = Shared-sync FrameBindings.the_row FrameBindings-send FrameBindings-sync in
+    let a = FrameMap-sync (Shared.the_row FrameBindings.the_row) s y in search (owned.crosses, sendable) depth 60 fits 20000
+
 Store-send : IsSend Store.the_row
-Store-send = search (owned.crosses, trees.crosses_both, sendable) depth 60 fits 20000
+Store-send = let a = Settled-send in search (owned.crosses, trees.crosses_both, sendable) depth 60 fits 20000
 
 Store-sync : IsSync Store.the_row
-Store-sync = search (owned.crosses, trees.crosses_both, sendable) depth 60 fits 20000
+Store-sync = let a = Settled-sync in search (owned.crosses, trees.crosses_both, sendable) depth 60 fits 20000
 
 BoxEntry-send : IsSend BoxEntry.the_row
 BoxEntry-send = let a = Store-send in let b = Store-sync in search (owned.crosses, maps.crosses, sendable) depth 60 fits 20000

@@ -1,5 +1,4 @@
 use Rattle.std.proofs.Common.{◌≡◌, List, ◌++◌, map, ap, ◌∙◌}
-use Rattle.std.specs.Map.{keys_of}
 use Rattle.akl_terms.specs.declared.name.Name.{Name}
 use Rattle.akl_terms.specs.declared.term.Term.{Term}
 use Rattle.local_store.specs.Stored.{Stored}
@@ -14,7 +13,7 @@ returns c =
     let store : Stored = c.args.inner.now.store in
     let ports : List Name = map (λ (p : Name × Term). p.0) store.ports in
     let goals : List Name = map (λ (g : InnerGoal). g.name) c.args.inner.now.goals.items in
-    let is_frames : keys_of c.as_slice.result.now ≡ store.frames = ap keys_of c.as_slice.ensures.value ∙ c.in_ok-frame_entries.ensures ∙ ap (λ (s : Stored). s.frames) c.get-store.ensures in
+    let is_frames : c.as_slice.result.now ≡ store.frames = c.as_slice.ensures.value ∙ c.in_ok-frames.ensures ∙ ap (λ (s : Stored). s.frames) c.get-store.ensures in
     let is_ports : map (λ (p : Name × Term). p.0) c.as_slice-2.result.now ≡ ports = ap (map (λ (p : Name × Term). p.0)) (c.as_slice-2.ensures.value ∙ c.in_ok-ports.ensures ∙ ap (λ (s : Stored). s.ports) c.get-store.ensures) in
     let is_goals : map (λ (g : InnerGoal). g.name) c.as_slice-3.result.now ≡ goals = ap (map (λ (g : InnerGoal). g.name)) c.as_slice-3.ensures.value in
     on_ok (c.add_goals.new.names.items ≡ c.add_ports.new.names.items ++ map (λ (g : InnerGoal). g.name) c.as_slice-3.result.now) (c.add_goals.new.names.items ≡ c.args.names.now.items ++ own_names c.args.inner.now) c.add_goals.result (λ last.

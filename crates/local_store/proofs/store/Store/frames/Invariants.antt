@@ -1,6 +1,6 @@
 use Rattle.std.proofs.Common.{◌≡◌, take}
-use Rattle.std.specs.Map.{keys_of}
+use Rattle.local_store.specs.Stored.{all_named}
 use Rattle.local_store.proofs.store.Store.frames.Given as goal
 
-abbrev pub invariant-loop-entry : goal.invariant-loop-entry
-invariant-loop-entry l = l.list.items ≡ keys_of (take l.entry-index l.entry-items)
+abbrev pub invariant-loop-frame : goal.invariant-loop-frame
+invariant-loop-frame l = l.list.items ≡ all_named l.initial.list.items (take l.frame-index l.frame-items)

@@ -1,0 +1,13 @@
+pub mod Bounds
+pub mod Changes
+pub mod Children
+pub mod Found
+pub mod Heights
+pub mod Inserts
+pub mod Leaves
+pub mod Listing
+pub mod Nodes
+pub mod Parts
+pub mod Roots
+pub mod Trees
+pub mod Whole

@@ -1,0 +1,19 @@
+use Rattle.std.proofs.Common.{◌≡◌, ◌≤◌, List, length, ap, ◌∙◌, arith}
+use Rattle.std.specs.List.{insert}
+use Rattle.std.specs.Prelude.{nat_lt, not}
+use Rattle.akl_terms.specs.declared.term.Term.{Term}
+use Rattle.local_store.specs.Kept.{place_at}
+use Rattle.local_store.proofs.Places.{front-within, put-here}
+use Rattle.local_store.proofs.frame_bindings.put.Goals as goal
+
+pub insert-requires : goal.insert-requires
+insert-requires c =
+    let within : place_at c.args.bindings.now.items c.args.index ≤ length c.args.bindings.now.items = front-within (λ b. not (nat_lt c.args.index b.0)) c.args.bindings.now.items in
+    let place : c.place_of-place.result ≡ place_at c.args.bindings.now.items c.args.index = c.place_of-place.ensures ∙ ap (λ l. place_at l c.args.index) c.deref.ensures.value in
+    let ok = c.args.bindings.now.ok in
+    omega arith
+
+pub returns : goal.returns
+returns c =
+    let place : c.place_of-place.result ≡ place_at c.args.bindings.now.items c.args.index = c.place_of-place.ensures ∙ ap (λ l. place_at l c.args.index) c.deref.ensures.value in
+    c.in_ok-insert.ensures.items ∙ ap (λ n. insert c.args.bindings.now.items n (c.args.index, c.args.term)) place ∙ put-here c.args.bindings.now.items c.args.index c.args.term
