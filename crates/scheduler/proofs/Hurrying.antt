@@ -13,6 +13,7 @@ use Rattle.akl_terms.specs.declared.name.Place.{Place}
 use Rattle.akl_terms.specs.Names.{same_name}
 use Rattle.akl_model.specs.Config.{IsIn, Found, box_at, site_of}
 use Rattle.akl_model.specs.Conditions.{HasFailed}
+use Rattle.akl_model.specs.Wakes.{IsOneOf}
 use Rattle.akl_model.proofs.Options.{some_value, map_some}
 use Rattle.akl_model.proofs.NamesKept.{box-itself}
 use Rattle.akl_model.proofs.Scoped.{IsIn-either}
@@ -37,7 +38,7 @@ use Rattle.wake_lists.specs.Open.{Opening, Openings, opening_at, IsOpen, IsHurri
 use Rattle.wake_lists.proofs.Keys.{token_here}
 use Rattle.step_commit.specs.Cores.{CoreValue, TableIn, run_by}
 use Rattle.scheduler.specs.Schedulers.{SchedulerValue}
-use Rattle.scheduler.specs.Turns.{urgency_by, urgency_seen, is_urgent, told_by, unsolved_by, is_elsewhere, may_fail, IsUrgentAt, AreUrgent, AreUrgentBoxes, StayUrgent, AreHintsFor}
+use Rattle.scheduler.specs.Turns.{urgency_by, urgency_seen, is_urgent, told_by, unsolved_by, is_elsewhere, may_fail, IsUrgentAt, AreUrgent, AreUrgentBoxes, StayUrgent, BoxesStayUrgent, AreHintsFor}
 use Rattle.scheduler.specs.declared.turns.TurnHints.{TurnHints}
 use Rattle.scheduler.specs.Committed.{SuspectsAreUrgent, OpensAmong}
 use Rattle.scheduler.proofs.OpeningLists.{some_none, put_at}
@@ -92,6 +93,38 @@ module _ (before after : Openings) (urgency : Urgency) (t : ℕ) where
 pub still_either : {E : Type 0} (r : Result (Unit {0}) E) (a b : Openings) (w : Urgency) (t : ℕ) → IfOk r (λ x. IsHurried a b w t) → IfErr r (λ x. b ≡ a) → StayUrgent a b
 still_either (Ok x) a b w t h k = urgent_still a b w t h
 still_either (Err x) a b w t h k = λ q u. subst (λ (os : Openings). IsUrgentAt os q) (sym k) u
+
+-- urgent boxes stay so where a goal was put last, or nothing was
+module _ (a b : Openings) (w : Urgency) (t : ℕ) (g : Name) (known : IsOpen a (Place.Goal g) (Some t)) where
+  goal_there : (o : Opening) → opening_at t a ≡ Some o → o.place ≡ Place.Goal g
+  goal_there o e =
+      let y : (q : Opening) × (opening_at t a ≡ Some q) × (q.place ≡ Place.Goal g) = known.back t refl in
+      ap (λ (q : Opening). q.place) (some_value (sym e ∙ y.1)) ∙ y.2
+
+  boxes_put : IsPutLast a b w t → BoxesStayUrgent a b
+  boxes_put (IsPutLast.none h e) n u = subst (λ (os : Openings). IsUrgentAt os (Place.Box n)) (sym e) u
+  boxes_put (IsPutLast.put p z h i l e) n u = record { each = λ s x y f. on s x f (eqb s t) (put_case a b w t p z e s x y) }
+    where
+      on : (s : ℕ) (x : Opening) → x.place ≡ Place.Box n → (k : Bool) → cond k (Some (record p { turn = z })) (opening_at s a) ≡ Some x → x.turn.urgency ≡ Urgency.Urgent
+      on s x f true y =
+          let apart : Place.Goal g ≡ Place.Box n = sym (goal_there p h) ∙ ap (λ (v : Opening). v.place) (some_value y) ∙ f in
+          cc
+      on s x f false y = u.each s x y f
+
+  pub boxes_still : {E : Type 0} (r : Result (Unit {0}) E) → IfOk r (λ x. IsPutLast a b w t) → IfErr r (λ x. b ≡ a) → BoxesStayUrgent a b
+  boxes_still (Ok x) h k = boxes_put h
+  boxes_still (Err x) h k = λ n u. subst (λ (os : Openings). IsUrgentAt os (Place.Box n)) (sym k) u
+
+-- so what may fail stays urgent
+pub urgent_beside : (v : TableValue) (told : Option Name) (ps : List Place) (mid new : Openings) → AreUrgent v told ps mid → BoxesStayUrgent mid new → AreUrgent v told ps new
+urgent_beside v told ps mid new r still = record { each = on }
+  where
+    on : (place : Place) → IsOneOf place ps → may_fail v told place ≡ true → IsUrgentAt new place
+    on (Place.Goal g) j f = cc
+    on (Place.Box n) j f = still n (r.each (Place.Box n) j f)
+
+pub boxes_beside : (ns : List Name) (mid new : Openings) → AreUrgentBoxes ns mid → BoxesStayUrgent mid new → AreUrgentBoxes ns new
+boxes_beside ns mid new r still = record { each = λ n j. still n (r.each n j) }
 
 -- a place that isn't open
 pub urgent_none : (os : Openings) (place : Place) → IsOpen os place None → IsUrgentAt os place

@@ -88,6 +88,10 @@ pub record AreUrgentBoxes (names : List Name) (os : Openings) : Type 0 where
 abbrev pub StayUrgent : Openings → Openings → Type 0
 StayUrgent before now = (place : Place) → IsUrgentAt before place → IsUrgentAt now place
 
+-- the same of boxes alone
+abbrev pub BoxesStayUrgent : Openings → Openings → Type 0
+BoxesStayUrgent before now = (n : Name) → IsUrgentAt before (Place.Box n) → IsUrgentAt now (Place.Box n)
+
 -- what a step tells of turns
 pub record AreHints (home : Name) (step : Step) (h : TurnHints) : Type 0 where
   pub told : h.told ≡ told_by home step

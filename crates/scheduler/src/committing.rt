@@ -85,7 +85,7 @@ impl Scheduler {
         let opened = effects.opened.as_slice();
         let gone = effects.gone.as_slice();
         let committed = self.commit_opening(alloc, plan, opened, gone, steps)?;
-        self.set_turns(opened, gone, &effects.hints);
+        self.set_turns(opened, gone, &effects.hints, effects.waiting.as_slice());
         Ok(committed)
     }
 

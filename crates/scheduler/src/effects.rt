@@ -20,6 +20,7 @@ use crate::hints::Hints;
 use crate::once::each_once;
 use crate::placing::push_those;
 use crate::turns::TurnHints;
+use crate::waiting::{Waited, still_waiting};
 use akl_terms::{Name, Place, Var};
 use box_tree::{Plan, ShortList, Step, Table};
 use local_store::Store;
@@ -36,6 +37,8 @@ pub(crate) struct Effects {
     pub opened: Vec<Placed>,
     /// What it tells of their turns.
     pub hints: TurnHints,
+    /// Those of them that come late, until one of these variables is bound.
+    pub waiting: Vec<Waited>,
 }
 
 impl Effects {
@@ -58,14 +61,23 @@ impl Effects {
             return Err(AllocError);
         };
         let gone = gone_once(alloc, table, plan)?;
-        let opened = opened_by(alloc, table, waits, plan, around, gone.as_slice())?;
+        let others = opened_others(alloc, table, waits, plan, around.home, gone.as_slice())?;
+        let opened = opened_with(alloc, table, plan, around, others.as_slice())?;
+        let changed = changed_of(opened.as_slice(), others.as_slice().len());
+        let waiting = still_waiting(alloc, waits, plan.step(), others.as_slice(), changed)?;
         let hints = TurnHints::of(alloc, around.home, plan, sooner)?;
         Ok(Effects {
             gone,
             opened,
             hints,
+            waiting,
         })
     }
+}
+
+// Of the places that a label opens those that it changes, where so many others stand behind them.
+fn changed_of(opened: &[Placed], others: usize) -> &[Placed] {
+    &opened[..opened.len().saturating_sub(others)]
 }
 
 // The places that go with the label of a plan, each once. An `Err` comes for want of memory.
@@ -76,25 +88,6 @@ fn gone_once(alloc: Global, table: &Table, plan: &Plan) -> Result<ShortList<Plac
 {
     let gone = gone_places(alloc, table, plan.label(), plan.step())?;
     each_once(alloc, gone)
-}
-
-// The places that the label of a plan opens, where these go, each with the boxes around it, by what stands about the label's
-// place; one that the label changes may be listed twice.
-fn opened_by(
-    alloc: Global,
-    table: &Table,
-    waits: &Waits,
-    plan: &Plan,
-    around: Around,
-    gone: &[Place],
-) -> Result<Vec<Placed>, AllocError>
-    requires run { IsOfRun table.now }
-    requires there { is_there (table_of table.now) plan.now.label.place ≡ true }
-    requires around { IsAround (table_of table.now) plan.now.label around }
-    ensures { IfOk result (λ places. AreListedFor table.now waits.now plan.now gone.now places.items) }
-{
-    let others = opened_others(alloc, table, waits, plan, around.home, gone)?;
-    opened_with(alloc, table, plan, around, others.as_slice())
 }
 
 // The places that the label changes, and these.

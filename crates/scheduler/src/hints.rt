@@ -71,6 +71,11 @@ impl Hints {
     }
 }
 
+/// As many hints are kept where so many places are open.
+pub(crate) fn most_hints(open: usize) -> usize {
+    open.saturating_mul(4)
+}
+
 // Whether the store that a step gives its box binds a variable. One to which others are made equal isn't bound by that.
 fn is_bound_by(step: &Step, variable: Var) -> bool {
     match step {

@@ -17,6 +17,7 @@ mod scheduler;
 mod settling;
 mod splits;
 mod turns;
+mod waiting;
 
 pub use attention::Attention;
 pub use committing::Committed;

@@ -7,7 +7,7 @@ ghost use Rattle.scheduler.specs.Schedulers.{IsScheduler, AllOpen, IsQuiet, HasG
 ghost use Rattle.scheduler.specs.Opening.{AreOpened};
 ghost use Rattle.scheduler.specs.AllPlaces.{AreAllOpen, AreAllPlaced};
 
-use crate::hints::Hints;
+use crate::hints::{Hints, most_hints};
 use crate::opening::open_all;
 use crate::placing::push_those;
 use crate::splits::Splits;
@@ -143,7 +143,7 @@ impl Scheduler {
             return;
         };
         if let Some(Place::Goal(goal)) = self.open.place_of(token) {
-            let most = self.open.count().saturating_mul(2);
+            let most = most_hints(self.open.count());
             let _ = self.hints.add(variable, goal, most);
         }
     }

@@ -6,11 +6,12 @@ ghost use Rattle.box_tree.specs.Paths.{sight_in};
 ghost use Rattle.opened_places.specs.Placed.{places_of};
 ghost use Rattle.wake_lists.specs.Open.{untimed};
 ghost use Rattle.wake_lists.specs.declared.turn.Urgency.{Urgency};
-ghost use Rattle.scheduler.specs.Turns.{urgency_seen, told_by, unsolved_by, unsolved_among, unless_solved, is_elsewhere, may_fail, IsUrgentAt, AreUrgent, AreUrgentBoxes, StayUrgent, AreHints};
+ghost use Rattle.scheduler.specs.Turns.{urgency_seen, told_by, unsolved_by, unsolved_among, unless_solved, is_elsewhere, may_fail, IsUrgentAt, AreUrgent, AreUrgentBoxes, StayUrgent, BoxesStayUrgent, AreHints};
 
 use crate::attention::collects;
-use crate::hints::Hints;
+use crate::hints::{Hints, most_hints};
 use crate::scheduler::Scheduler;
+use crate::waiting::Waited;
 use akl_terms::{Name, Place, Var};
 use box_tree::{NewBox, Plan, Sight, Step, Table};
 use opened_places::Placed;
@@ -138,7 +139,13 @@ impl Scheduler {
     /// alternative, or one that collects with an alternative that isn't solved. What went isn't late, so that it is forgotten
     /// soon. Once sixteen labels were made for each open place, all late places come as ordinary ones. Where memory is wanting,
     /// what isn't urgent comes as it did.
-    pub(crate) fn set_turns(&mut self, places: &[Placed], gone: &[Place], hints: &TurnHints)
+    pub(crate) fn set_turns(
+        &mut self,
+        places: &[Placed],
+        gone: &[Place],
+        hints: &TurnHints,
+        waiting: &[Waited],
+    )
         ensures urgent { AreUrgent self.new.core.table hints.now.told (places_of places.now) self.new.openings }
         ensures unsolved { AreUrgentBoxes hints.now.unsolved.items self.new.openings }
         ensures places { untimed self.new.openings ≡ untimed self.old.openings }
@@ -148,6 +155,7 @@ impl Scheduler {
         resume_late(&mut self.open, &mut self.labels);
         resume_bound(&mut self.open, &mut self.hints, hints.bound.as_slice());
         order_all(&mut self.open, self.core.table(), places, gone, hints);
+        delay_waiting(&mut self.open, &mut self.hints, waiting);
     }
 }
 
@@ -201,15 +209,33 @@ fn order_all(
     hurry_opened(open_places, table, places, hints.told);
 }
 
-// A place is late, if it is open and memory suffices.
-fn delay(open_places: &mut Open, place: Option<Place>)
+// A call is late, if it is open and memory suffices.
+fn delay(open_places: &mut Open, call: Option<Place>)
     ensures { untimed open_places.new ≡ untimed open_places.old }
 {
-    let Some(delayed) = place else {
-        return;
-    };
-    if let Some(token) = open_places.token_of(delayed) {
+    if let Some(Place::Goal(goal)) = call {
+        delay_goal(open_places, goal);
+    }
+}
+
+// A goal is late, if it is open and memory suffices.
+fn delay_goal(open_places: &mut Open, goal: Name)
+    ensures boxes { BoxesStayUrgent open_places.old open_places.new }
+    ensures places { untimed open_places.new ≡ untimed open_places.old }
+{
+    if let Some(token) = open_places.token_of(Place::Goal(goal)) {
         let _ = open_places.put_last(token, Urgency::Late);
+    }
+}
+
+// These goals are late, until one of the variables on which they waited is bound, if memory suffices.
+fn delay_waiting(open_places: &mut Open, sooner: &mut Hints, waiting: &[Waited])
+    ensures boxes { BoxesStayUrgent open_places.old open_places.new }
+    ensures places { untimed open_places.new ≡ untimed open_places.old }
+{
+    for waited in waiting {
+        delay_goal(open_places, waited.goal);
+        let _ = sooner.add(waited.on, waited.goal, most_hints(open_places.count()));
     }
 }
 

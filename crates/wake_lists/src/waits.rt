@@ -83,6 +83,16 @@ impl Waits {
         }
     }
 
+    /// The variables on which a place waits, each once.
+    pub fn variables_of(&self, place: Place) -> &[Var]
+        ensures { (x : _) → is_variable_in x result.now ≡ waits_on self.now place x }
+    {
+        match self.by_place.get(place) {
+            Some(variables) => variables.as_slice(),
+            None => &[],
+        }
+    }
+
     /// The places that wait on a variable, each once, in increasing order.
     pub fn woken_by(&self, variable: Var) -> Woken<'_>
         ensures { result ≡ places_at variable self.now }
