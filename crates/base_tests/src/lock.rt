@@ -1,9 +1,8 @@
-ghost use Rattle.std.specs.Prelude.{◌≡◌, ◌+◌, ◌<◌, [], All, length, vec_len, IfOk};
+ghost use Rattle.std.specs.Prelude.{◌≡◌, ◌+◌, ◌<◌, [], All, length, vec_len, IfOk, OnOk};
 ghost use Rattle.turn_lock.specs.Passes.{view, IsPassOf, HasNoTurn};
 
 use std::alloc::{AllocError, Global};
 use std::sync::Wait;
-use std::test::Fail;
 use std::thread;
 use std::thread::Threads;
 use turn_lock::{Booked, Pass, TurnLock};
@@ -139,6 +138,44 @@ fn dismiss(lock: &TurnLock<Log>, first: &mut Pass<Log>, mut workers: Vec<Worker>
     }
 }
 
+// So many workers take so many turns each.
+fn work<R: Threads + Wait + Sync>(
+    rt: &R,
+    alloc: Global,
+    lock: &TurnLock<Log>,
+    first: &mut Pass<Log>,
+    count: u8,
+    turns: u64,
+) -> Result<(), AllocError>
+    requires lock { IsPassOf lock.now first.old }
+    requires first { ((view first.old).number ≡ 0) × HasNoTurn first.old }
+    requires none { ((view first.old).split_count ≡ 0) × ((view first.old).joined ≡ []) }
+    ensures lock { OnOk result (IsPassOf lock.now first.new) }
+    ensures first { OnOk result (((view first.new).number ≡ 0) × HasNoTurn first.new) }
+    ensures all { OnOk result (length (view first.new).joined ≡ (view first.new).split_count) }
+{
+    let mut workers = hire(alloc, lock, first, count)?;
+    run(rt, lock, workers.as_mut_slice(), turns);
+    dismiss(lock, first, workers);
+    Ok(())
+}
+
+// What they write.
+fn written<R: Threads + Wait + Sync>(
+    rt: &R,
+    alloc: Global,
+    count: u8,
+    turns: u64,
+) -> Result<Log, AllocError> {
+    let log = Log {
+        title: 7,
+        entries: Vec::new(alloc),
+    };
+    let (lock, mut first) = TurnLock::new(alloc, log)?;
+    work(rt, alloc, &lock, &mut first, count, turns)?;
+    Ok(lock.close(first))
+}
+
 // How many entries of a worker there are, if their turns are in order.
 fn turns_in_order(log: &Log, worker: u64) -> Option<u64> {
     let mut next = 0u64;
@@ -153,29 +190,21 @@ fn turns_in_order(log: &Log, worker: u64) -> Option<u64> {
     Some(next)
 }
 
+// Whether a log has the turns of all workers, in order.
+fn has_all(log: &Log, count: u8, turns: u64) -> bool {
+    for worker in 1..u64::from(count) + 1 {
+        if turns_in_order(log, worker) != Some(turns) {
+            return false;
+        }
+    }
+    log.title == 7
+}
+
 #[test]
-fn workers_find_their_entries_in_order(rt: HostRuntime) -> Result<(), Fail> {
+fn workers_find_their_entries_in_order(rt: HostRuntime) -> Result<(), AllocError> {
     for (count, turns) in [(1u8, 20u64), (2, 1000), (16, 500)] {
-        let log = Log {
-            title: 7,
-            entries: Vec::new(rt.alloc()),
-        };
-        let (lock, mut first) = TurnLock::new(rt.alloc(), log)?;
-        let mut workers = hire(rt.alloc(), &lock, &mut first, count)?;
-        run(&rt, &lock, workers.as_mut_slice(), turns);
-        for worker in workers.iter() {
-            assert_eq!(rt; (worker.turns, worker.missed), (turns, 0));
-        }
-        dismiss(&lock, &mut first, workers);
-        let log = lock.close(first);
-        assert_eq!(rt; log.title, 7);
-        for worker in 1..u64::from(count) + 1 {
-            assert_eq!(rt;
-                turns_in_order(&log, worker),
-                Some(turns),
-                "worker {worker} of {count}"
-            );
-        }
+        let log = written(&rt, rt.alloc(), count, turns)?;
+        assert!(rt; has_all(&log, count, turns), "{count} workers");
     }
     Ok(())
 }

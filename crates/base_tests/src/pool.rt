@@ -2,9 +2,9 @@
 ghost use Rattle.std.specs.Prelude.{◌≡◌, ◌<◌, length};
 ghost use Rattle.task_pool.specs.Places.{IsPool};
 
+use std::alloc::AllocError;
 use std::sync::Wait;
 use std::sync::atomic::{AtomicU64, Ordering};
-use std::test::Fail;
 use std::thread;
 use std::thread::Threads;
 use task_pool::{Hand, Pool, Refused, finish, push, room, take};
@@ -28,20 +28,37 @@ fn take_by<R: Wait>(rt: &R, hands: &mut Vec<Hand>, number: usize) -> Option<u64>
     take(rt, hand)
 }
 
+// The first hand pushes three tokens, and the second one.
+fn push_four(hands: &mut Vec<Hand>) -> Result<(), Refused>
+    requires pool { IsPool hands.old.items }
+    requires two { 1 < length hands.old.items }
+    ensures pool { IsPool hands.new.items }
+    ensures count { length hands.new.items ≡ length hands.old.items }
+{
+    push_on(hands, 0, 7)?;
+    push_on(hands, 0, 8)?;
+    push_on(hands, 0, 9)?;
+    push_on(hands, 1, 5)
+}
+
+// What the second hand takes twice, and then the first.
+fn take_three<R: Wait>(rt: &R, hands: &mut Vec<Hand>) -> (Option<u64>, Option<u64>, Option<u64>)
+    requires pool { IsPool hands.old.items }
+    requires two { 1 < length hands.old.items }
+    ensures { IsPool hands.new.items }
+{
+    let own = take_by(rt, hands, 1);
+    let stolen = take_by(rt, hands, 1);
+    (own, stolen, take_by(rt, hands, 0))
+}
+
 #[test]
-fn a_hand_takes_its_own_token_first_and_then_steals(rt: HostRuntime) -> Result<(), Fail> {
+fn a_hand_takes_its_own_token_first_and_then_steals(rt: HostRuntime) -> Result<(), AllocError> {
     let mut hands = Pool::new(rt.alloc(), 2)?;
-    assert_eq!(rt; room(&hands[0]), 64);
-    assert_eq!(rt; take_by(&rt, &mut hands, 1), None);
-    assert!(rt; push_on(&mut hands, 0, 7).is_ok());
-    assert!(rt; push_on(&mut hands, 0, 8).is_ok());
-    assert!(rt; push_on(&mut hands, 0, 9).is_ok());
-    assert!(rt; push_on(&mut hands, 1, 5).is_ok());
-    assert_eq!(rt; take_by(&rt, &mut hands, 1), Some(5));
-    assert_eq!(rt; take_by(&rt, &mut hands, 1), Some(7));
-    assert_eq!(rt; take_by(&rt, &mut hands, 0), Some(8));
+    assert!(rt; room(&hands[0]) == 64 && push_four(&mut hands).is_ok());
+    assert!(rt; take_three(&rt, &mut hands) == (Some(5), Some(7), Some(8)));
     let left = finish(rt.alloc(), hands)?;
-    assert_eq!(rt; left.as_slice(), [9].as_slice());
+    assert!(rt; left.as_slice() == [9].as_slice());
     Ok(())
 }
 
@@ -89,15 +106,15 @@ fn set_to_work<R: Threads + Wait + Sync>(rt: &R, hands: &mut [Hand], sum: &Atomi
 }
 
 #[test]
-fn threads_push_take_and_steal_and_the_rest_is_left(rt: HostRuntime) -> Result<(), Fail> {
+fn threads_push_take_and_steal_and_the_rest_is_left(rt: HostRuntime) -> Result<(), AllocError> {
     let mut hands = Pool::new(rt.alloc(), 4)?;
     let sum = AtomicU64::new(0);
     set_to_work(&rt, hands.as_mut_slice(), &sum);
     let left = finish(rt.alloc(), hands)?;
-    assert_eq!(rt; left.len(), 400);
+    assert!(rt; left.len() == 400);
     for token in left {
         sum.fetch_add(token, Ordering::SeqCst);
     }
-    assert_eq!(rt; sum.load(Ordering::SeqCst), 1999 * 2000 / 2);
+    assert!(rt; sum.load(Ordering::SeqCst) == 1999 * 2000 / 2);
     Ok(())
 }

@@ -7,8 +7,9 @@ ghost use Rattle.step_commit.specs.Cores.{MayCommit};
 ghost use Rattle.scheduler.specs.Settled.{MaySettle};
 ghost use Rattle.core_tests.specs.Waking.{GoesOnTo, IsFoundAt, IsFoundNow};
 
-use crate::listing::{places_under, push_open, push_places, token_of};
+use crate::listing::{places_under, push_places, token_of};
 use crate::texts::{push_item, push_place, rule_name};
+use akl_model::Item;
 use akl_terms::{Place, Program, Steps};
 use box_tree::Plan;
 use idle_places::Idle;
@@ -66,40 +67,38 @@ fn push_settled(
     Ok(())
 }
 
-// Why a plan wasn't committed; `false` where this was for want of memory.
-fn push_refused(text: &mut String, error: CommitError) -> Result<bool, AllocError> {
-    match error {
-        CommitError::Memory(_) => return Ok(false),
-        CommitError::Spent { budget: _ } => text.push_str("spent")?,
-        CommitError::Short { left } => write!(text, "room for {left}")?,
-        CommitError::Stale { item, stamp: _ } => {
-            text.push_str("stale ")?;
-            push_item(text, item)?;
-        }
-    }
-    Ok(true)
+// That an item has changed.
+fn push_stale(text: &mut String, item: Item) -> Result<(), AllocError> {
+    text.push_str("stale ")?;
+    push_item(text, item)
 }
 
-// Why a place wasn't settled; `false` where this was for want of memory.
-fn push_unsettled(text: &mut String, error: SettleError) -> Result<bool, AllocError> {
+// Why a plan wasn't committed; want of memory is answered.
+fn push_refused(text: &mut String, error: CommitError) -> Result<(), AllocError> {
     match error {
-        SettleError::Memory(_) => return Ok(false),
-        SettleError::LookInside => text.push_str("look inside")?,
-        SettleError::Stale { item, stamp: _ } => {
-            text.push_str("stale ")?;
-            push_item(text, item)?;
-        }
+        CommitError::Memory(error) => Err(error),
+        CommitError::Spent { budget: _ } => text.push_str("spent"),
+        CommitError::Short { left } => write!(text, "room for {left}"),
+        CommitError::Stale { item, stamp: _ } => push_stale(text, item),
     }
-    Ok(true)
 }
 
-// Commits a plan; `false` where there was no memory.
+// Why a place wasn't settled; want of memory is answered.
+fn push_unsettled(text: &mut String, error: SettleError) -> Result<(), AllocError> {
+    match error {
+        SettleError::Memory(error) => Err(error),
+        SettleError::LookInside => text.push_str("look inside"),
+        SettleError::Stale { item, stamp: _ } => push_stale(text, item),
+    }
+}
+
+// Commits a plan.
 fn commit(
     alloc: Global,
     scheduler: &mut Scheduler,
     plan: Plan,
     text: &mut String,
-) -> Result<bool, AllocError>
+) -> Result<(), AllocError>
     requires { MayCommit scheduler.old.core plan }
     ensures { IfOk result (λ _. GoesOnTo scheduler.old.core scheduler.new.core) }
 {
@@ -113,7 +112,7 @@ fn commit_by<L: Ledger>(
     plan: Plan,
     text: &mut String,
     blank: Blank,
-) -> Result<bool, AllocError>
+) -> Result<(), AllocError>
     requires may { MayCommit scheduler.old.core plan }
     requires name { blank.name ≡ L.name }
     requires parts { blank.parts ≡ L.parts }
@@ -124,38 +123,38 @@ fn commit_by<L: Ledger>(
     match scheduler.commit(alloc, plan, &mut steps) {
         Ok(committed) => {
             push_committed(alloc, scheduler, &committed, text)?;
-            Ok(true)
+            Ok(())
         }
         Err(error) => push_refused(text, error),
     }
 }
 
-// Settles a place; `false` where there was no memory.
+// Settles a place.
 fn settle(
     alloc: Global,
     scheduler: &mut Scheduler,
     idle: &Idle,
     text: &mut String,
-) -> Result<bool, AllocError>
+) -> Result<(), AllocError>
     requires { MaySettle scheduler.old.core idle.now }
     ensures { IfOk result (λ _. scheduler.new.core ≡ scheduler.old.core) }
 {
     match scheduler.settle(alloc, idle) {
         Ok(opened) => {
             push_settled(scheduler, opened, text)?;
-            Ok(true)
+            Ok(())
         }
         Err(error) => push_unsettled(text, error),
     }
 }
 
-// Commits or settles what was found now; `false` where there was no memory.
+// Commits or settles what was found now.
 fn conclude(
     alloc: Global,
     scheduler: &mut Scheduler,
     next: Next,
     text: &mut String,
-) -> Result<bool, AllocError>
+) -> Result<(), AllocError>
     requires { IsFoundNow scheduler.old.core next }
     ensures { IfOk result (λ _. GoesOnTo scheduler.old.core scheduler.new.core) }
 {
@@ -177,51 +176,7 @@ fn forget(scheduler: &mut Scheduler, place: Place, text: &mut String) -> Result<
     Ok(())
 }
 
-// Attends to a place; `false` where there was no memory to commit or to settle.
-fn try_place(
-    alloc: Global,
-    program: &Program,
-    scheduler: &mut Scheduler,
-    place: Place,
-    text: &mut String,
-) -> Result<bool, AllocError>
-    requires { program.now ≡ scheduler.old.core.table.program }
-    ensures { IfOk result (λ _. GoesOnTo scheduler.old.core scheduler.new.core) }
-{
-    match looked(alloc, program, scheduler, place)? {
-        Some(next) => conclude(alloc, scheduler, next, text),
-        None => {
-            forget(scheduler, place, text)?;
-            Ok(true)
-        }
-    }
-}
-
-// The open places, and how many labels the journal has.
-fn state(alloc: Global, scheduler: &Scheduler) -> Result<String, AllocError> {
-    let mut text = String::new(alloc);
-    push_open(alloc, scheduler, &mut text)?;
-    write!(text, " after {}", scheduler.core().journal_len())?;
-    Ok(text)
-}
-
-// Says so where the state isn't as it was.
-fn compare(
-    alloc: Global,
-    scheduler: &Scheduler,
-    before: &str,
-    text: &mut String,
-) -> Result<(), AllocError> {
-    let now = state(alloc, scheduler)?;
-    if now.as_str() != before {
-        text.push_str("changed from ")?;
-        text.push_str(before)?;
-    }
-    Ok(())
-}
-
-/// Attends to a place, and says what came of it. Where there was no memory to commit or to settle, all has to be as it
-/// was, and the place is attended to once more.
+/// Attends to a place, and says what came of it.
 pub fn attend(
     alloc: Global,
     program: &Program,
@@ -232,35 +187,12 @@ pub fn attend(
     requires { program.now ≡ scheduler.old.core.table.program }
     ensures { IfOk result (λ _. GoesOnTo scheduler.old.core scheduler.new.core) }
 {
-    let before = state(alloc, scheduler)?;
-    if try_place(alloc, program, scheduler, place, text)? {
-        return Ok(());
-    }
-    compare(alloc, scheduler, before.as_str(), text)?;
-    match try_place(alloc, program, scheduler, place, text)? {
-        true => Ok(()),
-        false => Err(AllocError),
-    }
-}
-
-// The same for a place that was found idle by an earlier state.
-fn settle_later(
-    alloc: Global,
-    scheduler: &mut Scheduler,
-    idle: &Idle,
-    text: &mut String,
-) -> Result<(), AllocError>
-    requires { MaySettle scheduler.old.core idle.now }
-    ensures { IfOk result (λ _. scheduler.new.core ≡ scheduler.old.core) }
-{
-    let before = state(alloc, scheduler)?;
-    if settle(alloc, scheduler, idle, text)? {
-        return Ok(());
-    }
-    compare(alloc, scheduler, before.as_str(), text)?;
-    match settle(alloc, scheduler, idle, text)? {
-        true => Ok(()),
-        false => Err(AllocError),
+    match looked(alloc, program, scheduler, place)? {
+        Some(next) => conclude(alloc, scheduler, next, text),
+        None => {
+            forget(scheduler, place, text)?;
+            Ok(())
+        }
     }
 }
 
@@ -283,7 +215,7 @@ pub fn attend_between(
     attend(alloc, program, scheduler, second, text)?;
     text.push_str(" / ")?;
     if idle.looked_inside() {
-        settle_later(alloc, scheduler, &idle, text)
+        settle(alloc, scheduler, &idle, text)
     } else {
         text.push_str("not seen inside")
     }

@@ -1,9 +1,7 @@
-//! Tests of one core: two workers, which plan over one state and commit one after the other; its open places, place by place;
-//! and `run_many` with one worker, which no command asks for.
+//! Tests of one core: two workers, which plan over one state and commit one after the other; and its open places, place by
+//! place.
 #![tactic(auto)]
 
-#[cfg(test)]
-mod answering;
 #[cfg(test)]
 mod attending;
 #[cfg(test)]
@@ -18,8 +16,6 @@ mod open_places;
 mod places;
 #[cfg(test)]
 mod race;
-#[cfg(test)]
-mod running;
 #[cfg(test)]
 mod texts;
 #[cfg(test)]

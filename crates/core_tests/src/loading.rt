@@ -6,8 +6,8 @@ ghost use Rattle.box_tree.specs.Tables.{HasVariables, HasShownVariables};
 use akl_run::{Loaded, load_asked, load_program};
 use std::alloc::Global;
 
-// A query over a program.
-fn loaded_once(alloc: Global, program: &str, query: &str) -> Result<Loaded, &'static str>
+/// A query over a program.
+pub fn loaded(alloc: Global, program: &str, query: &str) -> Result<Loaded, &'static str>
     ensures variables { IfOk result (λ l. HasVariables l.program l.query l.first_variable) }
     ensures shown { IfOk result (λ l. HasShownVariables l.query) }
 {
@@ -22,16 +22,5 @@ fn loaded_once(alloc: Global, program: &str, query: &str) -> Result<Loaded, &'st
     match load_asked(alloc, base, query) {
         Ok(loaded) => Ok(loaded),
         Err(_) => Err("query"),
-    }
-}
-
-/// A query over a program; once more where it isn't loaded, as memory may have been refused.
-pub fn loaded(alloc: Global, program: &str, query: &str) -> Result<Loaded, &'static str>
-    ensures variables { IfOk result (λ l. HasVariables l.program l.query l.first_variable) }
-    ensures shown { IfOk result (λ l. HasShownVariables l.query) }
-{
-    match loaded_once(alloc, program, query) {
-        Ok(loaded) => Ok(loaded),
-        Err(_) => loaded_once(alloc, program, query),
     }
 }

@@ -194,21 +194,10 @@ fn played(alloc: Global, loaded: &Loaded, turns: &str) -> Result<String, AllocEr
     Ok(text)
 }
 
-// The same, once more where there was no memory.
-fn played_surely(alloc: Global, loaded: &Loaded, turns: &str) -> Result<String, AllocError>
-    requires variables { HasVariables loaded.now.program loaded.now.query loaded.now.first_variable }
-    requires shown { HasShownVariables loaded.now.query }
-{
-    match played(alloc, loaded, turns) {
-        Ok(text) => Ok(text),
-        Err(AllocError) => played(alloc, loaded, turns),
-    }
-}
-
 // What a line comes to.
 fn found(alloc: Global, case: &Case) -> Result<String, Fail> {
     let loaded = loaded(alloc, case.program, case.query)?;
-    Ok(played_surely(alloc, &loaded, case.turns)?)
+    Ok(played(alloc, &loaded, case.turns)?)
 }
 
 // A line comes to what it should.

@@ -135,21 +135,10 @@ fn woken(alloc: Global, loaded: &Loaded, turns: &str) -> Result<String, AllocErr
     Ok(text)
 }
 
-// The same, once more where memory was refused otherwise than for a label or a settle.
-fn woken_surely(alloc: Global, loaded: &Loaded, turns: &str) -> Result<String, AllocError>
-    requires variables { HasVariables loaded.now.program loaded.now.query loaded.now.first_variable }
-    requires shown { HasShownVariables loaded.now.query }
-{
-    match woken(alloc, loaded, turns) {
-        Ok(text) => Ok(text),
-        Err(AllocError) => woken(alloc, loaded, turns),
-    }
-}
-
 // What a line comes to.
 fn found(alloc: Global, case: &Case) -> Result<String, Fail> {
     let loaded = loaded(alloc, case.program, case.query)?;
-    Ok(woken_surely(alloc, &loaded, case.turns)?)
+    Ok(woken(alloc, &loaded, case.turns)?)
 }
 
 // A line comes to what it should.

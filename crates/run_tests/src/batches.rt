@@ -1,6 +1,6 @@
 //! Batches: many queries over one program.
 
-use crate::replies::{add_options, command, expanded, expect, words_of};
+use crate::replies::{add_options, expanded, expect, words_of};
 use crate::rules::{LISTS, cut};
 use akl_batch::{BatchReport, run_batch};
 use akl_outside::{CrossGate, Gate, MemorySink, MemorySource, NoGate};
@@ -12,7 +12,8 @@ use std::str::from_utf8;
 use std::sync::Wait;
 use std::thread::Threads;
 
-/// Options, programs, the lines of a batch, between which ` / ` stands, and replies.
+/// Options, programs, the lines of a batch, between which ` / ` stands, and replies. The last has as many queries as a batch
+/// may have, with the reply to each as it is alone.
 const BATCHES: &str = r"
  => LISTS => member(X,[a]) / zz(1) => 0 / query 1 / answer 1 / X = a / done / query 2 / refused: undefined zz/1 / queries 2
 --budget=5 => p :- -> p. => p / X = a => 0 / query 1 / budget / query 2 / answer 1 / X = a / done / queries 2
@@ -36,6 +37,7 @@ const BATCHES: &str = r"
 --batch=true =>  => true => 4 / akl: words: repeated at word 2
 --workers,17 =>  => true => 4 / akl: words: bad value at word 3
  => p :- q. => true => 5 / akl: program: undefined q/0
+--workers=3,--budget=200 => append([],Y,Z) :- -> Z = Y. append([X|Xs],Y,Z) :- -> Z = [X|Zs], append(Xs,Y,Zs). nrev([],R) :- -> R = []. nrev([X|Xs],R) :- -> nrev(Xs,S), append(S,[X],R). member(X,[X|_]). member(X,[_|T]) :- member(X,T). loop :- -> loop. => X = f(Y), Y = a / X = a, X = b / X = Y / true / fail / X = f(X), X = f(f(X)) / X = [a,b|X] / X = 'hello world', Y = 'it''s' / append([a,b],[c],Z) / append(L,[c],Z) / append([a,b],L,Z), L = [c] / nrev([1,2,3],R) / nrev([1,2,3,4,5,6,7,8,9,10,11,12,13,14,15,16],R) / loop / loop, X = a / member(X,[a,b]) / member(X,[1,2,3]), member(Y,[1,2,3]), X + Y =:= 4, X < Y / bagof(X, member(X,[a,b]), L) / bagof(Y, (member(Y,[a,b]), Y = Z), L) / X is 1 + 2 * 3 / X is 170141183460469231731687303715884105727 + 1 / open_port(P,S), send(a,P), P = Q / zz(1) / X = / (X = a -> R = 1 ; true -> R = 2), X = b / (zz ; X = b) / X = a, fail / nrev([a|T],R) / nrev([a|T],R), T = [b] / X = _, Y = f(X) / _X = f(_X,_A), Y = g(_B,_X) / member(X) => 0 / query 1 / answer 1 / X = f(a) / Y = a / done / query 2 / failed / query 3 / answer 1 / X = _1 / Y = _1 / done / query 4 / answer 1 / done / query 5 / failed / query 6 / answer 1 / X = R1 / R1 = f(R1) / done / query 7 / answer 1 / X = R1 / R1 = [a|R2] / R2 = [b|R1] / done / query 8 / answer 1 / X = 'hello world' / Y = 'it\'s' / done / query 9 / answer 1 / Z = [a,b,c] / done / query 10 / suspended 1 / query 11 / answer 1 / L = [c] / Z = [a,b,c] / done / query 12 / answer 1 / R = [3,2,1] / done / query 13 / budget / query 14 / budget / query 15 / budget / query 16 / answer 1 / X = a / answer 2 / X = b / done / query 17 / answer 1 / X = 1 / Y = 3 / done / query 18 / answer 1 / L = [a,b] / done / query 19 / suspended 1 / query 20 / answer 1 / X = 7 / done / query 21 / suspended 1 / query 22 / answer 1 / P = port / S = [a|_1] / Q = port / done / query 23 / refused: undefined zz/1 / query 24 / refused: syntax at 0 / query 25 / answer 1 / X = b / R = 2 / done / query 26 / refused: undefined zz/0 / query 27 / failed / query 28 / suspended 1 / query 29 / answer 1 / T = [b] / R = [b,a] / done / query 30 / answer 1 / X = _1 / Y = f(_1) / done / query 31 / answer 1 / Y = g(_1,R1) / R1 = f(R1,_2) / done / query 32 / refused: undefined member/1 / queries 32
 ";
 
 /// What a batch answers.
@@ -191,20 +193,6 @@ fn there_are_no_replies_after_a_read_fault(rt: HostRuntime) -> Result<(), AllocE
 }
 
 #[test]
-fn a_batch_has_a_text(rt: HostRuntime) -> Result<(), AllocError> {
-    let alloc = rt.alloc();
-    let words = words_of(alloc, &["--batch"])?;
-    let found = run_failing(&rt, alloc, &words, "", &[], &NoGate)?;
-    expect(
-        &rt,
-        &found.text,
-        "4 / akl: words: missing at word 0",
-        "--batch",
-    );
-    Ok(())
-}
-
-#[test]
 fn two_queries_run_at_the_same_time(rt: HostRuntime) -> Result<(), AllocError> {
     let alloc = rt.alloc();
     let gate = CrossGate::new(10_000_000);
@@ -215,86 +203,5 @@ fn two_queries_run_at_the_same_time(rt: HostRuntime) -> Result<(), AllocError> {
         "0 / query 1 / answer 1 / R = [3,2,1] / done / query 2 / answer 1 / R = [6,5,4] / done / queries 2";
     expect(&rt, &found.text, wanted, queries);
     assert!(rt; gate.crossed());
-    Ok(())
-}
-
-/// As many queries as a batch may have.
-const MOST: &str = "X = f(Y), Y = a
-X = a, X = b
-X = Y
-true
-fail
-X = f(X), X = f(f(X))
-X = [a,b|X]
-X = 'hello world', Y = 'it''s'
-append([a,b],[c],Z)
-append(L,[c],Z)
-append([a,b],L,Z), L = [c]
-nrev([1,2,3],R)
-nrev([1,2,3,4,5,6,7,8,9,10,11,12,13,14,15,16],R)
-loop
-loop, X = a
-member(X,[a,b])
-member(X,[1,2,3]), member(Y,[1,2,3]), X + Y =:= 4, X < Y
-bagof(X, member(X,[a,b]), L)
-bagof(Y, (member(Y,[a,b]), Y = Z), L)
-X is 1 + 2 * 3
-X is 170141183460469231731687303715884105727 + 1
-open_port(P,S), send(a,P), P = Q
-zz(1)
-X =
-(X = a -> R = 1 ; true -> R = 2), X = b
-(zz ; X = b)
-X = a, fail
-nrev([a|T],R)
-nrev([a|T],R), T = [b]
-X = _, Y = f(X)
-_X = f(_X,_A), Y = g(_B,_X)
-member(X)";
-
-// A reply to one query as it stands in a batch.
-fn push_alone<R: Threads + Wait + Sync>(
-    rt: &R,
-    alloc: Global,
-    program: &str,
-    query: &str,
-    number: usize,
-    all: &mut String,
-) -> Result<(), AllocError> {
-    let words = words_of(alloc, &["--query", query, "--budget=200"])?;
-    let reply = command(rt, alloc, &words, program)?;
-    let (_, lines) = reply.text.split_once(" / ").unwrap_or(("", "no reply"));
-    write!(all, " / query {number} / ")?;
-    match lines.strip_prefix("akl: query: ") {
-        Some(cause) => write!(all, "refused: {cause}"),
-        None => all.push_str(lines),
-    }
-}
-
-// The replies to each query alone.
-fn alone<R: Threads + Wait + Sync>(
-    rt: &R,
-    alloc: Global,
-    program: &str,
-) -> Result<String, AllocError> {
-    let mut all = String::from_str(alloc, "0")?;
-    let mut number: usize = 0;
-    for query in MOST.lines() {
-        number = number.saturating_add(1);
-        push_alone(rt, alloc, program, query, number, &mut all)?;
-    }
-    write!(all, " / queries {number}")?;
-    Ok(all)
-}
-
-#[test]
-fn each_reply_is_that_of_the_query_alone(rt: HostRuntime) -> Result<(), AllocError> {
-    let alloc = rt.alloc();
-    let program = format!(in alloc; "{LISTS} loop :- -> loop.")?;
-    let wanted = alone(&rt, alloc, &program)?;
-    let words = words_for(alloc, "--workers=3,--budget=200", MOST)?;
-    let found = run_failing(&rt, alloc, &words, &program, &[], &NoGate)?;
-    expect(&rt, &found.text, &wanted, "32 queries");
-    assert_eq!(rt; found.replies, 32);
     Ok(())
 }

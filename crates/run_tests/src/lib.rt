@@ -4,19 +4,11 @@
 #[cfg(test)]
 mod batches;
 #[cfg(test)]
-mod brackets;
-#[cfg(test)]
 mod budgets;
-#[cfg(test)]
-mod choices;
 #[cfg(test)]
 mod commands;
 #[cfg(test)]
-mod definitions;
-#[cfg(test)]
 mod drawn;
-#[cfg(test)]
-mod draws;
 #[cfg(test)]
 mod faults;
 #[cfg(test)]
@@ -29,5 +21,3 @@ mod rules;
 mod waits;
 #[cfg(test)]
 mod workers;
-#[cfg(test)]
-mod written;

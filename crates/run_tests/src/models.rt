@@ -1,9 +1,8 @@
 //! Solutions that are shown behind answers: commands with `--model`.
 
-use crate::replies::{Reply, command, expect, words_of};
+use crate::replies::{Reply, expect};
 use crate::rules::{case_of, replied};
 use std::alloc::{AllocError, Global};
-use std::fmt::Write;
 use std::process::Abort;
 use std::sync::Wait;
 use std::thread::Threads;
@@ -35,6 +34,10 @@ const MODELS: &str = r"
 --model => p(a) :- -> true. => p(X) => 2 / suspended 1
 --model =>  => X = a, X = b => 1 / failed
 --why =>  => X = a => 0 / answer 1 / X = a / done
+--model =>  => X = [X|Y], Y = [X|Y] => 0 / answer 1 / X = R1 / Y = R1 / R1 = [R1|R1] / model / X: #0 / Y: #0 / #0 = '.'(#0,#0) / done
+--model =>  => X = [X|Y], Y = [X] => 0 / answer 1 / X = R1 / Y = R2 / R1 = [R1|R2] / R2 = [R1] / model / X: #0 / Y: #1 / #0 = '.'(#0,#1) / #1 = '.'(#0,#2) / #2 = '[]' / done
+--model =>  => Y = [X|Y], X = [] => 0 / answer 1 / Y = R1 / X = [] / R1 = [[]|R1] / model / Y: #0 / X: #1 / #0 = '.'(#1,#0) / #1 = '[]' / done
+--model =>  => X40 = a, X0 = f(X1,X1), X1 = f(X2,X2), X2 = f(X3,X3), X3 = f(X4,X4), X4 = f(X5,X5), X5 = f(X6,X6), X6 = f(X7,X7), X7 = f(X8,X8), X8 = f(X9,X9), X9 = f(X10,X10), X10 = f(X11,X11), X11 = f(X12,X12), X12 = f(X13,X13), X13 = f(X14,X14), X14 = f(X15,X15), X15 = f(X16,X16), X16 = f(X17,X17), X17 = f(X18,X18), X18 = f(X19,X19), X19 = f(X20,X20), X20 = f(X21,X21), X21 = f(X22,X22), X22 = f(X23,X23), X23 = f(X24,X24), X24 = f(X25,X25), X25 = f(X26,X26), X26 = f(X27,X27), X27 = f(X28,X28), X28 = f(X29,X29), X29 = f(X30,X30), X30 = f(X31,X31), X31 = f(X32,X32), X32 = f(X33,X33), X33 = f(X34,X34), X34 = f(X35,X35), X35 = f(X36,X36), X36 = f(X37,X37), X37 = f(X38,X38), X38 = f(X39,X39), X39 = f(X40,X40) => 0 / answer 1 / (longer than 1000000 bytes) / model / X40: #0 / X0: #1 / X1: #2 / X2: #3 / X3: #4 / X4: #5 / X5: #6 / X6: #7 / X7: #8 / X8: #9 / X9: #10 / X10: #11 / X11: #12 / X12: #13 / X13: #14 / X14: #15 / X15: #16 / X16: #17 / X17: #18 / X18: #19 / X19: #20 / X20: #21 / X21: #22 / X22: #23 / X23: #24 / X24: #25 / X25: #26 / X26: #27 / X27: #28 / X28: #29 / X29: #30 / X30: #31 / X31: #32 / X32: #33 / X33: #34 / X34: #35 / X35: #36 / X36: #37 / X37: #38 / X38: #39 / X39: #40 / #0 = a / #1 = f(#2,#2) / #2 = f(#3,#3) / #3 = f(#4,#4) / #4 = f(#5,#5) / #5 = f(#6,#6) / #6 = f(#7,#7) / #7 = f(#8,#8) / #8 = f(#9,#9) / #9 = f(#10,#10) / #10 = f(#11,#11) / #11 = f(#12,#12) / #12 = f(#13,#13) / #13 = f(#14,#14) / #14 = f(#15,#15) / #15 = f(#16,#16) / #16 = f(#17,#17) / #17 = f(#18,#18) / #18 = f(#19,#19) / #19 = f(#20,#20) / #20 = f(#21,#21) / #21 = f(#22,#22) / #22 = f(#23,#23) / #23 = f(#24,#24) / #24 = f(#25,#25) / #25 = f(#26,#26) / #26 = f(#27,#27) / #27 = f(#28,#28) / #28 = f(#29,#29) / #29 = f(#30,#30) / #30 = f(#31,#31) / #31 = f(#32,#32) / #32 = f(#33,#33) / #33 = f(#34,#34) / #34 = f(#35,#35) / #35 = f(#36,#36) / #36 = f(#37,#37) / #37 = f(#38,#38) / #38 = f(#39,#39) / #39 = f(#40,#40) / #40 = f(#0,#0) / done
 ";
 
 // There is one model for each that the text has.
@@ -60,77 +63,5 @@ fn each_answer_has_its_model(rt: HostRuntime) -> Result<(), AllocError> {
     for line in MODELS.lines().skip(1) {
         try_model(&rt, rt.alloc(), line)?;
     }
-    Ok(())
-}
-
-// An answer of the generated program: a member of its list, and the place of this.
-fn push_member(text: &mut String, number: usize, member: &str) -> Result<(), AllocError> {
-    let (member, place) = member.split_once(':').unwrap_or((member, "no place"));
-    write!(
-        text,
-        " / answer {number} / R = [775,606,345] / X = {member}"
-    )?;
-    write!(
-        text,
-        " / model / R: #0 / X: #{place} / #0 = '.'(#1,#2) / #1 = 775"
-    )?;
-    text.push_str(" / #2 = '.'(#3,#4) / #3 = 606 / #4 = '.'(#5,#6) / #5 = 345 / #6 = '[]'")
-}
-
-#[test]
-fn generated_programs_have_models(rt: HostRuntime) -> Result<(), AllocError> {
-    let alloc = rt.alloc();
-    let words = words_of(alloc, &["--generate", "0", "--model"])?;
-    let reply = command(&rt, alloc, &words, "")?;
-    let mut wanted = String::from_str(alloc, "0")?;
-    for (at, member) in ["345:5", "606:3", "775:1"].iter().enumerate() {
-        push_member(&mut wanted, at.saturating_add(1), member)?;
-    }
-    wanted.push_str(" / done")?;
-    expect(&rt, &reply.text, &wanted, "--generate 0 --model");
-    Ok(())
-}
-
-// A term over two of the same, forty times.
-fn doubled(alloc: Global) -> Result<String, AllocError> {
-    let mut query = String::from_str(alloc, "X40 = a")?;
-    for k in 0..40 {
-        let next = k + 1;
-        write!(query, ", X{k} = f(X{next},X{next})")?;
-    }
-    Ok(query)
-}
-
-// Its variables in the order of the query, with their places: the last has the first.
-fn push_places(text: &mut String) -> Result<(), AllocError> {
-    text.push_str(" / X40: #0")?;
-    for k in 0..40 {
-        let place = k + 1;
-        write!(text, " / X{k}: #{place}")?;
-    }
-    Ok(())
-}
-
-// The cells at these places.
-fn push_cells(text: &mut String) -> Result<(), AllocError> {
-    text.push_str(" / #0 = a")?;
-    for place in 1..40 {
-        let next = place + 1;
-        write!(text, " / #{place} = f(#{next},#{next})")?;
-    }
-    text.push_str(" / #40 = f(#0,#0)")
-}
-
-#[test]
-fn an_answer_that_is_too_long_has_its_model(rt: HostRuntime) -> Result<(), AllocError> {
-    let alloc = rt.alloc();
-    let query = doubled(alloc)?;
-    let words = words_of(alloc, &["--model", "--query", query.as_str()])?;
-    let reply = command(&rt, alloc, &words, "")?;
-    let mut wanted = String::from_str(alloc, "0 / answer 1 / (longer than 1000000 bytes) / model")?;
-    push_places(&mut wanted)?;
-    push_cells(&mut wanted)?;
-    wanted.push_str(" / done")?;
-    expect(&rt, &reply.text, &wanted, "doubled");
     Ok(())
 }

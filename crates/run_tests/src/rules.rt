@@ -16,6 +16,9 @@ const THERE: &str = "t(a,R) :- -> R = 1. t(_,R) :- -> R = 2.";
 
 const COUNT: &str = "count([],N,R) :- -> R = N. count([_|S],N,R) :- -> M is N + 1, count(S,M,R).";
 
+const BAGS: &str =
+    "m(a). m(b). e(1). e(2). first(X) :- bagof(Y, m(Y), M), M = [Z|_] -> X = Z. less(L) :- bagof(f(Z), (Z = Y, Y < 2), L), e(Y) ? true.";
+
 // Each queen is chosen from those that are left, and a younger choice is of a list that isn't known yet.
 const QUEENS: &str = r"
 queens([],S,R) :- -> R = S.
@@ -88,6 +91,17 @@ const VALUES: &str = r"
  => u(P) :- send(a,P) ? true. => open_port(P,S), u(P) => 2 / suspended 1
  => COUNT => open_port(P,S), send(a,P), send(b,P), count(S,0,R) => 2 / suspended 1
 --trace =>  => X is 1+2, open_port(P,S) => 0 / step 1 eval goal 0.2 by 1 / step 2 open goal 0.3 by 1 / answer 1 / X = 3 / P = port / S = _1 / done
+ =>  => A is 2 + 3, B is 7 // 2, C is -7 // 2, D is 7 // -2, E is 7 mod 2, F is 7 mod -2, G is -7 mod -2, H is 6 mod -2 => 0 / answer 1 / A = 5 / B = 3 / C = -3 / D = -3 / E = 1 / F = -1 / G = -1 / H = 0 / done
+ =>  => X is 170141183460469231731687303715884105727 - 170141183460469231731687303715884105727, Y is -18446744073709551616 * 9223372036854775808 => 0 / answer 1 / X = 0 / Y = -170141183460469231731687303715884105728 / done
+--why =>  => A is -170141183460469231731687303715884105728 + -1, B is -170141183460469231731687303715884105728 - 1, C is 13043817825332782213 * 13043817825332782213, D is 7 // 0, E is 7 mod 0, F is '**'(1,1), G is '**'(X,Y) => 2 / waiting 1 / goal 0.2 on nothing / goal 0.3 on nothing / goal 0.4 on nothing / goal 0.5 on nothing / goal 0.6 on nothing / goal 0.7 on nothing / goal 0.8 on nothing / suspended 1
+--why =>  => A is X + Y, B is 1 + Y, X < Y, 1 < Y => 2 / waiting 1 / goal 0.2 on X / goal 0.3 on Y / goal 0.4 on X / goal 0.5 on Y / suspended 1
+--why =>  => open_port(P,S), A is X + P, B is P + X, C is 1 + P, X < P, P < X => 2 / waiting 1 / goal 0.3 on X / goal 0.4 on nothing / goal 0.5 on nothing / goal 0.6 on X / goal 0.7 on nothing / suspended 1
+--why =>  => Y = X + Y, A is Y, Z = Z + X, B is Z => 2 / waiting 1 / goal 0.3 on X / goal 0.5 on nothing / suspended 1
+ =>  => (1 < 1 ? true ; 1 > 1 ? true ; 2 =< 1 ? true ; 0 >= 1 ? true ; 0 =:= 1 ? true ; 1 =\= 1 ? true) => 1 / failed
+--budget,4000000 => d(N,X,T,Z) :- N < 1 -> X = 0, Z is T. d(N,X,T,Z) :- -> X = Y + Y, M is N - 1, d(M,Y,T,Z). => d(100000,_X,_X,Z) => 0 / answer 1 / Z = 0 / done
+--why =>  => X = Y, send(a,X) => 2 / waiting 1 / goal 0.3 on X / suspended 1
+ =>  => open_port(P,S), Q = R, R = P, send(a,Q) => 0 / answer 1 / P = port / S = [a|_1] / Q = port / R = port / done
+ => p :- q(W), W = d -> true. q(c) :- -> true. q(d) :- -> true. => p => 0 / answer 1 / done
 ";
 
 /// Splits.
@@ -174,6 +188,10 @@ const COLLECTING: &str = r"
  =>  => bagof(X, (X = f(Y), Y = a), L), bagof(X, X = Z, M), Z = b => 2 / suspended 1
  =>  => bagof(X, X = f(X), L) => 0 / answer 1 / L = [R1] / R1 = f(R1) / done
 --budget,3 => p(X) :- p(X). => bagof(X, p(X), L) => 3 / budget
+ => BAGS => first(X) => 0 / answer 1 / X = a / done
+ => BAGS => less(L) => 0 / answer 1 / L = [f(1)] / answer 2 / L = [] / done
+ => BAGS => bagof(Z, m(Z), L), L = [X,Y] => 0 / answer 1 / L = [a,b] / X = a / Y = b / done
+ => BAGS => bagof(f(X,M), (m(X), bagof(Y, Y = X, M)), L) => 0 / answer 1 / L = [f(a,[a]),f(b,[b])] / done
 ";
 
 /// The same with traces and budgets.
@@ -192,6 +210,7 @@ const TRACES: &str = r"
 --trace => p(a). p(b). => p(c) => 1 / step 1 fork goal 0.2 by 1 / step 2 fail box 1.0 by 1 / step 3 fail box 1.2 by 1 / step 4 fail box 0.0 by 1 / failed
  => MERGE => merge([a],[b],Z) => 0 / answer 1 / Z = [a,b] / done
 --trace => THERE => t(a,R) => 0 / step 1 fork goal 0.2 by 1 / step 2 cut goal 0.2 of 1.0 by 1 / step 3 promote goal 0.2 of 1.0 by 1 / step 4 tell goal 1.4 by 1 / answer 1 / R = 1 / done
+--trace => r(X) :- -> q(X). q(_) :- -> true. c(X) :- -> X = 1, e. e :- -> true. => X > 0, r(X), c(X) => 0 / step 1 fork goal 0.3 by 1 / step 2 promote goal 0.3 of 1.0 by 1 / step 3 fork goal 0.4 by 1 / step 4 promote goal 0.4 of 1.3 by 1 / step 5 tell goal 1.5 by 1 / step 6 fork goal 1.2 by 1 / step 7 promote goal 1.2 of 1.7 by 1 / step 8 fork goal 1.6 by 1 / step 9 promote goal 1.6 of 1.9 by 1 / step 10 eval goal 0.2 by 1 / answer 1 / X = 1 / done
 ";
 
 // A program by its name, or as it is written.
@@ -201,6 +220,7 @@ fn named(text: &str) -> &str {
         "MERGE" => MERGE,
         "THERE" => THERE,
         "COUNT" => COUNT,
+        "BAGS" => BAGS,
         "QUEENS" => QUEENS,
         "ABC" => ABC,
         _ => text,
@@ -285,15 +305,4 @@ fn each_rule_applies_where_it_may(rt: HostRuntime) -> Result<(), AllocError> {
     try_rules(&rt, alloc, CHOICES)?;
     try_rules(&rt, alloc, COLLECTING)?;
     try_rules(&rt, alloc, TRACES)
-}
-
-#[test]
-fn generated_programs_are_run(rt: HostRuntime) -> Result<(), AllocError> {
-    let alloc = rt.alloc();
-    let words = words_of(alloc, &["--generate", "0"])?;
-    let reply = command(&rt, alloc, &words, "")?;
-    let wanted =
-        "0 / answer 1 / R = [775,606,345] / X = 345 / answer 2 / R = [775,606,345] / X = 606 / answer 3 / R = [775,606,345] / X = 775 / done";
-    expect(&rt, &reply.text, wanted, "--generate 0");
-    Ok(())
 }

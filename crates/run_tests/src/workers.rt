@@ -1,6 +1,6 @@
 //! Whole commands by several workers.
 
-use crate::replies::{Reply, command, command_at, expect, words_of};
+use crate::replies::{Reply, command_at, expect, words_of};
 use crate::rules::{LISTS, case_of, replied, words_for};
 use akl_outside::{CrossGate, Gate, HoldGate, MeetGate};
 use std::alloc::{AllocError, Global};
@@ -87,49 +87,6 @@ fn each_number_of_workers_has_a_lawful_output(rt: HostRuntime) -> Result<(), All
     for case in BY_EACH.lines().skip(1) {
         run_by_each(&rt, rt.alloc(), case)?;
     }
-    Ok(())
-}
-
-// Words over a program.
-fn run_words<R: Threads + Wait + Sync>(
-    rt: &R,
-    alloc: Global,
-    texts: &[&str],
-    program: &str,
-) -> Result<Reply, AllocError> {
-    let words = words_of(alloc, texts)?;
-    command(rt, alloc, &words, program)
-}
-
-// Ten labels, and no more.
-fn expect_ten(rt: &impl Abort, text: &str) {
-    assert!(rt; text.starts_with("3 / step 1 fork goal 0.2 by "));
-    assert!(rt; text.ends_with(" / budget"));
-    assert_eq!(rt; text.split(" / step ").count(), 11);
-}
-
-#[test]
-fn several_workers_spend_one_budget(rt: HostRuntime) -> Result<(), AllocError> {
-    let words = [
-        "--query",
-        "p",
-        "--workers",
-        "4",
-        "--budget",
-        "10",
-        "--trace",
-    ];
-    let reply = run_words(&rt, rt.alloc(), &words, "p :- -> p.")?;
-    expect_ten(&rt, &reply.text);
-    Ok(())
-}
-
-#[test]
-fn sixteen_workers_write_what_one_does(rt: HostRuntime) -> Result<(), AllocError> {
-    let alloc = rt.alloc();
-    let one = run_words(&rt, alloc, &["--generate", "0"], "")?;
-    let sixteen = run_words(&rt, alloc, &["--generate", "0", "--workers", "16"], "")?;
-    expect(&rt, &sixteen.text, &one.text, "--generate 0");
     Ok(())
 }
 

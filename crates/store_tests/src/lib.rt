@@ -1,15 +1,9 @@
-//! Tests of the solver, of stores and chains of stores, of the goals of arithmetic and of sends, of the text of answers, and of models:
-//! what no clause says of them.
+//! Tests of the solver, of stores, and of what chains of stores answer: what no clause says of them. What is shown of stores,
+//! and the goals of arithmetic and of sends, are tested by whole commands.
 #![tactic(auto)]
 
 #[cfg(test)]
-mod answers;
-#[cfg(test)]
 mod chains;
-#[cfg(test)]
-mod goals;
-#[cfg(test)]
-mod models;
 #[cfg(test)]
 mod questions;
 #[cfg(test)]

@@ -1,12 +1,11 @@
 //! What boxes answer that were told something.
 
-use crate::chains::{joined, known_of, solved, stores_of, told_to, value_in};
+use crate::chains::stores_of;
 use crate::words::{cut, four_variables, is_said, term, term_of};
 use akl_terms::{Templates, Var};
 use entail_test::{Quietness, quiet, touches};
-use local_store::{Chain, Consistency, Shared, Store, Valued, consistent};
+use local_store::{Chain, Consistency, consistent};
 use std::alloc::{AllocError, Global};
-use std::test::Fail;
 
 /// Whether the words are these variables.
 fn are(found: &[Var], text: &str) -> bool {
@@ -57,117 +56,17 @@ fn is_touched(alloc: Global, chain: &Chain, depth: usize, want: &str) -> Result<
     is_lawful("on", touches(alloc, chain, depth)?, want)
 }
 
-/// Whether a value is one of those that are lawful.
-fn is_one_of(found: Valued, want: &str) -> bool {
-    let found = match found {
-        Valued::Free(variable) => term_of(variable),
-        Valued::Bound(term) => term,
-    };
-    for word in want.split(" or ") {
-        if term(word) == Some(found) {
-            return true;
-        }
-    }
-    false
-}
-
-/// Whether this stands for a term once the chain is made solved.
-fn is_value(alloc: Global, chain: &Chain, word: &str, want: &str) -> Result<bool, AllocError> {
-    let templates = chain.templates();
-    let Some(term) = term(word) else {
-        return Ok(false);
-    };
-    let Some(stores) = solved(alloc, templates, chain.stores())? else {
-        return Ok(want == "clash");
-    };
-    Ok(is_one_of(value_in(templates, stores.as_slice(), term), want))
-}
-
+/// Whether a chain answers a question so; those from a depth on touch something where a question is this depth.
 fn answers(alloc: Global, chain: &Chain, question: &str, want: &str) -> Result<bool, AllocError> {
     match question {
         "consistent" => is_consistency(alloc, chain, want),
         "quiet" => is_quietness(alloc, chain, want),
-        "touches 0" => is_touched(alloc, chain, 0, want),
-        "touches 1" => is_touched(alloc, chain, 1, want),
-        "touches 2" => is_touched(alloc, chain, 2, want),
-        word => is_value(alloc, chain, word, want),
+        depth => is_touched(alloc, chain, depth.parse().unwrap_or(9), want),
     }
 }
 
-/// Whether the chain answers so, or once its innermost store has joined the one around it.
-fn holds_of(alloc: Global, chain: &Chain, question: &str, want: &str) -> Result<bool, AllocError> {
-    match question.strip_prefix("joined ") {
-        Some(question) => {
-            let stores = joined(alloc, chain)?;
-            let chain = Chain::new(chain.templates(), stores.as_slice());
-            answers(alloc, &chain, question, want)
-        }
-        None => answers(alloc, chain, question, want),
-    }
-}
-
-/// The same, with what the words say told to the innermost one.
-fn holds_told(
-    alloc: Global,
-    chain: &Chain,
-    words: &str,
-    question: &str,
-    want: &str,
-) -> Result<bool, AllocError> {
-    let stores = told_to(alloc, chain, words)?;
-    let chain = Chain::new(chain.templates(), stores.as_slice());
-    holds_of(alloc, &chain, question, want)
-}
-
-/// Whether these stores answer so once they are made solved.
-fn holds_solved(
-    alloc: Global,
-    templates: &Templates,
-    stores: &[Shared<Store>],
-    question: &str,
-    want: &str,
-) -> Result<bool, AllocError> {
-    let Some(stores) = solved(alloc, templates, stores)? else {
-        return Ok(want == "clash");
-    };
-    let known = known_of(templates, stores.as_slice())?;
-    let chain = Chain::of_solved(templates, stores.as_slice(), known);
-    holds_of(alloc, &chain, question, want)
-}
-
-/// These stores, made solved, with what the words say told to the innermost one; `None` where they are inconsistent.
-fn told_to_solved(
-    alloc: Global,
-    templates: &Templates,
-    stores: &[Shared<Store>],
-    words: &str,
-) -> Result<Option<Vec<Shared<Store>>>, AllocError> {
-    let Some(stores) = solved(alloc, templates, stores)? else {
-        return Ok(None);
-    };
-    let known = known_of(templates, stores.as_slice())?;
-    let chain = Chain::of_solved(templates, stores.as_slice(), known);
-    Ok(Some(told_to(alloc, &chain, words)?))
-}
-
-/// The same, where they are made solved before the words are told, and again after that.
-fn holds_told_to_solved(
-    alloc: Global,
-    templates: &Templates,
-    stores: &[Shared<Store>],
-    words: &str,
-    question: &str,
-    want: &str,
-) -> Result<bool, AllocError> {
-    let Some(stores) = told_to_solved(alloc, templates, stores, words)? else {
-        return Ok(want == "clash");
-    };
-    holds_solved(alloc, templates, stores.as_slice(), question, want)
-}
-
-/// A question to boxes, and each lawful answer: whether they are consistent, whether the innermost one is quiet, what
-/// those from a depth on touch, or what stands for a term. Behind `joined`, the innermost one has first joined the one
-/// around it.
+/// A question to boxes, and each lawful answer: whether they are consistent, whether the innermost one is quiet, or what
+/// those from a depth on touch.
 const CHAINS: &str = "
 quiet |  /  | quiet
 quiet |  / A=K | quiet
@@ -234,20 +133,20 @@ quiet |  /  / P=K P=L | noisy K L
 quiet | A=B /  / A=P B=P | quiet
 quiet | A=1 / K=A / K=2 | clash
 quiet | A=1 A=2 /  /  | clash
-touches 0 | A=1 / A=K /  | on
-touches 0 |  / K=A / P=1 P=K | on
-touches 0 | A=W / K=X A=K /  | on W X
-touches 0 | W=1 /  | on W
-touches 1 |  / A=fK / P=1 | on A
-touches 1 |  / A=K / B=K | on A B
-touches 1 |  / K=A / P=1 P=K | on A
-touches 1 | A=1 / K=A / K=P | on
-touches 1 | A=B /  / P=A P=1 | on A or on B
-touches 1 | A=B C=D /  / P=B P=D | on A C or on A D or on B C or on B D
-touches 2 |  / A=K / B=K | on A B or on B K
-touches 2 |  / K=A / P=1 P=K | on A or on K
-touches 2 | A=1 / K=A / K=P | on
-touches 2 | A=B / K=B / P=A P=1 | on A or on B or on K
+0 | A=1 / A=K /  | on
+0 |  / K=A / P=1 P=K | on
+0 | A=W / K=X A=K /  | on W X
+0 | W=1 /  | on W
+1 |  / A=fK / P=1 | on A
+1 |  / A=K / B=K | on A B
+1 |  / K=A / P=1 P=K | on A
+1 | A=1 / K=A / K=P | on
+1 | A=B /  / P=A P=1 | on A or on B
+1 | A=B C=D /  / P=B P=D | on A C or on A D or on B C or on B D
+2 |  / A=K / B=K | on A B or on B K
+2 |  / K=A / P=1 P=K | on A or on K
+2 | A=1 / K=A / K=P | on
+2 | A=B / K=B / P=A P=1 | on A or on B or on K
 consistent |  | consistent
 consistent | A=1 A=1 | consistent
 consistent | A=1 A=2 | clash
@@ -257,69 +156,22 @@ consistent | A=fA / K=ffK / K=A | consistent
 consistent | A=fA / K=fL L=a / K=A | clash
 consistent | A=p / K=p / K=A | consistent
 consistent | A=p / K=q / K=A | clash
-A | A=1 | 1
-B | A=1 /  | B
-K | A=B / K=A | A or B or K
-K | A=fB / K=A | fB
-P | A=a / K=A / P=K | a
-A |  / A=fA | fA
-A | A=fA B=fB / A=B | fA or fB
-C | A=fB A=fC / B=1 | 1
-A | A=K / K=p | p
-fA | A=1 /  | fA
-2 |  | 2
-A | A=1 / A=2 | clash
-joined consistent | A=1 / K=A | consistent
-joined consistent | A=1 / K=A K=2 | clash
-joined A | A=K / K=p | p
-joined K |  / K=fA / P=K A=1 | fA
-joined A | A=1 / A=2 | clash
-joined quiet |  / K=1 / P=K | quiet
-joined quiet |  / A=K / P=K | quiet
-joined quiet |  /  / K=P A=P | quiet
-joined quiet |  / A=K / K=1 | noisy A
-joined quiet | A=1 /  / K=A K=2 | clash
-joined touches 1 |  / A=K / P=K B=P | on A B
 ";
 
-/// The boxes of a case, those around the innermost one, and what that one says.
-fn boxes(text: &str) -> (&str, &str) {
-    text.rsplit_once('/').unwrap_or(("", text))
-}
-
-/// Whether the boxes of a case answer as they should where the stores have what was said.
+/// Whether the boxes of a case answer as they should.
 fn holds(alloc: Global, templates: &Templates, case: &str) -> Result<bool, AllocError> {
     let (question, rest) = cut(case);
     let (text, want) = cut(rest);
-    let (outer, inner) = boxes(text);
-    let stores = stores_of(alloc, outer, inner)?;
+    let stores = stores_of(alloc, text)?;
     let chain = Chain::new(templates, stores.as_slice());
-    Ok(is_said(text) && holds_of(alloc, &chain, question, want)?)
-}
-
-/// The same, where what the innermost one says is told to it: as the stores stand, and where they are made solved before
-/// that and after it.
-fn holds_where_told(alloc: Global, templates: &Templates, case: &str) -> Result<bool, AllocError> {
-    let (question, rest) = cut(case);
-    let (text, want) = cut(rest);
-    let (outer, inner) = boxes(text);
-    let stores = stores_of(alloc, outer, "")?;
-    let chain = Chain::new(templates, stores.as_slice());
-    Ok(
-        holds_told(alloc, &chain, inner, question, want)?
-            && holds_told_to_solved(alloc, templates, stores.as_slice(), inner, question, want)?,
-    )
+    Ok(is_said(text) && answers(alloc, &chain, question, want)?)
 }
 
 #[test]
-fn boxes_answer_what_they_were_told_in_each_way(rt: HostRuntime) -> Result<(), Fail> {
+fn boxes_answer_what_they_were_told(rt: HostRuntime) -> Result<(), AllocError> {
     let templates = four_variables(rt.alloc())?;
     for case in CHAINS.lines().skip(1) {
         assert!(rt; holds(rt.alloc(), &templates, case)?, "{case}");
-        assert!(rt;
-            holds_where_told(rt.alloc(), &templates, case)?,
-            "{case}, told"
-        );
     }
     Ok(())
 }

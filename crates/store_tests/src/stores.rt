@@ -1,10 +1,9 @@
 //! Stores: what they have, and what a change makes of them.
 
-use crate::words::{cut, frame_of, is_said, pair, term, term_of};
+use crate::words::{cut, frame_of, is_said, pair, term};
 use akl_terms::{Term, Var};
 use local_store::Store;
 use std::alloc::{AllocError, Global};
-use std::str::SplitWhitespace;
 use std::test::Fail;
 
 /// Adds what a word says: a binding of a variable, a port with its tail, or a frame.
@@ -36,118 +35,6 @@ pub fn store_of(alloc: Global, text: &str) -> Result<Store, AllocError> {
     Ok(store)
 }
 
-/// Whether the next word says this.
-fn is_next(words: &mut SplitWhitespace<'_>, said: (Term, Term)) -> bool {
-    match words.next() {
-        Some(word) => pair(word) == Some(said),
-        None => false,
-    }
-}
-
-fn has_frames(store: &Store, words: &mut SplitWhitespace<'_>) -> Result<bool, AllocError> {
-    for frame in store.frames()?.iter() {
-        let number = Term::Int(i128::try_from(frame.number).unwrap_or(-1));
-        if !is_next(words, (number, number)) {
-            return Ok(false);
-        }
-    }
-    Ok(true)
-}
-
-fn has_ports(store: &Store, words: &mut SplitWhitespace<'_>) -> Result<bool, AllocError> {
-    for port in store.ports()?.iter() {
-        if !is_next(words, (Term::Port(port.0), port.1)) {
-            return Ok(false);
-        }
-    }
-    Ok(true)
-}
-
-fn has_bindings(store: &Store, words: &mut SplitWhitespace<'_>) -> Result<bool, AllocError> {
-    for binding in store.bindings()?.as_slice() {
-        if !is_next(words, (term_of(binding.0), binding.1)) {
-            return Ok(false);
-        }
-    }
-    Ok(true)
-}
-
-/// Whether a store has what the words say, in this order, and nothing else.
-fn has(store: &Store, text: &str) -> Result<bool, AllocError> {
-    let mut words = text.split_whitespace();
-    Ok(
-        has_frames(store, &mut words)?
-            && has_ports(store, &mut words)?
-            && has_bindings(store, &mut words)?
-            && words.next().is_none(),
-    )
-}
-
-/// Whether a change makes this of a store, beside it.
-fn has_beside(store: &Store, change: (Term, Term), want: &str) -> Result<bool, AllocError> {
-    let changed = with(store, change)?;
-    has(&changed, want)
-}
-
-/// Whether a change makes this of a copy of a store, in place.
-fn has_in_place(store: &Store, change: (Term, Term), want: &str) -> Result<bool, AllocError> {
-    let mut copy = store.share()?;
-    add(&mut copy, change)?;
-    has(&copy, want)
-}
-
-/// Whether a change makes this of a store that has what the words say, which is then left as it was.
-fn is_changed(
-    store: &Store,
-    ordered: &str,
-    change: (Term, Term),
-    want: &str,
-) -> Result<bool, AllocError> {
-    Ok(
-        has_beside(store, change, want)?
-            && has_in_place(store, change, want)?
-            && has(store, ordered)?,
-    )
-}
-
-/// The same of the store of a text.
-fn changes(
-    alloc: Global,
-    text: &str,
-    ordered: &str,
-    change: (Term, Term),
-    want: &str,
-) -> Result<bool, AllocError> {
-    let store = store_of(alloc, text)?;
-    is_changed(&store, ordered, change, want)
-}
-
-/// A store, all that it has in order, a change, and what that makes of the store.
-const CHANGES: &str = "
- |  | 1 | 1
-2 1 | 1 2 | 1 | 1 2
- |  | A=1 | A=1
-B=1 A=2 | A=2 B=1 | A=1 | A=2 A=1 B=1
-B=1 A=2 B=2 | A=2 B=1 B=2 | B=K | A=2 B=1 B=2 B=K
-1 | 1 | p=A | 1 p=A
-q=A p=B A=1 | p=B q=A A=1 | p=1 | p=1 q=A A=1
-q=A | q=A | 2 | 2 q=A
-A=K | A=K | K=A | A=K K=A
-";
-
-#[test]
-fn a_change_leaves_the_stores_that_share(rt: HostRuntime) -> Result<(), Fail> {
-    for case in CHANGES.lines().skip(1) {
-        let (text, rest) = cut(case);
-        let (ordered, rest) = cut(rest);
-        let (word, want) = cut(rest);
-        assert!(rt; is_said(text) && is_said(want), "{case}");
-        let change = pair(word).ok_or("change")?;
-        assert!(rt; changes(rt.alloc(), text, ordered, change, want)?, "{case}");
-    }
-    Ok(())
-}
-
 /// What a store has of a word: the first binding of a variable, the tail of a port, or a frame as its number.
 fn found(store: &Store, word: &str) -> Option<Term> {
     match term(word)? {
@@ -163,29 +50,48 @@ fn found(store: &Store, word: &str) -> Option<Term> {
     }
 }
 
-/// Whether the store of the words has this of a word.
-fn finds(alloc: Global, text: &str, word: &str, want: &str) -> Result<bool, AllocError> {
-    let store = store_of(alloc, text)?;
-    Ok(is_said(text) && found(&store, word) == term(want))
+/// Whether a store has this of a word, and the store that also has what a change says has that.
+fn changes(
+    store: &Store,
+    change: (Term, Term),
+    word: &str,
+    before: &str,
+    then: &str,
+) -> Result<bool, AllocError> {
+    let changed = with(store, change)?;
+    Ok(found(&changed, word) == term(then) && found(store, word) == term(before))
 }
 
-/// A store, a word, and what the store has of it.
-const FOUND: &str = "
-1 | 1 | 1
-1 | 2 | none
-A=1 A=2 | A | 1
-A=2 B=1 | B | 1
-A=K | K | none
-p=1 q=A | q | A
-q=A | p | none
+/// Whether a case of changes holds.
+fn holds(alloc: Global, case: &str, change: (Term, Term), rest: &str) -> Result<bool, AllocError> {
+    let (text, _) = cut(case);
+    let (word, rest) = cut(rest);
+    let (before, then) = cut(rest);
+    let store = store_of(alloc, text)?;
+    Ok(is_said(text) && changes(&store, change, word, before, then)?)
+}
+
+/// A store, a change, a word, what the store has of it, and what the store has that the change makes.
+const CHANGES: &str = "
+ | 1 | 1 | none | 1
+2 | 1 | 1 | none | 1
+2 | 1 | 2 | 2 | 2
+A=1 | B=K | A | 1 | 1
+A=1 | B=K | B | none | K
+A=1 | A=2 | A | 1 | 1
+A=1 | B=K | K | none | none
+q=A | p=1 | p | none | 1
+q=A p=B | p=1 | p | B | 1
+q=A p=B | p=1 | q | A | A
 ";
 
 #[test]
-fn a_store_has_what_was_put_in(rt: HostRuntime) -> Result<(), Fail> {
-    for case in FOUND.lines().skip(1) {
-        let (text, rest) = cut(case);
-        let (word, want) = cut(rest);
-        assert!(rt; finds(rt.alloc(), text, word, want)?, "{case}");
+fn a_change_leaves_the_store_beside_it(rt: HostRuntime) -> Result<(), Fail> {
+    for case in CHANGES.lines().skip(1) {
+        let (_, rest) = cut(case);
+        let (word, rest) = cut(rest);
+        let change = pair(word).ok_or("change")?;
+        assert!(rt; holds(rt.alloc(), case, change, rest)?, "{case}");
     }
     Ok(())
 }

@@ -1,7 +1,9 @@
 //! What is generated from a number.
 
+use crate::lines::{Question, each_holds};
 use akl_gen::generate;
-use std::test::*;
+use std::alloc::{AllocError, Global};
+use std::str::from_utf8;
 
 const PROGRAM: &[u8] = b"append([],Y,Z) :- -> Z = Y.
 append([X|Xs],Y,Z) :- -> Z = [X|Zs], append(Xs,Y,Zs).
@@ -11,34 +13,33 @@ member(X,[X|_]).
 member(X,[_|T]) :- member(X,T).
 ";
 
-#[test]
-fn the_smallest_list_has_three_elements(rt: HostRuntime) -> Result<(), Fail> {
-    let (program, query) = generate(rt.alloc(), 0)?;
-    assert_eq!(rt; program.as_slice(), PROGRAM);
-    let wanted = b"nrev([345,606,775],R), member(X,[345,606,775])";
-    assert_eq!(rt; query.as_slice(), wanted.as_slice());
-    Ok(())
+/// Puts the query over the program.
+fn put_query(shown: &mut String, program: &[u8], query: &[u8]) -> Result<(), AllocError> {
+    if program != PROGRAM {
+        return shown.push_str(" another program");
+    }
+    write!(shown, " {}", from_utf8(query).unwrap_or("no text"))
 }
 
-#[test]
-fn the_largest_list_has_a_hundred_elements(rt: HostRuntime) -> Result<(), Fail> {
-    let (program, query) = generate(rt.alloc(), 97)?;
-    assert_eq!(rt; program.as_slice(), PROGRAM);
-    assert_eq!(rt; query.len(), 422);
-    let begin = b"nrev([358,407,748,477,482,499,";
-    assert!(rt; query.starts_with(begin.as_slice()));
-    let end = b",102,431,108,493],R), member(X,[358,407,748])";
-    assert!(rt; query.ends_with(end.as_slice()));
-    Ok(())
+/// What query is made of a number?
+struct Generated;
+
+impl Question for Generated {
+    fn answer(&self, alloc: Global, shown: &mut String, text: &[u8]) -> Result<(), AllocError> {
+        let number = from_utf8(text).unwrap_or("").parse::<u64>().unwrap_or(1);
+        let (program, query) = generate(alloc, number)?;
+        put_query(shown, &program, &query)
+    }
 }
 
+/// The shortest list has three elements, and the longest a hundred. A number is taken modulo 2 to the 31.
+const QUERIES: &str = "generated
+0 => nrev([345,606,775],R), member(X,[345,606,775])
+97 => nrev([358,407,748,477,482,499,672,841,38,823,988,429,610,139,736,601,950,847,660,29,386,683,320,625,646,559,500,661,986,339,520,425,206,607,860,925,866,11,168,465,510,391,284,829,450,755,368,265,46,791,284,989,242,75,568,585,270,271,892,909,546,707,296,153,390,455,340,453,18,411,320,697,518,319,588,677,770,787,64,353,6,743,740,37,306,99,208,489,518,311,68,549,474,291,192,201,102,431,108,493],R), member(X,[358,407,748])
+4294967295 => nrev([748,989,466,67,320,457,966,199,700,773,26,19,528,313,854,887,156,173,2,531,160,9,78,439,860,453,650,763,584,41,646,719,532,53,474,827,456,849,110,47,644,85,578,491,384,353,94,359,28,613,442,259,720,737,374,79,148,589,66,811,312,73,382,311,684,461,482,171,328,137,726,799,244,605,690,587,504,177,486,911,444,669,906,139,648,113,822,631,948,333],R), member(X,[748,989,466])
+";
+
 #[test]
-fn a_seed_is_taken_modulo_two_to_the_31(rt: HostRuntime) -> Result<(), Fail> {
-    let (_, query) = generate(rt.alloc(), 4_294_967_295)?;
-    assert_eq!(rt; query.len(), 377);
-    let begin = b"nrev([748,989,466,67,";
-    assert!(rt; query.starts_with(begin.as_slice()));
-    let end = b",333],R), member(X,[748,989,466])";
-    assert!(rt; query.ends_with(end.as_slice()));
-    Ok(())
+fn a_query_is_made_of_a_number(rt: HostRuntime) -> Result<(), AllocError> {
+    each_holds(&rt, rt.alloc(), &Generated, QUERIES)
 }

@@ -1,33 +1,35 @@
 //! Programs and queries, and which variables are local to their collecting goals.
 
-use crate::lines::each_holds;
-use crate::syntax::{clauses, goals, refusal};
+use crate::lines::{Question, each_holds};
+use crate::shown::{put_clauses, put_query, put_refusal};
 use akl_syntax::{check_query, read_program, read_query};
 use std::alloc::{AllocError, Global};
 use variable_scopes::{scoped_clauses, scoped_query};
 
-/// The clauses of a text with their variables by their scopes, or why it is refused.
-pub fn program(alloc: Global, text: &[u8]) -> Result<String, AllocError> {
-    match read_program(alloc, text) {
-        Ok(found) => {
-            let found = scoped_clauses(alloc, found)?;
-            clauses(alloc, found.as_slice())
+/// What are the clauses of a text with their variables by their scopes?
+struct ScopedClauses;
+
+impl Question for ScopedClauses {
+    fn answer(&self, alloc: Global, shown: &mut String, text: &[u8]) -> Result<(), AllocError> {
+        match read_program(alloc, text) {
+            Ok(found) => put_clauses(shown, &scoped_clauses(alloc, found)?),
+            Err(error) => put_refusal(shown, error),
         }
-        Err(error) => refusal(alloc, error),
     }
 }
 
-/// The goals of a query with their variables by their scopes, or why it is refused.
-pub fn query(alloc: Global, text: &[u8]) -> Result<String, AllocError> {
-    if let Err(error) = check_query(text) {
-        return refusal(alloc, error);
-    }
-    match read_query(alloc, text) {
-        Ok(found) => {
-            let found = scoped_query(alloc, found)?;
-            goals(alloc, &found)
+/// What are the goals of a query with their variables by their scopes?
+struct ScopedGoals;
+
+impl Question for ScopedGoals {
+    fn answer(&self, alloc: Global, shown: &mut String, text: &[u8]) -> Result<(), AllocError> {
+        if let Err(error) = check_query(text) {
+            return put_refusal(shown, error);
         }
-        Err(error) => refusal(alloc, error),
+        match read_query(alloc, text) {
+            Ok(found) => put_query(shown, &scoped_query(alloc, found)?),
+            Err(error) => put_refusal(shown, error),
+        }
     }
 }
 
@@ -57,5 +59,6 @@ bagof(X, Y, L) => syntax at 0
 
 #[test]
 fn a_variable_of_a_collected_term_is_local(rt: HostRuntime) -> Result<(), AllocError> {
-    each_holds(&rt, rt.alloc(), &[PROGRAMS, QUERIES])
+    each_holds(&rt, rt.alloc(), &ScopedClauses, PROGRAMS)?;
+    each_holds(&rt, rt.alloc(), &ScopedGoals, QUERIES)
 }

@@ -1,187 +1,50 @@
 //! Programs and queries, and what they are read as.
 
-use crate::lines::{counted, each_holds};
-use akl_syntax::{
-    Head, SourceClause, SourceGoal, SourcePart, SourceQuery, SourceTerm, SyntaxError, check_query,
-    read_program, read_query,
-};
-use akl_terms::{Op, Text};
+use crate::lines::{Question, each_holds};
+use crate::shown::{put_clauses, put_query, put_refusal};
+use akl_syntax::{check_query, read_program, read_query};
 use std::alloc::{AllocError, Global};
 
-#[cycle(shown_terms)]
-fn write_terms(shown: &mut String, terms: &[SourceTerm]) -> Result<(), AllocError> {
-    shown.push('(')?;
-    for term in terms {
-        write_term(shown, term)?;
-        shown.push(',')?;
-    }
-    shown.push(')')
-}
+/// What are the clauses of a text, or why is it refused?
+struct Clauses;
 
-#[cycle(shown_terms)]
-fn write_term(shown: &mut String, term: &SourceTerm) -> Result<(), AllocError> {
-    match term {
-        SourceTerm::Var(number) => write!(shown, "V{number}"),
-        SourceTerm::Int(value) => write!(shown, "{value}"),
-        SourceTerm::Struct { symbol, arguments } => {
-            shown.push_str(symbol.as_str())?;
-            if arguments.is_empty() {
-                return Ok(());
-            }
-            write_terms(shown, arguments)
-        }
-        SourceTerm::List { items, tail } => {
-            shown.push_str("list")?;
-            write_terms(shown, items)?;
-            let Some(tail) = tail else {
-                return Ok(());
-            };
-            shown.push('|')?;
-            write_term(shown, tail)
-        }
-        SourceTerm::Chain { first, rest } => {
-            shown.push('<')?;
-            write_term(shown, first)?;
-            for step in rest {
-                write!(shown, " {} ", step.symbol.as_str())?;
-                write_term(shown, &step.right)?;
-            }
-            shown.push('>')
+impl Question for Clauses {
+    fn answer(&self, alloc: Global, shown: &mut String, text: &[u8]) -> Result<(), AllocError> {
+        match read_program(alloc, text) {
+            Ok(found) => put_clauses(shown, &found),
+            Err(error) => put_refusal(shown, error),
         }
     }
 }
 
-#[cycle(shown_goals)]
-fn write_goals(shown: &mut String, goals: &[SourceGoal]) -> Result<(), AllocError> {
-    for goal in goals {
-        write_goal(shown, goal)?;
-    }
-    Ok(())
-}
+/// How many clauses has a text?
+struct Count;
 
-#[cycle(shown_goals)]
-fn write_goal(shown: &mut String, goal: &SourceGoal) -> Result<(), AllocError> {
-    match goal {
-        SourceGoal::Call { symbol, arguments } => {
-            shown.push_str(symbol.as_str())?;
-            write_terms(shown, arguments)
+impl Question for Count {
+    fn answer(&self, alloc: Global, shown: &mut String, text: &[u8]) -> Result<(), AllocError> {
+        match read_program(alloc, text) {
+            Ok(found) => write!(shown, " {}", found.len()),
+            Err(error) => put_refusal(shown, error),
         }
-        SourceGoal::Choice(parts) => {
-            shown.push('{')?;
-            for part in parts {
-                write_part(shown, part)?;
-                shown.push(';')?;
-            }
-            shown.push('}')
+    }
+}
+
+/// What are the goals of a query, or why is it refused?
+struct Goals;
+
+impl Question for Goals {
+    fn answer(&self, alloc: Global, shown: &mut String, text: &[u8]) -> Result<(), AllocError> {
+        if let Err(error) = check_query(text) {
+            return put_refusal(shown, error);
         }
-        SourceGoal::Collect {
-            collected,
-            goals,
-            result,
-        } => {
-            shown.push_str("collect(")?;
-            write_term(shown, collected)?;
-            shown.push_str(": ")?;
-            write_goals(shown, goals)?;
-            shown.push_str(": ")?;
-            write_term(shown, result)?;
-            shown.push(')')
+        match read_query(alloc, text) {
+            Ok(found) => put_query(shown, &found),
+            Err(error) => put_refusal(shown, error),
         }
-        SourceGoal::Lifted { .. } | SourceGoal::LiftedCollect { .. } => shown.push_str("lifted"),
     }
 }
 
-#[cycle(shown_goals)]
-fn write_part(shown: &mut String, part: &SourcePart) -> Result<(), AllocError> {
-    write_goals(shown, &part.guard)?;
-    let op = match part.op {
-        Op::Condition => "->",
-        Op::Commit => "|",
-        Op::Choice => "?",
-        Op::Collect => "collect",
-    };
-    shown.push_str(op)?;
-    write_goals(shown, &part.body)
-}
-
-fn write_names(shown: &mut String, names: &[Text]) -> Result<(), AllocError> {
-    shown.push_str(" [")?;
-    for name in names {
-        write!(shown, "{},", name.as_str())?;
-    }
-    shown.push(']')
-}
-
-fn write_clause(shown: &mut String, clause: &SourceClause) -> Result<(), AllocError> {
-    let name = match &clause.head {
-        Head::Named(symbol) => symbol.as_str(),
-        Head::Lifted { .. } => "lifted",
-    };
-    write!(shown, " {}: {name}", clause.start)?;
-    write_terms(shown, &clause.arguments)?;
-    shown.push(' ')?;
-    write_part(shown, &clause.part)?;
-    write_names(shown, &clause.names)?;
-    shown.push('.')
-}
-
-/// Clauses, written out.
-pub fn clauses(alloc: Global, clauses: &[SourceClause]) -> Result<String, AllocError> {
-    let mut shown = String::new(alloc);
-    for clause in clauses {
-        write_clause(&mut shown, clause)?;
-    }
-    Ok(shown)
-}
-
-/// Why a text is refused.
-pub fn refusal(alloc: Global, error: SyntaxError) -> Result<String, AllocError> {
-    let (what, at) = match error {
-        SyntaxError::Syntax { at } => (" syntax at ", at),
-        SyntaxError::TooDeep { at } => (" too many open brackets at ", at),
-        SyntaxError::IntRange { at } => (" integer out of range at ", at),
-        SyntaxError::TooLong { count } => (" too long, ", count),
-        SyntaxError::Memory(error) => return Err(error),
-    };
-    counted(alloc, what, at)
-}
-
-/// The clauses of a text, or why it is refused.
-pub fn program(alloc: Global, text: &[u8]) -> Result<String, AllocError> {
-    match read_program(alloc, text) {
-        Ok(found) => clauses(alloc, found.as_slice()),
-        Err(error) => refusal(alloc, error),
-    }
-}
-
-/// How many clauses a text has.
-pub fn count(alloc: Global, text: &[u8]) -> Result<String, AllocError> {
-    match read_program(alloc, text) {
-        Ok(found) => counted(alloc, " ", found.len()),
-        Err(error) => refusal(alloc, error),
-    }
-}
-
-/// The goals of a query, written out.
-pub fn goals(alloc: Global, query: &SourceQuery) -> Result<String, AllocError> {
-    let mut shown = String::from_str(alloc, " ")?;
-    write_goals(&mut shown, &query.goals)?;
-    write_names(&mut shown, &query.names)?;
-    Ok(shown)
-}
-
-/// The goals of a query, or why it is refused.
-pub fn query(alloc: Global, text: &[u8]) -> Result<String, AllocError> {
-    if let Err(error) = check_query(text) {
-        return refusal(alloc, error);
-    }
-    match read_query(alloc, text) {
-        Ok(found) => goals(alloc, &found),
-        Err(error) => refusal(alloc, error),
-    }
-}
-
-/// Programs, and what they are read as.
+/// Programs, and what they are read as. What stands between clauses is layout.
 const PROGRAMS: &str = r"clauses
 p. => 0: p() ? [].
  'q r'. ''(a). => 1: q r() ? []. 8: (a,) ? [].
@@ -228,10 +91,6 @@ bagof(X,Y,Z) :- q. => 0: bagof(V0,V1,V2,) ?q() [X,Y,Z,].
  p. q => syntax at 4
 p. q :- . r( => syntax at 3
 p. ! q. => syntax at 3
-";
-
-/// What stands between clauses is layout.
-const LAYOUT: &str = r"clauses
  =>
  % nothing$/* at all */ =>
 /**/p. %$q.% r. => 4: p() ? []. 9: q() ? [].
@@ -379,7 +238,7 @@ const NO_QUERIES: &str = r"goals
 
 /// Two hundred brackets may be open. Brackets that were closed, and those of another clause, don't count, and one that
 /// closes none counts against one that opens. Too many of them come before an integer out of range, but behind what
-/// begins no token.
+/// begins no token. A text has a million bytes at most, and a query 10,000.
 const NESTED_CLAUSES: &str = r"clauses
 p :- @(*200@a@)*200@. => 0: p() ?a() [].
 p :- @(*201@a@)*201@. => too many open brackets at 205
@@ -397,6 +256,8 @@ p)) :- @(*202@a@)*202@. => syntax at 0
 p)) :- @(*203@a@)*203@. => too many open brackets at 209
 p(170141183460469231731687303715884105728, @(*200@a@)*200@). => too many open brackets at 242
 p :- @(*201@a@)*201@! . => syntax at 0
+@ *999998@p. => 999998: p() ? [].
+@ *999999@p. => too long, 1000001
 ";
 
 const NESTED_QUERIES: &str = r"goals
@@ -405,6 +266,8 @@ const NESTED_QUERIES: &str = r"goals
 p([@[*198@a@]*198@]). => p(list(@list(*198@a@,)*198@,),) []
 @(*201@a@)*201@. q => too many open brackets at 200
 p. @(*201@a@)*201@ => syntax at 0
+@ *9998@p. => p() []
+@ *9999@p. => too long, 10001
 ";
 
 /// An integer is a signed number of 128 bits. The first one out of range decides, also in a text that is no clause, but
@@ -428,16 +291,6 @@ p(170141183460469231731687303715884105728 => integer out of range at 2
 p(170141183460469231731687303715884105728). q => integer out of range at 2
 ";
 
-const LONG_PROGRAMS: &str = r"clauses
-@ *999998@p. => 999998: p() ? [].
-@ *999999@p. => too long, 1000001
-";
-
-const LONG_QUERIES: &str = r"goals
-@ *9998@p. => p() []
-@ *9999@p. => too long, 10001
-";
-
 /// A program of a million bytes.
 const MANY_CLAUSES: &str = r"number of clauses
 @p(a) :- q(X), r.$*58823@@ *8@$ => 58823
@@ -445,32 +298,16 @@ const MANY_CLAUSES: &str = r"number of clauses
 
 #[test]
 fn a_program_is_read_as_its_clauses_or_refused(rt: HostRuntime) -> Result<(), AllocError> {
-    each_holds(
-        &rt,
-        rt.alloc(),
-        &[
-            PROGRAMS,
-            LAYOUT,
-            NO_CLAUSES,
-            NESTED_CLAUSES,
-            INTEGERS,
-            LONG_PROGRAMS,
-            MANY_CLAUSES,
-        ],
-    )
+    for table in [PROGRAMS, NO_CLAUSES, NESTED_CLAUSES, INTEGERS] {
+        each_holds(&rt, rt.alloc(), &Clauses, table)?;
+    }
+    each_holds(&rt, rt.alloc(), &Count, MANY_CLAUSES)
 }
 
 #[test]
 fn a_query_is_read_as_its_goals_or_refused(rt: HostRuntime) -> Result<(), AllocError> {
-    each_holds(
-        &rt,
-        rt.alloc(),
-        &[
-            QUERIES,
-            NO_QUERIES,
-            NESTED_QUERIES,
-            QUERY_INTEGERS,
-            LONG_QUERIES,
-        ],
-    )
+    for table in [QUERIES, NO_QUERIES, NESTED_QUERIES, QUERY_INTEGERS] {
+        each_holds(&rt, rt.alloc(), &Goals, table)?;
+    }
+    Ok(())
 }

@@ -2,32 +2,37 @@
 
 ghost use Rattle.akl_text.specs.Spelling.{IsTokenOf};
 
-use crate::lines::{counted, each_holds};
+use crate::lines::{Question, each_holds};
 use akl_text::{Kind, TextError, Token, integer_of, layout_end, text_of, tokens};
 use std::alloc::{AllocError, Global};
 use std::str::from_utf8;
 
-/// The kind and the spelling of each token.
-fn listed(alloc: Global, text: &[u8], found: &[Token]) -> Result<String, AllocError> {
-    let mut shown = String::new(alloc);
+/// Puts the kind and the spelling of each token.
+fn put_listed(shown: &mut String, text: &[u8], found: &[Token]) -> Result<(), AllocError> {
     for token in found {
         let bytes = text.get(token.start..token.end).unwrap_or(&[]);
         let spelling = from_utf8(bytes).unwrap_or("");
         write!(shown, " {:?} {spelling}", token.kind)?;
     }
-    Ok(shown)
+    Ok(())
 }
 
-/// The tokens of a text from a place on, or why there are none.
-pub fn tokens_from(alloc: Global, text: &[u8], from: usize) -> Result<String, AllocError> {
-    match tokens(alloc, text, from.min(text.len())) {
-        Ok(found) => listed(alloc, text, found.as_slice()),
-        Err(TextError::NoToken { at }) => counted(alloc, " no token at ", at),
-        Err(TextError::Memory(error)) => Err(error),
+/// What are the tokens of a text from a place on, or why are there none?
+struct Tokens {
+    from: usize,
+}
+
+impl Question for Tokens {
+    fn answer(&self, alloc: Global, shown: &mut String, text: &[u8]) -> Result<(), AllocError> {
+        match tokens(alloc, text, self.from.min(text.len())) {
+            Ok(found) => put_listed(shown, text, &found),
+            Err(TextError::NoToken { at }) => write!(shown, " no token at {at}"),
+            Err(TextError::Memory(error)) => Err(error),
+        }
     }
 }
 
-/// The text or the value of a token.
+/// Puts the text or the value of a token.
 fn put_token(
     alloc: Global,
     shown: &mut String,
@@ -46,25 +51,27 @@ fn put_token(
     }
 }
 
-/// Puts the texts and values of the tokens of a text.
-fn put_tokens(alloc: Global, shown: &mut String, text: &[u8]) -> Result<(), AllocError> {
-    if let Ok(found) = tokens(alloc, text, 0) {
-        for token in &found {
-            put_token(alloc, shown, text, token)?;
+/// What are the texts and values of the tokens of a text?
+struct Values;
+
+impl Question for Values {
+    fn answer(&self, alloc: Global, shown: &mut String, text: &[u8]) -> Result<(), AllocError> {
+        if let Ok(found) = tokens(alloc, text, 0) {
+            for token in &found {
+                put_token(alloc, shown, text, token)?;
+            }
         }
+        Ok(())
     }
-    Ok(())
 }
 
-/// The values of the tokens of a text.
-pub fn values(alloc: Global, text: &[u8]) -> Result<String, AllocError> {
-    let mut shown = String::new(alloc);
-    put_tokens(alloc, &mut shown, text)?;
-    Ok(shown)
-}
+/// Where does the layout at the front of a text end?
+struct Layout;
 
-pub fn layout(alloc: Global, text: &[u8]) -> Result<String, AllocError> {
-    counted(alloc, " ", layout_end(text, 0))
+impl Question for Layout {
+    fn answer(&self, _alloc: Global, shown: &mut String, text: &[u8]) -> Result<(), AllocError> {
+        write!(shown, " {}", layout_end(text, 0))
+    }
 }
 
 /// Every kind; the longest token; a sign, which goes by the token before it; layout; the end token, which is the last;
@@ -157,5 +164,8 @@ a  => 0
 
 #[test]
 fn a_text_is_read_as_its_tokens(rt: HostRuntime) -> Result<(), AllocError> {
-    each_holds(&rt, rt.alloc(), &[TOKENS, LATER, VALUES, LAYOUT])
+    each_holds(&rt, rt.alloc(), &Tokens { from: 0 }, TOKENS)?;
+    each_holds(&rt, rt.alloc(), &Tokens { from: 2 }, LATER)?;
+    each_holds(&rt, rt.alloc(), &Values, VALUES)?;
+    each_holds(&rt, rt.alloc(), &Layout, LAYOUT)
 }

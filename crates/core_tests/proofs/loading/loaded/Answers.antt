@@ -1,5 +1,5 @@
 use Rattle.akl_run.proofs.Evaluated.{loaded_shown}
-use Rattle.core_tests.proofs.loading.loaded_once.Goals as goal
+use Rattle.core_tests.proofs.loading.loaded.Goals as goal
 
 pub returns-in-Ok-load_asked-clause-shown : goal.returns-in-Ok-load_asked-clause-shown
 returns-in-Ok-load_asked-clause-shown c =
