@@ -1,9 +1,11 @@
-//! `frame_map`: names of two workers whose numbers have few and many digits; maps that share nodes stay as they were.
+//! `frame_map`: names of two workers whose numbers have few and many digits; maps that share nodes stay as they were;
+//! use from other threads.
 
 use akl_terms::Name;
 use frame_map::FrameMap;
 use std::alloc::{AllocError, Global};
 use std::process::Abort;
+use std::thread::join;
 
 /// What stands at each name.
 type Values = [Option<u64>; 16];
@@ -64,5 +66,20 @@ fn a_map_has_its_values_beside_one_that_shares_them(rt: HostRuntime) -> Result<(
         values[number as usize % 16] = Some(number);
         assert!(rt; agree(rt.alloc(), &map, &values)?, "after {number}");
     }
+    Ok(())
+}
+
+#[test]
+fn other_threads_read_and_drop(rt: HostRuntime) -> Result<(), AllocError> {
+    let mut map = FrameMap::new(rt.alloc());
+    map.insert(name(1), 1)?;
+    map.insert(name(9), 9)?;
+    let other = map.share()?;
+    let found = join(
+        &rt,
+        || map.get(name(1)).copied(),
+        move || other.get(name(9)).copied(),
+    );
+    assert!(rt; found == (Some(1), Some(9)));
     Ok(())
 }

@@ -6,8 +6,6 @@ mod frames;
 #[cfg(test)]
 mod lock;
 #[cfg(test)]
-mod map;
-#[cfg(test)]
 mod names;
 #[cfg(test)]
 mod outside;

@@ -3,7 +3,7 @@
 ghost use Rattle.std.specs.Prelude.{◌≡◌, ◌<◌, ◌≤◌, ◌/◌, ◌%◌, ◌^◌, true, false};
 
 /// How many binary digits a leaf has.
-pub(crate) const LEAF: u32 = 3;
+pub(crate) const LEAF: u32 = 5;
 
 // How many more binary digits a node has than its children.
 const MORE: u32 = 5;

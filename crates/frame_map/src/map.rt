@@ -13,7 +13,7 @@ use std::alloc::{AllocError, Global};
 use std::marker::Model;
 
 /// A map from names to values, in a tree by the digits of the names' numbers for each worker. A look-up goes through
-/// one leaf of eight names that follow one another, and through a node of 32 for each further digit. Maps share nodes:
+/// one leaf of 32 names that follow one another, and through a node of 32 for each further digit. Maps share nodes:
 /// a change makes those on its way anew that another map holds too, and writes the others in place. Contracts see the
 /// names with their values, in increasing order of the names.
 #[derive(Drop)]

@@ -1,15 +1,27 @@
--- The orders of names and variables, and when two of them are one.
-use Rattle.std.proofs.Common.{◌≡◌, ℕ, ◌<◌, refl, arith, Bool, true, false}
+-- Orders, those of names and of variables, and when two of them are one.
+use Rattle.std.proofs.Common.{◌≡◌, ℕ, ◌<◌, refl, ap, ◌∙◌, arith, Bool, true, false}
 use Rattle.std.proofs.lemmas.Bool.Decides.{nat_tests}
 use Rattle.std.proofs.lemmas.Cmp.{nat_cmp_total, on_total, then_total}
 use Rattle.std.specs.Prelude.{nat_lt, ◌==◌}
-use Rattle.std.specs.Ordering.{nat_cmp, is_eq, ordering_then}
+use Rattle.std.specs.Ordering.{nat_cmp, is_eq, is_lt, ordering_then, ordering_reverse}
 use Rattle.std.specs.declared.cmp.Ordering.{Ordering}
 use Rattle.std.specs.declared.cmp.Ordering.TheVariants.{Less, Equal, Greater}
 use Rattle.std.specs.Cmp.{IsTotalOrder}
 use Rattle.akl_terms.specs.declared.name.Name.{Name}
 use Rattle.akl_terms.specs.declared.name.Var.{Var}
 use Rattle.akl_terms.specs.Names.{same_name, same_var, name_cmp, var_cmp}
+
+pub Less-from_is_lt : (o : Ordering) → is_lt o ≡ true → o ≡ Less
+Less-from_is_lt Less h = refl
+Less-from_is_lt Equal h = cc
+Less-from_is_lt Greater h = cc
+
+module _ {K : Type 0} (cmp : K → K → Ordering) (o : IsTotalOrder cmp) (x y : K) where
+  pub Greater-from_less : cmp x y ≡ Less → cmp y x ≡ Greater
+  Greater-from_less less = o.antisymm y x ∙ ap ordering_reverse less
+
+  pub Less-from_greater : cmp x y ≡ Greater → cmp y x ≡ Less
+  Less-from_greater greater = o.antisymm y x ∙ ap ordering_reverse greater
 
 -- what a comparison tells
 abbrev Tells : Ordering → ℕ → ℕ → Type 0

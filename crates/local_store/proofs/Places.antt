@@ -1,11 +1,12 @@
 -- Where in a list what is put in comes to stand.
-use Rattle.std.proofs.Common.{◌≡◌, ℕ, suc, ◌+◌, ◌<◌, ◌≤◌, List, [], ◌∷◌, ◌++◌, length, take, drop, drop-cons, add-one, Bool, true, false, cond, if◌then◌else◌, refl, sym, ap, subst, ◌∙◌, slice_index_or, arith}
+use Rattle.std.proofs.Common.{◌≡◌, ℕ, suc, ◌+◌, ◌-◌, ◌<◌, ◌≤◌, List, [], ◌∷◌, ◌++◌, length, take, drop, drop-cons, add-one, Bool, true, false, cond, if◌then◌else◌, refl, sym, ap, subst, ◌∙◌, slice_index_or, arith}
 use Rattle.std.specs.Prelude.{nat_lt, not}
 use Rattle.std.specs.List.{insert}
 use Rattle.std.specs.Ordering.{is_lt, match_ordering, ordering_reverse}
 use Rattle.std.specs.declared.cmp.Ordering.{Ordering}
 use Rattle.std.specs.declared.cmp.Ordering.TheVariants.{Less, Equal, Greater}
 use Rattle.std.proofs.lemmas.Cmp.{tied_itself}
+use Rattle.std.proofs.lemmas.List.{length-drop}
 use Rattle.akl_terms.specs.declared.name.Name.{Name}
 use Rattle.akl_terms.specs.declared.name.Var.{Var}
 use Rattle.akl_terms.specs.declared.term.Term.{Term}
@@ -44,6 +45,13 @@ run-is_of n (b ∷ bs) = on (same_name b.0.frame n) refl (run-is_of n bs)
     on true e h = (same_name-equal b.0.frame n e, h)
     on false e h = tt
 
+-- those behind the first ones
+pub run-within : (bs : List (Var × Term)) (n : Name) (first many : ℕ) → first ≤ length bs → many ≡ run_of (drop first bs) n → (many ≤ length (drop first bs)) × (first + many ≤ length bs)
+run-within bs n first many h e =
+    let within : run_of (drop first bs) n ≤ length (drop first bs) = front-within (λ (b : Var × Term). same_name b.0.frame n) (drop first bs) in
+    let left : length (drop first bs) ≡ length bs - first = length-drop first bs in
+    (omega (arith, within, e), omega (arith, within, e, left))
+
 pub run-some : (n : Name) (bs : List (Var × Term)) → StartOf n bs → 0 < run_of bs n
 run-some n [] h = absurd h
 run-some n (b ∷ bs) h = on (same_name b.0.frame n) (ap (λ (m : Name). same_name m n) h ∙ same_name-refl n)
@@ -55,6 +63,15 @@ run-some n (b ∷ bs) h = on (same_name b.0.frame n) (ap (λ (m : Name). same_na
 pub start-some : (n : Name) (bs : List (Var × Term)) → StartOf n bs → 0 < length bs
 start-some n [] h = absurd h
 start-some n (b ∷ bs) h = omega arith
+
+pub put-last : (bs : List (ℕ × Term)) (i : ℕ) (t : Term) → place_at bs i ≡ length bs → bs ++ (i, t) ∷ [] ≡ put_at bs i t
+put-last [] i t e = refl
+put-last (b ∷ bs) i t e = on (nat_lt i b.0) e (put-last bs i t)
+  where
+    on : (k : Bool) → (if not k then suc (place_at bs i) else 0) ≡ suc (length bs) → (place_at bs i ≡ length bs → bs ++ (i, t) ∷ [] ≡ put_at bs i t)
+        → b ∷ bs ++ (i, t) ∷ [] ≡ (if k then (i, t) ∷ b ∷ bs else b ∷ put_at bs i t)
+    on true e g = absurd (omega (arith, e))
+    on false e g = ap (λ (l : List (ℕ × Term)). b ∷ l) (g (omega (arith, e)))
 
 pub put-here : (bs : List (ℕ × Term)) (i : ℕ) (t : Term) → insert bs (place_at bs i) (i, t) ≡ put_at bs i t
 put-here [] i t = refl

@@ -16,9 +16,9 @@ use Rattle.akl_terms.specs.Names.{same_name, name_cmp, var_cmp}
 use Rattle.name_map.proofs.NameOrder.{name_total, name_exact, name_is, name_back}
 use Rattle.local_store.specs.declared.frame_bindings.FrameBindings.{FrameBindings}
 use Rattle.local_store.specs.Stored.{var_before, is_named, named, joined, joins, all_named}
-use Rattle.persist_map.proofs.Sides.{Greater-from_less}
 use Rattle.local_store.specs.Kept.{put_at, put_all, bindings_at, owns, of_frame, AreOf, frames_of, bindings_of}
 use Rattle.local_store.proofs.EachLeads.{all-both}
+use Rattle.local_store.proofs.Orders.{Greater-from_less}
 
 abbrev Entries : Type 0
 Entries = List (Name × FrameBindings)

@@ -15,15 +15,13 @@ use Rattle.akl_terms.specs.Names.{same_name, same_var, name_cmp, var_cmp}
 use Rattle.akl_terms.proofs.SameNames.{same_name-equal, same_var-equal}
 use Rattle.constraint_laws.proofs.VariableOrder.{var_total, var_exact}
 use Rattle.name_map.proofs.NameOrder.{name_exact, name_is, name_back}
-use Rattle.persist_map.proofs.Sides.{Greater-from_less, Less-from_greater}
-use Rattle.persist_map.proofs.Greatest.{Less-from_is_lt}
 use Rattle.rational_unify.specs.Known.{found_in}
 use Rattle.rational_unify.proofs.Chains.{found-first, found-second}
 use Rattle.local_store.specs.declared.frame_bindings.FrameBindings.{FrameBindings}
 use Rattle.local_store.specs.Stored.{var_before, is_named, named, joined, joins, all_named}
 use Rattle.local_store.specs.Kept.{found_at, bindings_at, owns, of_frame, frames_of, bindings_of, AreInOrder, IsKept}
 use Rattle.local_store.proofs.EachLeads.{joined-all}
-use Rattle.local_store.proofs.Orders.{var-same}
+use Rattle.local_store.proofs.Orders.{var-same, Less-from_is_lt, Greater-from_less, Less-from_greater}
 use Rattle.local_store.proofs.SettledFrames.{above-all, frames-above, later}
 
 abbrev Entries : Type 0
@@ -53,7 +51,7 @@ named-settled (e ∷ es) n h = on (same_name n e.0) refl e.1.own refl (named-set
     on false q true p g = rw (name_back e.0 n ∙ q) g
     on false q false p g = g
 
-or-turned : (a b : Bool) → (a || b) ≡ (b || a)
+pub or-turned : (a b : Bool) → (a || b) ≡ (b || a)
 or-turned true true = refl
 or-turned true false = refl
 or-turned false true = refl

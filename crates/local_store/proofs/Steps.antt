@@ -2,7 +2,7 @@
 use Rattle.std.proofs.Common.{◌≡◌, ℕ, zero, suc, ◌+◌, ◌<◌, ◌≤◌, List, [], ◌∷◌, ◌++◌, length, take, drop, add-one, Option, Some, None, Bool, true, false, cond, if◌then◌else◌, refl, sym, ap, subst, ◌∙◌, slice_index_or, append_assoc, arith}
 use Rattle.std.specs.Prelude.{◌==◌, ◌||◌, find, option_map}
 use Rattle.std.specs.List.{AllByRecursion}
-use Rattle.std.proofs.lemmas.List.{take_more}
+use Rattle.std.proofs.lemmas.List.{take_more, drop_more, drop-drop, at_drop_more}
 use Rattle.std.proofs.lemmas.Bool.Decides.{nat_tests}
 use Rattle.akl_terms.specs.declared.name.Name.{Name}
 use Rattle.akl_terms.specs.declared.name.Var.{Var}
@@ -13,7 +13,7 @@ use Rattle.rational_unify.proofs.Chains.{found-second}
 use Rattle.local_store.specs.declared.frame_bindings.FrameBindings.{FrameBindings}
 use Rattle.local_store.specs.Stored.{is_named, named, joined, joins, all_named}
 use Rattle.local_store.proofs.Known.{joins-push}
-use Rattle.local_store.specs.Kept.{put_at, put_all, found_at, of_frame, frames_of, bindings_of, AreOf}
+use Rattle.local_store.specs.Kept.{put_at, put_all, found_at, of_frame, frames_of, bindings_of, AreOf, StartOf}
 
 put_all-push : (bs : List (ℕ × Term)) (cs : List (Var × Term)) (c : Var × Term) → put_all bs (cs ++ c ∷ []) ≡ put_at (put_all bs cs) c.0.index c.1
 put_all-push bs [] c = refl
@@ -35,11 +35,22 @@ pub joins-next : (bs list new cs : List (Var × Term)) (i : ℕ) (d : Var × Ter
     → new ≡ joins bs (take (i + 1) cs)
 joins-next bs list new cs i d h e n = n ∙ ap (λ (l : List (Var × Term)). joined l (slice_index_or cs i d).0 (slice_index_or cs i d).1) e ∙ sym (joins-push bs (take i cs) (slice_index_or cs i d)) ∙ ap (joins bs) (sym (take_more cs i d h))
 
+-- the names behind the first ones
+pub all_named-drop : (ns new ms : List Name) (i : ℕ) (d : Name) → i < length ms → new ≡ named ns (slice_index_or ms i d) → all_named new (drop (i + 1) ms) ≡ all_named ns (drop i ms)
+all_named-drop ns new ms i d h e = ap (λ (l : List Name). all_named l (drop (i + 1) ms)) e ∙ sym (at_drop_more (all_named ns) ms i d h)
+
+pub start-drop : (bs : List (Var × Term)) (i : ℕ) (d : Var × Term) → i < length bs → StartOf (slice_index_or bs i d).0.frame (drop i bs)
+start-drop bs i d h = subst (StartOf (slice_index_or bs i d).0.frame) (sym (drop_more bs i d h)) refl
+
 -- those that joined first, and the others
 pub joins-split : (bs cs : List (Var × Term)) (n : ℕ) → joins (joins bs (take n cs)) (drop n cs) ≡ joins bs cs
 joins-split bs cs zero = refl
 joins-split bs [] (suc n) = refl
 joins-split bs (c ∷ cs) (suc n) = joins-split (joined bs c.0 c.1) cs n
+
+-- those behind the first ones: so many that joined, and the others
+pub joins-drop : (bs cs : List (Var × Term)) (first many : ℕ) → joins (joins bs (take many (drop first cs))) (drop (first + many) cs) ≡ joins bs (drop first cs)
+joins-drop bs cs first many = ap (joins (joins bs (take many (drop first cs)))) (sym (drop-drop many first cs)) ∙ joins-split bs (drop first cs) many
 
 frames_of-push : (es : List (Name × FrameBindings)) (e : Name × FrameBindings) → frames_of (es ++ e ∷ []) ≡ frames_of es ++ (if e.1.own then e.0 ∷ [] else [])
 frames_of-push [] e = refl

@@ -1,5 +1,8 @@
 -- How a store keeps this: what it has of each frame, in the order of their names, and beside it what was added last.
 use Rattle.std.specs.Prelude.{◌≡◌, ℕ, suc, nat_lt, ◌==◌, not, Bool, false, List, [], ◌∷◌, ◌++◌, map, find, Option, None, Some, option_map, if◌then◌else◌}
+use Rattle.std.specs.declared.sync.Arc.{Arc}
+use Rattle.std.specs.Arc.{arc_value}
+use Rattle.std.specs.Global.{Global}
 use Rattle.std.specs.Map.{keys_of}
 use Rattle.std.specs.List.{AllByRecursion}
 use Rattle.std.specs.Ordering.{is_lt}
@@ -37,6 +40,11 @@ owns (Some f) = f.own
 -- the bindings of a frame's variables
 abbrev pub of_frame : Name → List (ℕ × Term) → List (Var × Term)
 of_frame n bs = map (λ b. (record { frame = n; index = b.0 }, b.1)) bs
+
+-- the ports, where there is a map of them
+abbrev pub ports_of : Option (Arc (List (Name × Term)) Global) → List (Name × Term)
+ports_of None = []
+ports_of (Some ports) = arc_value ports
 
 -- they bind variables of this frame
 abbrev pub AreOf : Name → List (Var × Term) → Type 0

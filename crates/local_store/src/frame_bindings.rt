@@ -78,6 +78,10 @@ fn put(bindings: &mut Vec<(u32, Term)>, index: u32, term: Term) -> Result<(), Al
     ensures { IfOk result (λ _. bindings.new.items ≡ put_at bindings.old.items index term) }
 {
     let place = place_of(bindings, index);
+    if place == bindings.len() {
+        bindings.push((index, term))?;
+        return Ok(());
+    }
     bindings.insert(place, (index, term))?;
     Ok(())
 }

@@ -24,7 +24,7 @@ pub fn promoted(alloc: Global, chain: &Chain) -> Result<ToldStore, AllocError>
 {
     let stores = chain.stores();
     let count = stores.len() - 1;
-    let mut told = ToldStore::of(alloc, stores[count - 1].get().share()?);
+    let mut told = ToldStore::of(alloc, stores[count - 1].get().share_to_tell()?);
     join_store(alloc, chain, stores[count].get(), &mut told)?;
     Ok(told)
 }

@@ -7,10 +7,10 @@ ghost use Rattle.local_store.specs.Stored.{nothing, made_of, unbound, is_named, 
 ghost use Rattle.local_store.specs.Telling.{clashed};
 
 use crate::listed::{first_in, is_among, put_binding, put_frame};
+use crate::ports::Ports;
 use crate::settled::Settled;
-use crate::settling::{settle_bindings, settle_frames, settled_of};
+use crate::settling::{settle, settled_of};
 use akl_terms::{Name, Term, Var};
-use persist_map::BufferedMap;
 use smallvec::SmallVec;
 use std::alloc::{AllocError, Global};
 use std::marker::Model;
@@ -40,7 +40,7 @@ pub struct Store {
     // What was added last, in the order in which it was added.
     frames: SmallVec<Name, 1>,
     bindings: Vec<(Var, Term)>,
-    ports: BufferedMap<Name, Term>,
+    ports: Ports,
 }
 
 impl Model for Store {
@@ -62,7 +62,7 @@ impl Store {
             settled: Settled::new(alloc),
             frames: SmallVec::new(alloc),
             bindings: Vec::new(alloc),
-            ports: BufferedMap::new(alloc),
+            ports: Ports::new(),
         }
     }
 
@@ -79,7 +79,7 @@ impl Store {
             settled: settled_of(alloc, frames, bindings)?,
             frames: SmallVec::new(alloc),
             bindings: Vec::new(alloc),
-            ports: BufferedMap::new(alloc),
+            ports: Ports::new(),
         })
     }
 
@@ -94,7 +94,7 @@ impl Store {
             settled: Settled::new(alloc),
             frames: SmallVec::from_slice(alloc, frames)?,
             bindings: list,
-            ports: BufferedMap::new(alloc),
+            ports: Ports::new(),
         })
     }
 
@@ -103,7 +103,22 @@ impl Store {
     pub fn share(&self) -> Result<Store, AllocError>
         ensures { IfOk result (λ s. s ≡ self.now) }
     {
-        let mut bindings = Vec::new(self.alloc);
+        self.share_with_room(self.bindings.len())
+    }
+
+    /// An equal store, which is to be told something: in its list there is room for as many bindings as may stand there. An
+    /// `Err` is want of memory.
+    pub fn share_to_tell(&self) -> Result<Store, AllocError>
+        ensures { IfOk result (λ s. s ≡ self.now) }
+    {
+        self.share_with_room(FEW)
+    }
+
+    // An equal store, with room for so many bindings in its list.
+    fn share_with_room(&self, room: usize) -> Result<Store, AllocError>
+        ensures { IfOk result (λ s. s ≡ self.now) }
+    {
+        let mut bindings = Vec::with_capacity(self.alloc, room)?;
         bindings.extend_from_slice(&self.bindings)?;
         Ok(Store {
             alloc: self.alloc,
@@ -130,7 +145,7 @@ impl Store {
         ensures set { IfOk result (λ _. self.new ≡ with_port self.old port tail) }
         ensures unchanged { IfErr result (λ _. self.new ≡ self.old) }
     {
-        self.ports.insert(port, tail)
+        self.ports.set(self.alloc, port, tail)
     }
 
     /// Also has the binding, after those that the variable has. None is replaced: all of them are equations of the
@@ -188,7 +203,6 @@ impl Store {
         if !self.settled.is_empty() {
             self.empty_lists();
         }
-        let _ = self.ports.settle();
     }
 
     // Brings the lists into the tree where one of them is full.
@@ -204,13 +218,12 @@ impl Store {
     fn empty_lists(&mut self)
         ensures { self.new ≡ self.old }
     {
-        settle_frames(
+        settle(
             self.alloc,
             &mut self.settled,
             &mut self.frames,
             &mut self.bindings,
         );
-        settle_bindings(self.alloc, &mut self.settled, &mut self.bindings);
     }
 
     /// Also has these bindings, added one after another. After an `Err` it may have some of them.
@@ -249,7 +262,7 @@ impl Store {
     pub fn has_frame(&self, frame: Name) -> bool
         ensures { result ≡ is_named self.now.frames frame }
     {
-        self.settled.has_frame(frame) || is_among(self.frames.as_slice(), frame)
+        is_among(self.frames.as_slice(), frame) || self.settled.has_frame(frame)
     }
 
     /// What the first binding of the variable binds it to; `None` exactly where it has no binding.
@@ -267,7 +280,7 @@ impl Store {
     pub fn port_tail(&self, port: Name) -> Option<Term>
         ensures { result ≡ lookup (same_name port) self.now.ports }
     {
-        self.ports.get(&port).copied()
+        self.ports.tail(port)
     }
 
     /// The frames, in increasing order of names.
@@ -296,6 +309,6 @@ impl Store {
     pub fn ports(&self) -> Result<Vec<(Name, Term)>, AllocError>
         ensures { IfOk result (λ list. list.items ≡ self.now.ports) }
     {
-        self.ports.entries()
+        self.ports.entries(self.alloc)
     }
 }

@@ -222,7 +222,7 @@ pub fn innermost(alloc: Global, stores: &[Shared<Store>]) -> Result<Store, Alloc
     ensures { IfOk result (λ s. s ≡ innermost stores.now) }
 {
     match stores.last() {
-        Some(store) => store.get().share(),
+        Some(store) => store.get().share_to_tell(),
         None => Ok(Store::new(alloc)),
     }
 }

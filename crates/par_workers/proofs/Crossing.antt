@@ -3,13 +3,13 @@ use denote.RattleType.{RattleType}
 use denote.Param.Send.{IsSend, IsSync, sendable}
 use Rattle.std.proofs.Crossing as owned
 use Rattle.std.proofs.MapsCrossing as maps
-use Rattle.persist_map.proofs.tree.Tree.TheLaws.TheKnot as trees
 use Rattle.frame_map.proofs.tree.Tree.TheLaws.TheKnot as frame_trees
 use Rattle.frame_map.specs.contracts.root.Root as Root
 use Rattle.frame_map.specs.contracts.map.FrameMap as FrameMap
 use Rattle.local_store.specs.contracts.frame_bindings.FrameBindings as FrameBindings
 use Rattle.local_store.specs.contracts.shared.Shared as Shared
 use Rattle.local_store.specs.contracts.settled.Settled as Settled
+use Rattle.local_store.specs.contracts.ports.Ports as Ports
 use Rattle.local_store.specs.contracts.store.Store as Store
 use Rattle.box_tree.specs.contracts.entries.GoalEntry as GoalEntry
 use Rattle.box_tree.specs.contracts.entries.BoxEntry as BoxEntry
@@ -75,11 +75,17 @@ Settled-sync =
     let y = Shared-sync FrameBindings.the_row FrameBindings-send FrameBindings-sync in
     let a = FrameMap-sync (Shared.the_row FrameBindings.the_row) s y in search (owned.crosses, sendable) depth 60 fits 20000
 
+Ports-send : IsSend Ports.the_row
+Ports-send = search (FrameMap-send, FrameMap-sync, owned.crosses, sendable) depth 60 fits 20000
+
+Ports-sync : IsSync Ports.the_row
+Ports-sync = search (FrameMap-send, FrameMap-sync, owned.crosses, sendable) depth 60 fits 20000
+
 Store-send : IsSend Store.the_row
-Store-send = let a = Settled-send in search (owned.crosses, trees.crosses_both, sendable) depth 60 fits 20000
+Store-send = let a = Settled-send in let b = Ports-send in search (owned.crosses, sendable) depth 60 fits 20000
 
 Store-sync : IsSync Store.the_row
-Store-sync = let a = Settled-sync in search (owned.crosses, trees.crosses_both, sendable) depth 60 fits 20000
+Store-sync = let a = Settled-sync in let b = Ports-sync in search (owned.crosses, sendable) depth 60 fits 20000
 
 BoxEntry-send : IsSend BoxEntry.the_row
 BoxEntry-send = let a = Store-send in let b = Store-sync in search (owned.crosses, maps.crosses, sendable) depth 60 fits 20000

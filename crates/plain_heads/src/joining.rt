@@ -27,7 +27,7 @@ pub fn joined(
     ensures free { IfOk result (λ told. AreFree (bindings_from path.now) told.bound.items) }
     ensures kept { IfOk result (λ told. KeepsBound path.now told.store) }
 {
-    let mut store = path[path.len() - 1].get().share()?;
+    let mut store = path[path.len() - 1].get().share_to_tell()?;
     store.add_frame(frame)?;
     store.add_all(bindings)?;
     let bound = listed(alloc, templates, bindings)?;

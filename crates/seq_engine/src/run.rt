@@ -12,6 +12,9 @@ use std::marker::Brand;
 use std::sync::ledger::{Blank, Ledger};
 use step_commit::Core;
 
+// There is room for so many receipts at once, where the budget has: so they aren't moved again and again while they are few.
+const ROOM: u64 = 4096;
+
 /// How a run ended.
 #[derive(Clone, Copy, Debug, PartialEq, Eq)]
 pub enum End {
@@ -84,6 +87,7 @@ pub fn run_one(alloc: Global, program: &Program, core: Core) -> Result<Finished,
     requires begins { core.journal ≡ [] }
     ensures { IfOk result (HasRun core) }
 {
+    let receipts = Vec::with_capacity(alloc, core.left().min(ROOM) as usize)?;
     let scheduler = Scheduler::new(alloc, core)?;
-    run_on(alloc, program, scheduler, Vec::new(alloc))
+    run_on(alloc, program, scheduler, receipts)
 }

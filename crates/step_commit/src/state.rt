@@ -16,6 +16,9 @@ use box_tree::{InnerBox, Inside, LookError, Plan, Step, Table, View};
 use std::alloc::{AllocError, Global};
 use std::marker::Model;
 
+// The journal has room for so many labels at once, where the budget has: so it isn't moved again and again while it is short.
+const ROOM: u64 = 4096;
+
 /// The state of a run: a table, with the journal whose replay it unfolds to. Its program, its query, the number of its
 /// workers and its budget never change.
 #[derive(Drop)]
@@ -54,10 +57,11 @@ impl Core {
         ensures workers { IfOk result (λ c. c.workers ≡ workers) }
         ensures budget { IfOk result (λ c. c.budget ≡ budget) }
     {
+        let journal = Vec::with_capacity(alloc, budget.min(ROOM) as usize)?;
         let table = Table::start(alloc, program, query, first_variable)?;
         Ok(Core {
             table,
-            journal: Vec::new(alloc),
+            journal,
             workers,
             budget,
         })

@@ -1,10 +1,16 @@
-use Rattle.std.proofs.Common.{◌≡◌, ◌≤◌, List, length, ap, ◌∙◌, arith}
+use Rattle.std.proofs.Common.{◌≡◌, ◌≤◌, List, length, sym, ap, ◌∙◌, arith}
 use Rattle.std.specs.List.{insert}
 use Rattle.std.specs.Prelude.{nat_lt, not}
 use Rattle.akl_terms.specs.declared.term.Term.{Term}
 use Rattle.local_store.specs.Kept.{place_at}
-use Rattle.local_store.proofs.Places.{front-within, put-here}
+use Rattle.local_store.proofs.Places.{front-within, put-here, put-last}
 use Rattle.local_store.proofs.frame_bindings.put.Goals as goal
+
+pub returns-then-place-len : goal.returns-then-place-len
+returns-then-place-len c =
+    let place : place_at c.args.bindings.now.items c.args.index ≡ length c.args.bindings.now.items =
+    ap (λ l. place_at l c.args.index) (sym c.deref.ensures.value) ∙ sym c.place_of-place.ensures ∙ c.if-place-len.true ∙ c.len.ensures ∙ c.args.bindings.now.ok.0 in
+    c.in_ok-push.ensures.items ∙ put-last c.args.bindings.now.items c.args.index c.args.term place
 
 pub insert-requires : goal.insert-requires
 insert-requires c =

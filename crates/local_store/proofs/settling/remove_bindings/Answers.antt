@@ -1,7 +1,7 @@
 use Rattle.std.proofs.Common.{◌≡◌, ◌<◌, ◌-◌, sym, ap, ◌∙◌, drop, length, arith}
 use Rattle.std.proofs.lemmas.List.{drop_all, length-drop}
 use Rattle.local_store.proofs.Steps.{drop-one}
-use Rattle.local_store.proofs.settling.remove_first.Goals as goal
+use Rattle.local_store.proofs.settling.remove_bindings.Goals as goal
 
 pub returns-then-many-len : goal.returns-then-many-len
 returns-then-many-len c = c.clear.ensures.items ∙ sym (drop_all c.args.many c.args.bindings.now.items (omega (arith, c.if-many-len.true, c.len.ensures, c.args.bindings.now.ok)))

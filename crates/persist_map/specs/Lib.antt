@@ -1,4 +1,0 @@
-pub mod Changes
-pub mod Contents
-pub mod Entries
-pub mod Newest
