@@ -1,0 +1,2 @@
+pub mod CallPlans
+pub mod CallsAgain

@@ -1,0 +1,2 @@
+pub mod FreshJoins
+pub mod Later

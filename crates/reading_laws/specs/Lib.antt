@@ -1,0 +1,13 @@
+pub mod AtomRight
+pub mod Boxes
+pub mod Closed
+pub mod Ends
+pub mod FailRight
+pub mod Guards
+pub mod IdleBoxes
+pub mod IdleGoals
+pub mod Listed
+pub mod OldestStays
+pub mod Plans
+pub mod SplitRight
+pub mod Unchanged
