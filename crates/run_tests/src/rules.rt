@@ -210,6 +210,7 @@ const TRACES: &str = r"
 --trace => p(a). p(b). => p(c) => 1 / step 1 fork goal 0.2 by 1 / step 2 fail box 1.0 by 1 / step 3 fail box 1.2 by 1 / step 4 fail box 0.0 by 1 / failed
  => MERGE => merge([a],[b],Z) => 0 / answer 1 / Z = [a,b] / done
 --trace => THERE => t(a,R) => 0 / step 1 fork goal 0.2 by 1 / step 2 cut goal 0.2 of 1.0 by 1 / step 3 promote goal 0.2 of 1.0 by 1 / step 4 tell goal 1.4 by 1 / answer 1 / R = 1 / done
+--trace => p :- q(W), r(W) -> true. q(X) :- X = c -> true. q(X) :- X = d -> true. r(X) :- -> s(X). s(X) :- -> X = d. => p => 0 / step 1 fork goal 0.2 by 1 / step 2 fork goal 1.2 by 1 / step 3 fork goal 1.3 by 1 / step 4 promote goal 1.3 of 1.10 by 1 / step 5 tell goal 1.6 by 1 / step 6 tell goal 1.9 by 1 / step 7 fork goal 1.12 by 1 / step 8 promote goal 1.12 of 1.13 by 1 / step 9 tell goal 1.15 by 1 / step 10 fail box 1.4 by 1 / step 11 promote goal 1.2 of 1.7 by 1 / step 12 promote goal 0.2 of 1.0 by 1 / answer 1 / done
 --trace => r(X) :- -> q(X). q(_) :- -> true. c(X) :- -> X = 1, e. e :- -> true. => X > 0, r(X), c(X) => 0 / step 1 fork goal 0.3 by 1 / step 2 promote goal 0.3 of 1.0 by 1 / step 3 fork goal 0.4 by 1 / step 4 promote goal 0.4 of 1.3 by 1 / step 5 tell goal 1.5 by 1 / step 6 fork goal 1.2 by 1 / step 7 promote goal 1.2 of 1.7 by 1 / step 8 fork goal 1.6 by 1 / step 9 promote goal 1.6 of 1.9 by 1 / step 10 eval goal 0.2 by 1 / answer 1 / X = 1 / done
 ";
 
