@@ -47,7 +47,7 @@ pub(crate) fn reduce_goal(
             };
             tell_by(around, Rule::Tell, equation, told)
         }
-        Code::Arith { left, .. } => match value_of(alloc, around, &told.store, goal)? {
+        Code::Arith { left, .. } => match value_of(alloc, around, told.store.get(), goal)? {
             ArithValue::Is(value) => {
                 let equation = Equation {
                     left: Term::Mol { node: left, frame },

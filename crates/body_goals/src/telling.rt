@@ -22,7 +22,7 @@ pub(crate) fn tell(
     requires { IsSolvedChain around.now.nodes (within around.now.stores told.old.store) }
     ensures { IfOk result (IsTaken around.now.nodes around.now.stores equation told.old told.new) }
 {
-    let Some((variable, term)) = binding_for(around, &told.store, equation) else {
+    let Some((variable, term)) = binding_for(around, told.store.get(), equation) else {
         return Ok(false);
     };
     bind(around.templates(), variable, term, told)?;

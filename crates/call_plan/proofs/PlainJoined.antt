@@ -1,5 +1,5 @@
 -- The guard of an alternative with plain bindings holds.
-use Rattle.std.proofs.Common.{◌≡◌, ◌+◌, List, [], ◌∷◌, ◌++◌, length, refl, sym, subst, arith}
+use Rattle.std.proofs.Common.{◌≡◌, ◌+◌, List, [], ◌∷◌, ◌++◌, length, true, refl, sym, subst, arith}
 use Rattle.akl_terms.specs.declared.name.Name.{Name}
 use Rattle.akl_terms.specs.declared.name.Var.{Var}
 use Rattle.akl_terms.specs.declared.term.Node.{Node}
@@ -16,7 +16,9 @@ use Rattle.plain_heads.specs.Joined.{own_store, AreFree}
 use Rattle.plain_heads.proofs.Members.{root_members}
 use Rattle.plain_heads.proofs.Quiet.{quiet_plain}
 use Rattle.class_members.specs.Members.{AreMembers}
+use Rattle.call_plan.specs.declared.own.Own.{Own}
 use Rattle.call_plan.specs.Joins.{HoldsFor}
+use Rattle.call_plan.specs.Owns.{is_plain, BindsFree}
 use Rattle.call_plan.proofs.HeadStores.{front_solved}
 
 module _ (nodes : List Node) (path : List Stored) (frame : Name) (bs : List (Var × Term)) (plain : ArePlain nodes (bindings_from path) frame bs) (k : IsKnown nodes (path ++ own_store frame bs ∷ []) (length path + 1))
@@ -39,3 +41,8 @@ pub one_store : (nodes : List Node) (ss : List Stored) → length ss ≡ 1 → I
 one_store nodes [] e k xs h = absurd (omega (arith, e))
 one_store nodes (s ∷ []) e k xs h = root_members nodes s k xs h
 one_store nodes (s ∷ t ∷ ss) e k xs h = absurd (omega (arith, e))
+
+-- what plain bindings bind or make equal is bound to nothing
+pub plain_free : (path : List Stored) (own : Own) (xs : List Var) → is_plain own ≡ true → BindsFree path own xs → AreFree (bindings_from path) xs
+plain_free path (Own.Plain bs) xs e h = h
+plain_free path (Own.Store s) xs e h = cc

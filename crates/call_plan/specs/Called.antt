@@ -1,7 +1,8 @@
 -- What is known of a call before it is found at once.
-use Rattle.std.specs.Prelude.{◌≡◌, ℕ, ◌+◌, ◌<◌, ◌^◌, List, [], ◌++◌, length, Some, None, slice_get}
+use Rattle.std.specs.Prelude.{◌≡◌, Bool, ℕ, ◌+◌, ◌<◌, ◌^◌, List, [], ◌++◌, length, Some, None, slice_get}
 use Rattle.akl_terms.specs.declared.name.Name.{Name}
 use Rattle.akl_terms.specs.declared.name.Place.{Place}
+use Rattle.akl_terms.specs.declared.program.Clause.{Clause}
 use Rattle.akl_terms.specs.declared.program.Definition.{Definition}
 use Rattle.akl_terms.specs.declared.program.Op.{Op}
 use Rattle.akl_model.specs.declared.label.Label.{Label}
@@ -15,7 +16,7 @@ use Rattle.box_tree.specs.Views.{ViewValue, IsViewOf}
 use Rattle.call_plan.specs.declared.heads.Arguments.{Arguments}
 use Rattle.call_plan.specs.declared.sifting.Left.{Left}
 use Rattle.call_plan.specs.Chosen.{IsChosen}
-use Rattle.call_plan.specs.Owns.{BindsFree, OwnKeepsBound}
+use Rattle.call_plan.specs.Owns.{is_plain, BindsFree, OwnKeepsBound}
 use Rattle.call_plan.specs.Sifted.{store_of}
 use Rattle.call_plan.specs.Ended.{cuts_others, end_labels}
 use Rattle.call_plan.specs.Joins.{Joins}
@@ -55,3 +56,11 @@ pub record IsReducedCall (v : ViewValue) (g : Name) (op : Op) (left : Left) (dra
   pub joined : ToldStore
   pub ends : Ends v g op left drawn labels joined
   pub reduced : IsReduced v.table.program.templates.symbols v.table.program.templates.nodes (around v.stores) left.frame (v.next + drawn) left.clause.now.body joined told labels more body
+
+-- so it is of some alternative of a clause, with bindings that are plain or not
+pub record IsReducedClause (v : ViewValue) (g : Name) (c : Clause) (plain : Bool) (drawn : ℕ) (more : List Label) (told : ToldStore) (body : Body) : Type 0 where
+  pub op : Op
+  pub left : Left
+  pub call : IsReducedCall v g op left drawn more told body
+  pub clause : left.clause.now ≡ c
+  pub plain_is : plain ≡ is_plain left.own

@@ -1,5 +1,5 @@
 -- What an alternative tells over the stores around it.
-use Rattle.std.specs.Prelude.{List, ◌++◌, ⊤}
+use Rattle.std.specs.Prelude.{List, ◌++◌, Bool, true, false, ⊤}
 use Rattle.akl_terms.specs.declared.name.Name.{Name}
 use Rattle.akl_terms.specs.declared.name.Var.{Var}
 use Rattle.akl_terms.specs.declared.term.Node.{Node}
@@ -9,6 +9,11 @@ use Rattle.local_store.specs.Chained.{bindings_from}
 use Rattle.plain_heads.specs.Plain.{ArePlain}
 use Rattle.plain_heads.specs.Joined.{own_store, AreFree, KeepsBound}
 use Rattle.call_plan.specs.declared.own.Own.{Own}
+
+-- whether it has bindings alone, which aren't put into a store
+abbrev pub is_plain : Own → Bool
+is_plain (Own.Plain bs) = true
+is_plain (Own.Store s) = false
 
 -- the store of an alternative with a frame
 abbrev pub stored : Name → Own → Stored

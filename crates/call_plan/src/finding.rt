@@ -1,6 +1,6 @@
 //! A call at once.
 
-ghost use Rattle.std.specs.Prelude.{◌≡◌, ◌+◌, ◌<◌, ◌^◌, List, length, IfOk, IfSome};
+ghost use Rattle.std.specs.Prelude.{◌≡◌, List, true, length, IfOk, IfSome};
 ghost use Rattle.akl_terms.specs.declared.name.Place.{Place};
 ghost use Rattle.akl_terms.specs.declared.program.Code.{Code};
 ghost use Rattle.akl_terms.specs.declared.term.Node.{Node};
@@ -9,10 +9,10 @@ ghost use Rattle.box_tree.specs.declared.view.Sight.{Sight};
 ghost use Rattle.box_tree.specs.Edits.{named_atoms};
 ghost use Rattle.box_tree.specs.Plans.{labels_behind};
 ghost use Rattle.box_tree.specs.Tables.{step_of};
-ghost use Rattle.local_store.specs.Chained.{IsKnown};
+ghost use Rattle.local_store.specs.Chained.{bindings_from, IsKnown};
+ghost use Rattle.plain_heads.specs.Joined.{AreFree};
 ghost use Rattle.class_members.specs.Members.{AreMembers};
-ghost use Rattle.call_plan.specs.Owns.{BindsFree};
-ghost use Rattle.call_plan.specs.Called.{IsCalled, Remains, IsReducedCall};
+ghost use Rattle.call_plan.specs.Called.{IsCalled, Remains, IsReducedClause};
 ghost use Rattle.call_plan.specs.Found.{IsCallPlan};
 
 use crate::bodies::body_of;
@@ -21,17 +21,16 @@ use crate::heads::Arguments;
 use crate::joining::joined;
 use crate::labels::{cuts_others, push_end};
 use crate::names::{MOST, names_of};
-use crate::own::Own;
 use crate::prospects::may_go;
 use crate::sifting::Left;
 use akl_model::{Label, Rule};
-use akl_terms::{Definition, Name, Op, Program, Var};
+use akl_terms::{Clause, Definition, Name, Op, Program, Var};
 use body_goals::Body;
 use box_tree::{Plan, Step, View};
 use class_members::members;
 use guard_plan::{goal_and_stores, label_of};
 use local_store::{Chain, Shared, Store, ToldStore};
-use plain_heads::ends_of;
+use plain_heads::put_ends;
 use smallvec::SmallVec;
 use std::alloc::{AllocError, Global};
 
@@ -88,7 +87,8 @@ fn by_clauses(
     };
     let clauses = called.clauses.as_slice();
     let chain = view.chain(&program.templates);
-    let list = ends_of(alloc, &chain, arguments.row())?;
+    let mut list = SmallVec::new(alloc);
+    put_ends(&chain, arguments.row(), &mut list)?;
     let ends = list.as_slice();
     if !may_go(&chain, arguments, ends, called.op, clauses) {
         return Ok(None);
@@ -107,7 +107,7 @@ fn by_clauses(
     let Some(left) = found else {
         return Ok(None);
     };
-    by_left(alloc, program, view, goal, called.op, &left, drawn, labels)
+    by_left(alloc, program, view, goal, called.op, left, drawn, labels)
 }
 
 // The same of the clause that is left.
@@ -117,53 +117,65 @@ fn by_left(
     view: &View,
     goal: Name,
     op: Op,
-    left: &Left,
+    left: Left,
     drawn: u64,
     mut labels: Vec<Label>,
 ) -> Result<Option<Plan>, AllocError>
     requires program { program.now ≡ view.now.table.program }
-    requires remains { Remains view.now goal op left.now drawn labels.items }
+    requires remains { Remains view.now goal op left drawn labels.items }
     ensures { IfOk result (λ found. IfSome found (IsCallPlan view.now)) }
 {
-    if left.clause.body.len() as u64 > MOST {
+    let Left {
+        clause,
+        name,
+        frame,
+        own,
+        behind,
+        ..
+    } = left;
+    if clause.body.len() as u64 > MOST {
         return Ok(None);
     }
-    let found = joined(
-        alloc,
-        &program.templates,
-        view.stores(),
-        op,
-        left.frame,
-        &left.own,
-    )?;
+    let plain = own.is_plain();
+    let found = joined(alloc, &program.templates, view.stores(), op, frame, own)?;
     let Some(mut told) = found else {
         return Ok(None);
     };
-    push_end(&mut labels, goal, left.name, cuts_others(op, left.behind))?;
-    let body = body_of(alloc, program, view, left, drawn, &mut told, &mut labels)?;
+    push_end(&mut labels, goal, name, cuts_others(op, behind))?;
+    let body = body_of(
+        alloc,
+        program,
+        view,
+        clause,
+        frame,
+        drawn,
+        &mut told,
+        &mut labels,
+    )?;
     planned(
-        alloc, program, view, goal, op, left, drawn, labels, told, body,
+        alloc, program, view, goal, clause, plain, drawn, labels, told, body,
     )
 }
 
-// The plan of a call with these labels behind its fork, this store of its box and what is left of the clause's body.
+// The plan of a call with these labels behind its fork, this store of its box and what is left of the body of the clause that
+// is left, whose alternative had plain bindings or not.
 fn planned(
     alloc: Global,
     program: &Program,
     view: &View,
     goal: Name,
-    op: Op,
-    left: &Left,
+    clause: &Clause,
+    plain: bool,
     drawn: u64,
     more: Vec<Label>,
     told: ToldStore,
     body: Body,
 ) -> Result<Option<Plan>, AllocError>
     requires program { program.now ≡ view.now.table.program }
-    requires reduced { IsReducedCall view.now goal op left.now drawn more.items told body }
+    requires reduced { IsReducedClause view.now goal clause.now plain drawn more.items told body }
     ensures { IfOk result (λ found. IfSome found (IsCallPlan view.now)) }
 {
-    let codes = left.clause.body.as_slice();
+    let codes = clause.body.as_slice();
     let names = drawn.checked_add(codes.len() as u64).ok_or(AllocError)?;
     let label = label_of(view, Rule::Fork);
     let ToldStore {
@@ -172,9 +184,9 @@ fn planned(
         bound,
     } = told;
     let chain = view.chain(&program.templates);
-    let binds = binds_of(alloc, &chain, &left.own, bound)?;
+    let binds = binds_of(alloc, &chain, plain, bound)?;
     let reads = goal_and_stores(alloc, goal, view.path())?;
-    let step = join_of(alloc, store, solved, body)?;
+    let step = join_of(store, solved, body);
     let plan = Plan::of_call(alloc, view, label, more, reads, names, step, binds)?;
     Ok(Some(plan))
 }
@@ -184,38 +196,35 @@ fn planned(
 fn binds_of(
     alloc: Global,
     chain: &Chain,
-    own: &Own,
+    plain: bool,
     bound: SmallVec<Var, 4>,
 ) -> Result<Vec<Var>, AllocError>
     requires known { IsKnown chain.now.nodes chain.now.stores (length chain.now.stores) }
-    requires free { BindsFree chain.now.stores own.now bound.items }
+    requires free { plain ≡ true → AreFree (bindings_from chain.now.stores) bound.items }
     ensures { IfOk result (λ list. AreMembers chain.now.nodes chain.now.stores bound.items list.items) }
 {
-    if let Own::Plain(_) = own {
-        if chain.stores().len() == 1 {
-            let list = bound.into_vec()?;
-            return Ok(list);
-        }
+    if plain && chain.stores().len() == 1 {
+        let list = bound.into_vec()?;
+        return Ok(list);
     }
     members(alloc, chain, bound.as_slice())
 }
 
 // The step by which a box gets this store, and what is left of a body as goals.
-fn join_of(alloc: Global, store: Store, solved: bool, body: Body) -> Result<Step, AllocError>
-    ensures joins { IfOk result (λ step. (nodes : List Node) → step_of nodes step ≡ laws.joins store solved (named_atoms nodes body.goals.items)) }
-    ensures behind { IfOk result (λ step. labels_behind step ≡ (body.told, body.behind)) }
+fn join_of(store: Shared<Store>, solved: bool, body: Body) -> Step
+    ensures joins { (nodes : List Node) → step_of nodes result ≡ laws.joins store solved (named_atoms nodes body.goals.items) }
+    ensures behind { labels_behind result ≡ (body.told, body.behind) }
 {
     let Body {
         goals,
         told,
         behind,
     } = body;
-    let store = Shared::new(alloc, store)?;
-    Ok(Step::Join {
+    Step::Join {
         store,
         solved,
         goals,
         told,
         behind,
-    })
+    }
 }

@@ -23,20 +23,18 @@ pub(crate) fn joined(
     path: &[Shared<Store>],
     op: Op,
     frame: Name,
-    own: &Own,
+    own: Own,
 ) -> Result<Option<ToldStore>, AllocError>
     requires some { 0 < length path.now }
-    requires solved { IsKnown templates.now.nodes (path.now ++ stored frame own.now ∷ []) (length path.now + 1) }
-    requires apart { KeepsApartInside templates.now.nodes (path.now ++ stored frame own.now ∷ []) }
-    requires plain { IsPlainOwn templates.now.nodes path.now frame own.now }
-    ensures joins { IfOk result (λ found. IfSome found (Joins templates.now.nodes path.now op (stored frame own.now))) }
-    ensures free { IfOk result (λ found. IfSome found (λ told. BindsFree path.now own.now told.bound.items)) }
-    ensures kept { IfOk result (λ found. IfSome found (λ told. OwnKeepsBound path.now own.now told.store)) }
+    requires solved { IsKnown templates.now.nodes (path.now ++ stored frame own ∷ []) (length path.now + 1) }
+    requires apart { KeepsApartInside templates.now.nodes (path.now ++ stored frame own ∷ []) }
+    requires plain { IsPlainOwn templates.now.nodes path.now frame own }
+    ensures joins { IfOk result (λ found. IfSome found (Joins templates.now.nodes path.now op (stored frame own))) }
+    ensures free { IfOk result (λ found. IfSome found (λ told. BindsFree path.now own told.bound.items)) }
+    ensures kept { IfOk result (λ found. IfSome found (λ told. OwnKeepsBound path.now own told.store)) }
 {
     match own {
-        Own::Plain(bindings) => {
-            plain_joined(alloc, templates, path, op, frame, bindings.as_slice())
-        }
+        Own::Plain(bindings) => { plain_joined(alloc, templates, path, op, frame, bindings) }
         Own::Store(store) => store_joined(alloc, templates, path, op, store),
     }
 }
@@ -48,13 +46,13 @@ fn plain_joined(
     path: &[Shared<Store>],
     op: Op,
     frame: Name,
-    bindings: &[(Var, Term)],
+    bindings: Vec<(Var, Term)>,
 ) -> Result<Option<ToldStore>, AllocError>
     requires some { 0 < length path.now }
-    requires solved { IsKnown templates.now.nodes (path.now ++ own_store frame bindings.now ∷ []) (length path.now + 1) }
-    requires apart { KeepsApartInside templates.now.nodes (path.now ++ own_store frame bindings.now ∷ []) }
-    requires plain { ArePlain templates.now.nodes (bindings_from path.now) frame bindings.now }
-    ensures joins { IfOk result (λ found. IfSome found (Joins templates.now.nodes path.now op (own_store frame bindings.now))) }
+    requires solved { IsKnown templates.now.nodes (path.now ++ own_store frame bindings.items ∷ []) (length path.now + 1) }
+    requires apart { KeepsApartInside templates.now.nodes (path.now ++ own_store frame bindings.items ∷ []) }
+    requires plain { ArePlain templates.now.nodes (bindings_from path.now) frame bindings.items }
+    ensures joins { IfOk result (λ found. IfSome found (Joins templates.now.nodes path.now op (own_store frame bindings.items))) }
     ensures free { IfOk result (λ found. IfSome found (λ told. AreFree (bindings_from path.now) told.bound.items)) }
     ensures kept { IfOk result (λ found. IfSome found (λ told. KeepsBound path.now told.store)) }
 {
@@ -71,15 +69,15 @@ fn store_joined(
     templates: &Templates,
     path: &[Shared<Store>],
     op: Op,
-    own: &Shared<Store>,
+    own: Shared<Store>,
 ) -> Result<Option<ToldStore>, AllocError>
     requires some { 0 < length path.now }
-    requires solved { IsKnown templates.now.nodes (path.now ++ own.now ∷ []) (length path.now + 1) }
-    requires apart { KeepsApartInside templates.now.nodes (path.now ++ own.now ∷ []) }
-    ensures { IfOk result (λ found. IfSome found (Joins templates.now.nodes path.now op own.now)) }
+    requires solved { IsKnown templates.now.nodes (path.now ++ own ∷ []) (length path.now + 1) }
+    requires apart { KeepsApartInside templates.now.nodes (path.now ++ own ∷ []) }
+    ensures { IfOk result (λ found. IfSome found (Joins templates.now.nodes path.now op own)) }
 {
     let mut stores = shared(alloc, path)?;
-    stores.push(own.share()?)?;
+    stores.push(own)?;
     let chain = Chain::of_solved(templates, stores.as_slice(), stores.len());
     if !holds(alloc, op, &chain)? {
         return Ok(None);

@@ -4,7 +4,7 @@ ghost use Rattle.std.specs.Prelude.{◌≡◌, IfOk};
 ghost use Rattle.local_store.specs.Stored.{with_bindings};
 ghost use Rattle.rule_plan.specs.Made.{store_with};
 ghost use Rattle.rational_unify.specs.Known.{found_in};
-ghost use Rattle.call_plan.specs.Owns.{bindings_of};
+ghost use Rattle.call_plan.specs.Owns.{is_plain, bindings_of};
 
 use akl_terms::{Name, Term, Var};
 use local_store::{Shared, Store};
@@ -21,6 +21,13 @@ pub(crate) enum Own {
 }
 
 impl Own {
+    // Whether these are plain bindings.
+    pub(crate) fn is_plain(&self) -> bool
+        ensures { result ≡ is_plain self.now }
+    {
+        matches!(self, Own::Plain(_))
+    }
+
     // What a variable is bound to; `None` exactly where it isn't bound.
     pub(crate) fn first_binding(&self, variable: Var) -> Option<Term>
         ensures { result ≡ found_in (bindings_of self.now) variable }

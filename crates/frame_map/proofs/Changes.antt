@@ -1,10 +1,10 @@
 -- Changes of contents that are known by others, and copies of lists.
-use Rattle.std.proofs.Common.{◌≡◌, ◌⊎◌, ℕ, List, [], ◌∷◌, Option, Some, None, Result, Ok, Err, OnErr, inl, inr, refl, ap, ◌∙◌, Vec, Global, vec_len}
+use Rattle.std.proofs.Common.{◌≡◌, ◌⊎◌, ℕ, List, [], ◌∷◌, Option, Some, None, Result, Ok, Err, OnErr, inl, inr, refl, ap, subst, ◌∙◌, Vec, Global, vec_len}
 use Rattle.std.proofs.lemmas.List.Elements.{same_from_all_zip}
 use Rattle.std.specs.Prelude.{if◌then◌else◌}
 use Rattle.std.specs.List.{AllZip}
 use Rattle.frame_map.specs.declared.tree.Tree.{Tree}
-use Rattle.frame_map.specs.Contents.{Contents, contents, all_contents, Same, Puts}
+use Rattle.frame_map.specs.Contents.{Contents, contents, all_contents, Same, Puts, PutsMade}
 use lib.Dec.{eqb}
 
 module _ {V : Type 0} where
@@ -14,6 +14,14 @@ module _ {V : Type 0} where
 
     pub same_by : Same c0 c1 → Same old new
     same_by kept n = ap (λ (c : Contents V). c.value n) after ∙ kept n ∙ ap (λ (c : Contents V). c.value n) before ∙ same n
+
+  -- what is made of a value that was the same before
+  pub made_after : (makes : Option V → V → Type 0) (old begun new : Contents V) → Same old begun → (k : ℕ) → PutsMade makes begun new k → PutsMade makes old new k
+  made_after makes old begun new same k h = record {
+    value = h.value;
+    puts = λ n. h.puts n ∙ ap (λ (p : Option V). if eqb n k then Some h.value else p) (same n);
+    made = subst (λ (o : Option V). makes o h.value) (same k) h.made;
+  }
 
   all_cloned : (ts us : List (Tree V)) → AllZip (λ (t u : Tree V). contents u ≡ contents t) ts us → all_contents us ≡ all_contents ts
   all_cloned [] [] h = refl

@@ -34,6 +34,11 @@ module _ {V : Type 0} where
   pub children_push : (below : ℕ) (all : List (Contents V)) → Same (of_children below all) (of_children below (all ++ nothing ∷ []))
   children_push below all n = within_push (λ (c : Contents V). c.value (n % 2 ^ below)) all (n / 2 ^ below) nothing refl
 
+  -- what the child at a number's first digit has for its other digits
+  pub child_value : (below : ℕ) (all : List (Contents V)) (i : ℕ) (x : Contents V) → i < length all → ((d : Contents V) → x ≡ get_or all i d) → (k : ℕ) → i ≡ k / 2 ^ below → x.value (k % 2 ^ below) ≡ (of_children below all).value k
+  child_value below all i x h is k digit =
+      sym (within_at (λ (c : Contents V). c.value (k % 2 ^ below)) all i x h is) ∙ ap (λ (j : ℕ). within (λ (c : Contents V). c.value (k % 2 ^ below)) all j) digit
+
   module _ (below : ℕ) (all : List (Contents V)) (i : ℕ) (x y : Contents V) (h : i < length all) (is : (d : Contents V) → x ≡ get_or all i d) where
     pub child_kept : Same x y → Same (of_children below all) (of_children below (set all i y))
     child_kept same n = within_kept (λ (c : Contents V). c.value (n % 2 ^ below)) all i (n / 2 ^ below) x y h is (same (n % 2 ^ below))

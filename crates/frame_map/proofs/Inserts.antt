@@ -1,15 +1,15 @@
 -- What becomes of a node where a number of one of its children gets another value.
-use Rattle.std.proofs.Common.{◌≡◌, ℕ, ◌+◌, ◌/◌, ◌%◌, ◌^◌, ◌<◌, ◌≤◌, max, List, length, get_or, set, Option, refl, sym, ap, subst, ◌∙◌, Vec, Global, arith}
+use Rattle.std.proofs.Common.{◌≡◌, ℕ, ◌+◌, ◌/◌, ◌%◌, ◌^◌, ◌<◌, ◌≤◌, max, List, length, get_or, set, Option, Some, refl, sym, ap, subst, ◌∙◌, Vec, Global, arith}
 use Rattle.std.proofs.lemmas.Bool.{leb-true, le-leb}
 use Rattle.std.proofs.lemmas.List.{get_or_read, map-set}
 use Rattle.std.specs.Arc.{arc_value}
 use Rattle.std.specs.declared.sync.Arc.{Arc}
 use Rattle.frame_map.specs.declared.tree.Tree.{Tree}
 use Rattle.frame_map.specs.declared.tree.Tree.TheVariants as tree
-use Rattle.frame_map.specs.Contents.{Contents, of_slots, of_children, contents, all_contents, AllFit, FitsIn, Same, Puts}
+use Rattle.frame_map.specs.Contents.{Contents, of_slots, of_children, contents, all_contents, AllFit, FitsIn, Same, Puts, PutsMade}
 use Rattle.frame_map.proofs.Bounds.{HasChildren, fits_children, children_fit}
 use Rattle.frame_map.proofs.Changes.{puts_by, same_by}
-use Rattle.frame_map.proofs.Children.{all_fit_at, child_kept, child_put, contents_at, children_count}
+use Rattle.frame_map.proofs.Children.{all_fit_at, child_kept, child_put, child_value, contents_at, children_count}
 use Rattle.frame_map.proofs.Nodes.{grown, child_set}
 use Rattle.frame_map.proofs.Trees.{contents_leaf, contents_inner}
 
@@ -22,8 +22,15 @@ module _ {V : Type 0} where
     slots_after : contents (tree.Leaf b) ≡ of_slots new
     slots_after = contents_leaf b ∙ ap of_slots holds
 
-    pub leaf_put : (k : ℕ) (o : Option V) → Puts (of_slots slots) (of_slots new) k o → Puts (contents t0) (contents (tree.Leaf b)) k o
+    leaf_put : (k : ℕ) (o : Option V) → Puts (of_slots slots) (of_slots new) k o → Puts (contents t0) (contents (tree.Leaf b)) k o
     leaf_put = puts_by (contents t0) (contents t1) (of_slots slots) (of_slots new) (contents (tree.Leaf b)) same slots_before slots_after
+
+    pub leaf_made : (k : ℕ) (makes : Option V → V → Type 0) → PutsMade makes (of_slots slots) (of_slots new) k → PutsMade makes (contents t0) (contents (tree.Leaf b)) k
+    leaf_made k makes h = record {
+      value = h.value;
+      puts = leaf_put k (Some h.value) h.puts;
+      made = subst (λ (o : Option V). makes o h.value) (ap (λ (c : Contents V). c.value k) slots_before ∙ same k) h.made;
+    }
 
     pub leaf_fits : (width k : ℕ) → FitsIn width t1 → k < 2 ^ width → length new ≤ max (length slots) (k + 1) → FitsIn width (tree.Leaf b)
     leaf_fits width k fits h most =
@@ -90,10 +97,17 @@ module _ {V : Type 0} where
           changed : contents (tree.Inner n b) ≡ of_children n (set (all_contents more) index (contents y))
           changed = contents_inner n b ∙ ap (λ (ts : List (Tree V)). of_children n (all_contents ts)) holds ∙ ap (of_children n) (map-set contents more index y)
 
-          pub changed_put : (k r : ℕ) (o : Option V) → index ≡ k / 2 ^ n → r ≡ k % 2 ^ n → Puts (contents x) (contents y) r o → Puts (contents t0) (contents (tree.Inner n b)) k o
+          changed_put : (k r : ℕ) (o : Option V) → index ≡ k / 2 ^ n → r ≡ k % 2 ^ n → Puts (contents x) (contents y) r o → Puts (contents t0) (contents (tree.Inner n b)) k o
           changed_put k r o digit rest put =
               puts_by (contents t0) (of_children n (all_contents more)) (of_children n (all_contents more)) (of_children n (set (all_contents more) index (contents y))) (contents (tree.Inner n b)) made_same refl changed k o
               (child_put n (all_contents more) index (contents x) (contents y) within at k o digit (subst (λ (q : ℕ). Puts (contents x) (contents y) q o) rest put))
+
+          pub changed_made : (k r : ℕ) (makes : Option V → V → Type 0) → index ≡ k / 2 ^ n → r ≡ k % 2 ^ n → PutsMade makes (contents x) (contents y) r → PutsMade makes (contents t0) (contents (tree.Inner n b)) k
+          changed_made k r makes digit rest h = record {
+            value = h.value;
+            puts = changed_put k r (Some h.value) digit rest h.puts;
+            made = subst (λ (o : Option V). makes o h.value) (ap (contents x).value rest ∙ child_value n (all_contents more) index (contents x) within at k digit ∙ made_same k) h.made;
+          }
 
           pub changed_same : Same (contents x) (contents y) → Same (contents t0) (contents (tree.Inner n b))
           changed_same kept =

@@ -66,6 +66,14 @@ module _ {V : Type 0} where
         ∙ ap (λ (o : Option V). if eqb m.worker x.worker then o else value_at rs m) (kept m.number)
         ∙ sym (value_set 0 rs i x x are h is refl m) ∙ ap (λ (l : List (OfWorker V)). value_at l m) (ap (λ (z : OfWorker V). set rs i z) (is x) ∙ set-get_or rs i x)
 
+    -- a name of its worker leads to what it has
+    pub value_there : (k : Name) → x.worker ≡ k.worker → x.contents.value k.number ≡ value_at rs k
+    value_there k worker =
+        let here : eqb k.worker x.worker ≡ true = grind (arith, nat_tests) in
+        let all : value_at rs k ≡ (if eqb k.worker x.worker then x.contents.value k.number else value_at rs k) =
+        sym (ap (λ (l : List (OfWorker V)). value_at l k) (ap (λ (z : OfWorker V). set rs i z) (is x) ∙ set-get_or rs i x)) ∙ value_set 0 rs i x x are h is refl k in
+        sym (all ∙ ap (λ (t : Bool). if t then x.contents.value k.number else value_at rs k) here)
+
     -- one of its numbers has another value
     pub value_put : (k : Name) (o : Option V) → x.worker ≡ k.worker → Puts x.contents y.contents k.number o → (m : Name) → value_at (set rs i y) m ≡ (if same_name m k then o else value_at rs m)
     value_put k o worker put m =

@@ -3,6 +3,7 @@ use Rattle.std.proofs.Common.{◌≡◌, ℕ, ◌+◌, ◌^◌, ◌<◌, List, [
 use Rattle.std.proofs.lemmas.Bool.{cases_lt}
 use Rattle.std.proofs.lemmas.List.{get_or_default, map-set, at_drop_more}
 use Rattle.std.specs.Prelude.{if◌then◌else◌, drop}
+use Rattle.std.specs.Map.{lookup}
 use Rattle.std.specs.List.{refill}
 use Rattle.akl_terms.specs.declared.name.Name.{Name}
 use Rattle.akl_terms.specs.Names.{same_name}
@@ -10,11 +11,11 @@ use Rattle.name_map.specs.Entries.{IsPut}
 use Rattle.name_map.specs.Pages.{within, listed}
 use Rattle.name_map.proofs.Within.{within_at}
 use Rattle.frame_map.specs.declared.root.Root.{Root}
-use Rattle.frame_map.specs.Contents.{Same, Puts}
+use Rattle.frame_map.specs.Contents.{Same, Puts, PutsMade, IsChanged}
 use Rattle.frame_map.specs.Roots.{OfWorker, IsRoot, of_root, all_roots, AreRoots, worker_of, value_at, entries}
-use Rattle.frame_map.proofs.Found.{entries_same, entries_put}
+use Rattle.frame_map.proofs.Found.{found, entries_same, entries_put}
 use Rattle.frame_map.proofs.Listing.{listed_first}
-use Rattle.frame_map.proofs.Roots.{root_at, roots_set, value_kept, value_put, of_root_at, roots_count, is_past}
+use Rattle.frame_map.proofs.Roots.{root_at, roots_set, value_kept, value_put, value_there, of_root_at, roots_count, is_past}
 
 module _ {V : Type 0} where
   -- the roots, where one was lent to be written
@@ -53,10 +54,21 @@ module _ {V : Type 0} where
     of_this : x.worker ≡ w
     of_this = let read = within_at worker_of (all_roots rs) i (of_root x) place at in cc
 
-    pub new_put : (k : Name) (v : V) → w ≡ k.worker → Puts (of_root x).contents (of_root y).contents k.number (Some v) → IsPut (entries (all_roots old)) (entries (all_roots new)) k v
+    new_put : (k : Name) (v : V) → w ≡ k.worker → Puts (of_root x).contents (of_root y).contents k.number (Some v) → IsPut (entries (all_roots old)) (entries (all_roots new)) k v
     new_put k v is_worker put = entries_put old new was new_are k v (λ m.
         ap (λ (l : List (OfWorker V)). value_at l m) all_new ∙ value_put (all_roots rs) i (of_root x) (of_root y) are place at worker k (Some v) (of_this ∙ is_worker) put m
         ∙ ap (λ (o : Option V). if same_name m k then Some v else o) (made m))
+
+    -- what the name led to
+    had : (k : Name) → w ≡ k.worker → (of_root x).contents.value k.number ≡ lookup (same_name k) (entries (all_roots old))
+    had k is_worker = value_there (all_roots rs) i (of_root x) (of_root y) are place at worker k (of_this ∙ is_worker) ∙ made k ∙ sym (found old was k)
+
+    pub new_changed : (k : Name) (makes : Option V → V → Type 0) → w ≡ k.worker → PutsMade makes (of_root x).contents (of_root y).contents k.number → IsChanged makes (entries (all_roots old)) (entries (all_roots new)) k
+    new_changed k makes is_worker h = record {
+      value = h.value;
+      put = new_put k h.value is_worker h.puts;
+      made = subst (λ (o : Option V). makes o h.value) (had k is_worker) h.made;
+    }
 
     pub new_same : Same (of_root x).contents (of_root y).contents → entries (all_roots new) ≡ entries (all_roots old)
     new_same kept = entries_same old new was new_are (λ m.

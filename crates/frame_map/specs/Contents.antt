@@ -1,8 +1,12 @@
 -- What a tree has: the value of each number, how many binary digits its numbers have, and whether it has a node.
-use Rattle.std.specs.Prelude.{◌≡◌, ℕ, ◌+◌, ◌-◌, ◌/◌, ◌%◌, ◌^◌, ◌≤◌, ◌&&◌, leb, ltb, Bool, true, false, List, length, map, Option, None, if◌then◌else◌}
+use Rattle.std.specs.Prelude.{◌≡◌, ℕ, ◌+◌, ◌-◌, ◌/◌, ◌%◌, ◌^◌, ◌≤◌, ◌&&◌, leb, ltb, Bool, true, false, List, length, map, Option, None, Some, if◌then◌else◌}
 use Rattle.std.specs.Arc.{arc_value}
 use Rattle.std.specs.List.{list_all}
 use lib.Dec.{eqb}
+use Rattle.std.specs.Map.{lookup}
+use Rattle.akl_terms.specs.declared.name.Name.{Name}
+use Rattle.akl_terms.specs.Names.{same_name}
+use Rattle.name_map.specs.Entries.{IsPut}
 use Rattle.name_map.specs.Pages.{within, in_slot}
 use Rattle.frame_map.specs.declared.tree.Tree.{Tree}
 use Rattle.frame_map.specs.declared.tree.Tree.TheOpen.{Tree-F}
@@ -58,6 +62,24 @@ module _ {V : Type 0} where
   -- one number has another value, or none
   abbrev pub Puts : Contents V → Contents V → ℕ → Option V → Type 0
   Puts old new k o = (n : ℕ) → new.value n ≡ (if eqb n k then o else old.value n)
+
+-- a value became another one, of which this is known
+pub record IsMade {V : Type 0} (makes : Option V → V → Type 0) (old new : Option V) : Type 0 where
+  pub value : V
+  pub is : new ≡ Some value
+  pub made : makes old value
+
+-- a number has a value of which this is known, with the one that it had
+pub record PutsMade {V : Type 0} (makes : Option V → V → Type 0) (old new : Contents V) (k : ℕ) : Type 0 where
+  pub value : V
+  pub puts : Puts old new k (Some value)
+  pub made : makes (old.value k) value
+
+-- so it is of a name among names with their values
+pub record IsChanged {V : Type 0} (makes : Option V → V → Type 0) (old new : List (Name × V)) (k : Name) : Type 0 where
+  pub value : V
+  pub put : IsPut old new k value
+  pub made : makes (lookup (same_name k) old) value
 
 -- a tree of numbers of at most 64 binary digits
 pub record IsTree {V : Type 0} (tree : Tree V) : Type 0 where

@@ -4,8 +4,9 @@ ghost use Rattle.std.specs.Prelude.{◌≡◌, ◌++◌, [], true, option_copied
 ghost use Rattle.std.specs.Map.{lookup};
 ghost use Rattle.akl_terms.specs.Names.{same_name};
 ghost use Rattle.name_map.specs.Entries.{IsPut};
-ghost use Rattle.frame_map.specs.Contents.{ClonesAreEqual};
+ghost use Rattle.frame_map.specs.Contents.{ClonesAreEqual, IsChanged};
 
+use crate::change::{Becomes, Change};
 use crate::root::{Root, root_for};
 use akl_terms::Name;
 use smallvec::SmallVec;
@@ -94,9 +95,19 @@ impl<V: Clone + Drop> FrameMap<V> {
         ensures put { OnOk result (IsPut self.old self.new name value) }
         ensures unchanged { OnErr result (self.new ≡ self.old) }
     {
+        self.change(name, Becomes { value })
+    }
+
+    /// Changes the value of a name, where it has one or none. Nodes that another map holds too are made anew, as by `insert`.
+    /// An `Err`, for want of memory, leaves all as it was.
+    pub fn change<C: Change<V>>(&mut self, name: Name, change: C) -> Result<(), AllocError>
+        requires clones { ClonesAreEqual V.is_clone }
+        ensures changed { OnOk result (IsChanged (C.makes change) self.old self.new name) }
+        ensures unchanged { OnErr result (self.new ≡ self.old) }
+    {
         let place = root_for(&mut self.roots, name)?;
         let root = &mut self.roots.as_mut_slice()[place];
-        root.insert(self.alloc, name.number, &mut Some(value))
+        root.change(self.alloc, name.number, change)
     }
 
     /// Adds clones of the values with their names at the end of a list, in increasing order of names.

@@ -2,9 +2,10 @@
 
 ghost use Rattle.std.specs.Prelude.{◌≡◌, ◌≢◌, ◌≤◌, ◌<◌, ◌^◌, ◌++◌, [], true, false, length, Some, IfOk, OnOk, OnErr};
 ghost use Rattle.name_map.specs.Pages.{listed, within};
-ghost use Rattle.frame_map.specs.Contents.{ClonesAreEqual, Same, Puts};
+ghost use Rattle.frame_map.specs.Contents.{ClonesAreEqual, Same, PutsMade};
 ghost use Rattle.frame_map.specs.Roots.{of_root, all_roots, place_of, worker_of, value_at, IsRoot, AreRoots};
 
+use crate::change::Change;
 use crate::digits::{has_room, wider, width_for};
 use crate::tree::Tree;
 use akl_terms::Name;
@@ -106,23 +107,22 @@ impl<V: Drop> Root<V> {
 }
 
 impl<V: Clone + Drop> Root<V> {
-    /// Moves a value to its number, where there is one, and drops the one that was there. An `Err`, for want of memory,
-    /// leaves all values as they were.
-    pub(crate) fn insert(
+    /// Changes the value of a number. An `Err`, for want of memory, leaves all values as they were.
+    pub(crate) fn change<C: Change<V>>(
         &mut self,
         alloc: Global,
         number: u64,
-        value: &mut Option<V>,
+        change: C,
     ) -> Result<(), AllocError>
         requires clones { ClonesAreEqual V.is_clone }
         requires root { IsRoot (of_root self.old) }
-        ensures put { OnOk result (Puts (of_root self.old).contents (of_root self.new).contents number value.old) }
+        ensures made { OnOk result (PutsMade (C.makes change) (of_root self.old).contents (of_root self.new).contents number) }
         ensures unchanged { OnErr result (Same (of_root self.old).contents (of_root self.new).contents) }
         ensures worker { self.new.worker ≡ self.old.worker }
         ensures root { IsRoot (of_root self.new) }
     {
         self.widen(alloc, number)?;
-        self.tree.insert(alloc, self.width, number, value)
+        self.tree.change(alloc, self.width, number, change)
     }
 
     /// Adds the values with their names at the end of a list, in increasing order of numbers.

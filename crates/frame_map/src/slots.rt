@@ -2,8 +2,9 @@
 
 ghost use Rattle.std.specs.Prelude.{◌≡◌, ◌+◌, ◌-◌, ◌<◌, ◌≤◌, ◌^◌, ◌++◌, [], max, length, vec_len, OnOk, OnErr};
 ghost use Rattle.name_map.specs.Pages.{listed, within, in_slot};
-ghost use Rattle.frame_map.specs.Contents.{of_slots, ClonesAreEqual, Same, Puts};
+ghost use Rattle.frame_map.specs.Contents.{of_slots, ClonesAreEqual, Same, PutsMade};
 
+use crate::change::Change;
 use akl_terms::Name;
 use std::alloc::AllocError;
 
@@ -19,20 +20,18 @@ fn make_slots<V: Drop>(slots: &mut Vec<Option<V>>, index: usize) -> Result<(), A
     Ok(())
 }
 
-/// Moves a value to its slot, where there is one, and drops the one that was there. An `Err`, for want of memory, leaves
-/// all values as they were.
-pub(crate) fn put_slot<V: Drop>(
+/// Changes the value of a slot. An `Err`, for want of memory, leaves all values as they were.
+pub(crate) fn change_slot<V: Drop, C: Change<V>>(
     slots: &mut Vec<Option<V>>,
     index: usize,
-    value: &mut Option<V>,
+    change: C,
 ) -> Result<(), AllocError>
-    ensures put { OnOk result (Puts (of_slots slots.old.items) (of_slots slots.new.items) index value.old) }
+    ensures made { OnOk result (PutsMade (C.makes change) (of_slots slots.old.items) (of_slots slots.new.items) index) }
     ensures unchanged { OnErr result (Same (of_slots slots.old.items) (of_slots slots.new.items)) }
     ensures most { vec_len slots.new ≤ max (vec_len slots.old) (index + 1) }
 {
     make_slots(slots, index)?;
-    slots[index] = value.take();
-    Ok(())
+    change.change(&mut slots[index])
 }
 
 /// Adds the values of a leaf with their names at the end of a list. The first slot is that of the number `first`.

@@ -2,10 +2,11 @@
 
 ghost use Rattle.std.specs.Prelude.{◌≡◌, ◌+◌, ◌-◌, ◌<◌, ◌≤◌, ◌^◌, ◌++◌, [], true, max, vec_len, None, option_copied, IfOk, OnOk, OnErr};
 ghost use Rattle.name_map.specs.Pages.{listed};
-ghost use Rattle.frame_map.specs.Contents.{contents, all_contents, of_children, ClonesAreEqual, Same, Puts, AllFit, FitsIn, IsTree, IsTreeFrom};
+ghost use Rattle.frame_map.specs.Contents.{contents, all_contents, of_children, ClonesAreEqual, Same, PutsMade, AllFit, FitsIn, IsTree, IsTreeFrom};
 
+use crate::change::Change;
 use crate::digits::{LEAF, first_digit, last_digits, narrower};
-use crate::slots::{push_slots, put_slot};
+use crate::slots::{change_slot, push_slots};
 use akl_terms::Name;
 use std::alloc::{AllocError, Global};
 use std::sync::Arc;
@@ -145,20 +146,19 @@ impl<V: Drop> Tree<V> {
 }
 
 impl<V: Clone + Drop> Tree<V> {
-    /// Moves a value to its number, where there is one, and drops the one that was there. An `Err`, for want of memory,
-    /// leaves all values as they were.
-    pub(crate) fn insert(
+    /// Changes the value of a number. An `Err`, for want of memory, leaves all values as they were.
+    pub(crate) fn change<C: Change<V>>(
         &mut self,
         alloc: Global,
         width: u32,
         number: u64,
-        value: &mut Option<V>,
+        change: C,
     ) -> Result<(), AllocError>
         requires clones { ClonesAreEqual V.is_clone }
         requires fits { FitsIn width self.old }
         requires number { number < 2 ^ width }
         requires width { width ≤ 64 }
-        ensures put { OnOk result (Puts (contents self.old) (contents self.new) number value.old) }
+        ensures made { OnOk result (PutsMade (C.makes change) (contents self.old) (contents self.new) number) }
         ensures unchanged { OnErr result (Same (contents self.old) (contents self.new)) }
         ensures fits { FitsIn width self.new }
     {
@@ -167,13 +167,13 @@ impl<V: Clone + Drop> Tree<V> {
             Tree::Empty => unreachable!(),
             Tree::Leaf(slots) => {
                 let slots = Arc::make_mut(slots)?;
-                put_slot(slots, number as usize, value)
+                change_slot(slots, number as usize, change)
             }
             Tree::Inner(below, children) => {
                 let children = Arc::make_mut(children)?;
                 let index = first_digit(number, *below);
                 make_children(children, index)?;
-                children[index].insert(alloc, *below, last_digits(number, *below), value)
+                children[index].change(alloc, *below, last_digits(number, *below), change)
             }
         }
     }

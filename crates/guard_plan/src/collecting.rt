@@ -16,7 +16,7 @@ use akl_model::Rule;
 use akl_terms::{Name, Program, Term};
 use box_tree::{Alternative, Plan, Step, View};
 use class_members::members;
-use local_store::{Shared, ToldStore};
+use local_store::ToldStore;
 use std::alloc::{AllocError, Global};
 
 // The plan by which a choice that collects becomes the list of what its alternatives have, where all of them are solved
@@ -102,7 +102,6 @@ fn collect_quiet(
         equations.as_slice(),
     )?;
     let binds = members(alloc, &view.chain(&program.templates), bound.as_slice())?;
-    let store = Shared::new(alloc, store)?;
     let reads = goal_and_stores(alloc, goal, view.path())?;
     let step = Step::Join {
         store,

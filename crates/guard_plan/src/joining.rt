@@ -45,7 +45,7 @@ fn inner_store(
     stores.push(Shared::new(alloc, bindings_of(alloc, alternatives)?)?)?;
     let chain = Chain::of_solved(around.templates(), stores.as_slice(), around.known());
     let ToldStore { store, .. } = told(alloc, &chain, equations)?;
-    Shared::new(alloc, store)
+    Ok(store)
 }
 
 // The innermost store of a chain, with all that a store inside it has.
@@ -103,7 +103,7 @@ fn ports_of(alloc: Global, alternatives: &[Alternative]) -> Result<Vec<(Name, Te
 }
 
 // The store also has these frames.
-fn add_frames(store: &mut Store, mut frames: Vec<Name>) -> Result<(), AllocError>
+fn add_frames(store: &mut Shared<Store>, mut frames: Vec<Name>) -> Result<(), AllocError>
     ensures { IfOk result (λ _. store.new ≡ with_frames store.old frames.items) }
 {
     while let Some(frame) = frames.pop() {
@@ -113,7 +113,7 @@ fn add_frames(store: &mut Store, mut frames: Vec<Name>) -> Result<(), AllocError
 }
 
 // The store also has these ports.
-fn add_ports(store: &mut Store, mut ports: Vec<(Name, Term)>) -> Result<(), AllocError>
+fn add_ports(store: &mut Shared<Store>, mut ports: Vec<(Name, Term)>) -> Result<(), AllocError>
     ensures { IfOk result (λ _. store.new ≡ with_ports store.old ports.items) }
 {
     while let Some(port) = ports.pop() {

@@ -12,7 +12,7 @@ use akl_model::Rule;
 use akl_terms::{Goal, Name, Program};
 use box_tree::{Alternative, HeldOp, Plan, Step, View};
 use class_members::members;
-use local_store::{Chain, Shared, ToldStore, promoted};
+use local_store::{Chain, ToldStore, promoted};
 use std::alloc::{AllocError, Global};
 
 // The plan by which the only alternative of a choice joins the box, where it is solved and its guard holds. What it
@@ -51,7 +51,6 @@ pub(crate) fn promote(
         bound,
     } = promoted(alloc, &chain)?;
     let binds = members(alloc, &view.chain(&program.templates), bound.as_slice())?;
-    let store = Shared::new(alloc, store)?;
     let next = view.next();
     next.checked_add(names).ok_or(AllocError)?;
     let first = Name {

@@ -1,5 +1,5 @@
 -- Where in a list what is put in comes to stand.
-use Rattle.std.proofs.Common.{◌≡◌, ℕ, suc, ◌+◌, ◌-◌, ◌<◌, ◌≤◌, List, [], ◌∷◌, ◌++◌, length, take, drop, drop-cons, add-one, Bool, true, false, cond, if◌then◌else◌, refl, sym, ap, subst, ◌∙◌, slice_index_or, arith}
+use Rattle.std.proofs.Common.{◌≡◌, ℕ, suc, ◌+◌, ◌-◌, ◌<◌, ◌≤◌, List, [], ◌∷◌, ◌++◌, length, take, drop, drop-cons, add-one, Bool, true, false, if◌then◌else◌, refl, sym, ap, subst, ◌∙◌, slice_index_or, arith}
 use Rattle.std.specs.Prelude.{nat_lt, not}
 use Rattle.std.specs.List.{insert}
 use Rattle.std.specs.Ordering.{is_lt, match_ordering, ordering_reverse}

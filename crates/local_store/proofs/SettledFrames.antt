@@ -1,5 +1,5 @@
 -- What is settled of frames, as frames and bindings of a store.
-use Rattle.std.proofs.Common.{◌≡◌, ℕ, List, [], ◌∷◌, ◌++◌, Option, Some, None, Bool, true, false, cond, if◌then◌else◌, refl, sym, ap, subst, ◌∙◌, append_assoc, append-nil}
+use Rattle.std.proofs.Common.{◌≡◌, ℕ, List, [], ◌∷◌, ◌++◌, Some, None, Bool, true, false, cond, if◌then◌else◌, refl, sym, ap, subst, ◌∙◌, append_assoc, append-nil}
 use Rattle.std.specs.Prelude.{nat_lt, ◌==◌, ◌||◌}
 use Rattle.std.specs.Map.{keys_of, lookup}
 use Rattle.std.specs.List.{AllByRecursion}
@@ -13,9 +13,9 @@ use Rattle.akl_terms.specs.declared.name.Name.{Name}
 use Rattle.akl_terms.specs.declared.name.Var.{Var}
 use Rattle.akl_terms.specs.declared.term.Term.{Term}
 use Rattle.akl_terms.specs.Names.{same_name, name_cmp, var_cmp}
-use Rattle.name_map.proofs.NameOrder.{name_total, name_exact, name_is, name_back}
+use Rattle.name_map.proofs.NameOrder.{name_total, name_exact, name_is}
 use Rattle.local_store.specs.declared.frame_bindings.FrameBindings.{FrameBindings}
-use Rattle.local_store.specs.Stored.{var_before, is_named, named, joined, joins, all_named}
+use Rattle.local_store.specs.Stored.{var_before, named, joined, joins, all_named}
 use Rattle.local_store.specs.Kept.{put_at, put_all, bindings_at, owns, of_frame, AreOf, frames_of, bindings_of}
 use Rattle.local_store.proofs.EachLeads.{all-both}
 use Rattle.local_store.proofs.Orders.{Greater-from_less}

@@ -1,5 +1,5 @@
 -- What is found of a frame and of a variable, in what is settled and in what was added last.
-use Rattle.std.proofs.Common.{◌≡◌, ℕ, List, [], ◌∷◌, ◌++◌, Option, Some, None, Bool, true, false, cond, if◌then◌else◌, refl, sym, ap, subst, ◌∙◌, arith}
+use Rattle.std.proofs.Common.{◌≡◌, ℕ, List, [], ◌∷◌, ◌++◌, Option, Some, None, Bool, true, false, cond, if◌then◌else◌, refl, sym, ap, subst, ◌∙◌}
 use Rattle.std.specs.Prelude.{◌==◌, ◌||◌, ◌&&◌, find, option_map}
 use Rattle.std.specs.Option.{option_or}
 use Rattle.std.specs.Map.{keys_of, lookup}
@@ -22,7 +22,7 @@ use Rattle.local_store.specs.Stored.{var_before, is_named, named, joined, joins,
 use Rattle.local_store.specs.Kept.{found_at, bindings_at, owns, of_frame, frames_of, bindings_of, AreInOrder, IsKept}
 use Rattle.local_store.proofs.EachLeads.{joined-all}
 use Rattle.local_store.proofs.Orders.{var-same, Less-from_is_lt, Greater-from_less, Less-from_greater}
-use Rattle.local_store.proofs.SettledFrames.{above-all, frames-above, later}
+use Rattle.local_store.proofs.SettledFrames.{frames-above, later}
 
 abbrev Entries : Type 0
 Entries = List (Name × FrameBindings)

@@ -1,7 +1,6 @@
 -- One more of a list.
-use Rattle.std.proofs.Common.{◌≡◌, ℕ, zero, suc, ◌+◌, ◌<◌, ◌≤◌, List, [], ◌∷◌, ◌++◌, length, take, drop, add-one, Option, Some, None, Bool, true, false, cond, if◌then◌else◌, refl, sym, ap, subst, ◌∙◌, slice_index_or, append_assoc, arith}
-use Rattle.std.specs.Prelude.{◌==◌, ◌||◌, find, option_map}
-use Rattle.std.specs.List.{AllByRecursion}
+use Rattle.std.proofs.Common.{◌≡◌, ℕ, zero, suc, ◌+◌, ◌<◌, List, [], ◌∷◌, ◌++◌, length, take, drop, add-one, Some, None, Bool, true, false, cond, if◌then◌else◌, refl, sym, ap, subst, ◌∙◌, slice_index_or, append_assoc, arith}
+use Rattle.std.specs.Prelude.{◌==◌, ◌||◌, ◌&&◌, find, option_map}
 use Rattle.std.proofs.lemmas.List.{take_more, drop_more, drop-drop, at_drop_more}
 use Rattle.std.proofs.lemmas.Bool.Decides.{nat_tests}
 use Rattle.akl_terms.specs.declared.name.Name.{Name}
@@ -13,7 +12,7 @@ use Rattle.rational_unify.proofs.Chains.{found-second}
 use Rattle.local_store.specs.declared.frame_bindings.FrameBindings.{FrameBindings}
 use Rattle.local_store.specs.Stored.{is_named, named, joined, joins, all_named}
 use Rattle.local_store.proofs.Known.{joins-push}
-use Rattle.local_store.specs.Kept.{put_at, put_all, found_at, of_frame, frames_of, bindings_of, AreOf, StartOf}
+use Rattle.local_store.specs.Kept.{put_at, put_all, found_at, of_frame, frames_of, bindings_of, StartOf}
 
 put_all-push : (bs : List (ℕ × Term)) (cs : List (Var × Term)) (c : Var × Term) → put_all bs (cs ++ c ∷ []) ≡ put_at (put_all bs cs) c.0.index c.1
 put_all-push bs [] c = refl
@@ -160,3 +159,7 @@ drop-one k xs = rw add-one (one k xs)
     one zero xs = refl
     one (suc k) [] = refl
     one (suc k) (x ∷ xs) = one k xs
+
+-- one of a variable of another frame
+pub other-frame-in : (b : Var × Term) (x : Var) (frame : Name) → x.frame ≡ frame → same_name b.0.frame frame ≡ false → found_in (b ∷ []) x ≡ None
+other-frame-in b x frame e h = other-in b x (ap (λ (n : Name). same_name b.0.frame n && (b.0.index == x.index)) e ∙ ap (λ (k : Bool). k && (b.0.index == x.index)) h)

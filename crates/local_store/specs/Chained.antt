@@ -1,11 +1,13 @@
 -- Chains of stores.
-use Rattle.std.specs.Prelude.{ℕ, ◌+◌, ◌≤◌, cond, List, [], ◌∷◌, ◌++◌, length, take}
+use Rattle.std.specs.Prelude.{◌≡◌, None, ℕ, ◌+◌, ◌≤◌, cond, List, [], ◌∷◌, ◌++◌, length, take}
+use Rattle.akl_terms.specs.declared.name.Name.{Name}
 use Rattle.akl_terms.specs.declared.name.Var.{Var}
 use Rattle.akl_terms.specs.declared.term.Node.{Node}
 use Rattle.akl_terms.specs.declared.term.Term.{Term}
 use Rattle.akl_terms.specs.Names.{same_var}
 use Rattle.akl_terms.specs.Tree.{Tree}
 use Rattle.akl_terms.specs.Equal.{Equations, IsTold}
+use Rattle.rational_unify.specs.Known.{found_in}
 use Rattle.rational_unify.specs.Solving.{bindings_in}
 use Rattle.rational_unify.specs.Older.{LeadOlder}
 use Rattle.rational_unify.specs.Forms.{IsFormOf}
@@ -22,6 +24,10 @@ pub record Chained : Type 0 where
 abbrev pub bindings_from : List Stored → List (Var × Term)
 bindings_from [] = []
 bindings_from (s ∷ ss) = bindings_from ss ++ s.bindings
+
+-- no variable of a frame is bound
+abbrev pub BindNone : List (Var × Term) → Name → Type 0
+BindNone bs frame = (x : Var) → x.frame ≡ frame → found_in bs x ≡ None
 
 -- all bindings of stores as equations
 abbrev pub equations_of : List Node → List Stored → Equations

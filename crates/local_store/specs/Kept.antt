@@ -1,5 +1,5 @@
 -- How a store keeps this: what it has of each frame, in the order of their names, and beside it what was added last.
-use Rattle.std.specs.Prelude.{◌≡◌, ℕ, suc, nat_lt, ◌==◌, not, Bool, false, List, [], ◌∷◌, ◌++◌, map, find, Option, None, Some, option_map, if◌then◌else◌}
+use Rattle.std.specs.Prelude.{◌≡◌, ℕ, suc, nat_lt, ◌==◌, not, ◌||◌, Bool, false, List, [], ◌∷◌, ◌++◌, map, find, Option, None, Some, option_map, if◌then◌else◌}
 use Rattle.std.specs.declared.sync.Arc.{Arc}
 use Rattle.std.specs.Arc.{arc_value}
 use Rattle.std.specs.Global.{Global}
@@ -36,6 +36,11 @@ bindings_at (Some f) = f.bindings.items
 abbrev pub owns : Option FrameBindings → Bool
 owns None = false
 owns (Some f) = f.own
+
+-- with what there was of a frame, if anything, bindings of its variables were put in one after another; it is one of the store's own where it was or becomes one
+pub record IsAdded (own : Bool) (added : List (Var × Term)) (old : Option FrameBindings) (new : FrameBindings) : Type 0 where
+  pub own_is : new.own ≡ (own || owns old)
+  pub bindings : new.bindings.items ≡ put_all (bindings_at old) added
 
 -- the bindings of a frame's variables
 abbrev pub of_frame : Name → List (ℕ × Term) → List (Var × Term)

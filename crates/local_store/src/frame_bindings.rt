@@ -1,9 +1,12 @@
 //! What a store has of one frame.
-ghost use Rattle.std.specs.Prelude.{◌≡◌, ◌||◌, [], IfOk};
+ghost use Rattle.std.specs.Prelude.{◌≡◌, ◌||◌, ◌<◌, [], true, false, vec_len, vec_capacity, IfOk};
 ghost use Rattle.local_store.specs.Kept.{found_at, put_at, put_all, place_at};
 
 use akl_terms::{Term, Var};
 use std::alloc::{AllocError, Global};
+
+// Most frames get one binding more, that of the variable that hands a result on.
+const SPARE: usize = 1;
 
 /// What a store has of one frame.
 #[derive(Drop)]
@@ -24,7 +27,7 @@ impl FrameBindings {
         ensures own { IfOk result (λ f. f.own ≡ own) }
         ensures bindings { IfOk result (λ f. f.bindings.items ≡ put_all [] added.now) }
     {
-        let mut bindings = Vec::with_capacity(alloc, added.len())?;
+        let mut bindings = Vec::with_capacity(alloc, added.len().saturating_add(SPARE))?;
         put_all(&mut bindings, added)?;
         Ok(FrameBindings { own, bindings })
     }
@@ -48,6 +51,32 @@ impl FrameBindings {
             own: own || self.own,
             bindings,
         })
+    }
+
+    /// Whether there is room for one binding more, and those of its index and of the indices before it are all.
+    fn may_append(&self, index: u32) -> bool
+        ensures room { result ≡ true → vec_len self.now.bindings < vec_capacity self.now.bindings }
+        ensures last { result ≡ true → place_at self.now.bindings.items index ≡ vec_len self.now.bindings }
+    {
+        self.bindings.len() < self.bindings.capacity()
+            && place_of(&self.bindings, index) == self.bindings.len()
+    }
+
+    /// Also has a binding, if it can be put behind the others and takes no memory; the frame is one of the store's own where it
+    /// was or where `own` says so. Answers whether it is there now; where not, all is as it was.
+    pub(crate) fn append(&mut self, own: bool, index: u32, term: Term) -> bool
+        ensures own { result ≡ true → self.new.own ≡ (own || self.old.own) }
+        ensures bindings { result ≡ true → self.new.bindings.items ≡ put_at self.old.bindings.items index term }
+        ensures unchanged { result ≡ false → self.new ≡ self.old }
+    {
+        if !self.may_append(index) {
+            return false;
+        }
+        let Ok(()) = self.bindings.push((index, term)) else {
+            unreachable!()
+        };
+        self.own = own || self.own;
+        true
     }
 
     /// What the first binding of the variable of this index binds it to.

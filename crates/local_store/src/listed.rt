@@ -1,6 +1,7 @@
 //! Frames and bindings in lists.
-ghost use Rattle.std.specs.Prelude.{◌≡◌, IfOk};
+ghost use Rattle.std.specs.Prelude.{◌≡◌, true, IfOk};
 ghost use Rattle.rational_unify.specs.Known.{found_in};
+ghost use Rattle.local_store.specs.Chained.{BindNone};
 ghost use Rattle.local_store.specs.Stored.{is_named, named, joined};
 ghost use Rattle.local_store.specs.Kept.{run_of, frame_place, binding_place};
 
@@ -18,6 +19,18 @@ pub(crate) fn first_in(bindings: &[(Var, Term)], variable: Var) -> Option<Term>
         }
     }
     None
+}
+
+/// Whether none of the bindings is of a variable of the frame.
+pub(crate) fn binds_none(bindings: &[(Var, Term)], frame: Name) -> bool
+    ensures { result ≡ true → BindNone bindings.now frame }
+{
+    for binding in bindings {
+        if binding.0.frame == frame {
+            return false;
+        }
+    }
+    true
 }
 
 /// Whether the frame is one of these.

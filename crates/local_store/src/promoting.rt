@@ -7,6 +7,7 @@ ghost use Rattle.local_store.specs.Promoting.{with_frames, with_ports, named_too
 
 use crate::binding::bound_over;
 use crate::chain::Chain;
+use crate::shared::Shared;
 use crate::store::Store;
 use crate::telling::ToldStore;
 use akl_terms::{Name, Templates, Term, Var};
@@ -24,7 +25,8 @@ pub fn promoted(alloc: Global, chain: &Chain) -> Result<ToldStore, AllocError>
 {
     let stores = chain.stores();
     let count = stores.len() - 1;
-    let mut told = ToldStore::of(alloc, stores[count - 1].get().share_to_tell()?);
+    let store = Shared::new(alloc, stores[count - 1].get().share_to_tell()?)?;
+    let mut told = ToldStore::of(alloc, store);
     join_store(alloc, chain, stores[count].get(), &mut told)?;
     Ok(told)
 }
@@ -114,7 +116,7 @@ fn join<K: Lookup>(
 }
 
 // The store also has the frames and ports of another one.
-fn add_names(store: &mut Store, other: &Store) -> Result<(), AllocError>
+fn add_names(store: &mut Shared<Store>, other: &Store) -> Result<(), AllocError>
     ensures { IfOk result (λ _. store.new ≡ named_too store.old other.now) }
 {
     add_frames(store, other.frames()?)?;
@@ -122,7 +124,7 @@ fn add_names(store: &mut Store, other: &Store) -> Result<(), AllocError>
 }
 
 // The store also has these frames.
-fn add_frames(store: &mut Store, mut frames: Vec<Name>) -> Result<(), AllocError>
+fn add_frames(store: &mut Shared<Store>, mut frames: Vec<Name>) -> Result<(), AllocError>
     ensures { IfOk result (λ _. store.new ≡ with_frames store.old frames.items) }
 {
     while let Some(frame) = frames.pop() {
@@ -132,7 +134,7 @@ fn add_frames(store: &mut Store, mut frames: Vec<Name>) -> Result<(), AllocError
 }
 
 // The store also has these ports.
-fn add_ports(store: &mut Store, mut ports: Vec<(Name, Term)>) -> Result<(), AllocError>
+fn add_ports(store: &mut Shared<Store>, mut ports: Vec<(Name, Term)>) -> Result<(), AllocError>
     ensures { IfOk result (λ _. store.new ≡ with_ports store.old ports.items) }
 {
     while let Some(port) = ports.pop() {

@@ -1,16 +1,16 @@
 //! What a store has of its frames, in a tree.
-ghost use Rattle.std.specs.Prelude.{◌≡◌, ◌||◌, ◌++◌, [], IfOk, IfErr, OnOk, if◌then◌else◌};
+ghost use Rattle.std.specs.Prelude.{◌≡◌, ◌++◌, [], true, IfOk, IfErr, OnOk, if◌then◌else◌};
 ghost use Rattle.std.specs.List.Sorted.{IsStrictlySortedBy};
-ghost use Rattle.std.specs.Map.{lookup};
-ghost use Rattle.akl_terms.specs.Names.{same_name, name_cmp};
+ghost use Rattle.akl_terms.specs.Names.{name_cmp};
 ghost use Rattle.rational_unify.specs.Known.{found_in};
+ghost use Rattle.local_store.specs.Chained.{BindNone};
 ghost use Rattle.local_store.specs.Stored.{is_named, named, joins};
-ghost use Rattle.local_store.specs.Kept.{AreOf, AreInOrder, IsKept, put_all, bindings_at, owns, of_frame, frames_of, bindings_of};
+ghost use Rattle.local_store.specs.Kept.{AreOf, AreInOrder, IsKept, of_frame, frames_of, bindings_of};
 
 use crate::frame_bindings::FrameBindings;
 use crate::shared::Shared;
 use akl_terms::{Name, Term, Var};
-use frame_map::FrameMap;
+use frame_map::{Change, FrameMap};
 use smallvec::SmallVec;
 use std::alloc::{AllocError, Global};
 use std::marker::Model;
@@ -20,6 +20,31 @@ use std::marker::Model;
 #[derive(Drop)]
 pub(crate) struct Settled {
     frames: FrameMap<Shared<FrameBindings>>,
+}
+
+// Bindings of its variables that a frame gets, and whether it becomes one of the store's own.
+#[derive(Clone, Copy)]
+struct Added<'a> {
+    alloc: Global,
+    own: bool,
+    bindings: &'a [(Var, Term)],
+}
+
+impl<'a> Change<Shared<FrameBindings>> for Added<'a> {
+    ghost use Rattle.local_store.specs.Kept.{IsAdded};
+
+    ghost makes = { λ a old new. IsAdded a.own a.bindings.now old new };
+
+    fn change(self, known: &mut Option<Shared<FrameBindings>>) -> Result<(), AllocError> {
+        match known {
+            Some(shared) => shared.add(self.alloc, self.own, self.bindings),
+            None => {
+                let first = FrameBindings::of(self.alloc, self.own, self.bindings)?;
+                *known = Some(Shared::new(self.alloc, first)?);
+                Ok(())
+            }
+        }
+    }
 }
 
 impl Model for Settled {
@@ -78,6 +103,18 @@ impl Settled {
         self.frames.get(variable.frame)?.get().first(variable.index)
     }
 
+    /// Whether nothing is there of the frame, so that none of its variables is bound.
+    #[inline(always)]
+    pub(crate) fn binds_none(&self, frame: Name) -> bool
+        ensures none { result ≡ true → BindNone (bindings_of self.now) frame }
+        ensures ordered { AreInOrder (bindings_of self.now) }
+    {
+        match self.frames.get(frame) {
+            Some(_) => false,
+            None => true,
+        }
+    }
+
     /// The frame gets these bindings of its variables, and becomes one of the store's own where `own` says so. An `Err`, for
     /// want of memory, leaves all as it was.
     pub(crate) fn put(
@@ -92,27 +129,13 @@ impl Settled {
         ensures bindings { IfOk result (λ _. bindings_of self.new ≡ joins (bindings_of self.old) bindings.now) }
         ensures unchanged { IfErr result (λ _. self.new ≡ self.old) }
     {
-        let known = self.joined(alloc, frame, own, bindings)?;
-        let known = Shared::new(alloc, known)?;
-        self.frames.insert(frame, known)?;
+        let added = Added {
+            alloc,
+            own,
+            bindings,
+        };
+        self.frames.change(frame, added)?;
         Ok(())
-    }
-
-    // What the frame has once it gets these bindings.
-    fn joined(
-        &self,
-        alloc: Global,
-        frame: Name,
-        own: bool,
-        bindings: &[(Var, Term)],
-    ) -> Result<FrameBindings, AllocError>
-        ensures own { IfOk result (λ f. f.own ≡ (own || owns (lookup (same_name frame) self.now))) }
-        ensures bindings { IfOk result (λ f. f.bindings.items ≡ put_all (bindings_at (lookup (same_name frame) self.now)) bindings.now) }
-    {
-        match self.frames.get(frame) {
-            Some(known) => known.get().with(alloc, own, bindings),
-            None => FrameBindings::of(alloc, own, bindings),
-        }
     }
 
     /// The frames alone.

@@ -1,12 +1,13 @@
 //! The store of one box.
-ghost use Rattle.std.specs.Prelude.{◌≡◌, IfOk, IfErr};
+ghost use Rattle.std.specs.Prelude.{◌≡◌, IfOk, IfErr, true};
 ghost use Rattle.std.specs.Map.{lookup};
 ghost use Rattle.akl_terms.specs.Names.{same_name};
 ghost use Rattle.rational_unify.specs.Known.{found_in};
+ghost use Rattle.local_store.specs.Chained.{BindNone};
 ghost use Rattle.local_store.specs.Stored.{nothing, made_of, unbound, is_named, with_frame, with_port, with_binding, with_bindings};
 ghost use Rattle.local_store.specs.Telling.{clashed};
 
-use crate::listed::{first_in, is_among, put_binding, put_frame};
+use crate::listed::{binds_none, first_in, is_among, put_binding, put_frame};
 use crate::ports::Ports;
 use crate::settled::Settled;
 use crate::settling::{settle, settled_of};
@@ -127,6 +128,26 @@ impl Store {
             bindings,
             ports: self.ports.share()?,
         })
+    }
+
+    /// The store that also has a frame, and then these bindings, added one after another. Where everything else is in its
+    /// trees, and there are few of them, the list becomes its own. An `Err` is want of memory.
+    pub fn told_with(&self, frame: Name, bindings: Vec<(Var, Term)>) -> Result<Store, AllocError>
+        ensures { IfOk result (λ s. s ≡ with_bindings (with_frame self.now frame) bindings.items) }
+    {
+        if self.frames.is_empty() && self.bindings.is_empty() && bindings.len() <= FEW {
+            return Ok(Store {
+                alloc: self.alloc,
+                settled: self.settled.share()?,
+                frames: SmallVec::from_slice(self.alloc, &[frame])?,
+                bindings,
+                ports: self.ports.share()?,
+            });
+        }
+        let mut store = self.share_to_tell()?;
+        store.add_frame(frame)?;
+        store.add_all(bindings.as_slice())?;
+        Ok(store)
     }
 
     /// Also has the frame. An `Err`, for want of memory, leaves the store as it was.
@@ -276,6 +297,13 @@ impl Store {
         }
     }
 
+    /// Whether the store has nothing of a frame, so that none of its variables is bound.
+    pub fn binds_none(&self, frame: Name) -> bool
+        ensures { result ≡ true → BindNone self.now.bindings frame }
+    {
+        self.settled.binds_none(frame) && binds_none(&self.bindings, frame)
+    }
+
     /// The tail of the port; `None` exactly where the store has no such port.
     pub fn port_tail(&self, port: Name) -> Option<Term>
         ensures { result ≡ lookup (same_name port) self.now.ports }
@@ -310,5 +338,13 @@ impl Store {
         ensures { IfOk result (λ list. list.items ≡ self.now.ports) }
     {
         self.ports.entries(self.alloc)
+    }
+}
+
+impl Clone for Store {
+    ghost is_clone = { λ s t. t ≡ s };
+
+    fn clone(&self) -> Result<Store, AllocError> {
+        self.share_to_tell()
     }
 }

@@ -22,7 +22,7 @@ use std::alloc::{AllocError, Global};
 #[derive(Drop)]
 pub struct ToldStore {
     /// The innermost store, with the equations told.
-    pub store: Store,
+    pub store: Shared<Store>,
     /// Whether the chain is known to be solved with it: the whole chain was, and the equations are consistent with it.
     pub solved: bool,
     /// Variables that the equations bind or make equal, and of each class with such variables at least one; none where
@@ -32,7 +32,7 @@ pub struct ToldStore {
 
 impl ToldStore {
     /// A store to which nothing was told.
-    pub(crate) fn of(alloc: Global, store: Store) -> ToldStore
+    pub(crate) fn of(alloc: Global, store: Shared<Store>) -> ToldStore
         ensures store { result.store ≡ store }
         ensures untold { IsUntold result }
     {
@@ -75,7 +75,8 @@ impl ToldStore {
 pub fn told(alloc: Global, chain: &Chain, equations: &[Equation]) -> Result<ToldStore, AllocError>
     ensures { IfOk result (λ t. AnswersTold chain.now.nodes chain.now.stores chain.now.known equations.now t) }
 {
-    let mut told = ToldStore::of(alloc, innermost(alloc, chain.stores())?);
+    let store = Shared::new(alloc, innermost(alloc, chain.stores())?)?;
+    let mut told = ToldStore::of(alloc, store);
     tell_chain(alloc, chain, equations, &mut told)?;
     Ok(told)
 }

@@ -13,7 +13,8 @@ use Rattle.akl_terms.specs.Names.{same_var, var_cmp}
 use Rattle.akl_terms.proofs.SameNames.{same_var-equal}
 use Rattle.constraint_laws.proofs.VariableOrder.{var_total}
 use Rattle.rational_unify.specs.Known.{found_in}
-use Rattle.plain_heads.specs.Plain.{IsBehind}
+use Rattle.local_store.specs.Chained.{BindNone}
+use Rattle.plain_heads.specs.Plain.{AreOfNew, IsBehind}
 
 -- all of a list and one more
 pub all_more : {A : Type 0} (P : A → Type 0) (xs : List A) (x : A) → AllByRecursion P xs → P x → AllByRecursion P (xs ++ x ∷ [])
@@ -36,6 +37,23 @@ other_frame bs frame x h n = none_found bs x (all bs h)
     all : (cs : List (Var × Term)) → AllByRecursion (λ (b : Var × Term). b.0.frame ≡ frame) cs → AllByRecursion (λ (b : Var × Term). b.0 ≡ x → ⊥) cs
     all [] h = tt
     all (b ∷ cs) h = (λ e. n (ap (λ (v : Var). v.frame) (sym e) ∙ h.0), all cs h.1)
+
+-- where there is one of a frame's variables, no variable of it was bound
+pub new_frame : (known bs : List (Var × Term)) (frame : Name) → (length bs ≡ 0 → ⊥) → AreOfNew known frame bs → BindNone known frame
+new_frame known [] frame n h = absurd (n refl)
+new_frame known (b ∷ bs) frame n h = h
+
+pub of_new_more : (known bs : List (Var × Term)) (frame : Name) (b : Var × Term) → BindNone known frame → AreOfNew known frame (bs ++ b ∷ [])
+of_new_more known [] frame b h = h
+of_new_more known (c ∷ bs) frame b h = h
+
+pub all_unbound : (known bs : List (Var × Term)) (frame : Name) → AllByRecursion (λ (b : Var × Term). b.0.frame ≡ frame) bs → AreOfNew known frame bs → AllByRecursion (λ (b : Var × Term). found_in known b.0 ≡ None) bs
+all_unbound known [] frame own h = tt
+all_unbound known (b ∷ bs) frame own h = all (b ∷ bs) own
+  where
+    all : (cs : List (Var × Term)) → AllByRecursion (λ (b : Var × Term). b.0.frame ≡ frame) cs → AllByRecursion (λ (b : Var × Term). found_in known b.0 ≡ None) cs
+    all [] own = tt
+    all (c ∷ cs) own = (h c.0 own.0, all cs own.1)
 
 abbrev pub Below : Var → (Var × Term) → Type 0
 Below v b = var_cmp b.0 v ≡ Less

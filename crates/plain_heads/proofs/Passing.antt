@@ -30,7 +30,7 @@ use Rattle.local_store.proofs.Layers.{end-extends}
 use Rattle.plain_heads.specs.declared.meeting.Turn.{Turn}
 use Rattle.plain_heads.specs.declared.row.Row.{Row}
 use Rattle.plain_heads.specs.Plain.{pairs_of, IsFurther, ArePlain, Goes, HaveClash, Turns, MayBind, Compares, AreRowsOf}
-use Rattle.plain_heads.proofs.Orders.{all_more, other_frame, all_below, behind_unbound, sorted_more, sorted_none}
+use Rattle.plain_heads.proofs.Orders.{all_more, other_frame, of_new_more, all_below, behind_unbound, sorted_more, sorted_none}
 use Rattle.plain_heads.proofs.Rows.{arguments_pairs, pairs_arguments}
 
 -- a term that is no bound variable is its own end
@@ -134,12 +134,12 @@ module _ (nodes : List Node) (ss : List Stored) (f : IsSolvedChain nodes ss) (fr
       bound_plain = record {
         own = all_more (λ (b : Var × Term). b.0.frame ≡ frame) old (v, end) plain.own may.own;
         ordered = sorted_more old v end plain.ordered (all_below old v plain.ordered may.behind);
-        unbound = all_more (λ (b : Var × Term). found_in known b.0 ≡ None) old (v, end) plain.unbound may.free;
+        new = of_new_more known old frame (v, end) may.new;
         further = all_more (λ (b : Var × Term). IsFurther nodes known frame b.1) old (v, end) plain.further further;
       }
 
       unbound : found_in (known ++ old) v ≡ None
-      unbound = found-second known old v may.free ∙ behind_unbound old v (all_below old v plain.ordered may.behind)
+      unbound = found-second known old v (may.new v may.own) ∙ behind_unbound old v (all_below old v plain.ordered may.behind)
 
       end_free : (x : Var) → tree nodes end ≡ variable x → found_in (known ++ old) x ≡ None
       end_free x p = found-second known old x (further x p).0 ∙ other_frame old frame x plain.own (further x p).1
@@ -171,7 +171,7 @@ module _ (nodes : List Node) (ss : List Stored) (f : IsSolvedChain nodes ss) (fr
 
   -- nothing is bound yet
   pub none_plain : ArePlain nodes (bindings_from ss) frame []
-  none_plain = record { own = tt; ordered = sorted_none; unbound = tt; further = tt }
+  none_plain = record { own = tt; ordered = sorted_none; new = tt; further = tt }
 
   pub goes_first : (es : List code.Equation) → Goes nodes (bindings_from ss) es [] es
   goes_first es = record {

@@ -23,7 +23,7 @@ use Rattle.local_store.proofs.Layers.{joins-found, from-last, from-innermost}
 use Rattle.local_store.proofs.Once.{new-once}
 use Rattle.plain_heads.specs.Joined.{own_store, listed, AreFree, KeepsBound}
 use Rattle.plain_heads.specs.Plain.{ArePlain, IsFurther}
-use Rattle.plain_heads.proofs.Orders.{other_frame}
+use Rattle.plain_heads.proofs.Orders.{other_frame, all_unbound}
 use Rattle.plain_heads.proofs.Passing.{stays}
 
 -- one more store inside of all others
@@ -54,7 +54,7 @@ module _ (nodes : List Node) (path : List Stored) (frame : Name) (bs : List (Var
 
   -- what they bind or make equal is bound to nothing around them
   pub listed_free : AreFree (bindings_from path) (listed nodes bs)
-  listed_free = all bs plain.unbound plain.further
+  listed_free = all bs (all_unbound (bindings_from path) bs frame plain.own plain.new) plain.further
     where
       all : (cs : List (Var × Term)) → AllByRecursion (λ (b : Var × Term). found_in (bindings_from path) b.0 ≡ None) cs → AllByRecursion (λ (b : Var × Term). IsFurther nodes (bindings_from path) frame b.1) cs
           → AreFree (bindings_from path) (listed nodes cs)

@@ -20,6 +20,7 @@ use Rattle.rational_unify.specs.Known.{found_in, end_of}
 use Rattle.rational_unify.specs.Older.{KeepsOlder}
 use Rattle.rational_unify.specs.Solving.{IsSolution, IsClashOf}
 use Rattle.rational_unify.proofs.Passes.{PassGoes}
+use Rattle.local_store.specs.Chained.{BindNone}
 use Rattle.plain_heads.specs.declared.meeting.Met.{Met}
 use Rattle.plain_heads.specs.declared.meeting.Turn.{Turn}
 use Rattle.plain_heads.specs.declared.row.Row.{Row}
@@ -42,11 +43,16 @@ pairs_in a h = pairs_of a.frame a.first a.count h.frame h.first h.count
 abbrev pub IsFurther : List Node → List (Var × Term) → Name → Term → Type 0
 IsFurther nodes known frame t = (x : Var) → tree nodes t ≡ variable x → (found_in known x ≡ None) × (x.frame ≡ frame → ⊥)
 
+-- where there are bindings of a frame's variables, no other variable of it was bound
+abbrev pub AreOfNew : List (Var × Term) → Name → List (Var × Term) → Type 0
+AreOfNew known frame [] = ⊤
+AreOfNew known frame (b ∷ bs) = BindNone known frame
+
 -- bindings of a frame's variables, which were bound to nothing, in increasing order, to such terms
 pub record ArePlain (nodes : List Node) (known : List (Var × Term)) (frame : Name) (bs : List (Var × Term)) : Type 0 where
   pub own : AllByRecursion (λ (b : Var × Term). b.0.frame ≡ frame) bs
   pub ordered : IsStrictlySortedBy var_cmp (keys_of bs)
-  pub unbound : AllByRecursion (λ (b : Var × Term). found_in known b.0 ≡ None) bs
+  pub new : AreOfNew known frame bs
   pub further : AllByRecursion (λ (b : Var × Term). IsFurther nodes known frame b.1) bs
 
 -- so far the bindings do the solver's work for equations, of which some wait
@@ -83,7 +89,7 @@ pub record MayBind (nodes : List Node) (known bs : List (Var × Term)) (v : Var)
   pub own : v.frame ≡ frame
   pub behind : IsBehind bs v
   pub beyond : IsBeyond nodes t v
-  pub free : found_in known v ≡ None
+  pub new : BindNone known frame
 
 -- what is known of two terms
 abbrev pub Compares : List Node → Term → Term → Turn → Type 0

@@ -18,21 +18,19 @@ pub fn joined(
     templates: &Templates,
     path: &[Shared<Store>],
     frame: Name,
-    bindings: &[(Var, Term)],
+    bindings: Vec<(Var, Term)>,
 ) -> Result<ToldStore, AllocError>
     requires some { 0 < length path.now }
-    requires plain { ArePlain templates.now.nodes (bindings_from path.now) frame bindings.now }
-    requires solved { IsKnown templates.now.nodes (path.now ++ own_store frame bindings.now ∷ []) (length path.now + 1) }
-    ensures promoted { IfOk result (AnswersPromoted templates.now.nodes (path.now ++ own_store frame bindings.now ∷ []) (length path.now + 1)) }
+    requires plain { ArePlain templates.now.nodes (bindings_from path.now) frame bindings.items }
+    requires solved { IsKnown templates.now.nodes (path.now ++ own_store frame bindings.items ∷ []) (length path.now + 1) }
+    ensures promoted { IfOk result (AnswersPromoted templates.now.nodes (path.now ++ own_store frame bindings.items ∷ []) (length path.now + 1)) }
     ensures free { IfOk result (λ told. AreFree (bindings_from path.now) told.bound.items) }
     ensures kept { IfOk result (λ told. KeepsBound path.now told.store) }
 {
-    let mut store = path[path.len() - 1].get().share_to_tell()?;
-    store.add_frame(frame)?;
-    store.add_all(bindings)?;
-    let bound = listed(alloc, templates, bindings)?;
+    let bound = listed(alloc, templates, bindings.as_slice())?;
+    let store = path[path.len() - 1].get().told_with(frame, bindings)?;
     Ok(ToldStore {
-        store,
+        store: Shared::new(alloc, store)?,
         solved: true,
         bound,
     })

@@ -7,7 +7,7 @@ mod joining;
 mod meeting;
 mod row;
 
-pub use ends::ends_of;
+pub use ends::put_ends;
 pub use joining::joined;
 pub use meeting::{Met, meet};
 pub use row::Row;

@@ -1,17 +1,20 @@
 //! Arguments and a head met in one pass.
 
-ghost use Rattle.std.specs.Prelude.{◌≡◌, true, IfOk, IfSome};
+ghost use Rattle.std.specs.Prelude.{◌≡◌, true, IfOk, IfSome, OnOk};
 ghost use Rattle.akl_terms.specs.Template.{tree};
 ghost use Rattle.rational_unify.specs.Known.{end_of};
-ghost use Rattle.local_store.specs.Chained.{bindings_from, IsSolvedChain};
+ghost use Rattle.local_store.specs.Chained.{bindings_from, BindNone, IsSolvedChain};
 ghost use Rattle.akl_terms.specs.Tree.{symbol_head};
-ghost use Rattle.plain_heads.specs.Plain.{AreEnds, ArePlain, AreRowsOf, Comes, IsTurn, Turns, pairs_of, MayBind, IsBehind, IsBeyond, Compares, ComparesHead, ComparesSeen};
+ghost use Rattle.plain_heads.specs.Plain.{AreEnds, AreOfNew, ArePlain, AreRowsOf, Comes, IsTurn, Turns, pairs_of, MayBind, IsBehind, IsBeyond, Compares, ComparesHead, ComparesSeen};
 
 use crate::row::Row;
 use akl_terms::{Name, Seen, Templates, Term, Var};
 use local_store::Chain;
-use rational_unify::{Lookup, chain_end};
+use rational_unify::chain_end;
 use std::alloc::{AllocError, Global};
+
+// A store keeps so many bindings in its list, and takes a list of no more of them as it is.
+const ROOM: usize = 8;
 
 /// What comes of arguments and a head.
 #[derive(Drop)]
@@ -157,6 +160,7 @@ fn meet_plainly(
             if !may_bind(chain, variable, end, frame, bindings.as_slice()) {
                 return Ok(Turn::Unsure);
             }
+            make_room(bindings)?;
             bindings.push((variable, end))?;
             Ok(Turn::Taken)
         }
@@ -164,14 +168,36 @@ fn meet_plainly(
     }
 }
 
+// Where there are no bindings yet, there is room then for as many as a store has in its list.
+fn make_room(bindings: &mut Vec<(Var, Term)>) -> Result<(), AllocError>
+    ensures { OnOk result (bindings.new.items ≡ bindings.old.items) }
+{
+    if bindings.is_empty() {
+        bindings.reserve(ROOM)?;
+    }
+    Ok(())
+}
+
 // Whether a variable of the frame may be bound to a term at the end of its chain.
 fn may_bind(chain: &Chain, variable: Var, end: Term, frame: Name, bindings: &[(Var, Term)]) -> bool
+    requires { AreOfNew (bindings_from chain.now.stores) frame bindings.now }
     ensures { result ≡ true → MayBind chain.now.nodes (bindings_from chain.now.stores) bindings.now variable frame end }
 {
     variable.frame == frame
         && is_behind(bindings, variable)
         && is_beyond(chain.templates(), end, variable)
-        && chain.get(variable).is_none()
+        && is_new(chain, frame, bindings)
+}
+
+// Whether no variable of a frame is bound by a chain; that is known where there are bindings of such variables.
+fn is_new(chain: &Chain, frame: Name, bindings: &[(Var, Term)]) -> bool
+    requires { AreOfNew (bindings_from chain.now.stores) frame bindings.now }
+    ensures { result ≡ true → BindNone (bindings_from chain.now.stores) frame }
+{
+    if bindings.is_empty() {
+        return chain.binds_none(frame);
+    }
+    true
 }
 
 // Whether a variable comes behind those that are bound.

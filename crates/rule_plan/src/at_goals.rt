@@ -12,7 +12,7 @@ use akl_terms::{Equation, Name, Program, Var};
 use box_tree::{Plan, Step, View};
 use class_members::members;
 use guard_plan::{goal_and_stores, label_of};
-use local_store::{Shared, ToldStore, told};
+use local_store::{ToldStore, told};
 use std::alloc::{AllocError, Global};
 
 // The plan of a rule at a goal, which read the goal and the constraints down to its box, and binds these variables.
@@ -75,7 +75,6 @@ pub(crate) fn told_plan(
     } = answer;
     let chain = view.chain(&program.templates);
     let binds = members(alloc, &chain, bound.as_slice())?;
-    let store = Shared::new(alloc, store)?;
     goal_plan(
         alloc,
         view,

@@ -75,7 +75,6 @@ fn over_others(
     let stores = path_with(alloc, chain.stores(), frame)?;
     let inner = Chain::of_solved(chain.templates(), stores.as_slice(), chain.known());
     let ToldStore { store, .. } = told(alloc, &inner, equations)?;
-    let store = Shared::new(alloc, store)?;
     Ok((store, false))
 }
 

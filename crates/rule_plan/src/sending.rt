@@ -19,7 +19,7 @@ use akl_model::Rule;
 use akl_terms::{Code, Equation, Goal, Name, Program, Term};
 use box_tree::{Plan, View};
 use guard_plan::node_after;
-use local_store::{Chain, Consistency, Store, ToldStore, consistent, told};
+use local_store::{Chain, Consistency, Shared, Store, ToldStore, consistent, told};
 use port_goals::{SendState, sendable};
 use std::alloc::{AllocError, Global};
 
@@ -144,7 +144,12 @@ fn tell_list(
 }
 
 // The store also has a new frame, and under it the new tail of a port.
-fn set_tail(store: &mut Store, program: &Program, port: Name, frame: Name) -> Result<(), AllocError>
+fn set_tail(
+    store: &mut Shared<Store>,
+    program: &Program,
+    port: Name,
+    frame: Name,
+) -> Result<(), AllocError>
     ensures { IfOk result (λ _. store.new ≡ with_new_tail program.now.cell frame port store.old) }
 {
     let tail = Term::Mol {

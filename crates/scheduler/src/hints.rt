@@ -1,7 +1,8 @@
-//! Calls that come sooner once a variable is bound.
+//! Goals that come sooner once a variable is bound.
 
 use akl_terms::{Name, Var};
 use box_tree::{Plan, Step};
+use local_store::Store;
 use smallvec::SmallVec;
 use std::alloc::{AllocError, Global};
 use std::cmp::Reverse;
@@ -78,15 +79,21 @@ pub(crate) fn most_hints(open: usize) -> usize {
 
 // Whether the store that a step gives its box binds a variable. One to which others are made equal isn't bound by that.
 fn is_bound_by(step: &Step, variable: Var) -> bool {
+    match store_of(step) {
+        Some(store) => store.first_binding(variable).is_some(),
+        None => false,
+    }
+}
+
+/// The store that a step gives its box.
+pub(crate) fn store_of(step: &Step) -> Option<&Store> {
     match step {
-        Step::Tell { store, .. } | Step::Join { store, .. } => {
-            store.get().first_binding(variable).is_some()
-        }
+        Step::Tell { store, .. } | Step::Join { store, .. } => Some(store.get()),
         Step::Fork { .. }
         | Step::Fail
         | Step::Cut
         | Step::Refute
         | Step::Confirm
-        | Step::Split { .. } => false,
+        | Step::Split { .. } => None,
     }
 }

@@ -135,10 +135,10 @@ impl Scheduler {
     /// Gives turns to the places that a label opened, and to those that went with it.
     ///
     /// Those boxes are urgent that have a goal by which they fail, whose stores the label left unsolved, or may clash with
-    /// what it told. Other boxes are late, as no rule but Split may apply to them, and so is a choice without a solved
-    /// alternative, or one that collects with an alternative that isn't solved. What went isn't late, so that it is forgotten
-    /// soon. Once sixteen labels were made for each open place, all late places come as ordinary ones. Where memory is wanting,
-    /// what isn't urgent comes as it did.
+    /// what it told. Late are other boxes, as no rule but Split may apply to them, a choice without a solved alternative, one
+    /// that collects with an alternative that isn't solved, and a goal that waits, which was woken though the label binds none
+    /// of its variables. What went isn't late, so that it is forgotten soon. Once sixteen labels were made for each open place,
+    /// all late places come as ordinary ones. Where memory is wanting, what isn't urgent comes as it did.
     pub(crate) fn set_turns(
         &mut self,
         places: &[Placed],

@@ -1,5 +1,6 @@
 //! Goals that a label wakes though it binds none of the variables on which they wait.
 
+use crate::hints::store_of;
 use akl_terms::{Name, Place, Var};
 use box_tree::Step;
 use local_store::Store;
@@ -71,17 +72,4 @@ fn is_changed(goal: Name, changed: &[Placed]) -> bool {
     changed
         .iter()
         .any(|placed| placed.place() == Place::Goal(goal))
-}
-
-// The store that a step gives its box.
-fn store_of(step: &Step) -> Option<&Store> {
-    match step {
-        Step::Tell { store, .. } | Step::Join { store, .. } => Some(store.get()),
-        Step::Fork { .. }
-        | Step::Fail
-        | Step::Cut
-        | Step::Refute
-        | Step::Confirm
-        | Step::Split { .. } => None,
-    }
 }

@@ -4,6 +4,7 @@ use Rattle.std.proofs.lemmas.Int.{to_z-of_z}
 use Rattle.std.proofs.lemmas.Result.{IfOk-weaker}
 use Rattle.akl_model.specs.declared.label.Rule.{Rule}
 use Rattle.local_store.specs.Chained.{equations_of}
+use Rattle.local_store.specs.Stored.{Stored}
 use Rattle.arith_goals.specs.declared.goals.ArithValue.{ArithValue}
 use Rattle.arith_goals.specs.Answers.{Answers}
 use Rattle.body_goals.specs.Takes.{within}
@@ -23,12 +24,12 @@ returns-in-Is c =
     IfOk-weaker c.tell_by-in-Is.result _ _
     (told_by c.args.around.now.symbols c.args.around.now.nodes c.args.around.now.stores c.args.goal Rule.Eval (of_number c.in-Arith.left c.in-Is.value c.args.goal.frame) c.args.told.now c.tell_by-in-Is.new.told
     (value_tells c.args.around.now.symbols c.args.around.now.nodes (within c.args.around.now.stores c.args.told.now.store) c.args.goal c.in-Arith.test c.in-Arith.left c.in-Arith.right c.in-Is.value c.in-Arith.is
-    (subst (λ (a : ArithValue). Answers (template_of c.args.around.now) (equations_of c.args.around.now.nodes (within c.args.around.now.stores c.args.told.now.store)) c.args.goal a) c.in-Is.is c.in_ok-value-in-Arith.ensures)))
+    (subst (λ (a : ArithValue). Answers (template_of c.args.around.now) (equations_of c.args.around.now.nodes (within c.args.around.now.stores c.args.told.now.store)) c.args.goal a) c.in-Is.is (subst (λ (s : Stored). Answers (template_of c.args.around.now) (equations_of c.args.around.now.nodes (within c.args.around.now.stores s)) c.args.goal c.in_ok-value-in-Arith.field-0) c.get.ensures c.in_ok-value-in-Arith.ensures))))
     (rw (to_z-of_z w128 c.in-Is.value v) at c.tell_by-in-Is.ensures)
 
 pub returns-in-Holds : goal.returns-in-Holds
 returns-in-Holds c = (
   comparison_holds c.args.around.now.symbols c.args.around.now.nodes (within c.args.around.now.stores c.args.told.now.store) c.args.goal c.in-Arith.test c.in-Arith.left c.in-Arith.right c.in-Arith.is
-      (subst (λ (a : ArithValue). Answers (template_of c.args.around.now) (equations_of c.args.around.now.nodes (within c.args.around.now.stores c.args.told.now.store)) c.args.goal a) c.in-Holds.is c.in_ok-value-in-Arith.ensures),
+      (subst (λ (a : ArithValue). Answers (template_of c.args.around.now) (equations_of c.args.around.now.nodes (within c.args.around.now.stores c.args.told.now.store)) c.args.goal a) c.in-Holds.is (subst (λ (s : Stored). Answers (template_of c.args.around.now) (equations_of c.args.around.now.nodes (within c.args.around.now.stores s)) c.args.goal c.in_ok-value-in-Arith.field-0) c.get.ensures c.in_ok-value-in-Arith.ensures)),
   refl,
 )

@@ -13,7 +13,7 @@ returns c =
     record {
       bound = bound;
       takes = subst (λ (s : Stored). Takes c.args.around.now.nodes c.args.around.now.stores c.args.told.now.store c.args.equation s bound) (sym c.in_ok-bind.ensures.store)
-          (binding_takes c.args.around.now.nodes c.args.around.now.stores c.args.told.now.store c.requires c.args.equation c.in-Some.variable c.in-Some.term c.in-Some.ensures);
+          (binding_takes c.args.around.now.nodes c.args.around.now.stores c.args.told.now.store c.requires c.args.equation c.in-Some.variable c.in-Some.term (rw c.get.ensures at c.in-Some.ensures));
       all_bound = rw c.templates.ensures.nodes at c.in_ok-bind.ensures.bound;
       solved = c.in_ok-bind.ensures.solved;
     }

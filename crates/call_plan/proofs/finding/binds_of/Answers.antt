@@ -7,6 +7,5 @@ use Rattle.call_plan.proofs.finding.binds_of.Goals as goal
 
 pub returns-then-stores-eq1 : goal.returns-then-stores-eq1
 returns-then-stores-eq1 c =
-    let free = rw c.in-Plain.is at c.requires.free in
-    let members = one_store c.args.chain.now.nodes c.args.chain.now.stores (ap (λ (ss : List Stored). length ss) (sym c.stores.ensures) ∙ c.if-stores-eq1.true) c.requires.known c.args.bound.items free in
+    let members = one_store c.args.chain.now.nodes c.args.chain.now.stores (ap (λ (ss : List Stored). length ss) (sym c.stores.ensures) ∙ c.if-stores-eq1.true) c.requires.known c.args.bound.items (c.requires.free c.if-plain.true) in
     subst (λ (xs : List Var). AreMembers c.args.chain.now.nodes c.args.chain.now.stores c.args.bound.items xs) (sym c.in_ok-list.ensures.ok) members

@@ -1,15 +1,13 @@
-use Rattle.std.proofs.Common.{◌≡◌, List, sym, subst, ◌∙◌, ap, rules}
+use Rattle.std.proofs.Common.{◌≡◌, List, ap, rules}
 use Rattle.akl_model.specs.declared.label.Rule.{Rule}
 use Rattle.akl_terms.specs.declared.name.Name.{Name}
 use Rattle.akl_terms.specs.declared.program.Goal.{Goal}
-use Rattle.local_store.specs.Stored.{Stored}
 use Rattle.table_laws.specs.Steps as laws
 use Rattle.box_tree.specs.declared.step.Step.{Step}
 use Rattle.box_tree.specs.Edits.{named_atoms}
 use Rattle.guard_plan.proofs.Collected.{collect_uncollected, collect_planned}
 use Rattle.box_tree.specs.Plans.{IsRight}
 use Rattle.guard_plan.specs.Collecting.{frames_of}
-use Rattle.guard_plan.specs.Solved.{IsKnownGathered}
 use Rattle.guard_plan.proofs.Joined.{gathered_known}
 use Rattle.guard_plan.proofs.PlanOf.{plan_of}
 use Rattle.guard_plan.proofs.Sites.{some_stores}
@@ -23,16 +21,15 @@ returns-in_default c =
 pub joined_store-requires-clause-some : goal.joined_store-requires-clause-some
 joined_store-requires-clause-some c = rw c.chain.ensures.stores (some_stores c.args.view.now c.label_of-label.ensures.seen)
 
-pub new-requires-3-clause-right : goal.new-requires-3-clause-right
-new-requires-3-clause-right c =
+pub new-requires-2-clause-right : goal.new-requires-2-clause-right
+new-requires-2-clause-right c =
     let list = rw (c.in-Some.is, c.alternatives-2.ensures.alternatives, c.worker.ensures, c.next-next.ensures, c.requires.program) at c.in_ok-equations.ensures in
     let joined = rw (c.chain.ensures.nodes, c.chain.ensures.stores, c.chain.ensures.known, c.alternatives-3.ensures.alternatives, c.as_slice.ensures.value, c.worker.ensures, c.next-next.ensures, c.requires.program) at c.in_ok-store.ensures in
     let members = rw (c.chain-2.ensures.nodes, c.chain-2.ensures.stores, c.as_slice-2.ensures, c.requires.program) at c.in_ok-binds.ensures.members in
     rw (c.label_of-label.ensures.label, c.in_ok-reads.ensures, c.path.ensures, c.alternatives.ensures.alternatives)
     (collect_planned c.args.view.now c.label_of-label.ensures.seen c.args.goal c.args.list c.requires.place c.requires.sight c.requires.solved (rw c.requires.program at c.requires.quiet) c.requires.few
-    c.in-Some.equations.items list c.in_ok-store.field-0 joined c.in_ok-binds.binds.items members (Step.Join c.in_ok-store-2.store c.in_ok-store.field-0.solved c.new-2.result 0 0)
-    (ap (λ (s : Stored). laws.joins s c.in_ok-store.field-0.solved (named_atoms c.args.view.now.table.program.templates.nodes c.new-2.result.items)) c.in_ok-store-2.ensures
-    ∙ ap (λ (l : List (Name × Goal)). laws.joins c.in_ok-store.field-0.store c.in_ok-store.field-0.solved (named_atoms c.args.view.now.table.program.templates.nodes l)) c.new-2.ensures.items))
+    c.in-Some.equations.items list c.in_ok-store.field-0 joined c.in_ok-binds.binds.items members (Step.Join c.in_ok-store.field-0.store c.in_ok-store.field-0.solved c.new.result 0 0)
+    (ap (λ (l : List (Name × Goal)). laws.joins c.in_ok-store.field-0.store c.in_ok-store.field-0.solved (named_atoms c.args.view.now.table.program.templates.nodes l)) c.new.ensures.items))
 
 not_split : Rule.Collect ≡ Rule.Split → ⊥
 not_split e = cc
@@ -44,4 +41,4 @@ returns c =
     let joined = rw (c.chain.ensures.nodes, c.chain.ensures.stores, c.chain.ensures.known, c.alternatives-3.ensures.alternatives, c.as_slice.ensures.value, c.worker.ensures, c.next-next.ensures, c.requires.program) at c.in_ok-store.ensures in
     let known = gathered_known v.table.program.templates.nodes v.stores v.known v.alternatives (frames_of v.worker v.next v.alternatives) c.in-Some.equations.items c.in_ok-store.field-0 joined c.label_of-label.ensures.seen.known.within in
     plan_of v c.in_ok-plan.plan _ _ _ _ _ right c.in_ok-plan.ensures Rule.Collect _ c.label_of-label.ensures.label
-    (subst (λ (s : Stored). IsKnownGathered v s c.in_ok-store.field-0.solved) (sym c.in_ok-store-2.ensures) known) not_split
+    known not_split

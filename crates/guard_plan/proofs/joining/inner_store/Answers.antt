@@ -1,4 +1,4 @@
-use Rattle.std.proofs.lemmas.Result.{IfOk-weaker}
+use Rattle.std.proofs.Common.{refl}
 use Rattle.guard_plan.proofs.Listed.{known_inner}
 use Rattle.guard_plan.proofs.joining.inner_store.Goals as goal
 
@@ -9,4 +9,4 @@ of_solved-chain-requires c = rw (c.templates.ensures.nodes, c.as_slice.ensures.v
 pub returns : goal.returns
 returns c =
     let answer = rw (c.of_solved-chain.ensures, c.templates.ensures.nodes, c.as_slice.ensures.value, c.in_ok-push.ensures.items, c.in_ok-stores.ensures, c.stores.ensures, c.in_ok-new.ensures, c.in_ok-bindings_of.ensures, c.known.ensures.known) at c.in_ok-store.ensures in
-    IfOk-weaker c.new-2.result _ _ (λ s e. record { answer = c.in_ok-store.field-0; told = answer; store = e }) c.new-2.ensures
+    record { answer = c.in_ok-store.field-0; told = answer; store = refl }

@@ -5,7 +5,6 @@ use Rattle.akl_terms.specs.declared.name.Name.{Name}
 use Rattle.akl_terms.specs.declared.program.Goal.{Goal}
 use Rattle.akl_model.specs.declared.label.Rule.{Rule}
 use Rattle.box_tree.specs.declared.step.Step.{Step}
-use Rattle.local_store.specs.Stored.{Stored}
 use Rattle.box_tree.specs.Edits.{named_atoms}
 use Rattle.table_laws.specs.Steps as laws
 use Rattle.guard_plan.proofs.Chosen.{only_testable, only_deep, only_unsolved, only_many, only_unheld, only_planned}
@@ -46,8 +45,8 @@ pub promoted-requires : goal.promoted-requires
 promoted-requires c = rw (c.of_solved-chain.ensures, c.as_slice.ensures.value, c.in_ok-push.ensures.items, c.in_ok-stores.ensures, c.in_ok-share.ensures, c.stores.ensures)
     (only_deep c.args.view.now c.label_for-label.ensures.seen c.args.goal c.args.op c.requires.place c.requires.sight c.requires.guarded c.args.only.now c.requires.only)
 
-pub new-requires-2-clause-right : goal.new-requires-2-clause-right
-new-requires-2-clause-right c =
+pub new-requires-clause-right : goal.new-requires-clause-right
+new-requires-clause-right c =
     let says = rw (c.of_solved-chain.ensures, c.as_slice.ensures.value, c.in_ok-push.ensures.items, c.in_ok-stores.ensures, c.in_ok-share.ensures, c.stores.ensures, c.requires.program) at c.in_ok-guard_holds.ensures.holds in
     let answer = rw (c.of_solved-chain.ensures, c.as_slice.ensures.value, c.in_ok-push.ensures.items, c.in_ok-stores.ensures, c.in_ok-share.ensures, c.stores.ensures, c.requires.program) at c.in_ok-store.ensures in
     let goals = rw (c.worker.ensures, c.next-next.ensures, c.body-2.ensures) at c.in_ok-goals.ensures in
@@ -56,9 +55,8 @@ new-requires-2-clause-right c =
     rw (c.label_for-label.ensures.label, c.in_ok-reads.ensures, c.path.ensures, c.body.ensures)
     (only_planned c.args.view.now c.label_for-label.ensures.seen c.args.goal c.args.op c.requires.place c.requires.sight c.requires.guarded c.args.only.now c.requires.only
     c.if-not-only.false (says.0 c.if-not-branch.false) few c.in_ok-store.field-0 c.args.only.now.known answer c.in_ok-binds.binds.items members
-    (Step.Join c.in_ok-store-2.store c.in_ok-store.field-0.solved c.in_ok-goals.goals 0 0)
-    (ap (λ (s : Stored). laws.joins s c.in_ok-store.field-0.solved (named_atoms c.args.view.now.table.program.templates.nodes c.in_ok-goals.goals.items)) c.in_ok-store-2.ensures
-    ∙ ap (λ (l : List (Name × Goal)). laws.joins c.in_ok-store.field-0.store c.in_ok-store.field-0.solved (named_atoms c.args.view.now.table.program.templates.nodes l)) goals))
+    (Step.Join c.in_ok-store.field-0.store c.in_ok-store.field-0.solved c.in_ok-goals.goals 0 0)
+    (ap (λ (l : List (Name × Goal)). laws.joins c.in_ok-store.field-0.store c.in_ok-store.field-0.solved (named_atoms c.args.view.now.table.program.templates.nodes l)) goals))
 
 pub returns : goal.returns
 returns c =

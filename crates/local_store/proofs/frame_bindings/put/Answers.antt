@@ -1,7 +1,6 @@
-use Rattle.std.proofs.Common.{◌≡◌, ◌≤◌, List, length, sym, ap, ◌∙◌, arith}
+use Rattle.std.proofs.Common.{◌≡◌, ◌≤◌, length, sym, ap, ◌∙◌, arith}
 use Rattle.std.specs.List.{insert}
 use Rattle.std.specs.Prelude.{nat_lt, not}
-use Rattle.akl_terms.specs.declared.term.Term.{Term}
 use Rattle.local_store.specs.Kept.{place_at}
 use Rattle.local_store.proofs.Places.{front-within, put-here, put-last}
 use Rattle.local_store.proofs.frame_bindings.put.Goals as goal

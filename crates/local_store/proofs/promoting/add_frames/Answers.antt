@@ -5,7 +5,7 @@ use Rattle.local_store.proofs.Joining.{frames-push, drained}
 use Rattle.local_store.proofs.promoting.add_frames.Goals as goal
 
 pub loop-frame-preserved : goal.loop-frame-preserved
-loop-frame-preserved c = ap (λ (s : Stored). with_frames s c.pop.new.self.items) c.in_ok-add_frame.ensures.added
+loop-frame-preserved c = ap (λ (s : Stored). with_frames s c.pop.new.self.items) c.in_ok-add_frame.ensures
     ∙ sym (frames-push c.loop-frame.store c.pop.new.self.items c.in-Some.frame) ∙ ap (with_frames c.loop-frame.store) (sym c.in-Some.ensures.items) ∙ c.loop-frame.invariant
 
 pub returns : goal.returns

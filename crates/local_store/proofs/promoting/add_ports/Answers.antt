@@ -5,7 +5,7 @@ use Rattle.local_store.proofs.Joining.{ports-push, drained}
 use Rattle.local_store.proofs.promoting.add_ports.Goals as goal
 
 pub loop-port-preserved : goal.loop-port-preserved
-loop-port-preserved c = ap (λ (s : Stored). with_ports s c.pop.new.self.items) c.in_ok-set_port.ensures.set
+loop-port-preserved c = ap (λ (s : Stored). with_ports s c.pop.new.self.items) c.in_ok-set_port.ensures
     ∙ sym (ports-push c.loop-port.store c.pop.new.self.items c.in-Some.port) ∙ ap (with_ports c.loop-port.store) (sym c.in-Some.ensures.items) ∙ c.loop-port.invariant
 
 pub returns : goal.returns

@@ -12,4 +12,4 @@ returns c =
     let beside : innermost (around c.args.chain.now.stores) ≡ c.get.result.now =
     beside-index c.args.chain.now.stores c.index-stores-count.result c.get.result.now c.requires (c.get.ensures ∙ (rw c.stores-stores.ensures at c.index-stores-count.is)) in
     promotes-chain c.args.chain.now.nodes c.args.chain.now.stores c.args.chain.now.known c.join_store.new.told c.requires
-    (rw (c.of-told.ensures.store, c.in_ok-share_to_tell.ensures, sym beside) at c.in_ok-join_store.ensures)
+    (rw (c.of-told.ensures.store, c.in_ok-store.ensures, c.in_ok-share_to_tell.ensures, sym beside) at c.in_ok-join_store.ensures)

@@ -1,4 +1,4 @@
-use Rattle.std.proofs.Common.{◌≡◌, ◌<◌, ◌-◌, sym, ap, ◌∙◌, drop, length, arith}
+use Rattle.std.proofs.Common.{◌≡◌, ◌-◌, sym, ap, ◌∙◌, drop, length, arith}
 use Rattle.std.proofs.lemmas.List.{drop_all, length-drop}
 use Rattle.local_store.proofs.Steps.{drop-one}
 use Rattle.local_store.proofs.settling.remove_bindings.Goals as goal

@@ -8,14 +8,14 @@ use Rattle.plain_heads.proofs.joining.joined.Goals as goal
 pub returns-clause-promoted : goal.returns-clause-promoted
 returns-clause-promoted c =
     let last : innermost c.args.path.now ≡ c.get.result.now = innermost-index c.args.path.now c.index-path-path.result c.get.result.now c.requires.some (c.get.ensures ∙ c.index-path-path.is) in
-    let store = c.in_ok-add_all.ensures ∙ ap (λ (s : Stored). with_bindings s c.args.bindings.now) (c.in_ok-add_frame.ensures.added ∙ ap (λ (s : Stored). with_frame s c.args.frame) (c.in_ok-store.ensures ∙ sym last)) in
-    answers c.args.templates.now.nodes c.args.path.now c.args.frame c.args.bindings.now c.requires.plain c.requires.solved c.requires.some _ store refl c.in_ok-bound.ensures
+    let store = c.in_ok-new.ensures ∙ c.in_ok-store.ensures ∙ ap (λ (s : Stored). with_bindings (with_frame s c.args.frame) c.args.bindings.items) (sym last) in
+    answers c.args.templates.now.nodes c.args.path.now c.args.frame c.args.bindings.items c.requires.plain c.requires.solved c.requires.some _ store refl (rw c.as_slice.ensures.value at c.in_ok-bound.ensures)
 
 pub returns-clause-free : goal.returns-clause-free
-returns-clause-free c = rw c.in_ok-bound.ensures (listed_free c.args.templates.now.nodes c.args.path.now c.args.frame c.args.bindings.now c.requires.plain)
+returns-clause-free c = rw (c.in_ok-bound.ensures, c.as_slice.ensures.value) (listed_free c.args.templates.now.nodes c.args.path.now c.args.frame c.args.bindings.items c.requires.plain)
 
 pub returns-clause-kept : goal.returns-clause-kept
 returns-clause-kept c =
     let last : innermost c.args.path.now ≡ c.get.result.now = innermost-index c.args.path.now c.index-path-path.result c.get.result.now c.requires.some (c.get.ensures ∙ c.index-path-path.is) in
-    let store = c.in_ok-add_all.ensures ∙ ap (λ (s : Stored). with_bindings s c.args.bindings.now) (c.in_ok-add_frame.ensures.added ∙ ap (λ (s : Stored). with_frame s c.args.frame) (c.in_ok-store.ensures ∙ sym last)) in
-    kept_bound c.args.templates.now.nodes c.args.path.now c.args.frame c.args.bindings.now c.requires.plain c.requires.solved _ store
+    let store = c.in_ok-new.ensures ∙ c.in_ok-store.ensures ∙ ap (λ (s : Stored). with_bindings (with_frame s c.args.frame) c.args.bindings.items) (sym last) in
+    kept_bound c.args.templates.now.nodes c.args.path.now c.args.frame c.args.bindings.items c.requires.plain c.requires.solved _ store

@@ -1,6 +1,4 @@
-use Rattle.std.proofs.Common.{◌≡◌, false, true, ap, ◌∙◌, arith}
-use Rattle.std.proofs.lemmas.Bool.Decides.{nat_tests}
-use Rattle.std.specs.Prelude.{◌==◌, get_or, Some, None, cond, option_map}
+use Rattle.std.proofs.Common.{false, true, ap, ◌∙◌}
 use Rattle.local_store.specs.Kept.{found_at}
 use Rattle.local_store.proofs.Steps.{found_at-next, found_at-here, one-at, other-at}
 use Rattle.local_store.proofs.frame_bindings.FrameBindings.first.Goals as goal

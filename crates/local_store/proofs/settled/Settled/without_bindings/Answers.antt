@@ -1,6 +1,5 @@
-use Rattle.std.proofs.Common.{[], sym, ap, ◌∙◌, ◌≡◌, take}
+use Rattle.std.proofs.Common.{[], ap, ◌∙◌}
 use Rattle.std.proofs.lemmas.List.{take_all}
-use Rattle.std.specs.List.Sorted.{IsStrictlySortedBy}
 use Rattle.local_store.specs.Stored.{all_named}
 use Rattle.local_store.proofs.Steps.{all_named-next}
 use Rattle.local_store.proofs.SettledFrames.{named-in_order}

@@ -1,4 +1,4 @@
-use Rattle.std.proofs.Common.{◌≡◌, List, ap, ◌∙◌}
+use Rattle.std.proofs.Common.{List, ap, ◌∙◌}
 use Rattle.akl_terms.specs.declared.name.Name.{Name}
 use Rattle.local_store.specs.Stored.{Stored, with_frame, joins}
 use Rattle.local_store.specs.Kept.{value_of, frames_of, bindings_of}

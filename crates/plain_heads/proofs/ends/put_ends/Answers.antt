@@ -2,7 +2,7 @@ use Rattle.std.proofs.Common.{length-append, arith}
 use Rattle.akl_terms.specs.declared.term.Term.{Term}
 use Rattle.local_store.specs.Chained.{bindings_from}
 use Rattle.plain_heads.proofs.NodeEnds.{ends_further}
-use Rattle.plain_heads.proofs.ends.ends_of.Goals as goal
+use Rattle.plain_heads.proofs.ends.put_ends.Goals as goal
 
 pub loop-index-preserved : goal.loop-index-preserved
 loop-index-preserved c =

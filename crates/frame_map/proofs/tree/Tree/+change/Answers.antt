@@ -8,12 +8,12 @@ use Rattle.frame_map.specs.Contents.{all_contents, FitsIn}
 use Rattle.frame_map.proofs.Bounds.{HasChildren}
 use Rattle.frame_map.proofs.Changes.{children_owned, slots_owned, on_err}
 use Rattle.frame_map.proofs.Parts.{last_below}
-use Rattle.frame_map.proofs.Inserts.{leaf_put, leaf_same, leaf_fits, more_has, copied_same, copied_fits, longer_same, longer_fits, child_had, changed_put, changed_same, changed_fits}
+use Rattle.frame_map.proofs.Inserts.{leaf_made, leaf_same, leaf_fits, more_has, copied_same, copied_fits, longer_same, longer_fits, child_had, changed_made, changed_same, changed_fits}
 use Rattle.frame_map.proofs.Trees.{out_leaf}
-use Rattle.frame_map.proofs.tree.Tree.+insert.Goals as goal
+use Rattle.frame_map.proofs.tree.Tree.+change.Goals as goal
 
-pub insert-requires : goal.insert-requires
-insert-requires g t c κs within =
+pub change-requires : goal.change-requires
+change-requires g t c κs within =
     let v = c.in_ok-children-in-Inner.children.now in
     let owned : all_contents v.items ≡ all_contents (arc_value c.in-Inner.children).items =
     children_owned _ v c.in_ok-children-in-Inner.ensures.value ∙ ap (λ (a : Arc (Vec (Tree g.row.V.Denot) Global) Global). all_contents (arc_value a).items) c.in-Inner.children-is in
@@ -30,7 +30,7 @@ insert-requires g t c κs within =
     let room = c.requires.width in
     let fits : FitsIn _ x = child_had c.args.self.now c.begin.new.self c.in-Inner.below _ c.in-Inner.children c.in-Inner.is c.in-Inner.below-is c.begin.ensures.same v.items owned more.items (c.make_children.ensures.same _) index x x there c.index_mut.ensures.value c.args.width has in (
       subst (λ (n : ℕ). n < t) (sym below) (omega arith),
-      (within, (c.requires.clones, (fits, (last_below c.args.number _ c.last_digits.result c.last_digits.ensures, omega arith)))),
+      (within.0, (within.1, (c.requires.clones, (fits, (last_below c.args.number _ c.last_digits.result c.last_digits.ensures, omega arith))))),
     )
 
 pub returns-in_err-slots-in-Leaf-clause-unchanged : goal.returns-in_err-slots-in-Leaf-clause-unchanged
@@ -88,15 +88,15 @@ returns-in_err-make_children-in-Inner-clause-fits g t c =
     let holds : (arc_value b).items ≡ more.items = ap (λ (u : Vec (Tree g.row.V.Denot) Global). u.items) (c.make_mut-in-Inner.follows.holds more (ap is_ok c.in_ok-children-in-Inner.was)) in
     longer_fits c.args.self.now c.begin.new.self c.in-Inner.below _ c.in-Inner.children c.in-Inner.is c.in-Inner.below-is c.begin.ensures.same v.items owned more.items (c.make_children.ensures.same _) b holds c.args.width has
 
-pub returns-in_ok-slots-in-Leaf-clause-put : goal.returns-in_ok-slots-in-Leaf-clause-put
-returns-in_ok-slots-in-Leaf-clause-put g t c =
+pub returns-in_ok-slots-in-Leaf-clause-made : goal.returns-in_ok-slots-in-Leaf-clause-made
+returns-in_ok-slots-in-Leaf-clause-made g t c =
     let v = c.in_ok-slots-in-Leaf.slots.now in
     let owned : v.items ≡ c.in-Leaf.slots.value.items =
     slots_owned g.V.Clone.is_clone _ (λ x y h. h) (λ x h. h) (λ y h. h) c.requires.clones _ v c.in_ok-slots-in-Leaf.ensures.value
     ∙ ap (λ (a : Arc (Vec (Option g.row.V.Denot) Global) Global). (arc_value a).items) c.in-Leaf.slots-is in
-    let b = c.make_mut.follows.lender c.put_slot.new.slots in
-    let holds : (arc_value b).items ≡ c.put_slot.new.slots.items = ap (λ (u : Vec (Option g.row.V.Denot) Global). u.items) (c.make_mut.follows.holds c.put_slot.new.slots (ap is_ok c.in_ok-slots-in-Leaf.was)) in
-    rw (c.in-Leaf.is, out_leaf) (on_ok_map c.put_slot.result (leaf_put c.args.self.now c.begin.new.self c.in-Leaf.slots c.in-Leaf.is c.begin.ensures.same v.items owned b c.put_slot.new.slots.items holds c.args.number c.args.value.now) c.put_slot.ensures.put)
+    let b = c.make_mut.follows.lender c.change_slot.new.slots in
+    let holds : (arc_value b).items ≡ c.change_slot.new.slots.items = ap (λ (u : Vec (Option g.row.V.Denot) Global). u.items) (c.make_mut.follows.holds c.change_slot.new.slots (ap is_ok c.in_ok-slots-in-Leaf.was)) in
+    rw (c.in-Leaf.is, out_leaf) (on_ok_map c.change_slot.result (leaf_made c.args.self.now c.begin.new.self c.in-Leaf.slots c.in-Leaf.is c.begin.ensures.same v.items owned b c.change_slot.new.slots.items holds c.args.number (g.C.Change.makes c.args.change)) c.change_slot.ensures.made)
 
 pub returns-in_ok-slots-in-Leaf-clause-unchanged : goal.returns-in_ok-slots-in-Leaf-clause-unchanged
 returns-in_ok-slots-in-Leaf-clause-unchanged g t c =
@@ -104,9 +104,9 @@ returns-in_ok-slots-in-Leaf-clause-unchanged g t c =
     let owned : v.items ≡ c.in-Leaf.slots.value.items =
     slots_owned g.V.Clone.is_clone _ (λ x y h. h) (λ x h. h) (λ y h. h) c.requires.clones _ v c.in_ok-slots-in-Leaf.ensures.value
     ∙ ap (λ (a : Arc (Vec (Option g.row.V.Denot) Global) Global). (arc_value a).items) c.in-Leaf.slots-is in
-    let b = c.make_mut.follows.lender c.put_slot.new.slots in
-    let holds : (arc_value b).items ≡ c.put_slot.new.slots.items = ap (λ (u : Vec (Option g.row.V.Denot) Global). u.items) (c.make_mut.follows.holds c.put_slot.new.slots (ap is_ok c.in_ok-slots-in-Leaf.was)) in
-    rw (c.in-Leaf.is, out_leaf) (on_err_map c.put_slot.result (leaf_same c.args.self.now c.begin.new.self c.in-Leaf.slots c.in-Leaf.is c.begin.ensures.same v.items owned b c.put_slot.new.slots.items holds) c.put_slot.ensures.unchanged)
+    let b = c.make_mut.follows.lender c.change_slot.new.slots in
+    let holds : (arc_value b).items ≡ c.change_slot.new.slots.items = ap (λ (u : Vec (Option g.row.V.Denot) Global). u.items) (c.make_mut.follows.holds c.change_slot.new.slots (ap is_ok c.in_ok-slots-in-Leaf.was)) in
+    rw (c.in-Leaf.is, out_leaf) (on_err_map c.change_slot.result (leaf_same c.args.self.now c.begin.new.self c.in-Leaf.slots c.in-Leaf.is c.begin.ensures.same v.items owned b c.change_slot.new.slots.items holds) c.change_slot.ensures.unchanged)
 
 pub returns-in_ok-slots-in-Leaf-clause-fits : goal.returns-in_ok-slots-in-Leaf-clause-fits
 returns-in_ok-slots-in-Leaf-clause-fits g t c =
@@ -114,12 +114,12 @@ returns-in_ok-slots-in-Leaf-clause-fits g t c =
     let owned : v.items ≡ c.in-Leaf.slots.value.items =
     slots_owned g.V.Clone.is_clone _ (λ x y h. h) (λ x h. h) (λ y h. h) c.requires.clones _ v c.in_ok-slots-in-Leaf.ensures.value
     ∙ ap (λ (a : Arc (Vec (Option g.row.V.Denot) Global) Global). (arc_value a).items) c.in-Leaf.slots-is in
-    let b = c.make_mut.follows.lender c.put_slot.new.slots in
-    let holds : (arc_value b).items ≡ c.put_slot.new.slots.items = ap (λ (u : Vec (Option g.row.V.Denot) Global). u.items) (c.make_mut.follows.holds c.put_slot.new.slots (ap is_ok c.in_ok-slots-in-Leaf.was)) in
-    rw (c.in-Leaf.is, out_leaf) (leaf_fits c.args.self.now c.begin.new.self c.in-Leaf.slots c.in-Leaf.is c.begin.ensures.same v.items owned b c.put_slot.new.slots.items holds c.args.width c.args.number c.begin.ensures.fits c.requires.number (omega (arith, c.put_slot.ensures.most, v.ok, c.put_slot.new.slots.ok)))
+    let b = c.make_mut.follows.lender c.change_slot.new.slots in
+    let holds : (arc_value b).items ≡ c.change_slot.new.slots.items = ap (λ (u : Vec (Option g.row.V.Denot) Global). u.items) (c.make_mut.follows.holds c.change_slot.new.slots (ap is_ok c.in_ok-slots-in-Leaf.was)) in
+    rw (c.in-Leaf.is, out_leaf) (leaf_fits c.args.self.now c.begin.new.self c.in-Leaf.slots c.in-Leaf.is c.begin.ensures.same v.items owned b c.change_slot.new.slots.items holds c.args.width c.args.number c.begin.ensures.fits c.requires.number (omega (arith, c.change_slot.ensures.most, v.ok, c.change_slot.new.slots.ok)))
 
-pub returns-in_ok-make_children-in-Inner-clause-put : goal.returns-in_ok-make_children-in-Inner-clause-put
-returns-in_ok-make_children-in-Inner-clause-put g t c =
+pub returns-in_ok-make_children-in-Inner-clause-made : goal.returns-in_ok-make_children-in-Inner-clause-made
+returns-in_ok-make_children-in-Inner-clause-made g t c =
     let v = c.in_ok-children-in-Inner.children.now in
     let owned : all_contents v.items ≡ all_contents (arc_value c.in-Inner.children).items =
     children_owned _ v c.in_ok-children-in-Inner.ensures.value ∙ ap (λ (a : Arc (Vec (Tree g.row.V.Denot) Global) Global). all_contents (arc_value a).items) c.in-Inner.children-is in
@@ -127,10 +127,10 @@ returns-in_ok-make_children-in-Inner-clause-put g t c =
     let index = c.first_digit-index.result in
     let x = c.index_mut.result.now in
     let there : index < length more.items = omega (arith, c.in_ok-make_children-in-Inner.ensures.there, more.ok) in
-    let y = c.insert.new.self in
+    let y = c.change.new.self in
     let b = c.make_mut-in-Inner.follows.lender (with_item more index y) in
     let holds : (arc_value b).items ≡ set more.items index y = ap (λ (u : Vec (Tree g.row.V.Denot) Global). u.items) (c.make_mut-in-Inner.follows.holds (with_item more index y) (ap is_ok c.in_ok-children-in-Inner.was)) in
-    on_ok_map c.insert.result (changed_put c.args.self.now c.begin.new.self c.in-Inner.below _ c.in-Inner.children c.in-Inner.is c.in-Inner.below-is c.begin.ensures.same v.items owned more.items (c.make_children.ensures.same _) index x y there c.index_mut.ensures.value b holds c.args.number c.last_digits.result c.args.value.now c.first_digit-index.ensures c.last_digits.ensures) c.insert.ensures.put
+    on_ok_map c.change.result (changed_made c.args.self.now c.begin.new.self c.in-Inner.below _ c.in-Inner.children c.in-Inner.is c.in-Inner.below-is c.begin.ensures.same v.items owned more.items (c.make_children.ensures.same _) index x y there c.index_mut.ensures.value b holds c.args.number c.last_digits.result (g.C.Change.makes c.args.change) c.first_digit-index.ensures c.last_digits.ensures) c.change.ensures.made
 
 pub returns-in_ok-make_children-in-Inner-clause-unchanged : goal.returns-in_ok-make_children-in-Inner-clause-unchanged
 returns-in_ok-make_children-in-Inner-clause-unchanged g t c =
@@ -141,10 +141,10 @@ returns-in_ok-make_children-in-Inner-clause-unchanged g t c =
     let index = c.first_digit-index.result in
     let x = c.index_mut.result.now in
     let there : index < length more.items = omega (arith, c.in_ok-make_children-in-Inner.ensures.there, more.ok) in
-    let y = c.insert.new.self in
+    let y = c.change.new.self in
     let b = c.make_mut-in-Inner.follows.lender (with_item more index y) in
     let holds : (arc_value b).items ≡ set more.items index y = ap (λ (u : Vec (Tree g.row.V.Denot) Global). u.items) (c.make_mut-in-Inner.follows.holds (with_item more index y) (ap is_ok c.in_ok-children-in-Inner.was)) in
-    on_err_map c.insert.result (changed_same c.args.self.now c.begin.new.self c.in-Inner.below _ c.in-Inner.children c.in-Inner.is c.in-Inner.below-is c.begin.ensures.same v.items owned more.items (c.make_children.ensures.same _) index x y there c.index_mut.ensures.value b holds) c.insert.ensures.unchanged
+    on_err_map c.change.result (changed_same c.args.self.now c.begin.new.self c.in-Inner.below _ c.in-Inner.children c.in-Inner.is c.in-Inner.below-is c.begin.ensures.same v.items owned more.items (c.make_children.ensures.same _) index x y there c.index_mut.ensures.value b holds) c.change.ensures.unchanged
 
 pub returns-in_ok-make_children-in-Inner-clause-fits : goal.returns-in_ok-make_children-in-Inner-clause-fits
 returns-in_ok-make_children-in-Inner-clause-fits g t c =
@@ -158,7 +158,7 @@ returns-in_ok-make_children-in-Inner-clause-fits g t c =
     let index = c.first_digit-index.result in
     let x = c.index_mut.result.now in
     let there : index < length more.items = omega (arith, c.in_ok-make_children-in-Inner.ensures.there, more.ok) in
-    let y = c.insert.new.self in
+    let y = c.change.new.self in
     let b = c.make_mut-in-Inner.follows.lender (with_item more index y) in
     let holds : (arc_value b).items ≡ set more.items index y = ap (λ (u : Vec (Tree g.row.V.Denot) Global). u.items) (c.make_mut-in-Inner.follows.holds (with_item more index y) (ap is_ok c.in_ok-children-in-Inner.was)) in
-    changed_fits c.args.self.now c.begin.new.self c.in-Inner.below _ c.in-Inner.children c.in-Inner.is c.in-Inner.below-is c.begin.ensures.same v.items owned more.items (c.make_children.ensures.same _) index x y there c.index_mut.ensures.value b holds c.args.width has c.insert.ensures.fits
+    changed_fits c.args.self.now c.begin.new.self c.in-Inner.below _ c.in-Inner.children c.in-Inner.is c.in-Inner.below-is c.begin.ensures.same v.items owned more.items (c.make_children.ensures.same _) index x y there c.index_mut.ensures.value b holds c.args.width has c.change.ensures.fits
