@@ -4,62 +4,49 @@ use crate::help::HELP;
 use crate::list::make_runs;
 use crate::load::text_of;
 use crate::shown::show_asked;
-use crate::streams::{say, show_text};
-use crate::words::{Command, read_words};
+use crate::streams::{fixed_text, refuse_word, say, show_text};
+use crate::words::{Asked, read_words};
 use akl_outside::StreamSource;
-use akl_run::{Status, Stop, refusal_line};
-use std::alloc::{AllocError, Global};
+use akl_run::Status;
 use std::sync::Wait;
 use std::thread::Threads;
 
-// Says why a command is stopped, and answers its status.
-fn say_stop(host: &HostRuntime, stop: &Stop) -> Status {
-    match refusal_line(host.alloc(), stop.status, &stop.refusal) {
-        Ok(line) => say(host, &line),
-        Err(_) => say(host, b"akl: out of memory\n"),
+// The text that standard input has.
+fn text_given(host: &HostRuntime) -> Result<Vec<u8>, Status> {
+    text_of(host.alloc(), &mut StreamSource::new(host.stdin()))
+}
+
+// Makes the runs of a list, or shows the one that is asked, over what standard input has.
+fn make<R: Threads + Wait + Sync>(rt: &R, host: &HostRuntime, asked: Option<&Asked<'_>>) -> Status {
+    match text_given(host) {
+        Ok(text) => match asked {
+            Some(asked) => show_asked(rt, host, &text, asked),
+            None => make_runs(rt, host, &text),
+        },
+        Err(status) => status,
     }
-    stop.status
 }
 
-// The line that says which word is refused.
-fn refused_line(alloc: Global, at: usize) -> Result<String, AllocError> {
-    format!(in alloc; "akl_steps: word {at} is refused; --help tells the words\n")
-}
-
-/// Says that the word of this number, from 0, is refused. Answers the status.
-pub fn refuse_word(host: &HostRuntime, at: usize) -> Status {
-    match refused_line(host.alloc(), at) {
-        Ok(line) => {
-            say(host, line.as_str().as_bytes());
-            Status::Words
-        }
-        Err(_) => {
-            say(host, b"akl: out of memory\n");
-            Status::NoMemory
-        }
+// Prints what the command says of itself.
+fn help(host: &HostRuntime) -> Status {
+    match show_text(host, HELP.as_bytes()) {
+        Ok(()) => Status::Done,
+        Err(status) => status,
     }
 }
 
 // Does what the words ask.
-fn work<R: Threads + Wait + Sync>(
-    rt: &R,
-    host: &HostRuntime,
-    words: &[String],
-) -> Result<Status, Stop> {
-    match read_words(host.alloc(), words)? {
-        Command::Help => {
-            show_text(host, HELP.as_bytes())?;
-            Ok(Status::Done)
+fn work<R: Threads + Wait + Sync>(rt: &R, host: &HostRuntime, words: &[String]) -> Status {
+    if let [word] = words {
+        match word.as_str() {
+            "--help" => return help(host),
+            "--runs" => return make(rt, host, None),
+            _ => {}
         }
-        Command::List => {
-            let list = text_of(host.alloc(), &mut StreamSource::new(host.stdin()))?;
-            make_runs(rt, host, &list)
-        }
-        Command::Show(asked) => {
-            let text = text_of(host.alloc(), &mut StreamSource::new(host.stdin()))?;
-            show_asked(rt, host, &text, &asked)
-        }
-        Command::Refused(at) => Ok(refuse_word(host, at)),
+    }
+    match read_words(words) {
+        Ok(asked) => make(rt, host, Some(&asked)),
+        Err(at) => refuse_word(host, at),
     }
 }
 
@@ -67,8 +54,7 @@ fn work<R: Threads + Wait + Sync>(
 /// has, makes the runs of the list that it has, or prints what the command says of itself. A line on standard error says why
 /// something was refused or failed. Answers the status.
 pub fn answer<R: Threads + Wait + Sync>(rt: &R, host: &HostRuntime, words: &[String]) -> Status {
-    match work(rt, host, words) {
-        Ok(status) => status,
-        Err(stop) => say_stop(host, &stop),
-    }
+    let status = work(rt, host, words);
+    say(host, fixed_text(status));
+    status
 }

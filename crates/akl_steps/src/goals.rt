@@ -1,123 +1,106 @@
 //! Goals, boxes and places in the words of the source.
 
+use crate::load::called;
 use crate::origins::Origin;
 use crate::page::Page;
 use crate::scene::Scene;
-use crate::terms::{push_arguments, push_term};
-use akl_terms::{Code, Definition, Goal, Name, Term, Test};
+use crate::terms::{push_arguments, push_node};
+use akl_terms::{Code, Definition, Goal, Name, Test};
+use box_tree::Sight;
 
-// The text of a relation between two terms.
-fn relation(test: Test) -> &'static str {
-    match test {
-        Test::Is => " is ",
-        Test::Less => " < ",
-        Test::Greater => " > ",
-        Test::AtMost => " =< ",
-        Test::AtLeast => " >= ",
-        Test::Same => " =:= ",
-        Test::Differs => " =\\= ",
-    }
-}
-
-// Adds two terms with a text between.
-fn push_relation(
-    scene: Scene<'_>,
-    page: &mut Page,
-    (left, between, right): (u32, &'static str, u32),
-    frame: Name,
-) {
-    push_term(scene, page, Term::Mol { node: left, frame });
-    page.push(between);
-    push_term(scene, page, Term::Mol { node: right, frame });
-}
-
-// Adds a goal of two arguments.
-fn push_pair(
-    scene: Scene<'_>,
-    page: &mut Page,
-    (begin, left, right): (&'static str, u32, u32),
-    frame: Name,
-) {
-    page.push(begin);
-    push_relation(scene, page, (left, ",", right), frame);
-    page.push(")");
-}
+/// The texts of the relations between two terms, in the order of the tests.
+const RELATIONS: [&str; 7] = [" is ", " < ", " > ", " =< ", " >= ", " =:= ", " =\\= "];
 
 // Adds where a definition that no text names was made.
-fn push_place_of(page: &mut Page, called: &Definition) {
-    let symbol = called.key.symbol.as_str();
+fn push_place_of(page: &mut Page, definition: &Definition) {
+    let symbol = definition.key.symbol.as_str();
     if symbol.is_empty() {
         return page.push("the query");
     }
     page.push_constant(symbol);
     page.push("/");
-    page.push_number(called.key.arity as u64);
+    page.push_number(definition.key.arity as u64);
 }
 
-// Adds a call: of the definition that the text names, or of one that was made of a choice in brackets.
+// Adds a call of a definition that the text names, or of one that was made of a choice in brackets.
 fn push_call(
-    scene: Scene<'_>,
+    scene: &Scene<'_>,
     page: &mut Page,
-    definition: u32,
-    arguments: (u32, u32),
+    definition: &Definition,
+    first: u32,
+    count: u32,
     frame: Name,
 ) {
-    let Some(called) = scene.words.written.definition(definition) else {
-        return page.push("a call");
-    };
-    if called.lifted.is_none() {
-        page.push_constant(called.key.symbol.as_str());
-        return push_arguments(scene, page, arguments, frame);
+    if definition.lifted.is_some() {
+        page.push("the choice in ");
+        return push_place_of(page, definition);
     }
-    page.push("the choice in ");
-    push_place_of(page, called);
+    page.push_constant(definition.key.symbol.as_str());
+    push_arguments(scene, page, first, count, frame);
 }
 
-// Adds a collecting goal.
-fn push_collect(scene: Scene<'_>, page: &mut Page, definition: u32, list: Term) {
+// Adds a goal that collects by a definition.
+fn push_collect(
+    scene: &Scene<'_>,
+    page: &mut Page,
+    definition: &Definition,
+    list: u32,
+    frame: Name,
+) {
     page.push("the bagof for ");
-    push_term(scene, page, list);
+    push_node(scene, page, list, frame);
     page.push(" in ");
-    match scene.words.written.definition(definition) {
-        Some(called) => push_place_of(page, called),
-        None => page.push("a clause"),
+    push_place_of(page, definition);
+}
+
+// Adds a goal by which a definition is called.
+fn push_called(scene: &Scene<'_>, page: &mut Page, goal: &Goal) {
+    let Some(definition) = called(scene.program, goal.code) else {
+        return page.push("fail");
+    };
+    match goal.code {
+        Code::Call { first, count, .. } => {
+            push_call(scene, page, definition, first, count, goal.frame);
+        }
+        Code::Collect { result, .. } => {
+            push_collect(scene, page, definition, result, goal.frame);
+        }
+        _ => {}
     }
 }
 
 /// Adds a goal with what is known of its variables.
-pub fn push_goal(scene: Scene<'_>, page: &mut Page, goal: Goal) {
-    let frame = goal.frame;
-    match goal.code {
-        Code::Equal { left, right } => push_relation(scene, page, (left, " = ", right), frame),
-        Code::Arith { test, left, right } => {
-            push_relation(scene, page, (left, relation(test), right), frame);
-        }
-        Code::OpenPort { port, stream } => {
-            push_pair(scene, page, ("open_port(", port, stream), frame);
-        }
-        Code::Send { message, port } => push_pair(scene, page, ("send(", message, port), frame),
-        Code::Call {
-            definition,
-            first,
-            count,
-        } => push_call(scene, page, definition, (first, count), frame),
-        Code::Collect {
-            definition,
-            result: node,
-            ..
-        } => push_collect(scene, page, definition, Term::Mol { node, frame }),
-        Code::Fail => page.push("fail"),
-    }
+pub fn push_goal(scene: &Scene<'_>, page: &mut Page, goal: &Goal) {
+    let (begin, left, between, right, end) = match goal.code {
+        Code::Equal { left, right } => ("", left, " = ", right, ""),
+        Code::Arith { test, left, right } => ("", left, RELATIONS[test as usize], right, ""),
+        Code::OpenPort { port, stream } => ("open_port(", port, ",", stream, ")"),
+        Code::Send { message, port } => ("send(", message, ",", port, ")"),
+        _ => return push_called(scene, page, goal),
+    };
+    page.push(begin);
+    push_node(scene, page, left, goal.frame);
+    page.push(between);
+    push_node(scene, page, right, goal.frame);
+    page.push(end);
 }
 
 /// Adds the call that a choice was, with what is known of its variables.
-pub fn push_choice(scene: Scene<'_>, page: &mut Page, choice: Name) {
-    match scene.words.origins.call(choice) {
-        Some(call) => push_goal(scene, page, call),
+pub fn push_choice(scene: &Scene<'_>, page: &mut Page, choice: Name) {
+    match scene.origins.call(choice) {
+        Some(call) => push_goal(scene, page, &call),
         None => {
             page.push("goal ");
             page.push_name(choice);
         }
+    }
+}
+
+/// Adds the goal that stands at a place, or the call that the choice there was.
+pub fn push_at(scene: &Scene<'_>, page: &mut Page, place: Name, sight: Sight) {
+    match sight {
+        Sight::Atom(goal) => push_goal(scene, page, &goal),
+        _ => push_choice(scene, page, place),
     }
 }
 
@@ -128,8 +111,8 @@ pub fn push_ordinal(page: &mut Page, clause: usize) {
 }
 
 /// Adds what a box is: an alternative of a choice, whose call has what is known around the box, or a root box.
-pub fn push_box(around: Scene<'_>, page: &mut Page, name: Name) {
-    match around.words.origins.of(name) {
+pub fn push_box(around: &Scene<'_>, page: &mut Page, name: Name) {
+    match around.origins.of(name) {
         Some(Origin::Alternative { choice, clause }) => {
             push_ordinal(page, clause);
             page.push(" of ");

@@ -1,14 +1,13 @@
 //! The runs of a list.
 
-ghost use Rattle.std.specs.Prelude.{◌≤◌, IfOk, length};
-
 use crate::load::text_of;
-use crate::run::{run_of, words_of};
+use crate::page::Page;
+use crate::run::{make_run, push_words};
 use crate::shown::show_asked;
-use crate::streams::{show_page, show_text};
-use crate::words::{Command, read_words};
-use akl_outside::{ReadError, StreamSource};
-use akl_run::{Status, Stop, WordsError, refusal_line};
+use crate::streams::{fixed_text, refuse_word, show_last, show_text};
+use crate::words::read_words;
+use akl_outside::StreamSource;
+use akl_run::Status;
 use std::fs;
 use std::str::from_utf8;
 use std::sync::Wait;
@@ -32,7 +31,7 @@ fn row_of(line: &str) -> Row<'_> {
         None => (false, line),
     };
     let (named, query) = run.split_once(": ").unwrap_or((run, ""));
-    let (file, options) = named.split_once(' ').unwrap_or((named, ""));
+    let (file, options) = named.split_once(" ").unwrap_or((named, ""));
     Row {
         is_shown,
         file,
@@ -42,86 +41,85 @@ fn row_of(line: &str) -> Row<'_> {
 }
 
 // The text of a file.
-fn text_in(host: &HostRuntime, file: &str) -> Result<Vec<u8>, ReadError>
-    ensures { IfOk result (λ text. length text.items ≤ 1000001) }
-{
+fn text_in(host: &HostRuntime, file: &str) -> Result<Vec<u8>, Status> {
     match fs::open(host, file) {
         Ok(opened) => text_of(host.alloc(), &mut StreamSource::new(opened)),
-        Err(_) => Err(ReadError::Failed),
+        Err(_) => Err(Status::ReadFault),
     }
 }
 
-// Shows why a run is refused.
-fn show_stop(host: &HostRuntime, stop: &Stop) -> Result<(), Stop> {
-    let line = refusal_line(host.alloc(), stop.status, &stop.refusal)?;
-    show_text(host, &line)?;
-    Ok(())
-}
-
-// Makes a run as `akl` makes it by these words over a program.
-fn make_run<R: Threads + Wait + Sync>(
-    rt: &R,
-    host: &HostRuntime,
-    text: &[u8],
-    words: &[String],
-) -> Result<Status, Stop> {
-    let run = run_of(rt, host.alloc(), text, words)?;
-    show_page(host, &run.end)?;
-    Ok(run.status)
-}
-
-// Shows the run that is asked by these words over a program.
+// Makes a run as `akl` makes it by these words over a program, and shows what is printed of it.
 fn show_run<R: Threads + Wait + Sync>(
     rt: &R,
     host: &HostRuntime,
     text: &[u8],
     words: &[String],
-) -> Result<Status, Stop>
-    requires { length text.now ≤ 1000001 }
-{
-    match read_words(host.alloc(), words)? {
-        Command::Show(asked) => show_asked(rt, host, text, &asked),
-        Command::Refused(at) => Err(Stop::words(WordsError::Unknown { at })),
-        Command::Help | Command::List => Ok(Status::Done),
+) -> Status {
+    let mut page = Page::new(host.alloc());
+    let report = make_run(rt, text, words, &mut page);
+    show_last(host, &page, report.status)
+}
+
+// Makes a run by these words over a program, and shows it.
+fn make_run_by<R: Threads + Wait + Sync>(
+    rt: &R,
+    host: &HostRuntime,
+    is_shown: bool,
+    text: &[u8],
+    words: &[String],
+) -> Status {
+    if !is_shown {
+        return show_run(rt, host, text, words);
+    }
+    match read_words(words) {
+        Ok(asked) => show_asked(rt, host, text, &asked),
+        Err(at) => refuse_word(host, at),
     }
 }
 
-// Makes the run of a line.
+// Makes a run over the program that a text is, and shows it.
 fn make_row<R: Threads + Wait + Sync>(
     rt: &R,
     host: &HostRuntime,
-    row: Row<'_>,
-) -> Result<Status, Stop> {
-    let text = text_in(host, row.file)?;
-    let words = words_of(host.alloc(), row.query, row.options)?;
-    if row.is_shown {
-        show_run(rt, host, &text, &words)
-    } else {
-        make_run(rt, host, &text, &words)
+    row: &Row<'_>,
+    text: &[u8],
+) -> Status {
+    let mut words = Vec::new(host.alloc());
+    match push_words(&mut words, row.query, row.options) {
+        Ok(()) => make_run_by(rt, host, row.is_shown, text, &words),
+        Err(_) => Status::NoMemory,
     }
 }
 
-// Shows a line, and what its run shows or why it is refused.
-fn show_line<R: Threads + Wait + Sync>(rt: &R, host: &HostRuntime, line: &str) -> Result<(), Stop> {
+// Makes the run of a line, and shows it.
+fn make_line<R: Threads + Wait + Sync>(rt: &R, host: &HostRuntime, row: &Row<'_>) -> Status {
+    match text_in(host, row.file) {
+        Ok(text) => make_row(rt, host, row, &text),
+        Err(status) => status,
+    }
+}
+
+// Shows a line, and what its run shows or why there is none.
+fn show_line<R: Threads + Wait + Sync>(
+    rt: &R,
+    host: &HostRuntime,
+    line: &str,
+) -> Result<(), Status> {
     show_text(host, line.as_bytes())?;
     show_text(host, b"\n")?;
-    match make_row(rt, host, row_of(line)) {
-        Ok(_) => Ok(()),
-        Err(stop) => show_stop(host, &stop),
-    }
+    let status = make_line(rt, host, &row_of(line));
+    show_text(host, fixed_text(status))
 }
 
 /// Makes the runs of a list, a line for each, and shows each line with what its run shows.
-pub fn make_runs<R: Threads + Wait + Sync>(
-    rt: &R,
-    host: &HostRuntime,
-    list: &[u8],
-) -> Result<Status, Stop> {
+pub fn make_runs<R: Threads + Wait + Sync>(rt: &R, host: &HostRuntime, list: &[u8]) -> Status {
     let Ok(lines) = from_utf8(list) else {
-        return Err(Stop::from(ReadError::Failed));
+        return Status::ReadFault;
     };
     for line in lines.lines() {
-        show_line(rt, host, line)?;
+        if let Err(status) = show_line(rt, host, line) {
+            return status;
+        }
     }
-    Ok(Status::Done)
+    Status::Done
 }

@@ -23,9 +23,8 @@ mod streams;
 mod terms;
 mod tree;
 mod words;
-mod written;
 
-use crate::command::{answer, refuse_word};
+use crate::command::answer;
 use std::process::ExitCode;
 use std::{env, io};
 
@@ -41,7 +40,7 @@ fn words_given(rt: &HostRuntime) -> io::Result<Vec<String>> {
 fn main(rt: HostRuntime) -> ExitCode {
     let status = match words_given(&rt) {
         Ok(words) => answer(&rt, &rt, &words),
-        Err(_) => refuse_word(&rt, 0),
+        Err(_) => answer(&rt, &rt, &[]),
     };
     ExitCode::from(status.number())
 }

@@ -17,8 +17,8 @@ const FRAME: Name = Name {
 pub enum Origin {
     /// A frame of the query's variables.
     Query,
-    /// A frame of the variables of a clause, by its place in its definition, from 0.
-    Clause { definition: u32, clause: usize },
+    /// A frame of the variables of a clause of what a goal calls, by the clause's place in its definition, from 0.
+    Clause { code: Code, clause: usize },
     /// A choice, which was this call.
     Call(Goal),
     /// The alternative of a choice by the clause of this place, from 0.
@@ -26,48 +26,30 @@ pub enum Origin {
 }
 
 /// Where the frames, the choices and the boxes of a run come from, by their names, which are all different. Those that have gone
-/// stay known.
+/// stay known. It keeps for itself that memory was wanting.
 #[derive(Drop)]
 pub struct Origins {
     known: BTreeMap<Name, Origin>,
-}
-
-// The new name of what has a copy; else its own.
-fn renamed(name: Name, names: &BTreeMap<Name, Name>) -> Name {
-    names.get(&name).copied().unwrap_or(name)
-}
-
-// Where a copy comes from, under the new names.
-fn copied(origin: Origin, names: &BTreeMap<Name, Name>) -> Origin {
-    match origin {
-        Origin::Query | Origin::Clause { .. } => origin,
-        Origin::Call(Goal { code, frame }) => {
-            let frame = renamed(frame, names);
-            Origin::Call(Goal { code, frame })
-        }
-        Origin::Alternative { choice, clause } => {
-            let choice = renamed(choice, names);
-            Origin::Alternative { choice, clause }
-        }
-    }
+    /// The new names of what the last split has copied, by the old ones.
+    copies: BTreeMap<Name, Name>,
+    is_whole: bool,
 }
 
 impl Origins {
     /// Those of a query before its first step.
-    pub fn new(alloc: Global) -> Result<Origins, AllocError> {
-        let mut known = BTreeMap::new(alloc);
-        known.insert(FRAME, Origin::Query)?;
-        Ok(Origins { known })
+    pub fn new(alloc: Global) -> Origins {
+        let mut origins = Origins {
+            known: BTreeMap::new(alloc),
+            copies: BTreeMap::new(alloc),
+            is_whole: true,
+        };
+        origins.add(FRAME, Origin::Query);
+        origins
     }
 
     /// Where what has this name comes from, if it is known.
     pub fn of(&self, name: Name) -> Option<Origin> {
         self.known.get(&name).copied()
-    }
-
-    /// Whether the variables of a frame are the query's.
-    pub fn is_query(&self, frame: Name) -> bool {
-        matches!(self.of(frame), Some(Origin::Query))
     }
 
     /// The call that became a choice.
@@ -78,90 +60,118 @@ impl Origins {
         }
     }
 
-    // The frames of a store have the variables of a clause of what is called.
-    fn add_frames(&mut self, store: &Store, call: Goal, clause: usize) -> Result<(), AllocError> {
-        if let Code::Call { definition, .. } | Code::Collect { definition, .. } = call.code {
-            let frames = store.frames()?;
-            for frame in &frames {
-                self.known
-                    .insert(*frame, Origin::Clause { definition, clause })?;
-            }
+    /// Whether no memory was wanting.
+    pub fn is_whole(&self) -> bool {
+        self.is_whole
+    }
+
+    // What has a name comes from there.
+    fn add(&mut self, name: Name, origin: Origin) {
+        if self.known.insert(name, origin).is_err() {
+            self.is_whole = false;
         }
-        Ok(())
+    }
+
+    // The frames of a store come from there.
+    fn add_frames(&mut self, store: &Store, origin: Origin) {
+        match store.frames() {
+            Ok(frames) => {
+                for frame in &frames {
+                    self.add(*frame, origin);
+                }
+            }
+            Err(_) => self.is_whole = false,
+        }
     }
 
     /// A call becomes the choice of these boxes.
-    pub fn fork(&mut self, choice: Name, call: Goal, boxes: &[NewBox]) -> Result<(), AllocError> {
-        self.known.insert(choice, Origin::Call(call))?;
-        for (clause, made) in boxes.iter().enumerate() {
-            self.known
-                .insert(made.name, Origin::Alternative { choice, clause })?;
-            self.add_frames(made.store.get(), call, clause)?;
+    pub fn fork(&mut self, choice: Name, call: Goal, boxes: &[NewBox]) {
+        self.add(choice, Origin::Call(call));
+        let code = call.code;
+        let mut clause = 0usize;
+        for made in boxes {
+            self.add(made.name, Origin::Alternative { choice, clause });
+            self.add_frames(made.store.get(), Origin::Clause { code, clause });
+            clause = clause.saturating_add(1);
         }
-        Ok(())
     }
 
-    // What has the old name gets a copy, of which it is noted what its name is.
-    fn copy(
-        &mut self,
-        old: Name,
-        new: Name,
-        names: &mut BTreeMap<Name, Name>,
-    ) -> Result<(), AllocError> {
-        names.insert(old, new)?;
-        if let Some(origin) = self.of(old) {
-            self.known.insert(new, copied(origin, names))?;
+    // The new name of what the last split has copied; else its own.
+    fn renamed(&self, name: Name) -> Name {
+        self.copies.get(&name).copied().unwrap_or(name)
+    }
+
+    // Where a copy comes from, under the new names.
+    fn copied(&self, origin: Origin) -> Origin {
+        match origin {
+            Origin::Query | Origin::Clause { .. } => origin,
+            Origin::Call(Goal { code, frame }) => {
+                let frame = self.renamed(frame);
+                Origin::Call(Goal { code, frame })
+            }
+            Origin::Alternative { choice, clause } => {
+                let choice = self.renamed(choice);
+                Origin::Alternative { choice, clause }
+            }
         }
-        Ok(())
+    }
+
+    // What has the old name gets a copy.
+    fn copy(&mut self, old: Name, new: Name) {
+        if self.copies.insert(old, new).is_err() {
+            self.is_whole = false;
+        }
+        if let Some(origin) = self.of(old) {
+            let copied = self.copied(origin);
+            self.add(new, copied);
+        }
+    }
+
+    // What has these old names gets copies, in the same order.
+    fn copy_names(&mut self, old: &[Name], new: &[Name]) {
+        let mut copies = new.iter();
+        for name in old {
+            if let Some(copy) = copies.next() {
+                self.copy(*name, *copy);
+            }
+        }
     }
 
     // The frames of a store have those of its copy.
-    fn copy_frames(
-        &mut self,
-        old: &Store,
-        new: &Store,
-        names: &mut BTreeMap<Name, Name>,
-    ) -> Result<(), AllocError> {
+    fn copy_frames(&mut self, old: &Store, new: &Store) -> Result<(), AllocError> {
         let old = old.frames()?;
         let new = new.frames()?;
-        for (old, new) in old.iter().zip(&new) {
-            self.copy(*old, *new, names)?;
-        }
+        self.copy_names(&old, &new);
         Ok(())
     }
 
     // A box has a copy, with its frames and its goals.
-    fn copy_box(
-        &mut self,
-        inner: &InnerBox,
-        copy: &BoxCopy,
-        names: &mut BTreeMap<Name, Name>,
-    ) -> Result<(), AllocError> {
-        self.copy(inner.name, copy.name, names)?;
-        self.copy_frames(inner.store.get(), copy.store.get(), names)?;
-        for (old, (new, _)) in inner.goals.iter().zip(&copy.goals) {
-            self.copy(old.name, *new, names)?;
+    fn copy_box(&mut self, inner: &InnerBox, copy: &BoxCopy) {
+        self.copy(inner.name, copy.name);
+        if self
+            .copy_frames(inner.store.get(), copy.store.get())
+            .is_err()
+        {
+            self.is_whole = false;
         }
-        Ok(())
+        let mut copies = copy.goals.iter();
+        for goal in &inner.goals {
+            if let Some((new, _)) = copies.next() {
+                self.copy(goal.name, *new);
+            }
+        }
     }
 
     /// A box is split at an alternative: it and the boxes inside it, from the outermost on, have copies but the alternative.
-    pub fn split(
-        &mut self,
-        alloc: Global,
-        alternative: Name,
-        boxes: &[InnerBox],
-        copies: &[BoxCopy],
-    ) -> Result<(), AllocError> {
-        let mut names = BTreeMap::new(alloc);
+    pub fn split(&mut self, alternative: Name, boxes: &[InnerBox], copies: &[BoxCopy]) {
+        self.copies.clear();
         let mut copies = copies.iter();
         for inner in boxes {
             if inner.name != alternative {
                 if let Some(copy) = copies.next() {
-                    self.copy_box(inner, copy, &mut names)?;
+                    self.copy_box(inner, copy);
                 }
             }
         }
-        Ok(())
     }
 }

@@ -3,6 +3,7 @@
 ghost use Rattle.std.specs.Prelude.{None, ⊤};
 
 use akl_outside::{Failed, Sink};
+use akl_run::Status;
 use akl_terms::{Name, Term};
 use answer_text::push_constant;
 use line_text::push_name;
@@ -12,8 +13,6 @@ use std::alloc::{AllocError, Global};
 #[derive(Clone, Copy)]
 pub enum Piece {
     Text(&'static str),
-    /// The operator that a symbol is.
-    Operator(u32),
     /// A term, and how close its operator must bind at least.
     Whole(Term, u8),
     /// The tail of a list, with the closing bracket.
@@ -52,11 +51,17 @@ impl Page {
         self.faults = self.faults.saturating_add(1);
     }
 
-    /// Adds bytes of a text.
-    pub fn push_bytes(&mut self, bytes: &[u8]) {
-        if self.text.extend_from_slice(bytes).is_err() {
+    /// Something was done for the page, or memory was wanting for it.
+    pub fn note(&mut self, done: Result<(), AllocError>) {
+        if done.is_err() {
             self.lack();
         }
+    }
+
+    /// Adds bytes of a text.
+    pub fn push_bytes(&mut self, bytes: &[u8]) {
+        let done = self.text.extend_from_slice(bytes);
+        self.note(done);
     }
 
     /// Adds a text.
@@ -66,8 +71,7 @@ impl Page {
 
     /// Adds an integer in base ten.
     pub fn push_integer(&mut self, value: i128) {
-        let alloc = self.alloc();
-        match format!(in alloc; "{value}") {
+        match format!(in self.alloc(); "{value}") {
             Ok(digits) => self.push(digits.as_str()),
             Err(_) => self.lack(),
         }
@@ -80,16 +84,14 @@ impl Page {
 
     /// Adds a symbol without arguments.
     pub fn push_constant(&mut self, symbol: &str) {
-        if push_constant(&mut self.text, symbol).is_err() {
-            self.lack();
-        }
+        let done = push_constant(&mut self.text, symbol);
+        self.note(done);
     }
 
     /// Adds a name: its worker, a dot, its number.
     pub fn push_name(&mut self, name: Name) {
-        if push_name(&mut self.text, name).is_err() {
-            self.lack();
-        }
+        let done = push_name(&mut self.text, name);
+        self.note(done);
     }
 
     /// Adds `#` and a name: its number, behind that of the worker where it isn't the first.
@@ -108,6 +110,16 @@ impl Page {
         for _ in 0..depth {
             self.push("  ");
         }
+    }
+
+    /// Begins an item of a line: a new line so many levels deep, which begins with this text, for the first, and a comma for
+    /// another.
+    pub fn push_item(&mut self, depth: usize, begin: &str, is_first: bool) {
+        if !is_first {
+            return self.push(", ");
+        }
+        self.push_line(depth);
+        self.push(begin);
     }
 
     /// Leaves a piece to be written before all that are left.
@@ -133,13 +145,27 @@ impl Page {
         self.left.pop()
     }
 
-    /// The text. An `Err` is want of memory for a part of it.
-    pub fn whole(&self) -> Result<&[u8], AllocError> {
+    /// The text. An `Err` is the status of want of memory for a part of it.
+    pub fn whole(&self) -> Result<&[u8], Status> {
         if self.faults == 0 {
             Ok(self.text.as_slice())
         } else {
-            Err(AllocError)
+            Err(Status::NoMemory)
         }
+    }
+
+    /// The text by itself; `None` for want of memory for a part of it.
+    pub fn into_text(self) -> Option<Vec<u8>> {
+        if self.faults == 0 {
+            Some(self.text)
+        } else {
+            None
+        }
+    }
+
+    /// Empties the page. That memory was wanting stays known.
+    pub fn clear(&mut self) {
+        self.text.clear();
     }
 }
 

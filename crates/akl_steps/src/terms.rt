@@ -18,71 +18,81 @@ enum Shape {
     EmptyList,
     /// The cell of a list.
     Cell,
-    /// As an operator between its operands, which binds as close as this. The operand on its right must bind closer.
-    Operator(u8),
+    /// As this operator between its operands, which binds as close as this. The operand on its right must bind closer.
+    Operator(&'static str, u8),
 }
+
+/// The symbols, with their numbers of arguments, of the structures that aren't plain.
+const SHAPES: [(&str, u32, Shape); 7] = [
+    ("[]", 0, Shape::EmptyList),
+    (".", 2, Shape::Cell),
+    ("+", 2, Shape::Operator("+", 0)),
+    ("-", 2, Shape::Operator("-", 0)),
+    ("*", 2, Shape::Operator("*", 1)),
+    ("//", 2, Shape::Operator("//", 1)),
+    ("mod", 2, Shape::Operator(" mod ", 1)),
+];
 
 // How a structure of this symbol with so many arguments is written.
 fn shape_of(symbol: &str, count: u32) -> Shape {
-    if count == 0 && symbol == "[]" {
-        return Shape::EmptyList;
+    for (name, arity, shape) in &SHAPES {
+        if *arity == count && *name == symbol {
+            return *shape;
+        }
     }
-    if count != 2 {
-        return Shape::Plain;
-    }
-    match symbol {
-        "." => Shape::Cell,
-        "+" | "-" => Shape::Operator(0),
-        "*" | "//" | "mod" => Shape::Operator(1),
-        _ => Shape::Plain,
-    }
+    Shape::Plain
 }
 
-// Begins the arguments of a structure by the text before the first one, and leaves this and those behind it.
-fn begin_arguments(page: &mut Page, text: &str, first: u32, count: u32, frame: Name) {
+// Begins a list or arguments by the text before the first element, and leaves this and what comes behind it.
+fn begin_elements(page: &mut Page, text: &str, first: u32, frame: Name, behind: Piece) {
     page.push(text);
-    page.leave(Piece::Arguments {
+    page.leave(behind);
+    page.leave_node(first, frame, 0);
+}
+
+// Begins arguments by the text before the first one, and leaves this and those behind it.
+fn begin_arguments(page: &mut Page, text: &str, first: u32, count: u32, frame: Name) {
+    let behind = Piece::Arguments {
         first: first.saturating_add(1),
         count: count.saturating_sub(1),
         frame,
-    });
-    page.leave_node(first, frame, 0);
+    };
+    begin_elements(page, text, first, frame, behind);
 }
 
 // Begins the cell of a list by the text before it, and leaves its head and its tail.
 fn begin_cell(page: &mut Page, text: &str, first: u32, frame: Name) {
     let node = first.saturating_add(1);
-    page.push(text);
-    page.leave(Piece::Tail(Term::Mol { node, frame }));
-    page.leave_node(first, frame, 0);
+    let behind = Piece::Tail(Term::Mol { node, frame });
+    begin_elements(page, text, first, frame, behind);
 }
 
 // Leaves the operands and the operator between them, in brackets where it doesn't bind as close as it must.
-fn begin_operands(page: &mut Page, symbol: u32, (level, least): (u8, u8), first: u32, frame: Name) {
+fn begin_operands(
+    page: &mut Page,
+    operator: &'static str,
+    (level, least): (u8, u8),
+    first: u32,
+    frame: Name,
+) {
     if level < least {
         page.push("(");
         page.leave(Piece::Text(")"));
     }
     page.leave_node(first.saturating_add(1), frame, level.saturating_add(1));
-    page.leave(Piece::Operator(symbol));
+    page.leave(Piece::Text(operator));
     page.leave_node(first, frame, level);
 }
 
-// Begins a structure whose operator must bind as close as this at least.
-fn begin_structure(
-    scene: Scene<'_>,
-    page: &mut Page,
-    symbol: u32,
-    (first, count): (u32, u32),
-    frame: Name,
-    least: u8,
-) {
-    let text = scene.symbol(symbol);
-    match shape_of(text, count) {
+// Begins a structure of this symbol whose operator must bind as close as this at least.
+fn begin_structure(page: &mut Page, symbol: &str, first: u32, count: u32, frame: Name, least: u8) {
+    match shape_of(symbol, count) {
         Shape::Cell => begin_cell(page, "[", first, frame),
-        Shape::Operator(level) => begin_operands(page, symbol, (level, least), first, frame),
+        Shape::Operator(operator, level) => {
+            begin_operands(page, operator, (level, least), first, frame);
+        }
         Shape::Plain | Shape::EmptyList => {
-            page.push_constant(text);
+            page.push_constant(symbol);
             if count > 0 {
                 begin_arguments(page, "(", first, count, frame);
             }
@@ -91,7 +101,7 @@ fn begin_structure(
 }
 
 // Begins a term whose operator must bind as close as this at least.
-fn begin_whole(scene: Scene<'_>, page: &mut Page, term: Term, least: u8) {
+fn begin_whole(scene: &Scene<'_>, page: &mut Page, term: Term, least: u8) {
     match scene.value(term) {
         Seen::Free(variable) => scene.push_variable(page, variable),
         Seen::Int(value) => page.push_integer(value),
@@ -104,12 +114,12 @@ fn begin_whole(scene: Scene<'_>, page: &mut Page, term: Term, least: u8) {
             first,
             count,
             frame,
-        } => begin_structure(scene, page, symbol, (first, count), frame, least),
+        } => begin_structure(page, scene.symbol(symbol), first, count, frame, least),
     }
 }
 
 // Begins the tail of a list.
-fn begin_tail(scene: Scene<'_>, page: &mut Page, term: Term) {
+fn begin_tail(scene: &Scene<'_>, page: &mut Page, term: Term) {
     if let Seen::Struct {
         symbol,
         first,
@@ -128,16 +138,10 @@ fn begin_tail(scene: Scene<'_>, page: &mut Page, term: Term) {
     page.leave(Piece::Whole(term, 0));
 }
 
-// Adds an operator, with blanks around it where it is a word.
-fn push_operator(page: &mut Page, symbol: &str) {
-    page.push(if symbol == "mod" { " mod " } else { symbol });
-}
-
 // Begins a piece, or says in short that it isn't written.
-fn begin(scene: Scene<'_>, page: &mut Page, piece: Piece, is_short: bool) {
+fn begin(scene: &Scene<'_>, page: &mut Page, piece: Piece, is_short: bool) {
     match piece {
         Piece::Text(text) => page.push(text),
-        Piece::Operator(symbol) => push_operator(page, scene.symbol(symbol)),
         Piece::Whole(_, _) if is_short => page.push(".."),
         Piece::Whole(term, least) => begin_whole(scene, page, term, least),
         Piece::Tail(_) if is_short => page.push("|..]"),
@@ -152,7 +156,7 @@ fn begin(scene: Scene<'_>, page: &mut Page, piece: Piece, is_short: bool) {
 }
 
 /// Adds a term with what is known of it. Where it has many parts, some have `..` in their place.
-pub fn push_term(scene: Scene<'_>, page: &mut Page, term: Term) {
+pub fn push_term(scene: &Scene<'_>, page: &mut Page, term: Term) {
     page.leave_only(term);
     for written in 0..MOST_PIECES {
         let Some(piece) = page.next_piece() else {
@@ -162,13 +166,19 @@ pub fn push_term(scene: Scene<'_>, page: &mut Page, term: Term) {
     }
 }
 
+/// Adds a node under a frame, as a term.
+pub fn push_node(scene: &Scene<'_>, page: &mut Page, node: u32, frame: Name) {
+    push_term(scene, page, Term::Mol { node, frame });
+}
+
 /// Adds so many neighbouring nodes under a frame, in brackets behind what they are the arguments of; nothing where there are
 /// none.
-pub fn push_arguments(scene: Scene<'_>, page: &mut Page, (first, count): (u32, u32), frame: Name) {
+pub fn push_arguments(scene: &Scene<'_>, page: &mut Page, first: u32, count: u32, frame: Name) {
+    let mut before = "(";
     for k in 0..count {
-        page.push(if k == 0 { "(" } else { "," });
-        let node = first.saturating_add(k);
-        push_term(scene, page, Term::Mol { node, frame });
+        page.push(before);
+        push_node(scene, page, first.saturating_add(k), frame);
+        before = ",";
     }
     if count > 0 {
         page.push(")");

@@ -1,40 +1,25 @@
 //! The boxes and goals of a run as an indented tree.
 
-ghost use Rattle.std.specs.Prelude.{◌≡◌, IfOk};
-ghost use Rattle.place_steps.specs.Seen.{view_in, IsSeen, IsSeenBy};
+ghost use Rattle.std.specs.Prelude.{◌≡◌, IfSome};
+ghost use Rattle.place_steps.specs.Seen.{view_in, IsSeen};
 
 use crate::equations::{push_told, push_values};
-use crate::goals::{push_choice, push_goal, push_ordinal};
+use crate::goals::{push_at, push_goal, push_ordinal};
 use crate::origins::Origin;
 use crate::page::Page;
-use crate::scene::{Scene, Words};
+use crate::replay::{Replay, seen_at};
+use crate::scene::Scene;
 use crate::states::push_state;
-use akl_terms::{Goal, Name, Place};
-use box_tree::{Held, HeldOp, InnerBox, InnerGoal};
-use place_steps::{Seen, first_candidate, see};
+use akl_terms::{Name, Place};
+use box_tree::{HeldOp, InnerBox, Sight, Table};
+use place_steps::{Seen, first_candidate};
 use std::alloc::{AllocError, Global};
-use step_commit::Core;
 
-/// What has lines of its own: a box or a goal.
+/// A place whose lines are still to be written, so many levels deep.
 #[derive(Clone, Copy)]
-enum Part<'a> {
-    Box(&'a InnerBox),
-    Goal(&'a InnerGoal),
-}
-
-/// What has lines of its own, so many levels deep.
-#[derive(Clone, Copy)]
-struct Entry<'a> {
+struct Entry {
     depth: usize,
-    part: Part<'a>,
-}
-
-// What is seen of a place, if it is there.
-fn seen_at(alloc: Global, core: &Core, place: Place) -> Result<Option<Seen>, AllocError>
-    ensures { IfOk result (IsSeenBy core.now place 1) }
-{
-    let candidate = first_candidate(alloc, core, place)?;
-    see(alloc, core, place, 1, candidate)
+    place: Place,
 }
 
 // How a choice decides between its alternatives.
@@ -48,165 +33,135 @@ fn operator_text(op: HeldOp) -> &'static str {
 }
 
 // Adds what a goal is.
-fn push_held(scene: Scene<'_>, page: &mut Page, goal: &InnerGoal) {
-    page.push_name(goal.name);
+fn push_held(scene: &Scene<'_>, page: &mut Page, name: Name, sight: Sight) {
+    page.push_name(name);
     page.push(" ");
-    match &goal.held {
-        Held::Atom(atom) => push_goal(scene, page, *atom),
-        Held::Choice { op, .. } => {
-            push_choice(scene, page, goal.name);
-            page.push(operator_text(*op));
-        }
+    push_at(scene, page, name, sight);
+    if let Sight::Choice { op } = sight {
+        page.push(operator_text(op));
     }
 }
 
 // Adds what a box is, and whether its goals are solved.
-fn push_kind(words: Words<'_>, page: &mut Page, inner: &InnerBox) {
-    page.push_name(inner.name);
-    page.push(" ");
-    match words.origins.of(inner.name) {
-        Some(Origin::Alternative { clause, .. }) => push_ordinal(page, clause),
-        _ => page.push("root box"),
+fn push_kind(scene: &Scene<'_>, page: &mut Page, name: Name, is_solved: bool) {
+    page.push_name(name);
+    match scene.origins.of(name) {
+        Some(Origin::Alternative { clause, .. }) => {
+            page.push(" ");
+            push_ordinal(page, clause);
+        }
+        _ => page.push(" root box"),
     }
-    if inner.goals.is_empty() {
+    if is_solved {
         page.push(", solved");
     }
 }
 
-// Adds the line of the goals that come where a box is promoted, if there are some.
-fn push_body(scene: Scene<'_>, page: &mut Page, depth: usize, body: &[Goal]) {
-    for (at, goal) in body.iter().enumerate() {
-        if at == 0 {
-            page.push_line(depth);
+// Adds the line of the goals that come where the first of these boxes is promoted, if there are some.
+fn push_body(scene: &Scene<'_>, page: &mut Page, depth: usize, boxes: &[InnerBox]) {
+    let Some(inner) = boxes.first() else {
+        return;
+    };
+    let mut is_first = true;
+    for goal in &inner.body {
+        page.push_item(depth, "then ", is_first);
+        push_goal(scene, page, goal);
+        is_first = false;
+    }
+}
+
+// Adds the lines of what a box was told, and of the goals that come where it is promoted; nothing of a goal.
+fn push_contents(scene: &Scene<'_>, page: &mut Page, depth: usize, seen: &Seen) {
+    let Some(store) = scene.own else {
+        return;
+    };
+    match seen {
+        Seen::Goal { .. } => {}
+        Seen::Box { view, inside, .. } if view.path().len() > 1 => {
+            push_told(scene, page, depth, store.get());
+            push_body(scene, page, depth, &inside.boxes);
         }
-        page.push(if at == 0 { "then " } else { ", " });
-        push_goal(scene, page, *goal);
+        _ => push_values(scene, page, depth, store.get()),
     }
 }
 
-// Adds the lines of what a box was told, and of the goals that come where it is promoted.
-fn push_contents(scene: Scene<'_>, page: &mut Page, depth: usize, inner: &InnerBox) {
-    let store = inner.store.get();
-    if inner.holder.is_none() {
-        return push_values(scene, page, depth, store);
-    }
-    push_told(scene, page, depth, store);
-    push_body(scene, page, depth, &inner.body);
-}
-
-// Adds the lines of a part that was seen, without those of what stands in it.
-fn push_seen(words: Words<'_>, page: &mut Page, entry: Entry<'_>, seen: &Seen)
-    requires program { words.written.program.now ≡ (view_in seen.now).table.program }
+// Adds the lines of a place that was seen, without those of what stands in it.
+fn push_seen(replay: &Replay<'_>, page: &mut Page, depth: usize, seen: &Seen)
+    requires program { replay.now.program.now ≡ (view_in seen.now).table.program }
     requires seen { IsSeen seen.now }
 {
-    let Entry { depth, part } = entry;
-    let scene = words.at(seen.view().stores());
+    let view = seen.view();
+    let scene = replay.scene(view.stores());
     page.push_line(depth);
-    match part {
-        Part::Box(inner) => push_kind(words, page, inner),
-        Part::Goal(goal) => push_held(scene, page, goal),
+    match view.place() {
+        Place::Goal(name) => push_held(&scene, page, name, view.sight()),
+        Place::Box(name) => push_kind(&scene, page, name, replay.core.is_solved(name)),
     }
-    push_state(words.written.program, scene, page, seen);
-    if let Part::Box(inner) = part {
-        push_contents(scene, page, depth.saturating_add(1), inner);
-    }
+    push_state(&scene, page, seen);
+    push_contents(&scene, page, depth.saturating_add(1), seen);
 }
 
-// Adds the lines of a part, without those of what stands in it.
-fn push_entry(core: &Core, words: Words<'_>, page: &mut Page, entry: Entry<'_>)
-    requires { words.written.program.now ≡ core.now.table.program }
+// Adds the lines of a place, without those of what stands in it.
+fn push_entry(replay: &Replay<'_>, page: &mut Page, entry: Entry)
+    requires { replay.now.program.now ≡ replay.now.core.table.program }
 {
-    let place = match entry.part {
-        Part::Box(inner) => Place::Box(inner.name),
-        Part::Goal(goal) => Place::Goal(goal.name),
+    let Ok(candidate) = first_candidate(page.alloc(), &replay.core, entry.place) else {
+        return page.lack();
     };
-    match seen_at(page.alloc(), core, place) {
-        Ok(Some(seen)) => push_seen(words, page, entry, &seen),
-        Ok(None) => {}
-        Err(_) => page.lack(),
+    match seen_at(page.alloc(), &replay.core, entry.place, 1, candidate) {
+        Some(seen) => push_seen(replay, page, entry.depth, &seen),
+        None => page.lack(),
     }
 }
 
-// Leaves a part to be written.
-fn leave<'a>(page: &mut Page, entries: &mut Vec<Entry<'a>>, depth: usize, part: Part<'a>) {
-    if entries.push(Entry { depth, part }).is_err() {
-        page.lack();
-    }
-}
-
-// Leaves goals to be written, the first last.
-fn leave_goals<'a>(
-    page: &mut Page,
-    entries: &mut Vec<Entry<'a>>,
+// Leaves goals or boxes to be written, the first last.
+fn leave(
+    entries: &mut Vec<Entry>,
     depth: usize,
-    goals: &'a [InnerGoal],
-) {
-    for goal in goals.iter().rev() {
-        leave(page, entries, depth, Part::Goal(goal));
-    }
-}
-
-// Leaves those of these boxes to be written that this choice holds, or that none holds, the first last.
-fn leave_boxes<'a>(
-    page: &mut Page,
-    entries: &mut Vec<Entry<'a>>,
-    depth: usize,
-    boxes: &'a [InnerBox],
-    holder: Option<Name>,
-) {
-    for inner in boxes.iter().rev() {
-        if inner.holder == holder {
-            leave(page, entries, depth, Part::Box(inner));
-        }
-    }
-}
-
-// Leaves what stands in a part to be written: the goals of a box, or the alternatives of a choice.
-fn leave_inside<'a>(
-    page: &mut Page,
-    entries: &mut Vec<Entry<'a>>,
-    boxes: &'a [InnerBox],
-    entry: Entry<'a>,
-) {
-    let depth = entry.depth.saturating_add(1);
-    match entry.part {
-        Part::Box(inner) => leave_goals(page, entries, depth, &inner.goals),
-        Part::Goal(goal) => leave_boxes(page, entries, depth, boxes, Some(goal.name)),
-    }
-}
-
-// Adds the lines of a root box and of all that stands inside it, of which these are the boxes. Each box and each goal comes once.
-fn push_boxes(core: &Core, words: Words<'_>, page: &mut Page, depth: usize, boxes: &[InnerBox])
-    requires { words.written.program.now ≡ core.now.table.program }
-{
-    let mut entries = Vec::new(page.alloc());
-    leave_boxes(page, &mut entries, depth, boxes, None);
-    for _ in 0..usize::MAX {
-        let Some(entry) = entries.pop() else {
-            return;
+    names: &[Name],
+    are_boxes: bool,
+) -> Result<(), AllocError> {
+    for name in names.iter().rev() {
+        let place = if are_boxes {
+            Place::Box(*name)
+        } else {
+            Place::Goal(*name)
         };
-        push_entry(core, words, page, entry);
-        leave_inside(page, &mut entries, boxes, entry);
+        entries.push(Entry { depth, place })?;
     }
+    Ok(())
 }
 
-// Adds the lines of a root box.
-fn push_root(core: &Core, words: Words<'_>, page: &mut Page, depth: usize, name: Name)
-    requires { words.written.program.now ≡ core.now.table.program }
-{
-    match core.boxes_inside(page.alloc(), name) {
-        Ok(boxes) => push_boxes(core, words, page, depth, &boxes),
-        Err(_) => page.lack(),
+// Leaves what stands in a place to be written: the goals of a box, or the alternatives of a choice.
+fn leave_inside(
+    alloc: Global,
+    table: &Table,
+    entries: &mut Vec<Entry>,
+    entry: Entry,
+) -> Result<(), AllocError> {
+    let depth = entry.depth.saturating_add(1);
+    match entry.place {
+        Place::Goal(goal) => leave(entries, depth, table.alternatives_of(goal), true),
+        Place::Box(name) => {
+            let goals = table.goals_of(alloc, name)?;
+            leave(entries, depth, &goals, false)
+        }
     }
 }
 
 /// Adds the lines of all boxes and goals of a run, each on a line that is so many levels deep at least: of a box what it was
 /// told, of a choice its operator, of an alternative whether its guard is solved, and of each place which rule applies there,
 /// or which variables it waits for.
-pub fn push_tree(core: &Core, words: Words<'_>, page: &mut Page, depth: usize)
-    requires { words.written.program.now ≡ core.now.table.program }
+pub fn push_tree(replay: &Replay<'_>, page: &mut Page, depth: usize)
+    requires { replay.now.program.now ≡ replay.now.core.table.program }
 {
-    for name in core.roots() {
-        push_root(core, words, page, depth, *name);
+    let mut entries = Vec::new(page.alloc());
+    page.note(leave(&mut entries, depth, replay.core.roots(), true));
+    for _ in 0..usize::MAX {
+        let Some(entry) = entries.pop() else {
+            return;
+        };
+        push_entry(replay, page, entry);
+        page.note(leave_inside(page.alloc(), replay.core.table(), &mut entries, entry));
     }
 }

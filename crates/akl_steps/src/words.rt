@@ -1,6 +1,4 @@
-//! The words of a command line.
-
-use std::alloc::{AllocError, Global};
+//! The words by which a run is asked to be shown.
 
 /// The most steps that a run may make, where no word says it.
 const BUDGET: u64 = 100_000;
@@ -9,9 +7,9 @@ const BUDGET: u64 = 100_000;
 const MOST_BUDGET: u64 = 4_000_000;
 
 /// What the words ask for.
-#[derive(Drop)]
-pub struct Asked {
-    pub query: String,
+#[derive(Clone, Copy)]
+pub struct Asked<'a> {
+    pub query: &'a str,
     /// How many workers make the run, from 1 to 16.
     pub workers: u32,
     pub budget: u64,
@@ -27,40 +25,29 @@ pub struct Asked {
     pub last: bool,
 }
 
-/// What a command line is.
-#[derive(Drop)]
-pub enum Command {
-    Help,
-    /// The runs of a list.
-    List,
-    Show(Asked),
-    /// The word of this number, from 0, is refused.
-    Refused(usize),
-}
-
-// What is asked before any word.
-fn nothing_asked(alloc: Global) -> Asked {
-    Asked {
-        query: String::new(alloc),
-        workers: 1,
-        budget: BUDGET,
-        tree: false,
-        trace: false,
-        from: 0,
-        to: u64::MAX,
-        last: false,
-    }
-}
-
 // The number that a word is, if it is one.
 fn number_of(text: &str) -> Option<u64> {
-    if text.len() > 10 || text.starts_with('+') {
+    if text.len() > 10 || text.starts_with("+") {
         return None;
     }
     text.parse::<u64>().ok()
 }
 
-impl Asked {
+impl<'a> Asked<'a> {
+    // What is asked before any word.
+    fn nothing() -> Asked<'a> {
+        Asked {
+            query: "",
+            workers: 1,
+            budget: BUDGET,
+            tree: false,
+            trace: false,
+            from: 0,
+            to: u64::MAX,
+            last: false,
+        }
+    }
+
     // Takes a word without a value. Answers whether it is one.
     fn take_flag(&mut self, word: &str) -> bool {
         match word {
@@ -73,10 +60,7 @@ impl Asked {
     }
 
     // Takes an option that is a number. Answers whether it is one.
-    fn take_number(&mut self, name: &str, value: &str) -> bool {
-        let Some(number) = number_of(value) else {
-            return false;
-        };
+    fn take_number(&mut self, name: &str, number: u64) -> bool {
         match name {
             "--budget" if 1 <= number && number <= MOST_BUDGET => self.budget = number,
             "--workers" if 1 <= number && number <= 16 => self.workers = number as u32,
@@ -88,54 +72,48 @@ impl Asked {
     }
 
     // Takes an option with its value. Answers whether it is one.
-    fn take_option(&mut self, alloc: Global, name: &str, value: &str) -> Result<bool, AllocError> {
+    fn take_option(&mut self, name: &str, value: &'a str) -> bool {
         if name == "--query" {
-            self.query = String::from_str(alloc, value)?;
-            return Ok(!value.is_empty());
+            self.query = value;
+            return !value.is_empty();
         }
-        Ok(self.take_number(name, value))
+        match number_of(value) {
+            Some(number) => self.take_number(name, number),
+            None => false,
+        }
     }
 
-    // Takes these words. Answers the number of the one that is refused, if one is; of one that is missing it is behind the last.
-    fn take_words(&mut self, alloc: Global, words: &[String]) -> Result<Option<usize>, AllocError> {
-        let mut open: Option<&str> = None;
-        for (at, word) in words.iter().enumerate() {
-            let word = word.as_str();
-            if let Some(name) = open {
-                if !self.take_option(alloc, name, word)? {
-                    return Ok(Some(at));
-                }
-                open = None;
-            } else if let Some((name, value)) = word.split_once('=') {
-                if !self.take_option(alloc, name, value)? {
-                    return Ok(Some(at));
-                }
-            } else if !self.take_flag(word) {
-                open = Some(word);
-            }
+    // Takes a word behind the name of an option whose value it is, if one is open; else a flag, an option with its value, or the
+    // name of an option, which is open then. Answers whether it is one.
+    fn take_word(&mut self, open: &mut Option<&'a str>, word: &'a str) -> bool {
+        if let Some(name) = *open {
+            *open = None;
+            return self.take_option(name, word);
         }
-        let is_missing = open.is_some() || self.query.is_empty();
-        Ok(is_missing.then_some(words.len()))
+        if let Some((name, value)) = word.split_once("=") {
+            return self.take_option(name, value);
+        }
+        if !self.take_flag(word) {
+            *open = Some(word);
+        }
+        true
     }
 }
 
-// What these words ask for, where none is alone.
-fn read_asked(alloc: Global, words: &[String]) -> Result<Command, AllocError> {
-    let mut asked = nothing_asked(alloc);
-    match asked.take_words(alloc, words)? {
-        None => Ok(Command::Show(asked)),
-        Some(at) => Ok(Command::Refused(at)),
-    }
-}
-
-/// What the words ask for.
-pub fn read_words(alloc: Global, words: &[String]) -> Result<Command, AllocError> {
-    if let [word] = words {
-        match word.as_str() {
-            "--help" => return Ok(Command::Help),
-            "--runs" => return Ok(Command::List),
-            _ => {}
+/// What these words ask for. An `Err` is the number of the word that is refused, from 0; of one that is missing it is behind the
+/// last.
+pub fn read_words(words: &[String]) -> Result<Asked<'_>, usize> {
+    let mut asked = Asked::nothing();
+    let mut open: Option<&str> = None;
+    let mut at = 0usize;
+    for word in words {
+        if !asked.take_word(&mut open, word.as_str()) {
+            return Err(at);
         }
+        at = at.saturating_add(1);
     }
-    read_asked(alloc, words)
+    if open.is_some() || asked.query.is_empty() {
+        return Err(at);
+    }
+    Ok(asked)
 }

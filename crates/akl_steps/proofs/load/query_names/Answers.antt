@@ -3,4 +3,4 @@ use Rattle.akl_run.proofs.Texts.{as_query, query_small}
 use Rattle.akl_steps.proofs.load.query_names.Goals as goal
 
 pub lift_query-requires : goal.lift_query-requires
-lift_query-requires c = omega (arith, query_small (as_query c.in-Ok.ensures.reads c.in_ok-asked.ensures), c.requires)
+lift_query-requires c = omega (arith, query_small (as_query c.in-Ok.ensures.reads c.in_ok-asked.ensures), c.front.ensures)

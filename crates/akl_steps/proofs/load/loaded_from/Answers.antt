@@ -1,5 +1,5 @@
 use Rattle.akl_run.proofs.Evaluated.{loaded_shown}
-use Rattle.akl_steps.proofs.load.loaded_of.Goals as goal
+use Rattle.akl_steps.proofs.load.loaded_from.Goals as goal
 
 pub returns-in-Ok-load_asked-clause-shown : goal.returns-in-Ok-load_asked-clause-shown
 returns-in-Ok-load_asked-clause-shown c =
