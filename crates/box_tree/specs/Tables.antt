@@ -80,6 +80,7 @@ pub record TableValue : Type 0 where
   pub next : List ℕ
   pub steps : ℕ
 
+-- its rows; of marks it keeps none, and each variable counts as bound by the last label
 abbrev pub table_of : TableValue → Table
 table_of t = record {
   nodes = t.program.templates.nodes;
@@ -89,6 +90,7 @@ table_of t = record {
   roots_changed = t.roots_changed;
   next = t.next;
   steps = t.steps;
+  mark_of = λ x. t.steps;
 }
 
 abbrev pub new_box : List Node → NewBox → laws.NewBox

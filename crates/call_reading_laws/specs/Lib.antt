@@ -1,2 +1,4 @@
+pub mod CallMarks
 pub mod CallPlans
 pub mod CallsAgain
+pub mod SeenCalls

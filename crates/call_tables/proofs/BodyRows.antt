@@ -2,6 +2,7 @@
 use Rattle.std.proofs.Common.{◌≡◌, ℕ, zero, suc, ◌+◌, List, [], ◌∷◌, ◌++◌, Bool, true, false, Option, Some, None, refl, sym, ◌∙◌, ap, subst, inl, inr, arith}
 use Rattle.std.specs.Prelude.{if◌then◌else◌, slice_index, option_map}
 use Rattle.akl_terms.specs.declared.name.Name.{Name}
+use Rattle.akl_terms.specs.declared.name.Var.{Var}
 use Rattle.akl_terms.specs.Names.{same_name}
 use Rattle.akl_terms.proofs.SameNames.{same_name-refl}
 use Rattle.akl_model.specs.Config.{Atom, or_else}
@@ -24,7 +25,7 @@ raised_none zero (suc v) (x ∷ xs) = refl
 raised_none (suc w) zero (x ∷ xs) = refl
 raised_none (suc w) (suc v) (x ∷ xs) = raised_none w v xs
 
-module _ (T : Table) (g home : Name) (promoted : ℕ) (next : List ℕ) (fails : Option Name) (r0 : BoxRow) (there : T.box_of home ≡ Some r0) where
+module _ (T : Table) (g home : Name) (promoted : ℕ) (next : List ℕ) (marks : Var → ℕ) (fails : Option Name) (r0 : BoxRow) (there : T.box_of home ≡ Some r0) where
   abbrev pub row : Stored → Option ℕ → List Name → ℕ → ℕ → BoxRow → BoxRow
   row store solved_at names told ended r = record r { store = store; changed = told; solved_at = solved_at; goals = names; goals_changed = ended; failing = fails }
 
@@ -35,6 +36,7 @@ module _ (T : Table) (g home : Name) (promoted : ℕ) (next : List ℕ) (fails :
     goal_of = λ m. or_else (atom_among home promoted goals m) (set g None T.goal_of m);
     next = next;
     steps = ended;
+    mark_of = marks;
   }
 
   here : (n m : Name) → n ≡ m → same_name n m ≡ true

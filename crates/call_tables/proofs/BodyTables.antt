@@ -54,7 +54,7 @@ step_over rules r journal l c d Q V (u, q) = subst (λ (e : Config). (a : Applie
     (λ a step at makes solved leads. step_law rules (record r { journal = journal }) Q V l d u a step at makes solved leads)
 
 module _ (rules : List Rule) (force : AreInForce rules) (r : Run) (T : Table) (t : IsTableOf rules r T) (w : ℕ) (g : Name) (f : Found) (is_home : home_of g t.config.roots ≡ Some f) (x : IsAtOnce r.program t.config w g f)
-    (promoted : ℕ) (next : List ℕ) (fails : Option Name) (r0 : BoxRow) (there : T.box_of f.content.name ≡ Some r0) (first : ℕ) (new_goals : (j : ℕ) → first ≤ j → T.goal_of (named w j) ≡ None)
+    (promoted : ℕ) (next : List ℕ) (marks : Var → ℕ) (fails : Option Name) (r0 : BoxRow) (there : T.box_of f.content.name ≡ Some r0) (first : ℕ) (new_goals : (j : ℕ) → first ≤ j → T.goal_of (named w j) ≡ None)
     (apart : (n : Name) → IsIn n (names_around f) → n ≡ f.content.name → ⊥) where
   abbrev s : Stand t.config
   s = replay-stands rules r.program r.query r.journal t.config t.replays
@@ -66,7 +66,7 @@ module _ (rules : List Rule) (force : AreInForce rules) (r : Run) (T : Table) (t
   m = drawn_by x.called.clauses + length x.last.body
 
   abbrev pub stg : Stored → Option ℕ → List Name → List (Name × Atom) → ℕ → ℕ → Table
-  stg = stage T g f.content.name promoted next fails r0 there
+  stg = stage T g f.content.name promoted next marks fails r0 there
 
   -- a store is solved in such a table where it is in the first one
   still_solved : (at : Option ℕ) (solved : Bool) (new : Stored) (goals : List (Name × Atom)) → IsSolvedWhen at T f (joins new solved goals) → (store : Stored) (solved_at : Option ℕ) (names : List Name) (atoms : List (Name × Atom)) (told ended : ℕ)
@@ -82,7 +82,7 @@ module _ (rules : List Rule) (force : AreInForce rules) (r : Run) (T : Table) (t
       S = stg store solved_at names atoms told ended
 
       same : (n : Name) → IsIn n (names_around f) → (stg store solved_at names atoms told ended).box_of n ≡ T.box_of n
-      same n i = row_other T g f.content.name promoted next fails r0 there store solved_at names atoms told ended n (apart n i)
+      same n i = row_other T g f.content.name promoted next marks fails r0 there store solved_at names atoms told ended n (apart n i)
 
       over : (solved : Bool) → IsSolvedIf solved T (names_around f) new → IsSolvedIf solved (stg store solved_at names atoms told ended) (names_around e) new
       over false y = tt
@@ -143,7 +143,7 @@ module _ (rules : List Rule) (force : AreInForce rules) (r : Run) (T : Table) (t
               },
             ))
             (still_solved at_now solved_now store_now goals is_solved store solved_at (goal_names G) (done ++ numbered w n (a ∷ rest)) told ended late red.applies.site (ap (λ (e : Found). e.around) red.site))
-            (told_stage T g f.content.name promoted next fails r0 there i a done (numbered w (n + 1) rest) absent behind (new_goals n from) store solved_at (goal_names G) told ended store_now (solved_when at_now solved_now) w red.applies.change.drawn red.drawn))
+            (told_stage T g f.content.name promoted next marks fails r0 there i a done (numbered w (n + 1) rest) absent behind (new_goals n from) store solved_at (goal_names G) told ended store_now (solved_when at_now solved_now) w red.applies.change.drawn red.drawn))
 
       -- or with nothing
       module _ (makes : ModelMakes (Allows r.program) r.program next_number l (record { around = f.around; content = b; goals = atom i a no_goals }) (becomes b no_goals 0)) where
@@ -166,7 +166,7 @@ module _ (rules : List Rule) (force : AreInForce rules) (r : Run) (T : Table) (t
               ),
             ))
             tt
-            (confirmed_stage T g f.content.name promoted next fails r0 there i a done (numbered w (n + 1) rest) absent behind (new_goals n from) store solved_at (goal_names G) told ended))
+            (confirmed_stage T g f.content.name promoted next marks fails r0 there i a done (numbered w (n + 1) rest) absent behind (new_goals n from) store solved_at (goal_names G) told ended))
 
     -- all of them
     pub body_tables : (next_number : ℕ) → next_number ≡ slice_index (raised w m t.config.next) w → (b : Content) (n : ℕ) (body : List Atom) (ls : List Label) (b2 : Content) (left : List (Name × Atom)) → (y : Tells r.program w next_number f.around b n body ls b2 left)

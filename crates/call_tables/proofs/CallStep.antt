@@ -146,17 +146,17 @@ module _ (rules : List Rule) (force : AreInForce rules) (r : Run) (T : Table) (t
   same_fails None = fails_left r.program w (slice_index t.config.next w + drawn_by x.called.clauses + length x.last.body) f.around (joining x.last f.content) first x.last.body x.body_labels x.after x.goals_left x.body
   same_fails (Some i) = refl
 
-  module _ (next : List ℕ) where
+  module _ (next : List ℕ) (marks : Var → ℕ) where
     -- the tables between are as the call's step makes them
     module _ (store : Stored) (solved_at : Option ℕ) (names : List Name) (goals : List (Name × Atom)) (told ended : ℕ) (names_are : names ≡ with_names (names_in goals) (less_name g old.0.goals)) (fails_as : or_fails old.0.failing all_goals ≡ or_fails old.0.failing goals) where
       abbrev S : Table
-      S = stg rules force r T t w g f is_home x promoted next fails old.0 old.1 first new_goals apart store solved_at names goals told ended
+      S = stg rules force r T t w g f is_home x promoted next marks fails old.0 old.1 first new_goals apart store solved_at names goals told ended
 
       abbrev C : Table
       C = after_call g store solved_at goals w drawn promoted told ended T
 
-      rows_same : option_map (row T g home promoted next fails old.0 old.1 store solved_at names told ended) (T.box_of home) ≡ option_map (called_row g store solved_at goals told ended) (T.box_of home)
-      rows_same = ap (option_map (row T g home promoted next fails old.0 old.1 store solved_at names told ended)) old.1
+      rows_same : option_map (row T g home promoted next marks fails old.0 old.1 store solved_at names told ended) (T.box_of home) ≡ option_map (called_row g store solved_at goals told ended) (T.box_of home)
+      rows_same = ap (option_map (row T g home promoted next marks fails old.0 old.1 store solved_at names told ended)) old.1
           ∙ (λ i. Some (record old.0 { store = store; changed = told; solved_at = solved_at; goals = names_are i; goals_changed = ended; failing = fails_as i })) ∙ sym (ap (option_map (called_row g store solved_at goals told ended)) old.1)
 
       boxes_same : (n : Name) → S.box_of n ≡ C.box_of n
@@ -220,11 +220,11 @@ module _ (rules : List Rule) (force : AreInForce rules) (r : Run) (T : Table) (t
                 is_last = λ h. let c : true ≡ false = sym q ∙ h in cc;
               }
 
-      start : IsAt rules r journal (stg rules force r T t w g f is_home x promoted next fails old.0 old.1 first new_goals apart first_store.store (solved_when first_store.at_first first_store.is_solved) (goal_names (with_atoms w first x.last.body base)) all_goals promoted promoted)
+      start : IsAt rules r journal (stg rules force r T t w g f is_home x promoted next marks fails old.0 old.1 first new_goals apart first_store.store (solved_when first_store.at_first first_store.is_solved) (goal_names (with_atoms w first x.last.body base)) all_goals promoted promoted)
           (homed k drawn (joining x.last f.content) (with_atoms w first x.last.body base))
       start = joined_after rules force r T t w g f is_home x first_store.at_first first_store.is_solved alternative first_store.store calls.alternative_frames calls.alternative_ports calls.alternative_stands first_store.frames (first_store.ports ∙ calls.ports)
           first_store.stands first_store.chained
-          (stg rules force r T t w g f is_home x promoted next fails old.0 old.1 first new_goals apart first_store.store (solved_when first_store.at_first first_store.is_solved) (goal_names (with_atoms w first x.last.body base)) all_goals promoted promoted)
+          (stg rules force r T t w g f is_home x promoted next marks fails old.0 old.1 first new_goals apart first_store.store (solved_when first_store.at_first first_store.is_solved) (goal_names (with_atoms w first x.last.body base)) all_goals promoted promoted)
           (record {
             nodes = refl;
             boxes = boxes_same first_store.store (solved_when first_store.at_first first_store.is_solved) (goal_names (with_atoms w first x.last.body base)) all_goals promoted promoted names_of_all refl;
@@ -239,10 +239,10 @@ module _ (rules : List Rule) (force : AreInForce rules) (r : Run) (T : Table) (t
       next_now = let e : slice_index (raised w drawn t.config.next) w ≡ slice_index t.config.next w + (drawn_by x.called.clauses + length x.last.body) = raised_own w drawn t.config.next in omega arith
 
       body_after : IsAt rules r (journal ++ x.body_labels)
-          (stg rules force r T t w g f is_home x promoted next fails old.0 old.1 first new_goals apart new (solved_when at solved) (goal_names (with_named x.goals_left base)) x.goals_left (told_at x T.steps) (ended_at x T.steps)) (at_once x)
+          (stg rules force r T t w g f is_home x promoted next marks fails old.0 old.1 first new_goals apart new (solved_when at solved) (goal_names (with_named x.goals_left base)) x.goals_left (told_at x T.steps) (ended_at x T.steps)) (at_once x)
       body_after = subst (λ (o : ℕ). IsAt rules r (journal ++ x.body_labels)
-          (stg rules force r T t w g f is_home x promoted next fails old.0 old.1 first new_goals apart new (solved_when at solved) (goal_names (with_named x.goals_left base)) x.goals_left o (ended_at x T.steps)) (at_once x)) told_now
-          (body_tables rules force r T t w g f is_home x promoted next fails old.0 old.1 first new_goals apart at solved new goals chain begun x.after calls.between calls.stands (slice_index t.config.next w + drawn_by x.called.clauses + length x.last.body)
+          (stg rules force r T t w g f is_home x promoted next marks fails old.0 old.1 first new_goals apart new (solved_when at solved) (goal_names (with_named x.goals_left base)) x.goals_left o (ended_at x T.steps)) (at_once x)) told_now
+          (body_tables rules force r T t w g f is_home x promoted next marks fails old.0 old.1 first new_goals apart at solved new goals chain begun x.after calls.between calls.stands (slice_index t.config.next w + drawn_by x.called.clauses + length x.last.body)
           next_now (joining x.last f.content) first x.last.body x.body_labels x.after x.goals_left x.body refl base [] refl (joined_stand rules force r.program t.config s w g f is_home x ⊥ (λ q. absurd q)) (let q : first ≤ first = omega arith in q)
           new_times (λ j h. refl) [] (sym (append-nil begun)) calls.frames calls.ports first_store.store (solved_when first_store.at_first first_store.is_solved) promoted promoted late first_store.is_last journal start)
         where
@@ -274,19 +274,20 @@ module _ (rules : List Rule) (force : AreInForce rules) (r : Run) (T : Table) (t
     its_table : IsTable U (after_call g new (solved_when at solved) x.goals_left w drawn (promoted_at x T.steps) (told_at x T.steps) (ended_at x T.steps) T)
     its_table = subst (λ (xs : List (Name × Atom)). IsTable U (after_call g new (solved_when at solved) xs w drawn (promoted_at x T.steps) (told_at x T.steps) (ended_at x T.steps) T)) calls.body is
 
-    same_table : stg rules force r T t w g f is_home x promoted U.next fails old.0 old.1 first new_goals apart new (solved_when at solved) (goal_names (with_named x.goals_left base)) x.goals_left (told_at x T.steps) (ended_at x T.steps) ≡ U
+    same_table : stg rules force r T t w g f is_home x promoted U.next U.mark_of fails old.0 old.1 first new_goals apart new (solved_when at solved) (goal_names (with_named x.goals_left base)) x.goals_left (told_at x T.steps) (ended_at x T.steps) ≡ U
     same_table = λ i. record {
       nodes = sym its_table.nodes i;
-      box_of = λ n. (boxes_same U.next new (solved_when at solved) (goal_names (with_named x.goals_left base)) x.goals_left (told_at x T.steps) (ended_at x T.steps) names_now (same_fails old.0.failing) n ∙ sym (its_table.boxes n)) i;
-      goal_of = λ n. (goals_same U.next new (solved_when at solved) (goal_names (with_named x.goals_left base)) x.goals_left (told_at x T.steps) (ended_at x T.steps) names_now (same_fails old.0.failing) n ∙ sym (its_table.goals n)) i;
+      box_of = λ n. (boxes_same U.next U.mark_of new (solved_when at solved) (goal_names (with_named x.goals_left base)) x.goals_left (told_at x T.steps) (ended_at x T.steps) names_now (same_fails old.0.failing) n ∙ sym (its_table.boxes n)) i;
+      goal_of = λ n. (goals_same U.next U.mark_of new (solved_when at solved) (goal_names (with_named x.goals_left base)) x.goals_left (told_at x T.steps) (ended_at x T.steps) names_now (same_fails old.0.failing) n ∙ sym (its_table.goals n)) i;
       roots = sym its_table.roots i;
       roots_changed = sym its_table.roots_changed i;
       next = U.next;
       steps = sym its_table.steps i;
+      mark_of = U.mark_of;
     }
 
     pub table_after : (u : IsTableOf rules (after_labels r x) U) × (u.config ≡ at_once x)
-    table_after = subst (λ (js : List Label). IsAt rules r js U (at_once x)) labels (subst (λ (Q : Table). IsAt rules r (journal ++ x.body_labels) Q (at_once x)) same_table (body_after U.next at solved alternative new goals calls chain is.next))
+    table_after = subst (λ (js : List Label). IsAt rules r js U (at_once x)) labels (subst (λ (Q : Table). IsAt rules r (journal ++ x.body_labels) Q (at_once x)) same_table (body_after U.next U.mark_of at solved alternative new goals calls chain is.next))
 
 pub call_step : (rules : List Rule) → AreInForce rules → (r : Run) (T U : Table) (t : IsTableOf rules r T) (w : ℕ) (g : Name) (f : Found) → home_of g t.config.roots ≡ Some f → (x : IsAtOnce r.program t.config w g f)
     → (at : Option ℕ) (solved : Bool) (alternative new : Stored) (goals : List (Name × Atom)) → CallsGoal x alternative new goals → IsSolvedWhen at T f (joins new solved goals)

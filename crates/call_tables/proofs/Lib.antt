@@ -7,3 +7,4 @@ pub mod BodyLists
 pub mod BodyRows
 pub mod BodyTables
 pub mod CallStep
+pub mod CallMarked

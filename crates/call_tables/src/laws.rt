@@ -1,5 +1,6 @@
 //! Laws of tables and calls, each the contract of a function without a body.
 
+ghost use Rattle.call_tables.specs.CallMarks.{CallMarksLaw};
 ghost use Rattle.call_tables.specs.Calls.{CallStepLaw};
 
 /// Where a call is made at once, the table in which the goal has gone, and its box has a store of the
@@ -9,4 +10,10 @@ ghost use Rattle.call_tables.specs.Calls.{CallStepLaw};
 /// and its set of goals that of the last label.
 pub fn call_steps()
     ensures { CallStepLaw }
+{}
+
+/// The marks of variables stay right behind a call that marks what its net change binds with the number of its last
+/// label.
+pub fn call_marks()
+    ensures { CallMarksLaw }
 {}

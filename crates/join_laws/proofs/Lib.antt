@@ -1,2 +1,3 @@
 pub mod FreshJoins
 pub mod Later
+pub mod Parts

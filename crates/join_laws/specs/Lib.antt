@@ -1,2 +1,3 @@
 pub mod Fresh
 pub mod Joins
+pub mod Parts

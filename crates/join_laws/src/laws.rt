@@ -2,6 +2,7 @@
 
 ghost use Rattle.join_laws.specs.Fresh.{FreshJoinLaw};
 ghost use Rattle.join_laws.specs.Joins.{JoinedLaterLaw, JoinsLaterLaw};
+ghost use Rattle.join_laws.specs.Parts.{PartStillLaw};
 
 /// A part that a plan adds to a box's store, for what its label tells or for what joins the box, stays right
 /// whatever was added to the boxes since.
@@ -14,4 +15,10 @@ pub fn joins()
 /// ones, wherever it was found.
 pub fn chains()
     ensures { FreshJoinLaw }
+{}
+
+/// A label that told one equation to its box, and is right still by reducing its goal, tells the same one: so its part
+/// is what it was.
+pub fn parts_still()
+    ensures { PartStillLaw }
 {}

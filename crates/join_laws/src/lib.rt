@@ -3,4 +3,4 @@
 
 mod laws;
 
-pub use laws::{chains, joins};
+pub use laws::{chains, joins, parts_still};

@@ -1,36 +1,31 @@
 -- What is listed as bound is so later, where none of it was bound since, nor any of a list that is enough for the box.
 use Rattle.akl_model.specs.declared.item.Item.{Item}
-use Rattle.std.proofs.Common.{◌≡◌, List, [], ◌∷◌, ◌++◌, map, Some, refl, sym, ◌∙◌, ap, subst, inl, inr}
+use Rattle.std.proofs.Common.{◌≡◌, List, [], ◌++◌, Some, sym, ◌∙◌, subst, inl, inr}
 use Rattle.std.specs.Prelude.{◌↔◌}
 use Rattle.akl_terms.specs.declared.name.Name.{Name}
 use Rattle.akl_terms.specs.declared.name.Var.{Var}
 use Rattle.akl_terms.specs.declared.program.Program.{Program}
 use Rattle.akl_terms.specs.Tree.{variable}
-use Rattle.akl_terms.specs.Equal.{Equations, IsTold, Equal, told, Follows, IsConsistent}
-use Rattle.akl_terms.proofs.EqualLaws.{Equal-follows, IsConsistent-follows, IsTold-left, IsTold-right, IsTold-either}
+use Rattle.akl_terms.specs.Equal.{Equations, Equal, told, Follows, IsConsistent}
+use Rattle.akl_terms.proofs.EqualLaws.{Equal-follows, IsConsistent-follows, IsTold-right, IsTold-either}
 use Rattle.constraint_laws.specs.Bound.{IsNewlyBound}
 use Rattle.constraint_laws.specs.Touched.{IsAmong}
 use Rattle.constraint_laws.proofs.Beside.{left_follows}
 use Rattle.constraint_laws.proofs.Decided.{equal_or}
 use Rattle.akl_model.specs.declared.label.Rule.{Rule}
 use Rattle.akl_model.specs.declared.label.Label.{Label}
-use Rattle.akl_model.specs.Config.{IsIn, Content, Config, Found, equations_of, whole, box_at}
-use Rattle.akl_model.specs.Wakes.{names_down_to}
+use Rattle.akl_model.specs.Config.{Config, Found, whole, box_at}
 use Rattle.akl_model.proofs.Options.{some_value}
-use Rattle.step_laws.specs.Bound.{first_equations, outermost_equations}
+use Rattle.step_laws.specs.Bound.{outermost_equations}
 use Rattle.step_laws.specs.Stays.{GoesOn}
-use Rattle.step_laws.proofs.StaysLaws.{equations_grow}
-use Rattle.sleep_laws.proofs.InScope.{Good}
-use Rattle.reading_laws.specs.Unchanged.{Unchanged, AreEnough, path_to}
+use Rattle.reading_laws.specs.Unchanged.{Unchanged, AreEnough}
 use Rattle.reading_laws.specs.Boxes.{BoxesUnchanged, EndUnchanged, StaysUnbound}
 use Rattle.reading_laws.proofs.Beside.{beside_law}
-use Rattle.reading_laws.proofs.Outermost.{HasFirst, first_box}
+use Rattle.reading_laws.proofs.Outermost.{HasFirst}
+use Rattle.reading_laws.proofs.RootsAlong.{first_found, first_follows, first_outermost, first_named, first_before, first_now, first_there, first_grows}
 use Rattle.reading_laws.proofs.InnerUnbound.{not_bound}
 use Rattle.reading_laws.proofs.Listed.{class_bound}
 use Rattle.reading_laws.proofs.Boxes.{enough_unbound}
-use Rattle.sleep_laws.proofs.Replayed.{good_replay}
-use Rattle.reading_laws.proofs.Untouched.{good_later}
-use Rattle.reading_laws.proofs.Steps.{path_whole}
 use Rattle.constraint_laws.specs.Oldest.{IsOldest, HasOldest}
 
 -- equations that are added to others bind each of a list, and what they bind is equal to one of it by the outermost ones, of which it has the oldest
@@ -42,12 +37,6 @@ pub record AreListed (E added out : Equations) (list : List Var) : Type 0 where
 module _ (rules : List Rule) (p : Program) (c : Config) (ls : List Label) (d : Config) (w : GoesOn rules p c ls d) (f k : Found) (here : box_at f.content.name c.roots ≡ Some f) (there : box_at f.content.name d.roots ≡ Some k)
     (added : Equations) (list inner : List Var) (bound : AreListed (whole f) added (outermost_equations f) list) (stores : BoxesUnchanged rules p c ls d w.derives f) (enough : AreEnough inner f)
     (within : (x : Var) → IsAmong x inner → EndUnchanged rules p c ls d w.derives (outermost_equations f) x) (bindings : (x : Var) → IsAmong x list → Unchanged rules p c ls d w.derives (Item.Binding x)) where
-  good_c : Good c
-  good_c = good_replay rules p w.query w.journal c w.replays
-
-  good_d : Good d
-  good_d = good_later rules p c ls d w
-
   alike : StaysUnbound (λ x. IsAmong x inner) d f.content.name f
   alike = enough_unbound rules p w.query w.journal c ls d w.replays w.derives f.content.name f inner here stores enough within
 
@@ -66,51 +55,23 @@ module _ (rules : List Rule) (p : Program) (c : Config) (ls : List Label) (d : C
   }
 
   -- the outermost box, before and now
-  root : HasFirst c f
-  root = first_box c good_c f.content.name f here
+  abbrev root : HasFirst c f
+  root = first_before rules p c ls d w f.content.name f k here there
 
-  abbrev root_box : Found
-  root_box = record { around = []; content = root.content; goals = root.goals }
-
-  first_now : HasFirst d k
-  first_now = first_box d good_d f.content.name k there
-
-  abbrev root_now : Found
-  root_now = record { around = []; content = first_now.content; goals = first_now.goals }
-
-  snoc : (xs : List Content) (b : Content) → map (λ (b : Content). b.name) xs ++ b.name ∷ [] ≡ map (λ (b : Content). b.name) (xs ++ b ∷ [])
-  snoc [] b = refl
-  snoc (x ∷ xs) b = ap (λ (ns : List Name). x.name ∷ ns) (snoc xs b)
-
-  names : (f : Found) (b : Content) (rest : List Content) → path_to f ≡ b ∷ rest → names_down_to f ≡ b.name ∷ map (λ (b : Content). b.name) rest
-  names f b rest q = snoc f.around f.content ∙ ap (map (λ (b : Content). b.name)) q
-
-  first_name : first_now.content.name ≡ root.content.name
-  first_name = heads (sym (names k first_now.content first_now.rest first_now.path) ∙ sym all ∙ names f root.content root.rest root.path)
-    where
-      all : names_down_to f ≡ names_down_to k
-      all = sym alike.names ∙ ap names_down_to is_now
-
-      heads : {m n : Name} {ms ns : List Name} → m ∷ ms ≡ n ∷ ns → m ≡ n
-      heads q = cc
-
-  root_name : IsIn root.content.name (names_down_to f)
-  root_name = subst (IsIn root.content.name) (sym (names f root.content root.rest root.path)) (inl refl)
-
-  root_there : box_at root.content.name d.roots ≡ Some root_now
-  root_there = subst (λ (m : Name). box_at m d.roots ≡ Some root_now) first_name first_now.found
+  abbrev now : HasFirst d k
+  now = first_now rules p c ls d w f.content.name f k here there
 
   out_before : outermost_equations f ≡ root.content.equations
-  out_before = ap first_equations root.path
+  out_before = first_outermost c f root
 
-  out_now : outermost_equations k ≡ first_now.content.equations
-  out_now = ap first_equations first_now.path
+  out_now : outermost_equations k ≡ now.content.equations
+  out_now = first_outermost d k now
 
-  out_grows : Follows root.content.equations first_now.content.equations
-  out_grows = record { each = λ {s} {t} m. told (equations_grow rules p c ls d w root.content.name root_box root_now root.found root_there s t m) }
+  out_grows : Follows root.content.equations now.content.equations
+  out_grows = first_grows rules p c ls d w f.content.name f k here there
 
   root_follows : Follows root.content.equations (whole f)
-  root_follows = record { each = λ {s} {t} m. told (subst (λ (E : Equations). IsTold E s t) (sym (ap equations_of root.path) ∙ path_whole f) (IsTold-left root.content.equations (equations_of root.rest) s t m)) }
+  root_follows = first_follows c f root
 
   module _ (h : IsConsistent (whole f ++ added)) where
     still : IsConsistent (whole f)
@@ -123,9 +84,9 @@ module _ (rules : List Rule) (p : Program) (c : Config) (ls : List Label) (d : C
     unlisted : (y : Var) → IsAmong y list → IsNewlyBound (whole f) (whole k) y → ⊥
     unlisted y m b = not_bound rules p w.query w.journal c ls d w.replays w.derives f.content.name f k inner here there still stores enough within y (bindings y m) b
 
-    out_unlisted : (y : Var) → IsAmong y list → IsNewlyBound root.content.equations first_now.content.equations y → ⊥
-    out_unlisted y m b = not_bound rules p w.query w.journal c ls d w.replays w.derives root.content.name root_box root_now [] root.found root_there (IsConsistent-follows root_follows still)
-        (λ k i. elim i [ inl q ↦ subst (λ (k : Name). Unchanged rules p c ls d w.derives (Item.Store k)) (sym q) (stores root.content.name root_name) | inr q ↦ absurd q ])
+    out_unlisted : (y : Var) → IsAmong y list → IsNewlyBound root.content.equations now.content.equations y → ⊥
+    out_unlisted y m b = not_bound rules p w.query w.journal c ls d w.replays w.derives root.content.name (first_found root) (first_found now) [] root.found (first_there rules p c ls d w f.content.name f k here there) (IsConsistent-follows root_follows still)
+        (λ k i. elim i [ inl q ↦ subst (λ (k : Name). Unchanged rules p c ls d w.derives (Item.Store k)) (sym q) (stores root.content.name (first_named c f root)) | inr q ↦ absurd q ])
         (record { all = record { each = λ s t m. absurd m }; closed = (record { each = λ x i. absurd i }, tt) }) (λ x i. absurd i) y (bindings y m) b
 
     -- so what the label binds isn't
@@ -138,7 +99,7 @@ module _ (rules : List Rule) (p : Program) (c : Config) (ls : List Label) (d : C
     beside = beside_law (whole f) (whole k) added grows consistent_now h unbound
 
     -- a listed variable has its class in the outermost box
-    out_class : (x y : Var) → IsAmong x list → IsNewlyBound (whole f) (whole f ++ added) x → Equal first_now.content.equations (variable x) (variable y) → Equal root.content.equations (variable x) (variable y)
+    out_class : (x y : Var) → IsAmong x list → IsNewlyBound (whole f) (whole f ++ added) x → Equal now.content.equations (variable x) (variable y) → Equal root.content.equations (variable x) (variable y)
     out_class x y m z q = elim (equal_or root.content.equations (variable x) (variable y)) [
       | inl k ↦ k
       | inr k ↦ absurd (out_unlisted x m (record { unstructured = λ s. z.unstructured (s.0, s.1, Equal-follows root_follows s.2, s.3); told = inr (y, q, k) }))
@@ -157,7 +118,7 @@ module _ (rules : List Rule) (p : Program) (c : Config) (ls : List Label) (d : C
     oldest = λ x y m o. bound.oldest x y m (older x y m (subst (λ (E : Equations). IsOldest E x y) out_now o));
   }
     where
-      older : (x y : Var) → IsAmong x list → IsOldest first_now.content.equations x y → IsOldest (outermost_equations f) x y
+      older : (x y : Var) → IsAmong x list → IsOldest now.content.equations x y → IsOldest (outermost_equations f) x y
       older x y m o = let z : IsConsistent (whole f ++ added) × IsNewlyBound (whole f) (whole f ++ added) x = bound.each x m in
           subst (λ (E : Equations). IsOldest E x y) (sym out_before) (record { equal = out_class z.0 x y m z.1 o.equal; oldest = λ v q. o.oldest v (Equal-follows out_grows q) })
 

@@ -1,4 +1,4 @@
--- A variable that is an end, and that no label lists, isn't bound.
+-- A list that has its ends, of which no label binds one where it is an end, has them still.
 use Rattle.std.proofs.Common.{◌≡◌, ◌+◌, ◌≤◌, ◌<◌, List, [], ◌∷◌, ◌++◌, map, Some, refl, sym, ◌∙◌, ap, subst, ◌⊎◌, inl, inr, arith, append-nil, true}
 use Rattle.std.specs.Prelude.{slice_index}
 use Rattle.akl_terms.specs.declared.name.Name.{Name}
@@ -7,13 +7,15 @@ use Rattle.akl_terms.specs.declared.program.Program.{Program}
 use Rattle.akl_terms.specs.declared.program.Query.{Query}
 use Rattle.akl_terms.specs.Names.{same_name}
 use Rattle.akl_terms.specs.Tree.{variable}
-use Rattle.akl_terms.specs.Equal.{Equations, IsTold, Equal, told, same, turned, joined, Follows, IsConsistent, IsStructured}
+use Rattle.akl_terms.specs.Equal.{Equations, Equal, same, turned, joined, Follows, IsConsistent, IsStructured}
 use Rattle.akl_terms.specs.Touching.{IsLocal}
 use Rattle.akl_terms.proofs.SameNames.{same_name-equal}
-use Rattle.akl_terms.proofs.EqualLaws.{Equal-follows, IsConsistent-follows, IsTold-left}
-use Rattle.constraint_laws.specs.Oldest.{IsOldest}
+use Rattle.akl_terms.proofs.EqualLaws.{Equal-follows, IsConsistent-follows}
+use Rattle.constraint_laws.proofs.AliasLists.{newly_bound_with}
+use Rattle.constraint_laws.proofs.LeastVariables.{oldest_of}
 use Rattle.constraint_laws.specs.Touched.{IsAmong}
-use Rattle.constraint_laws.proofs.Decided.{kept_by, equal_or, structured_or}
+use Rattle.constraint_laws.specs.Oldest.{IsOldest}
+use Rattle.constraint_laws.proofs.Decided.{kept_by, equal_or}
 use Rattle.constraint_laws.proofs.Grown.{over_kept}
 use Rattle.akl_model.specs.declared.item.Item.{Item}
 use Rattle.akl_model.specs.declared.label.Rule.{Rule}
@@ -29,7 +31,7 @@ use Rattle.akl_model.proofs.NextNumbers.{next_least}
 use Rattle.akl_model.proofs.Options.{some_value}
 use Rattle.akl_model.proofs.Scoped.{IsIn-left}
 use Rattle.akl_model.proofs.ScopesAlong.{times_path, local_in, frames_counted}
-use Rattle.step_laws.specs.Bound.{first_equations, outermost_equations}
+use Rattle.step_laws.specs.Bound.{outermost_equations}
 use Rattle.step_laws.specs.Likeness.{IsOld}
 use Rattle.step_laws.specs.Whereabouts.{BoxIn, Stands}
 use Rattle.step_laws.proofs.Becomes.{AllDrawn, Becomes}
@@ -39,13 +41,13 @@ use Rattle.step_laws.proofs.Steps as steps
 use Rattle.step_laws.proofs.Steps.{Moved, aside, at_site, inside, names_kept, name_kept}
 use Rattle.step_laws.proofs.Whereabouts.{found_in, in_found, in_counted}
 use Rattle.sleep_laws.proofs.InScope.{Good}
-use Rattle.sleep_laws.proofs.Moves.{moved, site_found}
+use Rattle.sleep_laws.proofs.Moves.{moved}
 use Rattle.reading_laws.specs.Unchanged.{Unchanged, path_to, frames_along}
-use Rattle.reading_laws.specs.Ends.{IsEnd, IsUnlisted, Unlisted}
+use Rattle.reading_laws.specs.Ends.{IsEndAt, SparesEnd, HasEnds}
 use Rattle.sleep_laws.proofs.Replayed.{good_replay}
 use Rattle.reading_laws.proofs.Labels.{replays_on, whole_over, step_follows}
-use Rattle.reading_laws.proofs.Steps.{path_whole}
 use Rattle.reading_laws.proofs.Outermost.{HasFirst, first_box}
+use Rattle.reading_laws.proofs.RootsAlong.{first_found, first_follows, first_outermost}
 
 -- each box is of drawn names throughout, or was there and moved
 module _ (rules : List Rule) (p : Program) (c : Config) (l : Label) (d : Config) (s : Stand c) (m : Applies rules p c l d) where
@@ -92,118 +94,115 @@ pub none_around : (xs : List Content) → map (λ (b : Content). b.name) xs ≡ 
 none_around [] e = refl
 none_around (x ∷ xs) e = cc
 
--- one label
+-- one label, which binds none of a list where it is an end
 module _ (rules : List Rule) (p : Program) (q : Query) (journal : List Label) (c : Config) (l : Label) (d : Config) (r : Replays rules p q journal c) (a : Applies rules p c l d)
-    (x : Var) (old : IsOld c x.frame) (ends : IsEnd c x) (u : IsUnlisted a x) where
+    (list : List Var) (old : (x : Var) → IsAmong x list → IsOld c x.frame) (ends : HasEnds c list) (spares : (x : Var) → IsAmong x list → (n : Name) → IsEndAt c n x → Binds c d n x → ⊥) where
   w : Good c
   w = good_replay rules p q journal c r
 
   v : Good d
   v = good_replay rules p q (journal ++ l ∷ []) d (replays_on rules p q journal c l d r a)
 
-  root : HasFirst c a.site
-  root = first_box c w a.site.content.name a.site (site_found rules p c l d w v a)
-
-  root_follows : Follows root.content.equations (whole a.site)
-  root_follows = record { each = λ {s} {t} m. told (subst (λ (E : Equations). IsTold E s t) (sym (ap equations_of root.path) ∙ path_whole a.site) (IsTold-left root.content.equations (equations_of root.rest) s t m)) }
-
-  out : outermost_equations a.site ≡ root.content.equations
-  out = ap first_equations root.path
-
-  -- it isn't bound in the box of the label's place
-  at_place : Binds c d a.site.content.name x → ⊥
-  at_place b = on (ends.each root.content.name (record { around = []; content = root.content; goals = root.goals }) root.found refl still)
+  -- then it binds none of it: with a variable it would bind the oldest one that is equal to it by the outermost box's equations
+  pub unbound : (x : Var) → IsAmong x list → Changes by_binding c d (Item.Binding x) → ⊥
+  unbound x m (n, b) = spares least.0 (ends.each root.content.name (first_found root) root.found refl still x least.0 m free least.1) n end_here binds_least
     where
-      before : b.adds.before ≡ a.site
-      before = some_value (sym b.adds.was ∙ site_found rules p c l d w v a)
+      root : HasFirst c b.adds.before
+      root = first_box c w n b.adds.before b.adds.was
 
-      consistent : IsConsistent (whole a.site)
-      consistent = subst (λ (k : Found). IsConsistent (whole k)) before (IsConsistent-follows (step_follows rules p c l d w v a a.site.content.name b.adds.before b.adds.afterwards b.adds.was b.adds.is) b.consistent)
+      grown : Follows (whole b.adds.before) (whole b.adds.afterwards)
+      grown = step_follows rules p c l d w v a n b.adds.before b.adds.afterwards b.adds.was b.adds.is
+
+      follows : Follows root.content.equations (whole b.adds.before)
+      follows = first_follows c b.adds.before root
 
       still : IsConsistent root.content.equations
-      still = IsConsistent-follows root_follows consistent
+      still = IsConsistent-follows follows (IsConsistent-follows grown b.consistent)
 
-      low : IsStructured root.content.equations x → ⊥
-      low s = b.newly_bound.unstructured (subst (λ (k : Found). IsStructured (whole k) x) (sym before) (s.0, s.1, Equal-follows root_follows s.2, s.3))
+      free : IsStructured root.content.equations x → ⊥
+      free s = b.newly_bound.unstructured (s.0, s.1, Equal-follows follows s.2, s.3)
 
-      listed : (y : Var) × IsAmong y u.list × Equal root.content.equations (variable x) (variable y)
-      listed = let k : (y : Var) × IsAmong y u.list × Equal (outermost_equations a.site) (variable x) (variable y) = u.bound.every x b in (k.0, k.1, subst (λ (E : Equations). Equal E (variable x) (variable k.0)) out k.2)
+      least : (y : Var) × IsOldest root.content.equations x y
+      least = oldest_of root.content.equations x
 
-      on : IsStructured root.content.equations x ⊎ IsOldest root.content.equations x x → ⊥
-      on (inl s) = low s
-      on (inr o) = u.absent (u.bound.oldest listed.0 x listed.1 (subst (λ (E : Equations). IsOldest E listed.0 x) (sym out)
-          (record { equal = turned listed.2; oldest = λ y e. o.oldest y (joined listed.2 e) })))
+      end_here : IsEndAt c n least.0
+      end_here = record {
+        each = λ f i h. inr (subst (λ (E : Equations). IsOldest E least.0 least.0) (sym (ap outermost_equations (some_value (sym i ∙ b.adds.was)) ∙ first_outermost c b.adds.before root))
+            (record { equal = same; oldest = λ y e. least.1.oldest y (joined least.1.equal e) }));
+      }
 
-  pub unbound : Changes by_binding c d (Item.Binding x) → ⊥
-  unbound (n, b) = on (moved rules p c l d w v a n b.adds.before b.adds.afterwards b.adds.was b.adds.is)
-    where
-      on : Moved l.worker (slice_index c.next l.worker) a.site a.change b.adds.before b.adds.afterwards → ⊥
-      on (aside z) = b.adds.more (ap (λ (k : Content). k.equations) z.content)
-      on (at_site k y z) = at_place (subst (λ (m : Name). Binds c d m x) (box-itself n c.roots b.adds.before b.adds.was ∙ ap (λ (f : Found). f.content.name) y) b)
-      on (inside k j i1 i2 y z) = b.adds.more (ap (λ (f : Found). f.content.equations) z ∙ sym (ap (λ (f : Found). f.content.equations) y))
+      binds_least : Binds c d n least.0
+      binds_least = record {
+        adds = b.adds;
+        consistent = b.consistent;
+        newly_bound = newly_bound_with (whole b.adds.before) (whole b.adds.afterwards) grown x least.0 (turned (Equal-follows follows least.1.equal)) b.newly_bound;
+      }
 
-  -- and it stays an end
-  was_root : (n : Name) (g : Found) → box_at n d.roots ≡ Some g → IsConsistent (whole g) → (f : Found) → box_at n c.roots ≡ Some f → f.around ≡ [] → IsStructured (whole g) x ⊎ IsOldest (whole g) x x
-  was_root n g i h f e first = elim (structured_or (whole g) x) [ inl s ↦ inl s | inr m ↦ on m (ends.each n f e first (IsConsistent-follows grows h)) ]
-    where
-      grows : Follows (whole f) (whole g)
-      grows = step_follows rules p c l d w v a n f g e i
+  -- so the list has its ends still
+  module _ (x : Var) (m : IsAmong x list) where
+    was_equal : (n : Name) (f g : Found) → box_at n c.roots ≡ Some f → f.around ≡ [] → box_at n d.roots ≡ Some g → IsConsistent (whole g) → (IsStructured (whole g) x → ⊥) → (y : Var) → Equal (whole g) (variable x) (variable y)
+        → Equal (whole f) (variable x) (variable y)
+    was_equal n f g e first i h free y k = elim (equal_or (whole f) (variable x) (variable y)) [ inl z ↦ z | inr z ↦ absurd (apart z) ]
+      where
+        grows : Follows (whole f) (whole g)
+        grows = step_follows rules p c l d w v a n f g e i
 
-      on : (IsStructured (whole g) x → ⊥) → IsStructured (whole f) x ⊎ IsOldest (whole f) x x → IsStructured (whole g) x ⊎ IsOldest (whole g) x x
-      on m (inl s) = inl (s.0, s.1, Equal-follows grows s.2, s.3)
-      on m (inr o) = inr (record { equal = same; oldest = λ y k. elim (equal_or (whole f) (variable x) (variable y)) [ inl z ↦ o.oldest y z | inr z ↦ absurd (apart y k z) ] })
-        where
-          apart : (y : Var) → Equal (whole g) (variable x) (variable y) → (Equal (whole f) (variable x) (variable y) → ⊥) → ⊥
-          apart y k z = unbound (
-            n,
-            record {
-              adds = record { before = f; afterwards = g; was = e; is = i; more = λ s. z (subst (λ (E : Equations). Equal E (variable x) (variable y)) (no_more s) k) };
-              consistent = h;
-              newly_bound = record { unstructured = λ s. m (s.0, s.1, Equal-follows grows s.2, s.3); told = inr (y, k, z) };
-            },
-          )
-            where
-              around : g.around ≡ []
-              around = none_around g.around (names_kept l.worker (slice_index c.next l.worker) a.site a.change f g (moved rules p c l d w v a n f g e i) ∙ ap (map (λ (b : Content). b.name)) first)
+        around : g.around ≡ []
+        around = none_around g.around (names_kept l.worker (slice_index c.next l.worker) a.site a.change f g (moved rules p c l d w v a n f g e i) ∙ ap (map (λ (b : Content). b.name)) first)
 
-              no_more : g.content.equations ≡ f.content.equations → whole g ≡ whole f
-              no_more s = λ j. equations_of ((around ∙ sym first) j) ++ s j
+        no_more : g.content.equations ≡ f.content.equations → whole g ≡ whole f
+        no_more s = λ j. equations_of ((around ∙ sym first) j) ++ s j
 
-  new_root : (n : Name) (g : Found) → box_at n d.roots ≡ Some g → g.around ≡ [] → AllDrawn l.worker (slice_index c.next l.worker) a.change.drawn g.content g.goals → IsOldest (whole g) x x
-  new_root n g i root h = record {
-    equal = same;
-    oldest = λ y k. elim (kept_by (over_kept (IsLocal (frames_along (path_to g))) (whole g) (whole_over d v n g i)) k) [ inl z ↦ inl (variable_same z) | inr z ↦ absurd (foreign z.0) ];
-  }
-    where
-      variable_same : {y : Var} → variable x ≡ variable y → x ≡ y
-      variable_same z = cc
+        apart : (Equal (whole f) (variable x) (variable y) → ⊥) → ⊥
+        apart z = unbound x m (
+          n,
+          record {
+            adds = record { before = f; afterwards = g; was = e; is = i; more = λ s. z (subst (λ (E : Equations). Equal E (variable x) (variable y)) (no_more s) k) };
+            consistent = h;
+            newly_bound = record { unstructured = λ s. free (s.0, s.1, Equal-follows grows s.2, s.3); told = inr (y, k, z) };
+          },
+        )
 
-      frames : frames_along (path_to g) ≡ g.content.frames
-      frames = ap (λ (xs : List Content). frames_along (xs ++ g.content ∷ [])) root ∙ append-nil g.content.frames
+    -- in a new root box it is equal to no other one
+    new_root : (n : Name) (g : Found) → box_at n d.roots ≡ Some g → g.around ≡ [] → AllDrawn l.worker (slice_index c.next l.worker) a.change.drawn g.content g.goals → (y : Var) → Equal (whole g) (variable x) (variable y) → x ≡ y
+    new_root n g i root h y k = elim (kept_by (over_kept (IsLocal (frames_along (path_to g))) (whole g) (whole_over d v n g i)) k) [ inl z ↦ variable_same z | inr z ↦ absurd (foreign z.0) ]
+      where
+        variable_same : {y : Var} → variable x ≡ variable y → x ≡ y
+        variable_same z = cc
 
-      foreign : IsLocal (frames_along (path_to g)) x → ⊥
-      foreign k =
-          let z : 0 < times x.frame (only g) = frames_counted x.frame (only g) (IsIn-left x.frame g.content.frames (frames_inside g.goals ++ []) (local_in g.content.frames x (subst (λ (fs : List Name). IsLocal fs x) frames k))) in
-          let y : times x.frame (box g.content g.goals no_boxes) ≤ drawn_times x.frame l.worker (slice_index c.next l.worker) a.change.drawn = h x.frame in
-          steps.not_old rules p c l d w.stand a x.frame (omega arith) old
+        frames : frames_along (path_to g) ≡ g.content.frames
+        frames = ap (λ (xs : List Content). frames_along (xs ++ g.content ∷ [])) root ∙ append-nil g.content.frames
 
-  pub still_end : IsEnd d x
-  still_end = record {
-    each = λ n g i root h. elim (drawn_or rules p c l d w.stand a g (found_in n d.roots g i)) [
-      | inl z ↦ inr (new_root n g i root z)
-      | inr (f, z, k) ↦ was_root n g i h f
-          (subst (λ (m : Name). box_at m c.roots ≡ Some f) (sym (name_kept l.worker (slice_index c.next l.worker) a.site a.change f g k) ∙ sym (box-itself n d.roots g i)) (in_found c.roots f w.stand.once z))
-          (none_around f.around (sym (names_kept l.worker (slice_index c.next l.worker) a.site a.change f g k) ∙ ap (map (λ (b : Content). b.name)) root))
+        foreign : IsLocal (frames_along (path_to g)) x → ⊥
+        foreign k =
+            let z : 0 < times x.frame (only g) = frames_counted x.frame (only g) (IsIn-left x.frame g.content.frames (frames_inside g.goals ++ []) (local_in g.content.frames x (subst (λ (fs : List Name). IsLocal fs x) frames k))) in
+            let y : times x.frame (box g.content g.goals no_boxes) ≤ drawn_times x.frame l.worker (slice_index c.next l.worker) a.change.drawn = h x.frame in
+            steps.not_old rules p c l d w.stand a x.frame (omega arith) (old x m)
+
+    pub still_old : IsOld d x.frame
+    still_old = let z : slice_index c.next x.frame.worker ≤ slice_index d.next x.frame.worker = next_least rules p c l d a x.frame.worker in let y : x.frame.number < slice_index c.next x.frame.worker = old x m in omega (arith, z, y)
+
+  pub still_ends : HasEnds d list
+  still_ends = record {
+    each = λ n g i root h x y m free o. elim (drawn_or rules p c l d w.stand a g (found_in n d.roots g i)) [
+      | inl z ↦ subst (λ (k : Var). IsAmong k list) (new_root x m n g i root z y o.equal) m
+      | inr (f, z, k) ↦
+          let e : box_at n c.roots ≡ Some f =
+          subst (λ (m : Name). box_at m c.roots ≡ Some f) (sym (name_kept l.worker (slice_index c.next l.worker) a.site a.change f g k) ∙ sym (box-itself n d.roots g i)) (in_found c.roots f w.stand.once z) in
+          let first : f.around ≡ [] = none_around f.around (sym (names_kept l.worker (slice_index c.next l.worker) a.site a.change f g k) ∙ ap (map (λ (b : Content). b.name)) root) in
+          let grows : Follows (whole f) (whole g) = step_follows rules p c l d w v a n f g e i in
+          ends.each n f e first (IsConsistent-follows grows h) x y m (λ s. free (s.0, s.1, Equal-follows grows s.2, s.3))
+          (record { equal = was_equal x m n f g e first i h free y o.equal; oldest = λ u q. o.oldest u (Equal-follows grows q) })
     ];
   }
 
-  pub still_old : IsOld d x.frame
-  still_old = let z : slice_index c.next x.frame.worker ≤ slice_index d.next x.frame.worker = next_least rules p c l d a x.frame.worker in omega arith
-
-pub marks : (rules : List Rule) (p : Program) (q : Query) (journal : List Label) (c : Config) (ls : List Label) (d : Config) → Replays rules p q journal c → (w : Derives rules p c ls d)
-    → (x : Var) → IsOld c x.frame → IsEnd c x → Unlisted rules p c ls d w x → Unchanged rules p c ls d w (Item.Binding x) × IsEnd d x
-marks rules p q journal c [] d r w x old ends u = (tt, subst (λ (k : Config). IsEnd k x) w ends)
-marks rules p q journal c (l ∷ ls) d r w x old ends u =
-    let further : Unchanged rules p w.0 ls d w.2 (Item.Binding x) × IsEnd d x =
-    marks rules p q (journal ++ l ∷ []) w.0 ls d (replays_on rules p q journal c l w.0 r w.1) w.2 x (still_old rules p q journal c l w.0 r w.1 x old ends u.0) (still_end rules p q journal c l w.0 r w.1 x old ends u.0) u.1 in
-    ((unbound rules p q journal c l w.0 r w.1 x old ends u.0, further.0), further.1)
+pub spared : (rules : List Rule) (p : Program) (q : Query) (journal : List Label) (c : Config) (ls : List Label) (d : Config) → Replays rules p q journal c → (w : Derives rules p c ls d)
+    → (list : List Var) → ((x : Var) → IsAmong x list → IsOld c x.frame) → HasEnds c list → ((x : Var) → IsAmong x list → SparesEnd rules p c ls d w x)
+    → ((x : Var) → IsAmong x list → Unchanged rules p c ls d w (Item.Binding x)) × HasEnds d list
+spared rules p q journal c [] d r w list old ends u = (λ x m. tt, subst (λ (k : Config). HasEnds k list) w ends)
+spared rules p q journal c (l ∷ ls) d r w list old ends u =
+    let one : (x : Var) → IsAmong x list → (n : Name) → IsEndAt c n x → Binds c w.0 n x → ⊥ = λ x m. (u x m).0 in
+    let further : ((x : Var) → IsAmong x list → Unchanged rules p w.0 ls d w.2 (Item.Binding x)) × HasEnds d list =
+    spared rules p q (journal ++ l ∷ []) w.0 ls d (replays_on rules p q journal c l w.0 r w.1) w.2 list (λ x m. still_old rules p q journal c l w.0 r w.1 list old ends one x m)
+    (still_ends rules p q journal c l w.0 r w.1 list old ends one) (λ x m. (u x m).1) in
+    (λ x m. (unbound rules p q journal c l w.0 r w.1 list old ends one x m, further.0 x m), further.1)

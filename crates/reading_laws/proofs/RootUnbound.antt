@@ -53,7 +53,7 @@ module _ (rules : List Rule) (p : Program) (c : Config) (l : Label) (d : Config)
       ]
 
 -- a box that is there before and afterwards is there between
-between : (rules : List Rule) (p : Program) (c : Config) (l : Label) (m d : Config) (ls : List Label) → Good c → Good m → Applies rules p c l m → Derives rules p m ls d → (n : Name) (f g : Found) → box_at n c.roots ≡ Some f → box_at n d.roots ≡ Some g
+pub between : (rules : List Rule) (p : Program) (c : Config) (l : Label) (m d : Config) (ls : List Label) → Good c → Good m → Applies rules p c l m → Derives rules p m ls d → (n : Name) (f g : Found) → box_at n c.roots ≡ Some f → box_at n d.roots ≡ Some g
     → (k : Found) × (box_at n m.roots ≡ Some k)
 between rules p c l m d ls w v a t n f g e i = on ((later rules p m d ls v.stand t).each g (found_in n d.roots g i))
   where

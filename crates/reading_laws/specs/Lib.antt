@@ -7,7 +7,10 @@ pub mod Guards
 pub mod IdleBoxes
 pub mod IdleGoals
 pub mod Listed
+pub mod ListedMarks
+pub mod Marks
 pub mod OldestStays
 pub mod Plans
+pub mod Seen
 pub mod SplitRight
 pub mod Unchanged

@@ -2,14 +2,17 @@
 
 ghost use Rattle.reading_laws.specs.AtomRight.{AtomRightLaw, CollectRightLaw};
 ghost use Rattle.reading_laws.specs.Boxes.{EnoughUnboundLaw};
-ghost use Rattle.reading_laws.specs.Ends.{MarksLaw};
+ghost use Rattle.reading_laws.specs.Ends.{SparedLaw, UnlistedLaw};
 ghost use Rattle.reading_laws.specs.FailRight.{FailRightLaw};
 ghost use Rattle.reading_laws.specs.Guards.{InnerGuardLaw, RootGuardLaw};
 ghost use Rattle.reading_laws.specs.IdleBoxes.{IdleBoxLaw};
 ghost use Rattle.reading_laws.specs.IdleGoals.{EnoughStaysLaw, PassesIdleLaw};
 ghost use Rattle.reading_laws.specs.Listed.{InnerListedLaw, ListedLaw, QuietStaysLaw};
+ghost use Rattle.reading_laws.specs.ListedMarks.{ListedEndsLaw, ListedMarksLaw};
+ghost use Rattle.reading_laws.specs.Marks.{LastMarkLaw, MarksLaw, OldMarkLaw};
 ghost use Rattle.reading_laws.specs.OldestStays.{OldestStaysLaw};
 ghost use Rattle.reading_laws.specs.Plans.{AtomPlanLaw, ChoicePlanLaw, CollectPlanLaw};
+ghost use Rattle.reading_laws.specs.Seen.{SeenPlanLaw};
 ghost use Rattle.reading_laws.specs.SplitRight.{SplitRightLaw};
 
 /// A box over many labels that bind none of a list of variables that is enough for it: it stays, with its ports, its
@@ -48,10 +51,24 @@ pub fn plans_again()
     ensures choices { ChoicePlanLaw }
 {}
 
-/// A variable that is structured, or the oldest of its class, by each root box's equations isn't bound or made equal
-/// while no label lists it: so labels mark what they list, and plans read the oldest.
+/// A plan of one label at a goal stays right so by the stamps of its goal and its root box and the marks of what it lists,
+/// or in an inner box by the stamps of its goal and of the sets of goals of the boxes down to it.
+pub fn seen_plans()
+    ensures { SeenPlanLaw }
+{}
+
+/// A label binds no variable that it doesn't list, where this is structured or the oldest of its class by the outermost
+/// equations. A list that has with each of its variables the oldest of its class has it still, and none of it is bound,
+/// where labels spare it so. So labels mark what they list, with the number of the last one of their plan, and marks
+/// that are no later than a plan say of such a list that none of it was bound since. So is what a plan lists.
 pub fn marks()
-    ensures { MarksLaw }
+    ensures unlisted { UnlistedLaw }
+    ensures spared { SparedLaw }
+    ensures last { LastMarkLaw }
+    ensures old { OldMarkLaw }
+    ensures since { MarksLaw }
+    ensures ends { ListedEndsLaw }
+    ensures listed { ListedMarksLaw }
 {}
 
 /// A label that changes neither an idle goal, nor the set of goals of one of its alternatives or of a box around it inside

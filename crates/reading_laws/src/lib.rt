@@ -4,4 +4,6 @@
 
 mod laws;
 
-pub use laws::{bound_again, growing_boxes, idle_places, labels_again, marks, plans_again};
+pub use laws::{
+    bound_again, growing_boxes, idle_places, labels_again, marks, plans_again, seen_plans,
+};

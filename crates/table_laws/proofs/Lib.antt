@@ -50,3 +50,4 @@ pub mod CutAway
 pub mod GoingRows
 pub mod GoneSteps
 pub mod KeptStores
+pub mod MarksKept

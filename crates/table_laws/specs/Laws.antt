@@ -79,6 +79,7 @@ started p q =
       roots_changed = 0;
       next = (2 + length q.goals) ∷ [];
       steps = 0;
+      mark_of = λ x. 0;
     }
 
 abbrev pub StartLaw : Type 0

@@ -6,6 +6,7 @@ pub mod Copying
 pub mod Writes
 pub mod Steps
 pub mod Laws
+pub mod Marks
 pub mod Walks
 pub mod Going
 pub mod Kept

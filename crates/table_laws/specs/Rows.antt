@@ -1,6 +1,7 @@
 -- What a flat table has under the names of boxes and goals.
 use Rattle.std.specs.Prelude.{ℕ, List, [], ◌∷◌, ◌++◌, Option, Some, None}
 use Rattle.akl_terms.specs.declared.name.Name.{Name}
+use Rattle.akl_terms.specs.declared.name.Var.{Var}
 use Rattle.akl_terms.specs.declared.term.Node.{Node}
 use Rattle.akl_terms.specs.declared.term.Term.{Term}
 use Rattle.akl_terms.specs.Tree.{Tree}
@@ -33,7 +34,7 @@ pub record GoalRow : Type 0 where
   pub changed : ℕ
 
 -- a table: the nodes of its program; boxes and goals by name; the names of the root boxes, with the number of the last label that changed
--- these; the next number of each worker; and how many labels were made
+-- these; the next number of each worker; how many labels were made; and of each variable a number of labels behind which it wasn't bound
 pub record Table : Type 0 where
   pub nodes : List Node
   pub box_of : Name → Option BoxRow
@@ -42,6 +43,7 @@ pub record Table : Type 0 where
   pub roots_changed : ℕ
   pub next : List ℕ
   pub steps : ℕ
+  pub mark_of : Var → ℕ
 
 -- the store under a name; one that isn't there has nothing
 abbrev pub store_in : Option BoxRow → Stored

@@ -1,6 +1,7 @@
 -- A table keeps of each item the number of the last label that changed it.
 use Rattle.std.specs.Prelude.{◌≡◌, ℕ, List, [], ◌∷◌, ◌++◌, length, Option, Some, None}
 use Rattle.akl_terms.specs.declared.name.Name.{Name}
+use Rattle.akl_terms.specs.declared.name.Var.{Var}
 use Rattle.akl_terms.specs.declared.program.Program.{Program}
 use Rattle.akl_terms.specs.declared.program.Query.{Query}
 use Rattle.akl_model.specs.declared.item.Item.{Item}
@@ -9,6 +10,7 @@ use Rattle.akl_model.specs.declared.label.Label.{Label}
 use Rattle.akl_model.specs.Config.{Config}
 use Rattle.akl_model.specs.Changes.{by_store, IsLastChange}
 use Rattle.akl_model.specs.Derivations.{Replays}
+use Rattle.reading_laws.specs.Marks.{IsMark}
 use Rattle.table_laws.specs.Rows.{BoxRow, GoalRow, Table}
 use Rattle.table_laws.specs.Unfolds.{Unfolds}
 
@@ -30,6 +32,10 @@ pub record IsStamped (rules : List Rule) (r : Run) (T : Table) : Type 0 where
   pub goals : (n : Name) (row : BoxRow) → T.box_of n ≡ Some row → LastChange rules r (Item.Goals n) row.goals_changed
   pub goal : (g : Name) (row : GoalRow) → T.goal_of g ≡ Some row → LastChange rules r (Item.Goal g) row.changed
   pub roots : LastChange rules r Item.Roots T.roots_changed
+
+-- and a mark of each variable
+pub record AreMarked (rules : List Rule) (r : Run) (T : Table) : Type 0 where
+  pub each : (x : Var) → IsMark rules r.program r.query r.journal x (T.mark_of x)
 
 -- a table that a run has led to, with the configuration to which it unfolds
 pub record IsTableOf (rules : List Rule) (r : Run) (T : Table) : Type 0 where

@@ -15,7 +15,7 @@ use Rattle.table_laws.specs.Inside.{IsInside, IsGoalInside}
 use Rattle.table_laws.specs.Walks.{alternatives_of}
 use Rattle.table_laws.specs.Steps.{NewBox, BoxCopy, copy_among, Step, tells, forks, fails, cuts, joins, splits, refutes, confirms}
 
--- the same table
+-- the same table, but for the marks of variables
 pub record IsTable (U T : Table) : Type 0 where
   pub nodes : U.nodes ≡ T.nodes
   pub boxes : (n : Name) → U.box_of n ≡ T.box_of n

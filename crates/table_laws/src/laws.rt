@@ -2,6 +2,7 @@
 
 ghost use Rattle.table_laws.specs.Going.{GoneLaw, GoneListedLaw};
 ghost use Rattle.table_laws.specs.Laws.{CopiesLaw, FreshStepLaw, LaterLaw, StartLaw, StepLaw};
+ghost use Rattle.table_laws.specs.Marks.{MarksStartLaw, MarksStepLaw};
 
 /// A table of a query's one box, to which nothing was told, is one of the run without labels.
 pub fn start()
@@ -12,6 +13,12 @@ pub fn start()
 /// to the configuration to which the label leads.
 pub fn steps()
     ensures { StepLaw }
+{}
+
+/// The marks of variables before the first label, and behind a label that marks what it binds.
+pub fn marks()
+    ensures start { MarksStartLaw }
+    ensures step { MarksStepLaw }
 {}
 
 /// The names that a step draws stand nowhere in the table, and no two of them are the same.

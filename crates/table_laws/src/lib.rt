@@ -5,4 +5,4 @@
 
 mod laws;
 
-pub use laws::{drawn_names, gone_places, later_steps, made_copies, start, steps};
+pub use laws::{drawn_names, gone_places, later_steps, made_copies, marks, start, steps};

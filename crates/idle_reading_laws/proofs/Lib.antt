@@ -1,0 +1,2 @@
+pub mod IdleGoals
+pub mod SeenBoxes
