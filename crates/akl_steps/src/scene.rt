@@ -6,7 +6,7 @@ use crate::load::Texts;
 use crate::origins::{Origin, Origins};
 use crate::page::Page;
 use akl_terms::{Name, Program, Seen, Term, Text, Var};
-use local_store::{Chain, Shared, Store};
+use local_store::{Chain, Part, Shared, Store};
 use rational_unify::Lookup;
 
 /// The most bindings that are followed from a variable to its value.
@@ -23,6 +23,8 @@ pub struct Scene<'a> {
     around: &'a [Shared<Store>],
     /// The box's own store; where there is none, there are none around.
     pub own: Option<&'a Shared<Store>>,
+    /// What is added to that store.
+    added: Option<&'a Part>,
 }
 
 // Adds the one of these names that has this number; `_` and the number where there is none.
@@ -56,6 +58,7 @@ impl<'a> Scene<'a> {
             origins,
             around,
             own,
+            added: None,
         }
     }
 
@@ -64,19 +67,28 @@ impl<'a> Scene<'a> {
         Scene::new(self.program, self.texts, self.origins, self.around)
     }
 
-    /// The same once the box has another store.
-    pub fn with(&self, store: &'a Shared<Store>) -> Scene<'a> {
+    /// The same once something is added to the box's store.
+    pub fn with(&self, part: &'a Part) -> Scene<'a> {
         Scene {
-            own: Some(store),
+            added: Some(part),
             ..*self
         }
     }
 
-    /// What a variable is bound to by the stores.
-    pub fn bound(&self, variable: Var) -> Option<Term> {
+    // What a variable is bound to by the box's own store and what is added to it.
+    fn bound_here(&self, variable: Var) -> Option<Term> {
         let own = self.own?.get().first_binding(variable);
         if own.is_some() {
             return own;
+        }
+        self.added?.first_binding(variable)
+    }
+
+    /// What a variable is bound to by the stores.
+    pub fn bound(&self, variable: Var) -> Option<Term> {
+        let here = self.bound_here(variable);
+        if here.is_some() {
+            return here;
         }
         Chain::new(&self.program.templates, self.around).get(variable)
     }

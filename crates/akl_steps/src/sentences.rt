@@ -174,8 +174,8 @@ fn push_coming(after: &Scene<'_>, page: &mut Page, goals: &[(Name, Goal)]) {
 pub fn push_sentence<'a>(scene: &Scene<'a>, page: &mut Page, view: &View, plan: &'a Plan) {
     push_subject(scene, page, view, plan.label());
     let (after, goals): (Scene<'a>, &'a [(Name, Goal)]) = match plan.step() {
-        Step::Tell { store, .. } => (scene.with(store), &[]),
-        Step::Join { store, goals, .. } => (scene.with(store), goals),
+        Step::Tell { part, .. } => (scene.with(part), &[]),
+        Step::Join { part, goals, .. } => (scene.with(part), goals),
         _ => (*scene, &[]),
     };
     push_outcome(&after, page, view, plan);

@@ -8,7 +8,7 @@ use Rattle.akl_terms.specs.declared.program.Goal.{Goal}
 use Rattle.akl_terms.specs.declared.term.Node.{Node}
 use Rattle.akl_model.specs.declared.label.Rule.{Rule}
 use Rattle.akl_model.specs.declared.label.Label.{Label}
-use Rattle.local_store.specs.declared.telling.ToldStore.{ToldStore}
+use Rattle.local_store.specs.Parts.{ToldStore}
 use Rattle.local_store.specs.Stored.{Stored}
 use Rattle.rational_unify.specs.Known.{found_in}
 use Rattle.rational_unify.proofs.Taking.{drop-next}
@@ -23,7 +23,7 @@ module _ (symbols : List (List ℕ)) (nodes : List Node) (around : List Stored) 
     pub labels : List Label
     pub bound : List Var
     pub all_labels : after ≡ before ++ labels
-    pub all_bound : now.bound.items ≡ old.bound.items ++ bound
+    pub all_bound : now.bound ≡ old.bound ++ bound
     pub behind : body.behind ≡ length labels
     pub free : AreUnbound (bindings_from (within around old.store)) bound
     pub kept : (x : Var) → found_in (bindings_from (within around now.store)) x ≡ None → found_in (bindings_from (within around old.store)) x ≡ None
@@ -37,7 +37,7 @@ module _ (symbols : List (List ℕ)) (nodes : List Node) (around : List Stored) 
     labels = [];
     bound = [];
     all_labels = sym (append-nil before);
-    all_bound = sym (append-nil old.bound.items);
+    all_bound = sym (append-nil old.bound);
     behind = b;
     free = tt;
     kept = λ x h. h;
@@ -75,7 +75,7 @@ module _ (symbols : List (List ℕ)) (nodes : List Node) (around : List Stored) 
       labels = r.labels;
       bound = r.bound;
       all_labels = labels ∙ r.all_labels;
-      all_bound = ap (λ (u : ToldStore). u.bound.items) same ∙ r.all_bound;
+      all_bound = ap (λ (u : ToldStore). u.bound) same ∙ r.all_bound;
       behind = behind ∙ r.behind;
       free = r.free;
       kept = subst (λ (u : ToldStore). (x : Var) → found_in (bindings_from (within around u.store)) x ≡ None → found_in (bindings_from (within around old.store)) x ≡ None) (sym same) r.kept;
@@ -92,7 +92,7 @@ module _ (symbols : List (List ℕ)) (nodes : List Node) (around : List Stored) 
       labels = r.labels ++ label_of rule (name_of frame n) ∷ [];
       bound = r.bound ++ into.takes.bound;
       all_labels = more_labels (label_of rule (name_of frame n)) labels;
-      all_bound = into.takes.all_bound ∙ ap (λ (l : List Var). l ++ into.takes.bound) r.all_bound ∙ append_assoc old.bound.items r.bound into.takes.bound;
+      all_bound = into.takes.all_bound ∙ ap (λ (l : List Var). l ++ into.takes.bound) r.all_bound ∙ append_assoc old.bound r.bound into.takes.bound;
       behind = one_more (label_of rule (name_of frame n)) behind;
       free = all_unbound r.bound into.takes.bound r.free (λ x h. r.kept x h) into.takes.takes.unbound;
       kept = λ x h. r.kept x (into.takes.takes.kept x h);
@@ -111,7 +111,7 @@ module _ (symbols : List (List ℕ)) (nodes : List Node) (around : List Stored) 
       labels = r.labels ++ label_of Rule.Eval (name_of frame n) ∷ [];
       bound = r.bound;
       all_labels = more_labels (label_of Rule.Eval (name_of frame n)) labels;
-      all_bound = ap (λ (u : ToldStore). u.bound.items) same ∙ r.all_bound;
+      all_bound = ap (λ (u : ToldStore). u.bound) same ∙ r.all_bound;
       behind = one_more (label_of Rule.Eval (name_of frame n)) behind;
       free = r.free;
       kept = subst (λ (u : ToldStore). (x : Var) → found_in (bindings_from (within around u.store)) x ≡ None → found_in (bindings_from (within around old.store)) x ≡ None) (sym same) r.kept;

@@ -6,7 +6,7 @@ use Rattle.akl_terms.specs.declared.program.Test.{Test}
 use Rattle.akl_terms.specs.declared.term.Node.{Node}
 use Rattle.akl_terms.specs.declared.term.Equation as code
 use Rattle.akl_model.specs.declared.label.Rule.{Rule}
-use Rattle.local_store.specs.declared.telling.ToldStore.{ToldStore}
+use Rattle.local_store.specs.Parts.{ToldStore}
 use Rattle.local_store.specs.Stored.{Stored}
 use Rattle.local_store.specs.Chained.{equations_of}
 use Rattle.arith_goals.specs.declared.goals.ArithValue.TheVariants as arith

@@ -11,11 +11,14 @@ use Rattle.akl_terms.specs.Template.{tree}
 use Rattle.rational_unify.specs.Known.{found_in}
 use Rattle.rational_unify.specs.Solving.{equations_in}
 use Rattle.rational_unify.proofs.Chains.{found-none}
-use Rattle.local_store.specs.Stored.{Stored, with_binding}
+use Rattle.local_store.specs.declared.part.Part.{Part}
+use Rattle.local_store.specs.Parts.{with_part, all_ports}
+use Rattle.local_store.specs.Stored.{Stored, with_binding, all_named, joins}
 use Rattle.rational_unify.specs.Older.{LeadOlder}
 use Rattle.local_store.specs.Chained.{bindings_from, equations_of, innermost, around, replaced, ToldBy, BindOnce, IsSolvedChain}
 use Rattle.local_store.specs.Bound.{AreNewlyBound, variable_in, bound_by}
 use Rattle.local_store.specs.Telling.{ToldAlso, Tells, Adds, added}
+use Rattle.local_store.proofs.Known.{joins-push}
 use Rattle.local_store.proofs.Layers.{from-last, joins-found}
 use Rattle.local_store.proofs.Replaced.{tells-adds, adds-bound, adds-says}
 use Rattle.body_goals.specs.Takes.{within, Takes}
@@ -74,3 +77,10 @@ module _ (nodes : List Node) (os : List Stored) (s : Stored) (f : IsSolvedChain 
     unbound = b.unbound;
     kept = stays_unbound;
   }
+
+-- a part takes one binding more, and so does the store to which it is added
+pub part_takes : (own : Stored) (old : Part) (bs : List (Var × Term)) (x : Var) (t : Term) → bs ≡ old.bindings.items ++ (x, t) ∷ []
+    → record { frames = all_named own.frames old.frames.items; bindings = joins own.bindings bs; ports = all_ports own.ports old.ports.items } ≡ with_binding (with_part own old) x t
+part_takes own old bs x t e =
+    ap (λ (l : List (Var × Term)). record { frames = all_named own.frames old.frames.items; bindings = l; ports = all_ports own.ports old.ports.items })
+    (ap (joins own.bindings) e ∙ joins-push own.bindings old.bindings.items (x, t))

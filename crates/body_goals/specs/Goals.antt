@@ -10,7 +10,7 @@ use Rattle.akl_terms.specs.declared.term.Equation as code
 use Rattle.akl_terms.specs.Arithmetic.{Evaluates, value, truth}
 use Rattle.akl_terms.specs.Template.{Template, tree}
 use Rattle.akl_model.specs.declared.label.Rule.{Rule}
-use Rattle.local_store.specs.declared.telling.ToldStore.{ToldStore}
+use Rattle.local_store.specs.Parts.{ToldStore}
 use Rattle.local_store.specs.Stored.{Stored}
 use Rattle.local_store.specs.Chained.{Chained, equations_of}
 use Rattle.body_goals.specs.declared.goal.Reduction.{Reduction}

@@ -9,7 +9,7 @@ use Rattle.akl_terms.specs.declared.term.Node.{Node}
 use Rattle.akl_terms.specs.declared.term.Equation as code
 use Rattle.akl_model.specs.declared.label.Rule.{Rule}
 use Rattle.akl_model.specs.declared.label.Label.{Label}
-use Rattle.local_store.specs.declared.telling.ToldStore.{ToldStore}
+use Rattle.local_store.specs.Parts.{ToldStore}
 use Rattle.local_store.specs.Stored.{Stored}
 use Rattle.local_store.specs.Chained.{bindings_from, IsSolvedChain}
 use Rattle.body_goals.specs.declared.body.Body.{Body}
@@ -48,7 +48,7 @@ pub record IsReduced (symbols : List (List ℕ)) (nodes : List Node) (around : L
   pub bound : List Var
   pub reduces : Reduces symbols nodes around frame 0 0 old.store n codes labels new.store body.goals.items bound body.told
   pub all_labels : after ≡ before ++ labels
-  pub all_bound : new.bound.items ≡ old.bound.items ++ bound
+  pub all_bound : new.bound ≡ old.bound ++ bound
   pub behind : body.behind ≡ length labels
   pub free : AreUnbound (bindings_from (within around old.store)) bound
   pub solved : new.solved ≡ old.solved

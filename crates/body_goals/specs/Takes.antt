@@ -9,15 +9,20 @@ use Rattle.akl_terms.specs.Equal.{IsConsistentBy}
 use Rattle.akl_terms.specs.Standing.{StandFor}
 use Rattle.rational_unify.specs.Known.{found_in}
 use Rattle.rational_unify.specs.Solving.{equations_in}
-use Rattle.local_store.specs.declared.telling.ToldStore.{ToldStore}
+use Rattle.local_store.specs.declared.part.Part.{Part}
+use Rattle.local_store.specs.Parts.{ToldStore, with_part}
 use Rattle.local_store.specs.Stored.{Stored}
-use Rattle.local_store.specs.Chained.{bindings_from, equations_of, ToldBy, IsSolvedChain}
+use Rattle.local_store.specs.Chained.{bindings_from, equations_of, innermost, around, ToldBy, IsSolvedChain}
 use Rattle.local_store.specs.Bound.{AreNewlyBound}
 use Rattle.local_store.specs.Telling.{ToldAlso}
 
 -- the stores around a store, and then this
 abbrev pub within : List Stored → Stored → List Stored
 within around s = around ++ s ∷ []
+
+-- a part is added to the innermost one of stores
+abbrev pub with_added : List Stored → Part → List Stored
+with_added ss p = within (around ss) (with_part (innermost ss) p)
 
 -- known bindings bind none of these variables
 abbrev pub AreUnbound : List (Var × Term) → List Var → Type 0
@@ -38,7 +43,7 @@ pub record Takes (nodes : List Node) (around : List Stored) (s : Stored) (e : co
 pub record TakesIn (nodes : List Node) (around : List Stored) (e : code.Equation) (old new : ToldStore) : Type 0 where
   pub bound : List Var
   pub takes : Takes nodes around old.store e new.store bound
-  pub all_bound : new.bound.items ≡ old.bound.items ++ bound
+  pub all_bound : new.bound ≡ old.bound ++ bound
   pub solved : new.solved ≡ old.solved
 
 -- it is told, or nothing changes

@@ -4,22 +4,22 @@ ghost use Rattle.std.specs.Prelude.{IfSome};
 ghost use Rattle.akl_terms.specs.Template.{IsArranged};
 ghost use Rattle.rational_unify.specs.Older.{IsToOlder};
 ghost use Rattle.local_store.specs.Chained.{IsSolvedChain};
-ghost use Rattle.body_goals.specs.Takes.{within};
+ghost use Rattle.body_goals.specs.Takes.{with_added};
 ghost use Rattle.body_goals.specs.Binds.{MakesOne, Binds};
 
 use crate::within::Within;
 use akl_terms::{Equation, Seen, Templates, Term, Var};
-use local_store::{Chain, Store};
+use local_store::{Chain, Part};
 use rational_unify::chain_end;
 
-/// The binding by which an equation holds over a store and those around it, which are solved; `None` where it takes none, or
-/// more than one.
-pub(crate) fn binding_for(around: &Chain, own: &Store, equation: Equation) -> Option<(Var, Term)>
-    requires { IsSolvedChain around.now.nodes (within around.now.stores own.now) }
-    ensures { IfSome result (Binds around.now.nodes (within around.now.stores own.now) equation) }
+/// The binding by which an equation holds over a chain and a part that is added to it, which are solved together; `None` where
+/// it takes none, or more than one.
+pub(crate) fn binding_for(chain: &Chain, part: &Part, equation: Equation) -> Option<(Var, Term)>
+    requires { IsSolvedChain chain.now.nodes (with_added chain.now.stores part.now) }
+    ensures { IfSome result (Binds chain.now.nodes (with_added chain.now.stores part.now) equation) }
 {
-    let templates = around.templates();
-    let known = Within { around, own };
+    let templates = chain.templates();
+    let known = Within { chain, part };
     let left = chain_end(templates, &known, equation.left);
     let right = chain_end(templates, &known, equation.right);
     one_binding(templates, left, right)

@@ -1,14 +1,15 @@
 //! The goals of a body, in order.
 
 ghost use Rattle.std.specs.Prelude.{◌≡◌, ◌+◌, ◌<◌, ◌^◌, length, true, IfOk};
-ghost use Rattle.local_store.specs.Chained.{IsKnown, IsSolvedChain};
-ghost use Rattle.body_goals.specs.Takes.{within};
+ghost use Rattle.local_store.specs.Chained.{innermost, around, IsSolvedChain};
+ghost use Rattle.local_store.specs.Parts.{told_over};
+ghost use Rattle.body_goals.specs.Takes.{with_added};
 ghost use Rattle.body_goals.specs.Reduced.{label_of, IsReduced, GoesOn};
 
 use crate::goal::{Reduction, reduce_goal};
 use akl_model::{Label, Rule};
 use akl_terms::{Code, Goal, Name, Place, Templates};
-use local_store::{Chain, Shared, Store, ToldStore};
+use local_store::{Chain, Shared, Store, ToldPart};
 use std::alloc::{AllocError, Global};
 
 /// What is left of a body, and how many labels reduce the others.
@@ -23,24 +24,24 @@ pub struct Body {
 }
 
 /// Reduces goals under a frame in order, which have names of the frame's worker from a number on: those for which one binding
-/// or none is enough, by what the store and those around it tell then. What they tell joins the store, where that is known to
-/// be solved with those around it; else all of them are left. The labels come to the list. An `Err` is want of memory; the
-/// store may have a part of the bindings then.
+/// or none is enough, by what the stores and what is added to the innermost one tell then. What they tell joins what is added,
+/// where the stores are known to be solved with it; else all of them are left. The labels come to the list. An `Err` is want of
+/// memory; some of the bindings may have joined then.
 pub fn reduce(
     alloc: Global,
     templates: &Templates,
-    around: &[Shared<Store>],
+    stores: &[Shared<Store>],
     frame: Name,
     first: u64,
     codes: &[Code],
-    told: &mut ToldStore,
+    told: &mut ToldPart,
     labels: &mut Vec<Label>,
 ) -> Result<Body, AllocError>
     requires numbers { first + length codes.now < 2 ^ 64 }
-    requires solved { told.old.solved ≡ true → IsSolvedChain templates.now.nodes (within around.now told.old.store) }
-    ensures { IfOk result (IsReduced templates.now.symbols templates.now.nodes around.now frame first codes.now told.old told.new labels.old.items labels.new.items) }
+    requires solved { told.old.solved ≡ true → IsSolvedChain templates.now.nodes (with_added stores.now told.old.part) }
+    ensures { IfOk result (IsReduced templates.now.symbols templates.now.nodes (around stores.now) frame first codes.now (told_over (innermost stores.now) told.old) (told_over (innermost stores.now) told.new) labels.old.items labels.new.items) }
 {
-    let chain = Chain::new(templates, around);
+    let chain = Chain::new(templates, stores);
     let mut body = Body {
         goals: Vec::with_capacity(alloc, codes.len())?,
         told: 0,
@@ -62,17 +63,17 @@ pub fn reduce(
 // Reduces the next goal of a body, or leaves it.
 fn take_goal(
     alloc: Global,
-    around: &Chain,
+    chain: &Chain,
     name: Name,
     goal: Goal,
-    told: &mut ToldStore,
+    told: &mut ToldPart,
     labels: &mut Vec<Label>,
     body: &mut Body,
 ) -> Result<(), AllocError>
-    requires { told.old.solved ≡ true → IsSolvedChain around.now.nodes (within around.now.stores told.old.store) }
-    ensures { IfOk result (λ _. GoesOn around.now.symbols around.now.nodes around.now.stores name goal told.old told.new labels.old.items labels.new.items body.old body.new) }
+    requires { told.old.solved ≡ true → IsSolvedChain chain.now.nodes (with_added chain.now.stores told.old.part) }
+    ensures { IfOk result (λ _. GoesOn chain.now.symbols chain.now.nodes (around chain.now.stores) name goal (told_over (innermost chain.now.stores) told.old) (told_over (innermost chain.now.stores) told.new) labels.old.items labels.new.items body.old body.new) }
 {
-    match reduce_goal(alloc, around, goal, told)? {
+    match reduce_goal(alloc, chain, goal, told)? {
         Reduction::Stays => body.goals.push((name, goal))?,
         Reduction::Holds => {
             labels.push(label_of(Rule::Eval, name))?;

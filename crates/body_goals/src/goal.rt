@@ -1,9 +1,10 @@
 //! One goal of a body.
 
 ghost use Rattle.std.specs.Prelude.{◌≡◌, true, IfOk};
-ghost use Rattle.local_store.specs.Chained.{IsSolvedChain, equations_of};
+ghost use Rattle.local_store.specs.Chained.{innermost, around, IsSolvedChain, equations_of};
+ghost use Rattle.local_store.specs.Parts.{told_over};
 ghost use Rattle.arith_goals.specs.Answers.{IsArithmetic, Answers};
-ghost use Rattle.body_goals.specs.Takes.{within};
+ghost use Rattle.body_goals.specs.Takes.{with_added};
 ghost use Rattle.body_goals.specs.Goals.{IsReduction, IsToldBy, template_of};
 
 use crate::telling::tell;
@@ -11,7 +12,7 @@ use crate::within::Within;
 use akl_model::Rule;
 use akl_terms::{Code, Equation, Goal, Term};
 use arith_goals::{ArithValue, evaluate_over};
-use local_store::{Chain, Store, ToldStore};
+use local_store::{Chain, Part, ToldPart};
 use std::alloc::{AllocError, Global};
 
 /// What becomes of a goal.
@@ -25,15 +26,15 @@ pub enum Reduction {
     Stays,
 }
 
-/// Reduces a goal, where the store is known to be solved with those around it and one binding or none is enough for the goal.
+/// Reduces a goal, where the chain is known to be solved with what is added and one binding or none is enough for the goal.
 pub(crate) fn reduce_goal(
     alloc: Global,
-    around: &Chain,
+    chain: &Chain,
     goal: Goal,
-    told: &mut ToldStore,
+    told: &mut ToldPart,
 ) -> Result<Reduction, AllocError>
-    requires { told.old.solved ≡ true → IsSolvedChain around.now.nodes (within around.now.stores told.old.store) }
-    ensures { IfOk result (IsReduction around.now.symbols around.now.nodes around.now.stores goal told.old told.new) }
+    requires { told.old.solved ≡ true → IsSolvedChain chain.now.nodes (with_added chain.now.stores told.old.part) }
+    ensures { IfOk result (IsReduction chain.now.symbols chain.now.nodes (around chain.now.stores) goal (told_over (innermost chain.now.stores) told.old) (told_over (innermost chain.now.stores) told.new)) }
 {
     if !told.solved {
         return Ok(Reduction::Stays);
@@ -45,15 +46,15 @@ pub(crate) fn reduce_goal(
                 left: Term::Mol { node: left, frame },
                 right: Term::Mol { node: right, frame },
             };
-            tell_by(around, Rule::Tell, equation, told)
+            tell_by(chain, Rule::Tell, equation, told)
         }
-        Code::Arith { left, .. } => match value_of(alloc, around, told.store.get(), goal)? {
+        Code::Arith { left, .. } => match value_of(alloc, chain, &told.part, goal)? {
             ArithValue::Is(value) => {
                 let equation = Equation {
                     left: Term::Mol { node: left, frame },
                     right: Term::Int(value),
                 };
-                tell_by(around, Rule::Eval, equation, told)
+                tell_by(chain, Rule::Eval, equation, told)
             }
             ArithValue::Holds => Ok(Reduction::Holds),
             _ => Ok(Reduction::Stays),
@@ -64,32 +65,27 @@ pub(crate) fn reduce_goal(
 
 // Tells an equation by a rule, where one binding is enough for it.
 fn tell_by(
-    around: &Chain,
+    chain: &Chain,
     rule: Rule,
     equation: Equation,
-    told: &mut ToldStore,
+    told: &mut ToldPart,
 ) -> Result<Reduction, AllocError>
-    requires { IsSolvedChain around.now.nodes (within around.now.stores told.old.store) }
-    ensures { IfOk result (IsToldBy around.now.nodes around.now.stores rule equation told.old told.new) }
+    requires { IsSolvedChain chain.now.nodes (with_added chain.now.stores told.old.part) }
+    ensures { IfOk result (IsToldBy chain.now.nodes (around chain.now.stores) rule equation (told_over (innermost chain.now.stores) told.old) (told_over (innermost chain.now.stores) told.new)) }
 {
-    if tell(around, equation, told)? {
+    if tell(chain, equation, told)? {
         Ok(Reduction::Tells(rule))
     } else {
         Ok(Reduction::Stays)
     }
 }
 
-// What an arithmetic goal comes to over a store that is solved with those around it.
-fn value_of(
-    alloc: Global,
-    around: &Chain,
-    own: &Store,
-    goal: Goal,
-) -> Result<ArithValue, AllocError>
-    requires solved { IsSolvedChain around.now.nodes (within around.now.stores own.now) }
+// What an arithmetic goal comes to over a chain that is solved with the part that is added to it.
+fn value_of(alloc: Global, chain: &Chain, part: &Part, goal: Goal) -> Result<ArithValue, AllocError>
+    requires solved { IsSolvedChain chain.now.nodes (with_added chain.now.stores part.now) }
     requires arithmetic { IsArithmetic goal.code }
-    ensures { IfOk result (Answers (template_of around.now) (equations_of around.now.nodes (within around.now.stores own.now)) goal) }
+    ensures { IfOk result (Answers (template_of chain.now) (equations_of chain.now.nodes (with_added chain.now.stores part.now)) goal) }
 {
-    let known = Within { around, own };
-    evaluate_over(alloc, around.templates(), &known, goal)
+    let known = Within { chain, part };
+    evaluate_over(alloc, chain.templates(), &known, goal)
 }

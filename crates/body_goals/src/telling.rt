@@ -1,31 +1,32 @@
-//! An equation that is told to a store.
+//! An equation that is told to a chain.
 
 ghost use Rattle.std.specs.Prelude.{◌≡◌, ◌++◌, ◌∷◌, IfOk};
 ghost use Rattle.akl_terms.specs.Template.{tree};
-ghost use Rattle.local_store.specs.Chained.{IsSolvedChain};
+ghost use Rattle.local_store.specs.Chained.{innermost, around, IsSolvedChain};
 ghost use Rattle.local_store.specs.Bound.{variable_in};
-ghost use Rattle.local_store.specs.Stored.{with_binding};
-ghost use Rattle.body_goals.specs.Takes.{within, IsTaken};
+ghost use Rattle.local_store.specs.Parts.{with_part, told_over};
+ghost use Rattle.local_store.specs.Stored.{Stored, with_binding};
+ghost use Rattle.body_goals.specs.Takes.{with_added, IsTaken};
 
 use crate::binding::binding_for;
 use akl_terms::{Equation, Seen, Templates, Term, Var};
-use local_store::{Chain, ToldStore};
+use local_store::{Chain, ToldPart};
 use std::alloc::AllocError;
 
-/// Tells an equation to a store that is solved with those around it, where one binding is enough for it. Answers whether it
-/// was told.
+/// Tells an equation to a chain that is solved with what is added to it, where one binding is enough for it. Answers whether
+/// it was told.
 pub(crate) fn tell(
-    around: &Chain,
+    chain: &Chain,
     equation: Equation,
-    told: &mut ToldStore,
+    told: &mut ToldPart,
 ) -> Result<bool, AllocError>
-    requires { IsSolvedChain around.now.nodes (within around.now.stores told.old.store) }
-    ensures { IfOk result (IsTaken around.now.nodes around.now.stores equation told.old told.new) }
+    requires { IsSolvedChain chain.now.nodes (with_added chain.now.stores told.old.part) }
+    ensures { IfOk result (IsTaken chain.now.nodes (around chain.now.stores) equation (told_over (innermost chain.now.stores) told.old) (told_over (innermost chain.now.stores) told.new)) }
 {
-    let Some((variable, term)) = binding_for(around, told.store.get(), equation) else {
+    let Some((variable, term)) = binding_for(chain, &told.part, equation) else {
         return Ok(false);
     };
-    bind(around.templates(), variable, term, told)?;
+    bind(chain.templates(), variable, term, told)?;
     Ok(true)
 }
 
@@ -34,13 +35,13 @@ fn bind(
     templates: &Templates,
     variable: Var,
     term: Term,
-    told: &mut ToldStore,
+    told: &mut ToldPart,
 ) -> Result<(), AllocError>
-    ensures store { IfOk result (λ _. told.new.store ≡ with_binding told.old.store variable term) }
+    ensures part { IfOk result (λ _. (own : Stored) → with_part own told.new.part ≡ with_binding (with_part own told.old.part) variable term) }
     ensures bound { IfOk result (λ _. told.new.bound.items ≡ told.old.bound.items ++ variable ∷ variable_in (tree templates.now.nodes term)) }
     ensures solved { told.new.solved ≡ told.old.solved }
 {
-    told.store.add_binding(variable, term)?;
+    told.part.bindings.push((variable, term))?;
     told.bound.push(variable)?;
     if let Seen::Free(other) = templates.look(term) {
         told.bound.push(other)?;

@@ -1,26 +1,26 @@
-//! The store of a box, within those around it.
+//! What is added to the store of a box, over the stores down to it.
 
 use akl_terms::{Term, Var};
-use local_store::{Chain, Store};
+use local_store::{Chain, Part};
 use rational_unify::Lookup;
 
-/// A store, and the stores around it.
+/// A part that is added to the innermost store of a chain, and the chain.
 #[derive(Drop)]
 pub struct Within<'a> {
-    pub around: &'a Chain<'a>,
-    pub own: &'a Store,
+    pub chain: &'a Chain<'a>,
+    pub part: &'a Part,
 }
 
 impl<'a> Lookup for Within<'a> {
+    ghost use Rattle.std.specs.Prelude.{◌++◌};
     ghost use Rattle.local_store.specs.Chained.{bindings_from};
-    ghost use Rattle.body_goals.specs.Takes.{within};
 
-    ghost bindings = { λ w. bindings_from (within w.around.now.stores w.own.now) };
+    ghost bindings = { λ w. w.part.now.bindings.items ++ bindings_from w.chain.now.stores };
 
     fn get(&self, variable: Var) -> Option<Term> {
-        match self.own.first_binding(variable) {
+        match self.part.first_binding(variable) {
             Some(term) => Some(term),
-            None => self.around.get(variable),
+            None => self.chain.get(variable),
         }
     }
 }

@@ -63,7 +63,7 @@ new_fewer n ns ks h = record { once = λ m. fewer m (same_name m n) (h.once m); 
     fewer : (m : Name) (b : Bool) → one_if b + times_in m ns ≤ 1 → times_in m ns ≤ 1
     fewer m b k = omega arith
 
-undone_names : (ns ks : List Name) → AreNew ns ks → less_names ns (with_names ns ks) ≡ ks
+pub undone_names : (ns ks : List Name) → AreNew ns ks → less_names ns (with_names ns ks) ≡ ks
 undone_names [] ks h = refl
 undone_names (n ∷ ns) ks h =
     let o : one_if (same_name n n) + times_in n ns ≤ 1 = h.once n in

@@ -31,17 +31,6 @@ raised-other zero k (suc v) (m ∷ ms) n = refl
 raised-other (suc w) k zero (m ∷ ms) n = refl
 raised-other (suc w) k (suc v) (m ∷ ms) n = raised-other w k v ms (λ e. n (ap suc e))
 
--- none are drawn
-pub raised_none : (w v : ℕ) (ms : List ℕ) → slice_index ms v ≡ slice_index (raised w 0 ms) v
-raised_none zero zero [] = refl
-raised_none zero (suc v) [] = refl
-raised_none (suc w) zero [] = refl
-raised_none (suc w) (suc v) [] = raised_none w v []
-raised_none zero zero (m ∷ ms) = omega arith
-raised_none zero (suc v) (m ∷ ms) = refl
-raised_none (suc w) zero (m ∷ ms) = refl
-raised_none (suc w) (suc v) (m ∷ ms) = raised_none w v ms
-
 pub raised_by : (w worker drawn x : ℕ) (next padded : List ℕ) → ((v : ℕ) → slice_index padded v ≡ slice_index next v) → worker < length padded → x ≡ slice_index padded worker + drawn
     → slice_index (set padded worker x) w ≡ slice_index (raised worker drawn next) w
 raised_by w worker drawn x next padded same room e = on (eqb w worker) refl

@@ -1,5 +1,5 @@
 -- How the parts of a step change a table.
-use Rattle.std.specs.Prelude.{◌≡◌, ℕ, ◌≤◌, not, Bool, true, false, ◌||◌, if◌then◌else◌, List, [], ◌∷◌, map, Option, Some, None, slice_index}
+use Rattle.std.specs.Prelude.{◌≡◌, ℕ, ◌≤◌, not, Bool, true, false, ◌||◌, if◌then◌else◌, List, [], ◌∷◌, map, Option, Some, None}
 use Rattle.std.specs.Option.{option_or}
 use Rattle.std.specs.Map.{lookup}
 use Rattle.akl_terms.specs.declared.name.Name.{Name}
@@ -10,15 +10,16 @@ use Rattle.akl_terms.specs.Names.{same_name}
 use Rattle.akl_model.specs.Config.{IsIn, Operator, Atom, or_else, with_names}
 use Rattle.akl_model.specs.Names.{times_in}
 use Rattle.akl_model.specs.Changes.{Shape, of_choice}
-use Rattle.akl_model.specs.Derivations.{raised}
 use Rattle.local_store.specs.Stored.{Stored}
+use Rattle.local_store.specs.Parts.{with_part}
 use Rattle.table_laws.specs.Rows.{BoxRow, GoalRow, Table}
 use Rattle.table_laws.specs.Steps as laws
 use Rattle.table_laws.specs.Writes.{IsTable, told_row, less_name, new_box_of, new_goal_of, atom_among, shape_among}
 use Rattle.box_tree.specs.declared.entries.Held.{Held}
 use Rattle.box_tree.specs.declared.entries.HeldOp.{HeldOp}
 use Rattle.box_tree.specs.declared.step.NewBox.{NewBox}
-use Rattle.box_tree.specs.Tables.{TableValue, Joins, table_of, goal_atom, shape_held}
+use Rattle.box_tree.specs.declared.telling.Told.{Told}
+use Rattle.box_tree.specs.Tables.{TableValue, table_of, goal_atom, shape_held}
 
 -- boxes get these rows, and all else stays
 pub record SetsBoxes (t u : TableValue) (new : Name → Option BoxRow) : Type 0 where
@@ -30,11 +31,6 @@ pub record SetsGoals (t u : TableValue) (new : Name → Option GoalRow) : Type 0
   pub rows : (m : Name) → (table_of u).goal_of m ≡ new m
   pub rest : u ≡ record t { goals = u.goals }
 
--- the next numbers are those after a worker has drawn so many names, and all else stays
-pub record DrawsNames (t u : TableValue) (worker count : ℕ) : Type 0 where
-  pub next : (w : ℕ) → slice_index u.next w ≡ slice_index (raised worker count t.next) w
-  pub rest : u ≡ record t { next = u.next }
-
 -- the same program and query, and these rows
 pub record Becomes (t u : TableValue) (T : Table) : Type 0 where
   pub program : u.program ≡ t.program
@@ -45,11 +41,9 @@ pub record Becomes (t u : TableValue) (T : Table) : Type 0 where
 abbrev pub told_first : Name → Stored → Option ℕ → ℕ → ℕ → BoxRow → BoxRow
 told_first g new solved_at told number r = record (told_row g new solved_at number r) { changed = told }
 
--- goals have joined a box
-pub record IsJoined (t u : TableValue) (g : Name) (store : Stored) (solved_at : Option ℕ) (goals : List (Name × Atom)) (others told behind worker count : ℕ) : Type 0 where
-  pub program : u.program ≡ t.program
-  pub query : u.query ≡ t.query
-  pub joins : Joins t g store solved_at goals others told behind worker count (table_of u)
+-- the same, where something is added to the store that the box has
+abbrev pub part_row : Name → Told → ℕ → BoxRow → BoxRow
+part_row g told number r = told_first g (with_part r.store told.part) told.solved_at told.number number r
 
 -- entries whose names are none of these
 abbrev pub is_among : Name → List Name → Bool
@@ -138,3 +132,7 @@ less_names (n ∷ ns) ms = less_names ns (less_name n ms)
 -- a box with more goals, which fails by one of them where it did not fail already
 abbrev pub named_row : List Name → Option Name → BoxRow → BoxRow
 named_row names failing r = record r { goals = with_names names r.goals; failing = option_or r.failing failing }
+
+-- and then told by a label, by another one of which it loses a goal
+abbrev pub joins_row : Name → List Name → Option Name → Told → ℕ → BoxRow → BoxRow
+joins_row g names failing told number r = part_row g told number (named_row names failing r)

@@ -16,12 +16,12 @@ use Rattle.call_laws.specs.AtOnce.{IsAtOnce, labels_at_once, at_once}
 use Rattle.call_laws.specs.Wakes.{TellsNothing}
 use Rattle.call_tables.specs.Calls.{CallsGoal, told_of_body}
 use Rattle.box_tree.specs.declared.step.Step.{Step}
-use Rattle.box_tree.specs.Tables.{all_rules, TableValue, table_of, step_of}
+use Rattle.box_tree.specs.Tables.{all_rules, TableValue, table_of, step_in}
 use Rattle.box_tree.specs.Views.{run_of}
 
 -- how many labels come behind the one by which goals join a box, up to the last one that tells it an equation, and in all; none where no goals join
 abbrev pub labels_behind : Step → ℕ × ℕ
-labels_behind (Step.Join store solved goals told behind) = (told, behind)
+labels_behind (Step.Join part solved goals told behind) = (told, behind)
 labels_behind step = (0, 0)
 
 -- the table and the journal of the view that a plan was made of; its first label and those behind it, the items that it read, how many names its labels draw, the step
@@ -46,10 +46,10 @@ pub record IsRightLabel (v : PlanValue) : Type 0 where
   pub table : IsTableOf all_rules (run_of v.table v.journal) (table_of v.table)
   pub result : Config
   pub applies : Applies all_rules v.table.program table.config v.label result
-  pub makes : Makes v.table.program v.label (slice_index table.config.next v.label.worker) applies.site (step_of v.table.program.templates.nodes v.step)
-  pub solved : IsSolvedIn (table_of v.table) applies.site (step_of v.table.program.templates.nodes v.step)
+  pub makes : Makes v.table.program v.label (slice_index table.config.next v.label.worker) applies.site (step_in v.table v.label v.step)
+  pub solved : IsSolvedIn (table_of v.table) applies.site (step_in v.table v.label v.step)
   pub names : v.names ≡ applies.change.drawn
-  pub reads : ReadsFor (IsRead v.reads) v.label applies.site (step_of v.table.program.templates.nodes v.step)
+  pub reads : ReadsFor (IsRead v.reads) v.label applies.site (step_in v.table v.label v.step)
   pub binds : AreBoundIn table.config result applies.site v.binds
   pub there : (i : Item) → IsRead v.reads i → IsSome (stamp_in (table_of v.table) i)
 
@@ -73,7 +73,7 @@ pub record IsRightCall (v : PlanValue) : Type 0 where
   pub is_solved : Bool
   pub goals : List (Name × Atom)
   pub makes : CallsGoal calls alternative new goals
-  pub step : step_of v.table.program.templates.nodes v.step ≡ joins new is_solved goals
+  pub step : step_in v.table v.label v.step ≡ joins new is_solved goals
   pub behind : labels_behind v.step ≡ (told_of_body calls, length calls.body_labels)
   pub solved : IsSolvedIn (table_of v.table) site (joins new is_solved goals)
   pub names : v.names ≡ drawn_by calls.called.clauses + length calls.last.body

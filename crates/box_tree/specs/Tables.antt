@@ -1,5 +1,5 @@
 -- What contracts see of a table.
-use Rattle.std.specs.Prelude.{◌≡◌, ◌<◌, ◌+◌, ◌^◌, slice_get, ℕ, Bool, true, false, List, [], ◌∷◌, map, Option, Some, None, option_map, ⊤}
+use Rattle.std.specs.Prelude.{◌≡◌, ◌<◌, ◌+◌, ◌^◌, slice_get, ℕ, Bool, true, false, List, [], ◌∷◌, map, Option, Some, None, option_map, option_and_then, ⊤}
 use Rattle.std.specs.Map.{lookup}
 use Rattle.akl_terms.specs.declared.name.Name.{Name}
 use Rattle.akl_terms.specs.declared.term.Node.{Node}
@@ -18,10 +18,11 @@ use Rattle.akl_model.specs.Changes.{Shape, of_atom, of_choice}
 use Rattle.akl_terms.specs.declared.name.Place.{Place}
 use Rattle.akl_model.specs.declared.label.Label.{Label}
 use Rattle.local_store.specs.Stored.{Stored}
-use Rattle.table_laws.specs.Rows.{BoxRow, GoalRow, Table}
+use Rattle.local_store.specs.Parts.{with_part}
+use Rattle.table_laws.specs.Rows.{BoxRow, GoalRow, Table, store_in}
 use Rattle.table_laws.specs.Stamped.{Run, IsTableOf}
 use Rattle.call_tables.specs.Calls.{after_call}
-use Rattle.table_laws.specs.Writes.{IsTable, DrawsFresh, Leads, solved_when}
+use Rattle.table_laws.specs.Writes.{IsTable, DrawsFresh, Leads, solved_when, home_in}
 use Rattle.table_laws.specs.Steps as laws
 use Rattle.box_tree.specs.declared.entries.Held.{Held}
 use Rattle.box_tree.specs.declared.entries.HeldOp.{HeldOp}
@@ -115,15 +116,25 @@ box_copy nodes k = record {
   collected = option_map (tree nodes) k.collected;
 }
 
-abbrev pub step_of : List Node → Step → laws.Step
-step_of nodes (Step.Tell store solved) = laws.tells store solved
-step_of nodes (Step.Fork op alternatives) = laws.forks (op_held nodes op) (map (new_box nodes) alternatives.items)
-step_of nodes Step.Fail = laws.fails
-step_of nodes Step.Cut = laws.cuts
-step_of nodes (Step.Join store solved goals told behind) = laws.joins store solved (map (λ (x : Name × Goal). (x.0, goal_atom nodes x.1)) goals.items)
-step_of nodes Step.Refute = laws.refutes
-step_of nodes Step.Confirm = laws.confirms
-step_of nodes (Step.Split copy copies) = laws.splits copy (map (box_copy nodes) copies.items)
+-- what a step makes of the box of its place, which has this store
+abbrev pub step_of : List Node → Stored → Step → laws.Step
+step_of nodes s (Step.Tell part solved) = laws.tells (with_part s part) solved
+step_of nodes s (Step.Fork op alternatives) = laws.forks (op_held nodes op) (map (new_box nodes) alternatives.items)
+step_of nodes s Step.Fail = laws.fails
+step_of nodes s Step.Cut = laws.cuts
+step_of nodes s (Step.Join part solved goals told behind) = laws.joins (with_part s part) solved (map (λ (x : Name × Goal). (x.0, goal_atom nodes x.1)) goals.items)
+step_of nodes s Step.Refute = laws.refutes
+step_of nodes s Step.Confirm = laws.confirms
+step_of nodes s (Step.Split copy copies) = laws.splits copy (map (box_copy nodes) copies.items)
+
+-- the store of the box of a place: for a goal, of that in which it stands
+abbrev pub store_at : Table → Place → Stored
+store_at T (Place.Box n) = store_in (T.box_of n)
+store_at T (Place.Goal g) = store_in (option_and_then T.box_of (home_in (T.goal_of g)))
+
+-- what a step of a label makes of the box of its place in a table
+abbrev pub step_in : TableValue → Label → Step → laws.Step
+step_in t l step = step_of t.program.templates.nodes (store_at (table_of t) l.place) step
 
 -- each variable of the query has its node
 pub record HasVariables (p : Program) (q : Query) (first_variable : ℕ) : Type 0 where
@@ -188,9 +199,9 @@ DrawsInOrder (laws.splits copy copies) = AreCopiesInOrder copies
 pub record MayApply (t : TableValue) (l : Label) (step : Step) : Type 0 where
   pub run : Run
   pub table : IsTableOf all_rules run (table_of t)
-  pub fits : FitsPlace l.place (step_of t.program.templates.nodes step) l.alternative
-  pub fresh : DrawsFresh (table_of t) (step_of t.program.templates.nodes step)
-  pub ordered : DrawsInOrder (step_of t.program.templates.nodes step)
+  pub fits : FitsPlace l.place (step_in t l step) l.alternative
+  pub fresh : DrawsFresh (table_of t) (step_in t l step)
+  pub ordered : DrawsInOrder (step_in t l step)
 
 -- goals join a box by one of the labels of a step, of which the first comes with so many others. Its number is `promoted`; so many labels come behind it, and so many of these up to the last one that
 -- tells the box an equation
@@ -202,12 +213,12 @@ pub record Joins (t : TableValue) (g : Name) (store : Stored) (solved_at : Optio
 
 -- the step of a label leads from table to table, or that of the labels of a call, with which goals join a box
 abbrev pub LeadsBy : TableValue → Label → ℕ → Option ℕ → ℕ → Step → Table → Type 0
-LeadsBy t l others at names (Step.Join store solved goals told behind) U = of_place l.place
+LeadsBy t l others at names (Step.Join part solved goals told behind) U = of_place l.place
   where
     of_place : Place → Type 0
-    of_place (Place.Goal g) = Joins t g store (solved_when at solved) (map (λ (x : Name × Goal). (x.0, goal_atom t.program.templates.nodes x.1)) goals.items) others told behind l.worker names U
+    of_place (Place.Goal g) = Joins t g (with_part (store_at (table_of t) (Place.Goal g)) part) (solved_when at solved) (map (λ (x : Name × Goal). (x.0, goal_atom t.program.templates.nodes x.1)) goals.items) others told behind l.worker names U
     of_place (Place.Box n) = ⊥
-LeadsBy t l others at names step U = Leads (table_of t) l at names (step_of t.program.templates.nodes step) U
+LeadsBy t l others at names step U = Leads (table_of t) l at names (step_in t l step) U
 
 pub record Applied (t : TableValue) (l : Label) (others : ℕ) (at : Option ℕ) (names : ℕ) (step : Step) (u : TableValue) : Type 0 where
   pub program : u.program ≡ t.program

@@ -1,8 +1,7 @@
 //! A worker draws names.
 
-ghost use Rattle.std.specs.Prelude.{◌≡◌, ◌<◌, ℕ, length, IfOk, IfErr, OnOk, slice_index};
+ghost use Rattle.std.specs.Prelude.{◌≡◌, ◌<◌, ℕ, length, IfOk, OnOk, slice_index};
 ghost use Rattle.akl_model.specs.Derivations.{raised};
-ghost use Rattle.box_tree.specs.Edits.{DrawsNames};
 ghost use Rattle.box_tree.specs.Numbers.{IsRaised};
 
 use crate::table::Table;
@@ -74,17 +73,5 @@ impl Table {
             }
             Raised::All(next) => self.next = next,
         }
-    }
-
-    /// A worker draws so many names. An `Err` leaves the table as it was; none comes where it draws none.
-    pub(crate) fn draw(&mut self, alloc: Global, worker: u32, count: u64) -> Result<(), AllocError>
-        ensures drawn { OnOk result (DrawsNames self.old self.new worker count) }
-        ensures unchanged { IfErr result (λ _. self.new ≡ self.old) }
-    {
-        if count > 0 {
-            let next = self.raised(alloc, worker, count)?;
-            self.raise(worker, next);
-        }
-        Ok(())
     }
 }

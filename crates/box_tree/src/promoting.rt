@@ -1,21 +1,25 @@
 //! The alternatives of a choice join the box in which the choice stands.
 
 ghost use Rattle.std.specs.Prelude.{◌≡◌, ◌+◌, ◌<◌, Some, map, IfOk, IfErr, OnOk, OnErr};
+ghost use Rattle.std.specs.Option.{option_or};
+ghost use Rattle.akl_terms.specs.declared.name.Place.{Place};
 ghost use Rattle.akl_model.specs.Config.{with_names};
-ghost use Rattle.akl_model.specs.Ordered.{IsIncreasing};
-ghost use Rattle.table_laws.specs.Writes.{set, changed_box, unset, IsFresh};
+ghost use Rattle.local_store.specs.Parts.{with_part};
+ghost use Rattle.table_laws.specs.Writes.{set, changed_box, unset, first_fail, IsFresh};
 ghost use Rattle.table_laws.specs.Walks.{alternatives_of};
-ghost use Rattle.box_tree.specs.Tables.{table_of, goals_in};
-ghost use Rattle.box_tree.specs.Edits.{SetsBoxes, SetsRows, AddsOnly, IsJoined, AreNew, less_names, named_row, named_atoms, atoms_with};
+ghost use Rattle.call_tables.specs.Calls.{after_call};
+ghost use Rattle.box_tree.specs.Tables.{table_of, goals_in, store_at};
+ghost use Rattle.box_tree.specs.Edits.{SetsBoxes, SetsRows, Becomes, AreNew, less_names, joins_row, named_atoms, atoms_with};
 ghost use Rattle.box_tree.specs.Drops.{IsOfRun};
 
+use crate::entries::BoxEntry;
 use crate::forking::first_fail;
 use crate::named::push_names;
 use crate::short::ShortList;
 use crate::starting::after_others;
 use crate::table::Table;
+use crate::telling::Told;
 use akl_terms::{Goal, Name};
-use local_store::{Shared, Store};
 use std::alloc::{AllocError, Global};
 use std::collections::BTreeSet;
 
@@ -54,18 +58,23 @@ fn add_names(set: &mut BTreeSet<Name>, names: &[Name]) -> Result<(), AllocError>
     Ok(())
 }
 
-// The numbers of labels by which goals join a box: of the one by which they do, of the last one that tells the box an
-// equation, and of the last of all.
-#[derive(Drop)]
-struct JoinNumbers {
-    promoted: u64,
-    told: u64,
-    ended: u64,
+/// The numbers of labels by which goals join a box: of the one by which they do, of the last one that tells the box an
+/// equation, and of the last of all.
+#[derive(Clone, Copy)]
+pub(crate) struct JoinNumbers {
+    pub promoted: u64,
+    pub told: u64,
+    pub ended: u64,
 }
 
-// These numbers, where so many labels come with the first one, so many behind the one by which goals join, and so many
-// of these up to the last one that tells.
-fn join_numbers(steps: u64, others: u64, told: u64, behind: u64) -> Result<JoinNumbers, AllocError>
+/// These numbers, where so many labels come with the first one, so many behind the one by which goals join, and so many of
+/// these up to the last one that tells. An `Err` comes where more come behind than there are, and where one would pass its word.
+pub(crate) fn join_numbers(
+    steps: u64,
+    others: u64,
+    told: u64,
+    behind: u64,
+) -> Result<JoinNumbers, AllocError>
     ensures later { IfOk result (λ numbers. steps < numbers.promoted) }
     ensures number { IfOk result (λ numbers. numbers.promoted + behind ≡ others + steps + 1) }
     ensures told { IfOk result (λ numbers. numbers.told ≡ numbers.promoted + told) }
@@ -80,45 +89,79 @@ fn join_numbers(steps: u64, others: u64, told: u64, behind: u64) -> Result<JoinN
     })
 }
 
+impl BoxEntry {
+    // The box gets goals that it doesn't have, by one of which it may fail, and something is added to its store. An `Err` leaves
+    // the entry as it was.
+    fn join(&mut self, names: &[Name], failing: Option<Name>, told: Told) -> Result<(), AllocError>
+        requires { AreNew names.now self.old.goals.keys }
+        ensures joined { OnOk result (self.new ≡ record self.old { store = with_part self.old.store told.part; changed = told.number; solved_at = told.solved_at; goals = self.new.goals; failing = option_or self.old.failing failing }) }
+        ensures named { OnOk result (self.new.goals.keys ≡ with_names names.now self.old.goals.keys) }
+        ensures unchanged { IfErr result (λ _. self.new ≡ self.old) }
+    {
+        add_names(&mut self.goals, names)?;
+        let Ok(()) = self.tell(told) else {
+            drop_names(&mut self.goals, names);
+            return Err(AllocError);
+        };
+        self.failing = self.failing.or(failing);
+        Ok(())
+    }
+}
+
 impl Table {
-    // Goals that a box does not have come to those of the box; where it does not fail, it may fail by one of them. An
-    // `Err` leaves the table as it was.
-    fn name_goals(
+    // The choice's box gets goals that it doesn't have, by one of which it may fail, and something is added to its store; the
+    // choice goes from it by the label of this number. An `Err` leaves the table as it was.
+    fn join_box(
         &mut self,
         home: Name,
+        goal: Name,
         names: &[Name],
         failing: Option<Name>,
+        told: Told,
+        number: u64,
     ) -> Result<(), AllocError>
         requires { AreNew names.now (goals_in ((table_of self.old).box_of home)) }
-        ensures named { OnOk result (SetsBoxes self.old self.new (changed_box (Some home) (named_row names.now failing) (table_of self.old).box_of)) }
-        ensures unchanged { OnErr result (self.new ≡ self.old) }
+        ensures joined { OnOk result (SetsBoxes self.old self.new (changed_box (Some home) (joins_row goal names.now failing told number) (table_of self.old).box_of)) }
+        ensures unchanged { IfErr result (λ _. self.new ≡ self.old) }
     {
         let Some(entry) = self.boxes.get_mut(home) else {
             return Ok(());
         };
-        let Ok(()) = add_names(&mut entry.goals, names) else {
+        let Ok(()) = entry.join(names, failing, told) else {
             return Err(AllocError);
         };
-        entry.failing = entry.failing.or(failing);
+        entry.goals.remove(&goal);
+        entry.goals_changed = number;
         Ok(())
     }
 
-    // New goals come to a box.
-    fn put_body(
+    // The same where the entries of the goals come too, by the label by which they join. An `Err` leaves the table as it was.
+    fn join_goals(
         &mut self,
+        alloc: Global,
         home: Name,
+        goal: Name,
         goals: Vec<(Name, Goal)>,
-        names: &[Name],
-        failing: Option<Name>,
-        number: u64,
+        told: Told,
+        numbers: JoinNumbers,
     ) -> Result<(), AllocError>
-        requires new { AreNew names.now (goals_in ((table_of self.old).box_of home)) }
-        requires names { names.now ≡ map (λ x. x.0) goals.items }
-        ensures put { OnOk result (SetsRows self.old self.new (changed_box (Some home) (named_row names.now failing) (table_of self.old).box_of) (atoms_with home number (named_atoms self.old.program.templates.nodes goals.items) (table_of self.old))) }
-        ensures only { OnErr result (AddsOnly self.old self.new names.now) }
+        requires run { IsOfRun self.old }
+        requires fresh { IsFresh (table_of self.old) (map (λ x. x.0) (named_atoms self.old.program.templates.nodes goals.items)) }
+        ensures joined { OnOk result (SetsRows self.old self.new (changed_box (Some home) (joins_row goal (map (λ x. x.0) goals.items) (first_fail (named_atoms self.old.program.templates.nodes goals.items)) told numbers.ended) (table_of self.old).box_of) (atoms_with home numbers.promoted (named_atoms self.old.program.templates.nodes goals.items) (table_of self.old))) }
+        ensures unchanged { IfErr result (λ _. self.new ≡ self.old) }
     {
-        self.put_goals(home, goals, number)?;
-        self.name_goals(home, names, failing)
+        let names = goal_names(alloc, goals.as_slice())?;
+        let names = names.as_slice();
+        let failing = first_fail(goals.as_slice());
+        let Ok(()) = self.put_goals(home, goals, numbers.promoted) else {
+            self.drop_entries(names);
+            return Err(AllocError);
+        };
+        let Ok(()) = self.join_box(home, goal, names, failing, told, numbers.ended) else {
+            self.drop_entries(names);
+            return Err(AllocError);
+        };
+        Ok(())
     }
 
     // Boxes' entries go.
@@ -144,48 +187,30 @@ impl Table {
         Vec::from_slice(alloc, self.alternatives_of(goal))
     }
 
-    /// All alternatives of a choice, which are solved, join the box in which the choice stands. This gets a store and new
-    /// goals, for which a worker draws so many names. So many other labels come with the one that does it: those of a
-    /// call, whose goal is an atom still. So many of them come behind it, and so many of these up to the last one that
-    /// tells the box an equation. An `Err` leaves the table as it was.
+    /// All alternatives of a choice, which are solved, join the box in which the choice stands. Something is added to its store,
+    /// and it gets new goals, for which a worker draws so many names, by labels of these numbers: of a call, whose goal is an
+    /// atom still, there are several. An `Err` leaves the table as it was.
     pub(crate) fn join(
         &mut self,
         alloc: Global,
         goal: Name,
-        store: Shared<Store>,
-        solved_at: Option<u64>,
+        told: Told,
         goals: Vec<(Name, Goal)>,
-        others: u64,
-        told: u64,
-        behind: u64,
+        numbers: JoinNumbers,
         worker: u32,
         count: u64,
     ) -> Result<(), AllocError>
         requires run { IsOfRun self.old }
         requires fresh { IsFresh (table_of self.old) (map (λ x. x.0) (named_atoms self.old.program.templates.nodes goals.items)) }
-        ensures made { OnOk result (IsJoined self.old self.new goal store solved_at (named_atoms self.old.program.templates.nodes goals.items) others told behind worker count) }
+        ensures made { OnOk result (Becomes self.old self.new (after_call goal (with_part (store_at (table_of self.old) (Place.Goal goal)) told.part) told.solved_at (named_atoms self.old.program.templates.nodes goals.items) worker count numbers.promoted told.number numbers.ended (table_of self.old))) }
         ensures unchanged { IfErr result (λ _. self.new ≡ self.old) }
     {
         let Some(home) = self.home_of(goal) else {
             return Err(AllocError);
         };
-        let numbers = join_numbers(self.steps, others, told, behind)?;
         let alternatives = self.names_of(alloc, goal)?;
-        let names = goal_names(alloc, goals.as_slice())?;
-        let failing = first_fail(goals.as_slice());
         let next = self.raised(alloc, worker, count)?;
-        let Ok(()) = self.put_body(home, goals, names.as_slice(), failing, numbers.promoted) else {
-            self.drop_entries(names.as_slice());
-            return Err(AllocError);
-        };
-        self.tell_box(
-            Some(home),
-            goal,
-            store,
-            solved_at,
-            numbers.told,
-            numbers.ended,
-        );
+        self.join_goals(alloc, home, goal, goals, told, numbers)?;
         let _ = self.drop_goal(goal);
         self.drop_alternatives(alternatives.as_slice());
         self.raise(worker, next);

@@ -2,7 +2,7 @@
 
 use crate::entries::{Held, HeldOp};
 use akl_terms::{Goal, Name, ShownTerm, Term};
-use local_store::{Shared, Store};
+use local_store::{Part, Shared, Store};
 
 /// A box that a plan makes. Its goals are atoms, in increasing order of names.
 #[derive(Drop)]
@@ -36,10 +36,9 @@ pub struct BoxCopy {
 /// What a plan makes of the box of its place.
 #[derive(Drop)]
 pub enum Step {
-    /// The box gets a store, in which something more was told and which may be solved over the stores around it, and the
-    /// goal goes.
+    /// Something is added to the store of the box, which may be solved over the stores around it then, and the goal goes.
     Tell {
-        store: Shared<Store>,
+        part: Part,
         solved: bool,
     },
     /// The goal becomes the choice of these boxes.
@@ -51,11 +50,11 @@ pub enum Step {
     Fail,
     /// The choice loses the alternatives for which a solved one, that of the label, leaves no room.
     Cut,
-    /// All alternatives of the choice, which are solved, join the box. This gets a store, which may be solved over the
-    /// stores around it, and new goals, atoms in increasing order of names. Of a call so many labels come behind the one
-    /// by which they join, and so many of these up to the last one that tells the box an equation; none else.
+    /// All alternatives of the choice, which are solved, join the box. Something is added to its store, which may be solved
+    /// over the stores around it then, and it gets new goals, atoms in increasing order of names. Of a call so many labels come
+    /// behind the one by which they join, and so many of these up to the last one that tells the box an equation; none else.
     Join {
-        store: Shared<Store>,
+        part: Part,
         solved: bool,
         goals: Vec<(Name, Goal)>,
         told: u64,

@@ -11,9 +11,10 @@ ghost use Rattle.box_tree.specs.Paths.{known_in, alternatives_seen};
 ghost use Rattle.box_tree.specs.Views.{run_of, is_there, IsUnseen, IsViewOf, all_places};
 
 use crate::entries::{BoxEntry, GoalEntry};
+use crate::promoting::join_numbers;
 use crate::starting::after;
 use crate::step::Step;
-use crate::telling::solved_when;
+use crate::telling::{Told, solved_when};
 use crate::view::{LookError, View, ViewParts};
 use crate::way::Way;
 use akl_model::{Item, Label};
@@ -235,10 +236,15 @@ impl Table {
         let number = after(self.steps)?;
         let worker = label.worker;
         match step {
-            Step::Tell { store, solved } => {
+            Step::Tell { part, solved } => {
                 let goal = goal_at(label.place);
                 let solved_at = solved_when(at, solved);
-                self.tell(alloc, goal, store, solved_at, number, worker, names)
+                let told = Told {
+                    part,
+                    solved_at,
+                    number,
+                };
+                self.tell(alloc, goal, told, worker, names)
             }
             Step::Fork { op, alternatives } => {
                 let goal = goal_at(label.place);
@@ -256,17 +262,20 @@ impl Table {
                 self.cut(alloc, goal, name, number)
             }
             Step::Join {
-                store,
+                part,
                 solved,
                 goals,
                 told,
                 behind,
             } => {
                 let goal = goal_at(label.place);
-                let solved_at = solved_when(at, solved);
-                self.join(
-                    alloc, goal, store, solved_at, goals, others, told, behind, worker, names,
-                )
+                let numbers = join_numbers(self.steps, others, told, behind)?;
+                let told = Told {
+                    part,
+                    solved_at: solved_when(at, solved),
+                    number: numbers.told,
+                };
+                self.join(alloc, goal, told, goals, numbers, worker, names)
             }
             Step::Refute => {
                 self.refute(goal_at(label.place), number);

@@ -1,13 +1,16 @@
 //! A goal tells its box.
 
-ghost use Rattle.std.specs.Prelude.{◌≡◌, ◌+◌, None, IfErr, OnOk};
-ghost use Rattle.table_laws.specs.Writes.{set, home_in, changed_box, told_row, solved_when, after_tell};
-ghost use Rattle.box_tree.specs.Tables.{table_of};
-ghost use Rattle.box_tree.specs.Edits.{SetsBoxes, SetsGoals, Becomes, told_first};
+ghost use Rattle.std.specs.Prelude.{◌≡◌, ◌+◌, Some, None, option_map, IfErr, OnOk};
+ghost use Rattle.akl_terms.specs.declared.name.Place.{Place};
+ghost use Rattle.local_store.specs.Parts.{with_part};
+ghost use Rattle.table_laws.specs.Writes.{set, home_in, changed_box, solved_when, after_tell};
+ghost use Rattle.box_tree.specs.Tables.{table_of, store_at};
+ghost use Rattle.box_tree.specs.Edits.{SetsBoxes, SetsGoals, Becomes, part_row};
 
+use crate::entries::BoxEntry;
 use crate::table::Table;
 use akl_terms::Name;
-use local_store::{Shared, Store};
+use local_store::{Part, Store};
 use std::alloc::{AllocError, Global};
 
 /// When a store was solved, where it says that it is.
@@ -17,26 +20,51 @@ pub(crate) fn solved_when(at: Option<u64>, solved: bool) -> Option<u64>
     if solved { at } else { None }
 }
 
+/// What a box is told.
+#[derive(Drop)]
+pub(crate) struct Told {
+    /// What is added to its store.
+    pub part: Part,
+    /// How many labels there were when the store was solved with it over the stores around it.
+    pub solved_at: Option<u64>,
+    /// The number of the label by which it is told, the last one of several.
+    pub number: u64,
+}
+
+impl BoxEntry {
+    /// Something is added to the box's store. An `Err` leaves the entry as it was.
+    pub(crate) fn tell(&mut self, told: Told) -> Result<(), AllocError>
+        ensures told { OnOk result (self.new ≡ record self.old { store = with_part self.old.store told.part; changed = told.number; solved_at = told.solved_at }) }
+        ensures unchanged { IfErr result (λ _. self.new ≡ self.old) }
+    {
+        self.store.join(told.part)?;
+        self.changed = told.number;
+        self.solved_at = told.solved_at;
+        Ok(())
+    }
+}
+
 impl Table {
-    /// The goal's box gets a store, for which a worker draws so many names, and the goal goes. An `Err` leaves the table
-    /// as it was; none comes where no name is drawn.
+    /// Something is added to the store of the goal's box, for which a worker draws so many names, and the goal goes. An `Err`
+    /// leaves the table as it was.
     pub(crate) fn tell(
         &mut self,
         alloc: Global,
         goal: Name,
-        store: Shared<Store>,
-        solved_at: Option<u64>,
-        number: u64,
+        told: Told,
         worker: u32,
         count: u64,
     ) -> Result<(), AllocError>
-        requires { number ≡ self.old.steps + 1 }
-        ensures made { OnOk result (Becomes self.old self.new (after_tell goal store solved_at worker count (table_of self.old))) }
+        requires { told.number ≡ self.old.steps + 1 }
+        ensures made { OnOk result (Becomes self.old self.new (after_tell goal (with_part (store_at (table_of self.old) (Place.Goal goal)) told.part) told.solved_at worker count (table_of self.old))) }
         ensures unchanged { IfErr result (λ _. self.new ≡ self.old) }
     {
-        self.draw(alloc, worker, count)?;
-        let home = self.drop_goal(goal);
-        self.tell_box(home, goal, store, solved_at, number, number);
+        let number = told.number;
+        let next = self.raised(alloc, worker, count)?;
+        let home = self.home_of(goal);
+        self.tell_box(home, goal, told)?;
+        let _ = self.drop_goal(goal);
+        self.raise(worker, next);
         self.steps = number;
         Ok(())
     }
@@ -51,30 +79,35 @@ impl Table {
         }
     }
 
-    /// A box gets a store, by a label of one number, and loses a goal, by one of another.
-    pub(crate) fn tell_box(
-        &mut self,
-        home: Option<Name>,
-        goal: Name,
-        store: Shared<Store>,
-        solved_at: Option<u64>,
-        told: u64,
-        number: u64,
-    )
-        ensures { SetsBoxes self.old self.new (changed_box home (told_first goal store solved_at told number) (table_of self.old).box_of) }
+    /// The store of a box; `None` where it isn't there.
+    pub fn store_of(&self, name: Name) -> Option<&Store>
+        ensures { option_map (λ store. store.now) result ≡ option_map (λ row. row.store) ((table_of self.now).box_of name) }
+    {
+        match self.boxes.get(name) {
+            Some(entry) => Some(entry.store.get()),
+            None => None,
+        }
+    }
+
+    // Something is added to the store of a box, where there is one, and the box loses a goal. An `Err` leaves the table as it
+    // was.
+    fn tell_box(&mut self, home: Option<Name>, goal: Name, told: Told) -> Result<(), AllocError>
+        ensures told { OnOk result (SetsBoxes self.old self.new (changed_box home (part_row goal told told.number) (table_of self.old).box_of)) }
+        ensures unchanged { IfErr result (λ _. self.new ≡ self.old) }
     {
         let Some(name) = home else {
-            return;
+            return Ok(());
         };
-        if let Some(entry) = self.boxes.get_mut(name) {
-            // The store before it is dropped first, so that nothing else holds what they have in common.
-            entry.store = store;
-            entry.store.settle();
-            entry.changed = told;
-            entry.solved_at = solved_at;
-            entry.goals.remove(&goal);
-            entry.goals_changed = number;
-        }
+        let Some(entry) = self.boxes.get_mut(name) else {
+            return Ok(());
+        };
+        let number = told.number;
+        let Ok(()) = entry.tell(told) else {
+            return Err(AllocError);
+        };
+        entry.goals.remove(&goal);
+        entry.goals_changed = number;
+        Ok(())
     }
 
     /// A goal's entry goes: the box in which it stood; `None` where it wasn't there.

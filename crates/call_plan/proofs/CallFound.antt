@@ -14,8 +14,9 @@ use Rattle.akl_model.specs.Config.{Atom, Content, box, Goals, no_goals, an_atom,
 use Rattle.akl_model.specs.Instances.{drawn_by}
 use Rattle.akl_model.specs.Wakes.{names_around}
 use Rattle.step_laws.specs.Bound.{outermost_equations, AreBoundIn}
-use Rattle.local_store.specs.declared.telling.ToldStore.{ToldStore}
+use Rattle.local_store.specs.Parts.{ToldStore}
 use Rattle.local_store.specs.Bound.{AreNewlyBound}
+use Rattle.local_store.specs.Chained.{innermost}
 use Rattle.local_store.specs.Stored.{Stored}
 use Rattle.class_members.specs.Members.{AreMembers}
 use Rattle.table_laws.specs.Steps as laws
@@ -30,7 +31,7 @@ use Rattle.box_tree.specs.Edits.{named_atoms}
 use Rattle.box_tree.specs.Plans.{PlanValue, labels_behind, IsRightCall, IsRight}
 use Rattle.guard_plan.specs.Solved.{SaysSolved}
 use Rattle.guard_plan.proofs.ReadItems.{goal_reads, items_there}
-use Rattle.guard_plan.proofs.Sites.{stand, found}
+use Rattle.guard_plan.proofs.Sites.{stand, found, step_here}
 use Rattle.body_goals.specs.declared.body.Body.{Body}
 use Rattle.call_plan.specs.declared.sifting.Left.{Left}
 use Rattle.call_plan.specs.Called.{Remains, Ends, IsReducedCall}
@@ -128,7 +129,7 @@ module _ (v : ViewValue) (g : Name) (op : Op) (left : Left) (drawn : ℕ) (promo
     bound : (binds : List Var) → AreNewlyBound (outermost_equations i.site) (whole i.site) (environment i.site ++ after.equations) binds → HasOldest (outermost_equations i.site) binds → AreBoundIn i.table.config (at_once calls) i.site binds
     bound binds newly oldest = box_bound i.table.config (at_once calls) i.site after rest (found v i) box_now binds newly oldest
 
-    pub right_by : more ≡ (e.before ++ end_labels g left.name (cuts_others op left.behind.now)) ++ labels → (goals : List (Name × Atom)) → goals ≡ goals_left → (step : Step) → step_of nodes step ≡ laws.joins new.store new.solved goals
+    pub right_by : more ≡ (e.before ++ end_labels g left.name (cuts_others op left.behind.now)) ++ labels → (goals : List (Name × Atom)) → goals ≡ goals_left → (step : Step) → step_of nodes (innermost v.stores) step ≡ laws.joins new.store new.solved goals
         → labels_behind step ≡ (told_of, length labels) → IsSolvedIf new.solved (table_of v.table) (names_around i.site) new.store → (binds : List Var)
         → AreNewlyBound (outermost_equations i.site) (whole i.site) (environment i.site ++ after.equations) binds → HasOldest (outermost_equations i.site) binds → IsRightCall (value step binds)
     right_by labelled goals named step joins behind solved binds newly oldest = record {
@@ -144,7 +145,7 @@ module _ (v : ViewValue) (g : Name) (op : Op) (left : Left) (drawn : ℕ) (promo
       is_solved = new.solved;
       goals = goals;
       makes = calls_goal goals named;
-      step = joins;
+      step = step_here v i (by v.worker Rule.Fork (Place.Goal g) None) (sym r.is_called.is_place) step ∙ joins;
       behind = behind ∙ (λ j. (sym b.last_is j, length labels));
       solved = solved;
       names = ap (λ (n : ℕ). n + length left.clause.now.body) r.is_called.drawn_is ∙ ap (λ (n : ℕ). all_drawn + n) (sym (long_body v g op left drawn promotes joined e));
@@ -158,15 +159,15 @@ some_end : (g a : Name) (others : Bool) → 0 < length (end_labels g a others)
 some_end g a true = omega arith
 some_end g a false = omega arith
 
-says_solved : (v : ViewValue) (nodes : List Node) (step : Step) (store : Stored) (is_solved : Bool) (joined : List (Name × Atom)) → step_of nodes step ≡ laws.joins store is_solved joined → SaysSolved v Rule.Fork step
-says_solved v nodes (Step.Tell store solved) s b gs q = cc
-says_solved v nodes (Step.Fork o alternatives) s b gs q = cc
-says_solved v nodes Step.Fail s b gs q = tt
-says_solved v nodes Step.Cut s b gs q = tt
-says_solved v nodes (Step.Join store solved goals told behind) s b gs q = tt
-says_solved v nodes Step.Refute s b gs q = tt
-says_solved v nodes Step.Confirm s b gs q = tt
-says_solved v nodes (Step.Split copy copies) s b gs q = tt
+says_solved : (v : ViewValue) (nodes : List Node) (own : Stored) (step : Step) (store : Stored) (is_solved : Bool) (joined : List (Name × Atom)) → step_of nodes own step ≡ laws.joins store is_solved joined → SaysSolved v Rule.Fork step
+says_solved v nodes own (Step.Tell part solved) s b gs q = cc
+says_solved v nodes own (Step.Fork o alternatives) s b gs q = cc
+says_solved v nodes own Step.Fail s b gs q = tt
+says_solved v nodes own Step.Cut s b gs q = tt
+says_solved v nodes own (Step.Join part solved goals told behind) s b gs q = tt
+says_solved v nodes own Step.Refute s b gs q = tt
+says_solved v nodes own Step.Confirm s b gs q = tt
+says_solved v nodes own (Step.Split copy copies) s b gs q = tt
 
 module _ (v : ViewValue) (g : Name) (op : Op) (left : Left) (drawn : ℕ) (more : List Label) (told : ToldStore) (body : Body) (t : IsReducedCall v g op left drawn more told body) where
   abbrev goals : List (Name × Atom)
@@ -178,7 +179,7 @@ module _ (v : ViewValue) (g : Name) (op : Op) (left : Left) (drawn : ℕ) (more 
   labelled : more ≡ (t.ends.before ++ end_labels g left.name (cuts_others op left.behind.now)) ++ t.reduced.labels
   labelled = t.reduced.all_labels ∙ ap (λ (ls : List Label). ls ++ t.reduced.labels) t.ends.labels
 
-  pub call_right : (step : Step) (binds : List Var) → step_of v.table.program.templates.nodes step ≡ laws.joins told.store told.solved goals → labels_behind step ≡ (body.told, body.behind) → AreMembers v.table.program.templates.nodes v.stores told.bound.items binds → IsRightCall (plan_value step binds)
+  pub call_right : (step : Step) (binds : List Var) → step_of v.table.program.templates.nodes (innermost v.stores) step ≡ laws.joins told.store told.solved goals → labels_behind step ≡ (body.told, body.behind) → AreMembers v.table.program.templates.nodes v.stores told.bound binds → IsRightCall (plan_value step binds)
   call_right step binds joins behind members = right_by v g op left drawn t.labels t.joined t.ends more t.reduced.labels (along v g op left drawn more told body t).after goals told body.told (body_told v g op left drawn more told body t) labelled goals refl step joins
       (behind ∙ ap (λ (n : ℕ). (body.told, n)) t.reduced.behind) (solved_if v g op left drawn more told body t told.solved refl) binds
       (newly_bound v g op left drawn more told body t binds members) (oldest_bound v g op left drawn more told body t binds members)
@@ -192,7 +193,7 @@ module _ (v : ViewValue) (g : Name) (op : Op) (left : Left) (drawn : ℕ) (more 
       let s : 0 < length (end_labels g left.name (cuts_others op left.behind.now)) = some_end g left.name (cuts_others op left.behind.now) in
       omega arith
 
-  pub call_planned : (p : PlanValue) (step : Step) (binds : List Var) → IsRight p → p ≡ plan_value step binds → step_of v.table.program.templates.nodes step ≡ laws.joins told.store told.solved goals → IsCallPlan v p
+  pub call_planned : (p : PlanValue) (step : Step) (binds : List Var) → IsRight p → p ≡ plan_value step binds → step_of v.table.program.templates.nodes (innermost v.stores) step ≡ laws.joins told.store told.solved goals → IsCallPlan v p
   call_planned p step binds right is joins = subst (IsCallPlan v) (sym is) (record {
     plan = record {
       right = subst IsRight is right;
@@ -200,7 +201,7 @@ module _ (v : ViewValue) (g : Name) (op : Op) (left : Left) (drawn : ℕ) (more 
       journal = refl;
       place = sym t.ends.remains.is_called.is_place;
       worker = refl;
-      solved = says_solved v v.table.program.templates.nodes step told.store told.solved goals joins;
+      solved = says_solved v v.table.program.templates.nodes (innermost v.stores) step told.store told.solved goals joins;
     };
     forks = refl;
     several = some_more;

@@ -15,7 +15,7 @@ use Rattle.akl_model.specs.Names.{times_in}
 use Rattle.akl_model.specs.Stable.{only}
 use Rattle.akl_model.proofs.Finds.{times, times_of, times_inside}
 use Rattle.akl_model.proofs.ScopesAlong.{times_path, found_path}
-use Rattle.local_store.specs.declared.telling.ToldStore.{ToldStore}
+use Rattle.local_store.specs.Parts.{ToldStore}
 use Rattle.table_laws.specs.Rows.{ports_in}
 use Rattle.call_tables.specs.Calls.{StandOver}
 use Rattle.box_tree.specs.Views.{ViewValue, IsViewOf}

@@ -22,7 +22,7 @@ use Rattle.akl_model.specs.Wakes.{names_around}
 use Rattle.step_laws.specs.Bound.{outermost_equations}
 use Rattle.rational_unify.specs.Known.{found_in}
 use Rattle.rational_unify.specs.Solving.{bindings_in}
-use Rattle.local_store.specs.declared.telling.ToldStore.{ToldStore}
+use Rattle.local_store.specs.Parts.{ToldStore}
 use Rattle.local_store.specs.Bound.{AreNewlyBound}
 use Rattle.local_store.specs.Stored.{Stored}
 use Rattle.local_store.specs.Chained as chained
@@ -150,11 +150,11 @@ module _ (v : ViewValue) (g : Name) (op : Op) (left : Left) (drawn : ℕ) (more 
   joined_stands : StandFor (IsTold joined_equations) (ToldBy nodes (within (around v.stores) t.joined.store))
   joined_stands = subst (λ (ss : List Stored). StandFor (IsTold joined_equations) (ToldBy nodes (replaced ss t.joined.store))) (around_push v.stores (store_of left)) e.joins.promoted.promotes.stands
 
-  joined_bound : AreNewlyBound path_equations path_equations joined_equations t.joined.bound.items
-  joined_bound = subst (λ (ss : List Stored). AreNewlyBound (chained.equations_of nodes ss) (chained.equations_of nodes ss) joined_equations t.joined.bound.items) (around_push v.stores (store_of left)) e.joins.promoted.bound
+  joined_bound : AreNewlyBound path_equations path_equations joined_equations t.joined.bound
+  joined_bound = subst (λ (ss : List Stored). AreNewlyBound (chained.equations_of nodes ss) (chained.equations_of nodes ss) joined_equations t.joined.bound) (around_push v.stores (store_of left)) e.joins.promoted.bound
 
-  all_bound : AreNewlyBound path_equations path_equations (joined_equations ++ along.more) told.bound.items
-  all_bound = subst (AreNewlyBound path_equations path_equations (joined_equations ++ along.more)) (sym t.reduced.all_bound) (along.bound_on path_equations joined_equations joined_more joined_stands t.joined.bound.items joined_bound)
+  all_bound : AreNewlyBound path_equations path_equations (joined_equations ++ along.more) told.bound
+  all_bound = subst (AreNewlyBound path_equations path_equations (joined_equations ++ along.more)) (sym t.reduced.all_bound) (along.bound_on path_equations joined_equations joined_more joined_stands t.joined.bound joined_bound)
 
   all_stand : StandFor (IsTold (joined_equations ++ along.more)) (IsTold (environment i.site ++ along.after.equations))
   all_stand = subst (λ (E : Equations). StandFor (IsTold (joined_equations ++ along.more)) (IsTold E))
@@ -163,19 +163,19 @@ module _ (v : ViewValue) (g : Name) (op : Op) (left : Left) (drawn : ℕ) (more 
       (stands_with_more joined_equations (whole i.site ++ last.equations) along.more
       (StandFor-on (told_stands nodes (v.stores ++ store_of left ∷ [])) (last_whole v g op left drawn e.before r)))
 
-  module _ (binds : List Var) (members : AreMembers nodes v.stores told.bound.items binds) where
+  module _ (binds : List Var) (members : AreMembers nodes v.stores told.bound binds) where
     pub newly_bound : AreNewlyBound (outermost_equations i.site) (whole i.site) (environment i.site ++ along.after.equations) binds
     newly_bound = bound_at v i (joined_equations ++ along.more) (environment i.site ++ along.after.equations)
-        (record { each = λ x y h. IsTold-left joined_equations along.more x y (joined_more.each x y h) }) all_stand told.bound.items binds members all_bound
+        (record { each = λ x y h. IsTold-left joined_equations along.more x y (joined_more.each x y h) }) all_stand told.bound binds members all_bound
 
     pub oldest_bound : HasOldest (outermost_equations i.site) binds
-    oldest_bound = oldest_at v i told.bound.items binds members
+    oldest_bound = oldest_at v i told.bound binds members
 
   -- nothing of it was bound around the alternative
-  pub reduced_free : BindsFree v.stores left.own told.bound.items
+  pub reduced_free : BindsFree v.stores left.own told.bound
   reduced_free = on left.own e.free e.kept
     where
-      on : (o : Own) → BindsFree v.stores o t.joined.bound.items → OwnKeepsBound v.stores o t.joined.store → BindsFree v.stores o told.bound.items
+      on : (o : Own) → BindsFree v.stores o t.joined.bound → OwnKeepsBound v.stores o t.joined.store → BindsFree v.stores o told.bound
       on (Own.Plain bs) f k = subst (AreFree (bindings_from v.stores)) (sym t.reduced.all_bound)
-          (all_both (λ (x : Var). found_in (bindings_from v.stores) x ≡ None) t.joined.bound.items t.reduced.bound f (were_free v.stores t.joined.store k t.reduced.bound t.reduced.free))
+          (all_both (λ (x : Var). found_in (bindings_from v.stores) x ≡ None) t.joined.bound t.reduced.bound f (were_free v.stores t.joined.store k t.reduced.bound t.reduced.free))
       on (Own.Store s) f k = tt

@@ -12,10 +12,10 @@ use Rattle.arith_goals.specs.Answers.{Answers}
 use Rattle.rational_unify.specs.Known.{IsSolved}
 use Rattle.rational_unify.specs.Forms.{IsFormOf}
 use Rattle.local_store.specs.Stored.{Stored}
-use Rattle.local_store.specs.Chained.{Chained, bindings_from, equations_of, IsSolvedChain}
+use Rattle.local_store.specs.Chained.{Chained, bindings_from, equations_of, ToldBy, IsSolvedChain}
 use Rattle.local_store.proofs.Layers.{from-last}
 use Rattle.body_goals.specs.Goals.{template_of}
-use Rattle.body_goals.proofs.Finding.{answers_within}
+use Rattle.body_goals.proofs.Finding.{answers_form}
 use Rattle.plain_heads.specs.Joined.{own_store}
 use Rattle.plain_heads.proofs.Stores.{own_bindings}
 use Rattle.call_plan.specs.declared.own.Own.{Own}
@@ -31,5 +31,5 @@ solved_within nodes path frame own h f = subst (IsSolved nodes) (bindings_are no
 pub answers_by : (t : Template) (chain : Chained) (own : Own) (g : Goal) (a : ArithValue) → IsPlainOwn chain.nodes chain.stores g.frame own → IsSolvedChain chain.nodes (chain.stores ++ stored g.frame own ∷ [])
     → t.nodes ≡ chain.nodes → t.symbols ≡ chain.symbols → ((E : Equations) → IsFormOf t.nodes (bindings_within chain.stores own) (IsTold E) → Answers t E g a)
     → Answers (template_of chain) (equations_of chain.nodes (chain.stores ++ stored g.frame own ∷ [])) g a
-answers_by t chain own g a h f n m answers = answers_within t chain (stored g.frame own) g a f n m
-    (λ E k. answers E (subst (λ (bs : List (Var × Term)). IsFormOf t.nodes bs (IsTold E)) (bindings_are chain.nodes chain.stores g.frame own h) k))
+answers_by t chain own g a h f n m answers = answers_form t chain (bindings_within chain.stores own) (equations_of chain.nodes (chain.stores ++ stored g.frame own ∷ [])) g a
+    (subst (λ (bs : List (Var × Term)). IsFormOf chain.nodes bs (ToldBy chain.nodes (chain.stores ++ stored g.frame own ∷ []))) (bindings_are chain.nodes chain.stores g.frame own h) f.form) n m answers

@@ -1,4 +1,4 @@
--- The guard of an alternative with plain bindings holds.
+-- What an alternative makes of the store that it joins: with plain bindings its guard holds.
 use Rattle.std.proofs.Common.{◌≡◌, ◌+◌, List, [], ◌∷◌, ◌++◌, length, true, refl, sym, subst, arith}
 use Rattle.akl_terms.specs.declared.name.Name.{Name}
 use Rattle.akl_terms.specs.declared.name.Var.{Var}
@@ -7,8 +7,11 @@ use Rattle.akl_terms.specs.declared.term.Term.{Term}
 use Rattle.akl_terms.specs.declared.program.Op.{Op}
 use Rattle.akl_terms.specs.Equal.{IsConsistentBy}
 use Rattle.rational_unify.proofs.FormLaws.{form-consistent}
+use Rattle.local_store.specs.declared.telling.ToldPart.{ToldPart}
+use Rattle.local_store.specs.Parts.{told_over}
+use Rattle.local_store.specs.Promoting.{AnswersPromoted}
 use Rattle.local_store.specs.Stored.{Stored}
-use Rattle.local_store.specs.Chained.{bindings_from, ToldBy, IsKnown, around}
+use Rattle.local_store.specs.Chained.{bindings_from, ToldBy, IsKnown, innermost, around}
 use Rattle.box_tree.proofs.ToldChains.{around_push}
 use Rattle.guard_plan.specs.Guards.{KeepsApartInside, IsQuietInside}
 use Rattle.plain_heads.specs.Plain.{ArePlain}
@@ -17,7 +20,7 @@ use Rattle.plain_heads.proofs.Members.{root_members}
 use Rattle.plain_heads.proofs.Quiet.{quiet_plain}
 use Rattle.class_members.specs.Members.{AreMembers}
 use Rattle.call_plan.specs.declared.own.Own.{Own}
-use Rattle.call_plan.specs.Joins.{HoldsFor}
+use Rattle.call_plan.specs.Joins.{HoldsFor, Joins}
 use Rattle.call_plan.specs.Owns.{is_plain, BindsFree}
 use Rattle.call_plan.proofs.HeadStores.{front_solved}
 
@@ -46,3 +49,11 @@ one_store nodes (s ∷ t ∷ ss) e k xs h = absurd (omega (arith, e))
 pub plain_free : (path : List Stored) (own : Own) (xs : List Var) → is_plain own ≡ true → BindsFree path own xs → AreFree (bindings_from path) xs
 plain_free path (Own.Plain bs) xs e h = h
 plain_free path (Own.Store s) xs e h = cc
+
+-- what a store makes of the one around it joins the innermost store of a path
+pub store_joins : (nodes : List Node) (path : List Stored) (op : Op) (own : Stored) (told : ToldPart) → HoldsFor op nodes (path ++ own ∷ [])
+    → AnswersPromoted nodes (path ++ own ∷ []) (length path + 1) (told_over (innermost (around (path ++ own ∷ []))) told) → Joins nodes path op own (told_over (innermost path) told)
+store_joins nodes path op own told h a = record {
+  holds = h;
+  promoted = subst (λ (ss : List Stored). AnswersPromoted nodes (path ++ own ∷ []) (length path + 1) (told_over (innermost ss) told)) (around_push path own) a;
+}

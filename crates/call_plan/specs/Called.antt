@@ -8,7 +8,7 @@ use Rattle.akl_terms.specs.declared.program.Op.{Op}
 use Rattle.akl_model.specs.declared.label.Label.{Label}
 use Rattle.akl_model.specs.Config.{Atom, an_atom, held_in}
 use Rattle.akl_model.specs.Instances.{terms_from, drawn_by}
-use Rattle.local_store.specs.declared.telling.ToldStore.{ToldStore}
+use Rattle.local_store.specs.Parts.{ToldStore}
 use Rattle.local_store.specs.Chained.{around}
 use Rattle.body_goals.specs.declared.body.Body.{Body}
 use Rattle.body_goals.specs.Reduced.{IsReduced}
@@ -46,7 +46,7 @@ pub record Ends (v : ViewValue) (g : Name) (op : Op) (left : Left) (drawn : ℕ)
   pub remains : Remains v g op left drawn before
   pub labels : more ≡ before ++ end_labels g left.name (cuts_others op left.behind.now)
   pub joins : Joins v.table.program.templates.nodes v.stores op (store_of left) told
-  pub free : BindsFree v.stores left.own told.bound.items
+  pub free : BindsFree v.stores left.own told.bound
   pub kept : OwnKeepsBound v.stores left.own told.store
   pub few_goals : length left.clause.now.body < 2 ^ 32
 

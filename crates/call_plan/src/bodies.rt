@@ -1,18 +1,20 @@
 //! The body of the clause that is left.
 
 ghost use Rattle.std.specs.Prelude.{◌≡◌, ◌+◌, true, IfOk};
-ghost use Rattle.local_store.specs.Chained.{around, replaced, IsSolvedChain};
+ghost use Rattle.local_store.specs.Chained.{innermost, around, IsSolvedChain};
+ghost use Rattle.local_store.specs.Parts.{told_over};
 ghost use Rattle.body_goals.specs.Reduced.{IsReduced};
+ghost use Rattle.body_goals.specs.Takes.{with_added};
 
 use akl_model::Label;
 use akl_terms::{Clause, Name, Program};
 use body_goals::{Body, reduce};
 use box_tree::View;
-use local_store::{Shared, Store, ToldStore};
+use local_store::ToldPart;
 use std::alloc::{AllocError, Global};
 
 // Reduces goals of the body of a clause, whose alternative with this frame has joined the box of a view, where the alternatives
-// of all clauses draw so many names. What they tell joins the store of the box, and their labels come to the list.
+// of all clauses draw so many names. What they tell joins what is added to the store of the box, and their labels come to the list.
 pub(crate) fn body_of(
     alloc: Global,
     program: &Program,
@@ -20,12 +22,12 @@ pub(crate) fn body_of(
     clause: &Clause,
     frame: Name,
     drawn: u64,
-    told: &mut ToldStore,
+    told: &mut ToldPart,
     labels: &mut Vec<Label>,
 ) -> Result<Body, AllocError>
     requires program { program.now ≡ view.now.table.program }
-    requires solved { told.old.solved ≡ true → IsSolvedChain view.now.table.program.templates.nodes (replaced view.now.stores told.old.store) }
-    ensures { IfOk result (IsReduced view.now.table.program.templates.symbols view.now.table.program.templates.nodes (around view.now.stores) frame (view.now.next + drawn) clause.now.body told.old told.new labels.old.items labels.new.items) }
+    requires solved { told.old.solved ≡ true → IsSolvedChain view.now.table.program.templates.nodes (with_added view.now.stores told.old.part) }
+    ensures { IfOk result (IsReduced view.now.table.program.templates.symbols view.now.table.program.templates.nodes (around view.now.stores) frame (view.now.next + drawn) clause.now.body (told_over (innermost view.now.stores) told.old) (told_over (innermost view.now.stores) told.new) labels.old.items labels.new.items) }
 {
     let codes = clause.body.as_slice();
     let first = view.next().checked_add(drawn).ok_or(AllocError)?;
@@ -33,21 +35,11 @@ pub(crate) fn body_of(
     reduce(
         alloc,
         &program.templates,
-        outer(view.stores()),
+        view.stores(),
         frame,
         first,
         codes,
         told,
         labels,
     )
-}
-
-// The stores around the innermost one.
-fn outer(stores: &[Shared<Store>]) -> &[Shared<Store>]
-    ensures { result.now ≡ around stores.now }
-{
-    match stores.split_last() {
-        Some((_, outer)) => outer,
-        None => &[],
-    }
 }

@@ -9,7 +9,9 @@ ghost use Rattle.box_tree.specs.declared.view.Sight.{Sight};
 ghost use Rattle.box_tree.specs.Edits.{named_atoms};
 ghost use Rattle.box_tree.specs.Plans.{labels_behind};
 ghost use Rattle.box_tree.specs.Tables.{step_of};
-ghost use Rattle.local_store.specs.Chained.{bindings_from, IsKnown};
+ghost use Rattle.local_store.specs.Chained.{bindings_from, innermost, IsKnown};
+ghost use Rattle.local_store.specs.Parts.{with_part, told_over};
+ghost use Rattle.local_store.specs.Stored.{Stored};
 ghost use Rattle.plain_heads.specs.Joined.{AreFree};
 ghost use Rattle.class_members.specs.Members.{AreMembers};
 ghost use Rattle.call_plan.specs.Called.{IsCalled, Remains, IsReducedClause};
@@ -29,7 +31,7 @@ use body_goals::Body;
 use box_tree::{Plan, Step, View};
 use class_members::members;
 use guard_plan::{goal_and_stores, label_of};
-use local_store::{Chain, Shared, Store, ToldStore};
+use local_store::{Chain, Part, ToldPart};
 use plain_heads::put_ends;
 use smallvec::SmallVec;
 use std::alloc::{AllocError, Global};
@@ -157,8 +159,8 @@ fn by_left(
     )
 }
 
-// The plan of a call with these labels behind its fork, this store of its box and what is left of the body of the clause that
-// is left, whose alternative had plain bindings or not.
+// The plan of a call with these labels behind its fork, what is added to the store of its box and what is left of the body of
+// the clause that is left, whose alternative had plain bindings or not.
 fn planned(
     alloc: Global,
     program: &Program,
@@ -168,25 +170,25 @@ fn planned(
     plain: bool,
     drawn: u64,
     more: Vec<Label>,
-    told: ToldStore,
+    told: ToldPart,
     body: Body,
 ) -> Result<Option<Plan>, AllocError>
     requires program { program.now ≡ view.now.table.program }
-    requires reduced { IsReducedClause view.now goal clause.now plain drawn more.items told body }
+    requires reduced { IsReducedClause view.now goal clause.now plain drawn more.items (told_over (innermost view.now.stores) told) body }
     ensures { IfOk result (λ found. IfSome found (IsCallPlan view.now)) }
 {
     let codes = clause.body.as_slice();
     let names = drawn.checked_add(codes.len() as u64).ok_or(AllocError)?;
     let label = label_of(view, Rule::Fork);
-    let ToldStore {
-        store,
+    let ToldPart {
+        part,
         solved,
         bound,
     } = told;
     let chain = view.chain(&program.templates);
     let binds = binds_of(alloc, &chain, plain, bound)?;
     let reads = goal_and_stores(alloc, goal, view.path())?;
-    let step = join_of(store, solved, body);
+    let step = join_of(part, solved, body);
     let plan = Plan::of_call(alloc, view, label, more, reads, names, step, binds)?;
     Ok(Some(plan))
 }
@@ -210,9 +212,9 @@ fn binds_of(
     members(alloc, chain, bound.as_slice())
 }
 
-// The step by which a box gets this store, and what is left of a body as goals.
-fn join_of(store: Shared<Store>, solved: bool, body: Body) -> Step
-    ensures joins { (nodes : List Node) → step_of nodes result ≡ laws.joins store solved (named_atoms nodes body.goals.items) }
+// The step by which this is added to the store of a box, and what is left of a body comes as goals.
+fn join_of(part: Part, solved: bool, body: Body) -> Step
+    ensures joins { (nodes : List Node) (own : Stored) → step_of nodes own result ≡ laws.joins (with_part own part) solved (named_atoms nodes body.goals.items) }
     ensures behind { labels_behind result ≡ (body.told, body.behind) }
 {
     let Body {
@@ -221,7 +223,7 @@ fn join_of(store: Shared<Store>, solved: bool, body: Body) -> Step
         behind,
     } = body;
     Step::Join {
-        store,
+        part,
         solved,
         goals,
         told,

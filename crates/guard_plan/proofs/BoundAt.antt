@@ -20,7 +20,7 @@ use Rattle.constraint_laws.proofs.StandsGrow.{stands_with_more}
 use Rattle.step_laws.proofs.Whereabouts.{found_in}
 use Rattle.step_laws.proofs.Deeper.{chain_at}
 use Rattle.rational_unify.specs.Solving.{bindings_in, equations_in}
-use Rattle.local_store.specs.declared.telling.ToldStore.{ToldStore}
+use Rattle.local_store.specs.Parts.{ToldStore}
 use Rattle.local_store.specs.Stored.{Stored}
 use Rattle.local_store.specs.Chained.{bindings_from, equations_of}
 use Rattle.local_store.specs.Bound.{AreNewlyBound}
@@ -102,17 +102,17 @@ module _ (v : ViewValue) (i : IsViewOf v) where
 
   -- by what was told
   pub told_at : (es : List code.Equation) (t : ToldStore) → AnswersTold v.table.program.templates.nodes v.stores v.known es t → (list : List Var)
-      → AreMembers v.table.program.templates.nodes v.stores t.bound.items list → (F : Equations) → F ≡ i.site.content.equations ++ equations_in v.table.program.templates.nodes es
+      → AreMembers v.table.program.templates.nodes v.stores t.bound list → (F : Equations) → F ≡ i.site.content.equations ++ equations_in v.table.program.templates.nodes es
       → AreNewlyBound (outermost_equations i.site) (whole i.site) (environment i.site ++ F) list
   told_at es t a list m F q = subst (λ (H : Equations). AreNewlyBound (outermost_equations i.site) (whole i.site) H list)
       (append_assoc (environment i.site) i.site.content.equations (equations_in v.table.program.templates.nodes es) ∙ ap (λ (E : Equations). environment i.site ++ E) (sym q))
       (bound_at (equations_of v.table.program.templates.nodes v.stores ++ equations_in v.table.program.templates.nodes es) (whole i.site ++ equations_in v.table.program.templates.nodes es)
       (record { each = IsTold-left (equations_of v.table.program.templates.nodes v.stores) (equations_in v.table.program.templates.nodes es) })
-      (stands_with_more (equations_of v.table.program.templates.nodes v.stores) (whole i.site) (equations_in v.table.program.templates.nodes es) all) t.bound.items list m a.bound)
+      (stands_with_more (equations_of v.table.program.templates.nodes v.stores) (whole i.site) (equations_in v.table.program.templates.nodes es) all) t.bound list m a.bound)
 
   -- by an alternative that joins the box
   pub joined_at : (s : Stored) (known : _) (t : ToldStore) → AnswersPromoted v.table.program.templates.nodes (v.stores ++ s ∷ []) known t → (list : List Var)
-      → AreMembers v.table.program.templates.nodes v.stores t.bound.items list → (F : Equations)
+      → AreMembers v.table.program.templates.nodes v.stores t.bound list → (F : Equations)
       → StandFor (IsTold (told_in v.table.program.templates.nodes (v.stores ++ s ∷ []))) (IsTold (environment i.site ++ (i.site.content.equations ++ F)))
       → AreNewlyBound (outermost_equations i.site) (whole i.site) (environment i.site ++ (i.site.content.equations ++ F)) list
   joined_at s known t a list m F stands = bound_at (equations_of v.table.program.templates.nodes (v.stores ++ s ∷ [])) (environment i.site ++ (i.site.content.equations ++ F))
@@ -120,6 +120,6 @@ module _ (v : ViewValue) (i : IsViewOf v) where
         each = λ x y h. subst (λ (bs : List (Var × Term)). IsTold (bindings_in v.table.program.templates.nodes bs) x y) (sym (from-last v.stores s))
             (bindings-right v.table.program.templates.nodes s.bindings (bindings_from v.stores) x y h);
       })
-      (StandFor-on (told_stands v.table.program.templates.nodes (v.stores ++ s ∷ [])) stands) t.bound.items list m
-      (subst (λ (ss : List Stored). AreNewlyBound (equations_of v.table.program.templates.nodes ss) (equations_of v.table.program.templates.nodes ss) (equations_of v.table.program.templates.nodes (v.stores ++ s ∷ [])) t.bound.items)
+      (StandFor-on (told_stands v.table.program.templates.nodes (v.stores ++ s ∷ [])) stands) t.bound list m
+      (subst (λ (ss : List Stored). AreNewlyBound (equations_of v.table.program.templates.nodes ss) (equations_of v.table.program.templates.nodes ss) (equations_of v.table.program.templates.nodes (v.stores ++ s ∷ [])) t.bound)
       (around_push v.stores s) a.bound)

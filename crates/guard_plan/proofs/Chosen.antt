@@ -8,7 +8,8 @@ use Rattle.akl_model.specs.declared.item.Item.{Item}
 use Rattle.akl_model.specs.declared.label.Rule.{Rule}
 use Rattle.akl_model.specs.Config.{Content, Boxes, no_boxes, box, Goals, no_goals, a_choice, held_in}
 use Rattle.akl_model.specs.Rules.{count_of}
-use Rattle.local_store.specs.declared.telling.ToldStore.{ToldStore}
+use Rattle.local_store.specs.Parts.{ToldStore}
+use Rattle.local_store.specs.Chained.{innermost}
 use Rattle.local_store.specs.Promoting.{AnswersPromoted}
 use Rattle.class_members.specs.Members.{AreMembers}
 use Rattle.table_laws.specs.Steps as laws
@@ -27,7 +28,7 @@ use Rattle.guard_plan.proofs.ChoiceNone.{guarded_none, choice_none}
 use Rattle.guard_plan.proofs.Placed.{IsPlaced, ArePlaced, all_placed, testable, all_testable}
 use Rattle.guard_plan.proofs.CutRight.{all_cutting, solved_empty, empty_solved, counted, none_cuts, cut_right}
 use Rattle.guard_plan.proofs.PromoteRight.{unsolved_none, many_none, unheld_none, promote_right}
-use Rattle.guard_plan.proofs.Sites.{some_stores, shows_at}
+use Rattle.guard_plan.proofs.Sites.{some_stores, shows_at, step_here}
 
 module _ (v : ViewValue) (i : IsViewOf v) (g : Name) (o : HeldOp) (p : v.place ≡ Place.Goal g) (s : v.sight ≡ Sight.Choice o) where
   abbrev pub shown : (bs : Boxes) × (held_in g i.site.goals ≡ Some (a_choice (op_held v.table.program.templates.nodes o) bs))
@@ -95,7 +96,8 @@ module _ (v : ViewValue) (i : IsViewOf v) (g : Name) (o : HeldOp) (p : v.place �
 
     pub only_planned : a.solved ≡ true → HoldsInside o v.table.program.templates.nodes (v.stores ++ a.store ∷ []) → length v.body < 2 ^ 32 → (t : ToldStore) (known : ℕ)
         → AnswersPromoted v.table.program.templates.nodes (v.stores ++ a.store ∷ []) known t
-        → (binds : List Var) → AreMembers v.table.program.templates.nodes v.stores t.bound.items binds → (step : Step)
-        → step_of v.table.program.templates.nodes step ≡ laws.joins t.store t.solved (named_atoms v.table.program.templates.nodes (numbered_goals v.worker v.next v.body))
+        → (binds : List Var) → AreMembers v.table.program.templates.nodes v.stores t.bound binds → (step : Step)
+        → step_of v.table.program.templates.nodes (innermost v.stores) step ≡ laws.joins t.store t.solved (named_atoms v.table.program.templates.nodes (numbered_goals v.worker v.next v.body))
         → IsRightLabel (record { table = v.table; journal = v.journal; label = record { rule = Rule.Promote; place = v.place; alternative = Some a.name; worker = v.worker }; more = []; reads = Item.Goal g ∷ map Item.Store v.path; names = length v.body; step = step; binds = binds })
-    only_planned solved holds few t known answer binds m step q = promote_right v i g o only.0 only.1 p held a only.3 body guarded (solved_empty only.1 (sym only.3.seen.solved ∙ solved)) holds few t known answer binds m step q
+    only_planned solved holds few t known answer binds m step q = promote_right v i g o only.0 only.1 p held a only.3 body guarded (solved_empty only.1 (sym only.3.seen.solved ∙ solved)) holds few t known answer binds m step
+        (step_here v i (record { rule = Rule.Promote; place = v.place; alternative = Some a.name; worker = v.worker }) refl step ∙ q)

@@ -30,11 +30,10 @@ use Rattle.akl_model.proofs.Gathered.{gathers}
 use Rattle.akl_model.proofs.Options.{some_value}
 use Rattle.akl_model.proofs.ScopesAlong.{times_path, found_path}
 use Rattle.rational_unify.specs.Solving.{bindings_in, equations_in}
-use Rattle.local_store.specs.declared.telling.ToldStore.{ToldStore}
+use Rattle.local_store.specs.Parts.{ToldStore}
 use Rattle.local_store.specs.Stored.{Stored, nothing as no_store, with_bindings}
-use Rattle.local_store.specs.Chained.{bindings_from}
+use Rattle.local_store.specs.Chained.{bindings_from, innermost}
 use Rattle.local_store.specs.Telling.{ToldAlso}
-use Rattle.local_store.specs.Promoting.{with_frames}
 use Rattle.local_store.proofs.Layers.{from-last, bindings-either, bindings-left, bindings-right, joins-told, told-joins}
 use Rattle.class_members.specs.Members.{AreMembers}
 use Rattle.plan_laws.specs.Right.{Reads}
@@ -42,7 +41,7 @@ use Rattle.table_laws.specs.Rows.{stores_along, told_in, ports_in}
 use Rattle.table_laws.specs.Steps as laws
 use Rattle.table_laws.specs.Steps.{IsGathered, JoinsGoal, ReadsFor, numbered, IsSolvedIf, IsSolvedIn}
 use Rattle.box_tree.specs.declared.step.Step.{Step}
-use Rattle.box_tree.specs.Tables.{all_rules, table_of, step_of}
+use Rattle.box_tree.specs.Tables.{all_rules, table_of, step_in}
 use Rattle.box_tree.specs.Views.{ViewValue, IsViewOf}
 use Rattle.box_tree.specs.Plans.{IsRead, IsRightLabel}
 use Rattle.step_laws.specs.Bound.{AreBoundIn}
@@ -51,16 +50,16 @@ use Rattle.guard_plan.specs.Guards.{AreAllSolved, AreQuietOver}
 use Rattle.guard_plan.specs.Collecting.{frames_of, ports_of, bindings_of, IsList, IsToldInner, IsJoined}
 use Rattle.guard_plan.proofs.BoundAt.{oldest_at, joined_at}
 use Rattle.box_tree.proofs.ToldChains.{from_told, to_told, told_stands}
-use Rattle.guard_plan.proofs.Chains.{innermost_push, same_solved}
+use Rattle.guard_plan.proofs.Chains.{same_solved}
 use Rattle.guard_plan.proofs.CollectNone.{all_quiet}
 use Rattle.guard_plan.proofs.CutRight.{counted}
-use Rattle.guard_plan.proofs.Joined.{inner_told, joined_bindings}
+use Rattle.guard_plan.proofs.Joined.{inner_told}
 use Rattle.guard_plan.proofs.Gathering.{HasGathered, gather, told_of, told_either, bindings_told, equations_told}
-use Rattle.guard_plan.proofs.JoinRight.{joined_frames, joined_ports, joined_solved, joined_stands}
-use Rattle.guard_plan.proofs.Names.{frames_with, ports_frames, frames_ports, ports_with}
+use Rattle.guard_plan.proofs.JoinRight.{joined_solved, joined_stands}
+use Rattle.guard_plan.proofs.Names.{all_named_with, all_ports_with}
 use Rattle.guard_plan.proofs.Placed.{ArePlaced}
 use Rattle.guard_plan.proofs.ReadItems.{goal_reads, items_there}
-use Rattle.guard_plan.proofs.Sites.{stand, found, whole_stands}
+use Rattle.guard_plan.proofs.Sites.{stand, found, row, whole_stands, own_store}
 
 -- names stand once: those of alternatives, and those of the box of their choice
 
@@ -130,12 +129,6 @@ module _ (v : ViewValue) (i : IsViewOf v) (list : Term) (es : List code.Equation
   inner_stands bs h = StandFor-on (StandFor-back (told_stands v.table.program.templates.nodes (v.stores ++ inner ∷ []))) (StandFor-on (StandFor-back (inner_told v.table.program.templates.nodes v.stores v.known v.alternatives es inner t)) (StandFor-on told_stand
       (StandFor-on (stands_with_more (told_in v.table.program.templates.nodes v.stores) (whole i.site) all_told (whole_stands v i)) (h.stands (whole i.site) (record { each = λ a b m. m })))))
 
-  pub no_frames : inner.frames ≡ []
-  no_frames = ap (λ (s : Stored). s.frames) t.store ∙ t.told.tells.frames ∙ ap (λ (s : Stored). s.frames) (innermost_push v.stores own)
-
-  pub no_ports : inner.ports ≡ []
-  no_ports = ap (λ (s : Stored). s.ports) t.store ∙ t.told.tells.ports ∙ ap (λ (s : Stored). s.ports) (innermost_push v.stores own)
-
 module _ (v : ViewValue) (i : IsViewOf v) (g : Name) (list : Term) (bs : Boxes) (p : v.place ≡ Place.Goal g) (held : held_in g i.site.goals ≡ Some (a_choice (Operator.collecting (tree v.table.program.templates.nodes list)) bs))
     (seen : ArePlaced v i bs v.alternatives) (solved : AreAllSolved v.alternatives) (quiet : AreQuietOver v.table.program.templates.nodes v.stores v.alternatives) (few : length v.alternatives < 2 ^ 32)
     (es : List code.Equation) (l : IsList v.table.program (record { worker = v.worker; number = v.next }) list v.alternatives es)
@@ -154,32 +147,17 @@ module _ (v : ViewValue) (i : IsViewOf v) (g : Name) (list : Term) (bs : Boxes) 
 
   -- the store
 
-  same_frames : j.joined.store.frames ≡ i.site.content.frames
-  same_frames = joined_frames v i j.inner v.known j.joined j.promoted ∙ ap (λ (ns : List Name). with_names ns i.site.content.frames) (no_frames v i list es l j.inner j.told)
-
-  same_ports : ports_in v.table.program.templates.nodes j.joined.store.ports ≡ i.site.content.ports
-  same_ports = joined_ports v i j.inner v.known j.joined j.promoted once ∙ ap (λ (ps : List (Name × Term)). with_ports (ports_in v.table.program.templates.nodes ps) i.site.content.ports) (no_ports v i list es l j.inner j.told)
-    where
-      once : (n : Name) → times_in n (port_names (ports_in v.table.program.templates.nodes j.inner.ports)) + times_in n (port_names i.site.content.ports) ≤ 1
-      once n =
-          let e : times_in n (port_names (ports_in v.table.program.templates.nodes j.inner.ports)) ≡ 0 = ap (λ (ps : List (Name × Term)). times_in n (port_names (ports_in v.table.program.templates.nodes ps))) (no_ports v i list es l j.inner j.told) in
-          let f : times n (only i.site) + times_path n i.site.around ≤ times n i.table.config.roots = found_path n i.site.content.name i.table.config.roots i.site (found v i) in
-          let o : times n i.table.config.roots ≤ 1 = (stand v i).once n in
-          omega arith
-
   frames : t.store.frames ≡ with_names k.frames i.site.content.frames
-  frames = ap (λ (s : Stored). s.frames) j.store ∙ ports_frames (with_frames j.joined.store (frames_of v.worker v.next v.alternatives)) (ports_of v.alternatives)
-      ∙ frames_with j.joined.store (frames_of v.worker v.next v.alternatives) ∙ ap (with_names (frames_of v.worker v.next v.alternatives)) same_frames
-      ∙ ap (λ (ns : List Name). with_names ns i.site.content.frames) has.frames
+  frames = j.frames ∙ all_named_with (innermost v.stores).frames (frames_of v.worker v.next v.alternatives)
+      ∙ ap (with_names (frames_of v.worker v.next v.alternatives)) (ap (λ (s : Stored). s.frames) (own_store v i) ∙ (row v i).2.frames) ∙ ap (λ (ns : List Name). with_names ns i.site.content.frames) has.frames
 
-  own_ports : ports_in v.table.program.templates.nodes (with_frames j.joined.store (frames_of v.worker v.next v.alternatives)).ports ≡ i.site.content.ports
-  own_ports = ap (ports_in v.table.program.templates.nodes) (frames_ports j.joined.store (frames_of v.worker v.next v.alternatives)) ∙ same_ports
+  own_ports : ports_in v.table.program.templates.nodes (innermost v.stores).ports ≡ i.site.content.ports
+  own_ports = ap (λ (s : Stored). ports_in v.table.program.templates.nodes s.ports) (own_store v i) ∙ (row v i).2.ports
 
-  ports_once : (n : Name) → times_in n (port_names (ports_in v.table.program.templates.nodes (ports_of v.alternatives))) + times_in n (port_names (ports_in v.table.program.templates.nodes (with_frames j.joined.store (frames_of v.worker v.next v.alternatives)).ports)) ≤ 1
+  ports_once : (n : Name) → times_in n (port_names (ports_in v.table.program.templates.nodes (ports_of v.alternatives))) + times_in n (port_names (ports_in v.table.program.templates.nodes (innermost v.stores).ports)) ≤ 1
   ports_once n =
       let x : times_in n (port_names (ports_in v.table.program.templates.nodes (ports_of v.alternatives))) ≡ times_in n (port_names k.ports) = ap (λ (ps : List Port). times_in n (port_names ps)) has.ports in
-      let y : times_in n (port_names (ports_in v.table.program.templates.nodes (with_frames j.joined.store (frames_of v.worker v.next v.alternatives)).ports)) ≡ times_in n (port_names i.site.content.ports) =
-      ap (λ (ps : List Port). times_in n (port_names ps)) own_ports in
+      let y : times_in n (port_names (ports_in v.table.program.templates.nodes (innermost v.stores).ports)) ≡ times_in n (port_names i.site.content.ports) = ap (λ (ps : List Port). times_in n (port_names ps)) own_ports in
       let a : times_in n (port_names k.ports) ≤ times n bs = gathered_ports v v.worker v.next i.site.content.name (tree v.table.program.templates.nodes list) bs k has.is_content n in
       let b : times n bs ≤ times_inside n i.site.goals = held_times n g i.site.goals (Operator.collecting (tree v.table.program.templates.nodes list)) bs held in
       let f : times n (only i.site) + times_path n i.site.around ≤ times n i.table.config.roots = found_path n i.site.content.name i.table.config.roots i.site (found v i) in
@@ -187,15 +165,12 @@ module _ (v : ViewValue) (i : IsViewOf v) (g : Name) (list : Term) (bs : Boxes) 
       omega arith
 
   ports : ports_in v.table.program.templates.nodes t.store.ports ≡ with_ports k.ports i.site.content.ports
-  ports = ap (λ (s : Stored). ports_in v.table.program.templates.nodes s.ports) j.store ∙ ports_with v.table.program.templates.nodes (with_frames j.joined.store (frames_of v.worker v.next v.alternatives)) (ports_of v.alternatives) ports_once
+  ports = ap (ports_in v.table.program.templates.nodes) j.ports ∙ all_ports_with v.table.program.templates.nodes (innermost v.stores).ports (ports_of v.alternatives) ports_once
       ∙ ap (with_ports (ports_in v.table.program.templates.nodes (ports_of v.alternatives))) own_ports ∙ ap (λ (ps : List Port). with_ports ps i.site.content.ports) has.ports
-
-  same_bindings : t.store.bindings ≡ j.joined.store.bindings
-  same_bindings = joined_bindings v.table.program.templates.nodes v.stores v.known v.alternatives (frames_of v.worker v.next v.alternatives) es t j
 
   is_solved : (b : Bool) → j.joined.solved ≡ b → IsSolvedIf b (table_of v.table) (names_around i.site) j.joined.store → IsSolvedIf b (table_of v.table) (names_around i.site) t.store
   is_solved false e h = tt
-  is_solved true e h = same_solved v.table.program.templates.nodes (stores_along (table_of v.table) (names_around i.site)) j.joined.store t.store same_bindings h
+  is_solved true e h = same_solved v.table.program.templates.nodes (stores_along (table_of v.table) (names_around i.site)) j.joined.store t.store j.bindings h
 
   store_solved : IsSolvedIf t.solved (table_of v.table) (names_around i.site) t.store
   store_solved = subst (λ (b : Bool). IsSolvedIf b (table_of v.table) (names_around i.site) t.store) (sym j.solved)
@@ -218,7 +193,7 @@ module _ (v : ViewValue) (i : IsViewOf v) (g : Name) (list : Term) (bs : Boxes) 
     origin = inr is_gathered;
     frames = frames;
     ports = ports;
-    stands = λ D d. subst (λ (ps : List (Var × Term)). StandFor (IsTold (D ++ bindings_in v.table.program.templates.nodes ps)) (IsTold (whole i.site ++ k.equations))) (sym same_bindings)
+    stands = λ D d. subst (λ (ps : List (Var × Term)). StandFor (IsTold (D ++ bindings_in v.table.program.templates.nodes ps)) (IsTold (whole i.site ++ k.equations))) (sym j.bindings)
         (joined_stands v i j.inner v.known j.joined j.promoted k.equations all D d);
     body = ap (numbered v.worker (slice_index i.table.config.next v.worker)) (sym has.body);
   }
@@ -240,15 +215,15 @@ module _ (v : ViewValue) (i : IsViewOf v) (g : Name) (list : Term) (bs : Boxes) 
   abbrev applies : Applies all_rules v.table.program i.table.config label (after i.table.config label i.site change)
   applies = record { in_force = inr (inr (inr (inr (inr (inr (inr (inr (inr (inl refl))))))))); site = i.site; is_site = i.is_site; change = change; makes = makes; result = refl }
 
-  bound : (binds : List Var) → AreMembers v.table.program.templates.nodes v.stores t.bound.items binds → AreBoundIn i.table.config (after i.table.config label i.site change) i.site binds
+  bound : (binds : List Var) → AreMembers v.table.program.templates.nodes v.stores t.bound binds → AreBoundIn i.table.config (after i.table.config label i.site change) i.site binds
   bound binds m =
-      let n : AreMembers v.table.program.templates.nodes v.stores j.joined.bound.items binds = subst (λ (xs : List Var). AreMembers v.table.program.templates.nodes v.stores xs binds) j.bound m in
+      let n : AreMembers v.table.program.templates.nodes v.stores j.joined.bound binds = subst (λ (xs : List Var). AreMembers v.table.program.templates.nodes v.stores xs binds) j.bound m in
       told_bound all_rules v.table.program i.table.config label (after i.table.config label i.site change) (stand v i) applies (joining k i.site.content) (without_goal g i.site.goals) no_boxes refl binds
       (joined_at v i j.inner v.known j.joined j.promoted binds n k.equations
       (subst (λ (E : Equations). StandFor (IsTold (told_in v.table.program.templates.nodes (v.stores ++ j.inner ∷ []))) (IsTold E)) (append_assoc (environment i.site) i.site.content.equations k.equations) all))
-      (oldest_at v i j.joined.bound.items binds n)
+      (oldest_at v i j.joined.bound binds n)
 
-  pub collect_right : (binds : List Var) → AreMembers v.table.program.templates.nodes v.stores t.bound.items binds → (step : Step) → step_of v.table.program.templates.nodes step ≡ laws.joins t.store t.solved []
+  pub collect_right : (binds : List Var) → AreMembers v.table.program.templates.nodes v.stores t.bound binds → (step : Step) → step_in v.table label step ≡ laws.joins t.store t.solved []
       → IsRightLabel (record { table = v.table; journal = v.journal; label = label; more = []; reads = Item.Goal g ∷ map Item.Store v.path; names = length v.alternatives; step = step; binds = binds })
   collect_right binds m step e = record {
     table = i.table;

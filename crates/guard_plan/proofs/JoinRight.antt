@@ -10,7 +10,7 @@ use Rattle.akl_model.specs.Renaming.{port_names}
 use Rattle.akl_model.specs.Names.{times_in}
 use Rattle.akl_model.specs.Wakes.{names_around}
 use Rattle.rational_unify.specs.Solving.{bindings_in}
-use Rattle.local_store.specs.declared.telling.ToldStore.{ToldStore}
+use Rattle.local_store.specs.Parts.{ToldStore}
 use Rattle.local_store.specs.Stored.{Stored}
 use Rattle.local_store.specs.Chained.{ToldBy, innermost, around, replaced, IsSolvedChain}
 use Rattle.local_store.specs.Promoting.{named_too, AnswersPromoted}
@@ -22,17 +22,14 @@ use Rattle.box_tree.specs.Views.{ViewValue, IsViewOf}
 use Rattle.box_tree.proofs.ToldChains.{told_stands, around_push}
 use Rattle.guard_plan.proofs.Chains.{innermost_push}
 use Rattle.guard_plan.proofs.Names.{named_frames, named_ports}
-use Rattle.guard_plan.proofs.Sites.{row, environment_stands, stores_split}
+use Rattle.guard_plan.proofs.Sites.{row, environment_stands, stores_split, own_store}
 
 module _ (v : ViewValue) (i : IsViewOf v) (s : Stored) (known : ℕ) (t : ToldStore) (answer : AnswersPromoted v.table.program.templates.nodes (v.stores ++ s ∷ []) known t) where
   outside : around v.stores ≡ stores_along (table_of v.table) (names_around i.site)
   outside = ap around (stores_split v i) ∙ around_push (stores_along (table_of v.table) (names_around i.site)) (row v i).0.store
 
-  own : innermost v.stores ≡ (row v i).0.store
-  own = ap innermost (stores_split v i) ∙ innermost_push (stores_along (table_of v.table) (names_around i.site)) (row v i).0.store
-
   both : named_too (innermost (around (v.stores ++ s ∷ []))) (innermost (v.stores ++ s ∷ [])) ≡ named_too (row v i).0.store s
-  both = ap (λ (x : Stored). named_too x (innermost (v.stores ++ s ∷ []))) (ap innermost (around_push v.stores s) ∙ own) ∙ ap (named_too (row v i).0.store) (innermost_push v.stores s)
+  both = ap (λ (x : Stored). named_too x (innermost (v.stores ++ s ∷ []))) (ap innermost (around_push v.stores s) ∙ own_store v i) ∙ ap (named_too (row v i).0.store) (innermost_push v.stores s)
 
   pub joined_frames : t.store.frames ≡ with_names s.frames i.site.content.frames
   joined_frames = answer.promotes.frames ∙ ap (λ (x : Stored). x.frames) both ∙ named_frames (row v i).0.store s ∙ ap (with_names s.frames) (row v i).2.frames

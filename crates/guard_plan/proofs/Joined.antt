@@ -1,5 +1,5 @@
 -- Whether a box is known to be solved that the only alternative of a choice joined, or all of them.
-use Rattle.std.proofs.Common.{◌≡◌, ℕ, ◌+◌, ◌≤◌, List, [], ◌∷◌, ◌++◌, length, drop, Bool, refl, sym, ap, subst, ◌∙◌, arith}
+use Rattle.std.proofs.Common.{◌≡◌, ℕ, ◌+◌, ◌≤◌, List, [], ◌∷◌, ◌++◌, length, drop, Bool, sym, ap, subst, ◌∙◌, arith}
 use Rattle.std.specs.Prelude.{IsTrue, ◌↔◌}
 use Rattle.std.specs.List.{AllByRecursion}
 use Rattle.akl_terms.specs.declared.name.Name.{Name}
@@ -11,17 +11,28 @@ use Rattle.akl_terms.specs.Equal.{IsTold, IsConsistentBy}
 use Rattle.akl_terms.specs.Standing.{StandFor}
 use Rattle.rational_unify.specs.Solving.{bindings_in}
 use Rattle.rational_unify.specs.Older.{IsToOlder, EachOlder}
-use Rattle.local_store.specs.declared.telling.ToldStore.{ToldStore}
+use Rattle.local_store.specs.declared.telling.ToldPart.{ToldPart}
+use Rattle.local_store.specs.Parts.{ToldStore, told_over}
 use Rattle.local_store.specs.Stored.{Stored, nothing, with_bindings}
 use Rattle.local_store.specs.Chained.{bindings_from, ToldBy, innermost, around, replaced}
-use Rattle.local_store.specs.Telling.{ToldAlso}
-use Rattle.local_store.specs.Promoting.{with_frames, with_ports, AnswersPromoted}
+use Rattle.local_store.specs.Telling.{ToldAlso, AnswersTold}
+use Rattle.local_store.specs.Promoting.{AnswersPromoted}
 use Rattle.local_store.proofs.Layers.{from-last}
 use Rattle.local_store.proofs.EachLeads.{all-both, all-front, all-back, joins-all, all-joins}
 use Rattle.box_tree.specs.declared.view.Alternative.{Alternative}
 use Rattle.box_tree.proofs.ToldChains.{around_push}
-use Rattle.guard_plan.specs.Collecting.{ports_of, bindings_of, IsToldInner, IsJoined}
+use Rattle.guard_plan.specs.Collecting.{bindings_of, IsToldInner, IsJoined}
 use Rattle.guard_plan.proofs.Chains.{innermost_push, long_push, last_dropped}
+
+-- what a part makes of the innermost store, or of the one around it
+
+pub told_last : (nodes : List Node) (path : List Stored) (s : Stored) (known : ℕ) (es : List Equation) (t : ToldPart) → AnswersTold nodes (path ++ s ∷ []) known es (told_over (innermost (path ++ s ∷ [])) t)
+    → AnswersTold nodes (path ++ s ∷ []) known es (told_over s t)
+told_last nodes path s known es t a = subst (λ (k : Stored). AnswersTold nodes (path ++ s ∷ []) known es (told_over k t)) (innermost_push path s) a
+
+pub promoted_over : (nodes : List Node) (path : List Stored) (s : Stored) (known : ℕ) (t : ToldPart) → AnswersPromoted nodes (path ++ s ∷ []) known (told_over (innermost (around (path ++ s ∷ []))) t)
+    → AnswersPromoted nodes (path ++ s ∷ []) known (told_over (innermost path) t)
+promoted_over nodes path s known t a = subst (λ (ss : List Stored). AnswersPromoted nodes (path ++ s ∷ []) known (told_over (innermost ss) t)) (around_push path s) a
 
 pub joined_known : (nodes : List Node) (path : List Stored) (s : Stored) (known : ℕ) (t : ToldStore) → AnswersPromoted nodes (path ++ s ∷ []) known t
     → IsTrue t.solved ↔ ((length path ≤ known) × IsConsistentBy (ToldBy nodes (path ++ s ∷ [])) × EachOlder nodes s.bindings)
@@ -48,16 +59,6 @@ joined_known nodes path s known t a = (to, back)
         let l : length path ≤ known = w.0 in
         let e : length (path ++ s ∷ []) ≡ length path + 1 = long in
         a.is_solved.1 (omega arith, w.1, subst (EachOlder nodes) (sym own) w.2)
-
--- frames and ports bind nothing
-
-frames_bindings : (s : Stored) (ns : List Name) → (with_frames s ns).bindings ≡ s.bindings
-frames_bindings s [] = refl
-frames_bindings s (n ∷ ns) = frames_bindings s ns
-
-ports_bindings : (s : Stored) (ps : List (Name × Term)) → (with_ports s ps).bindings ≡ s.bindings
-ports_bindings s [] = refl
-ports_bindings s (p ∷ ps) = ports_bindings s ps
 
 -- the bindings of alternatives lead to older variables where those of each do
 older_of : (nodes : List Node) (seen : List Alternative) → AllByRecursion (λ a. EachOlder nodes a.store.bindings) seen → EachOlder nodes (bindings_of seen)
@@ -91,15 +92,12 @@ module _ (nodes : List Node) (path : List Stored) (known : ℕ) (seen : List Alt
 
 -- the store of the box that they join
 module _ (nodes : List Node) (path : List Stored) (known : ℕ) (seen : List Alternative) (frames : List Name) (es : List Equation) (t : ToldStore) (j : IsJoined nodes path known seen frames es t) where
-  pub joined_bindings : t.store.bindings ≡ j.joined.store.bindings
-  joined_bindings = ap (λ (s : Stored). s.bindings) j.store ∙ ports_bindings (with_frames j.joined.store frames) (ports_of seen) ∙ frames_bindings j.joined.store frames
-
   joined_told : StandFor (ToldBy nodes (path ++ j.inner ∷ [])) (ToldBy nodes (replaced path t.store))
   joined_told = subst (λ (l : List (Var × Term)). StandFor (ToldBy nodes (path ++ j.inner ∷ [])) (IsTold (bindings_in nodes l))) list j.promoted.promotes.stands
     where
       list : bindings_from (replaced (around (path ++ j.inner ∷ [])) j.joined.store) ≡ bindings_from (replaced path t.store)
       list = ap (λ (ss : List Stored). bindings_from (replaced ss j.joined.store)) (around_push path j.inner) ∙ from-last (around path) j.joined.store
-          ∙ ap (λ (l : List (Var × Term)). l ++ bindings_from (around path)) (sym joined_bindings) ∙ sym (from-last (around path) t.store)
+          ∙ ap (λ (l : List (Var × Term)). l ++ bindings_from (around path)) (sym j.bindings) ∙ sym (from-last (around path) t.store)
 
   pub gathered_known : known ≤ length path → IsTrue t.solved ↔ ((known ≡ length path) × IsConsistentBy (ToldBy nodes (replaced path t.store)) × AllByRecursion (λ a. EachOlder nodes a.store.bindings) seen)
   gathered_known within = (to, back)

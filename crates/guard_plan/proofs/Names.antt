@@ -1,5 +1,5 @@
 -- The frames and ports of a store with those of another one.
-use Rattle.std.proofs.Common.{◌≡◌, ◌+◌, ◌≤◌, List, [], ◌∷◌, Bool, true, false, refl, ap, ◌∙◌, arith}
+use Rattle.std.proofs.Common.{◌≡◌, ◌+◌, ◌≤◌, List, [], ◌∷◌, Bool, true, false, refl, sym, ap, subst, ◌∙◌, arith}
 use Rattle.std.proofs.lemmas.Bool.Decides.{nat_tests}
 use Rattle.std.specs.Prelude.{if◌then◌else◌}
 use Rattle.std.specs.BTreeMap.{insert_entry}
@@ -11,17 +11,18 @@ use Rattle.akl_terms.specs.declared.term.Node.{Node}
 use Rattle.akl_terms.specs.declared.term.Term.{Term}
 use Rattle.akl_terms.specs.Names.{same_name, is_before, name_cmp}
 use Rattle.akl_terms.specs.Template.{tree}
-use Rattle.akl_terms.proofs.SameNames.{same_name-refl}
-use Rattle.akl_model.specs.Config.{Port, with_name, with_names, with_port}
-use Rattle.akl_model.specs.Config as model
+use Rattle.akl_terms.proofs.SameNames.{same_name-refl, same_name-equal}
+use Rattle.akl_model.specs.Config.{Port, with_name, with_names, with_port, with_ports}
 use Rattle.akl_model.specs.Names.{one_if, times_in}
 use Rattle.akl_model.specs.Renaming.{port_names}
 use Rattle.akl_model.proofs.Drawn.{times-with_ports}
-use Rattle.akl_model.proofs.Orders.{not_same}
-use Rattle.local_store.specs.Stored.{Stored, named}
-use Rattle.local_store.specs.Promoting.{with_frames, with_ports, named_too}
+use Rattle.akl_model.proofs.Orders.{before_or, not_same}
+use Rattle.local_store.specs.Parts.{all_ports}
+use Rattle.local_store.specs.Stored.{Stored, named, all_named}
+use Rattle.local_store.specs.Promoting.{named_too}
 use Rattle.local_store.proofs.Orders.{name-same}
 use Rattle.table_laws.specs.Rows.{ports_in}
+use Rattle.table_laws.proofs.NewGoals.{with_names_after}
 
 pub name_before : (a b : Name) → is_lt (name_cmp a b) ≡ is_before a b
 name_before a b = grind (arith, nat_tests)
@@ -41,20 +42,25 @@ named_with (m ∷ ms) n = on (name_cmp n m) (same_name n m) (is_before n m) (nam
     on Greater false true e l h = cc
     on Greater false false e l h = ap (λ (l : List Name). m ∷ l) h
 
-pub frames_with : (s : Stored) (ns : List Name) → (with_frames s ns).frames ≡ with_names ns s.frames
-frames_with s [] = refl
-frames_with s (n ∷ ns) = named_with (with_frames s ns).frames n ∙ ap (with_name n) (frames_with s ns)
+-- names come in any order
+two_names : (a b : Name) (ms : List Name) → with_name b (with_name a ms) ≡ with_name a (with_name b ms)
+two_names a b ms = on (same_name a b) refl (is_before a b) refl
+  where
+    on : (s : Bool) → same_name a b ≡ s → (t : Bool) → is_before a b ≡ t → with_name b (with_name a ms) ≡ with_name a (with_name b ms)
+    on true p t q = subst (λ (k : Name). with_name k (with_name a ms) ≡ with_name a (with_name k ms)) (same_name-equal a b p) refl
+    on false p true q = with_names_after a (b ∷ []) ms (q, tt)
+    on false p false q = sym (with_names_after b (a ∷ []) ms (before_or a b p q, tt))
 
-pub ports_frames : (s : Stored) (ps : List (Name × Term)) → (with_ports s ps).frames ≡ s.frames
-ports_frames s [] = refl
-ports_frames s (p ∷ ps) = ports_frames s ps
+name_later : (n : Name) (ns ms : List Name) → with_names ns (with_name n ms) ≡ with_name n (with_names ns ms)
+name_later n [] ms = refl
+name_later n (k ∷ ns) ms = ap (with_name k) (name_later n ns ms) ∙ two_names n k (with_names ns ms)
 
-pub frames_ports : (s : Stored) (ns : List Name) → (with_frames s ns).ports ≡ s.ports
-frames_ports s [] = refl
-frames_ports s (n ∷ ns) = frames_ports s ns
+pub all_named_with : (ms ns : List Name) → all_named ms ns ≡ with_names ns ms
+all_named_with ms [] = refl
+all_named_with ms (n ∷ ns) = all_named_with (named ms n) ns ∙ ap (with_names ns) (named_with ms n) ∙ name_later n ns ms
 
 pub named_frames : (s other : Stored) → (named_too s other).frames ≡ with_names other.frames s.frames
-named_frames s other = ports_frames (with_frames s other.frames) other.ports ∙ frames_with s other.frames
+named_frames s other = all_named_with s.frames other.frames
 
 -- a port of another name
 pub port_put : (nodes : List Node) (ps : List (Name × Term)) (q : Name) (t : Term) → times_in q (port_names (ports_in nodes ps)) ≡ 0
@@ -76,29 +82,25 @@ port_put nodes (p ∷ ps) q t h = on (name_cmp q p.0) (same_name q p.0) (is_befo
     on Greater s true e l f g = cc
     on Greater s false e l f g = ap (λ (l : List Port). record { name = p.0; tail = tree nodes p.1 } ∷ l) g
 
-pub ports_with : (nodes : List Node) (s : Stored) (ps : List (Name × Term)) → ((n : Name) → times_in n (port_names (ports_in nodes ps)) + times_in n (port_names (ports_in nodes s.ports)) ≤ 1)
-    → ports_in nodes (with_ports s ps).ports ≡ model.with_ports (ports_in nodes ps) (ports_in nodes s.ports)
-ports_with nodes s [] h = refl
-ports_with nodes s (p ∷ ps) h = port_put nodes (with_ports s ps).ports p.0 p.1 (none (ports_with nodes s ps once)) ∙ ap (with_port (record { name = p.0; tail = tree nodes p.1 })) (ports_with nodes s ps once)
+pub all_ports_with : (nodes : List Node) (qs ps : List (Name × Term)) → ((n : Name) → times_in n (port_names (ports_in nodes ps)) + times_in n (port_names (ports_in nodes qs)) ≤ 1)
+    → ports_in nodes (all_ports qs ps) ≡ with_ports (ports_in nodes ps) (ports_in nodes qs)
+all_ports_with nodes qs [] h = refl
+all_ports_with nodes qs (p ∷ ps) h = port_put nodes (all_ports qs ps) p.0 p.1 (none (all_ports_with nodes qs ps once)) ∙ ap (with_port (record { name = p.0; tail = tree nodes p.1 })) (all_ports_with nodes qs ps once)
   where
-    once : (n : Name) → times_in n (port_names (ports_in nodes ps)) + times_in n (port_names (ports_in nodes s.ports)) ≤ 1
+    once : (n : Name) → times_in n (port_names (ports_in nodes ps)) + times_in n (port_names (ports_in nodes qs)) ≤ 1
     once n =
-        let k : (one_if (same_name n p.0) + times_in n (port_names (ports_in nodes ps))) + times_in n (port_names (ports_in nodes s.ports)) ≤ 1 = h n in
+        let k : (one_if (same_name n p.0) + times_in n (port_names (ports_in nodes ps))) + times_in n (port_names (ports_in nodes qs)) ≤ 1 = h n in
         omega arith
 
-    none : ports_in nodes (with_ports s ps).ports ≡ model.with_ports (ports_in nodes ps) (ports_in nodes s.ports) → times_in p.0 (port_names (ports_in nodes (with_ports s ps).ports)) ≡ 0
+    none : ports_in nodes (all_ports qs ps) ≡ with_ports (ports_in nodes ps) (ports_in nodes qs) → times_in p.0 (port_names (ports_in nodes (all_ports qs ps))) ≡ 0
     none below =
-        let k : (one_if (same_name p.0 p.0) + times_in p.0 (port_names (ports_in nodes ps))) + times_in p.0 (port_names (ports_in nodes s.ports)) ≤ 1 = h p.0 in
+        let k : (one_if (same_name p.0 p.0) + times_in p.0 (port_names (ports_in nodes ps))) + times_in p.0 (port_names (ports_in nodes qs)) ≤ 1 = h p.0 in
         let one : one_if (same_name p.0 p.0) ≡ 1 = ap one_if (same_name-refl p.0) in
-        let e : times_in p.0 (port_names (ports_in nodes (with_ports s ps).ports)) ≡ times_in p.0 (port_names (model.with_ports (ports_in nodes ps) (ports_in nodes s.ports))) = ap (λ (l : List Port). times_in p.0 (port_names l)) below in
-        let m : times_in p.0 (port_names (model.with_ports (ports_in nodes ps) (ports_in nodes s.ports))) ≤ times_in p.0 (port_names (ports_in nodes ps)) + times_in p.0 (port_names (ports_in nodes s.ports)) =
-        times-with_ports p.0 (ports_in nodes ps) (ports_in nodes s.ports) in
+        let e : times_in p.0 (port_names (ports_in nodes (all_ports qs ps))) ≡ times_in p.0 (port_names (with_ports (ports_in nodes ps) (ports_in nodes qs))) = ap (λ (l : List Port). times_in p.0 (port_names l)) below in
+        let m : times_in p.0 (port_names (with_ports (ports_in nodes ps) (ports_in nodes qs))) ≤ times_in p.0 (port_names (ports_in nodes ps)) + times_in p.0 (port_names (ports_in nodes qs)) =
+        times-with_ports p.0 (ports_in nodes ps) (ports_in nodes qs) in
         omega arith
 
 pub named_ports : (nodes : List Node) (s other : Stored) → ((n : Name) → times_in n (port_names (ports_in nodes other.ports)) + times_in n (port_names (ports_in nodes s.ports)) ≤ 1)
-    → ports_in nodes (named_too s other).ports ≡ model.with_ports (ports_in nodes other.ports) (ports_in nodes s.ports)
-named_ports nodes s other h = ports_with nodes (with_frames s other.frames) other.ports
-    (λ n. let k : times_in n (port_names (ports_in nodes other.ports)) + times_in n (port_names (ports_in nodes s.ports)) ≤ 1 = h n in
-    let e : times_in n (port_names (ports_in nodes (with_frames s other.frames).ports)) ≡ times_in n (port_names (ports_in nodes s.ports)) = ap (λ (l : List (Name × Term)). times_in n (port_names (ports_in nodes l))) (frames_ports s other.frames) in
-    omega arith)
-    ∙ ap (λ (l : List (Name × Term)). model.with_ports (ports_in nodes other.ports) (ports_in nodes l)) (frames_ports s other.frames)
+    → ports_in nodes (named_too s other).ports ≡ with_ports (ports_in nodes other.ports) (ports_in nodes s.ports)
+named_ports nodes s other h = all_ports_with nodes s.ports other.ports h

@@ -25,7 +25,7 @@ use Rattle.akl_model.specs.Derivations.{Applies, after}
 use Rattle.akl_model.proofs.Finds.{times, times_of}
 use Rattle.akl_model.proofs.ScopesAlong.{times_path, found_path}
 use Rattle.step_laws.proofs.GoalEdits.{solved_none}
-use Rattle.local_store.specs.declared.telling.ToldStore.{ToldStore}
+use Rattle.local_store.specs.Parts.{ToldStore}
 use Rattle.local_store.specs.Promoting.{AnswersPromoted}
 use Rattle.class_members.specs.Members.{AreMembers}
 use Rattle.plan_laws.specs.Right.{Reads}
@@ -35,7 +35,7 @@ use Rattle.table_laws.specs.Steps.{IsPromoted, JoinsGoal, ReadsFor, numbered, Is
 use Rattle.box_tree.specs.declared.entries.HeldOp.{HeldOp}
 use Rattle.box_tree.specs.declared.step.Step.{Step}
 use Rattle.box_tree.specs.declared.view.Alternative.{Alternative}
-use Rattle.box_tree.specs.Tables.{all_rules, goal_atom, op_held, table_of, step_of}
+use Rattle.box_tree.specs.Tables.{all_rules, goal_atom, op_held, table_of, step_in}
 use Rattle.box_tree.specs.Views.{ViewValue, IsViewOf}
 use Rattle.box_tree.specs.Edits.{named_atoms}
 use Rattle.box_tree.specs.Plans.{IsRead, IsRightLabel}
@@ -176,15 +176,15 @@ module _ (v : ViewValue) (i : IsViewOf v) (g : Name) (o : HeldOp) (b : Content) 
     applies = record { in_force = inr (inr (inr (inr (inl refl)))); site = i.site; is_site = i.is_site; change = change; makes = makes; result = refl }
 
     -- what the alternative binds
-    bound : (binds : List Var) → AreMembers v.table.program.templates.nodes v.stores t.bound.items binds → AreBoundIn i.table.config (after i.table.config label i.site change) i.site binds
+    bound : (binds : List Var) → AreMembers v.table.program.templates.nodes v.stores t.bound binds → AreBoundIn i.table.config (after i.table.config label i.site change) i.site binds
     bound binds m = told_bound all_rules v.table.program i.table.config label (after i.table.config label i.site change) (stand v i) applies (joining b i.site.content)
         (with_atoms v.worker (slice_index i.table.config.next v.worker) b.body (without_goal g i.site.goals)) no_boxes refl binds
         (joined_at v i a.store known t answer binds m b.equations
         (subst (λ (E : Equations). StandFor (IsTold (told_in v.table.program.templates.nodes (v.stores ++ a.store ∷ []))) (IsTold E))
         (ap (λ (E : Equations). E ++ b.equations) (environment_is v i b gs a h) ∙ append_assoc (environment i.site) i.site.content.equations b.equations) (all_stand v i b gs a h)))
-        (oldest_at v i t.bound.items binds m)
+        (oldest_at v i t.bound binds m)
 
-    pub promote_right : (binds : List Var) → AreMembers v.table.program.templates.nodes v.stores t.bound.items binds → (step : Step) → step_of v.table.program.templates.nodes step ≡ laws.joins t.store t.solved (named_atoms v.table.program.templates.nodes (numbered_goals v.worker v.next v.body))
+    pub promote_right : (binds : List Var) → AreMembers v.table.program.templates.nodes v.stores t.bound binds → (step : Step) → step_in v.table label step ≡ laws.joins t.store t.solved (named_atoms v.table.program.templates.nodes (numbered_goals v.worker v.next v.body))
         → IsRightLabel (record { table = v.table; journal = v.journal; label = label; more = []; reads = Item.Goal g ∷ map Item.Store v.path; names = length v.body; step = step; binds = binds })
     promote_right binds m step e = record {
       table = i.table;

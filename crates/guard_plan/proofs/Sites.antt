@@ -7,23 +7,29 @@ use Rattle.akl_terms.specs.Equal.{IsTold}
 use Rattle.akl_terms.specs.Standing.{StandFor}
 use Rattle.akl_model.specs.declared.item.Item.{Item}
 use Rattle.akl_model.specs.Changes.{shape_of}
-use Rattle.akl_model.specs.Config.{IsIn, Config, Held, held_in, Found, environment, whole, box_at, home_of}
+use Rattle.akl_model.specs.Config.{IsIn, Config, Held, held_in, Found, environment, whole, box_at, home_of, site_of}
+use Rattle.akl_model.specs.declared.label.Label.{Label}
 use Rattle.akl_model.specs.Wakes.{names_around, names_down_to}
-use Rattle.akl_model.proofs.NamesKept.{Stand, replay-stands, site-box}
+use Rattle.akl_model.proofs.NamesKept.{Stand, replay-stands, box-itself, site-box}
 use Rattle.akl_model.proofs.Options.{map_some}
 use Rattle.akl_model.proofs.Scoped.{IsIn-either}
-use Rattle.step_laws.proofs.Whereabouts.{found_in}
+use Rattle.step_laws.specs.Whereabouts.{Stands}
+use Rattle.step_laws.proofs.Whereabouts.{home_in, found_in}
 use Rattle.step_laws.proofs.Deeper.{Over, over, named_found, home_found}
 use Rattle.local_store.specs.Stored.{Stored}
+use Rattle.local_store.specs.Chained.{innermost}
 use Rattle.table_laws.specs.Rows.{BoxRow, GoalRow, Table, store_in, stores_along, told_in}
 use Rattle.table_laws.specs.Unfolds.{IsBoxRow, Spot, spot_of, Unfolds}
 use Rattle.table_laws.specs.Stamped.{store_stamp, goal_stamp, stamp_in}
 use Rattle.table_laws.proofs.Stores.{told_along, stores_join}
+use Rattle.table_laws.specs.Writes as rows
 use Rattle.table_laws.proofs.Frame.{row_of, around_stands}
+use Rattle.table_laws.proofs.Insides.{goal_row}
 use Rattle.box_tree.specs.declared.view.Sight.{Sight}
-use Rattle.box_tree.specs.Tables.{all_rules, table_of}
+use Rattle.box_tree.specs.declared.step.Step.{Step}
+use Rattle.box_tree.specs.Tables.{all_rules, table_of, store_at, step_of, step_in}
 use Rattle.box_tree.specs.Views.{ViewValue, IsViewOf, Shows}
-use Rattle.guard_plan.proofs.Chains.{long_push}
+use Rattle.guard_plan.proofs.Chains.{innermost_push, long_push}
 
 -- the items of a box that is found have rows
 module _ (T : Table) (c : Config) (s : Stand c) (u : Unfolds T c) (f : Found) (e : box_at f.content.name c.roots ≡ Some f) where
@@ -68,6 +74,24 @@ module _ (v : ViewValue) (i : IsViewOf v) where
   pub stores_split : v.stores ≡ stores_along (table_of v.table) (names_around i.site) ++ row.0.store ∷ []
   stores_split = stores_path ∙ stores_join (table_of v.table) (names_around i.site) (i.site.content.name ∷ [])
       ∙ ap (λ (o : Option BoxRow). stores_along (table_of v.table) (names_around i.site) ++ store_in o ∷ []) row.1
+
+  pub own_store : innermost v.stores ≡ row.0.store
+  own_store = ap innermost stores_split ∙ innermost_push (stores_along (table_of v.table) (names_around i.site)) row.0.store
+
+  here : (place : Place) → site_of place i.table.config.roots ≡ Some i.site → store_at (table_of v.table) place ≡ store_in ((table_of v.table).box_of i.site.content.name)
+  here (Place.Box n) e = ap (λ (m : Name). store_in ((table_of v.table).box_of m)) (box-itself n i.table.config.roots i.site e)
+  here (Place.Goal g) e =
+      let held : Stands i.site i.table.config.roots × ((h : Held) × (held_in g i.site.goals ≡ Some h)) = home_in g i.table.config.roots i.site e in
+      let r : (k : GoalRow) × ((table_of v.table).goal_of g ≡ Some k) × (k.home ≡ i.site.content.name) × (k.shape ≡ shape_of held.1.0) =
+      goal_row (table_of v.table) i.table.config i.table.unfolds stand.once g i.site held.1.0 e held.1.1 in
+      ap (λ (k : Option GoalRow). store_in (option_and_then (table_of v.table).box_of (rows.home_in k))) r.1 ∙ ap (λ (m : Name). store_in ((table_of v.table).box_of m)) r.2
+
+  -- the innermost store is that of the box of the place
+  pub store_here : store_at (table_of v.table) v.place ≡ innermost v.stores
+  store_here = here v.place i.is_site ∙ ap store_in row.1 ∙ sym own_store
+
+  pub step_here : (l : Label) → l.place ≡ v.place → (step : Step) → step_in v.table l step ≡ step_of v.table.program.templates.nodes (innermost v.stores) step
+  step_here l e step = ap (λ (s : Stored). step_of v.table.program.templates.nodes s step) (ap (store_at (table_of v.table)) e ∙ store_here)
 
   pub some_stores : 0 < length v.stores
   some_stores =

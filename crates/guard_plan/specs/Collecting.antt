@@ -10,10 +10,11 @@ use Rattle.akl_terms.specs.declared.term.Equation.{Equation}
 use Rattle.akl_terms.specs.declared.program.Program.{Program}
 use Rattle.akl_terms.specs.Template.{tree}
 use Rattle.akl_model.specs.Rules.{empty_list}
-use Rattle.local_store.specs.declared.telling.ToldStore.{ToldStore}
-use Rattle.local_store.specs.Stored.{Stored, nothing, with_bindings}
+use Rattle.local_store.specs.Parts.{ToldStore, all_ports}
+use Rattle.local_store.specs.Stored.{Stored, all_named, nothing, with_bindings}
+use Rattle.local_store.specs.Chained.{innermost}
 use Rattle.local_store.specs.Telling.{AnswersTold}
-use Rattle.local_store.specs.Promoting.{with_frames, with_ports, AnswersPromoted}
+use Rattle.local_store.specs.Promoting.{AnswersPromoted}
 use Rattle.box_tree.specs.declared.view.Alternative.{Alternative}
 
 -- each alternative has a collected term
@@ -51,14 +52,16 @@ pub record IsToldInner (nodes : List Node) (path : List Stored) (known : ℕ) (s
   pub store : inner ≡ answer.store
 
 -- the same joins the innermost store of the path, with these frames and the ports of all
-pub record IsJoined (nodes : List Node) (path : List Stored) (known : ℕ) (seen : List Alternative) (frames : List Name) (es : List Equation) (answer : ToldStore) : Type 0 where
+pub record IsJoined (nodes : List Node) (path : List Stored) (known : ℕ) (seen : List Alternative) (fs : List Name) (es : List Equation) (answer : ToldStore) : Type 0 where
   pub inner : Stored
   pub told : IsToldInner nodes path known seen es inner
   pub joined : ToldStore
   pub promoted : AnswersPromoted nodes (path ++ inner ∷ []) known joined
-  pub store : answer.store ≡ with_ports (with_frames joined.store frames) (ports_of seen)
+  pub frames : answer.store.frames ≡ all_named (innermost path).frames fs
+  pub ports : answer.store.ports ≡ all_ports (innermost path).ports (ports_of seen)
+  pub bindings : answer.store.bindings ≡ joined.store.bindings
   pub solved : answer.solved ≡ joined.solved
-  pub bound : answer.bound.items ≡ joined.bound.items
+  pub bound : answer.bound ≡ joined.bound
 
 -- these equations are told of the list, which ends in the empty one
 pub record IsList (p : Program) (first : Name) (list : Term) (seen : List Alternative) (es : List Equation) : Type 0 where

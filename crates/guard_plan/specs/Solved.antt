@@ -5,7 +5,8 @@ use Rattle.akl_terms.specs.Equal.{IsConsistentBy}
 use Rattle.akl_model.specs.declared.label.Rule.{Rule}
 use Rattle.rational_unify.specs.Older.{EachOlder}
 use Rattle.local_store.specs.Stored.{Stored}
-use Rattle.local_store.specs.Chained.{ToldBy, replaced}
+use Rattle.local_store.specs.Parts.{with_part}
+use Rattle.local_store.specs.Chained.{ToldBy, innermost, replaced}
 use Rattle.box_tree.specs.declared.step.Step.{Step}
 use Rattle.box_tree.specs.declared.view.Alternative.{Alternative}
 use Rattle.box_tree.specs.Views.{ViewValue}
@@ -26,8 +27,8 @@ IsKnownGathered v store solved = IsTrue solved
 
 -- of a store to which a goal tells, of the box of each clause, and of the box that the only alternative or all alternatives join
 abbrev pub SaysSolved : ViewValue → Rule → Step → Type 0
-SaysSolved v rule (Step.Tell store solved) = IsKnownWith v (replaced v.stores store) solved
+SaysSolved v rule (Step.Tell part solved) = IsKnownWith v (replaced v.stores (with_part (innermost v.stores) part)) solved
 SaysSolved v rule (Step.Fork op boxes) = AllByRecursion (λ b. IsKnownWith v (v.stores ++ b.store ∷ []) b.solved) boxes.items
-SaysSolved v Rule.Promote (Step.Join store solved goals told behind) = AllByRecursion (IsKnownJoined v solved) v.alternatives
-SaysSolved v Rule.Collect (Step.Join store solved goals told behind) = IsKnownGathered v store solved
+SaysSolved v Rule.Promote (Step.Join part solved goals told behind) = AllByRecursion (IsKnownJoined v solved) v.alternatives
+SaysSolved v Rule.Collect (Step.Join part solved goals told behind) = IsKnownGathered v (with_part (innermost v.stores) part) solved
 SaysSolved v rule step = ⊤

@@ -9,14 +9,14 @@ ghost use Rattle.guard_plan.specs.Planned.{IsPlannedBy};
 ghost use Rattle.guard_plan.specs.Noisy.{IsTriedBy};
 
 use crate::guards::{MOST, Noise, are_quiet};
-use crate::joining::joined_store;
+use crate::joining::joined_part;
 use crate::labels::{goal_and_stores, label_of};
 use crate::listing::list_of;
 use akl_model::Rule;
 use akl_terms::{Name, Program, Term};
 use box_tree::{Alternative, Plan, Step, View};
 use class_members::members;
-use local_store::ToldStore;
+use local_store::ToldPart;
 use std::alloc::{AllocError, Global};
 
 // The plan by which a choice that collects becomes the list of what its alternatives have, where all of them are solved
@@ -90,11 +90,11 @@ fn collect_quiet(
     let Some(equations) = list_of(alloc, program, first, list, view.alternatives())? else {
         return Ok(None);
     };
-    let ToldStore {
-        store,
+    let ToldPart {
+        part,
         solved,
         bound,
-    } = joined_store(
+    } = joined_part(
         alloc,
         &view.chain(&program.templates),
         first,
@@ -104,7 +104,7 @@ fn collect_quiet(
     let binds = members(alloc, &view.chain(&program.templates), bound.as_slice())?;
     let reads = goal_and_stores(alloc, goal, view.path())?;
     let step = Step::Join {
-        store,
+        part,
         solved,
         goals: Vec::new(alloc),
         told: 0,

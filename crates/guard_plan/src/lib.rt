@@ -12,6 +12,7 @@ mod planning;
 mod promoting;
 
 pub use guards::{Noise, quietness, shared};
+pub use joining::told_inside;
 pub use labels::{goal_and_stores, label_for, label_of};
 pub use listing::node_after;
 pub use planning::plan_guard;

@@ -12,7 +12,7 @@ use akl_model::Rule;
 use akl_terms::{Goal, Name, Program};
 use box_tree::{Alternative, HeldOp, Plan, Step, View};
 use class_members::members;
-use local_store::{Chain, ToldStore, promoted};
+use local_store::{Chain, ToldPart, promoted};
 use std::alloc::{AllocError, Global};
 
 // The plan by which the only alternative of a choice joins the box, where it is solved and its guard holds. What it
@@ -45,8 +45,8 @@ pub(crate) fn promote(
     if !guard_holds(alloc, op, &chain, noise)? || names > MOST {
         return Ok(None);
     }
-    let ToldStore {
-        store,
+    let ToldPart {
+        part,
         solved,
         bound,
     } = promoted(alloc, &chain)?;
@@ -60,7 +60,7 @@ pub(crate) fn promote(
     let goals = numbered(alloc, first, view.body())?;
     let reads = goal_and_stores(alloc, goal, view.path())?;
     let step = Step::Join {
-        store,
+        part,
         solved,
         goals,
         told: 0,

@@ -18,12 +18,12 @@ use Rattle.rational_unify.specs.Older.{LeadOlder, EachOlder}
 use Rattle.rational_unify.specs.Forms.{IsFormOf, Takes, IsClashOfBindings}
 use Rattle.rational_unify.proofs.FormLaws.{form-consistent}
 use Rattle.rational_unify.proofs.Taking.{get-index}
-use Rattle.local_store.specs.declared.telling.ToldStore.{ToldStore}
-use Rattle.local_store.specs.Stored.{Stored, with_frame, with_port, joins, unbound, with_bindings}
+use Rattle.local_store.specs.Parts.{ToldStore}
+use Rattle.local_store.specs.Stored.{Stored, with_frame, joins, unbound, with_bindings}
 use Rattle.local_store.specs.Chained.{bindings_from, equations_of, innermost, around, replaced, ToldBy, IsFormChain, BindOnce, IsSolvedChain, IsKnown}
 use Rattle.local_store.specs.Bound.{AreNewlyBound, AreFound, bound_by, BindsOver, taken, clashes}
 use Rattle.local_store.specs.Asking.{Resolves}
-use Rattle.local_store.specs.Promoting.{with_frames, with_ports, named_too, Joins, found, clashing, JoinsChain, over_solved, as_they_stand, AnswersPromoted}
+use Rattle.local_store.specs.Promoting.{with_frames, named_too, Joins, found, clashing, JoinsChain, over_solved, as_they_stand, AnswersPromoted}
 use Rattle.local_store.proofs.Once.{once-joins}
 use Rattle.local_store.proofs.Known.{innermost-last, whole-known}
 use Rattle.local_store.proofs.Layers.{form-as, form-reorder, older-reorder, joins-found, joins-length, joins-told, told-joins, from-last, from-innermost, bindings-either, bindings-left, bindings-right}
@@ -32,14 +32,10 @@ use Rattle.local_store.proofs.Resolved.{around-take, resolves, joined-form, no-c
 use Rattle.local_store.proofs.NewlyBound.{none_bound, are_newly_bound}
 use Rattle.local_store.proofs.Parts.{takes-part, part-found, bound-parts, part-older, older-parts}
 
--- frames and ports, from the last to the first
+-- frames, from the last to the first
 pub frames-push : (s : Stored) (ns : List Name) (n : Name) → with_frames s (ns ++ n ∷ []) ≡ with_frames (with_frame s n) ns
 frames-push s [] n = refl
 frames-push s (m ∷ ns) n = ap (λ (r : Stored). with_frame r m) (frames-push s ns n)
-
-pub ports-push : (s : Stored) (ps : List (Name × Term)) (p : Name × Term) → with_ports s (ps ++ p ∷ []) ≡ with_ports (with_port s p.0 p.1) ps
-ports-push s [] p = refl
-ports-push s (q ∷ ps) p = ap (λ (r : Stored). with_port r q.0 q.1) (ports-push s ps p)
 
 -- a list from which nothing can be taken is empty
 pub drained : {A : Type 0} (xs : List A) (n : ℕ) (o : Option A) → length xs ≡ n → ((x : A) → o ≡ Some x → ⊥) → (0 < n → IsSome o) → xs ≡ []
@@ -49,17 +45,6 @@ drained {A} (x ∷ xs) n o l empty more = absurd (on o empty (more (omega arith)
     on : (o : Option A) → ((x : A) → o ≡ Some x → ⊥) → IsSome o → ⊥
     on None f e = let z : false ≡ true = e in cc
     on (Some y) f e = f y refl
-
-frames-bindings : (s : Stored) (ns : List Name) → (with_frames s ns).bindings ≡ s.bindings
-frames-bindings s [] = refl
-frames-bindings s (n ∷ ns) = frames-bindings s ns
-
-ports-bindings : (s : Stored) (ps : List (Name × Term)) → (with_ports s ps).bindings ≡ s.bindings
-ports-bindings s [] = refl
-ports-bindings s (p ∷ ps) = ports-bindings s ps
-
-named-bindings : (s other : Stored) → (named_too s other).bindings ≡ s.bindings
-named-bindings s other = ports-bindings (with_frames s other.frames) other.ports ∙ frames-bindings s other.frames
 
 pub fresh-all : (nodes : List Node) (known added bs : List (Var × Term)) → Takes nodes known [] added bs → BindNew known added
 fresh-all nodes known added bs t = subst (λ (l : List (Var × Term)). BindNew known l) (sym t.added) (subst (λ (l : List (Var × Term)). BindNew l t.more) (append-nil known) t.fresh)
@@ -102,7 +87,7 @@ module _ (nodes : List Node) (ss : List Stored) where
   Told bs s t = IsTold (bindings_in nodes bs) s t
 
   joined-bindings : (more : List (Var × Term)) (new : Stored) → new ≡ with_bindings (named_too (innermost (around ss)) (innermost ss)) more → new.bindings ≡ joins beside more
-  joined-bindings more new e = ap (λ (r : Stored). r.bindings) e ∙ ap (λ (l : List (Var × Term)). joins l more) (named-bindings (innermost (around ss)) (innermost ss))
+  joined-bindings more new e = ap (λ (r : Stored). r.bindings) e
 
   all-split : (s t : Tree) → ToldBy nodes ss s t → ToldBy nodes (around ss) s t ⊎ IsTold (bindings_in nodes inner) s t
   all-split s t m = elim (bindings-either nodes inner outer s t (subst (λ (l : List (Var × Term)). IsTold (bindings_in nodes l) s t) (from-innermost ss) m)) [ inl x ↦ inr x | inr x ↦ inl x ]
@@ -112,7 +97,7 @@ module _ (nodes : List Node) (ss : List Stored) where
 
   -- all bindings of the innermost store, as they stand
   pub promotes-all : (known : ℕ) (t : ToldStore) → t.store ≡ with_bindings (named_too (innermost (around ss)) (innermost ss)) inner → (length ss ≤ known + 1 → IsConsistentBy (ToldBy nodes ss) → ⊥)
-      → t.solved ≡ false → AreNewlyBound (equations_of nodes (around ss)) (equations_of nodes (around ss)) (equations_of nodes ss) t.bound.items → AnswersPromoted nodes ss known t
+      → t.solved ≡ false → AreNewlyBound (equations_of nodes (around ss)) (equations_of nodes (around ss)) (equations_of nodes ss) t.bound → AnswersPromoted nodes ss known t
   promotes-all known t e bad f b = record {
     promotes = record {
       frames = ap (λ (r : Stored). r.frames) e;
@@ -132,8 +117,8 @@ module _ (nodes : List Node) (ss : List Stored) where
       (binds-more nodes bs outer inner f list b)
 
   pub promotes-clash : (known : ℕ) (t : ToldStore) → IsFormChain nodes (around ss) → (left right : Term) → IsClashOfBindings nodes (outer ++ []) inner left right
-      → t.store ≡ with_bindings (named_too (innermost (around ss)) (innermost ss)) inner → t.solved ≡ false → t.bound.items ≡ [] → AnswersPromoted nodes ss known t
-  promotes-clash known t f left right k e s b = promotes-all known t e (λ l c. inner-no-clash nodes ss f left right c k) s (around-bound outer f t.bound.items (clashes left right k b))
+      → t.store ≡ with_bindings (named_too (innermost (around ss)) (innermost ss)) inner → t.solved ≡ false → t.bound ≡ [] → AnswersPromoted nodes ss known t
+  promotes-clash known t f left right k e s b = promotes-all known t e (λ l c. inner-no-clash nodes ss f left right c k) s (around-bound outer f t.bound (clashes left right k b))
 
   -- what was found for them over the others
   module _ (f : IsSolvedChain nodes (around ss)) (added : List (Var × Term)) (t : Takes nodes outer [] added inner) (answer : ToldStore)
@@ -201,7 +186,7 @@ module _ (nodes : List Node) (ss : List Stored) where
     once-chain : BindOnce (bindings_from (replaced (around ss) new))
     once-chain = subst BindOnce (sym list) (once-joins beside further added (subst (λ (l : List (Var × Term)). BindNew l added) split fresh) (subst BindOnce split f.once))
 
-    pub promotes-added : (known : ℕ) → length ss ≤ known + 1 → (LeadOlder nodes outer → EachOlder nodes inner → LeadOlder nodes (outer ++ added)) → IsTrue answer.solved ↔ EachOlder nodes inner → answer.bound.items ≡ bound_by nodes (outer ++ added) added → AnswersPromoted nodes ss known answer
+    pub promotes-added : (known : ℕ) → length ss ≤ known + 1 → (LeadOlder nodes outer → EachOlder nodes inner → LeadOlder nodes (outer ++ added)) → IsTrue answer.solved ↔ EachOlder nodes inner → answer.bound ≡ bound_by nodes (outer ++ added) added → AnswersPromoted nodes ss known answer
     promotes-added known l o h b = record {
       promotes = record {
         frames = ap (λ (r : Stored). r.frames) e;
@@ -210,11 +195,11 @@ module _ (nodes : List Node) (ss : List Stored) where
         solved = λ _ c each. record { form = form-chain; older = older-chain (o f.older each); once = once-chain };
       };
       is_solved = (λ is. (l, solution.stands.back (form-consistent nodes (bindings_from (replaced ss apart)) (ToldBy nodes (replaced ss apart)) solution.form), h.0 is), λ w. h.1 w.2);
-      bound = around-bound outer f.form answer.bound.items (taken added t b);
+      bound = around-bound outer f.form answer.bound (taken added t b);
     }
 
   pub promotes-joined : (known : ℕ) (t : ToldStore) → IsSolvedChain nodes (around ss) → length ss ≤ known + 1
-      → Joins nodes (bindings_from (around ss)) (innermost ss).bindings (named_too (innermost (around ss)) (innermost ss)) t.store t.solved t.bound.items → AnswersPromoted nodes ss known t
+      → Joins nodes (bindings_from (around ss)) (innermost ss).bindings (named_too (innermost (around ss)) (innermost ss)) t.store t.solved t.bound → AnswersPromoted nodes ss known t
   promotes-joined known t f l (found more k o e h b) = promotes-added f more k t e known l o h b
   promotes-joined known t f l (clashing left right k e h b) = promotes-clash known t f.form left right k e h b
 
@@ -223,7 +208,7 @@ module _ (nodes : List Node) (ss : List Stored) where
       let long : length (around ss) ≡ length ss - 1 = around-length ss in
       promotes-joined known t f (omega arith) j
   promotes-chain known t l (as_they_stand e s f b) = promotes-all known t s (λ enough k. less enough) f
-      (subst (λ (bs : List (Var × Term)). AreNewlyBound (equations_of nodes (around ss)) (equations_of nodes (around ss)) (bindings_in nodes bs) t.bound.items) (sym (from-innermost ss)) b)
+      (subst (λ (bs : List (Var × Term)). AreNewlyBound (equations_of nodes (around ss)) (equations_of nodes (around ss)) (bindings_in nodes bs) t.bound) (sym (from-innermost ss)) b)
     where
       less : length ss ≤ known + 1 → ⊥
       less enough = let long : length (around ss) ≡ length ss - 1 = around-length ss in e (omega arith)
@@ -243,7 +228,7 @@ module _ (nodes : List Node) (ss : List Stored) (known : ℕ) (all : known ≡ l
   innermost-found = part-found nodes ss others own (from-innermost ss) whole
 
   pub joins-innermost : (old : Stored) (answer : ToldStore) → 0 < length ss → answer.store ≡ with_bindings old (innermost ss).bindings → answer.solved ≡ true
-      → answer.bound.items ≡ bound_by nodes (bindings_from ss) (innermost ss).bindings → JoinsChain nodes (around ss) (min (length ss - 1) known) (innermost ss).bindings old answer
+      → answer.bound ≡ bound_by nodes (bindings_from ss) (innermost ss).bindings → JoinsChain nodes (around ss) (min (length ss - 1) known) (innermost ss).bindings old answer
   joins-innermost old answer some store solved bound = over_solved (let long : length (around ss) ≡ length ss - 1 = around-length ss in omega arith)
       (subst (IsSolvedChain nodes) (around-take ss) (k.each (length ss - 1) (omega arith)))
       (found own (takes-part nodes ss others own (from-innermost ss) whole) (λ _ _. older-parts nodes ss others own (from-innermost ss) whole) store

@@ -18,3 +18,5 @@ pub mod Listing
 pub mod InOrder
 pub mod Places
 pub mod Steps
+pub mod Increasing
+pub mod PartsJoined

@@ -29,7 +29,7 @@ bound-told nodes bs s t m = elim (bound-either nodes [] bs s t m) [ inl x ↦ ab
     none : {s t : Tree} → IsBound (bound_in nodes []) s t → ⊥
     none (bound e) = cc
 
-ends-reorder : (nodes : List Node) (bs cs : List (Var × Term)) → ((y : Var) → found_in bs y ≡ found_in cs y) → length bs ≡ length cs → (t : Tree) → end_of nodes bs t ≡ end_of nodes cs t
+pub ends-reorder : (nodes : List Node) (bs cs : List (Var × Term)) → ((y : Var) → found_in bs y ≡ found_in cs y) → length bs ≡ length cs → (t : Tree) → end_of nodes bs t ≡ end_of nodes cs t
 ends-reorder nodes bs cs same l t = ap (λ (n : ℕ). walk (suc n) (bound_in nodes bs) t) l ∙ ap (λ (look : Bindings). walk (suc (length cs)) look t) looks
   where
     looks : bound_in nodes bs ≡ bound_in nodes cs

@@ -19,7 +19,7 @@ use Rattle.rational_unify.proofs.FormLaws.{form-consistent}
 use Rattle.local_store.specs.Stored.{Stored, joins, with_bindings}
 use Rattle.local_store.specs.Chained.{bindings_from, equations_of, innermost, around, replaced, ToldBy, IsFormChain, BindOnce, IsSolvedChain}
 use Rattle.local_store.specs.Bound.{AreNewlyBound}
-use Rattle.local_store.specs.declared.telling.ToldStore.{ToldStore}
+use Rattle.local_store.specs.Parts.{ToldStore}
 use Rattle.local_store.specs.Telling.{ToldAlso, Tells, AnswersTold, Adds, added, clash, AddsOver, taken, clashing, clashed, somewhere}
 use Rattle.local_store.proofs.Layers.{form-as, form-equations, form-added, forms-stand, inconsistent-stand, form-reorder, older-reorder, joins-found, joins-length, joins-told, told-joins, from-last, from-innermost, bindings-either, bindings-left, bindings-right, chain-form, chain-clash}
 use Rattle.local_store.proofs.Once.{once-joins}
@@ -167,14 +167,14 @@ module _ (nodes : List Node) (ss : List Stored) (known : ℕ) (bs : List (Var ×
 
 -- the whole answer over a chain that is known to be solved
 pub answers-whole : (nodes : List Node) (ss : List Stored) (known : ℕ) (es : List code.Equation) (answer : ToldStore) → IsSolvedChain nodes ss → length ss ≡ known
-    → Adds nodes (bindings_from ss) es (innermost ss) answer.store answer.solved answer.bound.items → AnswersTold nodes ss known es answer
+    → Adds nodes (bindings_from ss) es (innermost ss) answer.store answer.solved answer.bound → AnswersTold nodes ss known es answer
 answers-whole nodes ss known es answer f l a =
-    let says : IsTrue answer.solved ↔ IsConsistentBy (ToldAlso nodes ss es) = adds-says nodes ss known (bindings_from ss) es answer.store f.form (λ e. (refl, f.older, f.once)) answer.solved answer.bound.items a in record {
-      tells = tells-adds nodes ss known (bindings_from ss) es answer.store f.form (λ e. (refl, f.older, f.once)) answer.solved answer.bound.items a;
+    let says : IsTrue answer.solved ↔ IsConsistentBy (ToldAlso nodes ss es) = adds-says nodes ss known (bindings_from ss) es answer.store f.form (λ e. (refl, f.older, f.once)) answer.solved answer.bound a in record {
+      tells = tells-adds nodes ss known (bindings_from ss) es answer.store f.form (λ e. (refl, f.older, f.once)) answer.solved answer.bound a;
       is_solved = (λ h. (l, says.0 h), λ w. says.1 w.1);
-      bound = adds-bound nodes ss known (bindings_from ss) es answer.store f.form (λ e. (refl, f.older, f.once)) answer.solved answer.bound.items a;
-      older = λ c h. adds-older nodes ss known (bindings_from ss) es answer.store f.form (λ e. (refl, f.older, f.once)) answer.solved answer.bound.items a f.older c;
-      kept = adds-kept nodes ss known (bindings_from ss) es answer.store f.form (λ e. (refl, f.older, f.once)) answer.solved answer.bound.items a;
+      bound = adds-bound nodes ss known (bindings_from ss) es answer.store f.form (λ e. (refl, f.older, f.once)) answer.solved answer.bound a;
+      older = λ c h. adds-older nodes ss known (bindings_from ss) es answer.store f.form (λ e. (refl, f.older, f.once)) answer.solved answer.bound a f.older c;
+      kept = adds-kept nodes ss known (bindings_from ss) es answer.store f.form (λ e. (refl, f.older, f.once)) answer.solved answer.bound a;
     }
 
 -- and over one of which only so many outermost stores are, with the others taken in
@@ -216,13 +216,13 @@ module _ (nodes : List Node) (ss : List Stored) (known k : ℕ) (es : List code.
   further-adds s list (taken new t o solved a) = further-added s list new t o solved a
   further-adds s list (clashing left right c e l) = subst (Owed s) (sym l) (further-clashed s left right c e)
 
-  pub answers-further : (answer : ToldStore) → answer.solved ≡ false → AddsOver nodes (bindings_from (take k ss)) (take (length ss - k) (drop k ss)) es (innermost ss) answer.store answer.bound.items
+  pub answers-further : (answer : ToldStore) → answer.solved ≡ false → AddsOver nodes (bindings_from (take k ss)) (take (length ss - k) (drop k ss)) es (innermost ss) answer.store answer.bound
       → AnswersTold nodes ss known es answer
   answers-further answer e a = record { tells = owed.0; is_solved = (λ h. absurd (false≢true (sym e ∙ h)), λ w. absurd (less w.0)); bound = owed.1; older = further; kept = owed.3 }
     where
-      owed : Owed answer.store answer.bound.items
-      owed = further-adds answer.store answer.bound.items
-          (subst (λ (l : List Stored). AddsOver nodes (bindings_from (take k ss)) l es (innermost ss) answer.store answer.bound.items) (drop-whole ss k) a)
+      owed : Owed answer.store answer.bound
+      owed = further-adds answer.store answer.bound
+          (subst (λ (l : List Stored). AddsOver nodes (bindings_from (take k ss)) l es (innermost ss) answer.store answer.bound) (drop-whole ss k) a)
 
       further : IsConsistentBy (ToldAlso nodes ss es) → EachOlder nodes (bindings_from (drop known ss)) → EachOlder nodes (innermost ss).bindings → EachOlder nodes answer.store.bindings
       further c h = owed.2 c (subst (λ (j : ℕ). EachOlder nodes (bindings_from (drop j ss))) (sym same) h)

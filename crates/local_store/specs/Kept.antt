@@ -1,5 +1,5 @@
 -- How a store keeps this: what it has of each frame, in the order of their names, and beside it what was added last.
-use Rattle.std.specs.Prelude.{◌≡◌, ℕ, suc, nat_lt, ◌==◌, not, ◌||◌, Bool, false, List, [], ◌∷◌, ◌++◌, map, find, Option, None, Some, option_map, if◌then◌else◌}
+use Rattle.std.specs.Prelude.{◌≡◌, ℕ, ◌<◌, suc, nat_lt, ◌==◌, not, ◌||◌, Bool, false, List, [], ◌∷◌, ◌++◌, map, find, Option, None, Some, option_map, if◌then◌else◌}
 use Rattle.std.specs.declared.sync.Arc.{Arc}
 use Rattle.std.specs.Arc.{arc_value}
 use Rattle.std.specs.Global.{Global}
@@ -23,6 +23,12 @@ put_at (b ∷ bs) i t = if nat_lt i b.0 then (i, t) ∷ b ∷ bs else b ∷ put_
 abbrev pub put_all : List (ℕ × Term) → List (Var × Term) → List (ℕ × Term)
 put_all bs [] = bs
 put_all bs (c ∷ cs) = put_all (put_at bs c.0.index c.1) cs
+
+-- their indices increase strictly
+abbrev pub Increase : List (Var × Term) → Type 0
+Increase [] = Unit {0}
+Increase (b ∷ []) = Unit {0}
+Increase (b ∷ c ∷ bs) = (b.0.index < c.0.index) × Increase (c ∷ bs)
 
 -- what the first of an index binds it to
 abbrev pub found_at : List (ℕ × Term) → ℕ → Option Term

@@ -1,5 +1,6 @@
 pub mod Stored
 pub mod Kept
+pub mod Parts
 pub mod Chained
 pub mod Bound
 pub mod Telling

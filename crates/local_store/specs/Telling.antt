@@ -10,7 +10,8 @@ use Rattle.akl_terms.specs.Standing.{StandFor}
 use Rattle.rational_unify.specs.Solving.{equations_in, IsSolution, IsClashOf}
 use Rattle.rational_unify.specs.Older.{LeadOlder, KeepsOlder, EachOlder}
 use Rattle.rational_unify.specs.Forms.{Takes, IsClashOfBindings}
-use Rattle.local_store.specs.declared.telling.ToldStore.{ToldStore}
+use Rattle.local_store.specs.declared.telling.ToldPart.{ToldPart}
+use Rattle.local_store.specs.Parts.{ToldStore}
 use Rattle.local_store.specs.Stored.{Stored, with_binding, with_bindings}
 use Rattle.local_store.specs.Chained.{bindings_from, ToldBy, equations_of, IsSolvedChain, innermost, replaced}
 use Rattle.local_store.specs.Bound.{AreNewlyBound, bound_by}
@@ -31,13 +32,13 @@ pub record Tells (nodes : List Node) (ss : List Stored) (known : ℕ) (es : List
 pub record AnswersTold (nodes : List Node) (ss : List Stored) (known : ℕ) (es : List code.Equation) (answer : ToldStore) : Type 0 where
   pub tells : Tells nodes ss known es answer.store
   pub is_solved : IsTrue answer.solved ↔ ((length ss ≡ known) × IsConsistentBy (ToldAlso nodes ss es))
-  pub bound : AreNewlyBound (equations_of nodes ss) (equations_of nodes ss) (equations_of nodes ss ++ equations_in nodes es) answer.bound.items
+  pub bound : AreNewlyBound (equations_of nodes ss) (equations_of nodes ss) (equations_of nodes ss ++ equations_in nodes es) answer.bound
   -- where all is consistent, and each binding of the innermost store and of those that aren't known to be solved leads to an older variable, so does each of the new store; and none of the innermost one is left out
   pub older : IsConsistentBy (ToldAlso nodes ss es) → EachOlder nodes (bindings_from (drop known ss)) → EachOlder nodes (innermost ss).bindings → EachOlder nodes answer.store.bindings
   pub kept : IsConsistentBy (ToldAlso nodes ss es) → EachOlder nodes answer.store.bindings → EachOlder nodes (innermost ss).bindings
 
--- a store to which nothing was told
-abbrev pub IsUntold : ToldStore → Type 0
+-- nothing was told
+abbrev pub IsUntold : ToldPart → Type 0
 IsUntold t = (t.solved ≡ false) × (t.bound.items ≡ [])
 
 -- a variable that is bound to two terms

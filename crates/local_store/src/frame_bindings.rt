@@ -1,6 +1,6 @@
 //! What a store has of one frame.
-ghost use Rattle.std.specs.Prelude.{◌≡◌, ◌||◌, ◌<◌, [], true, false, vec_len, vec_capacity, IfOk};
-ghost use Rattle.local_store.specs.Kept.{found_at, put_at, put_all, place_at};
+ghost use Rattle.std.specs.Prelude.{◌≡◌, ◌||◌, ◌<◌, ◌++◌, map, [], true, false, vec_len, vec_capacity, IfOk};
+ghost use Rattle.local_store.specs.Kept.{found_at, put_at, put_all, place_at, Increase};
 
 use akl_terms::{Term, Var};
 use std::alloc::{AllocError, Global};
@@ -28,7 +28,11 @@ impl FrameBindings {
         ensures bindings { IfOk result (λ f. f.bindings.items ≡ put_all [] added.now) }
     {
         let mut bindings = Vec::with_capacity(alloc, added.len().saturating_add(SPARE))?;
-        put_all(&mut bindings, added)?;
+        if increase(added) {
+            push_all(&mut bindings, added)?;
+        } else {
+            put_all(&mut bindings, added)?;
+        }
         Ok(FrameBindings { own, bindings })
     }
 
@@ -90,6 +94,30 @@ impl FrameBindings {
         }
         None
     }
+}
+
+// Whether the indices of bindings increase strictly.
+fn increase(bindings: &[(Var, Term)]) -> bool
+    ensures { result ≡ true → Increase bindings.now }
+{
+    let mut at = 1;
+    while at < bindings.len() {
+        if bindings[at - 1].0.index >= bindings[at].0.index {
+            return false;
+        }
+        at += 1;
+    }
+    true
+}
+
+// Puts bindings of the frame at the end.
+fn push_all(bindings: &mut Vec<(u32, Term)>, added: &[(Var, Term)]) -> Result<(), AllocError>
+    ensures { IfOk result (λ _. bindings.new.items ≡ bindings.old.items ++ map (λ b. (b.0.index, b.1)) added.now) }
+{
+    for binding in added {
+        bindings.push((binding.0.index, binding.1))?;
+    }
+    Ok(())
 }
 
 // Puts bindings of the frame in, one after another.

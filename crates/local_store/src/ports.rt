@@ -3,6 +3,7 @@ ghost use Rattle.std.specs.Prelude.{◌≡◌, [], IfOk, IfErr};
 ghost use Rattle.std.specs.Map.{lookup};
 ghost use Rattle.std.specs.BTreeMap.{insert_entry};
 ghost use Rattle.akl_terms.specs.Names.{same_name, name_cmp};
+ghost use Rattle.local_store.specs.Parts.{all_ports};
 
 use akl_terms::{Name, Term};
 use frame_map::FrameMap;
@@ -72,6 +73,38 @@ impl Ports {
         let tails = self.with(alloc, port, tail)?;
         self.tails = Some(Arc::new(alloc, tails)?);
         Ok(())
+    }
+
+    /// Also has these ports, of which the last is set first. An `Err`, for want of memory, leaves all as it was.
+    pub(crate) fn set_all(
+        &mut self,
+        alloc: Global,
+        ports: &[(Name, Term)],
+    ) -> Result<(), AllocError>
+        ensures set { IfOk result (λ _. self.new ≡ all_ports self.old ports.now) }
+        ensures unchanged { IfErr result (λ _. self.new ≡ self.old) }
+    {
+        match ports {
+            [] => Ok(()),
+            [port] => self.set(alloc, port.0, port.1),
+            _ => {
+                *self = self.with_all(alloc, ports)?;
+                Ok(())
+            }
+        }
+    }
+
+    // The ports with others, of which the last is set first.
+    fn with_all(&self, alloc: Global, others: &[(Name, Term)]) -> Result<Ports, AllocError>
+        ensures { IfOk result (λ ports. ports ≡ all_ports self.now others.now) }
+    {
+        let mut ports = self.share()?;
+        let mut left = others.len();
+        while left > 0 {
+            left -= 1;
+            ports.set(alloc, others[left].0, others[left].1)?;
+        }
+        Ok(ports)
     }
 
     // A map that also has the port.

@@ -1,13 +1,15 @@
 //! The store of one box.
-ghost use Rattle.std.specs.Prelude.{◌≡◌, IfOk, IfErr, true};
+ghost use Rattle.std.specs.Prelude.{◌≡◌, ◌++◌, IfOk, IfErr, true};
 ghost use Rattle.std.specs.Map.{lookup};
 ghost use Rattle.akl_terms.specs.Names.{same_name};
 ghost use Rattle.rational_unify.specs.Known.{found_in};
 ghost use Rattle.local_store.specs.Chained.{BindNone};
 ghost use Rattle.local_store.specs.Stored.{nothing, made_of, unbound, is_named, with_frame, with_port, with_binding, with_bindings};
 ghost use Rattle.local_store.specs.Telling.{clashed};
+ghost use Rattle.local_store.specs.Parts.{with_part};
 
 use crate::listed::{binds_none, first_in, is_among, put_binding, put_frame};
+use crate::part::Part;
 use crate::ports::Ports;
 use crate::settled::Settled;
 use crate::settling::{settle, settled_of};
@@ -31,9 +33,9 @@ pub const CLASHING: Var = Var {
 /// The frames, bindings and ports of one box.
 ///
 /// Copies share what they have in common, but for the few entries that were added last, which each has in lists of its
-/// own: a change of one adds to its lists and leaves the others as they were. `settle` brings the lists into trees, and so
-/// does a change that finds its list full: each frame with its bindings at a cost in the order of the number of digits of its
-/// number, in place where no copy shares the tree.
+/// own: a change of one adds to its lists and leaves the others as they were. A part that joins brings the lists into trees,
+/// and so does a change that finds its list full: each frame with its bindings at a cost in the order of the number of digits
+/// of its number, in place where no copy shares the tree.
 #[derive(Drop)]
 pub struct Store {
     alloc: Global,
@@ -130,26 +132,6 @@ impl Store {
         })
     }
 
-    /// The store that also has a frame, and then these bindings, added one after another. Where everything else is in its
-    /// trees, and there are few of them, the list becomes its own. An `Err` is want of memory.
-    pub fn told_with(&self, frame: Name, bindings: Vec<(Var, Term)>) -> Result<Store, AllocError>
-        ensures { IfOk result (λ s. s ≡ with_bindings (with_frame self.now frame) bindings.items) }
-    {
-        if self.frames.is_empty() && self.bindings.is_empty() && bindings.len() <= FEW {
-            return Ok(Store {
-                alloc: self.alloc,
-                settled: self.settled.share()?,
-                frames: SmallVec::from_slice(self.alloc, &[frame])?,
-                bindings,
-                ports: self.ports.share()?,
-            });
-        }
-        let mut store = self.share_to_tell()?;
-        store.add_frame(frame)?;
-        store.add_all(bindings.as_slice())?;
-        Ok(store)
-    }
-
     /// Also has the frame. An `Err`, for want of memory, leaves the store as it was.
     pub fn add_frame(&mut self, frame: Name) -> Result<(), AllocError>
         ensures added { IfOk result (λ _. self.new ≡ with_frame self.old frame) }
@@ -216,21 +198,20 @@ impl Store {
         Ok(store)
     }
 
-    /// Brings what was added last into the trees, in place where no copy shares them. The store's value stays; for want
-    /// of memory a part of what was added last stays where it is.
-    pub fn settle(&mut self)
-        ensures { self.new ≡ self.old }
-    {
-        if !self.settled.is_empty() {
-            self.empty_lists();
-        }
-    }
-
     // Brings the lists into the tree where one of them is full.
     fn make_room(&mut self)
         ensures { self.new ≡ self.old }
     {
         if self.frames.len() >= FEW || self.bindings.len() >= FEW {
+            self.empty_lists();
+        }
+    }
+
+    // Brings the lists into the tree where something is there, or where one of them is too long.
+    fn keep_few(&mut self)
+        ensures { self.new ≡ self.old }
+    {
+        if !self.settled.is_empty() || self.frames.len() > FEW || self.bindings.len() > FEW {
             self.empty_lists();
         }
     }
@@ -264,6 +245,27 @@ impl Store {
     {
         self.add_binding(CLASHING, left)?;
         self.add_binding(CLASHING, right)
+    }
+
+    /// Also has a part: its frames, ports and bindings. Where the store has trees, all that stands in
+    /// its lists comes into them, as far as there is memory; else few of them stay in its lists, which become those of the part
+    /// where they are empty. An `Err`, for want of memory, leaves the store as it was.
+    pub fn join(&mut self, part: Part) -> Result<(), AllocError>
+        ensures joined { IfOk result (λ _. self.new ≡ with_part self.old part) }
+        ensures unchanged { IfErr result (λ _. self.new ≡ self.old) }
+    {
+        let Part {
+            frames,
+            ports,
+            bindings,
+        } = part;
+        let frames = frames_behind(self.alloc, self.frames.as_slice(), frames)?;
+        let bindings = bindings_behind(self.alloc, &self.bindings, bindings)?;
+        self.ports.set_all(self.alloc, ports.as_slice())?;
+        self.frames = frames;
+        self.bindings = bindings;
+        self.keep_few();
+        Ok(())
     }
 
     // The frames and ports alone.
@@ -347,4 +349,36 @@ impl Clone for Store {
     fn clone(&self) -> Result<Store, AllocError> {
         self.share_to_tell()
     }
+}
+
+// Further frames behind these; the list of them itself where there are no others.
+fn frames_behind(
+    alloc: Global,
+    frames: &[Name],
+    further: SmallVec<Name, 1>,
+) -> Result<SmallVec<Name, 1>, AllocError>
+    ensures { IfOk result (λ list. list.items ≡ frames.now ++ further.items) }
+{
+    if frames.is_empty() {
+        return Ok(further);
+    }
+    let mut all = SmallVec::from_slice(alloc, frames)?;
+    all.extend_from_slice(further.as_slice())?;
+    Ok(all)
+}
+
+// Further bindings behind these; the list of them itself where there are no others.
+fn bindings_behind(
+    alloc: Global,
+    bindings: &[(Var, Term)],
+    further: Vec<(Var, Term)>,
+) -> Result<Vec<(Var, Term)>, AllocError>
+    ensures { IfOk result (λ list. list.items ≡ bindings.now ++ further.items) }
+{
+    if bindings.is_empty() {
+        return Ok(further);
+    }
+    let mut all = Vec::from_slice(alloc, bindings)?;
+    all.extend_from_slice(further.as_slice())?;
+    Ok(all)
 }

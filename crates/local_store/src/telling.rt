@@ -1,16 +1,18 @@
 //! Equations told to a chain, and what the chain says.
-ghost use Rattle.std.specs.Prelude.{◌≡◌, ◌++◌, IfOk, IfNone, MatchOption};
+ghost use Rattle.std.specs.Prelude.{◌≡◌, [], ◌++◌, IfOk, IfNone, MatchOption};
 ghost use Rattle.rational_unify.specs.Known.{IsSolved};
 ghost use Rattle.rational_unify.specs.Solving.{BindNew};
 ghost use Rattle.rational_unify.specs.Older.{LeadOlder, EachOlder};
 ghost use Rattle.rational_unify.specs.Forms.{Takes, IsClashOfBindings};
 ghost use Rattle.local_store.specs.Chained.{bindings_from, innermost};
-ghost use Rattle.local_store.specs.Stored.{with_bindings};
+ghost use Rattle.local_store.specs.Stored.{Stored, with_bindings};
+ghost use Rattle.local_store.specs.Parts.{with_part, told_over, SameNames};
 ghost use Rattle.local_store.specs.Bound.{bound_by, AreFound};
 ghost use Rattle.local_store.specs.Telling.{IsUntold, clashed, Adds, AddsOver, AnswersTold};
 
 use crate::binding::bound_by;
 use crate::chain::Chain;
+use crate::part::Part;
 use crate::shared::Shared;
 use crate::store::Store;
 use akl_terms::{Equation, Templates, Term, Var};
@@ -20,9 +22,9 @@ use std::alloc::{AllocError, Global};
 
 /// What `told` answers.
 #[derive(Drop)]
-pub struct ToldStore {
-    /// The innermost store, with the equations told.
-    pub store: Shared<Store>,
+pub struct ToldPart {
+    /// What is added to the innermost store, so that it has the equations too.
+    pub part: Part,
     /// Whether the chain is known to be solved with it: the whole chain was, and the equations are consistent with it.
     pub solved: bool,
     /// Variables that the equations bind or make equal, and of each class with such variables at least one; none where
@@ -30,14 +32,24 @@ pub struct ToldStore {
     pub bound: SmallVec<Var, 4>,
 }
 
-impl ToldStore {
-    /// A store to which nothing was told.
-    pub(crate) fn of(alloc: Global, store: Shared<Store>) -> ToldStore
-        ensures store { result.store ≡ store }
+impl ToldPart {
+    /// Nothing is added.
+    pub(crate) fn new(alloc: Global) -> ToldPart
+        ensures untold { IsUntold result }
+        ensures frames { result.part.frames.items ≡ [] }
+        ensures ports { result.part.ports.items ≡ [] }
+        ensures empty { (s : Stored) → with_part s result.part ≡ s }
+    {
+        ToldPart::of(alloc, Part::new(alloc))
+    }
+
+    /// A part of which nothing else is known.
+    pub(crate) fn of(alloc: Global, part: Part) -> ToldPart
+        ensures part { result.part ≡ part }
         ensures untold { IsUntold result }
     {
-        ToldStore {
-            store,
+        ToldPart {
+            part,
             solved: false,
             bound: SmallVec::new(alloc),
         }
@@ -52,62 +64,52 @@ impl ToldStore {
     ) -> Result<(), AllocError>
         requires solved { IsSolved templates.now.nodes (W.bindings whole.now) }
         requires found { AreFound (W.bindings whole.now) added.now }
-        ensures store { IfOk result (λ _. self.new.store ≡ with_bindings self.old.store added.now) }
+        ensures store { IfOk result (λ _. (s : Stored) → with_part s self.new.part ≡ with_bindings (with_part s self.old.part) added.now) }
+        ensures names { SameNames self.old.part self.new.part }
         ensures solved { self.new.solved ≡ self.old.solved }
         ensures bound { IfOk result (λ _. self.new.bound.items ≡ self.old.bound.items ++ bound_by templates.now.nodes (W.bindings whole.now) added.now) }
     {
-        self.store.add_all(added)?;
+        self.part.bindings.extend_from_slice(added)?;
         self.bound.reserve(added.len().saturating_mul(2))?;
         bound_by(templates, whole, added, &mut self.bound)
     }
 
-    // Also has a variable that is bound to both terms.
+    // Also has a variable that is bound to both terms, which clash.
     fn add_clash(&mut self, left: Term, right: Term) -> Result<(), AllocError>
-        ensures store { IfOk result (λ _. self.new.store ≡ clashed self.old.store left right) }
+        ensures store { IfOk result (λ _. (s : Stored) → with_part s self.new.part ≡ clashed (with_part s self.old.part) left right) }
+        ensures names { SameNames self.old.part self.new.part }
         ensures solved { self.new.solved ≡ self.old.solved }
         ensures bound { self.new.bound ≡ self.old.bound }
     {
-        self.store.add_clash(left, right)
+        self.part.add_clash(left, right)
     }
 }
 
-/// The innermost store, with the equations told.
-pub fn told(alloc: Global, chain: &Chain, equations: &[Equation]) -> Result<ToldStore, AllocError>
-    ensures { IfOk result (λ t. AnswersTold chain.now.nodes chain.now.stores chain.now.known equations.now t) }
+/// What is added to the innermost store where these equations are told: bindings alone.
+pub fn told(alloc: Global, chain: &Chain, equations: &[Equation]) -> Result<ToldPart, AllocError>
+    ensures told { IfOk result (λ t. AnswersTold chain.now.nodes chain.now.stores chain.now.known equations.now (told_over (innermost chain.now.stores) t)) }
+    ensures frames { IfOk result (λ t. t.part.frames.items ≡ []) }
+    ensures ports { IfOk result (λ t. t.part.ports.items ≡ []) }
 {
-    let store = Shared::new(alloc, innermost(alloc, chain.stores())?)?;
-    let mut told = ToldStore::of(alloc, store);
-    tell_chain(alloc, chain, equations, &mut told)?;
-    Ok(told)
-}
-
-// Tells equations to a chain, to whose innermost store nothing was told.
-fn tell_chain(
-    alloc: Global,
-    chain: &Chain,
-    equations: &[Equation],
-    told: &mut ToldStore,
-) -> Result<(), AllocError>
-    requires store { told.old.store ≡ innermost chain.now.stores }
-    requires untold { IsUntold told.old }
-    ensures { IfOk result (λ _. AnswersTold chain.now.nodes chain.now.stores chain.now.known equations.now told.new) }
-{
+    let mut told = ToldPart::new(alloc);
     let templates = chain.templates();
     let stores = chain.stores();
     let known = chain.known();
     if known == stores.len() {
-        return tell(alloc, templates, chain, equations, told);
+        tell(alloc, templates, chain, equations, &mut told)?;
+        return Ok(told);
     }
+    let base = chain.outer(known);
     tell_over(
         alloc,
         templates,
-        &chain.outer(known),
+        &base,
         &stores[known..],
         equations,
-        told,
+        &mut told,
     )?;
     told.solved = false;
-    Ok(())
+    Ok(told)
 }
 
 /// Takes the bindings of stores in, which stand from the outermost inwards. `Some` gives two terms
@@ -164,11 +166,12 @@ fn tell_over<K: Lookup>(
     known: &K,
     stores: &[Shared<Store>],
     equations: &[Equation],
-    told: &mut ToldStore,
+    told: &mut ToldPart,
 ) -> Result<(), AllocError>
     requires solved { IsSolved templates.now.nodes (K.bindings known.now) }
     requires untold { IsUntold told.old }
-    ensures { IfOk result (λ _. AddsOver templates.now.nodes (K.bindings known.now) stores.now equations.now told.old.store told.new.store told.new.bound.items) }
+    ensures adds { IfOk result (λ _. (s : Stored) → AddsOver templates.now.nodes (K.bindings known.now) stores.now equations.now (with_part s told.old.part) (with_part s told.new.part) told.new.bound.items) }
+    ensures names { SameNames told.old.part told.new.part }
 {
     let mut form = Form {
         known,
@@ -186,11 +189,12 @@ fn tell<K: Lookup>(
     templates: &Templates,
     known: &K,
     equations: &[Equation],
-    told: &mut ToldStore,
+    told: &mut ToldPart,
 ) -> Result<(), AllocError>
     requires solved { IsSolved templates.now.nodes (K.bindings known.now) }
     requires untold { IsUntold told.old }
-    ensures { IfOk result (λ _. Adds templates.now.nodes (K.bindings known.now) equations.now told.old.store told.new.store told.new.solved told.new.bound.items) }
+    ensures adds { IfOk result (λ _. (s : Stored) → Adds templates.now.nodes (K.bindings known.now) equations.now (with_part s told.old.part) (with_part s told.new.part) told.new.solved told.new.bound.items) }
+    ensures names { SameNames told.old.part told.new.part }
 {
     match solve_only(alloc, templates, known, equations)? {
         Solved::Clash { left, right } => told.add_clash(left, right),
@@ -206,11 +210,12 @@ fn add_found<K: Lookup>(
     templates: &Templates,
     known: &K,
     added: AddedBindings,
-    told: &mut ToldStore,
+    told: &mut ToldPart,
 ) -> Result<(), AllocError>
     requires solved { IsSolved templates.now.nodes (K.bindings known.now ++ added) }
     requires fresh { BindNew (K.bindings known.now) added }
-    ensures store { IfOk result (λ _. told.new.store ≡ with_bindings told.old.store added) }
+    ensures store { IfOk result (λ _. (s : Stored) → with_part s told.new.part ≡ with_bindings (with_part s told.old.part) added) }
+    ensures names { SameNames told.old.part told.new.part }
     ensures solved { IfOk result (λ _. told.new.solved ≡ told.old.solved) }
     ensures bound { IfOk result (λ _. told.new.bound.items ≡ told.old.bound.items ++ bound_by templates.now.nodes (K.bindings known.now ++ added) added) }
 {

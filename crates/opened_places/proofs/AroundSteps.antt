@@ -17,8 +17,9 @@ use Rattle.step_laws.proofs.Steps.{Later}
 use Rattle.table_laws.specs.Rows.{Table}
 use Rattle.table_laws.specs.Stamped.{Run, IsTableOf}
 use Rattle.table_laws.specs.Steps.{Step, tells, forks, fails, cuts, joins, refutes, confirms, splits, Makes}
+use Rattle.local_store.specs.Stored.{Stored}
 use Rattle.box_tree.specs.declared.step.Step as declared
-use Rattle.box_tree.specs.Tables.{all_rules, TableValue, table_of, step_of}
+use Rattle.box_tree.specs.Tables.{all_rules, TableValue, table_of, step_of, step_in, store_at}
 use Rattle.box_tree.specs.Views.{run_of}
 use Rattle.box_tree.specs.Paths.{IsPath}
 use Rattle.opened_places.specs.declared.around.Around.{Around}
@@ -92,16 +93,16 @@ module _ (rules : List Rule) (r : Run) (T : Table) (l : Label) (d : Config) (t :
 
 -- in a table, by the boxes down to the box of the place
 pub changed_where : (v : TableValue) (l : Label) (step : declared.Step) (x : Around) (path : List Name) (ps : List PlacedValue) → IsAround (table_of v) l x → IsPath (table_of v) x.home path
-    → ((nodes : List Node) → AreListed l.place x path (step_of nodes step) ps) → AreChanged v l step ps
+    → ((nodes : List Node) (s : Stored) → AreListed l.place x path (step_of nodes s step) ps) → AreChanged v l step ps
 changed_where v l step x path ps k p list = λ journal t more d leads.
     let T = table_of v in
     let r : Run = run_of v journal in
-    let made : Step = step_of v.program.templates.nodes step in
+    let made : Step = step_in v l step in
     let once : (m : Name) → times m t.config.roots ≤ 1 = (replay-stands all_rules v.program v.query journal t.config t.replays).once in
     let at : (site : Found) → site_of l.place t.config.roots ≡ Some site → AreListed l.place x (names_down_to site) made ps =
     λ site is_site.
     let there : box_at x.home t.config.roots ≡ Some site = ap (λ (n : Name). box_at n t.config.roots) (rows.home_is T t.config t.unfolds once l site is_site x k) ∙ rows.site_there T t.config t.unfolds once l site is_site x k in
-    subst (λ (ns : List Name). AreListed l.place x ns made ps) (path_is v r t x.home site path there p) (list v.program.templates.nodes)
+    subst (λ (ns : List Name). AreListed l.place x ns made ps) (path_is v r t x.home site path there p) (list v.program.templates.nodes (store_at (table_of v) l.place))
     in
     elim leads [
       | by_label a makes alone ↦ all_around all_rules r T l d t a x k made makes ps (at a.site a.is_site)

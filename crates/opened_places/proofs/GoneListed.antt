@@ -8,8 +8,9 @@ use Rattle.akl_model.specs.Wakes.{IsOneOf}
 use Rattle.table_laws.specs.Steps.{Step, tells, forks, fails, cuts, joins, refutes, confirms, splits}
 use Rattle.table_laws.specs.Walks.{ListsEach}
 use Rattle.table_laws.specs.Going.{OwnGoalGoes, boxes_going}
+use Rattle.local_store.specs.Stored.{Stored}
 use Rattle.box_tree.specs.declared.step.Step as declared
-use Rattle.box_tree.specs.Tables.{TableValue, table_of, step_of}
+use Rattle.box_tree.specs.Tables.{TableValue, table_of, step_of, step_in, store_at}
 use Rattle.box_tree.specs.Views.{run_of}
 use Rattle.opened_places.specs.Gone.{AreGone, own_places, places_at}
 use Rattle.opened_places.proofs.GoneBy.{listed_by}
@@ -39,13 +40,13 @@ in_own place own refutes i = absurd i
 in_own place own (splits copy copies) i = absurd i
 
 -- places that are listed, whatever the nodes, are those that go
-pub listed_gone : (v : TableValue) (l : Label) (step : declared.Step) (tops names : List Name) (places : List Place) → ((nodes : List Node) → tops ≡ boxes_going (table_of v) (step_of nodes step) l.place l.alternative)
-    → ListsEach (table_of v) tops names → ((nodes : List Node) → places ≡ own_places l.place (step_of nodes step) ++ places_at (table_of v) names) → AreGone v l step places
+pub listed_gone : (v : TableValue) (l : Label) (step : declared.Step) (tops names : List Name) (places : List Place) → ((nodes : List Node) (s : Stored) → tops ≡ boxes_going (table_of v) (step_of nodes s step) l.place l.alternative)
+    → ListsEach (table_of v) tops names → ((nodes : List Node) (s : Stored) → places ≡ own_places l.place (step_of nodes s step) ++ places_at (table_of v) names) → AreGone v l step places
 listed_gone v l step tops names places is_going lists e = λ journal t more d leads.
     let T = table_of v in
-    let made : Step = step_of v.program.templates.nodes step in
-    let each : ListsEach T (boxes_going T made l.place l.alternative) names = subst (λ (ns : List Name). ListsEach T ns names) (is_going v.program.templates.nodes) lists in
-    let same : places ≡ own_places l.place made ++ places_at T names = e v.program.templates.nodes in
+    let made : Step = step_in v l step in
+    let each : ListsEach T (boxes_going T made l.place l.alternative) names = subst (λ (ns : List Name). ListsEach T ns names) (is_going v.program.templates.nodes (store_at T l.place)) lists in
+    let same : places ≡ own_places l.place made ++ places_at T names = e v.program.templates.nodes (store_at T l.place) in
     record {
       listed = λ p x. subst (IsOneOf p) (sym same) (elim ((listed_by (run_of v journal) T t l more made d leads names each p).0 x) [
         | inl y ↦ one_left p (own_places l.place made) (places_at T names) (own_in p l.place made y.0 y.1)

@@ -10,7 +10,7 @@ use Rattle.table_laws.specs.Rows.{Table}
 use Rattle.table_laws.specs.Stamped.{IsTableOf}
 use Rattle.table_laws.specs.Writes.{home_in, holder_in_row}
 use Rattle.box_tree.specs.declared.step.Step.{Step}
-use Rattle.box_tree.specs.Tables.{all_rules, TableValue, table_of, step_of}
+use Rattle.box_tree.specs.Tables.{all_rules, TableValue, table_of, step_in}
 use Rattle.box_tree.specs.Views.{run_of}
 use Rattle.opened_places.specs.declared.around.Holder.{Holder}
 use Rattle.opened_places.specs.declared.around.Around.{Around}
@@ -43,4 +43,4 @@ pub record AreChangedTo (c d : Config) (places : List PlacedValue) : Type 0 wher
 -- so they are wherever the step leads on from the configuration of the table by the label, or by a call of which it is the first
 abbrev pub AreChanged : TableValue → Label → Step → List PlacedValue → Type 0
 AreChanged v l step places = (journal : List Label) (t : IsTableOf all_rules (run_of v journal) (table_of v)) (more : List Label) (d : Config)
-    → LeadsTo v.program t.config l more (step_of v.program.templates.nodes step) d → AreChangedTo t.config d places
+    → LeadsTo v.program t.config l more (step_in v l step) d → AreChangedTo t.config d places

@@ -11,7 +11,7 @@ use Rattle.table_laws.specs.Stamped.{IsTableOf}
 use Rattle.table_laws.specs.Steps as laws
 use Rattle.table_laws.specs.Going.{IsGone}
 use Rattle.box_tree.specs.declared.step.Step.{Step}
-use Rattle.box_tree.specs.Tables.{all_rules, TableValue, table_of, step_of, goals_in}
+use Rattle.box_tree.specs.Tables.{all_rules, TableValue, table_of, step_in, goals_in}
 use Rattle.box_tree.specs.Views.{run_of}
 use Rattle.opened_places.specs.Leading.{LeadsTo}
 
@@ -23,7 +23,7 @@ pub record AreAllGone (c d : Config) (places : List Place) : Type 0 where
 -- so they are wherever the step leads on from the configuration of the table by the label, or by a call of which it is the first
 abbrev pub AreGone : TableValue → Label → Step → List Place → Type 0
 AreGone v l step places = (journal : List Label) (t : IsTableOf all_rules (run_of v journal) (table_of v)) (more : List Label) (d : Config)
-    → LeadsTo v.program t.config l more (step_of v.program.templates.nodes step) d → AreAllGone t.config d places
+    → LeadsTo v.program t.config l more (step_in v l step) d → AreAllGone t.config d places
 
 -- by the step: the goal of the place, where it goes by itself
 abbrev pub own_places : Place → laws.Step → List Place

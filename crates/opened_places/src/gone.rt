@@ -3,6 +3,7 @@
 ghost use Rattle.std.specs.Prelude.{◌≡◌, ◌++◌, List, [], ◌∷◌, IfOk, OnOk};
 ghost use Rattle.akl_terms.specs.declared.term.Node.{Node};
 ghost use Rattle.akl_terms.specs.declared.name.Place.{Place};
+ghost use Rattle.local_store.specs.Stored.{Stored};
 ghost use Rattle.table_laws.specs.Writes.{cut_from, others_beside};
 ghost use Rattle.table_laws.specs.Going.{boxes_going};
 ghost use Rattle.box_tree.specs.Tables.{table_of, step_of};
@@ -17,7 +18,7 @@ use std::alloc::{AllocError, Global};
 
 // The goal of the label's place, where it goes by itself.
 fn own_places(place: Place, step: &Step) -> ShortList<Place>
-    ensures { (nodes : List Node) → result.items ≡ own_places place (step_of nodes step.now) }
+    ensures { (nodes : List Node) (s : Stored) → result.items ≡ own_places place (step_of nodes s step.now) }
 {
     match step {
         Step::Tell { .. } | Step::Join { .. } | Step::Confirm => ShortList::of(place),
@@ -72,7 +73,7 @@ fn going_at_goal(
     alternative: Option<Name>,
     step: &Step,
 ) -> Result<Names, AllocError>
-    ensures { IfOk result (λ boxes. (nodes : List Node) → boxes.items ≡ boxes_going (table_of table.now) (step_of nodes step.now) (Place.Goal goal) alternative) }
+    ensures { IfOk result (λ boxes. (nodes : List Node) (s : Stored) → boxes.items ≡ boxes_going (table_of table.now) (step_of nodes s step.now) (Place.Goal goal) alternative) }
 {
     match step {
         Step::Cut => match alternative {
@@ -93,7 +94,7 @@ fn going_at_box(
     alternative: Option<Name>,
     step: &Step,
 ) -> Result<Names, AllocError>
-    ensures { IfOk result (λ boxes. (nodes : List Node) → boxes.items ≡ boxes_going (table_of table.now) (step_of nodes step.now) (Place.Box name) alternative) }
+    ensures { IfOk result (λ boxes. (nodes : List Node) (s : Stored) → boxes.items ≡ boxes_going (table_of table.now) (step_of nodes s step.now) (Place.Box name) alternative) }
 {
     match step {
         Step::Fail => one(alloc, name),
@@ -108,7 +109,7 @@ fn going_at_box(
 
 // The boxes that go with all that stands in them.
 fn going(alloc: Global, table: &Table, label: Label, step: &Step) -> Result<Names, AllocError>
-    ensures { IfOk result (λ boxes. (nodes : List Node) → boxes.items ≡ boxes_going (table_of table.now) (step_of nodes step.now) label.place label.alternative) }
+    ensures { IfOk result (λ boxes. (nodes : List Node) (s : Stored) → boxes.items ≡ boxes_going (table_of table.now) (step_of nodes s step.now) label.place label.alternative) }
 {
     match label.place {
         Place::Goal(goal) => going_at_goal(alloc, table, goal, label.alternative, step),

@@ -3,6 +3,7 @@
 ghost use Rattle.std.specs.Prelude.{◌≡◌, ◌++◌, List, [], ◌∷◌, map, true, option_map, IfOk, OnOk};
 ghost use Rattle.akl_terms.specs.declared.name.Place.{Place};
 ghost use Rattle.akl_terms.specs.declared.term.Node.{Node};
+ghost use Rattle.local_store.specs.Stored.{Stored};
 ghost use Rattle.box_tree.specs.Tables.{table_of, new_box, step_of};
 ghost use Rattle.box_tree.specs.Drops.{IsOfRun};
 ghost use Rattle.box_tree.specs.Paths.{outside_of, HasPath, IsPath};
@@ -174,7 +175,7 @@ fn listed(
     around: Around,
     path: &[Name],
 ) -> Result<Vec<Placed>, AllocError>
-    ensures { IfOk result (λ places. (nodes : List Node) → AreListed place around path.now (step_of nodes step.now) places.items) }
+    ensures { IfOk result (λ places. (nodes : List Node) (s : Stored) → AreListed place around path.now (step_of nodes s step.now) places.items) }
 {
     match step {
         Step::Tell { .. } | Step::Confirm => {

@@ -11,8 +11,10 @@ use Rattle.rational_unify.specs.Known.{found_in, end_of}
 use Rattle.rational_unify.specs.Solving.{BindNew}
 use Rattle.rational_unify.proofs.Chains.{found-second, found-none}
 use Rattle.rational_unify.proofs.Ends.{end-bound}
-use Rattle.local_store.specs.declared.telling.ToldStore.{ToldStore}
-use Rattle.local_store.specs.Stored.{Stored, joins, with_frame, with_bindings}
+use Rattle.local_store.specs.declared.part.Part.{Part}
+use Rattle.local_store.specs.declared.telling.ToldPart.{ToldPart}
+use Rattle.local_store.specs.Parts.{ToldStore, all_ports, with_part, told_over}
+use Rattle.local_store.specs.Stored.{Stored, all_named, joins, with_frame, with_bindings}
 use Rattle.local_store.specs.Chained.{bindings_from, innermost, around, BindOnce, IsSolvedChain, IsKnown}
 use Rattle.local_store.specs.Bound.{AreFound, bound_by, variable_in}
 use Rattle.local_store.specs.Promoting.{named_too, AnswersPromoted}
@@ -21,7 +23,7 @@ use Rattle.local_store.proofs.Joining.{innermost-found, joins-innermost, promote
 use Rattle.local_store.proofs.Known.{whole-known}
 use Rattle.local_store.proofs.Layers.{joins-found, from-last, from-innermost}
 use Rattle.local_store.proofs.Once.{new-once}
-use Rattle.plain_heads.specs.Joined.{own_store, listed, AreFree, KeepsBound}
+use Rattle.plain_heads.specs.Joined.{own_store, listed, AreFree, KeepsBound, JoinsPlainly}
 use Rattle.plain_heads.specs.Plain.{ArePlain, IsFurther}
 use Rattle.plain_heads.proofs.Orders.{other_frame, all_unbound}
 use Rattle.plain_heads.proofs.Passing.{stays}
@@ -105,7 +107,7 @@ module _ (nodes : List Node) (path : List Stored) (frame : Name) (bs : List (Var
     names : named_too (innermost (around whole)) (innermost whole) ≡ with_frame (innermost path) frame
     names = ap (λ (s : Stored). named_too (innermost (around whole)) s) (innermost_last path (own_store frame bs)) ∙ ap (λ (ss : List Stored). with_frame (innermost ss) frame) (around_last path (own_store frame bs))
 
-    pub answers : 0 < length path → (answer : ToldStore) → answer.store ≡ with_bindings (with_frame (innermost path) frame) bs → answer.solved ≡ true → answer.bound.items ≡ listed nodes bs
+    pub answers : 0 < length path → (answer : ToldStore) → answer.store ≡ with_bindings (with_frame (innermost path) frame) bs → answer.solved ≡ true → answer.bound ≡ listed nodes bs
         → AnswersPromoted nodes (path ++ own_store frame bs ∷ []) (length path + 1) answer
     answers some answer store told bound =
         let long : length whole ≡ length path + 1 = long_last path (own_store frame bs) in
@@ -113,3 +115,21 @@ module _ (nodes : List Node) (path : List Stored) (frame : Name) (bs : List (Var
         (joins-innermost nodes whole (length path + 1) (sym (long_last path (own_store frame bs))) k (named_too (innermost (around whole)) (innermost whole)) answer (omega arith)
         (store ∙ ap (λ (s : Stored). with_bindings s bs) (sym names) ∙ ap (λ (l : List (Var × Term)). with_bindings (named_too (innermost (around whole)) (innermost whole)) l) (sym innermost_is)) told
         (bound ∙ sym bound_is))
+
+-- a part of one frame and bindings
+part_store : (s : Stored) (p : Part) (frame : Name) (bs : List (Var × Term)) → p.frames.items ≡ frame ∷ [] → p.ports.items ≡ [] → p.bindings.items ≡ bs → with_part s p ≡ with_bindings (with_frame s frame) bs
+part_store s p frame bs f q b =
+    ap (λ (ns : List Name). record { frames = all_named s.frames ns; bindings = joins s.bindings p.bindings.items; ports = all_ports s.ports p.ports.items }) f
+    ∙ ap (λ (ps : List (Name × Term)). record { frames = all_named s.frames (frame ∷ []); bindings = joins s.bindings p.bindings.items; ports = all_ports s.ports ps }) q
+    ∙ ap (with_bindings (with_frame s frame)) b
+
+pub joins_plainly : (nodes : List Node) (frame : Name) (bs : List (Var × Term)) (told : ToldPart) → told.part.frames.items ≡ frame ∷ [] → told.part.ports.items ≡ [] → told.part.bindings.items ≡ bs → told.solved ≡ true
+    → told.bound.items ≡ listed nodes bs → (path : List Stored) → 0 < length path → ArePlain nodes (bindings_from path) frame bs → IsKnown nodes (path ++ own_store frame bs ∷ []) (length path + 1)
+    → JoinsPlainly nodes path frame bs (told_over (innermost path) told)
+joins_plainly nodes frame bs told f q b solved bound path some plain known =
+    let store : with_part (innermost path) told.part ≡ with_bindings (with_frame (innermost path) frame) bs = part_store (innermost path) told.part frame bs f q b in
+    record {
+      promoted = answers nodes path frame bs plain known some (told_over (innermost path) told) store solved bound;
+      free = subst (AreFree (bindings_from path)) (sym bound) (listed_free nodes path frame bs plain);
+      kept = kept_bound nodes path frame bs plain known (with_part (innermost path) told.part) store;
+    }

@@ -1,36 +1,32 @@
 //! Plain bindings that join a store.
 
-ghost use Rattle.std.specs.Prelude.{◌≡◌, ◌+◌, ◌<◌, ◌++◌, ◌∷◌, [], length, IfOk};
-ghost use Rattle.local_store.specs.Chained.{bindings_from, IsKnown};
-ghost use Rattle.local_store.specs.Promoting.{AnswersPromoted};
+ghost use Rattle.std.specs.Prelude.{◌≡◌, ◌+◌, ◌<◌, ◌++◌, ◌∷◌, List, [], length, IfOk};
+ghost use Rattle.local_store.specs.Chained.{bindings_from, innermost, IsKnown};
+ghost use Rattle.local_store.specs.Parts.{told_over};
+ghost use Rattle.local_store.specs.Stored.{Stored};
 ghost use Rattle.plain_heads.specs.Plain.{ArePlain};
-ghost use Rattle.plain_heads.specs.Joined.{own_store, listed, AreFree, KeepsBound};
+ghost use Rattle.plain_heads.specs.Joined.{own_store, listed, JoinsPlainly};
 
 use akl_terms::{Name, Seen, Templates, Term, Var};
-use local_store::{Shared, Store, ToldStore};
+use local_store::{Part, ToldPart};
 use smallvec::SmallVec;
 use std::alloc::{AllocError, Global};
 
-/// The innermost store of a path with a frame and plain bindings of its variables, as if the store that has these alone
-/// were promoted, which is known to be solved with the path. An `Err` is want of memory.
+/// What is added to the innermost store of a chain that is known to be solved so that it has a frame and plain bindings of the
+/// frame's variables, as if a store that has these alone were promoted; the chain is known to be solved with it. An `Err` is want
+/// of memory.
 pub fn joined(
     alloc: Global,
     templates: &Templates,
-    path: &[Shared<Store>],
     frame: Name,
     bindings: Vec<(Var, Term)>,
-) -> Result<ToldStore, AllocError>
-    requires some { 0 < length path.now }
-    requires plain { ArePlain templates.now.nodes (bindings_from path.now) frame bindings.items }
-    requires solved { IsKnown templates.now.nodes (path.now ++ own_store frame bindings.items ∷ []) (length path.now + 1) }
-    ensures promoted { IfOk result (AnswersPromoted templates.now.nodes (path.now ++ own_store frame bindings.items ∷ []) (length path.now + 1)) }
-    ensures free { IfOk result (λ told. AreFree (bindings_from path.now) told.bound.items) }
-    ensures kept { IfOk result (λ told. KeepsBound path.now told.store) }
+) -> Result<ToldPart, AllocError>
+    ensures { IfOk result (λ told. (path : List Stored) → 0 < length path → ArePlain templates.now.nodes (bindings_from path) frame bindings.items → IsKnown templates.now.nodes (path ++ own_store frame bindings.items ∷ []) (length path + 1)
+        → JoinsPlainly templates.now.nodes path frame bindings.items (told_over (innermost path) told)) }
 {
     let bound = listed(alloc, templates, bindings.as_slice())?;
-    let store = path[path.len() - 1].get().told_with(frame, bindings)?;
-    Ok(ToldStore {
-        store: Shared::new(alloc, store)?,
+    Ok(ToldPart {
+        part: Part::of(alloc, frame, bindings),
         solved: true,
         bound,
     })

@@ -25,8 +25,9 @@ use Rattle.akl_model.specs.Conditions as conditions
 use Rattle.akl_model.specs.Conditions.{ComesTo}
 use Rattle.akl_model.specs.Stable.{Allows}
 use Rattle.rational_unify.specs.Solving.{bindings_in}
-use Rattle.local_store.specs.declared.telling.ToldStore.{ToldStore}
-use Rattle.local_store.specs.Chained.{bindings_from, ToldBy}
+use Rattle.local_store.specs.declared.part.Part.{Part}
+use Rattle.local_store.specs.Parts.{ToldStore, with_part, told_over}
+use Rattle.local_store.specs.Chained.{bindings_from, ToldBy, innermost}
 use Rattle.local_store.specs.Telling.{AnswersTold}
 use Rattle.plan_laws.specs.Right.{Reads}
 use Rattle.arith_goals.specs.Answers as arithmetic
@@ -35,7 +36,7 @@ use Rattle.box_tree.specs.declared.step.Step.{Step}
 use Rattle.box_tree.specs.declared.view.Sight.{Sight}
 use Rattle.box_tree.specs.Views.{ViewValue, IsViewOf}
 use Rattle.box_tree.specs.Plans.{PlanValue, IsRead, IsRightLabel}
-use Rattle.rule_plan.specs.AtGoals.{label_at, plan_at}
+use Rattle.rule_plan.specs.AtGoals.{label_at, plan_at, TellsRightly}
 use Rattle.guard_plan.specs.declared.guards.Noise.{Noise}
 use Rattle.guard_plan.specs.Noisy.{IsTriedBy}
 use Rattle.guard_plan.specs.Planned.{HasNoRule, IsPlannedBy}
@@ -45,7 +46,7 @@ use Rattle.rule_plan.proofs.InForce.{eval_in_force}
 use Rattle.rule_plan.proofs.AtomNone.{atom_none}
 use Rattle.rule_plan.proofs.Silent.{silent}
 use Rattle.guard_plan.proofs.ReadItems.{goal_reads}
-use Rattle.rule_plan.proofs.GoalRight.{goal_right, keeps_bound, tells_bound}
+use Rattle.rule_plan.proofs.GoalRight.{goal_right, keeps_bound, told_right, tells_bound}
 use Rattle.rule_plan.proofs.ToldGoals.{same_frames, same_ports, solved_if, tells_goal}
 
 -- a goal that has an answer doesn't wait
@@ -131,13 +132,13 @@ module _ (v : ViewValue) (i : IsViewOf v) (g frame : Name) (test : Test) (l r : 
         [] (keeps_bound v i g Rule.Eval eval_in_force (becomes i.site.content (with_content g (an_atom Atom.fail) i.site.goals) 0) m i.site.content (with_content g (an_atom Atom.fail) i.site.goals) refl refl)
 
     -- a value is told
-    pub value_right : (z : ℤ) → Evaluates v.table.program.templates.symbols stored test left right (value z) → (t : ToldStore)
-        → AnswersTold v.table.program.templates.nodes v.stores v.known (value_equation frame l z ∷ []) t
-        → (binds : List Var) → AreMembers v.table.program.templates.nodes v.stores t.bound.items binds → IsRightLabel (plan_at v Rule.Eval g 0 (Step.Tell t.store t.solved) binds)
-    value_right z e t a binds b =
+    value_told : (z : ℤ) → Evaluates v.table.program.templates.symbols stored test left right (value z) → (t : ToldStore)
+        → AnswersTold v.table.program.templates.nodes v.stores v.known (value_equation frame l z ∷ []) t → (part : Part) → with_part (innermost v.stores) part ≡ t.store
+        → (binds : List Var) → AreMembers v.table.program.templates.nodes v.stores t.bound binds → IsRightLabel (plan_at v Rule.Eval g 0 (Step.Tell part t.solved) binds)
+    value_told z e t a part is binds b =
         let m : conditions.Makes (Allows v.table.program) v.table.program (slice_index i.table.config.next v.worker) (label_at v Rule.Eval) i.site (becomes (telling left (integer z) i.site.content) (without_goal g i.site.goals) 0) =
         makes (value z) (becomes (telling left (integer z) i.site.content) (without_goal g i.site.goals) 0) e refl refl in
-        goal_right v i g Rule.Eval eval_in_force (becomes (telling left (integer z) i.site.content) (without_goal g i.site.goals) 0) m (an_atom was) held (Step.Tell t.store t.solved) (
+        told_right v i g Rule.Eval eval_in_force (becomes (telling left (integer z) i.site.content) (without_goal g i.site.goals) 0) m (an_atom was) held part t.store t.solved is (
           g,
           p,
           tells_goal v i (value_equation frame l z ∷ []) t a t.store refl Rule.Eval (slice_index i.table.config.next v.worker) g (telling left (integer z) i.site.content) 0
@@ -147,6 +148,9 @@ module _ (v : ViewValue) (i : IsViewOf v) (g frame : Name) (test : Test) (l r : 
         (solved_if v i (value_equation frame l z ∷ []) t a t.store refl t.solved refl) (reads, (goal_reads v i g).1)
         binds (tells_bound v i g Rule.Eval eval_in_force (becomes (telling left (integer z) i.site.content) (without_goal g i.site.goals) 0) m (telling left (integer z) i.site.content) (without_goal g i.site.goals) refl
         (value_equation frame l z ∷ []) t a refl binds b)
+
+    pub value_right : (z : ℤ) → Evaluates v.table.program.templates.symbols stored test left right (value z) → TellsRightly v Rule.Eval g (value_equation frame l z)
+    value_right z e t a = value_told z e (told_over (innermost v.stores) t) a t.part refl
 
     -- a goal that has an answer waits on nothing
     pub answer_tried : (a : Answer) → Evaluates v.table.program.templates.symbols stored test left right a → (noise : List Noise) → noise ≡ [] → (o : Option PlanValue) → IsPlannedBy v o → IsTriedBy v noise o

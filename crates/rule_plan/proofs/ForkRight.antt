@@ -25,7 +25,7 @@ use Rattle.box_tree.specs.declared.entries.HeldOp.{HeldOp}
 use Rattle.box_tree.specs.declared.step.NewBox.{NewBox}
 use Rattle.box_tree.specs.declared.step.Step.{Step}
 use Rattle.box_tree.specs.declared.view.Sight.{Sight}
-use Rattle.box_tree.specs.Tables.{all_rules, op_held, table_of, new_box, step_of}
+use Rattle.box_tree.specs.Tables.{all_rules, op_held, table_of, new_box, step_in}
 use Rattle.box_tree.specs.Views.{ViewValue, IsViewOf}
 use Rattle.box_tree.specs.Plans.{IsRead, IsRightLabel}
 use Rattle.box_tree.proofs.BoundHere.{kept_bound}
@@ -57,7 +57,7 @@ module _ (v : ViewValue) (i : IsViewOf v) (g : Name) (d : ℕ) (call : Call) (p 
   fork_none many = atom_none v i g (Atom.call d (terms_from v.table.program.templates.nodes call.frame call.first call.count) (result v call)) p held many
 
   module _ (x : Definition) (is : slice_get v.table.program.definitions d ≡ Some x) (o : HeldOp) (operator : operator_of x.op (result v call) ≡ Some (op_held v.table.program.templates.nodes o)) (few : drawn_by x.clauses < 2 ^ 32) (news : List NewBox)
-      (made : AreMade v.table.program.templates.nodes v.stores v.known call v.worker v.next x.clauses news) (step : Step) (made_step : step_of v.table.program.templates.nodes step ≡ laws.forks (op_held v.table.program.templates.nodes o) (map (new_box v.table.program.templates.nodes) news)) where
+      (made : AreMade v.table.program.templates.nodes v.stores v.known call v.worker v.next x.clauses news) (step : Step) (made_step : step_in v.table (fork_label v) step ≡ laws.forks (op_held v.table.program.templates.nodes o) (map (new_box v.table.program.templates.nodes) news)) where
     boxes : AreNewBoxes v.table.program.templates.nodes (whole i.site) (map (new_box v.table.program.templates.nodes) news)
         (instances v.table.program.templates.nodes v.worker (slice_index i.table.config.next v.worker) (terms_from v.table.program.templates.nodes call.frame call.first call.count) x.clauses)
     boxes = subst (λ (n : ℕ). AreNewBoxes v.table.program.templates.nodes (whole i.site) (map (new_box v.table.program.templates.nodes) news)

@@ -1,5 +1,5 @@
 -- A plan at a goal is right that read the goal and the constraints down to its box.
-use Rattle.std.proofs.Common.{◌≡◌, List, [], ◌∷◌, ◌++◌, map, Some, refl}
+use Rattle.std.proofs.Common.{◌≡◌, Bool, List, [], ◌∷◌, ◌++◌, map, Some, refl, sym, ◌∙◌, ap, subst}
 use Rattle.std.specs.Prelude.{slice_index}
 use Rattle.akl_terms.specs.declared.name.Name.{Name}
 use Rattle.akl_terms.specs.declared.name.Var.{Var}
@@ -12,19 +12,23 @@ use Rattle.akl_model.specs.Conditions as conditions
 use Rattle.akl_model.specs.Stable.{Allows}
 use Rattle.akl_model.specs.Derivations.{IsInForce, Applies, after}
 use Rattle.rational_unify.specs.Solving.{equations_in}
-use Rattle.local_store.specs.declared.telling.ToldStore.{ToldStore}
+use Rattle.local_store.specs.declared.part.Part.{Part}
+use Rattle.local_store.specs.Parts.{ToldStore, with_part}
+use Rattle.local_store.specs.Stored.{Stored}
+use Rattle.local_store.specs.Chained.{innermost}
 use Rattle.local_store.specs.Telling.{AnswersTold}
 use Rattle.class_members.specs.Members.{AreMembers}
+use Rattle.table_laws.specs.Steps as laws
 use Rattle.table_laws.specs.Steps.{Makes, ReadsFor, IsSolvedIn}
 use Rattle.box_tree.specs.declared.step.Step.{Step}
-use Rattle.box_tree.specs.Tables.{all_rules, table_of, step_of}
+use Rattle.box_tree.specs.Tables.{all_rules, table_of, step_in}
 use Rattle.box_tree.specs.Views.{ViewValue, IsViewOf}
 use Rattle.box_tree.specs.Plans.{IsRead, IsRightLabel}
 use Rattle.step_laws.specs.Bound.{AreBoundIn}
 use Rattle.box_tree.proofs.BoundHere.{kept_bound, told_bound}
 use Rattle.rule_plan.specs.AtGoals.{label_at, plan_at}
 use Rattle.guard_plan.proofs.BoundAt.{oldest_at, told_at}
-use Rattle.guard_plan.proofs.Sites.{stand}
+use Rattle.guard_plan.proofs.Sites.{stand, step_here}
 use Rattle.guard_plan.proofs.ReadItems.{items_there}
 
 module _ (v : ViewValue) (i : IsViewOf v) (g : Name) (rule : Rule) (force : IsInForce all_rules rule) (change : Change)
@@ -42,14 +46,14 @@ module _ (v : ViewValue) (i : IsViewOf v) (g : Name) (rule : Rule) (force : IsIn
 
   -- members of what the stores say, where equations were told
   pub tells_bound : (b : Content) (gs : Goals) → change.boxes ≡ box b gs no_boxes → (es : List code.Equation) (t : ToldStore) → AnswersTold v.table.program.templates.nodes v.stores v.known es t
-      → b.equations ≡ i.site.content.equations ++ equations_in v.table.program.templates.nodes es → (binds : List Var) → AreMembers v.table.program.templates.nodes v.stores t.bound.items binds → Binding binds
+      → b.equations ≡ i.site.content.equations ++ equations_in v.table.program.templates.nodes es → (binds : List Var) → AreMembers v.table.program.templates.nodes v.stores t.bound binds → Binding binds
   tells_bound b gs e es t a q binds m = told_bound all_rules v.table.program i.table.config (label_at v rule) (after i.table.config (label_at v rule) i.site change) (stand v i) applies b gs no_boxes e binds
-      (told_at v i es t a binds m b.equations q) (oldest_at v i t.bound.items binds m)
+      (told_at v i es t a binds m b.equations q) (oldest_at v i t.bound binds m)
 
   pub goal_right : (h : Held) → held_in g i.site.goals ≡ Some h → (step : Step)
-      → Makes v.table.program (label_at v rule) (slice_index i.table.config.next v.worker) i.site (step_of v.table.program.templates.nodes step)
-      → IsSolvedIn (table_of v.table) i.site (step_of v.table.program.templates.nodes step)
-      → ReadsFor (IsRead (Item.Goal g ∷ map Item.Store v.path)) (label_at v rule) i.site (step_of v.table.program.templates.nodes step)
+      → Makes v.table.program (label_at v rule) (slice_index i.table.config.next v.worker) i.site (step_in v.table (label_at v rule) step)
+      → IsSolvedIn (table_of v.table) i.site (step_in v.table (label_at v rule) step)
+      → ReadsFor (IsRead (Item.Goal g ∷ map Item.Store v.path)) (label_at v rule) i.site (step_in v.table (label_at v rule) step)
       → (binds : List Var) → AreBoundIn i.table.config (after i.table.config (label_at v rule) i.site change) i.site binds → IsRightLabel (plan_at v rule g change.drawn step binds)
   goal_right h held step made solved reads binds bound = record {
     table = i.table;
@@ -62,3 +66,17 @@ module _ (v : ViewValue) (i : IsViewOf v) (g : Name) (rule : Rule) (force : IsIn
     binds = bound;
     there = items_there v i g h held;
   }
+
+  -- where something is added to the box's store
+  pub told_right : (h : Held) → held_in g i.site.goals ≡ Some h → (part : Part) (new : Stored) (solved : Bool) → with_part (innermost v.stores) part ≡ new
+      → Makes v.table.program (label_at v rule) (slice_index i.table.config.next v.worker) i.site (laws.tells new solved)
+      → IsSolvedIn (table_of v.table) i.site (laws.tells new solved)
+      → ReadsFor (IsRead (Item.Goal g ∷ map Item.Store v.path)) (label_at v rule) i.site (laws.tells new solved)
+      → (binds : List Var) → Binding binds → IsRightLabel (plan_at v rule g change.drawn (Step.Tell part solved) binds)
+  told_right h held part new solved is made known reads = goal_right h held (Step.Tell part solved)
+      (subst (Makes v.table.program (label_at v rule) (slice_index i.table.config.next v.worker) i.site) step made)
+      (subst (IsSolvedIn (table_of v.table) i.site) step known)
+      (subst (ReadsFor (IsRead (Item.Goal g ∷ map Item.Store v.path)) (label_at v rule) i.site) step reads)
+    where
+      step : laws.tells new solved ≡ step_in v.table (label_at v rule) (Step.Tell part solved)
+      step = ap (λ (s : Stored). laws.tells s solved) (sym is) ∙ sym (step_here v i (label_at v rule) refl (Step.Tell part solved))

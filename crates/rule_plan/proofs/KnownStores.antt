@@ -11,7 +11,7 @@ use Rattle.akl_terms.specs.declared.program.Clause.{Clause}
 use Rattle.akl_terms.specs.Equal.{IsTold, IsConsistentBy}
 use Rattle.akl_terms.specs.Standing.{StandFor}
 use Rattle.rational_unify.specs.Solving.{bindings_in}
-use Rattle.local_store.specs.declared.telling.ToldStore.{ToldStore}
+use Rattle.local_store.specs.Parts.{ToldStore}
 use Rattle.local_store.specs.Stored.{Stored}
 use Rattle.local_store.specs.Chained.{ToldBy, bindings_from, around, replaced}
 use Rattle.local_store.specs.Telling.{ToldAlso, AnswersTold}

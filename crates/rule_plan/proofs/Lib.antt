@@ -11,6 +11,7 @@ pub mod OpenRight
 pub mod SendRight
 pub mod FailRight
 pub mod Clashing
+pub mod Added
 pub mod Framed
 pub mod NewBoxes
 pub mod NewStores

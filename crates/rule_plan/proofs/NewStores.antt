@@ -14,7 +14,7 @@ use Rattle.rational_unify.specs.Solving.{Solves}
 use Rattle.local_store.specs.Stored.{Stored}
 use Rattle.local_store.specs.Chained.{bindings_from, innermost, IsSolvedChain}
 use Rattle.local_store.specs.Bound.{bound_by}
-use Rattle.local_store.specs.declared.telling.ToldStore.{ToldStore}
+use Rattle.local_store.specs.Parts.{ToldStore}
 use Rattle.local_store.specs.Telling.{Adds, added, clash, ToldAlso, AnswersTold}
 use Rattle.local_store.proofs.Layers.{from-last}
 use Rattle.local_store.proofs.Replaced.{tells-adds, adds-says}

@@ -24,7 +24,9 @@ use Rattle.akl_model.proofs.Finds.{times}
 use Rattle.akl_model.proofs.ScopesAlong.{times_path}
 use Rattle.step_laws.proofs.Whereabouts.{found_in, in_counted}
 use Rattle.plan_laws.specs.Right.{Reads}
-use Rattle.local_store.specs.declared.telling.ToldStore.{ToldStore}
+use Rattle.local_store.specs.declared.part.Part.{Part}
+use Rattle.local_store.specs.Parts.{ToldStore, with_part}
+use Rattle.local_store.specs.Chained.{innermost}
 use Rattle.local_store.specs.Stored as stored
 use Rattle.local_store.specs.Telling.{AnswersTold}
 use Rattle.table_laws.specs.Rows.{ports_in}
@@ -39,7 +41,7 @@ use Rattle.guard_plan.proofs.Sites.{stand, found, shows_at}
 use Rattle.rule_plan.proofs.InForce.{open_in_force}
 use Rattle.guard_plan.proofs.Names.{port_put}
 use Rattle.guard_plan.proofs.ReadItems.{goal_reads}
-use Rattle.rule_plan.proofs.GoalRight.{goal_right, tells_bound}
+use Rattle.rule_plan.proofs.GoalRight.{told_right, tells_bound}
 use Rattle.rule_plan.proofs.ToldGoals.{same_frames, same_ports, solved_if, tells_goal}
 
 -- the name that a view's worker draws next
@@ -90,19 +92,18 @@ module _ (v : ViewValue) (i : IsViewOf v) (g frame : Name) (l r : ℕ) (p : v.pl
     few_names = omega arith;
   }
 
-  pub open_right : (new : stored.Stored) → new ≡ stored.with_port t.store (next_name v) (Mol r frame)
-      → (binds : List Var) → AreMembers v.table.program.templates.nodes v.stores t.bound.items binds → IsRightLabel (plan_at v Rule.Open g 1 (Step.Tell new t.solved) binds)
-  open_right new is binds m = subst (λ (k : stored.Stored). IsRightLabel (plan_at v Rule.Open g 1 (Step.Tell k t.solved) binds)) (sym is)
-      (goal_right v i g Rule.Open open_in_force change makes (an_atom (Atom.open_port left stream)) held (Step.Tell (stored.with_port t.store (next_name v) (Mol r frame)) t.solved) (
-        g,
-        p,
-        tells_goal v i (port_equation frame l (next_name v) ∷ []) t a (stored.with_port t.store (next_name v) (Mol r frame)) refl Rule.Open (slice_index i.table.config.next v.worker) g content 1
-            (record { goal = Atom.open_port left stream; held = held; makes = makes }) (record { left = left; right = port (next_name v) }) [] refl refl
-            (same_frames v i (port_equation frame l (next_name v) ∷ []) t a) ports,
-      )
+  pub open_right : (part : Part) → with_part (innermost v.stores) part ≡ stored.with_port t.store (next_name v) (Mol r frame)
+      → (binds : List Var) → AreMembers v.table.program.templates.nodes v.stores t.bound binds → IsRightLabel (plan_at v Rule.Open g 1 (Step.Tell part t.solved) binds)
+  open_right part is binds m = told_right v i g Rule.Open open_in_force change makes (an_atom (Atom.open_port left stream)) held part (stored.with_port t.store (next_name v) (Mol r frame)) t.solved is (
+    g,
+    p,
+    tells_goal v i (port_equation frame l (next_name v) ∷ []) t a (stored.with_port t.store (next_name v) (Mol r frame)) refl Rule.Open (slice_index i.table.config.next v.worker) g content 1
+        (record { goal = Atom.open_port left stream; held = held; makes = makes }) (record { left = left; right = port (next_name v) }) [] refl refl
+        (same_frames v i (port_equation frame l (next_name v) ∷ []) t a) ports,
+  )
       (solved_if v i (port_equation frame l (next_name v) ∷ []) t a (stored.with_port t.store (next_name v) (Mol r frame)) refl t.solved refl)
       (subst (λ (q : Place). Reads (IsRead (plan_at v Rule.Open g 1 Step.Fail []).reads) Rule.Open q None i.site) (sym p) (goal_reads v i g).0, (goal_reads v i g).1)
-      binds (tells_bound v i g Rule.Open open_in_force change makes content (without_goal g i.site.goals) refl (port_equation frame l (next_name v) ∷ []) t a refl binds m))
+      binds (tells_bound v i g Rule.Open open_in_force change makes content (without_goal g i.site.goals) refl (port_equation frame l (next_name v) ∷ []) t a refl binds m)
     where
       old : ports_in v.table.program.templates.nodes t.store.ports ≡ i.site.content.ports
       old = same_ports v i (port_equation frame l (next_name v) ∷ []) t a

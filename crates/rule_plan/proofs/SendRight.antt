@@ -32,7 +32,8 @@ use Rattle.akl_model.specs.Stable.{Allows}
 use Rattle.akl_model.proofs.OrdersKept.{replay_ordered}
 use Rattle.step_laws.proofs.Whereabouts.{found_in}
 use Rattle.rational_unify.specs.Solving.{bindings_in}
-use Rattle.local_store.specs.declared.telling.ToldStore.{ToldStore}
+use Rattle.local_store.specs.declared.part.Part.{Part}
+use Rattle.local_store.specs.Parts.{ToldStore, with_part}
 use Rattle.local_store.specs.Stored.{Stored}
 use Rattle.local_store.specs.Chained.{bindings_from, ToldBy, innermost}
 use Rattle.local_store.specs.Telling.{AnswersTold}
@@ -56,7 +57,7 @@ use Rattle.rule_plan.proofs.AtomNone.{atom_none}
 use Rattle.guard_plan.proofs.Names.{named_with}
 use Rattle.rule_plan.proofs.FramesAndPorts.{found_port, has_port, port_set, ports_ordered}
 use Rattle.guard_plan.proofs.ReadItems.{goal_reads}
-use Rattle.rule_plan.proofs.GoalRight.{goal_right, tells_bound}
+use Rattle.rule_plan.proofs.GoalRight.{told_right, tells_bound}
 use Rattle.rule_plan.proofs.OpenRight.{next_name}
 use Rattle.rule_plan.proofs.ToldGoals.{own_store, same_frames, same_ports, solved_if, tells_goal}
 
@@ -179,11 +180,10 @@ module _ (v : ViewValue) (g frame : Name) (m r : ℕ) (q : Name) (goes : GoesToP
       (subst (λ (ps : List (Name × Term)). is_some (lookup (same_name q) ps) ≡ true) (sym a.tells.ports) goes.owned)
       ∙ ap (with_tail q (cell (v.table.program.cell + 1))) old
 
-  pub send_right : (new : Stored) → new ≡ sent_store v t.store q
-      → (binds : List Var) → AreMembers v.table.program.templates.nodes v.stores t.bound.items binds → IsRightLabel (plan_at v Rule.Send g 1 (Step.Tell new t.solved) binds)
-  send_right new is binds b = subst (λ (k : Stored). IsRightLabel (plan_at v Rule.Send g 1 (Step.Tell k t.solved) binds)) (sym is)
-      (goal_right v i g Rule.Send send_in_force change makes (an_atom (Atom.send (term_at v.table.program.templates.nodes frame m) (term_at v.table.program.templates.nodes frame r))) (held v i g frame m r p s)
-      (Step.Tell (sent_store v t.store q) t.solved) (
+  pub send_right : (part : Part) → with_part (innermost v.stores) part ≡ sent_store v t.store q
+      → (binds : List Var) → AreMembers v.table.program.templates.nodes v.stores t.bound binds → IsRightLabel (plan_at v Rule.Send g 1 (Step.Tell part t.solved) binds)
+  send_right part is binds b = told_right v i g Rule.Send send_in_force change makes (an_atom (Atom.send (term_at v.table.program.templates.nodes frame m) (term_at v.table.program.templates.nodes frame r))) (held v i g frame m r p s)
+      part (sent_store v t.store q) t.solved is (
         g,
         p,
         tells_goal v i (sent_equations v frame m tail) t a (sent_store v t.store q) refl Rule.Send (slice_index i.table.config.next v.worker) g content 1
@@ -197,4 +197,4 @@ module _ (v : ViewValue) (g frame : Name) (m r : ℕ) (q : Name) (goes : GoesToP
       (subst (λ (u : Place). Reads (IsRead (plan_at v Rule.Send g 1 Step.Fail []).reads) Rule.Send u None i.site) (sym p) (goal_reads v i g), (goal_reads v i g).1)
       binds (tells_bound v i g Rule.Send send_in_force change makes content (without_goal g i.site.goals) refl (sent_equations v frame m tail) t a
       (append_assoc i.site.content.equations (record { left = tree v.table.program.templates.nodes tail; right = cell (v.table.program.cell + 2) } ∷ [])
-      (record { left = cell v.table.program.cell; right = term_at v.table.program.templates.nodes frame m } ∷ [])) binds b))
+      (record { left = cell v.table.program.cell; right = term_at v.table.program.templates.nodes frame m } ∷ [])) binds b)

@@ -15,18 +15,20 @@ use Rattle.akl_model.specs.Rules.{nothing, Change, becomes, telling, tell, chang
 use Rattle.akl_model.specs.Conditions as conditions
 use Rattle.akl_model.specs.Stable.{Allows}
 use Rattle.plan_laws.specs.Right.{Reads}
-use Rattle.local_store.specs.declared.telling.ToldStore.{ToldStore}
+use Rattle.local_store.specs.declared.part.Part.{Part}
+use Rattle.local_store.specs.Parts.{ToldStore, with_part, told_over}
+use Rattle.local_store.specs.Chained.{innermost}
 use Rattle.local_store.specs.Telling.{AnswersTold}
 use Rattle.class_members.specs.Members.{AreMembers}
 use Rattle.box_tree.specs.declared.step.Step.{Step}
 use Rattle.box_tree.specs.declared.view.Sight.{Sight}
 use Rattle.box_tree.specs.Views.{ViewValue, IsViewOf}
 use Rattle.box_tree.specs.Plans.{IsRead, IsRightLabel}
-use Rattle.rule_plan.specs.AtGoals.{label_at, plan_at}
+use Rattle.rule_plan.specs.AtGoals.{label_at, plan_at, TellsRightly}
 use Rattle.guard_plan.proofs.Sites.{shows_at}
 use Rattle.rule_plan.proofs.InForce.{tell_in_force}
 use Rattle.guard_plan.proofs.ReadItems.{goal_reads}
-use Rattle.rule_plan.proofs.GoalRight.{goal_right, tells_bound}
+use Rattle.rule_plan.proofs.GoalRight.{told_right, tells_bound}
 use Rattle.rule_plan.proofs.ToldGoals.{same_frames, same_ports, solved_if, tells_goal}
 
 -- the equation of two nodes under a frame
@@ -55,8 +57,9 @@ module _ (v : ViewValue) (i : IsViewOf v) (g frame : Name) (l r : ℕ) (p : v.pl
     few_names = omega arith;
   }
 
-  pub tell_right : (binds : List Var) → AreMembers v.table.program.templates.nodes v.stores t.bound.items binds → IsRightLabel (plan_at v Rule.Tell g 0 (Step.Tell t.store t.solved) binds)
-  tell_right binds m = goal_right v i g Rule.Tell tell_in_force change makes (an_atom (Atom.equation left right)) held (Step.Tell t.store t.solved) (
+  tells_right : (part : Part) → with_part (innermost v.stores) part ≡ t.store
+      → (binds : List Var) → AreMembers v.table.program.templates.nodes v.stores t.bound binds → IsRightLabel (plan_at v Rule.Tell g 0 (Step.Tell part t.solved) binds)
+  tells_right part is binds m = told_right v i g Rule.Tell tell_in_force change makes (an_atom (Atom.equation left right)) held part t.store t.solved is (
     g,
     p,
     tells_goal v i (node_equation frame l r ∷ []) t a t.store refl Rule.Tell (slice_index i.table.config.next v.worker) g (telling left right i.site.content) 0
@@ -66,3 +69,6 @@ module _ (v : ViewValue) (i : IsViewOf v) (g frame : Name) (l r : ℕ) (p : v.pl
       (solved_if v i (node_equation frame l r ∷ []) t a t.store refl t.solved refl)
       (subst (λ (q : Place). Reads (IsRead (plan_at v Rule.Tell g 0 Step.Fail []).reads) Rule.Tell q None i.site) (sym p) (goal_reads v i g).0, (goal_reads v i g).1)
       binds (tells_bound v i g Rule.Tell tell_in_force change makes (telling left right i.site.content) (without_goal g i.site.goals) refl (node_equation frame l r ∷ []) t a refl binds m)
+
+pub tell_right : (v : ViewValue) (i : IsViewOf v) (g frame : Name) (l r : ℕ) (p : v.place ≡ Place.Goal g) (s : v.sight ≡ Sight.Atom (record { code = Code.Equal l r; frame = frame })) → TellsRightly v Rule.Tell g (node_equation frame l r)
+tell_right v i g frame l r p s t a = tells_right v i g frame l r p s (told_over (innermost v.stores) t) a t.part refl

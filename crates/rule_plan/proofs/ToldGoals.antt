@@ -11,7 +11,7 @@ use Rattle.akl_model.specs.declared.label.Rule.{Rule}
 use Rattle.akl_model.specs.Config.{Content, without_goal, environment, whole}
 use Rattle.akl_model.specs.Wakes.{names_around}
 use Rattle.rational_unify.specs.Solving.{bindings_in, equations_in}
-use Rattle.local_store.specs.declared.telling.ToldStore.{ToldStore}
+use Rattle.local_store.specs.Parts.{ToldStore}
 use Rattle.local_store.specs.Stored.{Stored}
 use Rattle.local_store.specs.Chained.{innermost, around, IsSolvedChain}
 use Rattle.local_store.specs.Telling.{AnswersTold}

@@ -6,7 +6,9 @@ use Rattle.akl_terms.specs.declared.term.Equation as code
 use Rattle.akl_model.specs.declared.item.Item.{Item}
 use Rattle.akl_model.specs.declared.label.Rule.{Rule}
 use Rattle.akl_model.specs.declared.label.Label.{Label}
-use Rattle.local_store.specs.declared.telling.ToldStore.{ToldStore}
+use Rattle.local_store.specs.declared.telling.ToldPart.{ToldPart}
+use Rattle.local_store.specs.Parts.{told_over}
+use Rattle.local_store.specs.Chained.{innermost}
 use Rattle.local_store.specs.Telling.{AnswersTold}
 use Rattle.class_members.specs.Members.{AreMembers}
 use Rattle.box_tree.specs.declared.step.Step.{Step}
@@ -22,11 +24,11 @@ abbrev pub plan_at : ViewValue → Rule → Name → ℕ → Step → List Var �
 plan_at v rule goal names step binds =
     record { table = v.table; journal = v.journal; label = label_at v rule; more = []; reads = Item.Goal goal ∷ map Item.Store v.path; names = names; step = step; binds = binds }
 
--- the plan of a rule by which the box gets this store is right, with enough members of what is bound
-abbrev pub IsToldRightly : ViewValue → Rule → Name → ℕ → ToldStore → Type 0
+-- the plan of a rule by which this is added to the box's store is right, with enough members of what is bound
+abbrev pub IsToldRightly : ViewValue → Rule → Name → ℕ → ToldPart → Type 0
 IsToldRightly v rule goal names t = (binds : List Var) → AreMembers v.table.program.templates.nodes v.stores t.bound.items binds
-    → IsRightLabel (plan_at v rule goal names (Step.Tell t.store t.solved) binds)
+    → IsRightLabel (plan_at v rule goal names (Step.Tell t.part t.solved) binds)
 
--- the plan of a rule that tells this equation is right, with each store in which it is told and enough members of what that binds
+-- the plan of a rule that tells this equation is right, with all that is added where it is told and enough members of what that binds
 abbrev pub TellsRightly : ViewValue → Rule → Name → code.Equation → Type 0
-TellsRightly v rule goal e = (t : ToldStore) → AnswersTold v.table.program.templates.nodes v.stores v.known (e ∷ []) t → IsToldRightly v rule goal 0 t
+TellsRightly v rule goal e = (t : ToldPart) → AnswersTold v.table.program.templates.nodes v.stores v.known (e ∷ []) (told_over (innermost v.stores) t) → IsToldRightly v rule goal 0 t

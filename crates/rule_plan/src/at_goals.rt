@@ -1,18 +1,20 @@
 //! Plans at goals.
 
-ghost use Rattle.std.specs.Prelude.{◌≡◌, IfOk};
-ghost use Rattle.local_store.specs.Chained.{replaced};
+ghost use Rattle.std.specs.Prelude.{◌≡◌, [], IfOk};
+ghost use Rattle.local_store.specs.Stored.{Stored, with_port};
+ghost use Rattle.local_store.specs.Parts.{with_part};
+ghost use Rattle.local_store.specs.Chained.{innermost, replaced};
 ghost use Rattle.box_tree.specs.Plans.{IsRightLabel, labels_behind};
 ghost use Rattle.rule_plan.specs.AtGoals.{plan_at, IsToldRightly, TellsRightly};
 ghost use Rattle.guard_plan.specs.Planned.{IsPlannedBy};
 ghost use Rattle.guard_plan.specs.Solved.{SaysSolved, IsKnownWith};
 
 use akl_model::Rule;
-use akl_terms::{Equation, Name, Program, Var};
+use akl_terms::{Equation, Name, Program, Term, Var};
 use box_tree::{Plan, Step, View};
 use class_members::members;
 use guard_plan::{goal_and_stores, label_of};
-use local_store::{ToldStore, told};
+use local_store::{Part, ToldPart, told};
 use std::alloc::{AllocError, Global};
 
 // The plan of a rule at a goal, which read the goal and the constraints down to its box, and binds these variables.
@@ -53,7 +55,7 @@ pub(crate) fn telling_plan(
     told_plan(alloc, program, view, goal, rule, 0, answer)
 }
 
-// The plan of a rule that draws so many names, by which the box of its goal gets the store of an answer.
+// The plan of a rule that draws so many names, by which the part of an answer is added to the store of the box of its goal.
 pub(crate) fn told_plan(
     alloc: Global,
     program: &Program,
@@ -61,27 +63,29 @@ pub(crate) fn told_plan(
     goal: Name,
     rule: Rule,
     names: u64,
-    answer: ToldStore,
+    answer: ToldPart,
 ) -> Result<Option<Plan>, AllocError>
     requires program { program.now ≡ view.now.table.program }
     requires right { IsToldRightly view.now rule goal names answer }
-    requires solved { IsKnownWith view.now (replaced view.now.stores answer.store) answer.solved }
+    requires solved { IsKnownWith view.now (replaced view.now.stores (with_part (innermost view.now.stores) answer.part)) answer.solved }
     ensures { IfOk result (IsPlannedBy view.now) }
 {
-    let ToldStore {
-        store,
+    let ToldPart {
+        part,
         solved,
         bound,
     } = answer;
     let chain = view.chain(&program.templates);
     let binds = members(alloc, &chain, bound.as_slice())?;
-    goal_plan(
-        alloc,
-        view,
-        goal,
-        rule,
-        names,
-        Step::Tell { store, solved },
-        binds,
-    )
+    let step = Step::Tell { part, solved };
+    goal_plan(alloc, view, goal, rule, names, step, binds)
+}
+
+// A port is added too, to a part that has none.
+pub(crate) fn add_port(part: &mut Part, port: Name, tail: Term) -> Result<(), AllocError>
+    requires { part.old.ports.items ≡ [] }
+    ensures { IfOk result (λ _. (s : Stored) → with_part s part.new ≡ with_port (with_part s part.old) port tail) }
+{
+    part.ports.push((port, tail))?;
+    Ok(())
 }

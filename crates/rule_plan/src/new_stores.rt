@@ -1,12 +1,12 @@
 //! New stores over a chain, to which equations are told.
 
-ghost use Rattle.std.specs.Prelude.{◌≡◌, ◌≢◌, ◌∷◌, [], ◌++◌, length, IfOk};
+ghost use Rattle.std.specs.Prelude.{◌≡◌, ◌≢◌, length, IfOk};
 ghost use Rattle.local_store.specs.Chained.{IsSolvedChain};
 ghost use Rattle.rule_plan.specs.Made.{store_with, with_solved, is_added, IsNewStore};
 
 use akl_terms::{Equation, Name};
-use guard_plan::shared;
-use local_store::{Chain, Shared, Store, ToldStore, told};
+use guard_plan::told_inside;
+use local_store::{Chain, Shared, Store, ToldPart};
 use rational_unify::{Solved, solve_only};
 use std::alloc::{AllocError, Global};
 
@@ -72,23 +72,10 @@ fn over_others(
     requires { chain.now.known ≢ length chain.now.stores }
     ensures { IfOk result (λ r. IsNewStore chain.now.nodes chain.now.stores chain.now.known frame equations.now r.0 r.1) }
 {
-    let stores = path_with(alloc, chain.stores(), frame)?;
-    let inner = Chain::of_solved(chain.templates(), stores.as_slice(), chain.known());
-    let ToldStore { store, .. } = told(alloc, &inner, equations)?;
+    let mut store = frame_store(alloc, frame)?;
+    let ToldPart { part, .. } = told_inside(alloc, chain, &store, equations)?;
+    store.join(part)?;
     Ok((store, false))
-}
-
-// The stores of a path, and behind them one that has the frame alone.
-fn path_with(
-    alloc: Global,
-    path: &[Shared<Store>],
-    frame: Name,
-) -> Result<Vec<Shared<Store>>, AllocError>
-    ensures { IfOk result (λ stores. stores.items ≡ path.now ++ store_with frame ∷ []) }
-{
-    let mut stores = shared(alloc, path)?;
-    stores.push(frame_store(alloc, frame)?)?;
-    Ok(stores)
 }
 
 // A store that has the frame alone.

@@ -6,7 +6,7 @@ ghost use Rattle.akl_terms.specs.declared.program.Code.{Code};
 ghost use Rattle.box_tree.specs.declared.view.Sight.{Sight};
 ghost use Rattle.guard_plan.specs.Planned.{IsPlannedBy};
 
-use crate::at_goals::told_plan;
+use crate::at_goals::{add_port, told_plan};
 use akl_model::Rule;
 use akl_terms::{Equation, Name, Program, Term};
 use box_tree::{Plan, View};
@@ -42,6 +42,6 @@ pub(crate) fn open(
     };
     let chain = view.chain(&program.templates);
     let mut answer = told(alloc, &chain, &[equation])?;
-    answer.store.set_port(name, tail)?;
+    add_port(&mut answer.part, name, tail)?;
     told_plan(alloc, program, view, goal, Rule::Open, 1, answer)
 }

@@ -1,10 +1,12 @@
 //! Plans of Send.
 
-ghost use Rattle.std.specs.Prelude.{◌≡◌, Some, IfOk};
+ghost use Rattle.std.specs.Prelude.{◌≡◌, [], Some, IfOk};
 ghost use Rattle.std.specs.Map.{lookup};
 ghost use Rattle.akl_terms.specs.declared.name.Place.{Place};
 ghost use Rattle.akl_terms.specs.declared.program.Code.{Code};
 ghost use Rattle.akl_terms.specs.Names.{same_name};
+ghost use Rattle.local_store.specs.Stored.{Stored};
+ghost use Rattle.local_store.specs.Parts.{with_part, told_over};
 ghost use Rattle.local_store.specs.Chained.{innermost};
 ghost use Rattle.local_store.specs.Telling.{AnswersTold};
 ghost use Rattle.box_tree.specs.declared.view.Sight.{Sight};
@@ -13,13 +15,13 @@ ghost use Rattle.guard_plan.specs.Planned.{IsPlannedBy};
 ghost use Rattle.rule_plan.specs.Solving.{GoesToPort};
 ghost use Rattle.rule_plan.specs.Sent.{list_equations, with_new_tail};
 
-use crate::at_goals::told_plan;
+use crate::at_goals::{add_port, told_plan};
 use crate::stores::solved_stores;
 use akl_model::Rule;
 use akl_terms::{Code, Equation, Goal, Name, Program, Term};
 use box_tree::{Plan, View};
 use guard_plan::node_after;
-use local_store::{Chain, Consistency, Shared, Store, ToldStore, consistent, told};
+use local_store::{Chain, Consistency, Part, ToldPart, consistent, told};
 use port_goals::{SendState, sendable};
 use std::alloc::{AllocError, Global};
 
@@ -91,7 +93,7 @@ fn send_to(
     let chain = view.chain(&program.templates);
     let tail = tail_of(&chain, port)?;
     let mut answer = tell_list(alloc, program, &chain, tail, message, frame)?;
-    set_tail(&mut answer.store, program, port, frame)?;
+    set_tail(&mut answer.part, program, port, frame)?;
     told_plan(alloc, program, view, goal, Rule::Send, 1, answer)
 }
 
@@ -110,7 +112,8 @@ fn tail_of(chain: &Chain, port: Name) -> Result<Term, AllocError>
     Ok(tail)
 }
 
-// The innermost store, to which it is told that a tail is a list of the message and a new tail, both under a new frame.
+// What is added to the innermost store where it is told that a tail is a list of the message and a new tail, both under a
+// new frame.
 fn tell_list(
     alloc: Global,
     program: &Program,
@@ -118,8 +121,10 @@ fn tell_list(
     tail: Term,
     message: Message,
     frame: Name,
-) -> Result<ToldStore, AllocError>
-    ensures { IfOk result (AnswersTold chain.now.nodes chain.now.stores chain.now.known (list_equations program.now.cell frame tail message.frame message.message)) }
+) -> Result<ToldPart, AllocError>
+    ensures told { IfOk result (λ t. AnswersTold chain.now.nodes chain.now.stores chain.now.known (list_equations program.now.cell frame tail message.frame message.message)
+        (told_over (innermost chain.now.stores) t)) }
+    ensures ports { IfOk result (λ t. t.part.ports.items ≡ []) }
 {
     let equations = [
         Equation {
@@ -143,19 +148,15 @@ fn tell_list(
     told(alloc, chain, &equations)
 }
 
-// The store also has a new frame, and under it the new tail of a port.
-fn set_tail(
-    store: &mut Shared<Store>,
-    program: &Program,
-    port: Name,
-    frame: Name,
-) -> Result<(), AllocError>
-    ensures { IfOk result (λ _. store.new ≡ with_new_tail program.now.cell frame port store.old) }
+// A new frame is added too, to a part that has no ports, and under it the new tail of a port.
+fn set_tail(part: &mut Part, program: &Program, port: Name, frame: Name) -> Result<(), AllocError>
+    requires { part.old.ports.items ≡ [] }
+    ensures { IfOk result (λ _. (s : Stored) → with_part s part.new ≡ with_new_tail program.now.cell frame port (with_part s part.old)) }
 {
     let tail = Term::Mol {
         node: node_after(program.cell, 1)?,
         frame,
     };
-    store.add_frame(frame)?;
-    store.set_port(port, tail)
+    part.frames.push(frame)?;
+    add_port(part, port, tail)
 }

@@ -15,7 +15,7 @@ use Rattle.akl_model.proofs.Results.{Derives-one}
 use Rattle.sleep_laws.specs.Runs.{Runs}
 use Rattle.wait_laws.specs.Kept.{AreLeftByCommit}
 use Rattle.table_laws.specs.Steps as laws
-use Rattle.box_tree.specs.Tables.{all_rules, step_of, table_of}
+use Rattle.box_tree.specs.Tables.{all_rules, step_in, table_of}
 use Rattle.box_tree.specs.Plans.{PlanValue, IsRight}
 use Rattle.wake_lists.specs.Open.{Openings, IsOpen}
 use Rattle.wake_lists.specs.Waits.{waits_on}
@@ -90,7 +90,7 @@ module _ (s : SchedulerValue) (h : IsScheduler s) (p : PlanValue) (right : IsRig
   u = k.table
 
   abbrev made_step : laws.Step
-  made_step = step_of P.templates.nodes p.step
+  made_step = step_in s.core.table p.label p.step
 
   -- it leads to the configuration of the core afterwards
   replays_now : Replays all_rules P Q (s.core.journal ++ l ∷ p.more) u.config

@@ -6,7 +6,6 @@ use Rattle.std.specs.List.{AllByRecursion}
 use Rattle.akl_terms.specs.declared.name.Name.{Name}
 use Rattle.akl_terms.specs.declared.name.Var.{Var}
 use Rattle.akl_terms.specs.declared.name.Place.{Place}
-use Rattle.akl_terms.specs.declared.term.Node.{Node}
 use Rattle.akl_model.specs.declared.label.Label.{Label}
 use Rattle.akl_model.specs.Config.{IsIn, Config, Found, box_at, home_of}
 use Rattle.akl_model.proofs.NamesKept.{Stand}
@@ -19,8 +18,7 @@ use Rattle.step_laws.proofs.There.{there_site}
 use Rattle.wait_laws.specs.Waits.{AreWaits}
 use Rattle.table_laws.specs.Stamped.{IsTableOf}
 use Rattle.table_laws.specs.Steps as laws
-use Rattle.box_tree.specs.declared.step.Step.{Step}
-use Rattle.box_tree.specs.Tables.{all_rules, TableValue, table_of, step_of}
+use Rattle.box_tree.specs.Tables.{all_rules, TableValue, table_of, step_in}
 use Rattle.box_tree.specs.Views.{run_of}
 use Rattle.box_tree.specs.Plans.{PlanValue}
 use Rattle.binding_laws.specs.Bindings.{BindsOutside, HasOuterIn}
@@ -52,25 +50,25 @@ each_of P (q ∷ qs) a p (inl e) = subst P (sym e) a.0
 each_of P (q ∷ qs) a p (inr i) = each_of P qs a.1 p i
 
 -- a step gives its box a store where a variable is of none of its frames
-outer_step : (xs : List Var) (nodes : List Node) (step : Step) → HasOuterIn xs (step_of nodes step) → binds_outer xs step ≡ true
-outer_step xs nodes (Step.Tell store solved) w = so_outer xs store.frames w
-outer_step xs nodes (Step.Join store solved goals told behind) w = so_outer xs store.frames w
-outer_step xs nodes (Step.Fork op alternatives) w = absurd w
-outer_step xs nodes Step.Fail w = absurd w
-outer_step xs nodes Step.Cut w = absurd w
-outer_step xs nodes Step.Refute w = absurd w
-outer_step xs nodes Step.Confirm w = absurd w
-outer_step xs nodes (Step.Split copy copies) w = absurd w
+outer_step : (xs : List Var) (step : laws.Step) → HasOuterIn xs step → binds_outer xs step ≡ true
+outer_step xs (laws.tells new solved) w = so_outer xs new.frames w
+outer_step xs (laws.joins new solved goals) w = so_outer xs new.frames w
+outer_step xs (laws.forks op news) w = absurd w
+outer_step xs laws.fails w = absurd w
+outer_step xs laws.cuts w = absurd w
+outer_step xs laws.refutes w = absurd w
+outer_step xs laws.confirms w = absurd w
+outer_step xs (laws.splits copy copies) w = absurd w
 
-step_outer : (xs : List Var) (nodes : List Node) (step : Step) → binds_outer xs step ≡ true → HasOuterIn xs (step_of nodes step)
-step_outer xs nodes (Step.Tell store solved) e = outer_so xs store.frames e
-step_outer xs nodes (Step.Join store solved goals told behind) e = outer_so xs store.frames e
-step_outer xs nodes (Step.Fork op alternatives) e = cc
-step_outer xs nodes Step.Fail e = cc
-step_outer xs nodes Step.Cut e = cc
-step_outer xs nodes Step.Refute e = cc
-step_outer xs nodes Step.Confirm e = cc
-step_outer xs nodes (Step.Split copy copies) e = cc
+step_outer : (xs : List Var) (step : laws.Step) → binds_outer xs step ≡ true → HasOuterIn xs step
+step_outer xs (laws.tells new solved) e = outer_so xs new.frames e
+step_outer xs (laws.joins new solved goals) e = outer_so xs new.frames e
+step_outer xs (laws.forks op news) e = cc
+step_outer xs laws.fails e = cc
+step_outer xs laws.cuts e = cc
+step_outer xs laws.refutes e = cc
+step_outer xs laws.confirms e = cc
+step_outer xs (laws.splits copy copies) e = cc
 
 -- a place that isn't there and comes
 is_new : (c d : Config) (place : Place) → (IsThere place c.roots → ⊥) → IsThere place d.roots → IsChanged c d place
@@ -85,17 +83,17 @@ is_new c d (Place.Box b) m h = let w : (f : Found) × (box_at b d.roots ≡ Some
     none None n = refl
     none (Some f) n = absurd (n refl)
 
-module _ (v : TableValue) (journal : List Label) (t : IsTableOf all_rules (run_of v journal) (table_of v)) (p : PlanValue) (d : Config) (made : IsMadeTo v.program t.config p.label p.more (step_of v.program.templates.nodes p.step) p.binds d)
+module _ (v : TableValue) (journal : List Label) (t : IsTableOf all_rules (run_of v journal) (table_of v)) (p : PlanValue) (d : Config) (made : IsMadeTo v.program t.config p.label p.more (step_in v p.label p.step) p.binds d)
     (gone : List Place) (all_gone : AreAllGone t.config d gone) (before : List Place) (kept : List Wait) (waits : AreWaits t.config before kept) (ws : Waiting) (listed : AreListed ws kept)
     (places : List PlacedValue) (x : AreListedFor v ws p gone places) where
   abbrev c : Config
   c = t.config
 
   abbrev step : laws.Step
-  step = step_of v.program.templates.nodes p.step
+  step = step_in v p.label p.step
 
   abbrev site : Found
-  site = site_by v.program t.config p.label p.more (step_of v.program.templates.nodes p.step) d made.leads
+  site = site_by v.program t.config p.label p.more (step_in v p.label p.step) d made.leads
 
   abbrev n : Name
   n = site.content.name
@@ -135,14 +133,14 @@ module _ (v : TableValue) (journal : List Label) (t : IsTableOf all_rules (run_o
   are_others = x.are_others.are_others
 
   woken_other : (place : Place) → IsOneOf place (waiting_on ws p.binds) → IsOneOf place x.others
-  woken_other place i = x.are_others.same.all place (on (binds_outer p.binds p.step) refl)
+  woken_other place i = x.are_others.same.all place (on (binds_outer p.binds step) refl)
     where
-      on : (b : Bool) → binds_outer p.binds p.step ≡ b → IsOneOf place all
+      on : (b : Bool) → binds_outer p.binds step ≡ b → IsOneOf place all
       on true e = let w : AreInner v x.around.home gone (waiting_on ws p.binds) all = are_others.outer e in
           subst (IsOneOf place) (sym w.comes) (one_left place (waiting_on ws p.binds) (places_but gone (places_of w.inside)) i)
       on false e = subst (IsOneOf place) (sym (are_others.none_outer e)) i
 
-  inner_other : binds_outer p.binds p.step ≡ true → (place : Place) → IsThere place d.roots → StandsIn n c.roots place → IsOneOf place x.others
+  inner_other : binds_outer p.binds step ≡ true → (place : Place) → IsThere place d.roots → StandsIn n c.roots place → IsOneOf place x.others
   inner_other e place h s =
       let w : AreInner v x.around.home gone (waiting_on ws p.binds) all = are_others.outer e in
       let inside : AreAllInside c.roots x.around.home w.inside = w.are_inside (run_of v journal) t in
@@ -150,7 +148,7 @@ module _ (v : TableValue) (journal : List Label) (t : IsTableOf all_rules (run_o
       ((stays_listed gone (places_of w.inside) place (inside.listed place (subst (λ (m : Name). StandsIn m c.roots place) (sym same_home) s)) (λ i. (all_gone.gone place i).gone h)))))
 
   other_opens : (place : Place) → IsOneOf place x.others → Opens kept c d place
-  other_opens place i = on (binds_outer p.binds p.step) refl
+  other_opens place i = on (binds_outer p.binds step) refl
     where
       by_waits : IsOneOf place (waiting_on ws p.binds) → Opens kept c d place
       by_waits j =
@@ -158,9 +156,9 @@ module _ (v : TableValue) (journal : List Label) (t : IsTableOf all_rules (run_o
           let k : IsKept kept place w.0 = listed.all place w.0 w.2 in
           (opens_law kept c d place).1 (inr (inl (record { box = n; variable = w.0; kept = k; binds = (is_woken place).1 w.0 k w.1 })))
 
-      by_box : binds_outer p.binds p.step ≡ true → StandsIn n d.roots place → Opens kept c d place
+      by_box : binds_outer p.binds step ≡ true → StandsIn n d.roots place → Opens kept c d place
       by_box e s =
-          let o : BindsOutside c d n = outside.1 (step_outer p.binds v.program.templates.nodes p.step e) in
+          let o : BindsOutside c d n = outside.1 (step_outer p.binds step e) in
           (opens_law kept c d place).1 (inr (inr (record { box = n; variable = o.variable; binds = o.binds; outside = o.outside; stands = s })))
 
       there : (IsOneOf place gone → ⊥) → IsThere place c.roots → IsThere place d.roots
@@ -169,7 +167,7 @@ module _ (v : TableValue) (journal : List Label) (t : IsTableOf all_rules (run_o
       listed_all : IsOneOf place all
       listed_all = x.are_others.same.only place i
 
-      on : (b : Bool) → binds_outer p.binds p.step ≡ b → Opens kept c d place
+      on : (b : Bool) → binds_outer p.binds step ≡ b → Opens kept c d place
       on false e = by_waits (subst (IsOneOf place) (are_others.none_outer e) listed_all)
       on true e =
           let w : AreInner v x.around.home gone (waiting_on ws p.binds) all = are_others.outer e in
@@ -202,8 +200,8 @@ module _ (v : TableValue) (journal : List Label) (t : IsTableOf all_rules (run_o
           same : k.box ≡ n
           same = at_site.alone k.box k.binds.adds
 
-          outer : binds_outer p.binds p.step ≡ true
-          outer = outer_step p.binds v.program.templates.nodes p.step (outside.0 (subst (BindsOutside c d) same (record { variable = k.variable; binds = k.binds; outside = k.outside })))
+          outer : binds_outer p.binds step ≡ true
+          outer = outer_step p.binds step (outside.0 (subst (BindsOutside c d) same (record { variable = k.variable; binds = k.binds; outside = k.outside })))
 
           in_home : StandsIn n d.roots place
           in_home = subst (λ (m : Name). StandsIn m d.roots place) same k.stands

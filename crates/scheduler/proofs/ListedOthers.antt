@@ -2,7 +2,7 @@
 use Rattle.std.proofs.Common.{◌≡◌, ℕ, ◌+◌, ◌<◌, get_or, take, Bool, true, false, List, [], ◌∷◌, ◌++◌, length, refl, sym, ap, ◌∙◌, append-nil, append_assoc, ◌⊎◌, inl, inr}
 use Rattle.opened_places.proofs.Members.{one_left, one_right, one_either}
 use Rattle.std.proofs.lemmas.List.{take_more}
-use Rattle.std.specs.Prelude.{if◌then◌else◌, not}
+use Rattle.std.specs.Prelude.{if◌then◌else◌, not, ◌||◌}
 use Rattle.std.specs.Result.{IfOk, OnOk}
 use Rattle.std.specs.declared.result.Result.{Result}
 use Rattle.std.specs.declared.result.Result.TheVariants.{Ok, Err}
@@ -15,7 +15,8 @@ use Rattle.akl_model.specs.declared.label.Label.{Label}
 use Rattle.akl_model.specs.Config.{IsIn}
 use Rattle.akl_model.specs.Wakes.{IsOneOf}
 use Rattle.constraint_laws.specs.Touched.{IsAmong}
-use Rattle.local_store.specs.Stored.{is_named}
+use Rattle.local_store.specs.Stored.{is_named, all_named}
+use Rattle.local_store.proofs.SettledValues.{all-named}
 use Rattle.box_tree.specs.declared.step.Step.{Step}
 use Rattle.box_tree.specs.Tables.{TableValue}
 use Rattle.wake_lists.specs.Waits.{places_at, waits_on}
@@ -142,6 +143,23 @@ so_outer xs frames w = on xs w.listed
     on [] i = absurd i
     on (y ∷ ys) (inl e) = or_left (not (is_named frames y.frame)) (has_outer ys frames) (ap (λ (z : Var). not (is_named frames z.frame)) (sym e) ∙ false_not (is_named frames w.variable.frame) (λ f. w.outer (named_in w.variable.frame frames f)))
     on (y ∷ ys) (inr i) = or_right (not (is_named frames y.frame)) (has_outer ys frames) (on ys i)
+
+-- a name among those that are added
+pub named_added : (ns ms : List Name) (n : Name) → is_named ms n ≡ true → is_named (all_named ns ms) n ≡ true
+named_added ns ms n e = all-named ns ms n ∙ or_right (is_named ns n) (is_named ms n) e
+
+-- or one that was there
+pub named_before : (ns ms : List Name) (n : Name) → is_named ms n ≡ false → is_named (all_named ns ms) n ≡ is_named ns n
+named_before ns ms n e = all-named ns ms n ∙ ap (λ (b : Bool). is_named ns n || b) e ∙ or_false (is_named ns n)
+  where
+    or_false : (b : Bool) → (b || false) ≡ b
+    or_false true = refl
+    or_false false = refl
+
+-- no place waits
+pub none_waits : (xs : List Var) → waiting_on [] xs ≡ []
+none_waits [] = refl
+none_waits (x ∷ xs) = none_waits xs
 
 -- the places that go, each once
 pub gone_same : (v : TableValue) (l : Label) (step : Step) (places once : List Place) → AreGone v l step places → AreSameOnce places once → AreGone v l step once

@@ -14,11 +14,12 @@ use Rattle.call_laws.proofs.Between.{distinct_of}
 use Rattle.table_laws.specs.Rows.{Table}
 use Rattle.table_laws.specs.Stamped.{IsTableOf}
 use Rattle.table_laws.specs.Steps.{Step}
-use Rattle.box_tree.specs.Tables.{all_rules, table_of, step_of}
+use Rattle.box_tree.specs.Tables.{all_rules, table_of, step_in}
 use Rattle.box_tree.specs.Views.{run_of}
 use Rattle.box_tree.specs.Plans.{PlanValue, IsRead, IsRightLabel, IsRight, of_label, of_call, labels_behind}
 use Rattle.binding_laws.proofs.BindsLater.{binds_later}
 use Rattle.binding_laws.proofs.CallBindsAgain.{call_binds_again}
+use Rattle.step_commit.proofs.StepStays.{step_stays}
 use Rattle.step_commit.specs.Cores.{CoreValue, IsCore, MayCommit, IsFresh, AllWithin}
 use Rattle.box_tree.proofs.AllInForce.{all_in_force}
 use Rattle.step_commit.proofs.CallsNow.{IsPlannedCall, planned_call, CallsOn, calls_on}
@@ -33,7 +34,7 @@ record IsPlannedWith (p : Program) (q : Query) (journal : List Label) (T : Table
   planned : IsPlanned p q journal T l reads names step
   bound : AreBoundIn planned.table.config planned.result planned.applies.site binds
 
-with_binds : (p : PlanValue) → IsRightLabel p → IsPlannedWith p.table.program p.table.query p.journal (table_of p.table) p.label p.reads p.names (step_of p.table.program.templates.nodes p.step) p.binds
+with_binds : (p : PlanValue) → IsRightLabel p → IsPlannedWith p.table.program p.table.query p.journal (table_of p.table) p.label p.reads p.names (step_in p.table p.label p.step) p.binds
 with_binds p r = record {
   planned = record { table = r.table; result = r.result; applies = r.applies; makes = r.makes; solved = r.solved; drawn = r.names; reads_all = r.reads; there = r.there };
   bound = r.binds;
@@ -91,20 +92,27 @@ module _ (p : Program) (q : Query) (journal further : List Label) (S T : Table) 
         };
       }
 
-pub made_now : (c : CoreValue) → IsCore c → (p : PlanValue) → IsRight p → MayCommit c p → IsFresh c p → (t : IsTableOf all_rules (run_of c.table c.journal) (table_of c.table))
-    → IsMadeAt c.table.program t.config p.label p.more (step_of c.table.program.templates.nodes p.step) p.binds
-made_now c k p r m f = subst (λ (j : List Label). (t : IsTableOf all_rules (run_of c.table j) (table_of c.table)) → IsMadeAt c.table.program t.config p.label p.more (step_of c.table.program.templates.nodes p.step) p.binds) (sym m.front)
-    (λ t. on t r)
-  where
-    within : AllWithin (table_of c.table) p.reads (length p.journal)
-    within = seen_all c k p r m f
+module _ (c : CoreValue) (k : IsCore c) (p : PlanValue) (r : IsRight p) (m : MayCommit c p) (f : IsFresh c p) where
+  abbrev step : Step
+  step = step_in c.table p.label p.step
 
-    planned_with : IsRightLabel p → IsPlannedWith c.table.program c.table.query p.journal (table_of p.table) p.label p.reads p.names (step_of c.table.program.templates.nodes p.step) p.binds
-    planned_with one = subst (λ (y : Program). IsPlannedWith y c.table.query p.journal (table_of p.table) p.label p.reads p.names (step_of y.templates.nodes p.step) p.binds) m.program
-        (subst (λ (y : Query). IsPlannedWith p.table.program y p.journal (table_of p.table) p.label p.reads p.names (step_of p.table.program.templates.nodes p.step) p.binds) m.query (with_binds p one))
+  -- over the table of the plan it is the same
+  same : step_in p.table p.label p.step ≡ step
+  same = step_stays c k p r m f
 
-    on : (t : IsTableOf all_rules (run_of c.table (p.journal ++ m.further)) (table_of c.table)) → IsRight p → IsMadeAt c.table.program t.config p.label p.more (step_of c.table.program.templates.nodes p.step) p.binds
-    on t (of_label only none one) =
-        label_on c.table.program c.table.query p.journal m.further (table_of p.table) (table_of c.table) p.label p.more p.reads p.names (step_of c.table.program.templates.nodes p.step) p.binds t m.none_by within only (planned_with one)
-    on t (of_call calls) =
-        call_on c.table.program c.table.query p.journal m.further (table_of p.table) (table_of c.table) p.label p.more p.reads p.names (step_of c.table.program.templates.nodes p.step) p.binds t m.none_by within (labels_behind p.step) (planned_call c p calls m)
+  within : AllWithin (table_of c.table) p.reads (length p.journal)
+  within = seen_all c k p r m f
+
+  planned_with : IsRightLabel p → IsPlannedWith c.table.program c.table.query p.journal (table_of p.table) p.label p.reads p.names step p.binds
+  planned_with one = subst (λ (y : Program). IsPlannedWith y c.table.query p.journal (table_of p.table) p.label p.reads p.names step p.binds) m.program
+      (subst (λ (y : Query). IsPlannedWith p.table.program y p.journal (table_of p.table) p.label p.reads p.names step p.binds) m.query
+      (subst (λ (s : Step). IsPlannedWith p.table.program p.table.query p.journal (table_of p.table) p.label p.reads p.names s p.binds) same (with_binds p one)))
+
+  on : (t : IsTableOf all_rules (run_of c.table (p.journal ++ m.further)) (table_of c.table)) → IsRight p → IsMadeAt c.table.program t.config p.label p.more step p.binds
+  on t (of_label only none one) =
+      label_on c.table.program c.table.query p.journal m.further (table_of p.table) (table_of c.table) p.label p.more p.reads p.names step p.binds t m.none_by within only (planned_with one)
+  on t (of_call calls) =
+      call_on c.table.program c.table.query p.journal m.further (table_of p.table) (table_of c.table) p.label p.more p.reads p.names step p.binds t m.none_by within (labels_behind p.step) (planned_call c p calls m same)
+
+  pub made_now : (t : IsTableOf all_rules (run_of c.table c.journal) (table_of c.table)) → IsMadeAt c.table.program t.config p.label p.more step p.binds
+  made_now = subst (λ (j : List Label). (t : IsTableOf all_rules (run_of c.table j) (table_of c.table)) → IsMadeAt c.table.program t.config p.label p.more step p.binds) (sym m.front) (λ t. on t r)

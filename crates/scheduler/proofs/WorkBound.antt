@@ -5,7 +5,7 @@ use Rattle.akl_terms.specs.declared.name.Place.{Place}
 use Rattle.akl_model.specs.Config.{Config}
 use Rattle.akl_model.specs.Wakes.{Wait, IsKept, IsOneOf}
 use Rattle.akl_model.proofs.NamesKept.{replay-stands}
-use Rattle.box_tree.specs.Tables.{all_rules, step_of}
+use Rattle.box_tree.specs.Tables.{all_rules, step_in}
 use Rattle.box_tree.specs.Plans.{PlanValue, IsRight}
 use Rattle.opened_places.specs.Placed.{PlacedValue, places_of}
 use Rattle.opened_places.specs.Gone.{AreGone, AreAllGone}
@@ -36,7 +36,7 @@ module _ (s : SchedulerValue) (h : IsScheduler s) (p : PlanValue) (right : IsRig
   abbrev t : TableIn s.core
   t = h.core.table
 
-  made : IsMadeAt s.core.table.program t.config p.label p.more (step_of s.core.table.program.templates.nodes p.step) p.binds
+  made : IsMadeAt s.core.table.program t.config p.label p.more (step_in s.core.table p.label p.step) p.binds
   made = made_now s.core h.core p right may fresh t
 
   abbrev d : Config
@@ -85,7 +85,7 @@ module _ (s : SchedulerValue) (h : IsScheduler s) (p : PlanValue) (right : IsRig
   steps_within : (n m k j : ℕ) → m ≡ n + (contents p.step + length p.more) → OpenSomeBySteps ps m k → (g : IsGoing) (b : AreTaken) → j ≡ k + length g.going + length b.taken → TakesLabelSteps s p n j
   steps_within n m k j e a g b i = record {
     work = work_by p g.going a.some b.taken;
-    is_work = IsWorkOf.labels t d h.kept (derives_by s.core.table.program t.config p.label p.more (step_of s.core.table.program.templates.nodes p.step) d (replay-stands all_rules s.core.table.program s.core.table.query s.core.journal t.config t.replays) made.made.leads)
+    is_work = IsWorkOf.labels t d h.kept (derives_by s.core.table.program t.config p.label p.more (step_in s.core.table p.label p.step) d (replay-stands all_rules s.core.table.program s.core.table.query s.core.journal t.config t.replays) made.made.leads)
         h.listed refl refl (label_work m k g a b);
     within =
         let f : k ≡ m + place_steps a.some = a.steps in

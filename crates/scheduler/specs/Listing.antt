@@ -1,18 +1,21 @@
 -- The places that are listed for a plan: those that its label changes, wakes, or leaves under equations that bind a variable from outside.
-use Rattle.std.specs.Prelude.{◌≡◌, List, [], ◌∷◌, ◌++◌, Bool, true, false, not, if◌then◌else◌}
+use Rattle.std.specs.Prelude.{◌≡◌, List, [], ◌∷◌, ◌++◌, Bool, true, false, not, if◌then◌else◌, Option, None, Some, option_map}
 use Rattle.std.specs.List.{list_any}
 use Rattle.akl_terms.specs.declared.name.Name.{Name}
 use Rattle.akl_terms.specs.declared.name.Var.{Var}
 use Rattle.akl_terms.specs.declared.name.Place.{Place}
-use Rattle.local_store.specs.Stored.{is_named}
+use Rattle.local_store.specs.Stored.{is_named, all_named}
+use Rattle.local_store.specs.declared.part.Part.{Part}
+use Rattle.table_laws.specs.Steps as laws
 use Rattle.box_tree.specs.declared.step.Step.{Step}
-use Rattle.box_tree.specs.Tables.{TableValue, table_of}
+use Rattle.box_tree.specs.Tables.{TableValue, table_of, step_in}
 use Rattle.box_tree.specs.Plans.{PlanValue}
 use Rattle.wake_lists.specs.Waits.{places_at}
 use Rattle.opened_places.specs.declared.around.Around.{Around}
 use Rattle.opened_places.specs.Placed.{PlacedValue, places_of}
 use Rattle.opened_places.specs.Exact.{IsAround, AreChanged}
 use Rattle.opened_places.specs.Inner.{AreInside}
+use Rattle.scheduler.specs.declared.waiting.Added.{Added}
 use Rattle.scheduler.specs.Dropping.{is_place_in}
 use Rattle.scheduler.specs.Once.{AreSameOnce}
 use Rattle.scheduler.specs.Placing.{AddsThose}
@@ -31,16 +34,40 @@ places_but gone (p ∷ ps) = if is_place_in p gone then places_but gone ps else 
 abbrev pub has_outer : List Var → List Name → Bool
 has_outer xs frames = list_any (λ (x : Var). not (is_named frames x.frame)) xs
 
--- so it is for the store that a step gives its box
-abbrev pub binds_outer : List Var → Step → Bool
-binds_outer xs (Step.Tell store solved) = has_outer xs store.frames
-binds_outer xs (Step.Join store solved goals told behind) = has_outer xs store.frames
-binds_outer xs (Step.Fork op alternatives) = false
-binds_outer xs Step.Fail = false
-binds_outer xs Step.Cut = false
-binds_outer xs Step.Refute = false
-binds_outer xs Step.Confirm = false
-binds_outer xs (Step.Split copy copies) = false
+-- or of none of these, where there are any
+abbrev pub outer_of : List Var → Option (List Name) → Bool
+outer_of xs None = false
+outer_of xs (Some frames) = has_outer xs frames
+
+-- the frames that a step leaves its box, where it tells this something
+abbrev pub frames_made : laws.Step → Option (List Name)
+frames_made (laws.tells new solved) = Some new.frames
+frames_made (laws.forks op news) = None
+frames_made laws.fails = None
+frames_made laws.cuts = None
+frames_made (laws.joins new solved goals) = Some new.frames
+frames_made laws.refutes = None
+frames_made laws.confirms = None
+frames_made (laws.splits copy copies) = None
+
+-- what a step adds to the store of its box
+abbrev pub part_of : Step → Option Part
+part_of (Step.Tell part solved) = Some part
+part_of (Step.Fork op alternatives) = None
+part_of Step.Fail = None
+part_of Step.Cut = None
+part_of (Step.Join part solved goals told behind) = Some part
+part_of Step.Refute = None
+part_of Step.Confirm = None
+part_of (Step.Split copy copies) = None
+
+-- a step binds a variable that is external to its box
+abbrev pub binds_outer : List Var → laws.Step → Bool
+binds_outer xs step = outer_of xs (frames_made step)
+
+-- the frames of a store with what is added to it
+abbrev pub frames_added : Option Added → Option (List Name)
+frames_added added = option_map (λ (a : Added). all_named a.store.now.frames a.part.now.frames.items) added
 
 -- all that stand in a box, but these, come to the end of a list
 pub record AreInner (v : TableValue) (home : Name) (gone before now : List Place) : Type 0 where
@@ -50,8 +77,8 @@ pub record AreInner (v : TableValue) (home : Name) (gone before now : List Place
 
 -- those that wait on a variable that is bound; and where one is of none of the box's frames all that stand in it
 pub record AreOthers (v : TableValue) (ws : List (Var × List Place)) (p : PlanValue) (home : Name) (gone others : List Place) : Type 0 where
-  pub outer : binds_outer p.binds p.step ≡ true → AreInner v home gone (waiting_on ws p.binds) others
-  pub none_outer : binds_outer p.binds p.step ≡ false → others ≡ waiting_on ws p.binds
+  pub outer : binds_outer p.binds (step_in v p.label p.step) ≡ true → AreInner v home gone (waiting_on ws p.binds) others
+  pub none_outer : binds_outer p.binds (step_in v p.label p.step) ≡ false → others ≡ waiting_on ws p.binds
 
 -- each once
 pub record AreOthersOnce (v : TableValue) (ws : List (Var × List Place)) (p : PlanValue) (home : Name) (gone others : List Place) : Type 0 where

@@ -3,27 +3,26 @@
 ghost use Rattle.std.specs.Prelude.{◌≡◌, ◌++◌, true, not, IfOk, OnOk};
 ghost use Rattle.std.specs.List.{list_any};
 ghost use Rattle.akl_terms.specs.declared.name.Place.{Place};
-ghost use Rattle.local_store.specs.Stored.{is_named};
+ghost use Rattle.local_store.specs.Stored.{is_named, all_named};
 ghost use Rattle.wake_lists.specs.Waits.{places_at};
 ghost use Rattle.opened_places.specs.Placed.{places_of};
 ghost use Rattle.opened_places.specs.Exact.{IsAround};
-ghost use Rattle.box_tree.specs.Tables.{table_of};
+ghost use Rattle.box_tree.specs.Tables.{table_of, step_in};
 ghost use Rattle.box_tree.specs.Drops.{IsOfRun};
 ghost use Rattle.box_tree.specs.Views.{is_there};
 ghost use Rattle.opened_places.specs.Gone.{AreGone};
 ghost use Rattle.scheduler.specs.Once.{IsEachPlaceOnce};
 ghost use Rattle.scheduler.specs.Turns.{AreHintsFor};
-ghost use Rattle.scheduler.specs.Listing.{waiting_on, places_but, has_outer, binds_outer, AreInner, AreOthers, AreOthersOnce, AddsOthers, AreListedFor};
+ghost use Rattle.scheduler.specs.Listing.{waiting_on, places_but, has_outer, outer_of, frames_made, frames_added, AreInner, AreOthers, AreOthersOnce, AddsOthers, AreListedFor};
 
 use crate::dropping::is_among;
 use crate::hints::Hints;
 use crate::once::each_once;
 use crate::placing::push_those;
 use crate::turns::TurnHints;
-use crate::waiting::{Waited, still_waiting};
+use crate::waiting::{Added, Waited, added_by, still_waiting};
 use akl_terms::{Name, Place, Var};
-use box_tree::{Plan, ShortList, Step, Table};
-use local_store::Store;
+use box_tree::{Plan, ShortList, Table};
 use opened_places::{Around, Placed, around_of, changed_places, gone_places, places_inside};
 use std::alloc::{AllocError, Global};
 use wake_lists::Waits;
@@ -60,12 +59,24 @@ impl Effects {
         let Some(around) = around_of(table, plan.label()) else {
             return Err(AllocError);
         };
+        let Some(store) = table.store_of(around.home) else {
+            return Err(AllocError);
+        };
+        let added = added_by(store, plan.step());
         let gone = gone_once(alloc, table, plan)?;
-        let others = opened_others(alloc, table, waits, plan, around.home, gone.as_slice())?;
+        let others = opened_others(
+            alloc,
+            table,
+            waits,
+            plan,
+            around.home,
+            added,
+            gone.as_slice(),
+        )?;
         let opened = opened_with(alloc, table, plan, around, others.as_slice())?;
         let changed = changed_of(opened.as_slice(), others.as_slice().len());
-        let waiting = still_waiting(alloc, waits, plan.step(), others.as_slice(), changed)?;
-        let hints = TurnHints::of(alloc, around.home, plan, sooner)?;
+        let waiting = still_waiting(alloc, waits, added, others.as_slice(), changed)?;
+        let hints = TurnHints::of(alloc, around.home, added, plan, sooner)?;
         Ok(Effects {
             gone,
             opened,
@@ -115,13 +126,15 @@ fn opened_others(
     waits: &Waits,
     plan: &Plan,
     home: Name,
+    added: Option<Added>,
     gone: &[Place],
 ) -> Result<ShortList<Place>, AllocError>
     requires run { IsOfRun table.now }
     requires there { is_there (table_of table.now) (Place.Box home) ≡ true }
+    requires added { frames_added added ≡ frames_made (step_in table.now plan.now.label plan.now.step) }
     ensures { IfOk result (λ others. AreOthersOnce table.now waits.now plan.now home gone.now others.items) }
 {
-    let others = all_others(alloc, table, waits, plan, home, gone)?;
+    let others = all_others(alloc, table, waits, plan, home, added, gone)?;
     each_once(alloc, others)
 }
 
@@ -133,15 +146,17 @@ fn all_others(
     waits: &Waits,
     plan: &Plan,
     home: Name,
+    added: Option<Added>,
     gone: &[Place],
 ) -> Result<ShortList<Place>, AllocError>
     requires run { IsOfRun table.now }
     requires there { is_there (table_of table.now) (Place.Box home) ≡ true }
+    requires added { frames_added added ≡ frames_made (step_in table.now plan.now.label plan.now.step) }
     ensures { IfOk result (λ others. AreOthers table.now waits.now plan.now home gone.now others.items) }
 {
     let mut places = ShortList::new();
     push_woken(alloc, waits, plan.binds(), &mut places)?;
-    if binds_outer(plan.step(), plan.binds()) {
+    if binds_outer(added, plan.binds()) {
         push_inner(alloc, table, home, gone, &mut places)?;
     }
     Ok(places)
@@ -156,6 +171,9 @@ fn push_woken(
 ) -> Result<(), AllocError>
     ensures { OnOk result (places.new.items ≡ places.old.items ++ waiting_on waits.now binds.now) }
 {
+    if waits.is_empty() {
+        return Ok(());
+    }
     for variable in binds {
         push_waiting(alloc, waits, *variable, places)?;
     }
@@ -177,28 +195,23 @@ fn push_waiting(
     Ok(())
 }
 
-// Whether one of these variables is of none of the frames of the store that a step gives its box.
-fn binds_outer(step: &Step, binds: &[Var]) -> bool
-    ensures { result ≡ binds_outer binds.now step.now }
+// Whether one of these variables is of none of the frames of a store with what is added to it; none is where nothing is added.
+fn binds_outer(added: Option<Added>, binds: &[Var]) -> bool
+    ensures { result ≡ outer_of binds.now (frames_added added.entry) }
 {
-    match step {
-        Step::Tell { store, .. } | Step::Join { store, .. } => has_outer(store.get(), binds),
-        Step::Fork { .. }
-        | Step::Fail
-        | Step::Cut
-        | Step::Refute
-        | Step::Confirm
-        | Step::Split { .. } => false,
+    match added {
+        Some(added) => has_outer(added, binds),
+        None => false,
     }
 }
 
-// Whether one of these variables is of none of a store's frames.
-fn has_outer(store: &Store, binds: &[Var]) -> bool
-    ensures { result ≡ has_outer binds.now store.now.frames }
+// The same where something is added.
+fn has_outer(added: Added, binds: &[Var]) -> bool
+    ensures { result ≡ has_outer binds.now (all_named added.entry.store.now.frames added.entry.part.now.frames.items) }
 {
     binds
         .iter()
-        .any(|variable| !store.has_frame(variable.frame))
+        .any(|variable| !added.has_frame(variable.frame))
 }
 
 // All that stand in a box, but these, come.

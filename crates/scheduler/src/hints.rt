@@ -1,8 +1,8 @@
 //! Goals that come sooner once a variable is bound.
 
+use crate::waiting::Added;
 use akl_terms::{Name, Var};
-use box_tree::{Plan, Step};
-use local_store::Store;
+use box_tree::Plan;
 use smallvec::SmallVec;
 use std::alloc::{AllocError, Global};
 use std::cmp::Reverse;
@@ -45,14 +45,22 @@ impl Hints {
         Some(goals)
     }
 
-    /// The variables that a plan binds to something else and of which a goal waits for it.
-    pub(crate) fn bound_by(&self, plan: &Plan) -> Result<SmallVec<Var, 2>, AllocError> {
+    /// The variables that a plan, which adds this to a store, binds to something else and of which a goal waits for it.
+    pub(crate) fn bound_by(
+        &self,
+        added: Option<Added>,
+        plan: &Plan,
+    ) -> Result<SmallVec<Var, 2>, AllocError> {
         let mut bound = SmallVec::new(self.alloc);
         if self.goals.is_empty() {
             return Ok(bound);
         }
+        // A variable to which others are made equal isn't bound by that.
+        let Some(added) = added else {
+            return Ok(bound);
+        };
         for variable in plan.binds() {
-            if self.goals.contains_key(&Reverse(*variable)) && is_bound_by(plan.step(), *variable) {
+            if self.goals.contains_key(&Reverse(*variable)) && added.binds(*variable) {
                 bound.push(*variable)?;
             }
         }
@@ -75,25 +83,4 @@ impl Hints {
 /// As many hints are kept where so many places are open.
 pub(crate) fn most_hints(open: usize) -> usize {
     open.saturating_mul(4)
-}
-
-// Whether the store that a step gives its box binds a variable. One to which others are made equal isn't bound by that.
-fn is_bound_by(step: &Step, variable: Var) -> bool {
-    match store_of(step) {
-        Some(store) => store.first_binding(variable).is_some(),
-        None => false,
-    }
-}
-
-/// The store that a step gives its box.
-pub(crate) fn store_of(step: &Step) -> Option<&Store> {
-    match step {
-        Step::Tell { store, .. } | Step::Join { store, .. } => Some(store.get()),
-        Step::Fork { .. }
-        | Step::Fail
-        | Step::Cut
-        | Step::Refute
-        | Step::Confirm
-        | Step::Split { .. } => None,
-    }
 }

@@ -11,7 +11,7 @@ ghost use Rattle.scheduler.specs.Turns.{urgency_seen, told_by, unsolved_by, unso
 use crate::attention::collects;
 use crate::hints::{Hints, most_hints};
 use crate::scheduler::Scheduler;
-use crate::waiting::Waited;
+use crate::waiting::{Added, Waited};
 use akl_terms::{Name, Place, Var};
 use box_tree::{NewBox, Plan, Sight, Step, Table};
 use opened_places::Placed;
@@ -39,13 +39,14 @@ impl TurnHints {
     pub(crate) fn of(
         alloc: Global,
         home: Name,
+        added: Option<Added>,
         plan: &Plan,
         sooner: &Hints,
     ) -> Result<TurnHints, AllocError>
         ensures { IfOk result (AreHints home plan.now.step) }
     {
         let unsolved = unsolved_by(alloc, home, plan.step())?;
-        let bound = sooner.bound_by(plan)?;
+        let bound = sooner.bound_by(added, plan)?;
         Ok(TurnHints {
             unsolved,
             told: told_by(home, plan.step()),

@@ -33,7 +33,7 @@ use Rattle.table_laws.specs.Rows.{Table}
 use Rattle.table_laws.specs.Kept.{SharesStores}
 use Rattle.table_laws.specs.Stamped.{IsTableOf}
 use Rattle.table_laws.specs.Steps.{Step, joins, IsSolvedIn, IsSolvedWhen}
-use Rattle.box_tree.specs.Tables.{all_rules, table_of, step_of}
+use Rattle.box_tree.specs.Tables.{all_rules, table_of, step_in}
 use Rattle.box_tree.specs.Plans.{PlanValue, IsRead, IsRightCall, ReadsCall, labels_behind}
 use Rattle.box_tree.proofs.AllInForce.{all_in_force}
 use Rattle.step_commit.specs.Cores.{CoreValue, MayCommit, AllWithin}
@@ -62,7 +62,7 @@ pub record IsPlannedCall (p : Program) (q : Query) (journal : List Label) (T : T
   pub reads_call : ReadsCall (IsRead reads) goal site
   pub bound : AreBoundIn table.config (at_once calls) site binds
 
-of_plan : (p : PlanValue) → IsRightCall p → IsPlannedCall p.table.program p.table.query p.journal (table_of p.table) p.label p.more p.reads p.names (step_of p.table.program.templates.nodes p.step) (labels_behind p.step) p.binds
+of_plan : (p : PlanValue) → IsRightCall p → IsPlannedCall p.table.program p.table.query p.journal (table_of p.table) p.label p.more p.reads p.names (step_in p.table p.label p.step) (labels_behind p.step) p.binds
 of_plan p r = record {
   table = r.table;
   goal = r.goal;
@@ -84,10 +84,11 @@ of_plan p r = record {
   bound = r.binds;
 }
 
-pub planned_call : (c : CoreValue) (p : PlanValue) → IsRightCall p → MayCommit c p
-    → IsPlannedCall c.table.program c.table.query p.journal (table_of p.table) p.label p.more p.reads p.names (step_of c.table.program.templates.nodes p.step) (labels_behind p.step) p.binds
-planned_call c p r m = subst (λ (x : Program). IsPlannedCall x c.table.query p.journal (table_of p.table) p.label p.more p.reads p.names (step_of x.templates.nodes p.step) (labels_behind p.step) p.binds) m.program
-    (subst (λ (y : Query). IsPlannedCall p.table.program y p.journal (table_of p.table) p.label p.more p.reads p.names (step_of p.table.program.templates.nodes p.step) (labels_behind p.step) p.binds) m.query (of_plan p r))
+pub planned_call : (c : CoreValue) (p : PlanValue) → IsRightCall p → MayCommit c p → step_in p.table p.label p.step ≡ step_in c.table p.label p.step
+    → IsPlannedCall c.table.program c.table.query p.journal (table_of p.table) p.label p.more p.reads p.names (step_in c.table p.label p.step) (labels_behind p.step) p.binds
+planned_call c p r m same = subst (λ (x : Program). IsPlannedCall x c.table.query p.journal (table_of p.table) p.label p.more p.reads p.names (step_in c.table p.label p.step) (labels_behind p.step) p.binds) m.program
+    (subst (λ (y : Query). IsPlannedCall p.table.program y p.journal (table_of p.table) p.label p.more p.reads p.names (step_in c.table p.label p.step) (labels_behind p.step) p.binds) m.query
+    (subst (λ (s : Step). IsPlannedCall p.table.program p.table.query p.journal (table_of p.table) p.label p.more p.reads p.names s (labels_behind p.step) p.binds) same (of_plan p r)))
 
 stands_again : (nodes : List Node) (around around2 E E2 : Equations) (bindings : List (Var × Term)) → around ≡ around2 → E ≡ E2 → StandOver nodes around E bindings → StandOver nodes around2 E2 bindings
 stands_again nodes around around2 E E2 bindings a e s = subst (λ (es : Equations). StandOver nodes around2 es bindings) e (subst (λ (es : Equations). StandOver nodes es E bindings) a s)

@@ -28,8 +28,9 @@ use Rattle.table_laws.specs.Writes.{IsTable}
 use Rattle.table_laws.proofs.Later.{later_law}
 use Rattle.table_laws.specs.Laws.{started}
 use Rattle.table_laws.proofs.Started.{start_law}
-use Rattle.box_tree.specs.Tables.{all_rules, TableValue, table_of, step_of}
-use Rattle.box_tree.specs.Plans.{PlanValue, IsRead, IsRightLabel}
+use Rattle.box_tree.specs.Tables.{all_rules, TableValue, table_of, step_in}
+use Rattle.box_tree.specs.Plans.{PlanValue, IsRead, IsRight, IsRightLabel, of_label, of_call}
+use Rattle.box_tree.specs.Views.{run_of}
 use Rattle.step_commit.specs.Cores.{CoreValue, IsCore, MayCommit, is_within, AllWithin}
 use Rattle.step_commit.specs.Solving.{solved_at}
 use Rattle.step_commit.proofs.StillSolved.{IsOld, AreOld, still_solved, solved_over, all_over, down_old, around_old}
@@ -91,12 +92,24 @@ pub record IsPlanned (p : Program) (q : Query) (journal : List Label) (T : Table
   pub reads_all : ReadsFor (IsRead reads) l applies.site step
   pub there : (i : Item) → IsRead reads i → IsSome (stamp_in T i)
 
-of_plan : (p : PlanValue) → IsRightLabel p → IsPlanned p.table.program p.table.query p.journal (table_of p.table) p.label p.reads p.names (step_of p.table.program.templates.nodes p.step)
+of_plan : (p : PlanValue) → IsRightLabel p → IsPlanned p.table.program p.table.query p.journal (table_of p.table) p.label p.reads p.names (step_in p.table p.label p.step)
 of_plan p r = record { table = r.table; result = r.result; applies = r.applies; makes = r.makes; solved = r.solved; drawn = r.names; reads_all = r.reads; there = r.there }
 
-pub planned : (c : CoreValue) (p : PlanValue) → IsRightLabel p → MayCommit c p → IsPlanned c.table.program c.table.query p.journal (table_of p.table) p.label p.reads p.names (step_of c.table.program.templates.nodes p.step)
-planned c p r m = subst (λ (x : Program). IsPlanned x c.table.query p.journal (table_of p.table) p.label p.reads p.names (step_of x.templates.nodes p.step)) m.program
-    (subst (λ (y : Query). IsPlanned p.table.program y p.journal (table_of p.table) p.label p.reads p.names (step_of p.table.program.templates.nodes p.step)) m.query (of_plan p r))
+-- so it is over the program of a core, where its step is the same over the core's table
+pub planned : (c : CoreValue) (p : PlanValue) → IsRightLabel p → MayCommit c p → step_in p.table p.label p.step ≡ step_in c.table p.label p.step
+    → IsPlanned c.table.program c.table.query p.journal (table_of p.table) p.label p.reads p.names (step_in c.table p.label p.step)
+planned c p r m same = subst (λ (x : Program). IsPlanned x c.table.query p.journal (table_of p.table) p.label p.reads p.names (step_in c.table p.label p.step)) m.program
+    (subst (λ (y : Query). IsPlanned p.table.program y p.journal (table_of p.table) p.label p.reads p.names (step_in c.table p.label p.step)) m.query
+    (subst (IsPlanned p.table.program p.table.query p.journal (table_of p.table) p.label p.reads p.names) same (of_plan p r)))
+
+-- a plan's table is one of the core's program and query
+pub table_before : (c : CoreValue) (p : PlanValue) → IsRight p → MayCommit c p → IsTableOf all_rules (run_of c.table p.journal) (table_of p.table)
+table_before c p r m = subst (λ (x : Program). IsTableOf all_rules (record { program = x; query = c.table.query; journal = p.journal }) (table_of p.table)) m.program
+    (subst (λ (y : Query). IsTableOf all_rules (record { program = p.table.program; query = y; journal = p.journal }) (table_of p.table)) m.query (own r))
+  where
+    own : IsRight p → IsTableOf all_rules (run_of p.table p.journal) (table_of p.table)
+    own (of_label alone none x) = x.table
+    own (of_call x) = x.table
 
 -- the label applies after further labels, and the step is what it makes there
 pub record LeadsOn (p : Program) (q : Query) (journal : List Label) (T : Table) (t : IsTableOf all_rules (record { program = p; query = q; journal = journal }) T) (l : Label) (names : ℕ) (step : Step) : Type 0 where

@@ -5,5 +5,6 @@ pub mod CallsAgain
 pub mod CallsNow
 pub mod CallNames
 pub mod Stale
+pub mod StepStays
 pub mod InOrder
 pub mod Made

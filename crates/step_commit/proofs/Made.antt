@@ -27,7 +27,7 @@ use Rattle.table_laws.specs.Writes.{IsTable, IsFresh as IsNewTo, DrawsFresh, sol
 use Rattle.table_laws.proofs.Fresh.{fresh_step}
 use Rattle.table_laws.proofs.StepMakes.{step_law}
 use Rattle.box_tree.specs.declared.step.Step.{Step}
-use Rattle.box_tree.specs.Tables.{all_rules, TableValue, table_of, step_of, FitsPlace, DrawsInOrder, MayApply, Joins, LeadsBy, Applied}
+use Rattle.box_tree.specs.Tables.{all_rules, TableValue, table_of, step_in, FitsPlace, DrawsInOrder, MayApply, Joins, LeadsBy, Applied}
 use Rattle.box_tree.specs.Views.{run_of}
 use Rattle.box_tree.specs.Plans.{PlanValue, IsRightLabel, IsRightCall, IsRight, of_label, of_call, labels_behind}
 use Rattle.box_tree.proofs.LeadsBy.{leads_alone, joined_by}
@@ -39,6 +39,7 @@ use Rattle.step_commit.proofs.CallsNow.{IsPlannedCall, planned_call, CallsOn, ca
 use Rattle.step_commit.proofs.CallNames.{left_fresh, left_increase}
 use Rattle.step_commit.proofs.Stale.{looked, unchanged_here, stale, all_within}
 use Rattle.step_commit.proofs.InOrder.{makes_ordered}
+use Rattle.step_commit.proofs.StepStays.{step_kept}
 
 some_none : {A : Type 0} {x : A} → None ≡ Some x → ⊥
 some_none e = cc
@@ -80,9 +81,10 @@ record Leading (c : CoreValue) (p : PlanValue) (m : MayCommit c p) : Type 0 wher
   may : MayApply c.table p.label p.step
   next : (u : TableValue) → Applied c.table p.label (length p.more) (Some (solved_in c p)) p.names p.step u → IsTableOf all_rules (run_of c.table ((p.journal ++ m.further) ++ p.label ∷ p.more)) (table_of u)
 
-module _ (c : CoreValue) (k : IsCore c) (p : PlanValue) (m : MayCommit c p) (within : AllWithin (table_of c.table) p.reads (length p.journal)) where
+module _ (c : CoreValue) (k : IsCore c) (p : PlanValue) (m : MayCommit c p) (within : AllWithin (table_of c.table) p.reads (length p.journal))
+    (same : step_in p.table p.label p.step ≡ step_in c.table p.label p.step) where
   abbrev step : laws.Step
-  step = step_of c.table.program.templates.nodes p.step
+  step = step_in c.table p.label p.step
 
   t : IsTableOf all_rules (run_of c.table (p.journal ++ m.further)) (table_of c.table)
   t = subst (λ (j : List Label). IsTableOf all_rules (run_of c.table j) (table_of c.table)) m.front k.table
@@ -92,7 +94,7 @@ module _ (c : CoreValue) (k : IsCore c) (p : PlanValue) (m : MayCommit c p) (wit
 
   module _ (only : p.more ≡ []) (none : labels_behind p.step ≡ (0, 0)) (r : IsRightLabel p) where
     x : IsPlanned c.table.program c.table.query p.journal (table_of p.table) p.label p.reads p.names step
-    x = planned c p r m
+    x = planned c p r m same
 
     on : LeadsOn c.table.program c.table.query (p.journal ++ m.further) (table_of c.table) t p.label p.names step
     on = leads_on c.table.program c.table.query p.journal m.further (table_of p.table) (table_of c.table) p.label p.reads p.names step x t m.none_by within
@@ -121,7 +123,7 @@ module _ (c : CoreValue) (k : IsCore c) (p : PlanValue) (m : MayCommit c p) (wit
 
   module _ (r : IsRightCall p) where
     y : IsPlannedCall c.table.program c.table.query p.journal (table_of p.table) p.label p.more p.reads p.names step (labels_behind p.step) p.binds
-    y = planned_call c p r m
+    y = planned_call c p r m same
 
     called : CallsOn c.table.program c.table.query p.journal m.further (table_of p.table) (table_of c.table) p.label p.more p.reads p.names step (labels_behind p.step) p.binds y t
     called = calls_on c.table.program c.table.query p.journal m.further (table_of p.table) (table_of c.table) p.label p.more p.reads p.names step (labels_behind p.step) p.binds y t m.none_by within
@@ -184,8 +186,8 @@ module _ (c : CoreValue) (k : IsCore c) (p : PlanValue) (m : MayCommit c p) (wit
     }
 
 leading : (c : CoreValue) → IsCore c → (p : PlanValue) → IsRight p → (m : MayCommit c p) → AllWithin (table_of c.table) p.reads (length p.journal) → Leading c p m
-leading c k p (of_label only none r) m within = of_one c k p m within only none r
-leading c k p (of_call r) m within = of_several c k p m within r
+leading c k p (of_label only none r) m within = of_one c k p m within (step_kept c k p m within (of_label only none r)) only none r
+leading c k p (of_call r) m within = of_several c k p m within (step_kept c k p m within (of_call r)) r
 
 module _ (c : CoreValue) (k : IsCore c) (p : PlanValue) (r : IsRight p) (m : MayCommit c p) (within : AllWithin (table_of c.table) p.reads (length p.journal)) where
   pub may_apply : MayApply c.table p.label p.step

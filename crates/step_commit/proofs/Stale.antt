@@ -24,8 +24,7 @@ use Rattle.box_tree.specs.Views.{run_of}
 use Rattle.box_tree.specs.Plans.{PlanValue, IsRead, IsRight, of_label, of_call}
 use Rattle.step_commit.specs.Cores.{CoreValue, IsCore, run_by, MayCommit, IsUnchanged, IsStale, is_within, AllWithin, IsFirstUnseen}
 use Rattle.step_commit.proofs.LastChanges.{IsPart, last_change}
-use Rattle.step_commit.proofs.Committed.{planned, goes, stamp_last, some_of}
-use Rattle.step_commit.proofs.CallsNow.{planned_call}
+use Rattle.step_commit.proofs.Committed.{table_before, goes, stamp_last, some_of}
 
 -- a fact that is owed where an option has nothing
 pub if_none : {A P : Type 0} (o : Option A) → P → IfNone o P
@@ -190,8 +189,11 @@ pub record IsLooked (c : CoreValue) (table : TableValue) (journal : List Label) 
   pub there : (i : Item) → IsRead reads i → IsSome (stamp_in (table_of table) i)
 
 pub looked : (c : CoreValue) (p : PlanValue) → IsRight p → MayCommit c p → IsLooked c p.table p.journal p.reads
-looked c p (of_label alone none r) m = record { further = m.further; front = m.front; before = (planned c p r m).table; there = r.there }
-looked c p (of_call r) m = record { further = m.further; front = m.front; before = (planned_call c p r m).table; there = r.there }
+looked c p r m = record { further = m.further; front = m.front; before = table_before c p r m; there = there r }
+  where
+    there : IsRight p → (i : Item) → IsRead p.reads i → IsSome (stamp_in (table_of p.table) i)
+    there (of_label alone none x) = x.there
+    there (of_call x) = x.there
 
 module _ (c : CoreValue) (k : IsCore c) (table : TableValue) (journal : List Label) (reads : List Item) (x : IsLooked c table journal reads) where
   now : IsTableOf all_rules (run_of c.table (journal ++ x.further)) (table_of c.table)

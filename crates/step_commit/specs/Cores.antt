@@ -7,7 +7,7 @@ use Rattle.plan_laws.specs.Right.{NoneBy}
 use Rattle.table_laws.specs.Rows.{Table}
 use Rattle.table_laws.specs.Kept.{SharesStores}
 use Rattle.table_laws.specs.Stamped.{Run, IsTableOf, LastChange, stamp_in}
-use Rattle.box_tree.specs.Tables.{all_rules, TableValue, table_of, step_of, Applied}
+use Rattle.box_tree.specs.Tables.{all_rules, TableValue, table_of, step_in, Applied}
 use Rattle.box_tree.specs.Views.{run_of}
 use Rattle.box_tree.specs.Plans.{PlanValue, IsRead}
 use Rattle.step_commit.specs.declared.commit.CommitError.{CommitError}
@@ -71,7 +71,7 @@ pub record IsFresh (c : CoreValue) (p : PlanValue) : Type 0 where
 
 -- after how many labels the stores of a plan's step were solved
 abbrev pub solved_in : CoreValue → PlanValue → ℕ
-solved_in c p = solved_at (length c.journal) (length p.journal) (step_of c.table.program.templates.nodes p.step)
+solved_in c p = solved_at (length c.journal) (length p.journal) (step_in c.table p.label p.step)
 
 -- the plan's labels are the next ones of the journal, and its step made the table; the receipt is that of the first one
 pub record Commits (c : CoreValue) (p : PlanValue) (d : CoreValue) (r : Receipt) : Type 0 where

@@ -39,6 +39,13 @@ impl Waiting {
         }
     }
 
+    /// Whether no place waits.
+    pub(crate) fn is_empty(&self) -> bool
+        ensures { result ≡ true → self.now ≡ [] }
+    {
+        self.places.is_empty()
+    }
+
     /// Has the place wait on these variables too. An `Err` leaves the waits of the others as they were.
     pub(crate) fn add_all(&mut self, place: Place, on: &[Var]) -> Result<(), AllocError>
         ensures added { OnOk result ((p : _) (x : _) → waits_on self.new p x ≡ (waits_on self.old p x || (same_place p place && is_variable_in x on.now))) }

@@ -1,6 +1,6 @@
 //! Which places wait on which variables.
 
-ghost use Rattle.std.specs.Prelude.{◌≡◌, [], false, ◌||◌, ◌&&◌, not, IfOk, IfErr};
+ghost use Rattle.std.specs.Prelude.{◌≡◌, true, [], false, ◌||◌, ◌&&◌, not, IfOk, IfErr};
 ghost use Rattle.std.specs.List.{IsDistinct};
 ghost use Rattle.akl_terms.specs.Names.{same_var};
 ghost use Rattle.wake_lists.specs.Waits.{same_place, waits_on, places_at, is_variable_in};
@@ -47,6 +47,13 @@ impl Waits {
             by_variable: Waiting::new(alloc),
             by_place: PlaceMap::new(alloc),
         }
+    }
+
+    /// Whether no place waits.
+    pub fn is_empty(&self) -> bool
+        ensures { result ≡ true → self.now ≡ [] }
+    {
+        self.by_variable.is_empty()
     }
 
     /// Keeps the waits of a place that has none: on these variables. An `Err`, for want of memory, leaves all waits as

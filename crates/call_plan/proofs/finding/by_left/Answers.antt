@@ -1,4 +1,6 @@
 use Rattle.std.proofs.Common.{refl, rules}
+use Rattle.local_store.specs.Chained.{innermost}
+use Rattle.local_store.specs.Parts.{told_over}
 use Rattle.guard_plan.proofs.Sites.{some_stores}
 use Rattle.call_plan.specs.Owns.{stored}
 use Rattle.call_plan.proofs.CalledFacts.{joined_solved}
@@ -20,7 +22,7 @@ joined-requires-clause-plain c = rw (c.stores.ensures, c.requires.program) (last
 pub body_of-requires-clause-solved : goal.body_of-requires-clause-solved
 body_of-requires-clause-solved c =
     let joins = rw (c.in-Some.is, c.stores.ensures, c.requires.program) at c.in_ok-found.ensures.joins in
-    joined_solved c.args.view.now.table.program.templates.nodes c.args.view.now.stores c.args.op (stored c.args.left.frame c.args.left.own) c.in-Some.told joins
+    joined_solved c.args.view.now.table.program.templates.nodes c.args.view.now.stores c.args.op (stored c.args.left.frame c.args.left.own) (told_over (innermost c.args.view.now.stores) c.in-Some.told) joins
 
 pub planned-requires-clause-reduced : goal.planned-requires-clause-reduced
 planned-requires-clause-reduced c = record {

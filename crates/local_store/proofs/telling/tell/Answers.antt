@@ -4,9 +4,9 @@ use Rattle.local_store.specs.Telling.{added, clash}
 use Rattle.local_store.proofs.Answered.{IfOk-all}
 use Rattle.local_store.proofs.telling.tell.Goals as goal
 
-pub returns-in-Clash : goal.returns-in-Clash
-returns-in-Clash g c = IfOk-weaker c.add_clash.result _ _
-    (λ z store. clash c.in-Clash.left c.in-Clash.right (rw c.in-Clash.is at c.in_ok-left.ensures.solves) store (c.add_clash.ensures.solved ∙ c.requires.untold.0)
+pub returns-in-Clash-clause-adds : goal.returns-in-Clash-clause-adds
+returns-in-Clash-clause-adds g c = IfOk-weaker c.add_clash.result _ _
+    (λ z store s. clash c.in-Clash.left c.in-Clash.right (rw c.in-Clash.is at c.in_ok-left.ensures.solves) (store s) (c.add_clash.ensures.solved ∙ c.requires.untold.0)
     (ap (λ v. v.items) c.add_clash.ensures.bound ∙ c.requires.untold.1))
     c.add_clash.ensures.store
 
@@ -16,7 +16,7 @@ add_found-requires-clause-solved g c = (rw c.in-Added.is at c.in_ok-left.ensures
 pub add_found-requires-clause-fresh : goal.add_found-requires-clause-fresh
 add_found-requires-clause-fresh g c = (rw c.in-Added.is at c.in_ok-left.ensures.solves).fresh
 
-pub returns-in-Added : goal.returns-in-Added
-returns-in-Added g c = IfOk-all c.add_found.result _ _ _ _
-    (λ t store solved bound. added c.in-Added.added (rw c.in-Added.is at c.in_ok-left.ensures.solves) (rw c.in-Added.is at c.in_ok-left.ensures.older) store solved bound)
+pub returns-in-Added-clause-adds : goal.returns-in-Added-clause-adds
+returns-in-Added-clause-adds g c = IfOk-all c.add_found.result _ _ _ _
+    (λ t store solved bound s. added c.in-Added.added (rw c.in-Added.is at c.in_ok-left.ensures.solves) (rw c.in-Added.is at c.in_ok-left.ensures.older) (store s) solved bound)
     c.add_found.ensures.store c.add_found.ensures.solved (rw c.requires.untold.1 at c.add_found.ensures.bound)

@@ -12,4 +12,4 @@ returns c =
     let adds : AddsInsideEach T c.in_ok-tops.tops.items c.own_places-places.result.items c.push_inside_each.new.places.items =
     subst (λ (ns : List Name). AddsInsideEach T ns c.own_places-places.result.items c.push_inside_each.new.places.items) c.as_slice.ensures c.in_ok-push_inside_each.ensures in
     listed_gone c.args.table.now c.args.label c.args.step.now c.in_ok-tops.tops.items adds.boxes c.push_inside_each.new.places.items c.in_ok-tops.ensures adds.lists
-    (λ nodes. adds.comes ∙ ap (λ (ps : List Place). ps ++ places_at T adds.boxes) (c.own_places-places.ensures nodes))
+    (λ nodes s. adds.comes ∙ ap (λ (ps : List Place). ps ++ places_at T adds.boxes) (c.own_places-places.ensures nodes s))

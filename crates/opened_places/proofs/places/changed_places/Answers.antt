@@ -15,4 +15,4 @@ path_around-requires-clause-outside c = outside_is (table_of c.args.table.now) c
 
 pub returns : goal.returns
 returns c = changed_where c.args.table.now c.args.label c.args.step.now c.args.around c.in_ok-path.path.items c.in_ok-places.places.items c.requires.around c.in_ok-path.ensures
-    (λ nodes. subst (λ (ns : List Name). AreListed c.args.label.place c.args.around ns (step_of nodes c.args.step.now) c.in_ok-places.places.items) c.as_slice.ensures.value (c.in_ok-places.ensures nodes))
+    (λ nodes s. subst (λ (ns : List Name). AreListed c.args.label.place c.args.around ns (step_of nodes s c.args.step.now) c.in_ok-places.places.items) c.as_slice.ensures.value (c.in_ok-places.ensures nodes s))

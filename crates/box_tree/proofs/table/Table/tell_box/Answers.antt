@@ -1,29 +1,36 @@
-use Rattle.std.proofs.Common.{sym, ap, ◌∙◌, List}
+use Rattle.std.proofs.Common.{◌≡◌, List, Option, Some, sym, ap, ◌∙◌, subst}
 use Rattle.std.specs.Option.{option_copied_mut}
+use Rattle.std.specs.Map.{lookup}
 use Rattle.akl_terms.specs.declared.name.Name.{Name}
-use Rattle.local_store.specs.Stored.{Stored}
-use Rattle.box_tree.specs.Edits.{told_first}
+use Rattle.akl_terms.specs.Names.{same_name}
+use Rattle.name_map.specs.Entries.{IsPut}
+use Rattle.table_laws.specs.Writes.{changed_box}
 use Rattle.box_tree.specs.declared.entries.BoxEntry.{BoxEntry}
-use Rattle.box_tree.specs.Tables.{TableValue, box_row}
+use Rattle.box_tree.specs.Tables.{TableValue, table_of}
+use Rattle.box_tree.specs.Edits.{SetsBoxes, part_row}
 use Rattle.name_map.proofs.Lent.{on_some}
-use Rattle.box_tree.proofs.Maps.{removed_is}
-use Rattle.box_tree.proofs.Written.{writes_box, writes_no_box}
+use Rattle.box_tree.proofs.Maps.{put_same}
+use Rattle.box_tree.proofs.Written.{writes_box, told_entry}
 use Rattle.box_tree.proofs.table.Table.tell_box.Goals as goal
-use Rattle.box_tree.proofs.table.Table.tell_box.Goals.{in-Some-get_mut, in_default-get_mut}
 
-pub returns : goal.returns
-returns c =
+pub returns-in_default-tell-clause-unchanged : goal.returns-in_default-tell-clause-unchanged
+returns-in_default-tell-clause-unchanged c =
     let t : TableValue = record { program = c.self.inside.program.value; query = c.self.inside.query.value; boxes = c.self.inside.boxes; goals = c.self.inside.goals; roots = c.self.inside.roots.items; roots_changed = c.self.inside.roots_changed; next = c.self.inside.next.items; steps = c.self.inside.steps } in
-    rw c.in-Some.is (elim c.match-get_mut.branch [
-      | in-Some-get_mut w ↦
-          let old : BoxEntry = w.in-Some-get_mut.entry.now in
-          let is = sym c.get_mut.ensures.value ∙ ap option_copied_mut w.in-Some-get_mut.is in
-          let new : BoxEntry = record { holder = old.holder; store = w.settle.new.self; changed = c.args.told; solved_at = c.args.solved_at; goals = w.remove.new.self; goals_changed = c.args.number; failing = old.failing; body = old.body; shown = old.shown; collected = old.collected } in
-          rw w.self-inside-is (rw (sym c.self.view_is) (writes_box t c.in-Some.name (c.get_mut.follows.lender new) (told_first c.args.goal c.args.store c.args.solved_at c.args.told c.args.number) old new is
-          (on_some c.get_mut.result _ w.in-Some-get_mut.is (c.get_mut.follows.holds new)).finds
-          (ap (λ (s : Stored). record (box_row t.program.templates.nodes new) { store = s }) w.settle.ensures
-          ∙ ap (λ (ks : List Name). record (box_row t.program.templates.nodes new) { store = c.args.store; goals = ks }) (w.remove.ensures.keys ∙ removed_is c.args.goal old.goals.keys))))
-      | in_default-get_mut w ↦
-          let none = sym c.get_mut.ensures.value ∙ ap option_copied_mut w.in_default-get_mut.is in
-          rw w.self-inside-is (rw (sym c.self.view_is) (writes_no_box t c.in-Some.name c.get_mut.follows.lender-at-none (told_first c.args.goal c.args.store c.args.solved_at c.args.told c.args.number) none c.get_mut.follows.holds-at-none))
-    ])
+    let old : BoxEntry = c.in-Some-get_mut.entry.now in
+    let is : lookup (same_name c.in-Some.name) c.self.inside.boxes ≡ Some old = sym c.get_mut.ensures.value ∙ ap option_copied_mut c.in-Some-get_mut.is in
+    let puts : IsPut c.self.inside.boxes (c.get_mut.follows.lender c.tell.new.self) c.in-Some.name old =
+    subst (IsPut c.self.inside.boxes (c.get_mut.follows.lender c.tell.new.self) c.in-Some.name) c.in_default-tell.ensures.unchanged
+    (on_some c.get_mut.result _ c.in-Some-get_mut.is (c.get_mut.follows.holds c.tell.new.self)) in
+    ap (λ (es : List (Name × BoxEntry)). record t { boxes = es }) (put_same c.in-Some.name c.self.inside.boxes (c.get_mut.follows.lender c.tell.new.self) old is puts) ∙ c.self.view_is
+
+pub returns-clause-told : goal.returns-clause-told
+returns-clause-told c =
+    let t : TableValue = record { program = c.self.inside.program.value; query = c.self.inside.query.value; boxes = c.self.inside.boxes; goals = c.self.inside.goals; roots = c.self.inside.roots.items; roots_changed = c.self.inside.roots_changed; next = c.self.inside.next.items; steps = c.self.inside.steps } in
+    let old : BoxEntry = c.in-Some-get_mut.entry.now in
+    let is : lookup (same_name c.in-Some.name) c.self.inside.boxes ≡ Some old = sym c.get_mut.ensures.value ∙ ap option_copied_mut c.in-Some-get_mut.is in
+    let new : BoxEntry = record c.tell.new.self { goals = c.remove.new.self; goals_changed = c.args.told.number } in
+    let sets : SetsBoxes c.args.self.now (record t { boxes = c.get_mut.follows.lender new }) (changed_box (Some c.in-Some.name) (part_row c.args.goal c.args.told c.args.told.number) (table_of c.args.self.now).box_of) =
+    subst (λ (v : TableValue). SetsBoxes v (record t { boxes = c.get_mut.follows.lender new }) (changed_box (Some c.in-Some.name) (part_row c.args.goal c.args.told c.args.told.number) (table_of v).box_of)) c.self.view_is
+    (writes_box t c.in-Some.name (c.get_mut.follows.lender new) (part_row c.args.goal c.args.told c.args.told.number) old new is (on_some c.get_mut.result _ c.in-Some-get_mut.is (c.get_mut.follows.holds new)).finds
+    (told_entry t.program.templates.nodes c.args.goal c.args.told c.args.told.number old c.tell.new.self c.remove.new.self c.remove.ensures.keys c.in-Ok.ensures.told)) in
+    subst (λ (home : Option Name). SetsBoxes c.args.self.now (record t { boxes = c.get_mut.follows.lender new }) (changed_box home (part_row c.args.goal c.args.told c.args.told.number) (table_of c.args.self.now).box_of)) (sym c.in-Some.is) sets

@@ -1,4 +1,4 @@
-use Rattle.std.proofs.Common.{false, true, ap, ◌∙◌}
+use Rattle.std.proofs.Common.{ap, ◌∙◌}
 use Rattle.local_store.specs.Kept.{found_at}
 use Rattle.local_store.proofs.Steps.{found_at-next, found_at-here, one-at, other-at}
 use Rattle.local_store.proofs.frame_bindings.FrameBindings.first.Goals as goal

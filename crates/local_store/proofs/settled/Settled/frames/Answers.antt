@@ -1,4 +1,4 @@
-use Rattle.std.proofs.Common.{◌++◌, [], ◌∷◌, true, false, Bool, List, if◌then◌else◌, sym, ap, ◌∙◌, take, append-nil}
+use Rattle.std.proofs.Common.{◌++◌, [], ◌∷◌, Bool, List, if◌then◌else◌, sym, ap, ◌∙◌, take, append-nil}
 use Rattle.akl_terms.specs.declared.name.Name.{Name}
 use Rattle.local_store.specs.declared.frame_bindings.FrameBindings.{FrameBindings}
 use Rattle.local_store.specs.Kept.{frames_of}
