@@ -16,9 +16,9 @@ use Rattle.akl_model.proofs.NamesKept.{Stand}
 use Rattle.akl_model.proofs.Options.{some_value}
 use Rattle.step_laws.specs.Bound.{outermost_equations, AreBoundIn}
 use Rattle.step_laws.specs.Stays.{IsSameBox}
-use Rattle.call_laws.specs.AtOnce.{with_named, IsAtOnce, at_once, AreInForce, IsAtOnceIn}
-use Rattle.call_laws.proofs.Between.{stand_of, was_found}
-use Rattle.call_laws.proofs.CallPassage.{end_home}
+use Rattle.plan_laws.specs.AtOnce.{with_named, IsAtOnce, at_once, AreInForce, IsAtOnceIn}
+use Rattle.plan_laws.proofs.Between.{stand_of, was_found}
+use Rattle.plan_laws.proofs.CallPassage.{end_home}
 use Rattle.binding_laws.proofs.BindsLater.{same_outermost}
 
 -- the box of the goal afterwards

@@ -23,13 +23,13 @@ use Rattle.akl_model.proofs.Options.{some_value}
 use Rattle.akl_model.proofs.Results.{Derives-append}
 use Rattle.akl_model.proofs.Scoped.{IsIn-either}
 use Rattle.akl_model.proofs.ScopesAlong.{scope_along}
-use Rattle.sleep_laws.proofs.InScope.{Good, bound_scoped, around_outside, own_inside}
-use Rattle.sleep_laws.proofs.Replayed.{good_replay}
+use Rattle.plan_laws.proofs.InScope.{Good, bound_scoped, around_outside, own_inside}
+use Rattle.plan_laws.proofs.Replayed.{good_replay}
 use Rattle.step_laws.specs.Bound.{outermost_equations, AreBoundIn}
-use Rattle.call_laws.specs.AtOnce.{IsAtOnce, labels_at_once, at_once, AreInForce}
-use Rattle.call_laws.proofs.Between.{distinct_of}
-use Rattle.call_laws.proofs.BodySteps.{ToldMore, told_more}
-use Rattle.call_laws.proofs.Calls.{at_once_law}
+use Rattle.plan_laws.specs.AtOnce.{IsAtOnce, labels_at_once, at_once, AreInForce}
+use Rattle.plan_laws.proofs.Between.{distinct_of}
+use Rattle.plan_laws.proofs.BodySteps.{ToldMore, told_more}
+use Rattle.plan_laws.proofs.Calls.{at_once_law}
 use Rattle.binding_laws.specs.Bindings.{BindsOutside, HasOuter}
 use Rattle.binding_laws.proofs.CallBindsAgain.{box_after, was_there, is_there}
 use Rattle.binding_laws.proofs.EqualOutside.{equal_outside}

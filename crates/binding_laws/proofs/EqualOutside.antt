@@ -12,7 +12,7 @@ use Rattle.akl_model.specs.Stable.{only, frames_of}
 use Rattle.akl_model.specs.Scopes.{nowhere}
 use Rattle.akl_model.proofs.Scoped.{IsIn-either}
 use Rattle.akl_model.proofs.ScopesAlong.{scope_along}
-use Rattle.sleep_laws.proofs.InScope.{Good, InScope, whole_over, outside_environment, own_inside}
+use Rattle.plan_laws.proofs.InScope.{Good, InScope, whole_over, outside_environment, own_inside}
 use Rattle.constraint_laws.proofs.Decided.{kept_by}
 use Rattle.constraint_laws.proofs.Grown.{over_kept}
 

@@ -17,7 +17,7 @@ use Rattle.akl_model.specs.Stable.{only, frames_of}
 use Rattle.akl_model.proofs.Options.{some_value}
 use Rattle.akl_model.proofs.NamesKept.{replay-stands}
 use Rattle.step_laws.proofs.Steps.{found}
-use Rattle.sleep_laws.proofs.Outside as outside
+use Rattle.plan_laws.proofs.Outside as outside
 use Rattle.step_laws.specs.Bound.{first_equations, outermost_equations, AreBoundIn}
 use Rattle.binding_laws.specs.Bindings.{BindsOutside, HasOuter}
 

@@ -15,7 +15,7 @@ use Rattle.akl_model.specs.Stable.{only, frames_of}
 use Rattle.akl_model.specs.Names.{HasDistinctNames}
 use Rattle.plan_laws.specs.Right.{NoneBy}
 use Rattle.plan_laws.specs.Stamps as stamps
-use Rattle.call_laws.specs.AtOnce.{IsAtOnce, at_once, AreInForce, IsAtOnceIn}
+use Rattle.plan_laws.specs.AtOnce.{IsAtOnce, at_once, AreInForce, IsAtOnceIn}
 use Rattle.table_laws.specs.Rows.{Table}
 use Rattle.table_laws.specs.Stamped.{Run, IsTableOf}
 use Rattle.table_laws.specs.Steps.{Step, tells, joins, Makes, ReadsFor}

@@ -39,7 +39,8 @@ pub fn reduce(
 ) -> Result<Body, AllocError>
     requires numbers { first + length codes.now < 2 ^ 64 }
     requires solved { told.old.solved ≡ true → IsSolvedChain templates.now.nodes (with_added stores.now told.old.part) }
-    ensures { IfOk result (IsReduced templates.now.symbols templates.now.nodes (around stores.now) frame first codes.now (told_over (innermost stores.now) told.old) (told_over (innermost stores.now) told.new) labels.old.items labels.new.items) }
+    ensures reduced { IfOk result (IsReduced templates.now.symbols templates.now.nodes (around stores.now) frame first codes.now (told_over (innermost stores.now) told.old) (told_over (innermost stores.now) told.new) labels.old.items labels.new.items) }
+    ensures frames { told.new.part.frames.items ≡ told.old.part.frames.items }
 {
     let chain = Chain::new(templates, stores);
     let mut body = Body {
@@ -71,7 +72,8 @@ fn take_goal(
     body: &mut Body,
 ) -> Result<(), AllocError>
     requires { told.old.solved ≡ true → IsSolvedChain chain.now.nodes (with_added chain.now.stores told.old.part) }
-    ensures { IfOk result (λ _. GoesOn chain.now.symbols chain.now.nodes (around chain.now.stores) name goal (told_over (innermost chain.now.stores) told.old) (told_over (innermost chain.now.stores) told.new) labels.old.items labels.new.items body.old body.new) }
+    ensures goes_on { IfOk result (λ _. GoesOn chain.now.symbols chain.now.nodes (around chain.now.stores) name goal (told_over (innermost chain.now.stores) told.old) (told_over (innermost chain.now.stores) told.new) labels.old.items labels.new.items body.old body.new) }
+    ensures frames { told.new.part.frames.items ≡ told.old.part.frames.items }
 {
     match reduce_goal(alloc, chain, goal, told)? {
         Reduction::Stays => body.goals.push((name, goal))?,

@@ -34,7 +34,8 @@ pub(crate) fn reduce_goal(
     told: &mut ToldPart,
 ) -> Result<Reduction, AllocError>
     requires { told.old.solved ≡ true → IsSolvedChain chain.now.nodes (with_added chain.now.stores told.old.part) }
-    ensures { IfOk result (IsReduction chain.now.symbols chain.now.nodes (around chain.now.stores) goal (told_over (innermost chain.now.stores) told.old) (told_over (innermost chain.now.stores) told.new)) }
+    ensures reduces { IfOk result (IsReduction chain.now.symbols chain.now.nodes (around chain.now.stores) goal (told_over (innermost chain.now.stores) told.old) (told_over (innermost chain.now.stores) told.new)) }
+    ensures frames { told.new.part.frames.items ≡ told.old.part.frames.items }
 {
     if !told.solved {
         return Ok(Reduction::Stays);
@@ -71,7 +72,8 @@ fn tell_by(
     told: &mut ToldPart,
 ) -> Result<Reduction, AllocError>
     requires { IsSolvedChain chain.now.nodes (with_added chain.now.stores told.old.part) }
-    ensures { IfOk result (IsToldBy chain.now.nodes (around chain.now.stores) rule equation (told_over (innermost chain.now.stores) told.old) (told_over (innermost chain.now.stores) told.new)) }
+    ensures tells { IfOk result (IsToldBy chain.now.nodes (around chain.now.stores) rule equation (told_over (innermost chain.now.stores) told.old) (told_over (innermost chain.now.stores) told.new)) }
+    ensures frames { told.new.part.frames.items ≡ told.old.part.frames.items }
 {
     if tell(chain, equation, told)? {
         Ok(Reduction::Tells(rule))

@@ -21,7 +21,8 @@ pub(crate) fn tell(
     told: &mut ToldPart,
 ) -> Result<bool, AllocError>
     requires { IsSolvedChain chain.now.nodes (with_added chain.now.stores told.old.part) }
-    ensures { IfOk result (IsTaken chain.now.nodes (around chain.now.stores) equation (told_over (innermost chain.now.stores) told.old) (told_over (innermost chain.now.stores) told.new)) }
+    ensures taken { IfOk result (IsTaken chain.now.nodes (around chain.now.stores) equation (told_over (innermost chain.now.stores) told.old) (told_over (innermost chain.now.stores) told.new)) }
+    ensures frames { told.new.part.frames.items ≡ told.old.part.frames.items }
 {
     let Some((variable, term)) = binding_for(chain, &told.part, equation) else {
         return Ok(false);
@@ -40,6 +41,7 @@ fn bind(
     ensures part { IfOk result (λ _. (own : Stored) → with_part own told.new.part ≡ with_binding (with_part own told.old.part) variable term) }
     ensures bound { IfOk result (λ _. told.new.bound.items ≡ told.old.bound.items ++ variable ∷ variable_in (tree templates.now.nodes term)) }
     ensures solved { told.new.solved ≡ told.old.solved }
+    ensures frames { told.new.part.frames.items ≡ told.old.part.frames.items }
 {
     told.part.bindings.push((variable, term))?;
     told.bound.push(variable)?;

@@ -2,7 +2,7 @@
 use Rattle.std.proofs.Common.{refl, inl, inr}
 use Rattle.akl_model.specs.declared.label.Rule.{Rule}
 use Rattle.akl_model.specs.Derivations.{IsInForce}
-use Rattle.call_laws.specs.AtOnce.{AreInForce}
+use Rattle.plan_laws.specs.AtOnce.{AreInForce}
 use Rattle.box_tree.specs.Tables.{all_rules}
 
 pub each_in_force : (r : Rule) → IsInForce all_rules r

@@ -100,6 +100,7 @@ module _ (t u v w : TableValue) (g home : Name) (op : HeldOp) (news : List NewBo
       record {
         program = ap (λ (x : TableValue). x.program) r;
         query = ap (λ (x : TableValue). x.query) r;
+        marks = ap (λ (x : TableValue). x.marks) r;
         table = record {
           nodes = ap (λ (x : TableValue). x.program.templates.nodes) r;
           boxes = λ m. d.rows m ∙ box_made (table_of t) g home op at number nodes news (table_of v).box_of boxes_v m

@@ -18,7 +18,7 @@ use Rattle.akl_model.proofs.OrdersKept.{replay_ordered}
 use Rattle.step_laws.proofs.Whereabouts.{found_in, in_home}
 use Rattle.local_store.specs.Stored.{Stored}
 use Rattle.local_store.specs.Parts.{with_part}
-use Rattle.call_tables.specs.Calls.{called_row, after_call}
+use Rattle.table_laws.specs.Calls.{called_row, after_call}
 use Rattle.table_laws.specs.Rows.{BoxRow, GoalRow, Table, store_in}
 use Rattle.table_laws.specs.Walks.{alternatives_of}
 use Rattle.table_laws.specs.Unfolds.{IsBoxRow}
@@ -169,6 +169,7 @@ module _ (t u w x : TableValue) (g home : Name) (told : Told) (goals : List (Nam
       record {
         program = ap (λ (k : TableValue). k.program) rest;
         query = ap (λ (k : TableValue). k.query) rest;
+        marks = ap (λ (k : TableValue). k.marks) rest;
         table = record {
           nodes = ap (λ (k : TableValue). k.program.templates.nodes) rest;
           boxes = λ m. e.rows m ∙ ap (λ (ks : List Name). unset ks (table_of w).box_of m) known ∙ unset_alike (alternatives_of ((table_of t).goal_of g)) (table_of w).box_of
@@ -195,6 +196,7 @@ module _ (t u w : TableValue) (g : Name) (told : Told) (worker count : ℕ) (nex
       record {
         program = ap (λ (k : TableValue). k.program) rest;
         query = ap (λ (k : TableValue). k.query) rest;
+        marks = ap (λ (k : TableValue). k.marks) rest;
         table = record {
           nodes = ap (λ (k : TableValue). k.program.templates.nodes) rest;
           boxes = λ m. ap (λ (k : TableValue). (table_of k).box_of m) b.rest ∙ a.rows m

@@ -12,7 +12,7 @@ use Rattle.akl_model.proofs.Options.{some_value}
 use Rattle.local_store.specs.Stored.{Stored}
 use Rattle.local_store.specs.Parts.{with_part}
 use Rattle.local_store.specs.declared.part.Part.{Part}
-use Rattle.call_tables.specs.Calls.{called_row, after_call}
+use Rattle.table_laws.specs.Calls.{called_row, after_call}
 use Rattle.table_laws.specs.Kept.{IsNewOrWas, KeepsStores}
 use Rattle.table_laws.specs.Rows.{BoxRow, Table}
 use Rattle.table_laws.specs.Steps as laws
@@ -22,7 +22,7 @@ use Rattle.table_laws.proofs.KeptStores.{store_kept}
 use Rattle.table_laws.proofs.Sets.{not_some}
 use Rattle.box_tree.specs.declared.step.Step.{Step}
 use Rattle.box_tree.specs.Plans.{labels_behind}
-use Rattle.box_tree.specs.Tables.{TableValue, Joins, LeadsBy, Applied, table_of, store_at, step_in}
+use Rattle.box_tree.specs.Tables.{TableValue, Joins, LeadsBy, Makes, table_of, store_at, step_in}
 use Rattle.box_tree.specs.Edits.{Becomes, named_atoms}
 
 -- no label comes with the one by which goals join
@@ -38,10 +38,11 @@ join_alone t g store solved_at goals told behind worker count U none ends x =
 
 -- a goal tells its box by the step of a label
 pub tell_applies : (t u : TableValue) (l : Label) (others : ℕ) (at : Option ℕ) (names : ℕ) (g : Name) (part : Part) (solved : Bool) → l.place ≡ Place.Goal g
-    → Becomes t u (after_tell g (with_part (store_at (table_of t) (Place.Goal g)) part) (solved_when at solved) l.worker names (table_of t)) → Applied t l others at names (Step.Tell part solved) u
+    → Becomes t u (after_tell g (with_part (store_at (table_of t) (Place.Goal g)) part) (solved_when at solved) l.worker names (table_of t)) → Makes t l others at names (Step.Tell part solved) u
 tell_applies t u l others at names g part solved place b = record {
   program = b.program;
   query = b.query;
+  marks = b.marks;
   leads = subst (λ (p : Place). LeadsBy t (record l { place = p }) others at names (Step.Tell part solved) (table_of u)) (sym place) b.table;
 }
 
@@ -49,10 +50,11 @@ tell_applies t u l others at names g part solved place b = record {
 pub join_applies : (t u : TableValue) (l : Label) (others : ℕ) (at : Option ℕ) (names : ℕ) (g : Name) (part : Part) (solved : Bool) (goals : Vec (Name × Goal) Global) (told behind promoted told_at ended : ℕ) → l.place ≡ Place.Goal g → t.steps < promoted
     → promoted + behind ≡ others + t.steps + 1 → told_at ≡ promoted + told → ended ≡ promoted + behind
     → Becomes t u (after_call g (with_part (store_at (table_of t) (Place.Goal g)) part) (solved_when at solved) (named_atoms t.program.templates.nodes goals.items) l.worker names promoted told_at ended (table_of t))
-    → Applied t l others at names (Step.Join part solved goals told behind) u
+    → Makes t l others at names (Step.Join part solved goals told behind) u
 join_applies t u l others at names g part solved goals told behind promoted told_at ended place later number is_told is_ended b = record {
   program = b.program;
   query = b.query;
+  marks = b.marks;
   leads = subst (λ (p : Place). LeadsBy t (record l { place = p }) others at names (Step.Join part solved goals told behind) (table_of u)) (sym place) (record { promoted = promoted; later = later; number = number; table = now });
 }
   where

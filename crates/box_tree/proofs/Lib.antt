@@ -9,6 +9,7 @@ mod Naming
 pub mod GoalsInOrder
 mod Joined
 pub mod LeadsBy
+mod Remarked
 pub mod CutOff
 mod News
 mod Numbers
@@ -28,3 +29,4 @@ mod Halved
 pub mod BoundHere
 pub mod AllInForce
 pub mod FirstCandidates
+pub mod OverStores

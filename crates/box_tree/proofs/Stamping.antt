@@ -7,10 +7,11 @@ use Rattle.akl_model.specs.declared.item.Item.{Item}
 use Rattle.table_laws.specs.Stamped.{stamp_in}
 use Rattle.box_tree.specs.declared.entries.BoxEntry.{BoxEntry}
 use Rattle.box_tree.specs.declared.entries.GoalEntry.{GoalEntry}
-use Rattle.box_tree.specs.Tables.{TableValue, table_of}
+use Rattle.box_tree.specs.StoreMarks.{store_mark}
+use Rattle.box_tree.specs.Tables.{TableValue, table_of, stamp_of}
 
 module _ (t : TableValue) (n : Name) where
-  pub store_stamp : (e : BoxEntry) → lookup (same_name n) t.boxes ≡ Some e → Some e.changed ≡ stamp_in (table_of t) (Item.Store n)
+  pub store_stamp : (e : BoxEntry) → lookup (same_name n) t.boxes ≡ Some e → Some (store_mark t.marks n e.changed) ≡ stamp_of t (Item.Store n)
   store_stamp e i = rw i refl
 
   pub goals_stamp : (e : BoxEntry) → lookup (same_name n) t.boxes ≡ Some e → Some e.goals_changed ≡ stamp_in (table_of t) (Item.Goals n)

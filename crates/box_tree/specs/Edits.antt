@@ -31,10 +31,11 @@ pub record SetsGoals (t u : TableValue) (new : Name → Option GoalRow) : Type 0
   pub rows : (m : Name) → (table_of u).goal_of m ≡ new m
   pub rest : u ≡ record t { goals = u.goals }
 
--- the same program and query, and these rows
+-- the same program, query and marks, and these rows
 pub record Becomes (t u : TableValue) (T : Table) : Type 0 where
   pub program : u.program ≡ t.program
   pub query : u.query ≡ t.query
+  pub marks : u.marks ≡ t.marks
   pub table : IsTable (table_of u) T
 
 -- a box has the row of one that is told by a label, and loses a goal by another

@@ -6,6 +6,7 @@ use Rattle.akl_terms.specs.declared.name.Name.{Name}
 use Rattle.akl_terms.specs.declared.name.Place.{Place}
 use Rattle.akl_terms.specs.Names.{same_name, is_before}
 use Rattle.akl_model.specs.Config.{Operator}
+use Rattle.akl_model.specs.declared.item.Item.{Item}
 use Rattle.akl_model.specs.declared.label.Label.{Label}
 use Rattle.akl_model.specs.Config.{IsIn, or_else}
 use Rattle.akl_terms.specs.Template.{tree}
@@ -48,6 +49,18 @@ pub record IsInnerBox (t : TableValue) (b : InnerBox) : Type 0 where
 abbrev pub IsPlaceInside : Table → Name → Place → Type 0
 IsPlaceInside T n (Place.Box m) = IsInside T n m
 IsPlaceInside T n (Place.Goal g) = IsGoalInside T n g
+
+-- an item of a box, or of what stands inside it
+abbrev pub IsItemInside : Table → Name → Item → Type 0
+IsItemInside T n Item.Roots = ⊥
+IsItemInside T n (Item.Store m) = IsInside T n m
+IsItemInside T n (Item.Goals m) = IsInside T n m
+IsItemInside T n (Item.Goal g) = IsGoalInside T n g
+IsItemInside T n (Item.Binding x) = ⊥
+
+-- the constraint or the set of goals of one of these boxes
+abbrev pub IsOfBoxes : List Name → Item → Type 0
+IsOfBoxes ns i = (m : Name) × IsIn m ns × ((i ≡ Item.Store m) ⊎ (i ≡ Item.Goals m))
 
 -- a view by this worker of such a place
 pub record IsViewInside (t : TableValue) (journal : List Label) (n : Name) (worker : ℕ) (v : ViewValue) : Type 0 where

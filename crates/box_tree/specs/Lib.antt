@@ -1,4 +1,8 @@
+pub mod StoreMarks
 pub mod Tables
+pub mod Lefts
+pub mod Applied
+pub mod Solved
 pub mod Edits
 pub mod Starts
 pub mod Views

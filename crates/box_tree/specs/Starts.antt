@@ -1,6 +1,7 @@
 -- The parts of a query's one box.
 use Rattle.std.specs.Prelude.{◌≡◌, ℕ, ◌+◌, List, [], ◌∷◌, map, Some, None}
 use Rattle.akl_terms.specs.declared.name.Name.{Name}
+use Rattle.akl_terms.specs.declared.name.Var.{Var}
 use Rattle.akl_terms.specs.declared.term.Node.{Node}
 use Rattle.akl_terms.specs.declared.program.Code.{Code}
 use Rattle.akl_terms.specs.declared.program.Goal.{Goal}
@@ -10,7 +11,8 @@ use Rattle.akl_terms.specs.declared.program.ShownTerm.{ShownTerm}
 use Rattle.local_store.specs.Stored.{nothing, with_frame}
 use Rattle.table_laws.specs.Writes.{first_fail}
 use Rattle.box_tree.specs.declared.entries.BoxEntry.{BoxEntry}
-use Rattle.box_tree.specs.Tables.{TableValue}
+use Rattle.box_tree.specs.StoreMarks.{stores_of}
+use Rattle.box_tree.specs.Tables.{TableValue, mark_after}
 use Rattle.box_tree.specs.Edits.{named_atoms}
 
 -- the box of a query, and the frame of its variables
@@ -46,5 +48,7 @@ pub record IsEmpty (p : Program) (q : Query) (goals : ℕ) (t : TableValue) : Ty
   pub no_goals : t.goals ≡ []
   pub roots : t.roots ≡ query_box ∷ []
   pub roots_changed : t.roots_changed ≡ 0
+  pub marks : (x : Var) → mark_after 0 t.marks x ≡ 0
+  pub stores : stores_of t.marks ≡ []
   pub next : t.next ≡ (2 + goals) ∷ []
   pub steps : t.steps ≡ 0

@@ -2,6 +2,7 @@
 use Rattle.std.specs.Prelude.{◌≡◌, ◌<◌, ◌+◌, ◌^◌, slice_get, ℕ, Bool, true, false, List, [], ◌∷◌, map, Option, Some, None, option_map, option_and_then, ⊤}
 use Rattle.std.specs.Map.{lookup}
 use Rattle.akl_terms.specs.declared.name.Name.{Name}
+use Rattle.akl_terms.specs.declared.name.Var.{Var}
 use Rattle.akl_terms.specs.declared.term.Node.{Node}
 use Rattle.akl_terms.specs.declared.program.Goal.{Goal}
 use Rattle.akl_terms.specs.declared.program.Program.{Program}
@@ -20,8 +21,11 @@ use Rattle.akl_model.specs.declared.label.Label.{Label}
 use Rattle.local_store.specs.Stored.{Stored}
 use Rattle.local_store.specs.Parts.{with_part}
 use Rattle.table_laws.specs.Rows.{BoxRow, GoalRow, Table, store_in}
-use Rattle.table_laws.specs.Stamped.{Run, IsTableOf}
-use Rattle.call_tables.specs.Calls.{after_call}
+use Rattle.akl_model.specs.declared.item.Item.{Item}
+use Rattle.table_laws.specs.Stamped.{Run, IsTableOf, stamp_in}
+use Rattle.table_laws.specs.Calls.{after_call}
+use Rattle.variable_marks.specs.Marks.{mark_in}
+use Rattle.box_tree.specs.StoreMarks.{TableMarksValue, store_mark}
 use Rattle.table_laws.specs.Writes.{IsTable, DrawsFresh, Leads, solved_when, home_in}
 use Rattle.table_laws.specs.Steps as laws
 use Rattle.box_tree.specs.declared.entries.Held.{Held}
@@ -78,10 +82,16 @@ pub record TableValue : Type 0 where
   pub goals : List (Name × GoalEntry)
   pub roots : List Name
   pub roots_changed : ℕ
+  pub marks : Option TableMarksValue
   pub next : List ℕ
   pub steps : ℕ
 
--- its rows; of marks it keeps none, and each variable counts as bound by the last label
+-- the mark of a variable; where none are kept it is the number of all labels
+abbrev pub mark_after : ℕ → Option TableMarksValue → Var → ℕ
+mark_after steps None x = steps
+mark_after steps (Some m) x = mark_in m.variables x
+
+-- its rows
 abbrev pub table_of : TableValue → Table
 table_of t = record {
   nodes = t.program.templates.nodes;
@@ -91,8 +101,16 @@ table_of t = record {
   roots_changed = t.roots_changed;
   next = t.next;
   steps = t.steps;
-  mark_of = λ x. t.steps;
+  mark_of = mark_after t.steps t.marks;
 }
+
+-- the stamp of an item, where bindings are told apart: of a store its mark
+abbrev pub stamp_of : TableValue → Item → Option ℕ
+stamp_of t (Item.Store n) = option_map (λ (r : BoxRow). store_mark t.marks n r.changed) ((table_of t).box_of n)
+stamp_of t Item.Roots = stamp_in (table_of t) Item.Roots
+stamp_of t (Item.Goals n) = stamp_in (table_of t) (Item.Goals n)
+stamp_of t (Item.Goal g) = stamp_in (table_of t) (Item.Goal g)
+stamp_of t (Item.Binding x) = stamp_in (table_of t) (Item.Binding x)
 
 abbrev pub new_box : List Node → NewBox → laws.NewBox
 new_box nodes n = record {
@@ -220,7 +238,9 @@ LeadsBy t l others at names (Step.Join part solved goals told behind) U = of_pla
     of_place (Place.Box n) = ⊥
 LeadsBy t l others at names step U = Leads (table_of t) l at names (step_in t l step) U
 
-pub record Applied (t : TableValue) (l : Label) (others : ℕ) (at : Option ℕ) (names : ℕ) (step : Step) (u : TableValue) : Type 0 where
+-- a step is made of a table, but for the marks of variables
+pub record Makes (t : TableValue) (l : Label) (others : ℕ) (at : Option ℕ) (names : ℕ) (step : Step) (u : TableValue) : Type 0 where
   pub program : u.program ≡ t.program
   pub query : u.query ≡ t.query
+  pub marks : u.marks ≡ t.marks
   pub leads : LeadsBy t l others at names step (table_of u)

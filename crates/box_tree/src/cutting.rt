@@ -94,6 +94,7 @@ impl Table {
         requires run { IsOfRun self.old }
         ensures program { OnOk result (self.new.program ≡ self.old.program) }
         ensures query { OnOk result (self.new.query ≡ self.old.query) }
+        ensures marks { OnOk result (self.new.marks ≡ self.old.marks) }
         ensures cuts { OnOk result (Cuts (table_of self.old) (table_of self.new) goal name) }
         ensures unchanged { IfErr result (λ _. self.new ≡ self.old) }
     {

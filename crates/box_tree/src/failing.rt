@@ -118,6 +118,7 @@ impl Table {
         requires listed { ListsInside (table_of self.old) name names.now }
         ensures program { self.new.program ≡ self.old.program }
         ensures query { self.new.query ≡ self.old.query }
+        ensures marks { self.new.marks ≡ self.old.marks }
         ensures fails { Fails (table_of self.old) (table_of self.new) name }
     {
         let holder = self.holder_of(name);

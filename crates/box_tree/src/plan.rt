@@ -154,10 +154,12 @@ impl Plan {
         &self.parts.step
     }
 
-    /// What the plan makes.
-    pub fn into_step(self) -> Step
-        ensures { result ≡ self.step }
+    /// What the plan makes, and the variables that it lists as bound.
+    pub fn into_parts(self) -> (Step, Vec<Var>)
+        ensures step { result.0 ≡ self.step }
+        ensures binds { result.1.items ≡ self.binds }
     {
-        Box::into_inner(self.parts).step
+        let parts = Box::into_inner(self.parts);
+        (parts.step, parts.binds)
     }
 }

@@ -7,7 +7,7 @@ ghost use Rattle.akl_model.specs.Config.{with_names};
 ghost use Rattle.local_store.specs.Parts.{with_part};
 ghost use Rattle.table_laws.specs.Writes.{set, changed_box, unset, first_fail, IsFresh};
 ghost use Rattle.table_laws.specs.Walks.{alternatives_of};
-ghost use Rattle.call_tables.specs.Calls.{after_call};
+ghost use Rattle.table_laws.specs.Calls.{after_call};
 ghost use Rattle.box_tree.specs.Tables.{table_of, goals_in, store_at};
 ghost use Rattle.box_tree.specs.Edits.{SetsBoxes, SetsRows, Becomes, AreNew, less_names, joins_row, named_atoms, atoms_with};
 ghost use Rattle.box_tree.specs.Drops.{IsOfRun};

@@ -227,6 +227,7 @@ impl Table {
         requires ordered { AreCopiesInOrder (map (box_copy self.old.program.templates.nodes) copies.items) }
         ensures program { OnOk result (self.new.program ≡ self.old.program) }
         ensures query { OnOk result (self.new.query ≡ self.old.query) }
+        ensures marks { OnOk result (self.new.marks ≡ self.old.marks) }
         ensures splits { OnOk result (Splits (table_of self.old) (table_of self.new) name alternative copy (map (box_copy self.old.program.templates.nodes) copies.items) at worker count) }
         ensures unchanged { IfErr result (λ _. self.new ≡ self.old) }
     {

@@ -6,12 +6,14 @@ ghost use Rattle.akl_model.specs.Ordered.{IsIncreasing};
 ghost use Rattle.akl_model.specs.Instances.{shown_of};
 ghost use Rattle.table_laws.specs.Writes.{IsTable};
 ghost use Rattle.table_laws.specs.Laws.{started};
-ghost use Rattle.box_tree.specs.Tables.{table_of, shown_tree, HasVariables, HasShownVariables};
+ghost use Rattle.box_tree.specs.StoreMarks.{stores_of};
+ghost use Rattle.box_tree.specs.Tables.{table_of, mark_after, shown_tree, HasVariables, HasShownVariables};
 ghost use Rattle.box_tree.specs.Starts.{query_frame, goals_from, IsFirstEntry, IsEmpty};
 
 use crate::entries::BoxEntry;
 use crate::forking::first_fail;
 use crate::named::goal_set;
+use crate::store_marks::TableMarks;
 use crate::table::Table;
 use akl_terms::{Goal, Name, Program, Query, ShownTerm, Term};
 use local_store::{Shared, Store};
@@ -128,6 +130,18 @@ pub(crate) fn only<T: Drop>(alloc: Global, value: T) -> Result<Vec<T>, AllocErro
     Ok(list)
 }
 
+// Marks, where several workers plan. One alone has seen all labels when it plans.
+fn marks_for(alloc: Global, workers: u32) -> Option<TableMarks>
+    ensures variables { (x : _) → mark_after 0 result x ≡ 0 }
+    ensures stores { stores_of result ≡ [] }
+{
+    if workers > 1 {
+        Some(TableMarks::new(alloc))
+    } else {
+        None
+    }
+}
+
 impl Table {
     // The table of no box.
     fn empty(
@@ -135,6 +149,7 @@ impl Table {
         program: &Program,
         query: &Query,
         goals: usize,
+        workers: u32,
     ) -> Result<Table, AllocError>
         ensures { IfOk result (IsEmpty program.now query.now goals) }
     {
@@ -148,28 +163,32 @@ impl Table {
             goals: BoxedMap::new(alloc),
             roots,
             roots_changed: 0,
+            marks: marks_for(alloc, workers),
             next,
             steps: 0,
         })
     }
 
-    /// The table of the query's one box. The query's variables are the nodes from `first_variable` on.
+    /// The table of the query's one box, for so many workers. The query's variables are the nodes from `first_variable` on.
     pub fn start(
         alloc: Global,
         program: &Program,
         query: &Query,
         first_variable: u32,
+        workers: u32,
     ) -> Result<Table, AllocError>
         requires variables { HasVariables program.now query.now first_variable }
         requires shown { HasShownVariables query.now }
         ensures program { IfOk result (λ t. t.program ≡ program.now) }
         ensures query { IfOk result (λ t. t.query ≡ query.now) }
         ensures started { IfOk result (λ t. IsTable (table_of t) (started program.now query.now)) }
+        ensures marks { IfOk result (λ t. (x : _) → (table_of t).mark_of x ≡ 0) }
+        ensures stores { IfOk result (λ t. stores_of t.marks ≡ []) }
     {
         let shown = shown_terms(alloc, program, query, first_variable)?;
         let goals = first_goals(alloc, query)?;
         let entry = first_entry(alloc, goals.as_slice(), shown)?;
-        let mut table = Table::empty(alloc, program, query, goals.len())?;
+        let mut table = Table::empty(alloc, program, query, goals.len(), workers)?;
         table.put_entry(ROOT, entry, goals, 0)?;
         Ok(table)
     }

@@ -4,8 +4,9 @@ ghost use Rattle.std.specs.Prelude.{◌≡◌, ◌++◌, map, IfOk, IfErr, OnOk,
 ghost use Rattle.akl_terms.specs.declared.name.Place.{Place};
 ghost use Rattle.table_laws.specs.Writes.{IsTable};
 ghost use Rattle.table_laws.specs.Laws.{started};
-ghost use Rattle.table_laws.specs.Stamped.{IsTableOf, stamp_in};
-ghost use Rattle.box_tree.specs.Tables.{all_rules, table_of, MayApply, Applied, HasVariables, HasShownVariables, goals_in, is_empty, shown_in, shown_trees_of};
+ghost use Rattle.table_laws.specs.Stamped.{IsTableOf};
+ghost use Rattle.box_tree.specs.Tables.{all_rules, table_of, stamp_of, MayApply, Makes, HasVariables, HasShownVariables, goals_in, is_empty, shown_in, shown_trees_of};
+ghost use Rattle.box_tree.specs.Applied.{Applied};
 ghost use Rattle.box_tree.specs.Kinds.{IsGoal, IsBox};
 ghost use Rattle.box_tree.specs.Paths.{known_in, alternatives_seen};
 ghost use Rattle.box_tree.specs.Views.{run_of, is_there, IsUnseen, IsViewOf, all_places};
@@ -14,11 +15,12 @@ use crate::entries::{BoxEntry, GoalEntry};
 use crate::promoting::join_numbers;
 use crate::starting::after;
 use crate::step::Step;
+use crate::store_marks::TableMarks;
 use crate::telling::{Told, solved_when};
 use crate::view::{LookError, View, ViewParts};
 use crate::way::Way;
 use akl_model::{Item, Label};
-use akl_terms::{Name, Place, Program, Query, ShownTerm};
+use akl_terms::{Name, Place, Program, Query, ShownTerm, Var};
 use name_map::BoxedMap;
 use std::alloc::{AllocError, Global};
 use std::marker::Model;
@@ -57,6 +59,8 @@ pub struct Table {
     pub(crate) goals: BoxedMap<GoalEntry>,
     pub(crate) roots: Vec<Name>,
     pub(crate) roots_changed: u64,
+    // Where several workers plan.
+    pub(crate) marks: Option<TableMarks>,
     // The next number of each worker, 0 for those past the end.
     pub(crate) next: Vec<u64>,
     // How many labels were made.
@@ -68,7 +72,7 @@ impl Model for Table {
 
     ghost Value = { TableValue };
 
-    ghost view = { λ t. record { program = t.program.value; query = t.query.value; boxes = t.boxes; goals = t.goals; roots = t.roots.items; roots_changed = t.roots_changed; next = t.next.items; steps = t.steps } };
+    ghost view = { λ t. record { program = t.program.value; query = t.query.value; boxes = t.boxes; goals = t.goals; roots = t.roots.items; roots_changed = t.roots_changed; marks = t.marks; next = t.next.items; steps = t.steps } };
 }
 
 impl Table {
@@ -124,6 +128,7 @@ impl Table {
             sight: standing.sight,
             alternatives,
             body,
+            marked: self.marks.is_some(),
         };
         Ok(View {
             table: Snapshot::of(self),
@@ -132,14 +137,15 @@ impl Table {
         })
     }
 
-    /// The number of the last label that changed the item, 0 where there is none; `None` where it has gone.
+    /// The number of the last label that changed the item, 0 where there is none; `None` where it has gone. Of the binding of
+    /// a variable it is the variable's mark, a number behind which no label bound it in a box where it was an end.
     pub fn stamp(&self, item: Item) -> Option<u64>
-        ensures { result ≡ stamp_in (table_of self.now) item }
+        ensures { result ≡ stamp_of self.now item }
     {
         match item {
             Item::Roots => Some(self.roots_changed),
             Item::Store(name) => match self.boxes.get(name) {
-                Some(entry) => Some(entry.changed),
+                Some(entry) => Some(self.store_mark(name, entry.changed)),
                 None => None,
             },
             Item::Goals(name) => match self.boxes.get(name) {
@@ -150,7 +156,7 @@ impl Table {
                 Some(entry) => Some(entry.changed),
                 None => None,
             },
-            Item::Binding(_) => None,
+            Item::Binding(variable) => Some(self.mark_of(variable)),
         }
     }
 
@@ -216,11 +222,38 @@ impl Table {
     }
 
     /// Makes the step of a label that draws so many names, or of the labels of a call: a join may come with so many
-    /// others, of which some may come behind it. `at` is how many labels there are, where the step was planned over this
-    /// very table. An `Err` leaves the table as it was; it comes for want of memory, where a count would pass its word,
-    /// from a fork, a cut or a join of a goal that isn't there, from a join behind which more labels come than there are,
-    /// and from a split where no choice holds the alternative or the same one holds the box.
+    /// others, of which some may come behind it. They list these variables as bound: the marks of these become the number of
+    /// the last label. `at` is how many labels there are, where the step was planned over this very table. An `Err` leaves
+    /// the table as it was; it comes for want of memory, where a count would pass its word, from a fork, a cut or a join of a
+    /// goal that isn't there, from a join behind which more labels come than there are, and from a split where no choice
+    /// holds the alternative or the same one holds the box.
     pub fn apply(
+        &mut self,
+        alloc: Global,
+        label: Label,
+        others: u64,
+        names: u64,
+        step: Step,
+        binds: &[Var],
+        at: Option<u64>,
+    ) -> Result<(), AllocError>
+        requires { MayApply self.old label step }
+        ensures applied { IfOk result (λ _. Applied self.old label others at names step binds.now self.new) }
+        ensures unchanged { IfErr result (λ _. self.new ≡ self.old) }
+    {
+        let first = Name {
+            worker: label.worker,
+            number: self.next_of(label.worker),
+        };
+        let left = self.left_by(label.place, &step);
+        self.make(alloc, label, others, names, step, at)?;
+        self.mark(binds, first);
+        self.leave(left);
+        Ok(())
+    }
+
+    // The same, but for the marks.
+    fn make(
         &mut self,
         alloc: Global,
         label: Label,
@@ -230,7 +263,7 @@ impl Table {
         at: Option<u64>,
     ) -> Result<(), AllocError>
         requires { MayApply self.old label step }
-        ensures applied { IfOk result (λ _. Applied self.old label others at names step self.new) }
+        ensures made { IfOk result (λ _. Makes self.old label others at names step self.new) }
         ensures unchanged { IfErr result (λ _. self.new ≡ self.old) }
     {
         let number = after(self.steps)?;

@@ -1,15 +1,17 @@
 //! A goal tells its box.
 
-ghost use Rattle.std.specs.Prelude.{◌≡◌, ◌+◌, Some, None, option_map, IfErr, OnOk};
+ghost use Rattle.std.specs.Prelude.{◌≡◌, ◌+◌, List, Some, None, option_map, IfErr, OnOk};
 ghost use Rattle.akl_terms.specs.declared.name.Place.{Place};
 ghost use Rattle.local_store.specs.Parts.{with_part};
 ghost use Rattle.table_laws.specs.Writes.{set, home_in, changed_box, solved_when, after_tell};
-ghost use Rattle.box_tree.specs.Tables.{table_of, store_at};
+ghost use Rattle.akl_terms.specs.declared.term.Node.{Node};
+ghost use Rattle.box_tree.specs.Tables.{table_of, store_at, box_row};
+ghost use Rattle.box_tree.specs.Solved.{binds_none, takes_new, solved_with};
 ghost use Rattle.box_tree.specs.Edits.{SetsBoxes, SetsGoals, Becomes, part_row};
 
 use crate::entries::BoxEntry;
 use crate::table::Table;
-use akl_terms::Name;
+use akl_terms::{Name, Term, Var};
 use local_store::{Part, Store};
 use std::alloc::{AllocError, Global};
 
@@ -31,7 +33,26 @@ pub(crate) struct Told {
     pub number: u64,
 }
 
+// Whether a store binds none of the variables that are bound anew.
+fn binds_none(store: &Store, bindings: &[(Var, Term)]) -> bool
+    ensures { result ≡ binds_none store.now bindings.now }
+{
+    for binding in bindings {
+        if store.first_binding(binding.0).is_some() {
+            return false;
+        }
+    }
+    true
+}
+
 impl BoxEntry {
+    // Whether it is that of a root box that is known to be solved, and stays so with these bindings.
+    fn takes_new(&self, bindings: &[(Var, Term)]) -> bool
+        ensures { (nodes : List Node) → result ≡ takes_new (box_row nodes self.now) bindings.now }
+    {
+        self.holder.is_none() && self.solved_at.is_some() && binds_none(self.store.get(), bindings)
+    }
+
     /// Something is added to the box's store. An `Err` leaves the entry as it was.
     pub(crate) fn tell(&mut self, told: Told) -> Result<(), AllocError>
         ensures told { OnOk result (self.new ≡ record self.old { store = with_part self.old.store told.part; changed = told.number; solved_at = told.solved_at }) }
@@ -86,6 +107,24 @@ impl Table {
         match self.boxes.get(name) {
             Some(entry) => Some(entry.store.get()),
             None => None,
+        }
+    }
+
+    /// As of how many labels the store of a goal's box, which was solved with what is added to it when there were so many as
+    /// were seen, is solved with it still; `None` where it isn't known. Of a store that no later label changed this is as it
+    /// was. A root box that is solved by now is solved with it where it binds none of the variables that are bound anew.
+    pub fn solved_with(&self, goal: Name, part: &Part, seen: u64) -> Option<u64>
+        ensures { result ≡ solved_with (table_of self.now) goal part.now.bindings.items seen }
+    {
+        let home = self.home_of(goal)?;
+        let entry = self.boxes.get(home)?;
+        if entry.changed <= seen {
+            return Some(seen);
+        }
+        if entry.takes_new(part.bindings.as_slice()) {
+            Some(self.steps)
+        } else {
+            None
         }
     }
 

@@ -1,6 +1,6 @@
 //! What is seen of a place.
 
-ghost use Rattle.std.specs.Prelude.{◌≡◌, length, IfOk};
+ghost use Rattle.std.specs.Prelude.{◌≡◌, length, is_some, IfOk};
 ghost use Rattle.box_tree.specs.Views.{IsViewOf};
 
 use crate::entries::HeldOp;
@@ -62,6 +62,7 @@ pub struct View {
     pub(crate) journal: Snapshot<Vec<Label>>,
     pub(crate) parts: Box<ViewParts>,
     ghost same_length: { parts.value.seen ≡ length journal.value.items },
+    ghost same_marks: { parts.value.marked ≡ is_some table.value.marks },
 }
 
 // The parts of a view, which stand in a box since a view passes through results.
@@ -77,6 +78,7 @@ pub(crate) struct ViewParts {
     pub(crate) sight: Sight,
     pub(crate) alternatives: Vec<Alternative>,
     pub(crate) body: Vec<Goal>,
+    pub(crate) marked: bool,
 }
 
 impl Model for View {
@@ -155,6 +157,13 @@ impl View {
         ensures { result.now ≡ self.now.body }
     {
         self.parts.body.as_slice()
+    }
+
+    /// Whether the table keeps marks of variables, as it does for several workers.
+    pub fn keeps_marks(&self) -> bool
+        ensures { result ≡ is_some self.now.table.marks }
+    {
+        self.parts.marked
     }
 
     /// The stores of the boxes from the root box down to the place's box.

@@ -38,9 +38,9 @@ use Rattle.local_store.specs.Chained.{ToldBy}
 use Rattle.local_store.proofs.NewlyBound.{bound_stands}
 use Rattle.table_laws.specs.Rows.{told_in}
 use Rattle.table_laws.proofs.Stores.{told_join}
-use Rattle.call_laws.specs.AtOnce as laws
-use Rattle.call_laws.specs.AtOnce.{by, IsOfGuard}
-use Rattle.call_tables.specs.Calls.{StandOver, last_told}
+use Rattle.plan_laws.specs.AtOnce as laws
+use Rattle.plan_laws.specs.AtOnce.{by, IsOfGuard}
+use Rattle.table_laws.specs.Calls.{StandOver, last_told}
 use Rattle.box_tree.specs.Edits.{named_atoms}
 use Rattle.box_tree.specs.Tables.{goal_atom}
 use Rattle.box_tree.proofs.ToldChains.{told_stands}

@@ -10,8 +10,8 @@ use Rattle.akl_model.specs.Config.{Atom, Content, Config, with_names, with_ports
 use Rattle.akl_model.specs.Rules.{joining}
 use Rattle.local_store.specs.Stored.{Stored}
 use Rattle.table_laws.specs.Rows.{ports_in}
-use Rattle.call_laws.specs.AtOnce.{Tells}
-use Rattle.call_tables.specs.Calls.{StandOver, last_told}
+use Rattle.plan_laws.specs.AtOnce.{Tells}
+use Rattle.table_laws.specs.Calls.{StandOver, last_told}
 
 module _ (p : Program) (c : Config) (w : ℕ) (f : Found) (last : Content) (drawn : ℕ) where
   -- the names of the body's goals are from here on

@@ -5,7 +5,7 @@ use Rattle.akl_terms.specs.declared.name.Name.{Name}
 use Rattle.akl_terms.specs.declared.term.Node.{Node}
 use Rattle.akl_terms.specs.declared.term.Term.{Term}
 use Rattle.akl_terms.specs.declared.program.Clause.{Clause}
-use Rattle.akl_terms.specs.declared.program.Op.{Op}
+use Rattle.akl_terms.specs.declared.program.Definition.{Definition}
 use Rattle.akl_terms.specs.Equal.{Equations, IsConsistent}
 use Rattle.akl_model.specs.declared.label.Label.{Label}
 use Rattle.akl_model.specs.Config.{Atom, Content, with_names, Port, with_ports, environment, whole}
@@ -17,7 +17,7 @@ use Rattle.akl_model.proofs.Finds.{times, times_of, times_inside}
 use Rattle.akl_model.proofs.ScopesAlong.{times_path, found_path}
 use Rattle.local_store.specs.Parts.{ToldStore}
 use Rattle.table_laws.specs.Rows.{ports_in}
-use Rattle.call_tables.specs.Calls.{StandOver}
+use Rattle.table_laws.specs.Calls.{StandOver}
 use Rattle.box_tree.specs.Views.{ViewValue, IsViewOf}
 use Rattle.guard_plan.proofs.JoinRight.{joined_frames, joined_ports, joined_stands}
 use Rattle.guard_plan.proofs.Sites.{stand, found}
@@ -26,21 +26,21 @@ use Rattle.call_plan.specs.Called.{Remains, Ends}
 use Rattle.call_plan.specs.Sifted.{frame_at, store_of}
 use Rattle.call_plan.proofs.Remaining.{One, one, last, last_good, last_whole, last_frames, last_ports}
 
-module _ (v : ViewValue) (g : Name) (op : Op) (left : Left) (drawn : ℕ) (more : List Label) (told : ToldStore) (e : Ends v g op left drawn more told) where
+module _ (v : ViewValue) (g : Name) (called : Definition) (left : Left) (drawn : ℕ) (more : List Label) (told : ToldStore) (e : Ends v g called left drawn more told) where
   abbrev nodes : List Node
   nodes = v.table.program.templates.nodes
 
-  abbrev pub r : Remains v g op left drawn e.before
+  abbrev pub r : Remains v g called left drawn e.before e.plainly
   r = e.remains
 
   abbrev pub i : IsViewOf v
   i = r.is_called.seen
 
-  abbrev pub passed_one : One v g op left drawn e.before r
-  passed_one = one v g op left drawn e.before r
+  abbrev pub passed_one : One v g called left drawn e.before e.plainly r
+  passed_one = one v g called left drawn e.before e.plainly r
 
   abbrev pub alternative : Content
-  alternative = last v g op left drawn e.before r
+  alternative = last v g called left drawn e.before e.plainly r
 
   pub body_is : alternative.body ≡ atoms_of nodes (frame_at v.worker passed_one.number) left.clause.now.body
   body_is = ap (λ (c : Clause). atoms_of nodes (frame_at v.worker passed_one.number) c.body) (sym passed_one.left.clause)
@@ -56,15 +56,15 @@ module _ (v : ViewValue) (g : Name) (op : Op) (left : Left) (drawn : ℕ) (more 
   ports_once n =
       let f : times n (only i.site) + times_path n i.site.around ≤ times n i.table.config.roots = found_path n i.site.content.name i.table.config.roots i.site (found v i) in
       let o : times n i.table.config.roots ≤ 1 = (stand v i).once n in
-      let z : times_in n (port_names (ports_in nodes (store_of left).ports)) ≡ 0 = ap (λ (l : List (Name × Term)). times_in n (port_names (ports_in nodes l))) (last_ports v g op left drawn e.before r) in
+      let z : times_in n (port_names (ports_in nodes (store_of left).ports)) ≡ 0 = ap (λ (l : List (Name × Term)). times_in n (port_names (ports_in nodes l))) (last_ports v g called left drawn e.before e.plainly r) in
       let u : times n (only i.site) ≡ times_of n i.site.content + (times_inside n i.site.goals + 0) = refl in
       omega arith
 
   pub ports_none : ports_in nodes (store_of left).ports ≡ []
-  ports_none = ap (ports_in nodes) (last_ports v g op left drawn e.before r)
+  ports_none = ap (ports_in nodes) (last_ports v g called left drawn e.before e.plainly r)
 
   pub frames_now : told.store.frames ≡ with_names alternative.frames i.site.content.frames
-  frames_now = joined_frames v i (store_of left) (length v.stores + 1) told e.joins.promoted ∙ ap (λ (l : List Name). with_names l i.site.content.frames) (last_frames v g op left drawn e.before r)
+  frames_now = joined_frames v i (store_of left) (length v.stores + 1) told e.joins.promoted ∙ ap (λ (l : List Name). with_names l i.site.content.frames) (last_frames v g called left drawn e.before e.plainly r)
 
   pub ports_now : ports_in nodes told.store.ports ≡ with_ports alternative.ports i.site.content.ports
   ports_now = joined_ports v i (store_of left) (length v.stores + 1) told e.joins.promoted ports_once ∙ ap (λ (l : List Port). with_ports l i.site.content.ports) ports_none
@@ -74,7 +74,7 @@ module _ (v : ViewValue) (g : Name) (op : Op) (left : Left) (drawn : ℕ) (more 
 
   pub stands_now : StandOver nodes (environment i.site) (environment i.site ++ (i.site.content.equations ++ alternative.equations)) told.store.bindings
   stands_now = subst (λ (E : Equations). StandOver nodes (environment i.site) E told.store.bindings) together
-      (joined_stands v i (store_of left) (length v.stores + 1) told e.joins.promoted alternative.equations (last_whole v g op left drawn e.before r))
+      (joined_stands v i (store_of left) (length v.stores + 1) told e.joins.promoted alternative.equations (last_whole v g called left drawn e.before e.plainly r))
 
   pub consistent_now : IsConsistent (environment i.site ++ (i.site.content.equations ++ alternative.equations))
-  consistent_now = subst IsConsistent together (last_good v g op left drawn e.before r)
+  consistent_now = subst IsConsistent together (last_good v g called left drawn e.before e.plainly r)

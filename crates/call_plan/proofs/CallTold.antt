@@ -6,7 +6,7 @@ use Rattle.akl_terms.specs.declared.name.Name.{Name}
 use Rattle.akl_terms.specs.declared.name.Var.{Var}
 use Rattle.akl_terms.specs.declared.term.Node.{Node}
 use Rattle.akl_terms.specs.declared.term.Term.{Term}
-use Rattle.akl_terms.specs.declared.program.Op.{Op}
+use Rattle.akl_terms.specs.declared.program.Definition.{Definition}
 use Rattle.akl_terms.specs.Equal.{Equations, IsTold}
 use Rattle.akl_terms.specs.Standing.{StandFor}
 use Rattle.akl_terms.proofs.EqualLaws.{IsTold-left}
@@ -31,8 +31,8 @@ use Rattle.local_store.proofs.Layers.{bindings-right, from-last}
 use Rattle.class_members.specs.Members.{AreMembers}
 use Rattle.table_laws.specs.Rows.{stores_along, told_in, ports_in}
 use Rattle.table_laws.specs.Steps.{IsSolvedIf}
-use Rattle.call_laws.specs.AtOnce.{Tells}
-use Rattle.call_tables.specs.Calls.{last_told}
+use Rattle.plan_laws.specs.AtOnce.{Tells}
+use Rattle.table_laws.specs.Calls.{last_told}
 use Rattle.box_tree.specs.Edits.{named_atoms}
 use Rattle.box_tree.specs.Tables.{table_of}
 use Rattle.box_tree.specs.Views.{ViewValue, IsViewOf}
@@ -59,30 +59,30 @@ were_free : (path : List Stored) (store : Stored) → KeepsBound path store → 
 were_free path store k [] h = tt
 were_free path store k (x ∷ xs) h = (k x h.0, were_free path store k xs h.1)
 
-module _ (v : ViewValue) (g : Name) (op : Op) (left : Left) (drawn : ℕ) (more : List Label) (told : ToldStore) (body : Body) (t : IsReducedCall v g op left drawn more told body) where
+module _ (v : ViewValue) (g : Name) (called : Definition) (left : Left) (drawn : ℕ) (more : List Label) (told : ToldStore) (body : Body) (t : IsReducedCall v g called left drawn more told body) where
   abbrev nodes : List Node
   nodes = v.table.program.templates.nodes
 
-  abbrev e : Ends v g op left drawn t.labels t.joined
+  abbrev e : Ends v g called left drawn t.labels t.joined
   e = t.ends
 
-  abbrev r : Remains v g op left drawn e.before
+  abbrev r : Remains v g called left drawn e.before e.plainly
   r = e.remains
 
   abbrev i : IsViewOf v
   i = r.is_called.seen
 
   abbrev pub last : Content
-  last = alternative v g op left drawn t.labels t.joined e
+  last = alternative v g called left drawn t.labels t.joined e
 
   abbrev pub all_drawn : ℕ
-  all_drawn = drawn_by r.called.clauses
+  all_drawn = drawn_by called.clauses
 
   abbrev from : ℕ
   from = first v.table.program i.table.config v.worker i.site last all_drawn
 
   abbrev frame : Name
-  frame = frame_at v.worker (passed_one v g op left drawn t.labels t.joined e).number
+  frame = frame_at v.worker (passed_one v g called left drawn t.labels t.joined e).number
 
   -- the stores around the box
   outside : around v.stores ≡ stores_along (table_of v.table) (names_around i.site)
@@ -96,17 +96,17 @@ module _ (v : ViewValue) (g : Name) (op : Op) (left : Left) (drawn : ℕ) (more 
   reduces = subst (λ (n : ℕ). Reduces v.table.program.templates.symbols nodes (around v.stores) frame 0 0 t.joined.store n left.clause.now.body t.reduced.labels told.store body.goals.items t.reduced.bound body.told)
       (ap (λ (n : ℕ). n + drawn) i.next ∙ ap (λ (n : ℕ). slice_index i.table.config.next v.worker + n) r.is_called.drawn_is)
       (subst (λ (f : Name). Reduces v.table.program.templates.symbols nodes (around v.stores) f 0 0 t.joined.store (v.next + drawn) left.clause.now.body t.reduced.labels told.store body.goals.items t.reduced.bound body.told)
-      (passed_one v g op left drawn t.labels t.joined e).left.frame t.reduced.reduces)
+      (passed_one v g called left drawn t.labels t.joined e).left.frame t.reduced.reduces)
 
   begins : StandFor (IsTold (told_in nodes (around v.stores) ++ bindings_in nodes t.joined.store.bindings)) (IsTold (equations_of i.site.around ++ (joining last i.site.content).equations))
-  begins = stands_now v g op left drawn t.labels t.joined e (told_in nodes (around v.stores)) around_stands
+  begins = stands_now v g called left drawn t.labels t.joined e (told_in nodes (around v.stores)) around_stands
 
   abbrev Along : Type 0
   Along = ToldAlong v.table.program (from + length last.body) i.site.around (around v.stores) around_stands frame 0 0 t.joined.store (joining last i.site.content) from left.clause.now.body t.reduced.labels told.store body.goals.items t.reduced.bound body.told
 
   pub along : Along
   along = told_along v.table.program (from + length last.body) i.site.around (around v.stores) around_stands frame (joining last i.site.content) 0 0 t.joined.store from left.clause.now.body t.reduced.labels told.store body.goals.items t.reduced.bound body.told
-      begins (consistent_now v g op left drawn t.labels t.joined e) reduces
+      begins (consistent_now v g called left drawn t.labels t.joined e) reduces
 
   abbrev pub goals_left : List (Name × Atom)
   goals_left = named_atoms nodes body.goals.items
@@ -117,7 +117,7 @@ module _ (v : ViewValue) (g : Name) (op : Op) (left : Left) (drawn : ℕ) (more 
       × (last_told v.table.program v.worker (from + length last.body) i.site.around (joining last i.site.content) from body_atoms t.reduced.labels along.after goals_left x 0 0 ≡ body.told)
 
   tells_all : TellsAll last.body
-  tells_all = subst TellsAll (sym (body_is v g op left drawn t.labels t.joined e)) (along.body, along.last)
+  tells_all = subst TellsAll (sym (body_is v g called left drawn t.labels t.joined e)) (along.body, along.last)
 
   pub body_told : BodyTold v.table.program i.table.config v.worker i.site last all_drawn t.reduced.labels along.after goals_left told.store body.told
   body_told = record {
@@ -125,8 +125,8 @@ module _ (v : ViewValue) (g : Name) (op : Op) (left : Left) (drawn : ℕ) (more 
     last_is = tells_all.1;
     consistent = along.consistent;
     between = λ E rest q. along.between E rest (append_cancel_left (i.site.content.equations ++ last.equations) along.more (E ++ rest) (sym along.equations ∙ q));
-    frames = along.frames ∙ frames_now v g op left drawn t.labels t.joined e;
-    ports = ap (ports_in nodes) along.ports ∙ ports_now v g op left drawn t.labels t.joined e;
+    frames = along.frames ∙ frames_now v g called left drawn t.labels t.joined e;
+    ports = ap (ports_in nodes) along.ports ∙ ports_now v g called left drawn t.labels t.joined e;
     stands = stands_anywhere v.table.program (from + length last.body) i.site.around (around v.stores) around_stands frame told.store along.after.equations along.stands;
   }
 
@@ -161,7 +161,7 @@ module _ (v : ViewValue) (g : Name) (op : Op) (left : Left) (drawn : ℕ) (more 
       (ap (λ (E : Equations). E ++ along.more) (append_assoc (environment i.site) i.site.content.equations last.equations) ∙ append_assoc (environment i.site) (i.site.content.equations ++ last.equations) along.more
       ∙ ap (λ (E : Equations). environment i.site ++ E) (sym along.equations))
       (stands_with_more joined_equations (whole i.site ++ last.equations) along.more
-      (StandFor-on (told_stands nodes (v.stores ++ store_of left ∷ [])) (last_whole v g op left drawn e.before r)))
+      (StandFor-on (told_stands nodes (v.stores ++ store_of left ∷ [])) (last_whole v g called left drawn e.before e.plainly r)))
 
   module _ (binds : List Var) (members : AreMembers nodes v.stores told.bound binds) where
     pub newly_bound : AreNewlyBound (outermost_equations i.site) (whole i.site) (environment i.site ++ along.after.equations) binds

@@ -1,5 +1,5 @@
 -- What is known of a call that is made at once.
-use Rattle.std.proofs.Common.{◌≡◌, ℕ, ◌+◌, ◌<◌, ◌^◌, List, [], length, true, refl, subst}
+use Rattle.std.proofs.Common.{◌≡◌, ℕ, Bool, ◌+◌, ◌<◌, ◌^◌, List, [], length, true, subst}
 use Rattle.akl_terms.specs.declared.name.Name.{Name}
 use Rattle.akl_terms.specs.declared.program.Definition.{Definition}
 use Rattle.akl_model.specs.declared.label.Label.{Label}
@@ -28,8 +28,8 @@ module _ (v : ViewValue) (g : Name) (a : Arguments) (called : Definition) (drawn
   pub call_numbers : v.next + drawn < 2 ^ 64 → v.next + drawn_by called.clauses < 2 ^ 64
   call_numbers l = subst (λ (n : ℕ). v.next + n < 2 ^ 64) h.drawn_is l
 
-  pub call_remains : (labels : List Label) (left : Left) → IsChosen v.table.program.templates.symbols v.table.program.templates.nodes v.stores a v.worker v.next called.op called.clauses [] labels left → Remains v g called.op left drawn labels
-  call_remains labels left c = record { arguments = a; called = called; is_called = h; op_is = refl; chosen = c }
+  pub call_remains : (labels : List Label) (plainly : Bool) (left : Left) → IsChosen v.table.program.templates.symbols v.table.program.templates.nodes v.stores a v.worker v.next called.op called.clauses [] true labels plainly left → Remains v g called left drawn labels plainly
+  call_remains labels plainly left c = record { arguments = a; is_called = h; chosen = c }
 
 -- the store of the box makes a solved chain with those around it, where it says so
 pub joined_solved : (nodes : List Node) (path : List Stored) (op : Op) (own : Stored) (told : ToldStore) → Joins nodes path op own told → told.solved ≡ true → IsSolvedChain nodes (replaced path told.store)

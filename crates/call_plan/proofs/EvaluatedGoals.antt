@@ -1,5 +1,5 @@
 -- Goals of an alternative that are comparisons are evaluated one after another, and its equations stay.
-use Rattle.std.proofs.Common.{◌≡◌, ℕ, ◌+◌, List, [], ◌∷◌, Bool, true, false, Some, refl, sym, ◌∙◌, ap, subst, inl, arith}
+use Rattle.std.proofs.Common.{◌≡◌, ℕ, ◌+◌, List, [], ◌∷◌, Bool, true, false, Some, None, refl, sym, ◌∙◌, ap, subst, inl, arith}
 use Rattle.std.specs.Prelude.{if◌then◌else◌}
 use Rattle.akl_terms.specs.declared.name.Name.{Name}
 use Rattle.akl_terms.specs.declared.program.Code.{Code}
@@ -16,7 +16,7 @@ use Rattle.akl_model.specs.declared.label.Label.{Label}
 use Rattle.akl_model.specs.Config.{Atom, Content, box, no_boxes, Goals, no_goals, atom, goal, an_atom, held_in, with_content, without_goal, Found, whole}
 use Rattle.akl_model.specs.Instances.{atom_of, atoms_of, with_atoms}
 use Rattle.akl_model.specs.Rules.{answer, becomes, eval}
-use Rattle.akl_model.specs.Conditions.{HasFailed, Makes, ComesTo}
+use Rattle.akl_model.specs.Conditions.{HasFailed, IsQuietBox, Makes, ComesTo}
 use Rattle.akl_model.specs.Stable.{Allows}
 use Rattle.rational_unify.specs.Solving.{bindings_in}
 use Rattle.local_store.specs.Stored.{Stored}
@@ -24,16 +24,22 @@ use Rattle.local_store.specs.Chained.{bindings_from}
 use Rattle.table_laws.specs.Rows.{told_in}
 use Rattle.box_tree.proofs.ToldChains.{told_stands}
 use Rattle.rule_plan.proofs.NewBoxes.{atoms_behind}
-use Rattle.call_laws.specs.AtOnce.{inner, Works, rests, works}
-use Rattle.call_laws.specs.Untold.{KeepsEquations}
+use Rattle.plan_laws.specs.AtOnce.{inner, Works, rests, works}
+use Rattle.plan_laws.specs.Untold.{KeepsEquations}
+use Rattle.reading_laws.specs.QuietGuards.{IsQuietWhere}
 use Rattle.call_plan.specs.Sifted.{evaluation, Comes, Evaluated, all_hold, one_fails, one_holds}
 
--- goals of a box are reduced to others, and none tells an equation
+-- where no goals are left nothing is evaluated
+pub quiet_without : (p : Program) (w next : ℕ) (f : Found) (b : Content) (gs : Goals) (ls : List Label) (b2 : Content) (gs2 : Goals) (x : Works p w next f b gs ls b2 gs2) → gs ≡ no_goals → IsQuietWhere p w next f b gs ls b2 gs2 x
+quiet_without p w next f _ _ _ _ _ (rests b gs) e = tt
+quiet_without p w next f _ _ _ _ _ (works r i h b gs b1 gs1 ls b2 gs2 guard held makes name y) e = let z : None ≡ Some h = sym (ap (held_in i) e) ∙ held in absurd cc
+
+-- goals of a box are reduced to others, and none tells an equation; where the box is quiet it is so wherever one is evaluated
 abbrev pub Reduces : (p : Program) (w next : ℕ) (f : Found) (b : Content) → Goals → List Label → Goals → Type 0
-Reduces p w next f b gs ls hs = (x : Works p w next f b gs ls b hs) × KeepsEquations p w next f b gs ls b hs x
+Reduces p w next f b gs ls hs = (x : Works p w next f b gs ls b hs) × KeepsEquations p w next f b gs ls b hs x × (IsQuietBox (inner f b no_goals) → IsQuietWhere p w next f b gs ls b hs x)
 
 pub rest_so : (p : Program) (w next : ℕ) (f : Found) (b : Content) (gs : Goals) → Reduces p w next f b gs [] gs
-rest_so p w next f b gs = (rests b gs, tt)
+rest_so p w next f b gs = (rests b gs, tt, λ q. tt)
 
 module _ (p : Program) (next : ℕ) (f : Found) (b : Content) (ss : List Stored) (frame : Name) (stands : StandFor (IsTold (told_in p.templates.nodes ss)) (IsTold (whole (inner f b no_goals))))
     (consistent : IsConsistent (whole (inner f b no_goals))) where
@@ -95,6 +101,7 @@ module _ (p : Program) (next : ℕ) (f : Found) (b : Content) (ss : List Stored)
     works Rule.Eval (goal_at n) (an_atom (atom_at c)) b (atom (goal_at n) (atom_at c) (goals_at (n + 1) cs)) b (after h n (goals_at (n + 1) cs)) ls b hs tt
         (held n (atom_at c) (goals_at (n + 1) cs)) (makes n c (goals_at (n + 1) cs) h e) refl x.0,
     (refl, x.1),
+    λ q. (λ e. q, x.2 q),
   )
 
   -- all goals go, or one of those that are left is `fail`

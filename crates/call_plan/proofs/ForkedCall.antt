@@ -22,10 +22,10 @@ use Rattle.akl_model.proofs.ScopesKept.{around_outside}
 use Rattle.step_laws.specs.Whereabouts.{BoxIn}
 use Rattle.step_laws.proofs.Deeper.{in_deeper, named_found}
 use Rattle.step_laws.proofs.GoalEdits.{held_inside}
-use Rattle.call_laws.specs.AtOnce.{inner, by, AreInForce}
-use Rattle.call_laws.specs.Between.{with_choice}
-use Rattle.call_laws.proofs.Alternatives.{Calling, between}
-use Rattle.call_laws.proofs.Between.{stands, is_choice}
+use Rattle.plan_laws.specs.AtOnce.{inner, by, AreInForce}
+use Rattle.plan_laws.specs.Between.{with_choice}
+use Rattle.plan_laws.proofs.CallAlternatives.{Calling, between}
+use Rattle.plan_laws.proofs.Between.{stands, is_choice}
 
 module _ (rules : List Rule) (force : AreInForce rules) (p : Program) (q : Query) (journal : List Label) (c : Config) (replays : Replays rules p q journal c) (w : ℕ) (g : Name) (f : Found) (is_home : home_of g c.roots ≡ Some f)
     (number : ℕ) (arguments : List Tree) (held : held_in g f.goals ≡ Some (an_atom (Atom.call number arguments None))) (d : Definition) (is_definition : slice_get p.definitions number ≡ Some d)

@@ -12,7 +12,7 @@ use Rattle.akl_model.specs.Config.{Operator, Content, Boxes, no_boxes, box, Goal
 use Rattle.akl_model.specs.Instances.{instances}
 use Rattle.akl_model.specs.Rules.{operator_of, count_of, up_to, alone, alternative_of, kept_by}
 use Rattle.akl_model.specs.Conditions.{IsQuietBox}
-use Rattle.call_laws.specs.AtOnce.{inner, Ends, promotes, cuts}
+use Rattle.plan_laws.specs.AtOnce.{inner, Ends, promotes, cuts}
 use Rattle.call_plan.specs.Ended.{cuts_others, end_labels}
 
 -- the operator of the choice that a call becomes which doesn't collect

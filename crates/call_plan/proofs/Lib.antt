@@ -5,6 +5,8 @@ pub mod ForkedCall
 pub mod LastLeft
 pub mod PlainJoined
 pub mod BoundAtOnce
+pub mod ReadsOfCall
+pub mod AlternativesApart
 pub mod Remaining
 pub mod BodyTold
 pub mod CallJoined

@@ -30,13 +30,13 @@ module _ (nodes : List Node) (path : List Stored) (frame : Name) (bs : List (Var
   consistent = subst (λ (ss : List Stored). IsConsistentBy (ToldBy nodes ss)) (sym (around_push path (own_store frame bs)))
       (form-consistent nodes (bindings_from path) (ToldBy nodes path) (front_solved nodes path (own_store frame bs) k).form)
 
-  quiet : IsQuietInside nodes (path ++ own_store frame bs ∷ [])
-  quiet = quiet_plain nodes path frame bs plain k (apart consistent)
+  pub plain_quiet : IsQuietInside nodes (path ++ own_store frame bs ∷ [])
+  plain_quiet = quiet_plain nodes path frame bs plain k (apart consistent)
 
   pub plain_holds : (op : Op) → (op ≡ Op.Collect → ⊥) → HoldsFor op nodes (path ++ own_store frame bs ∷ [])
   plain_holds Op.Choice n = tt
-  plain_holds Op.Condition n = quiet
-  plain_holds Op.Commit n = quiet
+  plain_holds Op.Condition n = plain_quiet
+  plain_holds Op.Commit n = plain_quiet
   plain_holds Op.Collect n = absurd (n refl)
 
 -- in a root box what is bound to nothing is all that is listed of its classes

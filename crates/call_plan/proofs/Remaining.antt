@@ -1,30 +1,26 @@
 -- The alternative of a call that remains: its store and its configuration.
-use Rattle.std.proofs.Common.{◌≡◌, ℕ, ◌+◌, ◌<◌, ◌^◌, List, [], ◌∷◌, ◌++◌, length, true, Some, None, refl, sym, ◌∙◌, ap, subst, inl, inr, append-nil}
+use Rattle.std.proofs.Common.{◌≡◌, Bool, ℕ, ◌+◌, List, [], ◌∷◌, ◌++◌, length, true, Some, None, sym, ◌∙◌, ap, subst, append-nil}
 use Rattle.std.specs.Prelude.{slice_index}
 use Rattle.akl_terms.specs.declared.name.Name.{Name}
-use Rattle.akl_terms.specs.declared.name.Var.{Var}
 use Rattle.akl_terms.specs.declared.name.Place.{Place}
 use Rattle.akl_terms.specs.declared.term.Node.{Node}
 use Rattle.akl_terms.specs.declared.program.Clause.{Clause}
+use Rattle.akl_terms.specs.declared.program.Definition.{Definition}
 use Rattle.akl_terms.specs.declared.program.Op.{Op}
-use Rattle.akl_terms.specs.Equal.{Equations, IsTold, IsConsistent, IsQuiet}
+use Rattle.akl_terms.specs.Equal.{Equations, IsTold, IsConsistent}
 use Rattle.akl_terms.specs.Standing.{StandFor}
-use Rattle.akl_terms.specs.Touching.{IsLocal}
 use Rattle.akl_terms.specs.Tree.{Tree}
 use Rattle.akl_model.specs.declared.label.Label.{Label}
-use Rattle.akl_model.specs.Config.{Content, Boxes, box, Goals, no_goals, environment, whole, home_of, site_of}
+use Rattle.akl_model.specs.Config.{Content, Boxes, box, Goals, no_goals, whole, home_of, site_of}
 use Rattle.akl_model.specs.Instances.{terms_from, drawn_by}
 use Rattle.akl_model.specs.Rules.{operator_of}
-use Rattle.akl_model.specs.Stable.{only, frames_of, frames_inside}
-use Rattle.akl_model.proofs.QuietGrows.{IsLocal-left, equations-snoc}
+use Rattle.akl_model.proofs.QuietGrows.{equations-snoc}
 use Rattle.rational_unify.specs.Solving.{bindings_in}
 use Rattle.local_store.specs.Chained.{IsKnown}
 use Rattle.table_laws.specs.Rows.{told_in}
-use Rattle.call_laws.specs.AtOnce.{inner, AreInForce}
-use Rattle.box_tree.specs.Tables.{all_rules}
+use Rattle.plan_laws.specs.AtOnce.{inner}
 use Rattle.box_tree.specs.Views.{ViewValue, IsViewOf}
-use Rattle.guard_plan.specs.Guards.{KeepsApartInside, IsQuietInside}
-use Rattle.guard_plan.proofs.QuietOver.{quiet_box, keeps_inside}
+use Rattle.guard_plan.specs.Guards.{KeepsApartInside}
 use Rattle.guard_plan.proofs.Sites.{whole_stands}
 use Rattle.rule_plan.specs.Made.{IsNewStore}
 use Rattle.call_plan.specs.declared.sifting.Left.{Left}
@@ -33,22 +29,13 @@ use Rattle.call_plan.specs.Chosen.{IsChosen, OthersGo}
 use Rattle.call_plan.specs.Joins.{HoldsFor}
 use Rattle.call_plan.specs.Owns.{IsPlainOwn}
 use Rattle.call_plan.specs.Sifted.{frame_at, head_codes, Leaves, store_of}
-use Rattle.call_plan.proofs.HeadStores.{head_stands, all_stand, all_consistent, store_frames, store_ports, store_solved, known_push}
-use Rattle.call_plan.proofs.SiftedCalls.{content, guard_goals, forked, Sift, Passed, passed, all_stay}
-use Rattle.call_plan.proofs.ForkedCall.{apart}
+use Rattle.call_plan.proofs.HeadStores.{head_stands, all_stand, all_consistent, store_frames, store_ports}
+use Rattle.call_plan.proofs.SiftedCalls.{content, guard_goals, forked, Sift, PlainAreQuiet, first_within, rest_within, Passed, passed, all_stay}
+use Rattle.call_plan.proofs.SiftingOn.{leaves_still}
+use Rattle.call_plan.proofs.AlternativesApart.{keeps_apart, known, quiet_alternative, plain_are_quiet}
 use Rattle.call_plan.proofs.LastLeft.{operator, Holds, is_operator, left_behind}
 
-pub in_force : AreInForce all_rules
-in_force = record {
-  fork = inr (inl refl);
-  fail = inr (inr (inl refl));
-  cut = inr (inr (inr (inl refl)));
-  tell = inl refl;
-  eval = inr (inr (inr (inr (inr (inl refl)))));
-  promote = inr (inr (inr (inr (inl refl))));
-}
-
-module _ (v : ViewValue) (g : Name) (op : Op) (left : Left) (drawn : ℕ) (before : List Label) (r : Remains v g op left drawn before) where
+module _ (v : ViewValue) (g : Name) (called : Definition) (left : Left) (drawn : ℕ) (before : List Label) (plainly : Bool) (r : Remains v g called left drawn before plainly) where
   abbrev nodes : List Node
   nodes = v.table.program.templates.nodes
 
@@ -59,20 +46,34 @@ module _ (v : ViewValue) (g : Name) (op : Op) (left : Left) (drawn : ℕ) (befor
   first = slice_index i.table.config.next v.worker
 
   abbrev pub next : ℕ
-  next = first + drawn_by r.called.clauses
+  next = first + drawn_by called.clauses
 
   pub is_home : home_of g i.table.config.roots ≡ Some i.site
   is_home = subst (λ (q : Place). site_of q i.table.config.roots ≡ Some i.site) r.is_called.is_place i.is_site
 
-  pub chosen : IsChosen v.table.program.templates.symbols nodes v.stores r.arguments v.worker first op r.called.clauses [] before left
-  chosen = subst (λ (n : ℕ). IsChosen v.table.program.templates.symbols nodes v.stores r.arguments v.worker n op r.called.clauses [] before left) i.next r.chosen
+  pub chosen : IsChosen v.table.program.templates.symbols nodes v.stores r.arguments v.worker first called.op called.clauses [] true before plainly left
+  chosen = subst (λ (n : ℕ). IsChosen v.table.program.templates.symbols nodes v.stores r.arguments v.worker n called.op called.clauses [] true before plainly left) i.next r.chosen
+
+  pub is_op : operator_of called.op None ≡ Some (operator called.op)
+  is_op = is_operator called.op (λ e. absurd (subst (λ (o : Op). OthersGo v.table.program.templates.symbols nodes v.stores r.arguments o left chosen.middle chosen.until before plainly) e chosen.others))
+
+  pub quiet : PlainAreQuiet v.table.program v.stores i.site (whole_stands v i) r.arguments v.worker next plainly first called.clauses
+  quiet n c own among o e = plain_are_quiet v g r.arguments called drawn r.is_called is_op n c own among o e
+
+  -- what is said of the labels up to the one that is left may be said less
+  said : (o : Op) → OthersGo v.table.program.templates.symbols nodes v.stores r.arguments o left chosen.middle chosen.until before plainly → plainly ≡ true → chosen.until ≡ true
+  said Op.Condition e q = sym e.1 ∙ q
+  said Op.Commit e q = sym e.1 ∙ q
+  said Op.Choice e q = e.before q
+  said Op.Collect e q = absurd e
 
   -- all alternatives before it fail
   abbrev pub One : Type 0
-  One = Passed v.table.program v.stores i.site (whole_stands v i) r.arguments v.worker next first r.called.clauses chosen.sifts.sifting left
+  One = Passed v.table.program v.stores i.site (whole_stands v i) r.arguments v.worker next plainly first called.clauses quiet first called.clauses chosen.sifts.sifting left
 
   pub one : One
-  one = passed v.table.program v.stores i.site (whole_stands v i) r.arguments v.worker next first r.called.clauses chosen.sifts.sifting (Some left) chosen.sifts.leaves
+  one = passed v.table.program v.stores i.site (whole_stands v i) r.arguments v.worker next plainly first called.clauses quiet first called.clauses chosen.sifts.sifting (Some left) (λ b gs m. m)
+      (leaves_still v.table.program.templates.symbols nodes v.stores r.arguments v.worker chosen.until plainly (said called.op chosen.others) first called.clauses chosen.sifts.sifting (Some left) chosen.sifts.leaves)
 
   abbrev pub arguments : List Tree
   arguments = terms_from nodes r.arguments.frame r.arguments.first r.arguments.count
@@ -87,7 +88,7 @@ module _ (v : ViewValue) (g : Name) (op : Op) (left : Left) (drawn : ℕ) (befor
   after_last = one.number + (2 + length one.clause.guard)
 
   abbrev Sifted : Boxes → List Label → Boxes → Type 0
-  Sifted bs ls cs = Sift v.table.program v.stores i.site (whole_stands v i) r.arguments v.worker next bs ls cs
+  Sifted bs ls cs = Sift v.table.program v.stores i.site (whole_stands v i) r.arguments v.worker next plainly bs ls cs
 
   abbrev others : Boxes
   others = forked v.table.program v.stores i.site (whole_stands v i) r.arguments v.worker next after_last one.behind
@@ -99,36 +100,34 @@ module _ (v : ViewValue) (g : Name) (op : Op) (left : Left) (drawn : ℕ) (befor
     sift : Sifted others labels (left_behind nodes v.worker after_last arguments o one.behind)
 
   all_left : Sifted others [] others
-  all_left = all_stay v.table.program v.stores i.site (whole_stands v i) r.arguments v.worker next others
+  all_left = all_stay v.table.program v.stores i.site (whole_stands v i) r.arguments v.worker next plainly first called.clauses quiet others
 
-  others_sift : (o : Op) → OthersGo v.table.program.templates.symbols nodes v.stores r.arguments o left chosen.middle before → OthersSift o
-  others_sift Op.Condition e = record { labels = []; labels_are = e ∙ sym (append-nil chosen.middle); sift = all_left }
-  others_sift Op.Commit e = record { labels = []; labels_are = e ∙ sym (append-nil chosen.middle); sift = all_left }
+  others_sift : (o : Op) → OthersGo v.table.program.templates.symbols nodes v.stores r.arguments o left chosen.middle chosen.until before plainly → OthersSift o
+  others_sift Op.Condition e = record { labels = []; labels_are = e.0 ∙ sym (append-nil chosen.middle); sift = all_left }
+  others_sift Op.Commit e = record { labels = []; labels_are = e.0 ∙ sym (append-nil chosen.middle); sift = all_left }
   others_sift Op.Collect e = absurd e
   others_sift Op.Choice e = record {
     labels = e.sifting;
     labels_are = e.labels;
-    sift = passed v.table.program v.stores i.site (whole_stands v i) r.arguments v.worker next after_last one.behind e.sifting None leaves;
+    sift = passed v.table.program v.stores i.site (whole_stands v i) r.arguments v.worker next plainly first called.clauses quiet after_last one.behind e.sifting None
+        (rest_within v.table.program v.stores i.site (whole_stands v i) r.arguments v.worker next plainly first called.clauses one.number one.clause one.behind one.within) leaves;
   }
     where
-      named : Leaves v.table.program.templates.symbols nodes v.stores r.arguments v.worker (one.number + (2 + length left.clause.now.guard)) left.behind.now e.sifting None
-      named = subst (λ (m : Name). Leaves v.table.program.templates.symbols nodes v.stores r.arguments m.worker (m.number + (2 + length left.clause.now.guard)) left.behind.now e.sifting None) one.left.name e.leaves
+      named : Leaves v.table.program.templates.symbols nodes v.stores r.arguments v.worker plainly (one.number + (2 + length left.clause.now.guard)) left.behind.now e.sifting None
+      named = subst (λ (m : Name). Leaves v.table.program.templates.symbols nodes v.stores r.arguments m.worker plainly (m.number + (2 + length left.clause.now.guard)) left.behind.now e.sifting None) one.left.name e.leaves
 
-      leaves : Leaves v.table.program.templates.symbols nodes v.stores r.arguments v.worker after_last one.behind e.sifting None
-      leaves = subst (λ (c : Clause). Leaves v.table.program.templates.symbols nodes v.stores r.arguments v.worker (one.number + (2 + length c.guard)) one.behind e.sifting None) one.left.clause
-          (subst (λ (cs : List Clause). Leaves v.table.program.templates.symbols nodes v.stores r.arguments v.worker (one.number + (2 + length left.clause.now.guard)) cs e.sifting None) one.left.behind named)
+      leaves : Leaves v.table.program.templates.symbols nodes v.stores r.arguments v.worker plainly after_last one.behind e.sifting None
+      leaves = subst (λ (c : Clause). Leaves v.table.program.templates.symbols nodes v.stores r.arguments v.worker plainly (one.number + (2 + length c.guard)) one.behind e.sifting None) one.left.clause
+          (subst (λ (cs : List Clause). Leaves v.table.program.templates.symbols nodes v.stores r.arguments v.worker plainly (one.number + (2 + length left.clause.now.guard)) cs e.sifting None) one.left.behind named)
 
   abbrev all : Boxes
-  all = forked v.table.program v.stores i.site (whole_stands v i) r.arguments v.worker next first r.called.clauses
+  all = forked v.table.program v.stores i.site (whole_stands v i) r.arguments v.worker next first called.clauses
 
-  pub all_sift : Sifted all before (box last no_goals (left_behind nodes v.worker after_last arguments op one.behind))
+  pub all_sift : Sifted all before (box last no_goals (left_behind nodes v.worker after_last arguments called.op one.behind))
   all_sift =
-      let w : OthersSift op = others_sift op chosen.others in
-      subst (λ (ls : List Label). Sifted all ls (box last no_goals (left_behind nodes v.worker after_last arguments op one.behind))) (sym (w.labels_are ∙ ap (λ (ls : List Label). ls ++ w.labels) chosen.sifts.labels))
-      (one.sifts chosen.holds w.labels (left_behind nodes v.worker after_last arguments op one.behind) w.sift)
-
-  pub is_op : operator_of r.called.op None ≡ Some (operator op)
-  is_op = ap (λ (o : Op). operator_of o None) r.op_is ∙ is_operator op (λ e. absurd (subst (λ (o : Op). OthersGo v.table.program.templates.symbols nodes v.stores r.arguments o left chosen.middle before) e chosen.others))
+      let w : OthersSift called.op = others_sift called.op chosen.others in
+      subst (λ (ls : List Label). Sifted all ls (box last no_goals (left_behind nodes v.worker after_last arguments called.op one.behind))) (sym (w.labels_are ∙ ap (λ (ls : List Label). ls ++ w.labels) chosen.sifts.labels))
+      (one.sifts chosen.holds w.labels (left_behind nodes v.worker after_last arguments called.op one.behind) w.sift)
 
   -- its store
   abbrev store : IsNewStore nodes v.stores (length v.stores) (frame_at v.worker one.number) (head_codes r.arguments (frame_at v.worker one.number) one.clause) (store_of left) true
@@ -150,39 +149,17 @@ module _ (v : ViewValue) (g : Name) (op : Op) (left : Left) (drawn : ℕ) (befor
   last_ports = store_ports nodes v.stores (whole i.site) (whole_stands v i) r.arguments (frame_at v.worker one.number) one.clause (length v.stores) (store_of left) store
 
   pub last_known : IsKnown nodes (v.stores ++ (store_of left) ∷ []) (length v.stores + 1)
-  last_known = known_push nodes v.stores (store_of left) (subst (IsKnown nodes v.stores) r.is_called.known i.known)
-      (store_solved nodes v.stores r.arguments (frame_at v.worker one.number) one.clause (length v.stores) (store_of left) store)
-
-  around_is : environment (inner i.site last no_goals) ≡ whole i.site
-  around_is = equations-snoc i.site.around i.site.content
-
-  around_stands : StandFor (IsTold (told_in nodes v.stores)) (IsTold (environment (inner i.site last no_goals)))
-  around_stands = subst (λ (E : Equations). StandFor (IsTold (told_in nodes v.stores)) (IsTold E)) (sym around_is) (whole_stands v i)
-
-  inner_stands : StandFor (IsTold (told_in nodes (v.stores ++ (store_of left) ∷ []))) (IsTold (environment (inner i.site last no_goals) ++ last.equations))
-  inner_stands = subst (λ (E : Equations). StandFor (IsTold (told_in nodes (v.stores ++ (store_of left) ∷ []))) (IsTold (E ++ last.equations))) (sym around_is) last_whole
-
-  local : (y : Var) → IsLocal (store_of left).frames y → IsLocal (frames_of (only (inner i.site last last_goals))) y
-  local y l = IsLocal-left last.frames (frames_inside last_goals ++ []) y (subst (λ (fs : List Name). IsLocal fs y) last_frames l)
+  last_known = known v g r.arguments called drawn r.is_called is_op one.number one.clause (store_of left) store
 
   pub last_apart : KeepsApartInside nodes (v.stores ++ (store_of left) ∷ [])
-  last_apart = keeps_inside nodes v.stores (store_of left) (environment (inner i.site last no_goals)) last.equations around_stands inner_stands (frames_of (only (inner i.site last last_goals))) local
-      (apart all_rules in_force v.table.program v.table.query v.journal i.table.config i.table.replays v.worker g i.site is_home r.is_called.definition arguments r.is_called.held r.called r.is_called.is_definition
-      (operator op) is_op few last last_goals one.among)
-    where
-      few : drawn_by r.called.clauses < 2 ^ 32
-      few = subst (λ (n : ℕ). n < 2 ^ 32) r.is_called.drawn_is r.is_called.few_names
-
-  quiet_here : IsQuietInside nodes (v.stores ++ (store_of left) ∷ []) → IsQuiet (environment (inner i.site last no_goals)) (IsLocal last.frames) last.equations
-  quiet_here q = subst (λ (fs : List Name). IsQuiet (environment (inner i.site last no_goals)) (IsLocal fs) last.equations) last_frames
-      (quiet_box nodes v.stores (store_of left) (environment (inner i.site last no_goals)) last.equations around_stands inner_stands q)
+  last_apart = keeps_apart v g r.arguments called drawn r.is_called is_op one.number one.clause (store_of left) store (first_within v.table.program v.stores i.site (whole_stands v i) r.arguments v.worker next plainly first called.clauses one.number one.clause one.behind one.within)
 
   pub last_plain : IsPlainOwn nodes v.stores left.frame left.own
   last_plain = one.left.plain
 
   -- its guard holds
   pub last_holds : (o : Op) → HoldsFor o nodes (v.stores ++ (store_of left) ∷ []) → Holds o (inner i.site last no_goals)
-  last_holds Op.Choice h = subst (λ (E : Equations). IsConsistent (E ++ last.equations)) (sym around_is) last_good
-  last_holds Op.Condition q = quiet_here q
-  last_holds Op.Commit q = quiet_here q
+  last_holds Op.Choice h = subst (λ (E : Equations). IsConsistent (E ++ last.equations)) (sym (equations-snoc i.site.around i.site.content)) last_good
+  last_holds Op.Condition q = quiet_alternative v g r.arguments called drawn r.is_called is_op one.number one.clause (store_of left) store q
+  last_holds Op.Commit q = quiet_alternative v g r.arguments called drawn r.is_called is_op one.number one.clause (store_of left) store q
   last_holds Op.Collect h = absurd h

@@ -1,10 +1,8 @@
 -- What is known of a call before it is found at once.
-use Rattle.std.specs.Prelude.{◌≡◌, Bool, ℕ, ◌+◌, ◌<◌, ◌^◌, List, [], ◌++◌, length, Some, None, slice_get}
+use Rattle.std.specs.Prelude.{◌≡◌, Bool, true, ℕ, ◌+◌, ◌<◌, ◌^◌, List, [], ◌++◌, length, Some, None, slice_get}
 use Rattle.akl_terms.specs.declared.name.Name.{Name}
 use Rattle.akl_terms.specs.declared.name.Place.{Place}
-use Rattle.akl_terms.specs.declared.program.Clause.{Clause}
 use Rattle.akl_terms.specs.declared.program.Definition.{Definition}
-use Rattle.akl_terms.specs.declared.program.Op.{Op}
 use Rattle.akl_model.specs.declared.label.Label.{Label}
 use Rattle.akl_model.specs.Config.{Atom, an_atom, held_in}
 use Rattle.akl_model.specs.Instances.{terms_from, drawn_by}
@@ -32,35 +30,37 @@ pub record IsCalled (v : ViewValue) (g : Name) (a : Arguments) (called : Definit
   pub few_names : drawn < 2 ^ 32
   pub known : v.known ≡ length v.stores
 
--- the alternative of one of its clauses may be promoted, after these labels
-pub record Remains (v : ViewValue) (g : Name) (op : Op) (left : Left) (drawn : ℕ) (labels : List Label) : Type 0 where
+-- the alternative of one of its clauses may be promoted, after these labels, by which goals of guards were evaluated in alternatives with plain bindings alone or not
+pub record Remains (v : ViewValue) (g : Name) (called : Definition) (left : Left) (drawn : ℕ) (labels : List Label) (plainly : Bool) : Type 0 where
   pub arguments : Arguments
-  pub called : Definition
   pub is_called : IsCalled v g arguments called drawn
-  pub op_is : called.op ≡ op
-  pub chosen : IsChosen v.table.program.templates.symbols v.table.program.templates.nodes v.stores arguments v.worker v.next op called.clauses [] labels left
+  pub chosen : IsChosen v.table.program.templates.symbols v.table.program.templates.nodes v.stores arguments v.worker v.next called.op called.clauses [] true labels plainly left
 
 -- it joins the box of the call by all labels behind the fork up to its promotion, with few goals
-pub record Ends (v : ViewValue) (g : Name) (op : Op) (left : Left) (drawn : ℕ) (more : List Label) (told : ToldStore) : Type 0 where
+pub record Ends (v : ViewValue) (g : Name) (called : Definition) (left : Left) (drawn : ℕ) (more : List Label) (told : ToldStore) : Type 0 where
   pub before : List Label
-  pub remains : Remains v g op left drawn before
-  pub labels : more ≡ before ++ end_labels g left.name (cuts_others op left.behind.now)
-  pub joins : Joins v.table.program.templates.nodes v.stores op (store_of left) told
+  pub plainly : Bool
+  pub remains : Remains v g called left drawn before plainly
+  pub labels : more ≡ before ++ end_labels g left.name (cuts_others called.op left.behind.now)
+  pub joins : Joins v.table.program.templates.nodes v.stores called.op (store_of left) told
   pub free : BindsFree v.stores left.own told.bound
   pub kept : OwnKeepsBound v.stores left.own told.store
   pub few_goals : length left.clause.now.body < 2 ^ 32
 
 -- then goals of its body are reduced, and these are left of it
-pub record IsReducedCall (v : ViewValue) (g : Name) (op : Op) (left : Left) (drawn : ℕ) (more : List Label) (told : ToldStore) (body : Body) : Type 0 where
+pub record IsReducedCall (v : ViewValue) (g : Name) (called : Definition) (left : Left) (drawn : ℕ) (more : List Label) (told : ToldStore) (body : Body) : Type 0 where
   pub labels : List Label
   pub joined : ToldStore
-  pub ends : Ends v g op left drawn labels joined
+  pub ends : Ends v g called left drawn labels joined
   pub reduced : IsReduced v.table.program.templates.symbols v.table.program.templates.nodes (around v.stores) left.frame (v.next + drawn) left.clause.now.body joined told labels more body
 
--- so it is of some alternative of a clause, with bindings that are plain or not
-pub record IsReducedClause (v : ViewValue) (g : Name) (c : Clause) (plain : Bool) (drawn : ℕ) (more : List Label) (told : ToldStore) (body : Body) : Type 0 where
-  pub op : Op
+-- so it is of some alternative of a clause, with bindings that are plain or not, as those of alternatives in which goals of guards were evaluated; its labels draw so many names, and what is added to the store of the box has the frames of the alternative
+pub record IsReducedClause (v : ViewValue) (g : Name) (plain plainly : Bool) (names : ℕ) (more : List Label) (frames : List Name) (told : ToldStore) (body : Body) : Type 0 where
+  pub called : Definition
   pub left : Left
-  pub call : IsReducedCall v g op left drawn more told body
-  pub clause : left.clause.now ≡ c
+  pub drawn : ℕ
+  pub call : IsReducedCall v g called left drawn more told body
   pub plain_is : plain ≡ is_plain left.own
+  pub plainly_is : plainly ≡ call.ends.plainly
+  pub names_are : names ≡ drawn + length left.clause.now.body
+  pub named : frames ≡ (store_of left).frames

@@ -6,7 +6,7 @@ use Rattle.akl_terms.specs.declared.program.Clause.{Clause}
 use Rattle.akl_terms.specs.declared.program.Op.{Op}
 use Rattle.akl_model.specs.declared.label.Rule.{Rule}
 use Rattle.akl_model.specs.declared.label.Label.{Label}
-use Rattle.call_laws.specs.AtOnce.{by}
+use Rattle.plan_laws.specs.AtOnce.{by}
 
 -- an alternative is promoted, where others stand behind it after they were cut
 abbrev pub end_labels : Name → Name → Bool → List Label

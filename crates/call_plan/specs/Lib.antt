@@ -5,4 +5,5 @@ pub mod Chosen
 pub mod Ended
 pub mod Joins
 pub mod Called
+pub mod ReadCall
 pub mod Found

@@ -27,7 +27,8 @@ pub(crate) fn body_of(
 ) -> Result<Body, AllocError>
     requires program { program.now ≡ view.now.table.program }
     requires solved { told.old.solved ≡ true → IsSolvedChain view.now.table.program.templates.nodes (with_added view.now.stores told.old.part) }
-    ensures { IfOk result (IsReduced view.now.table.program.templates.symbols view.now.table.program.templates.nodes (around view.now.stores) frame (view.now.next + drawn) clause.now.body (told_over (innermost view.now.stores) told.old) (told_over (innermost view.now.stores) told.new) labels.old.items labels.new.items) }
+    ensures reduced { IfOk result (IsReduced view.now.table.program.templates.symbols view.now.table.program.templates.nodes (around view.now.stores) frame (view.now.next + drawn) clause.now.body (told_over (innermost view.now.stores) told.old) (told_over (innermost view.now.stores) told.new) labels.old.items labels.new.items) }
+    ensures frames { told.new.part.frames.items ≡ told.old.part.frames.items }
 {
     let codes = clause.body.as_slice();
     let first = view.next().checked_add(drawn).ok_or(AllocError)?;

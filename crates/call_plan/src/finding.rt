@@ -4,14 +4,13 @@ ghost use Rattle.std.specs.Prelude.{◌≡◌, List, true, length, IfOk, IfSome}
 ghost use Rattle.akl_terms.specs.declared.name.Place.{Place};
 ghost use Rattle.akl_terms.specs.declared.program.Code.{Code};
 ghost use Rattle.akl_terms.specs.declared.term.Node.{Node};
-ghost use Rattle.table_laws.specs.Steps as laws;
 ghost use Rattle.box_tree.specs.declared.view.Sight.{Sight};
 ghost use Rattle.box_tree.specs.Edits.{named_atoms};
-ghost use Rattle.box_tree.specs.Plans.{labels_behind};
-ghost use Rattle.box_tree.specs.Tables.{step_of};
+ghost use Rattle.table_laws.specs.Added.{added_of};
+ghost use Rattle.table_laws.specs.PartSteps.{joins_part};
+ghost use Rattle.box_tree.specs.Plans.{labels_behind, part_step};
 ghost use Rattle.local_store.specs.Chained.{bindings_from, innermost, IsKnown};
-ghost use Rattle.local_store.specs.Parts.{with_part, told_over};
-ghost use Rattle.local_store.specs.Stored.{Stored};
+ghost use Rattle.local_store.specs.Parts.{told_over};
 ghost use Rattle.plain_heads.specs.Joined.{AreFree};
 ghost use Rattle.class_members.specs.Members.{AreMembers};
 ghost use Rattle.call_plan.specs.Called.{IsCalled, Remains, IsReducedClause};
@@ -24,13 +23,14 @@ use crate::joining::joined;
 use crate::labels::{cuts_others, push_end};
 use crate::names::{MOST, names_of};
 use crate::prospects::may_go;
-use crate::sifting::Left;
+use crate::reading::call_reads;
+use crate::sifting::{Left, SiftedLabels};
 use akl_model::{Label, Rule};
-use akl_terms::{Clause, Definition, Name, Op, Program, Var};
+use akl_terms::{Definition, Name, Program, Var};
 use body_goals::Body;
 use box_tree::{Plan, Step, View};
 use class_members::members;
-use guard_plan::{goal_and_stores, label_of};
+use guard_plan::label_of;
 use local_store::{Chain, Part, ToldPart};
 use plain_heads::put_ends;
 use smallvec::SmallVec;
@@ -95,7 +95,10 @@ fn by_clauses(
     if !may_go(&chain, arguments, ends, called.op, clauses) {
         return Ok(None);
     }
-    let mut labels = Vec::with_capacity(alloc, ROOM)?;
+    let mut sifted = SiftedLabels {
+        labels: Vec::with_capacity(alloc, ROOM)?,
+        plainly: true,
+    };
     let found = chosen(
         alloc,
         &chain,
@@ -104,12 +107,12 @@ fn by_clauses(
         called.op,
         first,
         clauses,
-        &mut labels,
+        &mut sifted,
     )?;
     let Some(left) = found else {
         return Ok(None);
     };
-    by_left(alloc, program, view, goal, called.op, left, drawn, labels)
+    by_left(alloc, program, view, goal, called, left, drawn, sifted)
 }
 
 // The same of the clause that is left.
@@ -118,15 +121,19 @@ fn by_left(
     program: &Program,
     view: &View,
     goal: Name,
-    op: Op,
+    called: &Definition,
     left: Left,
     drawn: u64,
-    mut labels: Vec<Label>,
+    sifted: SiftedLabels,
 ) -> Result<Option<Plan>, AllocError>
     requires program { program.now ≡ view.now.table.program }
-    requires remains { Remains view.now goal op left drawn labels.items }
+    requires remains { Remains view.now goal called.now left drawn sifted.labels.items sifted.plainly }
     ensures { IfOk result (λ found. IfSome found (IsCallPlan view.now)) }
 {
+    let SiftedLabels {
+        mut labels,
+        plainly,
+    } = sifted;
     let Left {
         clause,
         name,
@@ -138,12 +145,22 @@ fn by_left(
     if clause.body.len() as u64 > MOST {
         return Ok(None);
     }
+    let names = drawn
+        .checked_add(clause.body.len() as u64)
+        .ok_or(AllocError)?;
     let plain = own.is_plain();
-    let found = joined(alloc, &program.templates, view.stores(), op, frame, own)?;
+    let found = joined(
+        alloc,
+        &program.templates,
+        view.stores(),
+        called.op,
+        frame,
+        own,
+    )?;
     let Some(mut told) = found else {
         return Ok(None);
     };
-    push_end(&mut labels, goal, name, cuts_others(op, behind))?;
+    push_end(&mut labels, goal, name, cuts_others(called.op, behind))?;
     let body = body_of(
         alloc,
         program,
@@ -155,30 +172,29 @@ fn by_left(
         &mut labels,
     )?;
     planned(
-        alloc, program, view, goal, clause, plain, drawn, labels, told, body,
+        alloc, program, view, goal, plain, plainly, names, labels, told, body,
     )
 }
 
-// The plan of a call with these labels behind its fork, what is added to the store of its box and what is left of the body of
-// the clause that is left, whose alternative had plain bindings or not.
+// The plan of a call with these labels behind its fork, all of which draw so many names, what is added to the store of its box
+// and what is left of the body of the clause that is left. Its alternative, and all in which goals of guards were evaluated, had
+// plain bindings or not.
 fn planned(
     alloc: Global,
     program: &Program,
     view: &View,
     goal: Name,
-    clause: &Clause,
     plain: bool,
-    drawn: u64,
+    plainly: bool,
+    names: u64,
     more: Vec<Label>,
     told: ToldPart,
     body: Body,
 ) -> Result<Option<Plan>, AllocError>
     requires program { program.now ≡ view.now.table.program }
-    requires reduced { IsReducedClause view.now goal clause.now plain drawn more.items (told_over (innermost view.now.stores) told) body }
+    requires reduced { IsReducedClause view.now goal plain plainly names more.items told.part.frames.items (told_over (innermost view.now.stores) told) body }
     ensures { IfOk result (λ found. IfSome found (IsCallPlan view.now)) }
 {
-    let codes = clause.body.as_slice();
-    let names = drawn.checked_add(codes.len() as u64).ok_or(AllocError)?;
     let label = label_of(view, Rule::Fork);
     let ToldPart {
         part,
@@ -187,7 +203,14 @@ fn planned(
     } = told;
     let chain = view.chain(&program.templates);
     let binds = binds_of(alloc, &chain, plain, bound)?;
-    let reads = goal_and_stores(alloc, goal, view.path())?;
+    let reads = call_reads(
+        alloc,
+        &program.templates,
+        view,
+        goal,
+        plainly,
+        binds.as_slice(),
+    )?;
     let step = join_of(part, solved, body);
     let plan = Plan::of_call(alloc, view, label, more, reads, names, step, binds)?;
     Ok(Some(plan))
@@ -214,7 +237,7 @@ fn binds_of(
 
 // The step by which this is added to the store of a box, and what is left of a body comes as goals.
 fn join_of(part: Part, solved: bool, body: Body) -> Step
-    ensures joins { (nodes : List Node) (own : Stored) → step_of nodes own result ≡ laws.joins (with_part own part) solved (named_atoms nodes body.goals.items) }
+    ensures joins { (nodes : List Node) → part_step nodes result ≡ joins_part (added_of part) solved (named_atoms nodes body.goals.items) }
     ensures behind { labels_behind result ≡ (body.told, body.behind) }
 {
     let Body {

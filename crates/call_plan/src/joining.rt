@@ -34,6 +34,7 @@ pub(crate) fn joined(
     ensures joins { IfOk result (λ found. IfSome found (λ told. Joins templates.now.nodes path.now op (stored frame own) (told_over (innermost path.now) told))) }
     ensures free { IfOk result (λ found. IfSome found (λ told. BindsFree path.now own told.bound.items)) }
     ensures kept { IfOk result (λ found. IfSome found (λ told. OwnKeepsBound path.now own (with_part (innermost path.now) told.part))) }
+    ensures frames { IfOk result (λ found. IfSome found (λ told. told.part.frames.items ≡ (stored frame own).frames)) }
 {
     match own {
         Own::Plain(bindings) => plain_joined(alloc, templates, op, frame, bindings),
@@ -49,9 +50,10 @@ fn plain_joined(
     frame: Name,
     bindings: Vec<(Var, Term)>,
 ) -> Result<Option<ToldPart>, AllocError>
-    ensures { IfOk result (λ found. IfSome found (λ told. (path : List Stored) → 0 < length path → ArePlain templates.now.nodes (bindings_from path) frame bindings.items
+    ensures joins { IfOk result (λ found. IfSome found (λ told. (path : List Stored) → 0 < length path → ArePlain templates.now.nodes (bindings_from path) frame bindings.items
         → IsKnown templates.now.nodes (path ++ own_store frame bindings.items ∷ []) (length path + 1) → KeepsApartInside templates.now.nodes (path ++ own_store frame bindings.items ∷ [])
         → PlainlyJoins templates.now.nodes path op frame bindings.items (told_over (innermost path) told))) }
+    ensures frames { IfOk result (λ found. IfSome found (λ told. told.part.frames.items ≡ frame ∷ [])) }
 {
     if let Op::Collect = op {
         return Ok(None);
@@ -71,7 +73,8 @@ fn store_joined(
     requires some { 0 < length path.now }
     requires solved { IsKnown templates.now.nodes (path.now ++ own ∷ []) (length path.now + 1) }
     requires apart { KeepsApartInside templates.now.nodes (path.now ++ own ∷ []) }
-    ensures { IfOk result (λ found. IfSome found (λ told. Joins templates.now.nodes path.now op own (told_over (innermost path.now) told))) }
+    ensures joins { IfOk result (λ found. IfSome found (λ told. Joins templates.now.nodes path.now op own (told_over (innermost path.now) told))) }
+    ensures frames { IfOk result (λ found. IfSome found (λ told. told.part.frames.items ≡ own.frames)) }
 {
     let mut stores = shared(alloc, path)?;
     stores.push(own)?;

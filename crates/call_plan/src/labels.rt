@@ -3,7 +3,7 @@
 ghost use Rattle.std.specs.Prelude.{◌≡◌, ◌++◌, None, Some, IfOk};
 ghost use Rattle.akl_terms.specs.declared.name.Place.{Place};
 ghost use Rattle.akl_model.specs.declared.label.Rule.{Rule};
-ghost use Rattle.call_laws.specs.AtOnce.{by};
+ghost use Rattle.plan_laws.specs.AtOnce.{by};
 ghost use Rattle.call_plan.specs.Ended.{cuts_others, end_labels};
 ghost use Rattle.call_plan.specs.Sifted.{evaluation};
 

@@ -12,6 +12,7 @@ mod labels;
 mod names;
 mod own;
 mod prospects;
+mod reading;
 mod sifting;
 mod waiting;
 mod within;

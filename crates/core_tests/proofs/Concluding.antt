@@ -1,5 +1,5 @@
 -- Plans that may be committed, a place that was found idle and may be settled, and a core that stays as it is has gone on.
-use Rattle.std.proofs.Common.{◌≡◌, ℕ, ◌+◌, ◌<◌, List, [], ◌∷◌, ◌++◌, length, Some, Result, Ok, Err, IfOk, sym, ◌∙◌, ap, inl, inr, arith, append-nil}
+use Rattle.std.proofs.Common.{◌≡◌, ℕ, ◌+◌, ◌<◌, List, [], ◌∷◌, ◌++◌, length, Result, Ok, Err, IfOk, refl, sym, ◌∙◌, ap, inl, inr, arith, append-nil, append_assoc}
 use Rattle.std.proofs.lemmas.List.{length-append}
 use Rattle.akl_model.specs.declared.label.Label.{Label}
 use Rattle.akl_model.specs.declared.label.Receipt.{Receipt}
@@ -10,11 +10,16 @@ use Rattle.box_tree.proofs.LeadsBy.{stores_kept}
 use Rattle.box_tree.specs.Plans.{PlanValue}
 use Rattle.idle_places.specs.Idling.{IdleValue}
 use Rattle.place_steps.specs.declared.next.Next.{Next}
+use Rattle.place_steps.specs.Next.{IsNext, HasRoom}
+use Rattle.place_steps.specs.Seen.{IsSight}
+use Rattle.akl_terms.specs.declared.name.Place.{Place}
+use Rattle.box_tree.specs.Views.{ViewValue}
 use Rattle.step_commit.specs.Cores.{CoreValue, IsCore, MayCommit, Commits, solved_in}
 use Rattle.scheduler.specs.Settled.{MaySettle}
 use Rattle.scheduler.proofs.Fronts as fronts
 use Rattle.scheduler.proofs.Fronts.{front_now}
 use Rattle.core_tests.specs.Waking.{GoesOnTo, IsFoundNow}
+use Rattle.core_tests.specs.Racing.{IsPlanBy}
 
 -- of the core as it is
 pub may_commit_now : (c : CoreValue) (p : PlanValue) → p.table ≡ c.table → p.journal ≡ c.journal → MayCommit c p
@@ -50,7 +55,24 @@ may_commit_second c d one two r before core alone table journal other made = fro
     is = core.table.stamped.steps ∙ ap length one_more ∙ length-append c.journal (one.label ∷ [])
 
     keeps : (number : ℕ) × ((table_of c.table).steps < number) × KeepsStores number (table_of c.table) (table_of d.table)
-    keeps = stores_kept c.table one.label (length one.more) (Some (solved_in c one)) one.names (table_of d.table) (omega (arith, was, is)) one.step made.made.leads
+    keeps = stores_kept c.table one.label (length one.more) (solved_in c one) one.names (table_of d.table) (omega (arith, was, is)) one.step made.made.leads
+
+-- a list with no more than nothing
+none_left : (ls : List Label) → length ls < 1 → ls ≡ []
+none_left [] few = refl
+none_left (l ∷ ls) few = absurd (omega arith)
+
+-- what was seen of a core comes to a plan of it
+pub plan_by : (c : CoreValue) (place : Place) (number room : ℕ) (v : ViewValue) (p : PlanValue) → IsSight c place number v → IsNext v (Next.Plan p) → HasRoom room (Next.Plan p) → IsPlanBy c number room p
+plan_by c place number room v p sight next room_for = record {
+  table = next.table ∙ sight.table;
+  journal = next.journal ∙ sight.journal;
+  worker = next.worker ∙ sight.seer;
+  alone = λ few. elim room_for [
+    | inl one ↦ one
+    | inr short ↦ none_left p.more (omega (arith, few, short))
+  ];
+}
 
 pub may_settle : (c : CoreValue) (i : IdleValue) → IsFoundNow c (Next.Idle i) → MaySettle c i
 may_settle c i x = fronts.may_settle c i [] (front_now c i.table i.journal (x.next.idle.0 ∙ x.sight.table) (x.next.idle.1 ∙ x.sight.journal))
@@ -66,3 +88,11 @@ stays c d same = record {
 pub whatever : {T E Q : Type 0} (r : Result T E) → Q → IfOk r (λ x. Q)
 whatever (Ok x) q = q
 whatever (Err e) q = tt
+
+pub goes_on : (c d e : CoreValue) → GoesOnTo c d → GoesOnTo d e → GoesOnTo c e
+goes_on c d e first second = record {
+  program = second.program ∙ first.program;
+  query = second.query ∙ first.query;
+  further = first.further ++ second.further;
+  journal = second.journal ∙ ap (λ (ls : List Label). ls ++ second.further) first.journal ∙ append_assoc c.journal first.further second.further;
+}

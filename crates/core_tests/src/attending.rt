@@ -8,6 +8,7 @@ ghost use Rattle.scheduler.specs.Settled.{MaySettle};
 ghost use Rattle.core_tests.specs.Waking.{GoesOnTo, IsFoundAt, IsFoundNow};
 
 use crate::listing::{places_under, push_places, token_of};
+use crate::places::place_of;
 use crate::texts::{push_item, push_place, rule_name};
 use akl_model::Item;
 use akl_terms::{Place, Program, Steps};
@@ -196,14 +197,35 @@ pub fn attend(
     }
 }
 
-/// Attends to a second place, and only then settles a first that was found idle before. A first that was found otherwise,
-/// or without a look at what stands inside it, can't be concluded so late.
+// Attends to places in turn, and says what came of each.
+fn attend_each(
+    alloc: Global,
+    program: &Program,
+    scheduler: &mut Scheduler,
+    places: &str,
+    text: &mut String,
+) -> Result<(), AllocError>
+    requires { program.now ≡ scheduler.old.core.table.program }
+    ensures { IfOk result (λ _. GoesOnTo scheduler.old.core scheduler.new.core) }
+{
+    for place in places.split(" < ") {
+        match place_of(place) {
+            Some(place) => attend(alloc, program, scheduler, place, text)?,
+            None => text.push_str("no place")?,
+        }
+        text.push_str(" / ")?;
+    }
+    Ok(())
+}
+
+/// Attends to other places, and only then settles a first that was found idle before. A first that was found otherwise, or
+/// without a look at what stands inside it, can't be concluded so late.
 pub fn attend_between(
     alloc: Global,
     program: &Program,
     scheduler: &mut Scheduler,
     first: Place,
-    second: Place,
+    others: &str,
     text: &mut String,
 ) -> Result<(), AllocError>
     requires { program.now ≡ scheduler.old.core.table.program }
@@ -212,8 +234,7 @@ pub fn attend_between(
     let Some(Next::Idle(idle)) = looked(alloc, program, scheduler, first)? else {
         return text.push_str("not idle");
     };
-    attend(alloc, program, scheduler, second, text)?;
-    text.push_str(" / ")?;
+    attend_each(alloc, program, scheduler, others, text)?;
     if idle.looked_inside() {
         settle(alloc, scheduler, &idle, text)
     } else {

@@ -2,11 +2,12 @@
 
 use akl_terms::{Name, Place};
 
-/// A worker at a place.
+/// A worker at a place, and how many labels its plan may have.
 #[derive(Clone, Copy)]
 pub struct Turn {
     pub worker: u32,
     pub place: Place,
+    pub room: u64,
 }
 
 // A name: a worker, a dot and a number.
@@ -29,11 +30,19 @@ pub fn place_of(text: &str) -> Option<Place> {
     }
 }
 
-/// A worker, a blank and a place.
+// What a plan of a call may have at most.
+const ROOM: u64 = 100;
+
+/// A worker, a blank and a place, of one label; or of many, where ` at once` stands behind.
 pub fn turn_of(text: &str) -> Option<Turn> {
     let (worker, place) = text.split_once(' ')?;
+    let (place, room) = match place.split_once(" at once") {
+        Some((place, _)) => (place, ROOM),
+        None => (place, 1),
+    };
     Some(Turn {
         worker: worker.parse().ok()?,
         place: place_of(place)?,
+        room,
     })
 }

@@ -20,15 +20,15 @@ use step_commit::Core;
 /// Programs, queries, places to which worker 1 attends in turn, and what comes of each: the rule of the label, with the
 /// places that it opens and that weren't open; or that the place sleeps, with the box that this opens; or that it is to be
 /// looked at inside, as something is open in it, and stays open; or that it is gone, or that all labels are spent. At
-/// `goal 0.2 < goal 0.3` the first is looked at before the second is attended to, and is settled afterwards. Last come the
-/// places that are still open. Boxes are listed before goals, each by name.
+/// `goal 0.2 < goal 0.3 < goal 0.4` the first is looked at before the others are attended to, and is settled afterwards, where
+/// nothing changed that it read. Last come the places that are still open. Boxes are listed before goals, each by name.
 const WAKES: &str = r"
 p(a) :- -> true. => p(X), X = a => goal 0.2; box 0.0; goal 0.2; box 1.0; goal 0.3; goal 0.2; box 1.0; box 0.0 => fork box 1.0 / look inside / sleeps / sleeps / tell box 1.0, goal 0.2 / promote / gone / sleeps / open
 p(Y) :- Z = Y, Z > 0 -> true. => p(X), X = 1 => goal 0.2; goal 1.2; box 0.0; goal 0.2; box 1.0; goal 1.3; goal 0.3; goal 1.3; goal 0.2; box 1.0; box 0.0 => fork box 1.0, goal 1.2, goal 1.3 / tell / look inside / sleeps / sleeps / sleeps / tell box 1.0, goal 1.3 / eval goal 0.2 / promote / gone / sleeps / open
 p(Y) :- Y > 0 -> true. => p(X), W = X, W = 1 => goal 0.2; goal 1.2; goal 0.3; goal 1.2; goal 0.4 => fork box 1.0, goal 1.2 / sleeps / tell goal 1.2 / sleeps / tell goal 1.2 / open box 0.0, box 1.0, goal 0.2, goal 1.2
 p(X,Y) :- X = f(Z), Y = g(Z) -> true. => p(A,B), B = g(c), A = f(c) => goal 0.2; box 0.0; goal 0.2; goal 1.2; goal 0.2; goal 1.3; goal 0.2; box 1.0; goal 0.3; goal 0.2; box 1.0; box 0.0; goal 0.4; goal 0.2; box 1.0; box 0.0 => fork box 1.0, goal 1.2, goal 1.3 / look inside / sleeps / tell goal 0.2 / sleeps / tell goal 0.2 / sleeps / sleeps / tell box 1.0, goal 0.2 / sleeps / sleeps / look inside / tell box 1.0, goal 0.2 / promote / gone / sleeps / open
 m(a). m(b). n :- q(Z) ? true. q(a) :- -> true. => m(X), n => goal 0.2; goal 0.3; goal 0.2; goal 0.3; box 1.0; box 1.2; box 1.4; box 0.0; goal 1.6; box 1.7; goal 1.6; box 1.4; box 0.0; goal 0.2; box 1.0 => fork box 1.0, box 1.2 / fork box 1.4, goal 1.6 / sleeps / sleeps / sleeps / sleeps / sleeps / sleeps / fork box 1.4, box 1.7 / sleeps / sleeps / sleeps, opens box 0.0 / split box 1.9, box 1.13, box 1.15, box 1.18, goal 0.2, goal 1.11, goal 1.12, goal 1.17 / promote box 1.0 / gone / open box 0.0, box 1.9, box 1.13, box 1.15, box 1.18, goal 1.11, goal 1.12, goal 1.17
-p(a) :- -> true. => p(X), X = a => goal 0.2; goal 0.2 < goal 0.3 => fork box 1.0 / tell / stale goals 0.0 / open box 0.0, box 1.0, goal 0.2
+p(a) :- -> true. => p(X), X = a => goal 0.2; goal 0.2 < goal 0.3 => fork box 1.0 / tell / stale binding 0.1 / open box 0.0, box 1.0, goal 0.2
 p(a) :- -> true. q(b). => p(X), q(Y) => goal 0.2; goal 0.2 < goal 0.3 => fork box 1.0 / fork box 1.2 / sleeps / open box 0.0, box 1.0, box 1.2, goal 0.3
  => X is 1 + 2, X > 2, X > 5 => box 0.0; goal 0.3; goal 0.4; goal 0.2; box 0.0; goal 0.3; box 0.0; goal 0.4; box 0.0; goal 0.4 => look inside / sleeps / sleeps / eval goal 0.3, goal 0.4 / look inside / eval / look inside / eval / fail / gone / open
 c([_|T]) :- -> c(T). => open_port(P,S), send(m,P), c(S) => goal 0.4; goal 0.3; goal 0.4; box 1.0; box 0.0; goal 0.2; box 0.0; goal 0.3; box 0.0; goal 0.4; box 1.0; goal 1.4 => fork box 1.0 / sleeps / sleeps / sleeps / look inside / open goal 0.3 / look inside / send box 1.0, goal 0.4 / look inside / promote goal 1.4 / gone / fork box 1.5 / open box 0.0, box 1.5, goal 1.4
@@ -47,6 +47,15 @@ m(a). m(b). => bagof(X, m(X), L) => goal 0.2; goal 1.2; box 1.0; goal 1.2; goal 
  => bagof(Y, (Z = a, Y = b), L), Z = a => goal 0.2; goal 1.2; goal 0.2; goal 0.3; goal 1.3; goal 0.2 => fork box 1.0, goal 1.2, goal 1.3 / tell / sleeps / tell / tell goal 0.2 / collect / open box 0.0, box 1.0
  => bagof(Q, open_port(Q,_S), [P]), send(a,P) => goal 0.3; goal 0.2; goal 1.2; goal 0.2; goal 0.3 => sleeps / fork box 1.0, goal 1.2 / open / collect goal 0.3 / send / open box 0.0, box 1.0
 p(a) :- q(W) -> true. q(c) :- -> true. => p(X), X = b => goal 0.2; goal 0.3; goal 1.2; goal 1.2 < box 1.0 => fork box 1.0, goal 1.2 / tell / fork box 1.3 / fail / stale goal 1.2 / open box 0.0, box 1.3, goal 0.2, goal 1.2
+ => Y is X + 1, X = 1 => goal 0.2 < goal 0.3 => tell / stale binding 0.1 / open box 0.0, goal 0.2
+ => X = Z, Y is Z + 1, X = 1 => goal 0.3 < goal 0.2 < goal 0.4 => tell / tell / stale binding 0.1 / open box 0.0, goal 0.3
+p(a) :- -> true. p(b) :- -> true. => p(X), X = a => goal 0.2; goal 0.2 < goal 0.3 < box 1.2 => fork box 1.0, box 1.2 / tell / fail / stale goal 0.2 / open box 0.0, box 1.0, goal 0.2
+p(X) :- X = Y, Y > 0 -> true. => p(X), X = 3 => goal 0.2; goal 1.3 < goal 1.2 < goal 0.3 => fork box 1.0, goal 1.2, goal 1.3 / tell / tell / stale binding 1.1 / open box 0.0, box 1.0, goal 0.2, goal 1.3
+p(X) :- q(X) -> true. q(a) :- -> true. => p(X), X = a => goal 0.2; goal 0.3; goal 0.2 < goal 1.2 < goal 1.2 => fork box 1.0, goal 1.2 / tell / fork box 1.3 / promote / stale goals 1.0 / open box 0.0, box 1.0, box 1.3, goal 0.2
+p(a) :- -> true. p(b) :- -> true. => p(X), X = b => goal 0.2; box 1.0 < goal 0.3 => fork box 1.0, box 1.2 / tell / stale goals 0.0 / open box 0.0, box 1.0, box 1.2, goal 0.2
+ => open_port(P,S), send(a,Q), P = Q => goal 0.2; goal 0.3 < goal 0.4 => open / tell / stale binding 0.1 / open box 0.0, goal 0.3
+p(X,E) :- X = E, q(X) -> true. q(a) :- -> true. => p(X,E), E = b => goal 0.2; goal 1.2; goal 1.3; box 1.4 < goal 0.3 => fork box 1.0, goal 1.2, goal 1.3 / tell / fork box 1.4 / tell / stale goals 0.0 / open box 0.0, box 1.0, box 1.4, goal 0.2, goal 1.3
+p(a) :- -> true. p(b) :- -> true. => p(X), Z = b => goal 0.2; goal 0.2 < goal 0.3 => fork box 1.0, box 1.2 / tell / sleeps / open box 0.0, box 1.0, box 1.2
 ";
 
 /// How many labels are made at most.
@@ -63,17 +72,15 @@ fn take_turn(
     requires { program.now ≡ scheduler.old.core.table.program }
     ensures { IfOk result (λ _. GoesOnTo scheduler.old.core scheduler.new.core) }
 {
-    let Some((first, second)) = turn.split_once(" < ") else {
+    let Some((first, others)) = turn.split_once(" < ") else {
         return match place_of(turn) {
             Some(place) => attend(alloc, program, scheduler, place, text),
             None => text.push_str("no place"),
         };
     };
-    match (place_of(first), place_of(second)) {
-        (Some(first), Some(second)) => {
-            attend_between(alloc, program, scheduler, first, second, text)
-        }
-        _ => text.push_str("no places"),
+    match place_of(first) {
+        Some(first) => attend_between(alloc, program, scheduler, first, others, text),
+        None => text.push_str("no place"),
     }
 }
 
@@ -94,7 +101,7 @@ fn take_turns(
     push_open(alloc, scheduler, text)
 }
 
-// A scheduler of a query that no label has changed.
+// A scheduler of a query that no label has changed, for two workers.
 fn begun(alloc: Global, loaded: &Loaded) -> Result<Scheduler, AllocError>
     requires variables { HasVariables loaded.now.program loaded.now.query loaded.now.first_variable }
     requires shown { HasShownVariables loaded.now.query }
@@ -105,7 +112,7 @@ fn begun(alloc: Global, loaded: &Loaded) -> Result<Scheduler, AllocError>
         &loaded.program,
         &loaded.query,
         loaded.first_variable,
-        1,
+        2,
         LABELS,
     )?;
     Scheduler::new(alloc, core)

@@ -8,19 +8,22 @@ use Rattle.akl_model.specs.declared.item.Item.{Item}
 use Rattle.akl_model.specs.declared.label.Rule.{Rule}
 use Rattle.akl_model.specs.Config.{Content, Boxes, no_boxes, box, Goals, no_goals, a_choice, held_in}
 use Rattle.akl_model.specs.Rules.{count_of}
-use Rattle.local_store.specs.Parts.{ToldStore}
+use Rattle.local_store.specs.declared.part.Part.{Part}
+use Rattle.local_store.specs.Parts.{ToldStore, with_part}
 use Rattle.local_store.specs.Chained.{innermost}
 use Rattle.local_store.specs.Promoting.{AnswersPromoted}
 use Rattle.class_members.specs.Members.{AreMembers}
-use Rattle.table_laws.specs.Steps as laws
+use Rattle.table_laws.specs.Added.{added_of}
+use Rattle.table_laws.specs.PartSteps.{joins_part}
 use Rattle.box_tree.specs.declared.entries.HeldOp.{HeldOp}
 use Rattle.box_tree.specs.declared.step.Step.{Step}
 use Rattle.box_tree.specs.declared.view.Alternative.{Alternative}
 use Rattle.box_tree.specs.declared.view.Sight.{Sight}
-use Rattle.box_tree.specs.Tables.{goal_atom, op_held, table_of, step_of}
+use Rattle.box_tree.specs.Tables.{goal_atom, op_held, table_of}
 use Rattle.box_tree.specs.Views.{ViewValue, IsViewOf, AreSeen, alternatives_held, alternatives_at, only_body}
 use Rattle.box_tree.specs.Edits.{named_atoms}
-use Rattle.box_tree.specs.Plans.{IsRightLabel}
+use Rattle.box_tree.specs.Plans.{part_step, IsRightLabel}
+use Rattle.guard_plan.specs.ReadAt.{IsReadAt}
 use Rattle.guard_plan.specs.Guards.{IsGuarded, IsTestable, IsNoisyOver, HasQuiet, HoldsInside, cutting, numbered_goals}
 use Rattle.guard_plan.specs.Planned.{HasNoRule}
 use Rattle.guard_plan.proofs.Chains.{long_push}
@@ -28,7 +31,7 @@ use Rattle.guard_plan.proofs.ChoiceNone.{guarded_none, choice_none}
 use Rattle.guard_plan.proofs.Placed.{IsPlaced, ArePlaced, all_placed, testable, all_testable}
 use Rattle.guard_plan.proofs.CutRight.{all_cutting, solved_empty, empty_solved, counted, none_cuts, cut_right}
 use Rattle.guard_plan.proofs.PromoteRight.{unsolved_none, many_none, unheld_none, promote_right}
-use Rattle.guard_plan.proofs.Sites.{some_stores, shows_at, step_here}
+use Rattle.guard_plan.proofs.Sites.{some_stores, shows_at}
 
 module _ (v : ViewValue) (i : IsViewOf v) (g : Name) (o : HeldOp) (p : v.place ≡ Place.Goal g) (s : v.sight ≡ Sight.Choice o) where
   abbrev pub shown : (bs : Boxes) × (held_in g i.site.goals ≡ Some (a_choice (op_held v.table.program.templates.nodes o) bs))
@@ -52,9 +55,9 @@ module _ (v : ViewValue) (i : IsViewOf v) (g : Name) (o : HeldOp) (p : v.place �
       one : (b : Content) → shown.0 ≡ box b no_goals no_boxes → ⊥
       one b e = many (sym (counted v i shown.0 v.alternatives are_placed) ∙ ap count_of e)
 
-  pub cut_planned : length v.alternatives ≢ 1 → (n : Name) → HasQuiet v.table.program.templates.nodes v.stores (cutting o v.alternatives) n
-      → IsRightLabel (record { table = v.table; journal = v.journal; label = record { rule = Rule.Cut; place = v.place; alternative = Some n; worker = v.worker }; more = []; reads = Item.Goal g ∷ map Item.Store v.path; names = 0; step = Step.Cut; binds = [] })
-  cut_planned many n q = cut_right v i g o shown.0 p shown.1 are_placed many n q
+  pub cut_planned : length v.alternatives ≢ 1 → (n : Name) → HasQuiet v.table.program.templates.nodes v.stores (cutting o v.alternatives) n → (reads : List Item) → IsReadAt v g [] reads
+      → IsRightLabel (record { table = v.table; journal = v.journal; label = record { rule = Rule.Cut; place = v.place; alternative = Some n; worker = v.worker }; more = []; reads = reads; names = 0; step = Step.Cut; binds = [] })
+  cut_planned many n q reads read = cut_right v i g o shown.0 p shown.1 are_placed many n q reads read
 
   -- where there is
 
@@ -95,9 +98,8 @@ module _ (v : ViewValue) (i : IsViewOf v) (g : Name) (o : HeldOp) (p : v.place �
     only_unheld n = unheld_none v i g o only.0 only.1 p held a only.3 body guarded n
 
     pub only_planned : a.solved ≡ true → HoldsInside o v.table.program.templates.nodes (v.stores ++ a.store ∷ []) → length v.body < 2 ^ 32 → (t : ToldStore) (known : ℕ)
-        → AnswersPromoted v.table.program.templates.nodes (v.stores ++ a.store ∷ []) known t
-        → (binds : List Var) → AreMembers v.table.program.templates.nodes v.stores t.bound binds → (step : Step)
-        → step_of v.table.program.templates.nodes (innermost v.stores) step ≡ laws.joins t.store t.solved (named_atoms v.table.program.templates.nodes (numbered_goals v.worker v.next v.body))
-        → IsRightLabel (record { table = v.table; journal = v.journal; label = record { rule = Rule.Promote; place = v.place; alternative = Some a.name; worker = v.worker }; more = []; reads = Item.Goal g ∷ map Item.Store v.path; names = length v.body; step = step; binds = binds })
-    only_planned solved holds few t known answer binds m step q = promote_right v i g o only.0 only.1 p held a only.3 body guarded (solved_empty only.1 (sym only.3.seen.solved ∙ solved)) holds few t known answer binds m step
-        (step_here v i (record { rule = Rule.Promote; place = v.place; alternative = Some a.name; worker = v.worker }) refl step ∙ q)
+        → AnswersPromoted v.table.program.templates.nodes (v.stores ++ a.store ∷ []) known t → (part : Part) → with_part (innermost v.stores) part ≡ t.store → part.frames.items ≡ a.store.frames
+        → (binds : List Var) → AreMembers v.table.program.templates.nodes v.stores t.bound binds → (reads : List Item) → IsReadAt v g binds reads → (step : Step)
+        → part_step v.table.program.templates.nodes step ≡ joins_part (added_of part) t.solved (named_atoms v.table.program.templates.nodes (numbered_goals v.worker v.next v.body))
+        → IsRightLabel (record { table = v.table; journal = v.journal; label = record { rule = Rule.Promote; place = v.place; alternative = Some a.name; worker = v.worker }; more = []; reads = reads; names = length v.body; step = step; binds = binds })
+    only_planned solved holds few t known answer part is adds binds m reads read step e = promote_right v i g o only.0 only.1 p held a only.3 body guarded (solved_empty only.1 (sym only.3.seen.solved ∙ solved)) holds few t known answer part is adds binds m reads read step e

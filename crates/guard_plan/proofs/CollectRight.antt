@@ -1,5 +1,5 @@
 -- A plan of Collect is right.
-use Rattle.std.proofs.Common.{◌≡◌, ℕ, ◌+◌, ◌≤◌, ◌<◌, ◌^◌, List, [], ◌∷◌, ◌++◌, length, map, Bool, true, false, Some, None, refl, sym, ◌∙◌, ap, subst, inl, inr, arith, append_assoc}
+use Rattle.std.proofs.Common.{◌≡◌, ℕ, ◌+◌, ◌≤◌, ◌<◌, ◌^◌, List, [], ◌∷◌, ◌++◌, length, Bool, true, false, Some, None, refl, sym, ◌∙◌, ap, subst, inl, inr, arith, append_assoc}
 use Rattle.std.specs.Prelude.{slice_index, if◌then◌else◌}
 use Rattle.akl_terms.specs.declared.name.Name.{Name}
 use Rattle.akl_terms.specs.declared.name.Var.{Var}
@@ -30,20 +30,24 @@ use Rattle.akl_model.proofs.Gathered.{gathers}
 use Rattle.akl_model.proofs.Options.{some_value}
 use Rattle.akl_model.proofs.ScopesAlong.{times_path, found_path}
 use Rattle.rational_unify.specs.Solving.{bindings_in, equations_in}
-use Rattle.local_store.specs.Parts.{ToldStore}
+use Rattle.local_store.specs.declared.part.Part.{Part}
+use Rattle.local_store.specs.Parts.{ToldStore, with_part}
 use Rattle.local_store.specs.Stored.{Stored, nothing as no_store, with_bindings}
 use Rattle.local_store.specs.Chained.{bindings_from, innermost}
 use Rattle.local_store.specs.Telling.{ToldAlso}
 use Rattle.local_store.proofs.Layers.{from-last, bindings-either, bindings-left, bindings-right, joins-told, told-joins}
 use Rattle.class_members.specs.Members.{AreMembers}
-use Rattle.plan_laws.specs.Right.{Reads}
-use Rattle.table_laws.specs.Rows.{stores_along, told_in, ports_in}
+use Rattle.table_laws.specs.Rows.{stores_along, told_in, ports_in, store_in}
 use Rattle.table_laws.specs.Steps as laws
-use Rattle.table_laws.specs.Steps.{IsGathered, JoinsGoal, ReadsFor, numbered, IsSolvedIf, IsSolvedIn}
+use Rattle.table_laws.specs.Steps.{IsGathered, JoinsGoal, numbered, IsSolvedIf, IsSolvedIn}
+use Rattle.table_laws.specs.Added.{added_of, with_added}
+use Rattle.table_laws.specs.Joining.{JoinsBy}
+use Rattle.table_laws.specs.PartSteps.{joins_part, step_over, MakesPart, ReadsPart}
+use Rattle.table_laws.proofs.Here.{joins_from}
 use Rattle.box_tree.specs.declared.step.Step.{Step}
 use Rattle.box_tree.specs.Tables.{all_rules, table_of, step_in}
-use Rattle.box_tree.specs.Views.{ViewValue, IsViewOf}
-use Rattle.box_tree.specs.Plans.{IsRead, IsRightLabel}
+use Rattle.box_tree.specs.Views.{ViewValue, IsViewOf, run_of}
+use Rattle.box_tree.specs.Plans.{part_step, IsRead, IsRightLabel}
 use Rattle.step_laws.specs.Bound.{AreBoundIn}
 use Rattle.box_tree.proofs.BoundHere.{told_bound}
 use Rattle.guard_plan.specs.Guards.{AreAllSolved, AreQuietOver}
@@ -58,8 +62,8 @@ use Rattle.guard_plan.proofs.Gathering.{HasGathered, gather, told_of, told_eithe
 use Rattle.guard_plan.proofs.JoinRight.{joined_solved, joined_stands}
 use Rattle.guard_plan.proofs.Names.{all_named_with, all_ports_with}
 use Rattle.guard_plan.proofs.Placed.{ArePlaced}
-use Rattle.guard_plan.proofs.ReadItems.{goal_reads, items_there}
-use Rattle.guard_plan.proofs.Sites.{stand, found, row, whole_stands, own_store}
+use Rattle.guard_plan.specs.ReadAt.{IsReadAt}
+use Rattle.guard_plan.proofs.Sites.{stand, found, row, whole_stands, own_store, own_here, part_here}
 
 -- names stand once: those of alternatives, and those of the box of their choice
 
@@ -184,16 +188,16 @@ module _ (v : ViewValue) (i : IsViewOf v) (g : Name) (list : Term) (bs : Boxes) 
   is_gathered : IsGathered v.table.program label (slice_index i.table.config.next v.worker) i.site.content.name (Operator.collecting (tree v.table.program.templates.nodes list)) bs k
   is_gathered = record { rule = refl; alternative = refl; result = tree v.table.program.templates.nodes list; collects = refl; is_content = is_content }
 
-  joins_goal : JoinsGoal v.table.program label (slice_index i.table.config.next v.worker) i.site g t.store []
-  joins_goal = record {
+  abbrev joins_goal : (new : Stored) → new ≡ t.store → JoinsGoal v.table.program label (slice_index i.table.config.next v.worker) i.site g new []
+  joins_goal new e = record {
     operator = Operator.collecting (tree v.table.program.templates.nodes list);
     alternatives = bs;
     held = held;
     joined = k;
     origin = inr is_gathered;
-    frames = frames;
-    ports = ports;
-    stands = λ D d. subst (λ (ps : List (Var × Term)). StandFor (IsTold (D ++ bindings_in v.table.program.templates.nodes ps)) (IsTold (whole i.site ++ k.equations))) (sym j.bindings)
+    frames = ap (λ (s : Stored). s.frames) e ∙ frames;
+    ports = ap (λ (s : Stored). ports_in v.table.program.templates.nodes s.ports) e ∙ ports;
+    stands = λ D d. subst (λ (ps : List (Var × Term)). StandFor (IsTold (D ++ bindings_in v.table.program.templates.nodes ps)) (IsTold (whole i.site ++ k.equations))) (sym (ap (λ (s : Stored). s.bindings) e ∙ j.bindings))
         (joined_stands v i j.inner v.known j.joined j.promoted k.equations all D d);
     body = ap (numbered v.worker (slice_index i.table.config.next v.worker)) (sym has.body);
   }
@@ -223,17 +227,27 @@ module _ (v : ViewValue) (i : IsViewOf v) (g : Name) (list : Term) (bs : Boxes) 
       (subst (λ (E : Equations). StandFor (IsTold (told_in v.table.program.templates.nodes (v.stores ++ j.inner ∷ []))) (IsTold E)) (append_assoc (environment i.site) i.site.content.equations k.equations) all))
       (oldest_at v i j.joined.bound binds n)
 
-  pub collect_right : (binds : List Var) → AreMembers v.table.program.templates.nodes v.stores t.bound binds → (step : Step) → step_in v.table label step ≡ laws.joins t.store t.solved []
-      → IsRightLabel (record { table = v.table; journal = v.journal; label = label; more = []; reads = Item.Goal g ∷ map Item.Store v.path; names = length v.alternatives; step = step; binds = binds })
-  collect_right binds m step e = record {
-    table = i.table;
-    result = after i.table.config label i.site change;
-    applies = applies;
-    makes = subst (laws.Makes v.table.program label (slice_index i.table.config.next v.worker) i.site) (sym e) (g, p, joins_goal);
-    solved = subst (IsSolvedIn (table_of v.table) i.site) (sym e) store_solved;
-    names = sym (counted v i bs v.alternatives seen);
-    reads = subst (ReadsFor (IsRead (Item.Goal g ∷ map Item.Store v.path)) label i.site) (sym e)
-        (subst (λ (x : Place). Reads (IsRead (Item.Goal g ∷ map Item.Store v.path)) Rule.Collect x None i.site) (sym p) (goal_reads v i g));
-    binds = bound binds m;
-    there = items_there v i g (a_choice (Operator.collecting (tree v.table.program.templates.nodes list)) bs) held;
-  }
+  -- by what it adds
+  module _ (part : Part) (is : with_part (innermost v.stores) part ≡ t.store) (adds : part.frames.items ≡ frames_of v.worker v.next v.alternatives) where
+    joins_by : JoinsBy v.table.program label (slice_index i.table.config.next v.worker) i.site g (added_of part) []
+    joins_by = joins_from all_rules (run_of v.table v.journal) (table_of v.table) i.table i.site (found v i) label g (added_of part) []
+        (joins_goal (with_added (store_in ((table_of v.table).box_of i.site.content.name)) (added_of part)) (ap (λ (s : Stored). with_part s part) (sym (own_here v i)) ∙ is))
+        (λ old. all_named_with old part.frames.items ∙ ap (λ (ns : List Name). with_names ns old) (adds ∙ has.frames))
+
+    pub collect_right : (binds : List Var) → AreMembers v.table.program.templates.nodes v.stores t.bound binds → (reads : List Item) → IsReadAt v g binds reads
+        → (step : Step) → part_step v.table.program.templates.nodes step ≡ joins_part (added_of part) t.solved []
+        → IsRightLabel (record { table = v.table; journal = v.journal; label = label; more = []; reads = reads; names = length v.alternatives; step = step; binds = binds })
+    collect_right binds m reads read step e = record {
+      table = i.table;
+      result = after i.table.config label i.site change;
+      applies = applies;
+      makes = subst (MakesPart v.table.program label (slice_index i.table.config.next v.worker) i.site) (sym e) (g, p, joins_by);
+      solved = subst (IsSolvedIn (table_of v.table) i.site) (sym over) store_solved;
+      names = sym (counted v i bs v.alternatives seen);
+      reads = subst (ReadsPart (IsRead reads) i.table.config label i.site binds) (sym e) (g, p, read.enough i);
+      binds = bound binds m;
+      there = read.there i;
+    }
+      where
+        over : step_in v.table label step ≡ laws.joins t.store t.solved []
+        over = part_here v i label refl step ∙ ap (step_over (innermost v.stores)) e ∙ ap (λ (s : Stored). laws.joins s t.solved []) is

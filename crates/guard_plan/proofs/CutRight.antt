@@ -1,5 +1,5 @@
 -- A plan of Cut is right, and where none is made, Cut doesn't apply.
-use Rattle.std.proofs.Common.{◌≡◌, ◌≢◌, ℕ, zero, suc, ◌+◌, ◌-◌, ◌≤◌, ◌<◌, List, [], ◌∷◌, ◌++◌, length, take, map, Bool, true, false, Option, Some, refl, sym, ◌∙◌, ap, subst, inl, inr, arith}
+use Rattle.std.proofs.Common.{◌≡◌, ◌≢◌, ℕ, zero, suc, ◌+◌, ◌-◌, ◌≤◌, ◌<◌, List, [], ◌∷◌, ◌++◌, length, take, Bool, true, false, Option, Some, refl, sym, ◌∙◌, ap, subst, inl, inr, arith}
 use Rattle.std.specs.Prelude.{slice_index, IsSomeAnd, if◌then◌else◌}
 use Rattle.std.specs.List.{AllByRecursion}
 use Rattle.akl_terms.specs.declared.name.Name.{Name}
@@ -19,20 +19,19 @@ use Rattle.akl_model.proofs.Options.{some_value}
 use Rattle.step_laws.specs.Whereabouts.{BoxIn}
 use Rattle.step_laws.proofs.GoalEdits.{count_alone}
 use Rattle.step_laws.proofs.Stays.{alternative_in}
-use Rattle.plan_laws.specs.Right.{Reads}
 use Rattle.table_laws.specs.Steps.{CutsGoal}
 use Rattle.box_tree.specs.declared.entries.HeldOp.{HeldOp}
 use Rattle.box_tree.specs.declared.step.Step.{Step}
 use Rattle.box_tree.specs.declared.view.Alternative.{Alternative}
 use Rattle.box_tree.specs.Tables.{all_rules, is_empty, op_held}
 use Rattle.box_tree.specs.Views.{ViewValue, IsViewOf}
-use Rattle.box_tree.specs.Plans.{IsRead, IsRightLabel}
+use Rattle.box_tree.specs.Plans.{IsRightLabel}
 use Rattle.box_tree.proofs.BoundHere.{kept_bound}
 use Rattle.guard_plan.proofs.Sites.{stand}
+use Rattle.guard_plan.specs.ReadAt.{IsReadAt}
 use Rattle.guard_plan.specs.Guards.{IsNoisyOver, HasQuiet, cutting}
 use Rattle.guard_plan.proofs.ChoiceNone.{inside_of, NoneCuts}
 use Rattle.guard_plan.proofs.Placed.{ArePlaced, placed, is_quiet, was_quiet}
-use Rattle.guard_plan.proofs.ReadItems.{goal_reads, items_there}
 
 -- lists of alternatives
 
@@ -213,16 +212,16 @@ module _ (v : ViewValue) (i : IsViewOf v) where
     abbrev applies : Applies all_rules v.table.program i.table.config label (after i.table.config label i.site change)
     applies = record { in_force = inr (inr (inr (inl refl))); site = i.site; is_site = i.is_site; change = change; makes = makes; result = refl }
 
-    pub cut_right : IsRightLabel (record { table = v.table; journal = v.journal; label = label; more = []; reads = Item.Goal g ∷ map Item.Store v.path; names = 0; step = Step.Cut; binds = [] })
-    cut_right = record {
+    pub cut_right : (reads : List Item) → IsReadAt v g [] reads → IsRightLabel (record { table = v.table; journal = v.journal; label = label; more = []; reads = reads; names = 0; step = Step.Cut; binds = [] })
+    cut_right reads read = record {
       table = i.table;
       result = after i.table.config label i.site change;
       applies = applies;
       makes = (refl, (g, n, p, refl, cuts_goal));
       solved = tt;
       names = refl;
-      reads = subst (λ (x : Place). Reads (IsRead (Item.Goal g ∷ map Item.Store v.path)) Rule.Cut x (Some n) i.site) (sym p) (goal_reads v i g);
+      reads = (g, p, read.enough i);
       binds = kept_bound all_rules v.table.program i.table.config label (after i.table.config label i.site change) (stand v i) applies i.site.content
           (with_content g (a_choice (op_held v.table.program.templates.nodes o) (kept_by (op_held v.table.program.templates.nodes o) n bs)) i.site.goals) no_boxes refl refl;
-      there = items_there v i g (a_choice (op_held v.table.program.templates.nodes o) bs) held;
+      there = read.there i;
     }

@@ -2,6 +2,8 @@ pub mod Chains
 pub mod Sites
 pub mod BoundAt
 pub mod ReadItems
+pub mod ReachedEnds
+pub mod ReadEnough
 pub mod Names
 pub mod QuietOver
 pub mod HasNone

@@ -25,30 +25,38 @@ use Rattle.akl_model.specs.Derivations.{Applies, after}
 use Rattle.akl_model.proofs.Finds.{times, times_of}
 use Rattle.akl_model.proofs.ScopesAlong.{times_path, found_path}
 use Rattle.step_laws.proofs.GoalEdits.{solved_none}
-use Rattle.local_store.specs.Parts.{ToldStore}
+use Rattle.local_store.specs.declared.part.Part.{Part}
+use Rattle.local_store.specs.Stored.{Stored}
+use Rattle.local_store.specs.Chained.{innermost}
+use Rattle.local_store.specs.Parts.{ToldStore, with_part}
 use Rattle.local_store.specs.Promoting.{AnswersPromoted}
 use Rattle.class_members.specs.Members.{AreMembers}
-use Rattle.plan_laws.specs.Right.{Reads}
-use Rattle.table_laws.specs.Rows.{told_in, ports_in}
+use Rattle.rational_unify.specs.Solving.{bindings_in}
+use Rattle.table_laws.specs.Rows.{told_in, ports_in, store_in}
 use Rattle.table_laws.specs.Steps as laws
-use Rattle.table_laws.specs.Steps.{IsPromoted, JoinsGoal, ReadsFor, numbered, IsSolvedIn}
+use Rattle.table_laws.specs.Steps.{IsPromoted, JoinsGoal, numbered, IsSolvedIn}
+use Rattle.table_laws.specs.Added.{added_of, with_added}
+use Rattle.table_laws.specs.Joining.{JoinsBy}
+use Rattle.table_laws.specs.PartSteps.{joins_part, step_over, MakesPart, ReadsPart}
+use Rattle.table_laws.proofs.Here.{joins_from}
 use Rattle.box_tree.specs.declared.entries.HeldOp.{HeldOp}
 use Rattle.box_tree.specs.declared.step.Step.{Step}
 use Rattle.box_tree.specs.declared.view.Alternative.{Alternative}
 use Rattle.box_tree.specs.Tables.{all_rules, goal_atom, op_held, table_of, step_in}
-use Rattle.box_tree.specs.Views.{ViewValue, IsViewOf}
+use Rattle.box_tree.specs.Views.{ViewValue, IsViewOf, run_of}
 use Rattle.box_tree.specs.Edits.{named_atoms}
-use Rattle.box_tree.specs.Plans.{IsRead, IsRightLabel}
+use Rattle.box_tree.specs.Plans.{part_step, IsRead, IsRightLabel}
 use Rattle.step_laws.specs.Bound.{AreBoundIn}
 use Rattle.box_tree.proofs.BoundHere.{told_bound}
 use Rattle.guard_plan.specs.Guards.{IsGuarded, HoldsInside, numbered_goals}
 use Rattle.guard_plan.specs.Planned.{HasNoRule}
 use Rattle.guard_plan.proofs.ChoiceNone.{inside_of, NoneCuts, guarded_none, choice_none}
 use Rattle.guard_plan.proofs.Placed.{IsPlaced, environment_is, all_stand, frames_are, ports_are, guard_is, guard_was}
-use Rattle.guard_plan.proofs.ReadItems.{goal_reads, items_there}
+use Rattle.guard_plan.specs.ReadAt.{IsReadAt}
+use Rattle.guard_plan.proofs.Names.{all_named_with}
 use Rattle.guard_plan.proofs.JoinRight.{joined_frames, joined_ports, joined_solved, joined_stands}
 use Rattle.guard_plan.proofs.BoundAt.{oldest_at, joined_at}
-use Rattle.guard_plan.proofs.Sites.{stand}
+use Rattle.guard_plan.proofs.Sites.{stand, found, own_here, part_here}
 
 -- goals under names are the atoms under them
 numbered_atoms : (nodes : List Node) (worker n : ℕ) (gs : List Goal) → named_atoms nodes (numbered_goals worker n gs) ≡ numbered worker n (map (goal_atom nodes) gs)
@@ -139,16 +147,17 @@ module _ (v : ViewValue) (i : IsViewOf v) (g : Name) (o : HeldOp) (b : Content) 
     is_promoted : IsPromoted label (box b no_goals no_boxes) b
     is_promoted = record { rule = refl; alternative = ap Some h.seen.name; only = refl }
 
-    joins_goal : JoinsGoal v.table.program label (slice_index i.table.config.next v.worker) i.site g t.store (named_atoms v.table.program.templates.nodes (numbered_goals v.worker v.next v.body))
-    joins_goal = record {
+    abbrev joins_goal : (new : Stored) → new ≡ t.store → JoinsGoal v.table.program label (slice_index i.table.config.next v.worker) i.site g new (named_atoms v.table.program.templates.nodes (numbered_goals v.worker v.next v.body))
+    joins_goal new e = record {
       operator = op_held v.table.program.templates.nodes o;
       alternatives = box b no_goals no_boxes;
       held = joined;
       joined = b;
       origin = inl is_promoted;
-      frames = frames;
-      ports = ports;
-      stands = joined_stands v i a.store known t answer b.equations all;
+      frames = ap (λ (s : Stored). s.frames) e ∙ frames;
+      ports = ap (λ (s : Stored). ports_in v.table.program.templates.nodes s.ports) e ∙ ports;
+      stands = λ D d. subst (λ (s : Stored). StandFor (IsTold (D ++ bindings_in v.table.program.templates.nodes s.bindings)) (IsTold (whole i.site ++ b.equations))) (sym e)
+          (joined_stands v i a.store known t answer b.equations all D d);
       body = goals_are;
     }
 
@@ -184,17 +193,28 @@ module _ (v : ViewValue) (i : IsViewOf v) (g : Name) (o : HeldOp) (b : Content) 
         (ap (λ (E : Equations). E ++ b.equations) (environment_is v i b gs a h) ∙ append_assoc (environment i.site) i.site.content.equations b.equations) (all_stand v i b gs a h)))
         (oldest_at v i t.bound binds m)
 
-    pub promote_right : (binds : List Var) → AreMembers v.table.program.templates.nodes v.stores t.bound binds → (step : Step) → step_in v.table label step ≡ laws.joins t.store t.solved (named_atoms v.table.program.templates.nodes (numbered_goals v.worker v.next v.body))
-        → IsRightLabel (record { table = v.table; journal = v.journal; label = label; more = []; reads = Item.Goal g ∷ map Item.Store v.path; names = length v.body; step = step; binds = binds })
-    promote_right binds m step e = record {
-      table = i.table;
-      result = after i.table.config label i.site change;
-      applies = applies;
-      makes = subst (laws.Makes v.table.program label (slice_index i.table.config.next v.worker) i.site) (sym e) (g, p, joins_goal);
-      solved = subst (IsSolvedIn (table_of v.table) i.site) (sym e) (joined_solved v i a.store known t answer t.solved refl);
-      names = as_long;
-      reads = subst (ReadsFor (IsRead (Item.Goal g ∷ map Item.Store v.path)) label i.site) (sym e)
-          (subst (λ (x : Place). Reads (IsRead (Item.Goal g ∷ map Item.Store v.path)) Rule.Promote x (Some a.name) i.site) (sym p) (goal_reads v i g));
-      binds = bound binds m;
-      there = items_there v i g (a_choice (op_held v.table.program.templates.nodes o) (box b gs no_boxes)) held;
-    }
+    -- by what it adds
+    module _ (part : Part) (is : with_part (innermost v.stores) part ≡ t.store) (adds : part.frames.items ≡ a.store.frames) where
+      joins_by : JoinsBy v.table.program label (slice_index i.table.config.next v.worker) i.site g (added_of part) (named_atoms v.table.program.templates.nodes (numbered_goals v.worker v.next v.body))
+      joins_by = joins_from all_rules (run_of v.table v.journal) (table_of v.table) i.table i.site (found v i) label g (added_of part) (named_atoms v.table.program.templates.nodes (numbered_goals v.worker v.next v.body))
+          (joins_goal (with_added (store_in ((table_of v.table).box_of i.site.content.name)) (added_of part)) (ap (λ (s : Stored). with_part s part) (sym (own_here v i)) ∙ is))
+          (λ old. all_named_with old part.frames.items ∙ ap (λ (ns : List Name). with_names ns old) (adds ∙ frames_are v i b gs a h))
+
+      pub promote_right : (binds : List Var) → AreMembers v.table.program.templates.nodes v.stores t.bound binds → (reads : List Item) → IsReadAt v g binds reads
+          → (step : Step) → part_step v.table.program.templates.nodes step ≡ joins_part (added_of part) t.solved (named_atoms v.table.program.templates.nodes (numbered_goals v.worker v.next v.body))
+          → IsRightLabel (record { table = v.table; journal = v.journal; label = label; more = []; reads = reads; names = length v.body; step = step; binds = binds })
+      promote_right binds m reads read step e = record {
+        table = i.table;
+        result = after i.table.config label i.site change;
+        applies = applies;
+        makes = subst (MakesPart v.table.program label (slice_index i.table.config.next v.worker) i.site) (sym e) (g, p, joins_by);
+        solved = subst (IsSolvedIn (table_of v.table) i.site) (sym over) (joined_solved v i a.store known t answer t.solved refl);
+        names = as_long;
+        reads = subst (ReadsPart (IsRead reads) i.table.config label i.site binds) (sym e) (g, p, read.enough i);
+        binds = bound binds m;
+        there = read.there i;
+      }
+        where
+          over : step_in v.table label step ≡ laws.joins t.store t.solved (named_atoms v.table.program.templates.nodes (numbered_goals v.worker v.next v.body))
+          over = part_here v i label refl step ∙ ap (step_over (innermost v.stores)) e
+              ∙ ap (λ (s : Stored). laws.joins s t.solved (named_atoms v.table.program.templates.nodes (numbered_goals v.worker v.next v.body))) is

@@ -7,14 +7,13 @@ use Rattle.akl_terms.specs.Equal.{IsTold}
 use Rattle.akl_terms.specs.Standing.{StandFor}
 use Rattle.akl_model.specs.declared.item.Item.{Item}
 use Rattle.akl_model.specs.Changes.{shape_of}
-use Rattle.akl_model.specs.Config.{IsIn, Config, Held, held_in, Found, environment, whole, box_at, home_of, site_of}
+use Rattle.akl_model.specs.Config.{IsIn, Config, Held, held_in, Found, environment, whole, box_at, home_of}
 use Rattle.akl_model.specs.declared.label.Label.{Label}
 use Rattle.akl_model.specs.Wakes.{names_around, names_down_to}
-use Rattle.akl_model.proofs.NamesKept.{Stand, replay-stands, box-itself, site-box}
+use Rattle.akl_model.proofs.NamesKept.{Stand, replay-stands, site-box}
 use Rattle.akl_model.proofs.Options.{map_some}
 use Rattle.akl_model.proofs.Scoped.{IsIn-either}
-use Rattle.step_laws.specs.Whereabouts.{Stands}
-use Rattle.step_laws.proofs.Whereabouts.{home_in, found_in}
+use Rattle.step_laws.proofs.Whereabouts.{found_in}
 use Rattle.step_laws.proofs.Deeper.{Over, over, named_found, home_found}
 use Rattle.local_store.specs.Stored.{Stored}
 use Rattle.local_store.specs.Chained.{innermost}
@@ -22,12 +21,13 @@ use Rattle.table_laws.specs.Rows.{BoxRow, GoalRow, Table, store_in, stores_along
 use Rattle.table_laws.specs.Unfolds.{IsBoxRow, Spot, spot_of, Unfolds}
 use Rattle.table_laws.specs.Stamped.{store_stamp, goal_stamp, stamp_in}
 use Rattle.table_laws.proofs.Stores.{told_along, stores_join}
-use Rattle.table_laws.specs.Writes as rows
 use Rattle.table_laws.proofs.Frame.{row_of, around_stands}
-use Rattle.table_laws.proofs.Insides.{goal_row}
 use Rattle.box_tree.specs.declared.view.Sight.{Sight}
 use Rattle.box_tree.specs.declared.step.Step.{Step}
 use Rattle.box_tree.specs.Tables.{all_rules, table_of, store_at, step_of, step_in}
+use Rattle.table_laws.specs.PartSteps.{step_over}
+use Rattle.box_tree.specs.Plans.{part_step}
+use Rattle.box_tree.proofs.OverStores.{over_store, site_store}
 use Rattle.box_tree.specs.Views.{ViewValue, IsViewOf, Shows}
 use Rattle.guard_plan.proofs.Chains.{innermost_push, long_push}
 
@@ -45,11 +45,15 @@ module _ (T : Table) (c : Config) (s : Stand c) (u : Unfolds T c) (f : Found) (e
   pub box_there : (m : Name) (k : Found) → box_at m c.roots ≡ Some k → IsSome (stamp_in T (Item.Store m))
   box_there m k i = let w : (r : BoxRow) × (T.box_of m ≡ Some r) × IsBoxRow T c.roots k r = row_of T c u m k i in ap (λ (o : Option BoxRow). is_some (store_stamp o)) w.1
 
-  pub store_there : (m : Name) → IsIn m (names_down_to f) → IsSome (stamp_in T (Item.Store m))
-  store_there m h = elim (IsIn-either m (names_around f) (f.content.name ∷ []) h) [
-    | inl x ↦ let o : Over m f c.roots = over m f c.roots (found_in f.content.name c.roots f e) x in box_there m o.outer (named_found c.roots s.once m o.outer o.stands o.named)
-    | inr x ↦ elim x [ inl q ↦ box_there m f (ap (λ (n : Name). box_at n c.roots) q ∙ e) | inr y ↦ absurd y ]
+  -- so do the boxes down to it, as they are found
+  pub box_down : (m : Name) → IsIn m (names_down_to f) → (k : Found) × (box_at m c.roots ≡ Some k)
+  box_down m h = elim (IsIn-either m (names_around f) (f.content.name ∷ []) h) [
+    | inl x ↦ let o : Over m f c.roots = over m f c.roots (found_in f.content.name c.roots f e) x in (o.outer, named_found c.roots s.once m o.outer o.stands o.named)
+    | inr x ↦ elim x [ inl q ↦ (f, ap (λ (n : Name). box_at n c.roots) q ∙ e) | inr y ↦ absurd y ]
   ]
+
+  pub store_there : (m : Name) → IsIn m (names_down_to f) → IsSome (stamp_in T (Item.Store m))
+  store_there m h = let k : (k : Found) × (box_at m c.roots ≡ Some k) = box_down m h in box_there m k.0 k.1
 
 module _ (v : ViewValue) (i : IsViewOf v) where
   pub stand : Stand i.table.config
@@ -78,20 +82,20 @@ module _ (v : ViewValue) (i : IsViewOf v) where
   pub own_store : innermost v.stores ≡ row.0.store
   own_store = ap innermost stores_split ∙ innermost_push (stores_along (table_of v.table) (names_around i.site)) row.0.store
 
-  here : (place : Place) → site_of place i.table.config.roots ≡ Some i.site → store_at (table_of v.table) place ≡ store_in ((table_of v.table).box_of i.site.content.name)
-  here (Place.Box n) e = ap (λ (m : Name). store_in ((table_of v.table).box_of m)) (box-itself n i.table.config.roots i.site e)
-  here (Place.Goal g) e =
-      let held : Stands i.site i.table.config.roots × ((h : Held) × (held_in g i.site.goals ≡ Some h)) = home_in g i.table.config.roots i.site e in
-      let r : (k : GoalRow) × ((table_of v.table).goal_of g ≡ Some k) × (k.home ≡ i.site.content.name) × (k.shape ≡ shape_of held.1.0) =
-      goal_row (table_of v.table) i.table.config i.table.unfolds stand.once g i.site held.1.0 e held.1.1 in
-      ap (λ (k : Option GoalRow). store_in (option_and_then (table_of v.table).box_of (rows.home_in k))) r.1 ∙ ap (λ (m : Name). store_in ((table_of v.table).box_of m)) r.2
+  -- as the table has it under the box's name
+  pub own_here : innermost v.stores ≡ store_in ((table_of v.table).box_of i.site.content.name)
+  own_here = own_store ∙ sym (ap store_in row.1)
 
   -- the innermost store is that of the box of the place
   pub store_here : store_at (table_of v.table) v.place ≡ innermost v.stores
-  store_here = here v.place i.is_site ∙ ap store_in row.1 ∙ sym own_store
+  store_here = site_store (table_of v.table) i.table.config i.table.unfolds stand.once v.place i.site i.is_site ∙ sym own_here
 
   pub step_here : (l : Label) → l.place ≡ v.place → (step : Step) → step_in v.table l step ≡ step_of v.table.program.templates.nodes (innermost v.stores) step
   step_here l e step = ap (λ (s : Stored). step_of v.table.program.templates.nodes s step) (ap (store_at (table_of v.table)) e ∙ store_here)
+
+  -- and what a step makes is over that store
+  pub part_here : (l : Label) → l.place ≡ v.place → (step : Step) → step_in v.table l step ≡ step_over (innermost v.stores) (part_step v.table.program.templates.nodes step)
+  part_here l e step = step_here l e step ∙ sym (over_store v.table.program.templates.nodes (innermost v.stores) step)
 
   pub some_stores : 0 < length v.stores
   some_stores =

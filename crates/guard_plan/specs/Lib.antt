@@ -1,3 +1,4 @@
+pub mod ReadAt
 pub mod Solved
 pub mod Planned
 pub mod Guards

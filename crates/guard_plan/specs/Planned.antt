@@ -1,5 +1,6 @@
 -- What a planner answers.
 use Rattle.std.specs.Prelude.{◌≡◌, [], Option, Some, None}
+use Rattle.akl_model.specs.declared.item.Item.{Item}
 use Rattle.akl_model.specs.declared.label.Rule.{Rule}
 use Rattle.akl_model.specs.declared.label.Label.{Label}
 use Rattle.akl_model.specs.Config.{Config}
@@ -7,10 +8,11 @@ use Rattle.akl_model.specs.Derivations.{IsInForce, Applies}
 use Rattle.table_laws.specs.Stamped.{IsTableOf}
 use Rattle.box_tree.specs.Tables.{all_rules, table_of}
 use Rattle.box_tree.specs.Views.{ViewValue, run_of}
-use Rattle.box_tree.specs.Plans.{PlanValue, IsRight}
+use Rattle.box_tree.specs.Plans.{PlanValue, IsRead, IsRight}
+use Rattle.guard_plan.specs.ReadAt.{PlanMayRead}
 use Rattle.guard_plan.specs.Solved.{SaysSolved}
 
--- a right plan was made of a view, for its place and its worker, and says what is known to be solved
+-- a right plan was made of a view, for its place and its worker, says what is known to be solved, and read no more than it may
 pub record IsPlanOf (v : ViewValue) (p : PlanValue) : Type 0 where
   pub right : IsRight p
   pub table : p.table ≡ v.table
@@ -18,6 +20,7 @@ pub record IsPlanOf (v : ViewValue) (p : PlanValue) : Type 0 where
   pub place : p.label.place ≡ v.place
   pub worker : p.label.worker ≡ v.worker
   pub solved : SaysSolved v p.label.rule p.step
+  pub only : (j : Item) → IsRead p.reads j → PlanMayRead v p.binds j
 
 -- a rule in force other than Split, which is planned by all that stands in a box and inside it
 abbrev pub IsPlain : Rule → Type 0

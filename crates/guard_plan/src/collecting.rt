@@ -10,8 +10,9 @@ ghost use Rattle.guard_plan.specs.Noisy.{IsTriedBy};
 
 use crate::guards::{MOST, Noise, are_quiet};
 use crate::joining::joined_part;
-use crate::labels::{goal_and_stores, label_of};
+use crate::labels::label_of;
 use crate::listing::list_of;
+use crate::reading::reads_of;
 use akl_model::Rule;
 use akl_terms::{Name, Program, Term};
 use box_tree::{Alternative, Plan, Step, View};
@@ -102,7 +103,7 @@ fn collect_quiet(
         equations.as_slice(),
     )?;
     let binds = members(alloc, &view.chain(&program.templates), bound.as_slice())?;
-    let reads = goal_and_stores(alloc, goal, view.path())?;
+    let reads = reads_of(alloc, &program.templates, view, goal, binds.as_slice())?;
     let step = Step::Join {
         part,
         solved,

@@ -7,7 +7,8 @@ ghost use Rattle.guard_plan.specs.Noisy.{IsTriedBy};
 ghost use Rattle.guard_plan.specs.Guards.{IsGuarded, cutting};
 
 use crate::guards::{Noise, first_quiet};
-use crate::labels::{goal_and_stores, label_for};
+use crate::labels::label_for;
+use crate::reading::reads_of;
 use akl_model::Rule;
 use akl_terms::{Name, Program};
 use box_tree::{Alternative, HeldOp, Plan, Step, View};
@@ -36,7 +37,7 @@ pub(crate) fn cut(
     let Some(alternative) = found else {
         return Ok(None);
     };
-    let reads = goal_and_stores(alloc, goal, view.path())?;
+    let reads = reads_of(alloc, &program.templates, view, goal, &[])?;
     let label = label_for(view, Rule::Cut, alternative);
     let plan = Plan::new(alloc, view, label, reads, 0, Step::Cut, Vec::new(alloc))?;
     Ok(Some(plan))

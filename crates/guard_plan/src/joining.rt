@@ -26,8 +26,9 @@ pub(crate) fn joined_part(
 ) -> Result<ToldPart, AllocError>
     requires some { 0 < length around.now.stores }
     requires numbers { first.number + length alternatives.now < 2 ^ 64 }
-    ensures { IfOk result (λ t. IsJoined around.now.nodes around.now.stores around.now.known alternatives.now
+    ensures joined { IfOk result (λ t. IsJoined around.now.nodes around.now.stores around.now.known alternatives.now
         (frames_of first.worker first.number alternatives.now) equations.now (told_over (innermost around.now.stores) t)) }
+    ensures frames { IfOk result (λ t. t.part.frames.items ≡ frames_of first.worker first.number alternatives.now) }
 {
     let inner = inner_store(alloc, around, alternatives, equations)?;
     let mut told = joined(alloc, around, inner)?;

@@ -1,25 +1,11 @@
-//! What plans at goals read, and their labels.
+//! Labels of plans.
 
-ghost use Rattle.std.specs.Prelude.{◌≡◌, Some, None, IfOk, ◌∷◌, map};
-ghost use Rattle.akl_model.specs.declared.item.Item.{Item};
+ghost use Rattle.std.specs.Prelude.{◌≡◌, Some, None};
 ghost use Rattle.box_tree.specs.Views.{IsViewOf};
 
-use akl_model::{Item, Label, Rule};
+use akl_model::{Label, Rule};
 use akl_terms::Name;
 use box_tree::View;
-use std::alloc::{AllocError, Global};
-
-/// A goal, and the constraints of these boxes.
-pub fn goal_and_stores(alloc: Global, goal: Name, boxes: &[Name]) -> Result<Vec<Item>, AllocError>
-    ensures { IfOk result (λ items. items.items ≡ Item.Goal goal ∷ map Item.Store boxes.now) }
-{
-    let mut items = Vec::with_capacity(alloc, boxes.len().saturating_add(1))?;
-    items.push(Item::Goal(goal))?;
-    for name in boxes {
-        items.push(Item::Store(*name))?;
-    }
-    Ok(items)
-}
 
 /// The label of a rule for an alternative, at the view's place and by its worker.
 pub fn label_for(view: &View, rule: Rule, alternative: Name) -> Label

@@ -10,9 +10,11 @@ mod labels;
 mod listing;
 mod planning;
 mod promoting;
+mod reading;
 
 pub use guards::{Noise, quietness, shared};
 pub use joining::told_inside;
-pub use labels::{goal_and_stores, label_for, label_of};
+pub use labels::{label_for, label_of};
 pub use listing::node_after;
 pub use planning::plan_guard;
+pub use reading::{ends_of, goal_and_sets, push_bindings, reads_of};

@@ -7,7 +7,8 @@ ghost use Rattle.guard_plan.specs.Noisy.{IsTriedBy};
 ghost use Rattle.guard_plan.specs.Guards.{IsGuarded, numbered_goals};
 
 use crate::guards::{MOST, Noise, guard_holds, shared};
-use crate::labels::{goal_and_stores, label_for};
+use crate::labels::label_for;
+use crate::reading::reads_of;
 use akl_model::Rule;
 use akl_terms::{Goal, Name, Program};
 use box_tree::{Alternative, HeldOp, Plan, Step, View};
@@ -58,7 +59,7 @@ pub(crate) fn promote(
         number: next,
     };
     let goals = numbered(alloc, first, view.body())?;
-    let reads = goal_and_stores(alloc, goal, view.path())?;
+    let reads = reads_of(alloc, &program.templates, view, goal, binds.as_slice())?;
     let step = Step::Join {
         part,
         solved,

@@ -1,1 +1,3 @@
+pub mod SeenSets
 pub mod Later
+pub mod KeptBySettle

@@ -9,11 +9,12 @@ use Rattle.akl_model.specs.declared.label.Label.{Label}
 use Rattle.akl_model.specs.Config.{Config, Found, site_of}
 use Rattle.akl_model.specs.Conditions.{HasFailed}
 use Rattle.akl_model.specs.Derivations.{Replays, IsReady}
-use Rattle.akl_model.specs.Wakes.{has_candidate, IsThere, Concerns}
+use Rattle.akl_model.specs.Wakes.{has_candidate, IsThere}
 use Rattle.constraint_laws.specs.Touched.{IsAmong}
-use Rattle.plan_laws.specs.Stamps.{IsStamped}
-use Rattle.sleep_laws.specs.Sleeps.{IsEnough}
-use Rattle.wait_laws.specs.Waits.{HasOldestAt}
+use Rattle.plan_laws.specs.Sleeps.{IsEnough}
+use Rattle.plan_laws.specs.Waits.{IsScopedAt}
+use Rattle.reading_laws.specs.Seen.{IsSeen}
+use Rattle.reading_laws.specs.SeenIdle.{KeepsOldestAt}
 use Rattle.box_tree.specs.Tables.{all_rules}
 use Rattle.box_tree.specs.Plans.{IsRead}
 use Rattle.idle_places.specs.Idling.{IdleValue, IsIdle}
@@ -31,16 +32,16 @@ pub record LeavesIdle (v : IdleValue) (p : Program) (q : Query) (journal : List 
   pub further : List Label
   pub front : journal ≡ v.journal ++ further
   pub replays : Replays all_rules p q journal d
-  pub unchanged : (i : Item) → IsRead v.reads i → IsStamped all_rules p q journal (length v.journal) i
+  pub unchanged : (i : Item) → IsRead v.reads i → IsSeen all_rules p q journal (length v.journal) i
   pub no_reason : v.inside ≡ false → (f : Found) → site_of v.place d.roots ≡ Some f → HasNoReason f
 
--- the place is there and isn't ready, and its variables are as good as they were
+-- the place is there and isn't ready; its variables are enough for it, in scope, and while the root box is consistent the oldest of their classes
 pub record IsIdleStill (p : Program) (d : Config) (place : Place) (on : List Var) : Type 0 where
   pub there : IsThere place d.roots
   pub unready : IsReady all_rules p d place → ⊥
   pub enough : IsEnough p d on place
-  pub concern : (x : Var) → IsAmong x on → Concerns p d x place
-  pub oldest : HasOldestAt d place on
+  pub scoped : (x : Var) → IsAmong x on → IsScopedAt d place x
+  pub oldest : KeepsOldestAt d place on
 
 abbrev pub IdleLaterLaw : Type 0
 IdleLaterLaw = (v : IdleValue) → IsIdle v → (p : Program) (q : Query) (journal : List Label) (d : Config) → LeavesIdle v p q journal d → IsIdleStill p d v.place v.on

@@ -5,4 +5,4 @@ mod idle;
 mod laws;
 
 pub use idle::Idle;
-pub use laws::idle_later;
+pub use laws::{idle_later, kept_by_settle};

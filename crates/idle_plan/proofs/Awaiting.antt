@@ -20,8 +20,8 @@ use Rattle.constraint_laws.specs.Standing.{StandsForConsistent}
 use Rattle.constraint_laws.specs.Oldest.{IsOldest}
 use Rattle.constraint_laws.specs.Touched.{IsAmong}
 use Rattle.constraint_laws.proofs.Stands.{variable_stands}
-use Rattle.sleep_laws.specs.Sleeps.{IsOutermostAt, IsAliasAt}
-use Rattle.sleep_laws.proofs.AwaitedAtoms.{awaited_one}
+use Rattle.plan_laws.specs.Sleeps.{IsOutermostAt, IsAliasAt}
+use Rattle.plan_laws.proofs.AwaitedAtoms.{awaited_one}
 use Rattle.local_store.specs.Stored.{Stored}
 use Rattle.local_store.specs.Chained.{equations_of}
 use Rattle.class_members.specs.Members.{outermost_of, IsMember, AreMembers}

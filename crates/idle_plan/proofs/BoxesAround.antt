@@ -9,7 +9,7 @@ use Rattle.akl_model.specs.Config.{Content, Found, whole}
 use Rattle.akl_model.specs.Wakes.{TellsOutside, Concerns, by_box_around}
 use Rattle.constraint_laws.specs.Oldest.{IsOldest}
 use Rattle.constraint_laws.specs.Touched.{IsAmong}
-use Rattle.sleep_laws.specs.Sleeps.{IsOutermostAt, IsAliasAt}
+use Rattle.plan_laws.specs.Sleeps.{IsOutermostAt, IsAliasAt}
 use Rattle.local_store.specs.Stored.{Stored}
 use Rattle.local_store.specs.Chained.{equations_of}
 use Rattle.class_members.specs.Members.{outermost_of}

@@ -22,8 +22,8 @@ use Rattle.akl_model.proofs.Options.{some_value}
 use Rattle.akl_model.proofs.ScopesKept.{around_outside}
 use Rattle.constraint_laws.specs.Oldest.{IsOldest}
 use Rattle.constraint_laws.specs.Touched.{IsAmong}
-use Rattle.sleep_laws.specs.Sleeps.{Matters, IsOutermostAt, IsAliasAt}
-use Rattle.sleep_laws.specs.Sleeps as sleeps
+use Rattle.plan_laws.specs.Sleeps.{Matters, IsOutermostAt, IsAliasAt}
+use Rattle.plan_laws.specs.Sleeps as sleeps
 use Rattle.step_laws.specs.Whereabouts.{BoxIn}
 use Rattle.step_laws.proofs.Stays.{alternative_in}
 use Rattle.local_store.specs.Stored.{Stored}

@@ -25,8 +25,8 @@ use Rattle.constraint_laws.proofs.Decided.{kept_by}
 use Rattle.constraint_laws.proofs.Grown.{over_kept}
 use Rattle.constraint_laws.proofs.Stands.{structured_stands, variable_stands}
 use Rattle.constraint_laws.proofs.TouchedLists.{touches_class}
-use Rattle.sleep_laws.specs.Sleeps.{IsOutermostAt, IsAliasAt, of_box}
-use Rattle.wait_laws.proofs.Roots.{root_unneeded}
+use Rattle.plan_laws.specs.Sleeps.{IsOutermostAt, IsAliasAt, of_box}
+use Rattle.plan_laws.proofs.Roots.{root_unneeded}
 use Rattle.table_laws.proofs.Frame.{equations_join}
 use Rattle.local_store.specs.Stored.{Stored}
 use Rattle.local_store.specs.Chained as chained

@@ -11,13 +11,16 @@ use Rattle.akl_model.specs.Wakes.{names_around}
 use Rattle.box_tree.specs.declared.inside.Inside.{Inside}
 use Rattle.box_tree.specs.declared.entries.HeldOp.{HeldOp}
 use Rattle.box_tree.specs.declared.view.Sight.{Sight}
-use Rattle.box_tree.specs.Tables.{op_held, goal_atom}
+use Rattle.std.specs.Prelude.{IsSome}
+use Rattle.table_laws.specs.Stamped.{stamp_in}
+use Rattle.box_tree.specs.Plans.{IsRead}
+use Rattle.box_tree.specs.Tables.{op_held, goal_atom, table_of}
 use Rattle.box_tree.specs.Views.{ViewValue, IsViewOf}
 use Rattle.box_tree.specs.Insides.{IsInsideOf}
 use Rattle.guard_plan.proofs.Sites.{shows_at}
-use Rattle.idle_places.specs.Idling.{IsIdle}
+use Rattle.idle_places.specs.Idling.{HasWatched, IsIdle}
 use Rattle.idle_plan.specs.Idling.{IsUnready}
-use Rattle.idle_plan.specs.Read.{sets_in}
+use Rattle.idle_plan.specs.Read.{AreGoalItems, sets_in}
 use Rattle.idle_plan.specs.Waits.{AreToldAround, AreOwnWaits, AreReachedInside}
 use Rattle.idle_plan.proofs.Awaiting.{awaited_suffices}
 use Rattle.idle_plan.proofs.BoxesAround.{around_suffices}
@@ -25,7 +28,8 @@ use Rattle.idle_plan.proofs.ChoiceWaits.{choice_suffices, undecided_suffices, un
 use Rattle.idle_plan.proofs.InsideWaits.{inside_suffices}
 use Rattle.idle_plan.proofs.Needed.{NeedsAround, NeedsOwn, Suffices, both_concern, both_enough, both_oldest}
 use Rattle.idle_plan.proofs.Paths.{count_around, stores_long}
-use Rattle.idle_plan.proofs.ReadItems.{goal_items_of, goal_watches, goal_reads_there, box_watches, box_reads_there}
+use Rattle.idle_plan.proofs.MayRead.{goal_may_read, box_may_read}
+use Rattle.idle_plan.proofs.ReadItems.{goal_watches, goal_reads_there, goal_bindings, goal_bindings_there, box_watches, box_reads_there}
 
 module _ (v : ViewValue) (i : IsViewOf v) where
   abbrev p : Program
@@ -40,6 +44,9 @@ module _ (v : ViewValue) (i : IsViewOf v) where
   -- there are as many stores as boxes
   pub stores_enough : length v.path ≤ length v.stores
   stores_enough = let a : length v.path ≡ length i.site.around + 1 = path_long in let b : length v.stores ≡ length i.site.around + 1 = stores_long v i in omega (arith, a, b)
+
+  pub as_many : length v.stores ≡ length v.path
+  as_many = let a : length v.path ≡ length i.site.around + 1 = path_long in let b : length v.stores ≡ length i.site.around + 1 = stores_long v i in omega (arith, a, b)
 
   pub depth_enough : length v.path - 1 ≤ length v.stores
   depth_enough = let a : length v.path ≤ length v.stores = stores_enough in omega (arith, a)
@@ -62,8 +69,8 @@ module _ (v : ViewValue) (i : IsViewOf v) where
     own_suffices (Sight.Box failing) e own o = absurd (shows_at v i (Place.Goal g) (Sight.Box failing) at e)
 
     pub goal_idle : IsUnready v → (around own : List Var) → AreToldAround v.table.program.templates.nodes v.stores (length v.path) around → AreOwnWaits v.table.program v v.sight own
-        → IsIdle (record { table = v.table; journal = v.journal; place = v.place; reads = goal_items_of g v.path v.alternatives; on = around ++ own; inside = true })
-    goal_idle unready around own a o = record {
+        → (reads : List Item) → AreGoalItems v g (around ++ own) reads → IsIdle (record { table = v.table; journal = v.journal; place = v.place; reads = reads; on = around ++ own; inside = true })
+    goal_idle unready around own a o reads items = record {
       table = i.table;
       site = i.site;
       is_site = i.is_site;
@@ -71,10 +78,20 @@ module _ (v : ViewValue) (i : IsViewOf v) where
       enough = both_enough v.table.program i.table.config v.place around own outer inner;
       concern = both_concern v.table.program i.table.config v.place around own outer inner;
       oldest = both_oldest v.table.program i.table.config v.place around own outer inner;
-      watches = goal_watches v i g at;
-      there = goal_reads_there v i g at (held_by v.sight refl).0 (held_by v.sight refl).1;
+      watches = watches items;
+      there = there items;
+      only = goal_may_read v i g at (around ++ own) reads items;
     }
       where
+        watches : AreGoalItems v g (around ++ own) reads → HasWatched true (IsRead reads) (around ++ own) v.place i.site
+        watches (inl e) = subst (λ (rs : List Item). HasWatched true (IsRead rs) (around ++ own) v.place i.site) (sym e) (inl (goal_watches v i g at))
+        watches (inr e) = subst (λ (rs : List Item). HasWatched true (IsRead rs) (around ++ own) v.place i.site) (sym e)
+            (inr (record { goal = g; is_goal = at; reads = goal_bindings v i g at (around ++ own) }))
+
+        there : AreGoalItems v g (around ++ own) reads → (j : Item) → IsRead reads j → IsSome (stamp_in (table_of v.table) j)
+        there (inl e) j r = goal_reads_there v i g at (held_by v.sight refl).0 (held_by v.sight refl).1 j (subst (λ (rs : List Item). IsRead rs j) e r)
+        there (inr e) j r = goal_bindings_there v i g at (around ++ own) (held_by v.sight refl).0 (held_by v.sight refl).1 j (subst (λ (rs : List Item). IsRead rs j) e r)
+
         outer : Suffices v.table.program i.table.config v.place (NeedsAround i.table.config v.place) around
         outer = around_suffices v i around (subst (λ (k : ℕ). AreToldAround v.table.program.templates.nodes v.stores k around) (path_long ∙ sym (ap (λ (q : Place). count_around q i.site) at)) a)
 
@@ -93,8 +110,9 @@ module _ (v : ViewValue) (i : IsViewOf v) where
       enough = both_enough v.table.program i.table.config v.place around own outer inner;
       concern = both_concern v.table.program i.table.config v.place around own outer inner;
       oldest = both_oldest v.table.program i.table.config v.place around own outer inner;
-      watches = box_watches v i n at inside x names is_around;
+      watches = inl (box_watches v i n at inside x names is_around);
       there = box_reads_there v i n at inside x names is_around;
+      only = box_may_read v i n at (around ++ own) inside x names is_around;
     }
       where
         outer : Suffices v.table.program i.table.config v.place (NeedsAround i.table.config v.place) around

@@ -10,6 +10,7 @@ pub mod Awaiting
 pub mod ChoiceWaits
 pub mod InsideWaits
 pub mod ReadItems
+pub mod MayRead
 pub mod Joined
 pub mod Answered
 pub mod Steps

@@ -12,8 +12,8 @@ use Rattle.akl_model.specs.Rules.{alternative_of}
 use Rattle.akl_model.specs.Stable.{only, frames_of, AtomWaitsOn, TouchesFrom}
 use Rattle.akl_model.specs.Wakes.{StandsIn, SomeBox, TellsOutside, Concerns}
 use Rattle.constraint_laws.specs.Touched.{IsAmong}
-use Rattle.sleep_laws.specs.Sleeps.{Matters, Needs, of_box_around, of_atom, of_alternative, of_box, IsAliasAt, IsEnough}
-use Rattle.wait_laws.specs.Waits.{HasOldestAt}
+use Rattle.plan_laws.specs.Sleeps.{Matters, Needs, of_box_around, of_atom, of_alternative, of_box, IsAliasAt, IsEnough}
+use Rattle.plan_laws.specs.Waits.{HasOldestAt}
 use Rattle.idle_plan.proofs.Gathering.{among_left, among_right, among_either}
 
 -- by the equations of a box around it

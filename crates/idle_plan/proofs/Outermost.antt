@@ -13,8 +13,8 @@ use Rattle.constraint_laws.specs.Standing.{StandsForConsistent}
 use Rattle.constraint_laws.specs.Touched.{IsAmong}
 use Rattle.constraint_laws.proofs.Stands.{structured_stands, variable_stands}
 use Rattle.step_laws.proofs.Deeper.{names_snoc, in_path}
-use Rattle.sleep_laws.specs.Sleeps.{IsOutermostAt, IsAliasAt}
-use Rattle.sleep_laws.proofs.DownTo.{is_down, path_to, begins_outermost, outermost_whole}
+use Rattle.plan_laws.specs.Sleeps.{IsOutermostAt, IsAliasAt}
+use Rattle.plan_laws.proofs.DownTo.{is_down, path_to, begins_outermost, outermost_whole}
 use Rattle.local_store.specs.Stored.{Stored}
 use Rattle.local_store.specs.Chained.{equations_of}
 use Rattle.class_members.specs.Members.{outermost_of}

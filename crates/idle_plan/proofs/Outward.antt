@@ -11,7 +11,7 @@ use Rattle.akl_model.proofs.Finds.{times}
 use Rattle.akl_model.proofs.QuietGrows.{IsLocal-left}
 use Rattle.akl_model.proofs.Scoped.{IsIn-either}
 use Rattle.akl_model.proofs.ScopesAlong.{scope_along, frame_apart, frames_counted, local_in, in_local}
-use Rattle.sleep_laws.proofs.InScope.{Good, InScope, touched_scoped, tied_scoped}
+use Rattle.plan_laws.proofs.InScope.{Good, InScope, touched_scoped, tied_scoped}
 
 module _ (c : Config) (w : Good c) (n : Name) (f : Found) (e : box_at n c.roots ≡ Some f) where
   -- a variable in scope that isn't the box's own isn't one of a box inside it

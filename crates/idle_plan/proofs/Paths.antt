@@ -14,9 +14,9 @@ use Rattle.akl_model.proofs.NamesKept.{box-itself}
 use Rattle.akl_model.proofs.ScopesKept.{around_outside}
 use Rattle.step_laws.proofs.Whereabouts.{found_in}
 use Rattle.step_laws.proofs.Deeper.{Over, over, named_found, chain_at, names_snoc}
-use Rattle.sleep_laws.proofs.InScope.{Good}
-use Rattle.sleep_laws.proofs.Replayed.{good_replay}
-use Rattle.sleep_laws.proofs.DownTo.{stands_down, stands_around, path_to, begins_path}
+use Rattle.plan_laws.proofs.InScope.{Good}
+use Rattle.plan_laws.proofs.Replayed.{good_replay}
+use Rattle.plan_laws.proofs.DownTo.{stands_down, stands_around, path_to, begins_path}
 use Rattle.local_store.specs.Stored.{Stored}
 use Rattle.entail_test.specs.Asked.{frames_from}
 use Rattle.table_laws.specs.Rows.{BoxRow, Table, store_in, stores_along, told_in}

@@ -1,18 +1,19 @@
--- What an idle place reads is what such a place watches, by sets of goals, and all of it is there.
-use Rattle.std.proofs.Common.{◌≡◌, List, [], ◌∷◌, ◌++◌, map, Option, Some, None, refl, sym, ◌∙◌, ap, subst, ◌⊎◌, inl, inr}
+-- What an idle place reads is what such a place watches, by sets of goals or by bindings, and all of it is there.
+use Rattle.std.proofs.Common.{◌≡◌, List, [], ◌∷◌, ◌++◌, map, drop, Option, Some, None, refl, sym, ◌∙◌, ap, subst, inl, inr}
 use Rattle.std.specs.Prelude.{IsSome}
 use Rattle.akl_terms.specs.declared.name.Name.{Name}
+use Rattle.akl_terms.specs.declared.name.Var.{Var}
+use Rattle.constraint_laws.specs.Touched.{IsAmong}
 use Rattle.akl_terms.specs.declared.name.Place.{Place}
 use Rattle.akl_model.specs.declared.item.Item.{Item}
-use Rattle.akl_model.specs.Config.{IsIn, Boxes, no_boxes, box, Goals, no_goals, atom, choice, Held, an_atom, a_choice, held_in, box_at}
+use Rattle.akl_model.specs.Config.{IsIn, Content, Boxes, no_boxes, box, Held, an_atom, a_choice, held_in, box_at}
 use Rattle.akl_model.specs.Stable.{only}
 use Rattle.akl_model.specs.Wakes.{names_around}
 use Rattle.akl_model.proofs.Scoped.{IsIn-left}
-use Rattle.step_laws.specs.Inside.{EachItem, EachItemAmong}
+use Rattle.step_laws.proofs.Inside.{each_map}
 use Rattle.plan_laws.specs.Idle.{EachGoals, OfAlternatives, Watches}
 use Rattle.plan_laws.specs.ByGoals.{by_goals}
-use Rattle.table_laws.specs.Rows.{BoxRow, Table}
-use Rattle.table_laws.specs.Stamped.{store_stamp, goals_stamp, stamp_in}
+use Rattle.table_laws.specs.Stamped.{stamp_in}
 use Rattle.box_tree.specs.declared.inside.InnerGoal.{InnerGoal}
 use Rattle.box_tree.specs.declared.inside.InnerBox.{InnerBox}
 use Rattle.box_tree.specs.declared.inside.Inside.{Inside}
@@ -22,83 +23,52 @@ use Rattle.box_tree.specs.Views.{ViewValue, IsViewOf, AreSeen, alternatives_held
 use Rattle.box_tree.specs.Insides.{IsInsideOf}
 use Rattle.box_tree.specs.Plans.{IsRead}
 use Rattle.guard_plan.proofs.Placed.{ArePlaced, all_placed}
+use Rattle.guard_plan.proofs.ReadItems.{read_left, read_right, read_either, read_set, sets_read, read_binding, bindings_read, set_there}
 use Rattle.guard_plan.proofs.Sites.{goal_there, store_there, box_there, stand, found}
 use Rattle.split_plan.specs.Read.{goal_items, items_in}
 use Rattle.split_plan.proofs.CandidateRows.{itself}
-use Rattle.split_plan.proofs.ReadInside.{all_read, reads_there}
-use Rattle.idle_plan.specs.Read.{sets_in}
+use Rattle.split_plan.proofs.ReadInside.{boxes_there, inside_read}
+use Rattle.reading_laws.specs.SeenIdle.{inner_names, ReadsIdle}
+use Rattle.reading_laws.specs.Unchanged.{without_first}
+use Rattle.idle_plan.specs.Read.{goal_items_of, goal_items_on, sets_in}
 
--- of lists
+-- the boxes but for the root box
+pub dropped_read : (ns : List Name) (j : Item) → IsRead (map Item.Goals (drop 1 ns)) j → IsRead (map Item.Goals ns) j
+dropped_read [] j r = absurd r
+dropped_read (n ∷ ns) j r = inr r
 
-read_left : (is js : List Item) (i : Item) → IsRead is i → IsRead (is ++ js) i
-read_left [] js i r = absurd r
-read_left (k ∷ is) js i (inl e) = inl e
-read_left (k ∷ is) js i (inr r) = inr (read_left is js i r)
+names_join : (bs : List Content) (b : Content) → map (λ (k : Content). k.name) (bs ++ b ∷ []) ≡ map (λ (k : Content). k.name) bs ++ b.name ∷ []
+names_join [] b = refl
+names_join (k ∷ bs) b = ap (λ (ns : List Name). k.name ∷ ns) (names_join bs b)
 
-read_right : (is js : List Item) (i : Item) → IsRead js i → IsRead (is ++ js) i
-read_right [] js i r = r
-read_right (k ∷ is) js i r = inr (read_right is js i r)
-
-read_either : (is js : List Item) (i : Item) → IsRead (is ++ js) i → IsRead is i ⊎ IsRead js i
-read_either [] js i r = inr r
-read_either (k ∷ is) js i (inl e) = inl (inl e)
-read_either (k ∷ is) js i (inr r) = elim (read_either is js i r) [ inl x ↦ inl (inr x) | inr x ↦ inr x ]
-
-read_set : (ns : List Name) (m : Name) → IsIn m ns → IsRead (map Item.Goals ns) (Item.Goals m)
-read_set [] m h = absurd h
-read_set (n ∷ ns) m (inl e) = inl (ap Item.Goals e)
-read_set (n ∷ ns) m (inr h) = inr (read_set ns m h)
-
-sets_read : (ns : List Name) (i : Item) → IsRead (map Item.Goals ns) i → (m : Name) × IsIn m ns × (i ≡ Item.Goals m)
-sets_read [] i h = absurd h
-sets_read (n ∷ ns) i (inl e) = (n, inl refl, e)
-sets_read (n ∷ ns) i (inr h) = let w : (m : Name) × IsIn m ns × (i ≡ Item.Goals m) = sets_read ns i h in (w.0, inr w.1, w.2)
-
--- a box that has its constraint there has its set of goals there
-pub set_there : (T : Table) (m : Name) → IsSome (stamp_in T (Item.Store m)) → IsSome (stamp_in T (Item.Goals m))
-set_there T m h = on (T.box_of m) h
-  where
-    on : (o : Option BoxRow) → IsSome (store_stamp o) → IsSome (goals_stamp o)
-    on None h = cc
-    on (Some r) h = refl
-
--- a fact of each item, by another one
-mutual
-  each_item : (U W : Item → Type 0) → ((i : Item) → U i → W i) → (bs : Boxes) → EachItem U bs → EachItem W bs
-  each_item U W f no_boxes e = tt
-  each_item U W f (box b gs bs) e = (f (Item.Store b.name) e.0, f (Item.Goals b.name) e.1, each_among U W f gs e.2, each_item U W f bs e.3)
-
-  each_among : (U W : Item → Type 0) → ((i : Item) → U i → W i) → (gs : Goals) → EachItemAmong U gs → EachItemAmong W gs
-  each_among U W f no_goals e = tt
-  each_among U W f (atom g a gs) e = (f (Item.Goal g) e.0, each_among U W f gs e.1)
-  each_among U W f (choice g o bs gs) e = (f (Item.Goal g) e.0, each_item U W f bs e.1, each_among U W f gs e.2)
-
-abbrev pub goal_items_of : Name → List Name → List Alternative → List Item
-goal_items_of g path alternatives = Item.Goal g ∷ (map Item.Goals path ++ map (λ (a : Alternative). Item.Goals a.name) alternatives)
+without_first_names : (bs : List Content) (b : Content) → map (λ (k : Content). k.name) (without_first (bs ++ b ∷ [])) ≡ drop 1 (map (λ (k : Content). k.name) bs ++ b.name ∷ [])
+without_first_names [] b = refl
+without_first_names (k ∷ bs) b = names_join bs b
 
 -- a goal
 module _ (v : ViewValue) (i : IsViewOf v) (g : Name) (at : v.place ≡ Place.Goal g) where
   abbrev R : List Item
   R = Item.Goal g ∷ (map Item.Goals v.path ++ map (λ (a : Alternative). Item.Goals a.name) v.alternatives)
 
-  of_seen : (cs : Boxes) (seen : List Alternative) → AreSeen (table_of v.table) v.stores cs seen → ((j : Item) → IsRead (map (λ (a : Alternative). Item.Goals a.name) seen) j → IsRead R j) → EachGoals (λ (j : Item). IsRead R (by_goals j)) cs
-  of_seen no_boxes seen s f = tt
-  of_seen (box b gs cs) [] s f = absurd s
-  of_seen (box b gs cs) (a ∷ rest) s f = (f (Item.Goals b.name) (inl (ap Item.Goals (sym s.0.name))), of_seen cs rest s.1 (λ j r. f j (inr r)))
+  module _ (U : Item → Type 0) where
+    of_seen : (cs : Boxes) (seen : List Alternative) → AreSeen (table_of v.table) v.stores cs seen → ((n : Name) → IsRead (map (λ (a : Alternative). Item.Goals a.name) seen) (Item.Goals n) → U (Item.Goals n)) → EachGoals U cs
+    of_seen no_boxes seen s f = tt
+    of_seen (box b gs cs) [] s f = absurd s
+    of_seen (box b gs cs) (a ∷ rest) s f = (f b.name (inl (ap Item.Goals (sym s.0.name))), of_seen cs rest s.1 (λ n r. f n (inr r)))
 
-  seen : AreSeen (table_of v.table) v.stores (alternatives_held (held_in g i.site.goals)) v.alternatives
-  seen = subst (λ (q : Place). AreSeen (table_of v.table) v.stores (alternatives_at q i.site) v.alternatives) at i.alternatives
+    alternatives_read : ((n : Name) → IsRead (map (λ (a : Alternative). Item.Goals a.name) v.alternatives) (Item.Goals n) → U (Item.Goals n)) → (o : Option Held) → AreSeen (table_of v.table) v.stores (alternatives_held o) v.alternatives → OfAlternatives U o
+    alternatives_read f None s = tt
+    alternatives_read f (Some (an_atom a)) s = tt
+    alternatives_read f (Some (a_choice o bs)) s = of_seen bs v.alternatives s f
 
-  alternatives_read : (o : Option Held) → AreSeen (table_of v.table) v.stores (alternatives_held o) v.alternatives → OfAlternatives (λ (j : Item). IsRead R (by_goals j)) o
-  alternatives_read None s = tt
-  alternatives_read (Some (an_atom a)) s = tt
-  alternatives_read (Some (a_choice o bs)) s = of_seen bs v.alternatives s (λ j r. inr (read_right (map Item.Goals v.path) (map (λ (a : Alternative). Item.Goals a.name) v.alternatives) j r))
+  pub goal_seen : AreSeen (table_of v.table) v.stores (alternatives_held (held_in g i.site.goals)) v.alternatives
+  goal_seen = subst (λ (q : Place). AreSeen (table_of v.table) v.stores (alternatives_at q i.site) v.alternatives) at i.alternatives
 
   pub goal_watches : Watches (λ (j : Item). IsRead (goal_items_of g v.path v.alternatives) (by_goals j)) v.place i.site
   goal_watches = subst (λ (q : Place). Watches (λ (j : Item). IsRead R (by_goals j)) q i.site) (sym at) (
     inl refl,
     λ m h. inr (read_left (map Item.Goals v.path) (map (λ (a : Alternative). Item.Goals a.name) v.alternatives) (Item.Goals m) (read_set v.path m (subst (IsIn m) (sym i.path) h))),
-    alternatives_read (held_in g i.site.goals) seen,
+    alternatives_read (λ (j : Item). IsRead R (by_goals j)) (λ n r. inr (read_right (map Item.Goals v.path) (map (λ (a : Alternative). Item.Goals a.name) v.alternatives) (Item.Goals n) r)) (held_in g i.site.goals) goal_seen,
   )
 
   -- all of them are there
@@ -127,15 +97,38 @@ module _ (v : ViewValue) (i : IsViewOf v) (g : Name) (at : v.place ≡ Place.Goa
         let w : (m : Name) × IsIn m v.path × (j ≡ Item.Goals m) = sets_read v.path j x in
         subst (λ (k : Item). IsSome (stamp_in (table_of v.table) k)) (sym w.2)
         (set_there (table_of v.table) w.0 (store_there (table_of v.table) i.table.config (stand v i) i.table.unfolds i.site (found v i) w.0 (subst (IsIn w.0) i.path w.1)))
-    | inr x ↦ alternatives_there (held_in g i.site.goals) refl seen j x
+    | inr x ↦ alternatives_there (held_in g i.site.goals) refl goal_seen j x
   ]
 
--- a box, by what a split reads
+  -- by bindings
+  module _ (on : List Var) where
+    abbrev sets : List Item
+    sets = map Item.Goals (drop 1 v.path) ++ map (λ (a : Alternative). Item.Goals a.name) v.alternatives
 
-store_by_goals : (ns : List Name) (i : Item) → IsRead (map Item.Store ns) i → IsRead (map Item.Goals ns) (by_goals i)
-store_by_goals [] i r = absurd r
-store_by_goals (n ∷ ns) i (inl e) = inl (ap by_goals e)
-store_by_goals (n ∷ ns) i (inr r) = inr (store_by_goals ns i r)
+    inner_path : inner_names i.site ≡ drop 1 v.path
+    inner_path = without_first_names i.site.around i.site.content ∙ ap (drop 1) (sym i.path)
+
+    pub goal_bindings : ReadsIdle (IsRead (goal_items_on g on v.path v.alternatives)) on g i.site
+    goal_bindings = record {
+      goal = inl refl;
+      bindings = λ x m. inr (read_left (map Item.Binding on) sets (Item.Binding x) (read_binding on x m));
+      inner = λ m h. inr (read_right (map Item.Binding on) sets (Item.Goals m) (read_left (map Item.Goals (drop 1 v.path)) (map (λ (a : Alternative). Item.Goals a.name) v.alternatives) (Item.Goals m)
+          (read_set (drop 1 v.path) m (subst (IsIn m) inner_path h))));
+      alternatives = alternatives_read (IsRead (goal_items_on g on v.path v.alternatives)) (λ n r. inr (read_right (map Item.Binding on) sets (Item.Goals n)
+          (read_right (map Item.Goals (drop 1 v.path)) (map (λ (a : Alternative). Item.Goals a.name) v.alternatives) (Item.Goals n) r))) (held_in g i.site.goals) goal_seen;
+    }
+
+    pub goal_bindings_there : (h : Held) → held_in g i.site.goals ≡ Some h → (j : Item) → IsRead (goal_items_on g on v.path v.alternatives) j → IsSome (stamp_in (table_of v.table) j)
+    goal_bindings_there h held j (inl e) = goal_reads_there h held j (inl e)
+    goal_bindings_there h held j (inr r) = elim (read_either (map Item.Binding on) sets j r) [
+      | inl b ↦ let w : (x : Var) × IsAmong x on × (j ≡ Item.Binding x) = bindings_read on j b in subst (λ (k : Item). IsSome (stamp_in (table_of v.table) k)) (sym w.2) refl
+      | inr b ↦ elim (read_either (map Item.Goals (drop 1 v.path)) (map (λ (a : Alternative). Item.Goals a.name) v.alternatives) j b) [
+        | inl x ↦ goal_reads_there h held j (inr (read_left (map Item.Goals v.path) (map (λ (a : Alternative). Item.Goals a.name) v.alternatives) j (dropped_read v.path j x)))
+        | inr x ↦ goal_reads_there h held j (inr (read_right (map Item.Goals v.path) (map (λ (a : Alternative). Item.Goals a.name) v.alternatives) j x))
+      ]
+    ]
+
+-- a box, by what a split reads inside it
 
 goals_by_goals : (gs : List InnerGoal) (i : Item) → IsRead (goal_items gs) i → IsRead (goal_items gs) (by_goals i)
 goals_by_goals [] i r = absurd r
@@ -151,13 +144,7 @@ boxes_by_goals (b ∷ bs) i (inr (inr r)) = elim (read_either (goal_items b.goal
   | inr x ↦ inr (read_right (goal_items b.goals.items) (sets_in bs) (by_goals i) (boxes_by_goals bs i x))
 ]
 
-by_split : (around : List Name) (bs : List InnerBox) (i : Item) → IsRead (map Item.Store around ++ items_in bs) i → IsRead (map Item.Goals around ++ sets_in bs) (by_goals i)
-by_split around bs i r = elim (read_either (map Item.Store around) (items_in bs) i r) [
-  | inl x ↦ read_left (map Item.Goals around) (sets_in bs) (by_goals i) (store_by_goals around i x)
-  | inr x ↦ read_right (map Item.Goals around) (sets_in bs) (by_goals i) (boxes_by_goals bs i x)
-]
-
-sets_in_items : (bs : List InnerBox) (i : Item) → IsRead (sets_in bs) i → IsRead (items_in bs) i
+pub sets_in_items : (bs : List InnerBox) (i : Item) → IsRead (sets_in bs) i → IsRead (items_in bs) i
 sets_in_items [] i r = absurd r
 sets_in_items (b ∷ bs) i (inl e) = inr (inl e)
 sets_in_items (b ∷ bs) i (inr r) = elim (read_either (goal_items b.goals.items) (sets_in bs) i r) [
@@ -171,9 +158,9 @@ module _ (v : ViewValue) (i : IsViewOf v) (n : Name) (at : v.place ≡ Place.Box
 
   pub box_watches : Watches (λ (j : Item). IsRead (map Item.Goals around ++ sets_in inside.boxes.items) (by_goals j)) v.place i.site
   box_watches = subst (λ (q : Place). Watches (λ (j : Item). IsRead (map Item.Goals around ++ sets_in inside.boxes.items) (by_goals j)) q i.site) (sym at) (
-    each_item (IsRead (map Item.Store around ++ items_in inside.boxes.items)) (λ (j : Item). IsRead (map Item.Goals around ++ sets_in inside.boxes.items) (by_goals j)) (by_split around inside.boxes.items) (only i.site)
-        (all_read v i n same_name inside.boxes.items x.boxes around is_around).0,
-    λ m h. by_split around inside.boxes.items (Item.Store m) ((all_read v i n same_name inside.boxes.items x.boxes around is_around).1 m h),
+    each_map (IsRead (items_in inside.boxes.items)) (λ (j : Item). IsRead (map Item.Goals around ++ sets_in inside.boxes.items) (by_goals j))
+        (λ j r. read_right (map Item.Goals around) (sets_in inside.boxes.items) (by_goals j) (boxes_by_goals inside.boxes.items j r)) (only i.site) (inside_read v i n same_name inside.boxes.items x.boxes),
+    λ m h. read_left (map Item.Goals around) (sets_in inside.boxes.items) (Item.Goals m) (read_set around m (subst (IsIn m) (sym is_around) h)),
   )
 
   pub box_reads_there : (j : Item) → IsRead (map Item.Goals around ++ sets_in inside.boxes.items) j → IsSome (stamp_in (table_of v.table) j)
@@ -183,5 +170,5 @@ module _ (v : ViewValue) (i : IsViewOf v) (n : Name) (at : v.place ≡ Place.Box
         subst (λ (k : Item). IsSome (stamp_in (table_of v.table) k)) (sym w.2)
         (set_there (table_of v.table) w.0 (store_there (table_of v.table) i.table.config (stand v i) i.table.unfolds i.site (found v i) w.0
         (IsIn-left w.0 (names_around i.site) (i.site.content.name ∷ []) (subst (IsIn w.0) is_around w.1))))
-    | inr y ↦ reads_there v i n same_name inside.boxes.items x.boxes around is_around j (read_right (map Item.Store around) (items_in inside.boxes.items) j (sets_in_items inside.boxes.items j y))
+    | inr y ↦ boxes_there v.table inside.boxes.items x.boxes.boxes j (sets_in_items inside.boxes.items j y)
   ]

@@ -9,8 +9,8 @@ use Rattle.akl_model.specs.Wakes.{names_around}
 use Rattle.akl_model.proofs.NamesKept.{box-itself}
 use Rattle.akl_model.proofs.Scoped.{IsIn-right}
 use Rattle.table_laws.specs.Stamped.{stamp_in}
-use Rattle.sleep_laws.specs.Sleeps.{Needs}
-use Rattle.wait_laws.proofs.Roots.{root_unneeded}
+use Rattle.plan_laws.specs.Sleeps.{Needs}
+use Rattle.plan_laws.proofs.Roots.{root_unneeded}
 use Rattle.box_tree.specs.Tables.{table_of}
 use Rattle.box_tree.specs.Views.{ViewValue, IsViewOf}
 use Rattle.box_tree.specs.Plans.{IsRead}
@@ -19,9 +19,10 @@ use Rattle.idle_places.specs.Idling.{IsIdle}
 use Rattle.idle_plan.specs.Idling.{IsAtRootBox, IsUnready}
 use Rattle.idle_plan.specs.Read.{item_of}
 use Rattle.idle_plan.proofs.Joined.{path_long}
+use Rattle.idle_plan.proofs.MayRead.{root_may_read}
 use Rattle.idle_plan.proofs.Outermost.{no_more}
 use Rattle.idle_plan.proofs.Paths.{good}
-use Rattle.idle_plan.proofs.ReadItems.{set_there}
+use Rattle.guard_plan.proofs.ReadItems.{set_there}
 
 module _ (v : ViewValue) (i : IsViewOf v) (r : IsAtRootBox v) where
   is_box : box_at r.name i.table.config.roots ≡ Some i.site
@@ -50,4 +51,5 @@ module _ (v : ViewValue) (i : IsViewOf v) (r : IsAtRootBox v) where
     oldest = record { each = λ f h x w m o. absurd m };
     watches = record { name = r.name; is_box = r.is_box; is_root = alone; goals = inl (sym (ap item_of r.is_box)) };
     there = there;
+    only = root_may_read v i r.name r.is_box [];
   }

@@ -1,9 +1,9 @@
 -- Nothing is to be listed of a root box, since it needs to be told of nothing.
 use Rattle.std.proofs.Common.{◌≡◌, ℕ, List, [], ◌∙◌}
 use Rattle.akl_terms.specs.declared.program.Program.{Program}
-use Rattle.sleep_laws.specs.Sleeps.{of_box}
-use Rattle.sleep_laws.proofs.Replayed.{good_replay}
-use Rattle.wait_laws.proofs.Roots.{root_unneeded}
+use Rattle.plan_laws.specs.Sleeps.{of_box}
+use Rattle.plan_laws.proofs.Replayed.{good_replay}
+use Rattle.plan_laws.proofs.Roots.{root_unneeded}
 use Rattle.local_store.specs.Stored.{Stored}
 use Rattle.box_tree.specs.declared.inside.Inside.{Inside}
 use Rattle.box_tree.specs.Tables.{all_rules}

@@ -36,12 +36,10 @@ pub fn idle_goal(
     ensures idle { IfOk result (IsIdleBy view.now) }
     ensures inside { IfOk result (λ idle. idle.inside ≡ true) }
 {
-    let alternatives = view.alternatives();
-    let path = view.path();
     let own = waits_of_goal(alloc, program, view, noise)?;
-    let mut on = waits_of_boxes_around(alloc, program, view, path.len())?;
+    let mut on = waits_of_boxes_around(alloc, program, view, view.stores().len())?;
     on.extend_from_slice(own.as_slice())?;
-    let reads = goal_reads(alloc, goal, path, alternatives)?;
+    let reads = goal_reads(alloc, view, goal, on.as_slice())?;
     Ok(Idle::new(view, reads, on, true))
 }
 

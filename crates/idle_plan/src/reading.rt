@@ -1,31 +1,54 @@
-//! What an idle place reads: goals, and sets of goals.
+//! What an idle place reads: goals, sets of goals, and bindings.
 
 ghost use Rattle.std.specs.Prelude.{◌≡◌, ◌++◌, ◌∷◌, map, IfOk, OnOk};
 ghost use Rattle.akl_model.specs.declared.item.Item.{Item};
 ghost use Rattle.box_tree.specs.declared.view.Alternative.{Alternative};
 ghost use Rattle.split_plan.specs.Read.{goal_items};
-ghost use Rattle.idle_plan.specs.Read.{item_of, sets_in};
+ghost use Rattle.box_tree.specs.Views.{IsViewOf};
+ghost use Rattle.idle_plan.specs.Read.{AreGoalItems, item_of, sets_in};
 
 use akl_model::Item;
-use akl_terms::{Name, Place};
-use box_tree::{Alternative, InnerBox, InnerGoal};
+use akl_terms::{Name, Place, Var};
+use box_tree::{Alternative, InnerBox, InnerGoal, View};
+use guard_plan::push_bindings;
 use std::alloc::{AllocError, Global};
 
-// A goal, with the sets of goals of the boxes down to it and of its alternatives.
+// What an idle goal of a view reads that waits on these variables: beside itself and the sets of goals of its alternatives and of
+// the boxes down to it but the root box the bindings of the variables, where marks are kept, or else the root box's set of goals.
 pub(crate) fn goal_reads(
     alloc: Global,
+    view: &View,
     goal: Name,
-    path: &[Name],
+    on: &[Var],
+) -> Result<Vec<Item>, AllocError>
+    ensures items { IfOk result (λ items. AreGoalItems view.now goal on.now items.items) }
+    ensures seen { IsViewOf view.now }
+{
+    let path = view.path();
+    let alternatives = view.alternatives();
+    if view.keeps_marks() {
+        let inner = &path[path.len().min(1)..];
+        bindings_and_sets(alloc, goal, on, inner, alternatives)
+    } else {
+        bindings_and_sets(alloc, goal, &[], path, alternatives)
+    }
+}
+
+// A goal, with the bindings of variables, and the sets of goals of boxes and of alternatives.
+fn bindings_and_sets(
+    alloc: Global,
+    goal: Name,
+    variables: &[Var],
+    boxes: &[Name],
     alternatives: &[Alternative],
 ) -> Result<Vec<Item>, AllocError>
-    ensures { IfOk result (λ items. items.items ≡ Item.Goal goal ∷ (map Item.Goals path.now ++ map (λ (a : Alternative). Item.Goals a.name) alternatives.now)) }
+    ensures { IfOk result (λ items. items.items ≡ Item.Goal goal ∷ (map Item.Binding variables.now ++ (map Item.Goals boxes.now ++ map (λ (a : Alternative). Item.Goals a.name) alternatives.now))) }
 {
     let mut items = Vec::new(alloc);
     items.push(Item::Goal(goal))?;
-    push_sets(path, &mut items)?;
-    for alternative in alternatives {
-        items.push(Item::Goals(alternative.name))?;
-    }
+    push_bindings(variables, &mut items)?;
+    push_sets(boxes, &mut items)?;
+    push_alternatives(alternatives, &mut items)?;
     Ok(items)
 }
 
@@ -62,6 +85,16 @@ fn push_sets(names: &[Name], items: &mut Vec<Item>) -> Result<(), AllocError>
 {
     for name in names {
         items.push(Item::Goals(*name))?;
+    }
+    Ok(())
+}
+
+// The sets of goals of alternatives come to the end of the items.
+fn push_alternatives(alternatives: &[Alternative], items: &mut Vec<Item>) -> Result<(), AllocError>
+    ensures { OnOk result (items.new.items ≡ items.old.items ++ map (λ (a : Alternative). Item.Goals a.name) alternatives.now) }
+{
+    for alternative in alternatives {
+        items.push(Item::Goals(alternative.name))?;
     }
     Ok(())
 }

@@ -4,7 +4,7 @@ use Rattle.akl_terms.specs.declared.name.Name.{Name}
 use Rattle.akl_model.specs.declared.label.Label.{Label}
 use Rattle.akl_model.specs.Config.{Config, site_of}
 use Rattle.akl_model.specs.Wakes.{names_down_to}
-use Rattle.call_laws.specs.AtOnce.{at_once}
+use Rattle.plan_laws.specs.AtOnce.{at_once}
 use Rattle.table_laws.specs.Rows.{Table}
 use Rattle.table_laws.specs.Stamped.{Run, IsTableOf}
 use Rattle.table_laws.specs.Steps.{Step, joins}

@@ -18,14 +18,14 @@ use Rattle.akl_model.proofs.Drawn.{drawn_times, drawn-append}
 use Rattle.akl_model.proofs.NamesKept.{Stand, replay-stands, derived-stands, box-itself}
 use Rattle.step_laws.proofs.Steps.{Later, later}
 use Rattle.local_store.specs.Stored.{Stored}
-use Rattle.call_laws.specs.AtOnce.{with_named, Tells, finishes, leaves, tells, holds, IsAtOnce, labels_at_once, at_once}
-use Rattle.call_laws.proofs.Alternatives.{Calling}
-use Rattle.call_laws.proofs.BodyGoals.{named}
-use Rattle.call_laws.proofs.CallPassage.{end_home}
-use Rattle.call_laws.proofs.Between.{distinct_of, stood, was_found}
-use Rattle.call_laws.proofs.Calls.{calling, at_once_law}
-use Rattle.call_tables.specs.Calls.{CallsGoal, promoted_at, told_at, ended_at, called_row, after_call, after_labels}
-use Rattle.call_tables.proofs.CallStep.{call_step}
+use Rattle.plan_laws.specs.AtOnce.{with_named, Tells, finishes, leaves, tells, holds, IsAtOnce, labels_at_once, at_once}
+use Rattle.plan_laws.proofs.CallAlternatives.{Calling}
+use Rattle.plan_laws.proofs.BodyGoals.{named}
+use Rattle.plan_laws.proofs.CallPassage.{end_home}
+use Rattle.plan_laws.proofs.Between.{distinct_of, stood, was_found}
+use Rattle.plan_laws.proofs.Calls.{calling, at_once_law}
+use Rattle.table_laws.specs.Calls.{CallsGoal, promoted_at, told_at, ended_at, called_row, after_call, after_labels}
+use Rattle.table_laws.proofs.CallStep.{call_step}
 use Rattle.table_laws.specs.Rows.{BoxRow, GoalRow, Table}
 use Rattle.table_laws.specs.Unfolds.{IsBoxRow, Unfolds}
 use Rattle.table_laws.specs.Stamped.{Run, IsTableOf}

@@ -13,18 +13,18 @@ use Rattle.akl_model.specs.Derivations.{Applies}
 use Rattle.akl_model.proofs.NamesKept.{Stand}
 use Rattle.akl_model.proofs.Options.{none_where}
 use Rattle.step_laws.specs.Stays.{HaveShape}
-use Rattle.call_laws.specs.AtOnce.{by, IsAtOnce, at_once, AreInForce}
-use Rattle.call_laws.proofs.Afterwards.{home_left}
-use Rattle.call_laws.proofs.Alternatives.{Calling, between, AreNew}
-use Rattle.call_laws.proofs.CallPassage.{passage, end_further, box_gone, goal_gone}
-use Rattle.call_laws.proofs.Calls.{calling, last_stand, last_new, promoted, promoted_one}
-use Rattle.call_laws.proofs.Elsewhere.{Alike, neither, both}
-use Rattle.call_laws.proofs.Further.{IsFurther}
-use Rattle.call_laws.proofs.GoalLabels.{store_kept, set_kept}
-use Rattle.call_laws.proofs.OpensAlike.{other_name}
-use Rattle.call_laws.proofs.Outside.{alike_constraint, alike_names, alike_shape, outside}
-use Rattle.call_laws.proofs.Passages.{Passage}
-use Rattle.call_laws.proofs.Sifted.{joined_to}
+use Rattle.plan_laws.specs.AtOnce.{by, IsAtOnce, at_once, AreInForce}
+use Rattle.plan_laws.proofs.Afterwards.{home_left}
+use Rattle.plan_laws.proofs.CallAlternatives.{Calling, between, AreNew}
+use Rattle.plan_laws.proofs.CallPassage.{passage, end_further, box_gone, goal_gone}
+use Rattle.plan_laws.proofs.Calls.{calling, last_stand, last_new, promoted, promoted_one}
+use Rattle.plan_laws.proofs.Elsewhere.{Alike, neither, both}
+use Rattle.plan_laws.proofs.Further.{IsFurther}
+use Rattle.plan_laws.proofs.GoalLabels.{store_kept, set_kept}
+use Rattle.plan_laws.proofs.OpensAlike.{other_name}
+use Rattle.plan_laws.proofs.CallsOutside.{alike_constraint, alike_names, alike_shape, outside}
+use Rattle.plan_laws.proofs.Passages.{Passage}
+use Rattle.plan_laws.proofs.Sifted.{joined_to}
 use Rattle.opened_places.specs.Changed.{IsChanged, new_goal, new_box, changed_goal, box_of_changed_goal, changed_constraint, changed_goals, holder_of_changed_goals}
 use Rattle.opened_places.proofs.GoesFrom.{Way, comes, itself, holder}
 

@@ -9,9 +9,9 @@ use Rattle.akl_model.specs.Derivations.{Derives}
 use Rattle.akl_model.proofs.NamesKept.{Stand, derived-stands}
 use Rattle.step_laws.proofs.Steps.{Later, later}
 use Rattle.table_laws.specs.Steps.{Step}
-use Rattle.call_laws.specs.AtOnce.{by, labels_at_once}
-use Rattle.call_laws.proofs.Between.{distinct_of}
-use Rattle.call_laws.proofs.Calls.{at_once_law}
+use Rattle.plan_laws.specs.AtOnce.{by, labels_at_once}
+use Rattle.plan_laws.proofs.Between.{distinct_of}
+use Rattle.plan_laws.proofs.Calls.{at_once_law}
 use Rattle.box_tree.specs.Tables.{all_rules}
 use Rattle.box_tree.proofs.AllInForce.{all_in_force}
 use Rattle.opened_places.specs.Leading.{CallsTo, LeadsTo, by_label, by_call}

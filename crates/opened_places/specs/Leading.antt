@@ -7,8 +7,8 @@ use Rattle.akl_model.specs.Config.{Atom, Config, Found, home_of}
 use Rattle.akl_model.specs.Derivations.{Applies}
 use Rattle.local_store.specs.Stored.{Stored}
 use Rattle.table_laws.specs.Steps.{Step, joins, Makes}
-use Rattle.call_laws.specs.AtOnce.{IsAtOnce, labels_at_once, at_once}
-use Rattle.call_tables.specs.Calls.{CallsGoal}
+use Rattle.plan_laws.specs.AtOnce.{IsAtOnce, labels_at_once, at_once}
+use Rattle.table_laws.specs.Calls.{CallsGoal}
 use Rattle.box_tree.specs.Tables.{all_rules}
 
 -- the label and those behind it are those of a call at once, and the step is its net change

@@ -10,7 +10,7 @@ ghost use Rattle.box_tree.specs.Tables.{table_of, step_of};
 ghost use Rattle.box_tree.specs.Drops.{IsOfRun};
 ghost use Rattle.opened_places.specs.Gone.{goals_named, own_places, places_at, AddsInsideEach, AreGone};
 
-use crate::placed::Names;
+use crate::placed::{Names, names_of};
 use akl_model::Label;
 use akl_terms::{Name, Place};
 use box_tree::{HeldOp, ShortList, Sight, Step, Table, parted};
@@ -80,7 +80,7 @@ fn going_at_goal(
             Some(name) => cut_from(alloc, table, goal, name),
             None => Ok(Names::new(alloc)),
         },
-        Step::Join { .. } => Names::from_slice(alloc, table.alternatives_of(goal)),
+        Step::Join { .. } => names_of(alloc, table.alternatives_of(goal)),
         Step::Tell { .. } | Step::Fork { .. } | Step::Fail => Ok(Names::new(alloc)),
         Step::Refute | Step::Confirm | Step::Split { .. } => Ok(Names::new(alloc)),
     }

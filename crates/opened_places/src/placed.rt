@@ -28,6 +28,21 @@ impl Model for Placed {
     ghost view = { λ p. record { place = p.place; around = p.around.items } };
 }
 
+/// These names. Most lists have one name at most.
+pub(crate) fn names_of(alloc: Global, names: &[Name]) -> Result<Names, AllocError>
+    ensures { IfOk result (λ list. list.items ≡ names.now) }
+{
+    let mut list = Names::new(alloc);
+    match names {
+        [] => Ok(list),
+        [name] => {
+            list.push_reserved(*name);
+            Ok(list)
+        }
+        _ => Names::from_slice(alloc, names),
+    }
+}
+
 impl Placed {
     /// The place.
     pub fn place(&self) -> Place
@@ -54,7 +69,7 @@ pub(crate) fn push_placed(
 ) -> Result<(), AllocError>
     ensures { OnOk result (places.new.items ≡ places.old.items ++ placed place around.now ∷ []) }
 {
-    let around = Names::from_slice(alloc, around)?;
+    let around = names_of(alloc, around)?;
     places.push(Placed { place, around })?;
     Ok(())
 }

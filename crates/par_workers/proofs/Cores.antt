@@ -94,7 +94,7 @@ kept_by c d p r before core made =
     let was : c.table.steps ≡ length c.journal = before.table.stamped.steps in
     let is : d.table.steps ≡ length c.journal + suc (length p.more) = core.table.stamped.steps ∙ ap (λ (ls : List Label). length ls) made.journal ∙ length-append c.journal (p.label ∷ p.more) in
     let kept : KeepsAfter c.table.steps c.table d.table =
-    stores_kept c.table p.label (length p.more) (Some (solved_in c p)) p.names (table_of d.table) (omega (arith, was, is)) p.step made.made.leads in
+    stores_kept c.table p.label (length p.more) (solved_in c p) p.names (table_of d.table) (omega (arith, was, is)) p.step made.made.leads in
     subst (λ (n : ℕ). KeepsAfter n c.table d.table) was kept
 
 -- a run of no labels

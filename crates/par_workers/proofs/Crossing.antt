@@ -11,6 +11,8 @@ use Rattle.local_store.specs.contracts.shared.Shared as Shared
 use Rattle.local_store.specs.contracts.settled.Settled as Settled
 use Rattle.local_store.specs.contracts.ports.Ports as Ports
 use Rattle.local_store.specs.contracts.store.Store as Store
+use Rattle.variable_marks.specs.contracts.frame.FrameMarks as FrameMarks
+use Rattle.variable_marks.specs.contracts.marks.Marks as Marks
 use Rattle.box_tree.specs.contracts.entries.GoalEntry as GoalEntry
 use Rattle.box_tree.specs.contracts.entries.BoxEntry as BoxEntry
 use Rattle.box_tree.specs.contracts.table.Table as Table
@@ -114,8 +116,14 @@ Boxed-send V s = search (owned.crosses, sendable) depth 60 fits 20000
 BoxedMap-send : (V : RattleType) → IsSend V → IsSend (BoxedMap.the_row V)
 BoxedMap-send V s = let a = NameMap-send (Boxed.the_row V) (Boxed-send V s) in search (owned.crosses, sendable) depth 60 fits 20000
 
+FrameMarks-send : IsSend FrameMarks.the_row
+FrameMarks-send = search (owned.crosses, sendable) depth 60 fits 20000
+
+Marks-send : IsSend Marks.the_row
+Marks-send = let a = FrameMarks-send in search (owned.crosses, maps.crosses, sendable) depth 60 fits 20000
+
 Table-send : IsSend Table.the_row
-Table-send = let a = BoxedMap-send BoxEntry.the_row BoxEntry-send in let b = BoxedMap-send GoalEntry.the_row GoalEntry-send in search (owned.crosses, sendable) depth 60 fits 20000
+Table-send = let a = BoxedMap-send BoxEntry.the_row BoxEntry-send in let b = BoxedMap-send GoalEntry.the_row GoalEntry-send in let c = Marks-send in search (owned.crosses, sendable) depth 60 fits 20000
 
 Core-send : IsSend Core.the_row
 Core-send = let a = Table-send in search (owned.crosses, sendable) depth 60 fits 20000

@@ -5,7 +5,7 @@ use Rattle.akl_model.specs.declared.label.Rule.{Rule}
 use Rattle.akl_model.specs.Config.{Found, site_of}
 use Rattle.akl_model.specs.Conditions.{HasFailed}
 use Rattle.akl_model.specs.Derivations.{IsReady}
-use Rattle.sleep_laws.proofs.BoxSleeps.{fail_ready}
+use Rattle.plan_laws.proofs.BoxSleeps.{fail_ready}
 use Rattle.table_laws.specs.Stamped.{IsTableOf}
 use Rattle.box_tree.specs.Tables.{all_rules, table_of}
 use Rattle.box_tree.specs.Views.{ViewValue, run_of}

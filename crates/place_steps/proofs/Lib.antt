@@ -1,2 +1,3 @@
 pub mod Unsplit
+pub mod Sights
 pub mod FoundIdle

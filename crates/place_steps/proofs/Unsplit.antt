@@ -9,7 +9,7 @@ use Rattle.akl_model.specs.Stable.{Allows}
 use Rattle.akl_model.specs.Wakes.{has_candidate, is_candidate}
 use Rattle.akl_model.proofs.Finds.{times}
 use Rattle.akl_model.proofs.NamesKept.{replay-stands}
-use Rattle.sleep_laws.proofs.IdlePlaces.{split_candidate}
+use Rattle.plan_laws.proofs.IdlePlaces.{split_candidate}
 use Rattle.table_laws.specs.Stamped.{IsTableOf}
 use Rattle.box_tree.specs.Tables.{all_rules, table_of}
 use Rattle.box_tree.specs.Views.{ViewValue, run_of}

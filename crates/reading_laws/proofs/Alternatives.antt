@@ -13,7 +13,7 @@ use Rattle.akl_model.proofs.QuietGrows.{IsLocal-left}
 use Rattle.step_laws.specs.Whereabouts.{Stands}
 use Rattle.step_laws.proofs.Whereabouts.{in_found}
 use Rattle.plan_laws.proofs.AllSolved.{EachStands}
-use Rattle.sleep_laws.proofs.InScope.{Good, outside_environment}
+use Rattle.plan_laws.proofs.InScope.{Good, outside_environment}
 use Rattle.reading_laws.proofs.Listed.{quiet_stays}
 use Rattle.reading_laws.proofs.Path.{tells_wider}
 use Rattle.reading_laws.proofs.Steps.{path_whole}

@@ -1,6 +1,6 @@
 -- What is listed as bound is so later, where none of it was bound since, nor any of a list that is enough for the box.
 use Rattle.akl_model.specs.declared.item.Item.{Item}
-use Rattle.std.proofs.Common.{◌≡◌, List, [], ◌++◌, Some, sym, ◌∙◌, subst, inl, inr}
+use Rattle.std.proofs.Common.{refl, ◌≡◌, List, [], ◌++◌, Some, sym, ◌∙◌, subst, inl, inr}
 use Rattle.std.specs.Prelude.{◌↔◌}
 use Rattle.akl_terms.specs.declared.name.Name.{Name}
 use Rattle.akl_terms.specs.declared.name.Var.{Var}
@@ -25,6 +25,7 @@ use Rattle.reading_laws.proofs.Outermost.{HasFirst}
 use Rattle.reading_laws.proofs.RootsAlong.{first_found, first_follows, first_outermost, first_named, first_before, first_now, first_there, first_grows}
 use Rattle.reading_laws.proofs.InnerUnbound.{not_bound}
 use Rattle.reading_laws.proofs.Listed.{class_bound}
+use Rattle.reading_laws.proofs.Starts.{root_enough}
 use Rattle.reading_laws.proofs.Boxes.{enough_unbound}
 use Rattle.constraint_laws.specs.Oldest.{IsOldest, HasOldest}
 
@@ -87,7 +88,7 @@ module _ (rules : List Rule) (p : Program) (c : Config) (ls : List Label) (d : C
     out_unlisted : (y : Var) → IsAmong y list → IsNewlyBound root.content.equations now.content.equations y → ⊥
     out_unlisted y m b = not_bound rules p w.query w.journal c ls d w.replays w.derives root.content.name (first_found root) (first_found now) [] root.found (first_there rules p c ls d w f.content.name f k here there) (IsConsistent-follows root_follows still)
         (λ k i. elim i [ inl q ↦ subst (λ (k : Name). Unchanged rules p c ls d w.derives (Item.Store k)) (sym q) (stores root.content.name (first_named c f root)) | inr q ↦ absurd q ])
-        (record { all = record { each = λ s t m. absurd m }; closed = (record { each = λ x i. absurd i }, tt) }) (λ x i. absurd i) y (bindings y m) b
+        (root_enough (first_found root) refl) (λ x i. absurd i) y (bindings y m) b
 
     -- so what the label binds isn't
     unbound : (x : Var) → IsNewlyBound (whole f) (whole f ++ added) x → IsNewlyBound (whole f) (whole k) x → ⊥

@@ -29,14 +29,14 @@ use Rattle.step_laws.proofs.Deeper.{in_path}
 use Rattle.step_laws.proofs.Steps as steps
 use Rattle.step_laws.proofs.Steps.{Moved, aside, at_site, site_now}
 use Rattle.step_laws.specs.Bound.{first_equations, outermost_equations}
-use Rattle.sleep_laws.proofs.InScope.{Good}
-use Rattle.sleep_laws.proofs.Moves.{moved, site_told, binder, told_further}
+use Rattle.plan_laws.proofs.InScope.{Good}
+use Rattle.plan_laws.proofs.Moves.{moved, site_told, binder, told_further}
 use Rattle.reading_laws.specs.Boxes.{EndUnchanged, BoxesUnchanged, StaysUnbound}
 use Rattle.reading_laws.specs.Closed.{Spares}
 use Rattle.reading_laws.specs.Unchanged.{Unchanged, path_to, AreEnough}
 use Rattle.reading_laws.proofs.Inner.{together}
 use Rattle.reading_laws.proofs.Local.{told_local}
-use Rattle.sleep_laws.proofs.Replayed.{good_replay}
+use Rattle.plan_laws.proofs.Replayed.{good_replay}
 use Rattle.reading_laws.proofs.Labels.{replays_on, own_name, step_follows, step_names, step_around, around_told}
 use Rattle.reading_laws.proofs.Path.{nil_right, spares_itself}
 use Rattle.reading_laws.proofs.PathGrows.{Placed, ClosedFrom, GrowsOnce, rests, gets, inside, root_grows}
@@ -264,4 +264,4 @@ pub enough_unbound : (rules : List Rule) (p : Program) (q : Query) (journal : Li
 enough_unbound rules p q journal c ls d r w n f reads e u a b = many_unbound (λ x. IsAmong x reads) rules p q journal c ls d r w n f e start u (λ h. b)
   where
     start : IsConsistent (whole f) → ClosedTo (λ x. IsAmong x reads) f
-    start h = closed_at_start (λ x. IsAmong x reads) f h a.all a.closed
+    start h = closed_at_start (λ x. IsAmong x reads) f h a.root a.own a.stands a.all a.closed

@@ -40,11 +40,11 @@ use Rattle.step_laws.proofs.Edits.{AfterEdit, outside, replaced}
 use Rattle.step_laws.proofs.Steps as steps
 use Rattle.step_laws.proofs.Steps.{Moved, aside, at_site, inside, names_kept, name_kept}
 use Rattle.step_laws.proofs.Whereabouts.{found_in, in_found, in_counted}
-use Rattle.sleep_laws.proofs.InScope.{Good}
-use Rattle.sleep_laws.proofs.Moves.{moved}
+use Rattle.plan_laws.proofs.InScope.{Good}
+use Rattle.plan_laws.proofs.Moves.{moved}
 use Rattle.reading_laws.specs.Unchanged.{Unchanged, path_to, frames_along}
 use Rattle.reading_laws.specs.Ends.{IsEndAt, SparesEnd, HasEnds}
-use Rattle.sleep_laws.proofs.Replayed.{good_replay}
+use Rattle.plan_laws.proofs.Replayed.{good_replay}
 use Rattle.reading_laws.proofs.Labels.{replays_on, whole_over, step_follows}
 use Rattle.reading_laws.proofs.Outermost.{HasFirst, first_box}
 use Rattle.reading_laws.proofs.RootsAlong.{first_found, first_follows, first_outermost}

@@ -29,7 +29,7 @@ use Rattle.step_laws.proofs.StaysLaws.{equations_grow, goal_stays}
 use Rattle.step_laws.proofs.Whereabouts.{home_in}
 use Rattle.plan_laws.specs.Right.{NoneBy}
 use Rattle.plan_laws.proofs.Right.{Solved, cut_solved, promote_solved}
-use Rattle.sleep_laws.proofs.InScope.{Good}
+use Rattle.plan_laws.proofs.InScope.{Good}
 use Rattle.reading_laws.specs.Boxes.{StaysUnbound}
 use Rattle.reading_laws.specs.Guards.{IsOfChoice}
 use Rattle.reading_laws.specs.AtomRight.{ReducesStill}

@@ -35,8 +35,8 @@ use Rattle.reading_laws.specs.IdleBoxes.{WatchesBox}
 use Rattle.reading_laws.proofs.Untouched.{goal_untouched}
 use Rattle.reading_laws.proofs.Untouched.{goals_untouched}
 use Rattle.step_laws.proofs.Replaced.{box_rule}
-use Rattle.sleep_laws.proofs.BoxSleeps.{fail_ready}
-use Rattle.sleep_laws.proofs.IdlePlaces.{split_candidate}
+use Rattle.plan_laws.proofs.BoxSleeps.{fail_ready}
+use Rattle.plan_laws.proofs.IdlePlaces.{split_candidate}
 use Rattle.reading_laws.proofs.Boxes.{IsThereStill, there_still, enough_unbound}
 
 -- a box whose set of goals is unchanged has the same constraint, so all inside is the same

@@ -17,13 +17,13 @@ use Rattle.akl_model.specs.Derivations.{Applies, Replays, IsReady}
 use Rattle.akl_model.specs.Stable.{only, frames_inside}
 use Rattle.akl_model.specs.Wakes.{StandsIn, Opens, new_goal, new_box, changed_goal, box_of_changed_goal, changed_constraint, changed_goals, holder_of_changed_goals, woken, bound_outside, names_down_to}
 use Rattle.akl_model.proofs.QuietGrows.{IsLocal-left}
-use Rattle.sleep_laws.specs.Sleeps.{Needs, of_box_around, of_atom, of_alternative, of_box, PassesBy, PassBy, IsOutermostAt, IsAliasAt, IsEnough}
-use Rattle.sleep_laws.proofs.Aliases.{HaveAliases, Completed, completed, passes_with}
-use Rattle.sleep_laws.proofs.DownTo.{outermost}
-use Rattle.sleep_laws.proofs.GoalSleeps.{GoalSleeps, goal_sleeps_settled, sleeps_on}
-use Rattle.sleep_laws.proofs.InScope.{Good}
-use Rattle.sleep_laws.proofs.Leaves.{binds_changes}
-use Rattle.sleep_laws.proofs.Replayed.{good_replay, replay_further}
+use Rattle.plan_laws.specs.Sleeps.{Needs, of_box_around, of_atom, of_alternative, of_box, PassesBy, PassBy, IsOutermostAt, IsAliasAt, IsEnough}
+use Rattle.plan_laws.proofs.Aliases.{HaveAliases, Completed, completed, passes_with}
+use Rattle.plan_laws.proofs.DownTo.{outermost}
+use Rattle.plan_laws.proofs.GoalSleeps.{GoalSleeps, goal_sleeps_settled, sleeps_on}
+use Rattle.plan_laws.proofs.InScope.{Good}
+use Rattle.plan_laws.proofs.Leaves.{binds_changes}
+use Rattle.plan_laws.proofs.Replayed.{good_replay, replay_further}
 use Rattle.reading_laws.specs.Unchanged.{path_to, frames_along}
 use Rattle.reading_laws.specs.IdleGoals.{LeavesIdle}
 use Rattle.reading_laws.proofs.Labels.{whole_over}

@@ -15,7 +15,8 @@ use Rattle.akl_model.specs.Config.{Content, Config, Found, equations_of, whole, 
 use Rattle.akl_model.specs.Derivations.{Derives, Replays}
 use Rattle.akl_model.proofs.Options.{some_value}
 use Rattle.reading_laws.specs.Closed.{IsClosed, by_term, by_itself, AreClosed}
-use Rattle.reading_laws.specs.Unchanged.{Unchanged, path_to, without_first, ClosedAlong, AreEnough}
+use Rattle.reading_laws.specs.Unchanged.{Unchanged, path_to, StandAlong, ClosedAlong, AllOver, AreEnough}
+use Rattle.constraint_laws.proofs.Stands.{structured_stands}
 use Rattle.reading_laws.proofs.Inner.{bound_by}
 use Rattle.reading_laws.proofs.Path.{over_wider, tells_wider}
 use Rattle.reading_laws.proofs.Steps.{path_whole}
@@ -64,18 +65,27 @@ module _ (reads : List Var) (x : Var) where
       wider (by_term {t = t} e h o) = by_term e h (more t o)
       wider (by_itself n) = by_itself n
 
-  levels : (E : Equations) (bs : List Content) → Level E → AreClosed (λ x. IsAmong x reads) E → ClosedAlong (λ x. IsAmong x reads) E bs → TellsOver (λ x. IsAmong x reads) (equations_of bs) → IsConsistent (E ++ equations_of bs)
-      → ClosedAlong (λ y. IsAmong y (x ∷ reads)) E bs
-  levels E [] l r a o c = tt
-  levels E (b ∷ bs) l r a o c =
+  levels : (E S : Equations) (bs : List Content) (Ds : List Equations) → StandAlong E S bs Ds → Level S → AreClosed (λ x. IsAmong x reads) S → ClosedAlong (λ x. IsAmong x reads) S Ds → AllOver (λ x. IsAmong x reads) Ds → IsConsistent (E ++ equations_of bs)
+      → ClosedAlong (λ y. IsAmong y (x ∷ reads)) S Ds
+  levels E S [] [] w l r a o c = tt
+  levels E S [] (D ∷ Ds) w l r a o c = absurd w
+  levels E S (b ∷ bs) [] w l r a o c = absurd w
+  levels E S (b ∷ bs) (D ∷ Ds) w l r a o c =
       let d : IsConsistent ((E ++ b.equations) ++ equations_of bs) = subst IsConsistent (sym (append_assoc E b.equations (equations_of bs))) c in
-      let m : Level (E ++ b.equations) = next_level E b.equations l r a.0 (record { each = λ s t i. o.each s t (IsTold-left b.equations (equations_of bs) s t i) }) (IsConsistent-follows (left_follows (E ++ b.equations) (equations_of bs)) d) in
-      (closed_too (E ++ b.equations) m a.0, levels (E ++ b.equations) bs m a.0 a.1 (record { each = λ s t i. o.each s t (Rattle.akl_terms.proofs.EqualLaws.IsTold-right b.equations (equations_of bs) s t i) }) d)
+      let m : Level (S ++ D) = next_level S D l r a.0 o.0 (w.0.back (IsConsistent-follows (left_follows (E ++ b.equations) (equations_of bs)) d)) in
+      (closed_too (S ++ D) m a.0, levels (E ++ b.equations) (S ++ D) bs Ds w.1 m a.0 a.1 o.1 d)
 
-  along : (xs : List Content) → IsConsistent (equations_of xs) → TellsOver (λ x. IsAmong x reads) (equations_of (without_first xs)) → ((b : Content) (bs : List Content) → xs ≡ b ∷ bs → IsStructured b.equations x → ⊥)
-      → ClosedAlong (λ x. IsAmong x reads) [] xs → ClosedAlong (λ y. IsAmong y (x ∷ reads)) [] xs
-  along [] c o n a = tt
-  along (b ∷ bs) c o n a = (closed_too b.equations (inl (n b bs refl)) a.0, levels b.equations bs (inl (n b bs refl)) a.0 a.1 o c)
+  wider_all : (Ds : List Equations) → AllOver (λ x. IsAmong x reads) Ds → AllOver (λ y. IsAmong y (x ∷ reads)) Ds
+  wider_all [] o = tt
+  wider_all (D ∷ Ds) o = (tells_wider (λ x. IsAmong x reads) (λ y. IsAmong y (x ∷ reads)) (λ y r. inr r) D o.0, wider_all Ds o.1)
+
+  along : (xs : List Content) (root : Equations) (own : List Equations) → StandAlong [] [] xs (root ∷ own) → IsConsistent (equations_of xs) → AllOver (λ x. IsAmong x reads) own
+      → ((b : Content) (bs : List Content) → xs ≡ b ∷ bs → IsStructured b.equations x → ⊥) → ClosedAlong (λ x. IsAmong x reads) [] (root ∷ own) → ClosedAlong (λ y. IsAmong y (x ∷ reads)) [] (root ∷ own)
+  along [] root own w c o n a = absurd w
+  along (b ∷ bs) root own w c o n a =
+      let d : IsConsistent b.equations = IsConsistent-follows (left_follows b.equations (equations_of bs)) c in
+      let free : Level root = inl (λ s. n b bs refl (structured_stands root b.equations (record { stands = w.0; consistent = w.0.back d }) x s)) in
+      (closed_too root free a.0, levels b.equations root bs own w.1 free a.0 a.1 o c)
 
 module _ (rules : List Rule) (p : Program) (q : Query) (journal : List Label) (c : Config) (ls : List Label) (d : Config) (r : Replays rules p q journal c) (w : Derives rules p c ls d)
     (n : Name) (f g : Found) (reads : List Var) (e : box_at n c.roots ≡ Some f) (i : box_at n d.roots ≡ Some g) (h : IsConsistent (whole f)) (u : BoxesUnchanged rules p c ls d w f) (a : AreEnough reads f)
@@ -87,10 +97,7 @@ module _ (rules : List Rule) (p : Program) (q : Query) (journal : List Label) (c
   low b bs k z = bound.unstructured (z.0, z.1, Equal-follows (record { each = λ {s} {t} m. told (subst (λ (E : Equations). IsTold E s t) (ap equations_of (sym k) ∙ path_whole f) (IsTold-left b.equations (equations_of bs) s t m)) }) z.2, z.3)
 
   with_it : AreEnough (x ∷ reads) f
-  with_it = record {
-    all = tells_wider (λ x. IsAmong x reads) (λ y. IsAmong y (x ∷ reads)) (λ y o. inr o) (equations_of (without_first (path_to f))) a.all;
-    closed = along reads x (path_to f) whole_path a.all low a.closed;
-  }
+  with_it = record { root = a.root; own = a.own; stands = a.stands; all = wider_all reads x a.own a.all; closed = along reads x (path_to f) a.root a.own a.stands whole_path a.all low a.closed }
 
   alike : StaysUnbound (λ y. IsAmong y (x ∷ reads)) d n f
   alike = enough_unbound rules p q journal c ls d r w n f (x ∷ reads) e u with_it (λ y k. elim k [ inl z ↦ subst (EndUnchanged rules p c ls d w (outermost_equations f)) (sym z) (inr (x, same, v)) | inr z ↦ b y z ])

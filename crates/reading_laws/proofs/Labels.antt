@@ -19,8 +19,8 @@ use Rattle.akl_model.proofs.NamesKept.{replay-stands, box-itself}
 use Rattle.akl_model.proofs.QuietGrows.{IsLocal-left, IsLocal-right}
 use Rattle.akl_model.proofs.Results.{Derives-append}
 use Rattle.akl_model.proofs.Scoped.{IsIn-right, IsIn-either}
-use Rattle.sleep_laws.proofs.InScope.{Good}
-use Rattle.sleep_laws.proofs.Moves.{moved, aside_whole}
+use Rattle.plan_laws.proofs.InScope.{Good}
+use Rattle.plan_laws.proofs.Moves.{moved, aside_whole}
 use Rattle.reading_laws.specs.Unchanged.{path_to, frames_along}
 use Rattle.reading_laws.proofs.Path.{tells_wider, tells_both}
 use Rattle.akl_model.proofs.ScopesKept.{replay_owned}

@@ -27,12 +27,12 @@ use Rattle.step_laws.specs.Stays.{GoesOn}
 use Rattle.plan_laws.specs.Local as local
 use Rattle.plan_laws.specs.Local.{reduces, made}
 use Rattle.plan_laws.specs.Right.{IsRightOn}
-use Rattle.sleep_laws.proofs.InScope.{Good}
+use Rattle.plan_laws.proofs.InScope.{Good}
 use Rattle.reading_laws.specs.Closed.{Spares}
 use Rattle.reading_laws.specs.Listed.{ReadsListed}
 use Rattle.reading_laws.proofs.Beside.{beside_law}
 use Rattle.reading_laws.proofs.Outermost.{bound_told, told_binds}
-use Rattle.sleep_laws.proofs.Replayed.{good_replay}
+use Rattle.plan_laws.proofs.Replayed.{good_replay}
 use Rattle.reading_laws.proofs.Labels.{replays_on}
 use Rattle.reading_laws.proofs.RootUnbound.{many_spares}
 

@@ -30,8 +30,8 @@ use Rattle.step_laws.specs.Likeness.{IsOld}
 use Rattle.step_laws.specs.Stays.{GoesOn}
 use Rattle.step_laws.specs.Whereabouts.{BoxIn}
 use Rattle.step_laws.proofs.Whereabouts.{found_in, in_found, in_counted}
-use Rattle.sleep_laws.proofs.InScope.{Good}
-use Rattle.sleep_laws.proofs.Replayed.{good_replay}
+use Rattle.plan_laws.proofs.InScope.{Good}
+use Rattle.plan_laws.proofs.Replayed.{good_replay}
 use Rattle.reading_laws.specs.Ends.{HasEnds}
 use Rattle.reading_laws.specs.Unchanged.{path_to, frames_along}
 use Rattle.reading_laws.proofs.Labels.{whole_over}

@@ -24,8 +24,8 @@ use Rattle.step_laws.specs.Stays.{GoesOn}
 use Rattle.step_laws.proofs.Whereabouts.{found_in}
 use Rattle.plan_laws.specs.Right.{NoneBy}
 use Rattle.plan_laws.proofs.Right.{fresh, next_same}
-use Rattle.sleep_laws.proofs.InScope.{Good}
-use Rattle.sleep_laws.proofs.Replayed.{good_replay}
+use Rattle.plan_laws.proofs.InScope.{Good}
+use Rattle.plan_laws.proofs.Replayed.{good_replay}
 use Rattle.reading_laws.specs.ListedMarks.{AreOf, NoneOf}
 use Rattle.reading_laws.specs.Marks.{IsMark}
 use Rattle.reading_laws.specs.Unchanged.{Unchanged}

@@ -19,8 +19,8 @@ use Rattle.step_laws.proofs.Steps.{site_now}
 use Rattle.step_laws.proofs.Whereabouts.{found_in}
 use Rattle.plan_laws.specs.Local as local
 use Rattle.plan_laws.specs.Local.{told_to, reduces, reduced, made}
-use Rattle.sleep_laws.proofs.InScope.{Good}
-use Rattle.sleep_laws.proofs.Moves.{cases, site_found, site_there, binder}
+use Rattle.plan_laws.proofs.InScope.{Good}
+use Rattle.plan_laws.proofs.Moves.{cases, site_found, site_there, binder}
 use Rattle.reading_laws.specs.Unchanged.{path_to}
 
 abbrev first_content : Content → Boxes → Content

@@ -6,7 +6,7 @@ use Rattle.akl_terms.specs.Tree.{Tree, Trees, none, more, variable, integer, por
 use Rattle.akl_terms.specs.Equal.{Equations, Equal, told, same, IsConsistent, IsStructured}
 use Rattle.akl_terms.specs.Touching.{IsLocal}
 use Rattle.akl_terms.proofs.EqualLaws.{Equal-follows, Follows-trans, IsTold-left, IsTold-right, IsTold-either}
-use Rattle.reading_laws.specs.Closed.{IsClosed, by_term, by_itself, AreClosed, Spares}
+use Rattle.reading_laws.specs.Closed.{Spares}
 use Rattle.reading_laws.proofs.Inner.{Within}
 use Rattle.constraint_laws.specs.Growth.{IsOver, AreOver, TellsOver}
 use Rattle.constraint_laws.specs.Bound.{IsNewlyBound}
@@ -46,8 +46,8 @@ bound_over P E G o x b = on b.told
     on (inr (y, e, d)) = elim (kept_by (over_kept P G o) e) [ inl r ↦ absurd (d (subst (λ (z : Tree). Equal E (variable x) z) r same)) | inr p ↦ p.0 ]
 
 -- what doesn't occur is unstructured
-pub foreign_closed : (P Q : Var → Type 0) (E : Equations) → TellsOver P E → (x : Var) → (P x → ⊥) → IsClosed Q E x
-foreign_closed P Q E o x n = by_itself (λ w. head w.0 w.1 w.2 w.3)
+pub foreign_unstructured : (P : Var → Type 0) (E : Equations) → TellsOver P E → (x : Var) → (P x → ⊥) → IsStructured E x → ⊥
+foreign_unstructured P E o x n w = head w.0 w.1 w.2 w.3
   where
     head : (t : Tree) (h : Head) → Equal E (variable x) t → head_of t ≡ Some h → ⊥
     head t h e i = elim (kept_by (over_kept P E o) e) [ inl r ↦ (let k : None ≡ Some h = ap head_of r ∙ i in absurd cc) | inr p ↦ n p.0 ]
@@ -85,13 +85,6 @@ module _ (R : Var → Type 0) (F : List Name) (E G : Equations) where
   -- all variables that don't occur are seen
   pub seen_spares : TellsOver (IsLocal F) G → Spares R E G → Spares Seen E G
   seen_spares o s = record { grows = s.grows; consistent = s.consistent; unbound = λ x r b. elim r [ inl h ↦ s.unbound x h b | inr h ↦ h (bound_over (IsLocal F) E G o x b) ] }
-
-  pub seen_closed : TellsOver (IsLocal F) E → AreClosed R E → AreClosed Seen E
-  seen_closed o a = record { each = λ x r. elim r [ inl h ↦ wider (a.each x h) | inr h ↦ foreign_closed (IsLocal F) Seen E o x h ] }
-    where
-      wider : {x : Var} → IsClosed R E x → IsClosed Seen E x
-      wider (by_term {t = t} e h o) = by_term e h (over_wider R Seen (λ y r. inl r) t o)
-      wider (by_itself n) = by_itself n
 
 pub spares_itself : (R : Var → Type 0) (E : Equations) → IsConsistent E → Spares R E E
 spares_itself R E c = record { grows = record { each = told }; consistent = c; unbound = λ x r b. elim b.told [ inl w ↦ b.unstructured w | inr w ↦ w.2 w.1 ] }

@@ -21,13 +21,13 @@ use Rattle.step_laws.proofs.Steps as steps
 use Rattle.step_laws.proofs.Steps.{later, IsNew, WasThere, names_kept}
 use Rattle.step_laws.proofs.StaysLaws.{equations_grow}
 use Rattle.step_laws.proofs.Whereabouts.{found_in, in_found}
-use Rattle.sleep_laws.proofs.InScope.{Good}
-use Rattle.sleep_laws.proofs.Moves.{moved}
+use Rattle.plan_laws.proofs.InScope.{Good}
+use Rattle.plan_laws.proofs.Moves.{moved}
 use Rattle.reading_laws.specs.Closed.{Spares}
 use Rattle.reading_laws.specs.Unchanged.{Unchanged}
 use Rattle.reading_laws.proofs.Inner.{together}
 use Rattle.reading_laws.proofs.Path.{spares_itself}
-use Rattle.sleep_laws.proofs.Replayed.{good_replay}
+use Rattle.plan_laws.proofs.Replayed.{good_replay}
 use Rattle.reading_laws.proofs.Labels.{replays_on, step_follows}
 use Rattle.reading_laws.proofs.Ends.{none_around}
 

@@ -13,7 +13,7 @@ use Rattle.step_laws.specs.Likeness.{IsLike}
 use Rattle.step_laws.specs.Stays.{GoesOn}
 use Rattle.step_laws.proofs.Deeper.{names_snoc}
 use Rattle.step_laws.proofs.StaysLaws.{like, equations_grow}
-use Rattle.sleep_laws.proofs.Replayed.{good_replay}
+use Rattle.plan_laws.proofs.Replayed.{good_replay}
 use Rattle.reading_laws.specs.Unchanged.{path_to}
 use Rattle.reading_laws.proofs.Outermost.{HasFirst, first_box}
 use Rattle.reading_laws.proofs.Steps.{path_whole}

@@ -1,7 +1,6 @@
 -- A plan of a label at a goal stays right by stamps and marks.
 use Rattle.std.proofs.Common.{◌≡◌, ℕ, ◌≤◌, ◌⊎◌, List, [], ◌∷◌, ◌++◌, Bool, true, false, length, map, Option, Some, None, refl, sym, ◌∙◌, ap, subst, inl, inr, arith, append_assoc}
 use Rattle.std.specs.Prelude.{if◌then◌else◌, slice_index, IsSomeAnd}
-use Rattle.constraint_laws.specs.Growth.{TellsOver}
 use Rattle.akl_terms.specs.declared.name.Name.{Name}
 use Rattle.akl_terms.specs.declared.name.Var.{Var}
 use Rattle.akl_terms.specs.declared.name.Place.{Place}
@@ -38,16 +37,17 @@ use Rattle.plan_laws.specs.ByGoals.{by_goals}
 use Rattle.plan_laws.specs.Right.{Reads, NoneBy, IsRightOn}
 use Rattle.plan_laws.proofs.BoundAgain.{binds_alike}
 use Rattle.plan_laws.proofs.ByGoals.{same_by_goals, right_by_goals}
-use Rattle.sleep_laws.proofs.InScope.{Good}
-use Rattle.sleep_laws.proofs.Moves.{cases, binder}
-use Rattle.sleep_laws.proofs.Replayed.{good_replay, replay_further}
+use Rattle.plan_laws.proofs.InScope.{Good}
+use Rattle.plan_laws.proofs.Moves.{cases, binder}
+use Rattle.plan_laws.proofs.Replayed.{good_replay, replay_further}
 use Rattle.reading_laws.specs.AtomRight.{IsOfAtom, ReadsGoal, ReducesStill}
 use Rattle.reading_laws.specs.Guards.{IsOfChoice, Lists}
 use Rattle.reading_laws.specs.Plans.{ReadsItems, StaysRight}
 use Rattle.reading_laws.specs.Ends.{HasEnds}
 use Rattle.reading_laws.specs.Seen.{IsSeen, ReadsEnds, ReadsAt, in_root, by_ends, inside, IsAtGoal}
 use Rattle.reading_laws.specs.ListedMarks.{NoneOf}
-use Rattle.reading_laws.specs.Unchanged.{Unchanged, AreEnough, ClosedAlong, without_first}
+use Rattle.reading_laws.specs.Unchanged.{Unchanged}
+use Rattle.reading_laws.proofs.Starts.{root_enough}
 use Rattle.reading_laws.proofs.Alternatives.{around_whole}
 use Rattle.reading_laws.proofs.AtomRight.{atom_right, collect_right}
 use Rattle.reading_laws.proofs.Guards.{guard_kept}
@@ -130,14 +130,8 @@ module _ (rules : List Rule) (p : Program) (c : Config) (ls : List Label) (d : C
       on (inl q) = subst (λ (n : Name). Unchanged rules p c ls d w.derives (Item.Store n)) (sym q) store
       on (inr q) = absurd q
 
-  root_enough : AreEnough [] f
-  root_enough = record {
-    all = subst (λ (bs : List Content). TellsOver (λ x. IsAmong x []) (equations_of (without_first (bs ++ f.content ∷ [])))) (sym root) (record { each = λ s t m. absurd m });
-    closed = subst (λ (bs : List Content). ClosedAlong (λ x. IsAmong x []) [] (bs ++ f.content ∷ [])) (sym root) (record { each = λ x i. absurd i }, tt);
-  }
-
   pub root_items : Unchanged rules p c ls d w.derives (Item.Goal g) → Unchanged rules p c ls d w.derives (Item.Store f.content.name) → ((x : Var) → IsAmong x list → Unchanged rules p c ls d w.derives (Item.Binding x)) → ReadsItems rules p c ls d w g f list
-  root_items goal store bindings = record { goal = goal; stores = root_stores store; inner = []; enough = root_enough; within = λ x i. absurd i; bindings = bindings }
+  root_items goal store bindings = record { goal = goal; stores = root_stores store; inner = []; enough = root_enough f root; within = λ x i. absurd i; bindings = bindings }
 
 -- and those that are read by ends
 pub ends_items : (rules : List Rule) (p : Program) (q : Query) (journal further : List Label) (c d : Config) (r : Replays rules p q journal c) (v : Derives rules p c further d) (g : Name) (f : Found) (list : List Var)

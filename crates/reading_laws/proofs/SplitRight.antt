@@ -30,12 +30,12 @@ use Rattle.step_laws.proofs.Whereabouts.{found_in}
 use Rattle.plan_laws.specs.Local.{replaces}
 use Rattle.plan_laws.specs.Right.{NoneBy, IsRightOn}
 use Rattle.plan_laws.proofs.Right.{leads_on}
-use Rattle.sleep_laws.proofs.InScope.{Good, outside_environment}
+use Rattle.plan_laws.proofs.InScope.{Good, outside_environment}
 use Rattle.reading_laws.specs.SplitRight.{ReadsSplit}
 use Rattle.reading_laws.proofs.IdleBoxes.{each_same}
 use Rattle.reading_laws.proofs.Untouched.{good_later}
 use Rattle.reading_laws.proofs.Boxes.{IsThereStill, there_still}
-use Rattle.sleep_laws.proofs.Replayed.{good_replay}
+use Rattle.plan_laws.proofs.Replayed.{good_replay}
 
 -- an alternative of a stable box's choice is consistent
 module _ (P : Found → Type 0) (around : List Content) (a : Name) where

@@ -4,8 +4,7 @@ use Rattle.std.specs.Prelude.{if◌then◌else◌, option_map}
 use Rattle.akl_terms.specs.declared.name.Name.{Name}
 use Rattle.akl_terms.specs.declared.name.Var.{Var}
 use Rattle.akl_terms.specs.Equal.{Equations, IsTold, told, Follows, IsConsistent}
-use Rattle.akl_terms.specs.Touching.{IsLocal}
-use Rattle.akl_terms.proofs.EqualLaws.{IsConsistent-follows, IsTold-left, IsTold-right}
+use Rattle.akl_terms.proofs.EqualLaws.{IsConsistent-follows, IsTold-left}
 use Rattle.akl_model.specs.Config.{IsIn, Content, Boxes, no_boxes, box, Goals, no_goals, atom, choice, Config, Found, equations_of, whole, or_else, within, box_at, box_inside}
 use Rattle.akl_model.specs.Stable.{only}
 use Rattle.akl_model.specs.Names.{times_in}
@@ -14,13 +13,15 @@ use Rattle.akl_model.proofs.Finds.{times, times_of}
 use Rattle.akl_model.proofs.Options.{map_some, or_some, some_value}
 use Rattle.akl_model.proofs.Scoped.{IsIn-either}
 use Rattle.akl_model.proofs.Owned.{owned_scoped}
-use Rattle.sleep_laws.proofs.InScope.{Good}
-use Rattle.reading_laws.specs.Unchanged.{path_to, without_first, ClosedAlong}
-use Rattle.reading_laws.proofs.Path.{tells_wider}
+use Rattle.plan_laws.proofs.InScope.{Good}
+use Rattle.constraint_laws.proofs.StandsGrow.{same_told_stands}
+use Rattle.reading_laws.specs.Closed.{AreClosed}
+use Rattle.reading_laws.specs.Unchanged.{path_to, StandAlong, ClosedAlong, AllOver, AreEnough}
+use Rattle.akl_terms.specs.Standing.{StandFor}
+use Rattle.reading_laws.proofs.Path.{nil_right}
 use Rattle.reading_laws.proofs.PathGrows.{ClosedInside, ClosedFrom}
 use Rattle.reading_laws.proofs.Steps.{path_whole}
 use Rattle.akl_terms.specs.Names.{same_name}
-use Rattle.constraint_laws.specs.Growth.{TellsOver}
 use Rattle.akl_model.proofs.ScopesAlong.{times_path, found_path, counted_in}
 
 -- what stands is in scope
@@ -65,14 +66,17 @@ once_further s b bs o u n h = elim (IsIn-either n b.frames s.frames h) [
 ]
 
 module _ (R : Var → Type 0) (W : Equations) (c : IsConsistent W) where
-  closed_from : (E : Equations) (bs : List Content) → Follows (E ++ equations_of bs) W → ClosedAlong R E bs → TellsOver R (equations_of bs) → ClosedInside R E bs
-  closed_from E [] g a r = tt
-  closed_from E (b ∷ bs) g a r = (
-    a.0,
-    tells_wider R (λ x. R x ⊎ IsLocal b.frames x) (λ x i. inl i) b.equations (record { each = λ p q m. r.each p q (IsTold-left b.equations (equations_of bs) p q m) }),
+  closed_from : (E S : Equations) (bs : List Content) (Ds : List Equations) → Follows (E ++ equations_of bs) W → StandAlong E S bs Ds → ClosedAlong R S Ds → AllOver R Ds → ClosedInside R E S bs
+  closed_from E S [] [] g w a o = tt
+  closed_from E S [] (D ∷ Ds) g w a o = absurd w
+  closed_from E S (b ∷ bs) [] g w a o = absurd w
+  closed_from E S (b ∷ bs) (D ∷ Ds) g w a o = (
+    record { first = D; since = []; over = o.0; is_told = record { each = λ p q m. absurd m }; own = record { each = λ p q m. absurd m } },
+    subst (λ (X : Equations). AreClosed R (S ++ X)) (sym (nil_right D)) a.0,
+    subst (λ (X : Equations). StandFor (IsTold (S ++ X)) (IsTold (E ++ b.equations))) (sym (nil_right D)) w.0,
     IsConsistent-follows here c,
-    closed_from (E ++ b.equations) bs (subst (λ (X : Equations). Follows X W) (sym (append_assoc E b.equations (equations_of bs))) g) a.1
-        (record { each = λ p q m. r.each p q (IsTold-right b.equations (equations_of bs) p q m) }),
+    subst (λ (X : Equations). ClosedInside R (E ++ b.equations) (S ++ X) bs) (sym (nil_right D))
+        (closed_from (E ++ b.equations) (S ++ D) bs Ds (subst (λ (X : Equations). Follows X W) (sym (append_assoc E b.equations (equations_of bs))) g) w.1 a.1 o.1),
   )
     where
       here : Follows (E ++ b.equations) W
@@ -91,9 +95,9 @@ path_counted c w n f e m =
     split m (b ∷ bs) = let i : times_path m (bs ++ f.content ∷ []) ≡ times_path m bs + times_of m f.content = split m bs in omega arith
 
 -- variables of a list that is enough for a box are closed on the path to it
-pub closed_at_start : (R : Var → Type 0) (f : Found) → IsConsistent (whole f) → TellsOver R (equations_of (without_first (path_to f))) → ClosedAlong R [] (path_to f)
+pub closed_at_start : (R : Var → Type 0) (f : Found) → IsConsistent (whole f) → (root : Equations) (own : List Equations) → StandAlong [] [] (path_to f) (root ∷ own) → AllOver R own → ClosedAlong R [] (root ∷ own)
     → (b : Content) × (bs : List Content) × (path_to f ≡ b ∷ bs) × ClosedFrom R b bs
-closed_at_start R f h o a = on (path_to f) refl
+closed_at_start R f h root own w o a = on (path_to f) refl
   where
     on : (xs : List Content) → path_to f ≡ xs → (b : Content) × (bs : List Content) × (path_to f ≡ b ∷ bs) × ClosedFrom R b bs
     on [] r = absurd (no f.around r)
@@ -102,14 +106,27 @@ closed_at_start R f h o a = on (path_to f) refl
         no [] q = cc
         no (b ∷ bs) q = cc
     on (b ∷ bs) r =
-        let k : ClosedAlong R [] (b ∷ bs) = subst (ClosedAlong R []) r a in
+        let k : StandAlong [] [] (b ∷ bs) (root ∷ own) = subst (λ (xs : List Content). StandAlong [] [] xs (root ∷ own)) r w in
         let g : Follows (b.equations ++ equations_of bs) (whole f) = record { each = λ {s} {t} m. told (subst (λ (X : Equations). IsTold X s t) (sym (ap equations_of r) ∙ path_whole f) m) } in (
           b,
           bs,
           r,
           (
+            root,
+            a.0,
             k.0,
             IsConsistent-follows (record { each = λ {s} {t} m. g.each (IsTold-left b.equations (equations_of bs) s t m) }) h,
-            closed_from R (whole f) h b.equations bs g k.1 (subst (λ (xs : List Content). TellsOver R (equations_of (without_first xs))) r o),
+            closed_from R (whole f) h b.equations root bs own g k.1 a.1 o,
           ),
         )
+
+-- of a root box no variable is needed
+pub root_enough : (f : Found) → f.around ≡ [] → AreEnough [] f
+root_enough f root = record {
+  root = f.content.equations;
+  own = [];
+  stands = subst (λ (bs : List Content). StandAlong [] [] (bs ++ f.content ∷ []) (f.content.equations ∷ [])) (sym root)
+      (same_told_stands f.content.equations f.content.equations (record { each = λ s t m. m }) (record { each = λ s t m. m }), tt);
+  all = tt;
+  closed = (record { each = λ x i. absurd i }, tt);
+}

@@ -11,8 +11,8 @@ use Rattle.akl_model.specs.Config.{Content, Goals, Boxes, box, Config, Found, eq
 use Rattle.akl_model.specs.Changes.{Clashes}
 use Rattle.akl_model.specs.Derivations.{Applies}
 use Rattle.akl_model.proofs.QuietGrows.{equations-snoc}
-use Rattle.sleep_laws.proofs.InScope.{Good}
-use Rattle.sleep_laws.proofs.Moves.{site_found, site_there}
+use Rattle.plan_laws.proofs.InScope.{Good}
+use Rattle.plan_laws.proofs.Moves.{site_found, site_there}
 use Rattle.reading_laws.specs.Unchanged.{path_to}
 use Rattle.akl_model.specs.Owned.{AddsOwn}
 use Rattle.constraint_laws.proofs.Decided.{consistent_or}

@@ -21,9 +21,9 @@ use Rattle.step_laws.proofs.Deeper.{in_deeper, one_box}
 use Rattle.step_laws.proofs.Steps as steps
 use Rattle.step_laws.proofs.Steps.{Moved, aside, at_site, inside}
 use Rattle.step_laws.proofs.Whereabouts.{found_in, found_among, in_counted}
-use Rattle.sleep_laws.proofs.InScope.{Good}
-use Rattle.sleep_laws.proofs.Moves.{moved}
-use Rattle.sleep_laws.proofs.Replayed.{good_replay}
+use Rattle.plan_laws.proofs.InScope.{Good}
+use Rattle.plan_laws.proofs.Moves.{moved}
+use Rattle.plan_laws.proofs.Replayed.{good_replay}
 use Rattle.reading_laws.proofs.Labels.{replays_on}
 use Rattle.reading_laws.proofs.RootUnbound.{between}
 

@@ -22,9 +22,9 @@ use Rattle.akl_model.proofs.Results.{Derives-append}
 use Rattle.step_laws.specs.Bound.{outermost_equations, AreBoundIn}
 use Rattle.step_laws.specs.Stays.{GoesOn}
 use Rattle.step_laws.proofs.Steps.{Moved, aside, at_site, inside}
-use Rattle.sleep_laws.proofs.InScope.{Good}
-use Rattle.sleep_laws.proofs.Moves.{moved, site_found}
-use Rattle.sleep_laws.proofs.Replayed.{good_replay, replay_further}
+use Rattle.plan_laws.proofs.InScope.{Good}
+use Rattle.plan_laws.proofs.Moves.{moved, site_found}
+use Rattle.plan_laws.proofs.Replayed.{good_replay, replay_further}
 use Rattle.reading_laws.specs.Ends.{IsEndAt}
 use Rattle.reading_laws.proofs.Labels.{step_follows}
 use Rattle.reading_laws.proofs.Outermost.{HasFirst}

@@ -12,8 +12,8 @@ use Rattle.reading_laws.specs.Unchanged.{Unchanged}
 use Rattle.step_laws.specs.Stays.{GoesOn}
 use Rattle.akl_model.specs.Instances.{start}
 use Rattle.akl_model.proofs.Results.{Derives-append}
-use Rattle.sleep_laws.proofs.InScope.{Good}
-use Rattle.sleep_laws.proofs.Replayed.{good_replay}
+use Rattle.plan_laws.proofs.InScope.{Good}
+use Rattle.plan_laws.proofs.Replayed.{good_replay}
 use Rattle.step_laws.specs.Untouched.{Untouched}
 
 -- an unchanged goal is so in both details

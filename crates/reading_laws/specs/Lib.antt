@@ -14,3 +14,10 @@ pub mod Plans
 pub mod Seen
 pub mod SplitRight
 pub mod Unchanged
+pub mod CallMarks
+pub mod QuietGuards
+pub mod CallPlans
+pub mod CallsAgain
+pub mod SeenCalls
+pub mod SeenIdle
+pub mod SeenBoxes

@@ -1,13 +1,11 @@
 -- The model of one root box.
-use Rattle.std.proofs.Common.{◌≡◌, ℕ, List, [], ◌∷◌, map, true, Some, None, refl, sym, ◌∙◌, ap, subst}
+use Rattle.std.proofs.Common.{◌≡◌, ℕ, List, [], ◌∷◌, map, true, Some, refl, sym, ◌∙◌, ap, subst}
 use Rattle.akl_terms.specs.declared.name.Name.{Name}
 use Rattle.akl_terms.specs.declared.term.Node.{Node}
-use Rattle.akl_terms.specs.declared.term.Term.{Term}
 use Rattle.akl_terms.specs.declared.program.ShownTerm.{ShownTerm}
 use Rattle.akl_terms.specs.Tree.{Tree}
 use Rattle.akl_terms.specs.Template.{tree}
-use Rattle.akl_terms.specs.Equal.{IsTold, EqualBy, IsConsistentBy}
-use Rattle.akl_terms.specs.Decided.{DifferInHead}
+use Rattle.akl_terms.specs.Equal.{IsConsistentBy}
 use Rattle.akl_terms.proofs.StandingLaws.{StandFor-back}
 use Rattle.akl_model.specs.Config.{Content, Goals, ShownTree, box_at}
 use Rattle.local_store.specs.Chained.{Chained, ToldBy, equations_of}
@@ -17,8 +15,8 @@ use Rattle.step_commit.specs.Cores.{CoreValue, TableIn}
 use Rattle.tree_models.specs.declared.model.TreeModel.{TreeModel}
 use Rattle.tree_models.specs.Solutions.{IsModel, IsModelOfChain, IsNumbered, shown_terms}
 use Rattle.tree_models.specs.Texts.{IsModelText}
-use Rattle.root_answers.specs.Models.{trees_shown, names_shown, IsModelOf, HasModel, HasModelText}
-use Rattle.root_answers.specs.Roots.{symbols_of, root_box, IsText}
+use Rattle.root_answers.specs.Models.{names_shown, HasModel, HasModelText}
+use Rattle.root_answers.specs.Roots.{symbols_of, root_box}
 use Rattle.root_answers.proofs.RootTexts.{IsRootView, row_of, chain_stands, answers_so}
 
 -- what the core's box shows are the shown terms

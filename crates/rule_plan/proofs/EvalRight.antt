@@ -27,16 +27,17 @@ use Rattle.akl_model.specs.Stable.{Allows}
 use Rattle.rational_unify.specs.Solving.{bindings_in}
 use Rattle.local_store.specs.declared.part.Part.{Part}
 use Rattle.local_store.specs.Parts.{ToldStore, with_part, told_over}
+use Rattle.local_store.specs.Stored.{all_named}
 use Rattle.local_store.specs.Chained.{bindings_from, ToldBy, innermost}
 use Rattle.local_store.specs.Telling.{AnswersTold}
-use Rattle.plan_laws.specs.Right.{Reads}
 use Rattle.arith_goals.specs.Answers as arithmetic
 use Rattle.class_members.specs.Members.{AreMembers}
 use Rattle.box_tree.specs.declared.step.Step.{Step}
 use Rattle.box_tree.specs.declared.view.Sight.{Sight}
 use Rattle.box_tree.specs.Views.{ViewValue, IsViewOf}
-use Rattle.box_tree.specs.Plans.{PlanValue, IsRead, IsRightLabel}
-use Rattle.rule_plan.specs.AtGoals.{label_at, plan_at, TellsRightly}
+use Rattle.box_tree.specs.Plans.{PlanValue}
+use Rattle.table_laws.specs.Parts.{tells_one}
+use Rattle.rule_plan.specs.AtGoals.{label_at, IsRightAt, TellsRightly}
 use Rattle.guard_plan.specs.declared.guards.Noise.{Noise}
 use Rattle.guard_plan.specs.Noisy.{IsTriedBy}
 use Rattle.guard_plan.specs.Planned.{HasNoRule, IsPlannedBy}
@@ -45,9 +46,8 @@ use Rattle.box_tree.proofs.ToldChains.{told_stands}
 use Rattle.rule_plan.proofs.InForce.{eval_in_force}
 use Rattle.rule_plan.proofs.AtomNone.{atom_none}
 use Rattle.rule_plan.proofs.Silent.{silent}
-use Rattle.guard_plan.proofs.ReadItems.{goal_reads}
 use Rattle.rule_plan.proofs.GoalRight.{goal_right, keeps_bound, told_right, tells_bound}
-use Rattle.rule_plan.proofs.ToldGoals.{same_frames, same_ports, solved_if, tells_goal}
+use Rattle.rule_plan.proofs.ToldGoals.{same_frames, same_ports, solved_if, tells_by}
 
 -- a goal that has an answer doesn't wait
 answer_waits : (symbols : List (List ℕ)) (E : Equations) (test : Test) (l r : Tree) (a : Answer) (x : Var) → IsConsistent E → Evaluates symbols E test l r a → GoalWaitsOn symbols E test l r x → ⊥
@@ -103,7 +103,7 @@ module _ (v : ViewValue) (i : IsViewOf v) (g frame : Name) (test : Test) (l r : 
     comes : (a : Answer) → Evaluates v.table.program.templates.symbols stored test left right a → ComesTo v.table.program (answer a) i.site (held_in g i.site.goals)
     comes a e = subst (ComesTo v.table.program (answer a) i.site) (sym held) (all_stand.to consistent, answer_stands v.table.program.templates.symbols stored (whole i.site) by_stores e)
 
-    makes : (a : Answer) (change : Change) → Evaluates v.table.program.templates.symbols stored test left right a → eval (answer a) g i.site (Some (an_atom was)) ≡ Some change → change.drawn ≡ 0
+    abbrev makes : (a : Answer) (change : Change) → Evaluates v.table.program.templates.symbols stored test left right a → eval (answer a) g i.site (Some (an_atom was)) ≡ Some change → change.drawn ≡ 0
         → conditions.Makes (Allows v.table.program) v.table.program (slice_index i.table.config.next v.worker) (label_at v Rule.Eval) i.site change
     makes a change e is none = record {
       reading = answer a;
@@ -112,45 +112,40 @@ module _ (v : ViewValue) (i : IsViewOf v) (g frame : Name) (test : Test) (l r : 
       few_names = omega (arith, none);
     }
 
-    reads : Reads (IsRead (plan_at v Rule.Eval g 0 Step.Fail []).reads) Rule.Eval v.place None i.site
-    reads = subst (λ (q : Place). Reads (IsRead (plan_at v Rule.Eval g 0 Step.Fail []).reads) Rule.Eval q None i.site) (sym p) (goal_reads v i g)
-
     -- a comparison that holds
-    pub holds_right : Evaluates v.table.program.templates.symbols stored test left right (truth true) → IsRightLabel (plan_at v Rule.Eval g 0 Step.Confirm [])
+    pub holds_right : Evaluates v.table.program.templates.symbols stored test left right (truth true) → IsRightAt v Rule.Eval g 0 Step.Confirm []
     holds_right e =
         let m : conditions.Makes (Allows v.table.program) v.table.program (slice_index i.table.config.next v.worker) (label_at v Rule.Eval) i.site (becomes i.site.content (without_goal g i.site.goals) 0) =
         makes (truth true) (becomes i.site.content (without_goal g i.site.goals) 0) e refl refl in
-        goal_right v i g Rule.Eval eval_in_force (becomes i.site.content (without_goal g i.site.goals) 0) m (an_atom was) held Step.Confirm (refl, (g, p, record { goal = was; held = held; makes = m })) tt reads
-        [] (keeps_bound v i g Rule.Eval eval_in_force (becomes i.site.content (without_goal g i.site.goals) 0) m i.site.content (without_goal g i.site.goals) refl refl)
+        goal_right v i g Rule.Eval eval_in_force (becomes i.site.content (without_goal g i.site.goals) 0) m Step.Confirm (refl, (g, p, record { goal = was; held = held; makes = m })) tt
+        [] (keeps_bound v i g Rule.Eval eval_in_force (becomes i.site.content (without_goal g i.site.goals) 0) m i.site.content (without_goal g i.site.goals) refl refl) (λ reads r. (g, p, r))
 
     -- one that fails
-    pub fails_right : Evaluates v.table.program.templates.symbols stored test left right (truth false) → IsRightLabel (plan_at v Rule.Eval g 0 Step.Refute [])
+    pub fails_right : Evaluates v.table.program.templates.symbols stored test left right (truth false) → IsRightAt v Rule.Eval g 0 Step.Refute []
     fails_right e =
         let m : conditions.Makes (Allows v.table.program) v.table.program (slice_index i.table.config.next v.worker) (label_at v Rule.Eval) i.site (becomes i.site.content (with_content g (an_atom Atom.fail) i.site.goals) 0) =
         makes (truth false) (becomes i.site.content (with_content g (an_atom Atom.fail) i.site.goals) 0) e refl refl in
-        goal_right v i g Rule.Eval eval_in_force (becomes i.site.content (with_content g (an_atom Atom.fail) i.site.goals) 0) m (an_atom was) held Step.Refute (refl, (g, p, record { goal = was; held = held; makes = m })) tt reads
+        goal_right v i g Rule.Eval eval_in_force (becomes i.site.content (with_content g (an_atom Atom.fail) i.site.goals) 0) m Step.Refute (refl, (g, p, record { goal = was; held = held; makes = m })) tt
         [] (keeps_bound v i g Rule.Eval eval_in_force (becomes i.site.content (with_content g (an_atom Atom.fail) i.site.goals) 0) m i.site.content (with_content g (an_atom Atom.fail) i.site.goals) refl refl)
+        (λ reads r. (g, p, r))
 
     -- a value is told
     value_told : (z : ℤ) → Evaluates v.table.program.templates.symbols stored test left right (value z) → (t : ToldStore)
-        → AnswersTold v.table.program.templates.nodes v.stores v.known (value_equation frame l z ∷ []) t → (part : Part) → with_part (innermost v.stores) part ≡ t.store
-        → (binds : List Var) → AreMembers v.table.program.templates.nodes v.stores t.bound binds → IsRightLabel (plan_at v Rule.Eval g 0 (Step.Tell part t.solved) binds)
-    value_told z e t a part is binds b =
-        let m : conditions.Makes (Allows v.table.program) v.table.program (slice_index i.table.config.next v.worker) (label_at v Rule.Eval) i.site (becomes (telling left (integer z) i.site.content) (without_goal g i.site.goals) 0) =
-        makes (value z) (becomes (telling left (integer z) i.site.content) (without_goal g i.site.goals) 0) e refl refl in
-        told_right v i g Rule.Eval eval_in_force (becomes (telling left (integer z) i.site.content) (without_goal g i.site.goals) 0) m (an_atom was) held part t.store t.solved is (
-          g,
-          p,
-          tells_goal v i (value_equation frame l z ∷ []) t a t.store refl Rule.Eval (slice_index i.table.config.next v.worker) g (telling left (integer z) i.site.content) 0
-              (record { goal = was; held = held; makes = m }) (record { left = left; right = integer z }) [] refl refl
-              (same_frames v i (value_equation frame l z ∷ []) t a) (same_ports v i (value_equation frame l z ∷ []) t a),
-        )
-        (solved_if v i (value_equation frame l z ∷ []) t a t.store refl t.solved refl) (reads, (goal_reads v i g).1)
-        binds (tells_bound v i g Rule.Eval eval_in_force (becomes (telling left (integer z) i.site.content) (without_goal g i.site.goals) 0) m (telling left (integer z) i.site.content) (without_goal g i.site.goals) refl
+        → AnswersTold v.table.program.templates.nodes v.stores v.known (value_equation frame l z ∷ []) t → (part : Part) → with_part (innermost v.stores) part ≡ t.store → part.frames.items ≡ []
+        → (binds : List Var) → AreMembers v.table.program.templates.nodes v.stores t.bound binds → IsRightAt v Rule.Eval g 0 (Step.Tell part t.solved) binds
+    value_told z e t a part is none binds b =
+        told_right v i g Rule.Eval eval_in_force (becomes (telling left (integer z) i.site.content) (without_goal g i.site.goals) 0)
+        (makes (value z) (becomes (telling left (integer z) i.site.content) (without_goal g i.site.goals) 0) e refl refl) p part t.store t.solved is
+        (tells_by v i (value_equation frame l z ∷ []) t a t.store refl part is Rule.Eval g (telling left (integer z) i.site.content) 0
+        (record { goal = was; held = held; makes = makes (value z) (becomes (telling left (integer z) i.site.content) (without_goal g i.site.goals) 0) e refl refl }) (record { left = left; right = integer z }) [] refl refl
+        (same_frames v i (value_equation frame l z ∷ []) t a) (same_ports v i (value_equation frame l z ∷ []) t a) (tells_one left (integer z)) refl refl (λ old. ap (all_named old) none))
+        (solved_if v i (value_equation frame l z ∷ []) t a t.store refl t.solved refl)
+        binds (tells_bound v i g Rule.Eval eval_in_force (becomes (telling left (integer z) i.site.content) (without_goal g i.site.goals) 0)
+        (makes (value z) (becomes (telling left (integer z) i.site.content) (without_goal g i.site.goals) 0) e refl refl) (telling left (integer z) i.site.content) (without_goal g i.site.goals) refl
         (value_equation frame l z ∷ []) t a refl binds b)
 
     pub value_right : (z : ℤ) → Evaluates v.table.program.templates.symbols stored test left right (value z) → TellsRightly v Rule.Eval g (value_equation frame l z)
-    value_right z e t a = value_told z e (told_over (innermost v.stores) t) a t.part refl
+    value_right z e t a none = value_told z e (told_over (innermost v.stores) t) a t.part refl none
 
     -- a goal that has an answer waits on nothing
     pub answer_tried : (a : Answer) → Evaluates v.table.program.templates.symbols stored test left right a → (noise : List Noise) → noise ≡ [] → (o : Option PlanValue) → IsPlannedBy v o → IsTriedBy v noise o

@@ -1,8 +1,9 @@
 -- A plan of Fail is right.
-use Rattle.std.proofs.Common.{◌≡◌, [], ◌∷◌, Some, None, refl, sym, subst, ◌⊎◌, inl, inr, arith}
+use Rattle.std.proofs.Common.{◌≡◌, List, [], ◌∷◌, Some, None, refl, sym, subst, ◌⊎◌, inl, inr, arith}
 use Rattle.std.specs.Prelude.{IsSome, slice_index}
 use Rattle.akl_terms.specs.declared.name.Name.{Name}
 use Rattle.akl_terms.specs.declared.name.Place.{Place}
+use Rattle.akl_terms.specs.declared.name.Var.{Var}
 use Rattle.akl_terms.specs.declared.term.Term.{Term}
 use Rattle.akl_terms.specs.Template.{tree}
 use Rattle.akl_terms.specs.Decided.{DifferInHead}
@@ -10,7 +11,7 @@ use Rattle.akl_terms.specs.Equal.{EqualBy, IsConsistent, IsConsistentBy}
 use Rattle.akl_model.specs.declared.item.Item.{Item}
 use Rattle.akl_model.specs.declared.label.Rule.{Rule}
 use Rattle.akl_model.specs.declared.label.Label.{Label}
-use Rattle.akl_model.specs.Config.{no_boxes, whole, site_of}
+use Rattle.akl_model.specs.Config.{no_boxes, whole, site_of, box_at}
 use Rattle.akl_model.specs.Rules.{nothing, change_by}
 use Rattle.akl_model.specs.Conditions.{HasFailed, Makes}
 use Rattle.akl_model.specs.Stable.{Allows}
@@ -18,7 +19,9 @@ use Rattle.akl_model.specs.Derivations.{Applies, after}
 use Rattle.step_laws.proofs.Failing.{failing_found}
 use Rattle.local_store.specs.Chained.{ToldBy}
 use Rattle.plan_laws.specs.Right.{Reads}
+use Rattle.table_laws.specs.Inside.{itself}
 use Rattle.table_laws.specs.Unfolds.{FailsBy}
+use Rattle.table_laws.proofs.Insides.{directly}
 use Rattle.table_laws.specs.Stamped.{stamp_in}
 use Rattle.box_tree.specs.declared.step.Step.{Step}
 use Rattle.box_tree.specs.declared.view.Sight.{Sight}
@@ -27,6 +30,8 @@ use Rattle.box_tree.specs.Views.{ViewValue, IsViewOf}
 use Rattle.box_tree.specs.Plans.{IsRead, IsRightLabel}
 use Rattle.box_tree.proofs.BoundHere.{gone_bound}
 use Rattle.rule_plan.specs.Failed.{FailsFor}
+use Rattle.box_tree.specs.Insides.{IsItemInside}
+use Rattle.guard_plan.specs.ReadAt.{MayRead, PlanMayRead}
 use Rattle.guard_plan.specs.Planned.{HasNoRule}
 use Rattle.rule_plan.proofs.InForce.{fail_in_force}
 use Rattle.rule_plan.proofs.NoRule.{box_none}
@@ -75,6 +80,25 @@ module _ (v : ViewValue) (item : Item) (f : FailsFor v item) where
     binds = gone_bound all_rules v.table.program f.seen.table.config (fail_label v) (after f.seen.table.config (fail_label v) f.seen.site (record { boxes = no_boxes; drawn = 0 })) (stand v f.seen) applies refl;
     there = λ j h. elim h [ inl e ↦ subst (λ (k : Item). IsSome (stamp_in (table_of v.table) k)) (sym e) (there f.reads) | inr z ↦ absurd z ];
   }
+
+  -- it stands in the box
+  pub fail_reads : IsItemInside (table_of v.table) f.name item
+  fail_reads = on f.reads
+    where
+      is_box : box_at f.name f.seen.table.config.roots ≡ Some f.seen.site
+      is_box = subst (λ (q : Place). site_of q f.seen.table.config.roots ≡ Some f.seen.site) f.is_place f.seen.is_site
+
+      on : Reads (λ k. k ≡ item) Rule.Fail (Place.Box f.name) None f.seen.site → IsItemInside (table_of v.table) f.name item
+      on (inl x) = subst (IsItemInside (table_of v.table) f.name) x.1 itself
+      on (inr x) = subst (IsItemInside (table_of v.table) f.name) x.4 (record {
+        box = f.name;
+        inside = itself;
+        goal = directly (table_of v.table) f.seen.table.config f.seen.table.unfolds (stand v f.seen).once f.name x.0 f.seen.site x.1 is_box x.2;
+      })
+
+  pub fail_may : (binds : List Var) (reads : List Item) → reads ≡ item ∷ [] → (j : Item) → IsRead reads j → PlanMayRead v binds j
+  fail_may binds reads is j r = subst (λ (q : Place). MayRead v q binds j) (sym f.is_place)
+      (elim (subst (λ (l : List Item). IsRead l j) is r) [ inl e ↦ inl (subst (IsItemInside (table_of v.table) f.name) (sym e) fail_reads) | inr z ↦ absurd z ])
 
 -- a box that fails by a goal
 pub fails_by_goal : (v : ViewValue) (i : IsViewOf v) (n g : Name) → v.place ≡ Place.Box n → v.sight ≡ Sight.Box (Some g) → FailsFor v (Item.Goal g)

@@ -17,23 +17,24 @@ use Rattle.akl_model.specs.Stable.{Allows}
 use Rattle.akl_model.specs.Derivations.{Applies, after}
 use Rattle.akl_model.specs.Wakes.{names_down_to}
 use Rattle.local_store.specs.Stored.{Stored}
-use Rattle.plan_laws.specs.Right.{Reads}
+use Rattle.local_store.specs.Chained.{innermost}
 use Rattle.table_laws.specs.Stamped.{stamp_in}
 use Rattle.table_laws.specs.Steps as laws
-use Rattle.table_laws.specs.Steps.{ForksGoal, ReadsFor, IsSolvedIn, AreNewBoxes, AreSolvedIf}
+use Rattle.table_laws.specs.Steps.{ForksGoal, IsSolvedIn, AreNewBoxes, AreSolvedIf}
+use Rattle.table_laws.specs.PartSteps.{without_part, step_over, MakesPart, ReadsPart}
 use Rattle.box_tree.specs.declared.entries.HeldOp.{HeldOp}
 use Rattle.box_tree.specs.declared.step.NewBox.{NewBox}
 use Rattle.box_tree.specs.declared.step.Step.{Step}
 use Rattle.box_tree.specs.declared.view.Sight.{Sight}
-use Rattle.box_tree.specs.Tables.{all_rules, op_held, table_of, new_box, step_in}
+use Rattle.box_tree.specs.Tables.{all_rules, op_held, table_of, new_box}
 use Rattle.box_tree.specs.Views.{ViewValue, IsViewOf}
-use Rattle.box_tree.specs.Plans.{IsRead, IsRightLabel}
+use Rattle.box_tree.specs.Plans.{part_step, IsRead, IsRightLabel}
 use Rattle.box_tree.proofs.BoundHere.{kept_bound}
 use Rattle.rule_plan.specs.declared.heads.Call.{Call}
 use Rattle.rule_plan.specs.Made.{called_as, called, AreMade}
 use Rattle.guard_plan.specs.Planned.{HasNoRule}
 use Rattle.rule_plan.proofs.AtomNone.{atom_none}
-use Rattle.guard_plan.proofs.Sites.{goal_there, stand, found, whole_stands, stores_path, shows_at}
+use Rattle.guard_plan.proofs.Sites.{goal_there, stand, found, whole_stands, stores_path, part_here, shows_at}
 use Rattle.rule_plan.proofs.NewBoxes.{all_made, all_solved}
 
 -- the atom of a call
@@ -57,7 +58,8 @@ module _ (v : ViewValue) (i : IsViewOf v) (g : Name) (d : ℕ) (call : Call) (p 
   fork_none many = atom_none v i g (Atom.call d (terms_from v.table.program.templates.nodes call.frame call.first call.count) (result v call)) p held many
 
   module _ (x : Definition) (is : slice_get v.table.program.definitions d ≡ Some x) (o : HeldOp) (operator : operator_of x.op (result v call) ≡ Some (op_held v.table.program.templates.nodes o)) (few : drawn_by x.clauses < 2 ^ 32) (news : List NewBox)
-      (made : AreMade v.table.program.templates.nodes v.stores v.known call v.worker v.next x.clauses news) (step : Step) (made_step : step_in v.table (fork_label v) step ≡ laws.forks (op_held v.table.program.templates.nodes o) (map (new_box v.table.program.templates.nodes) news)) where
+      (made : AreMade v.table.program.templates.nodes v.stores v.known call v.worker v.next x.clauses news) (step : Step)
+      (made_step : part_step v.table.program.templates.nodes step ≡ without_part (laws.forks (op_held v.table.program.templates.nodes o) (map (new_box v.table.program.templates.nodes) news))) where
     boxes : AreNewBoxes v.table.program.templates.nodes (whole i.site) (map (new_box v.table.program.templates.nodes) news)
         (instances v.table.program.templates.nodes v.worker (slice_index i.table.config.next v.worker) (terms_from v.table.program.templates.nodes call.frame call.first call.count) x.clauses)
     boxes = subst (λ (n : ℕ). AreNewBoxes v.table.program.templates.nodes (whole i.site) (map (new_box v.table.program.templates.nodes) news)
@@ -106,11 +108,10 @@ module _ (v : ViewValue) (i : IsViewOf v) (g : Name) (d : ℕ) (call : Call) (p 
       table = i.table;
       result = after i.table.config (fork_label v) i.site change;
       applies = applies;
-      makes = subst (laws.Makes v.table.program (fork_label v) (slice_index i.table.config.next v.worker) i.site) (sym made_step) (refl, (g, p, forks_goal));
-      solved = subst (IsSolvedIn (table_of v.table) i.site) (sym made_step) solved;
+      makes = subst (MakesPart v.table.program (fork_label v) (slice_index i.table.config.next v.worker) i.site) (sym made_step) (refl, (g, p, forks_goal));
+      solved = subst (IsSolvedIn (table_of v.table) i.site) (sym (part_here v i (fork_label v) refl step ∙ ap (step_over (innermost v.stores)) made_step)) solved;
       names = refl;
-      reads = subst (ReadsFor (IsRead (Item.Goal g ∷ [])) (fork_label v) i.site) (sym made_step)
-          (subst (λ (q : Place). Reads (IsRead (Item.Goal g ∷ [])) Rule.Fork q None i.site) (sym p) (inl refl));
+      reads = subst (ReadsPart (IsRead (Item.Goal g ∷ [])) i.table.config (fork_label v) i.site []) (sym made_step) (g, p, inl refl);
       binds = kept_bound all_rules v.table.program i.table.config (fork_label v) (after i.table.config (fork_label v) i.site change) (stand v i) applies i.site.content
           (with_content g (a_choice (op_held v.table.program.templates.nodes o) (instances v.table.program.templates.nodes v.worker (slice_index i.table.config.next v.worker) (terms_from v.table.program.templates.nodes call.frame call.first call.count) x.clauses)) i.site.goals)
           no_boxes refl refl;

@@ -23,11 +23,11 @@ use Rattle.akl_model.proofs.Drawn.{drawn_times}
 use Rattle.akl_model.proofs.Finds.{times}
 use Rattle.akl_model.proofs.ScopesAlong.{times_path}
 use Rattle.step_laws.proofs.Whereabouts.{found_in, in_counted}
-use Rattle.plan_laws.specs.Right.{Reads}
 use Rattle.local_store.specs.declared.part.Part.{Part}
 use Rattle.local_store.specs.Parts.{ToldStore, with_part}
 use Rattle.local_store.specs.Chained.{innermost}
 use Rattle.local_store.specs.Stored as stored
+use Rattle.local_store.specs.Stored.{all_named}
 use Rattle.local_store.specs.Telling.{AnswersTold}
 use Rattle.table_laws.specs.Rows.{ports_in}
 use Rattle.table_laws.proofs.Fresh.{drawn_nowhere}
@@ -35,14 +35,13 @@ use Rattle.class_members.specs.Members.{AreMembers}
 use Rattle.box_tree.specs.declared.step.Step.{Step}
 use Rattle.box_tree.specs.declared.view.Sight.{Sight}
 use Rattle.box_tree.specs.Views.{ViewValue, IsViewOf}
-use Rattle.box_tree.specs.Plans.{IsRead, IsRightLabel}
-use Rattle.rule_plan.specs.AtGoals.{label_at, plan_at}
+use Rattle.table_laws.specs.Telling.{opens_port}
+use Rattle.rule_plan.specs.AtGoals.{label_at, IsRightAt}
 use Rattle.guard_plan.proofs.Sites.{stand, found, shows_at}
 use Rattle.rule_plan.proofs.InForce.{open_in_force}
 use Rattle.guard_plan.proofs.Names.{port_put}
-use Rattle.guard_plan.proofs.ReadItems.{goal_reads}
 use Rattle.rule_plan.proofs.GoalRight.{told_right, tells_bound}
-use Rattle.rule_plan.proofs.ToldGoals.{same_frames, same_ports, solved_if, tells_goal}
+use Rattle.rule_plan.proofs.ToldGoals.{same_frames, same_ports, solved_if, tells_by}
 
 -- the name that a view's worker draws next
 abbrev pub next_name : ViewValue → Name
@@ -83,7 +82,7 @@ module _ (v : ViewValue) (i : IsViewOf v) (g frame : Name) (l r : ℕ) (p : v.pl
   opens : (n : ℕ) → v.next ≡ n → open_new v.worker n g i.site (Some (an_atom (Atom.open_port left stream))) ≡ Some change
   opens n e = subst (λ (k : ℕ). open_new v.worker k g i.site (Some (an_atom (Atom.open_port left stream))) ≡ Some change) e refl
 
-  makes : conditions.Makes (Allows v.table.program) v.table.program (slice_index i.table.config.next v.worker) (label_at v Rule.Open) i.site change
+  abbrev makes : conditions.Makes (Allows v.table.program) v.table.program (slice_index i.table.config.next v.worker) (label_at v Rule.Open) i.site change
   makes = record {
     reading = nothing;
     change = subst (λ (q : Place). change_by v.table.program nothing v.worker (slice_index i.table.config.next v.worker) Rule.Open q None i.site ≡ Some change) (sym p)
@@ -92,17 +91,14 @@ module _ (v : ViewValue) (i : IsViewOf v) (g frame : Name) (l r : ℕ) (p : v.pl
     few_names = omega arith;
   }
 
-  pub open_right : (part : Part) → with_part (innermost v.stores) part ≡ stored.with_port t.store (next_name v) (Mol r frame)
-      → (binds : List Var) → AreMembers v.table.program.templates.nodes v.stores t.bound binds → IsRightLabel (plan_at v Rule.Open g 1 (Step.Tell part t.solved) binds)
-  open_right part is binds m = told_right v i g Rule.Open open_in_force change makes (an_atom (Atom.open_port left stream)) held part (stored.with_port t.store (next_name v) (Mol r frame)) t.solved is (
-    g,
-    p,
-    tells_goal v i (port_equation frame l (next_name v) ∷ []) t a (stored.with_port t.store (next_name v) (Mol r frame)) refl Rule.Open (slice_index i.table.config.next v.worker) g content 1
-        (record { goal = Atom.open_port left stream; held = held; makes = makes }) (record { left = left; right = port (next_name v) }) [] refl refl
-        (same_frames v i (port_equation frame l (next_name v) ∷ []) t a) ports,
-  )
+  pub open_right : (part : Part) → with_part (innermost v.stores) part ≡ stored.with_port t.store (next_name v) (Mol r frame) → ((old : List Name) → all_named old part.frames.items ≡ old)
+      → (binds : List Var) → AreMembers v.table.program.templates.nodes v.stores t.bound binds → IsRightAt v Rule.Open g 1 (Step.Tell part t.solved) binds
+  open_right part is names binds m = told_right v i g Rule.Open open_in_force change makes p part (stored.with_port t.store (next_name v) (Mol r frame)) t.solved is
+      (tells_by v i (port_equation frame l (next_name v) ∷ []) t a (stored.with_port t.store (next_name v) (Mol r frame)) refl part is Rule.Open g content 1
+      (record { goal = Atom.open_port left stream; held = held; makes = makes }) (record { left = left; right = port (next_name v) }) [] refl refl
+      (same_frames v i (port_equation frame l (next_name v) ∷ []) t a) ports (opens_port left (next_name v) stream) refl
+      (ap (λ (n : ℕ). opens_port left (record { worker = v.worker; number = n }) stream) i.next) names)
       (solved_if v i (port_equation frame l (next_name v) ∷ []) t a (stored.with_port t.store (next_name v) (Mol r frame)) refl t.solved refl)
-      (subst (λ (q : Place). Reads (IsRead (plan_at v Rule.Open g 1 Step.Fail []).reads) Rule.Open q None i.site) (sym p) (goal_reads v i g).0, (goal_reads v i g).1)
       binds (tells_bound v i g Rule.Open open_in_force change makes content (without_goal g i.site.goals) refl (port_equation frame l (next_name v) ∷ []) t a refl binds m)
     where
       old : ports_in v.table.program.templates.nodes t.store.ports ≡ i.site.content.ports

@@ -1,5 +1,5 @@
 -- A plan of Send is right.
-use Rattle.std.proofs.Common.{◌≡◌, ℕ, ◌+◌, List, [], ◌∷◌, true, false, Some, None, refl, sym, ◌∙◌, ap, subst, arith, append_assoc}
+use Rattle.std.proofs.Common.{◌≡◌, ℕ, ◌+◌, List, [], ◌∷◌, ◌++◌, true, false, Some, None, refl, sym, ◌∙◌, ap, subst, arith, append_assoc}
 use Rattle.std.specs.Prelude.{slice_index, is_some}
 use Rattle.std.specs.Map.{lookup}
 use Rattle.akl_terms.specs.declared.name.Name.{Name}
@@ -34,10 +34,10 @@ use Rattle.step_laws.proofs.Whereabouts.{found_in}
 use Rattle.rational_unify.specs.Solving.{bindings_in}
 use Rattle.local_store.specs.declared.part.Part.{Part}
 use Rattle.local_store.specs.Parts.{ToldStore, with_part}
-use Rattle.local_store.specs.Stored.{Stored}
+use Rattle.local_store.specs.Stored.{Stored, named, all_named}
 use Rattle.local_store.specs.Chained.{bindings_from, ToldBy, innermost}
 use Rattle.local_store.specs.Telling.{AnswersTold}
-use Rattle.plan_laws.specs.Right.{Reads}
+use Rattle.plan_laws.specs.Local.{Told}
 use Rattle.port_goals.specs.Sends.{IsNoPort}
 use Rattle.table_laws.specs.Rows.{ports_in}
 use Rattle.class_members.specs.Members.{AreMembers}
@@ -45,21 +45,20 @@ use Rattle.box_tree.specs.declared.step.Step.{Step}
 use Rattle.box_tree.specs.declared.view.Sight.{Sight}
 use Rattle.box_tree.specs.Tables.{all_rules}
 use Rattle.box_tree.specs.Views.{ViewValue, IsViewOf}
-use Rattle.box_tree.specs.Plans.{IsRead, IsRightLabel}
-use Rattle.rule_plan.specs.AtGoals.{label_at, plan_at}
+use Rattle.table_laws.specs.Telling.{sends_to}
+use Rattle.rule_plan.specs.AtGoals.{label_at, IsRightAt}
 use Rattle.guard_plan.specs.Planned.{HasNoRule}
 use Rattle.rule_plan.specs.Solving.{ResolvesAll, GoesToPort}
 use Rattle.rule_plan.specs.Sent.{list_equations, with_new_tail}
-use Rattle.guard_plan.proofs.Sites.{row, found, whole_stands, shows_at}
+use Rattle.guard_plan.proofs.Sites.{row, found, whole_stands, shows_at, own_store}
 use Rattle.box_tree.proofs.ToldChains.{told_stands}
 use Rattle.rule_plan.proofs.InForce.{send_in_force}
 use Rattle.rule_plan.proofs.AtomNone.{atom_none}
 use Rattle.guard_plan.proofs.Names.{named_with}
 use Rattle.rule_plan.proofs.FramesAndPorts.{found_port, has_port, port_set, ports_ordered}
-use Rattle.guard_plan.proofs.ReadItems.{goal_reads}
 use Rattle.rule_plan.proofs.GoalRight.{told_right, tells_bound}
 use Rattle.rule_plan.proofs.OpenRight.{next_name}
-use Rattle.rule_plan.proofs.ToldGoals.{own_store, same_frames, same_ports, solved_if, tells_goal}
+use Rattle.rule_plan.proofs.ToldGoals.{same_frames, same_ports, solved_if, tells_by}
 
 module _ (v : ViewValue) (i : IsViewOf v) (g frame : Name) (m r : ℕ) (p : v.place ≡ Place.Goal g) (s : v.sight ≡ Sight.Atom (record { code = Code.Send m r; frame = frame })) where
   abbrev message : Tree
@@ -154,7 +153,7 @@ module _ (v : ViewValue) (g frame : Name) (m r : ℕ) (q : Name) (goes : GoesToP
       ∙ ap (send_to v.table.program v.worker n g (term_at v.table.program.templates.nodes frame m) i.site) there
       ∙ subst (λ (k : ℕ). send_to v.table.program v.worker k g (term_at v.table.program.templates.nodes frame m) i.site (Some (record { name = q; tail = tree v.table.program.templates.nodes tail })) ≡ Some change) e refl
 
-  makes : conditions.Makes (Allows v.table.program) v.table.program (slice_index i.table.config.next v.worker) (label_at v Rule.Send) i.site change
+  abbrev makes : conditions.Makes (Allows v.table.program) v.table.program (slice_index i.table.config.next v.worker) (label_at v Rule.Send) i.site change
   makes = record {
     reading = receiver q;
     change = subst (λ (u : Place). change_by v.table.program (receiver q) v.worker (slice_index i.table.config.next v.worker) Rule.Send u None i.site ≡ Some change) (sym p)
@@ -180,21 +179,28 @@ module _ (v : ViewValue) (g frame : Name) (m r : ℕ) (q : Name) (goes : GoesToP
       (subst (λ (ps : List (Name × Term)). is_some (lookup (same_name q) ps) ≡ true) (sym a.tells.ports) goes.owned)
       ∙ ap (with_tail q (cell (v.table.program.cell + 1))) old
 
-  pub send_right : (part : Part) → with_part (innermost v.stores) part ≡ sent_store v t.store q
-      → (binds : List Var) → AreMembers v.table.program.templates.nodes v.stores t.bound binds → IsRightLabel (plan_at v Rule.Send g 1 (Step.Tell part t.solved) binds)
-  send_right part is binds b = told_right v i g Rule.Send send_in_force change makes (an_atom (Atom.send (term_at v.table.program.templates.nodes frame m) (term_at v.table.program.templates.nodes frame r))) (held v i g frame m r p s)
-      part (sent_store v t.store q) t.solved is (
-        g,
-        p,
-        tells_goal v i (sent_equations v frame m tail) t a (sent_store v t.store q) refl Rule.Send (slice_index i.table.config.next v.worker) g content 1
-            (record { goal = Atom.send (term_at v.table.program.templates.nodes frame m) (term_at v.table.program.templates.nodes frame r); held = held v i g frame m r p s; makes = makes })
-            (record { left = tree v.table.program.templates.nodes tail; right = cell (v.table.program.cell + 2) })
-            (record { left = cell v.table.program.cell; right = term_at v.table.program.templates.nodes frame m } ∷ []) refl
-            (append_assoc i.site.content.equations (record { left = tree v.table.program.templates.nodes tail; right = cell (v.table.program.cell + 2) } ∷ [])
-            (record { left = cell v.table.program.cell; right = term_at v.table.program.templates.nodes frame m } ∷ [])) frames ports,
-      )
+  -- the port, and what is told
+  abbrev receives : Port
+  receives = record { name = q; tail = tree v.table.program.templates.nodes tail }
+
+  abbrev told : Told
+  told = sends_to v.table.program (next_name v) (term_at v.table.program.templates.nodes frame m) receives
+
+  equations : content.equations ≡ i.site.content.equations ++ told.equations
+  equations = append_assoc i.site.content.equations (record { left = tree v.table.program.templates.nodes tail; right = cell (v.table.program.cell + 2) } ∷ [])
+      (record { left = cell v.table.program.cell; right = term_at v.table.program.templates.nodes frame m } ∷ [])
+
+  is_told : (receiver_port : Port) × (port_in q i.site.content.ports ≡ Some receiver_port)
+      × (told ≡ sends_to v.table.program (record { worker = v.worker; number = slice_index i.table.config.next v.worker }) (term_at v.table.program.templates.nodes frame m) receiver_port)
+  is_told = (receives, there, ap (λ (n : ℕ). sends_to v.table.program (record { worker = v.worker; number = n }) (term_at v.table.program.templates.nodes frame m) receives) i.next)
+
+  pub send_right : (part : Part) → with_part (innermost v.stores) part ≡ sent_store v t.store q → ((old : List Name) → all_named old part.frames.items ≡ named old (next_name v))
+      → (binds : List Var) → AreMembers v.table.program.templates.nodes v.stores t.bound binds → IsRightAt v Rule.Send g 1 (Step.Tell part t.solved) binds
+  send_right part is names binds b = told_right v i g Rule.Send send_in_force change makes p part (sent_store v t.store q) t.solved is
+      (tells_by v i (sent_equations v frame m tail) t a (sent_store v t.store q) refl part is Rule.Send g content 1
+      (record { goal = Atom.send (term_at v.table.program.templates.nodes frame m) (term_at v.table.program.templates.nodes frame r); held = held v i g frame m r p s; makes = makes })
+      (record { left = tree v.table.program.templates.nodes tail; right = cell (v.table.program.cell + 2) })
+      (record { left = cell v.table.program.cell; right = term_at v.table.program.templates.nodes frame m } ∷ []) refl equations frames ports told
+      (ap (λ (E : Equations). record content { equations = E }) equations) is_told (λ old. names old ∙ named_with old (next_name v)))
       (solved_if v i (sent_equations v frame m tail) t a (sent_store v t.store q) refl t.solved refl)
-      (subst (λ (u : Place). Reads (IsRead (plan_at v Rule.Send g 1 Step.Fail []).reads) Rule.Send u None i.site) (sym p) (goal_reads v i g), (goal_reads v i g).1)
-      binds (tells_bound v i g Rule.Send send_in_force change makes content (without_goal g i.site.goals) refl (sent_equations v frame m tail) t a
-      (append_assoc i.site.content.equations (record { left = tree v.table.program.templates.nodes tail; right = cell (v.table.program.cell + 2) } ∷ [])
-      (record { left = cell v.table.program.cell; right = term_at v.table.program.templates.nodes frame m } ∷ [])) binds b)
+      binds (tells_bound v i g Rule.Send send_in_force change makes content (without_goal g i.site.goals) refl (sent_equations v frame m tail) t a equations binds b)

@@ -14,22 +14,21 @@ use Rattle.akl_model.specs.Instances.{term_at}
 use Rattle.akl_model.specs.Rules.{nothing, Change, becomes, telling, tell, change_by}
 use Rattle.akl_model.specs.Conditions as conditions
 use Rattle.akl_model.specs.Stable.{Allows}
-use Rattle.plan_laws.specs.Right.{Reads}
 use Rattle.local_store.specs.declared.part.Part.{Part}
 use Rattle.local_store.specs.Parts.{ToldStore, with_part, told_over}
+use Rattle.local_store.specs.Stored.{all_named}
 use Rattle.local_store.specs.Chained.{innermost}
 use Rattle.local_store.specs.Telling.{AnswersTold}
 use Rattle.class_members.specs.Members.{AreMembers}
 use Rattle.box_tree.specs.declared.step.Step.{Step}
 use Rattle.box_tree.specs.declared.view.Sight.{Sight}
 use Rattle.box_tree.specs.Views.{ViewValue, IsViewOf}
-use Rattle.box_tree.specs.Plans.{IsRead, IsRightLabel}
-use Rattle.rule_plan.specs.AtGoals.{label_at, plan_at, TellsRightly}
+use Rattle.table_laws.specs.Parts.{tells_one}
+use Rattle.rule_plan.specs.AtGoals.{label_at, IsRightAt, TellsRightly}
 use Rattle.guard_plan.proofs.Sites.{shows_at}
 use Rattle.rule_plan.proofs.InForce.{tell_in_force}
-use Rattle.guard_plan.proofs.ReadItems.{goal_reads}
 use Rattle.rule_plan.proofs.GoalRight.{told_right, tells_bound}
-use Rattle.rule_plan.proofs.ToldGoals.{same_frames, same_ports, solved_if, tells_goal}
+use Rattle.rule_plan.proofs.ToldGoals.{same_frames, same_ports, solved_if, tells_by}
 
 -- the equation of two nodes under a frame
 abbrev pub node_equation : Name → ℕ → ℕ → code.Equation
@@ -49,7 +48,7 @@ module _ (v : ViewValue) (i : IsViewOf v) (g frame : Name) (l r : ℕ) (p : v.pl
   abbrev change : Change
   change = becomes (telling left right i.site.content) (without_goal g i.site.goals) 0
 
-  makes : conditions.Makes (Allows v.table.program) v.table.program (slice_index i.table.config.next v.worker) (label_at v Rule.Tell) i.site change
+  abbrev makes : conditions.Makes (Allows v.table.program) v.table.program (slice_index i.table.config.next v.worker) (label_at v Rule.Tell) i.site change
   makes = record {
     reading = nothing;
     change = subst (λ (q : Place). change_by v.table.program nothing v.worker (slice_index i.table.config.next v.worker) Rule.Tell q None i.site ≡ Some change) (sym p) (ap (tell g i.site) held);
@@ -57,18 +56,14 @@ module _ (v : ViewValue) (i : IsViewOf v) (g frame : Name) (l r : ℕ) (p : v.pl
     few_names = omega arith;
   }
 
-  tells_right : (part : Part) → with_part (innermost v.stores) part ≡ t.store
-      → (binds : List Var) → AreMembers v.table.program.templates.nodes v.stores t.bound binds → IsRightLabel (plan_at v Rule.Tell g 0 (Step.Tell part t.solved) binds)
-  tells_right part is binds m = told_right v i g Rule.Tell tell_in_force change makes (an_atom (Atom.equation left right)) held part t.store t.solved is (
-    g,
-    p,
-    tells_goal v i (node_equation frame l r ∷ []) t a t.store refl Rule.Tell (slice_index i.table.config.next v.worker) g (telling left right i.site.content) 0
-        (record { goal = Atom.equation left right; held = held; makes = makes }) (record { left = left; right = right }) [] refl refl
-        (same_frames v i (node_equation frame l r ∷ []) t a) (same_ports v i (node_equation frame l r ∷ []) t a),
-  )
+  tells_right : (part : Part) → with_part (innermost v.stores) part ≡ t.store → part.frames.items ≡ []
+      → (binds : List Var) → AreMembers v.table.program.templates.nodes v.stores t.bound binds → IsRightAt v Rule.Tell g 0 (Step.Tell part t.solved) binds
+  tells_right part is none binds m = told_right v i g Rule.Tell tell_in_force change makes p part t.store t.solved is
+      (tells_by v i (node_equation frame l r ∷ []) t a t.store refl part is Rule.Tell g (telling left right i.site.content) 0
+      (record { goal = Atom.equation left right; held = held; makes = makes }) (record { left = left; right = right }) [] refl refl
+      (same_frames v i (node_equation frame l r ∷ []) t a) (same_ports v i (node_equation frame l r ∷ []) t a) (tells_one left right) refl refl (λ old. ap (all_named old) none))
       (solved_if v i (node_equation frame l r ∷ []) t a t.store refl t.solved refl)
-      (subst (λ (q : Place). Reads (IsRead (plan_at v Rule.Tell g 0 Step.Fail []).reads) Rule.Tell q None i.site) (sym p) (goal_reads v i g).0, (goal_reads v i g).1)
       binds (tells_bound v i g Rule.Tell tell_in_force change makes (telling left right i.site.content) (without_goal g i.site.goals) refl (node_equation frame l r ∷ []) t a refl binds m)
 
 pub tell_right : (v : ViewValue) (i : IsViewOf v) (g frame : Name) (l r : ℕ) (p : v.place ≡ Place.Goal g) (s : v.sight ≡ Sight.Atom (record { code = Code.Equal l r; frame = frame })) → TellsRightly v Rule.Tell g (node_equation frame l r)
-tell_right v i g frame l r p s t a = tells_right v i g frame l r p s (told_over (innermost v.stores) t) a t.part refl
+tell_right v i g frame l r p s t a none = tells_right v i g frame l r p s (told_over (innermost v.stores) t) a t.part refl none

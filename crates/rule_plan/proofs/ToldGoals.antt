@@ -1,4 +1,5 @@
--- A goal tells its box: the store that was told, with further frames and ports.
+-- A goal tells its box: what is added to the store that this has, with further frames and ports.
+use Rattle.std.specs.Prelude.{slice_index}
 use Rattle.std.proofs.Common.{◌≡◌, ℕ, List, [], ◌∷◌, ◌++◌, Bool, true, false, sym, ◌∙◌, ap, subst}
 use Rattle.akl_terms.specs.declared.name.Name.{Name}
 use Rattle.akl_terms.specs.declared.name.Var.{Var}
@@ -8,25 +9,27 @@ use Rattle.akl_terms.specs.Equal.{Equation, Equations, IsTold}
 use Rattle.akl_terms.specs.Standing.{StandFor}
 use Rattle.akl_terms.proofs.StandingLaws.{StandFor-back, StandFor-on}
 use Rattle.akl_model.specs.declared.label.Rule.{Rule}
-use Rattle.akl_model.specs.Config.{Content, without_goal, environment, whole}
+use Rattle.akl_model.specs.Config.{Content, with_names, without_goal, environment, whole}
 use Rattle.akl_model.specs.Wakes.{names_around}
 use Rattle.rational_unify.specs.Solving.{bindings_in, equations_in}
-use Rattle.local_store.specs.Parts.{ToldStore}
-use Rattle.local_store.specs.Stored.{Stored}
+use Rattle.local_store.specs.declared.part.Part.{Part}
+use Rattle.local_store.specs.Parts.{ToldStore, with_part}
+use Rattle.local_store.specs.Stored.{Stored, all_named}
 use Rattle.local_store.specs.Chained.{innermost, around, IsSolvedChain}
 use Rattle.local_store.specs.Telling.{AnswersTold}
-use Rattle.table_laws.specs.Rows.{stores_along, told_in, ports_in}
+use Rattle.plan_laws.specs.Local.{Told, told_to}
+use Rattle.table_laws.specs.Rows.{stores_along, store_in, told_in, ports_in}
 use Rattle.table_laws.specs.Steps.{ReducesAtom, TellsGoal, IsSolvedIf}
-use Rattle.box_tree.specs.Tables.{table_of}
-use Rattle.box_tree.specs.Views.{ViewValue, IsViewOf}
+use Rattle.table_laws.specs.Added.{added_of, with_added}
+use Rattle.table_laws.specs.Telling.{IsToldFor, TellsBy}
+use Rattle.table_laws.proofs.Here.{tells_from}
+use Rattle.box_tree.specs.Tables.{all_rules, table_of}
+use Rattle.box_tree.specs.Views.{ViewValue, IsViewOf, run_of}
 use Rattle.rule_plan.specs.AtGoals.{label_at}
-use Rattle.guard_plan.proofs.Sites.{row, environment_stands, whole_stands, stores_split}
+use Rattle.guard_plan.proofs.Sites.{row, found, environment_stands, whole_stands, stores_split, own_store, own_here}
 use Rattle.box_tree.proofs.ToldChains.{around_push}
-use Rattle.guard_plan.proofs.Chains.{innermost_push, same_solved}
+use Rattle.guard_plan.proofs.Chains.{same_solved}
 use Rattle.rule_plan.proofs.Storing.{tells_stands, told_over}
-
-pub own_store : (v : ViewValue) (i : IsViewOf v) → innermost v.stores ≡ (row v i).0.store
-own_store v i = ap innermost (stores_split v i) ∙ innermost_push (stores_along (table_of v.table) (names_around i.site)) (row v i).0.store
 
 module _ (v : ViewValue) (i : IsViewOf v) (es : List code.Equation) (t : ToldStore) (a : AnswersTold v.table.program.templates.nodes v.stores v.known es t) where
   outside : around v.stores ≡ stores_along (table_of v.table) (names_around i.site)
@@ -55,18 +58,35 @@ module _ (v : ViewValue) (i : IsViewOf v) (es : List code.Equation) (t : ToldSto
         same_solved v.table.program.templates.nodes (stores_along (table_of v.table) (names_around i.site)) t.store new same
         (subst (λ (ss : List Stored). IsSolvedChain v.table.program.templates.nodes (ss ++ t.store ∷ [])) outside (a.tells.solved w.0 w.1))
 
-    pub tells_goal : (rule : Rule) (next : ℕ) (g : Name) (content : Content) (drawn : ℕ) → ReducesAtom v.table.program (label_at v rule) next i.site g content (without_goal g i.site.goals) drawn
-        → (first : Equation) (more : Equations) → equations_in v.table.program.templates.nodes es ≡ first ∷ more → content.equations ≡ i.site.content.equations ++ first ∷ more
-        → new.frames ≡ content.frames → ports_in v.table.program.templates.nodes new.ports ≡ content.ports → TellsGoal v.table.program (label_at v rule) next i.site g new
-    tells_goal rule next g content drawn reduces first more is equations frames ports = record {
-      content = content;
-      drawn = drawn;
-      reduces = reduces;
-      first = first;
-      more = more;
-      equations = equations;
-      frames = frames;
-      ports = ports;
-      stands = λ D d. subst (λ (E : Equations). StandFor (IsTold (D ++ bindings_in v.table.program.templates.nodes new.bindings)) (IsTold (whole i.site ++ E))) is
-          (subst (λ (l : List (Var × Term)). StandFor (IsTold (D ++ bindings_in v.table.program.templates.nodes l)) (IsTold (whole i.site ++ equations_in v.table.program.templates.nodes es))) (sym same) (stands D d));
-    }
+    -- by what it is that adds it
+    module _ (part : Part) (is : with_part (innermost v.stores) part ≡ new) where
+      abbrev now : Stored
+      now = with_added (store_in ((table_of v.table).box_of i.site.content.name)) (added_of part)
+
+      is_now : now ≡ new
+      is_now = ap (λ (s : Stored). with_part s part) (sym (own_here v i)) ∙ is
+
+      abbrev tells_goal : (rule : Rule) (g : Name) (content : Content) (drawn : ℕ) → ReducesAtom v.table.program (label_at v rule) (slice_index i.table.config.next v.worker) i.site g content (without_goal g i.site.goals) drawn
+          → (first : Equation) (more : Equations) → equations_in v.table.program.templates.nodes es ≡ first ∷ more → content.equations ≡ i.site.content.equations ++ first ∷ more
+          → new.frames ≡ content.frames → ports_in v.table.program.templates.nodes new.ports ≡ content.ports → TellsGoal v.table.program (label_at v rule) (slice_index i.table.config.next v.worker) i.site g now
+      tells_goal rule g content drawn reduces first more told equations frames ports = record {
+        content = content;
+        drawn = drawn;
+        reduces = reduces;
+        first = first;
+        more = more;
+        equations = equations;
+        frames = ap (λ (s : Stored). s.frames) is_now ∙ frames;
+        ports = ap (λ (s : Stored). ports_in v.table.program.templates.nodes s.ports) is_now ∙ ports;
+        stands = λ D d. subst (λ (E : Equations). StandFor (IsTold (D ++ bindings_in v.table.program.templates.nodes now.bindings)) (IsTold (whole i.site ++ E))) told
+            (subst (λ (l : List (Var × Term)). StandFor (IsTold (D ++ bindings_in v.table.program.templates.nodes l)) (IsTold (whole i.site ++ equations_in v.table.program.templates.nodes es))) (sym (ap (λ (s : Stored). s.bindings) is_now ∙ same)) (stands D d));
+      }
+
+      pub tells_by : (rule : Rule) (g : Name) (content : Content) (drawn : ℕ) (reduces : ReducesAtom v.table.program (label_at v rule) (slice_index i.table.config.next v.worker) i.site g content (without_goal g i.site.goals) drawn)
+          → (first : Equation) (more : Equations) → equations_in v.table.program.templates.nodes es ≡ first ∷ more → content.equations ≡ i.site.content.equations ++ first ∷ more
+          → new.frames ≡ content.frames → ports_in v.table.program.templates.nodes new.ports ≡ content.ports → (told : Told) → content ≡ told_to told i.site.content
+          → IsToldFor v.table.program reduces.makes.reading v.worker (slice_index i.table.config.next v.worker) rule i.site.content.ports reduces.goal told
+          → ((old : List Name) → all_named old part.frames.items ≡ with_names told.frames old) → TellsBy v.table.program (label_at v rule) (slice_index i.table.config.next v.worker) i.site g (added_of part)
+      tells_by rule g content drawn reduces first more is_first equations frames ports told is_content is_told names =
+          tells_from all_rules (run_of v.table v.journal) (table_of v.table) i.table i.site (found v i) (label_at v rule) g (added_of part)
+          (tells_goal rule g content drawn reduces first more is_first equations frames ports) told is_content is_told names

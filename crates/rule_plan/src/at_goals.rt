@@ -1,25 +1,27 @@
 //! Plans at goals.
 
 ghost use Rattle.std.specs.Prelude.{◌≡◌, [], IfOk};
+ghost use Rattle.akl_terms.specs.declared.name.Place.{Place};
 ghost use Rattle.local_store.specs.Stored.{Stored, with_port};
 ghost use Rattle.local_store.specs.Parts.{with_part};
 ghost use Rattle.local_store.specs.Chained.{innermost, replaced};
-ghost use Rattle.box_tree.specs.Plans.{IsRightLabel, labels_behind};
-ghost use Rattle.rule_plan.specs.AtGoals.{plan_at, IsToldRightly, TellsRightly};
+ghost use Rattle.box_tree.specs.Plans.{labels_behind};
+ghost use Rattle.rule_plan.specs.AtGoals.{IsRightAt, IsToldRightly, TellsRightly};
 ghost use Rattle.guard_plan.specs.Planned.{IsPlannedBy};
 ghost use Rattle.guard_plan.specs.Solved.{SaysSolved, IsKnownWith};
 
 use akl_model::Rule;
-use akl_terms::{Equation, Name, Program, Term, Var};
+use akl_terms::{Equation, Name, Program, Templates, Term, Var};
 use box_tree::{Plan, Step, View};
 use class_members::members;
-use guard_plan::{goal_and_stores, label_of};
+use guard_plan::{label_of, reads_of};
 use local_store::{Part, ToldPart, told};
 use std::alloc::{AllocError, Global};
 
-// The plan of a rule at a goal, which read the goal and the constraints down to its box, and binds these variables.
+// The plan of a rule at a goal, which binds these variables.
 pub(crate) fn goal_plan(
     alloc: Global,
+    templates: &Templates,
     view: &View,
     goal: Name,
     rule: Rule,
@@ -27,12 +29,14 @@ pub(crate) fn goal_plan(
     step: Step,
     binds: Vec<Var>,
 ) -> Result<Option<Plan>, AllocError>
-    requires right { IsRightLabel (plan_at view.now rule goal names step binds.items) }
+    requires nodes { templates.now.nodes ≡ view.now.table.program.templates.nodes }
+    requires place { view.now.place ≡ Place.Goal goal }
+    requires right { IsRightAt view.now rule goal names step binds.items }
     requires alone { labels_behind step ≡ (0, 0) }
     requires solved { SaysSolved view.now rule step }
     ensures { IfOk result (IsPlannedBy view.now) }
 {
-    let reads = goal_and_stores(alloc, goal, view.path())?;
+    let reads = reads_of(alloc, templates, view, goal, binds.as_slice())?;
     let label = label_of(view, rule);
     let plan = Plan::new(alloc, view, label, reads, names, step, binds)?;
     Ok(Some(plan))
@@ -48,6 +52,7 @@ pub(crate) fn telling_plan(
     equation: Equation,
 ) -> Result<Option<Plan>, AllocError>
     requires program { program.now ≡ view.now.table.program }
+    requires place { view.now.place ≡ Place.Goal goal }
     requires right { TellsRightly view.now rule goal equation }
     ensures { IfOk result (IsPlannedBy view.now) }
 {
@@ -66,6 +71,7 @@ pub(crate) fn told_plan(
     answer: ToldPart,
 ) -> Result<Option<Plan>, AllocError>
     requires program { program.now ≡ view.now.table.program }
+    requires place { view.now.place ≡ Place.Goal goal }
     requires right { IsToldRightly view.now rule goal names answer }
     requires solved { IsKnownWith view.now (replaced view.now.stores (with_part (innermost view.now.stores) answer.part)) answer.solved }
     ensures { IfOk result (IsPlannedBy view.now) }
@@ -78,7 +84,16 @@ pub(crate) fn told_plan(
     let chain = view.chain(&program.templates);
     let binds = members(alloc, &chain, bound.as_slice())?;
     let step = Step::Tell { part, solved };
-    goal_plan(alloc, view, goal, rule, names, step, binds)
+    goal_plan(
+        alloc,
+        &program.templates,
+        view,
+        goal,
+        rule,
+        names,
+        step,
+        binds,
+    )
 }
 
 // A port is added too, to a part that has none.

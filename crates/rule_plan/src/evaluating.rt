@@ -6,16 +6,16 @@ ghost use Rattle.akl_terms.specs.declared.program.Code.{Code};
 ghost use Rattle.akl_model.specs.declared.label.Rule.{Rule};
 ghost use Rattle.box_tree.specs.declared.view.Sight.{Sight};
 ghost use Rattle.box_tree.specs.Views.{IsViewOf};
-ghost use Rattle.box_tree.specs.Plans.{IsRightLabel, labels_behind};
+ghost use Rattle.box_tree.specs.Plans.{labels_behind};
 ghost use Rattle.guard_plan.specs.declared.guards.Noise.{Noise};
 ghost use Rattle.guard_plan.specs.Noisy.{IsTriedBy};
 ghost use Rattle.guard_plan.specs.Planned.{IsPlannedBy};
 ghost use Rattle.guard_plan.specs.Solved.{SaysSolved};
-ghost use Rattle.rule_plan.specs.AtGoals.{plan_at};
+ghost use Rattle.rule_plan.specs.AtGoals.{IsRightAt};
 
 use crate::at_goals::{goal_plan, telling_plan};
 use akl_model::Rule;
-use akl_terms::{Code, Equation, Goal, Name, Program, Term, Test, Var};
+use akl_terms::{Code, Equation, Goal, Name, Program, Templates, Term, Test, Var};
 use arith_goals::{ArithValue, evaluate};
 use box_tree::{Plan, Step, View};
 use guard_plan::Noise;
@@ -67,8 +67,8 @@ pub(crate) fn eval(
             };
             telling_plan(alloc, program, view, goal, Rule::Eval, equation)
         }
-        ArithValue::Holds => eval_plan(alloc, view, goal, Step::Confirm),
-        ArithValue::Fails => eval_plan(alloc, view, goal, Step::Refute),
+        ArithValue::Holds => eval_plan(alloc, &program.templates, view, goal, Step::Confirm),
+        ArithValue::Fails => eval_plan(alloc, &program.templates, view, goal, Step::Refute),
         ArithValue::Waits { on } => {
             push_awaited(alloc, on, noise)?;
             Ok(None)
@@ -87,11 +87,20 @@ fn push_awaited(alloc: Global, on: Var, noise: &mut Vec<Noise>) -> Result<(), Al
 }
 
 // The plan of Eval with a step that tells nothing.
-fn eval_plan(alloc: Global, view: &View, goal: Name, step: Step) -> Result<Option<Plan>, AllocError>
-    requires right { IsRightLabel (plan_at view.now Rule.Eval goal 0 step []) }
+fn eval_plan(
+    alloc: Global,
+    templates: &Templates,
+    view: &View,
+    goal: Name,
+    step: Step,
+) -> Result<Option<Plan>, AllocError>
+    requires nodes { templates.now.nodes ≡ view.now.table.program.templates.nodes }
+    requires place { view.now.place ≡ Place.Goal goal }
+    requires right { IsRightAt view.now Rule.Eval goal 0 step [] }
     requires alone { labels_behind step ≡ (0, 0) }
     requires solved { SaysSolved view.now Rule.Eval step }
     ensures { IfOk result (IsPlannedBy view.now) }
 {
-    goal_plan(alloc, view, goal, Rule::Eval, 0, step, Vec::new(alloc))
+    let binds = Vec::new(alloc);
+    goal_plan(alloc, templates, view, goal, Rule::Eval, 0, step, binds)
 }

@@ -124,6 +124,7 @@ fn tell_list(
 ) -> Result<ToldPart, AllocError>
     ensures told { IfOk result (λ t. AnswersTold chain.now.nodes chain.now.stores chain.now.known (list_equations program.now.cell frame tail message.frame message.message)
         (told_over (innermost chain.now.stores) t)) }
+    ensures frames { IfOk result (λ t. t.part.frames.items ≡ []) }
     ensures ports { IfOk result (λ t. t.part.ports.items ≡ []) }
 {
     let equations = [

@@ -125,6 +125,42 @@ fn four_workers_plan_over_one_state(rt: HostRuntime) -> Result<(), AllocError> {
     Ok(())
 }
 
+/// Options, programs, queries, and what comes of commands whose two workers first plan over one state: how many of the labels
+/// were planned over it, of how many, and the reply.
+const MEETINGS: &str = r"
+--workers=2 =>  => A = a, B = b => 2 of 2 / 0 / answer 1 / A = a / B = b / done
+--workers=2 =>  => A = a, A = b => 1 of 3 / 1 / failed
+--workers=2 => p(X) :- X < 1 ? true. => A = a, p(B) => 2 of 2 / 2 / suspended 1
+";
+
+// A line's command by two workers who plan over one state first.
+fn run_met<R: Threads + Wait + Sync + Abort>(
+    rt: &R,
+    alloc: Global,
+    line: &str,
+) -> Result<(), AllocError> {
+    let case = case_of(line);
+    let words = words_for(alloc, &case)?;
+    let gate = MeetGate::new(2, 10_000_000);
+    let reply = command_at(rt, alloc, &words, case.program, &gate)?;
+    let first = reply.first_plans;
+    let all = reply.labels;
+    let found = format!(in alloc; "{first} of {all} / {}", reply.text)?;
+    expect(rt, &found, case.wanted, line);
+    assert!(rt; gate.met());
+    Ok(())
+}
+
+#[test]
+fn two_plans_of_one_state_both_hold_unless_one_binds_what_the_other_read(
+    rt: HostRuntime,
+) -> Result<(), AllocError> {
+    for line in MEETINGS.lines().skip(1) {
+        run_met(&rt, rt.alloc(), line)?;
+    }
+    Ok(())
+}
+
 /// Options, programs, queries and replies of commands of which one worker is held.
 const HELD: &str = r"
 --workers=16,--budget,10 => p :- -> p. => p => 3 / budget

@@ -8,7 +8,7 @@ use Rattle.akl_terms.specs.Names.{same_name}
 use Rattle.akl_model.specs.Config.{IsIn, Boxes, Config}
 use Rattle.akl_model.specs.Wakes.{boxes_around, StandsIn, Wait, IsOneOf, IsThere, Opens}
 use Rattle.step_laws.specs.Likeness.{IsOld}
-use Rattle.wait_laws.specs.Waits.{AreWaits}
+use Rattle.plan_laws.specs.Waits.{AreWaits}
 use Rattle.wake_lists.specs.Waits.{same_place}
 use Rattle.wake_lists.proofs.Both.{same_place-equal}
 use Rattle.opened_places.specs.Placed.{PlacedValue}

@@ -12,8 +12,8 @@ use Rattle.akl_model.specs.Instances.{start}
 use Rattle.akl_model.specs.Derivations.{Replays}
 use Rattle.akl_model.specs.Wakes.{Wait, IsKept, IsOneOf, Opens, IsOpenAfterCommit, IsKeptAfterCommit}
 use Rattle.akl_model.proofs.Results.{Derives-one}
-use Rattle.sleep_laws.specs.Runs.{Runs}
-use Rattle.wait_laws.specs.Kept.{AreLeftByCommit}
+use Rattle.plan_laws.specs.Runs.{Runs}
+use Rattle.plan_laws.specs.Kept.{AreLeftByCommit}
 use Rattle.table_laws.specs.Steps as laws
 use Rattle.box_tree.specs.Tables.{all_rules, step_in, table_of}
 use Rattle.box_tree.specs.Plans.{PlanValue, IsRight}

@@ -1,5 +1,5 @@
 -- What a core's table says of its configuration.
-use Rattle.std.proofs.Common.{◌≡◌, true, false, Option, Some, None, refl, sym, ap, ◌∙◌}
+use Rattle.std.proofs.Common.{◌≡◌, true, false, Option, Some, None, refl, sym, ap, subst, ◌∙◌}
 use Rattle.std.specs.Prelude.{is_some, option_map, option_and_then}
 use Rattle.akl_terms.specs.declared.name.Name.{Name}
 use Rattle.akl_terms.specs.declared.name.Place.{Place}
@@ -23,12 +23,13 @@ use Rattle.table_laws.proofs.Insides as insides
 use Rattle.box_tree.specs.Tables.{all_rules, TableValue, table_of, store_at}
 use Rattle.box_tree.specs.Views.{is_there}
 use Rattle.box_tree.specs.declared.view.Sight.{Sight}
+use Rattle.box_tree.specs.Drops.{IsOfRun}
 use Rattle.box_tree.specs.Paths.{sight_in}
 use Rattle.box_tree.proofs.Viewed.{StandsAt, seen}
 use Rattle.opened_places.specs.declared.around.Around.{Around}
 use Rattle.opened_places.specs.Exact.{IsAround, site_in}
 use Rattle.opened_places.proofs.RunRows.{sight_site, no_sight}
-use Rattle.step_commit.specs.Cores.{CoreValue, TableIn}
+use Rattle.step_commit.specs.Cores.{CoreValue, TableIn, run_by, IsCore}
 
 -- a run has one configuration
 pub one_config : (c : CoreValue) (t u : TableIn c) → t.config ≡ u.config
@@ -74,3 +75,7 @@ home_store T l x store k e = on l.place k.home
     on : (place : Place) → site_in T place ≡ Some x.home → store_at T place ≡ store
     on (Place.Goal g) q = at_home (writes.home_in (T.goal_of g)) q
     on (Place.Box n) q = ap (λ (m : Name). store_in (T.box_of m)) (some_value q) ∙ stored (T.box_of x.home) e
+
+-- the table of a core is one to which a run has led
+pub of_run : (c : CoreValue) → IsCore c → (t : TableValue) → t ≡ c.table → IsOfRun t
+of_run c k t e = subst IsOfRun (sym e) (run_by c, k.table)

@@ -1,13 +1,13 @@
 -- The places that are listed for a plan are those that its label opens.
 use Rattle.std.proofs.Common.{◌≡◌, Bool, true, false, List, [], ◌∷◌, Option, Some, None, refl, sym, ap, subst, ◌∙◌, inl, inr}
 use Rattle.opened_places.proofs.Members.{one_left, one_right, one_either}
-use Rattle.std.specs.Prelude.{is_some, option_map, IsSomeAnd}
+use Rattle.std.specs.Prelude.{is_some, option_map, map, ◌&&◌, IsSomeAnd}
 use Rattle.std.specs.List.{AllByRecursion}
 use Rattle.akl_terms.specs.declared.name.Name.{Name}
 use Rattle.akl_terms.specs.declared.name.Var.{Var}
 use Rattle.akl_terms.specs.declared.name.Place.{Place}
 use Rattle.akl_model.specs.declared.label.Label.{Label}
-use Rattle.akl_model.specs.Config.{IsIn, Config, Found, box_at, home_of}
+use Rattle.akl_model.specs.Config.{IsIn, Content, Config, Found, whole, box_at, home_of}
 use Rattle.akl_model.proofs.NamesKept.{Stand}
 use Rattle.akl_model.specs.Changes.{Binds}
 use Rattle.akl_model.specs.Wakes.{names_around, names_down_to, boxes_around, StandsIn, Wait, IsKept, IsOneOf, IsThere, Opens}
@@ -15,7 +15,7 @@ use Rattle.constraint_laws.proofs.SameTerms.{Either}
 use Rattle.constraint_laws.specs.Touched.{IsAmong}
 use Rattle.step_laws.proofs.Decide.{there_or}
 use Rattle.step_laws.proofs.There.{there_site}
-use Rattle.wait_laws.specs.Waits.{AreWaits}
+use Rattle.plan_laws.specs.Waits.{AreWaits}
 use Rattle.table_laws.specs.Stamped.{IsTableOf}
 use Rattle.table_laws.specs.Steps as laws
 use Rattle.box_tree.specs.Tables.{all_rules, TableValue, table_of, step_in}
@@ -34,13 +34,15 @@ use Rattle.opened_places.proofs.StillAround.{still_around}
 use Rattle.scheduler.specs.Openings.{AreListed}
 use Rattle.scheduler.specs.Opening.{IsPlacedIn}
 use Rattle.scheduler.specs.Effects.{StandsNow, stands, goes, AreOpenedBy}
-use Rattle.scheduler.specs.Listing.{waiting_on, places_but, binds_outer, AreInner, AreOthers, AreListedFor}
+use Rattle.scheduler.specs.Listing.{waiting_on, places_but, outer_of, frames_made, binds_outer, AreInner, AreOthers, AreListedFor}
 use Rattle.wake_lists.specs.Waits.{waits_on}
 use Rattle.scheduler.proofs.DroppedWaits.{Waiting}
 use Rattle.scheduler.proofs.CommitFacts.{stands_there}
 use Rattle.scheduler.proofs.Leading as leading
 use Rattle.scheduler.proofs.ListedOthers.{waits_listed, listed_waits, stays_listed, listed_stays, outer_so, so_outer}
+use Rattle.akl_model.proofs.Options.{some_value}
 use Rattle.scheduler.proofs.PlanNow.{IsMadeTo}
+use Rattle.scheduler.proofs.RootBinds.{root_binds_inside, unheld_root}
 use Rattle.scheduler.proofs.Woken.{AddsAt, woken}
 use Rattle.scheduler.proofs.PlacedThose.{of_placed, one_placed, those_keep, those_come, came_so}
 
@@ -50,7 +52,7 @@ each_of P (q ∷ qs) a p (inl e) = subst P (sym e) a.0
 each_of P (q ∷ qs) a p (inr i) = each_of P qs a.1 p i
 
 -- a step gives its box a store where a variable is of none of its frames
-outer_step : (xs : List Var) (step : laws.Step) → HasOuterIn xs step → binds_outer xs step ≡ true
+outer_step : (xs : List Var) (step : laws.Step) → HasOuterIn xs step → outer_of xs (frames_made step) ≡ true
 outer_step xs (laws.tells new solved) w = so_outer xs new.frames w
 outer_step xs (laws.joins new solved goals) w = so_outer xs new.frames w
 outer_step xs (laws.forks op news) w = absurd w
@@ -60,7 +62,7 @@ outer_step xs laws.refutes w = absurd w
 outer_step xs laws.confirms w = absurd w
 outer_step xs (laws.splits copy copies) w = absurd w
 
-step_outer : (xs : List Var) (step : laws.Step) → binds_outer xs step ≡ true → HasOuterIn xs step
+step_outer : (xs : List Var) (step : laws.Step) → outer_of xs (frames_made step) ≡ true → HasOuterIn xs step
 step_outer xs (laws.tells new solved) e = outer_so xs new.frames e
 step_outer xs (laws.joins new solved goals) e = outer_so xs new.frames e
 step_outer xs (laws.forks op news) e = cc
@@ -69,6 +71,18 @@ step_outer xs laws.cuts e = cc
 step_outer xs laws.refutes e = cc
 step_outer xs laws.confirms e = cc
 step_outer xs (laws.splits copy copies) e = cc
+
+and_right : (a b : Bool) → (a && b) ≡ true → b ≡ true
+and_right true b e = e
+and_right false b e = cc
+
+and_both : (a b : Bool) → a ≡ true → b ≡ true → (a && b) ≡ true
+and_both true b e h = h
+and_both false b e h = cc
+
+none_named : {A B : Type 0} (f : A → B) (xs : List A) → map f xs ≡ [] → xs ≡ []
+none_named f [] e = refl
+none_named f (x ∷ xs) e = cc
 
 -- a place that isn't there and comes
 is_new : (c d : Config) (place : Place) → (IsThere place c.roots → ⊥) → IsThere place d.roots → IsChanged c d place
@@ -125,22 +139,36 @@ module _ (v : TableValue) (journal : List Label) (t : IsTableOf all_rules (run_o
   outside : (BindsOutside c d n → HasOuterIn p.binds step) × (HasOuterIn p.binds step → BindsOutside c d n)
   outside = leading.seen_outside v journal t p.label p.more step d made.leads p.binds made.bound
 
+  -- a label that binds a variable from outside is in a box that a choice holds
+  inner_binds : BindsOutside c d n → is_some x.around.holder ≡ true
+  inner_binds b = on (is_some x.around.holder) refl
+    where
+      names_still : (f g : Found) → box_at n c.roots ≡ Some f → box_at n d.roots ≡ Some g → f.around ≡ [] → g.around ≡ []
+      names_still f g i k e = none_named (λ (z : Content). z.name) g.around (some_value (sym (ap (option_map names_around) k)
+          ∙ sym (still (Place.Box n) (ap (λ (o : Option Found). is_some (option_map names_around o)) i) (ap (λ (o : Option Found). is_some (option_map names_around o)) k))
+          ∙ ap (option_map names_around) i) ∙ ap (λ (l : List Content). map (λ (z : Content). z.name) l) e)
+
+      on : (h : Bool) → is_some x.around.holder ≡ h → h ≡ true
+      on true e = refl
+      on false e = absurd (root_binds_inside d (leading.good_on v journal t p.label p.more step d made.leads) n b.binds.adds.afterwards b.binds.adds.is
+          (names_still b.binds.adds.before b.binds.adds.afterwards b.binds.adds.was b.binds.adds.is (unheld_root v journal t x.around n same_home x.is_around.holder e b.binds.adds.before b.binds.adds.was)) (whole b.binds.adds.before) b.variable b.binds.newly_bound b.outside)
+
   -- the others
   abbrev all : List Place
   all = x.are_others.all
 
-  are_others : AreOthers v ws p x.around.home gone all
+  are_others : AreOthers v ws p x.around gone all
   are_others = x.are_others.are_others
 
   woken_other : (place : Place) → IsOneOf place (waiting_on ws p.binds) → IsOneOf place x.others
-  woken_other place i = x.are_others.same.all place (on (binds_outer p.binds step) refl)
+  woken_other place i = x.are_others.same.all place (on (binds_outer x.around p.binds step) refl)
     where
-      on : (b : Bool) → binds_outer p.binds step ≡ b → IsOneOf place all
+      on : (b : Bool) → binds_outer x.around p.binds step ≡ b → IsOneOf place all
       on true e = let w : AreInner v x.around.home gone (waiting_on ws p.binds) all = are_others.outer e in
           subst (IsOneOf place) (sym w.comes) (one_left place (waiting_on ws p.binds) (places_but gone (places_of w.inside)) i)
       on false e = subst (IsOneOf place) (sym (are_others.none_outer e)) i
 
-  inner_other : binds_outer p.binds step ≡ true → (place : Place) → IsThere place d.roots → StandsIn n c.roots place → IsOneOf place x.others
+  inner_other : binds_outer x.around p.binds step ≡ true → (place : Place) → IsThere place d.roots → StandsIn n c.roots place → IsOneOf place x.others
   inner_other e place h s =
       let w : AreInner v x.around.home gone (waiting_on ws p.binds) all = are_others.outer e in
       let inside : AreAllInside c.roots x.around.home w.inside = w.are_inside (run_of v journal) t in
@@ -148,7 +176,7 @@ module _ (v : TableValue) (journal : List Label) (t : IsTableOf all_rules (run_o
       ((stays_listed gone (places_of w.inside) place (inside.listed place (subst (λ (m : Name). StandsIn m c.roots place) (sym same_home) s)) (λ i. (all_gone.gone place i).gone h)))))
 
   other_opens : (place : Place) → IsOneOf place x.others → Opens kept c d place
-  other_opens place i = on (binds_outer p.binds step) refl
+  other_opens place i = on (binds_outer x.around p.binds step) refl
     where
       by_waits : IsOneOf place (waiting_on ws p.binds) → Opens kept c d place
       by_waits j =
@@ -156,9 +184,9 @@ module _ (v : TableValue) (journal : List Label) (t : IsTableOf all_rules (run_o
           let k : IsKept kept place w.0 = listed.all place w.0 w.2 in
           (opens_law kept c d place).1 (inr (inl (record { box = n; variable = w.0; kept = k; binds = (is_woken place).1 w.0 k w.1 })))
 
-      by_box : binds_outer p.binds step ≡ true → StandsIn n d.roots place → Opens kept c d place
+      by_box : binds_outer x.around p.binds step ≡ true → StandsIn n d.roots place → Opens kept c d place
       by_box e s =
-          let o : BindsOutside c d n = outside.1 (step_outer p.binds step e) in
+          let o : BindsOutside c d n = outside.1 (step_outer p.binds step (and_right (is_some x.around.holder) (outer_of p.binds (frames_made step)) e)) in
           (opens_law kept c d place).1 (inr (inr (record { box = n; variable = o.variable; binds = o.binds; outside = o.outside; stands = s })))
 
       there : (IsOneOf place gone → ⊥) → IsThere place c.roots → IsThere place d.roots
@@ -167,7 +195,7 @@ module _ (v : TableValue) (journal : List Label) (t : IsTableOf all_rules (run_o
       listed_all : IsOneOf place all
       listed_all = x.are_others.same.only place i
 
-      on : (b : Bool) → binds_outer p.binds step ≡ b → Opens kept c d place
+      on : (b : Bool) → binds_outer x.around p.binds step ≡ b → Opens kept c d place
       on false e = by_waits (subst (IsOneOf place) (are_others.none_outer e) listed_all)
       on true e =
           let w : AreInner v x.around.home gone (waiting_on ws p.binds) all = are_others.outer e in
@@ -200,8 +228,11 @@ module _ (v : TableValue) (journal : List Label) (t : IsTableOf all_rules (run_o
           same : k.box ≡ n
           same = at_site.alone k.box k.binds.adds
 
-          outer : binds_outer p.binds step ≡ true
-          outer = outer_step p.binds step (outside.0 (subst (BindsOutside c d) same (record { variable = k.variable; binds = k.binds; outside = k.outside })))
+          bound : BindsOutside c d n
+          bound = subst (BindsOutside c d) same (record { variable = k.variable; binds = k.binds; outside = k.outside })
+
+          outer : binds_outer x.around p.binds step ≡ true
+          outer = and_both (is_some x.around.holder) (outer_of p.binds (frames_made step)) (inner_binds bound) (outer_step p.binds step (outside.0 bound))
 
           in_home : StandsIn n d.roots place
           in_home = subst (λ (m : Name). StandsIn m d.roots place) same k.stands

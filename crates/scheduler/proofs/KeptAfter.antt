@@ -6,7 +6,7 @@ use Rattle.akl_terms.specs.declared.name.Place.{Place}
 use Rattle.akl_model.specs.Config.{Config}
 use Rattle.akl_model.specs.Wakes.{Wait, IsKept}
 use Rattle.step_laws.proofs.Decide.{there_or}
-use Rattle.wait_laws.specs.Kept.{AreLeftByCommit}
+use Rattle.plan_laws.specs.Kept.{AreLeftByCommit}
 use Rattle.wake_lists.specs.Waits.{waits_on}
 use Rattle.opened_places.specs.Placed.{PlacedValue, places_of}
 use Rattle.scheduler.specs.Openings.{AreListed}

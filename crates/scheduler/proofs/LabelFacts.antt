@@ -17,10 +17,10 @@ use Rattle.step_laws.proofs.Whereabouts.{found_in, in_found, home_in, in_home}
 use Rattle.step_laws.proofs.Deeper.{Over, over, home_found}
 use Rattle.step_laws.proofs.GoalEdits.{HasGoal}
 use Rattle.step_laws.proofs.Steps.{Later}
-use Rattle.sleep_laws.specs.Runs.{Runs, IsAwake, is_open, has_open}
-use Rattle.sleep_laws.proofs.DownTo.{down_to, stands_down}
-use Rattle.sleep_laws.proofs.IdlePlaces.{awake}
-use Rattle.wait_laws.specs.Waits.{AreWaits}
+use Rattle.plan_laws.specs.Runs.{Runs, IsAwake, is_open, has_open}
+use Rattle.plan_laws.proofs.DownTo.{down_to, stands_down}
+use Rattle.plan_laws.proofs.IdlePlaces.{awake}
+use Rattle.plan_laws.specs.Waits.{AreWaits}
 use Rattle.table_laws.specs.Going.{IsGone, boxes_going}
 use Rattle.table_laws.specs.Writes.{IsGoalInsideOne}
 use Rattle.table_laws.specs.Stamped.{IsTableOf}

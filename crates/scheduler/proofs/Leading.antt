@@ -21,21 +21,21 @@ use Rattle.constraint_laws.proofs.Beside.{follows_told}
 use Rattle.step_laws.specs.Bound.{AreBoundIn}
 use Rattle.step_laws.proofs.Stays.{equations_grow}
 use Rattle.step_laws.proofs.Whereabouts.{found_in}
-use Rattle.sleep_laws.specs.Runs.{Runs}
-use Rattle.sleep_laws.proofs.InScope.{Good}
-use Rattle.sleep_laws.proofs.Replayed.{good_replay}
-use Rattle.wait_laws.specs.Kept.{AreLeftByCommit}
-use Rattle.wait_laws.specs.Waits.{AreWaits}
-use Rattle.wait_laws.proofs.KeptByCommit.{kept_by_commit}
-use Rattle.wait_laws.proofs.Sites.{adds_at_site}
+use Rattle.plan_laws.specs.Runs.{Runs}
+use Rattle.plan_laws.proofs.InScope.{Good}
+use Rattle.plan_laws.proofs.Replayed.{good_replay}
+use Rattle.plan_laws.specs.Kept.{AreLeftByCommit}
+use Rattle.plan_laws.specs.Waits.{AreWaits}
+use Rattle.plan_laws.proofs.KeptByCommit.{kept_by_commit}
+use Rattle.plan_laws.proofs.Sites.{adds_at_site}
 use Rattle.table_laws.specs.Stamped.{IsTableOf}
 use Rattle.table_laws.specs.Steps as laws
-use Rattle.call_laws.specs.AtOnce.{by, at_once}
-use Rattle.call_laws.specs.Wakes.{TellsNothing, CommitsNet}
-use Rattle.call_laws.proofs.CallPassage.{adds_net}
-use Rattle.call_laws.proofs.Calls.{fork_applies}
-use Rattle.call_laws.proofs.NetKept.{net_kept}
-use Rattle.call_laws.proofs.NetRuns.{net_runs}
+use Rattle.plan_laws.specs.AtOnce.{by, at_once}
+use Rattle.plan_laws.specs.Wakes.{TellsNothing, CommitsNet}
+use Rattle.plan_laws.proofs.CallPassage.{adds_net}
+use Rattle.plan_laws.proofs.Calls.{fork_applies}
+use Rattle.plan_laws.proofs.NetKept.{net_kept}
+use Rattle.plan_laws.proofs.NetRuns.{net_runs}
 use Rattle.binding_laws.specs.Bindings.{BindsOutside, HasOuterIn}
 use Rattle.binding_laws.proofs.CallOutside.{call_outside_law}
 use Rattle.binding_laws.proofs.StepOutside.{step_outside}
@@ -79,6 +79,9 @@ module _ (v : TableValue) (journal : List Label) (t : IsTableOf all_rules (run_o
     -- the run goes on with them
     pub replays_on : Replays all_rules p q (journal ++ l ∷ more) d
     replays_on = record { derives = Derives-append all_rules p (start p q) c d journal (l ∷ more) t.replays.derives (derives_by p c l more step d stands w) }
+
+    pub good_on : Good d
+    good_on = good_replay all_rules p q (journal ++ l ∷ more) d replays_on
 
     grown : (n : Name) (e k : Found) → box_at n c.roots ≡ Some e → box_at n d.roots ≡ Some k → Follows (whole e) (whole k)
     grown n e k i j = follows_told (whole e) (whole k)

@@ -25,6 +25,7 @@ pub mod KeptTokens
 pub mod CommitKept
 pub mod SettleKept
 pub mod Reasons
+pub mod RootBinds
 pub mod SettleCalls
 pub mod Outwards
 pub mod Weights

@@ -9,7 +9,7 @@ use Rattle.akl_model.specs.Wakes.{names_around, names_down_to, boxes_around, Sta
 use Rattle.akl_model.proofs.Options.{some_value, some_and, and_some}
 use Rattle.akl_model.proofs.NamesKept.{home-box}
 use Rattle.akl_model.proofs.Scoped.{IsIn-left}
-use Rattle.sleep_laws.proofs.Nearest.{nearest_in, nearest_is, nearest_nowhere, names_cut}
+use Rattle.plan_laws.proofs.Nearest.{nearest_in, nearest_is, nearest_nowhere, names_cut}
 use Rattle.table_laws.specs.Rows.{BoxRow, GoalRow, Table}
 use Rattle.table_laws.specs.Stamped.{Run, IsTableOf}
 use Rattle.table_laws.specs.Writes.{home_in, holder_in_row}

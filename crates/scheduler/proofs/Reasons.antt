@@ -55,5 +55,5 @@ module _ (s : SchedulerValue) (n : Name) where
 -- an idle place that was seen enough
 pub seen_reason : (s : SchedulerValue) (v : IdleValue) → IsIdle v → IsSeenEnough s v → v.inside ≡ false → (t : TableIn s.core) (f : Found) → site_of v.place t.config.roots ≡ Some f → HasNoReason f
 seen_reason s v i h e t f site =
-    let w : WatchesGoals (IsRead v.reads) v.place i.site = subst (λ (b : Bool). HasWatched b (IsRead v.reads) v.place i.site) e i.watches in
+    let w : WatchesGoals (IsRead v.reads) v.place i.site = subst (λ (b : Bool). HasWatched b (IsRead v.reads) v.on v.place i.site) e i.watches in
     (h e w.name w.is_box).no_reason t f (subst (λ (p : Place). site_of p t.config.roots ≡ Some f) w.is_box site)

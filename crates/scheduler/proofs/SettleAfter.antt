@@ -15,7 +15,7 @@ use Rattle.step_laws.specs.Likeness.{IsOld}
 use Rattle.step_laws.proofs.There.{there_site}
 use Rattle.step_laws.proofs.Whereabouts.{found_in}
 use Rattle.step_laws.proofs.Deeper.{Over, over, one_box}
-use Rattle.sleep_laws.proofs.IdlePlaces.{settle_out}
+use Rattle.plan_laws.proofs.IdlePlaces.{settle_out}
 use Rattle.wake_lists.specs.Open.{Opening, Openings, opening_at, IsOpen, closed, is_busy}
 use Rattle.wake_lists.specs.Standing.{is_in}
 use Rattle.wake_lists.proofs.Keys.{token_equal, token_here}

@@ -28,16 +28,16 @@ use Rattle.scheduler.proofs.Reasons.{seen_reason}
 
 -- the first item that was changed, or none
 pub stale_so : (c : CoreValue) (k : IsCore c) (v : IdleValue) (i : IsIdle v) (m : MaySettle c v) (xs : List Item) (n : ℕ) (o : Option (Item × Option ℕ)) (item : Item) (stamp : Option ℕ) → xs ≡ v.reads → n ≡ length v.journal
-    → o ≡ Some (item, stamp) → IsFirstStale (table_of c.table) xs n o → IsStale c v.journal v.reads item stamp
-stale_so c k v i m xs n o item stamp e f g h = stale c k v.table v.journal v.reads (idle_looked c v i m) item stamp (found_as (table_of c.table) xs v.reads n (length v.journal) o (Some (item, stamp)) e f g h)
+    → o ≡ Some (item, stamp) → IsFirstStale c.table xs n o → IsStale c v.journal v.reads item stamp
+stale_so c k v i m xs n o item stamp e f g h = stale c k v.table v.journal v.reads (idle_looked c v i m) item stamp (found_as c.table xs v.reads n (length v.journal) o (Some (item, stamp)) e f g h)
 
-pub fresh_so : (c : CoreValue) (k : IsCore c) (v : IdleValue) (i : IsIdle v) (m : MaySettle c v) (xs : List Item) (n : ℕ) (o : Option (Item × Option ℕ)) → xs ≡ v.reads → n ≡ length v.journal → o ≡ None → IsFirstStale (table_of c.table) xs n o
+pub fresh_so : (c : CoreValue) (k : IsCore c) (v : IdleValue) (i : IsIdle v) (m : MaySettle c v) (xs : List Item) (n : ℕ) (o : Option (Item × Option ℕ)) → xs ≡ v.reads → n ≡ length v.journal → o ≡ None → IsFirstStale c.table xs n o
     → IsFreshIdle c v
-fresh_so c k v i m xs n o e f g h = record { unchanged = λ j r. unchanged_here c k v.table v.journal v.reads (idle_looked c v i m) j (found_as (table_of c.table) xs v.reads n (length v.journal) o None e f g h j r) }
+fresh_so c k v i m xs n o e f g h = record { unchanged = λ j r. unchanged_here c k v.table v.journal v.reads (idle_looked c v i m) j (found_as c.table xs v.reads n (length v.journal) o None e f g h j r) }
 
 -- so a place that was seen enough is idle now
 pub idle_so : (s : SchedulerValue) (k : IsCore s.core) (v : IdleValue) (i : IsIdle v) (m : MaySettle s.core v) → IsSeenEnough s v → IsFreshIdle s.core v → IsFoundIdle s.core v.place v.on
-idle_so s k v i m seen fresh = idle_now s.core v i m (seen_reason s v i seen) (all_within s.core k v.table v.journal v.reads (idle_looked s.core v i m) fresh.unchanged)
+idle_so s k v i m seen fresh = idle_now s.core k v i m (seen_reason s v i seen) (all_within s.core k v.table v.journal v.reads (idle_looked s.core v i m) fresh.unchanged)
 
 -- a place that is open waits on nothing
 pub waits_none : (s : SchedulerValue) → IsScheduler s → (place : Place) → IsOpenAt s.openings place → (x : Var) → waits_on s.waits place x ≡ false

@@ -1,7 +1,7 @@
 -- A settle keeps what a scheduler is, and makes of it what it is to.
-use Rattle.std.proofs.Common.{◌≡◌, ℕ, ◌≤◌, Bool, true, false, List, [], ◌∷◌, ◌++◌, length, Option, Some, None, refl, sym, ap, subst, ◌∙◌, ◌⊎◌, inl, inr, arith}
+use Rattle.std.proofs.Common.{◌≡◌, ℕ, Bool, true, false, List, [], ◌∷◌, ◌++◌, length, Option, Some, refl, sym, ap, subst, ◌∙◌, ◌⊎◌, inl, inr, arith}
 use Rattle.akl_model.proofs.Options.{some_value}
-use Rattle.std.specs.Prelude.{◌&&◌, nat_le, cond}
+use Rattle.std.specs.Prelude.{◌&&◌, cond}
 use Rattle.std.proofs.lemmas.Bool.Decides.{nat_tests}
 use Rattle.akl_terms.specs.declared.name.Name.{Name}
 use Rattle.akl_terms.specs.declared.name.Var.{Var}
@@ -10,29 +10,30 @@ use Rattle.akl_terms.specs.declared.program.Program.{Program}
 use Rattle.akl_terms.specs.declared.program.Query.{Query}
 use Rattle.akl_terms.specs.Names.{same_var}
 use Rattle.akl_terms.proofs.SameNames.{same_var-equal}
-use Rattle.akl_model.specs.declared.item.Item.{Item}
 use Rattle.akl_model.specs.Config.{Config, Found, site_of}
 use Rattle.akl_model.specs.Wakes.{Wait, IsKept, IsOneOf, SettleOpens, IsOpenAfterSettle, IsKeptAfterSettle}
 use Rattle.constraint_laws.specs.Touched.{IsAmong}
-use Rattle.plan_laws.specs.Stamps as stamps
+use Rattle.akl_model.specs.declared.label.Label.{Label}
+use Rattle.reading_laws.specs.Seen.{IsSeen}
 use Rattle.step_laws.proofs.Decide.{place_or}
-use Rattle.sleep_laws.specs.Runs as runs
-use Rattle.sleep_laws.specs.Runs.{Runs}
-use Rattle.wait_laws.specs.Kept.{AreLeftBySettle}
-use Rattle.wait_laws.proofs.Concerned.{concern_scoped}
-use Rattle.wait_laws.proofs.KeptBySettle as keeping
-use Rattle.table_laws.specs.Stamped.{IsTableOf, stamp_in}
+use Rattle.plan_laws.specs.Runs as runs
+use Rattle.plan_laws.specs.Runs.{Runs}
+use Rattle.plan_laws.specs.Kept.{AreLeftBySettle}
+use Rattle.table_laws.specs.Stamped.{IsTableOf, AreMarked}
+use Rattle.table_laws.specs.StoreMarks.{AreStoresMarked}
 use Rattle.box_tree.specs.Tables.{all_rules, table_of}
 use Rattle.wake_lists.specs.Open.{Opening, Openings, opening_at, IsOpen, closed}
 use Rattle.wake_lists.specs.Waits.{same_place, waits_on, is_variable_in}
 use Rattle.wake_lists.proofs.Both.{same_place-equal}
 use Rattle.wake_lists.proofs.Keys.{token_here}
-use Rattle.step_commit.specs.Cores.{CoreValue, run_by, is_within, AllWithin, TableIn}
-use Rattle.step_commit.proofs.Committed.{stamp_last}
+use Rattle.step_commit.specs.Cores.{CoreValue, IsCore, AllWithin, TableIn, mark_of_store}
+use Rattle.step_commit.proofs.SeenNow.{seen_stamp}
 use Rattle.step_commit.proofs.Stale.{IsLooked}
 use Rattle.idle_places.specs.Idling.{IdleValue, IsIdle}
 use Rattle.idle_places.specs.Later.{HasNoReason}
+use Rattle.box_tree.specs.Views.{run_of}
 use Rattle.idle_places.proofs.Later.{idle_later}
+use Rattle.idle_places.proofs.KeptBySettle as keeping
 use Rattle.scheduler.specs.Openings.{IsOpenAt, AreOpenPlaces, AreOthersOpen, AreListed, AreApart}
 use Rattle.scheduler.specs.Dropping.{is_place_in, DropsWaits}
 use Rattle.scheduler.specs.Schedulers.{SchedulerValue, IsScheduler}
@@ -61,25 +62,22 @@ idle_looked c v i m = record {
   there = i.there;
 }
 
-pub idle_now : (c : CoreValue) (v : IdleValue) → IsIdle v → MaySettle c v → (v.inside ≡ false → (t : TableIn c) (f : Found) → site_of v.place t.config.roots ≡ Some f → HasNoReason f) → AllWithin (table_of c.table) v.reads (length v.journal) → IsFoundIdle c v.place v.on
-idle_now c v i m reason within = record {
+pub idle_now : (c : CoreValue) → IsCore c → (v : IdleValue) → IsIdle v → MaySettle c v → (v.inside ≡ false → (t : TableIn c) (f : Found) → site_of v.place t.config.roots ≡ Some f → HasNoReason f) → AllWithin c.table v.reads (length v.journal)
+    → IsFoundIdle c v.place v.on
+idle_now c k v i m reason within = record {
   idle = λ t. idle_later v i c.table.program c.table.query c.journal t.config (record {
     program = m.program;
     query = m.query;
     further = m.further;
     front = m.front;
     replays = t.replays;
-    unchanged = λ j r. unseen t (stamp_in (table_of c.table) j) j refl (within j r);
+    unchanged = λ j r. subst (λ (js : List Label). IsSeen all_rules c.table.program c.table.query js (length v.journal) j) (sym m.front)
+        (seen_stamp c.table.program c.table.query v.journal m.further c.table (subst (λ (js : List Label). IsTableOf all_rules (run_of c.table js) (table_of c.table)) m.front k.table)
+        (subst (λ (js : List Label). AreMarked all_rules (run_of c.table js) (table_of c.table)) m.front k.marks)
+        (subst (λ (js : List Label). AreStoresMarked all_rules (run_of c.table js) (table_of c.table) (mark_of_store c.table)) m.front k.stores) j (within j r));
     no_reason = λ e. reason e t;
   });
 }
-  where
-    unseen : (t : TableIn c) (o : Option ℕ) (j : Item) → stamp_in (table_of c.table) j ≡ o → is_within o (length v.journal) ≡ true → stamps.IsStamped all_rules c.table.program c.table.query c.journal (length v.journal) j
-    unseen t None j e w = absurd cc
-    unseen t (Some k) j e w = record { number = k; last = stamp_last all_rules (run_by c) (table_of c.table) t.stamped j k e; early = within_is k w }
-      where
-        within_is : (k : ℕ) → nat_le k (length v.journal) ≡ true → k ≤ length v.journal
-        within_is k w = grind (arith, nat_tests)
 
 -- the waits of one place
 abbrev pub own_waits : Place → List Var → List Wait
@@ -257,7 +255,7 @@ module _ (s : SchedulerValue) (h : IsScheduler s) (place : Place) (on : List Var
       keeps = are_left.1.left_by.all;
     });
     waits = keeping.kept_by_settle all_rules s.core.table.program s.core.table.query s.core.journal c t.replays h.now h.kept still (open_places now) kept_now h.waits place on
-        (λ x i. concern_scoped all_rules s.core.table.program s.core.table.query s.core.journal c t.replays place x ((idle.idle t).concern x i)) (idle.idle t).oldest
+        (idle.idle t).scoped (idle.idle t).oldest
         (λ p i. h.are_open.all p (others_so.only p i)) others_so.besides (λ p i. open_is p (are_now.only p i)) are_left.1.left_by;
     apart = now_apart;
     standing = after.now_stands s.core.table s.core.journal t place s.openings h.now h.are_open h.standing h.apart own token still others_so w1 now w2 found left;

@@ -12,7 +12,7 @@ use Rattle.akl_model.proofs.Scoped.{IsIn-right}
 use Rattle.step_laws.proofs.Deeper.{home_found}
 use Rattle.step_laws.proofs.There.{site_there}
 use Rattle.step_laws.proofs.Whereabouts.{home_in}
-use Rattle.sleep_laws.proofs.DownTo.{stands_down}
+use Rattle.plan_laws.proofs.DownTo.{stands_down}
 use Rattle.table_laws.specs.Inside.{IsDirectlyIn}
 use Rattle.table_laws.specs.Rows.{BoxRow, GoalRow, Table}
 use Rattle.table_laws.specs.Unfolds.{IsBoxRow, Unfolds}

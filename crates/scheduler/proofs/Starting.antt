@@ -20,9 +20,9 @@ use Rattle.step_laws.specs.Likeness.{IsOld}
 use Rattle.step_laws.proofs.There.{there_site}
 use Rattle.step_laws.proofs.Whereabouts.{found_in, home_in}
 use Rattle.step_laws.proofs.Steps.{old_box, old_goal}
-use Rattle.sleep_laws.specs.Runs.{Runs, begins, forgets}
-use Rattle.sleep_laws.proofs.IdlePlaces.{quiet}
-use Rattle.wait_laws.proofs.KeptBySettle.{kept_by_forget, no_waits}
+use Rattle.plan_laws.specs.Runs.{Runs, begins, forgets}
+use Rattle.plan_laws.proofs.IdlePlaces.{quiet}
+use Rattle.plan_laws.proofs.KeptBySettle.{kept_by_forget, no_waits}
 use Rattle.wake_lists.specs.Open.{Opening, Openings, opening_at, IsFirst, closed}
 use Rattle.wake_lists.proofs.Keys.{token_equal}
 use Rattle.opened_places.specs.Placed.{PlacedValue, placed}

@@ -22,11 +22,11 @@ use Rattle.constraint_laws.proofs.Grown.{over_kept}
 use Rattle.constraint_laws.proofs.LeastVariables.{oldest_of, oldest_with}
 use Rattle.step_laws.specs.Bound.{first_equations, outermost_equations, AreBoundIn}
 use Rattle.step_laws.proofs.Whereabouts.{found_in}
-use Rattle.sleep_laws.specs.Sleeps.{IsOutermostAt}
-use Rattle.sleep_laws.proofs.InScope.{Good, InScope, whole_over}
-use Rattle.sleep_laws.proofs.DownTo.{path_to, outermost, begins_outermost, outermost_whole}
-use Rattle.wait_laws.specs.Waits.{IsScopedAt, AreWaits}
-use Rattle.wait_laws.proofs.Frames.{one_frame}
+use Rattle.plan_laws.specs.Sleeps.{IsOutermostAt}
+use Rattle.plan_laws.proofs.InScope.{Good, InScope, whole_over}
+use Rattle.plan_laws.proofs.DownTo.{path_to, outermost, begins_outermost, outermost_whole}
+use Rattle.plan_laws.specs.Waits.{IsScopedAt, AreWaits}
+use Rattle.plan_laws.proofs.Frames.{one_frame}
 
 -- the equations of the outermost box are among those down to each
 outermost_follows : (f : Found) → Follows (outermost_equations f) (whole f)

@@ -1,5 +1,5 @@
 -- The places that are listed for a plan: those that its label changes, wakes, or leaves under equations that bind a variable from outside.
-use Rattle.std.specs.Prelude.{◌≡◌, List, [], ◌∷◌, ◌++◌, Bool, true, false, not, if◌then◌else◌, Option, None, Some, option_map}
+use Rattle.std.specs.Prelude.{◌≡◌, List, [], ◌∷◌, ◌++◌, ◌&&◌, Bool, true, false, not, if◌then◌else◌, Option, None, Some, option_map, is_some}
 use Rattle.std.specs.List.{list_any}
 use Rattle.akl_terms.specs.declared.name.Name.{Name}
 use Rattle.akl_terms.specs.declared.name.Var.{Var}
@@ -61,9 +61,9 @@ part_of Step.Refute = None
 part_of Step.Confirm = None
 part_of (Step.Split copy copies) = None
 
--- a step binds a variable that is external to its box
-abbrev pub binds_outer : List Var → laws.Step → Bool
-binds_outer xs step = outer_of xs (frames_made step)
+-- a step binds a variable that is external to its box; in a root box there is none
+abbrev pub binds_outer : Around → List Var → laws.Step → Bool
+binds_outer x xs step = is_some x.holder && outer_of xs (frames_made step)
 
 -- the frames of a store with what is added to it
 abbrev pub frames_added : Option Added → Option (List Name)
@@ -75,15 +75,15 @@ pub record AreInner (v : TableValue) (home : Name) (gone before now : List Place
   pub are_inside : AreInside v home inside
   pub comes : now ≡ before ++ places_but gone (places_of inside)
 
--- those that wait on a variable that is bound; and where one is of none of the box's frames all that stand in it
-pub record AreOthers (v : TableValue) (ws : List (Var × List Place)) (p : PlanValue) (home : Name) (gone others : List Place) : Type 0 where
-  pub outer : binds_outer p.binds (step_in v p.label p.step) ≡ true → AreInner v home gone (waiting_on ws p.binds) others
-  pub none_outer : binds_outer p.binds (step_in v p.label p.step) ≡ false → others ≡ waiting_on ws p.binds
+-- those that wait on a variable that is bound; and where one is external to the label's box all that stand in it
+pub record AreOthers (v : TableValue) (ws : List (Var × List Place)) (p : PlanValue) (x : Around) (gone others : List Place) : Type 0 where
+  pub outer : binds_outer x p.binds (step_in v p.label p.step) ≡ true → AreInner v x.home gone (waiting_on ws p.binds) others
+  pub none_outer : binds_outer x p.binds (step_in v p.label p.step) ≡ false → others ≡ waiting_on ws p.binds
 
 -- each once
-pub record AreOthersOnce (v : TableValue) (ws : List (Var × List Place)) (p : PlanValue) (home : Name) (gone others : List Place) : Type 0 where
+pub record AreOthersOnce (v : TableValue) (ws : List (Var × List Place)) (p : PlanValue) (x : Around) (gone others : List Place) : Type 0 where
   pub all : List Place
-  pub are_others : AreOthers v ws p home gone all
+  pub are_others : AreOthers v ws p x gone all
   pub same : AreSameOnce all others
 
 -- the places that the label changes, and with them others
@@ -97,5 +97,5 @@ pub record AreListedFor (v : TableValue) (ws : List (Var × List Place)) (p : Pl
   pub around : Around
   pub is_around : IsAround (table_of v) p.label around
   pub others : List Place
-  pub are_others : AreOthersOnce v ws p around.home gone others
+  pub are_others : AreOthersOnce v ws p around gone others
   pub adds : AddsOthers v p others places

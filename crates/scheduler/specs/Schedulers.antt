@@ -4,8 +4,8 @@ use Rattle.akl_terms.specs.declared.name.Var.{Var}
 use Rattle.akl_terms.specs.declared.name.Place.{Place}
 use Rattle.akl_model.specs.Derivations.{IsQuietEnd}
 use Rattle.akl_model.specs.Wakes.{Wait, IsThere}
-use Rattle.sleep_laws.specs.Runs.{Runs}
-use Rattle.wait_laws.specs.Waits.{AreWaits}
+use Rattle.plan_laws.specs.Runs.{Runs}
+use Rattle.plan_laws.specs.Waits.{AreWaits}
 use Rattle.box_tree.specs.Tables.{all_rules, table_of}
 use Rattle.box_tree.specs.Views.{is_there}
 use Rattle.wake_lists.specs.Open.{Opening, Openings, opening_at}

@@ -1,6 +1,6 @@
 //! The places that a plan's label takes away, and those that it opens.
 
-ghost use Rattle.std.specs.Prelude.{◌≡◌, ◌++◌, true, not, IfOk, OnOk};
+ghost use Rattle.std.specs.Prelude.{◌≡◌, ◌++◌, ◌&&◌, true, not, is_some, IfOk, OnOk};
 ghost use Rattle.std.specs.List.{list_any};
 ghost use Rattle.akl_terms.specs.declared.name.Place.{Place};
 ghost use Rattle.local_store.specs.Stored.{is_named, all_named};
@@ -64,15 +64,7 @@ impl Effects {
         };
         let added = added_by(store, plan.step());
         let gone = gone_once(alloc, table, plan)?;
-        let others = opened_others(
-            alloc,
-            table,
-            waits,
-            plan,
-            around.home,
-            added,
-            gone.as_slice(),
-        )?;
+        let others = opened_others(alloc, table, waits, plan, around, added, gone.as_slice())?;
         let opened = opened_with(alloc, table, plan, around, others.as_slice())?;
         let changed = changed_of(opened.as_slice(), others.as_slice().len());
         let waiting = still_waiting(alloc, waits, added, others.as_slice(), changed)?;
@@ -125,39 +117,39 @@ fn opened_others(
     table: &Table,
     waits: &Waits,
     plan: &Plan,
-    home: Name,
+    around: Around,
     added: Option<Added>,
     gone: &[Place],
 ) -> Result<ShortList<Place>, AllocError>
     requires run { IsOfRun table.now }
-    requires there { is_there (table_of table.now) (Place.Box home) ≡ true }
+    requires there { is_there (table_of table.now) (Place.Box around.home) ≡ true }
     requires added { frames_added added ≡ frames_made (step_in table.now plan.now.label plan.now.step) }
-    ensures { IfOk result (λ others. AreOthersOnce table.now waits.now plan.now home gone.now others.items) }
+    ensures { IfOk result (λ others. AreOthersOnce table.now waits.now plan.now around gone.now others.items) }
 {
-    let others = all_others(alloc, table, waits, plan, home, added, gone)?;
+    let others = all_others(alloc, table, waits, plan, around, added, gone)?;
     each_once(alloc, others)
 }
 
 // The places that wait on a variable that the label binds, as often as they do; and where it binds one that is external to
-// this box, all that stand in the box and don't go.
+// its box, all that stand in the box and don't go.
 fn all_others(
     alloc: Global,
     table: &Table,
     waits: &Waits,
     plan: &Plan,
-    home: Name,
+    around: Around,
     added: Option<Added>,
     gone: &[Place],
 ) -> Result<ShortList<Place>, AllocError>
     requires run { IsOfRun table.now }
-    requires there { is_there (table_of table.now) (Place.Box home) ≡ true }
+    requires there { is_there (table_of table.now) (Place.Box around.home) ≡ true }
     requires added { frames_added added ≡ frames_made (step_in table.now plan.now.label plan.now.step) }
-    ensures { IfOk result (λ others. AreOthers table.now waits.now plan.now home gone.now others.items) }
+    ensures { IfOk result (λ others. AreOthers table.now waits.now plan.now around gone.now others.items) }
 {
     let mut places = ShortList::new();
     push_woken(alloc, waits, plan.binds(), &mut places)?;
-    if binds_outer(added, plan.binds()) {
-        push_inner(alloc, table, home, gone, &mut places)?;
+    if binds_outer(around, added, plan.binds()) {
+        push_inner(alloc, table, around.home, gone, &mut places)?;
     }
     Ok(places)
 }
@@ -195,10 +187,14 @@ fn push_waiting(
     Ok(())
 }
 
-// Whether one of these variables is of none of the frames of a store with what is added to it; none is where nothing is added.
-fn binds_outer(added: Option<Added>, binds: &[Var]) -> bool
-    ensures { result ≡ outer_of binds.now (frames_added added.entry) }
+// Whether one of these variables is external to a box that is no root box, as it is of none of the frames of its store with
+// what is added to it; none is where nothing is added.
+fn binds_outer(around: Around, added: Option<Added>, binds: &[Var]) -> bool
+    ensures { result ≡ (is_some around.holder && outer_of binds.now (frames_added added.entry)) }
 {
+    if around.holder.is_none() {
+        return false;
+    }
     match added {
         Some(added) => has_outer(added, binds),
         None => false,

@@ -50,8 +50,8 @@ impl Hints {
         &self,
         added: Option<Added>,
         plan: &Plan,
-    ) -> Result<SmallVec<Var, 2>, AllocError> {
-        let mut bound = SmallVec::new(self.alloc);
+    ) -> Result<Vec<Var>, AllocError> {
+        let mut bound = Vec::new(self.alloc);
         if self.goals.is_empty() {
             return Ok(bound);
         }

@@ -19,6 +19,23 @@ pub(crate) fn each_once(
 ) -> Result<ShortList<Place>, AllocError>
     ensures { IfOk result (λ once. AreSameOnce places.items once.items) }
 {
+    if is_one_at_most(places.as_slice()) {
+        return Ok(places);
+    }
+    once_among(alloc, places)
+}
+
+// Whether there is no more than one place.
+fn is_one_at_most(places: &[Place]) -> bool
+    ensures { result ≡ true → IsEachPlaceOnce places.now }
+{
+    places.len() <= 1
+}
+
+// The same where there may be several places.
+fn once_among(alloc: Global, places: ShortList<Place>) -> Result<ShortList<Place>, AllocError>
+    ensures { IfOk result (λ once. AreSameOnce places.items once.items) }
+{
     if places.as_slice().len() <= FEW && are_different(places.as_slice()) {
         Ok(places)
     } else {

@@ -15,7 +15,6 @@ use crate::waiting::{Added, Waited};
 use akl_terms::{Name, Place, Var};
 use box_tree::{NewBox, Plan, Sight, Step, Table};
 use opened_places::Placed;
-use smallvec::SmallVec;
 use std::alloc::{AllocError, Global};
 use wake_lists::{Open, Urgency};
 
@@ -23,7 +22,7 @@ use wake_lists::{Open, Urgency};
 #[derive(Drop)]
 pub(crate) struct TurnHints {
     /// The boxes whose stores it leaves unsolved, as it does one with a clash.
-    unsolved: SmallVec<Name, 2>,
+    unsolved: Vec<Name>,
     /// The box that it tells something; the stores of other boxes that it opens may clash with that.
     told: Option<Name>,
     /// The call that it forks, where no alternative is solved from the start, so that no rule applies to it yet.
@@ -31,7 +30,7 @@ pub(crate) struct TurnHints {
     /// The place of the label.
     own: Place,
     /// The variables that it binds, of those on which late calls wait.
-    bound: SmallVec<Var, 2>,
+    bound: Vec<Var>,
 }
 
 impl TurnHints {
@@ -73,10 +72,10 @@ fn told_by(home: Name, step: &Step) -> Option<Name>
 }
 
 // The boxes whose stores a step leaves unsolved, where its label's place is this box or stands in it.
-fn unsolved_by(alloc: Global, home: Name, step: &Step) -> Result<SmallVec<Name, 2>, AllocError>
+fn unsolved_by(alloc: Global, home: Name, step: &Step) -> Result<Vec<Name>, AllocError>
     ensures { IfOk result (λ names. names.items ≡ unsolved_by home step.now) }
 {
-    let mut unsolved = SmallVec::new(alloc);
+    let mut unsolved = Vec::new(alloc);
     match step {
         Step::Tell { solved, .. } | Step::Join { solved, .. } => {
             push_unless(*solved, home, &mut unsolved)?;
@@ -90,7 +89,7 @@ fn unsolved_by(alloc: Global, home: Name, step: &Step) -> Result<SmallVec<Name, 
 }
 
 // A box comes whose store is unsolved.
-fn push_unless(solved: bool, name: Name, unsolved: &mut SmallVec<Name, 2>) -> Result<(), AllocError>
+fn push_unless(solved: bool, name: Name, unsolved: &mut Vec<Name>) -> Result<(), AllocError>
     ensures { OnOk result (unsolved.new.items ≡ unsolved.old.items ++ unless_solved solved name) }
 {
     if !solved {
@@ -100,7 +99,7 @@ fn push_unless(solved: bool, name: Name, unsolved: &mut SmallVec<Name, 2>) -> Re
 }
 
 // Those of these new boxes come whose stores are unsolved.
-fn push_unsolved(boxes: &[NewBox], unsolved: &mut SmallVec<Name, 2>) -> Result<(), AllocError>
+fn push_unsolved(boxes: &[NewBox], unsolved: &mut Vec<Name>) -> Result<(), AllocError>
     ensures { OnOk result (unsolved.new.items ≡ unsolved.old.items ++ unsolved_among boxes.now) }
 {
     for made in boxes {

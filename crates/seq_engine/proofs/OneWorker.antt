@@ -6,7 +6,7 @@ use Rattle.akl_terms.specs.declared.program.Program.{Program}
 use Rattle.akl_model.specs.declared.label.Rule.{Rule}
 use Rattle.akl_model.specs.declared.label.Label.{Label}
 use Rattle.akl_model.specs.Config.{Atom, Operator, Content, Boxes, Goals, Found}
-use Rattle.call_laws.specs.AtOnce.{by, Works, rests, works, Sifts, ends, fails, stays, Ends, promotes, cuts, Tells, finishes, leaves, tells, holds}
+use Rattle.plan_laws.specs.AtOnce.{by, Works, rests, works, Sifts, ends, fails, stays, Ends, promotes, cuts, Tells, finishes, leaves, tells, holds}
 use Rattle.box_tree.specs.Plans.{PlanValue, IsRight, of_label, of_call}
 use Rattle.step_commit.specs.Receipts.{AreBy}
 

@@ -1,16 +1,11 @@
 -- Plans that were made of the whole journal.
 use Rattle.std.proofs.Common.{◌≡◌, ℕ, ◌+◌, ◌-◌, ◌<◌, ◌≤◌, List, [], ◌∷◌, ◌++◌, length, drop, Option, Some, sym, ◌∙◌, ap, subst, ◌⊎◌, inl, inr, arith}
 use Rattle.std.proofs.Math.Seq.{drop-append_seam}
-use Rattle.std.proofs.lemmas.List.{length-append}
 use Rattle.akl_terms.specs.declared.name.Place.{Place}
-use Rattle.akl_terms.specs.declared.program.Program.{Program}
-use Rattle.akl_terms.specs.declared.program.Query.{Query}
 use Rattle.akl_model.specs.declared.item.Item.{Item}
-use Rattle.akl_model.specs.declared.label.Rule.{Rule}
 use Rattle.akl_model.specs.declared.label.Label.{Label}
 use Rattle.akl_model.specs.declared.label.Receipt.{Receipt}
 use Rattle.akl_model.specs.Config.{Config, site_of}
-use Rattle.akl_model.specs.Changes.{by_store, ChangedAt, IsLastChange}
 use Rattle.akl_model.specs.Instances.{start}
 use Rattle.akl_model.specs.Derivations.{Applies, IsReady}
 use Rattle.akl_model.proofs.Results.{Derives-one}
@@ -75,20 +70,10 @@ seen_enough s i x outside n e = record {
   no_reason = λ t f is. x.no_reason outside t f (subst (λ (p : Place). site_of p t.config.roots ≡ Some f) (sym e) is);
 }
 
-last_within : (rules : List Rule) (p : Program) (q : Query) (journal : List Label) (i : Item) (k : ℕ) → IsLastChange by_store rules p q journal i k → k ≤ length journal
-last_within rules p q journal i k x = on x.changed
-  where
-    on : (k ≡ 0) ⊎ ChangedAt by_store rules p q journal i k → k ≤ length journal
-    on (inl z) = omega (arith, z)
-    on (inr w) =
-        let e : length journal ≡ length w.earlier + length (w.label ∷ w.later) = ap length w.is_journal ∙ length-append w.earlier (w.label ∷ w.later) in
-        let n : k ≡ length w.earlier + 1 = w.is_number in
-        omega (arith, e, n)
-
 -- nothing that was read of the whole journal is stale
 pub not_stale : (c : CoreValue) (seen : List Label) (reads : List Item) (i : Item) (o : Option ℕ) → seen ≡ c.journal → IsStale c seen reads i o → ⊥
 not_stale c seen reads i o e x =
-    let within : x.number ≤ length c.journal = last_within all_rules c.table.program c.table.query c.journal i x.number x.last in
+    let within : x.number ≤ length c.journal = x.within in
     let unseen : length seen < x.number = x.unseen in
     let same : length seen ≡ length c.journal = ap length e in
     absurd (omega (arith, within, unseen, same))

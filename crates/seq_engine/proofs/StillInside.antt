@@ -9,8 +9,8 @@ use Rattle.akl_model.specs.Derivations.{IsReady}
 use Rattle.akl_model.specs.Wakes.{boxes_around, StandsIn, IsOneOf}
 use Rattle.akl_model.proofs.Options.{some_and}
 use Rattle.akl_model.proofs.Scoped.{IsIn-left}
-use Rattle.sleep_laws.specs.Runs.{IsAwake, is_open, has_open}
-use Rattle.sleep_laws.proofs.IdlePlaces.{awake}
+use Rattle.plan_laws.specs.Runs.{IsAwake, is_open, has_open}
+use Rattle.plan_laws.proofs.IdlePlaces.{awake}
 use Rattle.table_laws.specs.Stamped.{IsTableOf}
 use Rattle.box_tree.specs.Tables.{TableValue, all_rules, table_of}
 use Rattle.step_commit.specs.Cores.{TableIn, run_by}

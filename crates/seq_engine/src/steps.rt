@@ -44,9 +44,8 @@ fn commit<L: Ledger>(
             Ok(Stepped::Committed)
         }
         Err(CommitError::Spent { budget: _ }) => Ok(Stepped::Spent),
-        Err(CommitError::Short { left: _ } | CommitError::Stale { item: _, stamp: _ }) => {
-            unreachable!()
-        }
+        Err(CommitError::Short { left: _ }) => unreachable!(),
+        Err(CommitError::Stale { item: _, stamp: _ }) => unreachable!(),
         Err(CommitError::Memory(error)) => Err(error),
     }
 }

@@ -8,7 +8,6 @@ use Rattle.akl_model.specs.declared.label.Rule.{Rule}
 use Rattle.akl_model.specs.declared.label.Label.{Label}
 use Rattle.akl_model.specs.Config.{IsIn, Config, Found, box_at, site_of}
 use Rattle.akl_model.specs.Rules.{Reading, ChoiceIn, choice_with}
-use Rattle.akl_model.specs.Changes.{goal_names}
 use Rattle.akl_model.specs.Instances.{start}
 use Rattle.akl_model.specs.Stable.{IsStable, IsSplitPoint, Allows}
 use Rattle.akl_model.specs.Derivations.{Applies}

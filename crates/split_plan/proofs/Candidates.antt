@@ -1,6 +1,6 @@
 -- An alternative that rows show as a candidate is one at which a stable box may be split.
-use Rattle.std.proofs.Common.{◌≡◌, ℕ, ◌+◌, ◌≤◌, ◌<◌, ◌∷◌, length, Bool, true, false, Option, Some, None, refl, sym, ◌∙◌, ap, subst, inl, inr, arith}
-use Rattle.std.proofs.lemmas.Bool.{lt-ltb, ltb-true}
+use Rattle.std.proofs.Common.{◌≡◌, ℕ, ◌+◌, ◌≤◌, ◌<◌, ◌∷◌, length, Bool, true, false, Some, None, refl, sym, ◌∙◌, ap, subst, inl, inr, arith}
+use Rattle.std.proofs.lemmas.Bool.{ltb-true}
 use Rattle.std.specs.Prelude.{if◌then◌else◌, nat_lt}
 use Rattle.akl_terms.specs.declared.name.Name.{Name}
 use Rattle.akl_terms.specs.Names.{same_name}
@@ -10,14 +10,13 @@ use Rattle.akl_model.specs.Rules.{count_of, has_box, ChoiceIn, choice_with}
 use Rattle.akl_model.specs.Stable.{first_solved}
 use Rattle.akl_model.specs.Names.{one_if, times_in}
 use Rattle.akl_model.specs.Changes.{of_choice, box_names, goal_names}
-use Rattle.akl_model.proofs.Options.{some_value, or_none}
 use Rattle.akl_model.proofs.Finds.{times, times_inside}
 use Rattle.akl_model.proofs.ScopesAlong.{counted_in}
 use Rattle.step_laws.proofs.Holders.{names_less}
 use Rattle.table_laws.specs.Rows.{Table}
 use Rattle.table_laws.proofs.Sets.{other_name, not_some}
 use Rattle.table_laws.proofs.RestBoxes.{first_named, EachGoal}
-use Rattle.box_tree.specs.Insides.{first_solved_in, candidate_of, candidate_at, candidate_among}
+use Rattle.box_tree.specs.Insides.{first_solved_in, candidate_of, candidate_at}
 use Rattle.box_tree.proofs.ShownChoices.{HaveRows, first_alike, IsShown, candidate_is, counted}
 
 -- names of alternatives

@@ -1,5 +1,5 @@
 -- A plan of Split is right, and where none is made, Split doesn't apply.
-use Rattle.std.proofs.Common.{◌≡◌, ℕ, ◌<◌, ◌^◌, List, [], ◌++◌, length, map, Some, refl, sym, ◌∙◌, ap, subst}
+use Rattle.std.proofs.Common.{◌≡◌, ℕ, ◌<◌, ◌^◌, List, [], ◌++◌, length, Some, refl, sym, ◌∙◌, ap, subst}
 use Rattle.std.specs.Prelude.{slice_index}
 use Rattle.akl_terms.specs.declared.name.Name.{Name}
 use Rattle.akl_terms.specs.declared.name.Place.{Place}
@@ -14,7 +14,6 @@ use Rattle.akl_model.specs.Stable.{IsStable, IsSplitPoint, Allows}
 use Rattle.akl_model.specs.Derivations.{Applies, after}
 use Rattle.akl_model.specs.Wakes.{names_around}
 use Rattle.akl_model.proofs.Options.{and_some}
-use Rattle.plan_laws.specs.Right.{Reads}
 use Rattle.table_laws.specs.Steps.{rest_of}
 use Rattle.table_laws.proofs.CopiesMade.{names_are}
 use Rattle.box_tree.specs.declared.step.Step.{Step}
@@ -22,7 +21,7 @@ use Rattle.box_tree.specs.declared.inside.InnerBox.{InnerBox}
 use Rattle.box_tree.specs.Tables.{all_rules, table_of}
 use Rattle.box_tree.specs.Views.{ViewValue, IsViewOf, run_of}
 use Rattle.box_tree.specs.Insides.{AreBoxesInside, IsCandidateOf}
-use Rattle.box_tree.specs.Plans.{IsRead, IsRightLabel}
+use Rattle.box_tree.specs.Plans.{IsRightLabel}
 use Rattle.box_tree.proofs.BoundHere.{kept_bound}
 use Rattle.guard_plan.proofs.Sites.{stand}
 use Rattle.box_copies.specs.declared.copying.Copied.{Copied}
@@ -30,7 +29,7 @@ use Rattle.box_copies.specs.Copies.{AreBoxesOf, IsSplitInto}
 use Rattle.box_copies.proofs.Splits.{split_made, split_draws, split_solved}
 use Rattle.box_tree.proofs.AllInForce.{each_in_force}
 use Rattle.split_plan.specs.Split.{IsCandidate}
-use Rattle.split_plan.specs.Read.{items_in}
+use Rattle.split_plan.specs.Read.{AreItemsAround, items_in}
 use Rattle.split_plan.proofs.Candidates.{IsPoint}
 use Rattle.split_plan.proofs.CandidateRows.{there, itself, candidate_point}
 use Rattle.split_plan.proofs.Points.{split_point}
@@ -65,9 +64,9 @@ module _ (v : ViewValue) (i : IsViewOf v) (n a : Name) (p : v.place ≡ Place.Bo
   abbrev applies : Applies all_rules v.table.program i.table.config (split_label v a) (after i.table.config (split_label v a) i.site change)
   applies = record { in_force = each_in_force Rule.Split; site = i.site; is_site = i.is_site; change = change; makes = makes; result = refl }
 
-  pub split_right : (boxes : List InnerBox) → AreBoxesInside v.table n boxes → (around : List Name) → around ≡ names_around i.site
-      → IsRightLabel (record { table = v.table; journal = v.journal; label = split_label v a; more = []; reads = map Item.Store around ++ items_in boxes; names = c.names; step = Step.Split c.copy c.copies; binds = [] })
-  split_right boxes h around is_around = record {
+  pub split_right : (boxes : List InnerBox) → AreBoxesInside v.table n boxes → (around : List Name) → around ≡ names_around i.site → (outer : List Item) → AreItemsAround v around outer
+      → IsRightLabel (record { table = v.table; journal = v.journal; label = split_label v a; more = []; reads = outer ++ items_in boxes; names = c.names; step = Step.Split c.copy c.copies; binds = [] })
+  split_right boxes h around is_around outer are_outer = record {
     table = i.table;
     result = after i.table.config (split_label v a) i.site change;
     applies = applies;
@@ -76,16 +75,16 @@ module _ (v : ViewValue) (i : IsViewOf v) (n a : Name) (p : v.place ≡ Place.Bo
     names = split_draws v i a c x (split_label v a) (after i.table.config (split_label v a) i.site change) applies refl refl refl refl;
     binds = kept_bound all_rules v.table.program i.table.config (split_label v a) (after i.table.config (split_label v a) i.site change) (stand v i) applies i.site.content
         (with_content q.among.name (a_choice q.among.op (alone a q.among.alternatives)) i.site.goals) (second_copy v.worker (slice_index i.table.config.next v.worker) (rest_of a i.site q.among)) refl refl;
-    reads = subst (λ (z : Place). Reads (IsRead (map Item.Store around ++ items_in boxes)) Rule.Split z (Some a) i.site) (sym p) (all_read v i n (itself v i n p) boxes h around is_around);
-    there = reads_there v i n (itself v i n p) boxes h around is_around;
+    reads = all_read v i n (itself v i n p) boxes h around is_around outer are_outer;
+    there = reads_there v i n (itself v i n p) boxes h around is_around outer are_outer;
   }
 
 -- by what is asked of a call
 pub split_planned : (v : ViewValue) (i : IsViewOf v) (a : Name) (k : IsCandidate v a) (boxes : List InnerBox) (h : AreBoxesOf v boxes) → IsStable v.table.program i.site → (c : Copied) → IsSplitInto v a c → c.names < 2 ^ 32
-    → (around : List Name) → around ≡ names_around i.site
-    → IsRightLabel (record { table = v.table; journal = v.journal; label = split_label v a; more = []; reads = map Item.Store around ++ items_in boxes; names = c.names; step = Step.Split c.copy c.copies; binds = [] })
-split_planned v i a k boxes h stable c x few around is_around =
-    split_right v i h.name a h.place (candidate_point v i h.name h.place a (subst (λ (m : Name). IsCandidateOf (table_of v.table) m (Some a)) same k.candidate)) stable c x few boxes h.boxes around is_around
+    → (around : List Name) → around ≡ names_around i.site → (outer : List Item) → AreItemsAround v around outer
+    → IsRightLabel (record { table = v.table; journal = v.journal; label = split_label v a; more = []; reads = outer ++ items_in boxes; names = c.names; step = Step.Split c.copy c.copies; binds = [] })
+split_planned v i a k boxes h stable c x few around is_around outer are_outer =
+    split_right v i h.name a h.place (candidate_point v i h.name h.place a (subst (λ (m : Name). IsCandidateOf (table_of v.table) m (Some a)) same k.candidate)) stable c x few boxes h.boxes around is_around outer are_outer
   where
     same : k.name ≡ h.name
     same = let e : Place.Box k.name ≡ Place.Box h.name = sym k.place ∙ h.place in cc

@@ -99,7 +99,8 @@ fn split_at(
     if names > MOST {
         return Err(AllocError);
     }
-    let reads = split_reads(alloc, &path[..depth], boxes)?;
+    let reads = split_reads(alloc, &program.templates, view, &path[..depth], boxes)?;
     let step = Step::Split { copy, copies };
-    Plan::new(alloc, view, label, reads, names, step, Vec::new(alloc))
+    let plan = Plan::new(alloc, view, label, reads, names, step, Vec::new(alloc))?;
+    Ok(plan)
 }

@@ -4,8 +4,8 @@ use Rattle.akl_model.specs.declared.label.Label.{Label}
 use Rattle.akl_model.specs.Config.{Config}
 use Rattle.akl_model.specs.Derivations.{Applies}
 use Rattle.akl_model.proofs.NamesKept.{Stand, replay-stands}
-use Rattle.call_laws.proofs.Alternatives.{between}
-use Rattle.call_laws.proofs.Calls.{calling, forked, fork_applies}
+use Rattle.plan_laws.proofs.CallAlternatives.{between}
+use Rattle.plan_laws.proofs.Calls.{calling, forked, fork_applies}
 use Rattle.table_laws.specs.Stamped.{IsTableOf}
 use Rattle.box_tree.specs.Tables.{all_rules, table_of}
 use Rattle.box_tree.specs.Views.{run_of}

@@ -11,9 +11,9 @@ use Rattle.akl_model.specs.Scopes.{nowhere}
 use Rattle.akl_model.specs.Stable.{only, frames_of, TouchesFrom, by_equations, by_waiting, IsStable}
 use Rattle.akl_model.proofs.ScopesAlong.{scope_along}
 use Rattle.akl_model.proofs.NamesKept.{Stand}
-use Rattle.sleep_laws.proofs.InScope.{Good}
-use Rattle.sleep_laws.proofs.Replayed.{good_replay}
-use Rattle.wait_laws.proofs.Concerned.{inside_around}
+use Rattle.plan_laws.proofs.InScope.{Good}
+use Rattle.plan_laws.proofs.Replayed.{good_replay}
+use Rattle.plan_laws.proofs.Concerned.{inside_around}
 use Rattle.rational_unify.proofs.Taking.{nothing as nothing_around}
 use Rattle.local_store.specs.Stored.{nothing}
 use Rattle.box_tree.specs.declared.inside.Inside.{Inside}

@@ -10,17 +10,15 @@ use Rattle.akl_terms.proofs.EqualLaws.{IsConsistent-follows, IsTold-left}
 use Rattle.akl_terms.specs.Decided.{Contradicts}
 use Rattle.akl_model.specs.declared.label.Rule.{Rule}
 use Rattle.akl_model.specs.declared.label.Label.{Label}
-use Rattle.akl_model.specs.Config.{IsIn, Content, Held, held_in, Boxes, no_boxes, Goals, Config, Found, equations_of, environment, whole, box_at, home_of, site_of}
-use Rattle.akl_model.specs.Rules.{nothing, Change}
-use Rattle.akl_model.specs.Conditions.{Makes}
-use Rattle.akl_model.specs.Stable.{Allows}
-use Rattle.akl_model.specs.Derivations.{after, Applies, IsReady}
-use Rattle.akl_model.specs.Wakes.{names_around, names_down_to, boxes_around, StandsIn}
+use Rattle.akl_model.specs.Config.{IsIn, Content, Held, held_in, Boxes, no_boxes, Goals, Found, equations_of, environment, whole, box_at, home_of, site_of}
+use Rattle.akl_model.specs.Rules.{nothing}
+use Rattle.akl_model.specs.Derivations.{after, IsReady}
+use Rattle.akl_model.specs.Wakes.{names_around, names_down_to, StandsIn}
 use Rattle.akl_model.proofs.NamesKept.{box-itself}
 use Rattle.akl_model.proofs.QuietEnds.{clash_not}
 use Rattle.akl_model.proofs.QuietGrows.{equations-snoc}
 use Rattle.constraint_laws.proofs.Decided.{consistent_or}
-use Rattle.sleep_laws.proofs.BoxSleeps.{fail_ready}
+use Rattle.plan_laws.proofs.BoxSleeps.{fail_ready}
 use Rattle.step_laws.proofs.Deeper.{in_path, chain_at}
 use Rattle.step_laws.proofs.Whereabouts.{found_in, in_home}
 use Rattle.akl_model.proofs.Options.{some_value}
@@ -29,7 +27,7 @@ use Rattle.box_tree.specs.Tables.{TableValue, all_rules, table_of}
 use Rattle.box_tree.specs.declared.inside.Inside.{Inside}
 use Rattle.box_tree.specs.Views.{ViewValue, run_of, IsViewOf}
 use Rattle.box_tree.specs.Insides.{IsViewInside}
-use Rattle.guard_plan.specs.Planned.{IsPlain, HasNoRule}
+use Rattle.guard_plan.specs.Planned.{HasNoRule}
 use Rattle.guard_plan.proofs.HasNone.{has_none}
 use Rattle.guard_plan.proofs.Sites.{stand}
 use Rattle.stable_test.specs.Seen.{IsSeenInside, NoneReadyInside}

@@ -6,8 +6,8 @@ use Rattle.akl_model.specs.Config.{box_at}
 use Rattle.akl_model.specs.Stable.{IsStable}
 use Rattle.akl_model.specs.Derivations.{IsReady}
 use Rattle.akl_model.specs.Wakes.{StandsIn}
-use Rattle.sleep_laws.proofs.InScope.{Good}
-use Rattle.sleep_laws.proofs.Replayed.{good_replay}
+use Rattle.plan_laws.proofs.InScope.{Good}
+use Rattle.plan_laws.proofs.Replayed.{good_replay}
 use Rattle.box_tree.specs.Tables.{all_rules}
 use Rattle.box_tree.specs.Views.{ViewValue, IsViewOf}
 use Rattle.guard_plan.proofs.Sites.{stand}

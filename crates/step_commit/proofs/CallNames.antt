@@ -11,7 +11,7 @@ use Rattle.akl_model.proofs.Finds.{zero_or, times}
 use Rattle.akl_model.proofs.Drawn.{drawn_times, drawn_place, drawn_once}
 use Rattle.akl_model.proofs.NamesKept.{Stand}
 use Rattle.akl_model.proofs.ScopesAlong.{counted_in}
-use Rattle.call_laws.specs.AtOnce.{Tells, finishes, leaves, tells, holds}
+use Rattle.plan_laws.specs.AtOnce.{Tells, finishes, leaves, tells, holds}
 use Rattle.table_laws.specs.Rows.{Table}
 use Rattle.table_laws.specs.Unfolds.{Unfolds}
 use Rattle.table_laws.specs.Writes.{IsFresh}

@@ -1,7 +1,6 @@
 -- Each item that has stamps was last changed by some label, or by none.
-use Rattle.std.proofs.Common.{◌≡◌, ◌≢◌, ℕ, ◌+◌, List, [], ◌∷◌, ◌++◌, length, refl, sym, subst, inl, inr, append_assoc}
-use Rattle.std.specs.Prelude.{⊤}
-use Rattle.std.proofs.lemmas.List.{append-nil}
+use Rattle.std.proofs.Common.{◌≡◌, ◌≢◌, ℕ, ◌+◌, ◌≤◌, List, [], ◌∷◌, ◌++◌, length, refl, sym, ap, subst, ◌∙◌, ◌⊎◌, inl, inr, append_assoc, arith}
+use Rattle.std.proofs.lemmas.List.{append-nil, length-append}
 use Rattle.akl_terms.specs.declared.program.Program.{Program}
 use Rattle.akl_terms.specs.declared.program.Query.{Query}
 use Rattle.akl_terms.specs.declared.name.Name.{Name}
@@ -12,15 +11,22 @@ use Rattle.akl_model.specs.declared.label.Label.{Label}
 use Rattle.akl_model.specs.Config.{Config}
 use Rattle.akl_model.specs.Instances.{start}
 use Rattle.akl_model.specs.Derivations.{Derives, Replays}
-use Rattle.akl_model.specs.Changes.{by_store, Changes, Shape, Constraint, constraint_at, goals_at, shape_at, box_names, IsLastChange}
+use Rattle.akl_model.specs.Changes.{by_store, Changes, Shape, Constraint, constraint_at, goals_at, shape_at, box_names, ChangedAt, IsLastChange}
 use Rattle.akl_model.proofs.Results.{Derives-append}
 use Rattle.step_laws.proofs.Decide.{option_or, names_or, shape_or, constraint_or}
 use Rattle.plan_laws.proofs.StampLaws.{first_stamp, new_stamp, old_stamp}
+use Rattle.table_laws.proofs.SeenStamps.{IsPart}
 
--- an item of boxes and goals
-abbrev pub IsPart : Item → Type 0
-IsPart (Item.Binding x) = ⊥
-IsPart i = ⊤
+-- a last change is that of a label of the journal
+pub last_within : (rules : List Rule) (p : Program) (q : Query) (journal : List Label) (i : Item) (k : ℕ) → IsLastChange by_store rules p q journal i k → k ≤ length journal
+last_within rules p q journal i k x = on x.changed
+  where
+    on : (k ≡ 0) ⊎ ChangedAt by_store rules p q journal i k → k ≤ length journal
+    on (inl z) = omega (arith, z)
+    on (inr w) =
+        let e : length journal ≡ length w.earlier + length (w.label ∷ w.later) = ap length w.is_journal ∙ length-append w.earlier (w.label ∷ w.later) in
+        let n : k ≡ length w.earlier + 1 = w.is_number in
+        omega (arith, e, n)
 
 differ_or : {A : Type 0} (x y : A) → Either (x ≡ y) → Either (x ≢ y)
 differ_or x y (inl e) = inr (λ n. n e)

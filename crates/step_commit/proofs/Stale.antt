@@ -1,6 +1,6 @@
 -- What a plan read, and a later label changed.
 use Rattle.std.proofs.Common.{◌≡◌, ℕ, zero, suc, ◌+◌, ◌<◌, ◌≤◌, List, [], ◌∷◌, ◌++◌, length, take, drop, slice_index_or, Bool, true, false, Option, Some, None, refl, sym, ap, subst, ◌∙◌, ◌⊎◌, inl, inr, arith}
-use Rattle.std.specs.Prelude.{IsSome, IfNone, nat_le, option_map, option_and_then}
+use Rattle.std.specs.Prelude.{IsSome, IfNone, nat_le, option_map, option_and_then, ◌==◌, if◌then◌else◌}
 use Rattle.std.proofs.lemmas.Bool.Decides.{nat_tests}
 use Rattle.akl_terms.specs.declared.name.Name.{Name}
 use Rattle.akl_terms.specs.declared.program.Program.{Program}
@@ -19,17 +19,25 @@ use Rattle.table_laws.specs.Unfolds.{Unfolds, Spot, spot_of, spot_in}
 use Rattle.table_laws.specs.Stamped.{Run, LastChange, IsTableOf, store_stamp, goals_stamp, goal_stamp, stamp_in}
 use Rattle.table_laws.proofs.Frame.{row_of, found_of}
 use Rattle.table_laws.proofs.Insides.{spot_held}
-use Rattle.box_tree.specs.Tables.{all_rules, TableValue, table_of}
+use Rattle.std.specs.Map.{lookup}
+use Rattle.akl_terms.specs.Names.{same_name}
+use Rattle.box_tree.specs.StoreMarks.{stores_of, mark_found, store_mark}
+use Rattle.box_tree.specs.declared.store_marks.StoreMark.{StoreMark}
+use Rattle.box_tree.specs.Tables.{all_rules, TableValue, table_of, stamp_of}
 use Rattle.box_tree.specs.Views.{run_of}
 use Rattle.box_tree.specs.Plans.{PlanValue, IsRead, IsRight, of_label, of_call}
-use Rattle.step_commit.specs.Cores.{CoreValue, IsCore, run_by, MayCommit, IsUnchanged, IsStale, is_within, AllWithin, IsFirstUnseen}
-use Rattle.step_commit.proofs.LastChanges.{IsPart, last_change}
-use Rattle.step_commit.proofs.Committed.{table_before, goes, stamp_last, some_of}
+use Rattle.step_commit.specs.Cores.{CoreValue, IsCore, run_by, MayCommit, last_of_store, LastIn, IsUnchanged, IsStale, is_within, AllWithin, IsFirstUnseen}
+use Rattle.table_laws.proofs.SeenStamps.{IsPart}
+use Rattle.step_commit.proofs.LastChanges.{last_within, last_change}
+use Rattle.step_commit.proofs.Committed.{table_before, goes, stamp_last, some_of, at_most}
 
 -- a fact that is owed where an option has nothing
 pub if_none : {A P : Type 0} (o : Option A) → P → IfNone o P
 if_none None p = p
 if_none (Some x) p = tt
+
+above : (k n : ℕ) → nat_le k n ≡ false → n < k
+above k n e = grind (arith, nat_tests)
 
 -- lists of items
 
@@ -52,14 +60,6 @@ split_at (x ∷ xs) (suc i) d l = ap (λ (ys : List Item). x ∷ ys) (split_at x
 in_front : (xs ys : List Item) (j : Item) → IsRead (xs ++ j ∷ ys) j
 in_front [] ys j = inl refl
 in_front (x ∷ xs) ys j = inr (in_front xs ys j)
-
--- what has a stamp is a part of a configuration
-pub stamped_part : (T : Table) (i : Item) → IsSome (stamp_in T i) → IsPart i
-stamped_part T Item.Roots s = tt
-stamped_part T (Item.Store n) s = tt
-stamped_part T (Item.Goals n) s = tt
-stamped_part T (Item.Goal g) s = tt
-stamped_part T (Item.Binding x) s = absurd cc
 
 box_there : (n : Name) (o : Option BoxRow) → IsSome (store_stamp o) → (r : BoxRow) × (o ≡ Some r)
 box_there n None s = absurd cc
@@ -148,21 +148,18 @@ module _ (p : Program) (q : Query) (journal further : List Label) (S T : Table) 
       let g : _ = goal_stays all_rules p x.config further t.config on m f.0 f.2 u in
       let h : (k : Held) × (held_in m g.0.goals ≡ Some k) = same_held m f.0 g.0 f.1 f.3 g.3 (held_in m g.0.goals) refl in
       some_goal T t.config t.unfolds m g.0 h.0 g.1 h.1 n
-  there_still (Item.Binding v) s u n = absurd cc
+  there_still (Item.Binding v) s u n = cc
 
-  -- the number of its last change
+  -- the number of its last change, but of a binding
   pub record Changed (i : Item) (stamp : Option ℕ) : Type 0 where
     pub number : ℕ
     pub last : LastChange all_rules run i number
     pub unseen : length journal < number
     pub as_kept : (k : ℕ) → stamp ≡ Some k → k ≡ number
 
-  over : (k n : ℕ) → nat_le k n ≡ false → n < k
-  over k n e = grind (arith, nat_tests)
-
-  pub changed : (i : Item) → IsSome (stamp_in S i) → (o : Option ℕ) → stamp_in T i ≡ o → is_within o (length journal) ≡ false → Changed i o
-  changed i s (Some k) e w = record { number = k; last = stamp_last all_rules run T t.stamped i k e; unseen = over k (length journal) w; as_kept = λ m j. sym (some_of j) }
-  changed i s None e w = of_last (last_change all_rules p q i (stamped_part S i s) (journal ++ further) t.config t.replays)
+  pub changed : (i : Item) → IsPart i → IsSome (stamp_in S i) → (o : Option ℕ) → stamp_in T i ≡ o → is_within o (length journal) ≡ false → Changed i o
+  changed i part s (Some k) e w = record { number = k; last = stamp_last all_rules run T t.stamped i k part e; unseen = above k (length journal) w; as_kept = λ m j. sym (some_of j) }
+  changed i part s None e w = of_last (last_change all_rules p q i part (journal ++ further) t.config t.replays)
     where
       of_last : (m : ℕ) × LastChange all_rules (record { program = p; query = q; journal = journal ++ further }) i m → Changed i None
       of_last z = elim (lt_or (length journal) z.0) [
@@ -171,15 +168,39 @@ module _ (p : Program) (q : Query) (journal further : List Label) (S T : Table) 
       ]
 
   -- one that has a stamp which was seen was changed by no later label
-  pub unchanged : (i : Item) → (o : Option ℕ) → stamp_in T i ≡ o → is_within o (length journal) ≡ true → (k : ℕ) → LastChange all_rules run i k → k ≤ length journal
-  unchanged i None e w k v = absurd cc
-  unchanged i (Some m) e w k v =
-      let a : m ≡ k = one_stamp by_store all_rules p q (journal ++ further) i m k (stamp_last all_rules run T t.stamped i m e) v in
-      let b : m ≤ length journal = under m (length journal) w in
+  pub unchanged : (i : Item) → IsPart i → (o : Option ℕ) → stamp_in T i ≡ o → is_within o (length journal) ≡ true → (k : ℕ) → LastChange all_rules run i k → k ≤ length journal
+  unchanged i part None e w k v = absurd cc
+  unchanged i part (Some m) e w k v =
+      let a : m ≡ k = one_stamp by_store all_rules p q (journal ++ further) i m k (stamp_last all_rules run T t.stamped i m part e) v in
+      let b : m ≤ length journal = at_most m (length journal) w in
       omega arith
+
+-- a last change is that of a label of the journal
+module _ (c : CoreValue) (k : IsCore c) where
+  mark_within : (m : Name) (row : BoxRow) → (table_of c.table).box_of m ≡ Some row → store_mark c.table.marks m row.changed ≤ length c.journal
+  mark_within m row e = on (lookup (same_name m) (stores_of c.table.marks)) refl
     where
-      under : (k n : ℕ) → nat_le k n ≡ true → k ≤ n
-      under k n e = grind (arith, nat_tests)
+      changed : row.changed ≤ length c.journal
+      changed = last_within all_rules c.table.program c.table.query c.journal (Item.Store m) row.changed (k.table.stamped.store m row e)
+
+      on : (o : Option StoreMark) → lookup (same_name m) (stores_of c.table.marks) ≡ o → mark_found row.changed o ≤ length c.journal
+      on None i = changed
+      on (Some x) i = by (x.told == row.changed)
+        where
+          by : (b : Bool) → (if b then x.number else row.changed) ≤ length c.journal
+          by true = subst (λ (n : ℕ). x.number ≤ n) k.table.stamped.steps (k.stores_early m x i).1
+          by false = changed
+
+  pub last_in : (i : Item) (n : ℕ) → LastIn c i n → n ≤ length c.journal
+  last_in (Item.Binding v) n y = subst (λ (x : ℕ). x ≤ length c.journal) y (k.early v)
+  last_in (Item.Store m) n y = of_store ((table_of c.table).box_of m) refl y
+    where
+      of_store : (o : Option BoxRow) → (table_of c.table).box_of m ≡ o → last_of_store c m o n → n ≤ length c.journal
+      of_store None e z = last_within all_rules c.table.program c.table.query c.journal (Item.Store m) n z
+      of_store (Some row) e z = subst (λ (x : ℕ). x ≤ length c.journal) z (mark_within m row e)
+  last_in Item.Roots n y = last_within all_rules c.table.program c.table.query c.journal Item.Roots n y
+  last_in (Item.Goals m) n y = last_within all_rules c.table.program c.table.query c.journal (Item.Goals m) n y
+  last_in (Item.Goal g) n y = last_within all_rules c.table.program c.table.query c.journal (Item.Goal g) n y
 
 -- what was looked at over a front of a core's journal, with the items that were read, each there
 pub record IsLooked (c : CoreValue) (table : TableValue) (journal : List Label) (reads : List Item) : Type 0 where
@@ -205,37 +226,88 @@ module _ (c : CoreValue) (k : IsCore c) (table : TableValue) (journal : List Lab
   last_there : (i : Item) (n : ℕ) → LastChange all_rules (run_of c.table (journal ++ x.further)) i n → LastChange all_rules (run_by c) i n
   last_there i n = subst (λ (j : List Label). LastChange all_rules (run_of c.table j) i n) (sym x.front)
 
-  pub unchanged_here : (i : Item) → is_within (stamp_in (table_of c.table) i) (length journal) ≡ true → IsUnchanged c journal i
-  unchanged_here i w n y = unchanged c.table.program c.table.query journal x.further (table_of table) (table_of c.table) x.before now i (stamp_in (table_of c.table) i) refl w n (last_here i n y)
+  part_unchanged : (i : Item) → IsPart i → is_within (stamp_in (table_of c.table) i) (length journal) ≡ true → (n : ℕ) → LastChange all_rules (run_by c) i n → n ≤ length journal
+  part_unchanged i part w n y = unchanged c.table.program c.table.query journal x.further (table_of table) (table_of c.table) x.before now i part (stamp_in (table_of c.table) i) refl w n (last_here i n y)
 
-  was : (i : Item) → IsRead reads i → (o : Option ℕ) → stamp_in (table_of c.table) i ≡ o → is_within o (length journal) ≡ false
-      → Changed c.table.program c.table.query journal x.further (table_of table) (table_of c.table) x.before now i o
-  was i j = changed c.table.program c.table.query journal x.further (table_of table) (table_of c.table) x.before now i (x.there i j)
+  store_unchanged : (m : Name) (o : Option BoxRow) → is_within (option_map (λ (r : BoxRow). store_mark c.table.marks m r.changed) o) (length journal) ≡ true → (n : ℕ) → last_of_store c m o n → n ≤ length journal
+  store_unchanged m None w n y = absurd (let z : false ≡ true = w in cc)
+  store_unchanged m (Some row) w n y = let h : store_mark c.table.marks m row.changed ≤ length journal = at_most (store_mark c.table.marks m row.changed) (length journal) w in omega (arith, h, y)
+
+  pub unchanged_here : (i : Item) → is_within (stamp_of c.table i) (length journal) ≡ true → IsUnchanged c journal i
+  unchanged_here (Item.Binding v) w n y = let h : (table_of c.table).mark_of v ≤ length journal = at_most ((table_of c.table).mark_of v) (length journal) w in omega (arith, h, y)
+  unchanged_here Item.Roots w n y = part_unchanged Item.Roots tt w n y
+  unchanged_here (Item.Store m) w n y = store_unchanged m ((table_of c.table).box_of m) w n y
+  unchanged_here (Item.Goals m) w n y = part_unchanged (Item.Goals m) tt w n y
+  unchanged_here (Item.Goal g) w n y = part_unchanged (Item.Goal g) tt w n y
+
+  -- the number of a label behind those that were seen
+  record WasChanged (i : Item) (stamp : Option ℕ) : Type 0 where
+    number : ℕ
+    last : LastIn c i number
+    within : number ≤ length c.journal
+    unseen : length journal < number
+    as_kept : (k : ℕ) → stamp ≡ Some k → k ≡ number
+
+  part_changed : (i : Item) → IsPart i → IsRead reads i → (o : Option ℕ) → stamp_in (table_of c.table) i ≡ o → is_within o (length journal) ≡ false
+      → (n : ℕ) × LastChange all_rules (run_by c) i n × (n ≤ length c.journal) × (length journal < n) × ((k : ℕ) → o ≡ Some k → k ≡ n)
+  part_changed i part j o e w =
+      let z : Changed c.table.program c.table.query journal x.further (table_of table) (table_of c.table) x.before now i o =
+      changed c.table.program c.table.query journal x.further (table_of table) (table_of c.table) x.before now i part (x.there i j) o e w in
+      let last : LastChange all_rules (run_by c) i z.number = last_there i z.number z.last in
+      (z.number, last, last_within all_rules c.table.program c.table.query c.journal i z.number last, z.unseen, z.as_kept)
+
+  store_was : (m : Name) → IsRead reads (Item.Store m) → (r : Option BoxRow) → (table_of c.table).box_of m ≡ r → (o : Option ℕ) → option_map (λ (x : BoxRow). store_mark c.table.marks m x.changed) r ≡ o
+      → is_within o (length journal) ≡ false → WasChanged (Item.Store m) o
+  store_was m j None e (Some n) s w = absurd cc
+  store_was m j None e None s w =
+      let z : _ = part_changed (Item.Store m) tt j None (ap store_stamp e) w in
+      record { number = z.0; last = subst (λ (r : Option BoxRow). last_of_store c m r z.0) (sym e) z.1; within = z.2; unseen = z.3; as_kept = z.4 }
+  store_was m j (Some row) e None s w = absurd cc
+  store_was m j (Some row) e (Some n) s w =
+      let same : store_mark c.table.marks m row.changed ≡ n = some_of s in
+      record {
+        number = n;
+        last = subst (λ (r : Option BoxRow). last_of_store c m r n) (sym e) same;
+        within = subst (λ (x : ℕ). x ≤ length c.journal) same (mark_within c k m row e);
+        unseen = above n (length journal) w;
+        as_kept = λ i h. sym (some_of h);
+      }
+
+  was : (i : Item) → IsRead reads i → (o : Option ℕ) → stamp_of c.table i ≡ o → is_within o (length journal) ≡ false → WasChanged i o
+  was (Item.Binding v) j None e w = absurd cc
+  was (Item.Binding v) j (Some m) e w =
+      let same : (table_of c.table).mark_of v ≡ m = some_of e in
+      record { number = m; last = same; within = subst (λ (n : ℕ). n ≤ length c.journal) same (k.early v); unseen = above m (length journal) w; as_kept = λ n i. sym (some_of i) }
+  was Item.Roots j o e w = let z : _ = part_changed Item.Roots tt j o e w in record { number = z.0; last = z.1; within = z.2; unseen = z.3; as_kept = z.4 }
+  was (Item.Store m) j o e w = store_was m j ((table_of c.table).box_of m) refl o e w
+  was (Item.Goals m) j o e w = let z : _ = part_changed (Item.Goals m) tt j o e w in record { number = z.0; last = z.1; within = z.2; unseen = z.3; as_kept = z.4 }
+  was (Item.Goal g) j o e w = let z : _ = part_changed (Item.Goal g) tt j o e w in record { number = z.0; last = z.1; within = z.2; unseen = z.3; as_kept = z.4 }
 
   -- so what read such an item is stale
-  pub stale : (item : Item) (stamp : Option ℕ) → IsFirstUnseen (table_of c.table) reads (length journal) item stamp → IsStale c journal reads item stamp
+  pub stale : (item : Item) (stamp : Option ℕ) → IsFirstUnseen c.table reads (length journal) item stamp → IsStale c journal reads item stamp
   stale item stamp f =
       let read : IsRead reads item = subst (λ (is : List Item). IsRead is item) (sym f.is_read) (in_front f.earlier f.later item) in
-      let w : Changed c.table.program c.table.query journal x.further (table_of table) (table_of c.table) x.before now item stamp = was item read stamp (sym f.is_stamp) f.unseen in
+      let w : WasChanged item stamp = was item read stamp (sym f.is_stamp) f.unseen in
       record {
         earlier = f.earlier;
         later = f.later;
         is_read = f.is_read;
         first = λ i j. unchanged_here i (f.first i j);
         number = w.number;
-        last = last_there item w.number w.last;
+        last = w.last;
+        within = w.within;
         unseen = w.unseen;
         is_stamp = f.is_stamp;
         as_kept = w.as_kept;
       }
 
   -- and where nothing read was changed, all stamps were seen
-  pub all_within : ((i : Item) → IsRead reads i → IsUnchanged c journal i) → AllWithin (table_of c.table) reads (length journal)
-  all_within u i j = on (is_within (stamp_in (table_of c.table) i) (length journal)) refl
+  pub all_within : ((i : Item) → IsRead reads i → IsUnchanged c journal i) → AllWithin c.table reads (length journal)
+  all_within u i j = on (is_within (stamp_of c.table i) (length journal)) refl
     where
-      on : (b : Bool) → is_within (stamp_in (table_of c.table) i) (length journal) ≡ b → is_within (stamp_in (table_of c.table) i) (length journal) ≡ true
+      on : (b : Bool) → is_within (stamp_of c.table i) (length journal) ≡ b → is_within (stamp_of c.table i) (length journal) ≡ true
       on true e = e
       on false e =
-          let w : _ = was i j (stamp_in (table_of c.table) i) refl e in
-          let h : w.number ≤ length journal = u i j w.number (last_there i w.number w.last) in
+          let w : WasChanged i (stamp_of c.table i) = was i j (stamp_of c.table i) refl e in
+          let h : w.number ≤ length journal = u i j w.number w.last in
           absurd (omega (arith, h, w.unseen))

@@ -6,6 +6,7 @@ ghost use Rattle.box_tree.specs.Views.{is_there, IsUnseen, all_places};
 ghost use Rattle.box_tree.specs.Paths.{known_in, alternatives_seen};
 ghost use Rattle.box_tree.specs.Insides.{AreBoxesInside, IsInsideOf};
 ghost use Rattle.akl_terms.specs.declared.name.Place.{Place};
+ghost use Rattle.step_commit.specs.Solving.{solved_over, solved_copies};
 ghost use Rattle.step_commit.specs.Cores.{IsCore, MayCommit, IsFresh, Commits, IsRefused, IsFirstStale, is_within, solved_in};
 ghost use Rattle.step_commit.specs.declared.commit.CommitError.TheVariants as variants;
 
@@ -13,6 +14,7 @@ use crate::commit::CommitError;
 use akl_model::{Item, Label, Receipt};
 use akl_terms::{Name, Place, Program, Query, ShownTerm};
 use box_tree::{InnerBox, Inside, LookError, Plan, Step, Table, View};
+use local_store::Part;
 use std::alloc::{AllocError, Global};
 use std::marker::Model;
 
@@ -58,7 +60,7 @@ impl Core {
         ensures budget { IfOk result (λ c. c.budget ≡ budget) }
     {
         let journal = Vec::with_capacity(alloc, budget.min(ROOM) as usize)?;
-        let table = Table::start(alloc, program, query, first_variable)?;
+        let table = Table::start(alloc, program, query, first_variable, workers)?;
         Ok(Core {
             table,
             journal,
@@ -156,7 +158,7 @@ impl Core {
 
     /// The first of these items that a label behind the first ones, so many as are given, has changed, with its stamp.
     pub fn stale(&self, reads: &[Item], seen: u64) -> Option<(Item, Option<u64>)>
-        ensures { IsFirstStale (table_of self.now.table) reads.now seen result }
+        ensures { IsFirstStale self.now.table reads.now seen result }
     {
         first_stale(&self.table, reads, seen)
     }
@@ -186,20 +188,23 @@ impl Core {
         Some(CommitError::Stale { item, stamp })
     }
 
-    // After how many labels the stores of a plan's step were solved: those that it had seen. The copies of a split stand in one
-    // another, and nothing around them has changed since, so they are solved after all labels.
-    fn solved_at(&self, plan: &Plan) -> u64
+    // After how many labels the stores of a plan's step were solved, where it is known. A plan that has seen all labels says it of
+    // the table as it is.
+    fn solved_at(&self, plan: &Plan) -> Option<u64>
         ensures { result ≡ solved_in self.now plan.now }
     {
+        let all = self.journal.len() as u64;
+        if all == plan.seen() {
+            return Some(all);
+        }
+        let seen = plan.seen();
+        let place = plan.label().place;
         match plan.step() {
-            Step::Split { .. } => self.journal.len() as u64,
-            Step::Tell { .. }
-            | Step::Fork { .. }
-            | Step::Join { .. }
-            | Step::Fail
-            | Step::Cut
-            | Step::Refute
-            | Step::Confirm => plan.seen(),
+            Step::Tell { part, .. } | Step::Join { part, .. } => {
+                solved_over(&self.table, place, part, seen)
+            }
+            Step::Split { .. } => solved_copies(&self.table, all, place),
+            Step::Fork { .. } | Step::Fail | Step::Cut | Step::Refute | Step::Confirm => Some(seen),
         }
     }
 
@@ -218,9 +223,11 @@ impl Core {
         let names = plan.names();
         let at = self.solved_at(&plan);
         push_labels(&mut self.journal, label, plan.more())?;
+        let (step, binds) = plan.into_parts();
+        let binds = binds.as_slice();
         if let Err(error) = self
             .table
-            .apply(alloc, label, others, names, plan.into_step(), Some(at))
+            .apply(alloc, label, others, names, step, binds, at)
         {
             self.journal.truncate(before);
             return Err(error);
@@ -240,6 +247,26 @@ impl Core {
     }
 }
 
+// After how many labels the store of a goal's box is solved with what is added to it, where it is known.
+fn solved_over(table: &Table, place: Place, part: &Part, seen: u64) -> Option<u64>
+    ensures { result ≡ solved_over (table_of table.now) place part.now.bindings.items seen }
+{
+    match place {
+        Place::Goal(goal) => table.solved_with(goal, part, seen),
+        Place::Box(_) => None,
+    }
+}
+
+// After how many labels the copies of a box are solved, where it is known.
+fn solved_copies(table: &Table, labels: u64, place: Place) -> Option<u64>
+    ensures { result ≡ solved_copies (table_of table.now) labels place }
+{
+    match place {
+        Place::Box(name) if table.holder_of(name).is_none() => Some(labels),
+        Place::Box(_) | Place::Goal(_) => None,
+    }
+}
+
 // A label and those behind it come to the end of a journal. An `Err` leaves it as it was.
 fn push_labels(journal: &mut Vec<Label>, label: Label, more: &[Label]) -> Result<(), AllocError>
     ensures pushed { OnOk result (journal.new.items ≡ journal.old.items ++ label ∷ more.now) }
@@ -255,7 +282,7 @@ fn push_labels(journal: &mut Vec<Label>, label: Label, more: &[Label]) -> Result
 
 // The first item that a label after the first ones, so many as are given, has changed, with its stamp.
 fn first_stale(table: &Table, reads: &[Item], seen: u64) -> Option<(Item, Option<u64>)>
-    ensures { IsFirstStale (table_of table.now) reads.now seen result }
+    ensures { IsFirstStale table.now reads.now seen result }
 {
     for item in reads {
         let stamp = table.stamp(*item);

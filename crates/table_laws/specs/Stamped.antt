@@ -63,4 +63,4 @@ stamp_in T Item.Roots = Some T.roots_changed
 stamp_in T (Item.Store n) = store_stamp (T.box_of n)
 stamp_in T (Item.Goals n) = goals_stamp (T.box_of n)
 stamp_in T (Item.Goal g) = goal_stamp (T.goal_of g)
-stamp_in T (Item.Binding x) = None
+stamp_in T (Item.Binding x) = Some (T.mark_of x)

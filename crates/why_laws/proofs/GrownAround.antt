@@ -19,7 +19,7 @@ use Rattle.constraint_laws.proofs.Decided.{structured_or}
 use Rattle.constraint_laws.proofs.Beside.{follows_told}
 use Rattle.constraint_laws.proofs.Inward.{bound_outer, Reached, reached_itself, reached_further}
 use Rattle.constraint_laws.proofs.ValuesStay.{goal_stays}
-use Rattle.sleep_laws.proofs.AwaitedAtoms.{AwaitsNoneBound, still_waits}
+use Rattle.plan_laws.proofs.AwaitedAtoms.{AwaitsNoneBound, still_waits}
 use Rattle.why_laws.specs.Sound.{IsIdle}
 use Rattle.why_laws.proofs.IdleBoxes.{no_plain}
 use Rattle.why_laws.proofs.StaysTouched.{none_kept, TouchesUnbound, was_untouched, quiet_untouched, untouched_quiet}

@@ -16,7 +16,7 @@ use Rattle.akl_model.specs.Stable.{IsStable, IsSplitPoint, Allows}
 use Rattle.constraint_laws.proofs.Beside.{follows_told}
 use Rattle.step_laws.specs.Whereabouts.{BoxIn, InGoals}
 use Rattle.step_laws.proofs.GoalEdits.{held_inside}
-use Rattle.sleep_laws.proofs.AwaitedAtoms.{AwaitsNoneBound, comes_before, goes_before}
+use Rattle.plan_laws.proofs.AwaitedAtoms.{AwaitsNoneBound, comes_before, goes_before}
 use Rattle.why_laws.specs.Sound.{IsIdle}
 use Rattle.why_laws.proofs.Alternatives.{alternative_back, chosen_inside}
 use Rattle.why_laws.proofs.OtherEquations.{change_other}

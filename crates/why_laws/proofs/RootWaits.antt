@@ -21,10 +21,10 @@ use Rattle.constraint_laws.specs.Bound.{IsNewlyBound}
 use Rattle.constraint_laws.specs.Inward.{Adding}
 use Rattle.step_laws.specs.Whereabouts.{BoxIn, InGoals, Stands}
 use Rattle.step_laws.proofs.Whereabouts.{found_in, in_found}
-use Rattle.sleep_laws.proofs.InScope.{Good, outside_environment, around_outside}
-use Rattle.sleep_laws.proofs.Replayed.{good_replay}
-use Rattle.sleep_laws.proofs.AwaitedAtoms.{AwaitsNoneBound}
-use Rattle.wait_laws.proofs.Concerned.{touches_in_scope, inside_around}
+use Rattle.plan_laws.proofs.InScope.{Good, outside_environment, around_outside}
+use Rattle.plan_laws.proofs.Replayed.{good_replay}
+use Rattle.plan_laws.proofs.AwaitedAtoms.{AwaitsNoneBound}
+use Rattle.plan_laws.proofs.Concerned.{touches_in_scope, inside_around}
 use Rattle.why_laws.specs.Watched.{by_atom, by_choice}
 use Rattle.why_laws.specs.Sound.{told_more, IsIdle, LeavesWatched}
 use Rattle.why_laws.proofs.Alternatives.{each_alternative, IsAlternative, is_alternative}

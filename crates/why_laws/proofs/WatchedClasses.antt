@@ -27,11 +27,11 @@ use Rattle.constraint_laws.proofs.ValuesBefore.{goal_free}
 use Rattle.step_laws.specs.Whereabouts.{BoxIn, Stands}
 use Rattle.step_laws.proofs.Whereabouts.{found_in, in_found}
 use Rattle.step_laws.proofs.Stays.{alternative_in, alternative_stands}
-use Rattle.sleep_laws.proofs.InScope.{Good, outside_environment}
-use Rattle.sleep_laws.proofs.Moves.{told_further}
-use Rattle.sleep_laws.proofs.Replayed.{good_replay}
-use Rattle.wait_laws.proofs.Concerned.{touches_in_scope, inside_around}
-use Rattle.wait_laws.proofs.Frames.{some_found}
+use Rattle.plan_laws.proofs.InScope.{Good, outside_environment}
+use Rattle.plan_laws.proofs.Moves.{told_further}
+use Rattle.plan_laws.proofs.Replayed.{good_replay}
+use Rattle.plan_laws.proofs.Concerned.{touches_in_scope, inside_around}
+use Rattle.plan_laws.proofs.Frames.{some_found}
 use Rattle.why_laws.specs.Watched.{TouchesWithin, Watches, by_atom, by_choice}
 use Rattle.why_laws.proofs.BoxesInside.{some_where}
 

@@ -23,8 +23,8 @@ use Rattle.rational_unify.proofs.Taking.{take-next}
 use Rattle.step_laws.specs.Whereabouts.{BoxIn, Stands}
 use Rattle.step_laws.proofs.Stays.{alternative_in, alternative_stands}
 use Rattle.step_laws.proofs.Whereabouts.{in_found, home_in}
-use Rattle.wait_laws.proofs.Concerned.{inside_around}
-use Rattle.wait_laws.proofs.Frames.{some_found}
+use Rattle.plan_laws.proofs.Concerned.{inside_around}
+use Rattle.plan_laws.proofs.Frames.{some_found}
 use Rattle.local_store.specs.Stored.{Stored}
 use Rattle.local_store.proofs.Among.{among-either, among-left, among-right}
 use Rattle.table_laws.specs.Rows.{Table}

@@ -25,10 +25,10 @@ use Rattle.constraint_laws.proofs.Stands.{structured_stands, variable_stands}
 use Rattle.step_laws.specs.Whereabouts.{Stands}
 use Rattle.step_laws.proofs.Deeper.{home_found}
 use Rattle.step_laws.proofs.Whereabouts.{found_in}
-use Rattle.sleep_laws.proofs.AwaitedAtoms.{awaited_one}
-use Rattle.sleep_laws.proofs.InScope.{Good}
-use Rattle.sleep_laws.proofs.Replayed.{good_replay}
-use Rattle.wait_laws.proofs.Concerned.{touches_in_scope}
+use Rattle.plan_laws.proofs.AwaitedAtoms.{awaited_one}
+use Rattle.plan_laws.proofs.InScope.{Good}
+use Rattle.plan_laws.proofs.Replayed.{good_replay}
+use Rattle.plan_laws.proofs.Concerned.{touches_in_scope}
 use Rattle.local_store.specs.Stored.{Stored}
 use Rattle.local_store.specs.Chained.{equations_of}
 use Rattle.class_members.specs.Members.{IsMember}

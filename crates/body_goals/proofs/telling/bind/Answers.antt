@@ -10,4 +10,5 @@ returns-in_default c = record {
   part = λ own. part_takes own c.args.told.now.part c.push.new.self.items c.args.variable c.args.term c.in_ok-push.ensures.items;
   bound = search rules;
   solved = refl;
+  frames = refl;
 }

@@ -9,8 +9,8 @@ use Rattle.body_goals.specs.Takes.{Takes}
 use Rattle.body_goals.proofs.Taking.{binding_takes}
 use Rattle.body_goals.proofs.telling.tell.Goals as goal
 
-pub returns : goal.returns
-returns c =
+pub returns-clause-taken : goal.returns-clause-taken
+returns-clause-taken c =
     let bound : List Var = c.in-Some.variable ∷ variable_in (tree c.args.chain.now.nodes c.in-Some.term) in
     let ss : List Stored = c.args.chain.now.stores in
     let old : Stored = with_part (innermost ss) c.args.told.now.part in

@@ -14,7 +14,8 @@ returns-in-Plain c =
     rw c.in-Plain.is
     (record {
       joins = IfOk-weaker c.plain_joined.result _ _
-          (λ found h. IfSome_then found h (λ t j. let k = j path c.requires.some plain known apart in record { holds = k.holds; promoted = k.joins.promoted })) c.plain_joined.ensures;
-      free = IfOk-weaker c.plain_joined.result _ _ (λ found h. IfSome_then found h (λ t j. let k = j path c.requires.some plain known apart in k.joins.free)) c.plain_joined.ensures;
-      kept = IfOk-weaker c.plain_joined.result _ _ (λ found h. IfSome_then found h (λ t j. let k = j path c.requires.some plain known apart in k.joins.kept)) c.plain_joined.ensures;
+          (λ found h. IfSome_then found h (λ t j. let k = j path c.requires.some plain known apart in record { holds = k.holds; promoted = k.joins.promoted })) c.plain_joined.ensures.joins;
+      free = IfOk-weaker c.plain_joined.result _ _ (λ found h. IfSome_then found h (λ t j. let k = j path c.requires.some plain known apart in k.joins.free)) c.plain_joined.ensures.joins;
+      kept = IfOk-weaker c.plain_joined.result _ _ (λ found h. IfSome_then found h (λ t j. let k = j path c.requires.some plain known apart in k.joins.kept)) c.plain_joined.ensures.joins;
+      frames = c.plain_joined.ensures.frames;
     })

@@ -1,4 +1,4 @@
-use Rattle.std.proofs.Common.{◌∙◌, Some, sym, ap, subst}
+use Rattle.std.proofs.Common.{◌∙◌, sym, ap, subst}
 use Rattle.local_store.specs.Asking.{Decides}
 use Rattle.root_answers.proofs.RootTexts.{IsRootView, clashes}
 use Rattle.root_answers.proofs.RootModels.{is_model}

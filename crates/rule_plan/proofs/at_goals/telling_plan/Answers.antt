@@ -7,7 +7,7 @@ use Rattle.rule_plan.proofs.at_goals.telling_plan.Goals as goal
 pub told_plan-requires-clause-right : goal.told_plan-requires-clause-right
 told_plan-requires-clause-right c =
     let a = rw (c.chain.ensures.nodes, c.chain.ensures.stores, c.chain.ensures.known, c.requires.program) at c.in_ok-answer.ensures.told in
-    c.requires.right c.in_ok-answer.answer a
+    c.requires.right c.in_ok-answer.answer a c.in_ok-answer.ensures.frames
 
 pub told_plan-requires-clause-solved : goal.told_plan-requires-clause-solved
 told_plan-requires-clause-solved c =

@@ -7,7 +7,7 @@ use Rattle.akl_model.specs.Rules.{operator_of}
 use Rattle.box_tree.specs.Tables.{op_held}
 use Rattle.box_tree.specs.declared.step.Step.{Step}
 use Rattle.akl_terms.specs.declared.program.Definition.{Definition}
-use Rattle.guard_plan.proofs.PlanOf.{plan_of}
+use Rattle.guard_plan.proofs.PlanOf.{may_goal, plan_of}
 use Rattle.rule_plan.proofs.KnownStores.{all_known}
 use Rattle.rule_plan.proofs.ForkRight.{result, fork_right, fork_none}
 use Rattle.rule_plan.proofs.forking.fork.Goals as goal
@@ -63,5 +63,6 @@ new-requires-2-clause-right c =
 pub returns : goal.returns
 returns c =
     let made = rw (c.chain-chain.ensures.nodes, c.chain-chain.ensures.stores, c.chain-chain.ensures.known, c.worker.ensures, c.next-next.ensures, c.as_slice-3.ensures, c.requires.program) at c.in_ok-alternatives.ensures in
-    plan_of c.args.view.now c.in_ok-plan.plan _ _ _ _ _ (search rules) c.in_ok-plan.ensures Rule.Fork _ c.label_of-label.ensures.label
+    let may = may_goal c.args.view.now c.args.goal c.requires.place _ c.in_ok-reads.reads.items c.in_ok-reads.ensures in
+    plan_of c.args.view.now c.in_ok-plan.plan _ _ _ _ _ (search rules) may c.in_ok-plan.ensures Rule.Fork _ c.label_of-label.ensures.label
     (all_known c.args.view.now c.args.call c.args.view.now.worker c.args.view.now.next c.in-Some.found.now.clauses c.in_ok-alternatives.alternatives.items made) (λ e. cc)

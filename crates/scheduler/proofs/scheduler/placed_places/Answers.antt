@@ -4,7 +4,11 @@ use Rattle.opened_places.specs.Placed.{PlacedValue}
 use Rattle.box_tree.specs.Tables.{TableValue}
 use Rattle.scheduler.specs.Placing.{AddsThose}
 use Rattle.scheduler.proofs.Starting.{placed_all}
+use Rattle.scheduler.proofs.CoreTables.{of_run}
 use Rattle.scheduler.proofs.scheduler.placed_places.Goals as goal
+
+pub push_those-requires : goal.push_those-requires
+push_those-requires c = of_run c.args.core.now c.table.ensures.core c.table.result.now c.table.ensures.table
 
 pub returns : goal.returns
 returns c =

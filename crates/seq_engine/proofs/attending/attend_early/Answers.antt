@@ -1,9 +1,12 @@
-use Rattle.std.proofs.Common.{◌≡◌, ◌+◌, length, subst}
+use Rattle.std.proofs.Common.{◌≡◌, ◌+◌, length, sym, subst}
 use Rattle.step_commit.specs.Cores.{CoreValue}
-use Rattle.place_steps.specs.Seen.{view_in, IsSight, IsSeenBy}
+use Rattle.place_steps.specs.Seen.{view_in, IsCandidateAt, IsSight, IsSeenBy}
 use Rattle.place_steps.specs.Next.{IsEarly, HasEarlyRoom}
 use Rattle.seq_engine.proofs.Turns.{forgotten, comes_now}
 use Rattle.seq_engine.proofs.attending.attend_early.Goals as goal
+
+pub see-requires : goal.see-requires
+see-requires c = subst (λ (k : CoreValue). IsCandidateAt k c.args.place c.candidate_at-candidate.result) (sym c.core.ensures.core) c.candidate_at-candidate.ensures.candidate
 
 pub returns-in_default : goal.returns-in_default
 returns-in_default c = forgotten c.args.scheduler.now c.forget.new.self c.args.token c.args.place c.requires.open c.forget.ensures.closed

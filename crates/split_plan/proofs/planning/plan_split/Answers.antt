@@ -1,6 +1,5 @@
 use Rattle.std.proofs.Common.{◌-◌, List, length, ◌∙◌, ap, sym, subst}
 use Rattle.akl_terms.specs.declared.name.Name.{Name}
-use Rattle.box_tree.specs.declared.inside.InnerBox.{InnerBox}
 use Rattle.box_copies.specs.Copies.{AreBoxesOf}
 use Rattle.split_plan.proofs.SeenSplit.{seen_inside, all_still, unstable, stable_site, boxes_of}
 use Rattle.split_plan.proofs.planning.plan_split.Goals as goal

@@ -8,7 +8,7 @@ use Rattle.box_tree.proofs.table.Table.drop_box.Goals as goal
 
 pub returns-in-Some : goal.returns-in-Some
 returns-in-Some c =
-    let t : TableValue = record { program = c.self.inside.program.value; query = c.self.inside.query.value; boxes = c.self.inside.boxes; goals = c.self.inside.goals; roots = c.self.inside.roots.items; roots_changed = c.self.inside.roots_changed; next = c.self.inside.next.items; steps = c.self.inside.steps } in
+    let t : TableValue = record { program = c.self.inside.program.value; query = c.self.inside.query.value; boxes = c.self.inside.boxes; goals = c.self.inside.goals; roots = c.self.inside.roots.items; roots_changed = c.self.inside.roots_changed; marks = c.self.inside.marks; next = c.self.inside.next.items; steps = c.self.inside.steps } in
     let there : (table_of t).box_of c.args.name ≡ Some (box_row t.program.templates.nodes c.in-Some.entry) =
     ap (option_map (box_row t.program.templates.nodes)) (sym c.remove.ensures.was ∙ c.in-Some.is) in
     subst (λ (v : TableValue). DropsBoxes v c.drop_goals.new.self (c.args.name ∷ [])) c.self.view_is

@@ -12,7 +12,7 @@ use Rattle.box_tree.proofs.table.Table.drop_goal.Goals.{in-Some+in-Choice-1, in-
 
 pub returns-clause-dropped : goal.returns-clause-dropped
 returns-clause-dropped c =
-    let t : TableValue = record { program = c.self.inside.program.value; query = c.self.inside.query.value; boxes = c.self.inside.boxes; goals = c.self.inside.goals; roots = c.self.inside.roots.items; roots_changed = c.self.inside.roots_changed; next = c.self.inside.next.items; steps = c.self.inside.steps } in
+    let t : TableValue = record { program = c.self.inside.program.value; query = c.self.inside.query.value; boxes = c.self.inside.boxes; goals = c.self.inside.goals; roots = c.self.inside.roots.items; roots_changed = c.self.inside.roots_changed; marks = c.self.inside.marks; next = c.self.inside.next.items; steps = c.self.inside.steps } in
     subst (λ (v : TableValue). SetsGoals v (record t { goals = c.remove.new.self }) (set c.args.goal None (table_of v).goal_of)) c.self.view_is (sets_goal t c.args.goal c.remove.new.self None c.remove.ensures.gone.finds)
 
 pub returns-clause-home : goal.returns-clause-home

@@ -1,7 +1,7 @@
 use Rattle.std.proofs.Common.{sym, ap, ◌∙◌, subst}
 use Rattle.akl_terms.specs.declared.name.Place.{Place}
 use Rattle.local_store.specs.Parts.{with_part}
-use Rattle.call_tables.specs.Calls.{after_call}
+use Rattle.table_laws.specs.Calls.{after_call}
 use Rattle.box_tree.specs.Tables.{TableValue, table_of, store_at}
 use Rattle.box_tree.specs.Edits.{Becomes, named_atoms}
 use Rattle.box_tree.proofs.Joined.{goals_increase, joined}

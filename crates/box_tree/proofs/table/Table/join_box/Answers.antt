@@ -22,7 +22,7 @@ join-requires c =
 
 pub returns-in_default-join-clause-unchanged : goal.returns-in_default-join-clause-unchanged
 returns-in_default-join-clause-unchanged c =
-    let t : TableValue = record { program = c.self.inside.program.value; query = c.self.inside.query.value; boxes = c.self.inside.boxes; goals = c.self.inside.goals; roots = c.self.inside.roots.items; roots_changed = c.self.inside.roots_changed; next = c.self.inside.next.items; steps = c.self.inside.steps } in
+    let t : TableValue = record { program = c.self.inside.program.value; query = c.self.inside.query.value; boxes = c.self.inside.boxes; goals = c.self.inside.goals; roots = c.self.inside.roots.items; roots_changed = c.self.inside.roots_changed; marks = c.self.inside.marks; next = c.self.inside.next.items; steps = c.self.inside.steps } in
     let old : BoxEntry = c.in-Some.entry.now in
     let is : lookup (same_name c.args.home) c.self.inside.boxes ≡ Some old = sym c.get_mut.ensures.value ∙ ap option_copied_mut c.in-Some.is in
     let puts : IsPut c.self.inside.boxes (c.get_mut.follows.lender c.join.new.self) c.args.home old =
@@ -32,7 +32,7 @@ returns-in_default-join-clause-unchanged c =
 
 pub returns-clause-joined : goal.returns-clause-joined
 returns-clause-joined c =
-    let t : TableValue = record { program = c.self.inside.program.value; query = c.self.inside.query.value; boxes = c.self.inside.boxes; goals = c.self.inside.goals; roots = c.self.inside.roots.items; roots_changed = c.self.inside.roots_changed; next = c.self.inside.next.items; steps = c.self.inside.steps } in
+    let t : TableValue = record { program = c.self.inside.program.value; query = c.self.inside.query.value; boxes = c.self.inside.boxes; goals = c.self.inside.goals; roots = c.self.inside.roots.items; roots_changed = c.self.inside.roots_changed; marks = c.self.inside.marks; next = c.self.inside.next.items; steps = c.self.inside.steps } in
     let old : BoxEntry = c.in-Some.entry.now in
     let is : lookup (same_name c.args.home) c.self.inside.boxes ≡ Some old = sym c.get_mut.ensures.value ∙ ap option_copied_mut c.in-Some.is in
     let new : BoxEntry = record c.join.new.self { goals = c.remove.new.self; goals_changed = c.args.number } in

@@ -16,7 +16,7 @@ use Rattle.box_tree.proofs.table.Table.lose_alternative.Goals as goal
 
 pub returns-clause-lost : goal.returns-clause-lost
 returns-clause-lost c =
-    let t : TableValue = record { program = c.self.inside.program.value; query = c.self.inside.query.value; boxes = c.self.inside.boxes; goals = c.self.inside.goals; roots = c.self.inside.roots.items; roots_changed = c.self.inside.roots_changed; next = c.self.inside.next.items; steps = c.self.inside.steps } in
+    let t : TableValue = record { program = c.self.inside.program.value; query = c.self.inside.query.value; boxes = c.self.inside.boxes; goals = c.self.inside.goals; roots = c.self.inside.roots.items; roots_changed = c.self.inside.roots_changed; marks = c.self.inside.marks; next = c.self.inside.next.items; steps = c.self.inside.steps } in
     let old : GoalEntry = c.in-Some.entry.now in
     let is : lookup (same_name c.args.goal) c.self.inside.goals ≡ Some old = sym c.get_mut.ensures.value ∙ ap option_copied_mut c.in-Some.is in
     let new : GoalEntry = record { home = old.home; held = c.lose.new.self; changed = c.args.number } in

@@ -11,7 +11,7 @@ use Rattle.box_tree.proofs.table.Table.make_choice.Goals.{in-Some, in_default}
 
 pub returns : goal.returns
 returns c =
-    let t : TableValue = record { program = c.self.inside.program.value; query = c.self.inside.query.value; boxes = c.self.inside.boxes; goals = c.self.inside.goals; roots = c.self.inside.roots.items; roots_changed = c.self.inside.roots_changed; next = c.self.inside.next.items; steps = c.self.inside.steps } in
+    let t : TableValue = record { program = c.self.inside.program.value; query = c.self.inside.query.value; boxes = c.self.inside.boxes; goals = c.self.inside.goals; roots = c.self.inside.roots.items; roots_changed = c.self.inside.roots_changed; marks = c.self.inside.marks; next = c.self.inside.next.items; steps = c.self.inside.steps } in
     elim c.match-get_mut.branch [
       | in-Some w ↦
           let old : GoalEntry = w.in-Some.entry.now in

@@ -8,11 +8,11 @@ use Rattle.box_tree.proofs.table.Table.put_goal.Goals as goal
 
 pub returns-clause-put : goal.returns-clause-put
 returns-clause-put c =
-    let t : TableValue = record { program = c.self.inside.program.value; query = c.self.inside.query.value; boxes = c.self.inside.boxes; goals = c.self.inside.goals; roots = c.self.inside.roots.items; roots_changed = c.self.inside.roots_changed; next = c.self.inside.next.items; steps = c.self.inside.steps } in
+    let t : TableValue = record { program = c.self.inside.program.value; query = c.self.inside.query.value; boxes = c.self.inside.boxes; goals = c.self.inside.goals; roots = c.self.inside.roots.items; roots_changed = c.self.inside.roots_changed; marks = c.self.inside.marks; next = c.self.inside.next.items; steps = c.self.inside.steps } in
     subst (λ (v : TableValue). SetsGoals v (record t { goals = c.insert.new.self }) (set c.args.name (Some (goal_row v.program.templates.nodes c.args.entry)) (table_of v).goal_of)) c.self.view_is
     (sets_goal t c.args.name c.insert.new.self (Some c.args.entry) c.in_ok-insert.ensures.put.finds)
 
 pub returns-clause-only : goal.returns-clause-only
 returns-clause-only c =
-    let t : TableValue = record { program = c.self.inside.program.value; query = c.self.inside.query.value; boxes = c.self.inside.boxes; goals = c.self.inside.goals; roots = c.self.inside.roots.items; roots_changed = c.self.inside.roots_changed; next = c.self.inside.next.items; steps = c.self.inside.steps } in
+    let t : TableValue = record { program = c.self.inside.program.value; query = c.self.inside.query.value; boxes = c.self.inside.boxes; goals = c.self.inside.goals; roots = c.self.inside.roots.items; roots_changed = c.self.inside.roots_changed; marks = c.self.inside.marks; next = c.self.inside.next.items; steps = c.self.inside.steps } in
     subst (λ (v : TableValue). AddsOnly v (record t { goals = c.insert.new.self }) (c.args.name ∷ [])) c.self.view_is (adds_goal t c.args.name c.insert.new.self c.args.entry c.in_ok-insert.ensures.put)

@@ -17,6 +17,11 @@ returns-clause-query c = subst (λ (x : TableValue). x.query ≡ c.args.self.now
     (ap (λ (x : TableValue). x.query) c.drop_boxes.ensures.rest ∙ stays_held (λ (x : TableValue). x.query) (λ t goals roots number. refl) c.make_choice.new.self c.hold.new.self c.args.number c.in_ok-held.held c.hold.ensures
     ∙ ap (λ (x : TableValue). x.query) c.make_choice.ensures.rest ∙ ap (λ (x : TableValue). x.query) c.in_ok-add_copies.ensures.put.rest)
 
+pub returns-clause-marks : goal.returns-clause-marks
+returns-clause-marks c = subst (λ (x : TableValue). x.marks ≡ c.args.self.now.marks) (sym (c.self.view_is ∙ c.raise.ensures.rest))
+    (ap (λ (x : TableValue). x.marks) c.drop_boxes.ensures.rest ∙ stays_held (λ (x : TableValue). x.marks) (λ t goals roots number. refl) c.make_choice.new.self c.hold.new.self c.args.number c.in_ok-held.held c.hold.ensures
+    ∙ ap (λ (x : TableValue). x.marks) c.make_choice.ensures.rest ∙ ap (λ (x : TableValue). x.marks) c.in_ok-add_copies.ensures.put.rest)
+
 pub returns-clause-splits : goal.returns-clause-splits
 returns-clause-splits c =
     let t : TableValue = c.args.self.now in

@@ -15,7 +15,7 @@ use Rattle.box_tree.proofs.table.Table.tell_box.Goals as goal
 
 pub returns-in_default-tell-clause-unchanged : goal.returns-in_default-tell-clause-unchanged
 returns-in_default-tell-clause-unchanged c =
-    let t : TableValue = record { program = c.self.inside.program.value; query = c.self.inside.query.value; boxes = c.self.inside.boxes; goals = c.self.inside.goals; roots = c.self.inside.roots.items; roots_changed = c.self.inside.roots_changed; next = c.self.inside.next.items; steps = c.self.inside.steps } in
+    let t : TableValue = record { program = c.self.inside.program.value; query = c.self.inside.query.value; boxes = c.self.inside.boxes; goals = c.self.inside.goals; roots = c.self.inside.roots.items; roots_changed = c.self.inside.roots_changed; marks = c.self.inside.marks; next = c.self.inside.next.items; steps = c.self.inside.steps } in
     let old : BoxEntry = c.in-Some-get_mut.entry.now in
     let is : lookup (same_name c.in-Some.name) c.self.inside.boxes ≡ Some old = sym c.get_mut.ensures.value ∙ ap option_copied_mut c.in-Some-get_mut.is in
     let puts : IsPut c.self.inside.boxes (c.get_mut.follows.lender c.tell.new.self) c.in-Some.name old =
@@ -25,7 +25,7 @@ returns-in_default-tell-clause-unchanged c =
 
 pub returns-clause-told : goal.returns-clause-told
 returns-clause-told c =
-    let t : TableValue = record { program = c.self.inside.program.value; query = c.self.inside.query.value; boxes = c.self.inside.boxes; goals = c.self.inside.goals; roots = c.self.inside.roots.items; roots_changed = c.self.inside.roots_changed; next = c.self.inside.next.items; steps = c.self.inside.steps } in
+    let t : TableValue = record { program = c.self.inside.program.value; query = c.self.inside.query.value; boxes = c.self.inside.boxes; goals = c.self.inside.goals; roots = c.self.inside.roots.items; roots_changed = c.self.inside.roots_changed; marks = c.self.inside.marks; next = c.self.inside.next.items; steps = c.self.inside.steps } in
     let old : BoxEntry = c.in-Some-get_mut.entry.now in
     let is : lookup (same_name c.in-Some.name) c.self.inside.boxes ≡ Some old = sym c.get_mut.ensures.value ∙ ap option_copied_mut c.in-Some-get_mut.is in
     let new : BoxEntry = record c.tell.new.self { goals = c.remove.new.self; goals_changed = c.args.told.number } in

@@ -82,3 +82,10 @@ returns-in-Err-Short g c =
     let rs = c.args.receipts.now.items in
     subst (λ (d : SharedValue). HasConcluded c.args.worker s rs d rs)
     (sym (c.take_refused.ensures ∙ ap (λ (ms : List Made). record { begun = c.self.inside.begun.value; past = ms }) c.reserve.ensures.items ∙ c.self.view_is)) (concluded_none c.args.worker s rs)
+
+pub returns : goal.returns
+returns g c =
+    let s = c.args.self.now in
+    let rs = c.args.receipts.now.items in
+    subst (λ (d : SharedValue). HasConcluded c.args.worker s rs d rs)
+    (sym (c.stop-in-Err-Spent.ensures ∙ ap (λ (ms : List Made). record { begun = c.self.inside.begun.value; past = ms }) c.reserve.ensures.items ∙ c.self.view_is)) (concluded_none c.args.worker s rs)

@@ -9,7 +9,11 @@ use Rattle.scheduler.proofs.Untimed.{untimed_commits}
 use Rattle.scheduler.specs.Turns.{AreHintsFor}
 use Rattle.scheduler.proofs.Hurrying.{suspects_urgent, still_among}
 use Rattle.scheduler.proofs.WorkBound.{label_within}
+use Rattle.scheduler.proofs.CoreTables.{of_run}
 use Rattle.scheduler.proofs.scheduler.Scheduler.commit_fresh.Goals as goal
+
+pub of-requires : goal.of-requires
+of-requires g c = of_run c.self.inside.core c.table.ensures.core c.table.result.now c.table.ensures.table
 
 pub returns-in_err-effects-clause-steps : goal.returns-in_err-effects-clause-steps
 returns-in_err-effects-clause-steps g c = label_within c.args.self.now c.args.plan c.args.steps.now

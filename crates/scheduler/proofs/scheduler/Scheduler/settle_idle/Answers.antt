@@ -10,7 +10,14 @@ use Rattle.scheduler.proofs.OpenedMore.{its_open}
 use Rattle.scheduler.proofs.SettleKept.{settled_scheduler, settled_so}
 use Rattle.scheduler.proofs.SettleCalls.{waits_none, candidate_back, same_scheduler}
 use Rattle.scheduler.proofs.SplitsKept.{place_kept, place_enough, settled_splits}
+use Rattle.scheduler.proofs.CoreTables.{of_run}
 use Rattle.scheduler.proofs.scheduler.Scheduler.settle_idle.Goals as goal
+
+pub quiet_candidate-nearest-requires-clause-run : goal.quiet_candidate-nearest-requires-clause-run
+quiet_candidate-nearest-requires-clause-run c = of_run c.self.inside.core c.table-2.ensures.core c.table-2.result.now c.table-2.ensures.table
+
+pub open_candidate-requires : goal.open_candidate-requires
+open_candidate-requires c = of_run c.self.inside.core c.table-3.ensures.core c.table-3.result.now c.table-3.ensures.table
 
 pub quiet_candidate-nearest-requires-clause-splits : goal.quiet_candidate-nearest-requires-clause-splits
 quiet_candidate-nearest-requires-clause-splits c =

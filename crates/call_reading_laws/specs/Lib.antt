@@ -1,4 +1,0 @@
-pub mod CallMarks
-pub mod CallPlans
-pub mod CallsAgain
-pub mod SeenCalls

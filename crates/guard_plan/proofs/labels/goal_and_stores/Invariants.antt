@@ -1,6 +1,0 @@
-use Rattle.std.proofs.Common.{◌≡◌, ◌∷◌, ◌++◌, map, drop}
-use Rattle.akl_model.specs.declared.item.Item.{Item}
-use Rattle.guard_plan.proofs.labels.goal_and_stores.Given as goal
-
-abbrev pub invariant-loop-name : goal.invariant-loop-name
-invariant-loop-name l = l.items.items ++ map Item.Store (drop l.name-index l.boxes) ≡ Item.Goal l.fn.goal ∷ map Item.Store l.boxes

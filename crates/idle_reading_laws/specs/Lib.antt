@@ -1,2 +1,0 @@
-pub mod IdleGoals
-pub mod SeenBoxes

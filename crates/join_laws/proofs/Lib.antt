@@ -1,3 +1,0 @@
-pub mod FreshJoins
-pub mod Later
-pub mod Parts

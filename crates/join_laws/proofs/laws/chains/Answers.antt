@@ -1,5 +1,0 @@
-use Rattle.join_laws.proofs.FreshJoins as law
-use Rattle.join_laws.proofs.laws.chains.Goals as goal
-
-pub returns : goal.returns
-returns c = λ nodes now still part fresh older new e. law.fresh_joined nodes now still part fresh older new e

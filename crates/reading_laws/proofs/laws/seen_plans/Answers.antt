@@ -1,5 +1,0 @@
-use Rattle.reading_laws.proofs.SeenPlans as law
-use Rattle.reading_laws.proofs.laws.seen_plans.Goals as goal
-
-pub returns : goal.returns
-returns c = law.seen_plan

@@ -1,0 +1,104 @@
+-- The numbers of last changes between the labels of a call at once.
+use Rattle.std.proofs.Common.{◌≡◌, ℕ, ◌+◌, List, [], ◌∷◌, ◌++◌, length, refl, sym, ◌∙◌, subst, inl, inr, append-nil, append_assoc}
+use Rattle.std.specs.Prelude.{⊤}
+use Rattle.akl_terms.specs.declared.name.Name.{Name}
+use Rattle.akl_terms.specs.declared.program.Program.{Program}
+use Rattle.akl_terms.specs.declared.program.Query.{Query}
+use Rattle.akl_terms.proofs.SameNames.{same_name-refl}
+use Rattle.akl_model.specs.declared.item.Item.{Item}
+use Rattle.akl_model.specs.declared.label.Rule.{Rule}
+use Rattle.akl_model.specs.declared.label.Label.{Label}
+use Rattle.akl_model.specs.Config.{Boxes, Goals, Config, box_at, home_of}
+use Rattle.akl_model.specs.Changes.{box_names, goal_names, goals_at, constraint_at, Constraint, Shape, shape_at, by_store, Changes, IsLastChange}
+use Rattle.akl_model.specs.Derivations.{Derives, Replays}
+use Rattle.akl_model.specs.Instances.{start}
+use Rattle.akl_model.proofs.NamesKept.{Stand, replay-stands, stands_after}
+use Rattle.constraint_laws.proofs.SameTerms.{Either}
+use Rattle.plan_laws.proofs.StampLaws.{first_stamp, new_stamp, old_stamp}
+use Rattle.plan_laws.proofs.Replayed.{replay_further}
+use Rattle.step_laws.proofs.Decide.{names_or, option_or, constraint_or, shape_or}
+use Rattle.plan_laws.specs.Between.{with_choice}
+use Rattle.plan_laws.proofs.CallAlternatives.{Calling, between, IsNewName, AreNew, Steps, stops, goes}
+use Rattle.plan_laws.proofs.Elsewhere.{names_same}
+use Rattle.plan_laws.proofs.OpensAlike.{other_name}
+use Rattle.plan_laws.proofs.CallsOutside.{alike_constraint, alike_names, alike_shape, IsOutside, outside_itself, outside}
+
+-- what a store tells of isn't told apart by bindings
+abbrev pub IsPlain : Item → Type 0
+IsPlain (Item.Binding v) = ⊥
+IsPlain item = ⊤
+
+other_or : {A : Type 0} → Either A → Either (A → ⊥)
+other_or (inl e) = inr (λ h. h e)
+other_or (inr n) = inl n
+
+change_or : (c d : Config) (item : Item) → IsPlain item → Either (Changes by_store c d item)
+change_or c d Item.Roots h = other_or (names_or (box_names c.roots) (box_names d.roots))
+change_or c d (Item.Store n) h = other_or (option_or Constraint constraint_or (constraint_at n c.roots) (constraint_at n d.roots))
+change_or c d (Item.Goals n) h = other_or (option_or (List Name) names_or (goals_at n c.roots) (goals_at n d.roots))
+change_or c d (Item.Goal g) h = other_or (option_or Shape shape_or (shape_at g c.roots) (shape_at g d.roots))
+change_or c d (Item.Binding v) h = absurd h
+
+module _ (rules : List Rule) (p : Program) (q : Query) where
+  last_change : (journal : List Label) (c : Config) (ls : List Label) (d : Config) → Replays rules p q journal c → Derives rules p c ls d → (item : Item) → IsPlain item → (m : ℕ) → IsLastChange by_store rules p q journal item m
+      → (m : ℕ) × IsLastChange by_store rules p q (journal ++ ls) item m
+  last_change journal c [] d r w item plain m x = (m, subst (λ (js : List Label). IsLastChange by_store rules p q js item m) (sym (append-nil journal)) x)
+  last_change journal c (l ∷ ls) d r w item plain m x = again (elim (change_or c w.0 item plain) [
+    | inl h ↦ last_change (journal ++ l ∷ []) w.0 ls d (replay_further rules p q journal c l w.0 r w.1) w.2 item plain (length journal + 1) (new_stamp by_store rules p q journal c l w.0 item r w.1 h)
+    | inr h ↦ last_change (journal ++ l ∷ []) w.0 ls d (replay_further rules p q journal c l w.0 r w.1) w.2 item plain m (old_stamp by_store rules p q journal c l w.0 item m r w.1 h x)
+  ])
+    where
+      again : (m : ℕ) × IsLastChange by_store rules p q ((journal ++ l ∷ []) ++ ls) item m → (m : ℕ) × IsLastChange by_store rules p q (journal ++ l ∷ ls) item m
+      again z = (z.0, subst (λ (js : List Label). IsLastChange by_store rules p q js item z.0) (append_assoc journal (l ∷ []) ls) z.1)
+
+  -- each item has a last change
+  pub each_stamped : (journal : List Label) (c : Config) → Replays rules p q journal c → (item : Item) → IsPlain item → (m : ℕ) × IsLastChange by_store rules p q journal item m
+  each_stamped journal c r item plain = last_change [] (start p q) journal c (record { derives = refl }) r.derives item plain 0 (first_stamp by_store rules p q item)
+
+-- items that have nothing to do with a call
+abbrev pub IsElsewhere : Calling → Item → Type 0
+IsElsewhere k Item.Roots = ⊤
+IsElsewhere k (Item.Store n) = IsNewName k n → ⊥
+IsElsewhere k (Item.Goals n) = IsNewName k n → ⊥
+IsElsewhere k (Item.Goal g) = (IsNewName k g → ⊥) × (g ≡ k.goal → ⊥)
+IsElsewhere k (Item.Binding v) = ⊥
+
+pub record IsApart (k : Calling) (m : Config) : Type 0 where
+  pub all : IsOutside k m
+  pub roots : box_names k.config.roots ≡ box_names m.roots
+
+pub apart_itself : (k : Calling) → IsApart k k.config
+apart_itself k = record { all = outside_itself k; roots = refl }
+
+pub apart_between : (k : Calling) (bs : Boxes) → Stand (between k bs) → AreNew k bs → IsApart k (between k bs)
+apart_between k bs s new = record {
+  all = outside k bs s new;
+  roots = sym (names_same k.home.content.name k.home.content k.home.goals (with_choice k.home k.goal k.op bs).goals (same_name-refl k.home.content.name) k.config.roots);
+}
+
+pub unchanged_between : (k : Calling) (m n : Config) → IsApart k m → IsApart k n → (item : Item) → IsElsewhere k item → Changes by_store m n item → ⊥
+unchanged_between k m n x y Item.Roots h z = z (sym x.roots ∙ y.roots)
+unchanged_between k m n x y (Item.Store i) h z = z (sym (alike_constraint (λ (u v : Goals). goal_names u ≡ goal_names v) (box_at i k.config.roots) (box_at i m.roots) (x.all.boxes i h))
+    ∙ alike_constraint (λ (u v : Goals). goal_names u ≡ goal_names v) (box_at i k.config.roots) (box_at i n.roots) (y.all.boxes i h))
+unchanged_between k m n x y (Item.Goals i) h z = z (sym (alike_names (box_at i k.config.roots) (box_at i m.roots) (x.all.boxes i h)) ∙ alike_names (box_at i k.config.roots) (box_at i n.roots) (y.all.boxes i h))
+unchanged_between k m n x y (Item.Goal g) h z =
+    z (sym (alike_shape g (home_of g k.config.roots) (home_of g m.roots) (x.all.homes g h.0 (other_name k g h.1))) ∙ alike_shape g (home_of g k.config.roots) (home_of g n.roots) (y.all.homes g h.0 (other_name k g h.1)))
+unchanged_between k m n x y (Item.Binding v) h z = h
+
+-- they keep their stamps
+pub stamps_along : (k : Calling) (q : Query) (bs : Boxes) (ls : List Label) (cs : Boxes) → Steps k ⊥ bs ls cs → (journal : List Label) → Replays k.rules k.program q journal (between k bs) → AreNew k bs
+    → (item : Item) → IsElsewhere k item → (m : ℕ) → IsLastChange by_store k.rules k.program q journal item m
+    → IsLastChange by_store k.rules k.program q (journal ++ ls) item m
+stamps_along k q _ _ _ (stops bs) journal r n item h m x = subst (λ (js : List Label). IsLastChange by_store k.rules k.program q js item m) (sym (append-nil journal)) x
+stamps_along k q _ _ _ (goes l bs cs ls ds new at a none y) journal r n item h m x =
+    let s : Stand (between k bs) = replay-stands k.rules k.program q journal (between k bs) r in
+    let t : Stand (between k cs) = stands_after k.rules k.program (between k bs) l (between k cs) s a in
+    subst (λ (js : List Label). IsLastChange by_store k.rules k.program q js item m) (append_assoc journal (l ∷ []) ls)
+    (stamps_along k q cs ls ds y (journal ++ l ∷ []) (replay_further k.rules k.program q journal (between k bs) l (between k cs) r a) new item h m
+    (old_stamp by_store k.rules k.program q journal (between k bs) l (between k cs) item m r a (unchanged_between k (between k bs) (between k cs) (apart_between k bs s n) (apart_between k cs t new) item h) x))
+
+pub replays_along : (k : Calling) (q : Query) (bs : Boxes) (ls : List Label) (cs : Boxes) → Steps k ⊥ bs ls cs → (journal : List Label) → Replays k.rules k.program q journal (between k bs) → Replays k.rules k.program q (journal ++ ls) (between k cs)
+replays_along k q _ _ _ (stops bs) journal r = subst (λ (js : List Label). Replays k.rules k.program q js (between k bs)) (sym (append-nil journal)) r
+replays_along k q _ _ _ (goes l bs cs ls ds new at a none y) journal r =
+    subst (λ (js : List Label). Replays k.rules k.program q js (between k ds)) (append_assoc journal (l ∷ []) ls)
+    (replays_along k q cs ls ds y (journal ++ l ∷ []) (replay_further k.rules k.program q journal (between k bs) l (between k cs) r a))

@@ -1,5 +1,0 @@
-use Rattle.table_laws.proofs.GoneSteps.{gone_law, gone_listed_law}
-use Rattle.table_laws.proofs.laws.gone_places.Goals as goal
-
-pub returns : goal.returns
-returns c = record { by_rows = gone_law; listed = gone_listed_law }

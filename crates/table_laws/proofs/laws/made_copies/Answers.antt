@@ -1,5 +1,0 @@
-use Rattle.table_laws.proofs.CopiesMade as law
-use Rattle.table_laws.proofs.laws.made_copies.Goals as goal
-
-pub returns : goal.returns
-returns c = law.copies_law

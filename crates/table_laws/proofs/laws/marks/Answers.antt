@@ -1,5 +1,0 @@
-use Rattle.table_laws.proofs.MarksKept as law
-use Rattle.table_laws.proofs.laws.marks.Goals as goal
-
-pub returns : goal.returns
-returns c = record { start = law.marks_start; step = law.marks_step }

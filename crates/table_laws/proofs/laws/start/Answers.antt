@@ -1,5 +1,0 @@
-use Rattle.table_laws.proofs.Started as law
-use Rattle.table_laws.proofs.laws.start.Goals as goal
-
-pub returns : goal.returns
-returns c = law.start_law

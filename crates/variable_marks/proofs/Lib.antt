@@ -1,0 +1,2 @@
+pub mod InFrames
+pub mod Within

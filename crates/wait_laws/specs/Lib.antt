@@ -1,4 +1,0 @@
-pub mod Waits
-pub mod Woken
-pub mod Kept
-pub mod Still
