@@ -46,7 +46,7 @@ use Rattle.box_tree.specs.Views.{ViewValue, IsViewOf}
 use Rattle.box_tree.specs.Insides.{IsInnerBox, AreBoxesInside}
 use Rattle.box_tree.proofs.Looks.{stores_append}
 use Rattle.box_tree.proofs.Seen.{PathOf, path_found}
-use Rattle.box_tree.proofs.ToldChains.{told_stands}
+use Rattle.table_laws.proofs.StoreChains.{told_stands}
 use Rattle.box_copies.specs.declared.names.NewNames.{NewNames}
 use Rattle.box_copies.specs.Renamer.{swapped_name, binding_by}
 use Rattle.box_copies.specs.Made.{kept, holder_by, LeadsOlderBy, IsBoxBy, AreBoxesBy}

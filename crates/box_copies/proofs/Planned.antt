@@ -10,6 +10,7 @@ use Rattle.box_tree.specs.declared.inside.InnerBox.{InnerBox}
 use Rattle.box_tree.specs.Tables.{table_of, box_copy}
 use Rattle.box_tree.specs.Views.{ViewValue, IsViewOf}
 use Rattle.box_tree.specs.Insides.{AreBoxesInside}
+use Rattle.box_tree.proofs.StoresAround.{stores_around}
 use Rattle.box_copies.specs.declared.names.NewNames.{NewNames}
 use Rattle.box_copies.specs.declared.copying.Copied.{Copied}
 use Rattle.box_copies.specs.Copies.{AreSolvedOver, IsSplitInto}
@@ -17,7 +18,6 @@ use Rattle.box_copies.specs.Renamer.{swapped_name}
 use Rattle.box_copies.specs.Made.{Adds, kept, kept_names, LeadsOlderBy, AreBoxesBy}
 use Rattle.box_copies.proofs.Making.{names_copied, all_made}
 use Rattle.box_copies.proofs.DownTo.{solved_over}
-use Rattle.box_copies.proofs.Splits.{stores_around}
 
 module _ (v : ViewValue) (seen : IsViewOf v) (boxes : List InnerBox) (n a : Name) (inside : AreBoxesInside v.table n boxes) (place : v.place ≡ Place.Box n) (old : List Name) (sorted : IsIncreasing old)
     (gathered : Adds [] (kept_names a boxes) old) (s : NewNames) (same_old : s.old.items ≡ old) (same_worker : s.worker ≡ v.worker) (same_next : s.next ≡ v.next) (c : Copied)

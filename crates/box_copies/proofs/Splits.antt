@@ -1,5 +1,5 @@
 -- The copies are what a label of Split makes, where it applies.
-use Rattle.std.proofs.Common.{◌≡◌, ℕ, List, [], ◌∷◌, map, Some, sym, ◌∙◌, ap, subst}
+use Rattle.std.proofs.Common.{◌≡◌, ℕ, List, map, Some, sym, ◌∙◌, ap, subst}
 use Rattle.std.specs.Prelude.{slice_index}
 use Rattle.akl_terms.specs.declared.name.Name.{Name}
 use Rattle.akl_terms.specs.declared.name.Place.{Place}
@@ -11,21 +11,15 @@ use Rattle.akl_model.specs.Wakes.{names_around}
 use Rattle.akl_model.proofs.Options.{some_value}
 use Rattle.local_store.specs.Stored.{Stored}
 use Rattle.local_store.specs.Chained.{around}
-use Rattle.table_laws.specs.Rows.{store_in, stores_along}
+use Rattle.table_laws.specs.Rows.{stores_along}
 use Rattle.table_laws.specs.Steps.{splits, Makes, IsSolvedIn}
 use Rattle.table_laws.specs.Copying.{swapping, AreMade}
 use Rattle.table_laws.proofs.CopiesMade.{copies_law, names_drawn}
 use Rattle.box_tree.specs.Tables.{all_rules, table_of, box_copy}
 use Rattle.box_tree.specs.Views.{ViewValue, IsViewOf, run_of}
-use Rattle.box_tree.proofs.Looks.{stores_append}
-use Rattle.box_tree.proofs.ToldChains.{around_push}
+use Rattle.box_tree.proofs.StoresAround.{stores_around}
 use Rattle.box_copies.specs.declared.copying.Copied.{Copied}
 use Rattle.box_copies.specs.Copies.{AreSolvedOver, IsSplitInto}
-
--- the stores around the place that was looked at
-pub stores_around : (v : ViewValue) (seen : IsViewOf v) → around v.stores ≡ stores_along (table_of v.table) (names_around seen.site)
-stores_around v seen = ap around (seen.stores ∙ ap (stores_along (table_of v.table)) seen.path ∙ stores_append (table_of v.table) (names_around seen.site) (seen.site.content.name ∷ []))
-    ∙ around_push (stores_along (table_of v.table) (names_around seen.site)) (store_in ((table_of v.table).box_of seen.site.content.name))
 
 module _ (v : ViewValue) (seen : IsViewOf v) (a : Name) (c : Copied) (x : IsSplitInto v a c) (l : Label) (d : Config) (applies : Applies all_rules v.table.program seen.table.config l d) (rule : l.rule ≡ Rule.Split)
     (place : l.place ≡ v.place) (alternative : l.alternative ≡ Some a) (worker : l.worker ≡ v.worker) where

@@ -10,6 +10,7 @@ use Rattle.akl_terms.proofs.SameNames.{same_name-equal}
 use Rattle.akl_model.specs.Config.{IsIn, Atom, or_else}
 use Rattle.akl_model.specs.Changes.{of_atom}
 use Rattle.akl_model.specs.Derivations.{raised}
+use Rattle.akl_model.proofs.Options.{map_none}
 use Rattle.table_laws.specs.Rows.{BoxRow, GoalRow, Table}
 use Rattle.table_laws.specs.Steps as laws
 use Rattle.table_laws.specs.Writes.{failing_row, set, home_in, changed_box, failing_by, forked_row, names_drawn, new_box_of, new_goal_of, atom_among, after_fork, IsFresh}
@@ -118,12 +119,8 @@ module _ (t u v w : TableValue) (g home : Name) (op : HeldOp) (news : List NewBo
       }
 
 -- where no row is there, no entry is
-no_value : {A B : Type 0} (f : A → B) (o : Option A) → option_map f o ≡ None → o ≡ None
-no_value f None e = refl
-no_value f (Some a) e = cc
-
 pub fresh_boxes : (t : TableValue) (names : List Name) → IsFresh (table_of t) names → (m : Name) → IsIn m names → lookup (same_name m) t.boxes ≡ None
-fresh_boxes t names f m i = no_value _ (lookup (same_name m) t.boxes) (f.no_box m i)
+fresh_boxes t names f m i = map_none _ (lookup (same_name m) t.boxes) (f.no_box m i)
 
 pub fresh_goals : (t : TableValue) (names : List Name) → IsFresh (table_of t) names → (m : Name) → IsIn m names → lookup (same_name m) t.goals ≡ None
-fresh_goals t names f m i = no_value _ (lookup (same_name m) t.goals) (f.no_goal m i)
+fresh_goals t names f m i = map_none _ (lookup (same_name m) t.goals) (f.no_goal m i)

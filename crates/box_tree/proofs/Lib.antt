@@ -16,8 +16,8 @@ mod Numbers
 mod Forked
 mod Begins
 pub mod Looks
-pub mod ToldChains
 mod WaysOut
+mod AloneSolved
 pub mod Seen
 pub mod Viewed
 mod SolvedDown
@@ -30,3 +30,4 @@ pub mod BoundHere
 pub mod AllInForce
 pub mod FirstCandidates
 pub mod OverStores
+pub mod StoresAround

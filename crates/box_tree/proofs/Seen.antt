@@ -2,24 +2,28 @@
 use Rattle.std.proofs.Common.{◌≡◌, ℕ, zero, suc, ◌+◌, ◌<◌, ◌≤◌, Bool, true, false, List, [], ◌∷◌, ◌++◌, length, reverse, take, get_or, map, max, Option, Some, None, refl, sym, ap, subst, ◌∙◌, ◌⊎◌, inl, inr, arith}
 use Rattle.std.proofs.lemmas.List.{length-append, length-map, reverse-append}
 use Rattle.std.proofs.lemmas.Bool.Decides.{nat_tests}
-use Rattle.std.specs.Prelude.{if◌then◌else◌, IsSome, not, nat_lt}
+use Rattle.std.specs.Prelude.{if◌then◌else◌, IsSome, is_some, nat_lt}
 use Rattle.std.specs.Map.{lookup}
 use Rattle.akl_terms.specs.declared.name.Name.{Name}
+use Rattle.akl_terms.specs.declared.name.Var.{Var}
 use Rattle.akl_terms.specs.declared.term.Node.{Node}
 use Rattle.akl_terms.specs.Tree.{Tree}
 use Rattle.akl_terms.specs.Names.{same_name}
-use Rattle.akl_model.specs.Config.{IsIn, Content, Boxes, Config, a_choice, Found, box_at}
+use Rattle.akl_model.specs.Config.{IsIn, Content, Boxes, no_boxes, Config, a_choice, Found, box_at, environment}
 use Rattle.akl_model.specs.Names.{times_in}
 use Rattle.akl_model.specs.Changes.{shape_of}
 use Rattle.akl_model.specs.Wakes.{names_around, names_down_to, holder_in}
 use Rattle.akl_model.proofs.Options.{some_value}
 use Rattle.akl_model.proofs.Finds.{times, times_in-append}
-use Rattle.akl_model.proofs.NamesKept.{box-itself, home-box}
+use Rattle.akl_model.proofs.NamesKept.{Stand, box-itself, home-box}
+use Rattle.akl_model.proofs.QuietGrows.{IsLocal-left}
 use Rattle.akl_model.proofs.ScopesAlong.{times_path, found_path}
-use Rattle.akl_model.specs.Stable.{only}
+use Rattle.akl_model.specs.Stable.{only, frames_of, frames_inside}
 use Rattle.step_laws.specs.Holders.{IsHeldBy}
 use Rattle.step_laws.proofs.Holders.{held_or}
 use Rattle.akl_terms.specs.Solved.{IsBound, bound}
+use Rattle.akl_terms.specs.Touching.{IsLocal, IsOutside}
+use Rattle.constraint_laws.specs.Growth.{TellsOver}
 use Rattle.rational_unify.specs.Known.{bound_in}
 use Rattle.rational_unify.proofs.Chains.{nothing-solved}
 use Rattle.local_store.specs.Stored.{Stored}
@@ -27,10 +31,14 @@ use Rattle.local_store.specs.Chained.{IsSolvedChain, IsKnown}
 use Rattle.table_laws.specs.Rows.{BoxRow, GoalRow, Table, store_in, stores_along}
 use Rattle.table_laws.specs.Unfolds.{IsBoxRow, UnchangedSince, Unfolds}
 use Rattle.table_laws.specs.Writes.{home_in, holder_in_row}
-use Rattle.table_laws.proofs.Frame.{row_of}
+use Rattle.table_laws.proofs.Frame.{row_of, around_stands}
+use Rattle.table_laws.proofs.Stores.{stores_join}
 use Rattle.table_laws.proofs.Insides.{goal_row}
 use Rattle.table_laws.proofs.Walks.{no_more}
-use Rattle.box_tree.specs.Paths.{home_at, Deep, is_at_least, solving_in, known_in, latest_in, known_with}
+use Rattle.box_tree.specs.Tables.{is_empty}
+use Rattle.box_tree.specs.Alone.{stands_alone}
+use Rattle.box_tree.specs.Paths.{home_at, Deep, is_at_least, solving_in, is_solved_over, known_in, latest_in, known_with}
+use Rattle.box_tree.proofs.AloneSolved.{alone_solved}
 
 -- lists
 
@@ -91,60 +99,85 @@ record IsSolvedAt (T : Table) (latest : ℕ) (ns : List Name) (j : ℕ) (d : Nam
   pub late : latest ≤ at
   pub unchanged : UnchangedSince T at (take j ns)
 
-known_row : (T : Table) (latest : ℕ) (ns : List Name) (j : ℕ) (d : Name) → j < known_in T latest ns → IsSolvedAt T latest ns j d
+-- a box on a path stands alone
+record IsAlone (T : Table) (ns : List Name) (j : ℕ) (d : Name) : Type 0 where
+  pub row : BoxRow
+  pub is_row : T.box_of (get_or ns j d) ≡ Some row
+  pub alone : stands_alone row.store ≡ true
+
+-- a box on a path is solved with those around it by the numbers, or stands alone
+abbrev HoldsAt : Table → ℕ → List Name → ℕ → Name → Type 0
+HoldsAt T latest ns j d = IsSolvedAt T latest ns j d ⊎ IsAlone T ns j d
+
+known_row : (T : Table) (latest : ℕ) (ns : List Name) (j : ℕ) (d : Name) → j < known_in T latest ns → HoldsAt T latest ns j d
 known_row T latest [] j d l = absurd (omega arith)
 known_row T latest (n ∷ ns) j d l = on (T.box_of n) refl l (λ i k. known_row T (max latest (solving_in (T.box_of n)).1) ns i d k)
   where
-    on : (o : Option BoxRow) → T.box_of n ≡ o → j < (if is_at_least (solving_in o).0 latest then known_in T (max latest (solving_in o).1) ns + 1 else 0)
-        → ((i : ℕ) → i < known_in T (max latest (solving_in (T.box_of n)).1) ns → IsSolvedAt T (max latest (solving_in (T.box_of n)).1) ns i d) → IsSolvedAt T latest (n ∷ ns) j d
+    on : (o : Option BoxRow) → T.box_of n ≡ o → j < (if is_solved_over o latest then known_in T (max latest (solving_in o).1) ns + 1 else 0)
+        → ((i : ℕ) → i < known_in T (max latest (solving_in (T.box_of n)).1) ns → HoldsAt T (max latest (solving_in (T.box_of n)).1) ns i d) → HoldsAt T latest (n ∷ ns) j d
     on None e l k = absurd (omega arith)
-    on (Some r) e l k = off r.solved_at refl l
+    on (Some r) e l k = least (is_solved_over (Some r) latest) refl l
       where
-        at_row : (a i : ℕ) → r.solved_at ≡ Some a → latest ≤ a → j ≡ i → i < known_in T (max latest r.changed) ns + 1 → IsSolvedAt T latest (n ∷ ns) j d
-        at_row a zero s p q m = subst (λ (x : ℕ). IsSolvedAt T latest (n ∷ ns) x d) (sym q) (record { row = r; is_row = e; at = a; solved = s; late = p; unchanged = tt })
-        at_row a (suc i) s p q m =
-            let changed : (solving_in (T.box_of n)).1 ≡ r.changed = ap (λ (o : Option BoxRow). (solving_in o).1) e in
-            let x : IsSolvedAt T (max latest (solving_in (T.box_of n)).1) ns i d = k i (subst (λ (y : ℕ). i < known_in T (max latest y) ns) (sym changed) (omega arith)) in
+        by_number : (o : Option ℕ) → r.solved_at ≡ o → is_at_least o latest ≡ true → HoldsAt T latest (n ∷ ns) 0 d
+        by_number None s q = cc
+        by_number (Some a) s q = let p : latest ≤ a = grind (arith, nat_tests) in inl (record { row = r; is_row = e; at = a; solved = s; late = p; unchanged = tt })
+
+        by_store : (b k : Bool) → (if b then (if k then false else stands_alone r.store) else false) ≡ true → HoldsAt T latest (n ∷ ns) 0 d
+        by_store true true q = cc
+        by_store true false q = inr (record { row = r; is_row = e; alone = q })
+        by_store false k q = cc
+
+        first : (b : Bool) → is_at_least r.solved_at latest ≡ b → (if b then true else (if is_some r.solved_at then (if is_empty r.goals then false else stands_alone r.store) else false)) ≡ true → HoldsAt T latest (n ∷ ns) 0 d
+        first true p q = by_number r.solved_at refl p
+        first false p q = by_store (is_some r.solved_at) (is_empty r.goals) q
+
+        changed : (solving_in (T.box_of n)).1 ≡ r.changed
+        changed = ap (λ (o : Option BoxRow). (solving_in o).1) e
+
+        later : (i : ℕ) → HoldsAt T (max latest (solving_in (T.box_of n)).1) ns i d → HoldsAt T latest (n ∷ ns) (suc i) d
+        later i (inl x) =
             let late : max latest (solving_in (T.box_of n)).1 ≤ x.at = x.late in
-            subst (λ (y : ℕ). IsSolvedAt T latest (n ∷ ns) y d) (sym q) (record {
+            let c : (solving_in (T.box_of n)).1 ≡ r.changed = changed in
+            inl (record {
               row = x.row;
               is_row = x.is_row;
               at = x.at;
               solved = x.solved;
               late = omega arith;
-              unchanged = (λ r' e'. let same : r ≡ r' = some_value (sym e ∙ e') in let c : r.changed ≡ r'.changed = ap (λ (y : BoxRow). y.changed) same in omega arith, x.unchanged);
+              unchanged = (λ r' e'. let same : r ≡ r' = some_value (sym e ∙ e') in let d : r.changed ≡ r'.changed = ap (λ (y : BoxRow). y.changed) same in omega arith, x.unchanged);
             })
+        later i (inr x) = inr (record { row = x.row; is_row = x.is_row; alone = x.alone })
 
-        least : (b : Bool) (a : ℕ) → nat_lt a latest ≡ b → r.solved_at ≡ Some a → j < (if not b then known_in T (max latest r.changed) ns + 1 else 0) → IsSolvedAt T latest (n ∷ ns) j d
-        least true a q s m = absurd (omega arith)
-        least false a q s m = let p : latest ≤ a = grind (arith, nat_tests) in at_row a j s p refl m
+        at_index : (i : ℕ) → j ≡ i → is_solved_over (Some r) latest ≡ true → i < known_in T (max latest r.changed) ns + 1 → HoldsAt T latest (n ∷ ns) j d
+        at_index zero q p m = subst (λ (x : ℕ). HoldsAt T latest (n ∷ ns) x d) (sym q) (first (is_at_least r.solved_at latest) refl p)
+        at_index (suc i) q p m = subst (λ (x : ℕ). HoldsAt T latest (n ∷ ns) x d) (sym q) (later i (k i (subst (λ (y : ℕ). i < known_in T (max latest y) ns) (sym changed) (omega arith))))
 
-        off : (o : Option ℕ) → r.solved_at ≡ o → j < (if is_at_least o latest then known_in T (max latest r.changed) ns + 1 else 0) → IsSolvedAt T latest (n ∷ ns) j d
-        off None s m = absurd (omega arith)
-        off (Some a) s m = least (nat_lt a latest) a refl s m
+        least : (b : Bool) → is_solved_over (Some r) latest ≡ b → j < (if b then known_in T (max latest r.changed) ns + 1 else 0) → HoldsAt T latest (n ∷ ns) j d
+        least true p m = at_index j refl p m
+        least false p m = absurd (omega arith)
 
 known_few : (T : Table) (latest : ℕ) (ns : List Name) → known_in T latest ns ≤ length ns
 known_few T latest [] = omega arith
-known_few T latest (n ∷ ns) = on (is_at_least (solving_in (T.box_of n)).0 latest) (known_few T (max latest (solving_in (T.box_of n)).1) ns)
+known_few T latest (n ∷ ns) = on (is_solved_over (T.box_of n) latest) (known_few T (max latest (solving_in (T.box_of n)).1) ns)
   where
     on : (b : Bool) → known_in T (max latest (solving_in (T.box_of n)).1) ns ≤ length ns → (if b then known_in T (max latest (solving_in (T.box_of n)).1) ns + 1 else 0) ≤ length (n ∷ ns)
     on true k = omega arith
     on false k = omega arith
 
 -- one box more
-pub known_end : (T : Table) (ns : List Name) (n : Name) (latest : ℕ) → known_in T latest (ns ++ n ∷ []) ≡ known_with (solving_in (T.box_of n)).0 (known_in T latest ns) (latest_in T latest ns) (length ns + 1)
+pub known_end : (T : Table) (ns : List Name) (n : Name) (latest : ℕ) → known_in T latest (ns ++ n ∷ []) ≡ known_with (T.box_of n) (known_in T latest ns) (latest_in T latest ns) (length ns + 1)
 known_end T [] n latest = refl
-known_end T (m ∷ ms) n latest = on (is_at_least (solving_in (T.box_of m)).0 latest) (latest_in T (max latest (solving_in (T.box_of m)).1) ms) (known_end T ms n (max latest (solving_in (T.box_of m)).1))
+known_end T (m ∷ ms) n latest = on (is_solved_over (T.box_of m) latest) (latest_in T (max latest (solving_in (T.box_of m)).1) ms) (known_end T ms n (max latest (solving_in (T.box_of m)).1))
   where
     two : (b : Bool) → known_in T (max latest (solving_in (T.box_of m)).1) (ms ++ n ∷ []) ≡ (if b then length ms + 1 else known_in T (max latest (solving_in (T.box_of m)).1) ms) → known_in T (max latest (solving_in (T.box_of m)).1) (ms ++ n ∷ []) + 1 ≡ (if b then suc (length ms) + 1 else known_in T (max latest (solving_in (T.box_of m)).1) ms + 1)
     two true e = omega arith
     two false e = omega arith
 
-    on : (b : Bool) (o : Option ℕ) → known_in T (max latest (solving_in (T.box_of m)).1) (ms ++ n ∷ []) ≡ known_with (solving_in (T.box_of n)).0 (known_in T (max latest (solving_in (T.box_of m)).1) ms) o (length ms + 1)
-        → (if b then known_in T (max latest (solving_in (T.box_of m)).1) (ms ++ n ∷ []) + 1 else 0) ≡ known_with (solving_in (T.box_of n)).0 (if b then known_in T (max latest (solving_in (T.box_of m)).1) ms + 1 else 0) (if b then o else None) (suc (length ms) + 1)
+    on : (b : Bool) (o : Option ℕ) → known_in T (max latest (solving_in (T.box_of m)).1) (ms ++ n ∷ []) ≡ known_with (T.box_of n) (known_in T (max latest (solving_in (T.box_of m)).1) ms) o (length ms + 1)
+        → (if b then known_in T (max latest (solving_in (T.box_of m)).1) (ms ++ n ∷ []) + 1 else 0) ≡ known_with (T.box_of n) (if b then known_in T (max latest (solving_in (T.box_of m)).1) ms + 1 else 0) (if b then o else None) (suc (length ms) + 1)
     on false o e = refl
     on true None e = ap (λ (k : ℕ). k + 1) e
-    on true (Some k) e = two (is_at_least (solving_in (T.box_of n)).0 k) e
+    on true (Some k) e = two (is_solved_over (T.box_of n) k) e
 
 -- paths
 
@@ -236,23 +269,6 @@ module _ (T : Table) (c : Config) (u : Unfolds T c) (once : (m : Name) → times
               let a : length (names_down_to f) ≡ length (names_around f) + 1 = here in
               last_prefix n f e j d (omega arith)
 
-  pub known_is : (n : Name) (f : Found) → box_at n c.roots ≡ Some f → IsKnown T.nodes (stores_along T (names_down_to f)) (known_in T 0 (names_down_to f))
-  known_is n f e = record {
-    within = let a : length (stores_along T (names_down_to f)) ≡ length (names_down_to f) = length_stores T (names_down_to f) in let b : known_in T 0 (names_down_to f) ≤ length (names_down_to f) = known_few T 0 (names_down_to f) in omega arith;
-    each = each;
-  }
-    where
-      each : (k : ℕ) → k ≤ known_in T 0 (names_down_to f) → IsSolvedChain T.nodes (take k (stores_along T (names_down_to f)))
-      each zero l = no_chain T.nodes
-      each (suc j) l =
-          let b : known_in T 0 (names_down_to f) ≤ length (names_down_to f) = known_few T 0 (names_down_to f) in
-          let p : IsPrefix c.roots (names_down_to f) j n = prefix (length f.around) n f refl e j n (omega arith) in
-          let x : IsSolvedAt T 0 (names_down_to f) j n = known_row T 0 (names_down_to f) j n (omega arith) in
-          let r : (r : BoxRow) × (T.box_of p.name ≡ Some r) × IsBoxRow T c.roots p.found r = row_of T c u p.name p.found p.is_found in
-          let same : x.row ≡ r.0 = some_value (sym x.is_row ∙ ap T.box_of p.named ∙ r.1) in
-          let solved : IsSolvedChain T.nodes (stores_along T (names_down_to p.found)) = r.2.stays_solved.solved x.at (ap (λ (y : BoxRow). y.solved_at) (sym same) ∙ x.solved) (subst (UnchangedSince T x.at) p.around x.unchanged) in
-          subst (IsSolvedChain T.nodes) (sym (take_stores T (suc j) (names_down_to f) ∙ ap (stores_along T) p.down)) solved
-
   -- no name stands twice on a path
 
   name_times : (m : Name) (bs : List Content) → times_in m (map (λ (b : Content). b.name) bs) ≤ times_path m bs
@@ -280,6 +296,42 @@ module _ (T : Table) (c : Config) (u : Unfolds T c) (once : (m : Name) → times
       let b : length (names_around f) ≡ length f.around = length-map f.around (λ (x : Content). x.name) in
       let k : length (names_down_to f) ≤ length es = no_more (names_down_to f) es (path_once n f e) (λ m i. let r : (r : BoxRow) × (T.box_of m ≡ Some r) = path_there n f e m i in keys m r.0 r.1) in
       omega arith
+
+-- of a configuration in which the equations around a box are over variables from outside of it
+module _ (T : Table) (c : Config) (u : Unfolds T c) (stand : Stand c) (over : (n : Name) (f : Found) → box_at n c.roots ≡ Some f → TellsOver (IsOutside (frames_of (only f))) (environment f)) where
+  solved_alone : (n : Name) (f : Found) → box_at n c.roots ≡ Some f → (r : BoxRow) → T.box_of n ≡ Some r → stands_alone r.store ≡ true → IsSolvedChain T.nodes (stores_along T (names_around f)) → IsSolvedChain T.nodes (stores_along T (names_down_to f))
+  solved_alone n f e r there alone around = subst (IsSolvedChain T.nodes) (sym (stores_join T (names_around f) (f.content.name ∷ []) ∙ ap (λ (o : Option BoxRow). stores_along T (names_around f) ++ store_in o ∷ []) (ap T.box_of (sym (box-itself n c.roots f e)) ∙ there)))
+      (alone_solved T.nodes (stores_along T (names_around f)) (environment f) (frames_of (only f)) (over n f e) (around_stands T c stand u n f e) around r.store local alone)
+    where
+      is : (r : BoxRow) × (T.box_of n ≡ Some r) × IsBoxRow T c.roots f r
+      is = row_of T c u n f e
+
+      frames : r.store.frames ≡ f.content.frames
+      frames = subst (λ (y : BoxRow). y.store.frames ≡ f.content.frames) (some_value (sym is.1 ∙ there)) is.2.frames
+
+      local : (x : Var) → IsLocal r.store.frames x → IsLocal (frames_of (only f)) x
+      local x l = IsLocal-left f.content.frames (frames_inside f.goals ++ frames_of no_boxes) x (subst (λ (fs : List Name). IsLocal fs x) frames l)
+
+  pub known_is : (n : Name) (f : Found) → box_at n c.roots ≡ Some f → IsKnown T.nodes (stores_along T (names_down_to f)) (known_in T 0 (names_down_to f))
+  known_is n f e = record {
+    within = let a : length (stores_along T (names_down_to f)) ≡ length (names_down_to f) = length_stores T (names_down_to f) in let b : known_in T 0 (names_down_to f) ≤ length (names_down_to f) = known_few T 0 (names_down_to f) in omega arith;
+    each = each;
+  }
+    where
+      each : (k : ℕ) → k ≤ known_in T 0 (names_down_to f) → IsSolvedChain T.nodes (take k (stores_along T (names_down_to f)))
+      each zero l = no_chain T.nodes
+      each (suc j) l = subst (IsSolvedChain T.nodes) (sym (take_stores T (suc j) (names_down_to f) ∙ ap (stores_along T) p.down)) (on (known_row T 0 (names_down_to f) j n (omega arith)) (each j (omega arith)))
+        where
+          p : IsPrefix c.roots (names_down_to f) j n
+          p = let b : known_in T 0 (names_down_to f) ≤ length (names_down_to f) = known_few T 0 (names_down_to f) in prefix T c u stand.once (length f.around) n f refl e j n (omega arith)
+
+          on : HoldsAt T 0 (names_down_to f) j n → IsSolvedChain T.nodes (take j (stores_along T (names_down_to f))) → IsSolvedChain T.nodes (stores_along T (names_down_to p.found))
+          on (inl x) around =
+              let r : (r : BoxRow) × (T.box_of p.name ≡ Some r) × IsBoxRow T c.roots p.found r = row_of T c u p.name p.found p.is_found in
+              let same : x.row ≡ r.0 = some_value (sym x.is_row ∙ ap T.box_of p.named ∙ r.1) in
+              r.2.stays_solved.solved x.at (ap (λ (y : BoxRow). y.solved_at) (sym same) ∙ x.solved) (subst (UnchangedSince T x.at) p.around x.unchanged)
+          on (inr x) around = solved_alone p.name p.found p.is_found x.row (ap T.box_of (sym p.named) ∙ x.is_row) x.alone
+              (subst (IsSolvedChain T.nodes) (take_stores T j (names_down_to f) ∙ ap (stores_along T) p.around) around)
 
 pub deep_one : (T : Table) (n : Name) (ms ks : List Name) → Deep T n ms → Deep T n ks → ms ≡ ks
 deep_one T n [] [] a b = refl

@@ -7,7 +7,8 @@ use Rattle.akl_terms.specs.Names.{same_name}
 use Rattle.akl_model.specs.Config.{Found, box_at}
 use Rattle.akl_model.specs.Wakes.{names_down_to}
 use Rattle.akl_model.proofs.Finds.{times}
-use Rattle.akl_model.proofs.NamesKept.{replay-stands}
+use Rattle.akl_model.proofs.NamesKept.{Stand, replay-stands}
+use Rattle.akl_model.proofs.ScopesKept.{around_outside}
 use Rattle.local_store.specs.Chained.{IsKnown, IsSolvedChain}
 use Rattle.rational_unify.proofs.Taking.{take-all}
 use Rattle.table_laws.specs.Rows.{BoxRow, stores_along}
@@ -21,8 +22,11 @@ use Rattle.box_tree.specs.Insides.{IsSolvedDownTo}
 use Rattle.box_tree.proofs.Seen.{length_stores, PathOf, path_found, known_is, path_few, deep_one}
 
 module _ (t : TableValue) (r : Run) (i : IsTableOf all_rules r (table_of t)) (n : Name) (entry : BoxEntry) (there : lookup (same_name n) t.boxes ≡ Some entry) where
+  stand : Stand i.config
+  stand = replay-stands all_rules r.program r.query r.journal i.config i.replays
+
   once : (m : Name) → times m i.config.roots ≤ 1
-  once = (replay-stands all_rules r.program r.query r.journal i.config i.replays).once
+  once = stand.once
 
   found : (f : Found) × (box_at n i.config.roots ≡ Some f) × IsBoxRow (table_of t) i.config.roots f (box_row t.program.templates.nodes entry)
   found = found_of (table_of t) i.config i.unfolds n (box_row t.program.templates.nodes entry) (ap (option_map (box_row t.program.templates.nodes)) there)
@@ -54,7 +58,7 @@ module _ (t : TableValue) (r : Run) (i : IsTableOf all_rules r (table_of t)) (n 
       names = names_down_to found.0
 
       is_known : IsKnown t.program.templates.nodes (stores_along (table_of t) names) (known_in (table_of t) 0 names)
-      is_known = known_is (table_of t) i.config i.unfolds once n found.0 found.1
+      is_known = known_is (table_of t) i.config i.unfolds stand (λ m f e. around_outside all_rules r.program r.query r.journal i.config m f i.replays e) n found.0 found.1
 
       all : length (stores_along (table_of t) names) ≡ known_in (table_of t) 0 names
       all = let e : known_in (table_of t) 0 names ≡ length names = subst (λ (ns : List Name). known_in (table_of t) 0 ns ≡ length ns) (down path p) known in length_stores (table_of t) names ∙ sym e

@@ -15,7 +15,8 @@ use Rattle.akl_model.specs.Changes.{shape_of, box_names}
 use Rattle.akl_model.specs.Wakes.{names_down_to}
 use Rattle.akl_model.proofs.Options.{some_value}
 use Rattle.akl_model.proofs.Finds.{times}
-use Rattle.akl_model.proofs.NamesKept.{box-itself, home-box, replay-stands}
+use Rattle.akl_model.proofs.NamesKept.{Stand, box-itself, home-box, replay-stands}
+use Rattle.akl_model.proofs.ScopesKept.{around_outside}
 use Rattle.local_store.specs.Stored.{Stored}
 use Rattle.local_store.specs.Chained.{IsKnown}
 use Rattle.table_laws.specs.Rows.{BoxRow, GoalRow, stores_along}
@@ -112,6 +113,10 @@ module _ (t : TableValue) (c : Config) (u : Unfolds (table_of t) c) (once : (m :
 -- the alternatives of a choice are seen
 
 module _ (t : TableValue) (c : Config) (u : Unfolds (table_of t) c) (once : (m : Name) → times m c.roots ≤ 1) where
+  -- as many of the stores down to each box are solved as is known
+  abbrev AreKnown : Type 0
+  AreKnown = (n : Name) (f : Found) → box_at n c.roots ≡ Some f → IsKnown t.program.templates.nodes (stores_along (table_of t) (names_down_to f)) (known_in (table_of t) 0 (names_down_to f))
+
   -- their names
   named_at : (g : Name) (f : Found) (h : Held) → home_of g c.roots ≡ Some f → held_in g f.goals ≡ Some h → alternatives_of ((table_of t).goal_of g) ≡ box_names (alternatives_held (held_in g f.goals))
   named_at g f h e i =
@@ -141,13 +146,13 @@ module _ (t : TableValue) (c : Config) (u : Unfolds (table_of t) c) (once : (m :
     abbrev path : List Name
     path = names_down_to f
 
-    seen_one : (b : Content) (gs : Goals) → BoxIn [] b gs bs
+    seen_one : AreKnown → (b : Content) (gs : Goals) → BoxIn [] b gs bs
         → IsSeen (table_of t) (stores_along (table_of t) path) b gs (seen_as t (known_in (table_of t) 0 path) (latest_in (table_of t) 0 path) (length path + 1) b.name)
-    seen_one b gs x =
+    seen_one k b gs x =
         let r : (r : BoxRow) × ((table_of t).box_of b.name ≡ Some r) × IsBoxRow (table_of t) c.roots (inner b gs) r = row b gs x in
         let down : names_down_to (inner b gs) ≡ path ++ b.name ∷ [] = ap (λ (ns : List Name). ns ++ b.name ∷ []) (names_snoc f.around f.content) in
         let known : IsKnown t.program.templates.nodes (stores_along (table_of t) (path ++ b.name ∷ [])) (known_in (table_of t) 0 (path ++ b.name ∷ [])) =
-        subst (λ (ns : List Name). IsKnown t.program.templates.nodes (stores_along (table_of t) ns) (known_in (table_of t) 0 ns)) down (known_is (table_of t) c u once b.name (inner b gs) (found b gs x)) in
+        subst (λ (ns : List Name). IsKnown t.program.templates.nodes (stores_along (table_of t) ns) (known_in (table_of t) 0 ns)) down (k b.name (inner b gs) (found b gs x)) in
         record {
           name = refl;
           solved = ap (λ (o : Option BoxRow). is_empty (goals_in o)) r.1 ∙ ap is_empty r.2.goals;
@@ -156,10 +161,10 @@ module _ (t : TableValue) (c : Config) (u : Unfolds (table_of t) c) (once : (m :
           known = subst (λ (z : List Stored × ℕ). IsKnown t.program.templates.nodes z.0 z.1) (λ j. ((stores_append (table_of t) path (b.name ∷ [])) j, (known_end (table_of t) path b.name 0) j)) known;
         }
 
-    seen_all : (cs : Boxes) → ((b : Content) (gs : Goals) → BoxIn [] b gs cs → BoxIn [] b gs bs)
+    seen_all : AreKnown → (cs : Boxes) → ((b : Content) (gs : Goals) → BoxIn [] b gs cs → BoxIn [] b gs bs)
         → AreSeen (table_of t) (stores_along (table_of t) path) cs (map (seen_as t (known_in (table_of t) 0 path) (latest_in (table_of t) 0 path) (length path + 1)) (box_names cs))
-    seen_all no_boxes s = tt
-    seen_all (box b gs cs) s = (seen_one b gs (s b gs (inl (refl, refl, refl))), seen_all cs (λ k hs x. s k hs (inr (inr x))))
+    seen_all k no_boxes s = tt
+    seen_all k (box b gs cs) s = (seen_one k b gs (s b gs (inl (refl, refl, refl))), seen_all k cs (λ d hs x. s d hs (inr (inr x))))
 
     only_seen : (cs : Boxes) → ((b : Content) (gs : Goals) → BoxIn [] b gs cs → BoxIn [] b gs bs) → body_of_only (table_of t) (box_names cs) ≡ only_body cs
     only_seen no_boxes s = refl
@@ -171,15 +176,21 @@ module _ (t : TableValue) (c : Config) (u : Unfolds (table_of t) c) (once : (m :
   AreSeenFrom path bs = AreSeen (table_of t) (stores_along (table_of t) path) bs (map (seen_as t (known_in (table_of t) 0 path) (latest_in (table_of t) 0 path) (length path + 1)) (box_names bs))
       × (body_of_only (table_of t) (box_names bs) ≡ only_body bs)
 
-  seen_at : (place : Place) (sight : Sight) (f : Found) → site_of place c.roots ≡ Some f → Shows t.program.templates.nodes place f sight → AreSeenFrom (names_down_to f) (alternatives_at place f)
-  seen_at (Place.Goal g) (Sight.Atom a) f e h = subst (AreSeenFrom (names_down_to f)) (sym (ap alternatives_held h)) (tt, refl)
-  seen_at (Place.Goal g) (Sight.Choice op) f e h = subst (AreSeenFrom (names_down_to f)) (sym (ap alternatives_held h.1)) (seen_all g f (op_held t.program.templates.nodes op) h.0 e h.1 h.0 (λ b gs x. x), only_seen g f (op_held t.program.templates.nodes op) h.0 e h.1 h.0 (λ b gs x. x))
-  seen_at (Place.Goal g) (Sight.Box o) f e h = absurd h
-  seen_at (Place.Box n) sight f e h = (tt, refl)
+  seen_at : AreKnown → (place : Place) (sight : Sight) (f : Found) → site_of place c.roots ≡ Some f → Shows t.program.templates.nodes place f sight → AreSeenFrom (names_down_to f) (alternatives_at place f)
+  seen_at k (Place.Goal g) (Sight.Atom a) f e h = subst (AreSeenFrom (names_down_to f)) (sym (ap alternatives_held h)) (tt, refl)
+  seen_at k (Place.Goal g) (Sight.Choice op) f e h = subst (AreSeenFrom (names_down_to f)) (sym (ap alternatives_held h.1)) (seen_all g f (op_held t.program.templates.nodes op) h.0 e h.1 k h.0 (λ b gs x. x), only_seen g f (op_held t.program.templates.nodes op) h.0 e h.1 h.0 (λ b gs x. x))
+  seen_at k (Place.Goal g) (Sight.Box o) f e h = absurd h
+  seen_at k (Place.Box n) sight f e h = (tt, refl)
 
 module _ (t : TableValue) (journal : List Label) (i : IsTableOf all_rules (run_of t journal) (table_of t)) where
+  stand : Stand i.config
+  stand = replay-stands all_rules t.program t.query journal i.config i.replays
+
   stood : (m : Name) → times m i.config.roots ≤ 1
-  stood = (replay-stands all_rules t.program t.query journal i.config i.replays).once
+  stood = stand.once
+
+  all_known : (n : Name) (f : Found) → box_at n i.config.roots ≡ Some f → IsKnown t.program.templates.nodes (stores_along (table_of t) (names_down_to f)) (known_in (table_of t) 0 (names_down_to f))
+  all_known = known_is (table_of t) i.config i.unfolds stand (λ m f e. around_outside all_rules t.program t.query journal i.config m f i.replays e)
 
   pub key_there : (m : Name) (r : BoxRow) → (table_of t).box_of m ≡ Some r → IsSome (lookup (same_name m) t.boxes)
   key_there m r e = on (lookup (same_name m) t.boxes) e
@@ -205,10 +216,10 @@ module _ (t : TableValue) (journal : List Label) (i : IsTableOf all_rules (run_o
       let s : StandsAt t i.config place home sight = seen t i.config i.unfolds stood place home sight e in
       let x : PathOf (table_of t) i.config i.unfolds stood home s.found = path_found (table_of t) i.config i.unfolds stood (length s.found.around) home s.found refl s.is_box in
       let same : path ≡ names_down_to s.found = p.2 ∙ ap (λ (ms : List Name). reverse (home ∷ ms)) (deep_one (table_of t) home p.0 x.0 p.1 x.1) ∙ sym x.2 in
-      let known_here : IsKnown t.program.templates.nodes (stores_along (table_of t) (names_down_to s.found)) (known_in (table_of t) 0 (names_down_to s.found)) = known_is (table_of t) i.config i.unfolds stood home s.found s.is_box in
+      let known_here : IsKnown t.program.templates.nodes (stores_along (table_of t) (names_down_to s.found)) (known_in (table_of t) 0 (names_down_to s.found)) = all_known home s.found s.is_box in
       let names : names_at (table_of t) place ≡ box_names (alternatives_at place s.found) = names_there t i.config i.unfolds stood place sight s.found s.is_site s.shows in
       let all : AreSeenFrom t i.config i.unfolds stood path (alternatives_at place s.found) =
-      subst (λ (ns : List Name). AreSeenFrom t i.config i.unfolds stood ns (alternatives_at place s.found)) (sym same) (seen_at t i.config i.unfolds stood place sight s.found s.is_site s.shows) in
+      subst (λ (ns : List Name). AreSeenFrom t i.config i.unfolds stood ns (alternatives_at place s.found)) (sym same) (seen_at t i.config i.unfolds stood all_known place sight s.found s.is_site s.shows) in
       record {
         table = i;
         site = s.found;

@@ -6,6 +6,7 @@ pub mod Solved
 pub mod Edits
 pub mod Starts
 pub mod Views
+pub mod Alone
 pub mod Paths
 pub mod Ways
 pub mod Standings

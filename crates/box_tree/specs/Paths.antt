@@ -1,5 +1,5 @@
 -- What a look finds by rows.
-use Rattle.std.specs.Prelude.{◌≡◌, ℕ, ◌+◌, ◌<◌, Bool, false, not, nat_lt, max, List, [], ◌∷◌, length, map, reverse, Option, Some, None, option_map, if◌then◌else◌}
+use Rattle.std.specs.Prelude.{◌≡◌, ℕ, ◌+◌, ◌<◌, Bool, true, false, not, nat_lt, max, List, [], ◌∷◌, length, map, reverse, Option, Some, None, is_some, option_map, if◌then◌else◌}
 use Rattle.std.specs.Map.{lookup}
 use Rattle.akl_terms.specs.declared.name.Name.{Name}
 use Rattle.akl_terms.specs.declared.name.Place.{Place}
@@ -15,6 +15,7 @@ use Rattle.box_tree.specs.declared.entries.GoalEntry.{GoalEntry}
 use Rattle.box_tree.specs.declared.view.Alternative.{Alternative}
 use Rattle.box_tree.specs.declared.view.Sight.{Sight}
 use Rattle.box_tree.specs.Tables.{TableValue, table_of, goals_in, is_empty}
+use Rattle.box_tree.specs.Alone.{stands_alone}
 
 -- the box in which the choice stands that holds a box
 abbrev pub home_at : Table → Option Name → Option Name
@@ -46,8 +47,7 @@ abbrev pub sight_in : TableValue → Place → Option (Name × Sight)
 sight_in t (Place.Goal g) = option_map (λ (e : GoalEntry). (e.home, sight_held e.held)) (lookup (same_name g) t.goals)
 sight_in t (Place.Box n) = option_map (λ (e : BoxEntry). (n, Sight.Box e.failing)) (lookup (same_name n) t.boxes)
 
--- how many of the outermost boxes were solved when no box around them was changed later, where others around all of them were last changed
--- by the label of this number
+-- a store was solved when there were at least so many labels
 abbrev pub is_at_least : Option ℕ → ℕ → Bool
 is_at_least None latest = false
 is_at_least (Some k) latest = not (nat_lt k latest)
@@ -56,25 +56,36 @@ abbrev pub solving_in : Option BoxRow → Option ℕ × ℕ
 solving_in None = (None, 0)
 solving_in (Some r) = (r.solved_at, r.changed)
 
+-- a box's store is solved with those around it, where these are and others around it were last changed by the label of this number: it was
+-- when there were at least so many labels, or it was at all, has goals still, and stands alone
+abbrev pub is_solved_over : Option BoxRow → ℕ → Bool
+is_solved_over None latest = false
+is_solved_over (Some r) latest = if is_at_least r.solved_at latest then true else (if is_some r.solved_at then (if is_empty r.goals then false else stands_alone r.store) else false)
+
+-- so, with the number of the last label that changed it
+abbrev pub solving_over : Option BoxRow → ℕ → Bool × ℕ
+solving_over row latest = (is_solved_over row latest, (solving_in row).1)
+
+-- how many of the outermost boxes are known to be solved together, where others around all of them were last changed by the label of this number
 abbrev pub known_in : Table → ℕ → List Name → ℕ
 known_in T latest [] = 0
-known_in T latest (n ∷ ns) = if is_at_least (solving_in (T.box_of n)).0 latest then known_in T (max latest (solving_in (T.box_of n)).1) ns + 1 else 0
+known_in T latest (n ∷ ns) = if is_solved_over (T.box_of n) latest then known_in T (max latest (solving_in (T.box_of n)).1) ns + 1 else 0
 
--- the last label that changed one of them, where all were solved so
+-- the last label that changed one of them, where all are known to be
 abbrev pub latest_in : Table → ℕ → List Name → Option ℕ
 latest_in T latest [] = Some latest
-latest_in T latest (n ∷ ns) = if is_at_least (solving_in (T.box_of n)).0 latest then latest_in T (max latest (solving_in (T.box_of n)).1) ns else None
+latest_in T latest (n ∷ ns) = if is_solved_over (T.box_of n) latest then latest_in T (max latest (solving_in (T.box_of n)).1) ns else None
 
 -- the alternatives of the choice at a place
 abbrev pub names_at : Table → Place → List Name
 names_at T (Place.Goal g) = alternatives_of (T.goal_of g)
 names_at T (Place.Box n) = []
 
--- how many of the stores down to an alternative are known to be solved together, by when its own was solved, where so many are of those
--- around it; where these are all, the last label that changed one of them is given, and with the alternative's own these are the whole
-abbrev pub known_with : Option ℕ → ℕ → Option ℕ → ℕ → ℕ
-known_with solved_at known None whole = known
-known_with solved_at known (Some latest) whole = if is_at_least solved_at latest then whole else known
+-- how many of the stores down to an alternative are known to be solved together, by its own, where so many are of those around it; where
+-- these are all, the last label that changed one of them is given, and with the alternative's own these are the whole
+abbrev pub known_with : Option BoxRow → ℕ → Option ℕ → ℕ → ℕ
+known_with row known None whole = known
+known_with row known (Some latest) whole = if is_solved_over row latest then whole else known
 
 -- what is seen of an alternative
 abbrev pub collected_in : Option BoxEntry → Option Term
@@ -86,7 +97,7 @@ seen_as t known latest whole n = record {
   name = n;
   solved = is_empty (goals_in ((table_of t).box_of n));
   store = store_in ((table_of t).box_of n);
-  known = known_with (solving_in ((table_of t).box_of n)).0 known latest whole;
+  known = known_with ((table_of t).box_of n) known latest whole;
   collected = collected_in (lookup (same_name n) t.boxes);
 }
 

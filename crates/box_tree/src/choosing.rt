@@ -5,11 +5,10 @@ ghost use Rattle.std.specs.Map.{lookup};
 ghost use Rattle.akl_terms.specs.declared.term.Node.{Node};
 ghost use Rattle.akl_terms.specs.Names.{same_name};
 ghost use Rattle.table_laws.specs.Walks.{alternatives_in, alternatives_of};
-ghost use Rattle.box_tree.specs.Tables.{TableValue, table_of, goal_atom, shape_held};
+ghost use Rattle.box_tree.specs.Tables.{TableValue, table_of, box_row, goal_atom, shape_held};
 ghost use Rattle.box_tree.specs.Paths.{known_with, seen_as, body_in, body_of_only};
 
 use crate::entries::{BoxEntry, Held};
-use crate::looking::is_at_least;
 use crate::starting::only;
 use crate::table::Table;
 use crate::view::Alternative;
@@ -28,15 +27,25 @@ impl Held {
     }
 }
 
-// How many of the stores down to an alternative are known to be solved together, by when its own was solved. So many are of
-// those around it; where these are all, the latest change of one of them is given. With its own these are the whole.
-fn known_with(solved_at: Option<u64>, known: usize, latest: Option<u64>, whole: usize) -> usize
-    ensures { result ≡ known_with solved_at known latest whole }
+// How many of the stores down to an alternative, of which this is the entry, are known to be solved together. So many are of
+// those around it; where these are all, the latest change of one of them is given. With its own these are the whole. An `Err`
+// comes for want of memory.
+#[inline(always)]
+fn known_with(
+    entry: &BoxEntry,
+    known: usize,
+    latest: Option<u64>,
+    whole: usize,
+) -> Result<usize, AllocError>
+    ensures { IfOk result (λ k. (nodes : List Node) → k ≡ known_with (Some (box_row nodes entry.now)) known latest whole) }
 {
-    match latest {
-        Some(number) if is_at_least(solved_at, number) => whole,
-        _ => known,
+    let Some(number) = latest else {
+        return Ok(known);
+    };
+    if entry.is_solved_over(number)? {
+        return Ok(whole);
     }
+    Ok(known)
 }
 
 impl BoxEntry {
@@ -51,11 +60,12 @@ impl BoxEntry {
         ensures { (t : TableValue) → lookup (same_name name) t.boxes ≡ Some self.now → IfOk result (λ a. a ≡ seen_as t known latest whole name) }
     {
         let store = self.store.share()?;
+        let known = known_with(self, known, latest, whole)?;
         Ok(Alternative {
             name,
             solved: self.goals.is_empty(),
             store,
-            known: known_with(self.solved_at, known, latest, whole),
+            known,
             collected: self.collected,
         })
     }

@@ -160,7 +160,7 @@ impl Table {
     {
         let way = self.way_to(alloc, name, entry)?;
         let path = way.path.as_slice();
-        let (known, _) = self.known_of(path, way.solving, name, entry.solving());
+        let (known, _) = self.known_of(path, way.solving, name, entry)?;
         Ok(known == path.len())
     }
 

@@ -1,6 +1,7 @@
 //! A flat table of boxes and goals that unfolds to a configuration, what is seen of a place in it, and plans that are right.
 #![tactic(auto)]
 
+mod alone;
 mod candidates;
 mod choosing;
 mod cutting;

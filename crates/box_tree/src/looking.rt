@@ -1,11 +1,14 @@
 //! What is seen of a place.
 
-ghost use Rattle.std.specs.Prelude.{◌≡◌, List, ◌∷◌, Some, IfOk, slice_index};
+ghost use Rattle.std.specs.Prelude.{◌≡◌, ◌+◌, List, ◌∷◌, Some, IfOk, slice_index};
+ghost use Rattle.std.specs.Map.{lookup};
+ghost use Rattle.akl_terms.specs.Names.{same_name};
 ghost use Rattle.akl_terms.specs.declared.name.Name.{Name};
 ghost use Rattle.akl_terms.specs.declared.term.Node.{Node};
 ghost use Rattle.box_tree.specs.Tables.{table_of, box_row, goals_in};
-ghost use Rattle.box_tree.specs.Paths.{home_at, outside_of, IsPath, HasPath, sight_held, sight_in, is_at_least, solving_in, known_in, latest_in};
+ghost use Rattle.box_tree.specs.Paths.{home_at, outside_of, IsPath, HasPath, sight_held, sight_in, is_at_least, solving_in, is_solved_over, solving_over, known_in, latest_in};
 
+use crate::alone::stands_alone;
 use crate::entries::{BoxEntry, Held};
 use crate::short::ShortList;
 use crate::table::Table;
@@ -38,6 +41,21 @@ impl BoxEntry {
         ensures { (nodes : List Node) → result ≡ solving_in (Some (box_row nodes self.now)) }
     {
         (self.solved_at, self.changed)
+    }
+
+    /// Whether its store is solved with those around it, where these are and others around it were last changed by the label
+    /// of this number. An `Err` comes for want of memory.
+    #[inline(always)]
+    pub(crate) fn is_solved_over(&self, latest: u64) -> Result<bool, AllocError>
+        ensures { IfOk result (λ solved. (nodes : List Node) → solved ≡ is_solved_over (Some (box_row nodes self.now)) latest) }
+    {
+        if is_at_least(self.solved_at, latest) {
+            return Ok(true);
+        }
+        if self.solved_at.is_none() || self.goals.is_empty() {
+            return Ok(false);
+        }
+        stands_alone(self.store.get())
     }
 }
 
@@ -112,62 +130,84 @@ impl Table {
         Ok(goals)
     }
 
-    /// How many of the outermost boxes were solved when no box around them was changed later; where all were, also the
-    /// number of the last label that changed one of them. When the outermost was solved and last changed is known, and so
-    /// it is of the box with this name.
+    /// How many of the outermost boxes are known to be solved together; where all are, also the number of the last label that
+    /// changed one of them. When the outermost was solved and last changed is known, and the entry of the box with this name.
+    /// An `Err` comes for want of memory.
+    #[inline(always)]
     pub(crate) fn known_of(
         &self,
         path: &[Name],
         outermost: (Option<u64>, u64),
         home: Name,
-        solving: (Option<u64>, u64),
-    ) -> (usize, Option<u64>)
-        requires home { solving ≡ solving_in ((table_of self.now).box_of home) }
+        entry: &BoxEntry,
+    ) -> Result<(usize, Option<u64>), AllocError>
+        requires home { lookup (same_name home) self.now.boxes ≡ Some entry.now }
         requires outermost { (n : Name) (ns : List Name) → path.now ≡ n ∷ ns → outermost ≡ solving_in ((table_of self.now).box_of n) }
-        ensures known { result.0 ≡ known_in (table_of self.now) 0 path.now }
-        ensures latest { result.1 ≡ latest_in (table_of self.now) 0 path.now }
+        ensures known { IfOk result (λ p. p.0 ≡ known_in (table_of self.now) 0 path.now) }
+        ensures latest { IfOk result (λ p. p.1 ≡ latest_in (table_of self.now) 0 path.now) }
     {
         let Some((_, inner)) = path.split_first() else {
-            return (0, Some(0));
+            return Ok((0, Some(0)));
         };
         let (first_solved_at, first_changed) = outermost;
         if !is_at_least(first_solved_at, 0) {
-            return (0, None);
+            return Ok((0, None));
         }
+        if inner.is_empty() {
+            return Ok((1, Some(first_changed)));
+        }
+        self.known_inside(inner, first_changed, home, entry)
+    }
+
+    // How many of the outermost boxes are known to be solved together, of which the first one is and was last changed by the label
+    // of this number; where all are, also the number of the last label that changed one of them. The entry of one box is
+    // known. An `Err` comes for want of memory.
+    fn known_inside(
+        &self,
+        inner: &[Name],
+        changed: u64,
+        home: Name,
+        entry: &BoxEntry,
+    ) -> Result<(usize, Option<u64>), AllocError>
+        requires { lookup (same_name home) self.now.boxes ≡ Some entry.now }
+        ensures known { IfOk result (λ p. p.0 ≡ known_in (table_of self.now) changed inner.now + 1) }
+        ensures latest { IfOk result (λ p. p.1 ≡ latest_in (table_of self.now) changed inner.now) }
+    {
         let mut known = 1;
-        let mut latest = first_changed;
+        let mut latest = changed;
         for name in inner {
-            let (solved_at, changed) = self.solving_by(*name, home, solving);
-            if !is_at_least(solved_at, latest) {
-                return (known, None);
+            let (solved, changed) = self.solving_over(*name, home, entry, latest)?;
+            if !solved {
+                return Ok((known, None));
             }
             latest = latest.max(changed);
             known += 1;
         }
-        (known, Some(latest))
+        Ok((known, Some(latest)))
     }
 
-    // When a box's store was solved, and the number of the last label that changed it, where this is known of one box.
-    fn solving_by(&self, name: Name, home: Name, solving: (Option<u64>, u64)) -> (Option<u64>, u64)
-        requires { solving ≡ solving_in ((table_of self.now).box_of home) }
-        ensures { result ≡ solving_in ((table_of self.now).box_of name) }
+    // Whether a box's store is solved with those around it, where these are and others around it were last changed by the
+    // label of this number, and the number of the last label that changed it; not, and 0, of a box that isn't there. The entry
+    // of one box is known. An `Err` comes for want of memory.
+    fn solving_over(
+        &self,
+        name: Name,
+        home: Name,
+        entry: &BoxEntry,
+        latest: u64,
+    ) -> Result<(bool, u64), AllocError>
+        requires { lookup (same_name home) self.now.boxes ≡ Some entry.now }
+        ensures { IfOk result (λ p. p ≡ solving_over ((table_of self.now).box_of name) latest) }
     {
         if name == home {
-            solving
-        } else {
-            self.solving_of(name)
+            let solved = entry.is_solved_over(latest)?;
+            return Ok((solved, entry.changed));
         }
-    }
-
-    /// When a box's store was solved, and the number of the last label that changed it; `None` and 0 of a box that isn't
-    /// there.
-    pub(crate) fn solving_of(&self, name: Name) -> (Option<u64>, u64)
-        ensures { result ≡ solving_in ((table_of self.now).box_of name) }
-    {
-        match self.boxes.get(name) {
-            Some(entry) => entry.solving(),
-            None => (None, 0),
-        }
+        let Some(other) = self.boxes.get(name) else {
+            return Ok((false, 0));
+        };
+        let solved = other.is_solved_over(latest)?;
+        Ok((solved, other.changed))
     }
 
     /// A worker's next number.

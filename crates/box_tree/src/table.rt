@@ -105,8 +105,8 @@ impl Table {
             path.as_slice(),
             solving,
             standing.home,
-            standing.entry.solving(),
-        );
+            standing.entry,
+        )?;
         let Some(whole) = path.as_slice().len().checked_add(1) else {
             return Err(LookError::Memory(AllocError));
         };

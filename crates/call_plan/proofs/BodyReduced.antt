@@ -43,7 +43,7 @@ use Rattle.plan_laws.specs.AtOnce.{by, IsOfGuard}
 use Rattle.table_laws.specs.Calls.{StandOver, last_told}
 use Rattle.box_tree.specs.Edits.{named_atoms}
 use Rattle.box_tree.specs.Tables.{goal_atom}
-use Rattle.box_tree.proofs.ToldChains.{told_stands}
+use Rattle.table_laws.proofs.StoreChains.{told_stands}
 use Rattle.body_goals.specs.Takes.{within, Takes}
 use Rattle.body_goals.specs.Goals.{Tells, equal, valued, Holds, compared}
 use Rattle.body_goals.specs.Reduced.{goal_of, name_of, Reduces, finishes, leaves, tells, holds}

@@ -29,16 +29,17 @@ use Rattle.local_store.specs.Chained as chained
 use Rattle.local_store.specs.Chained.{bindings_from, ToldBy, around, replaced, IsSolvedChain}
 use Rattle.local_store.proofs.Layers.{bindings-right, from-last}
 use Rattle.class_members.specs.Members.{AreMembers}
-use Rattle.table_laws.specs.Rows.{stores_along, told_in, ports_in}
+use Rattle.table_laws.specs.Rows.{told_in, ports_in}
 use Rattle.table_laws.specs.Steps.{IsSolvedIf}
 use Rattle.plan_laws.specs.AtOnce.{Tells}
 use Rattle.table_laws.specs.Calls.{last_told}
 use Rattle.box_tree.specs.Edits.{named_atoms}
 use Rattle.box_tree.specs.Tables.{table_of}
 use Rattle.box_tree.specs.Views.{ViewValue, IsViewOf}
-use Rattle.box_tree.proofs.ToldChains.{told_stands, around_push}
+use Rattle.box_tree.proofs.StoresAround.{stores_around}
+use Rattle.table_laws.proofs.StoreChains.{told_stands, around_push}
 use Rattle.guard_plan.proofs.BoundAt.{oldest_at, bound_at}
-use Rattle.guard_plan.proofs.Sites.{row, environment_stands, stores_split}
+use Rattle.guard_plan.proofs.Sites.{environment_stands}
 use Rattle.plain_heads.specs.Joined.{AreFree, KeepsBound}
 use Rattle.plain_heads.proofs.Stores.{all_both}
 use Rattle.body_goals.specs.declared.body.Body.{Body}
@@ -84,12 +85,8 @@ module _ (v : ViewValue) (g : Name) (called : Definition) (left : Left) (drawn :
   abbrev frame : Name
   frame = frame_at v.worker (passed_one v g called left drawn t.labels t.joined e).number
 
-  -- the stores around the box
-  outside : around v.stores ≡ stores_along (table_of v.table) (names_around i.site)
-  outside = ap around (stores_split v i) ∙ around_push (stores_along (table_of v.table) (names_around i.site)) (row v i).0.store
-
   pub around_stands : StandFor (IsTold (told_in nodes (around v.stores))) (IsTold (equations_of i.site.around))
-  around_stands = subst (λ (ss : List Stored). StandFor (IsTold (told_in nodes ss)) (IsTold (equations_of i.site.around))) (sym outside) (environment_stands v i)
+  around_stands = subst (λ (ss : List Stored). StandFor (IsTold (told_in nodes ss)) (IsTold (equations_of i.site.around))) (sym (stores_around v i)) (environment_stands v i)
 
   -- its goals are reduced under its frame, from its first name on
   reduces : Reduces v.table.program.templates.symbols nodes (around v.stores) frame 0 0 t.joined.store from left.clause.now.body t.reduced.labels told.store body.goals.items t.reduced.bound body.told
@@ -133,7 +130,7 @@ module _ (v : ViewValue) (g : Name) (called : Definition) (left : Left) (drawn :
   -- what is known to be solved
   pub solved_if : (b : Bool) → told.solved ≡ b → IsSolvedIf b (table_of v.table) (names_around i.site) told.store
   solved_if false q = tt
-  solved_if true q = subst (λ (ss : List Stored). IsSolvedChain nodes (ss ++ told.store ∷ [])) outside (t.reduced.whole q)
+  solved_if true q = subst (λ (ss : List Stored). IsSolvedChain nodes (ss ++ told.store ∷ [])) (stores_around v i) (t.reduced.whole q)
 
   -- what is bound
   abbrev path_equations : Equations

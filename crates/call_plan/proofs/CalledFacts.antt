@@ -11,7 +11,7 @@ use Rattle.local_store.specs.Stored.{Stored}
 use Rattle.local_store.specs.Chained.{replaced, IsSolvedChain, IsKnown}
 use Rattle.local_store.proofs.Known.{whole-known}
 use Rattle.box_tree.specs.Views.{ViewValue}
-use Rattle.box_tree.proofs.ToldChains.{around_push}
+use Rattle.table_laws.proofs.StoreChains.{around_push}
 use Rattle.call_plan.specs.declared.heads.Arguments.{Arguments}
 use Rattle.call_plan.specs.declared.sifting.Left.{Left}
 use Rattle.call_plan.specs.Called.{IsCalled, Remains}

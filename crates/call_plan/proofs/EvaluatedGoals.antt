@@ -22,7 +22,7 @@ use Rattle.rational_unify.specs.Solving.{bindings_in}
 use Rattle.local_store.specs.Stored.{Stored}
 use Rattle.local_store.specs.Chained.{bindings_from}
 use Rattle.table_laws.specs.Rows.{told_in}
-use Rattle.box_tree.proofs.ToldChains.{told_stands}
+use Rattle.table_laws.proofs.StoreChains.{told_stands}
 use Rattle.rule_plan.proofs.NewBoxes.{atoms_behind}
 use Rattle.plan_laws.specs.AtOnce.{inner, Works, rests, works}
 use Rattle.plan_laws.specs.Untold.{KeepsEquations}

@@ -17,12 +17,12 @@ use Rattle.local_store.specs.Chained.{IsSolvedChain, IsKnown}
 use Rattle.local_store.specs.Telling.{ToldAlso}
 use Rattle.table_laws.specs.Rows.{told_in}
 use Rattle.table_laws.proofs.Stores.{told_join}
-use Rattle.box_tree.proofs.ToldChains.{from_told, to_told, around_push}
-use Rattle.guard_plan.proofs.Chains.{innermost_push, long_push}
+use Rattle.table_laws.proofs.StoreChains.{from_told, to_told, around_push, innermost_push}
+use Rattle.guard_plan.proofs.Chains.{long_push}
 use Rattle.rule_plan.specs.Made.{store_with, IsNewStore}
 use Rattle.rule_plan.proofs.Framed.{take_front}
 use Rattle.rule_plan.proofs.NewBoxes.{heads_stand}
-use Rattle.rule_plan.proofs.Storing.{tells_stands, told_over}
+use Rattle.rule_plan.proofs.Storing.{tells_stands, around_exchanged}
 use Rattle.call_plan.specs.declared.heads.Arguments.{Arguments}
 use Rattle.call_plan.specs.Sifted.{head_codes, Clashes}
 
@@ -65,7 +65,7 @@ module _ (nodes : List Node) (path : List Stored) (W : Equations) (stands : Stan
 
     pub head_stands : (D : Equations) → StandFor (IsTold D) (IsTold W) → StandFor (IsTold (D ++ bindings_in nodes store.bindings)) (IsTold (W ++ own))
     head_stands D d = StandFor-on
-        (told_over D (told_in nodes path) (told_in nodes path) W (bindings_in nodes store.bindings) (equations_in nodes (head_codes a frame c)) (StandFor-on d (StandFor-back stands)) stands tells)
+        (around_exchanged D (told_in nodes path) (told_in nodes path) W (bindings_in nodes store.bindings) (equations_in nodes (head_codes a frame c)) (StandFor-on d (StandFor-back stands)) stands tells)
         (heads_stand nodes W a.frame a.first a.count frame c.first c.count)
 
     pub all_stand : StandFor (IsTold (told_in nodes (path ++ store ∷ []))) (IsTold (W ++ own))

@@ -12,7 +12,7 @@ use Rattle.local_store.specs.Parts.{told_over}
 use Rattle.local_store.specs.Promoting.{AnswersPromoted}
 use Rattle.local_store.specs.Stored.{Stored}
 use Rattle.local_store.specs.Chained.{bindings_from, ToldBy, IsKnown, innermost, around}
-use Rattle.box_tree.proofs.ToldChains.{around_push}
+use Rattle.table_laws.proofs.StoreChains.{around_push}
 use Rattle.guard_plan.specs.Guards.{KeepsApartInside, IsQuietInside}
 use Rattle.plain_heads.specs.Plain.{ArePlain}
 use Rattle.plain_heads.specs.Joined.{own_store, AreFree}

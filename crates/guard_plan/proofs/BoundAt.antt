@@ -36,7 +36,7 @@ use Rattle.table_laws.proofs.Frame.{row_of}
 use Rattle.box_tree.specs.Tables.{table_of}
 use Rattle.box_tree.specs.Views.{ViewValue, IsViewOf}
 use Rattle.step_laws.specs.Bound.{first_equations, outermost_equations}
-use Rattle.box_tree.proofs.ToldChains.{told_stands, around_push}
+use Rattle.table_laws.proofs.StoreChains.{told_stands, around_push}
 use Rattle.guard_plan.proofs.Sites.{stand, found, stores_path, whole_stands}
 
 -- of the unstructured variables of a list, the oldest by some equations are the oldest by those that stand for them

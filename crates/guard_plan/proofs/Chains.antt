@@ -1,4 +1,4 @@
--- What a chain of stores stands for, and its innermost store.
+-- How long a chain of stores is, what is taken of it, and the same chain with other frames or ports.
 use Rattle.std.proofs.Common.{◌≡◌, ℕ, ◌-◌, ◌+◌, List, [], ◌∷◌, ◌++◌, length, take, drop, refl, sym, ◌∙◌, ap, subst, arith}
 use Rattle.akl_terms.specs.declared.term.Node.{Node}
 use Rattle.akl_terms.specs.declared.name.Var.{Var}
@@ -8,20 +8,14 @@ use Rattle.rational_unify.specs.Solving.{bindings_in}
 use Rattle.local_store.specs.Stored.{Stored}
 use Rattle.rational_unify.specs.Forms.{IsFormOf}
 use Rattle.rational_unify.specs.Older.{LeadOlder}
-use Rattle.local_store.specs.Chained.{bindings_from, innermost, BindOnce, IsSolvedChain}
+use Rattle.local_store.specs.Chained.{bindings_from, BindOnce, IsSolvedChain}
 use Rattle.local_store.proofs.Layers.{from-last}
-
--- the innermost store of a chain
-pub innermost_push : (ss : List Stored) (s : Stored) → innermost (ss ++ s ∷ []) ≡ s
-innermost_push [] s = refl
-innermost_push (r ∷ []) s = refl
-innermost_push (r ∷ t ∷ ss) s = innermost_push (t ∷ ss) s
 
 pub long_push : (ss : List Stored) (s : Stored) → length (ss ++ s ∷ []) ≡ length ss + 1
 long_push [] s = omega arith
 long_push (r ∷ ss) s = let h : length (ss ++ s ∷ []) ≡ length ss + 1 = long_push ss s in omega arith
 
-front_taken : (ss : List Stored) (s : Stored) → take (length ss) (ss ++ s ∷ []) ≡ ss
+pub front_taken : (ss : List Stored) (s : Stored) → take (length ss) (ss ++ s ∷ []) ≡ ss
 front_taken [] s = refl
 front_taken (r ∷ ss) s = ap (λ (l : List Stored). r ∷ l) (front_taken ss s)
 

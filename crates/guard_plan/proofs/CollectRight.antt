@@ -53,7 +53,7 @@ use Rattle.box_tree.proofs.BoundHere.{told_bound}
 use Rattle.guard_plan.specs.Guards.{AreAllSolved, AreQuietOver}
 use Rattle.guard_plan.specs.Collecting.{frames_of, ports_of, bindings_of, IsList, IsToldInner, IsJoined}
 use Rattle.guard_plan.proofs.BoundAt.{oldest_at, joined_at}
-use Rattle.box_tree.proofs.ToldChains.{from_told, to_told, told_stands}
+use Rattle.table_laws.proofs.StoreChains.{from_told, to_told, told_stands}
 use Rattle.guard_plan.proofs.Chains.{same_solved}
 use Rattle.guard_plan.proofs.CollectNone.{all_quiet}
 use Rattle.guard_plan.proofs.CutRight.{counted}
@@ -63,7 +63,7 @@ use Rattle.guard_plan.proofs.JoinRight.{joined_solved, joined_stands}
 use Rattle.guard_plan.proofs.Names.{all_named_with, all_ports_with}
 use Rattle.guard_plan.proofs.Placed.{ArePlaced}
 use Rattle.guard_plan.specs.ReadAt.{IsReadAt}
-use Rattle.guard_plan.proofs.Sites.{stand, found, row, whole_stands, own_store, own_here, part_here}
+use Rattle.guard_plan.proofs.Sites.{stand, found, whole_stands, own_here, part_here, own_frames, own_ports}
 
 -- names stand once: those of alternatives, and those of the box of their choice
 
@@ -153,15 +153,12 @@ module _ (v : ViewValue) (i : IsViewOf v) (g : Name) (list : Term) (bs : Boxes) 
 
   frames : t.store.frames ≡ with_names k.frames i.site.content.frames
   frames = j.frames ∙ all_named_with (innermost v.stores).frames (frames_of v.worker v.next v.alternatives)
-      ∙ ap (with_names (frames_of v.worker v.next v.alternatives)) (ap (λ (s : Stored). s.frames) (own_store v i) ∙ (row v i).2.frames) ∙ ap (λ (ns : List Name). with_names ns i.site.content.frames) has.frames
-
-  own_ports : ports_in v.table.program.templates.nodes (innermost v.stores).ports ≡ i.site.content.ports
-  own_ports = ap (λ (s : Stored). ports_in v.table.program.templates.nodes s.ports) (own_store v i) ∙ (row v i).2.ports
+      ∙ ap (with_names (frames_of v.worker v.next v.alternatives)) (own_frames v i) ∙ ap (λ (ns : List Name). with_names ns i.site.content.frames) has.frames
 
   ports_once : (n : Name) → times_in n (port_names (ports_in v.table.program.templates.nodes (ports_of v.alternatives))) + times_in n (port_names (ports_in v.table.program.templates.nodes (innermost v.stores).ports)) ≤ 1
   ports_once n =
       let x : times_in n (port_names (ports_in v.table.program.templates.nodes (ports_of v.alternatives))) ≡ times_in n (port_names k.ports) = ap (λ (ps : List Port). times_in n (port_names ps)) has.ports in
-      let y : times_in n (port_names (ports_in v.table.program.templates.nodes (innermost v.stores).ports)) ≡ times_in n (port_names i.site.content.ports) = ap (λ (ps : List Port). times_in n (port_names ps)) own_ports in
+      let y : times_in n (port_names (ports_in v.table.program.templates.nodes (innermost v.stores).ports)) ≡ times_in n (port_names i.site.content.ports) = ap (λ (ps : List Port). times_in n (port_names ps)) (own_ports v i) in
       let a : times_in n (port_names k.ports) ≤ times n bs = gathered_ports v v.worker v.next i.site.content.name (tree v.table.program.templates.nodes list) bs k has.is_content n in
       let b : times n bs ≤ times_inside n i.site.goals = held_times n g i.site.goals (Operator.collecting (tree v.table.program.templates.nodes list)) bs held in
       let f : times n (only i.site) + times_path n i.site.around ≤ times n i.table.config.roots = found_path n i.site.content.name i.table.config.roots i.site (found v i) in
@@ -170,7 +167,7 @@ module _ (v : ViewValue) (i : IsViewOf v) (g : Name) (list : Term) (bs : Boxes) 
 
   ports : ports_in v.table.program.templates.nodes t.store.ports ≡ with_ports k.ports i.site.content.ports
   ports = ap (ports_in v.table.program.templates.nodes) j.ports ∙ all_ports_with v.table.program.templates.nodes (innermost v.stores).ports (ports_of v.alternatives) ports_once
-      ∙ ap (with_ports (ports_in v.table.program.templates.nodes (ports_of v.alternatives))) own_ports ∙ ap (λ (ps : List Port). with_ports ps i.site.content.ports) has.ports
+      ∙ ap (with_ports (ports_in v.table.program.templates.nodes (ports_of v.alternatives))) (own_ports v i) ∙ ap (λ (ps : List Port). with_ports ps i.site.content.ports) has.ports
 
   is_solved : (b : Bool) → j.joined.solved ≡ b → IsSolvedIf b (table_of v.table) (names_around i.site) j.joined.store → IsSolvedIf b (table_of v.table) (names_around i.site) t.store
   is_solved false e h = tt

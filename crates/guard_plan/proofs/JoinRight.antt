@@ -19,15 +19,12 @@ use Rattle.table_laws.specs.Steps.{IsSolvedIf}
 use Rattle.table_laws.proofs.Stores.{told_join}
 use Rattle.box_tree.specs.Tables.{table_of}
 use Rattle.box_tree.specs.Views.{ViewValue, IsViewOf}
-use Rattle.box_tree.proofs.ToldChains.{told_stands, around_push}
-use Rattle.guard_plan.proofs.Chains.{innermost_push}
+use Rattle.box_tree.proofs.StoresAround.{stores_around}
+use Rattle.table_laws.proofs.StoreChains.{told_stands, around_push, innermost_push}
 use Rattle.guard_plan.proofs.Names.{named_frames, named_ports}
-use Rattle.guard_plan.proofs.Sites.{row, environment_stands, stores_split, own_store}
+use Rattle.guard_plan.proofs.Sites.{row, environment_stands, own_store}
 
 module _ (v : ViewValue) (i : IsViewOf v) (s : Stored) (known : ℕ) (t : ToldStore) (answer : AnswersPromoted v.table.program.templates.nodes (v.stores ++ s ∷ []) known t) where
-  outside : around v.stores ≡ stores_along (table_of v.table) (names_around i.site)
-  outside = ap around (stores_split v i) ∙ around_push (stores_along (table_of v.table) (names_around i.site)) (row v i).0.store
-
   both : named_too (innermost (around (v.stores ++ s ∷ []))) (innermost (v.stores ++ s ∷ [])) ≡ named_too (row v i).0.store s
   both = ap (λ (x : Stored). named_too x (innermost (v.stores ++ s ∷ []))) (ap innermost (around_push v.stores s) ∙ own_store v i) ∙ ap (named_too (row v i).0.store) (innermost_push v.stores s)
 
@@ -46,7 +43,7 @@ module _ (v : ViewValue) (i : IsViewOf v) (s : Stored) (known : ℕ) (t : ToldSt
           omega arith
 
   replaced_is : replaced (around (v.stores ++ s ∷ [])) t.store ≡ stores_along (table_of v.table) (names_around i.site) ++ t.store ∷ []
-  replaced_is = ap (λ (ss : List Stored). replaced ss t.store) (around_push v.stores s) ∙ ap (λ (ss : List Stored). ss ++ t.store ∷ []) outside
+  replaced_is = ap (λ (ss : List Stored). replaced ss t.store) (around_push v.stores s) ∙ ap (λ (ss : List Stored). ss ++ t.store ∷ []) (stores_around v i)
 
   told_is : told_in v.table.program.templates.nodes (stores_along (table_of v.table) (names_around i.site) ++ t.store ∷ [])
       ≡ told_in v.table.program.templates.nodes (stores_along (table_of v.table) (names_around i.site)) ++ bindings_in v.table.program.templates.nodes t.store.bindings

@@ -20,9 +20,9 @@ use Rattle.local_store.specs.Promoting.{AnswersPromoted}
 use Rattle.local_store.proofs.Layers.{from-last}
 use Rattle.local_store.proofs.EachLeads.{all-both, all-front, all-back, joins-all, all-joins}
 use Rattle.box_tree.specs.declared.view.Alternative.{Alternative}
-use Rattle.box_tree.proofs.ToldChains.{around_push}
+use Rattle.table_laws.proofs.StoreChains.{around_push, innermost_push}
 use Rattle.guard_plan.specs.Collecting.{bindings_of, IsToldInner, IsJoined}
-use Rattle.guard_plan.proofs.Chains.{innermost_push, long_push, last_dropped}
+use Rattle.guard_plan.proofs.Chains.{long_push, last_dropped}
 
 -- what a part makes of the innermost store, or of the one around it
 

@@ -23,7 +23,7 @@ use Rattle.local_store.proofs.Layers.{from-last, bindings-either, bindings-left,
 use Rattle.entail_test.specs.Asked.{frames_from, KeepsApart}
 use Rattle.table_laws.specs.Rows.{told_in}
 use Rattle.guard_plan.specs.Guards.{IsQuietInside, KeepsApartInside}
-use Rattle.box_tree.proofs.ToldChains.{told_stands, around_push}
+use Rattle.table_laws.proofs.StoreChains.{told_stands, around_push}
 use Rattle.guard_plan.proofs.Chains.{take_push, drop_push}
 
 -- equations that stand for others over variables from outside keep the variables of these frames apart

@@ -17,7 +17,7 @@ use Rattle.step_laws.proofs.Whereabouts.{found_in}
 use Rattle.step_laws.proofs.Deeper.{Over, over, named_found, home_found}
 use Rattle.local_store.specs.Stored.{Stored}
 use Rattle.local_store.specs.Chained.{innermost}
-use Rattle.table_laws.specs.Rows.{BoxRow, GoalRow, Table, store_in, stores_along, told_in}
+use Rattle.table_laws.specs.Rows.{BoxRow, GoalRow, Table, store_in, stores_along, told_in, ports_in}
 use Rattle.table_laws.specs.Unfolds.{IsBoxRow, Spot, spot_of, Unfolds}
 use Rattle.table_laws.specs.Stamped.{store_stamp, goal_stamp, stamp_in}
 use Rattle.table_laws.proofs.Stores.{told_along, stores_join}
@@ -26,10 +26,11 @@ use Rattle.box_tree.specs.declared.view.Sight.{Sight}
 use Rattle.box_tree.specs.declared.step.Step.{Step}
 use Rattle.box_tree.specs.Tables.{all_rules, table_of, store_at, step_of, step_in}
 use Rattle.table_laws.specs.PartSteps.{step_over}
+use Rattle.table_laws.proofs.StoreChains.{innermost_push}
 use Rattle.box_tree.specs.Plans.{part_step}
 use Rattle.box_tree.proofs.OverStores.{over_store, site_store}
 use Rattle.box_tree.specs.Views.{ViewValue, IsViewOf, Shows}
-use Rattle.guard_plan.proofs.Chains.{innermost_push, long_push}
+use Rattle.guard_plan.proofs.Chains.{long_push}
 
 -- the items of a box that is found have rows
 module _ (T : Table) (c : Config) (s : Stand c) (u : Unfolds T c) (f : Found) (e : box_at f.content.name c.roots ≡ Some f) where
@@ -81,6 +82,12 @@ module _ (v : ViewValue) (i : IsViewOf v) where
 
   pub own_store : innermost v.stores ≡ row.0.store
   own_store = ap innermost stores_split ∙ innermost_push (stores_along (table_of v.table) (names_around i.site)) row.0.store
+
+  pub own_frames : (innermost v.stores).frames ≡ i.site.content.frames
+  own_frames = ap (λ (s : Stored). s.frames) own_store ∙ row.2.frames
+
+  pub own_ports : ports_in v.table.program.templates.nodes (innermost v.stores).ports ≡ i.site.content.ports
+  own_ports = ap (λ (s : Stored). ports_in v.table.program.templates.nodes s.ports) own_store ∙ row.2.ports
 
   -- as the table has it under the box's name
   pub own_here : innermost v.stores ≡ store_in ((table_of v.table).box_of i.site.content.name)

@@ -1,5 +1,5 @@
 -- Goals and sets of goals change alike in both details.
-use Rattle.std.proofs.Common.{◌≡◌, ℕ, List, length, Option, Some, None, ◌⊎◌, inl, inr}
+use Rattle.std.proofs.Common.{ℕ, List, Option, Some, None}
 use Rattle.akl_terms.specs.declared.name.Name.{Name}
 use Rattle.akl_terms.specs.declared.name.Place.{Place}
 use Rattle.akl_terms.specs.declared.program.Program.{Program}
@@ -7,14 +7,15 @@ use Rattle.akl_terms.specs.declared.program.Query.{Query}
 use Rattle.akl_model.specs.declared.item.Item.{Item}
 use Rattle.akl_model.specs.declared.label.Rule.{Rule}
 use Rattle.akl_model.specs.declared.label.Label.{Label}
-use Rattle.akl_model.specs.Config.{Boxes, no_boxes, box, Goals, no_goals, atom, choice, Held, an_atom, a_choice, held_in, Found, Config}
+use Rattle.akl_model.specs.Config.{Boxes, no_boxes, box, Goals, no_goals, atom, choice, Held, an_atom, a_choice, held_in, Found}
 use Rattle.akl_model.specs.Stable.{only}
-use Rattle.akl_model.specs.Changes.{by_store, by_binding, Changes, ChangedAt, IsLastChange}
+use Rattle.akl_model.specs.Changes.{by_store, by_binding}
 use Rattle.step_laws.specs.Inside.{EachItem, EachItemAmong}
 use Rattle.plan_laws.specs.ByGoals.{by_goals}
 use Rattle.plan_laws.specs.Idle.{EachGoals, OfAlternatives, Watches}
 use Rattle.plan_laws.specs.Stamps.{IsStamped}
 use Rattle.reading_laws.specs.Seen.{IsSeen}
+use Rattle.table_laws.proofs.LastChanges.{last_alike}
 
 -- of alternatives sets of goals alone are watched
 each_set_of : (U V : Item → Type 0) → ((n : Name) → U (Item.Goals n) → V (Item.Goals n)) → (bs : Boxes) → EachGoals U bs → EachGoals V bs
@@ -42,19 +43,8 @@ module _ (U V : Item → Type 0) (goal : (g : Name) → U (Item.Goal g) → V (I
   watches_sets (Place.Goal g) f x = (goal g x.0, (λ m i. set m (x.1 m i)), sets_of (λ (i : Item). U (by_goals i)) (λ (i : Item). V (by_goals i)) set (held_in g f.goals) x.2)
   watches_sets (Place.Box n) f x = (each_set (only f) x.0, λ m i. set m (x.1 m i))
 
--- an item that changes alike was last changed by the same label
-module _ (rules : List Rule) (p : Program) (q : Query) (journal : List Label) (seen : ℕ) (item : Item) (coarse : (c d : Config) → Changes by_binding c d item → Changes by_store c d item) (fine : (c d : Config) → Changes by_store c d item → Changes by_binding c d item) where
-  coarsely : {k : ℕ} → ChangedAt by_binding rules p q journal item k → ChangedAt by_store rules p q journal item k
-  coarsely z = record { earlier = z.earlier; label = z.label; later = z.later; is_journal = z.is_journal; is_number = z.is_number; before = z.before; afterwards = z.afterwards; derived = z.derived; applies = z.applies; changes = coarse z.before z.afterwards z.changes }
-
-  finely : {k : ℕ} → ChangedAt by_store rules p q journal item k → ChangedAt by_binding rules p q journal item k
-  finely z = record { earlier = z.earlier; label = z.label; later = z.later; is_journal = z.is_journal; is_number = z.is_number; before = z.before; afterwards = z.afterwards; derived = z.derived; applies = z.applies; changes = fine z.before z.afterwards z.changes }
-
-  last_coarsely : (k : ℕ) → IsLastChange by_binding rules p q journal item k → IsLastChange by_store rules p q journal item k
-  last_coarsely k x = record { changed = elim x.changed [ inl e ↦ inl e | inr z ↦ inr (coarsely z) ]; none_later = λ m h z. x.none_later m h (finely z) }
-
 pub set_stamped : (rules : List Rule) (p : Program) (q : Query) (journal : List Label) (seen : ℕ) (n : Name) → IsSeen rules p q journal seen (Item.Goals n) → IsStamped rules p q journal seen (Item.Goals n)
-set_stamped rules p q journal seen n x = record { number = x.number; last = last_coarsely rules p q journal seen (Item.Goals n) (λ c d z. z) (λ c d z. z) x.number x.last; early = x.early }
+set_stamped rules p q journal seen n x = record { number = x.number; last = last_alike by_binding by_store rules p q journal (Item.Goals n) (λ c d z. z) (λ c d z. z) x.number x.last; early = x.early }
 
 pub goal_stamped : (rules : List Rule) (p : Program) (q : Query) (journal : List Label) (seen : ℕ) (g : Name) → IsSeen rules p q journal seen (Item.Goal g) → IsStamped rules p q journal seen (Item.Goal g)
-goal_stamped rules p q journal seen g x = record { number = x.number; last = last_coarsely rules p q journal seen (Item.Goal g) (λ c d z. z) (λ c d z. z) x.number x.last; early = x.early }
+goal_stamped rules p q journal seen g x = record { number = x.number; last = last_alike by_binding by_store rules p q journal (Item.Goal g) (λ c d z. z) (λ c d z. z) x.number x.last; early = x.early }

@@ -28,7 +28,7 @@ use Rattle.class_members.specs.Members.{outermost_of, IsMember, AreMembers}
 use Rattle.box_tree.specs.declared.view.Sight.{Sight}
 use Rattle.box_tree.specs.Tables.{goal_atom}
 use Rattle.box_tree.specs.Views.{ViewValue, IsViewOf}
-use Rattle.box_tree.proofs.ToldChains.{told_stands}
+use Rattle.table_laws.proofs.StoreChains.{told_stands}
 use Rattle.guard_plan.specs.declared.guards.Noise.{Noise}
 use Rattle.guard_plan.specs.Noisy.{ShowsAwaited, ShowsArithmetic}
 use Rattle.guard_plan.proofs.Sites.{shows_at, whole_stands}

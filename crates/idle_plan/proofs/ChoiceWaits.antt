@@ -38,7 +38,7 @@ use Rattle.box_tree.specs.Views.{ViewValue, IsViewOf, AreSeen, alternatives_held
 use Rattle.table_laws.specs.Rows.{told_in}
 use Rattle.guard_plan.specs.Guards.{IsTestable, AreAllSolved}
 use Rattle.guard_plan.specs.Noisy.{IsOne}
-use Rattle.box_tree.proofs.ToldChains.{told_stands}
+use Rattle.table_laws.proofs.StoreChains.{told_stands}
 use Rattle.guard_plan.proofs.Chains.{take_push, drop_push}
 use Rattle.guard_plan.proofs.ChoiceNone.{inside_of}
 use Rattle.guard_plan.proofs.CutRight.{empty_solved}

@@ -1,24 +1,8 @@
 -- Lists that are made of others, one after another.
-use Rattle.std.proofs.Common.{◌≡◌, List, [], ◌∷◌, ◌++◌, sym, subst, ◌⊎◌, inl, inr}
+use Rattle.std.proofs.Common.{◌≡◌, List, [], ◌++◌, sym, subst, ◌⊎◌, inl, inr}
 use Rattle.akl_terms.specs.declared.name.Var.{Var}
-use Rattle.constraint_laws.specs.Touched.{IsAmong}
 use Rattle.idle_plan.specs.Told.{AreGathered}
-
--- of lists
-
-pub among_left : (xs ys : List Var) (x : Var) → IsAmong x xs → IsAmong x (xs ++ ys)
-among_left [] ys x m = absurd m
-among_left (z ∷ xs) ys x (inl e) = inl e
-among_left (z ∷ xs) ys x (inr m) = inr (among_left xs ys x m)
-
-pub among_right : (xs ys : List Var) (x : Var) → IsAmong x ys → IsAmong x (xs ++ ys)
-among_right [] ys x m = m
-among_right (z ∷ xs) ys x m = inr (among_right xs ys x m)
-
-pub among_either : (xs ys : List Var) (x : Var) → IsAmong x (xs ++ ys) → IsAmong x xs ⊎ IsAmong x ys
-among_either [] ys x m = inr m
-among_either (z ∷ xs) ys x (inl e) = inl (inl e)
-among_either (z ∷ xs) ys x (inr m) = elim (among_either xs ys x m) [ inl k ↦ inl (inr k) | inr k ↦ inr k ]
+use Rattle.local_store.proofs.Among.{among-left, among-right, among-either}
 
 -- what is gathered
 module _ (I : Type 0) (Asked : I → Type 0) (Lists : I → List Var → Type 0) where
@@ -29,13 +13,13 @@ module _ (I : Type 0) (Asked : I → Type 0) (Lists : I → List Var → Type 0)
   pub gathered_more : (In More : I → Type 0) (list own : List Var) (new : I) → AreGathered I In Asked Lists list → ((i : I) → In i → More i) → More new → ((i : I) → More i → In i ⊎ (i ≡ new)) → Lists new own
       → AreGathered I More Asked Lists (list ++ own)
   gathered_more In More list own new g stays here either lists = record {
-    each = λ y m. elim (among_either list own y m) [
-      | inl k ↦ let w : _ = g.each y k in (w.0, w.1, stays w.0 w.2, w.3, w.4, λ z n. among_left list own z (w.5 z n))
-      | inr k ↦ (new, own, here, lists, k, among_right list own)
+    each = λ y m. elim (among-either list own y m) [
+      | inl k ↦ let w : _ = g.each y k in (w.0, w.1, stays w.0 w.2, w.3, w.4, λ z n. among-left list own z (w.5 z n))
+      | inr k ↦ (new, own, here, lists, k, among-right list own)
     ];
     every = λ i h a. elim (either i h) [
-      | inl k ↦ let w : _ = g.every i k a in (w.0, w.1, λ y m. among_left list own y (w.2 y m))
-      | inr e ↦ (own, subst (λ (j : I). Lists j own) (sym e) lists, among_right list own)
+      | inl k ↦ let w : _ = g.every i k a in (w.0, w.1, λ y m. among-left list own y (w.2 y m))
+      | inr e ↦ (own, subst (λ (j : I). Lists j own) (sym e) lists, among-right list own)
     ];
   }
 

@@ -1,5 +1,5 @@
 -- What a box and the boxes inside it touch suffices for the box.
-use Rattle.std.proofs.Common.{◌≡◌, ℕ, zero, suc, ◌≤◌, List, [], ◌∷◌, ◌++◌, length, take, Some, refl, sym, ◌∙◌, ap, subst, inl, inr, arith}
+use Rattle.std.proofs.Common.{◌≡◌, ℕ, zero, suc, ◌≤◌, List, [], ◌∷◌, length, take, Some, refl, sym, ◌∙◌, subst, inl, inr, arith}
 use Rattle.akl_terms.specs.declared.name.Name.{Name}
 use Rattle.akl_terms.specs.declared.name.Var.{Var}
 use Rattle.akl_terms.specs.declared.name.Place.{Place}
@@ -27,27 +27,25 @@ use Rattle.constraint_laws.proofs.Stands.{structured_stands, variable_stands}
 use Rattle.constraint_laws.proofs.TouchedLists.{touches_class}
 use Rattle.plan_laws.specs.Sleeps.{IsOutermostAt, IsAliasAt, of_box}
 use Rattle.plan_laws.proofs.Roots.{root_unneeded}
-use Rattle.table_laws.proofs.Frame.{equations_join}
+use Rattle.plan_laws.proofs.Moves.{equations-append}
 use Rattle.local_store.specs.Stored.{Stored}
 use Rattle.local_store.specs.Chained as chained
 use Rattle.class_members.specs.Members as members
 use Rattle.box_tree.specs.Tables.{all_rules, table_of}
 use Rattle.box_tree.specs.Views.{ViewValue, IsViewOf}
 use Rattle.table_laws.specs.Rows.{stores_along}
-use Rattle.box_tree.proofs.ToldChains.{told_stands}
+use Rattle.table_laws.proofs.StoreChains.{told_stands}
 use Rattle.guard_plan.proofs.Sites.{stand, environment_stands, stores_split}
+use Rattle.guard_plan.proofs.Chains.{front_taken}
 use Rattle.stable_test.specs.Inner.{IsTouchedInside}
 use Rattle.stable_test.proofs.EachInside.{IsDown, below}
 use Rattle.stable_test.proofs.SomeInside.{down_some, some_down}
+use Rattle.stable_test.proofs.SiteReaches.{long_stores}
 use Rattle.idle_plan.specs.Waits.{AreReachedInside}
 use Rattle.idle_plan.proofs.Listed.{unstructured_class}
 use Rattle.idle_plan.proofs.Needed.{NeedsInside, NeedsOwn, Suffices}
 use Rattle.idle_plan.proofs.Outermost.{no_more, alias_by, oldest_by}
-use Rattle.idle_plan.proofs.Paths.{good, long_stores}
-
-front : (A : List Stored) (s : Stored) → take (length A) (A ++ s ∷ []) ≡ A
-front [] s = refl
-front (x ∷ A) s = ap (λ (l : List Stored). x ∷ l) (front A s)
+use Rattle.idle_plan.proofs.Paths.{good}
 
 first_of : (k : ℕ) (ss : List Stored) → 1 ≤ k → take 1 (take k ss) ≡ take 1 ss
 first_of zero ss l = absurd (omega arith)
@@ -78,7 +76,7 @@ module _ (v : ViewValue) (i : IsViewOf v) (n : Name) (at : v.place ≡ Place.Box
 
   -- the stores around the box
   around : take (length i.site.around) v.stores ≡ stores_along (table_of v.table) (names_around i.site)
-  around = (λ j. take (sym (long_stores (table_of v.table) i.site.around) j) (stores_split v i j)) ∙ front (stores_along (table_of v.table) (names_around i.site)) _
+  around = (λ j. take (sym (long_stores (table_of v.table) i.site.around) j) (stores_split v i j)) ∙ front_taken (stores_along (table_of v.table) (names_around i.site)) _
 
   stands : StandFor (IsTold (chained.equations_of v.table.program.templates.nodes (take (length i.site.around) v.stores))) (IsTold (environment i.site))
   stands = subst (λ (A : List Stored). StandFor (IsTold (chained.equations_of nodes A)) (IsTold (environment i.site))) (sym around)
@@ -90,7 +88,7 @@ module _ (v : ViewValue) (i : IsViewOf v) (n : Name) (at : v.place ≡ Place.Box
     | inl q ↦ subst (λ (u : Found). IsTold (whole u) a b) q (IsTold-left (environment i.site) i.site.content.equations a b m)
     | inr u ↦ IsTold-left (environment d) d.content.equations a b
         (subst (λ (bs : List Content). IsTold (equations_of bs) a b) (sym u.around)
-        (subst (λ (G : Equations). IsTold G a b) (sym (equations_join i.site.around (i.site.content ∷ u.rest))) (IsTold-left (environment i.site) (equations_of (i.site.content ∷ u.rest)) a b m)))
+        (subst (λ (G : Equations). IsTold G a b) (sym (equations-append i.site.around (i.site.content ∷ u.rest))) (IsTold-left (environment i.site) (equations_of (i.site.content ∷ u.rest)) a b m)))
   ]
 
   -- a class that is touched from outside is

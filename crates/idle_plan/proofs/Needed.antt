@@ -14,7 +14,7 @@ use Rattle.akl_model.specs.Wakes.{StandsIn, SomeBox, TellsOutside, Concerns}
 use Rattle.constraint_laws.specs.Touched.{IsAmong}
 use Rattle.plan_laws.specs.Sleeps.{Matters, Needs, of_box_around, of_atom, of_alternative, of_box, IsAliasAt, IsEnough}
 use Rattle.plan_laws.specs.Waits.{HasOldestAt}
-use Rattle.idle_plan.proofs.Gathering.{among_left, among_right, among_either}
+use Rattle.local_store.proofs.Among.{among-left, among-right, among-either}
 
 -- by the equations of a box around it
 pub record NeedsAround (c : Config) (place : Place) (x : Var) : Type 0 where
@@ -77,20 +77,20 @@ pub record Suffices (p : Program) (c : Config) (place : Place) (Needed : Var →
 -- so two lists suffice for all
 module _ (p : Program) (c : Config) (place : Place) (around own : List Var) (a : Suffices p c place (NeedsAround c place) around) (o : Suffices p c place (NeedsOwn p c place) own) where
   pub both_concern : (y : Var) → IsAmong y (around ++ own) → Concerns p c y place
-  both_concern y m = elim (among_either around own y m) [ inl k ↦ a.concern y k | inr k ↦ o.concern y k ]
+  both_concern y m = elim (among-either around own y m) [ inl k ↦ a.concern y k | inr k ↦ o.concern y k ]
 
   pub both_enough : IsEnough p c (around ++ own) place
   both_enough = record {
     each = λ x n. elim (needs_by p c place x n) [
-      | inl k ↦ let w : (y : Var) × IsAmong y around × IsAliasAt c place y x = a.enough x k in (w.0, among_left around own w.0 w.1, w.2)
-      | inr k ↦ let w : (y : Var) × IsAmong y own × IsAliasAt c place y x = o.enough x k in (w.0, among_right around own w.0 w.1, w.2)
+      | inl k ↦ let w : (y : Var) × IsAmong y around × IsAliasAt c place y x = a.enough x k in (w.0, among-left around own w.0 w.1, w.2)
+      | inr k ↦ let w : (y : Var) × IsAmong y own × IsAliasAt c place y x = o.enough x k in (w.0, among-right around own w.0 w.1, w.2)
     ];
   }
 
   pub both_oldest : HasOldestAt c place (around ++ own)
   both_oldest = record {
-    each = λ f h x w m k. elim (among_either around own x m) [
-      | inl y ↦ among_left around own w (a.oldest.each f h x w y k)
-      | inr y ↦ among_right around own w (o.oldest.each f h x w y k)
+    each = λ f h x w m k. elim (among-either around own x m) [
+      | inl y ↦ among-left around own w (a.oldest.each f h x w y k)
+      | inr y ↦ among-right around own w (o.oldest.each f h x w y k)
     ];
   }

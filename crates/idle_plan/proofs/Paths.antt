@@ -19,18 +19,19 @@ use Rattle.plan_laws.proofs.Replayed.{good_replay}
 use Rattle.plan_laws.proofs.DownTo.{stands_down, stands_around, path_to, begins_path}
 use Rattle.local_store.specs.Stored.{Stored}
 use Rattle.entail_test.specs.Asked.{frames_from}
-use Rattle.table_laws.specs.Rows.{BoxRow, Table, store_in, stores_along, told_in}
+use Rattle.table_laws.specs.Rows.{BoxRow, store_in, stores_along, told_in}
 use Rattle.table_laws.specs.Unfolds.{IsBoxRow}
 use Rattle.table_laws.proofs.Stores.{stores_join}
 use Rattle.table_laws.proofs.Frame.{row_of, names_join, around_stands}
 use Rattle.box_tree.specs.Tables.{all_rules, table_of}
 use Rattle.box_tree.specs.Views.{ViewValue, IsViewOf}
-use Rattle.box_tree.proofs.ToldChains.{told_stands}
+use Rattle.table_laws.proofs.StoreChains.{told_stands}
 use Rattle.guard_plan.proofs.Chains.{take_push, drop_push}
 use Rattle.guard_plan.proofs.Sites.{stand, stores_path}
 use Rattle.local_store.specs.Chained.{equations_of}
 use Rattle.idle_plan.proofs.Listed.{AreStoresOf}
 use Rattle.idle_plan.proofs.Outward.{outward}
+use Rattle.stable_test.proofs.SiteReaches.{long_stores}
 
 -- of lists
 
@@ -42,10 +43,6 @@ take_first (x ∷ A) s R = let q : suc (length A + 1) ≡ suc (length A) + 1 = o
 one_of : (A B : List Stored) → 1 ≤ length A → take 1 (A ++ B) ≡ take 1 A
 one_of [] B l = absurd (omega arith)
 one_of (x ∷ A) B l = refl
-
-pub long_stores : (T : Table) (bs : List Content) → length (stores_along T (map (λ (b : Content). b.name) bs)) ≡ length bs
-long_stores T [] = refl
-long_stores T (b ∷ bs) = let h : length (stores_along T (map (λ (b : Content). b.name) bs)) ≡ length bs = long_stores T bs in omega arith
 
 -- what stands at a place in a list, or its end
 record Cut (bs : List Content) (d : ℕ) : Type 0 where

@@ -36,8 +36,8 @@ use Rattle.reading_laws.specs.Closed.{Spares}
 use Rattle.reading_laws.specs.Unchanged.{Unchanged, path_to, AreEnough}
 use Rattle.reading_laws.proofs.Inner.{together}
 use Rattle.reading_laws.proofs.Local.{told_local}
-use Rattle.plan_laws.proofs.Replayed.{good_replay}
-use Rattle.reading_laws.proofs.Labels.{replays_on, own_name, step_follows, step_names, step_around, around_told}
+use Rattle.plan_laws.proofs.Replayed.{good_replay, replay_further}
+use Rattle.reading_laws.proofs.Labels.{own_name, step_follows, step_names, step_around, around_told}
 use Rattle.reading_laws.proofs.Path.{nil_right, spares_itself}
 use Rattle.reading_laws.proofs.PathGrows.{Placed, ClosedFrom, GrowsOnce, rests, gets, inside, root_grows}
 use Rattle.reading_laws.proofs.Starts.{PathScoped, path_scoped, scoped_all, CountedOnce, once_further, path_counted, closed_at_start}
@@ -173,7 +173,7 @@ pub there_still : (rules : List Rule) (p : Program) (q : Query) (journal : List 
 there_still rules p q journal c [] d r w n f e u = record { now = f; is = subst (λ (x : Config). box_at n x.roots ≡ Some f) w e; around = refl; grows = record { each = told }; outer = λ s t m. m }
 there_still rules p q journal c (l ∷ ls) d r w n f e u =
     let g : (g : Found) × (box_at n w.0.roots ≡ Some g) = there_with c w.0 n f e u.0 in
-    let k : Replays rules p q (journal ++ l ∷ []) w.0 = replays_on rules p q journal c l w.0 r w.1 in
+    let k : Replays rules p q (journal ++ l ∷ []) w.0 = replay_further rules p q journal c l w.0 r w.1 in
     let z : IsThereStill d n g.0 = there_still rules p q (journal ++ l ∷ []) w.0 ls d k w.2 n g.0 g.1 u.1 in
     record {
       now = z.now;
@@ -223,7 +223,7 @@ one_label R rules p q journal c l d r a n f e k u b = record {
     before = good_replay rules p q journal c r
 
     after : Good d
-    after = good_replay rules p q (journal ++ l ∷ []) d (replays_on rules p q journal c l d r a)
+    after = good_replay rules p q (journal ++ l ∷ []) d (replay_further rules p q journal c l d r a)
 
     g : (g : Found) × (box_at n d.roots ≡ Some g)
     g = there_with c d n f e (u n (own_name c n f e))
@@ -247,7 +247,7 @@ many_unbound R rules p q journal c [] d r w n f e k u b = record {
 many_unbound R rules p q journal c (l ∷ ls) d r w n f e k u b =
     let s : OneLabel R w.0 n f = one_label R rules p q journal c l w.0 r w.1 n f e k (λ m i. (u m i).0)
     (λ h x i. elim (b h x i) [ inl y ↦ inl y | inr y ↦ inr (y.0, y.1, y.2.0) ]) in
-    let z : StaysUnbound R d n s.now = many_unbound R rules p q (journal ++ l ∷ []) w.0 ls d (replays_on rules p q journal c l w.0 r w.1) w.2 n s.now s.is (λ h. (s.kept h).0) (λ m i. (u m (subst (IsIn m) s.names i)).1)
+    let z : StaysUnbound R d n s.now = many_unbound R rules p q (journal ++ l ∷ []) w.0 ls d (replay_further rules p q journal c l w.0 r w.1) w.2 n s.now s.is (λ h. (s.kept h).0) (λ m i. (u m (subst (IsIn m) s.names i)).1)
     (λ h x i. elim (b (IsConsistent-follows s.grows h) x i) [ inl y ↦ inl (y.0, y.1, Equal-follows (s.kept h).1 y.2, y.3) | inr y ↦ inr (y.0, Equal-follows (s.kept h).1 y.1, y.2.1) ]) in
     record {
       now = z.now;

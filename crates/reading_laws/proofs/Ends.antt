@@ -44,8 +44,8 @@ use Rattle.plan_laws.proofs.InScope.{Good}
 use Rattle.plan_laws.proofs.Moves.{moved}
 use Rattle.reading_laws.specs.Unchanged.{Unchanged, path_to, frames_along}
 use Rattle.reading_laws.specs.Ends.{IsEndAt, SparesEnd, HasEnds}
-use Rattle.plan_laws.proofs.Replayed.{good_replay}
-use Rattle.reading_laws.proofs.Labels.{replays_on, whole_over, step_follows}
+use Rattle.plan_laws.proofs.Replayed.{good_replay, replay_further}
+use Rattle.reading_laws.proofs.Labels.{whole_over, step_follows}
 use Rattle.reading_laws.proofs.Outermost.{HasFirst, first_box}
 use Rattle.reading_laws.proofs.RootsAlong.{first_found, first_follows, first_outermost}
 
@@ -101,7 +101,7 @@ module _ (rules : List Rule) (p : Program) (q : Query) (journal : List Label) (c
   w = good_replay rules p q journal c r
 
   v : Good d
-  v = good_replay rules p q (journal ++ l ∷ []) d (replays_on rules p q journal c l d r a)
+  v = good_replay rules p q (journal ++ l ∷ []) d (replay_further rules p q journal c l d r a)
 
   -- then it binds none of it: with a variable it would bind the oldest one that is equal to it by the outermost box's equations
   pub unbound : (x : Var) → IsAmong x list → Changes by_binding c d (Item.Binding x) → ⊥
@@ -203,6 +203,6 @@ spared rules p q journal c [] d r w list old ends u = (λ x m. tt, subst (λ (k 
 spared rules p q journal c (l ∷ ls) d r w list old ends u =
     let one : (x : Var) → IsAmong x list → (n : Name) → IsEndAt c n x → Binds c w.0 n x → ⊥ = λ x m. (u x m).0 in
     let further : ((x : Var) → IsAmong x list → Unchanged rules p w.0 ls d w.2 (Item.Binding x)) × HasEnds d list =
-    spared rules p q (journal ++ l ∷ []) w.0 ls d (replays_on rules p q journal c l w.0 r w.1) w.2 list (λ x m. still_old rules p q journal c l w.0 r w.1 list old ends one x m)
+    spared rules p q (journal ++ l ∷ []) w.0 ls d (replay_further rules p q journal c l w.0 r w.1) w.2 list (λ x m. still_old rules p q journal c l w.0 r w.1 list old ends one x m)
     (still_ends rules p q journal c l w.0 r w.1 list old ends one) (λ x m. (u x m).1) in
     (λ x m. (unbound rules p q journal c l w.0 r w.1 list old ends one x m, further.0 x m), further.1)

@@ -9,6 +9,7 @@ use Rattle.akl_terms.specs.declared.program.Query.{Query}
 use Rattle.akl_terms.specs.Equal.{turned}
 use Rattle.akl_terms.specs.Touching.{IsLocal}
 use Rattle.constraint_laws.specs.Touched.{IsAmong}
+use Rattle.constraint_laws.proofs.Inward.{bound_outer}
 use Rattle.akl_model.specs.declared.label.Rule.{Rule}
 use Rattle.akl_model.specs.declared.label.Label.{Label}
 use Rattle.akl_model.specs.Config.{IsIn, Content, Config, Found, whole, home_of}
@@ -27,7 +28,6 @@ use Rattle.plan_laws.proofs.Replayed.{good_replay, replay_further}
 use Rattle.reading_laws.specs.Unchanged.{path_to, frames_along}
 use Rattle.reading_laws.specs.IdleGoals.{LeavesIdle}
 use Rattle.reading_laws.proofs.Labels.{whole_over}
-use Rattle.reading_laws.proofs.Path.{bound_over}
 
 list_or : (xs : List Content) → (xs ≡ []) ⊎ (xs ≡ [] → ⊥)
 list_or [] = inl refl
@@ -47,7 +47,7 @@ module _ (rules : List Rule) (p : Program) (q : Query) (journal : List Label) (c
   -- a root box has no variable from outside
   root_binds : (n : Name) (y : Var) (b : Binds c d n y) → b.adds.afterwards.around ≡ [] → (IsLocal (Rattle.akl_model.specs.Stable.frames_of (only b.adds.afterwards)) y → ⊥) → ⊥
   root_binds n y b root outside = outside (IsLocal-left b.adds.afterwards.content.frames (frames_inside b.adds.afterwards.goals ++ []) y
-      (subst (λ (fs : List Name). IsLocal fs y) frames (bound_over (IsLocal (frames_along (path_to b.adds.afterwards))) (whole b.adds.before) (whole b.adds.afterwards) (whole_over d v n b.adds.afterwards b.adds.is) y b.newly_bound)))
+      (subst (λ (fs : List Name). IsLocal fs y) frames (bound_outer (IsLocal (frames_along (path_to b.adds.afterwards))) (whole b.adds.before) (whole b.adds.afterwards) (whole_over d v n b.adds.afterwards b.adds.is) y b.newly_bound)))
     where
       frames : frames_along (path_to b.adds.afterwards) ≡ b.adds.afterwards.content.frames
       frames = ap (λ (xs : List Content). frames_along (xs ++ b.adds.afterwards.content ∷ [])) root ∙ append-nil b.adds.afterwards.content.frames

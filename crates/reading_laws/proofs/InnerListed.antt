@@ -21,8 +21,7 @@ use Rattle.plan_laws.specs.Right.{IsRightOn}
 use Rattle.plan_laws.proofs.InScope.{Good}
 use Rattle.reading_laws.specs.Listed.{ReadsInnerListed}
 use Rattle.reading_laws.proofs.Outermost.{bound_told, told_binds}
-use Rattle.plan_laws.proofs.Replayed.{good_replay}
-use Rattle.reading_laws.proofs.Labels.{replays_on}
+use Rattle.plan_laws.proofs.Replayed.{good_replay, replay_further}
 use Rattle.reading_laws.proofs.BoundLater.{AreListed, listed_later}
 
 module _ (rules : List Rule) (p : Program) (c : Config) (ls : List Label) (d : Config) (w : GoesOn rules p c ls d) (l : Label) (e : Config) (a : Applies rules p c l e) (r : IsRightOn a d) (tells : local.Told) (list : List Var)
@@ -31,7 +30,7 @@ module _ (rules : List Rule) (p : Program) (c : Config) (ls : List Label) (d : C
   good_c = good_replay rules p w.query w.journal c w.replays
 
   good_e : Good e
-  good_e = good_replay rules p w.query (w.journal ++ l ∷ []) e (replays_on rules p w.query w.journal c l e w.replays a)
+  good_e = good_replay rules p w.query (w.journal ++ l ∷ []) e (replay_further rules p w.query w.journal c l e w.replays a)
 
   later : Replays rules p w.query (w.journal ++ ls) d
   later = record { derives = Derives-append rules p (Rattle.akl_model.specs.Instances.start p w.query) c d w.journal ls w.replays.derives w.derives }
@@ -40,7 +39,7 @@ module _ (rules : List Rule) (p : Program) (c : Config) (ls : List Label) (d : C
   good_d = good_replay rules p w.query (w.journal ++ ls) d later
 
   good_result : Good r.result
-  good_result = good_replay rules p w.query ((w.journal ++ ls) ++ l ∷ []) r.result (replays_on rules p w.query (w.journal ++ ls) d l r.result later r.applies)
+  good_result = good_replay rules p w.query ((w.journal ++ ls) ++ l ∷ []) r.result (replay_further rules p w.query (w.journal ++ ls) d l r.result later r.applies)
 
   here : box_at a.site.content.name c.roots ≡ Some a.site
   here = site-box l.place c.roots a.site good_c.stand.once a.is_site

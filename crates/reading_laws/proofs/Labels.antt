@@ -1,10 +1,9 @@
 -- Over many labels that change no constraint down to a box, and bind none of what a goal in it reaches.
-use Rattle.std.proofs.Common.{◌≡◌, List, [], ◌∷◌, ◌++◌, Some, refl, sym, ◌∙◌, ap, subst, ◌⊎◌, inl, inr, append_assoc}
+use Rattle.std.proofs.Common.{◌≡◌, List, [], ◌∷◌, ◌++◌, Some, sym, ◌∙◌, ap, subst, ◌⊎◌, inl, inr, append_assoc}
 use Rattle.std.specs.Prelude.{slice_index}
 use Rattle.akl_terms.specs.declared.name.Name.{Name}
 use Rattle.akl_terms.specs.declared.name.Var.{Var}
 use Rattle.akl_terms.specs.declared.program.Program.{Program}
-use Rattle.akl_terms.specs.declared.program.Query.{Query}
 use Rattle.akl_terms.specs.Tree.{Tree}
 use Rattle.akl_terms.specs.Equal.{Equations, IsTold, told, Follows}
 use Rattle.akl_terms.specs.Touching.{IsLocal}
@@ -12,18 +11,16 @@ use Rattle.akl_terms.proofs.EqualLaws.{IsTold-left, IsTold-right, IsTold-either}
 use Rattle.akl_model.specs.declared.label.Rule.{Rule}
 use Rattle.akl_model.specs.declared.label.Label.{Label}
 use Rattle.akl_model.specs.Config.{IsIn, Content, Config, Found, equations_of, environment, whole, box_at}
-use Rattle.akl_model.specs.Derivations.{Applies, Replays}
+use Rattle.akl_model.specs.Derivations.{Applies}
 use Rattle.akl_model.specs.Scopes.{Scope, nowhere, scope_in}
 use Rattle.akl_model.specs.Wakes.{names_around, names_down_to}
-use Rattle.akl_model.proofs.NamesKept.{replay-stands, box-itself}
+use Rattle.akl_model.proofs.NamesKept.{box-itself}
 use Rattle.akl_model.proofs.QuietGrows.{IsLocal-left, IsLocal-right}
-use Rattle.akl_model.proofs.Results.{Derives-append}
 use Rattle.akl_model.proofs.Scoped.{IsIn-right, IsIn-either}
 use Rattle.plan_laws.proofs.InScope.{Good}
 use Rattle.plan_laws.proofs.Moves.{moved, aside_whole}
 use Rattle.reading_laws.specs.Unchanged.{path_to, frames_along}
 use Rattle.reading_laws.proofs.Path.{tells_wider, tells_both}
-use Rattle.akl_model.proofs.ScopesKept.{replay_owned}
 use Rattle.akl_model.proofs.ScopesAlong.{in_local, local_in}
 use Rattle.reading_laws.proofs.Local.{told_local}
 use Rattle.reading_laws.proofs.Steps.{path_whole}
@@ -31,13 +28,6 @@ use Rattle.reading_laws.proofs.Starts.{PathScoped, path_scoped, scoped_all}
 use Rattle.constraint_laws.specs.Growth.{TellsOver}
 use Rattle.step_laws.proofs.Becomes.{Becomes}
 use Rattle.step_laws.proofs.Steps.{Moved, aside, at_site, inside, names_kept, name_kept}
-
-pub good_replay : (rules : List Rule) (p : Program) (q : Query) (journal : List Label) (c : Config) → Replays rules p q journal c → Good c
-good_replay rules p q journal c r = record { stand = replay-stands rules p q journal c r; owned = replay_owned rules p q journal c r }
-
--- one more label
-pub replays_on : (rules : List Rule) (p : Program) (q : Query) (journal : List Label) (c : Config) (l : Label) (d : Config) → Replays rules p q journal c → Applies rules p c l d → Replays rules p q (journal ++ l ∷ []) d
-replays_on rules p q journal c l d r a = record { derives = Derives-append rules p (Rattle.akl_model.specs.Instances.start p q) c d journal (l ∷ []) r.derives (d, a, refl) }
 
 pub own_name : (c : Config) (n : Name) (f : Found) → box_at n c.roots ≡ Some f → IsIn n (names_down_to f)
 own_name c n f e = IsIn-right n (names_around f) (f.content.name ∷ []) (inl (box-itself n c.roots f e))

@@ -13,6 +13,7 @@ use Rattle.constraint_laws.specs.Touched.{IsAmong}
 use Rattle.constraint_laws.proofs.Decided.{kept_by}
 use Rattle.constraint_laws.proofs.Grown.{over_kept}
 use Rattle.constraint_laws.proofs.SameTerms.{Either, var_or, name_or}
+use Rattle.constraint_laws.proofs.Inward.{bound_outer}
 use Rattle.akl_model.specs.declared.label.Rule.{Rule}
 use Rattle.akl_model.specs.declared.label.Label.{Label}
 use Rattle.akl_model.specs.Config.{IsIn, Content, Boxes, no_boxes, box, Goals, Config, Found, whole, box_at}
@@ -36,7 +37,6 @@ use Rattle.reading_laws.specs.Ends.{HasEnds}
 use Rattle.reading_laws.specs.Unchanged.{path_to, frames_along}
 use Rattle.reading_laws.proofs.Labels.{whole_over}
 use Rattle.reading_laws.proofs.Outermost.{HasFirst}
-use Rattle.reading_laws.proofs.Path.{bound_over}
 use Rattle.reading_laws.proofs.RootsAlong.{first_found, first_outermost, first_before, first_now, first_there}
 use Rattle.reading_laws.proofs.TreeNames.{tree_kept, in_tree, in_two}
 use Rattle.reading_laws.proofs.Untouched.{good_later}
@@ -51,7 +51,7 @@ unstructured x s = let q : variable x ≡ s.0 = itself x s.0 s.2 in let r : head
 -- a variable that a root box's equations make equal to another one is of its frames
 pub of_frames : (c : Config) → Good c → (n : Name) (g : Found) → box_at n c.roots ≡ Some g → g.around ≡ [] → (x y : Var) → (x ≡ y → ⊥) → Equal (whole g) (variable x) (variable y) → IsIn x.frame g.content.frames
 of_frames c w n g i root x y apart e = local_in g.content.frames x (subst (λ (fs : List Name). IsLocal fs x) frames
-    (bound_over (IsLocal (frames_along (path_to g))) [] (whole g) (whole_over c w n g i) x (record { unstructured = unstructured x; told = inr (y, e, λ q. apart (same (itself x (variable y) q))) })))
+    (bound_outer (IsLocal (frames_along (path_to g))) [] (whole g) (whole_over c w n g i) x (record { unstructured = unstructured x; told = inr (y, e, λ q. apart (same (itself x (variable y) q))) })))
   where
     frames : frames_along (path_to g) ≡ g.content.frames
     frames = ap (λ (xs : List Content). frames_along (xs ++ g.content ∷ [])) root ∙ append-nil g.content.frames
@@ -80,7 +80,7 @@ in_scope_counted k r b gs bs x i =
 
 -- a variable that is bound in a box is of a frame of it, or of a box around it
 pub bound_frame : (c : Config) → Good c → (n : Name) (f : Found) → box_at n c.roots ≡ Some f → (E : Equations) (x : Var) → IsNewlyBound E (whole f) x → IsIn x.frame (frames_along (path_to f))
-bound_frame c w n f e E x b = local_in (frames_along (path_to f)) x (bound_over (IsLocal (frames_along (path_to f))) E (whole f) (whole_over c w n f e) x b)
+bound_frame c w n f e E x b = local_in (frames_along (path_to f)) x (bound_outer (IsLocal (frames_along (path_to f))) E (whole f) (whole_over c w n f e) x b)
 
 -- the tree in which a box stands is that of the outermost box around it
 first_of : (c : Config) (b : Found) (k : Content) (gs : Goals) → BoxIn b.around b.content b.goals (box k gs no_boxes) → (h : HasFirst c b) → k ≡ h.content

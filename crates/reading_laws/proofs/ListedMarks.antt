@@ -25,11 +25,10 @@ use Rattle.step_laws.proofs.Whereabouts.{found_in}
 use Rattle.plan_laws.specs.Right.{NoneBy}
 use Rattle.plan_laws.proofs.Right.{fresh, next_same}
 use Rattle.plan_laws.proofs.InScope.{Good}
-use Rattle.plan_laws.proofs.Replayed.{good_replay}
+use Rattle.plan_laws.proofs.Replayed.{good_replay, replay_further}
 use Rattle.reading_laws.specs.ListedMarks.{AreOf, NoneOf}
 use Rattle.reading_laws.specs.Marks.{IsMark}
 use Rattle.reading_laws.specs.Unchanged.{Unchanged}
-use Rattle.reading_laws.proofs.Labels.{replays_on}
 use Rattle.reading_laws.proofs.ListedEnds.{in_scope_counted, bound_frame, listed_ends}
 use Rattle.reading_laws.proofs.Marked.{marks}
 use Rattle.reading_laws.proofs.Untouched.{good_later}
@@ -91,7 +90,7 @@ undrawn rules p q journal c [] d r w x n h = tt
 undrawn rules p q journal c (l ∷ ls) d r w x n h = (none, undrawn rules p q (journal ++ l ∷ []) w.0 ls d r1 w.2 x n.1 (subst (λ (k : ℕ). k ≤ x.frame.number) (sym first.0) h))
   where
     r1 : Replays rules p q (journal ++ l ∷ []) w.0
-    r1 = replays_on rules p q journal c l w.0 r w.1
+    r1 = replay_further rules p q journal c l w.0 r w.1
 
     first : (slice_index w.0.next x.frame.worker ≡ slice_index c.next x.frame.worker) × ((k : Name) → k.worker ≡ x.frame.worker → slice_index c.next x.frame.worker ≤ k.number → times_in k (names_of w.0.roots) ≡ 0)
     first = fresh rules p c (l ∷ []) w.0 (record { query = q; journal = journal; replays = r; derives = (w.0, w.1, refl) }) (of_worker x.frame.worker) (n.0, tt)

@@ -16,11 +16,11 @@ use Rattle.akl_model.specs.Instances.{start}
 use Rattle.akl_model.proofs.Results.{Derives-one, Applies-one}
 use Rattle.step_laws.specs.Likeness.{IsOld}
 use Rattle.plan_laws.proofs.StampLaws.{last_or}
+use Rattle.plan_laws.proofs.Replayed.{replay_further}
 use Rattle.reading_laws.specs.Ends.{IsEndAt, SparesEnd, HasEnds}
 use Rattle.reading_laws.specs.Marks.{BindsEndAt, IsMark}
 use Rattle.reading_laws.specs.Unchanged.{Unchanged}
 use Rattle.reading_laws.proofs.Ends.{spared}
-use Rattle.reading_laws.proofs.Labels.{replays_on}
 
 -- a label's number is within its journal
 within : (xs ys : List Label) (k : Label) (zs : List Label) → xs ≡ ys ++ k ∷ zs → length ys + 1 ≤ length xs
@@ -72,7 +72,7 @@ pub old_mark : (rules : List Rule) (p : Program) (q : Query) (journal : List Lab
     → SparesEnd rules p c ls d w x → IsMark rules p q journal x k → IsMark rules p q (journal ++ ls) x k
 old_mark rules p q journal c [] d x k r w s m = subst (λ (js : List Label). IsMark rules p q js x k) (sym (append-nil journal)) m
 old_mark rules p q journal c (l ∷ ls) d x k r w s m = subst (λ (js : List Label). IsMark rules p q js x k) (append_assoc journal (l ∷ []) ls)
-    (old_mark rules p q (journal ++ l ∷ []) w.0 ls d x k (replays_on rules p q journal c l w.0 r w.1) w.2 s.1 (one_more rules p q journal c l w.0 x k r w.1 s.0 m))
+    (old_mark rules p q (journal ++ l ∷ []) w.0 ls d x k (replay_further rules p q journal c l w.0 r w.1) w.2 s.1 (one_more rules p q journal c l w.0 x k r w.1 s.0 m))
 
 -- labels behind a mark spare the variable
 spares_since : (rules : List Rule) (p : Program) (q : Query) (journal further : List Label) (c d : Config) (x : Var) (k : ℕ) → Replays rules p q journal c → (w : Derives rules p c further d)
@@ -83,7 +83,7 @@ spares_since rules p q journal (l ∷ ls) c d x k r w m h = (
     binds = record { earlier = journal; label = l; later = ls; is_journal = refl; is_number = refl; before = c; afterwards = w.0; derived = r; applies = w.1; changes = (n, y) };
     ends = e;
   }),
-  spares_since rules p q (journal ++ l ∷ []) ls w.0 d x k (replays_on rules p q journal c l w.0 r w.1) w.2 (subst (λ (js : List Label). IsMark rules p q js x k) (sym (append_assoc journal (l ∷ []) ls)) m)
+  spares_since rules p q (journal ++ l ∷ []) ls w.0 d x k (replay_further rules p q journal c l w.0 r w.1) w.2 (subst (λ (js : List Label). IsMark rules p q js x k) (sym (append_assoc journal (l ∷ []) ls)) m)
       (let e : length (journal ++ l ∷ []) ≡ length journal + length (l ∷ []) = length-append journal (l ∷ []) in omega arith),
 )
 

@@ -3,16 +3,16 @@ use Rattle.std.proofs.Common.{◌≡◌, List, [], ◌∷◌, ◌++◌, refl, �
 use Rattle.akl_terms.specs.declared.name.Name.{Name}
 use Rattle.akl_terms.specs.declared.name.Var.{Var}
 use Rattle.akl_terms.specs.Tree.{Tree, Trees, none, more, variable, integer, port, symbol, Head, head_of}
-use Rattle.akl_terms.specs.Equal.{Equations, Equal, told, same, IsConsistent, IsStructured}
+use Rattle.akl_terms.specs.Equal.{Equations, Equal, told, IsConsistent, IsStructured}
 use Rattle.akl_terms.specs.Touching.{IsLocal}
 use Rattle.akl_terms.proofs.EqualLaws.{Equal-follows, Follows-trans, IsTold-left, IsTold-right, IsTold-either}
 use Rattle.reading_laws.specs.Closed.{Spares}
 use Rattle.reading_laws.proofs.Inner.{Within}
 use Rattle.constraint_laws.specs.Growth.{IsOver, AreOver, TellsOver}
-use Rattle.constraint_laws.specs.Bound.{IsNewlyBound}
 use Rattle.constraint_laws.proofs.Decided.{kept_by}
 use Rattle.constraint_laws.proofs.Grown.{over_kept}
 use Rattle.constraint_laws.proofs.Beside.{left_follows}
+use Rattle.constraint_laws.proofs.Inward.{bound_outer}
 
 mutual
   pub over_wider : (P Q : Var → Type 0) → ((x : Var) → P x → Q x) → (t : Tree) → IsOver P t → IsOver Q t
@@ -33,17 +33,6 @@ tells_both P E F o u = record { each = λ s t m. elim (IsTold-either E F s t m) 
 
 pub spares_fewer : (P Q : Var → Type 0) → ((x : Var) → P x → Q x) → (E G : Equations) → Spares Q E G → Spares P E G
 spares_fewer P Q f E G s = record { grows = s.grows; consistent = s.consistent; unbound = λ x r b. s.unbound x (f x r) b }
-
--- a variable that is bound occurs
-pub bound_over : (P : Var → Type 0) (E G : Equations) → TellsOver P G → (x : Var) → IsNewlyBound E G x → P x
-bound_over P E G o x b = on b.told
-  where
-    on : (IsStructured G x ⊎ ((y : Var) × Equal G (variable x) (variable y) × (Equal E (variable x) (variable y) → ⊥))) → P x
-    on (inl w) = elim (kept_by (over_kept P G o) w.2) [ inl e ↦ absurd (no e) | inr p ↦ p.0 ]
-      where
-        no : variable x ≡ w.0 → ⊥
-        no e = let r : None ≡ Some w.1 = ap head_of e ∙ w.3 in cc
-    on (inr (y, e, d)) = elim (kept_by (over_kept P G o) e) [ inl r ↦ absurd (d (subst (λ (z : Tree). Equal E (variable x) z) r same)) | inr p ↦ p.0 ]
 
 -- what doesn't occur is unstructured
 pub foreign_unstructured : (P : Var → Type 0) (E : Equations) → TellsOver P E → (x : Var) → (P x → ⊥) → IsStructured E x → ⊥
@@ -84,7 +73,7 @@ module _ (R : Var → Type 0) (F : List Name) (E G : Equations) where
 
   -- all variables that don't occur are seen
   pub seen_spares : TellsOver (IsLocal F) G → Spares R E G → Spares Seen E G
-  seen_spares o s = record { grows = s.grows; consistent = s.consistent; unbound = λ x r b. elim r [ inl h ↦ s.unbound x h b | inr h ↦ h (bound_over (IsLocal F) E G o x b) ] }
+  seen_spares o s = record { grows = s.grows; consistent = s.consistent; unbound = λ x r b. elim r [ inl h ↦ s.unbound x h b | inr h ↦ h (bound_outer (IsLocal F) E G o x b) ] }
 
 pub spares_itself : (R : Var → Type 0) (E : Equations) → IsConsistent E → Spares R E E
 spares_itself R E c = record { grows = record { each = told }; consistent = c; unbound = λ x r b. elim b.told [ inl w ↦ b.unstructured w | inr w ↦ w.2 w.1 ] }

@@ -27,8 +27,8 @@ use Rattle.reading_laws.specs.Closed.{Spares}
 use Rattle.reading_laws.specs.Unchanged.{Unchanged}
 use Rattle.reading_laws.proofs.Inner.{together}
 use Rattle.reading_laws.proofs.Path.{spares_itself}
-use Rattle.plan_laws.proofs.Replayed.{good_replay}
-use Rattle.reading_laws.proofs.Labels.{replays_on, step_follows}
+use Rattle.plan_laws.proofs.Replayed.{good_replay, replay_further}
+use Rattle.reading_laws.proofs.Labels.{step_follows}
 use Rattle.reading_laws.proofs.Ends.{none_around}
 
 -- one label
@@ -73,7 +73,7 @@ many_spares R rules p q journal c [] d r w n f g e root i h u =
     let same : f ≡ g = Rattle.akl_model.proofs.Options.some_value (sym e ∙ ap (λ (k : Config). box_at n k.roots) w ∙ i) in
     subst (λ (k : Found). Spares R (whole f) (whole k)) same (spares_itself R (whole f) (subst (λ (k : Found). IsConsistent (whole k)) (sym same) h))
 many_spares R rules p q journal c (l ∷ ls) d r w n f g e root i h u =
-    let r1 : Replays rules p q (journal ++ l ∷ []) w.0 = replays_on rules p q journal c l w.0 r w.1 in
+    let r1 : Replays rules p q (journal ++ l ∷ []) w.0 = replay_further rules p q journal c l w.0 r w.1 in
     let gc : Good c = good_replay rules p q journal c r in
     let gm : Good w.0 = good_replay rules p q (journal ++ l ∷ []) w.0 r1 in
     let k : (k : Found) × (box_at n w.0.roots ≡ Some k) = between rules p c l w.0 d ls gc gm w.1 w.2 n f g e i in

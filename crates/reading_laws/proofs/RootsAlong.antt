@@ -38,6 +38,9 @@ names_along f b rest q = sym (names_snoc f.around f.content) ∙ ap (map (λ (b 
 pub first_named : (c : Config) (f : Found) (h : HasFirst c f) → IsIn h.content.name (names_down_to f)
 first_named c f h = subst (IsIn h.content.name) (sym (names_along f h.content h.rest h.path)) (inl refl)
 
+pub heads : {m n : Name} {ms ns : List Name} → m ∷ ms ≡ n ∷ ns → m ≡ n
+heads q = cc
+
 module _ (rules : List Rule) (p : Program) (c : Config) (ls : List Label) (d : Config) (w : GoesOn rules p c ls d) (n : Name) (f k : Found) (here : box_at n c.roots ≡ Some f) (there : box_at n d.roots ≡ Some k) where
   pub first_before : HasFirst c f
   first_before = first_box c (good_replay rules p w.query w.journal c w.replays) n f here
@@ -53,9 +56,6 @@ module _ (rules : List Rule) (p : Program) (c : Config) (ls : List Label) (d : C
 
       all : names_down_to f ≡ names_down_to k
       all = λ i. is_like.around i ++ is_like.name i ∷ []
-
-      heads : {m n : Name} {ms ns : List Name} → m ∷ ms ≡ n ∷ ns → m ≡ n
-      heads q = cc
 
   pub first_there : box_at first_before.content.name d.roots ≡ Some (first_found first_now)
   first_there = subst (λ (m : Name). box_at m d.roots ≡ Some (first_found first_now)) first_name first_now.found

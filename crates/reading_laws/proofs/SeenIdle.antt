@@ -51,14 +51,11 @@ use Rattle.reading_laws.proofs.IdleGoals.{passes_idle, enough_stays}
 use Rattle.reading_laws.proofs.ListedEnds.{of_frames, counted}
 use Rattle.reading_laws.proofs.Marked.{marks}
 use Rattle.reading_laws.proofs.Outermost.{HasFirst, first_box}
-use Rattle.reading_laws.proofs.RootsAlong.{names_along}
+use Rattle.reading_laws.proofs.RootsAlong.{names_along, heads}
 use Rattle.reading_laws.proofs.SeenItems.{seen_unchanged}
 use Rattle.reading_laws.specs.SeenIdle.{KeepsOldestAt, inner_names, ReadsIdle, IsIdleStill}
 
 -- lists of names
-
-heads : {m n : Name} {ms ns : List Name} → m ∷ ms ≡ n ∷ ns → m ≡ n
-heads q = cc
 
 tails : {m n : Name} {ms ns : List Name} → m ∷ ms ≡ n ∷ ns → ms ≡ ns
 tails q = cc

@@ -23,8 +23,7 @@ use Rattle.step_laws.proofs.Steps.{Moved, aside, at_site, inside}
 use Rattle.step_laws.proofs.Whereabouts.{found_in, found_among, in_counted}
 use Rattle.plan_laws.proofs.InScope.{Good}
 use Rattle.plan_laws.proofs.Moves.{moved}
-use Rattle.plan_laws.proofs.Replayed.{good_replay}
-use Rattle.reading_laws.proofs.Labels.{replays_on}
+use Rattle.plan_laws.proofs.Replayed.{good_replay, replay_further}
 use Rattle.reading_laws.proofs.RootUnbound.{between}
 
 module _ (rules : List Rule) (p : Program) (c : Config) (l : Label) (d : Config) (s : Stand c) (a : Applies rules p c l d) (m : Name) where
@@ -81,7 +80,7 @@ pub tree_kept : (rules : List Rule) (p : Program) (q : Query) (journal : List La
 tree_kept rules p q journal c [] d r w n f g e i m old none = ap (λ (k : Found). times m (only k)) (some_value (sym i ∙ ap (λ (k : Config). box_at n k.roots) (sym w) ∙ e)) ∙ none
 tree_kept rules p q journal c (l ∷ ls) d r w n f g e i m old none =
     let gc : Good c = good_replay rules p q journal c r in
-    let r1 : Replays rules p q (journal ++ l ∷ []) w.0 = replays_on rules p q journal c l w.0 r w.1 in
+    let r1 : Replays rules p q (journal ++ l ∷ []) w.0 = replay_further rules p q journal c l w.0 r w.1 in
     let gm : Good w.0 = good_replay rules p q (journal ++ l ∷ []) w.0 r1 in
     let k : (k : Found) × (box_at n w.0.roots ≡ Some k) = between rules p c l w.0 d ls gc gm w.1 w.2 n f g e i in
     let more : times m (only k.0) ≤ times m (only f) + drawn_times m l.worker (slice_index c.next l.worker) w.1.change.drawn =

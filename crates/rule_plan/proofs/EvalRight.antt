@@ -42,7 +42,7 @@ use Rattle.guard_plan.specs.declared.guards.Noise.{Noise}
 use Rattle.guard_plan.specs.Noisy.{IsTriedBy}
 use Rattle.guard_plan.specs.Planned.{HasNoRule, IsPlannedBy}
 use Rattle.guard_plan.proofs.Sites.{whole_stands, shows_at}
-use Rattle.box_tree.proofs.ToldChains.{told_stands}
+use Rattle.table_laws.proofs.StoreChains.{told_stands}
 use Rattle.rule_plan.proofs.InForce.{eval_in_force}
 use Rattle.rule_plan.proofs.AtomNone.{atom_none}
 use Rattle.rule_plan.proofs.Silent.{silent}

@@ -36,7 +36,7 @@ use Rattle.guard_plan.specs.Planned.{HasNoRule}
 use Rattle.rule_plan.proofs.InForce.{fail_in_force}
 use Rattle.rule_plan.proofs.NoRule.{box_none}
 use Rattle.guard_plan.proofs.Sites.{goal_there, box_there, stand, found, whole_stands, shows_at}
-use Rattle.box_tree.proofs.ToldChains.{told_stands}
+use Rattle.table_laws.proofs.StoreChains.{told_stands}
 
 abbrev pub fail_label : ViewValue → Label
 fail_label v = record { rule = Rule.Fail; place = v.place; alternative = None; worker = v.worker }

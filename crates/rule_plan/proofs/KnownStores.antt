@@ -18,7 +18,7 @@ use Rattle.local_store.specs.Telling.{ToldAlso, AnswersTold}
 use Rattle.local_store.proofs.Layers.{from-last}
 use Rattle.box_tree.specs.declared.step.NewBox.{NewBox}
 use Rattle.box_tree.specs.Views.{ViewValue}
-use Rattle.box_tree.proofs.ToldChains.{around_push}
+use Rattle.table_laws.proofs.StoreChains.{around_push}
 use Rattle.guard_plan.specs.Solved.{IsKnownWith}
 use Rattle.rule_plan.specs.declared.heads.Call.{Call}
 use Rattle.rule_plan.specs.Made.{store_with, IsNewStore, AreMade}

@@ -28,9 +28,9 @@ use Rattle.box_tree.specs.declared.step.NewBox.{NewBox}
 use Rattle.box_tree.specs.Tables.{goal_atom, new_box}
 use Rattle.rule_plan.specs.declared.heads.Call.{Call}
 use Rattle.rule_plan.specs.Made.{heads, heads_of, goals_under, named_under, store_with, IsNewStore, IsMade, AreMade}
-use Rattle.box_tree.proofs.ToldChains.{around_push}
-use Rattle.guard_plan.proofs.Chains.{innermost_push, long_push}
-use Rattle.rule_plan.proofs.Storing.{tells_stands, told_over}
+use Rattle.table_laws.proofs.StoreChains.{around_push, innermost_push}
+use Rattle.guard_plan.proofs.Chains.{long_push}
+use Rattle.rule_plan.proofs.Storing.{tells_stands, around_exchanged}
 
 -- equations of arguments with head arguments, in another order
 
@@ -115,7 +115,7 @@ module _ (nodes : List Node) (path : List Stored) (W : Equations) (stands : Stan
       → (D : Equations) → StandFor (IsTold D) (IsTold W)
       → StandFor (IsTold (D ++ bindings_in nodes store.bindings)) (IsTold (W ++ head_equations (terms_from nodes call.frame call.first call.count) (terms_from nodes frame c.first c.count)))
   head_stands frame c store solved h D d = StandFor-on
-      (told_over D (told_in nodes path) (told_in nodes path) W (bindings_in nodes store.bindings) (equations_in nodes (heads_of call frame c)) (StandFor-on d (StandFor-back stands)) stands tells)
+      (around_exchanged D (told_in nodes path) (told_in nodes path) W (bindings_in nodes store.bindings) (equations_in nodes (heads_of call frame c)) (StandFor-on d (StandFor-back stands)) stands tells)
       (heads_stand nodes W call.frame call.first call.count frame c.first c.count)
     where
       tells : StandFor (IsTold (told_in nodes path ++ equations_in nodes (heads_of call frame c))) (IsTold (told_in nodes path ++ bindings_in nodes store.bindings))

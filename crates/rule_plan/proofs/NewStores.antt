@@ -18,9 +18,10 @@ use Rattle.local_store.specs.Parts.{ToldStore}
 use Rattle.local_store.specs.Telling.{Adds, added, clash, ToldAlso, AnswersTold}
 use Rattle.local_store.proofs.Layers.{from-last}
 use Rattle.local_store.proofs.Replaced.{tells-adds, adds-says}
-use Rattle.guard_plan.proofs.Chains.{innermost_push, long_push}
+use Rattle.guard_plan.proofs.Chains.{long_push}
 use Rattle.rule_plan.specs.Made.{store_with, with_solved, is_added, IsNewStore}
 use Rattle.rule_plan.proofs.Framed.{framed}
+use Rattle.table_laws.proofs.StoreChains.{innermost_push}
 
 -- what is found for equations comes to a store
 solved_adds : (nodes : List Node) (known : List (Var × Term)) (es : List code.Equation) (old : Stored) (s : Solved) → Solves nodes known es s → AddsOlder nodes known s

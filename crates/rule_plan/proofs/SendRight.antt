@@ -50,8 +50,8 @@ use Rattle.rule_plan.specs.AtGoals.{label_at, IsRightAt}
 use Rattle.guard_plan.specs.Planned.{HasNoRule}
 use Rattle.rule_plan.specs.Solving.{ResolvesAll, GoesToPort}
 use Rattle.rule_plan.specs.Sent.{list_equations, with_new_tail}
-use Rattle.guard_plan.proofs.Sites.{row, found, whole_stands, shows_at, own_store}
-use Rattle.box_tree.proofs.ToldChains.{told_stands}
+use Rattle.guard_plan.proofs.Sites.{found, whole_stands, shows_at, own_ports}
+use Rattle.table_laws.proofs.StoreChains.{told_stands}
 use Rattle.rule_plan.proofs.InForce.{send_in_force}
 use Rattle.rule_plan.proofs.AtomNone.{atom_none}
 use Rattle.guard_plan.proofs.Names.{named_with}
@@ -76,9 +76,6 @@ module _ (v : ViewValue) (i : IsViewOf v) (g frame : Name) (m r : ℕ) (p : v.pl
   -- where the stores clash, Send doesn't apply
   pub clash_none : (IsConsistentBy (ToldBy v.table.program.templates.nodes v.stores) → ⊥) → HasNoRule v
   clash_none bad = atom_none v i g (Atom.send message at) p held (λ q k c e h. bad (all_stand.back c))
-
-  own_ports : ports_in v.table.program.templates.nodes (innermost v.stores).ports ≡ i.site.content.ports
-  own_ports = ap (λ (k : Stored). ports_in v.table.program.templates.nodes k.ports) (own_store v i) ∙ (row v i).2.ports
 
   -- by the stores that were solved
   module _ (consistent : IsConsistentBy (ToldBy v.table.program.templates.nodes v.stores)) (ss : List Stored) (all : ResolvesAll v.table.program.templates.nodes v.stores ss) where
@@ -106,7 +103,7 @@ module _ (v : ViewValue) (i : IsViewOf v) (g frame : Name) (m r : ℕ) (p : v.pl
     elsewhere_none q e h = atom_none v i g (Atom.send message at) p held (λ o k c x y.
         let z : q ≡ o = port_one (whole i.site) c (port_stands stored (whole i.site) by_stores at q e) x in
         let w : is_some (lookup (same_name o) (innermost v.stores).ports) ≡ true =
-        has_port v.table.program.templates.nodes (innermost v.stores).ports o k (ap (port_in o) own_ports ∙ y) in
+        has_port v.table.program.templates.nodes (innermost v.stores).ports o k (ap (port_in o) (own_ports v i) ∙ y) in
         let n : is_some (lookup (same_name o) (innermost v.stores).ports) ≡ false =
         subst (λ (u : Name). is_some (lookup (same_name u) (innermost v.stores).ports) ≡ false) z (subst (λ (ps : List (Name × Term)). is_some (lookup (same_name q) ps) ≡ false) all.ports h) in
         cc)
@@ -146,7 +143,7 @@ module _ (v : ViewValue) (g frame : Name) (m r : ℕ) (q : Name) (goes : GoesToP
   change = becomes content (without_goal g i.site.goals) 1
 
   there : port_in q i.site.content.ports ≡ Some (record { name = q; tail = tree v.table.program.templates.nodes tail })
-  there = sym (ap (port_in q) (own_ports v i g frame m r p s)) ∙ found_port v.table.program.templates.nodes (innermost v.stores).ports q tail has
+  there = sym (ap (port_in q) (own_ports v i)) ∙ found_port v.table.program.templates.nodes (innermost v.stores).ports q tail has
 
   sends : (n : ℕ) → v.next ≡ n → send_by v.table.program v.worker n (receiver q) g i.site (held_in g i.site.goals) ≡ Some change
   sends n e = ap (send_by v.table.program v.worker n (receiver q) g i.site) (held v i g frame m r p s)

@@ -14,8 +14,7 @@ use Rattle.local_store.specs.Asking.{Resolves}
 use Rattle.table_laws.specs.Rows.{told_in}
 use Rattle.table_laws.proofs.Stores.{told_join}
 use Rattle.rule_plan.specs.Solving.{ResolvesAll}
-use Rattle.box_tree.proofs.ToldChains.{told_stands, around_push}
-use Rattle.guard_plan.proofs.Chains.{innermost_push}
+use Rattle.table_laws.proofs.StoreChains.{told_stands, around_push, innermost_push}
 
 -- fewer stores are consistent where more are
 fewer : (nodes : List Node) (ss rest : List Stored) → IsConsistentBy (ToldBy nodes (ss ++ rest)) → IsConsistentBy (ToldBy nodes ss)

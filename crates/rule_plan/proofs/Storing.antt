@@ -14,7 +14,7 @@ use Rattle.local_store.specs.Chained.{ToldBy, around, replaced}
 use Rattle.local_store.specs.Telling.{ToldAlso, Tells}
 use Rattle.table_laws.specs.Rows.{told_in}
 use Rattle.table_laws.proofs.Stores.{told_join}
-use Rattle.box_tree.proofs.ToldChains.{from_told, to_told, told_stands}
+use Rattle.table_laws.proofs.StoreChains.{from_told, to_told, told_stands}
 
 -- what the stores around and the new store tell, stands for what all stores told and the equations
 pub tells_stands : (nodes : List Node) (ss : List Stored) (known : ℕ) (es : List code.Equation) (new : Stored) → Tells nodes ss known es new
@@ -34,6 +34,6 @@ tells_stands nodes ss known es new t = StandFor-on (StandFor-follows apart toget
     last : told_in nodes (replaced ss new) ≡ told_in nodes (around ss) ++ bindings_in nodes new.bindings
     last = told_join nodes (around ss) (new ∷ []) ∙ ap (λ (E : Equations). told_in nodes (around ss) ++ E) (append-nil (bindings_in nodes new.bindings))
 
--- over any other form of what is told around
-pub told_over : (D A P W B E : Equations) → StandFor (IsTold D) (IsTold A) → StandFor (IsTold P) (IsTold W) → StandFor (IsTold (P ++ E)) (IsTold (A ++ B)) → StandFor (IsTold (D ++ B)) (IsTold (W ++ E))
-told_over D A P W B E d w t = StandFor-on (stands_with_more D A B d) (StandFor-on (StandFor-back t) (stands_with_more P W E w))
+-- what is told around may be exchanged for what it stands for, before and afterwards
+pub around_exchanged : (D A P W B E : Equations) → StandFor (IsTold D) (IsTold A) → StandFor (IsTold P) (IsTold W) → StandFor (IsTold (P ++ E)) (IsTold (A ++ B)) → StandFor (IsTold (D ++ B)) (IsTold (W ++ E))
+around_exchanged D A P W B E d w t = StandFor-on (stands_with_more D A B d) (StandFor-on (StandFor-back t) (stands_with_more P W E w))

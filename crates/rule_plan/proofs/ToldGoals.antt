@@ -15,7 +15,7 @@ use Rattle.rational_unify.specs.Solving.{bindings_in, equations_in}
 use Rattle.local_store.specs.declared.part.Part.{Part}
 use Rattle.local_store.specs.Parts.{ToldStore, with_part}
 use Rattle.local_store.specs.Stored.{Stored, all_named}
-use Rattle.local_store.specs.Chained.{innermost, around, IsSolvedChain}
+use Rattle.local_store.specs.Chained.{innermost, IsSolvedChain}
 use Rattle.local_store.specs.Telling.{AnswersTold}
 use Rattle.plan_laws.specs.Local.{Told, told_to}
 use Rattle.table_laws.specs.Rows.{stores_along, store_in, told_in, ports_in}
@@ -25,28 +25,25 @@ use Rattle.table_laws.specs.Telling.{IsToldFor, TellsBy}
 use Rattle.table_laws.proofs.Here.{tells_from}
 use Rattle.box_tree.specs.Tables.{all_rules, table_of}
 use Rattle.box_tree.specs.Views.{ViewValue, IsViewOf, run_of}
+use Rattle.box_tree.proofs.StoresAround.{stores_around}
 use Rattle.rule_plan.specs.AtGoals.{label_at}
-use Rattle.guard_plan.proofs.Sites.{row, found, environment_stands, whole_stands, stores_split, own_store, own_here}
-use Rattle.box_tree.proofs.ToldChains.{around_push}
+use Rattle.guard_plan.proofs.Sites.{found, environment_stands, whole_stands, own_here, own_frames, own_ports}
 use Rattle.guard_plan.proofs.Chains.{same_solved}
-use Rattle.rule_plan.proofs.Storing.{tells_stands, told_over}
+use Rattle.rule_plan.proofs.Storing.{tells_stands, around_exchanged}
 
 module _ (v : ViewValue) (i : IsViewOf v) (es : List code.Equation) (t : ToldStore) (a : AnswersTold v.table.program.templates.nodes v.stores v.known es t) where
-  outside : around v.stores ≡ stores_along (table_of v.table) (names_around i.site)
-  outside = ap around (stores_split v i) ∙ around_push (stores_along (table_of v.table) (names_around i.site)) (row v i).0.store
-
   pub same_frames : t.store.frames ≡ i.site.content.frames
-  same_frames = a.tells.frames ∙ ap (λ (k : Stored). k.frames) (own_store v i) ∙ (row v i).2.frames
+  same_frames = a.tells.frames ∙ own_frames v i
 
   pub same_ports : ports_in v.table.program.templates.nodes t.store.ports ≡ i.site.content.ports
-  same_ports = ap (ports_in v.table.program.templates.nodes) (a.tells.ports ∙ ap (λ (k : Stored). k.ports) (own_store v i)) ∙ (row v i).2.ports
+  same_ports = ap (ports_in v.table.program.templates.nodes) a.tells.ports ∙ own_ports v i
 
   stands : (D : Equations) → StandFor (IsTold D) (IsTold (environment i.site))
       → StandFor (IsTold (D ++ bindings_in v.table.program.templates.nodes t.store.bindings)) (IsTold (whole i.site ++ equations_in v.table.program.templates.nodes es))
-  stands D d = told_over D (told_in v.table.program.templates.nodes (stores_along (table_of v.table) (names_around i.site))) (told_in v.table.program.templates.nodes v.stores) (whole i.site)
+  stands D d = around_exchanged D (told_in v.table.program.templates.nodes (stores_along (table_of v.table) (names_around i.site))) (told_in v.table.program.templates.nodes v.stores) (whole i.site)
       (bindings_in v.table.program.templates.nodes t.store.bindings) (equations_in v.table.program.templates.nodes es) (StandFor-on d (StandFor-back (environment_stands v i))) (whole_stands v i)
       (subst (λ (ss : List Stored). StandFor (IsTold (told_in v.table.program.templates.nodes v.stores ++ equations_in v.table.program.templates.nodes es))
-      (IsTold (told_in v.table.program.templates.nodes ss ++ bindings_in v.table.program.templates.nodes t.store.bindings))) outside
+      (IsTold (told_in v.table.program.templates.nodes ss ++ bindings_in v.table.program.templates.nodes t.store.bindings))) (stores_around v i)
       (tells_stands v.table.program.templates.nodes v.stores v.known es t.store a.tells))
 
   -- a store with the same bindings
@@ -56,7 +53,7 @@ module _ (v : ViewValue) (i : IsViewOf v) (es : List code.Equation) (t : ToldSto
     solved_if true e =
         let w : _ = a.is_solved.0 e in
         same_solved v.table.program.templates.nodes (stores_along (table_of v.table) (names_around i.site)) t.store new same
-        (subst (λ (ss : List Stored). IsSolvedChain v.table.program.templates.nodes (ss ++ t.store ∷ [])) outside (a.tells.solved w.0 w.1))
+        (subst (λ (ss : List Stored). IsSolvedChain v.table.program.templates.nodes (ss ++ t.store ∷ [])) (stores_around v i) (a.tells.solved w.0 w.1))
 
     -- by what it is that adds it
     module _ (part : Part) (is : with_part (innermost v.stores) part ≡ new) where

@@ -19,10 +19,10 @@ use Rattle.local_store.specs.Chained.{bindings_from, ToldBy}
 use Rattle.entail_test.specs.Asked.{frames_from, environment_at, KeepsApartAt}
 use Rattle.table_laws.specs.Rows.{Table, stores_along}
 use Rattle.table_laws.proofs.Stores.{stores_join}
-use Rattle.table_laws.proofs.Frame.{around_stands, equations_join}
+use Rattle.table_laws.proofs.Frame.{around_stands}
 use Rattle.box_tree.specs.Tables.{all_rules, table_of}
 use Rattle.box_tree.specs.Views.{ViewValue, IsViewOf}
-use Rattle.box_tree.proofs.ToldChains.{told_stands}
+use Rattle.table_laws.proofs.StoreChains.{told_stands}
 use Rattle.guard_plan.proofs.QuietOver.{keeps_apart}
 use Rattle.guard_plan.proofs.Sites.{stand, stores_path, whole_stands}
 use Rattle.stable_test.specs.Reaching.{IsConsistentAt, ReachesNone, AreReached}
@@ -30,8 +30,9 @@ use Rattle.stable_test.proofs.EachInside.{IsDown, below}
 use Rattle.stable_test.proofs.PathStores.{GoesDown, goes_down, path_frame}
 use Rattle.stable_test.proofs.Further.{taken, further_frame, last_frame}
 use Rattle.stable_test.proofs.Reaches.{consistent_at, reaches_back, reached_stands, reaches_none_stands}
+use Rattle.plan_laws.proofs.Moves.{equations-append}
 
-long_stores : (T : Table) (bs : List Content) → length (stores_along T (map (λ (b : Content). b.name) bs)) ≡ length bs
+pub long_stores : (T : Table) (bs : List Content) → length (stores_along T (map (λ (b : Content). b.name) bs)) ≡ length bs
 long_stores T [] = refl
 long_stores T (b ∷ bs) = let h : length (stores_along T (map (λ (b : Content). b.name) bs)) ≡ length bs = long_stores T bs in omega arith
 
@@ -95,7 +96,7 @@ module _ (v : ViewValue) (i : IsViewOf v) (n : Name) (f : Found) (e : box_at n i
     | inl q ↦ subst (λ (k : Found). IsTold (whole k) a b) q (IsTold-left (environment f) f.content.equations a b m)
     | inr k ↦ IsTold-left (environment i.site) i.site.content.equations a b
         (subst (λ (bs : List Content). IsTold (equations_of bs) a b) (sym k.around)
-        (subst (λ (E : Equations). IsTold E a b) (sym (equations_join f.around (f.content ∷ k.rest))) (IsTold-left (environment f) (equations_of (f.content ∷ k.rest)) a b m)))
+        (subst (λ (E : Equations). IsTold E a b) (sym (equations-append f.around (f.content ∷ k.rest))) (IsTold-left (environment f) (equations_of (f.content ∷ k.rest)) a b m)))
   ]
 
   pub less : IsConsistent (whole i.site) → IsConsistent (environment f)

@@ -48,13 +48,7 @@ use Rattle.box_tree.specs.Applied.{KeepsMark}
 use Rattle.box_tree.proofs.LeadsBy.{stores_kept}
 use Rattle.step_commit.specs.Cores.{mark_of_store, AreEarly}
 use Rattle.step_commit.proofs.StoreMarked.{mark_at, stores_after}
-use Rattle.step_commit.proofs.CallsNow.{IsPlannedCall, CallsOn}
-
-rest_same : (l k : Label) (ls ks : List Label) → l ∷ ls ≡ k ∷ ks → ls ≡ ks
-rest_same l k ls ks e = cc
-
-first_same : (l k : Label) (ls ks : List Label) → l ∷ ls ≡ k ∷ ks → l ≡ k
-first_same l k ls ks e = cc
+use Rattle.step_commit.proofs.CallsNow.{IsPlannedCall, CallsOn, first_same, rest_same}
 
 module _ (c : TableValue) (journal further : List Label) (S : Table) (l : Label) (more : List Label) (reads : List Item) (names : ℕ) (step : Step) (binds : List Var)
     (y : IsPlannedCall c.program c.query journal S l more reads names step (labels_behind step) binds) (t : IsTableOf all_rules (run_of c (journal ++ further)) (table_of c))

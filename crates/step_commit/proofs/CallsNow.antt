@@ -88,8 +88,11 @@ pub planned_call : (c : CoreValue) (p : PlanValue) → IsRightCall p → MayComm
 planned_call c p r m = subst (λ (x : Program). IsPlannedCall x c.table.query p.journal (table_of p.table) p.label p.more p.reads p.names p.step (labels_behind p.step) p.binds) m.program
     (subst (λ (y : Query). IsPlannedCall p.table.program y p.journal (table_of p.table) p.label p.more p.reads p.names p.step (labels_behind p.step) p.binds) m.query (of_plan p r))
 
-first_same : (l k : Label) (ls ks : List Label) → l ∷ ls ≡ k ∷ ks → l ≡ k
+pub first_same : (l k : Label) (ls ks : List Label) → l ∷ ls ≡ k ∷ ks → l ≡ k
 first_same l k ls ks e = cc
+
+pub rest_same : (l k : Label) (ls ks : List Label) → l ∷ ls ≡ k ∷ ks → ls ≡ ks
+rest_same l k ls ks e = cc
 
 module _ (p : Program) (q : Query) (journal further : List Label) (S T : Table) (l : Label) (more : List Label) (reads : List Item) (names : ℕ) (step : Step) (behind : ℕ × ℕ) (binds : List Var) (x : IsPlannedCall p q journal S l more reads names step behind binds)
     (t : IsTableOf all_rules (record { program = p; query = q; journal = journal ++ further }) T) where

@@ -24,9 +24,9 @@ use Rattle.box_tree.specs.Views.{run_of}
 use Rattle.std.specs.Map.{lookup}
 use Rattle.akl_terms.specs.Names.{same_name}
 use Rattle.table_laws.proofs.StoreMarks.{store_marks_start}
+use Rattle.table_laws.proofs.LastChanges.{IsPart}
 use Rattle.box_tree.specs.StoreMarks.{stores_of}
 use Rattle.step_commit.specs.Cores.{CoreValue, IsCore, MayCommit, mark_of_store}
-use Rattle.table_laws.proofs.SeenStamps.{IsPart}
 
 pub some_of : {A : Type 0} {a b : A} → Some a ≡ Some b → a ≡ b
 some_of e = cc

@@ -1,4 +1,3 @@
-pub mod LastChanges
 pub mod StillSolved
 pub mod Committed
 pub mod CallsNow

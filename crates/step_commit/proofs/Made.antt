@@ -38,13 +38,13 @@ use Rattle.step_commit.proofs.Marked.{marked_label}
 use Rattle.step_commit.proofs.InOrder.{makes_ordered}
 use Rattle.table_laws.specs.StoreMarks.{AreStoresMarked}
 use Rattle.reading_laws.specs.Unchanged.{Unchanged}
-use Rattle.akl_model.specs.Changes.{by_binding, Changes}
+use Rattle.akl_model.specs.Changes.{by_binding, Changes, by_store}
 use Rattle.akl_model.specs.declared.item.Item.{Item}
 use Rattle.akl_model.specs.Derivations.{Derives}
 use Rattle.box_tree.proofs.LeadsBy.{stores_kept}
 use Rattle.step_commit.proofs.StoreMarked.{stores_after, early_after}
 use Rattle.step_commit.proofs.StoreLeaves.{store_left}
-use Rattle.step_commit.proofs.LastChanges.{last_within}
+use Rattle.table_laws.proofs.LastChanges.{last_within}
 use Rattle.step_commit.proofs.SeenNow.{seen_now}
 use Rattle.step_commit.proofs.SolvedNow.{solved_now, joined_solved}
 use Rattle.step_commit.proofs.LabelNow.{IsPlannedLabel, planned_label, LeadsNow, label_now}
@@ -52,12 +52,6 @@ use Rattle.constraint_laws.specs.Touched.{IsAmong}
 
 some_none : {A : Type 0} {x : A} → None ≡ Some x → ⊥
 some_none e = cc
-
-first_same : (l k : Label) (ls ks : List Label) → l ∷ ls ≡ k ∷ ks → l ≡ k
-first_same l k ls ks e = cc
-
-rest_same : (l k : Label) (ls ks : List Label) → l ∷ ls ≡ k ∷ ks → ls ≡ ks
-rest_same l k ls ks e = cc
 
 -- Fail stands at a box
 fail_place : (p : Program) (v : Reading) (w n : ℕ) (r : Rule) (place : Place) (a : Option Name) (f : Found) (c : Change) → r ≡ Rule.Fail → change_by p v w n r place a f ≡ Some c → FitsPlace place laws.fails a
@@ -248,11 +242,11 @@ module _ (c : CoreValue) (k : IsCore c) (p : PlanValue) (r : IsRight p) (m : May
         table_then = k.table
 
         then_within : (n : Name) (row : BoxRow) → (table_of c.table).box_of n ≡ Some row → row.changed ≤ c.table.steps
-        then_within n row e = subst (λ (x : ℕ). row.changed ≤ x) (sym table_then.stamped.steps) (last_within all_rules c.table.program c.table.query c.journal (Item.Store n) row.changed (table_then.stamped.store n row e))
+        then_within n row e = subst (λ (x : ℕ). row.changed ≤ x) (sym table_then.stamped.steps) (last_within by_store all_rules c.table.program c.table.query c.journal (Item.Store n) row.changed (table_then.stamped.store n row e))
 
         now_within : (n : Name) (row : BoxRow) → (table_of u).box_of n ≡ Some row → row.changed ≤ u.steps
         now_within n row e = subst (λ (x : ℕ). row.changed ≤ x) (sym next.stamped.steps)
-            (last_within all_rules c.table.program c.table.query ((p.journal ++ m.further) ++ p.label ∷ p.more) (Item.Store n) row.changed (next.stamped.store n row e))
+            (last_within by_store all_rules c.table.program c.table.query ((p.journal ++ m.further) ++ p.label ∷ p.more) (Item.Store n) row.changed (next.stamped.store n row e))
 
         grows : c.table.steps ≤ u.steps
         grows =

@@ -9,9 +9,10 @@ use Rattle.akl_terms.specs.declared.name.Name.{Name}
 use Rattle.table_laws.specs.Rows.{BoxRow, Table}
 use Rattle.table_laws.specs.Stamped.{Run, IsTableOf, AreMarked, stamp_in}
 use Rattle.table_laws.specs.Planned.{Seen}
-use Rattle.table_laws.proofs.SeenStamps.{IsPart, seen_item}
+use Rattle.table_laws.proofs.SeenStamps.{seen_item}
 use Rattle.reading_laws.specs.Seen.{IsSeen}
 use Rattle.table_laws.specs.StoreMarks.{AreStoresMarked}
+use Rattle.table_laws.proofs.LastChanges.{IsPart}
 use Rattle.box_tree.specs.Lefts.{told_in}
 use Rattle.box_tree.specs.StoreMarks.{store_mark}
 use Rattle.box_tree.specs.Tables.{all_rules, TableValue, table_of, stamp_of}

@@ -18,6 +18,7 @@ use Rattle.akl_model.specs.Wakes.{names_around, names_down_to}
 use Rattle.akl_model.proofs.NamesKept.{Stand, box-itself, replay-stands, site-box}
 use Rattle.akl_model.proofs.Options.{some_value}
 use Rattle.akl_model.proofs.Scoped.{IsIn-left}
+use Rattle.akl_model.specs.Changes.{by_store}
 use Rattle.rational_unify.specs.Known.{found_in}
 use Rattle.rational_unify.specs.Older.{LeadOlder}
 use Rattle.rational_unify.specs.Solving.{BindNew}
@@ -50,7 +51,7 @@ use Rattle.box_tree.proofs.Seen.{path_there}
 use Rattle.step_commit.specs.Solving.{solved_over, solved_copies, solved_at}
 use Rattle.step_commit.proofs.Committed.{at_most}
 use Rattle.step_commit.proofs.LabelNow.{IsPlannedLabel, LeadsNow}
-use Rattle.step_commit.proofs.LastChanges.{last_within}
+use Rattle.table_laws.proofs.LastChanges.{last_within}
 use Rattle.step_commit.proofs.StillSolved.{AreOld, still_solved, all_over, down_old}
 
 -- what the tests of a row say
@@ -151,7 +152,7 @@ module _ (p : Program) (q : Query) (journal further : List Label) (S T : Table) 
 
   -- no store was changed behind all labels
   all_seen : labels ≡ seen → (m : Name) (row : BoxRow) → T.box_of m ≡ Some row → row.changed ≤ seen
-  all_seen all m row e = let h : row.changed ≤ labels = last_within all_rules p q (journal ++ further) (Item.Store m) row.changed (t.stamped.store m row e) in omega (arith, h, all)
+  all_seen all m row e = let h : row.changed ≤ labels = last_within by_store all_rules p q (journal ++ further) (Item.Store m) row.changed (t.stamped.store m row e) in omega (arith, h, all)
 
   all_old : labels ≡ seen → AreOld T seen (names_around k)
   all_old all m i =

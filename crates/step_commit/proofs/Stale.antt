@@ -27,8 +27,7 @@ use Rattle.box_tree.specs.Tables.{all_rules, TableValue, table_of, stamp_of}
 use Rattle.box_tree.specs.Views.{run_of}
 use Rattle.box_tree.specs.Plans.{PlanValue, IsRead, IsRight, of_label, of_call}
 use Rattle.step_commit.specs.Cores.{CoreValue, IsCore, run_by, MayCommit, last_of_store, LastIn, IsUnchanged, IsStale, is_within, AllWithin, IsFirstUnseen}
-use Rattle.table_laws.proofs.SeenStamps.{IsPart}
-use Rattle.step_commit.proofs.LastChanges.{last_within, last_change}
+use Rattle.table_laws.proofs.LastChanges.{last_within, last_change, IsPart, changes_or}
 use Rattle.step_commit.proofs.Committed.{table_before, goes, stamp_last, some_of, at_most}
 
 -- a fact that is owed where an option has nothing
@@ -159,7 +158,7 @@ module _ (p : Program) (q : Query) (journal further : List Label) (S T : Table) 
 
   pub changed : (i : Item) → IsPart i → IsSome (stamp_in S i) → (o : Option ℕ) → stamp_in T i ≡ o → is_within o (length journal) ≡ false → Changed i o
   changed i part s (Some k) e w = record { number = k; last = stamp_last all_rules run T t.stamped i k part e; unseen = above k (length journal) w; as_kept = λ m j. sym (some_of j) }
-  changed i part s None e w = of_last (last_change all_rules p q i part (journal ++ further) t.config t.replays)
+  changed i part s None e w = of_last (last_change by_store all_rules p q i (λ c d. changes_or c d i part) (journal ++ further) t.config t.replays)
     where
       of_last : (m : ℕ) × LastChange all_rules (record { program = p; query = q; journal = journal ++ further }) i m → Changed i None
       of_last z = elim (lt_or (length journal) z.0) [
@@ -181,7 +180,7 @@ module _ (c : CoreValue) (k : IsCore c) where
   mark_within m row e = on (lookup (same_name m) (stores_of c.table.marks)) refl
     where
       changed : row.changed ≤ length c.journal
-      changed = last_within all_rules c.table.program c.table.query c.journal (Item.Store m) row.changed (k.table.stamped.store m row e)
+      changed = last_within by_store all_rules c.table.program c.table.query c.journal (Item.Store m) row.changed (k.table.stamped.store m row e)
 
       on : (o : Option StoreMark) → lookup (same_name m) (stores_of c.table.marks) ≡ o → mark_found row.changed o ≤ length c.journal
       on None i = changed
@@ -196,11 +195,11 @@ module _ (c : CoreValue) (k : IsCore c) where
   last_in (Item.Store m) n y = of_store ((table_of c.table).box_of m) refl y
     where
       of_store : (o : Option BoxRow) → (table_of c.table).box_of m ≡ o → last_of_store c m o n → n ≤ length c.journal
-      of_store None e z = last_within all_rules c.table.program c.table.query c.journal (Item.Store m) n z
+      of_store None e z = last_within by_store all_rules c.table.program c.table.query c.journal (Item.Store m) n z
       of_store (Some row) e z = subst (λ (x : ℕ). x ≤ length c.journal) z (mark_within m row e)
-  last_in Item.Roots n y = last_within all_rules c.table.program c.table.query c.journal Item.Roots n y
-  last_in (Item.Goals m) n y = last_within all_rules c.table.program c.table.query c.journal (Item.Goals m) n y
-  last_in (Item.Goal g) n y = last_within all_rules c.table.program c.table.query c.journal (Item.Goal g) n y
+  last_in Item.Roots n y = last_within by_store all_rules c.table.program c.table.query c.journal Item.Roots n y
+  last_in (Item.Goals m) n y = last_within by_store all_rules c.table.program c.table.query c.journal (Item.Goals m) n y
+  last_in (Item.Goal g) n y = last_within by_store all_rules c.table.program c.table.query c.journal (Item.Goal g) n y
 
 -- what was looked at over a front of a core's journal, with the items that were read, each there
 pub record IsLooked (c : CoreValue) (table : TableValue) (journal : List Label) (reads : List Item) : Type 0 where
@@ -254,7 +253,7 @@ module _ (c : CoreValue) (k : IsCore c) (table : TableValue) (journal : List Lab
       let z : Changed c.table.program c.table.query journal x.further (table_of table) (table_of c.table) x.before now i o =
       changed c.table.program c.table.query journal x.further (table_of table) (table_of c.table) x.before now i part (x.there i j) o e w in
       let last : LastChange all_rules (run_by c) i z.number = last_there i z.number z.last in
-      (z.number, last, last_within all_rules c.table.program c.table.query c.journal i z.number last, z.unseen, z.as_kept)
+      (z.number, last, last_within by_store all_rules c.table.program c.table.query c.journal i z.number last, z.unseen, z.as_kept)
 
   store_was : (m : Name) → IsRead reads (Item.Store m) → (r : Option BoxRow) → (table_of c.table).box_of m ≡ r → (o : Option ℕ) → option_map (λ (x : BoxRow). store_mark c.table.marks m x.changed) r ≡ o
       → is_within o (length journal) ≡ false → WasChanged (Item.Store m) o

@@ -16,14 +16,13 @@ use Rattle.akl_model.proofs.Options.{some_value}
 use Rattle.rational_unify.proofs.FormLaws.{form-consistent}
 use Rattle.local_store.specs.Parts.{with_part, all_ports}
 use Rattle.akl_terms.specs.declared.term.Node.{Node}
-use Rattle.akl_terms.specs.Names.{same_name}
 use Rattle.local_store.specs.Chained.{bindings_from, ToldBy, IsSolvedChain}
 use Rattle.local_store.specs.declared.part.Part.{Part}
 use Rattle.step_laws.proofs.Holders.{unheld_around}
 use Rattle.table_laws.specs.Rows.{BoxRow, Table, store_in, stores_along, ports_in}
 use Rattle.table_laws.specs.Stamped.{Run, IsTableOf}
 use Rattle.table_laws.specs.Unfolds.{UnchangedSince, IsBoxRow}
-use Rattle.table_laws.specs.Writes.{home_in, changed_box, unset, solved_when}
+use Rattle.table_laws.specs.Writes.{home_in, changed_box, solved_when}
 use Rattle.table_laws.specs.Walks.{alternatives_of}
 use Rattle.table_laws.specs.Calls.{called_row}
 use Rattle.akl_terms.specs.declared.program.Goal.{Goal}
@@ -32,7 +31,8 @@ use Rattle.box_tree.specs.declared.step.Step.{Step}
 use Rattle.box_tree.specs.Applied.{KeepsMark}
 use Rattle.box_tree.specs.Lefts.{is_portless, leaves_store}
 use Rattle.box_tree.specs.Tables.{all_rules, TableValue, table_of, store_at, LeadsBy, goal_atom}
-use Rattle.box_tree.proofs.ToldChains.{told_stands}
+use Rattle.table_laws.proofs.StoreChains.{told_stands}
+use Rattle.table_laws.proofs.KeptStores.{still_there}
 
 -- a root box that is solved is consistent
 module _ (r : Run) (T : Table) (t : IsTableOf all_rules r T) (n : Name) (row : BoxRow) (there : T.box_of n ≡ Some row) (root : row.holder ≡ None) (at : ℕ) (solved : row.solved_at ≡ Some at) where
@@ -60,15 +60,6 @@ portless part e = on part.ports.items e
     on [] e = refl
     on (q ∷ qs) e = absurd (let z : false ≡ true = e in cc)
 
--- a row that is there where others go
-unset_some : (gone : List Name) (at : Name → Option BoxRow) (n : Name) (row : BoxRow) → unset gone at n ≡ Some row → at n ≡ Some row
-unset_some [] at n row e = e
-unset_some (m ∷ gone) at n row e = on (same_name n m) e (unset_some gone at n row)
-  where
-    on : (b : Bool) → (if b then None else unset gone at n) ≡ Some row → (unset gone at n ≡ Some row → at n ≡ Some row) → at n ≡ Some row
-    on true i rest = absurd (let z : None ≡ Some row = i in cc)
-    on false i rest = rest i
-
 changed_some : (change : BoxRow → BoxRow) (at : Name → Option BoxRow) (n : Name) (old row : BoxRow) → at n ≡ Some old → changed_box (Some n) change at n ≡ Some row → row ≡ change old
 changed_some change at n old row i e = some_value (sym e ∙ ap (λ (b : Bool). if b then option_map change (at n) else at n) (same_name-refl n) ∙ ap (option_map change) i)
 
@@ -84,7 +75,7 @@ module _ (t u : TableValue) (l : Label) (others : ℕ) (at : Option ℕ) (names 
   ports_by : (step : Step) → leaves_store step ≡ true → LeadsBy t (record l { place = Place.Goal g }) others at names step (table_of u) → row.store.ports ≡ old.store.ports
   ports_by (Step.Tell part solved) e x = ap (λ (r : BoxRow). r.store.ports) (by_row _ (sym (x.boxes n) ∙ now)) ∙ own_ports part e
   ports_by (Step.Join part solved goals told behind) e x = ap (λ (r : BoxRow). r.store.ports)
-      (by_row (called_row g (with_part (store_at (table_of t) (Place.Goal g)) part) (solved_when at solved) (map (λ (y : Name × Goal). (y.0, goal_atom t.program.templates.nodes y.1)) goals.items) (x.promoted + told) (x.promoted + behind)) (unset_some (alternatives_of ((table_of t).goal_of g)) (changed_box (home_in ((table_of t).goal_of g)) (called_row g (with_part (store_at (table_of t) (Place.Goal g)) part) (solved_when at solved) (map (λ (y : Name × Goal). (y.0, goal_atom t.program.templates.nodes y.1)) goals.items) (x.promoted + told) (x.promoted + behind)) (table_of t).box_of) n row (sym (x.table.boxes n) ∙ now))) ∙ own_ports part e
+      (by_row (called_row g (with_part (store_at (table_of t) (Place.Goal g)) part) (solved_when at solved) (map (λ (y : Name × Goal). (y.0, goal_atom t.program.templates.nodes y.1)) goals.items) (x.promoted + told) (x.promoted + behind)) (still_there (alternatives_of ((table_of t).goal_of g)) (changed_box (home_in ((table_of t).goal_of g)) (called_row g (with_part (store_at (table_of t) (Place.Goal g)) part) (solved_when at solved) (map (λ (y : Name × Goal). (y.0, goal_atom t.program.templates.nodes y.1)) goals.items) (x.promoted + told) (x.promoted + behind)) (table_of t).box_of) n row (sym (x.table.boxes n) ∙ now))) ∙ own_ports part e
   ports_by (Step.Fork op alternatives) e x = absurd (let z : false ≡ true = e in cc)
   ports_by Step.Fail e x = absurd (let z : false ≡ true = e in cc)
   ports_by Step.Cut e x = absurd (let z : false ≡ true = e in cc)

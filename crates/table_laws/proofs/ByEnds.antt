@@ -12,7 +12,6 @@ use Rattle.akl_terms.specs.Equal.{Equations, IsTold, Equal, turned, IsStructured
 use Rattle.akl_terms.specs.Solved.{walk, follow}
 use Rattle.akl_terms.specs.Standing.{StandFor}
 use Rattle.akl_terms.specs.Template.{tree}
-use Rattle.akl_terms.proofs.EqualLaws.{IsTold-left, IsTold-right, IsTold-either}
 use Rattle.akl_terms.proofs.SameNames.{same_var-equal}
 use Rattle.akl_terms.proofs.StandingLaws.{StandFor-back}
 use Rattle.constraint_laws.specs.Growth.{IsOver, TellsOver}
@@ -42,7 +41,7 @@ use Rattle.rational_unify.proofs.Chains.{found-first, found-second}
 use Rattle.rational_unify.proofs.FormLaws.{form-follows, form-consistent}
 use Rattle.local_store.specs.Stored.{Stored}
 use Rattle.local_store.specs.Chained.{bindings_from, ToldBy, IsSolvedChain}
-use Rattle.local_store.proofs.Layers.{form-as, bindings-either, bindings-left, bindings-right}
+use Rattle.local_store.proofs.Layers.{form-as}
 use Rattle.local_store.proofs.FormEnds.{end-free, unheaded, has_head, end_unbound, unstructured, structured, equal_to_end, unbound_oldest}
 use Rattle.reading_laws.specs.Closed.{AreClosed, by_term, by_itself}
 use Rattle.reading_laws.specs.Unchanged.{path_to, StandAlong, ClosedAlong, AllOver, AreEnough}
@@ -55,22 +54,7 @@ use Rattle.table_laws.specs.Unfolds.{IsBoxRow}
 use Rattle.table_laws.proofs.Frame.{row_of}
 use Rattle.table_laws.proofs.Stores.{told_along, told_join, told_last}
 use Rattle.table_laws.specs.ByEnds.{LeadOver, own_told, Gathers, EndsAt}
-
--- chains list the bindings of inner stores first, tables those of outer ones
-
-from_told : (nodes : List Node) (ss : List Stored) (s t : Tree) → ToldBy nodes ss s t → IsTold (told_in nodes ss) s t
-from_told nodes [] s t h = h
-from_told nodes (x ∷ ss) s t h = elim (bindings-either nodes (bindings_from ss) x.bindings s t h) [
-  | inl y ↦ IsTold-right (bindings_in nodes x.bindings) (told_in nodes ss) s t (from_told nodes ss s t y)
-  | inr y ↦ IsTold-left (bindings_in nodes x.bindings) (told_in nodes ss) s t y
-]
-
-to_told : (nodes : List Node) (ss : List Stored) (s t : Tree) → IsTold (told_in nodes ss) s t → ToldBy nodes ss s t
-to_told nodes [] s t h = h
-to_told nodes (x ∷ ss) s t h = elim (IsTold-either (bindings_in nodes x.bindings) (told_in nodes ss) s t h) [
-  | inl y ↦ bindings-right nodes (bindings_from ss) x.bindings s t y
-  | inr y ↦ bindings-left nodes (bindings_from ss) x.bindings s t (to_told nodes ss s t y)
-]
+use Rattle.table_laws.proofs.StoreChains.{from_told, to_told}
 
 -- what is found is told
 found_told : (nodes : List Node) (bs : List (Var × Term)) (x : Var) (t : Term) → known.found_in bs x ≡ Some t → IsTold (bindings_in nodes bs) (variable x) (tree nodes t)

@@ -50,7 +50,8 @@ use Rattle.table_laws.proofs.StepMakes.{step_law}
 use Rattle.table_laws.specs.Calls.{StandOver, promoted_at, after_call}
 use Rattle.table_laws.proofs.AfterCall.{joined_table}
 use Rattle.table_laws.proofs.MiddleRows.{IsStoreOf, last_row, middle_table, unchanged, stores_around, middle_unfolds}
-use Rattle.table_laws.proofs.StampsBetween.{each_stamped, IsElsewhere, apart_itself, apart_between, unchanged_between, stamps_along, replays_along}
+use Rattle.table_laws.proofs.StampsBetween.{IsElsewhere, apart_itself, apart_between, unchanged_between, stamps_along, replays_along}
+use Rattle.table_laws.proofs.LastChanges.{changes_or, last_change}
 
 module _ (rules : List Rule) (force : AreInForce rules) (r : Run) (T : Table) (t : IsTableOf rules r T) (w : ℕ) (g : Name) (f : Found) (is_home : home_of g t.config.roots ≡ Some f) (x : IsAtOnce r.program t.config w g f) where
   abbrev s : Stand t.config
@@ -94,13 +95,13 @@ module _ (rules : List Rule) (force : AreInForce rules) (r : Run) (T : Table) (t
       (unchanged_between k t.config (between k first) (apart_itself k) (apart_between k first (forked_stand rules force r.program t.config s w g f is_home x) first_names) item h) y)
 
   store_stamp : (m : ℕ) × IsLastChange by_store rules r.program r.query ((r.journal ++ fork ∷ []) ++ others) (Item.Store x.last.name) m
-  store_stamp = each_stamped rules r.program r.query ((r.journal ++ fork ∷ []) ++ others) (between k last) early_replays (Item.Store x.last.name) tt
+  store_stamp = last_change by_store rules r.program r.query (Item.Store x.last.name) (λ c d. changes_or c d (Item.Store x.last.name) tt) ((r.journal ++ fork ∷ []) ++ others) (between k last) early_replays
 
   goals_stamp : (m : ℕ) × IsLastChange by_store rules r.program r.query ((r.journal ++ fork ∷ []) ++ others) (Item.Goals x.last.name) m
-  goals_stamp = each_stamped rules r.program r.query ((r.journal ++ fork ∷ []) ++ others) (between k last) early_replays (Item.Goals x.last.name) tt
+  goals_stamp = last_change by_store rules r.program r.query (Item.Goals x.last.name) (λ c d. changes_or c d (Item.Goals x.last.name) tt) ((r.journal ++ fork ∷ []) ++ others) (between k last) early_replays
 
   goal_stamp : (m : ℕ) × IsLastChange by_store rules r.program r.query ((r.journal ++ fork ∷ []) ++ others) (Item.Goal g) m
-  goal_stamp = each_stamped rules r.program r.query ((r.journal ++ fork ∷ []) ++ others) (between k last) early_replays (Item.Goal g) tt
+  goal_stamp = last_change by_store rules r.program r.query (Item.Goal g) (λ c d. changes_or c d (Item.Goal g) tt) ((r.journal ++ fork ∷ []) ++ others) (between k last) early_replays
 
   last_stands : Stand (between k last)
   last_stands = last_stand rules force r.program t.config s w g f is_home x ⊥ (λ q. absurd q)

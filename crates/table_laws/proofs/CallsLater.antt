@@ -37,8 +37,9 @@ use Rattle.table_laws.specs.Added.{Added, with_added}
 use Rattle.table_laws.specs.Calling.{CallsBy}
 use Rattle.table_laws.specs.Planned.{GoesOnTo, Seen, store_of}
 use Rattle.table_laws.proofs.Here.{from_part}
-use Rattle.table_laws.proofs.PartsLater.{on, rest_same}
+use Rattle.table_laws.proofs.PartsLater.{on}
 use Rattle.table_laws.proofs.SamePorts.{ports_stay}
+use Rattle.table_laws.proofs.Parts.{rest_same}
 
 -- the number of the last label of a body that tells an equation is known by which labels do
 last_of : List Bool → ℕ → ℕ → ℕ

@@ -47,7 +47,7 @@ use Rattle.table_laws.specs.Copying.{IsCopied, IsNameCopied, AreNamesCopied, swa
 use Rattle.table_laws.specs.Laws.{CopiesLaw}
 use Rattle.table_laws.proofs.Sets.{not_some}
 use Rattle.table_laws.proofs.Stores.{told_along, told_last}
-use Rattle.table_laws.proofs.Frame.{row_of, are_both, are_neither, equations_join, around_stands}
+use Rattle.table_laws.proofs.Frame.{row_of, are_both, are_neither, around_stands}
 use Rattle.table_laws.proofs.Gone.{goals_once}
 use Rattle.table_laws.proofs.Insides.{goal_row, inside, IsUnder}
 use Rattle.table_laws.proofs.Insides as insides
@@ -60,6 +60,7 @@ use Rattle.table_laws.proofs.RestBoxes.{others_names, less_among, EachGoal, each
 use Rattle.table_laws.proofs.RestBoxes as rests
 use Rattle.table_laws.proofs.Splitting.{split_choice}
 use Rattle.table_laws.proofs.Splitting as splitting
+use Rattle.plan_laws.proofs.Moves.{equations-append}
 
 scoped_right : (s : Scope) (E F : Equations) → EquationsScoped s (E ++ F) → EquationsScoped s F
 scoped_right s [] F h = h
@@ -206,7 +207,7 @@ module _ (rules : List Rule) (r : Run) (T : Table) (t : IsTableOf rules r T) (wo
     own_alike i h = alike i (let z : times i (only x.whole_box) + times_path i x.whole_box.around ≤ times i t.config.roots = found_path i e.content.name t.config.roots x.whole_box x.is_found in omega (arith, h, z))
 
     environment_is : environment x.whole_box ≡ environment site ++ environment e
-    environment_is = ap equations_of x.path ∙ equations_join site.around e.around
+    environment_is = ap equations_of x.path ∙ equations-append site.around e.around
 
     around_same : map (renamed_equation to) (environment e) ≡ map (renamed_equation swap) (environment e)
     around_same = equations_alike to swap (scope_along nowhere x.whole_box.around) (λ i h. path_alike i (frames_stand i x.whole_box.around h)) (λ i h. path_alike i (ports_stand i x.whole_box.around h)) (environment e)

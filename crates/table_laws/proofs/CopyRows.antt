@@ -21,9 +21,10 @@ use Rattle.table_laws.specs.Unfolds.{StaysSolved, IsBoxRow}
 use Rattle.table_laws.specs.Steps.{BoxCopy, copy_among, IsCopy, AreCopies, AreAround, outermost, further}
 use Rattle.table_laws.specs.Writes.{copied_row}
 use Rattle.table_laws.proofs.Stores.{told_along, told_last, stores_join}
-use Rattle.table_laws.proofs.Frame.{names_join, equations_join}
+use Rattle.table_laws.proofs.Frame.{names_join}
 use Rattle.table_laws.proofs.Insides.{named_counted}
 use Rattle.table_laws.proofs.Copies.{goals_copied, found_among, copy_of, goals_are}
+use Rattle.plan_laws.proofs.Moves.{equations-append}
 
 abbrev names_in : List Content → List Name
 names_in A = map (λ (b : Content). b.name) A
@@ -114,7 +115,7 @@ module _ (nodes : List Node) (A : List Content) (bs : Boxes) (once : (m : Name) 
   names_under f = ap (λ (ns : List Name). ns ++ f.content.name ∷ []) (names_join A f.around) ∙ append_assoc (names_in A) (names_around f) (f.content.name ∷ [])
 
   equations_under : (f : Found) → whole (under f) ≡ equations_of A ++ whole f
-  equations_under f = ap (λ (E : Equations). E ++ f.content.equations) (equations_join A f.around) ∙ append_assoc (equations_of A) (environment f) f.content.equations
+  equations_under f = ap (λ (E : Equations). E ++ f.content.equations) (equations-append A f.around) ∙ append_assoc (equations_of A) (environment f) f.content.equations
 
   pub stores_under : (f : Found) (k : BoxCopy) (x : IsPath f) → copy_among copies f.content.name ≡ Some k
       → stores_along U (names_down_to (under f)) ≡ stores_along U (names_in A) ++ (x.stores ++ k.store ∷ [])

@@ -16,8 +16,8 @@ use Rattle.akl_model.proofs.Finds.{times_inside}
 use Rattle.akl_model.proofs.Options.{some_value}
 use Rattle.table_laws.specs.Steps.{ReducesAtom}
 use Rattle.table_laws.proofs.Reducing.{reduced, held_reduced}
-use Rattle.table_laws.proofs.PartsLater.{rest_same}
 use Rattle.table_laws.proofs.PartsTold.{eval_later}
+use Rattle.table_laws.proofs.Parts.{rest_same}
 
 -- the same outcome where no equation is told
 module _ (g : Name) (f k : Found) (a : Atom) (once : (i : Name) → times_inside i f.goals ≤ 1) (was : held_in g f.goals ≡ Some (an_atom a)) where

@@ -38,6 +38,7 @@ use Rattle.table_laws.specs.Unfolds.{FailsBy, UnchangedSince, StaysSolved, IsBox
 use Rattle.table_laws.proofs.Sets.{other_by}
 use Rattle.table_laws.proofs.Stores.{told_along, told_parts, told_last, IsAsTold, same_stores, unchanged_before, unchanged_at, grown}
 use Rattle.table_laws.proofs.Along.{holder_stays, IsUnder, along, named_path, site_apart, around_there}
+use Rattle.plan_laws.proofs.Moves.{equations-append}
 
 -- what is under a name in both
 
@@ -76,10 +77,6 @@ pub names_join : (A B : List Content) → map (λ (b : Content). b.name) (A ++ B
 names_join [] B = refl
 names_join (x ∷ A) B = ap (λ (ns : List Name). x.name ∷ ns) (names_join A B)
 
-pub equations_join : (A B : List Content) → equations_of (A ++ B) ≡ equations_of A ++ equations_of B
-equations_join [] B = refl
-equations_join (x ∷ A) B = ap (λ (E : Equations). x.equations ++ E) (equations_join A B) ∙ sym (append_assoc x.equations (equations_of A) (equations_of B))
-
 pub names_split : (f : Found) (A : List Content) (b : Content) (rest : List Content) → f.around ≡ A ++ b ∷ rest
     → names_down_to f ≡ map (λ (k : Content). k.name) A ++ b.name ∷ (map (λ (k : Content). k.name) rest ++ f.content.name ∷ [])
 names_split f A b rest e = ap (λ (r : List Content). map (λ (k : Content). k.name) r ++ f.content.name ∷ []) e ∙ ap (λ (ns : List Name). ns ++ f.content.name ∷ []) (names_join A (b ∷ rest))
@@ -87,7 +84,7 @@ names_split f A b rest e = ap (λ (r : List Content). map (λ (k : Content). k.n
 
 equations_split : (f : Found) (A : List Content) (b : Content) (rest : List Content) → f.around ≡ A ++ b ∷ rest
     → whole f ≡ equations_of A ++ (b.equations ++ (equations_of rest ++ f.content.equations))
-equations_split f A b rest e = ap (λ (r : List Content). equations_of r ++ f.content.equations) e ∙ ap (λ (E : Equations). E ++ f.content.equations) (equations_join A (b ∷ rest))
+equations_split f A b rest e = ap (λ (r : List Content). equations_of r ++ f.content.equations) e ∙ ap (λ (E : Equations). E ++ f.content.equations) (equations-append A (b ∷ rest))
     ∙ append_assoc (equations_of A) (b.equations ++ equations_of rest) f.content.equations ∙ ap (λ (E : Equations). equations_of A ++ E) (append_assoc b.equations (equations_of rest) f.content.equations)
 
 once_among : (A : List Content) (b : Content) (rest : List Content) → times_path b.name (A ++ b ∷ rest) ≤ 1 → IsIn b.name (map (λ (k : Content). k.name) rest) → ⊥

@@ -32,9 +32,9 @@ use Rattle.table_laws.specs.Added.{Added, with_added, NamesTold}
 use Rattle.table_laws.specs.Joining.{JoinsBy}
 use Rattle.table_laws.specs.Planned.{store_of}
 use Rattle.table_laws.specs.Telling.{IsToldFor, TellsBy}
-use Rattle.table_laws.proofs.PartsLater.{rest_same}
 use Rattle.table_laws.proofs.PortLists.{put_same}
 use Rattle.table_laws.proofs.PartsTold.{told_some}
+use Rattle.table_laws.proofs.Parts.{rest_same}
 
 module _ (rules : List Rule) (run : Run) (S : Table) (s : IsTableOf rules run S) (f : Found) (is : box_at f.content.name s.config.roots ≡ Some f) where
   abbrev p : Program

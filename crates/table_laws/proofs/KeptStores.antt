@@ -53,7 +53,7 @@ by_either P None was row f g e = g e
 by_either P (Some r) was row f g e = f e
 
 -- a row that stays where boxes go was there
-still_there : (names : List Name) (at : Name → Option BoxRow) (m : Name) (row : BoxRow) → unset names at m ≡ Some row → at m ≡ Some row
+pub still_there : (names : List Name) (at : Name → Option BoxRow) (m : Name) (row : BoxRow) → unset names at m ≡ Some row → at m ≡ Some row
 still_there [] at m row e = e
 still_there (n ∷ ns) at m row e = on (same_name m n) e (still_there ns at m row)
   where

@@ -57,6 +57,7 @@ pub mod OwnStores
 pub mod Parts
 pub mod MiddleBoxes
 pub mod MiddleRows
+pub mod LastChanges
 pub mod StampsBetween
 pub mod AfterCall
 pub mod CallJoined
@@ -83,6 +84,7 @@ pub mod SeenStamps
 pub mod StoreMarks
 pub mod PartsJoined
 pub mod SiteStores
+pub mod StoreChains
 pub mod ByEnds
 pub mod CallStores
 pub mod CallsHere

@@ -21,7 +21,7 @@ use Rattle.table_laws.specs.Parts.{tells_one, TellsOne}
 tails : {x y : Equation} {xs ys : Equations} → x ∷ xs ≡ y ∷ ys → xs ≡ ys
 tails q = cc
 
-rest_same : (A B C : Equations) → A ++ B ≡ A ++ C → B ≡ C
+pub rest_same : (A B C : Equations) → A ++ B ≡ A ++ C → B ≡ C
 rest_same [] B C q = q
 rest_same (x ∷ A) B C q = rest_same A B C (tails q)
 

@@ -1,5 +1,5 @@
 -- A label that is right later still, in the later table.
-use Rattle.std.proofs.Common.{◌≡◌, List, [], ◌∷◌, ◌++◌, Some, refl, sym, ◌∙◌, ap, subst}
+use Rattle.std.proofs.Common.{◌≡◌, List, ◌++◌, Some, refl, sym, ◌∙◌, ap, subst}
 use Rattle.std.specs.Prelude.{◌↔◌, slice_index}
 use Rattle.akl_terms.specs.declared.name.Name.{Name}
 use Rattle.akl_terms.specs.declared.name.Var.{Var}
@@ -7,7 +7,7 @@ use Rattle.akl_terms.specs.declared.name.Place.{Place}
 use Rattle.akl_terms.specs.declared.term.Node.{Node}
 use Rattle.akl_terms.specs.declared.program.Program.{Program}
 use Rattle.akl_terms.specs.declared.program.Query.{Query}
-use Rattle.akl_terms.specs.Equal.{Equation, Equations, IsTold, IsConsistent, Follows, told}
+use Rattle.akl_terms.specs.Equal.{Equations, IsTold, IsConsistent, Follows, told}
 use Rattle.akl_terms.specs.Standing.{StandFor}
 use Rattle.akl_model.specs.declared.item.Item.{Item}
 use Rattle.akl_model.specs.declared.label.Rule.{Rule}
@@ -44,13 +44,7 @@ use Rattle.table_laws.proofs.StillJoins.{all_stands}
 use Rattle.table_laws.specs.Added.{Added, with_added, NamesTold}
 use Rattle.table_laws.specs.Planned.{GoesOnTo, Seen, LeadsOn, store_of}
 use Rattle.table_laws.proofs.SamePorts.{ports_stay}
-
-tails : {x y : Equation} {xs ys : Equations} → x ∷ xs ≡ y ∷ ys → xs ≡ ys
-tails q = cc
-
-pub rest_same : (A B C : Equations) → A ++ B ≡ A ++ C → B ≡ C
-rest_same [] B C q = q
-rest_same (x ∷ A) B C q = rest_same A B C (tails q)
+use Rattle.table_laws.proofs.Parts.{rest_same}
 
 module _ (rules : List Rule) (p : Program) (q : Query) (journal further : List Label) (c : Config) (l : Label) (T : Table) (y : GoesOnTo rules p q journal further c l T) where
   abbrev pub d : Config

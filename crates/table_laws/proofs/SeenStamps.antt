@@ -1,6 +1,6 @@
 -- What was last changed, as stores count with each equation, is seen where bindings are told apart.
-use Rattle.std.proofs.Common.{◌≡◌, ℕ, ◌+◌, ◌≤◌, List, [], ◌∷◌, ◌++◌, length, Option, Some, None, true, false, Bool, refl, sym, ◌∙◌, ap, subst, ◌⊎◌, inl, inr, append_assoc, append-nil, arith}
-use Rattle.std.specs.Prelude.{option_map, nat_lt, ⊤}
+use Rattle.std.proofs.Common.{◌≡◌, ℕ, ◌≤◌, List, [], Option, Some, None, true, false, Bool, refl, sym, ◌∙◌, ap, subst, ◌⊎◌, inl, inr, arith}
+use Rattle.std.specs.Prelude.{option_map, nat_lt}
 use Rattle.std.proofs.lemmas.Bool.Decides.{nat_tests}
 use Rattle.akl_terms.specs.declared.name.Name.{Name}
 use Rattle.akl_terms.specs.declared.program.Program.{Program}
@@ -14,17 +14,11 @@ use Rattle.akl_model.specs.declared.label.Rule.{Rule}
 use Rattle.akl_model.specs.declared.label.Label.{Label}
 use Rattle.akl_model.specs.Config.{Config, Found, Port, whole, box_at}
 use Rattle.akl_model.specs.Changes.{Constraint, constraint_of, ports_at, by_store, by_binding, Clashes, Changes, ChangedAt, IsLastChange}
-use Rattle.akl_model.specs.Derivations.{Derives, Replays}
-use Rattle.akl_model.specs.Instances.{start}
+use Rattle.akl_model.specs.Derivations.{Replays}
 use Rattle.akl_model.proofs.Options.{some_value}
 use Rattle.step_laws.proofs.Decide.{option_or, constraint_or}
-use Rattle.plan_laws.proofs.StampLaws.{first_stamp, new_stamp, old_stamp}
-use Rattle.plan_laws.proofs.Replayed.{replay_further}
 use Rattle.reading_laws.specs.Seen.{IsSeen}
-
-other_or : {A : Type 0} → Either A → Either (A → ⊥)
-other_or (inl e) = inr (λ h. h e)
-other_or (inr n) = inl n
+use Rattle.table_laws.proofs.LastChanges.{IsPart, last_change, changed_alike, last_alike}
 
 -- a box's constraint of these parts alone
 abbrev ports_alone : List Port → Constraint
@@ -73,69 +67,31 @@ store_coarse c d n (inr z) e =
     z.adds.more (ap (λ (k : Constraint). k.equations) (sym (some_value k)))
 
 module _ (rules : List Rule) (p : Program) (q : Query) (n : Name) where
-  last_along : (journal : List Label) (c : Config) (ls : List Label) (d : Config) → Replays rules p q journal c → Derives rules p c ls d → (m : ℕ) → IsLastChange by_binding rules p q journal (Item.Store n) m
-      → (m : ℕ) × IsLastChange by_binding rules p q (journal ++ ls) (Item.Store n) m
-  last_along journal c [] d r w m x = (m, subst (λ (js : List Label). IsLastChange by_binding rules p q js (Item.Store n) m) (sym (append-nil journal)) x)
-  last_along journal c (l ∷ ls) d r w m x = again (elim (store_or c w.0 n) [
-    | inl h ↦ last_along (journal ++ l ∷ []) w.0 ls d (replay_further rules p q journal c l w.0 r w.1) w.2 (length journal + 1) (new_stamp by_binding rules p q journal c l w.0 (Item.Store n) r w.1 h)
-    | inr h ↦ last_along (journal ++ l ∷ []) w.0 ls d (replay_further rules p q journal c l w.0 r w.1) w.2 m (old_stamp by_binding rules p q journal c l w.0 (Item.Store n) m r w.1 h x)
-  ])
-    where
-      again : (m : ℕ) × IsLastChange by_binding rules p q ((journal ++ l ∷ []) ++ ls) (Item.Store n) m → (m : ℕ) × IsLastChange by_binding rules p q (journal ++ l ∷ ls) (Item.Store n) m
-      again z = (z.0, subst (λ (js : List Label). IsLastChange by_binding rules p q js (Item.Store n) z.0) (append_assoc journal (l ∷ []) ls) z.1)
-
   -- a box's store has a last change
   pub last_of_store : (journal : List Label) (c : Config) → Replays rules p q journal c → (m : ℕ) × IsLastChange by_binding rules p q journal (Item.Store n) m
-  last_of_store journal c r = last_along [] (start p q) journal c (record { derives = refl }) r.derives 0 (first_stamp by_binding rules p q (Item.Store n))
+  last_of_store = last_change by_binding rules p q (Item.Store n) (λ c d. store_or c d n)
 
   -- no later than the last by which anything was added to it
+  pub no_later : (journal : List Label) (seen k m : ℕ) → IsLastChange by_store rules p q journal (Item.Store n) k → k ≤ seen → IsLastChange by_binding rules p q journal (Item.Store n) m → m ≤ seen
+  no_later journal seen k m x early y = elim y.changed [
+    | inl e ↦ omega (arith, e)
+    | inr w ↦ on (nat_lt k m) refl w
+  ]
+    where
+      on : (b : Bool) → nat_lt k m ≡ b → ChangedAt by_binding rules p q journal (Item.Store n) m → m ≤ seen
+      on true h w = absurd (x.none_later m (grind (arith, nat_tests, h)) (changed_alike by_binding by_store rules p q journal (Item.Store n) (λ c d. store_coarse c d n) m w))
+      on false h w = let i : m ≤ k = grind (arith, nat_tests, h) in omega (arith, i, early)
+
   pub seen_store : (journal : List Label) (c : Config) → Replays rules p q journal c → (seen k : ℕ) → IsLastChange by_store rules p q journal (Item.Store n) k → k ≤ seen → IsSeen rules p q journal seen (Item.Store n)
   seen_store journal c r seen k x early =
       let z : (m : ℕ) × IsLastChange by_binding rules p q journal (Item.Store n) m = last_of_store journal c r in
-      record { number = z.0; last = z.1; early = before z.0 z.1 }
-    where
-      before : (m : ℕ) → IsLastChange by_binding rules p q journal (Item.Store n) m → m ≤ seen
-      before m y = elim y.changed [
-        | inl e ↦ omega (arith, e)
-        | inr w ↦ on (nat_lt k m) refl w
-      ]
-        where
-          on : (b : Bool) → nat_lt k m ≡ b → ChangedAt by_binding rules p q journal (Item.Store n) m → m ≤ seen
-          on true h w = absurd (x.none_later m (grind (arith, nat_tests, h)) (record {
-            earlier = w.earlier;
-            label = w.label;
-            later = w.later;
-            is_journal = w.is_journal;
-            is_number = w.is_number;
-            before = w.before;
-            afterwards = w.afterwards;
-            derived = w.derived;
-            applies = w.applies;
-            changes = store_coarse w.before w.afterwards n w.changes;
-          }))
-          on false h w = let i : m ≤ k = grind (arith, nat_tests, h) in omega (arith, i, early)
+      record { number = z.0; last = z.1; early = no_later journal seen k z.0 x early z.1 }
 
--- items other than stores and bindings change alike in both details
-module _ (rules : List Rule) (p : Program) (q : Query) (journal : List Label) (item : Item) (alike : (c d : Config) → Changes by_binding c d item → Changes by_store c d item) (back : (c d : Config) → Changes by_store c d item → Changes by_binding c d item) where
-  coarse : {k : ℕ} → ChangedAt by_binding rules p q journal item k → ChangedAt by_store rules p q journal item k
-  coarse z = record { earlier = z.earlier; label = z.label; later = z.later; is_journal = z.is_journal; is_number = z.is_number; before = z.before; afterwards = z.afterwards; derived = z.derived; applies = z.applies; changes = alike z.before z.afterwards z.changes }
-
-  fine : {k : ℕ} → ChangedAt by_store rules p q journal item k → ChangedAt by_binding rules p q journal item k
-  fine z = record { earlier = z.earlier; label = z.label; later = z.later; is_journal = z.is_journal; is_number = z.is_number; before = z.before; afterwards = z.afterwards; derived = z.derived; applies = z.applies; changes = back z.before z.afterwards z.changes }
-
-  pub last_alike : (k : ℕ) → IsLastChange by_store rules p q journal item k → IsLastChange by_binding rules p q journal item k
-  last_alike k x = record { changed = elim x.changed [ inl e ↦ inl e | inr z ↦ inr (fine z) ]; none_later = λ m h z. x.none_later m h (coarse z) }
-
--- what isn't a binding
-abbrev pub IsPart : Item → Type 0
-IsPart (Item.Binding x) = ⊥
-IsPart i = ⊤
-
--- so each item but bindings that was last changed early enough is seen
+-- items other than stores and bindings change alike in both details, so each item but bindings that was last changed early enough is seen
 pub seen_item : (rules : List Rule) (p : Program) (q : Query) (journal : List Label) (c : Config) → Replays rules p q journal c → (seen k : ℕ) (item : Item) → IsPart item → IsLastChange by_store rules p q journal item k → k ≤ seen
     → IsSeen rules p q journal seen item
 seen_item rules p q journal c r seen k (Item.Store n) i x early = seen_store rules p q n journal c r seen k x early
-seen_item rules p q journal c r seen k Item.Roots i x early = record { number = k; last = last_alike rules p q journal Item.Roots (λ c d z. z) (λ c d z. z) k x; early = early }
-seen_item rules p q journal c r seen k (Item.Goals n) i x early = record { number = k; last = last_alike rules p q journal (Item.Goals n) (λ c d z. z) (λ c d z. z) k x; early = early }
-seen_item rules p q journal c r seen k (Item.Goal g) i x early = record { number = k; last = last_alike rules p q journal (Item.Goal g) (λ c d z. z) (λ c d z. z) k x; early = early }
+seen_item rules p q journal c r seen k Item.Roots i x early = record { number = k; last = last_alike by_store by_binding rules p q journal Item.Roots (λ c d z. z) (λ c d z. z) k x; early = early }
+seen_item rules p q journal c r seen k (Item.Goals n) i x early = record { number = k; last = last_alike by_store by_binding rules p q journal (Item.Goals n) (λ c d z. z) (λ c d z. z) k x; early = early }
+seen_item rules p q journal c r seen k (Item.Goal g) i x early = record { number = k; last = last_alike by_store by_binding rules p q journal (Item.Goal g) (λ c d z. z) (λ c d z. z) k x; early = early }
 seen_item rules p q journal c r seen k (Item.Binding x) i y early = absurd i

@@ -28,6 +28,7 @@ use Rattle.table_laws.specs.Added.{Added, with_added}
 use Rattle.table_laws.specs.Planned.{store_of}
 use Rattle.table_laws.specs.SolvedLater.{IsSolvedBy}
 use Rattle.table_laws.proofs.NewBindings.{new_part, older_part, chain_by}
+use Rattle.table_laws.proofs.StoreChains.{innermost_push, around_push}
 
 -- the stores of boxes that none but the first labels changed are the same
 same_along : (S T : Table) (seen : ℕ) → SharesStores S T seen → (ms : List Name) → ((m : Name) → IsIn m ms → (row : BoxRow) × (T.box_of m ≡ Some row) × (row.changed ≤ seen)) → stores_along S ms ≡ stores_along T ms
@@ -36,17 +37,6 @@ same_along S T seen shares (m ∷ ms) h =
     let r : (row : BoxRow) × (T.box_of m ≡ Some row) × (row.changed ≤ seen) = h m (inl refl) in
     let e : store_of S m ≡ store_of T m = shares m r.0 r.1 r.2 ∙ sym (ap store_in r.1) in
     λ i. e i ∷ same_along S T seen shares ms (λ n j. h n (inr j)) i
-
--- the last store of a chain, and those before it
-last_store : (ss : List Stored) (s : Stored) → innermost (ss ++ s ∷ []) ≡ s
-last_store [] s = refl
-last_store (r ∷ []) s = refl
-last_store (r ∷ t ∷ ss) s = last_store (t ∷ ss) s
-
-before_last : (ss : List Stored) (s : Stored) → around (ss ++ s ∷ []) ≡ ss
-before_last [] s = refl
-before_last (r ∷ []) s = refl
-before_last (r ∷ t ∷ ss) s = ap (λ (x : List Stored). r ∷ x) (before_last (t ∷ ss) s)
 
 -- a step says truly that its store is solved where it is
 says : (T : Table) (at : ℕ) (k : Found) (x : Added) (solved : Bool) → at ≤ T.steps → (UnchangedSince T at (names_around k) → IsSolvedIf solved T (names_around k) (with_added (store_of T k.content.name) x)) → IsSolvedBy at T k x solved
@@ -107,7 +97,7 @@ module _ (rules : List Rule) (run : Run) (T : Table) (t : IsTableOf rules run T)
 
       same : bindings_from (replaced (outer ++ own ∷ []) (with_bindings (innermost (outer ++ own ∷ [])) x.bindings)) ≡ bindings_from (outer ++ with_added own x ∷ [])
       same = from-last (around (outer ++ own ∷ [])) (with_bindings (innermost (outer ++ own ∷ [])) x.bindings)
-          ∙ (λ i. joins (last_store outer own i).bindings x.bindings ++ bindings_from (before_last outer own i)) ∙ sym (from-last outer (with_added own x))
+          ∙ (λ i. joins (innermost_push outer own i).bindings x.bindings ++ bindings_from (around_push outer own i)) ∙ sym (from-last outer (with_added own x))
 
       on : (solved : Bool) → IsSolvedIf solved T (names_around k) (with_added own x)
       on false = tt

@@ -1,59 +1,21 @@
 -- The numbers of last changes between the labels of a call at once.
-use Rattle.std.proofs.Common.{◌≡◌, ℕ, ◌+◌, List, [], ◌∷◌, ◌++◌, length, refl, sym, ◌∙◌, subst, inl, inr, append-nil, append_assoc}
+use Rattle.std.proofs.Common.{◌≡◌, ℕ, ◌+◌, List, [], ◌∷◌, ◌++◌, refl, sym, ◌∙◌, subst, append-nil, append_assoc}
 use Rattle.std.specs.Prelude.{⊤}
-use Rattle.akl_terms.specs.declared.name.Name.{Name}
-use Rattle.akl_terms.specs.declared.program.Program.{Program}
 use Rattle.akl_terms.specs.declared.program.Query.{Query}
 use Rattle.akl_terms.proofs.SameNames.{same_name-refl}
 use Rattle.akl_model.specs.declared.item.Item.{Item}
-use Rattle.akl_model.specs.declared.label.Rule.{Rule}
 use Rattle.akl_model.specs.declared.label.Label.{Label}
 use Rattle.akl_model.specs.Config.{Boxes, Goals, Config, box_at, home_of}
-use Rattle.akl_model.specs.Changes.{box_names, goal_names, goals_at, constraint_at, Constraint, Shape, shape_at, by_store, Changes, IsLastChange}
-use Rattle.akl_model.specs.Derivations.{Derives, Replays}
-use Rattle.akl_model.specs.Instances.{start}
+use Rattle.akl_model.specs.Changes.{box_names, goal_names, by_store, Changes, IsLastChange}
+use Rattle.akl_model.specs.Derivations.{Replays}
 use Rattle.akl_model.proofs.NamesKept.{Stand, replay-stands, stands_after}
-use Rattle.constraint_laws.proofs.SameTerms.{Either}
-use Rattle.plan_laws.proofs.StampLaws.{first_stamp, new_stamp, old_stamp}
+use Rattle.plan_laws.proofs.StampLaws.{old_stamp}
 use Rattle.plan_laws.proofs.Replayed.{replay_further}
-use Rattle.step_laws.proofs.Decide.{names_or, option_or, constraint_or, shape_or}
 use Rattle.plan_laws.specs.Between.{with_choice}
 use Rattle.plan_laws.proofs.CallAlternatives.{Calling, between, IsNewName, AreNew, Steps, stops, goes}
 use Rattle.plan_laws.proofs.Elsewhere.{names_same}
 use Rattle.plan_laws.proofs.OpensAlike.{other_name}
 use Rattle.plan_laws.proofs.CallsOutside.{alike_constraint, alike_names, alike_shape, IsOutside, outside_itself, outside}
-
--- what a store tells of isn't told apart by bindings
-abbrev pub IsPlain : Item → Type 0
-IsPlain (Item.Binding v) = ⊥
-IsPlain item = ⊤
-
-other_or : {A : Type 0} → Either A → Either (A → ⊥)
-other_or (inl e) = inr (λ h. h e)
-other_or (inr n) = inl n
-
-change_or : (c d : Config) (item : Item) → IsPlain item → Either (Changes by_store c d item)
-change_or c d Item.Roots h = other_or (names_or (box_names c.roots) (box_names d.roots))
-change_or c d (Item.Store n) h = other_or (option_or Constraint constraint_or (constraint_at n c.roots) (constraint_at n d.roots))
-change_or c d (Item.Goals n) h = other_or (option_or (List Name) names_or (goals_at n c.roots) (goals_at n d.roots))
-change_or c d (Item.Goal g) h = other_or (option_or Shape shape_or (shape_at g c.roots) (shape_at g d.roots))
-change_or c d (Item.Binding v) h = absurd h
-
-module _ (rules : List Rule) (p : Program) (q : Query) where
-  last_change : (journal : List Label) (c : Config) (ls : List Label) (d : Config) → Replays rules p q journal c → Derives rules p c ls d → (item : Item) → IsPlain item → (m : ℕ) → IsLastChange by_store rules p q journal item m
-      → (m : ℕ) × IsLastChange by_store rules p q (journal ++ ls) item m
-  last_change journal c [] d r w item plain m x = (m, subst (λ (js : List Label). IsLastChange by_store rules p q js item m) (sym (append-nil journal)) x)
-  last_change journal c (l ∷ ls) d r w item plain m x = again (elim (change_or c w.0 item plain) [
-    | inl h ↦ last_change (journal ++ l ∷ []) w.0 ls d (replay_further rules p q journal c l w.0 r w.1) w.2 item plain (length journal + 1) (new_stamp by_store rules p q journal c l w.0 item r w.1 h)
-    | inr h ↦ last_change (journal ++ l ∷ []) w.0 ls d (replay_further rules p q journal c l w.0 r w.1) w.2 item plain m (old_stamp by_store rules p q journal c l w.0 item m r w.1 h x)
-  ])
-    where
-      again : (m : ℕ) × IsLastChange by_store rules p q ((journal ++ l ∷ []) ++ ls) item m → (m : ℕ) × IsLastChange by_store rules p q (journal ++ l ∷ ls) item m
-      again z = (z.0, subst (λ (js : List Label). IsLastChange by_store rules p q js item z.0) (append_assoc journal (l ∷ []) ls) z.1)
-
-  -- each item has a last change
-  pub each_stamped : (journal : List Label) (c : Config) → Replays rules p q journal c → (item : Item) → IsPlain item → (m : ℕ) × IsLastChange by_store rules p q journal item m
-  each_stamped journal c r item plain = last_change [] (start p q) journal c (record { derives = refl }) r.derives item plain 0 (first_stamp by_store rules p q item)
 
 -- items that have nothing to do with a call
 abbrev pub IsElsewhere : Calling → Item → Type 0

@@ -31,7 +31,7 @@ use Rattle.box_tree.specs.declared.view.Sight.{Sight}
 use Rattle.box_tree.specs.declared.entries.HeldOp.{HeldOp}
 use Rattle.box_tree.specs.Tables.{all_rules, op_held, table_of, goals_in}
 use Rattle.box_tree.specs.Views.{ViewValue, IsViewOf, is_there}
-use Rattle.box_tree.proofs.ToldChains.{told_stands}
+use Rattle.table_laws.proofs.StoreChains.{told_stands}
 use Rattle.guard_plan.proofs.Sites.{goal_there, found, whole_stands, shows_at}
 use Rattle.step_commit.specs.Cores.{CoreValue, TableIn}
 use Rattle.root_answers.specs.Roots.{OfRoot, root_box}

@@ -35,7 +35,7 @@ use Rattle.class_members.specs.Members.{IsMember}
 use Rattle.table_laws.specs.Rows.{stores_along}
 use Rattle.box_tree.specs.Tables.{all_rules, goal_atom, table_of}
 use Rattle.box_tree.specs.Views.{ViewValue, IsViewOf}
-use Rattle.box_tree.proofs.ToldChains.{told_stands}
+use Rattle.table_laws.proofs.StoreChains.{told_stands}
 use Rattle.guard_plan.proofs.Sites.{whole_stands, stores_path}
 use Rattle.box_tree.proofs.AllInForce.{each_in_force}
 use Rattle.stable_test.proofs.Reaches.{atom_waits_stand}

@@ -19,7 +19,7 @@ use Rattle.table_laws.specs.Unfolds.{IsBoxRow}
 use Rattle.table_laws.proofs.Frame.{row_of}
 use Rattle.box_tree.specs.Tables.{all_rules, table_of, shown_in, shown_tree, shown_trees_of}
 use Rattle.box_tree.specs.Views.{ViewValue, IsViewOf, is_there}
-use Rattle.box_tree.proofs.ToldChains.{told_stands}
+use Rattle.table_laws.proofs.StoreChains.{told_stands}
 use Rattle.guard_plan.proofs.Sites.{whole_stands}
 use Rattle.step_commit.specs.Cores.{CoreValue}
 use Rattle.root_answers.specs.Roots.{OfRoot, root_box}

@@ -1,8 +1,8 @@
 use Rattle.std.proofs.Common.{◌∙◌, ap, rules}
 use Rattle.local_store.specs.Stored.{Stored}
-use Rattle.guard_plan.proofs.Chains.{innermost_push}
 use Rattle.call_plan.proofs.PlainJoined.{store_joins}
 use Rattle.call_plan.proofs.joining.store_joined.Goals as goal
+use Rattle.table_laws.proofs.StoreChains.{innermost_push}
 
 pub holds-requires : goal.holds-requires
 holds-requires c = rw (c.of_solved-chain.ensures, c.as_slice.ensures.value, c.in_ok-push.ensures.items, c.in_ok-stores.ensures) c.requires.apart

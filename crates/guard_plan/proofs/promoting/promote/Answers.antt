@@ -10,7 +10,7 @@ use Rattle.box_tree.specs.declared.step.Step.{Step}
 use Rattle.box_tree.specs.Edits.{named_atoms}
 use Rattle.table_laws.specs.Added.{added_of}
 use Rattle.table_laws.specs.PartSteps.{joins_part}
-use Rattle.guard_plan.proofs.Chains.{innermost_push}
+use Rattle.table_laws.proofs.StoreChains.{innermost_push}
 use Rattle.guard_plan.proofs.Chosen.{only_testable, only_deep, only_unsolved, only_many, only_unheld, only_planned}
 use Rattle.guard_plan.proofs.Joined.{promoted_over, joined_known}
 use Rattle.guard_plan.proofs.PlanOf.{may_at, plan_of}

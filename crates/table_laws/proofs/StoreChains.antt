@@ -1,4 +1,4 @@
--- What a chain of stores stands for, in the order of a table.
+-- What a chain of stores tells, in the order of a table, its last store, and those before it.
 use Rattle.std.proofs.Common.{◌≡◌, List, [], ◌∷◌, ◌++◌, refl, ap, inl, inr}
 use Rattle.akl_terms.specs.declared.term.Node.{Node}
 use Rattle.akl_terms.specs.Tree.{Tree}
@@ -8,7 +8,7 @@ use Rattle.akl_terms.proofs.EqualLaws.{IsTold-left, IsTold-right, IsTold-either}
 use Rattle.akl_terms.proofs.StandingLaws.{StandFor-follows}
 use Rattle.rational_unify.specs.Solving.{bindings_in}
 use Rattle.local_store.specs.Stored.{Stored}
-use Rattle.local_store.specs.Chained.{bindings_from, ToldBy, around}
+use Rattle.local_store.specs.Chained.{bindings_from, ToldBy, innermost, around}
 use Rattle.local_store.proofs.Layers.{bindings-either, bindings-left, bindings-right}
 use Rattle.table_laws.specs.Rows.{told_in}
 
@@ -30,6 +30,12 @@ to_told nodes (x ∷ ss) s t h = elim (IsTold-either (bindings_in nodes x.bindin
 
 pub told_stands : (nodes : List Node) (ss : List Stored) → StandFor (ToldBy nodes ss) (IsTold (told_in nodes ss))
 told_stands nodes ss = StandFor-follows (λ s t m. told (from_told nodes ss s t m)) (λ s t m. told (to_told nodes ss s t m))
+
+-- the innermost store of a chain
+pub innermost_push : (ss : List Stored) (s : Stored) → innermost (ss ++ s ∷ []) ≡ s
+innermost_push [] s = refl
+innermost_push (r ∷ []) s = refl
+innermost_push (r ∷ t ∷ ss) s = innermost_push (t ∷ ss) s
 
 -- the stores around the innermost one
 pub around_push : (ss : List Stored) (s : Stored) → around (ss ++ s ∷ []) ≡ ss
