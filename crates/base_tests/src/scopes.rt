@@ -1,7 +1,7 @@
 //! Programs and queries, and which variables are local to their collecting goals.
 
-use crate::lines::{Question, each_holds};
-use crate::shown::{put_clauses, put_query, put_refusal};
+use crate::case_lines::{Question, each_holds};
+use crate::shown_clauses::{put_clauses, put_query, put_refusal};
 use akl_syntax::{check_query, read_program, read_query};
 use std::alloc::{AllocError, Global};
 use variable_scopes::{scoped_clauses, scoped_query};

@@ -1,7 +1,7 @@
 //! Chains of boxes from the root inwards, written as words.
 
 use crate::stores::store_of;
-use crate::words::frame;
+use crate::term_words::frame;
 use local_store::{Shared, Store};
 use std::alloc::{AllocError, Global};
 

@@ -1,6 +1,6 @@
 //! The words of a command line.
 
-use crate::lines::{Question, each_holds};
+use crate::case_lines::{Question, each_holds};
 use akl_args::{BatchOptions, Job, Options, read_batch_words, read_words};
 use std::alloc::{AllocError, Global};
 use std::str::from_utf8;

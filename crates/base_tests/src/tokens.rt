@@ -2,7 +2,7 @@
 
 ghost use Rattle.akl_text.specs.Spelling.{IsTokenOf};
 
-use crate::lines::{Question, each_holds};
+use crate::case_lines::{Question, each_holds};
 use akl_text::{Kind, TextError, Token, integer_of, layout_end, text_of, tokens};
 use std::alloc::{AllocError, Global};
 use std::str::from_utf8;

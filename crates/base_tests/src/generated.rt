@@ -1,6 +1,6 @@
 //! What is generated from a number.
 
-use crate::lines::{Question, each_holds};
+use crate::case_lines::{Question, each_holds};
 use akl_gen::generate;
 use std::alloc::{AllocError, Global};
 use std::str::from_utf8;

@@ -1,7 +1,7 @@
 //! What boxes answer that were told something.
 
 use crate::chains::stores_of;
-use crate::words::{cut, four_variables, is_said, term, term_of};
+use crate::term_words::{cut, four_variables, is_said, term, term_of};
 use akl_terms::{Templates, Var};
 use entail_test::{Quietness, quiet, touches};
 use local_store::{Chain, Consistency, consistent};

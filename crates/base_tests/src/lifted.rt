@@ -1,7 +1,7 @@
 //! Inline choices and collecting goals, and the definitions that they become.
 
-use crate::lines::{Question, each_holds};
-use crate::shown::{put_clauses, put_query, put_refusal};
+use crate::case_lines::{Question, each_holds};
+use crate::shown_clauses::{put_clauses, put_query, put_refusal};
 use akl_lift::{lift, lift_query};
 use akl_syntax::{SourceClause, SourceQuery, check_query, read_program, read_query};
 use std::alloc::{AllocError, Global};

@@ -1,6 +1,6 @@
 //! Stores: what they have, and what a change makes of them.
 
-use crate::words::{cut, frame_of, is_said, pair, term};
+use crate::term_words::{cut, frame_of, is_said, pair, term};
 use akl_terms::{Term, Var};
 use local_store::Store;
 use std::alloc::{AllocError, Global};
