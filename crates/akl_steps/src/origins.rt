@@ -1,6 +1,6 @@
 //! Where the frames, the choices and the boxes of a run come from.
 
-use akl_terms::{Code, Goal, Name};
+use akl_terms::{Goal, Name};
 use box_tree::{BoxCopy, InnerBox, NewBox};
 use local_store::Store;
 use std::alloc::{AllocError, Global};
@@ -17,12 +17,9 @@ const FRAME: Name = Name {
 pub enum Origin {
     /// A frame of the query's variables.
     Query,
-    /// A frame of the variables of a clause of what a goal calls, by the clause's place in its definition, from 0.
-    Clause { code: Code, clause: usize },
-    /// A choice, which was this call.
-    Call(Goal),
-    /// The alternative of a choice by the clause of this place, from 0.
-    Alternative { choice: Name, clause: usize },
+    /// A choice from the call that it was, or an alternative or its frame from a clause of what was called, by the clause's place
+    /// in its definition, from 0.
+    Call { call: Goal, clause: usize },
 }
 
 /// Where the frames, the choices and the boxes of a run come from, by their names, which are all different. Those that have gone
@@ -52,14 +49,6 @@ impl Origins {
         self.known.get(&name).copied()
     }
 
-    /// The call that became a choice.
-    pub fn call(&self, choice: Name) -> Option<Goal> {
-        match self.of(choice) {
-            Some(Origin::Call(call)) => Some(call),
-            _ => None,
-        }
-    }
-
     /// Whether no memory was wanting.
     pub fn is_whole(&self) -> bool {
         self.is_whole
@@ -72,9 +61,10 @@ impl Origins {
         }
     }
 
-    // The frames of a store come from there.
-    fn add_frames(&mut self, store: &Store, origin: Origin) {
-        match store.frames() {
+    // An alternative comes from there, with the frames of its store.
+    fn add_alternative(&mut self, made: &NewBox, origin: Origin) {
+        self.add(made.name, origin);
+        match made.store.get().frames() {
             Ok(frames) => {
                 for frame in &frames {
                     self.add(*frame, origin);
@@ -86,54 +76,26 @@ impl Origins {
 
     /// A call becomes the choice of these boxes.
     pub fn fork(&mut self, choice: Name, call: Goal, boxes: &[NewBox]) {
-        self.add(choice, Origin::Call(call));
-        let code = call.code;
+        self.add(choice, Origin::Call { call, clause: 0 });
         let mut clause = 0usize;
         for made in boxes {
-            self.add(made.name, Origin::Alternative { choice, clause });
-            self.add_frames(made.store.get(), Origin::Clause { code, clause });
+            self.add_alternative(made, Origin::Call { call, clause });
             clause = clause.saturating_add(1);
         }
     }
 
-    // The new name of what the last split has copied; else its own.
-    fn renamed(&self, name: Name) -> Name {
-        self.copies.get(&name).copied().unwrap_or(name)
-    }
-
-    // Where a copy comes from, under the new names.
-    fn copied(&self, origin: Origin) -> Origin {
-        match origin {
-            Origin::Query | Origin::Clause { .. } => origin,
-            Origin::Call(Goal { code, frame }) => {
-                let frame = self.renamed(frame);
-                Origin::Call(Goal { code, frame })
-            }
-            Origin::Alternative { choice, clause } => {
-                let choice = self.renamed(choice);
-                Origin::Alternative { choice, clause }
-            }
-        }
-    }
-
-    // What has the old name gets a copy.
+    // What has the old name gets a copy, which comes from the copy of its call where the call's frame was copied before.
     fn copy(&mut self, old: Name, new: Name) {
         if self.copies.insert(old, new).is_err() {
             self.is_whole = false;
         }
-        if let Some(origin) = self.of(old) {
-            let copied = self.copied(origin);
-            self.add(new, copied);
-        }
-    }
-
-    // What has these old names gets copies, in the same order.
-    fn copy_names(&mut self, old: &[Name], new: &[Name]) {
-        let mut copies = new.iter();
-        for name in old {
-            if let Some(copy) = copies.next() {
-                self.copy(*name, *copy);
+        if let Some(mut origin) = self.of(old) {
+            if let Origin::Call { call, .. } = &mut origin {
+                if let Some(frame) = self.copies.get(&call.frame) {
+                    call.frame = *frame;
+                }
             }
+            self.add(new, origin);
         }
     }
 
@@ -141,23 +103,26 @@ impl Origins {
     fn copy_frames(&mut self, old: &Store, new: &Store) -> Result<(), AllocError> {
         let old = old.frames()?;
         let new = new.frames()?;
-        self.copy_names(&old, &new);
+        let mut copies = new.iter();
+        for frame in &old {
+            if let Some(copy) = copies.next() {
+                self.copy(*frame, *copy);
+            }
+        }
         Ok(())
     }
 
     // A box has a copy, with its frames and its goals.
     fn copy_box(&mut self, inner: &InnerBox, copy: &BoxCopy) {
         self.copy(inner.name, copy.name);
-        if self
-            .copy_frames(inner.store.get(), copy.store.get())
-            .is_err()
-        {
+        let done = self.copy_frames(inner.store.get(), copy.store.get());
+        if done.is_err() {
             self.is_whole = false;
         }
         let mut copies = copy.goals.iter();
         for goal in &inner.goals {
-            if let Some((new, _)) = copies.next() {
-                self.copy(goal.name, *new);
+            if let Some((name, _)) = copies.next() {
+                self.copy(goal.name, *name);
             }
         }
     }

@@ -4,22 +4,10 @@ ghost use Rattle.std.specs.Prelude.{None, ⊤};
 
 use akl_outside::{Failed, Sink};
 use akl_run::Status;
-use akl_terms::{Name, Term};
+use akl_terms::Name;
 use answer_text::push_constant;
 use line_text::push_name;
 use std::alloc::{AllocError, Global};
-
-/// What is still to be written of a term.
-#[derive(Clone, Copy)]
-pub enum Piece {
-    Text(&'static str),
-    /// A term, and how close its operator must bind at least.
-    Whole(Term, u8),
-    /// The tail of a list, with the closing bracket.
-    Tail(Term),
-    /// The arguments that are left, each with a comma before it, and the closing bracket.
-    Arguments { first: u32, count: u32, frame: Name },
-}
 
 /// A text in the making. It keeps for itself that memory was wanting, and is no whole text then.
 #[derive(Drop)]
@@ -27,8 +15,8 @@ pub struct Page {
     text: Vec<u8>,
     /// How often memory was wanting.
     faults: u64,
-    /// What is still to be written of a term, the next piece last.
-    left: Vec<Piece>,
+    /// How many parts are written of a term.
+    pub parts: u32,
 }
 
 impl Page {
@@ -37,7 +25,7 @@ impl Page {
         Page {
             text: Vec::new(alloc),
             faults: 0,
-            left: Vec::new(alloc),
+            parts: 0,
         }
     }
 
@@ -69,17 +57,20 @@ impl Page {
         self.push_bytes(text.as_bytes());
     }
 
-    /// Adds an integer in base ten.
-    pub fn push_integer(&mut self, value: i128) {
-        match format!(in self.alloc(); "{value}") {
+    /// Adds a number in base ten.
+    pub fn push_number(&mut self, number: i128) {
+        match format!(in self.alloc(); "{number}") {
             Ok(digits) => self.push(digits.as_str()),
             Err(_) => self.lack(),
         }
     }
 
-    /// Adds a number in base ten.
-    pub fn push_number(&mut self, number: u64) {
-        self.push_integer(number as i128);
+    /// Adds a text behind a part of a term, as a part of its own; nothing for no text.
+    pub fn push_behind(&mut self, text: &str) {
+        if !text.is_empty() {
+            self.parts = self.parts.saturating_add(1);
+            self.push(text);
+        }
     }
 
     /// Adds a symbol without arguments.
@@ -100,7 +91,7 @@ impl Page {
         if name.worker > 1 {
             self.push_name(name);
         } else {
-            self.push_number(name.number);
+            self.push_number(name.number as i128);
         }
     }
 
@@ -120,29 +111,6 @@ impl Page {
         }
         self.push_line(depth);
         self.push(begin);
-    }
-
-    /// Leaves a piece to be written before all that are left.
-    pub fn leave(&mut self, piece: Piece) {
-        if self.left.push(piece).is_err() {
-            self.lack();
-        }
-    }
-
-    /// Leaves a node under a frame, whose operator must bind as close as this at least.
-    pub fn leave_node(&mut self, node: u32, frame: Name, least: u8) {
-        self.leave(Piece::Whole(Term::Mol { node, frame }, least));
-    }
-
-    /// Leaves a term, and nothing else.
-    pub fn leave_only(&mut self, term: Term) {
-        self.left.clear();
-        self.leave(Piece::Whole(term, 0));
-    }
-
-    /// The next piece of those that are left.
-    pub fn next_piece(&mut self) -> Option<Piece> {
-        self.left.pop()
     }
 
     /// The text. An `Err` is the status of want of memory for a part of it.

@@ -5,7 +5,7 @@ ghost use Rattle.std.specs.Prelude.{◌≡◌};
 use crate::load::Texts;
 use crate::origins::{Origin, Origins};
 use crate::page::Page;
-use akl_terms::{Name, Program, Seen, Term, Text, Var};
+use akl_terms::{Program, Seen, Term, Var};
 use local_store::{Chain, Part, Shared, Store};
 use rational_unify::Lookup;
 
@@ -19,23 +19,10 @@ pub struct Scene<'a> {
     pub program: &'a Program,
     pub texts: &'a Texts,
     pub origins: &'a Origins,
-    /// The stores of the boxes around, from the root box down.
-    around: &'a [Shared<Store>],
-    /// The box's own store; where there is none, there are none around.
-    pub own: Option<&'a Shared<Store>>,
-    /// What is added to that store.
+    /// The stores of the boxes from the root box down to the box itself.
+    pub stores: &'a [Shared<Store>],
+    /// What is added to the box's own store.
     added: Option<&'a Part>,
-}
-
-// Adds the one of these names that has this number; `_` and the number where there is none.
-fn push_name_in(page: &mut Page, names: &[Text], number: u32) {
-    match names.get(number as usize) {
-        Some(name) if name.as_str() != "_" => page.push(name.as_str()),
-        _ => {
-            page.push("_");
-            page.push_number(number as u64);
-        }
-    }
 }
 
 impl<'a> Scene<'a> {
@@ -48,23 +35,24 @@ impl<'a> Scene<'a> {
     ) -> Scene<'a>
         ensures { result.program.now ≡ program.now }
     {
-        let (own, around) = match stores.split_last() {
-            Some((own, around)) => (Some(own), around),
-            None => (None, stores),
-        };
         Scene {
             program,
             texts,
             origins,
-            around,
-            own,
+            stores,
             added: None,
         }
     }
 
     /// The same for the box around.
     pub fn outside(&self) -> Scene<'a> {
-        Scene::new(self.program, self.texts, self.origins, self.around)
+        let around = self.stores.len().saturating_sub(1);
+        Scene::new(
+            self.program,
+            self.texts,
+            self.origins,
+            &self.stores[..around],
+        )
     }
 
     /// The same once something is added to the box's store.
@@ -75,22 +63,12 @@ impl<'a> Scene<'a> {
         }
     }
 
-    // What a variable is bound to by the box's own store and what is added to it.
-    fn bound_here(&self, variable: Var) -> Option<Term> {
-        let own = self.own?.get().first_binding(variable);
-        if own.is_some() {
-            return own;
-        }
-        self.added?.first_binding(variable)
-    }
-
-    /// What a variable is bound to by the stores.
+    /// What a variable is bound to by the stores and what is added.
     pub fn bound(&self, variable: Var) -> Option<Term> {
-        let here = self.bound_here(variable);
-        if here.is_some() {
-            return here;
+        match Chain::new(&self.program.templates, self.stores).get(variable) {
+            Some(term) => Some(term),
+            None => self.added?.first_binding(variable),
         }
-        Chain::new(&self.program.templates, self.around).get(variable)
     }
 
     /// What is known by the stores: what a variable is bound to, or the last variable of those that are bound to one another.
@@ -108,11 +86,6 @@ impl<'a> Scene<'a> {
         seen
     }
 
-    /// What is known of a term by the stores.
-    pub fn value(&self, term: Term) -> Seen {
-        self.follow(self.program.templates.look(term))
-    }
-
     /// The text of a symbol.
     pub fn symbol(&self, number: u32) -> &'a str {
         let templates = &self.program.templates;
@@ -127,14 +100,24 @@ impl<'a> Scene<'a> {
     /// number where it has none.
     pub fn push_variable(&self, page: &mut Page, variable: Var) {
         let Var { frame, index } = variable;
-        let names = match self.origins.of(frame) {
-            Some(Origin::Query) => return push_name_in(page, &self.texts.query, index),
-            Some(Origin::Clause { code, clause }) => {
-                self.texts.names_in(self.program, code, clause)
-            }
-            _ => &[],
+        let origin = self.origins.of(frame);
+        let names = match origin {
+            Some(Origin::Query) => &self.texts.query,
+            Some(Origin::Call { call, clause }) => self
+                .texts
+                .names_in(self.program, call.code, clause),
+            None => &[],
         };
-        push_name_in(page, names, index);
-        page.push_mark(frame);
+        match names.get(index as usize) {
+            Some(name) if name.as_str() != "_" => page.push(name.as_str()),
+            _ => {
+                page.push("_");
+                page.push_number(index as i128);
+            }
+        }
+        match origin {
+            Some(Origin::Query) => {}
+            _ => page.push_mark(frame),
+        }
     }
 }

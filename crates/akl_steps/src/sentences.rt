@@ -1,6 +1,7 @@
 //! A step in the words of the source.
 
-use crate::goals::{push_at, push_box, push_choice, push_goal};
+use crate::goals::{push_at, push_box, push_goal};
+use crate::origins::Origin;
 use crate::page::Page;
 use crate::scene::Scene;
 use crate::terms::{push_node, push_term};
@@ -9,27 +10,20 @@ use akl_terms::{Code, Goal, Name, Place};
 use box_tree::{HeldOp, Plan, Sight, Step, View};
 use local_store::{Chain, Consistency, consistent};
 
-// Adds the alternative of a label.
-fn push_alternative(scene: &Scene<'_>, page: &mut Page, label: Label) {
-    match label.alternative {
-        Some(name) => push_box(scene, page, name),
-        None => page.push("one alternative"),
+// Adds of what the sentence of a label tells: the alternative of a cut or a promotion, or what stands at the place.
+fn push_subject(scene: &Scene<'_>, page: &mut Page, label: Label, sight: Sight) {
+    match label.place {
+        Place::Box(name) => push_box(&scene.outside(), page, name),
+        Place::Goal(goal) => match label.alternative {
+            Some(alternative) => {
+                if let Rule::Cut = label.rule {
+                    page.push("the guard of ");
+                }
+                push_box(scene, page, alternative);
+            }
+            None => push_at(scene, page, goal, sight),
+        },
     }
-}
-
-// Adds of what the sentence tells: the alternative of a cut or a promotion, or what stands at the place.
-fn push_subject(scene: &Scene<'_>, page: &mut Page, view: &View, label: Label) {
-    match label.rule {
-        Rule::Cut => page.push("the guard of "),
-        Rule::Promote => {}
-        _ => {
-            return match view.place() {
-                Place::Goal(name) => push_at(scene, page, name, view.sight()),
-                Place::Box(name) => push_box(&scene.outside(), page, name),
-            };
-        }
-    }
-    push_alternative(scene, page, label);
 }
 
 // Adds what came of a goal by which its box was told something.
@@ -44,20 +38,9 @@ fn push_told(scene: &Scene<'_>, page: &mut Page, goal: &Goal) {
     push_node(scene, page, node, goal.frame);
 }
 
-// Adds how many alternatives a call has that becomes a choice.
-fn push_forked(page: &mut Page, count: usize) {
-    page.push(" becomes a choice of ");
-    page.push_number(count as u64);
-    page.push(if count == 1 {
-        " alternative"
-    } else {
-        " alternatives"
-    });
-}
-
 // Adds which two terms of the box clash, where some do.
-fn push_clash(scene: &Scene<'_>, page: &mut Page, view: &View) {
-    let chain = Chain::new(&scene.program.templates, view.stores());
+fn push_clash(scene: &Scene<'_>, page: &mut Page) {
+    let chain = Chain::new(&scene.program.templates, scene.stores);
     match consistent(page.alloc(), &chain) {
         Ok(Consistency::Clash { left, right }) => {
             page.push(": ");
@@ -70,46 +53,32 @@ fn push_clash(scene: &Scene<'_>, page: &mut Page, view: &View) {
     }
 }
 
-// Adds why the box fails by a goal.
-fn push_failing(scene: &Scene<'_>, page: &mut Page, goal: Name) {
-    match scene.origins.call(goal) {
-        Some(call) => {
+// Adds that the box fails, and why: the terms that clash, or the goal by which it fails.
+fn push_fail(scene: &Scene<'_>, page: &mut Page, sight: Sight) {
+    page.push(" fails");
+    let Sight::Box {
+        failing: Some(goal),
+    } = sight
+    else {
+        return push_clash(scene, page);
+    };
+    match scene.origins.of(goal) {
+        Some(Origin::Call { call, .. }) => {
             page.push(": no alternative is left of ");
             push_goal(scene, page, &call);
         }
-        None => page.push(": it has the goal fail"),
+        _ => page.push(": it has the goal fail"),
     }
 }
 
-// Adds that the box fails, and why: the terms that clash, or the goal by which it fails.
-fn push_fail(scene: &Scene<'_>, page: &mut Page, view: &View) {
-    page.push(" fails");
-    match view.sight() {
-        Sight::Box {
-            failing: Some(goal),
-        } => push_failing(scene, page, goal),
-        _ => push_clash(scene, page, view),
-    }
-}
-
-// What comes of a cut: which alternatives go by a guard.
-fn cut_text(sight: Sight) -> &'static str {
+// Adds what comes of so many alternatives that join the box: the list of what was collected, or that one is promoted.
+fn push_joined(scene: &Scene<'_>, page: &mut Page, sight: Sight, count: usize) {
     match sight {
-        Sight::Choice {
-            op: HeldOp::Condition,
-        } => " holds, and those to its right go",
-        _ => " holds, and all others go",
-    }
-}
-
-// Adds what comes of the alternatives that join the box: the list of what was collected, or that one is promoted.
-fn push_joined(scene: &Scene<'_>, page: &mut Page, view: &View) {
-    match view.sight() {
         Sight::Choice {
             op: HeldOp::Collect(list),
         } => {
             page.push(" has ");
-            page.push_number(view.alternatives().len() as u64);
+            page.push_number(count as i128);
             page.push(" solutions: ");
             push_term(scene, page, list);
         }
@@ -117,10 +86,12 @@ fn push_joined(scene: &Scene<'_>, page: &mut Page, view: &View) {
     }
 }
 
-// Adds what the box that is split keeps, and what its copy has.
+// Adds what the box keeps that is split at the alternative of a label, and what its copy has.
 fn push_split(scene: &Scene<'_>, page: &mut Page, label: Label, copy: Name) {
     page.push(" is split: it keeps ");
-    push_alternative(scene, page, label);
+    if let Some(alternative) = label.alternative {
+        push_box(scene, page, alternative);
+    }
     page.push(", and its copy ");
     page.push_name(copy);
     page.push(" has the others");
@@ -128,9 +99,10 @@ fn push_split(scene: &Scene<'_>, page: &mut Page, label: Label, copy: Name) {
 
 // Adds what comes of the step of a plan, with what is known after it.
 fn push_outcome(after: &Scene<'_>, page: &mut Page, view: &View, plan: &Plan) {
+    let sight = view.sight();
     let text = match plan.step() {
         Step::Tell { .. } => {
-            if let Sight::Atom(goal) = view.sight() {
+            if let Sight::Atom(goal) = sight {
                 push_told(after, page, &goal);
             }
             return;
@@ -139,12 +111,25 @@ fn push_outcome(after: &Scene<'_>, page: &mut Page, view: &View, plan: &Plan) {
             op: HeldOp::Collect(_),
             ..
         } => " begins to collect",
-        Step::Fork { alternatives, .. } => return push_forked(page, alternatives.len()),
+        Step::Fork { alternatives, .. } => {
+            page.push(" becomes a choice of ");
+            page.push_number(alternatives.len() as i128);
+            if alternatives.len() == 1 {
+                " alternative"
+            } else {
+                " alternatives"
+            }
+        }
         Step::Confirm => " holds",
         Step::Refute => " doesn't hold",
-        Step::Fail => return push_fail(after, page, view),
-        Step::Cut => cut_text(view.sight()),
-        Step::Join { .. } => return push_joined(after, page, view),
+        Step::Fail => return push_fail(after, page, sight),
+        Step::Cut => match sight {
+            Sight::Choice {
+                op: HeldOp::Condition,
+            } => " holds, and those to its right go",
+            _ => " holds, and all others go",
+        },
+        Step::Join { .. } => return push_joined(after, page, sight, view.alternatives().len()),
         Step::Split { copy, .. } => return push_split(after, page, plan.label(), *copy),
     };
     page.push(text);
@@ -172,7 +157,7 @@ fn push_coming(after: &Scene<'_>, page: &mut Page, goals: &[(Name, Goal)]) {
 
 /// Adds the sentence of a plan that was made of a view, from what is known before its step.
 pub fn push_sentence<'a>(scene: &Scene<'a>, page: &mut Page, view: &View, plan: &'a Plan) {
-    push_subject(scene, page, view, plan.label());
+    push_subject(scene, page, plan.label(), view.sight());
     let (after, goals): (Scene<'a>, &'a [(Name, Goal)]) = match plan.step() {
         Step::Tell { part, .. } => (scene.with(part), &[]),
         Step::Join { part, goals, .. } => (scene.with(part), goals),

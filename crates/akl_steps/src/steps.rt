@@ -32,7 +32,7 @@ fn push_head(page: &mut Page, trace: bool, at: u64, label: &Label) {
         push_trace(page, at, label);
     } else {
         page.push("step ");
-        page.push_number(at);
+        page.push_number(at as i128);
     }
     page.push(": ");
 }
@@ -93,9 +93,9 @@ fn push_step(
 fn say_progress(host: &HostRuntime, at: u64, count: u64) {
     if host.stderr().is_terminal() {
         let mut page = Page::new(host.alloc());
-        page.push_number(at);
+        page.push_number(at as i128);
         page.push(" of ");
-        page.push_number(count);
+        page.push_number(count as i128);
         page.push(" steps\r");
         say_page(host, &page);
     }

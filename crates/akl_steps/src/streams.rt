@@ -49,7 +49,7 @@ pub fn fixed_text(status: Status) -> &'static [u8] {
 pub fn refuse_word(host: &HostRuntime, at: usize) -> Status {
     let mut page = Page::new(host.alloc());
     page.push("akl_steps: word ");
-    page.push_number(at as u64);
+    page.push_number(at as i128);
     page.push(" is refused; --help tells the words\n");
     say_page(host, &page);
     Status::Words

@@ -46,7 +46,7 @@ fn push_held(scene: &Scene<'_>, page: &mut Page, name: Name, sight: Sight) {
 fn push_kind(scene: &Scene<'_>, page: &mut Page, name: Name, is_solved: bool) {
     page.push_name(name);
     match scene.origins.of(name) {
-        Some(Origin::Alternative { clause, .. }) => {
+        Some(Origin::Call { clause, .. }) => {
             page.push(" ");
             push_ordinal(page, clause);
         }
@@ -72,7 +72,7 @@ fn push_body(scene: &Scene<'_>, page: &mut Page, depth: usize, boxes: &[InnerBox
 
 // Adds the lines of what a box was told, and of the goals that come where it is promoted; nothing of a goal.
 fn push_contents(scene: &Scene<'_>, page: &mut Page, depth: usize, seen: &Seen) {
-    let Some(store) = scene.own else {
+    let Some(store) = scene.stores.last() else {
         return;
     };
     match seen {
